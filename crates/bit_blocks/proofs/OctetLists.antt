@@ -1,13 +1,9 @@
--- `bits_of` and `octets_of` undo each other, and how loops extend their results by one octet.
-use Rattle.std.proofs.Common.{◌≡◌, ℕ, zero, suc, ◌+◌, ◌-◌, ◌*◌, ◌/◌, ◌%◌, ◌<◌, ◌≤◌, List, []}
-use Rattle.std.proofs.Common.{◌∷◌, ◌++◌, map, length, get_or, take, drop, refl, ap, ap₂, subst, sym, ◌∙◌, arith}
-use Rattle.std.proofs.Math.ListN.{set}
-use Rattle.std.proofs.Math.Seq.{take-add}
-use Rattle.std.proofs.lemmas.List.{take_more_set}
-use Rattle.std.proofs.lemmas.List.{append-nil, length-append, length-take}
-use Rattle.std.proofs.lemmas.List.Elements.{All-append, All-cons, All-drop, All-head, All-nil, All-tail}
-use Rattle.bit_blocks.specs.Bits.{IsBit, AllBits}
-use Rattle.bit_blocks.specs.Octets.{IsOctet, AllOctets, octet_bits, bits_of, octets_of}
+-- `bits_of` and `octets_of` undo each other, and loops extend their results by one octet at a time.
+use Rattle.std.proofs.Common.{◌≡◌, ℕ, zero, suc, ◌+◌, ◌-◌, ◌*◌, ◌/◌, ◌%◌, ◌<◌, ◌≤◌, List, [], ◌∷◌, ◌++◌, map, length, get_or, take, drop}
+use Rattle.std.proofs.{Common.{refl, ap, ap₂, subst, sym, ◌∙◌, arith}, Math.{ListN.set, Seq.take-add}, lemmas.List.take_more_set}
+use Rattle.std.proofs.lemmas.List.{append-nil, length-append, length-take, Elements.{All-append, All-cons, All-drop, All-head, All-nil}}
+use Rattle.std.proofs.lemmas.List.Elements.{All-tail}
+use Rattle.bit_blocks.specs.{Bits.{IsBit, AllBits}, Octets.{IsOctet, AllOctets, octet_bits, bits_of, octets_of}}
 
 half_at_most_1 : (n : ℕ) → n % 2 ≤ 1
 half_at_most_1 n = omega arith
@@ -31,7 +27,7 @@ length-bits_of (octet ∷ octets) =
     let rest = length-bits_of octets in
     length-append (octet_bits octet) (bits_of octets) ∙ omega arith
 
--- ---- round trips
+-- ---- unpacking octets into bits and packing them again, and the other way round
 
 of_its_bits : (n : ℕ) → n < 256 →
     n % 2 + 2 * (n / 2 % 2) + 4 * (n / 4 % 2) + 8 * (n / 8 % 2) + 16 * (n / 16 % 2) + 32 * (n / 32 % 2) + 64 * (n / 64 % 2) + 128
@@ -106,7 +102,7 @@ bits_of-octets_of (a ∷ b ∷ c ∷ d ∷ e ∷ f ∷ g ∷ h ∷ bits) n count
     (all 0 0 (omega arith)) (all 1 0 (omega arith)) (all 2 0 (omega arith)) (all 3 0 (omega arith))
     (all 4 0 (omega arith)) (all 5 0 (omega arith)) (all 6 0 (omega arith)) (all 7 0 (omega arith)) rest
 
--- ---- one more octet
+-- ---- one step of the loops: one more octet is unpacked or packed
 
 pub octets_of-append : (n : ℕ) (xs ys : List ℕ) → length xs ≡ 8 * n → octets_of (xs ++ ys) ≡ octets_of xs ++ octets_of ys
 octets_of-append zero [] ys e = refl
@@ -137,7 +133,7 @@ octets_of-eight (a ∷ b ∷ c ∷ d ∷ f ∷ g ∷ h ∷ []) e = absurd (omega
 octets_of-eight (a ∷ b ∷ c ∷ d ∷ f ∷ g ∷ h ∷ i ∷ []) e = refl
 octets_of-eight (a ∷ b ∷ c ∷ d ∷ f ∷ g ∷ h ∷ i ∷ j ∷ bits) e = absurd (omega arith)
 
--- the octet of eight bits has these bits
+-- the octet that eight bits are packed into has these bits
 pub octet_of_eight : (bits : List ℕ) → length bits ≡ 8 → AllBits bits →
     (n : ℕ) × (n < 256) × (octet_bits n ≡ bits) × (octets_of bits ≡ n ∷ [])
 octet_of_eight bits e all =

@@ -1,10 +1,7 @@
--- Single bits of `bits_of`.
-use Rattle.std.proofs.Common.{◌≡◌, ℕ, zero, suc, ◌+◌, ◌-◌, ◌*◌, ◌%◌, ◌^◌, ◌<◌, ◌≤◌, List, []}
-use Rattle.std.proofs.Common.{◌∷◌, ◌++◌, length, get_or, refl, ap, sym, ◌∙◌, arith}
-use Rattle.std.proofs.Math.Nat.{zero-div}
-use Rattle.std.proofs.lemmas.List.{get_or_append_left, get_or-append_right}
-use Rattle.bit_blocks.specs.Octets.{octet_bits, bits_of}
-use Rattle.bit_blocks.specs.Packed.{bit_of}
+-- The single bits of a list that `bits_of` unpacks from octets.
+use Rattle.std.proofs.Common.{◌≡◌, ℕ, zero, suc, ◌+◌, ◌-◌, ◌*◌, ◌%◌, ◌^◌, ◌<◌, ◌≤◌, List, [], ◌∷◌, ◌++◌, length, get_or, refl, ap, sym, ◌∙◌}
+use Rattle.std.proofs.{Common.arith, Math.Nat.zero-div, lemmas.List.{get_or_append_left, get_or-append_right}}
+use Rattle.bit_blocks.specs.{Octets.{octet_bits, bits_of}, Packed.bit_of}
 
 bit_of_zero : (i : ℕ) → bit_of 0 i ≡ 0
 bit_of_zero i = ap (λ n. n % 2) (zero-div (2 ^ i))
@@ -20,7 +17,7 @@ get_or-octet_bits octet (suc (suc (suc (suc (suc (suc zero)))))) lt = omega arit
 get_or-octet_bits octet (suc (suc (suc (suc (suc (suc (suc zero))))))) lt = omega arith
 get_or-octet_bits octet (suc (suc (suc (suc (suc (suc (suc (suc i)))))))) lt = absurd (omega arith)
 
--- bit i of octet m is bit 8 m + i of the list
+-- bit 8 m + i of the unpacked list is bit i of octet m
 pub get_or-bits_of : (octets : List ℕ) (m i : ℕ) → i < 8 → get_or (bits_of octets) (8 * m + i) 0 ≡ bit_of (get_or octets m 0) i
 get_or-bits_of [] m i lt = sym (bit_of_zero i)
 get_or-bits_of (octet ∷ octets) zero i lt =

@@ -1,16 +1,12 @@
--- The multiplications that unpack an octet into eight and pack eight into one, checked by computation on all 256 octets.
-use Rattle.std.proofs.Common.{◌≡◌, ℕ, ◌+◌, ◌*◌, ◌/◌, ◌%◌, ◌^◌, ◌<◌, List, [], ◌∷◌, length, get_or}
-use Rattle.std.proofs.Common.{refl, ap, sym, ◌∙◌, bit_and, Bool, true, eqb}
-use Rattle.std.specs.Int.{from_le_bytes, to_le_bytes, w64}
-use Rattle.std.specs.Str.{bytes_eq}
-use Rattle.std.proofs.lemmas.Bool.Decides.{Decides-eqb}
-use Rattle.std.proofs.lemmas.Slice.Eq.{bytes_eq-Decides}
-use Rattle.bit_blocks.specs.Bits.{AllBits}
-use Rattle.bit_blocks.specs.Octets.{octet_bits, octets_of}
-use Rattle.bit_blocks.proofs.Below.{passes_below, at_passes_below}
+-- The multiplications that unpack an octet into eight octets of one bit each and pack them again, checked by computation on all 256
+-- octets.
+use Rattle.std.proofs.Common.{◌≡◌, ℕ, ◌+◌, ◌*◌, ◌/◌, ◌%◌, ◌^◌, ◌<◌, List, [], ◌∷◌, length, get_or, refl, ap, sym, ◌∙◌, bit_and, Bool, true}
+use Rattle.std.{proofs.{Common.eqb, lemmas.{Bool.Decides.Decides-eqb, Slice.Eq.bytes_eq-Decides}}, specs.Int.{from_le_bytes, to_le_bytes}}
+use Rattle.std.specs.{Int.w64, Str.bytes_eq}
+use Rattle.bit_blocks.{specs.{Bits.AllBits, Octets.{octet_bits, octets_of}}, proofs.Below.{passes_below, at_passes_below}}
 use Rattle.bit_blocks.proofs.OctetLists.{octet_of_eight}
 
--- the bits of an octet, one octet for each
+-- the bits of an octet, each in an octet of its own
 abbrev pub spreading : ℕ → List ℕ
 spreading octet =
     to_le_bytes w64
@@ -29,7 +25,7 @@ unfolding is_spread
 spread_bits octet within =
     (bytes_eq-Decides (spreading octet) (octet_bits octet)).0 (at_passes_below is_spread 256 all_spread octet within)
 
--- the octet that eight bits are packed into
+-- the octet into which the multiplication packs eight bits
 abbrev pub gathering : List ℕ → ℕ
 gathering bits =
     (from_le_bytes w64 (get_or bits 0 0 ∷ get_or bits 1 0 ∷ get_or bits 2 0 ∷ get_or bits 3 0 ∷

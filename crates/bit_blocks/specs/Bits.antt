@@ -6,12 +6,12 @@ use Rattle.std.specs.List.{All}
 abbrev pub IsBit : ℕ → Type 0
 IsBit bit = bit ≤ 1
 
--- every member is 0 or 1
+-- every element of the list is 0 or 1
 abbrev pub AllBits : List ℕ → Type 0
 AllBits bits = All IsBit bits
 
--- the bitwise sum modulo 2 (XOR) of two lists, as long as the shorter one
-abbrev pub add_bits : List ℕ → List ℕ → List ℕ
-add_bits [] ys = []
-add_bits (x ∷ xs) [] = []
-add_bits (x ∷ xs) (y ∷ ys) = ((x + y) % 2) ∷ add_bits xs ys
+-- the bitwise XOR of two lists, as long as the shorter one
+abbrev pub xor_bits : List ℕ → List ℕ → List ℕ
+xor_bits [] ys = []
+xor_bits (x ∷ xs) [] = []
+xor_bits (x ∷ xs) (y ∷ ys) = ((x + y) % 2) ∷ xor_bits xs ys

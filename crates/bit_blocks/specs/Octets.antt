@@ -6,7 +6,7 @@ use Rattle.std.specs.List.{All, flat_map}
 abbrev pub IsOctet : ℕ → Type 0
 IsOctet octet = octet < 256
 
--- every member is an octet
+-- every number in the list is an octet
 abbrev pub AllOctets : List ℕ → Type 0
 AllOctets octets = All IsOctet octets
 
@@ -26,7 +26,7 @@ octet_bits octet =
 abbrev pub bits_of : List ℕ → List ℕ
 bits_of octets = flat_map octet_bits octets
 
--- the octets that bits are packed into, eight to an octet, least significant bit first; left-over bits are dropped
+-- the bits packed into octets, eight to an octet, least significant bit first; fewer than eight bits at the end are dropped
 abbrev pub octets_of : List ℕ → List ℕ
 octets_of (a ∷ b ∷ c ∷ d ∷ e ∷ f ∷ g ∷ h ∷ rest) =
     (a + 2 * b + 4 * c + 8 * d + 16 * e + 32 * f + 64 * g + 128 * h) ∷ octets_of rest

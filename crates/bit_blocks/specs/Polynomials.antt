@@ -4,16 +4,16 @@ use Rattle.std.proofs.Common.{zero, suc}
 use Rattle.bit_blocks.specs.Bits.{AllBits}
 
 -- coefficient m of the product of q and g, before it is reduced modulo 2: the sum of q(i) g(j) over all i + j = m
-abbrev pub product_at : List ℕ → List ℕ → ℕ → ℕ
-product_at [] g m = 0
-product_at (x ∷ q) g zero = x * slice_index g 0
-product_at (x ∷ q) g (suc m) = x * slice_index g (suc m) + product_at q g m
+abbrev pub product_coefficient : List ℕ → List ℕ → ℕ → ℕ
+product_coefficient [] g m = 0
+product_coefficient (x ∷ q) g zero = x * slice_index g 0
+product_coefficient (x ∷ q) g (suc m) = x * slice_index g (suc m) + product_coefficient q g m
 
 -- x is the product of q and g over GF(2)
 pub record IsProduct (x q g : List ℕ) : Type 0 where
   pub count : length q + length g ≡ length x + 1
   pub bits : AllBits q
-  pub each : (m : ℕ) → m < length x → slice_index x m ≡ product_at q g m % 2
+  pub each : (m : ℕ) → m < length x → slice_index x m ≡ product_coefficient q g m % 2
 
 -- x is the product of g and some quotient
 abbrev pub HasQuotient : List ℕ → List ℕ → Type 0

@@ -1,7 +1,7 @@
-//! A fixed number of bits.
+//! The type `Bits`: a list of bits of fixed length.
 ghost use Rattle.std.specs.Prelude.{◌≡◌, ℕ, ◌<◌, ◌≤◌, ◌↔◌, List, length, replicate, slice_index, slice_set};
 ghost use Rattle.std.specs.Prelude.{IsSome, IfSome};
-ghost use Rattle.bit_blocks.specs.Bits.{AllBits, add_bits};
+ghost use Rattle.bit_blocks.specs.Bits.{AllBits, xor_bits};
 
 use std::marker::Model;
 
@@ -11,7 +11,7 @@ pub struct Bits<const N: usize> {
     places: [u8; N],
 }
 
-// Contracts see the list of bits.
+// In contracts, a `Bits<N>` is the list of its bits.
 impl<const N: usize> Model for Bits<N> {
     ghost Value = { List ℕ };
 
@@ -70,13 +70,13 @@ impl<const N: usize> Bits<N> {
         self.places[i] = bit;
     }
 
-    /// The bitwise sum modulo 2.
+    /// The bitwise XOR.
     pub fn xor(&self, other: &Bits<N>) -> Bits<N>
-        ensures value { result ≡ add_bits self.now other.now }
+        ensures value { result ≡ xor_bits self.now other.now }
         ensures count { length result ≡ N }
         ensures bits { AllBits result }
 
-        // Both operands are `N` bits.
+        // Both operands have `N` bits.
         ensures counts { (length self.now ≡ N) × (length other.now ≡ N) }
         ensures operands { AllBits self.now × AllBits other.now }
     {

@@ -6,17 +6,17 @@ mod octets;
 mod soft;
 
 pub use bits::Bits;
-pub use octets::{from_octets, law_octets, to_octets};
-pub use soft::wrong_places;
+pub use octets::{from_octets, law_octet_bits_round_trip, to_octets};
+pub use soft::count_wrong_bits;
 
-/// How many octets a block has: one frame of layer 2 with its fill.
+/// The number of octets in a block: one layer 2 frame with its fill octets.
 pub const BLOCK_OCTETS: usize = 23;
 
-/// How many bits a block has.
+/// The number of bits in a block, before the Fire code and the tail bits are added.
 pub const BLOCK_BITS: usize = 184;
 
-/// How many bits of a block the convolutional code takes: the block, 40 bits of CRC and four tail bits.
+/// The number of bits of a block that are convolutionally coded: 184 bits of the block, 40 Fire code bits and four tail bits.
 pub const INFORMATION_BITS: usize = 228;
 
-/// How many coded bits a block has.
+/// The number of coded bits of a block, two for each of its 228 information bits.
 pub const CODED_BITS: usize = 456;

@@ -26,8 +26,8 @@ pub fn to_octets(bits: &[u8], out: &mut [u8])
     }
 }
 
-/// Law: `octets_of` and `bits_of` undo each other.
-pub fn law_octets()
+/// Law: packing bits into octets (`octets_of`) and unpacking octets into bits (`bits_of`) undo each other.
+pub fn law_octet_bits_round_trip()
     ensures octets { (octets : List ℕ) → AllOctets octets → octets_of (bits_of octets) ≡ octets }
     ensures bits { (bits : List ℕ) (n : ℕ) → length bits ≡ 8 * n → AllBits bits → bits_of (octets_of bits) ≡ bits }
 {}
@@ -36,7 +36,7 @@ pub fn law_octets()
 fn bits_of_octet(octet: u8) -> [u8; 8]
     ensures { result ≡ octet_bits octet }
 {
-    // Octet i of `kept` is bit i alone, in place; adding 127 carries it into the octet's highest bit.
+    // Octet i of `kept` keeps only bit i of `octet`, at its own position; adding 127 carries it into the highest bit of octet i.
     let kept = u64::from(octet).wrapping_mul(0x0101_0101_0101_0101) & 0x8040_2010_0804_0201;
     ((kept.wrapping_add(0x7f7f_7f7f_7f7f_7f7f) >> 7) & 0x0101_0101_0101_0101).to_le_bytes()
 }
@@ -50,6 +50,6 @@ fn octet_of_bits(bits: &[u8]) -> u8
     let apart = u64::from_le_bytes([
         bits[0], bits[1], bits[2], bits[3], bits[4], bits[5], bits[6], bits[7],
     ]);
-    // The multiplication moves bit i to bit 56 + i; nothing else reaches the highest octet.
+    // The multiplication moves bit i to position 56 + i and leaves nothing else in the highest octet.
     (apart.wrapping_mul(0x0102_0408_1020_4080) >> 56) as u8
 }

@@ -1,13 +1,9 @@
--- A burst of zeros is filled from its front.
-use Rattle.std.proofs.Common.{◌≡◌, ℕ, ◌+◌, ◌-◌, ◌≤◌, leb, true, List, ◌++◌, length, take, drop, replicate, ap}
-use Rattle.std.proofs.Common.{◌∙◌, sym, arith, rules, tests}
-use Rattle.std.specs.List.{list_all}
-use Rattle.std.proofs.lemmas.List.{take_at, drop_at, drop-drop, drop-replicate, length-append}
-use Rattle.std.proofs.lemmas.List.Elements.{All-append, All-replicate, All-same}
-use Rattle.std.proofs.lemmas.List.Sums.{AllPass-from_list_all}
+-- A burst of zeros is filled from the front to the end.
+use Rattle.std.proofs.{Common.{◌≡◌, ℕ, ◌+◌, ◌-◌, List, ◌++◌, length, take, drop, replicate, ap, ◌∙◌, sym, arith}, lemmas.List.take_at}
+use Rattle.std.proofs.lemmas.List.{drop_at, drop-drop, drop-replicate, length-append, Elements.{All-append, All-replicate, All-same}}
 use Rattle.training_seq.specs.bit_blocks.Bits.{IsBit, AllBits}
 
--- the burst begins with these bits, and zeros follow
+-- the burst begins with the bits `front`, which are `at` bits, and `rest` zeros follow
 pub record IsFilled (burst front : List ℕ) (at rest : ℕ) : Type 0 where
   pub list : burst ≡ front ++ replicate rest 0
   pub long : length front ≡ at

@@ -1,5 +1,5 @@
--- A slice of an array is borrowed mutably: until the borrow ends the rest of the array is unchanged, and the array then holds the slice's
--- final values. This follows from the logic's rule for borrowing elements of a list (`lends_Elements`).
+-- A slice of an array is borrowed mutably: the rest of the array is unchanged, and when the borrow ends, the array holds the final values
+-- of the slice. This follows from the logic's rule for borrowing elements of a list (`lends_Elements`).
 use mathlib.Core.Path.{◌≡◌, refl, sym, ap, ◌∙◌}
 use Prim.Native.Nat.{ℕ, ◌+◌, ◌-◌, ◌^◌, ◌<◌, ◌≤◌}
 use native.Mathlib.Omega.{arith}
@@ -11,8 +11,8 @@ use mir.Val.{Val}
 use base.Logic.{SProp, ent, sep, ex, guard}
 use base.Fml.{Lft, GName, Share, fsep, feq, flft}
 use types.Logic.{Logic, sem}
-use types.Kit.{Item, ‵, ◌⊛◌, raw, given, ◌$◌, ◌∵◌, !, qed, move, drop, fsplit3, updating, await, later, some, use1}
-use types.Kit.{use2, group, pick, now, show, done, rewrite, split, join, check, fsplit, fjoin, feq_l, feq_i}
+use types.Kit.{Item, ‵, ◌⊛◌, raw, given, ◌$◌, ◌∵◌, !, qed, move, drop, fsplit3, updating, await, later, some, use1, use2, group, pick, now}
+use types.Kit.{show, done, rewrite, split, join, check, fsplit, fjoin, feq_l, feq_i}
 use types.SemTy.{cells}
 use types.Mut.{open_ref}
 use denote.Builtin.{u8}
@@ -44,7 +44,7 @@ module _ {M : Type 1} {𝓤 : Ura M} (𝓛 : Logic 𝓤) (ℓ : Lifetime) (κ : 
   abbrev p : ℕ
   p = from + o
 
-  -- the slice under a new name, its token, and the array's final value
+  -- what is lent: the slice under a new name, the token for it, and the final value of the array
   abbrev pub part_lent : GName → Item 𝓤
   part_lent δ =
       given (length mid ≡ to - from)

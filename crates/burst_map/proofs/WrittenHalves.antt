@@ -1,17 +1,13 @@
 -- Writing both halves of a normal burst, in either order, gives the burst of these halves.
-use Rattle.std.proofs.Common.{◌≡◌, ℕ, ◌≤◌, List, [], ◌∷◌, ◌++◌, length, replicate, refl, ap, sym, ◌∙◌}
-use Rattle.std.proofs.Common.{arith, take, drop}
+use Rattle.std.proofs.Common.{◌≡◌, ℕ, ◌≤◌, List, [], ◌∷◌, ◌++◌, length, replicate, refl, ap, sym, ◌∙◌, arith, take, drop}
 use Rattle.std.proofs.lemmas.List.{append_assoc, take_at, drop_at, length-append}
-use Rattle.training_seq.specs.Sequences.{training_sequence}
-use Rattle.training_seq.proofs.Lemmas.{length-training_sequence}
-use Rattle.burst_map.specs.NormalBurst.{normal_burst}
-use Rattle.burst_map.specs.Parts.{with_part}
-use Rattle.burst_map.specs.Tails.{tail_bits}
+use Rattle.training_seq.{specs.Sequences.training_sequence, proofs.Lemmas.length-training_sequence}
+use Rattle.burst_map.specs.{NormalBurst.normal_burst, Parts.with_part_replaced, Tails.tail_bits}
 
 -- replacing the middle of three parts
-with_part-middle : (places front old back part : List ℕ) (from to : ℕ) → places ≡ front ++ (old ++ back) → length front ≡ from →
-    length (front ++ old) ≡ to → with_part places from to part ≡ front ++ (part ++ back)
-with_part-middle places front old back part from to is f t =
+with_part_replaced-middle : (places front old back part : List ℕ) (from to : ℕ) → places ≡ front ++ (old ++ back) → length front ≡ from →
+    length (front ++ old) ≡ to → with_part_replaced places from to part ≡ front ++ (part ++ back)
+with_part_replaced-middle places front old back part from to is f t =
     let before : take from places ≡ front = ap (take from) is ∙ take_at front (old ++ back) from f in
     let after : drop to places ≡ back =
     ap (drop to) (is ∙ sym (append_assoc front old back)) ∙ drop_at (front ++ old) back to t in
@@ -36,41 +32,45 @@ length-before_second first tsc f known =
     simp length-append (omega arith)
 
 write_first : (old first second : List ℕ) (tsc : ℕ) → length old ≡ 57 →
-    with_part (normal_burst old second tsc) 3 60 first ≡ normal_burst first second tsc
+    with_part_replaced (normal_burst old second tsc) 3 60 first ≡ normal_burst first second tsc
 write_first old first second tsc o =
-    with_part-middle (normal_burst old second tsc) tail_bits old (after_first second tsc) first 3 60 (around_first old second tsc) refl
+    with_part_replaced-middle (normal_burst old second tsc) tail_bits old (after_first second tsc) first 3 60
+    (around_first old second tsc) refl
     (omega (arith, length-append tail_bits old))
     ∙ sym (around_first first second tsc)
 
 write_second : (first old second : List ℕ) (tsc : ℕ) → length first ≡ 57 → length old ≡ 57 → tsc ≤ 7 →
-    with_part (normal_burst first old tsc) 88 145 second ≡ normal_burst first second tsc
+    with_part_replaced (normal_burst first old tsc) 88 145 second ≡ normal_burst first second tsc
 write_second first old second tsc f o known =
     let long = length-before_second first tsc f known in
-    with_part-middle (normal_burst first old tsc) (before_second first tsc) old tail_bits second 88 145 (around_second first old tsc) long
+    with_part_replaced-middle (normal_burst first old tsc) (before_second first tsc) old tail_bits second 88 145
+    (around_second first old tsc) long
     (omega (arith, length-append (before_second first tsc) old))
     ∙ sym (around_second first second tsc)
 
 pub write_first-second : (first second : List ℕ) (tsc : ℕ) → length first ≡ 57 → length second ≡ 57 → tsc ≤ 7 →
-    with_part (with_part (normal_burst (replicate 57 0) (replicate 57 0) tsc) 3 60 first) 88 145 second ≡ normal_burst first second tsc
+    with_part_replaced (with_part_replaced (normal_burst (replicate 57 0) (replicate 57 0) tsc) 3 60 first) 88 145 second
+    ≡ normal_burst first second tsc
 write_first-second first second tsc f s known =
     let zeros : List ℕ = replicate 57 0 in
-    ap (λ burst. with_part burst 88 145 second) (write_first zeros first zeros tsc refl)
+    ap (λ burst. with_part_replaced burst 88 145 second) (write_first zeros first zeros tsc refl)
     ∙ write_second first zeros second tsc f refl known
 
 pub write_second-first : (first second : List ℕ) (tsc : ℕ) → length first ≡ 57 → length second ≡ 57 → tsc ≤ 7 →
-    with_part (with_part (normal_burst (replicate 57 0) (replicate 57 0) tsc) 88 145 second) 3 60 first ≡ normal_burst first second tsc
+    with_part_replaced (with_part_replaced (normal_burst (replicate 57 0) (replicate 57 0) tsc) 88 145 second) 3 60 first
+    ≡ normal_burst first second tsc
 write_second-first first second tsc f s known =
     let zeros : List ℕ = replicate 57 0 in
-    ap (λ burst. with_part burst 3 60 first) (write_second zeros zeros second tsc refl refl known)
+    ap (λ burst. with_part_replaced burst 3 60 first) (write_second zeros zeros second tsc refl refl known)
     ∙ write_first zeros first second tsc refl
 
 -- the burst after both halves are written
 pub both_written : (left burst half other first second : List ℕ) (tsc : ℕ) → length first ≡ 57 → length second ≡ 57 → tsc ≤ 7 →
     burst ≡ normal_burst (replicate 57 0) (replicate 57 0) tsc → half ≡ first → other ≡ second →
-    left ≡ with_part (with_part burst 3 60 half) 88 145 other → left ≡ normal_burst first second tsc
+    left ≡ with_part_replaced (with_part_replaced burst 3 60 half) 88 145 other → left ≡ normal_burst first second tsc
 both_written left burst half other first second tsc f s known zeros h o is =
     is
-    ∙ ap (λ places. with_part (with_part places 3 60 half) 88 145 other) zeros
-    ∙ ap (λ bits. with_part (with_part (normal_burst (replicate 57 0) (replicate 57 0) tsc) 3 60 bits) 88 145 other) h
-    ∙ ap (with_part (with_part (normal_burst (replicate 57 0) (replicate 57 0) tsc) 3 60 first) 88 145) o
+    ∙ ap (λ places. with_part_replaced (with_part_replaced places 3 60 half) 88 145 other) zeros
+    ∙ ap (λ bits. with_part_replaced (with_part_replaced (normal_burst (replicate 57 0) (replicate 57 0) tsc) 3 60 bits) 88 145 other) h
+    ∙ ap (with_part_replaced (with_part_replaced (normal_burst (replicate 57 0) (replicate 57 0) tsc) 3 60 first) 88 145) o
     ∙ write_first-second first second tsc f s known

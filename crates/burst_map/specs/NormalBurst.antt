@@ -17,14 +17,14 @@ head burst = slice_range burst 0 3
 abbrev pub first_half : List ℤ → List ℤ
 first_half burst = slice_range burst 3 60
 
-abbrev pub lower_flag : List ℤ → List ℤ
-lower_flag burst = slice_range burst 60 61
+abbrev pub flag_before_training : List ℤ → List ℤ
+flag_before_training burst = slice_range burst 60 61
 
 abbrev pub training : List ℤ → List ℤ
 training burst = slice_range burst 61 87
 
-abbrev pub upper_flag : List ℤ → List ℤ
-upper_flag burst = slice_range burst 87 88
+abbrev pub flag_after_training : List ℤ → List ℤ
+flag_after_training burst = slice_range burst 87 88
 
 abbrev pub second_half : List ℤ → List ℤ
 second_half burst = slice_range burst 88 145

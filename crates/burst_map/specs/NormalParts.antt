@@ -4,23 +4,23 @@ use Rattle.std.specs.Borrow.{Lends, MutBor, Fml, GName, Array, u8}
 use mir.Syntax.{named}
 use Rattle.burst_map.specs.declared.normal_parts.NormalParts.{NormalParts}
 use Rattle.burst_map.specs.contracts.normal_parts.NormalParts.{the_row}
-use Rattle.burst_map.specs.Parts.{with_part}
+use Rattle.burst_map.specs.Parts.{with_part_replaced}
 
 -- the current bits of the burst
-abbrev pub burst_now : NormalParts → List ℕ
-burst_now parts = parts.burst.now
+abbrev pub current_burst : NormalParts → List ℕ
+current_burst parts = parts.burst.now
 
--- the identity of the burst, as the logic names a mutable reference
-abbrev pub burst_name : NormalParts → GName
-burst_name parts = parts.burst.ghost_name
+-- the name by which the logic identifies the mutable reference to the burst
+abbrev pub burst_ghost_name : NormalParts → GName
+burst_ghost_name parts = parts.burst.ghost_name
 
--- the same reference with other bits in the burst
+-- a `NormalParts` with the same reference to the burst, but with other bits in the burst
 abbrev pub with_burst : NormalParts → List ℕ → NormalParts
 with_burst parts burst = record parts { burst = record parts.burst { now = burst } }
 
 -- the bits of the burst in from..to are borrowed mutably; when the borrow ends the burst holds their final values there, and is unchanged
 -- elsewhere
-abbrev pub LendsPlaces : MutBor NormalParts → ℕ → ℕ → MutBor (List ℕ) → Fml
-LendsPlaces parts from to half =
+abbrev pub LendsPartOfBurst : MutBor NormalParts → ℕ → ℕ → MutBor (List ℕ) → Fml
+LendsPartOfBurst parts from to half =
     Lends (the_row (record { mir = named 1; lft = [] })) (Array u8 0) parts half
-    (λ bits. with_burst parts.now (with_part (burst_now parts.now) from to bits))
+    (λ bits. with_burst parts.now (with_part_replaced (current_burst parts.now) from to bits))

@@ -3,12 +3,12 @@ ghost use Rattle.std.specs.Prelude.{◌≡◌, ◌++◌, length};
 ghost use Rattle.training_seq.specs.bit_blocks.Bits.{AllBits};
 ghost use Rattle.burst_map.specs.AccessBurst.{access_burst, access_sequence};
 ghost use Rattle.burst_map.specs.AccessBurst as parts;
-ghost use Rattle.burst_map.specs.Parts.{LiesAt};
+ghost use Rattle.burst_map.specs.Parts.{IsSliceAtOffset};
 
 use crate::place::place;
 use std::marker::Model;
 
-// The extended tail bits, and below them the training bits.
+// The eight extended tail bits, with which the burst begins.
 const ACCESS_HEAD: [u8; 8] = [0, 0, 1, 1, 1, 0, 1, 0];
 
 static ACCESS_TRAINING: [u8; 41] = [
@@ -24,7 +24,7 @@ pub fn access_sequence() -> &'static [u8; 41]
     &ACCESS_TRAINING
 }
 
-/// The access burst with these 36 coded bits.
+/// Builds the access burst with these 36 coded bits.
 pub fn access(body: &[u8]) -> [u8; 88]
     requires count { length body.now ≡ 36 }
     requires bits { AllBits body.now }
@@ -44,7 +44,7 @@ pub struct AccessView<'a> {
     burst: &'a [i8; 88],
 }
 
-// Contracts see the borrowed burst.
+// In contracts, an `AccessView` is the borrowed burst.
 impl<'a> Model for AccessView<'a> {
     ghost use Rattle.std.specs.Prelude.{◌≡◌, List, ℤ, length};
     ghost use Rattle.std.specs.Borrow.{Bor};
@@ -69,7 +69,7 @@ impl<'a> AccessView<'a> {
     pub fn head(&self) -> &'a [i8]
         ensures value { result.now ≡ parts.head self.now.now }
         ensures count { length result.now ≡ 8 }
-        ensures lent { LiesAt 0 self.now result }
+        ensures lent { IsSliceAtOffset 0 self.now result }
     {
         let burst = self.burst;
         &burst[..8]
@@ -79,7 +79,7 @@ impl<'a> AccessView<'a> {
     pub fn training(&self) -> &'a [i8]
         ensures value { result.now ≡ parts.training self.now.now }
         ensures count { length result.now ≡ 41 }
-        ensures lent { LiesAt 8 self.now result }
+        ensures lent { IsSliceAtOffset 8 self.now result }
     {
         let burst = self.burst;
         &burst[8..49]
@@ -89,7 +89,7 @@ impl<'a> AccessView<'a> {
     pub fn body(&self) -> &'a [i8]
         ensures value { result.now ≡ parts.body self.now.now }
         ensures count { length result.now ≡ 36 }
-        ensures lent { LiesAt 49 self.now result }
+        ensures lent { IsSliceAtOffset 49 self.now result }
     {
         let burst = self.burst;
         &burst[49..85]
@@ -99,7 +99,7 @@ impl<'a> AccessView<'a> {
     pub fn tail(&self) -> &'a [i8]
         ensures value { result.now ≡ parts.tail self.now.now }
         ensures count { length result.now ≡ 3 }
-        ensures lent { LiesAt 85 self.now result }
+        ensures lent { IsSliceAtOffset 85 self.now result }
     {
         let burst = self.burst;
         &burst[85..88]

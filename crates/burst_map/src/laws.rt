@@ -1,14 +1,14 @@
-//! Properties of bursts as laws: functions with an empty body, called for their contracts.
+//! Properties of bursts as laws: a law is a function with an empty body whose contract states a theorem.
 ghost use Rattle.std.specs.Prelude.{◌≡◌, ◌≤◌, ℕ, List, length, replicate};
 ghost use Rattle.burst_map.specs.NormalBurst.{normal_burst};
-ghost use Rattle.burst_map.specs.Parts.{with_part};
+ghost use Rattle.burst_map.specs.Parts.{with_part_replaced};
 
 /// Law: writing both halves of a normal burst of zeros, in either order, gives the normal burst of these halves.
-pub fn law_filled()
+pub fn law_halves_in_any_order()
     ensures first_half_first { (first second : List ℕ) (tsc : ℕ) → length first ≡ 57 → length second ≡ 57 → tsc ≤ 7 →
-        with_part (with_part (normal_burst (replicate 57 0) (replicate 57 0) tsc) 3 60 first) 88 145 second
+        with_part_replaced (with_part_replaced (normal_burst (replicate 57 0) (replicate 57 0) tsc) 3 60 first) 88 145 second
         ≡ normal_burst first second tsc }
     ensures second_half_first { (first second : List ℕ) (tsc : ℕ) → length first ≡ 57 → length second ≡ 57 → tsc ≤ 7 →
-        with_part (with_part (normal_burst (replicate 57 0) (replicate 57 0) tsc) 88 145 second) 3 60 first
+        with_part_replaced (with_part_replaced (normal_burst (replicate 57 0) (replicate 57 0) tsc) 88 145 second) 3 60 first
         ≡ normal_burst first second tsc }
 {}

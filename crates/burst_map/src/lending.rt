@@ -1,13 +1,13 @@
-//! A mutable slice of a burst.
+//! Lends out a mutable slice of a burst.
 ghost use Rattle.std.specs.Prelude.{◌≡◌, ◌≤◌, ◌-◌, length, slice_range};
 ghost use Rattle.std.specs.Borrow.{sem, Lends, Array, u8};
-ghost use Rattle.burst_map.specs.Parts.{with_part};
+ghost use Rattle.burst_map.specs.Parts.{with_part_replaced};
 
-// Borrows `places[from..to]` for writing; the rest is unchanged.
+// Lends `places[from..to]` for writing; the other bits are unchanged.
 pub fn part_mut<const N: usize>(places: &mut [u8; N], from: usize, to: usize) -> &mut [u8]
     requires order { from ≤ to }
     requires within { to ≤ N }
-    ensures* writes_back { sem 𝓛 (Lends (Array u8 N) (Array u8 0) places.entry result (with_part places.old from to)) }
+    ensures* writes_back { sem 𝓛 (Lends (Array u8 N) (Array u8 0) places.entry result (with_part_replaced places.old from to)) }
     ensures part { (result.now ≡ slice_range places.old from to) × (length result.now ≡ to - from) }
 {
     &mut places[from..to]

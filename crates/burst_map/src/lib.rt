@@ -1,5 +1,5 @@
-//! The layouts of bursts (GSM 05.02, today 3GPP TS 45.002, section 5.2): builds a burst around its training sequence, and gives the parts
-//! of a received one.
+//! The layouts of bursts (GSM 05.02, today 3GPP TS 45.002, section 5.2): builds bursts from coded bits and a training sequence, and splits
+//! received bursts into their parts.
 #![tactic(auto)]
 
 mod access_burst;
@@ -11,12 +11,12 @@ mod place;
 mod sync_burst;
 
 pub use access_burst::{AccessView, access, access_sequence};
-pub use laws::law_filled;
+pub use laws::law_halves_in_any_order;
 pub use normal_burst::{NormalView, normal};
 pub use normal_parts::NormalParts;
 pub use sync_burst::{SyncView, sync, sync_sequence};
 
-/// How many bits a normal burst has, and a synchronisation burst too.
+/// The number of bits in a normal burst, and also in a synchronisation burst.
 pub const BURST_BITS: usize = 148;
 
 #[cfg(test)]

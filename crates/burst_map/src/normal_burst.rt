@@ -3,14 +3,14 @@ ghost use Rattle.std.specs.Prelude.{◌≡◌, ◌≤◌, ◌++◌, length};
 ghost use Rattle.training_seq.specs.bit_blocks.Bits.{AllBits};
 ghost use Rattle.burst_map.specs.NormalBurst.{normal_burst};
 ghost use Rattle.burst_map.specs.NormalBurst as parts;
-ghost use Rattle.burst_map.specs.Parts.{LiesAt};
+ghost use Rattle.burst_map.specs.Parts.{IsSliceAtOffset};
 
 use crate::BURST_BITS;
 use crate::place::place;
 use std::marker::Model;
 use training_seq::sequence;
 
-/// The normal burst with two halves of 57 coded bits, both stealing flags 1, and a training sequence code of 0 to 7.
+/// Builds the normal burst with two halves of 57 coded bits and a training sequence code of 0 to 7; both stealing flags are 1.
 pub fn normal(first: &[u8], second: &[u8], tsc: u8) -> [u8; BURST_BITS]
     requires first { length first.now ≡ 57 }
     requires first_bits { AllBits first.now }
@@ -35,7 +35,7 @@ pub struct NormalView<'a> {
     burst: &'a [i8; BURST_BITS],
 }
 
-// Contracts see the borrowed burst.
+// In contracts, a `NormalView` is the borrowed burst.
 impl<'a> Model for NormalView<'a> {
     ghost use Rattle.std.specs.Prelude.{◌≡◌, List, ℤ, length};
     ghost use Rattle.std.specs.Borrow.{Bor};
@@ -53,27 +53,27 @@ impl<'a> NormalView<'a> {
         ensures value { result.now ≡ burst.now }
         ensures lent { result.ref_ptr ≡ burst.entry.ref_ptr }
         ensures whole { burst.now ≡
-            parts.head burst.now ++ parts.first_half burst.now ++ parts.lower_flag burst.now ++ parts.training burst.now
-            ++ parts.upper_flag burst.now ++ parts.second_half burst.now ++ parts.tail burst.now }
+            parts.head burst.now ++ parts.first_half burst.now ++ parts.flag_before_training burst.now ++ parts.training burst.now
+            ++ parts.flag_after_training burst.now ++ parts.second_half burst.now ++ parts.tail burst.now }
     {
         NormalView { burst }
     }
 
-    /// The first three tail bits.
+    /// The three tail bits at the start of the burst.
     pub fn head(&self) -> &'a [i8]
         ensures value { result.now ≡ parts.head self.now.now }
         ensures count { length result.now ≡ 3 }
-        ensures lent { LiesAt 0 self.now result }
+        ensures lent { IsSliceAtOffset 0 self.now result }
     {
         let burst = self.burst;
         &burst[..3]
     }
 
-    /// The first 57 coded bits.
+    /// The 57 coded bits before the training sequence.
     pub fn first(&self) -> &'a [i8]
         ensures value { result.now ≡ parts.first_half self.now.now }
         ensures count { length result.now ≡ 57 }
-        ensures lent { LiesAt 3 self.now result }
+        ensures lent { IsSliceAtOffset 3 self.now result }
     {
         let burst = self.burst;
         &burst[3..60]
@@ -81,9 +81,9 @@ impl<'a> NormalView<'a> {
 
     /// The stealing flag before the training sequence, one soft bit.
     pub fn lower(&self) -> &'a [i8]
-        ensures value { result.now ≡ parts.lower_flag self.now.now }
+        ensures value { result.now ≡ parts.flag_before_training self.now.now }
         ensures count { length result.now ≡ 1 }
-        ensures lent { LiesAt 60 self.now result }
+        ensures lent { IsSliceAtOffset 60 self.now result }
     {
         let burst = self.burst;
         &burst[60..61]
@@ -93,7 +93,7 @@ impl<'a> NormalView<'a> {
     pub fn training(&self) -> &'a [i8]
         ensures value { result.now ≡ parts.training self.now.now }
         ensures count { length result.now ≡ 26 }
-        ensures lent { LiesAt 61 self.now result }
+        ensures lent { IsSliceAtOffset 61 self.now result }
     {
         let burst = self.burst;
         &burst[61..87]
@@ -101,29 +101,29 @@ impl<'a> NormalView<'a> {
 
     /// The stealing flag after the training sequence, one soft bit.
     pub fn upper(&self) -> &'a [i8]
-        ensures value { result.now ≡ parts.upper_flag self.now.now }
+        ensures value { result.now ≡ parts.flag_after_training self.now.now }
         ensures count { length result.now ≡ 1 }
-        ensures lent { LiesAt 87 self.now result }
+        ensures lent { IsSliceAtOffset 87 self.now result }
     {
         let burst = self.burst;
         &burst[87..88]
     }
 
-    /// The last 57 coded bits.
+    /// The 57 coded bits after the training sequence.
     pub fn second(&self) -> &'a [i8]
         ensures value { result.now ≡ parts.second_half self.now.now }
         ensures count { length result.now ≡ 57 }
-        ensures lent { LiesAt 88 self.now result }
+        ensures lent { IsSliceAtOffset 88 self.now result }
     {
         let burst = self.burst;
         &burst[88..145]
     }
 
-    /// The last three tail bits.
+    /// The three tail bits at the end of the burst.
     pub fn tail(&self) -> &'a [i8]
         ensures value { result.now ≡ parts.tail self.now.now }
         ensures count { length result.now ≡ 3 }
-        ensures lent { LiesAt 145 self.now result }
+        ensures lent { IsSliceAtOffset 145 self.now result }
     {
         let burst = self.burst;
         &burst[145..BURST_BITS]

@@ -1,8 +1,8 @@
-//! Writes the halves of a normal burst in place, in the caller's array.
+//! Writes the two halves of a normal burst in place, in an array of the caller.
 ghost use Rattle.std.specs.Prelude.{◌≡◌, ◌≤◌, length, replicate, slice_range};
 ghost use Rattle.std.specs.Borrow.{sem};
 ghost use Rattle.burst_map.specs.NormalBurst.{normal_burst};
-ghost use Rattle.burst_map.specs.NormalParts.{burst_now, burst_name, LendsPlaces};
+ghost use Rattle.burst_map.specs.NormalParts.{current_burst, burst_ghost_name, LendsPartOfBurst};
 
 use crate::BURST_BITS;
 use crate::lending::part_mut;
@@ -18,8 +18,8 @@ impl<'a> NormalParts<'a> {
     /// Writes the tail bits, the stealing flags and the training sequence, and zeros to both halves.
     pub fn new(burst: &'a mut [u8; BURST_BITS], tsc: u8) -> NormalParts<'a>
         requires { tsc ≤ 7 }
-        ensures same_burst { burst.entry.ghost_name ≡ burst_name result }
-        ensures value { burst_now result ≡ normal_burst (replicate 57 0) (replicate 57 0) tsc }
+        ensures same_burst { burst.entry.ghost_name ≡ burst_ghost_name result }
+        ensures value { current_burst result ≡ normal_burst (replicate 57 0) (replicate 57 0) tsc }
     {
         *burst = normal(&[0; 57], &[0; 57], tsc);
         NormalParts { burst }
@@ -27,8 +27,8 @@ impl<'a> NormalParts<'a> {
 
     /// The 57 coded bits before the training sequence, for writing.
     pub fn first_mut(&mut self) -> &mut [u8]
-        ensures* writes_back { sem 𝓛 (LendsPlaces self.entry 3 60 result) }
-        ensures value { result.now ≡ slice_range (burst_now self.old) 3 60 }
+        ensures* writes_back { sem 𝓛 (LendsPartOfBurst self.entry 3 60 result) }
+        ensures value { result.now ≡ slice_range (current_burst self.old) 3 60 }
         ensures count { length result.now ≡ 57 }
     {
         part_mut(self.burst, 3, 60)
@@ -36,8 +36,8 @@ impl<'a> NormalParts<'a> {
 
     /// The 57 coded bits after the training sequence, for writing.
     pub fn second_mut(&mut self) -> &mut [u8]
-        ensures* writes_back { sem 𝓛 (LendsPlaces self.entry 88 145 result) }
-        ensures value { result.now ≡ slice_range (burst_now self.old) 88 145 }
+        ensures* writes_back { sem 𝓛 (LendsPartOfBurst self.entry 88 145 result) }
+        ensures value { result.now ≡ slice_range (current_burst self.old) 88 145 }
         ensures count { length result.now ≡ 57 }
     {
         part_mut(self.burst, 88, 145)

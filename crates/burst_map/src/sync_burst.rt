@@ -3,7 +3,7 @@ ghost use Rattle.std.specs.Prelude.{◌≡◌, ◌++◌, length};
 ghost use Rattle.training_seq.specs.bit_blocks.Bits.{AllBits};
 ghost use Rattle.burst_map.specs.SyncBurst.{sync_burst, sync_sequence};
 ghost use Rattle.burst_map.specs.SyncBurst as parts;
-ghost use Rattle.burst_map.specs.Parts.{LiesAt};
+ghost use Rattle.burst_map.specs.Parts.{IsSliceAtOffset};
 
 use crate::BURST_BITS;
 use crate::place::place;
@@ -22,7 +22,7 @@ pub fn sync_sequence() -> &'static [u8; 64]
     &SYNC_TRAINING
 }
 
-/// The synchronisation burst with two halves of 39 coded bits.
+/// Builds the synchronisation burst with two halves of 39 coded bits.
 pub fn sync(first: &[u8], second: &[u8]) -> [u8; BURST_BITS]
     requires first { length first.now ≡ 39 }
     requires first_bits { AllBits first.now }
@@ -44,7 +44,7 @@ pub struct SyncView<'a> {
     burst: &'a [i8; BURST_BITS],
 }
 
-// Contracts see the borrowed burst.
+// In contracts, a `SyncView` is the borrowed burst.
 impl<'a> Model for SyncView<'a> {
     ghost use Rattle.std.specs.Prelude.{◌≡◌, List, ℤ, length};
     ghost use Rattle.std.specs.Borrow.{Bor};
@@ -68,21 +68,21 @@ impl<'a> SyncView<'a> {
         SyncView { burst }
     }
 
-    /// The first three tail bits.
+    /// The three tail bits at the start of the burst.
     pub fn head(&self) -> &'a [i8]
         ensures value { result.now ≡ parts.head self.now.now }
         ensures count { length result.now ≡ 3 }
-        ensures lent { LiesAt 0 self.now result }
+        ensures lent { IsSliceAtOffset 0 self.now result }
     {
         let burst = self.burst;
         &burst[..3]
     }
 
-    /// The first 39 coded bits.
+    /// The 39 coded bits before the training sequence.
     pub fn first(&self) -> &'a [i8]
         ensures value { result.now ≡ parts.first_half self.now.now }
         ensures count { length result.now ≡ 39 }
-        ensures lent { LiesAt 3 self.now result }
+        ensures lent { IsSliceAtOffset 3 self.now result }
     {
         let burst = self.burst;
         &burst[3..42]
@@ -92,27 +92,27 @@ impl<'a> SyncView<'a> {
     pub fn training(&self) -> &'a [i8]
         ensures value { result.now ≡ parts.training self.now.now }
         ensures count { length result.now ≡ 64 }
-        ensures lent { LiesAt 42 self.now result }
+        ensures lent { IsSliceAtOffset 42 self.now result }
     {
         let burst = self.burst;
         &burst[42..106]
     }
 
-    /// The last 39 coded bits.
+    /// The 39 coded bits after the training sequence.
     pub fn second(&self) -> &'a [i8]
         ensures value { result.now ≡ parts.second_half self.now.now }
         ensures count { length result.now ≡ 39 }
-        ensures lent { LiesAt 106 self.now result }
+        ensures lent { IsSliceAtOffset 106 self.now result }
     {
         let burst = self.burst;
         &burst[106..145]
     }
 
-    /// The last three tail bits.
+    /// The three tail bits at the end of the burst.
     pub fn tail(&self) -> &'a [i8]
         ensures value { result.now ≡ parts.tail self.now.now }
         ensures count { length result.now ≡ 3 }
-        ensures lent { LiesAt 145 self.now result }
+        ensures lent { IsSliceAtOffset 145 self.now result }
     {
         let burst = self.burst;
         &burst[145..BURST_BITS]

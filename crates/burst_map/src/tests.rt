@@ -24,7 +24,7 @@ fn assert_bits(rt: &impl Abort, bits: &[u8], count: usize)
     assert!(rt; are_bits);
 }
 
-// The burst that `normal` makes, written half by half.
+// Builds the same burst as `normal`, but writes its two halves in place.
 fn filled(first: &[u8], second: &[u8], tsc: u8) -> [u8; BURST_BITS]
     requires first { length first.now ≡ 57 }
     requires second { length second.now ≡ 57 }
@@ -38,9 +38,9 @@ fn filled(first: &[u8], second: &[u8], tsc: u8) -> [u8; BURST_BITS]
     burst
 }
 
-// The first burst of a block of 23 octets 00.
+// The first burst of a block of 23 octets 00, with training sequence code 0.
 #[test]
-fn a_normal_burst_has_both_flags_and_its_sequence(rt: HostRuntime) -> Result<(), AllocError> {
+fn builds_a_normal_burst(rt: HostRuntime) -> Result<(), AllocError> {
     let first = bits(
         rt.alloc(),
         "0000000100 0010000000 0100001010 0000010000 1010000001 0000001",
@@ -63,9 +63,9 @@ fn a_normal_burst_has_both_flags_and_its_sequence(rt: HostRuntime) -> Result<(),
     Ok(())
 }
 
-// The burst of eight information bits 0 and BSIC 0.
+// The access burst of eight information bits 0 for BSIC 0.
 #[test]
-fn an_access_burst_ends_with_its_coded_bits(rt: HostRuntime) -> Result<(), AllocError> {
+fn builds_an_access_burst(rt: HostRuntime) -> Result<(), AllocError> {
     let body = bits(rt.alloc(), "000000000000000011101001101001000011")?;
     let expected = bits(
         rt.alloc(),
@@ -77,11 +77,9 @@ fn an_access_burst_ends_with_its_coded_bits(rt: HostRuntime) -> Result<(), Alloc
     Ok(())
 }
 
-// The burst of 25 information bits 0.
+// The synchronisation burst of 25 information bits 0.
 #[test]
-fn a_synchronisation_burst_has_its_sequence_in_the_middle(
-    rt: HostRuntime,
-) -> Result<(), AllocError> {
+fn builds_a_synchronisation_burst(rt: HostRuntime) -> Result<(), AllocError> {
     let first = bits(rt.alloc(), "000000000000000000000000000000000000000")?;
     let second = bits(rt.alloc(), "00000000000 1110100110101010101001000011")?;
     let expected = bits(

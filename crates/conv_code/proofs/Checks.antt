@@ -1,15 +1,13 @@
--- The definitions computed at worked examples.
-use Rattle.std.proofs.Common.{◌≡◌, ℕ, ℤ, pos, negsuc, List, [], ◌∷◌, ◌++◌, replicate, refl}
-use Rattle.std.specs.List.{flat_map}
-use Rattle.conv_code.specs.Code.{encoding}
-use Rattle.conv_code.specs.Likelihood.{likelihood}
+-- The definitions, computed for worked examples.
+use Rattle.std.{proofs.Common.{◌≡◌, ℕ, ℤ, pos, negsuc, List, [], ◌∷◌, ◌++◌, replicate, refl}, specs.List.flat_map}
+use Rattle.conv_code.specs.{Code.encoding, Likelihood.likelihood}
 
--- the RACH information list of eight zeros, BSIC 0: the six CRC bits are ones
+-- the coded bits of the RACH information list with eight information bits 0 for BSIC 0, whose six CRC bits are ones
 coded-access : encoding (replicate 8 0 ++ replicate 6 1 ++ replicate 4 0) ≡
     replicate 16 0 ++ (1 ∷ 1 ∷ 1 ∷ 0 ∷ 1 ∷ 0 ∷ 0 ∷ 1 ∷ 1 ∷ 0 ∷ 1 ∷ 0 ∷ 0 ∷ 1 ∷ 0 ∷ 0 ∷ 0 ∷ 0 ∷ 1 ∷ 1 ∷ [])
 coded-access = refl
 
--- the xCCH information list of zeros: the forty Fire code bits are ones
+-- the coded bits of the information list of a block of zeros, whose forty Fire code bits are ones
 coded-block : encoding (replicate 184 0 ++ replicate 40 1 ++ replicate 4 0) ≡
     replicate 368 0 ++ (1 ∷ 1 ∷ 1 ∷ 0 ∷ 1 ∷ 0 ∷ 0 ∷ 1 ∷ []) ++ flat_map {X = ℕ} (λ _. 1 ∷ 0 ∷ []) (replicate 36 0) ++
     (0 ∷ 1 ∷ 0 ∷ 0 ∷ 0 ∷ 0 ∷ 1 ∷ 1 ∷ [])
@@ -18,7 +16,7 @@ coded-block = refl
 coded-zeros : encoding (replicate 228 0) ≡ replicate 456 0
 coded-zeros = refl
 
--- one wrong soft bit of strength 7 among 35 right ones of strength 1: the zeros lose to two other lists
+-- one wrong soft bit of strength 7 among 35 right ones of strength 1: two other information lists have a greater path metric than zeros
 abbrev one_strong : List ℤ
 one_strong = negsuc 6 ∷ replicate 35 (pos 1)
 
@@ -31,7 +29,7 @@ likelihood-first_one = refl
 likelihood-first_three : likelihood one_strong (encoding (replicate 3 1 ++ replicate 15 0)) ≡ pos 30
 likelihood-first_three = refl
 
--- two wrong soft bits at the end: a last bit 1 would win, but the last four bits of an information list are 0
+-- two wrong soft bits at the end: a last bit 1 would have a greater path metric, but the last four bits of an information list are 0
 abbrev last_two_wrong : List ℤ
 last_two_wrong = replicate 34 (pos 1) ++ replicate 2 (negsuc 0)
 

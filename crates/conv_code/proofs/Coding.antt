@@ -1,16 +1,10 @@
--- How the encoder's loop extends the coded bits by one pair.
-use Rattle.std.proofs.Common.{◌≡◌, ℕ, zero, suc, ◌+◌, ◌-◌, ◌*◌, ◌%◌, ◌<◌, ◌≤◌, true, false, nat_lt}
-use Rattle.std.proofs.Common.{if◌then◌else◌, List, [], ◌∷◌, ◌++◌, length, get_or, take, ap, ap₂, sym, append_assoc}
-use Rattle.std.proofs.Common.{◌∙◌, arith, bit_xor, inl, inr}
-use Rattle.std.proofs.Math.ListN.{set}
+-- The encoder's loop extends the coded bits by one pair at a time.
+use Rattle.std.proofs.Common.{◌≡◌, ℕ, zero, suc, ◌+◌, ◌-◌, ◌*◌, ◌%◌, ◌<◌, ◌≤◌, true, false, nat_lt, if◌then◌else◌, List, [], ◌∷◌, ◌++◌}
+use Rattle.std.proofs.{Common.{length, get_or, take, ap, ap₂, sym, append_assoc, ◌∙◌, arith, bit_xor, inl, inr}, Math.ListN.set}
+use Rattle.std.proofs.lemmas.{Bool.{cases_lt, Decides.nat_tests}, List.{take_more_set, length-set, get_or_past}, Grind.flat_map-append}
 use Rattle.std.specs.List.{flat_map, range_with_len}
-use Rattle.std.proofs.lemmas.Bool.{cases_lt}
-use Rattle.std.proofs.lemmas.Bool.Decides.{nat_tests}
-use Rattle.std.proofs.lemmas.List.{take_more_set, length-set, get_or_past}
-use Rattle.std.proofs.lemmas.Grind.{flat_map-append}
-use Rattle.bit_blocks.specs.Bits.{AllBits}
-use Rattle.bit_blocks.proofs.Lemmas.{bit_xor-bits}
-use Rattle.conv_code.specs.Code.{delayed_bit, first_sum, second_sum, coded_pair}
+use Rattle.bit_blocks.{specs.Bits.AllBits, proofs.Lemmas.bit_xor-bits}
+use Rattle.conv_code.specs.Code.{delayed_bit, g0_sum, g1_sum, coded_pair}
 
 pub delayed-more : (u : List ℕ) (k d e : ℕ) → e ≡ d + 1 → delayed_bit u (k + 1) e ≡ delayed_bit u k d
 delayed-more u k d e h = grind (arith, nat_tests)
@@ -18,11 +12,11 @@ delayed-more u k d e h = grind (arith, nat_tests)
 pub delayed-none : (u : List ℕ) (k : ℕ) → delayed_bit u k 0 ≡ get_or u k 0
 delayed-none u k = grind (arith, nat_tests)
 
--- from k = d on, the delayed bit exists
+-- from k = d on, the bit that is d positions before bit k exists
 pub delayed-late : (u : List ℕ) (k d : ℕ) → d ≤ k → delayed_bit u k d ≡ get_or u (k - d) 0
 delayed-late u k d h = grind (arith, nat_tests)
 
--- reading past the end of a bit list gives a bit too
+-- a value read from a bit list is at most 1, also past the end of the list, where it is 0
 pub bit_at-most_1 : (u : List ℕ) (k : ℕ) → AllBits u → get_or u k 0 ≤ 1
 bit_at-most_1 u k bits = elim (cases_lt k (length u)) [
   | inl within ↦ bits k 0 within
@@ -36,7 +30,7 @@ delayed-at_most_1 u k d bits =
       | false ↦ bit_at-most_1 u (k - d) bits
     ]
 
--- XOR computes the two sums of the definition
+-- XOR computes the two generator sums of the definition
 pub first_by_xor : (x three four : ℕ) → x ≤ 1 → three ≤ 1 → four ≤ 1 →
     bit_xor (bit_xor x three) four ≡ (x + three + four) % 2
 first_by_xor x three four hx h3 h4 =
@@ -57,7 +51,7 @@ range_more a (suc n) last e =
     rw longer (ap (λ rest. a ∷ rest) (range_more (a + 1) n last e'))
 
 pub coded_more : (u out : List ℕ) (k a b : ℕ) → 2 * k + 1 < length out →
-    take (2 * k) out ≡ flat_map (coded_pair u) (range_with_len 0 k) → a ≡ first_sum u k → b ≡ second_sum u k →
+    take (2 * k) out ≡ flat_map (coded_pair u) (range_with_len 0 k) → a ≡ g0_sum u k → b ≡ g1_sum u k →
     take (2 * (k + 1)) (set (set out (2 * k) a) (2 * k + 1) b) ≡ flat_map (coded_pair u) (range_with_len 0 (k + 1))
 coded_more u out k a b within before first second =
     let half : 2 * k < length out = omega arith in

@@ -1,13 +1,9 @@
--- Lists that end in four tail bits are information lists; the length of `coded`, and that it holds bits.
-use Rattle.std.proofs.Common.{◌≡◌, ℕ, zero, suc, ◌+◌, ◌-◌, ◌*◌, ◌<◌, List, [], ◌∷◌, ◌++◌, length, drop}
-use Rattle.std.proofs.Common.{replicate, sym, ap, subst, ◌∙◌, arith, refl}
+-- A bit list that ends in four tail bits is an information list. Its encoding has two bits for each bit, each 0 or 1.
+use Rattle.std.proofs.Common.{◌≡◌, ℕ, zero, suc, ◌+◌, ◌-◌, ◌*◌, ◌<◌, List, [], ◌∷◌, ◌++◌, length, drop, replicate, sym, ap, subst, ◌∙◌}
+use Rattle.std.proofs.{Common.{arith, refl}, Math.{ListN.length-append, Seq.drop-append_seam}, lemmas.List.Elements.{All-cons, All-nil}}
 use Rattle.std.specs.List.{All, flat_map, range_with_len}
-use Rattle.std.proofs.Math.ListN.{length-append}
-use Rattle.std.proofs.Math.Seq.{drop-append_seam}
-use Rattle.std.proofs.lemmas.List.Elements.{All-cons, All-nil}
-use Rattle.bit_blocks.specs.Bits.{IsBit, AllBits}
-use Rattle.bit_blocks.proofs.Lemmas.{AllBits-append, AllBits-table}
-use Rattle.conv_code.specs.Code.{encoding, coded_pair, first_sum, second_sum, IsInformation}
+use Rattle.bit_blocks.{specs.Bits.{IsBit, AllBits}, proofs.Lemmas.{AllBits-append, AllBits-table}}
+use Rattle.conv_code.specs.Code.{encoding, coded_pair, g0_sum, g1_sum, IsInformation}
 
 abbrev IsZero : ℕ → Type 0
 IsZero bit = bit ≡ 0
@@ -30,8 +26,8 @@ IsInformation-tail word some bits =
 AllBits-pairs : (u ks : List ℕ) → AllBits (flat_map (coded_pair u) ks)
 AllBits-pairs u [] = All-nil IsBit
 AllBits-pairs u (k ∷ ks) =
-    All-cons IsBit (first_sum u k) (second_sum u k ∷ flat_map (coded_pair u) ks) (omega arith)
-    (All-cons IsBit (second_sum u k) (flat_map (coded_pair u) ks) (omega arith) (AllBits-pairs u ks))
+    All-cons IsBit (g0_sum u k) (g1_sum u k ∷ flat_map (coded_pair u) ks) (omega arith)
+    (All-cons IsBit (g1_sum u k) (flat_map (coded_pair u) ks) (omega arith) (AllBits-pairs u ks))
 
 pub AllBits-coded : (u : List ℕ) → AllBits (encoding u)
 AllBits-coded u = AllBits-pairs u (range_with_len 0 (length u))

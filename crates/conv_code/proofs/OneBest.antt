@@ -1,9 +1,7 @@
--- The most likely information list is unique, since no two lists each fall behind the other.
-use Rattle.std.proofs.Common.{◌≡◌, ◌≢◌, ℕ, ◌⊎◌, inl, inr, ℤ, List, [], ◌∷◌, length, get_or, refl, ap, ap₂}
-use Rattle.std.proofs.Common.{sym, ◌∙◌, arith}
-use Rattle.std.proofs.lemmas.Bool.{cases_lt}
-use Rattle.std.proofs.lemmas.Int.{ints}
-use Rattle.conv_code.specs.Likelihood.{IsBefore, FallsBehind, IsMostLikely}
+-- The most likely information list is unique, since of two lists at most one falls behind the other.
+use Rattle.std.proofs.Common.{◌≡◌, ◌≢◌, ℕ, ◌⊎◌, inl, inr, ℤ, List, [], ◌∷◌, length, get_or, refl, ap, ap₂, sym, ◌∙◌, arith}
+use Rattle.std.proofs.lemmas.{Bool.cases_lt, Int.ints}
+use Rattle.conv_code.specs.Likelihood.{IsLexicographicallyBefore, RanksAfter, IsMostLikely}
 
 pub same_number : (x y : ℕ) → (x ≡ y) ⊎ (x ≢ y)
 same_number x y = elim (cases_lt x y) [
@@ -20,9 +18,9 @@ same_list (x ∷ u) (y ∷ v) = elim (same_number x y) [
   | inr other ↦ inr (λ e. other (cc))
 ]
 
--- lexicographic order is asymmetric
-IsBefore-one_way : (u v : List ℕ) → IsBefore u v → IsBefore v u → ⊥
-IsBefore-one_way u v h g = elim (cases_lt h.place g.place) [
+-- lexicographic order is asymmetric: two lists cannot each come before the other
+IsLexicographicallyBefore-one_way : (u v : List ℕ) → IsLexicographicallyBefore u v → IsLexicographicallyBefore v u → ⊥
+IsLexicographicallyBefore-one_way u v h g = elim (cases_lt h.place g.place) [
   | inl earlier ↦ let same = g.same h.place earlier in h.differs (same ∙ h.zero)
   | inr not_earlier ↦ elim (cases_lt g.place h.place) [
     | inl later ↦ let same = h.same g.place later in g.differs (same ∙ g.zero)
@@ -30,11 +28,11 @@ IsBefore-one_way u v h g = elim (cases_lt h.place g.place) [
   ]
 ]
 
-pub FallsBehind-one_way : (s : List ℤ) (u v : List ℕ) → FallsBehind s v u → FallsBehind s u v → ⊥
-FallsBehind-one_way s u v (inl less) (inl more) = omega (arith, ints)
-FallsBehind-one_way s u v (inl less) (inr same) = let e = same.0 in omega (arith, ints)
-FallsBehind-one_way s u v (inr same) (inl more) = let e = same.0 in omega (arith, ints)
-FallsBehind-one_way s u v (inr same) (inr same') = IsBefore-one_way u v same.1 same'.1
+pub RanksAfter-one_way : (s : List ℤ) (u v : List ℕ) → RanksAfter s v u → RanksAfter s u v → ⊥
+RanksAfter-one_way s u v (inl less) (inl more) = omega (arith, ints)
+RanksAfter-one_way s u v (inl less) (inr same) = let e = same.0 in omega (arith, ints)
+RanksAfter-one_way s u v (inr same) (inl more) = let e = same.0 in omega (arith, ints)
+RanksAfter-one_way s u v (inr same) (inr same') = IsLexicographicallyBefore-one_way u v same.1 same'.1
 
 pub IsMostLikely-only : (s : List ℤ) (u v : List ℕ) → IsMostLikely s u → IsMostLikely s v → v ≡ u
 IsMostLikely-only s u v h g =
@@ -43,7 +41,7 @@ IsMostLikely-only s u v h g =
     let same_length : length v ≡ length u = omega arith in
     elim (same_list v u) [
       | inl same ↦ same
-      | inr other ↦ absurd (FallsBehind-one_way s u v
+      | inr other ↦ absurd (RanksAfter-one_way s u v
           (h.others v g.information same_length other)
           (g.others u h.information (sym same_length) (λ e. other (sym e))))
     ]

@@ -1,27 +1,19 @@
--- `encode_octets` writes the coded bits. Its operations on single octets are checked by computation on all 256; each octet gives two
--- groups of four pairs, the first from a window across the boundary to the octet before.
-use Rattle.std.proofs.Common.{◌≡◌, ℕ, zero, suc, ◌+◌, ◌-◌, ◌*◌, ◌/◌, ◌%◌, ◌^◌, ◌<◌, ◌≤◌, Bool}
-use Rattle.std.proofs.Common.{true, ◌&&◌, eqb, List, [], ◌∷◌, ◌++◌, length, length-append, get_or, nat_lt}
-use Rattle.std.proofs.Common.{if◌then◌else◌, zero-add, get_or-set_other, get_or-set_same, refl, ap, ap₂, sym, ◌∙◌, arith}
-use Rattle.std.proofs.Common.{bit_and, bit_or, bit_xor, inl, inr}
-use Rattle.std.proofs.Math.ListN.{set}
-use Rattle.std.specs.List.{flat_map, range_with_len}
-use Rattle.std.proofs.lemmas.Bool.{cases_lt, cases_eq}
-use Rattle.std.proofs.lemmas.Bool.Decides.{Decides-eqb, nat_tests}
-use Rattle.std.proofs.Math.Nat.{zero-div}
-use Rattle.std.proofs.lemmas.List.{get_or_append_left, length-set}
-use Rattle.std.proofs.lemmas.List.FromFn.{get_or-range_with_len, length-range_with_len}
-use Rattle.std.proofs.lemmas.Nat.{and_mask}
-use Rattle.bit_blocks.specs.Octets.{bits_of}
-use Rattle.bit_blocks.specs.Packed.{ArePacked, bit_of, packed_place}
-use Rattle.bit_blocks.proofs.Lemmas.{passes_below, at_passes_below, both_true, get_or-bits_of, length-bits_of}
-use Rattle.conv_code.specs.Code.{encoding, coded_pair, delayed_bit, first_sum, second_sum}
-use Rattle.conv_code.specs.Windows.{IsQuad}
+-- `encode_octets` writes the coded bits. Its operations on one octet are checked by computation for all 256 octets. Each octet gives two
+-- groups of four coded pairs; the first comes from a window of eight bits that begins in the octet before.
+use Rattle.std.proofs.Common.{◌≡◌, ℕ, zero, suc, ◌+◌, ◌-◌, ◌*◌, ◌/◌, ◌%◌, ◌^◌, ◌<◌, ◌≤◌, Bool, true, ◌&&◌, eqb, List, [], ◌∷◌, ◌++◌, length}
+use Rattle.std.proofs.Common.{length-append, get_or, nat_lt, if◌then◌else◌, zero-add, get_or-set_other, get_or-set_same, refl, ap, ap₂, sym}
+use Rattle.std.proofs.{Common.{◌∙◌, arith, bit_and, bit_or, bit_xor, inl, inr}, Math.{ListN.set, Nat.zero-div}, lemmas.Bool.cases_lt}
+use Rattle.std.proofs.lemmas.{Bool.{cases_eq, Decides.{Decides-eqb, nat_tests}}, List.{get_or_append_left, length-set}}
+use Rattle.std.{proofs.lemmas.{List.FromFn.{get_or-range_with_len, length-range_with_len}, Nat.and_mask}, specs.List.flat_map}
+use Rattle.std.specs.List.{range_with_len}
+use Rattle.bit_blocks.{specs.{Octets.bits_of, Packed.{AreCodedBitsPacked, bit_of, packed_bit_index}}, proofs.Lemmas.passes_below}
+use Rattle.bit_blocks.proofs.Lemmas.{at_passes_below, both_true, get_or-bits_of, length-bits_of}
+use Rattle.conv_code.specs.{Code.{encoding, coded_pair, delayed_bit, g0_sum, g1_sum}, Windows.HoldsFourCodedPairs}
 use Rattle.conv_code.proofs.Coding.{delayed-late}
 
--- ---- the coded bits of eight information bits
+-- ---- the coded bits that `encode_last_four_bits` computes from eight information bits
 
--- the octet that `quad` makes of eight bits
+-- the octet of coded bits that `encode_last_four_bits` computes from eight bits
 abbrev pub quad_of : ℕ → ℕ
 quad_of window =
     let first = bit_xor (bit_xor (window / 2 ^ 4) (window / 2 ^ 1)) window in
@@ -54,7 +46,7 @@ quad_second x i hx hi =
     (Decides-eqb (bit_of (quad_of x) (i + 4)) ((bit_of x (i + 4) + bit_of x (i + 3) + bit_of x (i + 1) + bit_of x i) % 2)).0
     (at_passes_below (is_second x) 4 octet i hi)
 
--- ---- the last four bits of an octet and the first four of the next
+-- ---- the window: the last four bits of an octet and the first four of the next
 
 abbrev joined : ℕ → ℕ → ℕ
 joined low high = bit_or low (high * 2 ^ 4 % 2 ^ 8)
@@ -121,7 +113,7 @@ module _ (before here : ℕ) (hb : before < 256) (hh : here < 256) where
       let is = window_bits halves i (omega (arith, small.0, small.1)) hi in
       rw (first, second) at is.high ∙ (window_bits here i hh hi).masked
 
--- ---- octets of coded bits
+-- ---- one step of the loop: two more octets of coded bits
 
 module _ (bits : List ℕ) (window octet t : ℕ) (is : (n : ℕ) → n < 8 → bit_of window n ≡ get_or bits (4 * t + 4 + n) 0)
     (first : (i : ℕ) → i < 4 → bit_of octet i ≡ (bit_of window (i + 4) + bit_of window (i + 1) + bit_of window i) % 2)
@@ -130,8 +122,8 @@ module _ (bits : List ℕ) (window octet t : ℕ) (is : (n : ℕ) → n < 8 → 
   bit_is : (n j : ℕ) → n < 8 → 4 * t + 4 + n ≡ j → bit_of window n ≡ get_or bits j 0
   bit_is n j hn at = is n hn ∙ ap (λ j. get_or bits j 0) at
 
-  pub IsQuad-window : IsQuad bits octet t
-  IsQuad-window = record {
+  pub HoldsFourCodedPairs-window : HoldsFourCodedPairs bits octet t
+  HoldsFourCodedPairs-window = record {
     first = λ i hi.
         let here = bit_is (i + 4) (4 * t + 8 + i) (omega arith) (omega arith) in
         let three = bit_is (i + 1) (4 * t + 5 + i) (omega arith) (omega arith) in
@@ -171,9 +163,10 @@ module _ (octets : List ℕ) (m : ℕ) where
       let at : 8 * (m + 1) + n ≡ 4 * (2 * m + 1) + 4 + n = omega arith in
       sym (get_or-bits_of octets (m + 1) n hn) ∙ ap (λ j. get_or (bits_of octets) j 0) at
 
-pub quads_more : (bits packed : List ℕ) (m a b : ℕ) → length packed ≡ 64 → m < 32 → IsQuad bits a (2 * m) → IsQuad bits b (2 * m + 1) →
-    ((t : ℕ) → t < 2 * m → IsQuad bits (get_or packed t 0) t) →
-    (t : ℕ) → t < 2 * (m + 1) → IsQuad bits (get_or (set (set packed (2 * m) a) (2 * m + 1) b) t 0) t
+pub quads_more : (bits packed : List ℕ) (m a b : ℕ) → length packed ≡ 64 → m < 32 → HoldsFourCodedPairs bits a (2 * m) →
+    HoldsFourCodedPairs bits b (2 * m + 1) →
+    ((t : ℕ) → t < 2 * m → HoldsFourCodedPairs bits (get_or packed t 0) t) →
+    (t : ℕ) → t < 2 * (m + 1) → HoldsFourCodedPairs bits (get_or (set (set packed (2 * m) a) (2 * m + 1) b) t 0) t
 quads_more bits packed m a b long hm even odd before t ht =
     let room : 2 * m < length packed = omega arith in
     let rest : 2 * m + 1 < length (set packed (2 * m) a) = simp length-set (omega arith) in
@@ -186,9 +179,9 @@ quads_more bits packed m a b long hm even odd before t ht =
           ])
     ]
 
--- ---- the coded bits, one by one
+-- ---- each coded bit, as the definition gives it
 
-pairs_first : (u ks : List ℕ) (k : ℕ) → k < length ks → get_or (flat_map (coded_pair u) ks) (2 * k) 0 ≡ first_sum u (get_or ks k 0)
+pairs_first : (u ks : List ℕ) (k : ℕ) → k < length ks → get_or (flat_map (coded_pair u) ks) (2 * k) 0 ≡ g0_sum u (get_or ks k 0)
 pairs_first u [] k lt = absurd (omega arith)
 pairs_first u (x ∷ ks) zero lt = refl
 pairs_first u (x ∷ ks) (suc k) lt =
@@ -196,7 +189,7 @@ pairs_first u (x ∷ ks) (suc k) lt =
     let at : 2 * suc k ≡ suc (suc (2 * k)) = omega arith in
     ap (λ n. get_or (flat_map (coded_pair u) (x ∷ ks)) n 0) at ∙ pairs_first u ks k lt'
 
-pairs_second : (u ks : List ℕ) (k : ℕ) → k < length ks → get_or (flat_map (coded_pair u) ks) (2 * k + 1) 0 ≡ second_sum u (get_or ks k 0)
+pairs_second : (u ks : List ℕ) (k : ℕ) → k < length ks → get_or (flat_map (coded_pair u) ks) (2 * k + 1) 0 ≡ g1_sum u (get_or ks k 0)
 pairs_second u [] k lt = absurd (omega arith)
 pairs_second u (x ∷ ks) zero lt = refl
 pairs_second u (x ∷ ks) (suc k) lt =
@@ -204,17 +197,17 @@ pairs_second u (x ∷ ks) (suc k) lt =
     let at : 2 * suc k + 1 ≡ suc (suc (2 * k + 1)) = omega arith in
     ap (λ n. get_or (flat_map (coded_pair u) (x ∷ ks)) n 0) at ∙ pairs_second u ks k lt'
 
-coded_first : (u : List ℕ) (k : ℕ) → k < length u → get_or (encoding u) (2 * k) 0 ≡ first_sum u k
+coded_first : (u : List ℕ) (k : ℕ) → k < length u → get_or (encoding u) (2 * k) 0 ≡ g0_sum u k
 coded_first u k lt =
     pairs_first u (range_with_len 0 (length u)) k (omega (arith, length-range_with_len 0 (length u)))
-    ∙ ap (first_sum u) (get_or-range_with_len 0 (length u) k 0 lt ∙ zero-add k)
+    ∙ ap (g0_sum u) (get_or-range_with_len 0 (length u) k 0 lt ∙ zero-add k)
 
-coded_second : (u : List ℕ) (k : ℕ) → k < length u → get_or (encoding u) (2 * k + 1) 0 ≡ second_sum u k
+coded_second : (u : List ℕ) (k : ℕ) → k < length u → get_or (encoding u) (2 * k + 1) 0 ≡ g1_sum u k
 coded_second u k lt =
     pairs_second u (range_with_len 0 (length u)) k (omega (arith, length-range_with_len 0 (length u)))
-    ∙ ap (second_sum u) (get_or-range_with_len 0 (length u) k 0 lt ∙ zero-add k)
+    ∙ ap (g1_sum u) (get_or-range_with_len 0 (length u) k 0 lt ∙ zero-add k)
 
--- ---- the bits of octets after eight zeros
+-- ---- the information bits with eight zeros before them
 
 module _ (octets : List ℕ) (k : ℕ) where
   abbrev bits : List ℕ
@@ -248,7 +241,7 @@ module _ (octets : List ℕ) (k : ℕ) where
   here_is = let at : 8 + k ≡ k + 8 = omega arith in sym (behind_at k) ∙ ap (λ n. get_or behind n 0) at
 
   first_is : (a b c x : ℕ) → get_or behind (k + 8) 0 ≡ a → get_or behind (k + 5) 0 ≡ b → get_or behind (k + 4) 0 ≡ c →
-      x ≡ (a + b + c) % 2 → x ≡ first_sum bits k
+      x ≡ (a + b + c) % 2 → x ≡ g0_sum bits k
   first_is a b c x ea eb ec is =
       let here = here_is ∙ ea in
       let three = delayed_is 3 (k + 5) (omega arith) (omega arith) ∙ eb in
@@ -256,7 +249,7 @@ module _ (octets : List ℕ) (k : ℕ) where
       is ∙ sym (ap (λ x. (x + delayed_bit bits k 3 + delayed_bit bits k 4) % 2) here ∙ ap₂ (λ y z. (a + y + z) % 2) three four)
 
   second_is : (a e b c x : ℕ) → get_or behind (k + 8) 0 ≡ a → get_or behind (k + 7) 0 ≡ e → get_or behind (k + 5) 0 ≡ b →
-      get_or behind (k + 4) 0 ≡ c → x ≡ (a + e + b + c) % 2 → x ≡ second_sum bits k
+      get_or behind (k + 4) 0 ≡ c → x ≡ (a + e + b + c) % 2 → x ≡ g1_sum bits k
   second_is a e b c x ea ee eb ec is =
       let here = here_is ∙ ea in
       let one = delayed_is 1 (k + 7) (omega arith) (omega arith) ∙ ee in
@@ -265,11 +258,12 @@ module _ (octets : List ℕ) (k : ℕ) where
       is
       ∙ sym (ap₂ (λ x y. (x + y + delayed_bit bits k 3 + delayed_bit bits k 4) % 2) here one ∙ ap₂ (λ y z. (a + e + y + z) % 2) three four)
 
--- one octet for each four information bits
-pub ArePacked-quads : (octets packed : List ℕ) → length octets ≡ 32 →
-    ((t : ℕ) → t < 64 → IsQuad (bits_of (0 ∷ octets)) (get_or packed t 0) t) → ArePacked 64 (encoding (bits_of octets)) packed
-ArePacked-quads octets packed long quads t r ht hr =
-    let quad = quads t ht in
+-- octets that each hold the coded bits of four information bits are the packed coded bits
+pub AreCodedBitsPacked-encode_four_bits_per_octet : (octets packed : List ℕ) → length octets ≡ 32 →
+    ((t : ℕ) → t < 64 → HoldsFourCodedPairs (bits_of (0 ∷ octets)) (get_or packed t 0) t) →
+    AreCodedBitsPacked 64 (encoding (bits_of octets)) packed
+AreCodedBitsPacked-encode_four_bits_per_octet octets packed long encode_four_bits_per_octet t r ht hr =
+    let encode_last_four_bits = encode_four_bits_per_octet t ht in
     let i = r / 2 in
     let k = 4 * t + i in
     let hi : i < 4 = omega arith in
@@ -282,22 +276,23 @@ ArePacked-quads octets packed long quads t r ht hr =
     λ a b e. ap (λ n. get_or (bits_of (0 ∷ octets)) n 0) e in
     elim (cases_lt (r % 2) 1) [
       | inl even ↦
-          let place : packed_place r ≡ i = omega arith in
+          let place : packed_bit_index r ≡ i = omega arith in
           let at : 2 * k ≡ 8 * t + r = omega arith in
           ap (bit_of (get_or packed t 0)) place
-          ∙ first_is octets k _ _ _ _ (there _ _ at_8) (there _ _ at_5) (there _ _ at_4) (quad.first i hi)
+          ∙ first_is octets k _ _ _ _ (there _ _ at_8) (there _ _ at_5) (there _ _ at_4) (encode_last_four_bits.first i hi)
           ∙ sym (coded_first (bits_of octets) k within)
           ∙ ap (λ n. get_or (encoding (bits_of octets)) n 0) at
       | inr odd ↦
-          let place : packed_place r ≡ i + 4 = omega arith in
+          let place : packed_bit_index r ≡ i + 4 = omega arith in
           let at : 2 * k + 1 ≡ 8 * t + r = omega arith in
           ap (bit_of (get_or packed t 0)) place
-          ∙ second_is octets k _ _ _ _ _ (there _ _ at_8) (there _ _ at_7) (there _ _ at_5) (there _ _ at_4) (quad.second i hi)
+          ∙ second_is octets k _ _ _ _ _ (there _ _ at_8) (there _ _ at_7) (there _ _ at_5) (there _ _ at_4)
+          (encode_last_four_bits.second i hi)
           ∙ sym (coded_second (bits_of octets) k within)
           ∙ ap (λ n. get_or (encoding (bits_of octets)) n 0) at
     ]
 
--- ---- the first coded bits
+-- ---- the coded bits of the front of a list
 
 module _ (u rest : List ℕ) (k : ℕ) (lt : k < length u) where
   longer : k < length (u ++ rest)
@@ -326,10 +321,11 @@ module _ (u rest : List ℕ) (k : ℕ) (lt : k < length u) where
       ∙ ap₂ (λ y z. (get_or u k 0 + delayed_bit u k 1 + y + z) % 2) (delayed_front 3) (delayed_front 4)
       ∙ sym (coded_second u k lt)
 
--- the coded bits of a list begin the coded bits of each longer list
-pub ArePacked-front : (m n : ℕ) (u rest octets : List ℕ) → n ≤ m → 4 * n ≤ length u → ArePacked m (encoding (u ++ rest)) octets →
-    ArePacked n (encoding u) octets
-ArePacked-front m n u rest octets le long are t r ht hr =
+-- the coded bits of a list are the front of the coded bits of any list that begins with it
+pub AreCodedBitsPacked-front : (m n : ℕ) (u rest octets : List ℕ) → n ≤ m → 4 * n ≤ length u →
+    AreCodedBitsPacked m (encoding (u ++ rest)) octets →
+    AreCodedBitsPacked n (encoding u) octets
+AreCodedBitsPacked-front m n u rest octets le long are t r ht hr =
     let k = 4 * t + r / 2 in
     let within : k < length u = omega arith in
     are t r (omega arith) hr

@@ -1,10 +1,10 @@
 -- The most likely information list for soft bits (this project's own rule; GSM 05.03 leaves decoding open).
 use Rattle.std.specs.Prelude.{ℕ, ◌≡◌, ◌≢◌, ◌<◌, ◌*◌, ◌⊎◌, ℤ, ◌<ℤ◌, List, length, slice_index}
 use Rattle.conv_code.specs.Code.{encoding, IsInformation}
-pub use Rattle.bit_blocks.specs.SoftValues.{AllSoft, agreement, likelihood}
+pub use Rattle.bit_blocks.specs.SoftValues.{AllSoftBits, agreement, likelihood}
 
 -- u precedes v in lexicographic order: at the first index where they differ, u has 0
-pub record IsBefore (u v : List ℕ) : Type 0 where
+pub record IsLexicographicallyBefore (u v : List ℕ) : Type 0 where
   pub place : ℕ
   pub within : place < length u
   pub same : (j : ℕ) → j < place → slice_index u j ≡ slice_index v j
@@ -12,14 +12,14 @@ pub record IsBefore (u v : List ℕ) : Type 0 where
   pub differs : slice_index v place ≢ 0
 
 -- for the soft bits s, v has a smaller path metric than u, or an equal one and comes later in lexicographic order
-abbrev pub FallsBehind : List ℤ → List ℕ → List ℕ → Type 0
-FallsBehind s v u =
+abbrev pub RanksAfter : List ℤ → List ℕ → List ℕ → Type 0
+RanksAfter s v u =
     (likelihood s (encoding v) <ℤ likelihood s (encoding u)) ⊎
-    ((likelihood s (encoding v) ≡ likelihood s (encoding u)) × IsBefore u v)
+    ((likelihood s (encoding v) ≡ likelihood s (encoding u)) × IsLexicographicallyBefore u v)
 
 -- for the soft bits s, u has the greatest path metric of all information lists of its length, and comes first in lexicographic
 -- order among equals
 pub record IsMostLikely (s : List ℤ) (u : List ℕ) : Type 0 where
   pub information : IsInformation u
   pub count : length s ≡ 2 * length u
-  pub others : (v : List ℕ) → IsInformation v → length v ≡ length u → v ≢ u → FallsBehind s v u
+  pub others : (v : List ℕ) → IsInformation v → length v ≡ length u → v ≢ u → RanksAfter s v u

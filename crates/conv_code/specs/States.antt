@@ -1,18 +1,19 @@
--- The encoder as a state machine: a state, 0 to 15, is the last four bits, the newest in its least significant bit.
+-- The encoder as a state machine: its state, 0 to 15, consists of the last four input bits, the newest as the least significant bit.
 use Rattle.std.specs.Prelude.{ℕ, ◌+◌, ◌*◌, ◌/◌, ◌%◌, List, [], ◌∷◌}
 
--- the state after one more bit
+-- the state that follows a state when one more bit is read
 abbrev pub next : ℕ → ℕ → ℕ
 next state bit = (2 * state + bit) % 16
 
--- the first or the second coded bit of an input bit in a state
-abbrev pub first_bit : ℕ → ℕ → ℕ
-first_bit state bit = (bit + state / 4 % 2 + state / 8 % 2) % 2
+-- the first coded bit (generator G0) when a bit is read in a state
+abbrev pub first_coded_bit : ℕ → ℕ → ℕ
+first_coded_bit state bit = (bit + state / 4 % 2 + state / 8 % 2) % 2
 
-abbrev pub second_bit : ℕ → ℕ → ℕ
-second_bit state bit = (bit + state % 2 + state / 4 % 2 + state / 8 % 2) % 2
+-- the second coded bit (generator G1) when a bit is read in a state
+abbrev pub second_coded_bit : ℕ → ℕ → ℕ
+second_coded_bit state bit = (bit + state % 2 + state / 4 % 2 + state / 8 % 2) % 2
 
--- the coded bits of an input list, from a given state on
-abbrev pub coded_from : ℕ → List ℕ → List ℕ
-coded_from state [] = []
-coded_from state (x ∷ u) = first_bit state x ∷ second_bit state x ∷ coded_from (next state x) u
+-- the coded bits of a list of input bits, if the encoder starts in the given state
+abbrev pub encoding_from_state : ℕ → List ℕ → List ℕ
+encoding_from_state state [] = []
+encoding_from_state state (x ∷ u) = first_coded_bit state x ∷ second_coded_bit state x ∷ encoding_from_state (next state x) u

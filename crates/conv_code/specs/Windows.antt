@@ -1,9 +1,9 @@
--- The coded bits of four information bits, which depend on eight.
+-- The eight coded bits of four information bits. They depend on these four bits and on the four bits before them.
 use Rattle.std.specs.Prelude.{ℕ, ◌≡◌, ◌<◌, ◌+◌, ◌*◌, ◌%◌, List, slice_index}
 use Rattle.bit_blocks.specs.Packed.{bit_of}
 
--- the octet holds the coded bits of information bits 4 t to 4 t + 3, where `bits` is eight bits followed by the information list
-pub record IsQuad (bits : List ℕ) (octet t : ℕ) : Type 0 where
+-- `octet` holds the coded bits of information bits 4 t to 4 t + 3; `bits` is the information list with eight bits put before it
+pub record HoldsFourCodedPairs (bits : List ℕ) (octet t : ℕ) : Type 0 where
   pub first : (i : ℕ) → i < 4 → bit_of octet i ≡
       (slice_index bits (4 * t + 8 + i) + slice_index bits (4 * t + 5 + i) + slice_index bits (4 * t + 4 + i)) % 2
   pub second : (i : ℕ) → i < 4 → bit_of octet (i + 4) ≡

@@ -8,9 +8,10 @@ ghost use Rattle.conv_code.specs.Code.{encoding, coded_pair, delayed_bit, IsInfo
 
 mod packed;
 
+pub use bit_blocks::{CODED_BITS, INFORMATION_BITS};
 pub use packed::encode_octets;
 
-/// Writes the coded bits of the information list `u` to `out`, two for each bit.
+/// Writes the coded bits of the information list `u` to `out`: two for each information bit.
 ///
 /// The last four bits of `u` are the zero tail bits, which return the encoder to state 0.
 pub fn encode(u: &[u8], out: &mut [u8])
@@ -18,12 +19,12 @@ pub fn encode(u: &[u8], out: &mut [u8])
     requires count { length out.old ≡ 2 * length u.now }
     ensures { out.new ≡ encoding u.now }
 {
-    encode_front(u, out);
-    encode_rest(u, out);
+    encode_first_four_bits(u, out);
+    encode_from_fifth_bit(u, out);
 }
 
-/// Writes the first four pairs, whose generators reach before the first bit.
-fn encode_front(u: &[u8], out: &mut [u8])
+/// Writes the first four pairs of coded bits, which also depend on the zeros that are assumed before the first bit.
+fn encode_first_four_bits(u: &[u8], out: &mut [u8])
     requires information { IsInformation u.now }
     requires count { length out.old ≡ 2 * length u.now }
     ensures count { length out.new ≡ length out.old }
@@ -36,7 +37,7 @@ fn encode_front(u: &[u8], out: &mut [u8])
     }
 }
 
-/// The bit `delay` before bit `k`, or 0 before the first bit.
+/// The bit that is `delay` positions before bit `k`, or 0 if that is before the first bit.
 fn delayed(u: &[u8], k: usize, delay: usize) -> u8
     requires { k < length u.now }
     ensures { result ≡ delayed_bit u.now k delay }
@@ -44,8 +45,8 @@ fn delayed(u: &[u8], k: usize, delay: usize) -> u8
     if k < delay { 0 } else { u[k - delay] }
 }
 
-/// Writes the pairs from the fifth on. No value is carried from pair to pair, so that the compiler computes sixteen at a time.
-fn encode_rest(u: &[u8], out: &mut [u8])
+/// Writes the coded pairs from the fifth on. No pair depends on another, so the compiler can compute sixteen at a time.
+fn encode_from_fifth_bit(u: &[u8], out: &mut [u8])
     requires information { IsInformation u.now }
     requires count { length out.old ≡ 2 * length u.now }
     requires pairs { take 8 out.old ≡ flat_map (coded_pair u.now) (range_with_len 0 4) }
@@ -64,7 +65,7 @@ mod tests {
     use std::test::Fail;
 
     #[test]
-    fn codes_the_access_word_of_eight_zeros(rt: HostRuntime) -> Result<(), Fail> {
+    fn encodes_an_access_burst_of_zeros(rt: HostRuntime) -> Result<(), Fail> {
         let u = [0, 0, 0, 0, 0, 0, 0, 0, 1, 1, 1, 1, 1, 1, 0, 0, 0, 0];
         let mut out = [9; 36];
         encode(&u, &mut out);

@@ -1,3 +1,4 @@
+pub use Rattle.bit_blocks.proofs as bit_blocks
 mod OctetBits
 mod OctetSteps
 pub mod Lemmas

@@ -1,22 +1,15 @@
--- Packing and unpacking of eight bits by one multiplication, checked by computation, and registers built from octets.
-use Rattle.std.proofs.Common.{◌≡◌, ℕ, ◌+◌, ◌-◌, ◌*◌, ◌/◌, ◌%◌, ◌^◌, ◌<◌, List, [], ◌∷◌}
-use Rattle.std.proofs.Common.{◌++◌, length, get_or, take, drop, refl, ap, sym, subst, ◌∙◌, arith, bit_and, bit_or, Bool, true}
-use Rattle.std.proofs.Common.{eqb, append_assoc, length-append}
-use Rattle.std.specs.Int.{from_le_bytes, to_le_bytes, w64}
-use Rattle.std.specs.Str.{bytes_eq}
-use Rattle.std.proofs.Math.Seq.{take-add, take-append_seam}
-use Rattle.std.proofs.lemmas.Bool.Decides.{Decides-eqb}
-use Rattle.std.proofs.lemmas.List.{length-take-le, length-drop, take_all}
-use Rattle.std.proofs.lemmas.Nat.{shl_whole, or_comm, or_shifted, mul-add-lt, pow-add, and_mask, shr-shr}
-use Rattle.std.proofs.lemmas.Slice.Eq.{bytes_eq-Decides}
-use Rattle.bit_blocks.specs.Bits.{AllBits}
-use Rattle.bit_blocks.specs.Octets.{octet_bits, bits_of}
-use Rattle.fire_code.specs.Registers.{register_bits}
-use Rattle.fire_code.proofs.Tests.{tested, passed}
-use Rattle.fire_code.proofs.RegisterBits.{octet_bits-register_bits, length-register_bits, register_bits-mod, register_bits-parts}
-use Rattle.fire_code.proofs.RegisterBits.{register_bits_split, register_bits-number_of, number_of, number_of_within}
+-- Packing and unpacking of eight bits by one multiplication, checked by computation, and how octets make up a register.
+use Rattle.std.proofs.Common.{◌≡◌, ℕ, ◌+◌, ◌-◌, ◌*◌, ◌/◌, ◌%◌, ◌^◌, ◌<◌, List, [], ◌∷◌, ◌++◌, length, get_or, take, drop, refl, ap, sym}
+use Rattle.std.proofs.{Common.{subst, ◌∙◌, arith, bit_and, bit_or, Bool, true, eqb, append_assoc, length-append}, Math.Seq.take-add}
+use Rattle.std.proofs.{Math.Seq.take-append_seam, lemmas.{Bool.Decides.Decides-eqb, List.{length-take-le, length-drop, take_all}}}
+use Rattle.std.proofs.lemmas.{Nat.{shl_whole, or_comm, or_shifted, mul-add-lt, pow-add, and_mask, shr-shr}, Slice.Eq.bytes_eq-Decides}
+use Rattle.std.specs.{Int.{from_le_bytes, to_le_bytes, w64}, Str.bytes_eq}
+use Rattle.bit_blocks.specs.{Bits.AllBits, Octets.{octet_bits, bits_of}}
+use Rattle.fire_code.{specs.Registers.register_bits, proofs.{Tests.{tested, passed}, RegisterBits.octet_bits-register_bits}}
+use Rattle.fire_code.proofs.RegisterBits.{length-register_bits, register_bits-mod, register_bits-parts, register_bits_split}
+use Rattle.fire_code.proofs.RegisterBits.{register_bits-number_of, number_of, number_of_within}
 
--- the octet that eight bits are packed into
+-- the octet into which the multiplication packs eight bits
 abbrev pub gathering : List ℕ → ℕ
 gathering bits =
     (from_le_bytes w64 (get_or bits 0 0 ∷ get_or bits 1 0 ∷ get_or bits 2 0 ∷ get_or bits 3 0 ∷
@@ -34,13 +27,13 @@ unfolding is_gathered
 gathered_bits bits count all =
     let octet = number_of bits in
     let places : register_bits 8 octet ≡ bits =
-    ap (λ n. register_bits n octet) (sym count) ∙ register_bits-number_of bits all in
-    let within : octet < 256 = subst (λ n. octet < 2 ^ n) count (number_of_within bits all) in
+    ap (λ n. register_bits n octet) (sym count) ∙ register_bits-number_of _ all in
     let same : gathering (register_bits 8 octet) ≡ octet =
-    (Decides-eqb (gathering (register_bits 8 octet)) octet).0 (passed is_gathered 256 all_gathered octet within) in
+    (Decides-eqb (gathering (register_bits 8 octet)) octet).0
+    (passed is_gathered _ all_gathered _ (subst (λ n. octet < 2 ^ n) count (number_of_within bits all))) in
     ap (λ b. register_bits 8 (gathering b)) (sym places) ∙ ap (λ n. register_bits 8 n) same ∙ places
 
--- the bits of an octet, one octet for each
+-- the bits of an octet, each in an octet of its own
 abbrev pub spreading : ℕ → List ℕ
 spreading octet =
     to_le_bytes w64
@@ -56,8 +49,7 @@ all_spread = refl
 
 pub spread_bits : (octet : ℕ) → octet < 256 → spreading octet ≡ register_bits 8 octet
 unfolding is_spread
-spread_bits octet within =
-    (bytes_eq-Decides (spreading octet) (register_bits 8 octet)).0 (passed is_spread 256 all_spread octet within)
+spread_bits octet within = (bytes_eq-Decides (spreading octet) (register_bits 8 octet)).0 (passed is_spread _ all_spread _ within)
 
 pub no_places : (register : ℕ) → register_bits 0 register ≡ []
 unfolding register_bits
@@ -73,14 +65,13 @@ put_together bits m n register octet within eight small low is before =
     let whole : octet * 2 ^ k % 2 ^ 64 ≡ octet * 2 ^ k = shl_whole octet 8 k 64 small (omega arith) in
     let joined : bit_or register (octet * 2 ^ k % 2 ^ 64) ≡ octet * 2 ^ k + register =
     ap (λ x. bit_or register x) whole ∙ or_comm register (octet * 2 ^ k) ∙ or_shifted octet k register low in
-    let at : k + n ≡ 8 * (m + 1) = omega arith in
     rw joined (
-      register_bits-parts k 8 (8 * (m + 1)) register octet width low
+      register_bits-parts k 8 _ _ octet width low
           ∙ ap (λ front. front ++ register_bits 8 octet) before
           ∙ ap (λ next. take k bits ++ next) is
           ∙ sym (take-add k n bits)
-          ∙ ap (λ j. take j bits) at,
-      rw (width, pow-add 2 k 8) (mul-add-lt octet (2 ^ k) register 256 small low),
+          ∙ ap (λ j. take j bits) (omega arith),
+      rw (width, pow-add 2 k 8) (mul-add-lt _ _ _ _ small low),
     )
 
 pub places_more : (register m : ℕ) (bits octet next : List ℕ) → m < 5 → length bits ≡ 40 →
@@ -112,8 +103,7 @@ places_more register m bits octet next within count is before written =
 pub places_end : (register m : ℕ) (bits : List ℕ) → m ≡ 5 → length bits ≡ 40 →
     take (8 * m) bits ≡ register_bits (8 * m) register → bits ≡ register_bits 40 register
 places_end register m bits last count before =
-    let all : 8 * m ≡ 40 = omega arith in
-    sym (take_all (8 * m) bits (omega arith)) ∙ before ∙ ap (λ n. register_bits n register) all
+    sym (take_all (8 * m) bits (omega arith)) ∙ before ∙ ap (λ n. register_bits n register) (omega arith)
 
 -- ---- the octets of a register
 
@@ -135,9 +125,8 @@ pub five_octets : (register a b c d e : ℕ) → octet_bits a ≡ register_bits 
     octet_bits d ≡ register_bits 8 (register / 2 ^ 24) →
     octet_bits e ≡ register_bits 8 (register / 2 ^ 32) → bits_of (a ∷ b ∷ c ∷ d ∷ e ∷ []) ≡ register_bits 40 register
 five_octets register a b c d e at_a at_b at_c at_d at_e =
-    let four = octet_before register 32 0 8 e [] refl at_e (sym (no_places (register / 2 ^ 40))) in
+    let four = octet_before register 32 0 8 e _ refl at_e (sym (no_places (register / 2 ^ 40))) in
     let three = octet_before register 24 8 16 d _ refl at_d four in
     let two = octet_before register 16 16 24 c _ refl at_c three in
     let one = octet_before register 8 24 32 b _ refl at_b two in
-    let whole : register / 2 ^ 0 ≡ register = omega arith in
-    octet_before register 0 32 40 a _ refl at_a one ∙ ap (λ x. register_bits 40 x) whole
+    octet_before register 0 32 40 a _ refl at_a one ∙ ap (λ x. register_bits 40 x) (omega arith)

@@ -1,17 +1,11 @@
--- The bits of a register: sums, shifts and inversion. Registers with equal bits are equal.
-use Rattle.std.proofs.Common.{◌≡◌, ℕ, zero, suc, ◌+◌, ◌-◌, ◌*◌, ◌/◌, ◌%◌, ◌^◌, ◌≤◌, ◌<◌, List}
-use Rattle.std.proofs.Common.{[], ◌∷◌, ◌++◌, length, replicate, get_or, refl, ap, sym, ◌∙◌, arith, bit_xor, add-one}
-use Rattle.std.proofs.Math.Nat.{pow-suc}
-use Rattle.std.proofs.Math.Pow.{mod-mod-pow}
-use Rattle.std.proofs.lemmas.Grind.{same_number_lists}
-use Rattle.std.proofs.lemmas.Nat.{xor_shr, shr-shr, shr_below, shr_high, mod_low, field_of}
-use Rattle.std.proofs.lemmas.Nat.Bits.{bit_at_lowest, bit_at-suc, bit_at_xor, bit_at_not, bit_at-lt, same_from_bits_below}
-use Rattle.std.proofs.lemmas.List.{length-replicate, get_or-replicate}
-use Rattle.std.proofs.lemmas.List.Elements.{All-cons, All-nil, All-head, All-tail}
-use Rattle.std.specs.Int.{bit_at, bit_not, w64}
-use Rattle.bit_blocks.specs.Octets.{octet_bits}
-use Rattle.bit_blocks.proofs.Lemmas.{add_bits_twice, get_or-add_bits, length-add_bits}
-use Rattle.bit_blocks.specs.Bits.{IsBit, AllBits, add_bits}
+-- The bits of a register that is added, shifted or inverted. Registers with equal bits are equal.
+use Rattle.std.proofs.Common.{◌≡◌, ℕ, zero, suc, ◌+◌, ◌-◌, ◌*◌, ◌/◌, ◌%◌, ◌^◌, ◌≤◌, ◌<◌, List, [], ◌∷◌, ◌++◌, length, replicate, get_or}
+use Rattle.std.proofs.{Common.{refl, ap, sym, ◌∙◌, arith, bit_xor, add-one}, Math.{Nat.pow-suc, Pow.mod-mod-pow}}
+use Rattle.std.proofs.lemmas.{Grind.same_number_lists, Nat.{xor_shr, shr-shr, shr_below, shr_high, mod_low, field_of, Bits.bit_at_lowest}}
+use Rattle.std.proofs.lemmas.{Nat.Bits.{bit_at-suc, bit_at_xor, bit_at_not, bit_at-lt, same_from_bits_below}, List.length-replicate}
+use Rattle.std.{proofs.lemmas.List.{get_or-replicate, Elements.{All-cons, All-nil, All-head, All-tail}}, specs.Int.{bit_at, bit_not, w64}}
+use Rattle.bit_blocks.{specs.{Octets.octet_bits, Bits.{IsBit, AllBits, xor_bits}}, proofs.Lemmas.{add_bits_twice, get_or-xor_bits}}
+use Rattle.bit_blocks.proofs.Lemmas.{length-xor_bits}
 use Rattle.fire_code.specs.Registers.{register_bits}
 
 pub length-register_bits : (n number : ℕ) → length (register_bits n number) ≡ n
@@ -33,13 +27,12 @@ pub get_or-register_bits : (n number i : ℕ) → i < n → get_or (register_bit
 unfolding register_bits
 get_or-register_bits zero number i within = absurd (omega arith)
 get_or-register_bits (suc n) number zero within = sym (bit_at_lowest number)
-get_or-register_bits (suc n) number (suc i) within =
-    get_or-register_bits n (number / 2) i (omega arith) ∙ sym (bit_at-suc number i)
+get_or-register_bits (suc n) number (suc i) within = get_or-register_bits n (number / 2) i (omega arith) ∙ sym (bit_at-suc number i)
 
 pub lowest_of_xor : (a b : ℕ) → bit_xor a b % 2 ≡ (a % 2 + b % 2) % 2
 lowest_of_xor a b = omega (arith, bit_at_xor a b 0)
 
-pub register_bits-xor : (n a b : ℕ) → register_bits n (bit_xor a b) ≡ add_bits (register_bits n a) (register_bits n b)
+pub register_bits-xor : (n a b : ℕ) → register_bits n (bit_xor a b) ≡ xor_bits (register_bits n a) (register_bits n b)
 unfolding register_bits
 register_bits-xor zero a b = refl
 register_bits-xor (suc n) a b =
@@ -53,41 +46,34 @@ register_bits-zero zero = refl
 register_bits-zero (suc n) = ap (λ rest. 0 ∷ rest) (register_bits-zero n)
 
 pub half_below : (n number : ℕ) → number < 2 ^ suc n → number / 2 < 2 ^ n
-half_below n number within =
-    let within' : number < 2 ^ (n + 1) = rw add-one within in
-    shr_below number n 1 within'
+half_below n number within = shr_below _ n 1 (rw add-one within)
 
--- bits past the length of a number are zeros
+-- the bits from bit n on of a number below 2 ^ n are zeros
 pub register_bits_beyond : (n k m number : ℕ) → m ≡ n + k → number < 2 ^ n →
     register_bits m number ≡ register_bits n number ++ replicate k 0
 unfolding register_bits
 register_bits_beyond zero k m number count within =
     let none : number ≡ 0 = omega arith in
-    let all : m ≡ k = omega arith in
-    ap (λ x. register_bits m x) none ∙ register_bits-zero m ∙ ap (λ n. replicate n 0) all
+    ap (λ x. register_bits m x) none ∙ register_bits-zero m ∙ ap (λ n. replicate n 0) (omega arith)
 register_bits_beyond (suc n) k zero number count within = absurd (omega arith)
 register_bits_beyond (suc n) k (suc m) number count within =
-    ap (λ rest. number % 2 ∷ rest) (register_bits_beyond n k m (number / 2) (omega arith) (half_below n number within))
+    ap (λ rest. number % 2 ∷ rest) (register_bits_beyond n k m _ (omega arith) (half_below n _ within))
 
 pub register_bits_split : (k n m number : ℕ) → m ≡ k + n →
     register_bits m number ≡ register_bits k number ++ register_bits n (number / 2 ^ k)
 unfolding register_bits
 register_bits_split zero n m number count =
     let all : m ≡ n = omega arith in
-    let same : number ≡ number / 1 = omega arith in
-    ap (λ p. register_bits p number) all ∙ ap (λ x. register_bits n x) same
+    ap (λ p. register_bits p number) all ∙ ap (λ x. register_bits n x) (omega arith)
 register_bits_split (suc k) n zero number count = absurd (omega arith)
 register_bits_split (suc k) n (suc m) number count =
-    let next : 1 + k ≡ suc k = omega arith in
     ap (λ rest. number % 2 ∷ rest)
     (register_bits_split k n m (number / 2) (omega arith)
     ∙ ap (λ x. register_bits k (number / 2) ++ register_bits n x)
-    (shr-shr number 1 k ∙ ap (λ j. number / 2 ^ j) next))
+    (shr-shr number 1 k ∙ ap (λ j. number / 2 ^ j) (omega arith)))
 
 lowest_of_mod : (n number : ℕ) → number % 2 ^ suc n % 2 ≡ number % 2
-lowest_of_mod n number =
-    let next : n + 1 ≡ suc n = omega arith in
-    ap (λ k. number % 2 ^ k % 2) (sym next) ∙ mod-mod-pow number n 1
+lowest_of_mod n number = ap (λ k. number % 2 ^ k % 2) (sym (omega arith)) ∙ mod-mod-pow number n 1
 
 inverted_over : (bit : ℕ) → bit < 2 → 1 - bit ≡ (bit + 1) % 2
 inverted_over bit h = omega arith
@@ -98,9 +84,8 @@ unfolding register_bits
 register_bits-mod zero number = refl
 register_bits-mod (suc n) number =
     let lowest : number % 2 ^ suc n % 2 ≡ number % 2 = lowest_of_mod n number in
-    let next : n + 1 ≡ suc n = omega arith in
     let half : number % 2 ^ suc n / 2 ≡ number / 2 % 2 ^ n =
-    ap (λ k. number % 2 ^ k / 2) (sym next) ∙ field_of number n 1 in
+    ap (λ k. number % 2 ^ k / 2) (sym (omega arith)) ∙ field_of number n 1 in
     ap (λ bit. bit ∷ register_bits n (number % 2 ^ suc n / 2)) lowest
     ∙ ap (λ rest. number % 2 ∷ register_bits n rest) half
     ∙ ap (λ rest. number % 2 ∷ rest) (register_bits-mod n (number / 2))
@@ -111,38 +96,37 @@ same_register n a b within within' same =
     same_from_bits_below n a b within within'
     (λ i lt. sym (get_or-register_bits n a i lt) ∙ ap (λ xs. get_or xs i 0) same ∙ get_or-register_bits n b i lt)
 
--- the bits of a low part, then those of a high part
+-- the bits of a number are those of its low part, then those of its high part
 pub register_bits-parts : (k n m low high : ℕ) → m ≡ k + n → low < 2 ^ k →
     register_bits m (high * 2 ^ k + low) ≡ register_bits k low ++ register_bits n high
 register_bits-parts k n m low high count within =
     register_bits_split k n m (high * 2 ^ k + low) count
-    ∙ ap (λ x. register_bits k (high * 2 ^ k + low) ++ register_bits n x) (shr_high high k low within)
+    ∙ ap (λ x. register_bits k (high * 2 ^ k + low) ++ register_bits n x) (shr_high high k _ within)
     ∙ ap (λ front. front ++ register_bits n high)
-    (sym (register_bits-mod k (high * 2 ^ k + low)) ∙ ap (λ x. register_bits k x) (mod_low high k low within))
+    (sym (register_bits-mod k (high * 2 ^ k + low)) ∙ ap (λ x. register_bits k x) (mod_low high k _ within))
 
--- a register inverted
+-- the bits of an inverted register
 pub register_bits-not : (n number : ℕ) → n ≤ 64 → number < 2 ^ 64 →
-    register_bits n (bit_not w64 number) ≡ add_bits (register_bits n number) (replicate n 1)
+    register_bits n (bit_not w64 number) ≡ xor_bits (register_bits n number) (replicate n 1)
 register_bits-not n number small within =
     let count = length-register_bits n number in
     let same : length (register_bits n number) ≡ length (replicate {A = ℕ} n 1) = count ∙ sym (length-replicate n 1) in
-    same_number_lists (register_bits n (bit_not w64 number)) (add_bits (register_bits n number) (replicate n 1))
-    (length-register_bits n (bit_not w64 number) ∙ sym (length-add_bits _ _ same ∙ count))
+    same_number_lists (register_bits n (bit_not w64 number)) (xor_bits (register_bits n number) (replicate n 1))
+    (length-register_bits n (bit_not w64 number) ∙ sym (length-xor_bits _ _ same ∙ count))
     (λ i lt.
     let lt' : i < n = omega (arith, length-register_bits n (bit_not w64 number)) in
-    let below : i < length (register_bits n number) = omega arith in
     get_or-register_bits n (bit_not w64 number) i lt'
-    ∙ bit_at_not w64 number i within (omega arith)
-    ∙ inverted_over (bit_at number i) (bit_at-lt number i)
+    ∙ bit_at_not w64 _ i within (omega arith)
+    ∙ inverted_over _ (bit_at-lt number i)
     ∙ ap (λ bit. (bit + 1) % 2) (sym (get_or-register_bits n number i lt'))
     ∙ ap (λ one. (get_or (register_bits n number) i 0 + one) % 2) (sym (get_or-replicate n i 1 0 lt'))
-    ∙ sym (get_or-add_bits (register_bits n number) (replicate n 1) i same below))
+    ∙ sym (get_or-xor_bits (register_bits n number) (replicate n 1) i same (omega arith)))
 
--- a register inverted twice
+-- the bits of a register that is inverted twice
 pub inverted_register : (n number : ℕ) (inverted : List ℕ) → n ≤ 64 → number < 2 ^ 64 →
-    inverted ≡ register_bits n (bit_not w64 number) → add_bits inverted (replicate n 1) ≡ register_bits n number
+    inverted ≡ register_bits n (bit_not w64 number) → xor_bits inverted (replicate n 1) ≡ register_bits n number
 inverted_register n number inverted small within is =
-    ap (λ x. add_bits x (replicate n 1)) (is ∙ register_bits-not n number small within)
+    ap (λ x. xor_bits x (replicate n 1)) (is ∙ register_bits-not n _ small within)
     ∙ add_bits_twice (register_bits n number) (replicate n 1) (AllBits-register_bits n number)
     (length-register_bits n number ∙ sym (length-replicate n 1))
 

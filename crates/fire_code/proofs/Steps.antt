@@ -1,21 +1,15 @@
 -- One step of the linear feedback shift register is one step of long division.
-use Rattle.std.proofs.Common.{◌≡◌, ℕ, zero, suc, ◌+◌, ◌*◌, ◌/◌, ◌%◌, ◌^◌, ◌≤◌, ◌<◌, List, []}
-use Rattle.std.proofs.Common.{◌∷◌, ◌++◌, length, replicate, refl, ap, sym, ◌∙◌, arith, bit_xor, bit_and, subst, get_or}
-use Rattle.std.proofs.Common.{below_more, ◌≢◌, take}
-use Rattle.std.proofs.Math.ListN.{set}
-use Rattle.std.proofs.lemmas.Grind.{same_number_lists}
-use Rattle.std.proofs.lemmas.Nat.{and_mask, and_le_r, mul-le, xor_lt}
-use Rattle.std.proofs.lemmas.Nat.Bits.{shr_and_one}
-use Rattle.std.proofs.lemmas.List.{get_or-set_other, get_or-set_same, length-set, take_more}
-use Rattle.std.proofs.lemmas.List.Elements.{All-cons, All-set, All-take}
-use Rattle.bit_blocks.specs.Bits.{IsBit, AllBits, add_bits}
-use Rattle.bit_blocks.specs.Polynomials.{HasQuotient}
-use Rattle.bit_blocks.proofs.Lemmas.{HasQuotient-zeros, HasQuotient_self, divided_more}
-use Rattle.fire_code.specs.Registers.{register_bits}
-use Rattle.fire_code.proofs.RegisterBits.{length-register_bits, get_or-register_bits, AllBits-register_bits, register_bits-zero}
-use Rattle.fire_code.proofs.RegisterBits.{register_bits_beyond, register_bits-xor, register_bits-suc, half_below, lowest_of_xor}
+use Rattle.std.proofs.Common.{◌≡◌, ℕ, zero, suc, ◌+◌, ◌*◌, ◌/◌, ◌%◌, ◌^◌, ◌≤◌, ◌<◌, List, [], ◌∷◌, ◌++◌, length, replicate, refl, ap, sym}
+use Rattle.std.proofs.{Common.{◌∙◌, arith, bit_xor, bit_and, subst, get_or, below_more, ◌≢◌, take}, Math.ListN.set}
+use Rattle.std.proofs.lemmas.{Grind.same_number_lists, Nat.{and_mask, and_le_r, mul-le, xor_lt, Bits.shr_and_one}, List.get_or-set_other}
+use Rattle.std.proofs.lemmas.List.{get_or-set_same, length-set, take_more, Elements.{All-cons, All-set, All-take}}
+use Rattle.bit_blocks.{specs.{Bits.{IsBit, AllBits, xor_bits}, Polynomials.HasQuotient}, proofs.Lemmas.HasQuotient-zeros}
+use Rattle.bit_blocks.proofs.Lemmas.{HasQuotient_self, divided_more}
+use Rattle.fire_code.{specs.Registers.register_bits, proofs.RegisterBits.{length-register_bits, get_or-register_bits}}
+use Rattle.fire_code.proofs.RegisterBits.{AllBits-register_bits, register_bits-zero, register_bits_beyond, register_bits-xor}
+use Rattle.fire_code.proofs.RegisterBits.{register_bits-suc, half_below, lowest_of_xor}
 
--- the generator times the carry bit
+-- the generator, multiplied by the carry bit, is a multiple of the generator
 taken_multiple : (n carry taps : ℕ) → carry ≤ 1 → HasQuotient (carry ∷ register_bits n (carry * taps)) (1 ∷ register_bits n taps)
 taken_multiple n zero taps h =
     let g = 1 ∷ register_bits n taps in
@@ -45,20 +39,19 @@ remainder_more (suc n) front register bit taps positive bits within is_bit befor
     let g = 1 ∷ register_bits (suc n) taps in
     let carry = bit_and (bit_xor register bit) 1 in
     let half = register / 2 in
-    let sum = carry_is register bit is_bit in
-    let below : half < 2 ^ n = half_below n register within in
-    let split : register_bits (suc n) register ≡ register % 2 ∷ register_bits n half = register_bits-suc n register in
-    let next : add_bits (register % 2 ∷ []) (carry ∷ []) ≡ bit ∷ [] = ap (λ b. b ∷ []) (cancelled (register % 2) bit carry is_bit sum) in
+    let sum = carry_is register _ is_bit in
     let count : length (register_bits (suc n) (carry * taps)) ≡ length (register_bits n half) + 1 =
     length-register_bits (suc n) (carry * taps) ∙ omega (arith, length-register_bits n half) in
-    let rest : add_bits (register_bits n half ++ replicate 1 0) (register_bits (suc n) (carry * taps))
+    let rest : xor_bits (register_bits n half ++ replicate 1 0) (register_bits (suc n) (carry * taps))
     ≡ register_bits (suc n) (bit_xor half (carry * taps)) =
-    ap (λ r. add_bits r (register_bits (suc n) (carry * taps))) (sym (register_bits_beyond n 1 (suc n) half (omega arith) below))
+    ap (λ r. xor_bits r (register_bits (suc n) (carry * taps)))
+    (sym (register_bits_beyond n 1 (suc n) _ (omega arith) (half_below n register within)))
     ∙ sym (register_bits-xor (suc n) half (carry * taps)) in
     let divided = divided_more front (register % 2 ∷ []) (register_bits n half) (bit ∷ []) (carry ∷ [])
     (register_bits (suc n) (carry * taps)) g
-    bits refl count next (subst (λ r. HasQuotient (front ++ r) g) split before) (taken_multiple (suc n) carry taps (omega arith)) in
-    subst (λ r. HasQuotient ((front ++ bit ∷ []) ++ r) g) rest divided
+    bits refl count (ap (λ b. b ∷ []) (cancelled (register % 2) bit carry is_bit sum)) (subst (λ r. HasQuotient (front ++ r) g)
+    (register_bits-suc n register) before) (taken_multiple (suc n) carry taps (omega arith)) in
+    rw (← rest) divided
 
 pub remainder_along : (n : ℕ) (bits : List ℕ) (i register taps : ℕ) → 0 < n → i < length bits → AllBits bits → register < 2 ^ n →
     HasQuotient (take i bits ++ register_bits n register) (1 ∷ register_bits n taps) →

@@ -1,6 +1,5 @@
--- A computed test of every number below a bound proves a statement for each of them.
-use Rattle.std.proofs.Common.{◌≡◌, ℕ, zero, suc, ◌<◌, refl, Bool, true, ◌&&◌}
-use Rattle.std.proofs.lemmas.Bool.Decides.{Decides-below_and}
+-- A statement holds for every number below a bound if a test, computed for each of these numbers, succeeds.
+use Rattle.std.proofs.{Common.{◌≡◌, ℕ, zero, suc, ◌<◌, refl, Bool, true, ◌&&◌}, lemmas.Bool.Decides.Decides-below_and}
 
 -- whether a test passes for each number below n
 unfoldable pub tested : (ℕ → Bool) → ℕ → Bool

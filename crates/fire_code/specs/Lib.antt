@@ -1,2 +1,3 @@
+pub use Rattle.bit_blocks.specs as bit_blocks
 pub mod Registers
 pub mod Words

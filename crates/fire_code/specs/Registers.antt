@@ -1,4 +1,4 @@
--- Numbers as shift registers.
+-- The bits of a shift register that is represented as a number.
 use Rattle.std.specs.Prelude.{ℕ, ◌/◌, ◌%◌, List, [], ◌∷◌}
 use Rattle.std.proofs.Common.{zero, suc}
 

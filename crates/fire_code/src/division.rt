@@ -1,28 +1,29 @@
-//! CRC by a linear feedback shift register, one bit at a time (GSM 05.03, today 3GPP TS 45.003). The register is reflected: the first
-//! bit is the highest power of D and the least significant bit of the register.
+//! CRC by a linear feedback shift register, one bit at a time (GSM 05.03, today 3GPP TS 45.003). The register is reflected: its least
+//! significant bit is the coefficient of the highest power of D, which is sent first.
 ghost use Rattle.std.specs.Prelude.{◌≡◌, ◌<◌, ◌≤◌, ◌^◌, ◌++◌, ◌∷◌, length, replicate};
-ghost use Rattle.bit_blocks.specs.Bits.{AllBits, add_bits};
+ghost use Rattle.bit_blocks.specs.Bits.{AllBits, xor_bits};
 ghost use Rattle.bit_blocks.specs.Polynomials.{HasQuotient};
 ghost use Rattle.fire_code.specs.Registers.{register_bits};
 
 use crate::registers::places;
 use bit_blocks::Bits;
 
-/// The `N` check bits of `info`: inverted, they complete it to a multiple of the generator.
+/// The `N` check bits of `info`: `info` followed by these bits, inverted, is a multiple of the generator.
+///
 /// `taps` is the generator without its highest power, reflected: bit `i` is the coefficient of D^(N - 1 - i).
 pub(crate) fn crc<const N: usize>(info: &[u8], taps: u64) -> Bits<N>
     requires bits { AllBits info.now }
     requires degree { 0 < N }
     requires fits { N ≤ 64 }
     requires taps { taps < 2 ^ N }
-    ensures multiple { HasQuotient (info.now ++ add_bits result (replicate N 1)) (1 ∷ register_bits N taps) }
+    ensures multiple { HasQuotient (info.now ++ xor_bits result (replicate N 1)) (1 ∷ register_bits N taps) }
     ensures count { length result ≡ N }
     ensures bits { AllBits result }
 {
     places(!remainder::<N>(info, taps))
 }
 
-/// The register that completes `bits` to a multiple of the generator; its bit `i` is check bit `i`.
+/// The remainder of `bits` as a register: `bits` followed by the register's bits, bit 0 first, is a multiple of the generator.
 fn remainder<const N: usize>(bits: &[u8], taps: u64) -> u64
     requires bits { AllBits bits.now }
     requires degree { 0 < N }

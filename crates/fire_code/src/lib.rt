@@ -9,6 +9,7 @@ mod registers;
 mod sch;
 mod xcch;
 
+pub use bit_blocks::Bits;
 pub use octets::octet_remainder;
 pub use rach::{rach_holds, rach_parity};
 pub use sch::{sch_holds, sch_parity};

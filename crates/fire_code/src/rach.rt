@@ -1,13 +1,13 @@
 //! The six check bits of the access burst (RACH), an inverted CRC to which the base station identity code (BSIC) is added, so that a
 //! burst meant for another cell fails its check (GSM 05.03, today 3GPP TS 45.003, section 4.6).
 ghost use Rattle.std.specs.Prelude.{◌≡◌, ◌↔◌, ◌++◌, List, ℕ, length, replicate, IsTrue};
-ghost use Rattle.bit_blocks.specs.Bits.{AllBits, add_bits};
+ghost use Rattle.bit_blocks.specs.Bits.{AllBits, xor_bits};
 ghost use Rattle.fire_code.specs.Words.{IsRachWord};
 
 use crate::division::crc;
 use bit_blocks::Bits;
 
-// D^5 + D^3 + D^2 + D + 1; the least significant bit is the coefficient of D^5
+// The generator without D^6: D^5 + D^3 + D^2 + D + 1. The least significant bit is the coefficient of D^5.
 const TAPS: u64 = 0b11_1101;
 
 /// The CRC of the eight bits of an access burst, before the BSIC is added.
@@ -17,9 +17,9 @@ pub fn rach_parity(d: &Bits<8>) -> Bits<6>
     ensures word { IsRachWord (d.now ++ result) (replicate 6 0) }
     ensures only { (p : List ℕ) → IsRachWord (d.now ++ p) (replicate 6 0) → p ≡ result }
 
-    // the same with a BSIC added
-    ensures under_code { (b : List ℕ) → length b ≡ 6 → AllBits b → IsRachWord (d.now ++ add_bits result b) b }
-    ensures only_under_code { (p b : List ℕ) → IsRachWord (d.now ++ p) b → p ≡ add_bits result b }
+    // For any BSIC, the check bits are the CRC plus the BSIC.
+    ensures with_bsic { (b : List ℕ) → length b ≡ 6 → AllBits b → IsRachWord (d.now ++ xor_bits result b) b }
+    ensures only_with_bsic { (p b : List ℕ) → IsRachWord (d.now ++ p) b → p ≡ xor_bits result b }
 
     ensures count { length result ≡ 6 }
     ensures bits { AllBits result }
@@ -27,13 +27,13 @@ pub fn rach_parity(d: &Bits<8>) -> Bits<6>
     crc(d.as_slice(), TAPS)
 }
 
-/// Whether eight information bits and six check bits are a word under this BSIC.
+/// Whether `w`, eight information bits and six check bits, is a codeword for this BSIC.
 pub fn rach_holds(w: &Bits<14>, bsic: &Bits<6>) -> bool
     ensures { IsTrue result ↔ IsRachWord w.now bsic.now }
 {
     let (info, sum) = w.as_slice().split_at(8);
     let sum = Bits::<6>::from_slice(sum).unwrap();
-    // the one BSIC under which these bits are a word
+    // The only BSIC for which these bits are a codeword.
     let code = crc::<6>(info, TAPS).xor(&sum);
     code.as_slice() == bsic.as_slice()
 }
@@ -44,13 +44,13 @@ mod tests {
     use std::test::Fail;
 
     #[test]
-    fn zeros_have_ones_as_crc(rt: HostRuntime) -> Result<(), Fail> {
+    fn crc_of_zeros_is_ones(rt: HostRuntime) -> Result<(), Fail> {
         assert_eq!(rt; rach_parity(&Bits::zero()).as_slice(), [1; 6].as_slice());
         Ok(())
     }
 
     #[test]
-    fn zeros_hold_under_the_code_of_ones_alone(rt: HostRuntime) -> Result<(), Fail> {
+    fn zeros_match_only_a_bsic_of_ones(rt: HostRuntime) -> Result<(), Fail> {
         let ones = Bits::from_slice(&[1; 6]).ok_or("bits")?;
         assert!(rt; rach_holds(&Bits::zero(), &ones));
         assert!(rt; !rach_holds(&Bits::zero(), &Bits::zero()));

@@ -1,5 +1,5 @@
-//! Registers of up to 64 bits, the coefficient of the highest power in the least significant bit, and their conversion from and to bit
-//! lists and octets. One multiplication unpacks an octet into eight, or packs eight into one.
+//! Converts registers of up to 64 bits to bit lists and octets, and back. The least significant bit of a register is the coefficient of
+//! the highest power of D. One multiplication unpacks an octet into eight bits, each in an octet of its own, or packs eight such bits.
 ghost use Rattle.std.specs.Prelude.{◌≡◌, ◌+◌, ◌*◌, ◌/◌, ◌<◌, ◌≤◌, ◌^◌, ◌++◌, length, take, drop};
 ghost use Rattle.bit_blocks.specs.Bits.{AllBits};
 ghost use Rattle.bit_blocks.specs.Octets.{octet_bits, bits_of as octets_to_bits};
@@ -7,7 +7,7 @@ ghost use Rattle.fire_code.specs.Registers.{register_bits};
 
 use bit_blocks::Bits;
 
-/// The first `N` bits of a register.
+/// The `N` lowest bits of a register, least significant bit first.
 pub(crate) fn places<const N: usize>(register: u64) -> Bits<N>
     requires { N ≤ 64 }
     ensures value { result ≡ register_bits N register }
@@ -21,7 +21,7 @@ pub(crate) fn places<const N: usize>(register: u64) -> Bits<N>
     bits
 }
 
-/// The first forty bits of a register.
+/// The forty lowest bits of a register, least significant bit first.
 pub(crate) fn bits_of(register: u64) -> Bits<40>
     ensures value { result ≡ register_bits 40 register }
     ensures count { length result ≡ 40 }
@@ -29,34 +29,38 @@ pub(crate) fn bits_of(register: u64) -> Bits<40>
 {
     let mut bits = Bits::zero();
     for m in 0..5 {
-        write(&mut bits, 8 * m, &spread((register >> (8 * m)) & 0xff));
+        write_octet_bits(
+            &mut bits,
+            8 * m,
+            &spread_octet_bits((register >> (8 * m)) & 0xff),
+        );
     }
     bits
 }
 
-/// The first forty bits of a register, packed.
+/// The forty lowest bits of a register as five octets, the least significant octet first.
 pub(crate) fn octets_of(register: u64) -> [u8; 5]
     ensures { octets_to_bits result ≡ register_bits 40 register }
 {
     [
-        octet_of(register, 0),
-        octet_of(register, 1),
-        octet_of(register, 2),
-        octet_of(register, 3),
-        octet_of(register, 4),
+        register_octet(register, 0),
+        register_octet(register, 1),
+        register_octet(register, 2),
+        register_octet(register, 3),
+        register_octet(register, 4),
     ]
 }
 
-/// Octet `m` of a register.
-fn octet_of(register: u64, m: usize) -> u8
+/// Octet `m` of a register; octet 0 is the least significant.
+fn register_octet(register: u64, m: usize) -> u8
     requires { m < 5 }
     ensures { octet_bits result ≡ register_bits 8 (register / 2 ^ (8 * m)) }
 {
     ((register >> (8 * m)) & 0xff) as u8
 }
 
-/// Forty bits as a register.
-pub(crate) fn register_of(bits: &[u8]) -> u64
+/// Packs forty bits into a register; the first bit is the least significant.
+pub(crate) fn register_from_bits(bits: &[u8]) -> u64
     requires count { length bits.now ≡ 40 }
     requires bits { AllBits bits.now }
     ensures value { register_bits 40 result ≡ bits.now }
@@ -64,14 +68,14 @@ pub(crate) fn register_of(bits: &[u8]) -> u64
 {
     let mut register = 0;
     for m in 0..5 {
-        register |= gathered(&bits[8 * m..8 * m + 8]) << (8 * m);
+        register |= pack_eight_bits(&bits[8 * m..8 * m + 8]) << (8 * m);
     }
     register
 }
 
 /// Eight bits packed into an octet, least significant bit first.
 #[inline]
-pub(crate) fn gathered(bits: &[u8]) -> u64
+pub(crate) fn pack_eight_bits(bits: &[u8]) -> u64
     requires count { length bits.now ≡ 8 }
     requires bits { AllBits bits.now }
     ensures value { register_bits 8 result ≡ bits.now }
@@ -80,24 +84,24 @@ pub(crate) fn gathered(bits: &[u8]) -> u64
     let apart = u64::from_le_bytes([
         bits[0], bits[1], bits[2], bits[3], bits[4], bits[5], bits[6], bits[7],
     ]);
-    // The multiplication moves bit i to bit 56 + i; nothing else reaches the highest octet.
+    // The multiplication moves bit i to position 56 + i and leaves nothing else in the highest octet.
     apart.wrapping_mul(0x0102_0408_1020_4080) >> 56
 }
 
 /// The eight bits of an octet, least significant bit first.
 #[inline]
-fn spread(octet: u64) -> [u8; 8]
+fn spread_octet_bits(octet: u64) -> [u8; 8]
     requires { octet < 256 }
     ensures value { result ≡ register_bits 8 octet }
     ensures bits { AllBits result }
 {
-    // Octet i of `kept` is bit i alone, in place; adding 127 carries it into the octet's highest bit.
+    // Octet i of `kept` keeps only bit i of `octet`, at its own position; adding 127 carries it into the highest bit of octet i.
     let kept = octet.wrapping_mul(0x0101_0101_0101_0101) & 0x8040_2010_0804_0201;
     ((kept.wrapping_add(0x7f7f_7f7f_7f7f_7f7f) >> 7) & 0x0101_0101_0101_0101).to_le_bytes()
 }
 
-/// Writes eight bits from index `at` on.
-fn write(bits: &mut Bits<40>, at: usize, octet: &[u8; 8])
+/// Writes eight bits into `bits` from index `at` on.
+fn write_octet_bits(bits: &mut Bits<40>, at: usize, octet: &[u8; 8])
     requires count { length bits.old ≡ 40 }
     requires within { at + 8 ≤ 40 }
     requires octet { AllBits octet.now }

@@ -7,7 +7,7 @@ ghost use Rattle.fire_code.specs.Words.{IsSchWord};
 use crate::division::crc;
 use bit_blocks::Bits;
 
-// D^8 + D^6 + D^5 + D^4 + D^2 + 1; the least significant bit is the coefficient of D^9
+// The generator without D^10: D^8 + D^6 + D^5 + D^4 + D^2 + 1. The least significant bit is the coefficient of D^9.
 const TAPS: u64 = 0b10_1011_1010;
 
 /// The CRC of the 25 information bits of a synchronisation burst (GSM 05.03 section 4.7).
@@ -34,7 +34,7 @@ mod tests {
     use std::test::Fail;
 
     #[test]
-    fn zeros_have_ones_as_crc(rt: HostRuntime) -> Result<(), Fail> {
+    fn crc_of_zeros_is_ones(rt: HostRuntime) -> Result<(), Fail> {
         assert_eq!(rt; sch_parity(&Bits::zero()).as_slice(), [1; 10].as_slice());
         assert!(rt; !sch_holds(&Bits::zero()));
         Ok(())

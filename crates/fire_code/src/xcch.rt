@@ -1,18 +1,18 @@
 //! The forty check bits of a control channel block (xCCH): an inverted Fire code whose generator is D^23 + 1 times a polynomial of
 //! degree 17 (GSM 05.03, today 3GPP TS 45.003, section 4.1.2), computed octet by octet.
 ghost use Rattle.std.specs.Prelude.{◌≡◌, ◌<◌, ◌^◌, ◌↔◌, ◌++◌, List, ℕ, length, replicate, IsTrue};
-ghost use Rattle.bit_blocks.specs.Bits.{AllBits, add_bits};
+ghost use Rattle.bit_blocks.specs.Bits.{AllBits, xor_bits};
 ghost use Rattle.bit_blocks.specs.Octets.{bits_of as octets_to_bits};
 ghost use Rattle.fire_code.specs.Registers.{register_bits};
 ghost use Rattle.fire_code.specs.Words.{IsXcchWord};
 
 use crate::octets::{remainder, remainder_of_octets};
-use crate::registers::{bits_of, octets_of, register_of};
+use crate::registers::{bits_of, octets_of, register_from_bits};
 use bit_blocks::{BLOCK_BITS, BLOCK_OCTETS, Bits};
 
 const ALL_ONES: u64 = 0xff_ffff_ffff;
 
-/// The Fire code bits of the 184 information bits of a block (GSM 05.03 section 4.1.2).
+/// The 40 Fire code bits (check bits) of the 184 information bits of a block (GSM 05.03 section 4.1.2).
 pub fn xcch_parity(d: &Bits<BLOCK_BITS>) -> Bits<40>
     ensures word { IsXcchWord (d.now ++ result) }
     ensures only { (p : List ℕ) → IsXcchWord (d.now ++ p) → p ≡ result }
@@ -22,7 +22,7 @@ pub fn xcch_parity(d: &Bits<BLOCK_BITS>) -> Bits<40>
     bits_of(!remainder(d.as_slice()))
 }
 
-/// The same for 23 packed octets, as five octets, least significant bit first.
+/// The Fire code bits of a block packed into 23 octets, packed into five octets. Octets are packed least significant bit first.
 pub fn xcch_parity_of_octets(octets: &[u8; BLOCK_OCTETS]) -> [u8; 5]
     ensures word { IsXcchWord (octets_to_bits octets.now ++ octets_to_bits result) }
     ensures only { (p : List ℕ) → IsXcchWord (octets_to_bits octets.now ++ p) → p ≡ octets_to_bits result }
@@ -35,19 +35,20 @@ pub fn xcch_holds(w: &Bits<224>) -> bool
     ensures { IsTrue result ↔ IsXcchWord w.now }
 {
     let (info, check) = w.as_slice().split_at(BLOCK_BITS);
-    remainder(info) ^ register_of(check) == ALL_ONES
+    remainder(info) ^ register_from_bits(check) == ALL_ONES
 }
 
-/// The syndrome of 224 bits: bit `i` belongs to bit `184 + i` of the word. It is 0 if and only if the bits are a codeword.
+/// The syndrome of 224 bits: inverting check bit `184 + i` for each bit `i` that is 1 in the syndrome makes `w` a codeword. The syndrome
+/// is 0 if and only if `w` is a codeword.
 pub fn xcch_syndrome(w: &Bits<224>) -> u64
-    ensures word { IsXcchWord (add_bits w.now (replicate BLOCK_BITS 0 ++ register_bits 40 result)) }
+    ensures word { IsXcchWord (xor_bits w.now (replicate BLOCK_BITS 0 ++ register_bits 40 result)) }
     ensures zero { (result ≡ 0) ↔ IsXcchWord w.now }
     ensures within { result < 2 ^ 40 }
     ensures count { length w.now ≡ 224 }
     ensures bits { AllBits w.now }
 {
     let (info, check) = w.as_slice().split_at(BLOCK_BITS);
-    remainder(info) ^ register_of(check) ^ ALL_ONES
+    remainder(info) ^ register_from_bits(check) ^ ALL_ONES
 }
 
 #[cfg(test)]
@@ -58,7 +59,7 @@ mod tests {
     use bit_blocks::{from_octets, to_octets};
     use std::test::Fail;
 
-    // D^26 + D^23 + D^17 + D^3 + 1; the least significant bit is the coefficient of D^39
+    // The generator without D^40: D^26 + D^23 + D^17 + D^3 + 1. The least significant bit is the coefficient of D^39.
     const TAPS: u64 = 0x90_0041_2000;
 
     #[test]
@@ -94,7 +95,7 @@ mod tests {
     }
 
     #[test]
-    fn remainders_of_octets(rt: HostRuntime) -> Result<(), Fail> {
+    fn remainders_of_octets_0_and_128(rt: HostRuntime) -> Result<(), Fail> {
         assert_eq!(rt; octet_remainder(0).as_slice(), [0; 40].as_slice());
         let mut expected = [0; 40];
         for place in [13, 16, 22, 36, 39] {

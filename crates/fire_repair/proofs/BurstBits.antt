@@ -1,13 +1,10 @@
 -- The bits of an error burst.
-use Rattle.std.proofs.Common.{◌≡◌, ℕ, ◌+◌, ◌-◌, ◌*◌, ◌/◌, ◌%◌, ◌^◌, ◌<◌, ◌≤◌, get_or, ap, sym}
-use Rattle.std.proofs.Common.{◌∙◌, arith, add-zero}
-use Rattle.std.specs.Int.{bit_at}
-use Rattle.std.proofs.lemmas.Nat.{pow_pos, shr-shr}
-use Rattle.std.proofs.lemmas.Nat.Bits.{bit_at-zero, bit_at_cat_low, bit_at_cat_high, bit_at_above}
+use Rattle.std.proofs.{Common.{◌≡◌, ℕ, ◌+◌, ◌-◌, ◌*◌, ◌/◌, ◌%◌, ◌^◌, ◌<◌, ◌≤◌, get_or, ap, sym, ◌∙◌, arith, add-zero}, lemmas.Nat.pow_pos}
+use Rattle.std.{proofs.lemmas.Nat.{shr-shr, Bits.{bit_at-zero, bit_at_cat_low, bit_at_cat_high, bit_at_above}}, specs.Int.bit_at}
 use Rattle.fire_code.proofs.Lemmas.{get_or-register_bits}
 use Rattle.fire_repair.specs.Bursts.{burst}
 
--- the bits of a shifted shape, below the shift and above it
+-- a shifted shape has no bits below the shift
 pub bit_before : (start shape k : ℕ) → k < start → bit_at (shape * 2 ^ start) k ≡ 0
 bit_before start shape k before =
     ap (λ n. bit_at n k) (sym (add-zero (shape * 2 ^ start))) ∙ bit_at_cat_low shape start 0 k before ∙ bit_at-zero k
@@ -16,7 +13,7 @@ pub bit_from : (start shape k : ℕ) → start ≤ k → bit_at (shape * 2 ^ sta
 bit_from start shape k after =
     ap (λ n. bit_at n k) (sym (add-zero (shape * 2 ^ start))) ∙ bit_at_cat_high shape start 0 k (pow_pos start) after
 
--- an error burst has no bit before its start and none from twelve bits later on
+-- an error burst changes no bit before its start
 pub burst_before : (start shape k : ℕ) → k < start → k < 224 → get_or (burst start shape) k 0 ≡ 0
 burst_before start shape k before within = get_or-register_bits 224 (shape * 2 ^ start) k within ∙ bit_before start shape k before
 

@@ -1,20 +1,17 @@
--- Two different error bursts never have the same syndrome. This is computed for every shape: in up to 212 multiplications by D it never
--- becomes another shape (a register whose first 28 bits are 0) except by a mere shift of its bits.
-use Rattle.std.proofs.Common.{◌≡◌, ℕ, zero, suc, ◌+◌, ◌-◌, ◌*◌, ◌/◌, ◌%◌, ◌^◌, ◌<◌, ◌≤◌, Bool}
-use Rattle.std.proofs.Common.{true, false, eqb, ◌&&◌, refl, ap, sym, ◌∙◌, arith, eq-eqb, mul_assoc, ◌⊎◌, inl, inr}
-use Rattle.std.proofs.Math.Nat.{pow-suc, mul_comm}
-use Rattle.std.proofs.lemmas.Nat.{pow-add}
+-- Two different error bursts never have the same syndrome. This is computed for every shape: multiplied by D up to 212 times, it never
+-- becomes another shape (a register whose 28 lowest bits are 0), except that its bits are shifted.
+use Rattle.std.proofs.Common.{◌≡◌, ℕ, zero, suc, ◌+◌, ◌-◌, ◌*◌, ◌/◌, ◌%◌, ◌^◌, ◌<◌, ◌≤◌, Bool, true, false, eqb, ◌&&◌, refl, ap, sym, ◌∙◌}
+use Rattle.std.proofs.{Common.{arith, eq-eqb, mul_assoc, ◌⊎◌, inl, inr}, Math.Nat.{pow-suc, mul_comm}, lemmas.Nat.pow-add}
 use Rattle.std.proofs.lemmas.Bool.Decides.{Decides-eqb}
 use Rattle.fire_code.proofs.Lemmas.{tested, passed}
-use Rattle.fire_repair.specs.Bursts.{shift_once, shift, left_by}
-use Rattle.fire_repair.proofs.Moves.{moved-add, moved_within, same_moved}
+use Rattle.fire_repair.{specs.Bursts.{shift_once, shift, error_burst_syndrome}, proofs.Moves.{moved-add, moved_within, same_moved}}
 
--- if the first 28 bits are 0, the register times `power` is `whole`: the shape is only shifted
+-- if the 28 lowest bits of the register are 0, the register times `power` is `whole`: the shape is only shifted
 is_plain : ℕ → ℕ → ℕ → Bool
 is_plain power whole register =
     elim (register % 2) [ zero ↦ elim (eqb (register % 2 ^ 28) 0) [ true ↦ eqb (register * power) whole | false ↦ true ] | suc _ ↦ true ]
 
--- the same at each of the next n bits
+-- `is_plain` holds for the register and for its next n - 1 multiples by D
 stays_plain : ℕ → ℕ → ℕ → ℕ → Bool
 stays_plain zero power whole register = true
 stays_plain (suc n) power whole register = is_plain power whole register && stays_plain n (2 * power) whole (shift_once register)
@@ -22,7 +19,7 @@ stays_plain (suc n) power whole register = is_plain power whole register && stay
 is_alone : ℕ → Bool
 is_alone shape = stays_plain 213 1 (shape * 2 ^ 28) (shape * 2 ^ 28)
 
--- 1,024 shapes at a time
+-- the test of 1,024 shapes; four such parts cover all shapes
 are_alone : ℕ → Bool
 are_alone part = tested (λ s. is_alone (1024 * part + s)) 1024
 
@@ -83,7 +80,7 @@ plain_at (suc n) (suc d) power whole register stays before low =
     ap (λ p. shift d (shift_once register) * p) powers
     ∙ plain_at n d (2 * power) whole (shift_once register) next (omega arith) low
 
--- a shape that becomes a shape is only shifted
+-- a shape that becomes another shape when it is multiplied by D^d is only shifted
 same_shape : (d shape shape' : ℕ) → d ≤ 212 → shape < 2 ^ 12 → shift d (shape * 2 ^ 28) ≡ shape' * 2 ^ 28 → shape' * 2 ^ d ≡ shape
 unfolding is_alone
 same_shape d shape shape' room small same =
@@ -99,7 +96,7 @@ same_shape d shape shape' room small same =
     omega arith
 
 ordered : (start start' shape shape' : ℕ) → start ≤ start' → start' ≤ 212 → shape < 2 ^ 12 → shape' < 2 ^ 12 →
-    left_by start shape ≡ left_by start' shape' → shape * 2 ^ start ≡ shape' * 2 ^ start'
+    error_burst_syndrome start shape ≡ error_burst_syndrome start' shape' → shape * 2 ^ start ≡ shape' * 2 ^ start'
 ordered start start' shape shape' order room small small' same =
     let d = start' - start in
     let parts : 212 - start ≡ d + (212 - start') = omega arith in
@@ -120,7 +117,7 @@ either (suc a) (suc b) = elim (either a b) [ inl h ↦ inl (omega arith) | inr h
 
 -- error bursts with the same syndrome are the same
 pub same_burst : (start start' shape shape' : ℕ) → start ≤ 212 → start' ≤ 212 → shape < 2 ^ 12 → shape' < 2 ^ 12 →
-    left_by start shape ≡ left_by start' shape' → shape * 2 ^ start ≡ shape' * 2 ^ start'
+    error_burst_syndrome start shape ≡ error_burst_syndrome start' shape' → shape * 2 ^ start ≡ shape' * 2 ^ start'
 same_burst start start' shape shape' room room' small small' same =
     elim (either start start') [
       | inl order ↦ ordered start start' shape shape' order room' small small' same

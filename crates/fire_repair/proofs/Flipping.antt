@@ -1,37 +1,28 @@
--- The loop that inverts the bits of an error burst adds it to the word.
-use Rattle.std.proofs.Common.{◌≡◌, ◌≢◌, ℕ, ◌+◌, ◌-◌, ◌*◌, ◌/◌, ◌%◌, ◌^◌, ◌<◌, ◌≤◌, List}
-use Rattle.std.proofs.Common.{length, get_or, bit_and, bit_xor, refl, ap, sym, subst, ◌∙◌, arith, below_more, get_or-set_other}
-use Rattle.std.proofs.Common.{get_or-set_same, inl, inr}
+-- The loop that inverts the bits of an error burst adds the error burst to the word.
+use Rattle.std.proofs.Common.{◌≡◌, ◌≢◌, ℕ, ◌+◌, ◌-◌, ◌*◌, ◌/◌, ◌%◌, ◌^◌, ◌<◌, ◌≤◌, List, length, get_or, bit_and, bit_xor, refl, ap, sym}
+use Rattle.std.proofs.{Common.{subst, ◌∙◌, arith, below_more, get_or-set_other, get_or-set_same, inl, inr}, Math.ListN.set}
+use Rattle.std.proofs.lemmas.{Nat.{and_le_r, Bits.shr_and_one}, Grind.same_number_lists, List.{length-set, Elements.All-set}}
 use Rattle.std.specs.Int.{bit_at}
-use Rattle.std.proofs.Math.ListN.{set}
-use Rattle.std.proofs.lemmas.Nat.{and_le_r}
-use Rattle.std.proofs.lemmas.Nat.Bits.{shr_and_one}
-use Rattle.std.proofs.lemmas.Grind.{same_number_lists}
-use Rattle.std.proofs.lemmas.List.{length-set}
-use Rattle.std.proofs.lemmas.List.Elements.{All-set}
-use Rattle.bit_blocks.specs.Bits.{IsBit, AllBits, add_bits}
-use Rattle.bit_blocks.proofs.Lemmas.{bit_xor-bits, get_or-add_bits, length-add_bits}
-use Rattle.fire_code.proofs.Lemmas.{length-register_bits}
-use Rattle.fire_repair.specs.Bursts.{burst}
-use Rattle.fire_repair.proofs.BurstBits.{burst_before, burst_from, burst_after}
-use Rattle.fire_repair.proofs.Nearness.{either_side}
+use Rattle.fire_code.{specs.bit_blocks.Bits.{IsBit, AllBits, xor_bits}, proofs.bit_blocks.Lemmas.{bit_xor-bits, get_or-xor_bits}}
+use Rattle.fire_code.proofs.{bit_blocks.Lemmas.length-xor_bits, Lemmas.length-register_bits}
+use Rattle.fire_repair.{specs.Bursts.burst, proofs.{BurstBits.{burst_before, burst_from, burst_after}, Nearness.either_side}}
 
 -- adding 0 leaves a bit unchanged
 same_bit : (a b : ℕ) → a ≤ 1 → b ≡ 0 → a ≡ (a + b) % 2
 same_bit a b bit none = omega arith
 
--- after `count` steps the burst is added to the bits before `start + count`, and to no later one
+-- after `count` steps, the error burst has been added to the bits before bit `start + count`, and to no later bit
 pub record IsFlipped (w word : List ℕ) (start shape count : ℕ) : Type 0 where
   pub long : length word ≡ 224
   pub bits : AllBits word
-  pub flip_burst : (k : ℕ) → k < 224 → k < start + count → get_or word k 0 ≡ (get_or w k 0 + get_or (burst start shape) k 0) % 2
+  pub flip_error_burst : (k : ℕ) → k < 224 → k < start + count → get_or word k 0 ≡ (get_or w k 0 + get_or (burst start shape) k 0) % 2
   pub rest : (k : ℕ) → start + count ≤ k → get_or word k 0 ≡ get_or w k 0
 
 pub flipped_none : (w : List ℕ) (start shape : ℕ) → length w ≡ 224 → AllBits w → IsFlipped w w start shape 0
 flipped_none w start shape ew bw = record {
   long = ew;
   bits = bw;
-  flip_burst = λ k within before. same_bit (get_or w k 0) _ (bw k 0 (omega arith)) (burst_before start shape k (omega arith) within);
+  flip_error_burst = λ k within before. same_bit (get_or w k 0) _ (bw k 0 (omega arith)) (burst_before start shape k (omega arith) within);
   rest = λ k after. refl;
 }
 
@@ -57,24 +48,24 @@ flipped_more w word next start shape i bit ew bw room within before read is =
     record {
       long = ap length is ∙ length-set word place _ ∙ long;
       bits = subst AllBits (sym is) (All-set IsBit word place _ is_bit before.bits);
-      flip_burst = λ k lt upto.
+      flip_error_burst = λ k lt upto.
           below_more (λ k. k < 224 → get_or next k 0 ≡ (get_or w k 0 + get_or (burst start shape) k 0) % 2) place
-          (λ k earlier lt. let other : k ≢ place = omega arith in others k other ∙ before.flip_burst k lt earlier)
+          (λ k earlier lt. let other : k ≢ place = omega arith in others k other ∙ before.flip_error_burst k lt earlier)
           (λ lt. value) k (omega arith) lt;
       rest = λ k after. let other : k ≢ place = omega arith in others k other ∙ before.rest k (omega arith);
     }
 
 pub flipped_all : (w word : List ℕ) (start shape count : ℕ) → length w ≡ 224 → AllBits w → shape < 2 ^ 12 → 12 ≤ count →
-    IsFlipped w word start shape count → word ≡ add_bits w (burst start shape)
+    IsFlipped w word start shape count → word ≡ xor_bits w (burst start shape)
 flipped_all w word start shape count ew bw small all after =
     let same : length w ≡ length (burst start shape) = ew ∙ sym (length-register_bits 224 (shape * 2 ^ start)) in
     let long = after.long in
-    same_number_lists word (add_bits w (burst start shape)) (long ∙ sym (length-add_bits w (burst start shape) same ∙ ew))
+    same_number_lists word (xor_bits w (burst start shape)) (long ∙ sym (length-xor_bits w (burst start shape) same ∙ ew))
     (λ k lt.
     let within : k < 224 = omega arith in
     elim (either_side k (start + count)) [
-      | inl before ↦ after.flip_burst k within before
+      | inl before ↦ after.flip_error_burst k within before
       | inr past ↦ after.rest k past
           ∙ same_bit (get_or w k 0) _ (bw k 0 (omega arith)) (burst_after start shape k (omega arith) within small)
     ]
-    ∙ sym (get_or-add_bits w (burst start shape) k same (omega arith)))
+    ∙ sym (get_or-xor_bits w (burst start shape) k same (omega arith)))

@@ -1,11 +1,11 @@
 mod BurstBits
-mod Edges
+mod AreFirstAndLastBit
 mod Exhausted
-mod Leavings
+mod BurstSyndromes
 pub mod Lemmas
 mod Moves
 mod Nearness
 mod Repairing
 mod Flipping
-mod Walks
+mod BurstSearch
 mod Words

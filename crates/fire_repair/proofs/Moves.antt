@@ -1,8 +1,6 @@
 -- Multiplication of a register by D modulo the generator is invertible.
-use Rattle.std.proofs.Common.{◌≡◌, ℕ, zero, suc, ◌+◌, ◌*◌, ◌/◌, ◌%◌, ◌^◌, ◌<◌, ◌≤◌, refl, ap, ap₂}
-use Rattle.std.proofs.Common.{sym, ◌∙◌, arith, bit_xor, zero-add}
-use Rattle.std.specs.Int.Bits.{xor_assoc, xor_self, xor_zero_r}
-use Rattle.std.proofs.lemmas.Nat.{xor_shr, xor_lt}
+use Rattle.std.proofs.Common.{◌≡◌, ℕ, zero, suc, ◌+◌, ◌*◌, ◌/◌, ◌%◌, ◌^◌, ◌<◌, ◌≤◌, refl, ap, ap₂, sym, ◌∙◌, arith, bit_xor, zero-add}
+use Rattle.std.{proofs.lemmas.Nat.{xor_shr, xor_lt}, specs.Int.Bits.{xor_assoc, xor_self, xor_zero_r}}
 use Rattle.fire_code.proofs.Lemmas.{lowest_of_xor}
 use Rattle.fire_repair.specs.Bursts.{shift_once, shift}
 
@@ -13,7 +11,7 @@ walked register = bit_xor (2 * register) (register / 2 ^ 39 * 1236959117313)
 same_halves : (x y : ℕ) → x / 2 ≡ y / 2 → x % 2 ≡ y % 2 → x ≡ y
 same_halves x y half lowest = omega arith
 
--- the upper bits and the lowest bit of a register divided by D; the carry is its highest bit
+-- the upper bits of a register divided by D; the carry is the register's highest bit
 half_of_walked : (register carry : ℕ) → bit_xor (2 * register) (carry * 1236959117313) / 2 ≡ bit_xor register (carry * 1236959117313 / 2)
 half_of_walked register carry =
     let half : 2 * register / 2 ≡ register = omega arith in
@@ -62,7 +60,7 @@ walked-moved_once register within =
 pub moved_once_within : (register : ℕ) → register < 2 ^ 40 → shift_once register < 2 ^ 40
 moved_once_within register within = xor_lt 40 (register / 2) (register % 2 * 618479558656) (omega arith) (omega arith)
 
--- the highest bits cancel
+-- the register divided by D still has 40 bits, since the highest bits cancel
 within_of_walked : (register carry : ℕ) → register < 2 ^ 40 → carry ≡ register / 2 ^ 39 →
     bit_xor (2 * register) (carry * 1236959117313) < 2 ^ 40
 within_of_walked register zero within e = xor_lt 40 (2 * register) 0 (omega arith) (omega arith)

@@ -1,14 +1,11 @@
--- Words that differ only within twelve consecutive bits differ by an error burst.
-use Rattle.std.proofs.Common.{◌≡◌, ◌≢◌, ℕ, zero, suc, ◌+◌, ◌-◌, ◌*◌, ◌/◌, ◌%◌, ◌^◌, ◌<◌}
-use Rattle.std.proofs.Common.{◌≤◌, List, length, get_or, min, refl, ap, sym, ◌∙◌, subst, arith, ◌⊎◌, inl, inr}
+-- If two words differ only within twelve consecutive bits, one is the other plus an error burst.
+use Rattle.std.proofs.Common.{◌≡◌, ◌≢◌, ℕ, zero, suc, ◌+◌, ◌-◌, ◌*◌, ◌/◌, ◌%◌, ◌^◌, ◌<◌, ◌≤◌, List, length, get_or, min, refl, ap, sym, ◌∙◌}
+use Rattle.std.proofs.{Common.{subst, arith, ◌⊎◌, inl, inr}, lemmas.Nat.Bits.{bit_at-zero, bit_at_above, same_from_bits}}
 use Rattle.std.specs.Int.{bit_at}
-use Rattle.std.proofs.lemmas.Nat.Bits.{bit_at-zero, bit_at_above, same_from_bits}
-use Rattle.bit_blocks.specs.Bits.{AllBits, add_bits}
-use Rattle.bit_blocks.proofs.Lemmas.{AllBits-add_bits, add_bits_again, get_or-add_bits, length-add_bits}
-use Rattle.fire_code.specs.Registers.{register_bits}
-use Rattle.fire_code.proofs.Lemmas.{get_or-register_bits, number_of, number_of_within, register_bits-number_of}
-use Rattle.fire_repair.specs.Bursts.{burst}
-use Rattle.fire_repair.proofs.BurstBits.{bit_before, bit_from, bit_at-shr}
+use Rattle.fire_code.{specs.{bit_blocks.Bits.{AllBits, xor_bits}, Registers.register_bits}, proofs.bit_blocks.Lemmas.AllBits-xor_bits}
+use Rattle.fire_code.proofs.{bit_blocks.Lemmas.{add_bits_again, get_or-xor_bits, length-xor_bits}, Lemmas.{get_or-register_bits, number_of}}
+use Rattle.fire_code.proofs.Lemmas.{number_of_within, register_bits-number_of}
+use Rattle.fire_repair.{specs.Bursts.burst, proofs.BurstBits.{bit_before, bit_from, bit_at-shr}}
 
 pub either_side : (a b : ℕ) → (a < b) ⊎ (b ≤ a)
 either_side a zero = inr (omega arith)
@@ -23,7 +20,7 @@ sum_of_same (suc a) zero _ _ same = absurd (same (λ e. omega (arith, e)))
 sum_of_same (suc (suc a)) b h _ same = absurd (omega arith)
 sum_of_same (suc a) (suc (suc b)) _ h same = absurd (omega arith)
 
--- a number with no bit below `start` is a shifted number
+-- a number whose bits below `start` are 0 is another number shifted by `start` bits
 number_is : (number start : ℕ) → ((k : ℕ) → k < start → bit_at number k ≡ 0) → number / 2 ^ start * 2 ^ start ≡ number
 number_is number start before =
     same_from_bits (number / 2 ^ start * 2 ^ start) number (λ k.
@@ -48,21 +45,21 @@ pub record IsBurst (w v : List ℕ) : Type 0 where
   pub shape : ℕ
   pub room : start ≤ 212
   pub small : shape < 2 ^ 12
-  pub sum : v ≡ add_bits w (burst start shape)
+  pub sum : v ≡ xor_bits w (burst start shape)
 
 pub burst_between : (w v : List ℕ) (start : ℕ) → length w ≡ 224 → AllBits w → length v ≡ 224 → AllBits v →
     ((k : ℕ) → get_or w k 0 ≢ get_or v k 0 → (start ≤ k) × (k < start + 12)) → IsBurst w v
 burst_between w v start ew bw ev bv near =
-    let e = add_bits w v in
-    let long : length e ≡ 224 = length-add_bits w v (ew ∙ sym ev) ∙ ew in
+    let e = xor_bits w v in
+    let long : length e ≡ 224 = length-xor_bits w v (ew ∙ sym ev) ∙ ew in
     let number = number_of e in
     let places : register_bits 224 number ≡ e =
-    ap (λ n. register_bits n number) (sym long) ∙ register_bits-number_of e (AllBits-add_bits w v) in
-    let within : number < 2 ^ 224 = subst (λ n. number < 2 ^ n) long (number_of_within e (AllBits-add_bits w v)) in
+    ap (λ n. register_bits n number) (sym long) ∙ register_bits-number_of e (AllBits-xor_bits w v) in
+    let within : number < 2 ^ 224 = subst (λ n. number < 2 ^ n) long (number_of_within e (AllBits-xor_bits w v)) in
     let none : (k : ℕ) → ((start ≤ k) × (k < start + 12) → ⊥) → bit_at number k ≡ 0 = λ k far.
     elim (either_side k 224) [
       | inl lt ↦ sym (get_or-register_bits 224 number k lt) ∙ ap (λ x. get_or x k 0) places
-          ∙ get_or-add_bits w v k (ew ∙ sym ev) (omega arith)
+          ∙ get_or-xor_bits w v k (ew ∙ sym ev) (omega arith)
           ∙ sum_of_same (get_or w k 0) (get_or v k 0) (bw k 0 (omega arith)) (bv k 0 (omega arith)) (λ differs. far (near k differs))
       | inr ge ↦ bit_at_above number 224 k within ge
     ] in
@@ -77,5 +74,5 @@ burst_between w v start ew bw ev bv near =
             | inl lt ↦ none k (λ at. omega (arith, at.1))
             | inr ge ↦ bit_at_above number 224 k within ge
           ]);
-      sum = sym (ap (λ n. add_bits w (register_bits 224 n)) is ∙ ap (λ x. add_bits w x) places ∙ add_bits_again w v bv (ev ∙ sym ew));
+      sum = sym (ap (λ n. xor_bits w (register_bits 224 n)) is ∙ ap (λ x. xor_bits w x) places ∙ add_bits_again w v bv (ev ∙ sym ew));
     }

@@ -3,33 +3,33 @@
 ghost use Rattle.std.specs.Prelude.{◌≡◌, ◌≢◌, ℕ, ◌+◌, ◌*◌, ◌/◌, ◌%◌, ◌<◌, ◌≤◌, ◌^◌, List};
 ghost use Rattle.std.specs.Prelude.{length, IfSome, IsNone};
 ghost use Rattle.std.specs.Int.{bit_at};
-ghost use Rattle.bit_blocks.specs.Bits.{AllBits, add_bits};
-ghost use Rattle.fire_repair.specs.Bursts.{burst, left_by};
+ghost use Rattle.fire_code.specs.bit_blocks.Bits.{AllBits, xor_bits};
+ghost use Rattle.fire_repair.specs.Bursts.{burst, error_burst_syndrome};
 
-use bit_blocks::Bits;
+use fire_code::Bits;
 
-// D^40 + D^26 + D^23 + D^17 + D^3 + 1; the least significant bit is the coefficient of D^40
+// The generator D^40 + D^26 + D^23 + D^17 + D^3 + 1. The least significant bit is the coefficient of D^40.
 const GENERATOR: u64 = 0x120_0082_4001;
 
-/// An error burst within twelve bits: bit `i` of `shape` is the error at bit `start + i` of the word.
+/// An error burst within twelve bits: bit `i` of `shape` is 1 if bit `start + i` of the word is wrong.
 #[derive(Clone, Copy)]
-pub(crate) struct Burst {
+pub(crate) struct ErrorBurst {
     pub(crate) start: usize,
     pub(crate) shape: u64,
 }
 
-/// The last error burst with this syndrome, or `None` if there is none.
-pub(crate) fn find_burst(syndrome: u64) -> Option<Burst>
+/// The error burst with this syndrome, with the greatest `start` that it can have, or `None` if there is none.
+pub(crate) fn find_error_burst(syndrome: u64) -> Option<ErrorBurst>
     requires { syndrome < 2 ^ 40 }
     ensures start { IfSome result (λ found. found.start ≤ 212) }
     ensures shape { IfSome result (λ found. found.shape < 2 ^ 12) }
-    ensures leaves { IfSome result (λ found. left_by found.start found.shape ≡ syndrome) }
-    ensures none { IsNone result → (start shape : ℕ) → start ≤ 212 → shape < 2 ^ 12 → left_by start shape ≢ syndrome }
+    ensures leaves { IfSome result (λ found. error_burst_syndrome found.start found.shape ≡ syndrome) }
+    ensures none { IsNone result → (start shape : ℕ) → start ≤ 212 → shape < 2 ^ 12 → error_burst_syndrome start shape ≢ syndrome }
 {
     let mut register = syndrome;
     for start in (0..213).rev() {
         if register & 0xfff_ffff == 0 {
-            return Some(Burst {
+            return Some(ErrorBurst {
                 start,
                 shape: register >> 28,
             });
@@ -39,13 +39,13 @@ pub(crate) fn find_burst(syndrome: u64) -> Option<Burst>
     None
 }
 
-/// The word with the bits of the error burst inverted.
-pub(crate) fn flip_burst(w: &Bits<224>, found: Burst) -> Bits<224>
+/// The word `w` with the bits of the error burst inverted.
+pub(crate) fn flip_error_burst(w: &Bits<224>, found: ErrorBurst) -> Bits<224>
     requires count { length w.now ≡ 224 }
     requires bits { AllBits w.now }
     requires start { found.start ≤ 212 }
     requires shape { found.shape < 2 ^ 12 }
-    ensures { result ≡ add_bits w.now (burst found.start found.shape) }
+    ensures { result ≡ xor_bits w.now (burst found.start found.shape) }
 {
     let mut word = *w;
     for i in 0..12 {
@@ -55,8 +55,8 @@ pub(crate) fn flip_burst(w: &Bits<224>, found: Burst) -> Bits<224>
     word
 }
 
-/// The first and the last wrong bit of a shape, each 0 to 11.
-pub(crate) fn edges(shape: u64) -> (u32, u32)
+/// The indexes of the first and the last wrong bit in a shape, each 0 to 11.
+pub(crate) fn first_and_last_bit(shape: u64) -> (u32, u32)
     requires some { 0 < shape }
     requires twelve { shape < 2 ^ 12 }
     ensures first { bit_at shape result.0 ≡ 1 }

@@ -1,8 +1,8 @@
-//! Properties of repairs as laws: functions with an empty body, called for their contracts.
+//! Properties of repairs as laws: a law is a function with an empty body whose contract states a theorem.
 
-ghost use Rattle.fire_repair.specs.Repairs.{OneRepair};
+ghost use Rattle.fire_repair.specs.Repairs.{RepairIsUnique};
 
-/// Law: each word has at most one repair.
-pub fn law_one_repair()
-    ensures { OneRepair }
+/// Law: 224 received bits have at most one repair.
+pub fn law_repair_is_unique()
+    ensures { RepairIsUnique }
 {}

@@ -1,43 +1,42 @@
-//! The repair of one word.
+//! The repair of one received word of 224 bits.
 ghost use Rattle.std.specs.Prelude.{◌≡◌};
-ghost use Rattle.fire_repair.specs.Answers.{IsAnswer};
+ghost use Rattle.fire_repair.specs.Answers.{IsRepairResult};
 
-use crate::bursts::{edges, find_burst, flip_burst};
-use bit_blocks::Bits;
-use fire_code::xcch_syndrome;
+use crate::bursts::{find_error_burst, first_and_last_bit, flip_error_burst};
+use fire_code::{Bits, xcch_syndrome};
 
 /// The result of `repair`.
 #[derive(Clone, Copy)]
 pub enum RepairAnswer {
-    /// The word is a codeword.
+    /// The received word is a codeword.
     Holds,
-    /// The only codeword that differs within twelve consecutive bits, with the first bit that differs and the number of bits from
-    /// there to the last.
+    /// The received word is not a codeword, and `word` is the only codeword that differs from it within twelve consecutive bits.
+    /// `first` is the first bit that differs, and `span` the number of bits from there to the last that differs.
     Repaired {
         word: Bits<224>,
         first: u8,
         span: u8,
     },
-    /// Neither.
+    /// The received word is not a codeword, and no codeword differs from it only within twelve consecutive bits.
     NoRepair,
 }
 
-/// Repairs 184 information bits and their 40 Fire code bits if the errors lie within twelve consecutive bits. An error burst does not
-/// wrap from the last bit to the first.
+/// Repairs 184 information bits and their 40 Fire code bits if the errors lie within twelve consecutive bits. An error burst may not
+/// wrap around from the last bit to the first.
 pub fn repair(w: &Bits<224>) -> RepairAnswer
-    ensures answer { IsAnswer w.now result }
-    ensures only { (other : RepairAnswer) → IsAnswer w.now other → other ≡ result }
+    ensures answer { IsRepairResult w.now result }
+    ensures only { (other : RepairAnswer) → IsRepairResult w.now other → other ≡ result }
 {
     let syndrome = xcch_syndrome(w);
     if syndrome == 0 {
         return RepairAnswer::Holds;
     }
-    match find_burst(syndrome) {
+    match find_error_burst(syndrome) {
         None => RepairAnswer::NoRepair,
         Some(found) => {
-            let (first, last) = edges(found.shape);
+            let (first, last) = first_and_last_bit(found.shape);
             RepairAnswer::Repaired {
-                word: flip_burst(w, found),
+                word: flip_error_burst(w, found),
                 first: (found.start + first as usize) as u8,
                 span: (last - first + 1) as u8,
             }

@@ -1,22 +1,19 @@
 -- Interleaving is a bijection between coded bits and burst positions, so the coded bits and the bursts determine each other.
-use Rattle.std.proofs.Common.{◌≡◌, ℕ, ◌<◌, List, [], All, length, get_or, ap, sym, ◌∙◌}
-use Rattle.std.proofs.lemmas.List.{same_lists, get_or_default}
+use Rattle.std.proofs.{Common.{◌≡◌, ℕ, ◌<◌, List, [], All, length, get_or, ap, sym, ◌∙◌}, lemmas.List.{same_lists, get_or_default}}
 use Rattle.bit_blocks.specs.Bits.{AllBits}
-use Rattle.interleave.specs.Bursts.{IsInterleaved}
-use Rattle.interleave.specs.Places.{burst_of, place_of}
-use Rattle.interleave.specs.ColumnPlaces.{bit_at}
-use Rattle.interleave.proofs.Rows.{bit_at-stands}
+use Rattle.interleave.specs.{Bursts.IsInterleaved, Places.{burst_of, position_in_burst}, ColumnPlaces.coded_index_at}
+use Rattle.interleave.proofs.Rows.{coded_index_at-stands}
 
 -- the coded bit at position j of burst b
-pub coded_bit_at : (b j : ℕ) → b < 4 → j < 114 → (k : ℕ) × (k < 456) × (burst_of k ≡ b) × (place_of k ≡ j)
+pub coded_bit_at : (b j : ℕ) → b < 4 → j < 114 → (k : ℕ) × (k < 456) × (burst_of k ≡ b) × (position_in_burst k ≡ j)
 coded_bit_at b j hb hj =
-    let stands = bit_at-stands b j hb hj in
-    (bit_at b j, stands.within, stands.burst, stands.place)
+    let stands = coded_index_at-stands b j hb hj in
+    (coded_index_at b j, stands.within, stands.burst, stands.place)
 
 module _ {X : Type 0} where
   -- each value in the bursts is that of a coded bit
   pub from_coded : (coded : List X) (bursts : List (List X)) → IsInterleaved coded bursts → (b j : ℕ) (d : X) → b < 4 → j < 114 →
-      (k : ℕ) × (k < 456) × (burst_of k ≡ b) × (place_of k ≡ j) × (get_or (get_or bursts b []) j d ≡ get_or coded k d)
+      (k : ℕ) × (k < 456) × (burst_of k ≡ b) × (position_in_burst k ≡ j) × (get_or (get_or bursts b []) j d ≡ get_or coded k d)
   from_coded coded bursts whole b j d hb hj =
       let found = coded_bit_at b j hb hj in
       let holds = whole.places found.0 d found.1 in

@@ -1,29 +1,24 @@
--- `Columns` holds the coded bits by columns, and each row of a burst is one bit of consecutive columns.
-use Rattle.std.proofs.Common.{◌≡◌, ℕ, ◌+◌, ◌-◌, ◌*◌, ◌/◌, ◌%◌, ◌^◌, ◌<◌, ◌≤◌, List, ◌++◌}
-use Rattle.std.proofs.Common.{map, length, length-append, get_or, take, drop, replicate, bit_and, sym, ap, ap₂, ◌∙◌, arith, inl}
-use Rattle.std.proofs.Common.{inr, zero-add}
-use Rattle.std.proofs.lemmas.Bool.{cases_lt}
-use Rattle.std.specs.List.{range_with_len}
-use Rattle.std.proofs.lemmas.List.{get_or-take, length-take, get_or-map, get_or_append_left, get_or-append_right}
-use Rattle.std.proofs.lemmas.List.FromFn.{get_or-map-range_with_len, length-map-range_with_len}
-use Rattle.std.proofs.lemmas.Nat.{and_mask}
-use Rattle.std.proofs.lemmas.Simd.{length-zip2, get_or-chunk, length-chunk, put_chunk_is}
+-- `Columns` holds the coded bits in columns, and each row of a burst is the same bit of consecutive columns.
+use Rattle.std.proofs.Common.{◌≡◌, ℕ, ◌+◌, ◌-◌, ◌*◌, ◌/◌, ◌%◌, ◌^◌, ◌<◌, ◌≤◌, List, ◌++◌, map, length, length-append, get_or, take, drop}
+use Rattle.std.proofs.{Common.{replicate, bit_and, sym, ap, ap₂, ◌∙◌, arith, inl, inr, zero-add}, lemmas.{Bool.cases_lt, List.get_or-take}}
+use Rattle.std.proofs.lemmas.List.{length-take, get_or-map, get_or_append_left, get_or-append_right, FromFn.get_or-map-range_with_len}
+use Rattle.std.proofs.lemmas.{List.FromFn.length-map-range_with_len, Nat.and_mask, Simd.{length-zip2, get_or-chunk, length-chunk}}
+use Rattle.std.{proofs.lemmas.Simd.put_chunk_is, specs.List.range_with_len}
 use borrow.Rule.Slice.PartMut.{put_mid}
 use lib.Lanes.{zip2, chunk, put_chunk, pick_l}
-use Rattle.bit_blocks.specs.Packed.{ArePacked, bit_of, packed_place}
-use Rattle.interleave.specs.ColumnPlaces.{column_bit, bit_at}
-use Rattle.interleave.specs.Columns.{AreColumns}
+use Rattle.bit_blocks.specs.Packed.{AreCodedBitsPacked, bit_of, packed_bit_index}
+use Rattle.interleave.specs.{ColumnPlaces.{coded_bit_of_column, coded_index_at}, Columns.AreColumnsOfCodedBits}
 use Rattle.interleave.proofs.JoinedLanes.{lane_by}
 
--- ---- the columns
+-- ---- the octets of the columns
 
--- the octet that holds each column
+-- for each column, the index of the octet that holds it in the packed coded bits
 abbrev order : List ℕ
 order = map (λ q. 8 * q % 57) (range_with_len 0 64)
 
-pub in_order : (packed : List ℕ) → length packed ≡ 64 → (q : ℕ) → q < 64 →
+pub columns_in_order : (packed : List ℕ) → length packed ≡ 64 → (q : ℕ) → q < 64 →
     get_or (pick_l 0 (packed ++ packed) order) q 0 ≡ get_or packed (8 * q % 57) 0
-in_order packed long q hq =
+columns_in_order packed long q hq =
     let at : get_or order q 0 ≡ 8 * q % 57 = get_or-map-range_with_len (λ q. 8 * q % 57) 0 64 q q 0 hq (omega arith) in
     let within : 8 * q % 57 < length packed = omega arith in
     let here : q < length order = omega (arith, length-map-range_with_len (λ q. 8 * q % 57) 0 64) in
@@ -49,13 +44,13 @@ module _ (n m : ℕ) (first rest second : List ℕ) (within : n ≤ length first
       ∙ ap (λ k. get_or (second ++ drop m (drop n (first ++ rest))) k 0) back
       ∙ get_or_append_left second _ 0 q hq
 
-pub AreColumns-twice : (coded packed columns octets : List ℕ) → ArePacked 57 coded packed →
+pub AreColumnsOfCodedBits-repeat_columns : (coded packed columns octets : List ℕ) → AreCodedBitsPacked 57 coded packed →
     ((q : ℕ) → q < 64 → get_or columns q 0 ≡ get_or packed (8 * q % 57) 0) →
     ((q : ℕ) → q < 57 → get_or octets q 0 ≡ get_or columns q 0) →
-    ((q : ℕ) → q < 64 → get_or octets (57 + q) 0 ≡ get_or columns q 0) → AreColumns coded octets
-unfolding column_bit
-AreColumns-twice coded packed columns octets are ordered front back = record {
-  each = λ q r hq hr. ap (λ octet. bit_of octet (packed_place r)) (column q hq) ∙ are (8 * q % 57) r (omega arith) hr;
+    ((q : ℕ) → q < 64 → get_or octets (57 + q) 0 ≡ get_or columns q 0) → AreColumnsOfCodedBits coded octets
+unfolding coded_bit_of_column
+AreColumnsOfCodedBits-repeat_columns coded packed columns octets are ordered front back = record {
+  each = λ q r hq hr. ap (λ octet. bit_of octet (packed_bit_index r)) (column q hq) ∙ are (8 * q % 57) r (omega arith) hr;
 } where
   column : (q : ℕ) → q < 121 → get_or octets q 0 ≡ get_or packed (8 * q % 57) 0
   column q hq =
@@ -70,18 +65,18 @@ AreColumns-twice coded packed columns octets are ordered front back = record {
             ∙ ap (λ n. get_or packed n 0) turn
       ]
 
--- ---- a burst
+-- ---- the bits of a burst, read from the columns
 
--- the next position of a row is the next column
-pub row_bit : (coded columns : List ℕ) (b place p : ℕ) → AreColumns coded columns → b < 4 → place ≤ 90 → p < 16 →
+-- the next position of a row comes from the next column
+pub row_bit : (coded columns : List ℕ) (b place p : ℕ) → AreColumnsOfCodedBits coded columns → b < 4 → place ≤ 90 → p < 16 →
     let row = b + 4 * (place % 2) in
-    bit_of (get_or columns (8 * row + place / 2 + p) 0) (packed_place row) ≡ get_or coded (bit_at b (place + 2 * p)) 0
-unfolding bit_at
+    bit_of (get_or columns (8 * row + place / 2 + p) 0) (packed_bit_index row) ≡ get_or coded (coded_index_at b (place + 2 * p)) 0
+unfolding coded_index_at
 row_bit coded columns b place p are hb hj hp =
     let row : ℕ = b + 4 * (place % 2) in
     let same : row ≡ b + 4 * ((place + 2 * p) % 2) = omega arith in
     let column : 8 * row + place / 2 + p ≡ 8 * (b + 4 * ((place + 2 * p) % 2)) + (place + 2 * p) / 2 = omega arith in
-    are.each (8 * row + place / 2 + p) row (omega arith) (omega arith) ∙ ap (λ k. get_or coded k 0) (ap₂ column_bit column same)
+    are.each (8 * row + place / 2 + p) row (omega arith) (omega arith) ∙ ap (λ k. get_or coded k 0) (ap₂ coded_bit_of_column column same)
 
 -- bit i of each of sixteen octets
 module _ (octets : List ℕ) (i : ℕ) (long : length octets ≡ 16) where
@@ -110,24 +105,24 @@ module _ (octets : List ℕ) (i : ℕ) (long : length octets ≡ 16) where
 abbrev turns : List ℕ
 turns = map (λ i. i / 2 + 16 * (i % 2)) (range_with_len 0 32)
 
-pub in_turns : (first second : List ℕ) (i : ℕ) → i < 32 →
+pub interleave_lanes : (first second : List ℕ) (i : ℕ) → i < 32 →
     get_or (pick_l 0 (first ++ second) turns) i 0 ≡ get_or (first ++ second) (i / 2 + 16 * (i % 2)) 0
-in_turns first second i hi =
+interleave_lanes first second i hi =
     let at : get_or turns i 0 ≡ i / 2 + 16 * (i % 2) = get_or-map-range_with_len (λ i. i / 2 + 16 * (i % 2)) 0 32 i i 0 hi (omega arith) in
     get_or-map (λ k. get_or (first ++ second) k 0) turns i 0 0 (omega (arith, length-map-range_with_len (λ i. i / 2 + 16 * (i % 2)) 0 32))
     ∙ ap (λ k. get_or (first ++ second) k 0) at
 
--- a list of the vector's length is overwritten whole
+-- a list of the same length as the vector is overwritten completely
 pub written_whole : (old lanes : List ℕ) (i : ℕ) → length old ≡ 32 → length lanes ≡ 32 → i < 32 →
     get_or (put_chunk 0 old lanes) i 0 ≡ get_or lanes i 0
 written_whole old lanes i o l hi =
     ap (λ xs. get_or xs i 0) (put_chunk_is 0 old lanes (omega arith)) ∙ get_or_append_left lanes _ 0 i (omega arith)
 
--- two rows interleaved are consecutive positions of a burst
+-- two rows, interleaved, are consecutive positions of a burst
 pub turned_places : (coded first second : List ℕ) (b from i : ℕ) → length first ≡ 16 → i < 32 →
-    ((p : ℕ) → p < 16 → get_or first p 0 ≡ get_or coded (bit_at b (from + 2 * p)) 0) →
-    ((p : ℕ) → p < 16 → get_or second p 0 ≡ get_or coded (bit_at b (from + 1 + 2 * p)) 0) →
-    get_or (first ++ second) (i / 2 + 16 * (i % 2)) 0 ≡ get_or coded (bit_at b (from + i)) 0
+    ((p : ℕ) → p < 16 → get_or first p 0 ≡ get_or coded (coded_index_at b (from + 2 * p)) 0) →
+    ((p : ℕ) → p < 16 → get_or second p 0 ≡ get_or coded (coded_index_at b (from + 1 + 2 * p)) 0) →
+    get_or (first ++ second) (i / 2 + 16 * (i % 2)) 0 ≡ get_or coded (coded_index_at b (from + i)) 0
 turned_places coded first second b from i long hi even odd =
     let half : i / 2 < 16 = omega arith in
     elim (cases_lt (i % 2) 1) [
@@ -137,21 +132,21 @@ turned_places coded first second b from i long hi even odd =
           ap (λ k. get_or (first ++ second) k 0) here
           ∙ get_or_append_left first second 0 (i / 2) (omega arith)
           ∙ even (i / 2) half
-          ∙ ap (λ j. get_or coded (bit_at b j) 0) place
+          ∙ ap (λ j. get_or coded (coded_index_at b j) 0) place
       | inr upper ↦
           let here : i / 2 + 16 * (i % 2) - 16 ≡ i / 2 = omega arith in
           let place : from + 1 + 2 * (i / 2) ≡ from + i = omega arith in
           get_or-append_right first second 16 (i / 2 + 16 * (i % 2)) 0 long (omega arith)
           ∙ ap (λ k. get_or second k 0) here
           ∙ odd (i / 2) half
-          ∙ ap (λ j. get_or coded (bit_at b j) 0) place
+          ∙ ap (λ j. get_or coded (coded_index_at b j) 0) place
     ]
 
--- a half is written as positions 0 to 31, then from 32 on
+-- half a burst is written in two parts: positions 0 to 31, and from position 32 on
 pub half_place : (coded front rest back : List ℕ) (b half m i : ℕ) → length front ≡ 32 → length back ≡ 32 → i < 57 →
-    ((j : ℕ) → j < 32 → get_or front j 0 ≡ get_or coded (bit_at b (57 * half + j)) 0) →
-    ((j : ℕ) → j < 32 → get_or back j 0 ≡ get_or coded (bit_at b (57 * half + 32 + j)) 0) →
-    get_or (put_mid 32 m (front ++ rest) back) i 0 ≡ get_or coded (bit_at b (57 * half + i)) 0
+    ((j : ℕ) → j < 32 → get_or front j 0 ≡ get_or coded (coded_index_at b (57 * half + j)) 0) →
+    ((j : ℕ) → j < 32 → get_or back j 0 ≡ get_or coded (coded_index_at b (57 * half + 32 + j)) 0) →
+    get_or (put_mid 32 m (front ++ rest) back) i 0 ≡ get_or coded (coded_index_at b (57 * half + i)) 0
 half_place coded front rest back b half m i long long' hi first second =
     elim (cases_lt i 32) [
       | inl lower ↦ written_before 32 m front rest back (omega arith) i lower ∙ first i (omega arith)
@@ -161,5 +156,5 @@ half_place coded front rest back b half m i long long' hi first second =
           ap (λ k. get_or (put_mid 32 m (front ++ rest) back) k 0) (sym same)
           ∙ written_behind 32 m front rest back (omega arith) (i - 32) (omega arith)
           ∙ second (i - 32) (omega arith)
-          ∙ ap (λ j. get_or coded (bit_at b j) 0) place
+          ∙ ap (λ j. get_or coded (coded_index_at b j) 0) place
     ]

@@ -1,19 +1,15 @@
--- Every list of 456 coded bits can be interleaved, and every four bursts can be deinterleaved.
-use Rattle.std.proofs.Common.{◌≡◌, ℕ, ◌<◌, List, [], map, length, get_or, ap, sym, ◌∙◌, arith, subst}
-use Rattle.std.specs.List.{All, range_with_len}
-use Rattle.std.proofs.lemmas.List.{get_or_default, get_or-map, length-map}
-use Rattle.std.proofs.lemmas.List.FromFn.{get_or-map-range_with_len, length-map-range_with_len}
-use Rattle.interleave.specs.Places.{burst_of, place_of}
-use Rattle.interleave.specs.Bursts.{IsInterleaved}
-use Rattle.interleave.specs.ColumnPlaces.{bit_at}
-use Rattle.interleave.proofs.Rows.{bit_at-of}
-use Rattle.interleave.proofs.WholeBursts.{burst_of-below, place_of-below}
+-- Any 456 coded bits can be interleaved, and any four bursts can be deinterleaved.
+use Rattle.std.proofs.{Common.{◌≡◌, ℕ, ◌<◌, List, [], map, length, get_or, ap, sym, ◌∙◌, arith, subst}, lemmas.List.get_or_default}
+use Rattle.std.{proofs.lemmas.List.{get_or-map, length-map, FromFn.{get_or-map-range_with_len, length-map-range_with_len}}, specs.List.All}
+use Rattle.std.specs.List.{range_with_len}
+use Rattle.interleave.specs.{Places.{burst_of, position_in_burst}, Bursts.IsInterleaved, ColumnPlaces.coded_index_at}
+use Rattle.interleave.proofs.{Rows.coded_index_at-of, WholeBursts.{burst_of-below, position_in_burst-below}}
 
 -- ---- interleaving
 
 -- the coded bits of burst b, by position
 part_of : List ℕ → ℕ → List ℕ
-part_of c b = map (λ j. get_or c (bit_at b j) 0) (range_with_len 0 114)
+part_of c b = map (λ j. get_or c (coded_index_at b j) 0) (range_with_len 0 114)
 
 parts_of : List ℕ → List (List ℕ)
 parts_of c = map (part_of c) (range_with_len 0 4)
@@ -28,14 +24,14 @@ some_spread c count = (
     each_count = λ b d h.
         let within : b < 4 = subst (λ n. b < n) (length-map-range_with_len (part_of c) 0 4) h in
         ap length (get_or-map-range_with_len (part_of c) 0 4 b b d within (omega arith))
-        ∙ length-map-range_with_len (λ j. get_or c (bit_at b j) 0) 0 114;
+        ∙ length-map-range_with_len (λ j. get_or c (coded_index_at b j) 0) 0 114;
     places = λ k d within.
         let b = burst_of k in
-        let j = place_of k in
+        let j = position_in_burst k in
         let here : k < length c = subst (λ n. k < n) (sym count) within in
         ap (λ bits. get_or bits j d) (get_or-map-range_with_len (part_of c) 0 4 b b [] (burst_of-below k) (omega arith))
-        ∙ get_or-map-range_with_len (λ i. get_or c (bit_at b i) 0) 0 114 j j d (place_of-below k) (omega arith)
-        ∙ ap (λ i. get_or c i 0) (bit_at-of k within)
+        ∙ get_or-map-range_with_len (λ i. get_or c (coded_index_at b i) 0) 0 114 j j d (position_in_burst-below k) (omega arith)
+        ∙ ap (λ i. get_or c i 0) (coded_index_at-of k within)
         ∙ get_or_default c k 0 d here;
   },
 )
@@ -45,7 +41,7 @@ some_spread c count = (
 module _ {X : Type 0} (none : X) (parts : List (List X)) (four : length parts ≡ 4) (each : All (λ part. length part ≡ 114) parts) where
   -- the value of coded bit k in the bursts
   held : ℕ → X
-  held k = get_or (get_or parts (burst_of k) []) (place_of k) none
+  held k = get_or (get_or parts (burst_of k) []) (position_in_burst k) none
 
   pub some_gathered : (c : List X) × IsInterleaved c parts
   unfolding held
@@ -58,15 +54,16 @@ module _ {X : Type 0} (none : X) (parts : List (List X)) (four : length parts �
       places = λ k d h.
           let within : burst_of k < length parts = subst (λ n. burst_of k < n) (sym four) (burst_of-below k) in
           let long : length (get_or parts (burst_of k) []) ≡ 114 = each (burst_of k) [] within in
-          let inside : place_of k < length (get_or parts (burst_of k) []) = subst (λ n. place_of k < n) (sym long) (place_of-below k) in
-          get_or_default (get_or parts (burst_of k) []) (place_of k) d none inside
+          let inside : position_in_burst k < length (get_or parts (burst_of k) []) = subst (λ n. position_in_burst k < n) (sym long)
+          (position_in_burst-below k) in
+          get_or_default (get_or parts (burst_of k) []) (position_in_burst k) d none inside
           ∙ sym (get_or-map-range_with_len held 0 456 k k d h (omega arith));
     },
   )
 
--- ---- properties of values carry over
+-- ---- what holds for values before and after interleaving
 
--- interleaving commutes with a map of the values
+-- mapping a function over all values before or after interleaving gives the same bursts
 pub IsInterleaved-map : {X Y : Type 0} (f : X → Y) (none : X) (c : List X) (parts : List (List X)) → IsInterleaved c parts →
     IsInterleaved (map f c) (map (map f) parts)
 IsInterleaved-map f none c parts spread = record {
@@ -79,9 +76,9 @@ IsInterleaved-map f none c parts spread = record {
       ∙ spread.each_count i [] within;
   places = λ k d h.
       let b = burst_of k in
-      let j = place_of k in
+      let j = position_in_burst k in
       let within : b < length parts = subst (λ n. b < n) (sym spread.burst_count) (burst_of-below k) in
-      let place : j < length (get_or parts b []) = subst (λ n. j < n) (sym (spread.each_count b [] within)) (place_of-below k) in
+      let place : j < length (get_or parts b []) = subst (λ n. j < n) (sym (spread.each_count b [] within)) (position_in_burst-below k) in
       let here : k < length c = subst (λ n. k < n) (sym spread.coded_count) h in
       ap (λ values. get_or values j d) (get_or-map (map f) parts b [] [] within)
       ∙ get_or-map f (get_or parts b []) j none d place
@@ -89,12 +86,12 @@ IsInterleaved-map f none c parts spread = record {
       ∙ sym (get_or-map f c k none d here);
 }
 
--- what holds for each value of the bursts holds for each deinterleaved value
+-- a property of all values in the bursts holds for all deinterleaved values
 pub All-interleaved : {X : Type 0} (P : X → Type 0) (c : List X) (parts : List (List X)) → IsInterleaved c parts →
     All (All P) parts → All P c
 All-interleaved P c parts spread all k d h =
     let within : k < 456 = subst (λ n. k < n) spread.coded_count h in
     let burst : burst_of k < length parts = subst (λ n. burst_of k < n) (sym spread.burst_count) (burst_of-below k) in
-    let place : place_of k < length (get_or parts (burst_of k) []) =
-    subst (λ n. place_of k < n) (sym (spread.each_count (burst_of k) [] burst)) (place_of-below k) in
-    subst P (spread.places k d within) (all (burst_of k) [] burst (place_of k) d place)
+    let place : position_in_burst k < length (get_or parts (burst_of k) []) =
+    subst (λ n. position_in_burst k < n) (sym (spread.each_count (burst_of k) [] burst)) (position_in_burst-below k) in
+    subst P (spread.places k d within) (all (burst_of k) [] burst (position_in_burst k) d place)

@@ -1,24 +1,19 @@
--- How the loops over half a burst read and write one more value by the table.
-use Rattle.std.proofs.Common.{◌≡◌, ℕ, ◌+◌, ◌*◌, ◌<◌, ◌≤◌, List, [], length, get_or, sym, ◌∙◌, arith}
-use Rattle.std.proofs.Common.{◌≢◌, ℤ, pos, below_more, get_or-set_other, get_or-set_same, ap}
-use Rattle.std.specs.Prelude.{slice_range}
-use Rattle.std.proofs.Math.ListN.{set}
-use Rattle.std.proofs.lemmas.List.{ext_get_or}
-use Rattle.std.proofs.lemmas.List.Edits.{length-between, get_or-between}
-use Rattle.interleave.specs.Bursts.{IsInterleaved}
-use Rattle.interleave.specs.ColumnPlaces.{bit_at}
-use Rattle.interleave.specs.Places.{place_of}
-use Rattle.interleave.proofs.Rows.{StandsAt, bit_at-stands}
+-- One step of the loops over half a burst, which read or write one more value by the table.
+use Rattle.std.proofs.Common.{◌≡◌, ℕ, ◌+◌, ◌*◌, ◌<◌, ◌≤◌, List, [], length, get_or, sym, ◌∙◌, arith, ◌≢◌, ℤ, pos, below_more}
+use Rattle.std.proofs.{Common.{get_or-set_other, get_or-set_same, ap}, Math.ListN.set, lemmas.List.{ext_get_or, Edits.length-between}}
+use Rattle.std.{proofs.lemmas.List.Edits.get_or-between, specs.Prelude.slice_range}
+use Rattle.interleave.{specs.{Bursts.IsInterleaved, ColumnPlaces.coded_index_at, Places.position_in_burst}, proofs.Rows.StandsAt}
+use Rattle.interleave.proofs.Rows.{coded_index_at-stands}
 
 module _ (b half : ℕ) (hb : b < 4) (hh : half ≤ 1) where
   -- the coded bit at position i of the half
   abbrev pub bit_of_half : ℕ → ℕ
-  bit_of_half i = bit_at b (57 * half + i)
+  bit_of_half i = coded_index_at b (57 * half + i)
 
   pub half-stands : (i : ℕ) → i < 57 → StandsAt (bit_of_half i) b (57 * half + i)
-  half-stands i hi = bit_at-stands b (57 * half + i) hb (omega arith)
+  half-stands i hi = coded_index_at-stands b (57 * half + i) hb (omega arith)
 
-  -- the coded bits read by the table are the half of the burst
+  -- the coded bits that are read by the table are this half of the burst
   pub half_of_bursts : (coded : List ℕ) (bursts : List (List ℕ)) (out : List ℕ) → IsInterleaved coded bursts → length out ≡ 57 →
       ((i : ℕ) → i < 57 → get_or out i 0 ≡ get_or coded (bit_of_half i) 0) →
       out ≡ slice_range (get_or bursts b []) (57 * half) (57 * half + 57)
@@ -39,10 +34,10 @@ module _ (b half : ℕ) (hb : b < 4) (hh : half ≤ 1) where
 
   half-differs : (i j : ℕ) → i < 57 → j < 57 → i ≢ j → bit_of_half i ≢ bit_of_half j
   half-differs i j hi hj other same =
-      let places : 57 * half + i ≡ 57 * half + j = sym (half-stands i hi).place ∙ ap place_of same ∙ (half-stands j hj).place in
+      let places : 57 * half + i ≡ 57 * half + j = sym (half-stands i hi).place ∙ ap position_in_burst same ∙ (half-stands j hj).place in
       other (omega arith)
 
-  -- one more value is written; earlier ones and those of the other half stay
+  -- one more value is written; the earlier values and those of the other half are unchanged
   module _ (soft old values : List ℤ) (i : ℕ) (value : ℤ) (hi : i < 57) (full : length soft ≡ 456)
       (read : value ≡ get_or values i (pos 0)) where
     pub own-more : ((j : ℕ) → j < i → get_or soft (bit_of_half j) (pos 0) ≡ get_or values j (pos 0)) →

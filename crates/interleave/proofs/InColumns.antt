@@ -1,18 +1,17 @@
 -- Coded bit k is in column 50 (k / 8) mod 57, since 50 is the inverse of 8 modulo 57.
 use Rattle.std.proofs.Common.{◌≡◌, ℕ, ◌*◌, ◌/◌, ◌%◌, ◌<◌, arith}
-use Rattle.interleave.specs.ColumnPlaces.{column_bit, column_place}
-use Rattle.interleave.specs.Places.{burst_of, place_of}
+use Rattle.interleave.specs.{ColumnPlaces.{coded_bit_of_column, column_bit_position}, Places.{burst_of, position_in_burst}}
 
 -- coded bit k is bit r of column q
 pub record IsInColumn (k q r : ℕ) : Type 0 where
   pub column : q < 57
   pub bit : r < 8
-  pub same : column_bit q r ≡ k
+  pub same : coded_bit_of_column q r ≡ k
   pub burst : burst_of k ≡ r % 4
-  pub place : place_of k ≡ column_place q r
+  pub place : position_in_burst k ≡ column_bit_position q r
 
 pub in_column : (k : ℕ) → k < 456 → IsInColumn k (50 * (k / 8) % 57) (k % 8)
-unfolding column_bit column_place burst_of place_of
+unfolding coded_bit_of_column column_bit_position burst_of position_in_burst
 in_column k h = record {
   column = omega arith;
   bit = omega arith;

@@ -1,17 +1,12 @@
--- Interleaving the lanes of two vectors and reading them at twice the width joins lanes in pairs: three such steps transpose eight rows
--- of eight octets.
-use Rattle.std.proofs.Common.{◌≡◌, ℕ, zero, suc, ◌+◌, ◌*◌, ◌/◌, ◌%◌, ◌^◌, ◌<◌, List, [], ◌∷◌}
-use Rattle.std.proofs.Common.{◌++◌, length, get_or, refl, ap, ap₂, sym, subst, ◌∙◌, arith, bit_and, Fits, ◌-◌, ◌≤◌}
-use Rattle.std.proofs.Common.{replicate, w8, w16, zero-add}
-use Rattle.std.proofs.Math.Nat.{mul_comm, pow-suc, pow-zero}
-use Rattle.std.proofs.Math.Arith.{digits_lt}
-use Rattle.std.proofs.lemmas.List.{get_or_append_left, get_or-append_right, get_or-map, length-map}
+-- Interleaving the lanes of two vectors and reading the result as lanes of twice the width joins lanes in pairs. Three such steps
+-- transpose eight rows of eight octets.
+use Rattle.std.proofs.Common.{◌≡◌, ℕ, zero, suc, ◌+◌, ◌*◌, ◌/◌, ◌%◌, ◌^◌, ◌<◌, List, [], ◌∷◌, ◌++◌, length, get_or, refl, ap, ap₂, sym}
+use Rattle.std.proofs.{Common.{subst, ◌∙◌, arith, bit_and, Fits, ◌-◌, ◌≤◌, replicate, w8, w16, zero-add}, Math.Nat.{mul_comm, pow-suc}}
+use Rattle.std.proofs.{Math.{Nat.pow-zero, Arith.digits_lt}, lemmas.List.{get_or_append_left, get_or-append_right, get_or-map, length-map}}
+use Rattle.std.proofs.lemmas.{Nat.{and_mask, pow_pos, Bits.and_high_mask}, Simd.{get_or_wider, below_from_Fits, get_or-zip2, length-zip2}}
+use Rattle.std.proofs.lemmas.Simd.{get_or-replicate, length-replicate, get_or-chunk, chunk-fits, length-chunk, Each1-chunk}
 use mir.Syntax.{Width}
 use mir.Val.{bits}
-use Rattle.std.proofs.lemmas.Nat.{and_mask, pow_pos}
-use Rattle.std.proofs.lemmas.Nat.Bits.{and_high_mask}
-use Rattle.std.proofs.lemmas.Simd.{get_or_wider, below_from_Fits, get_or-zip2, length-zip2, get_or-replicate, length-replicate}
-use Rattle.std.proofs.lemmas.Simd.{get_or-chunk, chunk-fits, length-chunk, Each1-chunk}
 use borrow.Rule.Slice.PartMut.{mid_of}
 use lib.Lanes.{Each1, zip2, chunk, number_l, digits_l, pick_l}
 
@@ -44,7 +39,7 @@ joined_octet e h (suc (suc (suc (suc (suc (suc zero)))))) lt = omega arith
 joined_octet e h (suc (suc (suc (suc (suc (suc (suc zero))))))) lt = omega arith
 joined_octet e h (suc (suc (suc (suc (suc (suc (suc (suc r)))))))) lt = absurd (omega arith)
 
--- two lanes read as one of twice the width
+-- two adjacent lanes, read as one lane of twice the width
 joined_lane : (p q n : ℕ) (lanes : List ℕ) → q ≡ p ^ 2 → p ^ length lanes ≡ 256 ^ 16 → Each1 (λ x. x < p) lanes →
     (j : ℕ) → j < n → suc (2 * j) < length lanes →
     get_or (digits_l q n (number_l 256 (digits_l 256 16 (number_l p lanes)))) j 0
@@ -78,7 +73,7 @@ side_by_side p n x y long s h =
     ap₂ (λ a b. a + p * b) (get_or_append_left x y 0 s here)
     (get_or-append_right x y n (n + s) 0 long (omega arith) ∙ ap (λ k. get_or y k 0) after)
 
--- lane s of both vectors, shuffled next to each other, read as one lane of twice the width
+-- lane s of both vectors, moved next to each other and read as one lane of twice the width
 pub turned_lane : (w : Width) (q n m : ℕ) (x y : List ℕ) (order : List ℕ) (j s : ℕ) →
     q ≡ (2 ^ bits w) ^ 2 → (2 ^ bits w) ^ length order ≡ 256 ^ 16 →
     length x ≡ m → Each1 (Fits w) x → Each1 (Fits w) y → j < n → suc (2 * j) < length order → s < m →
@@ -98,7 +93,7 @@ turned_lane w q n m x y order j s square whole long fits_x fits_y h within hs fi
     (at (suc (2 * j)) within ∙ ap (λ k. get_or (x ++ y) k 0) second)
     ∙ side_by_side p m x y long s hs
 
--- an operation with a constant vector, in one lane
+-- the result, in one lane, of an operation whose second vector has the same number in all lanes
 pub lane_by : (f : ℕ → ℕ → ℕ) (x : List ℕ) (m n s : ℕ) → length x ≡ m → s < m → get_or (zip2 f x (replicate m n)) s 0 ≡ f (get_or x s 0) n
 lane_by f x m n s long h =
     get_or-zip2 f x (replicate m n) s 0 0 0 (omega arith) (omega (arith, length-replicate m n))
@@ -139,7 +134,7 @@ module _ (x y : List ℕ) (long_x : length x ≡ 8) (long_y : length y ≡ 8) wh
       let long_g : length (zip2 g y (replicate 8 n)) ≡ 8 = length-zip2 g y (replicate 8 n) long_y ∙ long_y in
       length-zip2 (λ a b. (a + b) % 2 ^ 16) (zip2 f x (replicate 8 m)) (zip2 g y (replicate 8 n)) (long_f ∙ sym long_g) ∙ long_f
 
--- octets read as 16-bit lanes
+-- two adjacent octets, read as one 16-bit lane
 pub pair_lane : (octets : List ℕ) (from s : ℕ) → from + 16 ≤ length octets → ((k : ℕ) → Fits w8 (get_or octets k 0)) → s < 8 →
     get_or (digits_l 65536 8 (number_l 256 (chunk 0 16 (mid_of from (from + 16 - from) octets)))) s 0
     ≡ get_or octets (from + 2 * s) 0 + 256 * get_or octets (from + suc (2 * s)) 0

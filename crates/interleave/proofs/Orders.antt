@@ -1,9 +1,7 @@
 -- Bursts may be deinterleaved in any order: each writes only its own coded bits.
-use Rattle.std.proofs.Common.{◌≡◌, ◌≢◌, ℕ, zero, suc, ◌<◌, inl, inr, List, [], ◌∷◌, All, Contains, length, get_or}
-use Rattle.std.proofs.Common.{ap, sym, ◌∙◌, arith}
+use Rattle.std.proofs.Common.{◌≡◌, ◌≢◌, ℕ, zero, suc, ◌<◌, inl, inr, List, [], ◌∷◌, All, Contains, length, get_or, ap, sym, ◌∙◌, arith}
 use Rattle.std.proofs.lemmas.Bool.{cases_eq}
-use Rattle.interleave.specs.Bursts.{IsInterleaved, IsGathered, AreGathered}
-use Rattle.interleave.specs.Places.{burst_of, place_of}
+use Rattle.interleave.specs.{Bursts.{IsInterleaved, IsBurstDeinterleaved, AreDeinterleaved}, Places.{burst_of, position_in_burst}}
 use Rattle.interleave.proofs.WholeBursts.{burst_of-below}
 
 Contains-tail : (b x : ℕ) (order : List ℕ) → Contains (b ∷ order) x → x ≢ b → Contains order x
@@ -13,14 +11,15 @@ Contains-tail b x order (suc n, h, e) other = (n, omega arith, e)
 module _ {X : Type 0} (bursts : List (List X)) (k : ℕ) (d : X) (hk : k < 456) where
   -- the value of this coded bit in the bursts
   abbrev held : X
-  held = get_or (get_or bursts (burst_of k) []) (place_of k) d
+  held = get_or (get_or bursts (burst_of k) []) (position_in_burst k) d
 
-  gathered_own : (b : ℕ) (old new : List X) → IsGathered b (get_or bursts b []) old new → burst_of k ≡ b → get_or new k d ≡ held
+  gathered_own : (b : ℕ) (old new : List X) → IsBurstDeinterleaved b (get_or bursts b []) old new → burst_of k ≡ b → get_or new k d ≡ held
   gathered_own b old new step same =
-      step.own k d hk same ∙ ap (λ n. get_or (get_or bursts n []) (place_of k) d) (sym same)
+      step.own k d hk same ∙ ap (λ n. get_or (get_or bursts n []) (position_in_burst k) d) (sym same)
 
   -- a value once written stays
-  gathered_keeps : (order : List ℕ) (old new : List X) → AreGathered bursts order old new → get_or old k d ≡ held → get_or new k d ≡ held
+  gathered_keeps : (order : List ℕ) (old new : List X) → AreDeinterleaved bursts order old new → get_or old k d ≡ held →
+      get_or new k d ≡ held
   gathered_keeps [] old new same there = ap (λ xs. get_or xs k d) (sym same) ∙ there
   gathered_keeps (b ∷ order) old new (next, step, rest) there =
       gathered_keeps order next new rest
@@ -29,7 +28,7 @@ module _ {X : Type 0} (bursts : List (List X)) (k : ℕ) (d : X) (hk : k < 456) 
         | inr other ↦ step.others k d hk other ∙ there
       ])
 
-  gathered_reaches : (order : List ℕ) (old new : List X) → AreGathered bursts order old new → Contains order (burst_of k) →
+  gathered_reaches : (order : List ℕ) (old new : List X) → AreDeinterleaved bursts order old new → Contains order (burst_of k) →
       get_or new k d ≡ held
   gathered_reaches [] old new same (n, h, e) = absurd (omega arith)
   gathered_reaches (b ∷ order) old new (next, step, rest) among =
@@ -38,14 +37,14 @@ module _ {X : Type 0} (bursts : List (List X)) (k : ℕ) (d : X) (hk : k < 456) 
         | inr other ↦ gathered_reaches order next new rest (Contains-tail b (burst_of k) order among other)
       ]
 
-length-gathered : {X : Type 0} (bursts : List (List X)) (order : List ℕ) (old new : List X) → AreGathered bursts order old new →
+length-gathered : {X : Type 0} (bursts : List (List X)) (order : List ℕ) (old new : List X) → AreDeinterleaved bursts order old new →
     length new ≡ length old
 length-gathered bursts [] old new same = ap length (sym same)
 length-gathered bursts (b ∷ order) old new (next, step, rest) = length-gathered bursts order next new rest ∙ step.count
 
 pub any_order : {X : Type 0} (bursts : List (List X)) (order : List ℕ) (old new : List X) →
     length old ≡ 456 → length bursts ≡ 4 → All (λ burst. length burst ≡ 114) bursts →
-    ((b : ℕ) → b < 4 → Contains order b) → AreGathered bursts order old new → IsInterleaved new bursts
+    ((b : ℕ) → b < 4 → Contains order b) → AreDeinterleaved bursts order old new → IsInterleaved new bursts
 any_order bursts order old new long four each every steps = record {
   coded_count = length-gathered bursts order old new steps ∙ long;
   burst_count = four;

@@ -1,32 +1,31 @@
--- Bursts as two halves.
-use Rattle.std.proofs.Common.{◌≡◌, ℕ, ◌+◌, ◌*◌, ◌-◌, ◌<◌, inl, inr, List, [], ◌++◌, length, get_or, take}
-use Rattle.std.proofs.Common.{drop, ap, ◌∙◌, arith}
-use Rattle.std.proofs.lemmas.Bool.{cases_lt}
-use Rattle.std.proofs.lemmas.List.{get_or_append_left, get_or-append_right, take_at, drop_at, drop_all, append-nil}
+-- A burst consists of two halves.
+use Rattle.std.proofs.Common.{◌≡◌, ℕ, ◌+◌, ◌*◌, ◌-◌, ◌<◌, inl, inr, List, [], ◌++◌, length, get_or, take, drop, ap, ◌∙◌, arith}
+use Rattle.std.proofs.lemmas.{Bool.cases_lt, List.{get_or_append_left, get_or-append_right, take_at, drop_at, drop_all, append-nil}}
 use borrow.Rule.Slice.PartMut.{put_mid}
-use Rattle.interleave.specs.Places.{burst_of, place_of}
+use Rattle.interleave.specs.Places.{burst_of, position_in_burst}
 
 pub burst_of-below : (k : ℕ) → burst_of k < 4
 unfolding burst_of
 burst_of-below k = omega arith
 
-pub place_of-below : (k : ℕ) → place_of k < 114
-unfolding place_of
-place_of-below k = omega arith
+pub position_in_burst-below : (k : ℕ) → position_in_burst k < 114
+unfolding position_in_burst
+position_in_burst-below k = omega arith
 
--- what holds in both halves holds in the burst
+-- if both halves have the right value at their positions, so has the whole burst
 pub halves-at : {X : Type 0} (first second : List X) (k : ℕ) (d value : X) → length first ≡ 57 →
-    ((i : ℕ) → i < 57 → place_of k ≡ 57 * 0 + i → get_or first i d ≡ value) →
-    ((i : ℕ) → i < 57 → place_of k ≡ 57 * 1 + i → get_or second i d ≡ value) →
-    get_or (first ++ second) (place_of k) d ≡ value
+    ((i : ℕ) → i < 57 → position_in_burst k ≡ 57 * 0 + i → get_or first i d ≡ value) →
+    ((i : ℕ) → i < 57 → position_in_burst k ≡ 57 * 1 + i → get_or second i d ≡ value) →
+    get_or (first ++ second) (position_in_burst k) d ≡ value
 halves-at first second k d value long in_first in_second =
-    let within = place_of-below k in
-    elim (cases_lt (place_of k) 57) [
+    let within = position_in_burst-below k in
+    elim (cases_lt (position_in_burst k) 57) [
       | inl lower ↦
-          let here : place_of k < length first = omega arith in
-          get_or_append_left first second d (place_of k) here ∙ in_first (place_of k) lower (omega arith)
+          let here : position_in_burst k < length first = omega arith in
+          get_or_append_left first second d (position_in_burst k) here ∙ in_first (position_in_burst k) lower (omega arith)
       | inr upper ↦
-          get_or-append_right first second 57 (place_of k) d long upper ∙ in_second (place_of k - 57) (omega arith) (omega arith)
+          get_or-append_right first second 57 (position_in_burst k) d long upper
+          ∙ in_second (position_in_burst k - 57) (omega arith) (omega arith)
     ]
 
 pub put_mid-halves : {X : Type 0} (first old second : List X) → length first ≡ 57 → length old ≡ 57 → length second ≡ 57 →

@@ -1,8 +1,8 @@
--- The coded bits of a block packed by columns (this project's own layout).
+-- The coded bits of a block packed into octets, one octet for each column (this project's own layout).
 use Rattle.std.specs.Prelude.{ℕ, ◌≡◌, ◌<◌, List, slice_index}
-use Rattle.bit_blocks.specs.Packed.{bit_of, packed_place}
-use Rattle.interleave.specs.ColumnPlaces.{column_bit}
+use Rattle.bit_blocks.specs.Packed.{bit_of, packed_bit_index}
+use Rattle.interleave.specs.ColumnPlaces.{coded_bit_of_column}
 
 -- octet q holds the eight coded bits of column q, for q < 121: columns 0 to 56, then columns 0 to 63 again
-pub record AreColumns (coded columns : List ℕ) : Type 0 where
-  pub each : (q r : ℕ) → q < 121 → r < 8 → bit_of (slice_index columns q) (packed_place r) ≡ slice_index coded (column_bit q r)
+pub record AreColumnsOfCodedBits (coded columns : List ℕ) : Type 0 where
+  pub each : (q r : ℕ) → q < 121 → r < 8 → bit_of (slice_index columns q) (packed_bit_index r) ≡ slice_index coded (coded_bit_of_column q r)

@@ -6,10 +6,10 @@ unfoldable pub burst_of : ℕ → ℕ
 burst_of k = k % 4
 
 -- the position of coded bit k among the 114 coded bits of its burst
-unfoldable pub place_of : ℕ → ℕ
-place_of k = 2 * (49 * k % 57) + k % 8 / 4
+unfoldable pub position_in_burst : ℕ → ℕ
+position_in_burst k = 2 * (49 * k % 57) + k % 8 / 4
 
--- the position of coded bit k among the 592 bits of the four bursts: three tail bits precede the first 57 coded bits of a burst, and two
--- stealing flags and the training sequence the other 57 (GSM 05.02 section 5.2.3)
-unfoldable pub burst_place : ℕ → ℕ
-burst_place k = 148 * burst_of k + place_of k + (if nat_le (place_of k) 56 then 3 else 31)
+-- the position of coded bit k among the 592 bits of the four bursts. In a burst, three tail bits come before the first 57 coded bits;
+-- two stealing flags and the training sequence come before the other 57 (GSM 05.02 section 5.2.3)
+unfoldable pub position_in_four_bursts : ℕ → ℕ
+position_in_four_bursts k = 148 * burst_of k + position_in_burst k + (if nat_le (position_in_burst k) 56 then 3 else 31)

@@ -1,39 +1,42 @@
-//! Interleaving from packed coded bits: each row of a burst is one bit of consecutive octets, read sixteen octets at a time.
+//! Interleaving of packed coded bits. The even positions of a burst are the same bit of consecutive octets, and so are the odd positions;
+//! sixteen octets are read at a time.
 ghost use Rattle.std.specs.Prelude.{◌≡◌, ℕ, ◌+◌, ◌*◌, ◌/◌, ◌%◌, ◌<◌, ◌≤◌, ◌++◌, List, [], length};
 ghost use Rattle.std.specs.Prelude.{slice_index, slice_index_or, slice_range};
-ghost use Rattle.bit_blocks.specs.Packed.{ArePacked, bit_of};
+ghost use Rattle.bit_blocks.specs.Packed.{AreCodedBitsPacked, bit_of};
 ghost use Rattle.interleave.specs.Bursts.{IsInterleaved};
-ghost use Rattle.interleave.specs.ColumnPlaces.{bit_at};
-ghost use Rattle.interleave.specs.Columns.{AreColumns};
+ghost use Rattle.interleave.specs.ColumnPlaces.{coded_index_at};
+ghost use Rattle.interleave.specs.Columns.{AreColumnsOfCodedBits};
 
 use std::simd::prelude::*;
 
-/// The coded bits of a block packed by columns, in the order in which bursts use them.
+/// The coded bits of a block, packed into one octet for each column, with the columns in the order in which the bursts use them.
 #[derive(Clone, Copy)]
 pub struct Columns {
     octets: [u8; 128],
 }
 
-// Column q is octet 8 q mod 57.
-const ORDER: [usize; 64] = [
+// Column q is octet 8 q mod 57 of the packed coded bits.
+const COLUMN_ORDER: [usize; 64] = [
     0, 8, 16, 24, 32, 40, 48, 56, 7, 15, 23, 31, 39, 47, 55, 6, 14, 22, 30, 38, 46, 54, 5, 13, 21,
     29, 37, 45, 53, 4, 12, 20, 28, 36, 44, 52, 3, 11, 19, 27, 35, 43, 51, 2, 10, 18, 26, 34, 42,
     50, 1, 9, 17, 25, 33, 41, 49, 0, 8, 16, 24, 32, 40, 48,
 ];
 
-// Interleaves two vectors of sixteen lanes.
-const TURNS: [usize; 32] = [
+// The lane order that interleaves two vectors of sixteen lanes.
+const INTERLEAVED_LANE_ORDER: [usize; 32] = [
     0, 16, 1, 17, 2, 18, 3, 19, 4, 20, 5, 21, 6, 22, 7, 23, 8, 24, 9, 25, 10, 26, 11, 27, 12, 28,
     13, 29, 14, 30, 15, 31,
 ];
 
 impl Columns {
-    /// The columns of coded bits packed eight to an octet (`ArePacked`). The last seven octets of `packed` are not used.
+    /// The columns of a block's coded bits, which `packed` holds eight to an octet (`AreCodedBitsPacked`). The last seven octets of
+    /// `packed` are not
+    /// used.
     pub fn new(packed: &[u8; 64]) -> Columns
-        ensures { (coded : List ℕ) → ArePacked 57 coded packed.now → AreColumns coded result.octets }
+        ensures { (coded : List ℕ) → AreCodedBitsPacked 57 coded packed.now → AreColumnsOfCodedBits coded result.octets }
     {
         Columns {
-            octets: twice(&in_order(packed).to_array()),
+            octets: repeat_columns(&columns_in_order(packed).to_array()),
         }
     }
 
@@ -42,34 +45,38 @@ impl Columns {
         requires burst { b < 4 }
         requires half { half ≤ 1 }
         requires count { length out.old ≡ 57 }
-        ensures { (coded : List ℕ) (bursts : List (List ℕ)) → AreColumns coded self.now.octets → IsInterleaved coded bursts →
+        ensures { (coded : List ℕ) (bursts : List (List ℕ)) → AreColumnsOfCodedBits coded self.now.octets → IsInterleaved coded bursts →
             out.new ≡ slice_range (slice_index_or bursts b []) (57 * half) (57 * half + 57) }
     {
         // Whole vectors are written; the last seven bits are not used.
         let mut bits = [0; 64];
-        self.write_places(b, 57 * half, &mut bits[..32]);
-        self.write_places(b, 57 * half + 32, &mut bits[32..]);
+        self.write_32_positions(b, 57 * half, &mut bits[..32]);
+        self.write_32_positions(b, 57 * half + 32, &mut bits[32..]);
         out.copy_from_slice(&bits[..57]);
     }
 
-    /// Writes 32 positions of burst `b` from `from` on.
-    fn write_places(&self, b: usize, from: usize, out: &mut [u8])
+    /// Writes the bits at 32 positions of burst `b`, from position `from` on.
+    fn write_32_positions(&self, b: usize, from: usize, out: &mut [u8])
         requires burst { b < 4 }
         requires from { from ≤ 89 }
         requires count { length out.old ≡ 32 }
-        ensures { (coded : List ℕ) (i : ℕ) → AreColumns coded self.now.octets → i < 32 →
-            slice_index out.new i ≡ slice_index coded (bit_at b (from + i)) }
+        ensures { (coded : List ℕ) (i : ℕ) → AreColumnsOfCodedBits coded self.now.octets → i < 32 →
+            slice_index out.new i ≡ slice_index coded (coded_index_at b (from + i)) }
     {
-        in_turns(self.row_part(b, from), self.row_part(b, from + 1)).copy_to_slice(out);
+        interleave_lanes(
+            self.sixteen_row_bits(b, from),
+            self.sixteen_row_bits(b, from + 1),
+        )
+        .copy_to_slice(out);
     }
 
-    /// The bits of burst `b` at every other position from `place` on: one bit of each of sixteen columns.
-    fn row_part(&self, b: usize, place: usize) -> u8x16
+    /// The bits of burst `b` at every other position from `place` on, sixteen in all: the same bit of each of sixteen columns.
+    fn sixteen_row_bits(&self, b: usize, place: usize) -> u8x16
         requires burst { b < 4 }
         requires place { place ≤ 90 }
         ensures count { length result ≡ 16 }
-        ensures each { (coded : List ℕ) (p : ℕ) → AreColumns coded self.now.octets → p < 16 →
-            slice_index result p ≡ slice_index coded (bit_at b (place + 2 * p)) }
+        ensures each { (coded : List ℕ) (p : ℕ) → AreColumnsOfCodedBits coded self.now.octets → p < 16 →
+            slice_index result p ≡ slice_index coded (coded_index_at b (place + 2 * p)) }
     {
         let row = b + 4 * (place % 2);
         let column = 8 * row + place / 2;
@@ -79,15 +86,15 @@ impl Columns {
 }
 
 /// The columns in order: column q is octet 8q mod 57 of `packed`; columns 57 to 63 repeat columns 0 to 6.
-fn in_order(packed: &[u8; 64]) -> u8x64
+fn columns_in_order(packed: &[u8; 64]) -> u8x64
     ensures each { (q : ℕ) → q < 64 → slice_index result q ≡ slice_index packed.now (8 * q % 57) }
     ensures count { length result ≡ 64 }
 {
-    u8x64::from_array(*packed).swizzle::<64>(ORDER)
+    u8x64::from_array(*packed).swizzle::<64>(COLUMN_ORDER)
 }
 
-/// Columns 0 to 56, then columns 0 to 63 again.
-fn twice(columns: &[u8; 64]) -> [u8; 128]
+/// Columns 0 to 56, then columns 0 to 63 again from index 57; the last 7 octets are 0.
+fn repeat_columns(columns: &[u8; 64]) -> [u8; 128]
     ensures front { (q : ℕ) → q < 57 → slice_index result q ≡ slice_index columns.now q }
     ensures back { (q : ℕ) → q < 64 → slice_index result (57 + q) ≡ slice_index columns.now q }
 {
@@ -97,7 +104,7 @@ fn twice(columns: &[u8; 64]) -> [u8; 128]
     octets
 }
 
-/// Bit `i` of sixteen octets.
+/// Bit `i` of each of sixteen octets.
 fn bit_of_each(octets: &[u8], i: usize) -> u8x16
     requires count { length octets.now ≡ 16 }
     requires bit { i < 8 }
@@ -107,12 +114,12 @@ fn bit_of_each(octets: &[u8], i: usize) -> u8x16
     (u8x16::from_slice(octets) >> u8x16::splat(i as u8)) & u8x16::splat(1)
 }
 
-/// The lanes of both, interleaved.
-fn in_turns(first: u8x16, second: u8x16) -> u8x32
+/// The lanes of both vectors, interleaved: lane 0 of `first`, lane 0 of `second`, lane 1 of `first`, and so on.
+fn interleave_lanes(first: u8x16, second: u8x16) -> u8x32
     requires first { length first ≡ 16 }
     requires second { length second ≡ 16 }
     ensures count { length result ≡ 32 }
     ensures each { (i : ℕ) → i < 32 → slice_index result i ≡ slice_index (first ++ second) (i / 2 + 16 * (i % 2)) }
 {
-    first.shuffle::<32>(second, TURNS)
+    first.shuffle::<32>(second, INTERLEAVED_LANE_ORDER)
 }

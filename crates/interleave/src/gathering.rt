@@ -1,16 +1,16 @@
-//! Deinterleaving: from the soft bits of the bursts to those of the coded bits.
+//! Deinterleaving: brings the soft bits of the bursts into the order of the coded bits.
 ghost use Rattle.std.specs.Prelude.{◌≡◌, ◌≢◌, ℕ, ℤ, pos, ◌+◌, ◌*◌, ◌/◌, ◌%◌, ◌^◌, ◌<◌, ◌≤◌};
 ghost use Rattle.std.specs.Prelude.{◌++◌, List, [], map, length, slice_index, slice_index_or};
 ghost use Rattle.std.specs.Int.{cast_signed, w8};
-ghost use Rattle.interleave.specs.Bursts.{IsInterleaved, IsGathered};
-ghost use Rattle.interleave.specs.ColumnPlaces.{column_bit, column_place};
-ghost use Rattle.interleave.specs.Places.{burst_of, place_of};
+ghost use Rattle.interleave.specs.Bursts.{IsInterleaved, IsBurstDeinterleaved};
+ghost use Rattle.interleave.specs.ColumnPlaces.{coded_bit_of_column, column_bit_position};
+ghost use Rattle.interleave.specs.Places.{burst_of, position_in_burst};
 
 use crate::joining::eight_columns;
 use crate::table::coded_bits;
 use bit_blocks::CODED_BITS;
 
-/// Deinterleaves four bursts of 114 soft bits.
+/// Deinterleaves four bursts of 114 soft bits each.
 pub fn gather(parts: &[[i8; 114]; 4]) -> [i8; CODED_BITS]
     ensures interleaved { IsInterleaved result parts.now }
     ensures only { (coded : List ℤ) → IsInterleaved coded parts.now → coded ≡ result }
@@ -41,10 +41,10 @@ fn octets_of(part: &[i8; 114]) -> [u8; 114]
     octets
 }
 
-/// Column 56, which is in no group of eight.
+/// The soft bits of column 56, the only one that is in no group of eight columns.
 fn last_column(parts: &[[u8; 114]; 4]) -> [u8; 8]
     ensures { (r : ℕ) → r < 8 →
-        slice_index result r ≡ slice_index (slice_index_or parts.now (r % 4) []) (column_place 56 r) }
+        slice_index result r ≡ slice_index (slice_index_or parts.now (r % 4) []) (column_bit_position 56 r) }
 {
     [
         parts[0][112],
@@ -58,27 +58,27 @@ fn last_column(parts: &[[u8; 114]; 4]) -> [u8; 8]
     ]
 }
 
-/// Writes the eight columns from `8 * group` on.
+/// Writes the soft bits of eight columns, from column `8 * group` on.
 fn write_columns(columns: &[u64; 8], group: usize, soft: &mut [i8; CODED_BITS])
     requires { group < 7 }
     ensures own { (s r : ℕ) → s < 8 → r < 8 →
-        slice_index_or soft.new (column_bit (8 * group + s) r) (pos 0)
+        slice_index_or soft.new (coded_bit_of_column (8 * group + s) r) (pos 0)
         ≡ cast_signed w8 (slice_index columns.now s / 256 ^ r % 256) }
     ensures others { (q r : ℕ) → q < 8 * group → r < 8 →
-        slice_index_or soft.new (column_bit q r) (pos 0) ≡ slice_index_or soft.old (column_bit q r) (pos 0) }
+        slice_index_or soft.new (coded_bit_of_column q r) (pos 0) ≡ slice_index_or soft.old (coded_bit_of_column q r) (pos 0) }
 {
     for (s, column) in columns.iter().enumerate() {
         write_column(&column.to_le_bytes(), 8 * group + s, soft);
     }
 }
 
-/// Writes column `q`.
+/// Writes the eight soft bits of column `q`.
 fn write_column(octets: &[u8; 8], q: usize, soft: &mut [i8; CODED_BITS])
     requires { q < 57 }
     ensures own { (r : ℕ) → r < 8 →
-        slice_index_or soft.new (column_bit q r) (pos 0) ≡ cast_signed w8 (slice_index octets.now r) }
+        slice_index_or soft.new (coded_bit_of_column q r) (pos 0) ≡ cast_signed w8 (slice_index octets.now r) }
     ensures others { (p r : ℕ) → p < 57 → p ≢ q → r < 8 →
-        slice_index_or soft.new (column_bit p r) (pos 0) ≡ slice_index_or soft.old (column_bit p r) (pos 0) }
+        slice_index_or soft.new (coded_bit_of_column p r) (pos 0) ≡ slice_index_or soft.old (coded_bit_of_column p r) (pos 0) }
 {
     let first = 8 * (8 * q % 57);
     for (r, octet) in octets.iter().enumerate() {
@@ -86,24 +86,24 @@ fn write_column(octets: &[u8; 8], q: usize, soft: &mut [i8; CODED_BITS])
     }
 }
 
-/// Writes the 114 soft bits of burst `b`, given in two halves.
+/// Deinterleaves one burst: writes the 114 soft bits of burst `b`, given in two halves, to the indexes of their coded bits.
 pub fn gather_burst(b: usize, first: &[i8], second: &[i8], soft: &mut [i8; CODED_BITS])
     requires burst { b < 4 }
     requires first { length first.now ≡ 57 }
     requires second { length second.now ≡ 57 }
-    ensures { IsGathered b (first.now ++ second.now) soft.old soft.new }
+    ensures { IsBurstDeinterleaved b (first.now ++ second.now) soft.old soft.new }
 {
-    gather_half(b, 0, first, soft);
-    gather_half(b, 1, second, soft);
+    deinterleave_half(b, 0, first, soft);
+    deinterleave_half(b, 1, second, soft);
 }
 
-fn gather_half(b: usize, half: usize, values: &[i8], soft: &mut [i8; CODED_BITS])
+fn deinterleave_half(b: usize, half: usize, values: &[i8], soft: &mut [i8; CODED_BITS])
     requires burst { b < 4 }
     requires half { half ≤ 1 }
     requires count { length values.now ≡ 57 }
-    ensures own { (k i : ℕ) → k < CODED_BITS → burst_of k ≡ b → i < 57 → place_of k ≡ 57 * half + i →
+    ensures own { (k i : ℕ) → k < CODED_BITS → burst_of k ≡ b → i < 57 → position_in_burst k ≡ 57 * half + i →
         slice_index_or soft.new k (pos 0) ≡ slice_index_or values.now i (pos 0) }
-    ensures others { (k : ℕ) → k < CODED_BITS → (burst_of k ≡ b → (i : ℕ) → i < 57 → place_of k ≢ 57 * half + i) →
+    ensures others { (k : ℕ) → k < CODED_BITS → (burst_of k ≡ b → (i : ℕ) → i < 57 → position_in_burst k ≢ 57 * half + i) →
         slice_index_or soft.new k (pos 0) ≡ slice_index_or soft.old k (pos 0) }
 {
     for (i, k) in coded_bits(b, half).iter().enumerate() {

@@ -1,17 +1,17 @@
-//! Eight columns at once. A row holds one octet of each column, in the order of the columns, so the columns are the transpose of eight
-//! rows: octets are joined to pairs, pairs to fours, and fours to the eight octets of a column.
+//! Gathers eight columns at once. A row has one octet of each column, in the order of the columns, so eight columns are the transpose of
+//! eight rows: octets are joined into pairs, pairs into fours, and fours into the eight octets of a column.
 ghost use Rattle.std.specs.Prelude.{◌≡◌, ℕ, ◌+◌, ◌*◌, ◌/◌, ◌%◌, ◌^◌, ◌<◌, ◌≤◌, [], length};
 ghost use Rattle.std.specs.Prelude.{slice_index, slice_index_or};
-ghost use Rattle.interleave.specs.ColumnPlaces.{column_place};
+ghost use Rattle.interleave.specs.ColumnPlaces.{column_bit_position};
 
 use std::simd::prelude::*;
 
-/// The columns from `8 * group` on, each as one number, least significant octet first.
+/// The eight columns from column `8 * group` on, each as one number whose least significant octet is row 0.
 pub(crate) fn eight_columns(parts: &[[u8; 114]; 4], group: usize) -> [u64; 8]
     requires { group < 7 }
     ensures { (s r : ℕ) → s < 8 → r < 8 →
         slice_index result s / 256 ^ r % 256
-        ≡ slice_index (slice_index_or parts.now (r % 4) []) (column_place (8 * group + s) r) }
+        ≡ slice_index (slice_index_or parts.now (r % 4) []) (column_bit_position (8 * group + s) r) }
 {
     let (a, b) = join_pairs(
         lower_octets(
@@ -38,7 +38,7 @@ pub(crate) fn eight_columns(parts: &[[u8; 114]; 4], group: usize) -> [u64; 8]
     [first, second, third, fourth, fifth, sixth, seventh, eighth]
 }
 
-/// The index in a row at which column `8 * group` is.
+/// The index of column `8 * group` in a row.
 fn start(group: usize, row: usize) -> usize
     requires group { group < 7 }
     requires row { row < 8 }
@@ -52,7 +52,7 @@ fn start(group: usize, row: usize) -> usize
     }
 }
 
-/// Eight pairs of octets of a burst, the even positions in the lower halves.
+/// Eight pairs of octets of a burst, each in a 16-bit lane: the octet of the even position is the lower half.
 fn pairs(part: &[u8], from: usize) -> u16x8
     requires { 2 * from + 16 ≤ length part.now }
     ensures count { length result ≡ 8 }
@@ -62,7 +62,7 @@ fn pairs(part: &[u8], from: usize) -> u16x8
     u16x8::from_le_bytes(u8x16::from_slice(&part[2 * from..2 * from + 16]))
 }
 
-/// The lower octets of both, joined lane by lane.
+/// In each lane, the lower octets of `x` and `y`; the octet of `x` is the lower half.
 fn lower_octets(x: u16x8, y: u16x8) -> u16x8
     requires x { length x ≡ 8 }
     requires y { length y ≡ 8 }
@@ -72,7 +72,7 @@ fn lower_octets(x: u16x8, y: u16x8) -> u16x8
     (x & u16x8::splat(255)) + (y << u16x8::splat(8))
 }
 
-/// The upper octets of both, joined lane by lane.
+/// In each lane, the upper octets of `x` and `y`; the octet of `x` is the lower half.
 fn upper_octets(x: u16x8, y: u16x8) -> u16x8
     requires x { length x ≡ 8 }
     requires y { length y ≡ 8 }
@@ -82,7 +82,7 @@ fn upper_octets(x: u16x8, y: u16x8) -> u16x8
     (x >> u16x8::splat(8)) + (y & u16x8::splat(0xff00))
 }
 
-/// The lanes of both joined, first four and last four.
+/// Joins each lane of `x` with the lane of `y` (the upper half): first the first four lanes, then the last four.
 fn join_pairs(x: u16x8, y: u16x8) -> (u32x4, u32x4)
     requires x { length x ≡ 8 }
     requires y { length y ≡ 8 }
@@ -99,7 +99,7 @@ fn join_pairs(x: u16x8, y: u16x8) -> (u32x4, u32x4)
     )
 }
 
-/// The lanes of both joined.
+/// Joins each lane of `x` with the lane of `y` (the upper half).
 fn join_fours(x: u32x4, y: u32x4) -> [u64; 4]
     requires x { length x ≡ 4 }
     requires y { length y ≡ 4 }

@@ -11,7 +11,7 @@ mod table;
 
 pub use columns::Columns;
 pub use gathering::{gather, gather_burst};
-pub use laws::{law_gather_any_order, law_places};
+pub use laws::{law_deinterleave_any_order, law_positions_are_one_to_one};
 pub use spreading::{spread, spread_burst};
 
 #[cfg(test)]
@@ -19,11 +19,11 @@ mod tests {
     use super::spread;
     use bit_blocks::CODED_BITS;
 
-    // The last 88 coded bits of a block of 23 octets 00; all before them are 0.
+    // The last 88 coded bits of a block of 23 octets 00; all coded bits before them are 0.
     const LAST: &[u8; 88] =
         b"1110100110101010101010101010101010101010101010101010101010101010101010101010101001000011";
 
-    // The positions of the ones in the four bursts.
+    // The positions of the ones in each of the four bursts.
     const ONES: [&[usize]; 4] = [
         &[
             7, 12, 21, 26, 28, 35, 40, 42, 49, 56, 63, 70, 77, 79, 84, 91, 93, 98, 107, 112,
@@ -36,7 +36,7 @@ mod tests {
     ];
 
     #[test]
-    fn the_ones_of_a_block_come_to_their_places(rt: HostRuntime) {
+    fn interleaves_a_block_of_zero_octets(rt: HostRuntime) {
         let mut coded = [0; CODED_BITS];
         for (i, digit) in LAST.iter().enumerate() {
             coded[368 + i] = digit & 1;

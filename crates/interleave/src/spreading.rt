@@ -1,9 +1,9 @@
-//! Interleaving by the table.
+//! Interleaving with the table of coded bits by position.
 ghost use Rattle.std.specs.Prelude.{◌≡◌, ℕ, ◌+◌, ◌*◌, ◌<◌, ◌≤◌, List, [], All, length, slice_index};
 ghost use Rattle.std.specs.Prelude.{slice_index_or, slice_range};
 ghost use Rattle.bit_blocks.specs.Bits.{AllBits};
 ghost use Rattle.interleave.specs.Bursts.{IsInterleaved};
-ghost use Rattle.interleave.specs.Places.{burst_of, place_of};
+ghost use Rattle.interleave.specs.Places.{burst_of, position_in_burst};
 
 use crate::table::coded_bits;
 use bit_blocks::CODED_BITS;
@@ -26,7 +26,7 @@ pub fn spread_burst(coded: &[u8; CODED_BITS], b: usize, half: usize, out: &mut [
     requires burst { b < 4 }
     requires half { half ≤ 1 }
     requires count { length out.old ≡ 57 }
-    ensures places { (k i : ℕ) → k < CODED_BITS → burst_of k ≡ b → i < 57 → place_of k ≡ 57 * half + i →
+    ensures places { (k i : ℕ) → k < CODED_BITS → burst_of k ≡ b → i < 57 → position_in_burst k ≡ 57 * half + i →
         slice_index out.new i ≡ slice_index coded.now k }
     ensures part { (bursts : List (List ℕ)) → IsInterleaved coded.now bursts →
         out.new ≡ slice_range (slice_index_or bursts b []) (57 * half) (57 * half + 57) }
@@ -39,7 +39,7 @@ pub fn spread_burst(coded: &[u8; CODED_BITS], b: usize, half: usize, out: &mut [
 
 fn burst_of_block(coded: &[u8; CODED_BITS], b: usize) -> [u8; 114]
     requires { b < 4 }
-    ensures places { (k : ℕ) → k < CODED_BITS → burst_of k ≡ b → slice_index result (place_of k) ≡ slice_index coded.now k }
+    ensures places { (k : ℕ) → k < CODED_BITS → burst_of k ≡ b → slice_index result (position_in_burst k) ≡ slice_index coded.now k }
 {
     let mut burst = [0; 114];
     spread_burst(coded, b, 0, &mut burst[..57]);

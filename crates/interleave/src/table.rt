@@ -1,10 +1,13 @@
-//! The inverse of the interleaving as a table: the coded bit at each position. The formula takes four times as many instructions.
+//! The inverse of the interleaving as a table: the number of the coded bit at each position. Computing it by the formula takes four times
+//! as many instructions.
 ghost use Rattle.std.specs.Prelude.{◌≡◌, ℕ, ◌+◌, ◌*◌, ◌<◌, ◌≤◌, slice_index};
-ghost use Rattle.interleave.specs.ColumnPlaces.{bit_at};
+ghost use Rattle.interleave.specs.ColumnPlaces.{coded_index_at};
 
-// The coded bits of the eight half bursts in order of transmission; half h of burst b is row 2 b + h.
+use bit_blocks::CODED_BITS;
+
+// The numbers of the coded bits in the eight half bursts, in order of transmission; half h of burst b is at index 2 b + h.
 // `tools/interleaving.py` prints the table.
-static HALVES: [[u16; 57]; 8] = [
+static HALF_BURST_BITS: [[u16; 57]; 8] = [
     [
         0, 228, 64, 292, 128, 356, 192, 420, 256, 28, 320, 92, 384, 156, 448, 220, 56, 284, 120,
         348, 184, 412, 248, 20, 312, 84, 376, 148, 440, 212, 48, 276, 112, 340, 176, 404, 240, 12,
@@ -47,12 +50,12 @@ static HALVES: [[u16; 57]; 8] = [
     ],
 ];
 
-/// The coded bits of one half of a burst, in order of transmission.
+/// The numbers of the coded bits in one half of burst `b`, in order of transmission.
 pub fn coded_bits(b: usize, half: usize) -> &'static [u16; 57]
     requires burst { b < 4 }
     requires half { half ≤ 1 }
-    ensures value { (i : ℕ) → i < 57 → slice_index result.now i ≡ bit_at b (57 * half + i) }
-    ensures within { (i : ℕ) → i < 57 → slice_index result.now i < 456 }
+    ensures value { (i : ℕ) → i < 57 → slice_index result.now i ≡ coded_index_at b (57 * half + i) }
+    ensures within { (i : ℕ) → i < 57 → slice_index result.now i < CODED_BITS }
 {
-    &HALVES[2 * b + half]
+    &HALF_BURST_BITS[2 * b + half]
 }

@@ -1,6 +1,6 @@
 pub mod Rules
-pub mod Giving
+pub mod RulesInSequence
 pub mod Moves
 mod PartsOfEnds
-mod Pasts
+mod Represented
 pub mod SideSteps

@@ -1,30 +1,23 @@
--- Ends with the same values represent the same states; if they represent any, the values satisfy `AreConsistent`.
-use Rattle.std.proofs.Common.{◌≡◌, refl, sym, ◌∙◌, ap, subst, arith, ℕ, ◌%◌, [], length, drop}
-use Rattle.std.proofs.Math.Seq.{drop-nil}
-use Rattle.std.specs.List.{flat_map}
+-- Two `Endpoint`s with equal values represent the same endpoints, and values that represent an endpoint satisfy `AreConsistent`.
+use Rattle.std.{proofs.{Common.{◌≡◌, refl, sym, ◌∙◌, ap, subst, arith, ℕ, ◌%◌, [], length, drop}, Math.Seq.drop-nil}, specs.List.flat_map}
 use Rattle.lapdm_frame.specs.Layout.{n201}
-use Rattle.segmenting.specs.Segments.{Message, segments}
-use Rattle.segmenting.specs.Joiners.{HasTaken}
-use Rattle.lapdm_window.specs.declared.State.{State}
-use Rattle.lapdm_window.specs.declared.State.TheVariants.{Idle, Opening, Open, Closing, Closed}
-use Rattle.lapdm_window.specs.declared.window.Window.{Window}
-use Rattle.lapdm_window.specs.Ends.{EndState, IsEnd, all_segments, wholly_acked, capped_number}
+use Rattle.lapdm_window.specs.{segmenting.{Segments.{Message, segments}, Joiners.HasTakenSegments}, declared.State.State}
+use Rattle.lapdm_window.specs.{declared.{State.TheVariants.{Idle, Opening, Open, Closing, Closed}, window.Window.Window}, Ends.EndState}
+use Rattle.lapdm_window.specs.Ends.{IsValidEndpoint, all_segments, acked_message_count, number_capped_at_64_bits}
+use Rattle.lapdm_window.proofs.Lemmas.{acked_message_count-most, HasSameVariables-values, Holds-values, Represents-values}
+use Rattle.lapdm_end.specs.{declared.ends.Endpoint.Endpoint, Addresses.role_of, Abstraction.{RepresentsInState, Represents}}
+use Rattle.lapdm_end.{specs.Parts.{EndValues, values_of, IsUnusedWindow, IsUnusedBeforeOpen, AreConsistent}, proofs.Moves.moved}
+use Rattle.lapdm_end.proofs.Moves.{Keeps-other, HasSameVariables-moved, Holds-moved, kept_is_empty_on_sapi3, in_state, unopened}
 use Rattle.lapdm_window.specs.Abstraction as WS
 use Rattle.lapdm_window.specs.Parts as W
-use Rattle.lapdm_window.proofs.Lemmas.{wholly_acked-most, Tracks-values, Holds-values, Represents-values}
-use Rattle.lapdm_end.specs.declared.ends.Endpoint.{Endpoint}
-use Rattle.lapdm_end.specs.Addresses.{role_of}
-use Rattle.lapdm_end.specs.Abstraction.{InState, Represents}
-use Rattle.lapdm_end.specs.Parts.{EndValues, values_of, IsUnused, IsInState, AreConsistent}
-use Rattle.lapdm_end.proofs.Moves.{moved, Keeps-other, Tracks-moved, Holds-moved, bare_of, in_state, unopened}
 
-InState-values : (s : State) (w v : Window) (r q : ℕ) (e : EndState) → W.values_of w ≡ W.values_of v → r ≡ q →
-    InState s w r e → InState s v q e
-InState-values Idle w v r q e same count h = Represents-values same h
-InState-values Opening w v r q e same count h = record { window = Represents-values same h.window; count = sym count ∙ h.count }
-InState-values Open w v r q e same count h = Represents-values same h
-InState-values Closing w v r q e same count h = record { holds = Holds-values w v e same h.holds; count = sym count ∙ h.count }
-InState-values Closed w v r q e same count h = Holds-values w v e same h
+RepresentsInState-values : (s : State) (w v : Window) (r q : ℕ) (e : EndState) → W.values_of w ≡ W.values_of v → r ≡ q →
+    RepresentsInState s w r e → RepresentsInState s v q e
+RepresentsInState-values Idle w v r q e same count h = Represents-values same h
+RepresentsInState-values Opening w v r q e same count h = record { window = Represents-values same h.window; count = sym count ∙ h.count }
+RepresentsInState-values Open w v r q e same count h = Represents-values same h
+RepresentsInState-values Closing w v r q e same count h = record { holds = Holds-values w v e same h.holds; count = sym count ∙ h.count }
+RepresentsInState-values Closed w v r q e same count h = Holds-values w v e same h
 
 pub Represents-same_values : (m n : Endpoint) (e : EndState) → values_of m ≡ values_of n → Represents m e → Represents n e
 Represents-same_values m n e same h =
@@ -40,28 +33,29 @@ Represents-same_values m n e same h =
       };
       state = sym state ∙ h.state;
       kept = ap (λ (x : EndValues). x.kept) (sym same) ∙ h.kept;
-      tracks = Tracks-values window h.tracks;
-      now = InState-values n.state m.window n.window m.retries n.retries e window retries
+      tracks = HasSameVariables-values window h.tracks;
+      now = RepresentsInState-values n.state m.window n.window m.retries n.retries e window retries
           (in_state m.window m.retries e m.state n.state state h.now);
     }
 
--- the values of an `Endpoint` that represents a state
-unused : (w : Window) (e : EndState) → e.taken ≡ [] → e.accepted ≡ [] → WS.Represents w e → IsUnused (W.values_of w)
+-- the values of an `Endpoint` that represents an endpoint satisfy `AreConsistent`
+unused : (w : Window) (e : EndState) → e.taken ≡ [] → e.accepted ≡ [] → WS.Represents w e → IsUnusedWindow (W.values_of w)
 unused w e taken accepted h =
     let none : length (all_segments e) ≡ 0 = ap (λ ms. length (flat_map (segments (n201 e.channel)) ms)) taken in
     let sent : e.sent ≡ 0 = omega (arith, h.end.sent) in
     let acked : e.acked ≡ 0 = omega (arith, h.end.behind) in
-    let whole : wholly_acked e ≡ 0 = omega (arith, wholly_acked-most e, ap length taken) in
+    let whole : acked_message_count e ≡ 0 = omega (arith, acked_message_count-most e, ap length taken) in
     record {
-      held = h.holds.messages ∙ ap (drop (wholly_acked e)) taken ∙ drop-nil {A = Message} (wholly_acked e);
+      held = h.holds.messages ∙ ap (drop (acked_message_count e)) taken ∙ drop-nil {A = Message} (acked_message_count e);
       vs = h.tracks.vs ∙ ap (λ i. i % 8) sent;
       va = h.tracks.va ∙ ap (λ i. i % 8) acked;
       vr = h.tracks.vr ∙ ap (λ ps. length ps % 8) accepted;
-      done = h.tracks.done ∙ ap capped_number whole;
-      joined = subst (HasTaken w.joiner) accepted h.tracks.joined;
+      done = h.tracks.done ∙ ap number_capped_at_64_bits whole;
+      joined = subst (HasTakenSegments w.joiner) accepted h.tracks.joined;
     }
 
-in_its_state : (s : State) (w : Window) (r : ℕ) (e : EndState) → e.state ≡ s → IsEnd e → InState s w r e → IsInState s (W.values_of w)
+in_its_state : (s : State) (w : Window) (r : ℕ) (e : EndState) → e.state ≡ s → IsValidEndpoint e → RepresentsInState s w r e →
+    IsUnusedBeforeOpen s (W.values_of w)
 in_its_state Idle w r e is end h = unused w e (end.taken (unopened e Idle is tt)) (end.accepted (unopened e Idle is tt)) h
 in_its_state Opening w r e is end h = unused w e (end.taken (unopened e Opening is tt)) (end.accepted (unopened e Opening is tt)) h.window
 in_its_state Open w r e is end h = tt
@@ -71,24 +65,25 @@ in_its_state Closed w r e is end h = tt
 pub in_step : (m : Endpoint) (e : EndState) → Represents m e → AreConsistent (values_of m)
 in_step m e h = record {
   kept = omega (arith, m.kept_fits, ap n201 m.one_channel);
-  bare = λ three. h.kept ∙ bare_of h three;
+  bare = λ three. h.kept ∙ kept_is_empty_on_sapi3 h three;
   now = in_its_state m.state m.window m.retries e (sym h.state) h.end h.now;
 }
 
--- the window of an `Endpoint` represents an endpoint
+-- if an `Endpoint` represents an endpoint, its window represents the same endpoint with the retry count of the window
 abbrev with_retries : ℕ → EndState → EndState
 with_retries r e = moved e.state e.kept r e
 
-held_by_then : (w : Window) (e : EndState) → IsEnd e → WS.Tracks w e → WS.HoldsUnacked w.held.items w.place e →
+held_by_then : (w : Window) (e : EndState) → IsValidEndpoint e → WS.HasSameVariables w e → WS.HoldsUnacked w.held.items w.place e →
     WS.Represents w (with_retries w.retries e)
 held_by_then w e end tracks holds = record {
   end = Keeps-other e.role e.sapi e.state e.kept w.retries e end.window;
-  tracks = Tracks-moved e.state e.kept w.retries e tracks;
+  tracks = HasSameVariables-moved e.state e.kept w.retries e tracks;
   holds = Holds-moved w e.state e.kept w.retries e holds;
   retries = λ t. refl;
 }
 
-window_in : (s : State) (w : Window) (r : ℕ) (e : EndState) → IsEnd e → WS.Tracks w e → InState s w r e → (f : EndState) × WS.Represents w f
+window_in : (s : State) (w : Window) (r : ℕ) (e : EndState) → IsValidEndpoint e → WS.HasSameVariables w e → RepresentsInState s w r e →
+    (f : EndState) × WS.Represents w f
 window_in Idle w r e end tracks h = (e, h)
 window_in Opening w r e end tracks h = (e, h.window)
 window_in Open w r e end tracks h = (e, h)

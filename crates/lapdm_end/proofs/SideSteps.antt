@@ -1,20 +1,13 @@
--- A side follows a rule if its endpoint of one SAPI does and the other is unchanged.
+-- A side follows a step of the definition if the endpoint of one SAPI does and the other endpoint is unchanged.
 use Rattle.std.proofs.Common.{◌≡◌, ◌≢◌, [], refl, sym, ◌∙◌, ap, subst, arith, map}
-use Rattle.lapdm_frame.specs.Content.{Frame}
-use Rattle.lapdm_frame.specs.Frames.{octets_of}
-use Rattle.lapdm_window.specs.declared.Sapi.{Sapi}
-use Rattle.lapdm_window.specs.declared.Sapi.TheVariants.{Zero, Three}
-use Rattle.lapdm_window.specs.declared.effects.Effects.{Effects}
-use Rattle.lapdm_window.specs.Calls.{Call}
-use Rattle.lapdm_window.specs.Ends.{EndState, Outcome}
-use Rattle.lapdm_window.specs.Tables.{after_frame}
-use Rattle.lapdm_window.specs.Sides.{SideState, link_in, does, asks, takes}
+use Rattle.lapdm_frame.specs.{Content.Frame, Frames.octets_of}
+use Rattle.lapdm_window.specs.{declared.{Sapi.{Sapi, TheVariants.{Zero, Three}}, effects.Effects.Effects}, Calls.Call, Ends.EndState}
+use Rattle.lapdm_window.specs.{Ends.Outcome, Tables.after_frame, Sides.{SideState, link_in, does, layer3_calls, takes}}
 use Rattle.lapdm_window.proofs.Lemmas.{by_sapi}
-use Rattle.lapdm_end.specs.declared.ends.Endpoint.{Endpoint as LinkEnd}
-use Rattle.lapdm_end.specs.declared.sides.Side.{Side}
+use Rattle.lapdm_end.specs.{declared.{ends.Endpoint.Endpoint as LinkEnd, sides.Side.Side}, Sides.{link_of, other, channel_of, Represents}}
+use Rattle.lapdm_end.specs.Sides.{CarriesOutStep, Refines}
 use Rattle.lapdm_end.specs.Abstraction as L
 use Rattle.lapdm_end.specs.Refinement as F
-use Rattle.lapdm_end.specs.Sides.{link_of, other, channel_of, Represents, IsDone, Refines}
 
 pub represents_at : (sapi : Sapi) (m : Side) (a : SideState) → Represents m a → L.Represents (link_of sapi m) (link_in sapi a)
 represents_at Zero m a st = st.link0
@@ -41,21 +34,23 @@ does_at Three old new effects rule f on kept a st =
     }
 
 pub asks_at : (sapi sapi' : Sapi) (call : Call) (old new : Side) (effects : Effects) → sapi ≡ sapi' →
-    Refines (asks sapi' call) old sapi' effects new → Refines (asks sapi call) old sapi effects new
-asks_at sapi sapi' call old new effects e h = subst (λ (s : Sapi). Refines (asks s call) old s effects new) (sym e) h
+    Refines (layer3_calls sapi' call) old sapi' effects new → Refines (layer3_calls sapi call) old sapi effects new
+asks_at sapi sapi' call old new effects e h = subst (λ (s : Sapi). Refines (layer3_calls s call) old s effects new) (sym e) h
 
 pub zero_takes : (f : Frame) (old new : Side) (effects : Effects) → f.sapi ≡ 0 →
     Refines (λ a. does Zero (after_frame f a.link0) a) old Zero effects new → Refines (takes f) old Zero effects new
 zero_takes f old new effects z h a st =
-    by_sapi f a (λ d. IsDone (channel_of old) d Zero effects new) (λ q. h a st) (λ q. absurd (omega (arith, q, z))) (λ q r. absurd (q z))
+    by_sapi f a (λ d. CarriesOutStep (channel_of old) d Zero effects new) (λ q. h a st) (λ q. absurd (omega (arith, q, z)))
+    (λ q r. absurd (q z))
 
 pub three_takes : (f : Frame) (old new : Side) (effects : Effects) → f.sapi ≡ 3 →
     Refines (λ a. does Three (after_frame f a.link3) a) old Three effects new → Refines (takes f) old Three effects new
 three_takes f old new effects t h a st =
-    by_sapi f a (λ d. IsDone (channel_of old) d Three effects new) (λ q. absurd (omega (arith, q, t))) (λ q. h a st) (λ q r. absurd (r t))
+    by_sapi f a (λ d. CarriesOutStep (channel_of old) d Three effects new) (λ q. absurd (omega (arith, q, t))) (λ q. h a st)
+    (λ q r. absurd (r t))
 
 pub none_takes : (f : Frame) (old : Side) (effects : Effects) → f.sapi ≢ 0 → f.sapi ≢ 3 → effects.frames ≡ [] → effects.notices ≡ [] →
     Refines (takes f) old Zero effects old
 none_takes f old effects z t frames notices a st =
-    by_sapi f a (λ d. IsDone (channel_of old) d Zero effects old) (λ q. absurd (z q)) (λ q. absurd (t q))
+    by_sapi f a (λ d. CarriesOutStep (channel_of old) d Zero effects old) (λ q. absurd (z q)) (λ q. absurd (t q))
     (λ q r. record { represents = st; sapi_is = refl; frames = frames; notices = notices })

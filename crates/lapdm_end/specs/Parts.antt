@@ -1,8 +1,8 @@
--- The value of an `Endpoint` as plain data.
+-- The state of an `Endpoint` as plain data.
 use Rattle.std.specs.Prelude.{◌≡◌, ◌≤◌, ℕ, [], length}
 use Rattle.lapdm_frame.specs.Layout.{n201}
-use Rattle.segmenting.specs.Segments.{Message}
-use Rattle.segmenting.specs.Joiners.{HasJoined}
+use Rattle.lapdm_window.specs.segmenting.Segments.{Message}
+use Rattle.lapdm_window.specs.segmenting.Joiners.{HoldsReassemblyOf}
 use Rattle.lapdm_window.specs.declared.Sapi.{Sapi}
 use Rattle.lapdm_window.specs.declared.Sapi.TheVariants.{Three}
 use Rattle.lapdm_window.specs.declared.State.{State}
@@ -15,7 +15,7 @@ use Rattle.lapdm_end.specs.declared.ends.Endpoint.{Endpoint}
 use Rattle.lapdm_end.specs.declared.parts.EndParts.{EndParts}
 use Rattle.lapdm_end.specs.Abstraction.{Represents}
 
--- the value of an `Endpoint`
+-- the state of an `Endpoint`: its fields and the state of its window
 pub record EndValues : Type 0 where
   pub role : Role
   pub sapi : Sapi
@@ -24,7 +24,7 @@ pub record EndValues : Type 0 where
   pub retries : ℕ
   pub window : WindowValues
 
--- the value of this `Endpoint`
+-- the state of this `Endpoint`
 abbrev pub values_of : Endpoint → EndValues
 values_of m = record {
   role = m.link.role;
@@ -35,46 +35,46 @@ values_of m = record {
   window = W.values_of m.window;
 }
 
--- the value that an `EndParts` of the program represents
-abbrev pub said_by : EndParts → EndValues
-said_by p = record {
+-- the state that an `EndParts` of the program describes
+abbrev pub values_in : EndParts → EndValues
+values_in p = record {
   role = p.role;
   sapi = p.sapi;
   state = p.state;
   kept = p.kept.now;
   retries = p.retries;
-  window = W.said_by p.window;
+  window = W.values_in p.window;
 }
 
--- some `Endpoint` with these values represents the endpoint e
+-- an `Endpoint` with these values exists and represents the endpoint e
 pub record ValuesRepresent (x : EndValues) (e : EndState) : Type 0 where
   pub end : Endpoint
   pub values : values_of end ≡ x
   pub represents : Represents end e
 
--- some `Endpoint` with these values represents some endpoint
-abbrev pub AreOfAnEnd : EndValues → Type 0
-AreOfAnEnd x = (e : EndState) × ValuesRepresent x e
+-- an `Endpoint` with these values exists and represents some endpoint
+abbrev pub AreOfSomeEndpoint : EndValues → Type 0
+AreOfSomeEndpoint x = (e : EndState) × ValuesRepresent x e
 
--- for the body of the test: the window is in its initial state
-pub record IsUnused (x : WindowValues) : Type 0 where
+-- the window is in its initial state; only the check in `restore` uses this
+pub record IsUnusedWindow (x : WindowValues) : Type 0 where
   pub held : x.held ≡ []
   pub vs : x.vs ≡ 0
   pub va : x.va ≡ 0
   pub vr : x.vr ≡ 0
   pub done : x.done ≡ 0
-  pub joined : HasJoined x.joiner.part x.joiner.octets []
+  pub joined : HoldsReassemblyOf x.joiner.part x.joiner.octets []
 
--- for the body of the test: before Open the window is in its initial state
-abbrev pub IsInState : State → WindowValues → Type 0
-IsInState Idle x = IsUnused x
-IsInState Opening x = IsUnused x
-IsInState Open x = Unit {0}
-IsInState Closing x = Unit {0}
-IsInState Closed x = Unit {0}
+-- before Open the window is in its initial state; only the check in `restore` uses this
+abbrev pub IsUnusedBeforeOpen : State → WindowValues → Type 0
+IsUnusedBeforeOpen Idle x = IsUnusedWindow x
+IsUnusedBeforeOpen Opening x = IsUnusedWindow x
+IsUnusedBeforeOpen Open x = Unit {0}
+IsUnusedBeforeOpen Closing x = Unit {0}
+IsUnusedBeforeOpen Closed x = Unit {0}
 
--- for the body of the test: the conditions that the values in `AreOfAnEnd` meet besides those of their window
+-- besides the conditions on the window, those that are equivalent to `AreOfSomeEndpoint`, in the form in which `restore` checks them
 pub record AreConsistent (x : EndValues) : Type 0 where
   pub kept : length x.kept ≤ n201 x.window.channel
   pub bare : x.sapi ≡ Three → x.kept ≡ []
-  pub now : IsInState x.state x.window
+  pub now : IsUnusedBeforeOpen x.state x.window

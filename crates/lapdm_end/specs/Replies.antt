@@ -1,7 +1,7 @@
--- For the bodies of the tables: the replies of an `Endpoint` to a frame.
+-- The replies of an `Endpoint` to a received frame. Only the contracts inside this crate use these definitions.
 use Rattle.std.specs.Prelude.{◌≡◌, ◌≤◌, [], length}
-use Rattle.lapdm_frame.specs.Layout.{n201, most_information}
-use Rattle.segmenting.specs.Segments.{Message}
+use Rattle.lapdm_frame.specs.Layout.{n201, largest_n201}
+use Rattle.lapdm_window.specs.segmenting.Segments.{Message}
 use Rattle.lapdm_window.specs.declared.Sapi.TheVariants.{Three}
 use Rattle.lapdm_window.specs.declared.State.TheVariants as S
 use Rattle.lapdm_window.specs.Tables as T
@@ -13,31 +13,31 @@ use Rattle.lapdm_end.specs.declared.replies.Reply.TheVariants as C
 -- the reply that a `Reply` of the program represents
 abbrev pub reply_of : Reply → T.Reply
 reply_of C.Nothing = T.Nothing
-reply_of C.Dm = T.SaysDm
-reply_of (C.Ua info) = T.SaysUa info.now
-reply_of (C.OpenedBy info) = T.IsOpenedBy info.now
-reply_of (C.Opened info) = T.IsOpen info.now
-reply_of (C.Closed reason) = T.IsClosed reason
-reply_of C.Released = T.IsReleased
+reply_of C.Dm = T.SendsDm
+reply_of (C.Ua info) = T.SendsUa info.now
+reply_of (C.OpenedBy info) = T.AcceptsSabm info.now
+reply_of (C.Opened info) = T.ConfirmsEstablishment info.now
+reply_of (C.Closed reason) = T.ClosesLink reason
+reply_of C.Released = T.AcceptsDisc
 reply_of (C.Unit info) = T.TakesUnit info.now
 reply_of (C.I ns nr p more info) = T.TakesI ns nr p (info.now, more)
 reply_of (C.Rr nr poll) = T.TakesRr nr poll
 reply_of (C.Rej nr poll) = T.TakesRej nr poll
 
--- the endpoint is in Idle, and this information of a SABM fits in a frame, and is empty on SAPI 3
-pub record MayBeOpenedBy (m : Endpoint) (info : Message) : Type 0 where
+-- the endpoint is in Idle, and a SABM with this information can establish its link: it fits in a frame, and is empty on SAPI 3
+pub record MayAcceptSabmWith (m : Endpoint) (info : Message) : Type 0 where
   pub idle : state_of m ≡ S.Idle
   pub fits : length info ≤ n201 (channel_of m)
   pub bare : sapi_of m ≡ Three → info ≡ []
 
--- the reply is possible in this state, and its numbers and information fit in a frame
-abbrev pub IsReady : Endpoint → Reply → Type 0
-IsReady m (C.Ua info) = length info.now ≤ n201 (channel_of m)
-IsReady m (C.OpenedBy info) = MayBeOpenedBy m info.now
-IsReady m (C.Opened info) = (state_of m ≡ S.Opening) × (length info.now ≤ n201 (channel_of m))
-IsReady m (C.Unit info) = length info.now ≤ most_information
-IsReady m (C.I ns nr p more info) =
+-- the endpoint can give this reply in its state, and the numbers and information in the reply fit in a frame
+abbrev pub IsPossibleReply : Endpoint → Reply → Type 0
+IsPossibleReply m (C.Ua info) = length info.now ≤ n201 (channel_of m)
+IsPossibleReply m (C.OpenedBy info) = MayAcceptSabmWith m info.now
+IsPossibleReply m (C.Opened info) = (state_of m ≡ S.Opening) × (length info.now ≤ n201 (channel_of m))
+IsPossibleReply m (C.Unit info) = length info.now ≤ largest_n201
+IsPossibleReply m (C.I ns nr p more info) =
     (state_of m ≡ S.Open) × (ns ≤ 7) × (nr ≤ 7) × (1 ≤ length info.now) × (length info.now ≤ n201 (channel_of m))
-IsReady m (C.Rr nr poll) = (state_of m ≡ S.Open) × (nr ≤ 7)
-IsReady m (C.Rej nr poll) = (state_of m ≡ S.Open) × (nr ≤ 7)
-IsReady m other = Unit {0}
+IsPossibleReply m (C.Rr nr poll) = (state_of m ≡ S.Open) × (nr ≤ 7)
+IsPossibleReply m (C.Rej nr poll) = (state_of m ≡ S.Open) × (nr ≤ 7)
+IsPossibleReply m other = Unit {0}

@@ -1,10 +1,9 @@
-//! The calls of layer 3 to an endpoint, and the frames that it receives, each by one
-//! function. A refused call changes nothing.
+//! One function for all calls of layer 3 to an endpoint, and one for the frames that it receives. A refused call changes nothing.
 
 ghost use Rattle.std.specs.Prelude.{◌≡◌, OnErr, OnOk, IfOk};
 ghost use Rattle.lapdm_frame.specs.Content.{frame_of};
 ghost use Rattle.lapdm_frame.specs.Frames.{Fits};
-ghost use Rattle.lapdm_window.specs.Calls.{call_of, IsOfSapi, IsUnnumbered, after_call, Idles};
+ghost use Rattle.lapdm_window.specs.Calls.{call_of, IsCallOfSapi, SendsUiFrame, after_call, SendsFill};
 ghost use Rattle.lapdm_window.specs.Tables.{after_frame};
 
 use crate::ends::Endpoint;
@@ -15,17 +14,17 @@ impl Endpoint {
     ghost use Rattle.lapdm_end.specs.Abstraction.{channel_of, sapi_of};
     ghost use Rattle.lapdm_end.specs.Refinement.{Refines, IsRefusedAs};
 
-    /// Carries out a call of layer 3. Overwrites `effects`, unless the call is refused.
-    // Inlined because callers name the call and need only one arm of the match.
+    /// Carries out a call of layer 3 and replaces the contents of `effects`; if the call is refused, `effects` stays as it is.
+    // Inlined because most callers pass a constant call, so that only one arm of the match remains.
     #[inline(always)]
     pub fn call(&mut self, call: &Call<'_>, effects: &mut Effects) -> Result<(), Refused>
-        requires { IsOfSapi (sapi_of self.old) (call_of call.now) }
+        requires { IsCallOfSapi (sapi_of self.old) (call_of call.now) }
         ensures refusal { IsRefusedAs (call_of call.now) self.old result }
         ensures refines { OnOk result
             (Refines (after_call (call_of call.now)) self.old effects.new self.new) }
         ensures refused { OnErr result (self.new ≡ self.old) }
         ensures out_unchanged { OnErr result (effects.new ≡ effects.old) }
-        ensures unchanged { IsUnnumbered (call_of call.now) → self.new ≡ self.old }
+        ensures unchanged { SendsUiFrame (call_of call.now) → self.new ≡ self.old }
         ensures sapi { sapi_of self.new ≡ sapi_of self.old }
         ensures channel { channel_of self.new ≡ channel_of self.old }
     {
@@ -33,24 +32,24 @@ impl Endpoint {
             Call::Open(info) => self.open_into(info, effects),
             Call::OpenBare => self.open_bare_into(effects),
             Call::Send(message) => self.send_into(message, effects),
-            Call::Unit(message) => self.unit_into(message, effects),
+            Call::Unit(message) => self.send_unit_into(message, effects),
             Call::Close => self.close_into(effects),
-            Call::Timer => self.t200_into(effects),
+            Call::Timer => self.t200_expiry_into(effects),
             Call::Idle => {
-                self.idle_into(effects);
+                self.send_fill_into(effects);
                 Ok(())
             }
         }
     }
 
-    /// `call`, with the effects by value.
+    /// Carries out a call of layer 3, and returns its effects.
     pub fn call_returning(&mut self, call: &Call<'_>) -> Result<Effects, Refused>
-        requires { IsOfSapi (sapi_of self.old) (call_of call.now) }
+        requires { IsCallOfSapi (sapi_of self.old) (call_of call.now) }
         ensures refusal { IsRefusedAs (call_of call.now) self.old result }
         ensures refines { IfOk result
             (λ effects. Refines (after_call (call_of call.now)) self.old effects self.new) }
         ensures refused { OnErr result (self.new ≡ self.old) }
-        ensures unchanged { IsUnnumbered (call_of call.now) → self.new ≡ self.old }
+        ensures unchanged { SendsUiFrame (call_of call.now) → self.new ≡ self.old }
         ensures sapi { sapi_of self.new ≡ sapi_of self.old }
         ensures channel { channel_of self.new ≡ channel_of self.old }
     {
@@ -61,16 +60,16 @@ impl Endpoint {
         }
     }
 
-    /// Sends the fill frame, for a block with nothing else to send.
+    /// Sends the fill frame, for use when there is nothing else to send in a block.
     pub fn idle(&self) -> Effects
-        ensures { Refines (after_call Idles) self.now result self.now }
+        ensures { Refines (after_call SendsFill) self.now result self.now }
     {
         let mut effects = Effects::new();
-        self.idle_into(&mut effects);
+        self.send_fill_into(&mut effects);
         effects
     }
 
-    /// Receives a frame.
+    /// Processes a received frame.
     pub fn take(&mut self, frame: &FrameView<'_>) -> Effects
         requires { Fits (channel_of self.old) (frame_of frame.now) }
         ensures refines { Refines (after_frame (frame_of frame.now)) self.old result self.new }

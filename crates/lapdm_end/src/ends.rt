@@ -1,4 +1,4 @@
-//! An endpoint, and what it does at each call. A refused call changes nothing.
+//! An endpoint, with one function for each call. A refused call changes nothing.
 
 ghost use Rattle.std.specs.Prelude.{◌≡◌, ◌≤◌, length};
 ghost use Rattle.lapdm_frame.specs.Layout.{n201};
@@ -13,11 +13,11 @@ use lapdm_window::{Effects, Message, Reason, Refused, Sapi, State, Timer, Window
 #[derive(Debug, Drop)]
 pub struct Endpoint {
     pub(crate) window: Window,
-    // The information of the SABM that it sent or that opened it.
+    // The information in the SABM that this endpoint sent, or in the SABM that established its link.
     pub(crate) kept: Message,
     pub(crate) link: Address,
     pub(crate) state: State,
-    // How often the SABM or DISC that awaits an answer was repeated.
+    // How often the SABM or DISC that awaits an answer has been repeated.
     pub(crate) retries: u8,
     ghost one_channel: { window_channel window ≡ link.channel },
     ghost kept_fits: { length kept ≤ n201 link.channel },
@@ -28,15 +28,16 @@ impl Endpoint {
     ghost use Rattle.lapdm_frame.specs.Frames.{octets_of};
     ghost use Rattle.lapdm_window.specs.declared.State.TheVariants as S;
     ghost use Rattle.lapdm_window.specs.Ends.{EndState, start};
-    ghost use Rattle.lapdm_window.specs.Calls.{first_of, frame_refusals, after_call, begins, sabm, disc, t200_expiry, Opens, OpensBare};
+    ghost use Rattle.lapdm_window.specs.Calls.{first_refusal, frame_refusals, after_call, sends_sabm, sabm, disc, t200_expiry, Opens};
+    ghost use Rattle.lapdm_window.specs.Calls.{OpensBare};
     ghost use Rattle.lapdm_window.specs.Calls.{Sends};
-    ghost use Rattle.lapdm_window.specs.Calls.{SendsUnit, Closes, T200Expires, Idles};
-    ghost use Rattle.lapdm_window.specs.Tables.{becomes_closed};
+    ghost use Rattle.lapdm_window.specs.Calls.{SendsUnit, Closes, T200Expires, SendsFill};
+    ghost use Rattle.lapdm_window.specs.Tables.{closes_and_reports};
     ghost use Rattle.lapdm_end.specs.Addresses.{role_of};
     ghost use Rattle.lapdm_end.specs.Abstraction.{Represents, channel_of, sapi_of, state_of};
     ghost use Rattle.lapdm_end.specs.Refinement.{Refines, IsRefusedAs};
 
-    /// An endpoint in Idle.
+    /// An endpoint in Idle, with this role, SAPI and channel.
     pub fn new_on(role: Role, sapi: Sapi, channel: Channel) -> Endpoint
         ensures represents { Represents result (start (role_of role) sapi channel) }
         ensures sapi { sapi_of result ≡ sapi }
@@ -107,7 +108,7 @@ impl Endpoint {
         Ok(())
     }
 
-    /// Sends a message over the link, acknowledged.
+    /// Sends a message in I frames, which the other endpoint acknowledges.
     pub(crate) fn send_into(&mut self, message: &[u8], effects: &mut Effects) -> Result<(), Refused>
         ensures refusal { IsRefusedAs (Sends message.now) self.old result }
         ensures refines { OnOk result
@@ -128,8 +129,12 @@ impl Endpoint {
         Ok(())
     }
 
-    /// Sends a message in one UI frame, unacknowledged.
-    pub(crate) fn unit_into(&mut self, message: &[u8], effects: &mut Effects) -> Result<(), Refused>
+    /// Sends a message in one UI frame, which is not acknowledged.
+    pub(crate) fn send_unit_into(
+        &mut self,
+        message: &[u8],
+        effects: &mut Effects,
+    ) -> Result<(), Refused>
         ensures refusal { IsRefusedAs (SendsUnit message.now) self.old result }
         ensures refines { OnOk result
             (Refines (after_call (SendsUnit message.now)) self.old effects.new self.new) }
@@ -143,11 +148,11 @@ impl Endpoint {
             p: false,
             info: message,
         };
-        self.link.only_command(body, effects);
+        self.link.send_only_command(body, effects);
         Ok(())
     }
 
-    /// Begins to release the link: sends a DISC. What is not acknowledged is discarded.
+    /// Begins to release the link: sends a DISC. Messages that are not acknowledged are discarded.
     pub(crate) fn close_into(&mut self, effects: &mut Effects) -> Result<(), Refused>
         ensures refusal { IsRefusedAs Closes self.old result }
         ensures refines { OnOk result
@@ -166,8 +171,8 @@ impl Endpoint {
         Ok(())
     }
 
-    /// T200 expiry.
-    pub(crate) fn t200_into(&mut self, effects: &mut Effects) -> Result<(), Refused>
+    /// Handles T200 expiry.
+    pub(crate) fn t200_expiry_into(&mut self, effects: &mut Effects) -> Result<(), Refused>
         ensures refusal { IsRefusedAs T200Expires self.old result }
         ensures refines { OnOk result
             (Refines (after_call T200Expires) self.old effects.new self.new) }
@@ -190,17 +195,17 @@ impl Endpoint {
         }
     }
 
-    /// Sends the fill frame, for a block with nothing else to send. Overwrites `effects`.
-    pub fn idle_into(&self, effects: &mut Effects)
-        ensures { Refines (after_call Idles) self.now effects.new self.now }
+    /// Sends the fill frame, for use when there is nothing else to send in a block. Replaces the contents of `effects`.
+    pub fn send_fill_into(&self, effects: &mut Effects)
+        ensures { Refines (after_call SendsFill) self.now effects.new self.now }
     {
         self.link.fill(effects);
     }
 
-    // Why one frame cannot carry this information.
+    // Why this information does not fit in one frame, or `None` if it does.
     fn frame_refusal(&self, message: &[u8]) -> Option<Refused>
         ensures refusal { (e : EndState) → Represents self.now e
-            → result ≡ first_of (frame_refusals message.now e) }
+            → result ≡ first_refusal (frame_refusals message.now e) }
         ensures fits { IfNone result (length message.now ≤ n201 (channel_of self.now)) }
     {
         if message.is_empty() {
@@ -216,7 +221,7 @@ impl Endpoint {
         requires idle { state_of self.old ≡ S.Idle }
         requires fits { length info.now ≤ n201 (channel_of self.old) }
         requires bare { sapi_of self.old ≡ Sapi.Three → info.now ≡ [] }
-        ensures refines { Refines (begins info.now) self.old effects.new self.new }
+        ensures refines { Refines (sends_sabm info.now) self.old effects.new self.new }
         ensures sapi { sapi_of self.new ≡ sapi_of self.old }
         ensures channel { channel_of self.new ≡ channel_of self.old }
     {
@@ -235,7 +240,7 @@ impl Endpoint {
             p: true,
             info: self.kept.octets(),
         };
-        self.link.only_command(body, effects);
+        self.link.send_only_command(body, effects);
     }
 
     fn disc(&self, effects: &mut Effects)
@@ -243,16 +248,16 @@ impl Endpoint {
             → effects.new.frames ≡ octets_of e.channel (disc e) ∷ [] }
         ensures notices { effects.new.notices ≡ [] }
     {
-        self.link.only_command(Body::Disc { p: true }, effects);
+        self.link.send_only_command(Body::Disc { p: true }, effects);
     }
 
-    fn close_with(&mut self, reason: Reason, effects: &mut Effects)
-        ensures refines { Refines (becomes_closed reason) self.old effects.new self.new }
+    fn close_and_report_only(&mut self, reason: Reason, effects: &mut Effects)
+        ensures refines { Refines (closes_and_reports reason) self.old effects.new self.new }
         ensures sapi { sapi_of self.new ≡ sapi_of self.old }
         ensures channel { channel_of self.new ≡ channel_of self.old }
     {
         effects.clear();
-        self.end_with(reason, effects);
+        self.close_and_report(reason, effects);
     }
 
     fn t200_in_opening(&mut self, effects: &mut Effects)
@@ -262,7 +267,7 @@ impl Endpoint {
         ensures channel { channel_of self.new ≡ channel_of self.old }
     {
         if self.retries >= n200(self.link.channel, State::Opening) {
-            self.close_with(Reason::Failed, effects);
+            self.close_and_report_only(Reason::Failed, effects);
             return;
         }
         self.retries += 1;
@@ -276,7 +281,7 @@ impl Endpoint {
         ensures channel { channel_of self.new ≡ channel_of self.old }
     {
         if self.retries >= n200(self.link.channel, State::Closing) {
-            self.close_with(Reason::Failed, effects);
+            self.close_and_report_only(Reason::Failed, effects);
             return;
         }
         self.retries += 1;
@@ -295,12 +300,12 @@ impl Endpoint {
         match self.window.on_timer() {
             Timer::NotRunning => Err(Refused::NotRunning),
             Timer::Spent => {
-                self.close_with(Reason::Failed, effects);
+                self.close_and_report_only(Reason::Failed, effects);
                 Ok(())
             }
             Timer::Again => {
                 effects.clear();
-                self.link.send_waiting(true, &self.window, effects);
+                self.link.send_outstanding(true, &self.window, effects);
                 Ok(())
             }
         }

@@ -1,4 +1,4 @@
-//! One endpoint of a data link (GSM 04.06, section 5): mobile or network by its role. No call allocates.
+//! One endpoint of a data link (GSM 04.06, section 5), of the mobile or the network. No call allocates.
 #![tactic(auto)]
 
 mod calls;
@@ -11,10 +11,15 @@ mod sides;
 mod taking;
 
 pub use ends::Endpoint;
+pub use lapdm_frame::{Body, Channel, FrameView, fits, fits_on, read};
+pub use lapdm_window::{
+    Call, Effects, Frames, Message, Notice, Notices, Part, PlainMessage, Reason, Refused, Sapi,
+    State, WindowParts,
+};
 pub use parts::EndParts;
 pub use sides::Side;
 
-/// The side of an endpoint.
+/// The side to which an endpoint belongs.
 #[derive(Clone, Copy, PartialEq, Eq, Debug)]
 pub enum Role {
     /// The mobile, whose commands have C/R 0.

@@ -1,4 +1,4 @@
-//! The frames of an endpoint.
+//! How an endpoint writes the frames that it sends.
 
 ghost use Rattle.std.specs.Prelude.{◌≡◌, ◌<◌, ◌≤◌, [], ◌∷◌, ◌++◌, not, length};
 ghost use Rattle.lapdm_frame.specs.Content.{content_of, fill};
@@ -9,7 +9,7 @@ use crate::Role;
 use lapdm_frame::{Body, Channel, FrameView, fill_on, write_on};
 use lapdm_window::{Effects, Sapi};
 
-/// The address of an endpoint (side and SAPI), and its channel.
+/// The side, SAPI and channel of an endpoint.
 #[derive(Clone, Copy, PartialEq, Eq, Debug)]
 pub(crate) struct Address {
     pub(crate) role: Role,
@@ -18,7 +18,7 @@ pub(crate) struct Address {
 }
 
 impl Address {
-    ghost use Rattle.lapdm_end.specs.Addresses.{role_of, frame_with, command_by, response_by};
+    ghost use Rattle.lapdm_end.specs.Addresses.{role_of, frame_with_cr, command_by, response_by};
 
     pub(crate) fn command_cr(self) -> bool
         ensures { result ≡ command_cr (role_of self.role) }
@@ -39,13 +39,13 @@ impl Address {
         }
     }
 
-    // Sends a frame with this C/R.
+    // Appends a frame with this C/R bit and body to the effects.
     fn send(self, cr: bool, body: Body<'_>, effects: &mut Effects)
         requires numbers { NumbersFit (content_of body) }
         requires information { InformationFits self.channel (content_of body) }
         requires space { length effects.old.frames < 2 }
         ensures frames { effects.new.frames ≡ effects.old.frames
-            ++ octets_of self.channel (frame_with self cr (content_of body.entry)) ∷ [] }
+            ++ octets_of self.channel (frame_with_cr self cr (content_of body.entry)) ∷ [] }
         ensures notices { effects.new.notices ≡ effects.old.notices }
     {
         let sapi = self.sapi_number();
@@ -75,8 +75,8 @@ impl Address {
         self.send(!self.command_cr(), body, effects);
     }
 
-    // Sends one command and nothing else.
-    pub(crate) fn only_command(self, body: Body<'_>, effects: &mut Effects)
+    // Makes one command the only frame in the effects, without notices.
+    pub(crate) fn send_only_command(self, body: Body<'_>, effects: &mut Effects)
         requires numbers { NumbersFit (content_of body) }
         requires information { InformationFits self.channel (content_of body) }
         ensures frames { effects.new.frames
@@ -87,7 +87,7 @@ impl Address {
         self.command(body, effects);
     }
 
-    // Sends the fill frame and nothing else.
+    // Makes the fill frame the only frame in the effects, without notices.
     pub(crate) fn fill(self, effects: &mut Effects)
         ensures frames { effects.new.frames
             ≡ octets_of self.channel (fill (command_cr (role_of self.role))) ∷ [] }

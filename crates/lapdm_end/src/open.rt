@@ -1,25 +1,24 @@
-//! The rules of Open, over the window and the effects.
+//! The rules of state Open. They change the window, and append to the effects.
 
 ghost use Rattle.std.specs.Prelude.{◌≡◌, ◌+◌, ◌≤◌, [], ◌++◌, Bool, length};
 ghost use Rattle.lapdm_frame.specs.Layout.{n201};
-ghost use Rattle.segmenting.specs.Joining.{latest};
+ghost use Rattle.lapdm_window.specs.segmenting.Joining.{latest_message};
 ghost use Rattle.lapdm_window.specs.Ends.{EndState};
-ghost use Rattle.lapdm_window.specs.Rules.{sends_next, counts, notices_of, says_rr, answers_segment, answers_poll, sends_again};
+ghost use Rattle.lapdm_window.specs.Rules.{sends_next, counts, segment_notices, sends_rr, answers_segment, answers_poll, sends_again};
 ghost use Rattle.lapdm_window.specs.Rules.{takes_i_frame};
 ghost use Rattle.lapdm_window.specs.Rules.{takes_rr, takes_rej};
 ghost use Rattle.lapdm_window.specs.Abstraction.{Represents, channel_of};
 
 use crate::link::Address;
 use lapdm_frame::Body;
-use lapdm_window::{Acked, Effects, Info, Message, Notice, Window};
-use segmenting::{Joined, Piece};
+use lapdm_window::{Acked, Effects, Info, Joined, Message, Notice, Piece, Window};
 
-// Reports what the segment accepted last completes.
+// Reports the message that the last accepted segment completes, or that the message was oversize.
 fn report(joined: Joined, more: bool, window: &Window, effects: &mut Effects)
     requires space { length effects.old.notices ≤ 2 }
     ensures frames { effects.new.frames ≡ effects.old.frames }
     ensures notices { (e : EndState) → Represents window.now e
-        → effects.new.notices ≡ effects.old.notices ++ notices_of joined more (latest e.accepted) }
+        → effects.new.notices ≡ effects.old.notices ++ segment_notices joined more (latest_message e.accepted) }
 {
     match joined {
         Joined::Whole => effects
@@ -35,14 +34,14 @@ fn report(joined: Joined, more: bool, window: &Window, effects: &mut Effects)
 }
 
 impl Address {
-    ghost use Rattle.lapdm_end.specs.Windows.{RefinesInOpen, sends_waiting, says_rej, refuses_segment, takes_segment};
+    ghost use Rattle.lapdm_end.specs.Windows.{RefinesInOpen, sends_outstanding, sends_rej, refuses_segment, takes_segment};
 
     // Sends the outstanding segment, if there is one.
-    pub(crate) fn send_waiting(self, p: bool, window: &Window, effects: &mut Effects)
+    pub(crate) fn send_outstanding(self, p: bool, window: &Window, effects: &mut Effects)
         requires channel { channel_of window.now ≡ self.channel }
         requires space { length effects.old.frames ≤ 1 }
         ensures most { length effects.new.frames ≤ length effects.old.frames + 1 }
-        ensures refines { RefinesInOpen (sends_waiting p) self window.now window.now
+        ensures refines { RefinesInOpen (sends_outstanding p) self window.now window.now
             effects.old effects.new }
     {
         let Some(piece) = window.waiting() else {
@@ -69,10 +68,10 @@ impl Address {
         if !window.send_next() {
             return;
         }
-        self.send_waiting(false, window, effects);
+        self.send_outstanding(false, window, effects);
     }
 
-    // Evaluates an N(R).
+    // Evaluates a received N(R).
     fn count(self, nr: u8, window: &mut Window, effects: &mut Effects)
         requires number { nr ≤ 7 }
         requires space { length effects.old.notices ≤ 2 }
@@ -88,17 +87,17 @@ impl Address {
         }
     }
 
-    fn say_rr(self, f: bool, window: &Window, effects: &mut Effects)
+    fn send_rr(self, f: bool, window: &Window, effects: &mut Effects)
         requires space { length effects.old.frames ≤ 1 }
         ensures most { length effects.new.frames ≤ length effects.old.frames + 1 }
-        ensures refines { RefinesInOpen (says_rr f) self window.now window.now
+        ensures refines { RefinesInOpen (sends_rr f) self window.now window.now
             effects.old effects.new }
     {
         let nr = window.vr();
         self.respond(Body::Rr { nr, pf: f }, effects);
     }
 
-    // Answers an accepted segment.
+    // Acknowledges an accepted segment.
     fn answer_segment(self, p: bool, window: &mut Window, effects: &mut Effects)
         requires channel { channel_of window.old ≡ self.channel }
         requires space { effects.old.frames ≡ [] }
@@ -107,21 +106,21 @@ impl Address {
             effects.old effects.new }
     {
         if p {
-            self.say_rr(true, window, effects);
+            self.send_rr(true, window, effects);
             self.send_next(window, effects);
             return;
         }
         if window.send_next() {
-            self.send_waiting(false, window, effects);
+            self.send_outstanding(false, window, effects);
             return;
         }
-        self.say_rr(false, window, effects);
+        self.send_rr(false, window, effects);
     }
 
-    fn say_rej(self, due: bool, p: bool, window: &Window, effects: &mut Effects)
+    fn send_rej(self, due: bool, p: bool, window: &Window, effects: &mut Effects)
         requires space { length effects.old.frames ≤ 1 }
         ensures most { length effects.new.frames ≤ length effects.old.frames + 1 }
-        ensures refines { RefinesInOpen (says_rej due p) self window.now window.now
+        ensures refines { RefinesInOpen (sends_rej due p) self window.now window.now
             effects.old effects.new }
     {
         if !due {
@@ -131,7 +130,7 @@ impl Address {
         self.respond(Body::Rej { nr, pf: p }, effects);
     }
 
-    // Answers a segment out of sequence.
+    // Answers a segment out of sequence: sends a REJ if one is due, then the next I frame if there is one.
     fn refuse_segment(self, due: bool, p: bool, window: &mut Window, effects: &mut Effects)
         requires channel { channel_of window.old ≡ self.channel }
         requires space { effects.old.frames ≡ [] }
@@ -139,7 +138,7 @@ impl Address {
         ensures refines { RefinesInOpen (refuses_segment due p) self window.old window.new
             effects.old effects.new }
     {
-        self.say_rej(due, p, window, effects);
+        self.send_rej(due, p, window, effects);
         self.send_next(window, effects);
     }
 
@@ -152,10 +151,10 @@ impl Address {
         if !poll {
             return;
         }
-        self.say_rr(true, window, effects);
+        self.send_rr(true, window, effects);
     }
 
-    // Sends the outstanding segment again, or the next one.
+    // Sends the outstanding segment again or, if none is outstanding, the next one.
     fn send_again(self, window: &mut Window, effects: &mut Effects)
         requires channel { channel_of window.old ≡ self.channel }
         requires space { length effects.old.frames ≤ 1 }
@@ -164,7 +163,7 @@ impl Address {
             effects.old effects.new }
     {
         if window.on_reject() {
-            self.send_waiting(false, window, effects);
+            self.send_outstanding(false, window, effects);
             return;
         }
         self.send_next(window, effects);
@@ -198,7 +197,7 @@ impl Address {
         self.send_again(window, effects);
     }
 
-    // Takes the segment of an I frame whose N(R) has been evaluated.
+    // Accepts or rejects the segment of an I frame, after the N(R) has been evaluated.
     fn take_segment(
         self,
         ns: u8,

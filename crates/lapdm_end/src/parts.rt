@@ -1,44 +1,44 @@
-//! Reads out the value of an endpoint, and restores it.
+//! Exports the state of an endpoint as plain data, and restores an endpoint from it.
 
 ghost use Rattle.std.specs.Prelude.{◌≡◌, ◌↔◌, ◌<◌, ◌≤◌, [], false, length, IsTrue, IsSome, IfSome};
-ghost use Rattle.lapdm_frame.specs.Layout.{n201, most_information};
-ghost use Rattle.segmenting.specs.Joiners.{HasJoined};
-ghost use Rattle.segmenting.specs.Segments.{longest, most_segments};
+ghost use Rattle.lapdm_frame.specs.Layout.{n201, largest_n201};
+ghost use Rattle.lapdm_window.specs.segmenting.Joiners.{HoldsReassemblyOf};
+ghost use Rattle.lapdm_window.specs.segmenting.Segments.{max_message_octets, max_segments_per_message};
 ghost use Rattle.lapdm_window.specs.Ends.{EndState};
-ghost use Rattle.lapdm_window.specs.Parts.{said_by as window_by};
+ghost use Rattle.lapdm_window.specs.Parts.{values_in as window_by};
 ghost use Rattle.lapdm_end.specs.Addresses.{role_of};
-ghost use Rattle.lapdm_end.specs.Parts.{values_of, said_by, ValuesRepresent, AreOfAnEnd, IsUnused, IsInState, AreConsistent};
+ghost use Rattle.lapdm_end.specs.Parts.{values_of, values_in, ValuesRepresent, AreOfSomeEndpoint, IsUnusedWindow, IsUnusedBeforeOpen};
+ghost use Rattle.lapdm_end.specs.Parts.{AreConsistent};
 ghost use Rattle.lapdm_end.specs.Abstraction.{Represents, channel_of};
 
 use crate::Role;
 use crate::ends::Endpoint;
 use crate::link::Address;
 use lapdm_frame::Channel;
-use lapdm_window::{Sapi, State, WindowParts};
-use segmenting::Part;
+use lapdm_window::{Part, Sapi, State, WindowParts};
 
-/// The value of an endpoint, with borrowed messages and octets. Its channel is that of its window.
+/// The state of an endpoint, with borrowed messages and octets. The window's channel is that of the endpoint.
 #[derive(Clone, Copy, Debug)]
 pub struct EndParts<'a> {
     pub role: Role,
     pub sapi: Sapi,
     pub state: State,
-    /// The information of the SABM that it sent or that opened it.
+    /// The information in the SABM that this endpoint sent, or in the SABM that established its link.
     pub kept: &'a [u8],
-    /// How often the SABM or DISC that awaits an answer was repeated.
+    /// How often the SABM or DISC that awaits an answer has been repeated.
     pub retries: u8,
     pub window: WindowParts<'a>,
 }
 
 impl EndParts<'_> {
-    // Whether these values belong to some endpoint, given that those of the window do.
+    // Whether an endpoint with this state is possible, provided that the state of its window is.
     fn are_consistent(&self) -> bool
-        ensures { IsTrue result ↔ AreConsistent (said_by self.now) }
+        ensures { IsTrue result ↔ AreConsistent (values_in self.now) }
     {
-        self.has_kept() && is_in_state(self.state, &self.window)
+        self.has_valid_kept_information() && is_unused_before_open(self.state, &self.window)
     }
 
-    fn has_kept(&self) -> bool
+    fn has_valid_kept_information(&self) -> bool
         ensures { IsTrue result ↔ ((length self.now.kept.now ≤ n201 self.now.window.channel)
             × (self.now.sapi ≡ Sapi.Three → self.now.kept.now ≡ [])) }
     {
@@ -52,28 +52,28 @@ impl EndParts<'_> {
     }
 }
 
-fn is_in_state(state: State, window: &WindowParts<'_>) -> bool
-    ensures { IsTrue result ↔ IsInState state (window_by window.now) }
+fn is_unused_before_open(state: State, window: &WindowParts<'_>) -> bool
+    ensures { IsTrue result ↔ IsUnusedBeforeOpen state (window_by window.now) }
 {
     match state {
-        State::Idle | State::Opening => is_unused(window),
+        State::Idle | State::Opening => is_unused_window(window),
         State::Open | State::Closing | State::Closed => true,
     }
 }
 
-fn is_unused(window: &WindowParts<'_>) -> bool
-    ensures { IsTrue result ↔ IsUnused (window_by window.now) }
+fn is_unused_window(window: &WindowParts<'_>) -> bool
+    ensures { IsTrue result ↔ IsUnusedWindow (window_by window.now) }
 {
     window.held.is_empty()
         && window.vs == 0
         && window.va == 0
         && window.vr == 0
         && window.done == 0
-        && has_joined_nothing(window.part, window.joined)
+        && has_reassembled_nothing(window.part, window.joined)
 }
 
-fn has_joined_nothing(part: Part, octets: &[u8]) -> bool
-    ensures { IsTrue result ↔ HasJoined part octets.now [] }
+fn has_reassembled_nothing(part: Part, octets: &[u8]) -> bool
+    ensures { IsTrue result ↔ HoldsReassemblyOf part octets.now [] }
 {
     match part {
         Part::Open | Part::Whole => octets.is_empty(),
@@ -96,11 +96,11 @@ impl Endpoint {
     }
 
     pub fn parts(&self) -> EndParts<'_>
-        ensures values { said_by result ≡ values_of self.now }
-        ensures sabm_info { length result.kept.now ≤ most_information }
+        ensures values { values_in result ≡ values_of self.now }
+        ensures sabm_info { length result.kept.now ≤ largest_n201 }
         ensures size { length result.window.held.now ≤ 8 }
-        ensures place { result.window.place < most_segments result.window.channel }
-        ensures most { length result.window.joined.now ≤ longest }
+        ensures place { result.window.place < max_segments_per_message result.window.channel }
+        ensures most { length result.window.joined.now ≤ max_message_octets }
     {
         EndParts {
             role: self.link.role,
@@ -112,12 +112,12 @@ impl Endpoint {
         }
     }
 
-    /// Restores an endpoint from its value. Returns false, and changes nothing, if no endpoint has this value.
+    /// Restores an endpoint from its state. Returns false, and changes nothing, if no endpoint can have this state.
     pub fn restore(&mut self, parts: &EndParts<'_>) -> bool
-        ensures same { IsTrue result → values_of self.new ≡ said_by parts.now }
-        ensures represents { IsTrue result → (e : EndState) → ValuesRepresent (said_by parts.now) e
+        ensures same { IsTrue result → values_of self.new ≡ values_in parts.now }
+        ensures represents { IsTrue result → (e : EndState) → ValuesRepresent (values_in parts.now) e
             → Represents self.new e }
-        ensures known { IsTrue result ↔ AreOfAnEnd (said_by parts.now) }
+        ensures known { IsTrue result ↔ AreOfSomeEndpoint (values_in parts.now) }
         ensures unknown { result ≡ false → self.new ≡ self.old }
     {
         if !parts.are_consistent() || !self.window.restore(&parts.window) {
@@ -134,12 +134,12 @@ impl Endpoint {
         true
     }
 
-    /// The endpoint with this value, if there is one.
+    /// The endpoint with this state, or `None` if no endpoint can have it.
     pub fn from_parts(parts: &EndParts<'_>) -> Option<Endpoint>
-        ensures same { IfSome result (λ end. values_of end ≡ said_by parts.now) }
+        ensures same { IfSome result (λ end. values_of end ≡ values_in parts.now) }
         ensures represents { IfSome result
-            (λ end. (e : EndState) → ValuesRepresent (said_by parts.now) e → Represents end e) }
-        ensures known { IsSome result ↔ AreOfAnEnd (said_by parts.now) }
+            (λ end. (e : EndState) → ValuesRepresent (values_in parts.now) e → Represents end e) }
+        ensures known { IsSome result ↔ AreOfSomeEndpoint (values_in parts.now) }
     {
         let mut end = Endpoint::new_on(parts.role, parts.sapi, parts.window.channel);
         if end.restore(parts) { Some(end) } else { None }

@@ -1,31 +1,31 @@
-//! What an endpoint does with a frame, by state.
+//! Chooses the reply of an endpoint to a received frame, by the endpoint's state.
 
 ghost use Rattle.std.specs.Prelude.{◌≡◌, ◌≤◌, length};
-ghost use Rattle.lapdm_frame.specs.Layout.{most_information};
+ghost use Rattle.lapdm_frame.specs.Layout.{largest_n201};
 ghost use Rattle.lapdm_frame.specs.Content.{content_of};
 ghost use Rattle.lapdm_frame.specs.Frames.{InformationFits};
 ghost use Rattle.lapdm_window.specs.Ends.{EndState};
-ghost use Rattle.lapdm_window.specs.Tables.{is_taken, is_poll, dm_to_poll, unit_reply};
+ghost use Rattle.lapdm_window.specs.Tables.{is_accepted_kind, is_poll, dm_to_poll, reply_to_ui};
 ghost use Rattle.lapdm_end.specs.declared.ends.Endpoint.{Endpoint as LinkEnd};
-ghost use Rattle.lapdm_end.specs.Replies.{reply_of, IsReady};
+ghost use Rattle.lapdm_end.specs.Replies.{reply_of, IsPossibleReply};
 
 use crate::Role;
 use crate::ends::Endpoint;
 use lapdm_frame::Body;
 use lapdm_window::{Reason, Sapi, State};
 
-/// The reply to a frame.
+/// What an endpoint does in reply to a frame.
 #[derive(Clone, Copy, PartialEq, Eq, Debug)]
 pub(crate) enum Reply<'a> {
     Nothing,
     Dm,
     Ua(&'a [u8]),
-    // The other endpoint establishes the link: answer UA.
+    // The other endpoint establishes the link; answer UA.
     OpenedBy(&'a [u8]),
-    // The link that this endpoint asked for is established.
+    // The establishment that this endpoint started is confirmed.
     Opened(&'a [u8]),
     Closed(Reason),
-    // The other endpoint releases the link: answer UA.
+    // The other endpoint releases the link; answer UA.
     Released,
     Unit(&'a [u8]),
     I {
@@ -45,9 +45,9 @@ pub(crate) enum Reply<'a> {
     },
 }
 
-// Whether a kind is accepted at all, as a command or as a response.
-pub(crate) fn is_taken(command: bool, body: &Body<'_>) -> bool
-    ensures { result ≡ is_taken command (content_of body.now) }
+// Whether an endpoint accepts frames of this kind at all, as a command or as a response.
+pub(crate) fn is_accepted_kind(command: bool, body: &Body<'_>) -> bool
+    ensures { result ≡ is_accepted_kind command (content_of body.now) }
 {
     match *body {
         Body::I { .. } | Body::Sabm { .. } | Body::Ui { .. } | Body::Disc { .. } => command,
@@ -67,18 +67,18 @@ fn is_poll(command: bool, body: &Body<'_>) -> bool
     }
 }
 
-fn dm_if<'a>(poll: bool) -> Reply<'a>
+fn dm_if_polled<'a>(poll: bool) -> Reply<'a>
     ensures reply { reply_of result ≡ dm_to_poll poll }
-    ensures ready { (m : LinkEnd) → IsReady m result }
+    ensures ready { (m : LinkEnd) → IsPossibleReply m result }
 {
     if poll { Reply::Dm } else { Reply::Nothing }
 }
 
-// A UI frame with information is reported.
+// The reply to a UI frame: its information, if it has any, is reported.
 fn unit<'a>(info: &'a [u8]) -> Reply<'a>
-    requires information { length info.now ≤ most_information }
-    ensures reply { reply_of result ≡ unit_reply info.now }
-    ensures ready { (m : LinkEnd) → IsReady m result }
+    requires information { length info.now ≤ largest_n201 }
+    ensures reply { reply_of result ≡ reply_to_ui info.now }
+    ensures ready { (m : LinkEnd) → IsPossibleReply m result }
 {
     if info.is_empty() {
         Reply::Nothing
@@ -92,23 +92,24 @@ impl Endpoint {
     ghost use Rattle.lapdm_frame.specs.Layout.{n201};
     ghost use Rattle.lapdm_window.specs.declared.State.TheVariants as S;
     ghost use Rattle.lapdm_frame.specs.Frames.{NumbersFit};
-    ghost use Rattle.lapdm_window.specs.Tables.{sabm_in_idle, in_idle, sabm_in_opening, ua_in_opening, in_opening, sabm_in_open, in_open};
-    ghost use Rattle.lapdm_window.specs.Tables.{in_closing, in_closed, in_state, reply};
+    ghost use Rattle.lapdm_window.specs.Tables.{reply_to_sabm_in_idle, reply_in_idle, reply_to_sabm_in_opening, reply_to_ua_in_opening};
+    ghost use Rattle.lapdm_window.specs.Tables.{reply_in_opening, reply_to_sabm_in_open, reply_in_open};
+    ghost use Rattle.lapdm_window.specs.Tables.{reply_in_closing, reply_in_closed, in_state, reply};
     ghost use Rattle.lapdm_end.specs.Abstraction.{Represents, channel_of, state_of};
 
-    // Whether this is the information of the SABM sent.
-    fn is_kept(&self, info: &[u8]) -> bool
+    // Whether this information equals the information of the SABM that was sent.
+    fn equals_kept_information(&self, info: &[u8]) -> bool
         ensures { (e : EndState) → Represents self.now e → result ≡ bytes_eq info.now e.kept }
     {
         info == self.kept.octets()
     }
 
-    fn to_sabm_in_idle<'a>(&self, info: &'a [u8]) -> Reply<'a>
+    fn reply_to_sabm_in_idle<'a>(&self, info: &'a [u8]) -> Reply<'a>
         requires idle { state_of self.now ≡ S.Idle }
         requires information { length info.now ≤ n201 (channel_of self.now) }
         ensures reply { (e : EndState) → Represents self.now e
-            → reply_of result ≡ sabm_in_idle e.sapi e.role info.now }
-        ensures ready { IsReady self.now result }
+            → reply_of result ≡ reply_to_sabm_in_idle e.sapi e.role info.now }
+        ensures ready { IsPossibleReply self.now result }
     {
         match (self.link.sapi, self.link.role) {
             (Sapi::Zero, Role::Mobile) => Reply::Dm,
@@ -129,25 +130,25 @@ impl Endpoint {
         }
     }
 
-    fn in_idle<'a>(&self, poll: bool, body: &Body<'a>) -> Reply<'a>
+    fn reply_in_idle<'a>(&self, poll: bool, body: &Body<'a>) -> Reply<'a>
         requires idle { state_of self.now ≡ S.Idle }
         requires information { InformationFits (channel_of self.now) (content_of body.now) }
         ensures reply { (e : EndState) → Represents self.now e
-            → reply_of result ≡ in_idle poll (content_of body.now) e }
-        ensures ready { IsReady self.now result }
+            → reply_of result ≡ reply_in_idle poll (content_of body.now) e }
+        ensures ready { IsPossibleReply self.now result }
     {
         match *body {
-            Body::Sabm { info, .. } => self.to_sabm_in_idle(info),
+            Body::Sabm { info, .. } => self.reply_to_sabm_in_idle(info),
             Body::Disc { .. } => Reply::Dm,
-            _ => dm_if(poll),
+            _ => dm_if_polled(poll),
         }
     }
 
-    fn to_sabm_in_opening<'a>(&self, info: &'a [u8]) -> Reply<'a>
+    fn reply_to_sabm_in_opening<'a>(&self, info: &'a [u8]) -> Reply<'a>
         requires information { length info.now ≤ n201 (channel_of self.now) }
         ensures reply { (e : EndState) → Represents self.now e
-            → reply_of result ≡ sabm_in_opening e.sapi info.now }
-        ensures ready { IsReady self.now result }
+            → reply_of result ≡ reply_to_sabm_in_opening e.sapi info.now }
+        ensures ready { IsPossibleReply self.now result }
     {
         match self.link.sapi {
             Sapi::Zero => Reply::Nothing,
@@ -161,15 +162,15 @@ impl Endpoint {
         }
     }
 
-    // On SAPI 0 a UA with other information answers another mobile.
-    fn to_ua_in_opening<'a>(&self, info: &'a [u8]) -> Reply<'a>
+    // The reply to a UA in Opening. On SAPI 0 a UA with other information is meant for another mobile.
+    fn reply_to_ua_in_opening<'a>(&self, info: &'a [u8]) -> Reply<'a>
         requires opening { state_of self.now ≡ S.Opening }
         requires information { length info.now ≤ n201 (channel_of self.now) }
         ensures reply { (e : EndState) → Represents self.now e
-            → reply_of result ≡ ua_in_opening info.now e }
-        ensures ready { IsReady self.now result }
+            → reply_of result ≡ reply_to_ua_in_opening info.now e }
+        ensures ready { IsPossibleReply self.now result }
     {
-        if self.is_kept(info) {
+        if self.equals_kept_information(info) {
             return Reply::Opened(info);
         }
         match self.link.sapi {
@@ -178,45 +179,45 @@ impl Endpoint {
         }
     }
 
-    fn in_opening<'a>(&self, body: &Body<'a>) -> Reply<'a>
+    fn reply_in_opening<'a>(&self, body: &Body<'a>) -> Reply<'a>
         requires opening { state_of self.now ≡ S.Opening }
         requires information { InformationFits (channel_of self.now) (content_of body.now) }
         ensures reply { (e : EndState) → Represents self.now e
-            → reply_of result ≡ in_opening (content_of body.now) e }
-        ensures ready { IsReady self.now result }
+            → reply_of result ≡ reply_in_opening (content_of body.now) e }
+        ensures ready { IsPossibleReply self.now result }
     {
         match *body {
-            Body::Sabm { info, .. } => self.to_sabm_in_opening(info),
-            Body::Ua { f: true, info } => self.to_ua_in_opening(info),
+            Body::Sabm { info, .. } => self.reply_to_sabm_in_opening(info),
+            Body::Ua { f: true, info } => self.reply_to_ua_in_opening(info),
             Body::Dm { f: true } => Reply::Closed(Reason::Refused),
             Body::Disc { .. } => Reply::Dm,
             _ => Reply::Nothing,
         }
     }
 
-    fn to_sabm_in_open<'a>(&self, info: &'a [u8]) -> Reply<'a>
+    fn reply_to_sabm_in_open<'a>(&self, info: &'a [u8]) -> Reply<'a>
         requires information { length info.now ≤ n201 (channel_of self.now) }
         ensures reply { (e : EndState) → Represents self.now e
-            → reply_of result ≡ sabm_in_open info.now e }
-        ensures ready { IsReady self.now result }
+            → reply_of result ≡ reply_to_sabm_in_open info.now e }
+        ensures ready { IsPossibleReply self.now result }
     {
         if let (Sapi::Zero, Role::Mobile) = (self.link.sapi, self.link.role) {
             return Reply::Nothing;
         }
-        if self.is_kept(info) {
+        if self.equals_kept_information(info) {
             Reply::Ua(info)
         } else {
             Reply::Nothing
         }
     }
 
-    fn in_open<'a>(&self, command: bool, body: &Body<'a>) -> Reply<'a>
+    fn reply_in_open<'a>(&self, command: bool, body: &Body<'a>) -> Reply<'a>
         requires open { state_of self.now ≡ S.Open }
         requires numbers { NumbersFit (content_of body.now) }
         requires information { InformationFits (channel_of self.now) (content_of body.now) }
         ensures reply { (e : EndState) → Represents self.now e
-            → reply_of result ≡ in_open command (content_of body.now) e }
-        ensures ready { IsReady self.now result }
+            → reply_of result ≡ reply_in_open command (content_of body.now) e }
+        ensures ready { IsPossibleReply self.now result }
     {
         match *body {
             Body::I {
@@ -240,16 +241,16 @@ impl Endpoint {
                 nr,
                 poll: command && pf,
             },
-            Body::Sabm { info, .. } => self.to_sabm_in_open(info),
+            Body::Sabm { info, .. } => self.reply_to_sabm_in_open(info),
             Body::Disc { .. } => Reply::Released,
             Body::Dm { .. } => Reply::Closed(Reason::Failed),
             _ => Reply::Nothing,
         }
     }
 
-    fn in_closing<'a>(&self, body: &Body<'a>) -> Reply<'a>
-        ensures reply { reply_of result ≡ in_closing (content_of body.now) }
-        ensures ready { IsReady self.now result }
+    fn reply_in_closing<'a>(&self, body: &Body<'a>) -> Reply<'a>
+        ensures reply { reply_of result ≡ reply_in_closing (content_of body.now) }
+        ensures ready { IsPossibleReply self.now result }
     {
         match *body {
             Body::Ua { f: true, info } => {
@@ -265,13 +266,13 @@ impl Endpoint {
         }
     }
 
-    fn in_closed<'a>(&self, poll: bool, body: &Body<'a>) -> Reply<'a>
-        ensures reply { reply_of result ≡ in_closed poll (content_of body.now) }
-        ensures ready { IsReady self.now result }
+    fn reply_in_closed<'a>(&self, poll: bool, body: &Body<'a>) -> Reply<'a>
+        ensures reply { reply_of result ≡ reply_in_closed poll (content_of body.now) }
+        ensures ready { IsPossibleReply self.now result }
     {
         match *body {
             Body::Sabm { .. } | Body::Disc { .. } => Reply::Dm,
-            _ => dm_if(poll),
+            _ => dm_if_polled(poll),
         }
     }
 
@@ -280,24 +281,24 @@ impl Endpoint {
         requires information { InformationFits (channel_of self.now) (content_of body.now) }
         ensures reply { (e : EndState) → Represents self.now e
             → reply_of result ≡ in_state e.state command (content_of body.now) e }
-        ensures ready { IsReady self.now result }
+        ensures ready { IsPossibleReply self.now result }
     {
         match self.state {
-            State::Idle => self.in_idle(is_poll(command, body), body),
-            State::Opening => self.in_opening(body),
-            State::Open => self.in_open(command, body),
-            State::Closing => self.in_closing(body),
-            State::Closed => self.in_closed(is_poll(command, body), body),
+            State::Idle => self.reply_in_idle(is_poll(command, body), body),
+            State::Opening => self.reply_in_opening(body),
+            State::Open => self.reply_in_open(command, body),
+            State::Closing => self.reply_in_closing(body),
+            State::Closed => self.reply_in_closed(is_poll(command, body), body),
         }
     }
 
-    /// The reply to a frame of the endpoint's SAPI, of a kind that is accepted.
+    /// The reply to a frame of the endpoint's SAPI, if frames of its kind are accepted.
     pub(crate) fn reply<'a>(&self, command: bool, body: &Body<'a>) -> Reply<'a>
         requires numbers { NumbersFit (content_of body.now) }
         requires information { InformationFits (channel_of self.now) (content_of body.now) }
         ensures reply { (e : EndState) → Represents self.now e
             → reply_of result ≡ reply command (content_of body.now) e }
-        ensures ready { IsReady self.now result }
+        ensures ready { IsPossibleReply self.now result }
     {
         if let Body::Ui { info, .. } = *body {
             return unit(info);

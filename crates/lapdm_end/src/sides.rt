@@ -1,11 +1,11 @@
-//! A side, mobile or network: its endpoints of SAPI 0 and SAPI 3.
+//! A side (mobile or network): its endpoints for SAPI 0 and SAPI 3.
 
 ghost use Rattle.std.specs.Prelude.{◌≡◌, ◌≢◌, OnOk, OnErr};
 ghost use Rattle.lapdm_frame.specs.Content.{frame_of};
 ghost use Rattle.lapdm_frame.specs.Frames.{Fits};
 ghost use Rattle.lapdm_window.specs.declared.Sapi.TheVariants as S;
-ghost use Rattle.lapdm_window.specs.Calls.{call_of, IsOfSapi};
-ghost use Rattle.lapdm_window.specs.Sides.{idle_side, asks, takes};
+ghost use Rattle.lapdm_window.specs.Calls.{call_of, IsCallOfSapi};
+ghost use Rattle.lapdm_window.specs.Sides.{idle_side, layer3_calls, takes};
 ghost use Rattle.lapdm_end.specs.Addresses.{role_of};
 ghost use Rattle.lapdm_end.specs.Abstraction.{channel_of as end_channel, sapi_of};
 ghost use Rattle.lapdm_end.specs.Refinement.{IsRefusedAs};
@@ -15,7 +15,7 @@ use crate::ends::Endpoint;
 use lapdm_frame::{Channel, FrameView};
 use lapdm_window::{Call, Effects, Refused, Sapi};
 
-/// Both endpoints of the mobile, or both of the network.
+/// Both endpoints of a mobile, or both endpoints of a network.
 #[derive(Debug, Drop)]
 pub struct Side {
     pub(crate) link0: Endpoint,
@@ -39,8 +39,8 @@ impl Side {
         }
     }
 
-    /// Carries out a call of layer 3 to the endpoint of this SAPI. Overwrites `effects`,
-    /// unless the call is refused.
+    /// Carries out a call of layer 3 to the endpoint of this SAPI and replaces the contents of `effects`; if the call is refused, `effects`
+    /// stays as it is.
     #[inline(always)]
     pub fn call(
         &mut self,
@@ -48,10 +48,10 @@ impl Side {
         call: &Call<'_>,
         effects: &mut Effects,
     ) -> Result<(), Refused>
-        requires { IsOfSapi sapi (call_of call.now) }
+        requires { IsCallOfSapi sapi (call_of call.now) }
         ensures refusal { IsRefusedAs (call_of call.now) (link_of sapi self.old) result }
         ensures refines { OnOk result
-            (Refines (asks sapi (call_of call.now)) self.old sapi effects.new self.new) }
+            (Refines (layer3_calls sapi (call_of call.now)) self.old sapi effects.new self.new) }
         ensures others { link_of (other sapi) self.new ≡ link_of (other sapi) self.old }
         ensures refused { OnErr result (self.new ≡ self.old) }
         ensures out_unchanged { OnErr result (effects.new ≡ effects.old) }
@@ -63,8 +63,8 @@ impl Side {
         }
     }
 
-    /// Gives the frame to the endpoint of its SAPI. Returns that SAPI, or 0 for a SAPI
-    /// without endpoint. Overwrites `effects`.
+    /// Passes a received frame to the endpoint of its SAPI and replaces the contents of `effects`. Returns that SAPI, or 0 if no endpoint
+    /// has the frame's SAPI.
     pub fn take(&mut self, frame: &FrameView<'_>, effects: &mut Effects) -> Sapi
         requires { Fits (channel_of self.old) (frame_of frame.now) }
         ensures refines { Refines (takes (frame_of frame.now)) self.old result effects.new self.new }

@@ -6,20 +6,19 @@ ghost use Rattle.lapdm_frame.specs.Content.{content_of, frame_of};
 ghost use Rattle.lapdm_frame.specs.Frames.{NumbersFit, InformationFits, Fits, octets_of};
 ghost use Rattle.lapdm_window.specs.declared.State.TheVariants as S;
 ghost use Rattle.lapdm_window.specs.Ends.{EndState, response};
-ghost use Rattle.lapdm_window.specs.Tables.{IsReleased, IsOpenedBy, becomes_open, becomes_closed, outcome_of, after_frame};
+ghost use Rattle.lapdm_window.specs.Tables.{AcceptsDisc, AcceptsSabm, opens_and_reports, closes_and_reports, outcome_of, after_frame};
 
 use crate::ends::Endpoint;
-use crate::replies::{Reply, is_taken};
+use crate::replies::{Reply, is_accepted_kind};
 use lapdm_frame::{Body, FrameView};
-use lapdm_window::{Effects, Message, Notice, Reason, State};
-use segmenting::Piece;
+use lapdm_window::{Effects, Message, Notice, Piece, Reason, State};
 
 impl Endpoint {
-    ghost use Rattle.lapdm_end.specs.Replies.{reply_of, IsReady, MayBeOpenedBy};
+    ghost use Rattle.lapdm_end.specs.Replies.{reply_of, IsPossibleReply, MayAcceptSabmWith};
     ghost use Rattle.lapdm_end.specs.Abstraction.{Represents, channel_of, sapi_of, state_of};
-    ghost use Rattle.lapdm_end.specs.Refinement.{Refines, RefinesAdding};
+    ghost use Rattle.lapdm_end.specs.Refinement.{Refines, RefinesByAppending};
 
-    /// Receives a frame. Overwrites `effects`.
+    /// Processes a received frame and replaces the contents of `effects`.
     pub fn take_into(&mut self, frame: &FrameView<'_>, effects: &mut Effects)
         requires { Fits (channel_of self.old) (frame_of frame.now) }
         ensures refines { Refines (after_frame (frame_of frame.now)) self.old effects.new self.new }
@@ -28,18 +27,18 @@ impl Endpoint {
     {
         effects.clear();
         let command = frame.cr != self.link.command_cr();
-        if frame.sapi != self.link.sapi_number() || !is_taken(command, &frame.body) {
+        if frame.sapi != self.link.sapi_number() || !is_accepted_kind(command, &frame.body) {
             return;
         }
         let reply = self.reply(command, &frame.body);
-        self.carry_out(reply, effects);
+        self.carry_out_reply(reply, effects);
     }
 
-    fn carry_out(&mut self, reply: Reply<'_>, effects: &mut Effects)
-        requires ready { IsReady self.old reply }
+    fn carry_out_reply(&mut self, reply: Reply<'_>, effects: &mut Effects)
+        requires ready { IsPossibleReply self.old reply }
         requires no_frames { effects.old.frames ≡ [] }
         requires no_notices { effects.old.notices ≡ [] }
-        ensures refines { RefinesAdding (outcome_of (reply_of reply.entry)) self.old self.new effects.old effects.new }
+        ensures refines { RefinesByAppending (outcome_of (reply_of reply.entry)) self.old self.new effects.old effects.new }
         ensures sapi { sapi_of self.new ≡ sapi_of self.old }
         ensures channel { channel_of self.new ≡ channel_of self.old }
     {
@@ -47,10 +46,10 @@ impl Endpoint {
             Reply::Nothing => {}
             Reply::Dm => self.answer(Body::Dm { f: true }, effects),
             Reply::Ua(info) => self.answer(Body::Ua { f: true, info }, effects),
-            Reply::OpenedBy(info) => self.be_opened(info, effects),
-            Reply::Opened(info) => self.go_open(info, effects),
-            Reply::Closed(reason) => self.end_with(reason, effects),
-            Reply::Released => self.be_released(effects),
+            Reply::OpenedBy(info) => self.accept_sabm(info, effects),
+            Reply::Opened(info) => self.confirm_establishment(info, effects),
+            Reply::Closed(reason) => self.close_and_report(reason, effects),
+            Reply::Released => self.accept_disc(effects),
             Reply::Unit(info) => effects.notices.push(Notice::Unit(Message::new(info))),
             Reply::I {
                 ns,
@@ -68,7 +67,7 @@ impl Endpoint {
         }
     }
 
-    // Sends a response.
+    // Appends a response to the effects.
     fn answer(&self, body: Body<'_>, effects: &mut Effects)
         requires numbers { NumbersFit (content_of body) }
         requires information { InformationFits (channel_of self.now) (content_of body) }
@@ -81,12 +80,12 @@ impl Endpoint {
         self.link.respond(body, effects);
     }
 
-    // The other endpoint establishes the link.
-    fn be_opened(&mut self, info: &[u8], effects: &mut Effects)
-        requires may { MayBeOpenedBy self.old info.now }
+    // The other endpoint establishes the link: keeps the information, enters Open and answers UA.
+    fn accept_sabm(&mut self, info: &[u8], effects: &mut Effects)
+        requires may { MayAcceptSabmWith self.old info.now }
         requires no_frames { effects.old.frames ≡ [] }
         requires no_notices { effects.old.notices ≡ [] }
-        ensures refines { RefinesAdding (outcome_of (IsOpenedBy info.now)) self.old self.new effects.old effects.new }
+        ensures refines { RefinesByAppending (outcome_of (AcceptsSabm info.now)) self.old self.new effects.old effects.new }
         ensures sapi { sapi_of self.new ≡ sapi_of self.old }
         ensures channel { channel_of self.new ≡ channel_of self.old }
     {
@@ -96,12 +95,12 @@ impl Endpoint {
         self.answer(Body::Ua { f: true, info }, effects);
     }
 
-    // The link that this endpoint asked for is established.
-    fn go_open(&mut self, info: &[u8], effects: &mut Effects)
+    // The establishment that this endpoint started is confirmed: enters Open and reports it.
+    fn confirm_establishment(&mut self, info: &[u8], effects: &mut Effects)
         requires opening { state_of self.old ≡ S.Opening }
         requires information { length info.now ≤ n201 (channel_of self.old) }
         requires no_notices { effects.old.notices ≡ [] }
-        ensures refines { RefinesAdding (becomes_open info.now) self.old self.new effects.old effects.new }
+        ensures refines { RefinesByAppending (opens_and_reports info.now) self.old self.new effects.old effects.new }
         ensures sapi { sapi_of self.new ≡ sapi_of self.old }
         ensures channel { channel_of self.new ≡ channel_of self.old }
     {
@@ -109,10 +108,10 @@ impl Endpoint {
         effects.notices.push(Notice::Opened(Message::new(info)));
     }
 
-    pub(crate) fn end_with(&mut self, reason: Reason, effects: &mut Effects)
+    pub(crate) fn close_and_report(&mut self, reason: Reason, effects: &mut Effects)
         requires no_notices { effects.old.notices ≡ [] }
         ensures frames { effects.new.frames ≡ effects.old.frames }
-        ensures refines { RefinesAdding (becomes_closed reason) self.old self.new effects.old effects.new }
+        ensures refines { RefinesByAppending (closes_and_reports reason) self.old self.new effects.old effects.new }
         ensures sapi { sapi_of self.new ≡ sapi_of self.old }
         ensures channel { channel_of self.new ≡ channel_of self.old }
     {
@@ -120,15 +119,15 @@ impl Endpoint {
         effects.notices.push(Notice::Closed(reason));
     }
 
-    // The other endpoint releases the link.
-    fn be_released(&mut self, effects: &mut Effects)
+    // The other endpoint releases the link: enters Closed, reports it and answers UA.
+    fn accept_disc(&mut self, effects: &mut Effects)
         requires no_frames { effects.old.frames ≡ [] }
         requires no_notices { effects.old.notices ≡ [] }
-        ensures refines { RefinesAdding (outcome_of IsReleased) self.old self.new effects.old effects.new }
+        ensures refines { RefinesByAppending (outcome_of AcceptsDisc) self.old self.new effects.old effects.new }
         ensures sapi { sapi_of self.new ≡ sapi_of self.old }
         ensures channel { channel_of self.new ≡ channel_of self.old }
     {
-        self.end_with(Reason::Released, effects);
+        self.close_and_report(Reason::Released, effects);
         let body = Body::Ua { f: true, info: &[] };
         self.answer(body, effects);
     }

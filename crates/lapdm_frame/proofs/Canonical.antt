@@ -1,26 +1,20 @@
 -- The canonical octets of a frame: exactly one list is canonical, and it reads back as that frame.
-use Rattle.std.proofs.Common.{◌≡◌, ℕ, zero, suc, ◌+◌, ◌-◌, ◌<◌, ◌≤◌, List, [], ◌∷◌, ◌++◌, length}
-use Rattle.std.proofs.Common.{get_or, set, take, drop, replicate, refl, sym, ap, ◌∙◌, inl, inr, arith}
+use Rattle.std.proofs.Common.{◌≡◌, ℕ, zero, suc, ◌+◌, ◌-◌, ◌<◌, ◌≤◌, List, [], ◌∷◌, ◌++◌, length, get_or, set, take, drop, replicate, refl}
+use Rattle.std.proofs.{Common.{sym, ap, ◌∙◌, inl, inr, arith}, lemmas.{Bool.{cases_lt, cases_eq}, List.{length-append, length-replicate}}}
+use Rattle.std.proofs.lemmas.List.{get_or-replicate, get_or-take, get_or-drop, get_or-append_right, take_at, drop-replicate, ext_get_or}
 use Rattle.std.specs.Prelude.{slice_range}
-use Rattle.std.proofs.lemmas.Bool.{cases_lt, cases_eq}
-use Rattle.std.proofs.lemmas.List.{length-append, length-replicate, get_or-replicate, get_or-take, get_or-drop, get_or-append_right}
-use Rattle.std.proofs.lemmas.List.{take_at, drop-replicate, ext_get_or}
 use borrow.Rule.Slice.PartMut.{put_mid}
-use Rattle.lapdm_frame.specs.declared.Channel.{Channel}
-use Rattle.lapdm_frame.specs.declared.Channel.TheVariants.{Sdcch, Sacch}
-use Rattle.lapdm_frame.specs.Layout.{header, n201}
-use Rattle.lapdm_frame.specs.Content.{Frame, information}
-use Rattle.lapdm_frame.specs.Frames.{address, control, length_octet, Fits, IsFrame, IsCanonical, octets_of}
-use Rattle.lapdm_frame.specs.Readings.{IsOnlyCanonical}
-use Rattle.lapdm_frame.proofs.Uniqueness.{information_bound, only_frame}
+use Rattle.lapdm_frame.specs.{declared.Channel.{Channel, TheVariants.{Sdcch, Sacch}}, Layout.{layer1_octets, n201}, Content.Frame}
+use Rattle.lapdm_frame.specs.{Content.information, Frames.{address, control, length_octet, Fits, IsFrame, IsCanonical, octets_of}}
+use Rattle.lapdm_frame.{specs.Readings.IsOnlyCanonical, proofs.Uniqueness.{information_bound, only_frame}}
 
 information_at : (o : List ℕ) (start n k : ℕ) → k < n → get_or (slice_range o start (start + n)) k 0 ≡ get_or o (start + k) 0
 information_at o start n k below = let within : k < start + n - start = omega arith in rw (get_or-take, get_or-drop)
 
 same_information : (channel : Channel) (f : Frame) (o p : List ℕ) → IsFrame channel f o → IsFrame channel f p → (k : ℕ) →
-    header channel + 3 ≤ k → k < header channel + 3 + length (information f.content) → get_or o k 0 ≡ get_or p k 0
+    layer1_octets channel + 3 ≤ k → k < layer1_octets channel + 3 + length (information f.content) → get_or o k 0 ≡ get_or p k 0
 same_information channel f o p is_o is_p k low high =
-    let start = header channel + 3 in
+    let start = layer1_octets channel + 3 in
     let n = length (information f.content) in
     let i = k - start in
     let within : i < n = omega arith in
@@ -33,7 +27,7 @@ same_information channel f o p is_o is_p k low high =
 same_octet : (channel : Channel) (f : Frame) (o p : List ℕ) → IsCanonical channel f o → IsCanonical channel f p → (k : ℕ) → k < length o →
     get_or o k 0 ≡ get_or p k 0
 same_octet channel f o p is_o is_p k within =
-    let start = header channel in
+    let start = layer1_octets channel in
     elim (cases_lt k start) [
       | inl before ↦ is_o.before k before ∙ sym (is_p.before k before)
       | inr from ↦ elim (cases_lt k (start + 3)) [
@@ -75,7 +69,7 @@ module _ (size : ℕ) (info : List ℕ) (fits : length info ≤ size) where
       get_or-append_right info (replicate (size - length info) 0x2b) (length info) k 0 refl low
       ∙ get_or-replicate (size - length info) (k - length info) 0x2b 0 within
 
--- an octet after the first three (SDCCH) or five (SACCH)
+-- the octet with index k of a block, if k is past the first three octets (SDCCH) or the first five (SACCH)
 past_sdcch : (a b c : ℕ) (xs : List ℕ) (k : ℕ) → 3 ≤ k → get_or (a ∷ b ∷ c ∷ xs) k 0 ≡ get_or xs (k - 3) 0
 past_sdcch a b c xs k low = get_or-append_right (a ∷ b ∷ c ∷ []) xs 3 k 0 refl low
 
@@ -138,7 +132,7 @@ only_canonical channel f fits =
       reads_back = only_frame channel f (octets_of channel f) canonical.frame;
     }
 
--- a block of fill over which the writer puts address a, control k, length l and information
+-- the octets that the writer produces: a block of fill, overwritten from index `start` by address a, control k, length l and `info`
 abbrev pub overwritten : (start a k l : ℕ) → (zeros info : List ℕ) → List ℕ
 overwritten start a k l zeros info = put_mid (start + 3) (start + 3 + length info - (start + 3))
     (set (set (set (zeros ++ drop start (replicate {A = ℕ} 23 0x2b)) start a) (start + 1) k) (start + 2) l) info
@@ -147,7 +141,8 @@ fill_left : (size before : ℕ) (info : List ℕ) → drop (before + length info
     ≡ replicate (size - length info) 0x2b
 fill_left size before info = let e : before + length info - before ≡ length info = omega arith in rw (e, drop-replicate)
 
-pub written : (channel : Channel) (a k l : ℕ) (info : List ℕ) → overwritten (header channel) a k l (replicate (header channel) 0) info
-    ≡ replicate (header channel) 0 ++ a ∷ k ∷ l ∷ [] ++ info ++ replicate (n201 channel - length info) 0x2b
+pub written : (channel : Channel) (a k l : ℕ) (info : List ℕ) →
+    overwritten (layer1_octets channel) a k l (replicate (layer1_octets channel) 0) info
+    ≡ replicate (layer1_octets channel) 0 ++ a ∷ k ∷ l ∷ [] ++ info ++ replicate (n201 channel - length info) 0x2b
 written Sdcch a k l info = ap (λ xs. a ∷ k ∷ l ∷ (info ++ xs)) (fill_left 20 3 info)
 written Sacch a k l info = ap (λ xs. 0 ∷ 0 ∷ a ∷ k ∷ l ∷ (info ++ xs)) (fill_left 18 5 info)

@@ -1,13 +1,11 @@
 -- A control octet determines its content, apart from the information and the M bit.
-use Rattle.std.proofs.Common.{◌≡◌, ℕ, ◌≤◌, Bool, true, false, List, [], Some, refl, subst, arith}
-use Rattle.std.specs.Prelude.{slice_get}
-use Rattle.lapdm_frame.specs.declared.Kind.{Kind}
+use Rattle.std.{proofs.Common.{◌≡◌, ℕ, ◌≤◌, Bool, true, false, List, [], Some, refl, subst, arith}, specs.Prelude.slice_get}
+use Rattle.lapdm_frame.specs.{declared.Kind.Kind, Content.{Content, I, Fields, kinds, kind_number, fields_of, content_with, information}}
+use Rattle.lapdm_frame.specs.{Content.more_follows, Frames.bit, Refusals.{IsControlOctetOf, IsInformationFrame, lacks_information}}
+use Rattle.lapdm_frame.specs.Refusals.{HasNoInformation}
 use Rattle.lapdm_frame.specs.declared.Kind.TheVariants as K
-use Rattle.lapdm_frame.specs.Content.{Content, I, Fields, kinds, kind_number, fields_of, content_with, information, more_follows}
-use Rattle.lapdm_frame.specs.Frames.{bit}
-use Rattle.lapdm_frame.specs.Refusals.{IsControl, IsInformationFrame, lacks_information, HasNoInformation}
 
--- the content with other information, and another M bit if it is an I frame
+-- the content with its information replaced, and in an I frame also its M bit
 abbrev pub with_information : Content → Bool → List ℕ → Content
 with_information a goes info = let f = fields_of a in content_with f.kind f.ns f.nr f.pf goes info
 
@@ -28,7 +26,7 @@ record SameFields (f g : Fields) : Type 0 where
   pub final : bit f.pf ≡ bit g.pf
 
 -- the first two clauses split both contents into their kinds
-same_fields : (octet : ℕ) (a b : Content) → IsControl octet a → IsControl octet b → SameFields (fields_of a) (fields_of b)
+same_fields : (octet : ℕ) (a b : Content) → IsControlOctetOf octet a → IsControlOctetOf octet b → SameFields (fields_of a) (fields_of b)
 same_fields octet (I ns nr p more info) (I ns' nr' p' more' info') h h' = record {
   number = omega (arith, bit_bound);
   sent = omega (arith, bit_bound);
@@ -52,15 +50,15 @@ number_kind : (kind : Kind) → slice_get kinds (kind_number kind) ≡ Some kind
 number_kind K.I = refl
 number_kind other = refl
 
-same_kind : (octet : ℕ) (a b : Content) → IsControl octet a → IsControl octet b → (fields_of a).kind ≡ (fields_of b).kind
+same_kind : (octet : ℕ) (a b : Content) → IsControlOctetOf octet a → IsControlOctetOf octet b → (fields_of a).kind ≡ (fields_of b).kind
 same_kind octet a b h h' =
     let one = number_kind (fields_of a).kind in
     let other = number_kind (fields_of b).kind in
     let same = (same_fields octet a b h h').number in
     cc
 
--- two contents with the same control octet differ in information and M bit only
-pub same_control : (octet : ℕ) (a b : Content) → IsControl octet a → IsControl octet b → (goes : Bool) (info : List ℕ) →
+-- two contents with the same control octet differ only in their information and M bit
+pub same_control : (octet : ℕ) (a b : Content) → IsControlOctetOf octet a → IsControlOctetOf octet b → (goes : Bool) (info : List ℕ) →
     with_information a goes info ≡ with_information b goes info
 same_control octet a b h h' goes info =
     let same = same_fields octet a b h h' in
@@ -72,7 +70,7 @@ with_own_information (I ns nr p more info) = refl
 with_own_information other = refl
 
 -- two contents with the same control octet, information and M bit are equal
-pub same_content : (octet : ℕ) (a b : Content) → IsControl octet a → IsControl octet b → more_follows a ≡ more_follows b →
+pub same_content : (octet : ℕ) (a b : Content) → IsControlOctetOf octet a → IsControlOctetOf octet b → more_follows a ≡ more_follows b →
     information a ≡ information b → a ≡ b
 same_content octet a b h h' going informing =
     let own = with_own_information a in
@@ -81,11 +79,13 @@ same_content octet a b h h' going informing =
     cc
 
 -- if one content of a control octet has no information, no content of that octet has any
-pub no_information : (octet : ℕ) (a b : Content) → IsControl octet a → IsControl octet b → HasNoInformation a → HasNoInformation b
+pub no_information : (octet : ℕ) (a b : Content) → IsControlOctetOf octet a → IsControlOctetOf octet b → HasNoInformation a →
+    HasNoInformation b
 no_information octet a b h h' none = subst (λ kind. lacks_information kind ≡ true) (same_kind octet a b h h') none
 
--- if one content of a control octet is an I frame, every content of that octet is one
-pub information_frame : (octet : ℕ) (a b : Content) → IsControl octet a → IsControl octet b → IsInformationFrame a → IsInformationFrame b
+-- if one content of a control octet is an I frame, every content of that octet is an I frame
+pub information_frame : (octet : ℕ) (a b : Content) → IsControlOctetOf octet a → IsControlOctetOf octet b → IsInformationFrame a →
+    IsInformationFrame b
 information_frame octet a (I ns nr p more info) h h' is_i = tt
 information_frame octet (I ns nr p more info) b h h' is_i = absurd (omega (arith, bit_bound))
 information_frame octet a b h h' is_i = absurd is_i

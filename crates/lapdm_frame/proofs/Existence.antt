@@ -1,23 +1,15 @@
 -- Every list of 23 octets is a frame or is refused: by testing the reasons in their order.
-use Rattle.std.proofs.Common.{◌≡◌, ◌≢◌, ℕ, ◌/◌, ◌%◌, ◌<◌, ◌≤◌, Bool, false, nat_eq, List, [], ◌∷◌, length}
-use Rattle.std.specs.List.{AllByRecursion}
-use Rattle.std.proofs.Common.{refl, rules, ◌⊎◌, inl, inr, arith}
-use Rattle.std.proofs.lemmas.Bool.{cases_Bool, cases_lt, cases_eq}
-use Rattle.lapdm_frame.specs.declared.Channel.{Channel}
-use Rattle.lapdm_frame.specs.declared.Refusal.{Refusal}
-use Rattle.lapdm_frame.specs.declared.Refusal.TheVariants.{Lpd, Ea, Control, El, Length, Empty, More}
-use Rattle.lapdm_frame.specs.Layout.{n201, address_in, control_in, length_in, information_in}
-use Rattle.lapdm_frame.specs.declared.Kind.{Kind}
+use Rattle.std.proofs.Common.{◌≡◌, ◌≢◌, ℕ, ◌/◌, ◌%◌, ◌<◌, ◌≤◌, Bool, false, nat_eq, List, [], ◌∷◌, length, refl, rules, ◌⊎◌, inl, inr}
+use Rattle.std.{proofs.{Common.arith, lemmas.Bool.{cases_Bool, cases_lt, cases_eq}}, specs.List.AllByRecursion}
+use Rattle.lapdm_frame.specs.declared.{Channel.Channel, Refusal.{Refusal, TheVariants.{Lpd, Ea, Control, El, Length, Empty, More}}}
+use Rattle.lapdm_frame.specs.{declared.Kind.Kind, Layout.{n201, address_in, control_in, length_in, information_in}, Content.{Content, I}}
+use Rattle.lapdm_frame.specs.{Content.{kinds, fields_of, content_with, information, more_follows}, Frames.{bit, control}}
+use Rattle.lapdm_frame.specs.Refusals.{IsControlOctetOf, IsInformationFrame, lacks_information, HasNoInformation, length_field, m_bit}
+use Rattle.lapdm_frame.specs.{Refusals.el_bit, Lengths.{IsAllowedLengthOctet, IsLengthFault, HasNoLengthFault}}
+use Rattle.lapdm_frame.{specs.Readings.IsOneFrameOrRefusal, proofs.Controls.{with_information, bit_bound, something_informed}}
+use Rattle.lapdm_frame.proofs.{FieldLaws.numbers_fit, Uniqueness.only_frame, Order.{bit_of, kind_known, refused, none_yet, past_lpd}}
+use Rattle.lapdm_frame.proofs.Order.{past_address, fault_refuses, frame_found}
 use Rattle.lapdm_frame.specs.declared.Kind.TheVariants as K
-use Rattle.lapdm_frame.specs.Content.{Content, I, kinds, fields_of, content_with, information, more_follows}
-use Rattle.lapdm_frame.specs.Frames.{bit, control}
-use Rattle.lapdm_frame.specs.Refusals.{IsControl, IsInformationFrame, lacks_information, HasNoInformation, l_of, m_of, el_of}
-use Rattle.lapdm_frame.specs.Lengths.{LengthFits, IsLengthFault, HasNoLengthFault}
-use Rattle.lapdm_frame.specs.Readings.{HasOneReading}
-use Rattle.lapdm_frame.proofs.Controls.{with_information, bit_bound, something_informed}
-use Rattle.lapdm_frame.proofs.FieldLaws.{numbers_fit}
-use Rattle.lapdm_frame.proofs.Uniqueness.{only_frame}
-use Rattle.lapdm_frame.proofs.Order.{bit_of, kind_known, refused, none_yet, past_lpd, past_address, fault_refuses, frame_found}
 
 module _ (k : ℕ) where
   abbrev final : Bool
@@ -26,12 +18,12 @@ module _ (k : ℕ) where
   final_is : bit final ≡ k / 16 % 2
   final_is = bit_of (k / 16 % 2) (omega arith)
 
-  -- the content of a kind that could have this control octet
+  -- the content of this kind with the numbers and the P or F bit that the control octet k would encode
   abbrev candidate : Kind → Content
   candidate kind = content_with kind (k / 2 % 8) (k / 32) final false []
 
-  -- an octet that no candidate has is no control octet
-  unknown : ((kind : Kind) → k ≢ control (candidate kind)) → (content : Content) → ¬ IsControl k content
+  -- if k is the control octet of none of the candidates, it is the control octet of no content
+  unknown : ((kind : Kind) → k ≢ control (candidate kind)) → (content : Content) → ¬ IsControlOctetOf k content
   unknown none (I ns nr p more info) is_k = none K.I (omega (arith, final_is, bit_bound p))
   unknown none other is_k = none (fields_of other).kind (omega (arith, final_is, bit_bound (fields_of other).pf))
 
@@ -47,22 +39,23 @@ module _ (k : ℕ) where
   each_kind K.I none = none.0
   each_kind other none = search rules
 
-  known_or_not : k < 256 → ((content : Content) × IsControl k content) ⊎ ((content : Content) → ¬ IsControl k content)
+  known_or_not : k < 256 → ((content : Content) × IsControlOctetOf k content) ⊎ ((content : Content) → ¬ IsControlOctetOf k content)
   known_or_not small = elim (candidate_of kinds) [
     | inl (kind, e) ↦
         inl (candidate kind, (numbers_fit kind (k / 2 % 8) (k / 32) final false [] (omega arith) (omega arith), e))
     | inr none ↦ inr (unknown (λ kind. each_kind kind none))
   ]
 
-no_such_octet : (k : ℕ) → 256 ≤ k → (content : Content) → ¬ IsControl k content
+no_such_octet : (k : ℕ) → 256 ≤ k → (content : Content) → ¬ IsControlOctetOf k content
 no_such_octet k large (I ns nr p more info) is_k = omega (arith, bit_bound)
 no_such_octet k large other is_k = omega (arith, bit_bound)
 
-control_known : (k : ℕ) → ((content : Content) × IsControl k content) ⊎ ((content : Content) → ¬ IsControl k content)
+control_known : (k : ℕ) → ((content : Content) × IsControlOctetOf k content) ⊎ ((content : Content) → ¬ IsControlOctetOf k content)
 control_known k = elim (cases_lt k 256) [ inl small ↦ known_or_not k small | inr large ↦ inr (no_such_octet k large) ]
 
 -- the control octet does not depend on the information
-still_control : (k : ℕ) (a : Content) (goes : Bool) (info : List ℕ) → IsControl k a → IsControl k (with_information a goes info)
+still_control : (k : ℕ) (a : Content) (goes : Bool) (info : List ℕ) → IsControlOctetOf k a →
+    IsControlOctetOf k (with_information a goes info)
 still_control k (I ns nr p more info') goes info is_k = is_k
 still_control k other goes info is_k = is_k
 
@@ -99,44 +92,44 @@ positive_known : (n : ℕ) → (0 < n) ⊎ ¬ (0 < n)
 positive_known n = elim (cases_lt 0 n) [ inl some ↦ inl some | inr none ↦ inr (λ some. omega arith) ]
 
 module _ (most : ℕ) (content : Content) (octet : ℕ) where
-  room_known : LengthFits most content octet ⊎ ((reason : Refusal) × IsLengthFault most content octet reason)
-  room_known = elim (cases_eq (el_of octet) 0) [
+  room_known : IsAllowedLengthOctet most content octet ⊎ ((reason : Refusal) × IsLengthFault most content octet reason)
+  room_known = elim (cases_eq (el_bit octet) 0) [
     | inl more_follows ↦ inr (El, more_follows)
-    | inr ends ↦ elim (cases_lt most (l_of octet)) [
+    | inr ends ↦ elim (cases_lt most (length_field octet)) [
       | inl above ↦ inr (Length, (ends, inl above))
-      | inr bound ↦ elim (both_or_not (positive_known (l_of octet)) (silence_known content)) [
+      | inr bound ↦ elim (both_or_not (positive_known (length_field octet)) (silence_known content)) [
         | inl informed ↦ inr (Length, (ends, inr informed))
-        | inr silent ↦ inl (record { ends = ends; bound = bound; silent = silent })
+        | inr kind_allows ↦ inl (record { ends = ends; bound = bound; kind_allows = kind_allows })
       ]
     ]
   ]
 
-  more_known : LengthFits most content octet → (l_of octet ≡ 0 → ¬ IsInformationFrame content) →
+  more_known : IsAllowedLengthOctet most content octet → (length_field octet ≡ 0 → ¬ IsInformationFrame content) →
       HasNoLengthFault most content octet ⊎ ((reason : Refusal) × IsLengthFault most content octet reason)
-  more_known room informs = elim (kind_known content) [
-    | inl is_i ↦ inl (record { room = room; informs = informs; more = λ _. is_i })
-    | inr other ↦ elim (cases_eq (m_of octet) 1) [
-      | inl notice ↦ inr (More, (room, informs, notice, other))
-      | inr single ↦ inl (record { room = room; informs = informs; more = λ notice. absurd (single notice) })
+  more_known room not_empty = elim (kind_known content) [
+    | inl is_i ↦ inl (record { room = room; not_empty = not_empty; more = λ _. is_i })
+    | inr other ↦ elim (cases_eq (m_bit octet) 1) [
+      | inl notice ↦ inr (More, (room, not_empty, notice, other))
+      | inr single ↦ inl (record { room = room; not_empty = not_empty; more = λ notice. absurd (single notice) })
     ]
   ]
 
   fault_known : HasNoLengthFault most content octet ⊎ ((reason : Refusal) × IsLengthFault most content octet reason)
   fault_known = elim room_known [
-    | inl room ↦ elim (both_or_not (cases_eq (l_of octet) 0) (kind_known content)) [
+    | inl room ↦ elim (both_or_not (cases_eq (length_field octet) 0) (kind_known content)) [
       | inl (none, is_i) ↦ inr (Empty, (room, none, is_i))
-      | inr informs ↦ more_known room informs
+      | inr not_empty ↦ more_known room not_empty
     ]
     | inr fault ↦ inr fault
   ]
 
 module _ (channel : Channel) (octets : List ℕ) (count : length octets ≡ 23) where
   of_content : address_in channel octets < 32 → address_in channel octets % 2 ≢ 0 → (found : Content) →
-      IsControl (control_in channel octets) found → HasOneReading channel octets
+      IsControlOctetOf (control_in channel octets) found → IsOneFrameOrRefusal channel octets
   of_content low odd found is_found =
       let octet = length_in channel octets in
-      let goes = nat_eq (m_of octet) 1 in
-      let info = information_in channel octets (l_of octet) in
+      let goes = nat_eq (m_bit octet) 1 in
+      let info = information_in channel octets (length_field octet) in
       let content = with_information found goes info in
       let known = still_control (control_in channel octets) found goes info is_found in
       elim (fault_known (n201 channel) content octet) [
@@ -154,7 +147,7 @@ module _ (channel : Channel) (octets : List ℕ) (count : length octets ≡ 23) 
         | inr (reason, fault) ↦ inr (reason, fault_refuses channel octets content known (past_address channel octets low odd) reason fault)
       ]
 
-  pub one_reading : HasOneReading channel octets
+  pub one_reading : IsOneFrameOrRefusal channel octets
   one_reading = elim (cases_lt (address_in channel octets) 32) [
     | inl low ↦ elim (cases_eq (address_in channel octets % 2) 0) [
       | inl even ↦ inr (Ea, refused channel octets Ea (past_lpd channel octets low) even)

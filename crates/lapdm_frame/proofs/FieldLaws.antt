@@ -1,14 +1,10 @@
--- Frames by their fields.
+-- Lemmas about frames that are given by their kind and fields.
 use Rattle.std.proofs.Common.{◌≡◌, ℕ, ◌≤◌, Bool, List, length, refl, rules, arith}
-use Rattle.lapdm_frame.specs.declared.Channel.{Channel}
-use Rattle.lapdm_frame.specs.declared.Channel.TheVariants.{Sdcch, Sacch}
-use Rattle.lapdm_frame.specs.declared.Kind.{Kind}
+use Rattle.lapdm_frame.specs.{declared.{Channel.{Channel, TheVariants.{Sdcch, Sacch}}, Kind.Kind}, Layout.n201, Content.{Content, I}}
+use Rattle.lapdm_frame.specs.{Content.{Fields, fields_of, content_with, content_from}, Frames.{NumbersFit, InformationFits}}
 use Rattle.lapdm_frame.specs.declared.Kind.TheVariants as K
-use Rattle.lapdm_frame.specs.Layout.{n201}
-use Rattle.lapdm_frame.specs.Content.{Content, I, Fields, fields_of, content_with, content_from}
-use Rattle.lapdm_frame.specs.Frames.{NumbersFit, InformationFits}
 
--- fields that a frame on a channel can have
+-- the fields are possible in a frame on this channel
 pub record FieldsFit (channel : Channel) (f : Fields) : Type 0 where
   pub sent : f.ns ≤ 7
   pub received : f.nr ≤ 7

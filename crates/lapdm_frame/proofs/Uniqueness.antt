@@ -1,16 +1,11 @@
 -- Octets are at most one frame, are refused for at most one reason, and are never both a frame and refused.
-use Rattle.std.proofs.Common.{◌≡◌, ℕ, ◌+◌, ◌≤◌, Bool, List, length, refl, sym, ap, ◌∙◌, inl, inr, arith}
+use Rattle.std.proofs.{Common.{◌≡◌, ℕ, ◌+◌, ◌≤◌, Bool, List, length, refl, sym, ap, ◌∙◌, inl, inr, arith}, lemmas.Bool.cases_lt}
 use Rattle.std.specs.Prelude.{slice_range}
-use Rattle.std.proofs.lemmas.Bool.{cases_lt}
-use Rattle.lapdm_frame.specs.declared.Channel.{Channel}
-use Rattle.lapdm_frame.specs.declared.Refusal.{Refusal}
-use Rattle.lapdm_frame.specs.declared.Refusal.TheVariants.{Lpd, Ea, Control, El, Length, Empty, More}
-use Rattle.lapdm_frame.specs.Layout.{header, n201}
-use Rattle.lapdm_frame.specs.Content.{Content, I, Frame, information, more_follows}
-use Rattle.lapdm_frame.specs.Frames.{bit, control, InformationFits, IsFrame}
-use Rattle.lapdm_frame.specs.Refusals.{IsInformationFrame, AppliesTo, reason_rank, IsRefused}
-use Rattle.lapdm_frame.specs.Readings.{IsOnlyFrame, IsOnlyRefusal}
-use Rattle.lapdm_frame.proofs.Controls.{bit_bound, bit_injective, same_content, no_information, nothing_informed, information_frame}
+use Rattle.lapdm_frame.specs.declared.{Channel.Channel, Refusal.{Refusal, TheVariants.{Lpd, Ea, Control, El, Length, Empty, More}}}
+use Rattle.lapdm_frame.specs.{Layout.{layer1_octets, n201}, Content.{Content, I, Frame, information, more_follows}, Frames.{bit, control}}
+use Rattle.lapdm_frame.specs.{Frames.{InformationFits, IsFrame}, Refusals.{IsInformationFrame, RefusalAppliesTo, reason_rank, IsRefused}}
+use Rattle.lapdm_frame.{specs.Readings.{IsOnlyFrame, IsOnlyRefusal}, proofs.Controls.{bit_bound, bit_injective, same_content}}
+use Rattle.lapdm_frame.proofs.Controls.{no_information, nothing_informed, information_frame}
 
 same_parts : (s s' : ℕ) (c c' : Bool) (a b : Content) → s ≡ s' → c ≡ c' → a ≡ b →
     ◌≡◌ {A = Frame} (record { sapi = s; cr = c; content = a }) (record { sapi = s'; cr = c'; content = b })
@@ -25,7 +20,7 @@ same_frame channel octets f g is_f is_g =
     let size : length (information f.content) ≡ length (information g.content) = omega
     (arith, is_f.at_length, is_g.at_length, bit_bound (more_follows f.content), bit_bound (more_follows g.content)) in
     let info : information f.content ≡ information g.content = sym is_f.at_information ∙ ap
-    (λ n. slice_range octets (header channel + 3) (header channel + 3 + n)) size ∙ is_g.at_information in
+    (λ n. slice_range octets (layer1_octets channel + 3) (layer1_octets channel + 3 + n)) size ∙ is_g.at_information in
     let content = same_content (control f.content) f.content g.content (is_f.fits.numbers, refl)
     (is_g.fits.numbers, sym is_f.at_control ∙ is_g.at_control) (bit_injective _ _ more) info in
     same_parts f.sapi g.sapi f.cr g.cr f.content g.content sapi (bit_injective _ _ cr) content
@@ -45,7 +40,7 @@ not_on (I ns nr p more info) differs = absurd (differs tt)
 not_on other differs = refl
 
 pub never_refused : (channel : Channel) (octets : List ℕ) (f : Frame) → IsFrame channel f octets → (reason : Refusal) →
-    ¬ AppliesTo channel octets reason
+    ¬ RefusalAppliesTo channel octets reason
 never_refused channel octets f is_f Lpd applies = omega (arith, is_f.at_address, is_f.fits.sapi, bit_bound f.cr)
 never_refused channel octets f is_f Ea applies = omega (arith, is_f.at_address, bit_bound f.cr)
 never_refused channel octets f is_f Control applies = applies f.content (is_f.fits.numbers, is_f.at_control)
@@ -54,9 +49,9 @@ never_refused channel octets f is_f Length applies =
     let fits = information_bound channel f.content is_f.fits.information in
     elim applies [
       | inl above ↦ omega (arith, is_f.at_length, bit_bound (more_follows f.content))
-      | inr (some, (other, is_other, silent)) ↦
+      | inr (some, (other, is_other, kind_allows)) ↦
           let none = ap length (nothing_informed f.content (no_information _ other f.content is_other
-          (is_f.fits.numbers, is_f.at_control) silent)) in
+          (is_f.fits.numbers, is_f.at_control) kind_allows)) in
           omega (arith, is_f.at_length, bit_bound (more_follows f.content))
     ]
 never_refused channel octets f is_f Empty applies =

@@ -1,8 +1,6 @@
 -- Frames with their octets worked out by hand.
 use Rattle.std.proofs.Common.{◌≡◌, true, false, [], ◌∷◌, replicate, refl}
-use Rattle.lapdm_frame.specs.declared.Channel.TheVariants.{Sdcch, Sacch}
-use Rattle.lapdm_frame.specs.Content.{I, Rr, fill}
-use Rattle.lapdm_frame.specs.Frames.{octets_of}
+use Rattle.lapdm_frame.specs.{declared.Channel.TheVariants.{Sdcch, Sacch}, Content.{I, Rr, fill}, Frames.octets_of}
 
 numbered : octets_of Sdcch (record { sapi = 0; cr = false; content = I 5 2 true false (0x06 ∷ 0x01 ∷ []) })
     ≡ 0x01 ∷ 0x5a ∷ 0x09 ∷ 0x06 ∷ 0x01 ∷ replicate 18 0x2b

@@ -27,7 +27,7 @@ pub record Frame : Type 0 where
   pub cr : Bool
   pub content : Content
 
--- the content that a `Body` represents
+-- the content that a `Body` of the program represents
 abbrev pub content_of : Body → Content
 content_of (B.I ns nr p more info) = I ns nr p more info.now
 content_of (B.Rr nr pf) = Rr nr pf
@@ -39,11 +39,11 @@ content_of (B.Ui p info) = Ui p info.now
 content_of (B.Disc p) = Disc p
 content_of (B.Ua f info) = Ua f info.now
 
--- the frame that a `FrameView` represents
+-- the frame that a `FrameView` of the program represents
 abbrev pub frame_of : FrameView → Frame
 frame_of view = record { sapi = view.sapi; cr = view.cr; content = content_of view.body }
 
--- the octets of information that a `Body` borrows, if its kind has information
+-- the octets of information that a `Body` borrows from its block, or `None` if its kind has no information
 abbrev pub borrowed_octets : Body → Option (Bor (List ℕ))
 borrowed_octets (B.I ns nr p more info) = Some info
 borrowed_octets (B.Sabm p info) = Some info
@@ -51,7 +51,7 @@ borrowed_octets (B.Ui p info) = Some info
 borrowed_octets (B.Ua f info) = Some info
 borrowed_octets other = None
 
--- the octets of information of a content; RR, RNR, REJ, DM and DISC have none
+-- the octets of information of a frame; RR, RNR, REJ, DM and DISC have none
 abbrev pub information : Content → List ℕ
 information (I ns nr p more info) = info
 information (Sabm p info) = info
@@ -64,7 +64,7 @@ abbrev pub more_follows : Content → Bool
 more_follows (I ns nr p more info) = more
 more_follows other = false
 
--- all kinds; the number of a kind, for programs in other languages, is its index here
+-- all frame kinds; the number of a kind, used by programs in other languages, is its index in this list
 abbrev pub kinds : List Kind
 kinds = K.I ∷ K.Rr ∷ K.Rnr ∷ K.Rej ∷ K.Sabm ∷ K.Dm ∷ K.Ui ∷ K.Disc ∷ K.Ua ∷ []
 
@@ -79,7 +79,7 @@ kind_number K.Ui = 6
 kind_number K.Disc = 7
 kind_number K.Ua = 8
 
--- the kind of a frame with every field that some kind has
+-- the kind of a frame, and every field that a frame of any kind may have
 pub record Fields : Type 0 where
   pub kind : Kind
   pub ns : ℕ
@@ -91,7 +91,7 @@ pub record Fields : Type 0 where
 abbrev pub fields : Kind → (ns nr : ℕ) → (pf more : Bool) → List ℕ → Fields
 fields kind ns nr pf more info = record { kind = kind; ns = ns; nr = nr; pf = pf; more = more; info = info }
 
--- the fields of a content; a field that its kind lacks is 0, false or empty
+-- the kind and fields of a content; a field that this kind does not have is 0, false or empty
 abbrev pub fields_of : Content → Fields
 fields_of (I ns nr p more info) = fields K.I ns nr p more info
 fields_of (Rr nr pf) = fields K.Rr 0 nr pf false []
@@ -103,7 +103,7 @@ fields_of (Ui p info) = fields K.Ui 0 0 p false info
 fields_of (Disc p) = fields K.Disc 0 0 p false []
 fields_of (Ua f info) = fields K.Ua 0 0 f false info
 
--- the content of a kind with these fields; those that the kind lacks are ignored
+-- the content of this kind with these fields; a field that the kind does not have is ignored
 abbrev pub content_with : Kind → (ns nr : ℕ) → (pf more : Bool) → (info : List ℕ) → Content
 content_with K.I ns nr pf more info = I ns nr pf more info
 content_with K.Rr ns nr pf more info = Rr nr pf
@@ -115,7 +115,7 @@ content_with K.Ui ns nr pf more info = Ui pf info
 content_with K.Disc ns nr pf more info = Disc pf
 content_with K.Ua ns nr pf more info = Ua pf info
 
--- the fields that a value of the program represents
+-- the fields that a `FrameFields` of the program represents
 abbrev pub fields_in : FrameFields → Fields
 fields_in f = fields f.kind f.ns f.nr f.pf f.more f.info.now
 

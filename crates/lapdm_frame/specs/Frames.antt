@@ -2,7 +2,7 @@
 use Rattle.std.specs.Prelude.{◌≡◌, ℕ, ◌+◌, ◌-◌, ◌*◌, ◌<◌, ◌≤◌, Bool, true, false, List, [], ◌∷◌}
 use Rattle.std.specs.Prelude.{◌++◌, length, replicate, slice_index}
 use Rattle.lapdm_frame.specs.declared.Channel.{Channel}
-use Rattle.lapdm_frame.specs.Layout.{header, n201, address_in, control_in, length_in, information_in}
+use Rattle.lapdm_frame.specs.Layout.{layer1_octets, n201, address_in, control_in, length_in, information_in}
 use Rattle.lapdm_frame.specs.Content.{Content, I, Rr, Rnr, Rej, Sabm, Dm, Ui, Disc, Ua, Frame, information, more_follows}
 
 -- a bit as a number, 0 or 1
@@ -43,13 +43,13 @@ abbrev pub InformationFits : Channel → Content → Type 0
 InformationFits channel (I ns nr p more info) = (1 ≤ length info) × (length info ≤ n201 channel)
 InformationFits channel other = length (information other) ≤ n201 channel
 
--- the frame can be written on the channel: SAPI, N(S) and N(R) fit in three bits, and the information fits
+-- a frame can be written on the channel if its SAPI, N(S) and N(R) fit in three bits and its information fits in the block
 pub record Fits (channel : Channel) (f : Frame) : Type 0 where
   pub sapi : f.sapi ≤ 7
   pub numbers : NumbersFit f.content
   pub information : InformationFits channel f.content
 
--- the 23 octets are this frame, whatever the octets before the address and after the information are
+-- the 23 octets encode this frame; the layer 1 octets before the address and the octets after the information may have any value
 pub record IsFrame (channel : Channel) (f : Frame) (octets : List ℕ) : Type 0 where
   pub count : length octets ≡ 23
   pub fits : Fits channel f
@@ -58,16 +58,16 @@ pub record IsFrame (channel : Channel) (f : Frame) (octets : List ℕ) : Type 0 
   pub at_length : length_in channel octets ≡ length_octet f.content
   pub at_information : information_in channel octets (length (information f.content)) ≡ information f.content
 
--- the 23 octets are this frame, with 00 before the address (this project's own rule)
--- and fill 2b after the information (section 2.2)
+-- the 23 octets encode this frame, the layer 1 octets before the address are 00 (this project's own rule), and the octets after the
+-- information are fill octets 2b (section 2.2)
 pub record IsCanonical (channel : Channel) (f : Frame) (octets : List ℕ) : Type 0 where
   pub frame : IsFrame channel f octets
-  pub before : (k : ℕ) → k < header channel → slice_index octets k ≡ 0
-  pub after : (k : ℕ) → header channel + 3 + length (information f.content) ≤ k → k < 23 → slice_index octets k ≡ 0x2b
+  pub before : (k : ℕ) → k < layer1_octets channel → slice_index octets k ≡ 0
+  pub after : (k : ℕ) → layer1_octets channel + 3 + length (information f.content) ≤ k → k < 23 → slice_index octets k ≡ 0x2b
 
 -- the canonical 23 octets of a frame that fits
 abbrev pub octets_of : Channel → Frame → List ℕ
 octets_of channel f =
     let info = information f.content in
-    replicate (header channel) 0 ++ address f ∷ control f.content ∷ length_octet f.content ∷ [] ++ info
+    replicate (layer1_octets channel) 0 ++ address f ∷ control f.content ∷ length_octet f.content ∷ [] ++ info
     ++ replicate (n201 channel - length info) 0x2b

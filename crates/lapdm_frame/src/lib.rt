@@ -9,7 +9,8 @@ mod laws;
 mod reader;
 mod writer;
 
-pub use laws::{law_one_reading, law_one_writing};
+pub use bit_blocks::BLOCK_OCTETS;
+pub use laws::{law_one_canonical_coding, law_one_frame_or_refusal};
 pub use reader::{read, read_on};
 use thiserror::Error;
 pub use writer::{fill, fill_on, fits, fits_on, write, write_on};
@@ -17,16 +18,16 @@ pub use writer::{fill, fill_on, fits, fits_on, write, write_on};
 /// The control channel of a block. It determines where the fields of a frame lie.
 #[derive(Clone, Copy, PartialEq, Eq, Debug)]
 pub enum Channel {
-    /// Stand-alone dedicated control channel: address, control, length, then 20 octets.
+    /// Stand-alone dedicated control channel. A block has address, control and length octets, then 20 octets.
     Sdcch,
-    /// Slow associated control channel: two octets of layer 1, address, control, length, then 18 octets.
+    /// Slow associated control channel. A block has two layer 1 octets, address, control and length octets, then 18 octets.
     Sacch,
 }
 
 impl Channel {
-    ghost use Rattle.lapdm_frame.specs.Layout.{header, n201};
+    ghost use Rattle.lapdm_frame.specs.Layout.{layer1_octets, n201};
 
-    /// N201 of GSM 04.06: the most octets of information in a frame.
+    /// N201 of GSM 04.06: the greatest number of octets of information in a frame, 20 or 18.
     pub fn n201(self) -> usize
         ensures { result ≡ n201 self }
     {
@@ -37,9 +38,9 @@ impl Channel {
     }
 
     // The index of the address octet in a block.
-    fn header(self) -> usize
-        ensures value { result ≡ header self }
-        ensures space { result + 3 + n201 self ≡ 23 }
+    fn layer1_octets(self) -> usize
+        ensures value { result ≡ layer1_octets self }
+        ensures space { result + 3 + n201 self ≡ BLOCK_OCTETS }
     {
         match self {
             Channel::Sdcch => 0,
@@ -48,7 +49,7 @@ impl Channel {
     }
 }
 
-/// A frame that borrows its information.
+/// A frame whose information is borrowed from the block.
 #[derive(Clone, Copy, PartialEq, Eq, Debug)]
 pub struct FrameView<'a> {
     /// The service access point identifier, 0 to 7.
@@ -115,7 +116,7 @@ pub enum Kind {
     Ua,
 }
 
-/// The kinds in the order of their numbers.
+/// All kinds; the index of a kind is its number.
 const KINDS: [Kind; 9] = [
     Kind::I,
     Kind::Rr,
@@ -138,7 +139,7 @@ impl Kind {
         self as u8
     }
 
-    /// The kind with a number, if there is one.
+    /// The kind with this number, or `None` if the number is above 8.
     pub fn of_number(number: u8) -> Option<Kind>
         ensures { result ≡ slice_get kinds number }
     {
@@ -146,7 +147,7 @@ impl Kind {
     }
 }
 
-/// The kind of a frame with every field that some kind has. A field that the kind lacks is 0, false or empty.
+/// The kind of a frame, and every field that a frame of any kind may have. A field that this kind does not have is 0, false or empty.
 #[derive(Clone, Copy, PartialEq, Eq, Debug)]
 pub struct FrameFields<'a> {
     pub kind: Kind,
@@ -164,7 +165,7 @@ pub struct FrameFields<'a> {
 impl<'a> FrameFields<'a> {
     ghost use Rattle.lapdm_frame.specs.Content.{content_of, content_from, fields_in};
 
-    /// The body with these fields. Fields that the kind lacks are ignored.
+    /// The body of this kind with these fields. A field that the kind does not have is ignored.
     pub fn body(&self) -> Body<'a>
         ensures { content_of result ≡ content_from (fields_in self.now) }
     {
@@ -199,7 +200,7 @@ impl<'a> FrameFields<'a> {
 impl<'a> Body<'a> {
     ghost use Rattle.lapdm_frame.specs.Content.{content_of, fields_of, fields_in};
 
-    /// The kind and the fields.
+    /// The kind and all fields of this body.
     pub fn fields(&self) -> FrameFields<'a>
         ensures { fields_in result ≡ fields_of (content_of self.now) }
     {
@@ -210,45 +211,52 @@ impl<'a> Body<'a> {
                 p,
                 more,
                 info,
-            } => FrameFields {
-                ns,
-                nr,
-                more,
-                info,
-                ..bare_fields(Kind::I, p)
-            },
+            } => i_frame_fields(ns, nr, p, more, info),
             Body::Rr { nr, pf } => FrameFields {
                 nr,
-                ..bare_fields(Kind::Rr, pf)
+                ..fields_with_only_pf(Kind::Rr, pf)
             },
             Body::Rnr { nr, pf } => FrameFields {
                 nr,
-                ..bare_fields(Kind::Rnr, pf)
+                ..fields_with_only_pf(Kind::Rnr, pf)
             },
             Body::Rej { nr, pf } => FrameFields {
                 nr,
-                ..bare_fields(Kind::Rej, pf)
+                ..fields_with_only_pf(Kind::Rej, pf)
             },
             Body::Sabm { p, info } => FrameFields {
                 info,
-                ..bare_fields(Kind::Sabm, p)
+                ..fields_with_only_pf(Kind::Sabm, p)
             },
-            Body::Dm { f } => bare_fields(Kind::Dm, f),
+            Body::Dm { f } => fields_with_only_pf(Kind::Dm, f),
             Body::Ui { p, info } => FrameFields {
                 info,
-                ..bare_fields(Kind::Ui, p)
+                ..fields_with_only_pf(Kind::Ui, p)
             },
-            Body::Disc { p } => bare_fields(Kind::Disc, p),
+            Body::Disc { p } => fields_with_only_pf(Kind::Disc, p),
             Body::Ua { f, info } => FrameFields {
                 info,
-                ..bare_fields(Kind::Ua, f)
+                ..fields_with_only_pf(Kind::Ua, f)
             },
         }
     }
 }
 
-// The fields of a frame with neither numbers nor information.
-fn bare_fields(kind: Kind, pf: bool) -> FrameFields<'static>
+// The fields of an I frame.
+fn i_frame_fields(ns: u8, nr: u8, p: bool, more: bool, info: &[u8]) -> FrameFields<'_>
+    ensures { fields_in result ≡ fields Kind.I ns nr p more info.now }
+{
+    FrameFields {
+        ns,
+        nr,
+        more,
+        info,
+        ..fields_with_only_pf(Kind::I, p)
+    }
+}
+
+// The fields of a frame that has no N(S), no N(R) and no information.
+fn fields_with_only_pf(kind: Kind, pf: bool) -> FrameFields<'static>
     ensures { fields_in result ≡ fields kind 0 0 pf false [] }
 {
     FrameFields {
@@ -261,22 +269,22 @@ fn bare_fields(kind: Kind, pf: bool) -> FrameFields<'static>
     }
 }
 
-/// Why octets are not a frame. The variants are tested in this order, and the first that applies is given.
+/// Why 23 octets are refused as a frame. The reasons are tested in this order, and the first that applies is returned.
 #[derive(Clone, Copy, PartialEq, Eq, Debug, Error)]
 pub enum Refusal {
-    /// One of the three highest bits of the address is 1: not LPD 0.
+    /// One of bits 8 to 6 of the address is 1, so the link protocol discriminator is not 0.
     #[error("bits 8 to 6 of the address octet are not 0")]
     Lpd,
-    /// EA is 0: the address field has another octet.
+    /// EA is 0: another octet of the address field follows.
     #[error("the EA bit of the address octet is 0, expected 1")]
     Ea,
-    /// The control octet belongs to no kind.
+    /// The control octet belongs to no frame kind.
     #[error("the control octet belongs to no frame type")]
     Control,
-    /// EL is 0: the length field has another octet.
+    /// EL is 0: another octet of the length field follows.
     #[error("the EL bit of the length octet is 0, expected 1")]
     El,
-    /// The length is above N201, or not 0 in a kind without information.
+    /// The length is above N201, or is not 0 although this kind has no information.
     #[error("the length is above N201, or above 0 in a frame type without information")]
     Length,
     /// An I frame has no information.

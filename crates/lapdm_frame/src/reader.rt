@@ -2,16 +2,17 @@
 
 ghost use Rattle.std.specs.Prelude.{◌≡◌, ◌⊎◌, ◌↔◌, IsTrue, IfSome, IfNone, IfOk, IfErr};
 ghost use Rattle.lapdm_frame.specs.Content.{Content, content_of, frame_of, information, more_follows, borrowed_octets};
-ghost use Rattle.lapdm_frame.specs.Refusals.{IsControl, IsInformationFrame, HasNoInformation};
+ghost use Rattle.lapdm_frame.specs.Refusals.{IsControlOctetOf, IsInformationFrame, HasNoInformation};
 ghost use Rattle.lapdm_frame.specs.Lengths.{IsLengthFault, HasNoLengthFault};
-ghost use Rattle.lapdm_frame.specs.Readings.{IsOnlyFrame, IsOnlyRefusal, LiesIn};
+ghost use Rattle.lapdm_frame.specs.Readings.{IsOnlyFrame, IsOnlyRefusal, IsBorrowedFrom};
 
 use crate::{Body, Channel, FrameView, Refusal};
+use bit_blocks::BLOCK_OCTETS;
 
-// The body with this control octet; it takes `more` and `info` only if its kind has them.
+// The body that this control octet encodes, if any; it uses `more` and `info` only if its kind has these fields.
 fn body_of<'a>(control: u8, more: bool, info: &'a [u8]) -> Option<Body<'a>>
-    ensures known { IfSome result (λ body. IsControl control (content_of body)) }
-    ensures unknown { IfNone result ((content : Content) → ¬ IsControl control content) }
+    ensures known { IfSome result (λ body. IsControlOctetOf control (content_of body)) }
+    ensures unknown { IfNone result ((content : Content) → ¬ IsControlOctetOf control content) }
     ensures carried { IfSome result
         (λ body. HasNoInformation (content_of body) ⊎ (information (content_of body) ≡ info.now)) }
     ensures lent { IfSome result
@@ -66,7 +67,7 @@ fn has_no_information(body: &Body<'_>) -> bool
     }
 }
 
-// The first reason why a body of this kind cannot have this length octet.
+// The first reason why a frame of this kind cannot have this length octet.
 fn length_fault(body: &Body<'_>, length: u8, most: usize) -> Option<Refusal>
     ensures fault { IfSome result (IsLengthFault most (content_of body.now) length) }
     ensures none { IfNone result (HasNoLengthFault most (content_of body.now) length) }
@@ -91,14 +92,17 @@ fn length_fault(body: &Body<'_>, length: u8, most: usize) -> Option<Refusal>
     None
 }
 
-/// The frame in a block, or the first reason why it has none. Layer 1 octets and fill
-/// may have any value; `info` is borrowed from `octets`.
-pub fn read_on<'a>(octets: &'a [u8; 23], channel: Channel) -> Result<FrameView<'a>, Refusal>
+/// Reads the frame in a block, or returns the first reason why the block is not a frame. Layer 1 octets and fill octets may have any value.
+/// `info` is borrowed from `octets`.
+pub fn read_on<'a>(
+    octets: &'a [u8; BLOCK_OCTETS],
+    channel: Channel,
+) -> Result<FrameView<'a>, Refusal>
     ensures frame { IfOk result (λ f. IsOnlyFrame channel (frame_of f) octets.now) }
-    ensures lent { IfOk result (λ f. LiesIn channel octets.entry f.body) }
+    ensures lent { IfOk result (λ f. IsBorrowedFrom channel octets.entry f.body) }
     ensures refusal { IfErr result (λ reason. IsOnlyRefusal channel octets.now reason) }
 {
-    let start = channel.header();
+    let start = channel.layer1_octets();
     let most = channel.n201();
     let address = octets[start];
     let length = octets[start + 2];
@@ -124,9 +128,9 @@ pub fn read_on<'a>(octets: &'a [u8; 23], channel: Channel) -> Result<FrameView<'
 }
 
 /// `read_on` for SDCCH.
-pub fn read<'a>(octets: &'a [u8; 23]) -> Result<FrameView<'a>, Refusal>
+pub fn read<'a>(octets: &'a [u8; BLOCK_OCTETS]) -> Result<FrameView<'a>, Refusal>
     ensures frame { IfOk result (λ f. IsOnlyFrame Channel.Sdcch (frame_of f) octets.now) }
-    ensures lent { IfOk result (λ f. LiesIn Channel.Sdcch octets.entry f.body) }
+    ensures lent { IfOk result (λ f. IsBorrowedFrom Channel.Sdcch octets.entry f.body) }
     ensures refusal { IfErr result (λ reason. IsOnlyRefusal Channel.Sdcch octets.now reason) }
 {
     read_on(octets, Channel::Sdcch)

@@ -1,10 +1,11 @@
 use super::*;
+use bit_blocks::BLOCK_OCTETS;
 use std::process::Abort;
 use std::test::Fail;
 
-// A block of these octets, then fill.
-fn block(first: &[u8], fill: u8) -> [u8; 23] {
-    let mut octets = [fill; 23];
+// A block that begins with these octets and is filled up with `fill`.
+fn block(first: &[u8], fill: u8) -> [u8; BLOCK_OCTETS] {
+    let mut octets = [fill; BLOCK_OCTETS];
     for (place, octet) in octets.iter_mut().zip(first) {
         *place = *octet;
     }
@@ -15,16 +16,16 @@ fn view<'a>(sapi: u8, cr: bool, body: Body<'a>) -> FrameView<'a> {
     FrameView { sapi, cr, body }
 }
 
-const NOTHING: Body<'static> = Body::Ui {
+const EMPTY_UI: Body<'static> = Body::Ui {
     p: false,
     info: &[],
 };
 
 #[test]
-fn reads_worked_blocks(rt: HostRuntime) {
+fn reads_example_blocks(rt: HostRuntime) {
     let cases: [([u8; 3], u8, Result<FrameView<'static>, Refusal>); 15] = [
-        ([0x01, 0x03, 0x01], 0x2b, Ok(view(0, false, NOTHING))),
-        ([0x03, 0x03, 0x01], 0xff, Ok(view(0, true, NOTHING))),
+        ([0x01, 0x03, 0x01], 0x2b, Ok(view(0, false, EMPTY_UI))),
+        ([0x03, 0x03, 0x01], 0xff, Ok(view(0, true, EMPTY_UI))),
         (
             [0x03, 0x75, 0x01],
             0x2b,
@@ -50,7 +51,7 @@ fn reads_worked_blocks(rt: HostRuntime) {
 }
 
 #[test]
-fn reads_a_short_segment_that_goes_on(rt: HostRuntime) {
+fn reads_an_i_frame_of_one_octet_with_m_1(rt: HostRuntime) {
     let octets = block(&[0x01, 0x00, 0x07, 0xaa], 0x2b);
     let body = Body::I {
         ns: 0,
@@ -63,23 +64,23 @@ fn reads_a_short_segment_that_goes_on(rt: HostRuntime) {
 }
 
 #[test]
-fn reads_sacch_behind_layer_1(rt: HostRuntime) {
+fn reads_sacch_frames_after_the_layer_1_octets(rt: HostRuntime) {
     let long = block(&[0x00, 0x00, 0x03, 0x03, 0x55], 0x2b);
     assert_eq!(rt; read_on(&long, Channel::Sacch), Err(Refusal::Length));
     let other_layer_1 = block(&[0xff, 0xff, 0x01, 0x03, 0x01], 0x00);
     assert_eq!(rt;
         read_on(&other_layer_1, Channel::Sacch),
-        Ok(view(0, false, NOTHING))
+        Ok(view(0, false, EMPTY_UI))
     );
 }
 
-fn writes(rt: &impl Abort, f: &FrameView<'_>, want: &[u8; 23]) {
+fn assert_written_as(rt: &impl Abort, f: &FrameView<'_>, want: &[u8; BLOCK_OCTETS]) {
     assert!(rt; fits(f));
     assert_eq!(rt; write(f), *want);
 }
 
 #[test]
-fn writes_worked_frames(rt: HostRuntime) {
+fn writes_example_frames(rt: HostRuntime) {
     let numbered = Body::I {
         ns: 5,
         nr: 2,
@@ -87,13 +88,13 @@ fn writes_worked_frames(rt: HostRuntime) {
         more: false,
         info: &[0x06, 0x01],
     };
-    writes(
+    assert_written_as(
         &rt,
         &view(0, false, numbered),
         &block(&[0x01, 0x5a, 0x09, 0x06, 0x01], 0x2b),
     );
     let ready = Body::Rr { nr: 7, pf: false };
-    writes(
+    assert_written_as(
         &rt,
         &view(0, true, ready),
         &block(&[0x03, 0xe1, 0x01], 0x2b),
@@ -109,7 +110,7 @@ fn writes_worked_frames(rt: HostRuntime) {
 }
 
 #[test]
-fn fills_both_ways_on_both_channels(rt: HostRuntime) {
+fn writes_fill_frames_of_both_sides_on_both_channels(rt: HostRuntime) {
     assert_eq!(rt; fill(true), block(&[0x03, 0x03, 0x01], 0x2b));
     assert_eq!(rt; fill(false), block(&[0x01, 0x03, 0x01], 0x2b));
     assert_eq!(rt;
@@ -127,7 +128,7 @@ fn reads_back(rt: &impl Abort, f: &FrameView<'_>, channel: Channel) {
     assert_eq!(rt; read_on(&write_on(f, channel), channel), Ok(*f));
 }
 
-fn read_back_both_ways(rt: &impl Abort, bodies: &[Body<'_>], channel: Channel) {
+fn read_back_with_both_cr_bits(rt: &impl Abort, bodies: &[Body<'_>], channel: Channel) {
     for body in bodies {
         reads_back(rt, &view(0, true, *body), channel);
         reads_back(rt, &view(7, false, *body), channel);
@@ -157,7 +158,7 @@ fn reads_back_every_numbered_kind(rt: HostRuntime) {
             Body::Rnr { nr: 2, pf: false },
             Body::Rej { nr: 4, pf: true },
         ];
-        read_back_both_ways(&rt, &bodies, channel);
+        read_back_with_both_cr_bits(&rt, &bodies, channel);
     }
 }
 
@@ -188,7 +189,7 @@ fn reads_back_every_unnumbered_kind(rt: HostRuntime) {
                 info: whole,
             },
         ];
-        read_back_both_ways(&rt, &bodies, channel);
+        read_back_with_both_cr_bits(&rt, &bodies, channel);
     }
 }
 

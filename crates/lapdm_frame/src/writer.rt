@@ -1,12 +1,13 @@
 //! Writes frames to blocks.
 
 ghost use Rattle.std.specs.Prelude.{◌≡◌, ◌≤◌, ◌↔◌, IsTrue, length};
-ghost use Rattle.lapdm_frame.specs.Layout.{n201, most_information};
+ghost use Rattle.lapdm_frame.specs.Layout.{n201, largest_n201};
 ghost use Rattle.lapdm_frame.specs.Content.{content_of, frame_of, information, more_follows, fill};
 ghost use Rattle.lapdm_frame.specs.Frames.{address, control, length_octet, NumbersFit, InformationFits, Fits, octets_of};
 ghost use Rattle.lapdm_frame.specs.Readings.{IsOnlyCanonical};
 
 use crate::{Body, Channel, FrameView};
+use bit_blocks::BLOCK_OCTETS;
 
 /// The octet that fills a block after the information.
 const FILL: u8 = 0x2b;
@@ -27,7 +28,7 @@ fn information_of<'a>(body: &Body<'a>) -> &'a [u8]
     }
 }
 
-fn address_of(f: &FrameView<'_>) -> u8
+fn address_octet_of(f: &FrameView<'_>) -> u8
     requires { f.now.sapi ≤ 7 }
     ensures { result ≡ address (frame_of f.now) }
 {
@@ -44,7 +45,7 @@ fn numbers_fit(body: &Body<'_>) -> bool
     }
 }
 
-fn control_of(body: &Body<'_>) -> u8
+fn control_octet_of(body: &Body<'_>) -> u8
     requires { NumbersFit (content_of body.now) }
     ensures { result ≡ control (content_of body.now) }
 {
@@ -61,8 +62,8 @@ fn control_of(body: &Body<'_>) -> u8
     }
 }
 
-fn length_of(body: &Body<'_>) -> u8
-    requires { length (information (content_of body.now)) ≤ most_information }
+fn length_octet_of(body: &Body<'_>) -> u8
+    requires { length (information (content_of body.now)) ≤ largest_n201 }
     ensures { result ≡ length_octet (content_of body.now) }
 {
     let more = matches!(*body, Body::I { more: true, .. });
@@ -83,25 +84,25 @@ pub fn fits_on(f: &FrameView<'_>, channel: Channel) -> bool
     f.sapi <= 7 && numbers_fit(&f.body) && least <= size && size <= channel.n201()
 }
 
-/// The canonical block of the frame: layer 1 octets 00 first on SACCH, and fill 2b after the information.
-pub fn write_on(f: &FrameView<'_>, channel: Channel) -> [u8; 23]
+/// The canonical block of the frame: on SACCH it begins with two layer 1 octets 00; fill octets 2b follow the information.
+pub fn write_on(f: &FrameView<'_>, channel: Channel) -> [u8; BLOCK_OCTETS]
     requires { Fits channel (frame_of f.now) }
     ensures octets { result ≡ octets_of channel (frame_of f.now) }
     ensures canonical { IsOnlyCanonical channel (frame_of f.now) result }
 {
-    let mut octets = [FILL; 23];
-    let start = channel.header();
+    let mut octets = [FILL; BLOCK_OCTETS];
+    let start = channel.layer1_octets();
     octets[..start].fill(0);
-    octets[start] = address_of(f);
-    octets[start + 1] = control_of(&f.body);
-    octets[start + 2] = length_of(&f.body);
+    octets[start] = address_octet_of(f);
+    octets[start + 1] = control_octet_of(&f.body);
+    octets[start + 2] = length_octet_of(&f.body);
     let info = information_of(&f.body);
     octets[start + 3..start + 3 + info.len()].copy_from_slice(info);
     octets
 }
 
-/// The fill frame of GSM 04.06, a UI frame without information: the network's if `cr`, else the mobile's.
-pub fn fill_on(cr: bool, channel: Channel) -> [u8; 23]
+/// The block of the fill frame of GSM 04.06, a UI frame without information: the network's if `cr`, else the mobile's.
+pub fn fill_on(cr: bool, channel: Channel) -> [u8; BLOCK_OCTETS]
     ensures octets { result ≡ octets_of channel (fill cr) }
     ensures canonical { IsOnlyCanonical channel (fill cr) result }
 {
@@ -120,7 +121,7 @@ pub fn fits(f: &FrameView<'_>) -> bool
 }
 
 /// `write_on` for SDCCH.
-pub fn write(f: &FrameView<'_>) -> [u8; 23]
+pub fn write(f: &FrameView<'_>) -> [u8; BLOCK_OCTETS]
     requires { Fits Channel.Sdcch (frame_of f.now) }
     ensures octets { result ≡ octets_of Channel.Sdcch (frame_of f.now) }
     ensures canonical { IsOnlyCanonical Channel.Sdcch (frame_of f.now) result }
@@ -129,7 +130,7 @@ pub fn write(f: &FrameView<'_>) -> [u8; 23]
 }
 
 /// `fill_on` for SDCCH.
-pub fn fill(cr: bool) -> [u8; 23]
+pub fn fill(cr: bool) -> [u8; BLOCK_OCTETS]
     ensures octets { result ≡ octets_of Channel.Sdcch (fill cr) }
     ensures canonical { IsOnlyCanonical Channel.Sdcch (fill cr) result }
 {

@@ -1,25 +1,22 @@
--- One step of an endpoint, at a call or any frame: its frames, notices and change of
--- state; both directions are preserved.
-use Rattle.lapdm_link.proofs.Words.{HasBegun, MayOpen, ◌≡◌, refl, sym, ◌∙◌, ap, subst, ℕ, ◌≤◌, List, [], ◌∷◌}
-use Rattle.lapdm_link.proofs.Words.{◌++◌, length, Option, Some}
-use Rattle.lapdm_link.proofs.Words.{None, inl, ◌⊎◌, filter_map, cons_option, append-nil, Content, I, Rr, Rej, Sabm, Ui, Ua, Frame}
-use Rattle.lapdm_link.proofs.Words.{Message, information}
-use Rattle.lapdm_link.proofs.Words.{Segment, false, State, Idle, Opening, Closing, Closed, Notice, EndState}
-use Rattle.lapdm_link.proofs.Words.{Outcome, KeepsWindow, all_segments, IsSameLink, Call, Opens, OpensBare, SendsUnit, Idles, sent_in}
-use Rattle.lapdm_link.proofs.Words.{unit_sent_in, unit_delivered_in, opened_in}
+-- What one step of an endpoint does, at a call or at any received frame: which frames it sends, which notices it reports, how its state
+-- changes, and that the invariant `BothHold` of both directions is preserved.
+use Rattle.lapdm_link.proofs.Words.{HasBegun, MayOpen, ◌≡◌, refl, sym, ◌∙◌, ap, subst, ℕ, ◌≤◌, List, [], ◌∷◌, ◌++◌, length, Option, Some}
+use Rattle.lapdm_link.proofs.Words.{None, inl, ◌⊎◌, filter_map, cons_option, append-nil, Content, I, Rr, Rej, Sabm, Ui, Ua, Frame, Message}
+use Rattle.lapdm_link.proofs.Words.{information, Segment, false, State, Idle, Opening, Closing, Closed, Notice, EndState, Outcome}
+use Rattle.lapdm_link.proofs.Words.{HasWindowOfOne, all_segments, IsSameEndpoint, Call, Opens, OpensBare, SendsUnit, SendsFill}
+use Rattle.lapdm_link.proofs.{Words.{sent_by_call, unit_sent_by_call, unit_in_notice, opened_in_notice}, Queues.{content_of, contents}}
+use Rattle.lapdm_link.proofs.{Queues.{IsPlain, AllFrames, AllOf, of-as, frames-as, frames-say}, Notified.{Known, known, asked, Notifies}}
+use Rattle.lapdm_link.proofs.{Notifying.{CarriesSegmentOf, IsNoUnitOrOpening, InOpen}, Keeping.{Way, BothHold, Both, sends_plain, moved}}
+use Rattle.lapdm_link.proofs.Keeping.{gone}
 use Rattle.lapdm_window.specs.declared.State.TheVariants.{Open}
 use Rattle.lapdm_window.specs.declared.Notice.TheVariants as N
-use Rattle.lapdm_link.proofs.Queues.{content_of, contents, IsPlain, AllFrames, AllOf, of-as, frames-as, frames-say}
-use Rattle.lapdm_link.proofs.Notified.{Known, known, asked, Notifies}
-use Rattle.lapdm_link.proofs.Notifying.{SaysWell, IsOfOpen, InOpen}
-use Rattle.lapdm_link.proofs.Keeping.{Way, IsBoth, Both, sends_plain, moved, gone}
 
--- the endpoint may send this content in a step from x to z: an I frame of its segments, a SABM with the
--- information kept, a UI frame that the call asked for, a UA with the information of the open link or none
+-- what an endpoint may send in a step from x to z: an I frame with one of its segments, a SABM with the kept information, a UI frame for a
+-- call, or a UA that is empty or has the information of the open link
 abbrev pub Says : Option Call → EndState → EndState → Content → Type 0
-Says call x z (I ns nr p more info) = SaysWell (all_segments z) (I ns nr p more info)
+Says call x z (I ns nr p more info) = CarriesSegmentOf (all_segments z) (I ns nr p more info)
 Says call x z (Sabm p info) = (z.state ≡ Opening) × (z.kept ≡ info)
-Says call x z (Ui p info) = (call ≡ Some (SendsUnit info)) ⊎ ((call ≡ Some Idles) × (info ≡ []))
+Says call x z (Ui p info) = (call ≡ Some (SendsUnit info)) ⊎ ((call ≡ Some SendsFill) × (info ≡ []))
 Says call x z (Ua f info) = ((z.state ≡ Open) × (z.kept ≡ info)) ⊎ ((info ≡ []) × HasBegun x)
 Says call x z other = information other ≡ []
 
@@ -37,36 +34,37 @@ OpensBy (Sabm p i) x info = (i ≡ info) × (x.state ≡ Idle) × MayOpen x.sapi
 OpensBy (Ua f i) x info = (i ≡ info) × (x.state ≡ Opening) × (info ≡ x.kept)
 OpensBy other x info = ⊥
 
--- the five ways in which a step may change the state of the link: not at all, closed, closing, opening, open
+-- the five ways in which a step may change the state of the link: it stays as it is, becomes Closed, becomes Closing, becomes Opening, or
+-- becomes Open
 pub data Goes (call : Option Call) (c : Content) (x : EndState) (o : Outcome) : Type 0 where
-  remains : o.after.state ≡ x.state → o.after.kept ≡ x.kept → filter_map opened_in o.notices ≡ [] → Goes call c x o
-  ends : o.after.state ≡ Closed → o.after.kept ≡ x.kept → filter_map opened_in o.notices ≡ [] → Goes call c x o
-  closes : x.state ≡ Open → o.after.state ≡ Closing → o.after.kept ≡ x.kept → filter_map opened_in o.notices ≡ [] → Goes call c x o
-  begins : o.after.state ≡ Opening → IsOpening call o.after.kept → filter_map opened_in o.notices ≡ [] → Goes call c x o
+  remains : o.after.state ≡ x.state → o.after.kept ≡ x.kept → filter_map opened_in_notice o.notices ≡ [] → Goes call c x o
+  ends : o.after.state ≡ Closed → o.after.kept ≡ x.kept → filter_map opened_in_notice o.notices ≡ [] → Goes call c x o
+  closes : x.state ≡ Open → o.after.state ≡ Closing → o.after.kept ≡ x.kept → filter_map opened_in_notice o.notices ≡ [] → Goes call c x o
+  begins : o.after.state ≡ Opening → IsOpening call o.after.kept → filter_map opened_in_notice o.notices ≡ [] → Goes call c x o
   opens : {info : Message} → o.notices ≡ N.Opened info ∷ [] → o.after.state ≡ Open → o.after.kept ≡ info → OpensBy c x info →
       Goes call c x o
 
--- the message of a UI frame
+-- the message that a UI frame carries
 abbrev pub unit_in : Content → Option Message
 unit_in (Ui p m) = Some m
 unit_in other = None
 
--- no message of a UI frame is reported, or the one of this frame
+-- the notices report either no message of a UI frame, or exactly the message of this frame
 abbrev pub ReportsUnit : Content → List Notice → Type 0
-ReportsUnit c ns = (filter_map unit_delivered_in ns ≡ [])
-    ⊎ (filter_map unit_delivered_in ns ≡ filter_map unit_in (cons_option (content_of c) []))
+ReportsUnit c ns = (filter_map unit_in_notice ns ≡ [])
+    ⊎ (filter_map unit_in_notice ns ≡ filter_map unit_in (cons_option (content_of c) []))
 
--- what holds of one step, at a call (then c is a fill frame) or at the frame c
+-- all that holds of one step of an endpoint, caused by a call (then c is a fill frame) or by the received frame c
 pub record IsDone (call : Option Call) (c : Content) (x : EndState) (o : Outcome) : Type 0 where
-  pub link : IsSameLink x o.after
-  pub end : KeepsWindow o.after
-  pub taken : o.after.taken ≡ x.taken ++ filter_map sent_in (cons_option call [])
+  pub link : IsSameEndpoint x o.after
+  pub end : HasWindowOfOne o.after
+  pub taken : o.after.taken ≡ x.taken ++ filter_map sent_by_call (cons_option call [])
   pub notifies : Notifies (asked call (known x)) o.notices (known o.after)
   pub frames : AllFrames (Says call x o.after) x.sapi o.frames
-  pub units : filter_map unit_in (contents o.frames) ≡ filter_map unit_sent_in (cons_option call [])
+  pub units : filter_map unit_in (contents o.frames) ≡ filter_map unit_sent_by_call (cons_option call [])
   pub reports : ReportsUnit c o.notices
   pub goes : Goes call c x o
-  pub arrives : (y : EndState) (out comes : List Content) → IsBoth x y out (cons_option (content_of c) comes)
+  pub arrives : (y : EndState) (out comes : List Content) → BothHold x y out (cons_option (content_of c) comes)
       (cons_option (content_of c) comes) → Both o.after y (out ++ contents o.frames) comes
 
 abbrev pub IsTaken : Content → EndState → Outcome → Type 0
@@ -75,14 +73,14 @@ IsTaken = IsDone None
 abbrev pub IsCalled : EndState → Call → Outcome → Type 0
 IsCalled x call o = IsDone (Some call) (Ui false []) x o
 
-well-said : (call : Option Call) (x z : EndState) (ps : List Segment) → all_segments z ≡ ps → (c : Content) → SaysWell ps c →
+well-said : (call : Option Call) (x z : EndState) (ps : List Segment) → all_segments z ≡ ps → (c : Content) → CarriesSegmentOf ps c →
     Says call x z c
-well-said call x z ps e (I ns nr p more info) h = subst (λ qs. SaysWell qs (I ns nr p more info)) (sym e) h
+well-said call x z ps e (I ns nr p more info) h = subst (λ qs. CarriesSegmentOf qs (I ns nr p more info)) (sym e) h
 well-said call x z ps e (Rr nr pf) h = refl
 well-said call x z ps e (Rej nr pf) h = refl
 well-said call x z ps e other h = absurd h
 
-well-no_unit : (ps : List Segment) (c : Content) → SaysWell ps c → unit_in c ≡ None
+well-no_unit : (ps : List Segment) (c : Content) → CarriesSegmentOf ps c → unit_in c ≡ None
 well-no_unit ps (Ui p m) h = absurd h
 well-no_unit ps other h = refl
 
@@ -90,34 +88,35 @@ pub none-of : {A B : Type 0} (f : A → Option B) (xs : List A) → AllOf (λ x.
 none-of f [] h = refl
 none-of f (x ∷ xs) h = rw (h.0, none-of f xs h.1) refl
 
--- a step by the rules of Open, given the messages sent
-pub openly : {From : Way} (call : Option Call) (c : Content) (x : EndState) (ts : List Message) (o : Outcome) →
+-- a step that follows the window rules of state Open, with `ts` as the messages taken so far, satisfies `IsDone`
+pub step_in_open : {From : Way} (call : Option Call) (c : Content) (x : EndState) (ts : List Message) (o : Outcome) →
     (let mid : EndState = record x { taken = ts } in InOpen From Both mid o →
-    ((y : EndState) (out comes : List Content) → IsBoth x y out (cons_option (content_of c) comes) (cons_option (content_of c) comes) →
-    From mid y out comes) → ts ≡ x.taken ++ filter_map sent_in (cons_option call []) → known mid ≡ asked call (known x) →
-    filter_map unit_sent_in (cons_option call []) ≡ [] → IsDone call c x o)
-openly call c x ts o h from takes notified none =
+    ((y : EndState) (out comes : List Content) → BothHold x y out (cons_option (content_of c) comes) (cons_option (content_of c) comes) →
+    From mid y out comes) → ts ≡ x.taken ++ filter_map sent_by_call (cons_option call []) → known mid ≡ asked call (known x) →
+    filter_map unit_sent_by_call (cons_option call []) ≡ [] → IsDone call c x o)
+step_in_open call c x ts o h from takes notified none =
     let ps : List Segment = all_segments (record x { taken = ts }) in
     record {
       link = record { role = ap (λ z. z.role) h.same; sapi = ap (λ z. z.sapi) h.same; channel = ap (λ z. z.channel) h.same };
       end = h.end;
       taken = ap (λ z. z.taken) h.same ∙ takes;
       notifies = subst (λ (k : Known). Notifies k o.notices (known o.after)) notified h.notifies;
-      frames = frames-as (SaysWell ps) (Says call x o.after) (well-said call x o.after ps (ap all_segments h.same)) x.sapi o.frames
+      frames = frames-as (CarriesSegmentOf ps) (Says call x o.after) (well-said call x o.after ps (ap all_segments h.same)) x.sapi o.frames
           h.frames;
-      units = none-of unit_in _ (frames-say (SaysWell ps) (λ c. unit_in c ≡ None) (well-no_unit ps) x.sapi o.frames h.frames) ∙ sym none;
-      reports = inl (none-of unit_delivered_in _ (of-as IsOfOpen _ (λ n m. m.0) o.notices h.of_open));
+      units = none-of unit_in _ (frames-say (CarriesSegmentOf ps) (λ c. unit_in c ≡ None) (well-no_unit ps) x.sapi o.frames h.frames)
+          ∙ sym none;
+      reports = inl (none-of unit_in_notice _ (of-as IsNoUnitOrOpening _ (λ n m. m.0) o.notices h.of_open));
       goes = remains (ap (λ z. z.state) h.same) (ap (λ z. z.kept) h.same)
-          (none-of opened_in _ (of-as IsOfOpen _ (λ n m. m.1) o.notices h.of_open));
+          (none-of opened_in_notice _ (of-as IsNoUnitOrOpening _ (λ n m. m.1) o.notices h.of_open));
       arrives = λ y out comes k. h.keeps y out comes (from y out comes k);
     }
 
--- a step that sends no numbered frame and takes no message from layer 3
-pub moves : (call : Option Call) (c : Content) (x : EndState) (w : KeepsWindow x) (s : State) (k : Message) (r : ℕ) (fs : List Frame)
+-- a step that sends no I, RR, RNR or REJ frame and takes no message from layer 3 satisfies `IsDone`
+pub moves : (call : Option Call) (c : Content) (x : EndState) (w : HasWindowOfOne x) (s : State) (k : Message) (r : ℕ) (fs : List Frame)
     (ns : List Notice) → (let z : EndState = record x { state = s; kept = k; retries = r } in
     let o : Outcome = record { after = z; frames = fs; notices = ns } in AllFrames (SaysPlain call x z) x.sapi fs →
-    Notifies (asked call (known x)) ns (known z) → Goes call c x o → ReportsUnit c ns → filter_map sent_in (cons_option call []) ≡ [] →
-    filter_map unit_in (contents fs) ≡ filter_map unit_sent_in (cons_option call []) → IsDone call c x o)
+    Notifies (asked call (known x)) ns (known z) → Goes call c x o → ReportsUnit c ns → filter_map sent_by_call (cons_option call []) ≡ [] →
+    filter_map unit_in (contents fs) ≡ filter_map unit_sent_by_call (cons_option call []) → IsDone call c x o)
 moves call c x w s k r fs ns says notifies goes reports none units =
     let z : EndState = record x { state = s; kept = k; retries = r } in
     record {

@@ -1,18 +1,15 @@
--- Case analysis: each event is refused, or is of one of five kinds: a call, a received
--- frame, nothing read, a loss, a SABM of another mobile.
-use Rattle.lapdm_link.proofs.Words.{arith, ◌≡◌, refl, sym, ap, subst, Bool, true, List, [], ◌∷◌, map, nat_eq, Option, Some}
-use Rattle.lapdm_link.proofs.Words.{None}
-use Rattle.lapdm_link.proofs.Words.{append-nil, Frame, Message, Sapi, Zero, Three, Refused, Role, Mobile, Network}
-use Rattle.lapdm_link.proofs.Words.{sapi_number, Call, Opens, OpensBare, refusal_of, after_call, after_frame, Request, Event, Open}
-use Rattle.lapdm_link.proofs.Words.{OpenBare, Ask, Deliver, Lose, Rival, other, rival_frame, side_step, BySide, Why, by_side, side_in}
-use Rattle.lapdm_link.proofs.Words.{by_sapi}
-use Rattle.lapdm_link.proofs.Words.{AirFull, because, unless, rival_refusal, call_of, World, next_world, refusal, after_by, answer_by}
-use Rattle.lapdm_link.proofs.Words.{answer}
-use Rattle.lapdm_link.proofs.Words.{world_after, Line, Asked, Rivals, Notified, notice_lines, answer_lines}
-use Rattle.lapdm_link.proofs.Views.{end_of, without_first, with_frames, acted}
+-- Case analysis of events: an event is refused, or it is a call, a received frame, an arrival of which nothing is read, a loss, or a SABM
+-- of another mobile.
+use Rattle.lapdm_link.proofs.Words.{arith, ◌≡◌, refl, sym, ap, subst, Bool, true, List, [], ◌∷◌, map, nat_eq, Option, Some, None}
+use Rattle.lapdm_link.proofs.Words.{append-nil, Frame, Message, Sapi, Zero, Three, Refused, Role, Mobile, Network, sapi_number, Call, Opens}
+use Rattle.lapdm_link.proofs.Words.{OpensBare, refusal_of, after_call, after_frame, Request, Event, Open, OpenBare, Ask, Deliver, Lose}
+use Rattle.lapdm_link.proofs.Words.{Rival, other, rival_sabm, side_step, BySide, EventRefusal, step_of_both_sides, side_in, by_sapi}
+use Rattle.lapdm_link.proofs.Words.{AirFull, as_refusal, refusal_if, rival_refusal, call_of, World, next_world, refusal}
+use Rattle.lapdm_link.proofs.Words.{after_unless_refused, answer_unless_refused, answer, world_after, Line, Asked, RivalSabm, Notified}
+use Rattle.lapdm_link.proofs.{Words.{notice_lines, answer_lines}, Views.{end_of, without_first, with_frames, acted}}
 use Rattle.lapdm_window.specs.Sides as S
 
--- a call that this endpoint has: only the mobile establishes SAPI 0
+-- the endpoint of this role and SAPI has this call: only the mobile establishes SAPI 0, with information
 abbrev pub IsPlaced : Role → Sapi → Call → Type 0
 IsPlaced r s (Opens info) = (r ≡ Mobile) × (s ≡ Zero)
 IsPlaced r s OpensBare = s ≡ Three
@@ -21,16 +18,16 @@ IsPlaced r s call = Unit {0}
 placed-request : (r : Role) (s : Sapi) (request : Request) → IsPlaced r s (call_of request)
 placed-request r s request = grind arith
 
--- what the premise says of the frame that is read
+-- if the event is an arrival, `Known` holds of the frame that is read
 abbrev pub Knows : (Role → Frame → Type 0) → Event → Type 0
 Knows Known (Deliver sender (Some f)) = Known sender f
 Knows Known event = Unit {0}
 
-abbrev pub KnowsBy : Option Why → (Role → Frame → Type 0) → Event → Type 0
+abbrev pub KnowsBy : Option EventRefusal → (Role → Frame → Type 0) → Event → Type 0
 KnowsBy (Some why) Known event = Unit {0}
 KnowsBy None Known event = Knows Known event
 
-no_refusal : (b : Bool) (o : Option Refused) → unless b AirFull (because o) ≡ None → o ≡ None
+no_refusal : (b : Bool) (o : Option Refused) → refusal_if b AirFull (as_refusal o) ≡ None → o ≡ None
 no_refusal b o h = grind arith
 
 none_sent : (r : Role) (w : World) → with_frames r [] w ≡ w
@@ -44,20 +41,20 @@ module _ (w : World) (P : World → List Line → Type 0) (Known : Role → Fram
     P (acted r s (after_frame f (end_of r s (without_first (other r) w))) (without_first (other r) w))
     (map (Notified r s) (after_frame f (end_of r s (without_first (other r) w))).notices))
     (lost : (sender : Role) → P (without_first sender w) [])
-    (rival : (info : Message) → rival_refusal w.channel info ≡ None → P (with_frames Mobile (rival_frame info ∷ []) w) (Rivals info ∷ []))
+    (rival : (info : Message) → rival_refusal w.channel info ≡ None → P (with_frames Mobile (rival_sabm info ∷ []) w) (RivalSabm info ∷ []))
   where
-    either : (o : Option Why) (event : Event) → KnowsBy o Known event → (o ≡ None → Knows Known event →
-        P (after_by None event w) (answer_lines event (answer_by None (side_step event w.ends)))) →
-        P (after_by o event w) (answer_lines event (answer_by o (side_step event w.ends)))
+    either : (o : Option EventRefusal) (event : Event) → KnowsBy o Known event → (o ≡ None → Knows Known event →
+        P (after_unless_refused None event w) (answer_lines event (answer_unless_refused None (side_step event w.ends)))) →
+        P (after_unless_refused o event w) (answer_lines event (answer_unless_refused o (side_step event w.ends)))
     either o event known h = grind arith
 
-    -- nothing is sent
+    -- the case of an event that sends no frame
     quietly : (sender r : Role) → P (with_frames r [] (without_first sender w)) []
     quietly sender r = subst (λ (z : World). P z []) (sym (none_sent r (without_first sender w))) (lost sender)
 
-    -- a side does this with the frame that arrives
+    -- the case of an arrival, at which side r takes the step d
     abbrev Arrives : Role → S.SideStep → Type 0
-    Arrives r d = P (next_world (by_side r d w.ends) (without_first (other r) w)) (notice_lines (BySide r) d.sapi d.notices)
+    Arrives r d = P (next_world (step_of_both_sides r d w.ends) (without_first (other r) w)) (notice_lines (BySide r) d.sapi d.notices)
 
     none_taken : (r : Role) → Arrives r (S.does_nothing (side_in r w.ends))
     none_taken Mobile = quietly Network Mobile

@@ -1,76 +1,74 @@
--- Each step of an endpoint preserves both directions of its link, and the directions
--- give the claims on delivery: in order, delivered before acknowledged, none oversize.
-use Rattle.lapdm_link.proofs.Words.{◌≡◌, refl, sym, arith, List, [], ◌∷◌, Some, ◌∙◌, ap, ℕ, suc, ◌≤◌, ◌++◌}
-use Rattle.lapdm_link.proofs.Words.{length, map, take, drop, Option, None, All, filter_map, flat_map, take-append-drop, filter_map-append}
-use Rattle.lapdm_link.proofs.Words.{n201, Content, Message, Segment, IsMessage, segments, endings, messages, ended_count, open_after}
-use Rattle.lapdm_link.proofs.Words.{endings-all}
-use Rattle.lapdm_link.proofs.Words.{endings-append, ended-take, ended-endings, messages_of, Sapi, Notice, Role, EndState, IsPrefix, Line}
-use Rattle.lapdm_link.proofs.Words.{Notified, OccursAfter, notices, delivered_in, delivered, acked_numbers, sent_messages}
+-- Every step of an endpoint preserves the invariant of both directions of its link, and the invariant implies the claims about delivery: in
+-- order, delivered before acknowledged, none oversize.
+use Rattle.lapdm_link.proofs.Words.{◌≡◌, refl, sym, arith, List, [], ◌∷◌, Some, ◌∙◌, ap, ℕ, suc, ◌≤◌, ◌++◌, length, map, take, drop, Option}
+use Rattle.lapdm_link.proofs.Words.{None, All, filter_map, flat_map, take-append-drop, filter_map-append, n201, Content, Message, Segment}
+use Rattle.lapdm_link.proofs.Words.{IsMessage, segments, ended_messages, messages, completed_count, unfinished_octets_after}
+use Rattle.lapdm_link.proofs.Words.{ended_messages-all, ended_messages-append, ended-take, ended-ended_messages, messages_of, Sapi, Notice}
+use Rattle.lapdm_link.proofs.Words.{Role, EndState, IsPrefix, Line, Notified, OccursAfter, notices, delivered_in_notice, delivered}
+use Rattle.lapdm_link.proofs.{Words.{acked_numbers, sent_messages}, Views.notices-at, Directions.climbs-le, Keeping.{BothHold, sends_plain}}
+use Rattle.lapdm_link.proofs.{Notified.ending_in, Order.IsReported, Links.{Side, Act, IsActed, called, took, rival, after, other_after}}
 use Rattle.lapdm_window.specs.declared.Notice.TheVariants as N
-use Rattle.lapdm_link.proofs.Views.{notices-at}
-use Rattle.lapdm_link.proofs.Directions.{climbs-le}
-use Rattle.lapdm_link.proofs.Keeping.{IsBoth, sends_plain}
-use Rattle.lapdm_link.proofs.Notified.{ending_in}
-use Rattle.lapdm_link.proofs.Order.{IsReported}
-use Rattle.lapdm_link.proofs.Links.{Side, Act, IsActed, called, took, rival, after, other_after}
 
--- both directions of a link, seen from one of its endpoints
+-- the invariant of both directions of a link, as one of its sides sees it
 abbrev pub IsCarried : Side → Side → Type 0
-IsCarried x y = IsBoth x.end y.end x.out y.out y.out
+IsCarried x y = BothHold x.end y.end x.out y.out y.out
 
 pub carried-acts : {x y : Side} {a : Act} → IsActed x y a → IsCarried x y → IsCarried (after a x) (other_after a y)
 carried-acts (called p c) h = c.arrives _ _ _ h
 carried-acts (took e t) h = t.arrives _ _ _ (rw e at h)
 carried-acts rival h = sends_plain _ (tt, tt) h
 
--- a prefix of a list of complete messages
-wholes : (xs ys : List (Option Message)) (ms : List Message) → xs ++ ys ≡ map (λ (m : Message). Some m) ms →
+-- a prefix of a list of complete messages contains complete messages only
+prefix_is_complete : (xs ys : List (Option Message)) (ms : List Message) → xs ++ ys ≡ map (λ (m : Message). Some m) ms →
     length (filter_map (λ x. x) xs) ≡ length xs
-wholes [] ys ms h = refl
-wholes (Some x ∷ xs) ys (m ∷ ms) h = ap suc (wholes xs ys ms (cc h))
-wholes (None ∷ xs) ys (m ∷ ms) h = cc h
-wholes xs ys ms h = cc h
+prefix_is_complete [] ys ms h = refl
+prefix_is_complete (Some x ∷ xs) ys (m ∷ ms) h = ap suc (prefix_is_complete xs ys ms (cc h))
+prefix_is_complete (None ∷ xs) ys (m ∷ ms) h = cc h
+prefix_is_complete xs ys ms h = cc h
 
 no_oversize : (xs ys zs : List (Option Message)) (ms : List Message) → (xs ++ None ∷ ys) ++ zs ≡ map (λ (m : Message). Some m) ms → ⊥
 no_oversize (x ∷ xs) ys zs (m ∷ ms) h = no_oversize xs ys zs ms (cc h)
 no_oversize [] ys zs (m ∷ ms) h = cc h
 no_oversize xs ys zs ms h = cc h
 
--- the first r segments of messages are accepted
+-- below, the accepted segments qs are the first r segments of the messages ms
 module _ (n : ℕ) (ms : List Message) (good : All IsMessage ms) (r : ℕ) (qs : List Segment)
     (accepted : qs ≡ take r (flat_map (segments n) ms))
   where
-    -- what the accepted segments complete is a prefix of the messages
-    begins : (more : List (Option Message)) × (endings [] qs ++ more ≡ map (λ (m : Message). Some m) ms)
+    -- the messages that the accepted segments complete are a prefix of all messages
+    begins : (more : List (Option Message)) × (ended_messages [] qs ++ more ≡ map (λ (m : Message). Some m) ms)
     begins =
         let left : List Segment = drop r (flat_map (segments n) ms) in
         let whole : qs ++ left ≡ flat_map (segments n) ms = ap (λ ps. ps ++ left) accepted
-        ∙ take-append-drop r (flat_map (segments n) ms) in
-        (endings (open_after [] qs) left, sym (endings-append [] qs left) ∙ ap (endings []) whole ∙ endings-all n ms good)
+        ∙ take-append-drop r (flat_map (segments n) ms) in (
+          ended_messages (unfinished_octets_after [] qs) left,
+          sym (ended_messages-append [] qs left) ∙ ap (ended_messages []) whole
+              ∙ ended_messages-all n ms good,
+        )
 
     prefix : IsPrefix (messages qs) ms
     prefix = (
       filter_map (λ x. x) begins.0,
-      sym (filter_map-append (λ x. x) (endings [] qs) begins.0) ∙ ap (filter_map (λ x. x)) begins.1 ∙ messages_of ms,
+      sym (filter_map-append (λ x. x) (ended_messages [] qs) begins.0) ∙ ap (filter_map (λ x. x)) begins.1 ∙ messages_of ms,
     )
 
-    counted : (a : ℕ) → a ≤ r → ended_count (take a (flat_map (segments n) ms)) ≤ length (messages qs)
+    counted : (a : ℕ) → a ≤ r → completed_count (take a (flat_map (segments n) ms)) ≤ length (messages qs)
     counted a h = omega (
       arith,
       ended-take a r (flat_map (segments n) ms) h,
-      ap ended_count accepted,
-      ended-endings qs,
-      wholes (endings [] qs) begins.0 ms begins.1,
+      ap completed_count accepted,
+      ended-ended_messages qs,
+      prefix_is_complete (ended_messages [] qs) begins.0 ms begins.1,
     )
 
-got-messages : (ns : List Notice) → filter_map delivered_in ns ≡ filter_map (λ x. x) (filter_map ending_in ns)
+got-messages : (ns : List Notice) → filter_map delivered_in_notice ns ≡ filter_map (λ x. x) (filter_map ending_in ns)
 got-messages [] = refl
 got-messages (N.Got m ∷ ns) = ap (λ ms. m ∷ ms) (got-messages ns)
 got-messages (n ∷ ns) = got-messages ns
 
--- both endpoints of a link in any state of a benign session
+-- below, x and y are the endpoints of a link in some state of a benign session
 module _ {r q : Role} {s : Sapi} {x y : EndState} {ls : List Line} {out comes hears : List Content} (here : IsReported r s x ls)
-    (there : IsReported q s y ls) (both : IsBoth x y out comes hears) where
+    (there : IsReported q s y ls) (both : BothHold x y out comes hears) where
   delivered_is : delivered q s ls ≡ messages y.accepted
   delivered_is = got-messages (notices q s ls) ∙ ap (filter_map (λ x. x)) there.notified.got
 

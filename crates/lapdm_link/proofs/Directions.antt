@@ -1,58 +1,56 @@
--- The invariant of delivery: segments in one direction, their acknowledgements in the other, and why three bits
--- suffice for a sequence number. It names no endpoint, queue or SAPI, so it serves both directions of both links.
+-- The invariant of delivery in one direction: segments travel one way and acknowledgements the other. It implies that three bits suffice
+-- for a sequence number. It names no endpoint, queue or SAPI, so it serves both directions of both links.
 --
--- Put these counts in a row: the segments that the sender counts as acknowledged; for each frame with
--- an N(R) in transit, the segments accepted when it was sent; the segments accepted; for each I frame
--- in transit, the segments up to and including its own; the segments sent. The row never decreases,
--- and its last number is at most one more than its first, because the window is one frame. So an I
--- frame that arrives carries the last accepted segment or the next one, and N(S) modulo 8 tells which.
--- An N(R) that arrives can mean only two counts, and modulo 8 it tells whether it acknowledges the
--- outstanding segment; if so, the count of accepted segments, which lies between, is that count too.
-use Rattle.lapdm_link.proofs.Words.{arith, ℕ, ◌≤◌, List, [], ◌∷◌, ◌++◌, ◌≡◌, ◌≢◌, refl, sym, ◌∙◌, ap}
-use Rattle.lapdm_link.proofs.Words.{◌+◌, ◌%◌, ◌<◌, false, length, take, get_or, length-append, take-append-le, take_more}
-use Rattle.lapdm_link.proofs.Words.{get_or-append, Bool, Content, I, Rr, Rej, Segment}
+-- Write these counts in a row: the segments that the sender counts as acknowledged; for each frame with an N(R) in transit, the number of
+-- segments accepted when it was sent; the segments accepted; for each I frame in transit, the number of segments up to its own; the
+-- segments sent. The row never decreases, and its last count exceeds its first by at most one, because the window is one frame. So an
+-- arriving I frame carries either the last accepted segment or the next one, and N(S) modulo 8 distinguishes the two. An arriving N(R)
+-- stands for one of two counts, and modulo 8 shows whether it acknowledges the outstanding segment. If it does, the count of accepted
+-- segments, which lies between, has the same value.
+use Rattle.lapdm_link.proofs.Words.{arith, ℕ, ◌≤◌, List, [], ◌∷◌, ◌++◌, ◌≡◌, ◌≢◌, refl, sym, ◌∙◌, ap, ◌+◌, ◌%◌, ◌<◌, false, length, take}
+use Rattle.lapdm_link.proofs.Words.{get_or, length-append, take-append-le, take_more, get_or-append, Bool, Content, I, Rr, Rej, Segment}
 use Rattle.lapdm_link.proofs.Queues.{AllOf}
 
 -- ---- non-decreasing counts
 
--- a non-decreasing sequence from `low` to `high` that has one count for each content in the list, as `Notifies` says
-pub data Climbs (Notifies : ℕ → Content → Type 0) : ℕ → List Content → ℕ → Type 0 where
-  last : {low high : ℕ} → low ≤ high → Climbs Notifies low [] high
-  first : {low k high : ℕ} {c : Content} {cs : List Content} → low ≤ k → Notifies k c → Climbs Notifies k cs high →
-      Climbs Notifies low (c ∷ cs) high
+-- a non-decreasing sequence of counts between `low` and `high`, one for each content in the list, to which it is related by `Notifies`
+pub data Ascending (Notifies : ℕ → Content → Type 0) : ℕ → List Content → ℕ → Type 0 where
+  last : {low high : ℕ} → low ≤ high → Ascending Notifies low [] high
+  first : {low k high : ℕ} {c : Content} {cs : List Content} → low ≤ k → Notifies k c → Ascending Notifies k cs high →
+      Ascending Notifies low (c ∷ cs) high
 
 module _ {Notifies : ℕ → Content → Type 0} where
-  climbs-split : {low high : ℕ} {c : Content} {cs : List Content} → Climbs Notifies low (c ∷ cs) high →
-      ((k : ℕ) × (low ≤ k) × Notifies k c × Climbs Notifies k cs high)
+  climbs-split : {low high : ℕ} {c : Content} {cs : List Content} → Ascending Notifies low (c ∷ cs) high →
+      ((k : ℕ) × (low ≤ k) × Notifies k c × Ascending Notifies k cs high)
   climbs-split (first {k = k} l t h) = (k, l, t, h)
 
-  pub climbs-le : {low high : ℕ} {cs : List Content} → Climbs Notifies low cs high → low ≤ high
+  pub climbs-le : {low high : ℕ} {cs : List Content} → Ascending Notifies low cs high → low ≤ high
   climbs-le (last h) = h
   climbs-le (first l t h) = omega (arith, climbs-le h)
 
-  -- a weaker `Notifies`, in a wider range
+  -- a sequence remains valid under a weaker `Notifies` and in a wider range
   climbs-as : (Notifies' : ℕ → Content → Type 0) → ((k : ℕ) (c : Content) → Notifies k c → Notifies' k c) → {low low' high high' : ℕ}
-      {cs : List Content} → low' ≤ low → high ≤ high' → Climbs Notifies low cs high → Climbs Notifies' low' cs high'
+      {cs : List Content} → low' ≤ low → high ≤ high' → Ascending Notifies low cs high → Ascending Notifies' low' cs high'
   climbs-as Notifies' says l h (last m) = last (omega arith)
   climbs-as Notifies' says l h (first m t g) = first (omega arith) (says _ _ t) (climbs-as Notifies' says (omega arith) h g)
 
-  climbs-within : {low low' high high' : ℕ} {cs : List Content} → low' ≤ low → high ≤ high' → Climbs Notifies low cs high →
-      Climbs Notifies low' cs high'
+  climbs-within : {low low' high high' : ℕ} {cs : List Content} → low' ≤ low → high ≤ high' → Ascending Notifies low cs high →
+      Ascending Notifies low' cs high'
   climbs-within l h g = climbs-as Notifies (λ k c t. t) l h g
 
-  climbs-rest : {low high : ℕ} {c : Content} {cs : List Content} → Climbs Notifies low (c ∷ cs) high → Climbs Notifies low cs high
+  climbs-rest : {low high : ℕ} {c : Content} {cs : List Content} → Ascending Notifies low (c ∷ cs) high → Ascending Notifies low cs high
   climbs-rest (first l t h) = climbs-within l (omega arith) h
 
-  -- contents with the highest count are appended
-  climbs-append : {low high : ℕ} {cs : List Content} (ds : List Content) → AllOf (Notifies high) ds → Climbs Notifies low cs high →
-      Climbs Notifies low (cs ++ ds) high
+  -- contents whose count is the highest may be appended to a sequence
+  climbs-append : {low high : ℕ} {cs : List Content} (ds : List Content) → AllOf (Notifies high) ds → Ascending Notifies low cs high →
+      Ascending Notifies low (cs ++ ds) high
   climbs-append [] a (last h) = last h
   climbs-append (d ∷ ds) a (last h) = first h a.0 (climbs-append ds a.1 (last (omega arith)))
   climbs-append ds a (first l t h) = first l t (climbs-append ds a h)
 
 climbs-rr : {Notifies : ℕ → Content → Type 0} {low high nr : ℕ} {pf : Bool} {cs : List Content} →
-    ((k : ℕ) → Notifies k (Rej nr pf) → Notifies k (Rr nr pf)) → Climbs Notifies low (Rej nr pf ∷ cs) high →
-    Climbs Notifies low (Rr nr pf ∷ cs) high
+    ((k : ℕ) → Notifies k (Rej nr pf) → Notifies k (Rr nr pf)) → Ascending Notifies low (Rej nr pf ∷ cs) high →
+    Ascending Notifies low (Rr nr pf ∷ cs) high
 climbs-rr says (first l t h) = first l (says _ t) h
 
 -- the N(R) of the content, if it has one, is n modulo 8
@@ -62,7 +60,7 @@ CountsIn n (Rr nr pf) = nr ≡ n % 8
 CountsIn n (Rej nr pf) = nr ≡ n % 8
 CountsIn n other = Unit {0}
 
--- p is segment n of ps, counted from 1, and ns is its N(S)
+-- p is the n-th segment of ps, counted from 1, and ns is its N(S)
 pub record IsSegment (ps : List Segment) (n ns : ℕ) (p : Segment) : Type 0 where
   pub at : ℕ
   pub count : n ≡ at + 1
@@ -74,24 +72,24 @@ abbrev pub CarriesIn : List Segment → ℕ → Content → Type 0
 CarriesIn ps n (I ns nr p more info) = IsSegment ps n ns (info, more)
 CarriesIn ps n other = Unit {0}
 
--- one direction: of the segments ps, `acked` are acknowledged and `sent` are sent; `accepted` are the
--- first of them; `there` are the frames in transit with segments, `back` those with acknowledgements
+-- the invariant of one direction: of the segments ps, the first `sent` are sent and the first `acked` acknowledged; `accepted` are the
+-- first ones too; `there` are the contents in transit that may carry segments, `back` those in transit that may carry acknowledgements
 pub record IsDirection (ps : List Segment) (acked sent : ℕ) (accepted : List Segment) (there back : List Content) : Type 0 where
-  pub acknowledged : Climbs CountsIn acked back (length accepted)
-  pub carried : Climbs (CarriesIn ps) (length accepted) there sent
+  pub acknowledged : Ascending CountsIn acked back (length accepted)
+  pub carried : Ascending (CarriesIn ps) (length accepted) there sent
   pub window : sent ≤ acked + 1
   pub within : sent ≤ length ps
   pub in_order : accepted ≡ take (length accepted) ps
 
--- three bits determine the segment of an I frame
+-- N(S) modulo 8 determines which segment an I frame carries
 right_segment : (a r s at : ℕ) → a ≤ r → r ≤ at + 1 → at + 1 ≤ s → s ≤ a + 1 → at % 8 ≡ r % 8 → at ≡ r
 right_segment a r s at h1 h2 h3 h4 h5 = grind arith
 
--- three bits determine the count of an N(R)
+-- N(R) modulo 8 determines how many segments it acknowledges
 right_number : (a r s k : ℕ) → a ≤ k → k ≤ r → r ≤ s → s ≤ a + 1 → s ≢ a → k % 8 ≡ s % 8 → k ≡ s
 right_number a r s k h1 h2 h3 h4 h5 h6 = grind arith
 
--- segments are appended
+-- a content that carries a segment still does when more segments are appended
 carries-more : (ps more : List Segment) (n : ℕ) (c : Content) → CarriesIn ps n c → CarriesIn (ps ++ more) n c
 carries-more ps more n (I ns nr p m info) c = record {
   at = c.at;
@@ -102,27 +100,27 @@ carries-more ps more n (I ns nr p m info) c = record {
 }
 carries-more ps more n other c = tt
 
-direction : {ps : List Segment} {a s : ℕ} {qs : List Segment} {there back : List Content} → Climbs CountsIn a back (length qs) →
-    Climbs (CarriesIn ps) (length qs) there s → s ≤ a + 1 → s ≤ length ps → qs ≡ take (length qs) ps → IsDirection ps a s qs there back
+direction : {ps : List Segment} {a s : ℕ} {qs : List Segment} {there back : List Content} → Ascending CountsIn a back (length qs) →
+    Ascending (CarriesIn ps) (length qs) there s → s ≤ a + 1 → s ≤ length ps → qs ≡ take (length qs) ps → IsDirection ps a s qs there back
 direction a c w l o = record { acknowledged = a; carried = c; window = w; within = l; in_order = o }
 
 module _ {ps : List Segment} {a s : ℕ} {qs : List Segment} {there back : List Content} where
-  -- the next segment becomes outstanding
+  -- the invariant holds after the next segment becomes outstanding
   pub next_waits : s ≡ a → s < length ps → IsDirection ps a s qs there back → IsDirection ps a (s + 1) qs there back
   next_waits none left h =
       direction h.acknowledged (climbs-within (omega arith) (omega arith) h.carried) (omega arith) (omega arith) h.in_order
 
-  -- frames are sent with the outstanding segment, for the first time or again
+  -- the invariant holds after frames with the outstanding segment are sent, for the first time or again
   pub segments_out : (cs : List Content) → AllOf (CarriesIn ps s) cs → IsDirection ps a s qs there back →
       IsDirection ps a s qs (there ++ cs) back
   segments_out cs notify h = direction h.acknowledged (climbs-append cs notify h.carried) h.window h.within h.in_order
 
-  -- frames are sent back with the count of accepted segments
+  -- the invariant holds after frames that acknowledge the accepted segments are sent back
   pub numbers_out : (cs : List Content) → AllOf (CountsIn (length qs)) cs → IsDirection ps a s qs there back →
       IsDirection ps a s qs there (back ++ cs)
   numbers_out cs notify h = direction (climbs-append cs notify h.acknowledged) h.carried h.window h.within h.in_order
 
-  -- a segment is accepted
+  -- the invariant holds after the receiver accepts a segment
   pub segment_in : (c : Content) (ns : ℕ) (p : Segment) → ((k : ℕ) → CarriesIn ps k c → IsSegment ps k ns p) → ns ≡ length qs % 8 →
       IsDirection ps a s qs (c ∷ there) back → IsDirection ps a s (qs ++ p ∷ []) there back
   segment_in c ns p carries number h =
@@ -138,26 +136,26 @@ module _ {ps : List Segment} {a s : ℕ} {qs : List Segment} {there back : List 
       h.window h.within (ap (λ q. qs ++ q ∷ []) (sym segment) ∙ ap (λ xs. xs ++ get_or ps (length qs) ([], false) ∷ []) h.in_order
       ∙ sym (take_more ps (length qs) ([], false) (omega (arith, i.within))) ∙ ap (λ n. take n ps) (sym longer))
 
-  -- a frame is lost or ignored
+  -- the invariant holds after a frame is lost or ignored
   pub segment_gone : {c : Content} → IsDirection ps a s qs (c ∷ there) back → IsDirection ps a s qs there back
   segment_gone h = direction h.acknowledged (climbs-rest h.carried) h.window h.within h.in_order
 
   pub number_gone : {c : Content} → IsDirection ps a s qs there (c ∷ back) → IsDirection ps a s qs there back
   number_gone h = direction (climbs-rest h.acknowledged) h.carried h.window h.within h.in_order
 
-  -- a REJ is replaced by an RR with the same N(R)
+  -- the invariant holds after a REJ is replaced by an RR with the same N(R)
   pub number_as_rr : {nr : ℕ} {pf : Bool} → IsDirection ps a s qs there (Rej nr pf ∷ back) → IsDirection ps a s qs there (Rr nr pf ∷ back)
   number_as_rr h = direction (climbs-rr (λ k t. t) h.acknowledged) h.carried h.window h.within h.in_order
 
   pub segment_as_rr : {nr : ℕ} {pf : Bool} → IsDirection ps a s qs (Rej nr pf ∷ there) back → IsDirection ps a s qs (Rr nr pf ∷ there) back
   segment_as_rr h = direction h.acknowledged (climbs-rr (λ k t. t) h.carried) h.window h.within h.in_order
 
-  -- an N(R) acknowledges the outstanding segment
+  -- the invariant holds after an N(R) acknowledges the outstanding segment
   pub number_in : (c : Content) (nr : ℕ) → ((k : ℕ) → CountsIn k c → nr ≡ k % 8) → s ≢ a → nr ≡ s % 8 →
       IsDirection ps a s qs there (c ∷ back) → IsDirection ps s s qs there back
-  number_in c nr counts waits number h =
+  number_in c nr counts is_outstanding number h =
       let (k, low, t, rest) = climbs-split h.acknowledged in
-      let k_is : k ≡ s = right_number a (length qs) s k low (climbs-le rest) (climbs-le h.carried) h.window waits
+      let k_is : k ≡ s = right_number a (length qs) s k low (climbs-le rest) (climbs-le h.carried) h.window is_outstanding
       (sym (counts k t) ∙ number) in
       direction (climbs-within (omega arith) (omega arith) rest) h.carried (omega arith) h.within h.in_order
 

@@ -1,23 +1,18 @@
--- The invariant that the information of each frame in transit is octets if all messages are.
-use Rattle.lapdm_link.proofs.Words.{◌≡◌, sym, ap, subst, ℕ, zero, suc, ◌<◌, Bool, false, List, [], ◌∷◌, length, drop}
-use Rattle.lapdm_link.proofs.Words.{get_or, Option, Some, None, cons_option, All, inl, inr, filter_map, flat_map, All-nil, All-cons}
-use Rattle.lapdm_link.proofs.Words.{All-head, All-tail, All-append, All-take, All-drop, Channel, n201, Content, I, Sabm, Ui, Ua, Frame}
-use Rattle.lapdm_link.proofs.Words.{information, Message, Segment, cut, segments, Sapi, EndState, Outcome, KeepsWindow, all_segments}
-use Rattle.lapdm_link.proofs.Words.{after_frame, Call, Opens, OpensBare, Sends, SendsUnit, refusal_of, after_call, Event, Capacity, World}
-use Rattle.lapdm_link.proofs.Words.{start_in, refusal, answer, world_after, Line, Asked, Rivals, Notified, answer_lines, sent_in}
-use Rattle.lapdm_link.proofs.Queues.{AllFrames}
-use Rattle.lapdm_link.proofs.Views.{end_of}
-use Rattle.lapdm_link.proofs.Acting.{Says, IsOpening, OpensBy, Goes, IsDone, remains, ends, closes, begins, opens}
-use Rattle.lapdm_link.proofs.Taking.{taken-frame}
-use Rattle.lapdm_link.proofs.Asked.{is_called}
-use Rattle.lapdm_link.proofs.ByKind.{KnowsBy}
-use Rattle.lapdm_link.proofs.Order.{AllReported}
-use Rattle.lapdm_link.proofs.Fitting.{Holds, holds-step, holds-start}
+-- The invariant that the information of all frames in transit consists of octets (0 to 255), if all messages do.
+use Rattle.lapdm_link.proofs.Words.{◌≡◌, sym, ap, subst, ℕ, zero, suc, ◌<◌, Bool, false, List, [], ◌∷◌, length, drop, get_or, Option, Some}
+use Rattle.lapdm_link.proofs.Words.{None, cons_option, All, inl, inr, filter_map, flat_map, All-nil, All-cons, All-head, All-tail}
+use Rattle.lapdm_link.proofs.Words.{All-append, All-take, All-drop, Channel, n201, Content, I, Sabm, Ui, Ua, Frame, information, Message}
+use Rattle.lapdm_link.proofs.Words.{Segment, cut, segments, Sapi, EndState, Outcome, HasWindowOfOne, all_segments, after_frame, Call, Opens}
+use Rattle.lapdm_link.proofs.Words.{OpensBare, Sends, SendsUnit, refusal_of, after_call, Event, Capacity, World, start_with_capacity}
+use Rattle.lapdm_link.proofs.Words.{refusal, answer, world_after, Line, Asked, RivalSabm, Notified, answer_lines, sent_by_call}
+use Rattle.lapdm_link.proofs.{Queues.AllFrames, Views.end_of, Acting.{Says, IsOpening, OpensBy, Goes, IsDone, remains, ends, closes}}
+use Rattle.lapdm_link.proofs.{Acting.{begins, opens}, Taking.taken-frame, Asked.is_called, ByKind.KnowsBy, Order.AllReported, Fitting.Holds}
+use Rattle.lapdm_link.proofs.Fitting.{holds-step, holds-start}
 
 abbrev pub AreOctets : List ℕ → Type 0
 AreOctets m = All (λ octet. octet < 256) m
 
--- messages of calls and of other mobiles are octets
+-- the messages in a call, and (below) in a log line, consist of octets
 abbrev pub CallOctets : Call → Type 0
 CallOctets (Opens info) = AreOctets info
 CallOctets (Sends m) = AreOctets m
@@ -27,7 +22,7 @@ CallOctets other = Unit {0}
 abbrev pub LineOctets : List Line → Type 0
 LineOctets [] = Unit {0}
 LineOctets (Asked r s call ∷ ls) = CallOctets call × LineOctets ls
-LineOctets (Rivals info ∷ ls) = AreOctets info × LineOctets ls
+LineOctets (RivalSabm info ∷ ls) = AreOctets info × LineOctets ls
 LineOctets (Notified r s n ∷ ls) = LineOctets ls
 
 abbrev pub AllMessages : List Message → Type 0
@@ -111,7 +106,7 @@ kept-octets call c x o said h k (closes l s e n) = subst AreOctets (sym e) k
 kept-octets call c x o said h k (begins s a n) = opening-octets call o.after.kept said a
 kept-octets call c x o said h k (opens n s e cause) = subst AreOctets (sym e) (opens-octets c x _ h cause)
 
-sent-octets : (call : Option Call) → OctetsBy call → AllMessages (filter_map sent_in (cons_option call []))
+sent-octets : (call : Option Call) → OctetsBy call → AllMessages (filter_map sent_by_call (cons_option call []))
 sent-octets (Some (Sends m)) said = All-cons AreOctets m [] said none_sent
 sent-octets call said = none_sent
 
@@ -127,11 +122,11 @@ done-octets call c x o d said octets h =
     let end : EndOctets o.after = record { kept = kept-octets call c x o said octets h.kept d.goes; taken = taken } in
     record { end = end; frames = frames-octets (Says call x o.after) (said-octets call x o.after said end) x.sapi o.frames d.frames }
 
-pub frame-octets : (f : Frame) (x : EndState) → AreOctets (information f.content) → KeepsWindow x → EndOctets x →
+pub frame-octets : (f : Frame) (x : EndState) → AreOctets (information f.content) → HasWindowOfOne x → EndOctets x →
     OutcomeOctets (after_frame f x)
 frame-octets f x octets e h = done-octets None f.content x _ (taken-frame x e f) tt octets h
 
-pub call-octets : (call : Call) (x : EndState) → CallOctets call → refusal_of call x ≡ None → KeepsWindow x → EndOctets x →
+pub call-octets : (call : Call) (x : EndState) → CallOctets call → refusal_of call x ≡ None → HasWindowOfOne x → EndOctets x →
     OutcomeOctets (after_call call x)
 call-octets call x said ok e h = done-octets (Some call) (Ui false []) x _ (is_called x e call ok) said none h
 
@@ -146,6 +141,6 @@ octets-step w ls event reported known h said = (
       (λ info ok l. l.0) event known said,
 )
 
-pub start-octets : (capacity : Capacity) (channel : Channel) → WorldOctets (start_in capacity channel)
+pub start-octets : (capacity : Capacity) (channel : Channel) → WorldOctets (start_with_capacity capacity channel)
 start-octets capacity channel =
     (channel, holds-start (λ s e. EndOctets e) SaysOctets capacity channel (λ r s. record { kept = none; taken = none_sent }))

@@ -1,19 +1,16 @@
--- Each establishment has its cause before it. The invariant says why each SABM or UA
--- in transit was sent and why each endpoint reached its state.
-use Rattle.lapdm_link.proofs.Words.{MayOpen, ◌≡◌, refl, ap, arith, ◌≤◌, List, [], ◌∷◌, ◌++◌, map, length, inl, inr}
-use Rattle.lapdm_link.proofs.Words.{Option, Some, None, ◌⊎◌}
+-- Each establishment is reported after its cause. The invariant says why each SABM or UA in transit was sent and how each endpoint reached
+-- its state.
+use Rattle.lapdm_link.proofs.Words.{MayOpen, ◌≡◌, refl, ap, arith, ◌≤◌, List, [], ◌∷◌, ◌++◌, map, length, inl, inr, Option, Some, None, ◌⊎◌}
 use Rattle.lapdm_link.proofs.Words.{Contains, cons_option, filter_map, Contains-append_left, Contains-push, append_assoc, false, Content}
 use Rattle.lapdm_link.proofs.Words.{Sabm, Ua, Ui, Message, Sapi, Zero, Three, State, Notice, Role, Mobile, Network, EndState, Outcome, Call}
-use Rattle.lapdm_link.proofs.Words.{Opens, OpensBare, other, Line, Asked, Rivals, Notified, HasCause, opened_in}
+use Rattle.lapdm_link.proofs.Words.{Opens, OpensBare, other, Line, Asked, RivalSabm, Notified, HasEstablishmentCause, opened_in_notice}
+use Rattle.lapdm_link.proofs.{Queues.{content_of, contents, AllOf, of-append, of-as, frames-say}, ByKind.IsPlaced, Order.AllOccur}
+use Rattle.lapdm_link.proofs.{Acting.{Says, OpensBy, IsOpening, Goes, IsDone, remains, ends, closes, begins, opens}, Links.{Side, Act}}
+use Rattle.lapdm_link.proofs.Links.{lines, IsActed, called, took, rival, after, other_after}
 use Rattle.lapdm_window.specs.declared.State.TheVariants as S
 use Rattle.lapdm_window.specs.declared.Notice.TheVariants as N
-use Rattle.lapdm_link.proofs.Queues.{content_of, contents, AllOf, of-append, of-as, frames-say}
-use Rattle.lapdm_link.proofs.ByKind.{IsPlaced}
-use Rattle.lapdm_link.proofs.Order.{AllOccur}
-use Rattle.lapdm_link.proofs.Acting.{Says, OpensBy, IsOpening, Goes, IsDone, remains, ends, closes, begins, opens}
-use Rattle.lapdm_link.proofs.Links.{Side, Act, lines, IsActed, called, took, rival, after, other_after}
 
--- the call that establishes the link of this SAPI with this information
+-- the call with which layer 3 establishes the link of this SAPI with this information
 abbrev pub opening_call : Sapi → Message → Call
 opening_call Zero k = Opens k
 opening_call Three k = OpensBare
@@ -32,13 +29,13 @@ IsBare Three k = k ≡ []
 abbrev pub WasOpened : Role → Sapi → List Line → Message → Type 0
 WasOpened r s ls k = Contains ls (Notified r s (N.Opened k)) × IsBare s k
 
--- why a SABM or UA of an endpoint is in transit
+-- what in the log explains that this content of the endpoint is in transit; only a SABM or UA needs an explanation
 abbrev pub IsCaused : Role → Sapi → List Line → Content → Type 0
-IsCaused r s ls (Sabm p info) = WasAsked r s ls info ⊎ ((s ≡ Zero) × Contains ls (Rivals info))
+IsCaused r s ls (Sabm p info) = WasAsked r s ls info ⊎ ((s ≡ Zero) × Contains ls (RivalSabm info))
 IsCaused r s ls (Ua f info) = WasOpened r s ls info ⊎ ((info ≡ []) × ((k : Message) × (WasAsked r s ls k ⊎ WasOpened r s ls k)))
 IsCaused r s ls c = Unit {0}
 
--- why an endpoint is in its state with this information kept
+-- what in the log explains that the endpoint is in this state with this information kept
 abbrev pub IsReached : Role → Sapi → List Line → State → Message → Type 0
 IsReached r s ls S.Opening k = WasAsked r s ls k
 IsReached r s ls S.Open k = WasOpened r s ls k
@@ -51,7 +48,7 @@ HasReached r s ls x = IsReached r s ls x.state x.kept
 abbrev pub HasOpenings : Role → Sapi → Side → List Line → Type 0
 HasOpenings r s x ls = AllOf (IsCaused r s ls) x.out × HasReached r s ls x.end
 
--- more lines preserve the causes
+-- these explanations remain valid when lines are added to the log
 module _ (r : Role) (s : Sapi) (ls new : List Line) where
   asked-more : (k : Message) → WasAsked r s ls k → WasAsked r s (ls ++ new) k
   asked-more k h = (Contains-append_left ls new _ h.0, h.1)
@@ -73,12 +70,12 @@ module _ (r : Role) (s : Sapi) (ls new : List Line) where
   reached-more S.Closing k h = opened-more k h
   reached-more state k h = tt
 
-  pub openings-more : (x : Side) → HasOpenings r s x ls → HasOpenings r s x (ls ++ new)
-  openings-more x h = (of-as _ _ caused-more x.out h.0, reached-more _ _ h.1)
+  pub establishments-more : (x : Side) → HasOpenings r s x ls → HasOpenings r s x (ls ++ new)
+  establishments-more x h = (of-as _ _ caused-more x.out h.0, reached-more _ _ h.1)
 
--- a SABM, and a UA, that establishes a link has a cause
+-- a SABM, or (below) a UA, that can establish a link has a cause in the log
 sabm-cause : (r : Role) (s : Sapi) (ls : List Line) (info : Message) → MayOpen s r info →
-    WasAsked (other r) s ls info ⊎ ((s ≡ Zero) × Contains ls (Rivals info)) → HasCause r s info ls × IsBare s info
+    WasAsked (other r) s ls info ⊎ ((s ≡ Zero) × Contains ls (RivalSabm info)) → HasEstablishmentCause r s info ls × IsBare s info
 sabm-cause Mobile Zero ls info may c = absurd may
 sabm-cause Network Zero ls info may (inl a) = (inl a.0, tt)
 sabm-cause Network Zero ls info may (inr a) = (inr a.1, tt)
@@ -88,7 +85,7 @@ sabm-cause r Three ls (i ∷ is) may c = absurd may
 
 ua-cause : (r : Role) (s : Sapi) (ls : List Line) (info : Message) → WasAsked r s ls info →
     WasOpened (other r) s ls info ⊎ ((info ≡ []) × ((k : Message) × (WasAsked (other r) s ls k ⊎ WasOpened (other r) s ls k))) →
-    HasCause r s info ls × IsBare s info
+    HasEstablishmentCause r s info ls × IsBare s info
 ua-cause Mobile Zero ls info own (inl a) = ((a.0, own.0), tt)
 ua-cause Mobile Zero ls info own (inr a) = absurd (omega (arith, ap length a.0, own.1.1))
 ua-cause Network Zero ls info own c = cc (own.1.0)
@@ -96,13 +93,14 @@ ua-cause r Three ls info own (inl a) = (inr (own.0, rw a.1 at a.0), own.1)
 ua-cause r Three ls info own (inr (e, (k, inl a))) = (inl a.0, own.1)
 ua-cause r Three ls info own (inr (e, (k, inr a))) = (inr (own.0, rw a.1 at a.0), own.1)
 
--- each report of an establishment comes after its cause
+-- if the line reports an establishment, its cause is among the lines before it
 abbrev pub IsOpenedAfter : List Line → Line → Type 0
-IsOpenedAfter before (Notified r s (N.Opened info)) = HasCause r s info before
+IsOpenedAfter before (Notified r s (N.Opened info)) = HasEstablishmentCause r s info before
 IsOpenedAfter before other = Unit {0}
 
 module _ (r : Role) (s : Sapi) where
-  none-opened : (ns : List Notice) (ls : List Line) → filter_map opened_in ns ≡ [] → AllOccur IsOpenedAfter ls (map (Notified r s) ns)
+  none-opened : (ns : List Notice) (ls : List Line) → filter_map opened_in_notice ns ≡ [] →
+      AllOccur IsOpenedAfter ls (map (Notified r s) ns)
   none-opened [] ls h = tt
   none-opened (N.Opened i ∷ ns) ls h = cc h
   none-opened (n ∷ ns) ls h = (tt, none-opened ns (ls ++ Notified r s n ∷ []) h)
@@ -128,7 +126,7 @@ module _ (r : Role) (s : Sapi) where
   module _ (ls : List Line) (x : Side) (role : x.end.role ≡ r) (same : x.end.sapi ≡ s) (h : HasOpenings r s x ls) (left : List Content)
     where
       opening-cause : (c : Content) (info : Message) → OpensBy c x.end info →
-          AllOf (IsCaused (other r) s ls) (cons_option (content_of c) left) → HasCause r s info ls × IsBare s info
+          AllOf (IsCaused (other r) s ls) (cons_option (content_of c) left) → HasEstablishmentCause r s info ls × IsBare s info
       opening-cause (Sabm p i) info o sent = sabm-cause r s ls info (rw (same, role) at o.2)
           (let g : IsCaused (other r) s ls (Sabm p i) = sent.0 in rw o.0 at g)
       opening-cause (Ua f i) info o sent = ua-cause r s ls info (rw o.2 (rw o.1 at h.1))
@@ -153,31 +151,31 @@ module _ (r : Role) (s : Sapi) where
         done : IsDone call c x.end o → (AllOf (IsCaused r s (ls ++ notified)) (x.out ++ contents o.frames) ×
             HasReached r s (ls ++ notified) o.after) × AllOccur IsOpenedAfter ls notified
         done d =
-            let h' : HasOpenings r s x (ls ++ notified) = openings-more r s ls notified x h in
+            let h' : HasOpenings r s x (ls ++ notified) = establishments-more r s ls notified x h in
             let to = goes-on d.goes in
             let says = said-caused (ls ++ notified) call x.end o.after h'.1 to.0 in
             ((of-append _ x.out _ h'.0 (frames-say _ (IsCaused r s (ls ++ notified)) says x.end.sapi o.frames d.frames), to.0), to.1)
 
-pub openings-here : {x y : Side} {a : Act} (ls : List Line) → IsActed x y a → x.end.role ≡ a.role → x.end.sapi ≡ a.sapi →
+pub establishments-here : {x y : Side} {a : Act} (ls : List Line) → IsActed x y a → x.end.role ≡ a.role → x.end.sapi ≡ a.sapi →
     HasOpenings a.role a.sapi x ls → HasOpenings (other a.role) a.sapi y ls →
     HasOpenings a.role a.sapi (after a x) (ls ++ lines a) × AllOccur IsOpenedAfter ls (lines a)
-openings-here {x} {y} {a} ls (called {r} {s} {call} p c) role same h g =
+establishments-here {x} {y} {a} ls (called {r} {s} {call} p c) role same h g =
     let asked : List Line = Asked r s call ∷ [] in
-    let to = done r s (ls ++ asked) x role same (openings-more r s ls asked x h) y.out (Some call) (Ui false []) a.does
-    (p, Contains-push ls _) (openings-more (other r) s ls asked y g).0 c in (rw append_assoc at to.0, (tt, to.1))
-openings-here {x} {y} {a} ls (took {r} {s} {c} {o} {left} e t) role same h g =
+    let to = done r s (ls ++ asked) x role same (establishments-more r s ls asked x h) y.out (Some call) (Ui false []) a.does
+    (p, Contains-push ls _) (establishments-more (other r) s ls asked y g).0 c in (rw append_assoc at to.0, (tt, to.1))
+establishments-here {x} {y} {a} ls (took {r} {s} {c} {o} {left} e t) role same h g =
     done r s ls x role same h left None c o tt (rw e at g.0) t
-openings-here {x} {y} {a} ls (rival {info}) role same h g =
-    let h' : HasOpenings Mobile Zero x (ls ++ lines a) = openings-more Mobile Zero ls (lines a) x h in
-    ((of-append _ x.out _ h'.0 (inr (refl, Contains-push ls (Rivals info)), tt), h'.1), (tt, tt))
+establishments-here {x} {y} {a} ls (rival {info}) role same h g =
+    let h' : HasOpenings Mobile Zero x (ls ++ lines a) = establishments-more Mobile Zero ls (lines a) x h in
+    ((of-append _ x.out _ h'.0 (inr (refl, Contains-push ls (RivalSabm info)), tt), h'.1), (tt, tt))
 
 pub of-rest : (P : Content → Type 0) (o : Option Content) (cs : List Content) → AllOf P (cons_option o cs) → AllOf P cs
 of-rest P None cs h = h
 of-rest P (Some c) cs h = h.1
 
-pub openings-there : {x y : Side} {a : Act} (ls : List Line) → IsActed x y a → HasOpenings (other a.role) a.sapi y ls →
+pub establishments-there : {x y : Side} {a : Act} (ls : List Line) → IsActed x y a → HasOpenings (other a.role) a.sapi y ls →
     HasOpenings (other a.role) a.sapi (other_after a y) (ls ++ lines a)
-openings-there {y = y} {a = a} ls i g = openings-more (other a.role) a.sapi ls (lines a) (other_after a y) (left _ i g.0, g.1)
+establishments-there {y = y} {a = a} ls i g = establishments-more (other a.role) a.sapi ls (lines a) (other_after a y) (left _ i g.0, g.1)
   where
     left : {x y : Side} {a : Act} (P : Content → Type 0) → IsActed x y a → AllOf P y.out → AllOf P a.left
     left P (called p c) g = g

@@ -1,23 +1,18 @@
--- The claims on order, whatever frames arrive: each notice is possible given the lines before it.
-use Rattle.lapdm_link.proofs.Words.{sym, List, [], ◌∷◌, ◌++◌, append_assoc, ◌≡◌, refl, ◌∙◌, ap, arith, ℕ, ◌+◌}
-use Rattle.lapdm_link.proofs.Words.{◌≤◌, length, Option, Some, append-nil, All-nil, Channel, IsMessage, Sapi, Notice, Role}
-use Rattle.lapdm_link.proofs.Words.{EndState, Outcome, KeepsWindow, capped_number, Call, Closes, after_call, after_frame, IsSameLink, Line}
-use Rattle.lapdm_link.proofs.Words.{Asked, OccursAfter, Notified, call_in, notice_in, answer_lines, lines, sent_messages, acked_numbers}
-use Rattle.lapdm_link.proofs.Words.{IsOfOpenEnd}
-use Rattle.lapdm_link.proofs.Words.{IsOpenEnd, OrderClaims, Event, Why, other, Capacity, World, start_in, refusal, answer, world_after}
-use Rattle.lapdm_link.proofs.Words.{answers}
+-- The claims about order, whatever frames arrive: every notice is possible after the log lines before it.
+use Rattle.lapdm_link.proofs.Words.{sym, List, [], ◌∷◌, ◌++◌, append_assoc, ◌≡◌, refl, ◌∙◌, ap, arith, ℕ, ◌+◌, ◌≤◌, length, Option, Some}
+use Rattle.lapdm_link.proofs.Words.{append-nil, All-nil, Channel, IsMessage, Sapi, Notice, Role, EndState, Outcome, HasWindowOfOne}
+use Rattle.lapdm_link.proofs.Words.{number_capped_at_64_bits, Call, Closes, after_call, after_frame, IsSameEndpoint, Line, Asked}
+use Rattle.lapdm_link.proofs.Words.{OccursAfter, Notified, call_in_line, notice_in_line, answer_lines, lines, sent_messages, acked_numbers}
+use Rattle.lapdm_link.proofs.Words.{NeedsOpenLink, IsOpenEndpoint, OrderClaims, Event, EventRefusal, other, Capacity, World}
+use Rattle.lapdm_link.proofs.{Words.{start_with_capacity, refusal, answer, world_after, answers}, Notified.{Known, known, nothing}}
+use Rattle.lapdm_link.proofs.Notified.{MayNotify, goes-append, Runs, runs-notified, runs-else, IsNotified, is_notified, at_place}
+use Rattle.lapdm_link.proofs.{Notified.none_beyond, Taking.taken-frame, Asked.is_called, Views.{is_end-self, end_of, without_first, acted}}
+use Rattle.lapdm_link.proofs.{Views.{said, each_start, ends_do}, ByKind.{KnowsBy, by_kind}}
 use Rattle.lapdm_window.specs.declared.Notice.TheVariants as N
-use Rattle.lapdm_link.proofs.Notified.{Known, known, nothing, MayNotify, goes-append, Runs, runs-notified, runs-else, IsNotified}
-use Rattle.lapdm_link.proofs.Notified.{is_notified, at_place}
-use Rattle.lapdm_link.proofs.Notified.{none_beyond}
-use Rattle.lapdm_link.proofs.Taking.{taken-frame}
-use Rattle.lapdm_link.proofs.Asked.{is_called}
-use Rattle.lapdm_link.proofs.Views.{is_end-self, end_of, without_first, acted, said, each_start, ends_do}
-use Rattle.lapdm_link.proofs.ByKind.{KnowsBy, by_kind}
 
 -- ---- properties of each line given the lines before it
 
--- each of these lines has the property `May` given the lines before it
+-- each of the lines, together with the lines before it, satisfies `May`
 abbrev pub AllOccur : (List Line → Line → Type 0) → List Line → List Line → Type 0
 AllOccur May before [] = Unit {0}
 AllOccur May before (l ∷ ls) = May before l × AllOccur May (before ++ l ∷ []) ls
@@ -36,11 +31,11 @@ pub stands : (May : List Line → Line → Type 0) (ls before : List Line) (l : 
     May before l
 stands May ls before l h place = stands-behind May [] before l place.0 (rw place.1 h)
 
--- what is known of the endpoint e from its lines so far
+-- what the log says about the endpoint e agrees with the state of e
 pub record IsReported (r : Role) (s : Sapi) (e : EndState) (ls : List Line) : Type 0 where
   pub role : e.role ≡ r
   pub sapi : e.sapi ≡ s
-  pub end : KeepsWindow e
+  pub end : HasWindowOfOne e
   pub run : Runs r s nothing ls (known e)
   pub notified : IsNotified r s ls (known e)
 
@@ -48,11 +43,11 @@ abbrev pub AllReported : World → List Line → Type 0
 AllReported w ls = (r : Role) (s : Sapi) → IsReported r s (end_of r s w) ls
 
 module _ {r : Role} {s : Sapi} {e : EndState} {ls : List Line} (h : IsReported r s e ls) where
-  goes_on : (z : EndState) (new : List Line) → IsSameLink e z → KeepsWindow z → Runs r s (known e) new (known z) →
+  goes_on : (z : EndState) (new : List Line) → IsSameEndpoint e z → HasWindowOfOne z → Runs r s (known e) new (known z) →
       IsReported r s z (ls ++ new)
   goes_on z new link end run =
       let whole : Runs r s nothing (ls ++ new) (known z) =
-      goes-append (call_in r s) (notice_in r s) ls new nothing (known e) (known z) h.run run in
+      goes-append (call_in_line r s) (notice_in_line r s) ls new nothing (known e) (known z) h.run run in
       record {
         role = link.role ∙ h.role;
         sapi = link.sapi ∙ h.sapi;
@@ -64,19 +59,19 @@ module _ {r : Role} {s : Sapi} {e : EndState} {ls : List Line} (h : IsReported r
   unseen : (new : List Line) → Runs r s (known e) new (known e) → IsReported r s e (ls ++ new)
   unseen new run = goes_on e new (record { role = refl; sapi = refl; channel = refl }) h.end run
 
-  -- each notice is possible where it is reported
+  -- the claims of `OrderClaims` for one endpoint: each notice is possible at its place in the log
   acknowledged : (n : ℕ) (before : List Line) → OccursAfter before (Notified r s (N.Acked n)) ls →
-      (n ≡ capped_number (length (acked_numbers r s before) + 1))
+      (n ≡ number_capped_at_64_bits (length (acked_numbers r s before) + 1))
       × (length (acked_numbers r s before) + 1 ≤ length (sent_messages r s before))
   acknowledged n before place =
       let g = at_place r s ls (known e) h.run before (N.Acked n) place in
       let t : IsNotified r s before g.0 = is_notified r s before g.0 g.1 in
-      (g.2.1 ∙ ap (λ k. capped_number (k + 1)) (sym t.acked), omega (arith, t.acked, ap length t.taken, g.2.2))
+      (g.2.1 ∙ ap (λ k. number_capped_at_64_bits (k + 1)) (sym t.acked), omega (arith, t.acked, ap length t.taken, g.2.2))
 
-  of_open : (m : Known) (n : Notice) → IsOfOpenEnd n → MayNotify (Some n) m → m.stage ≡ 1
+  of_open : (m : Known) (n : Notice) → NeedsOpenLink n → MayNotify (Some n) m → m.stage ≡ 1
   of_open m n of may = grind arith
 
-  inside : (n : Notice) (before : List Line) → IsOfOpenEnd n → OccursAfter before (Notified r s n) ls → IsOpenEnd r s before
+  inside : (n : Notice) (before : List Line) → NeedsOpenLink n → OccursAfter before (Notified r s n) ls → IsOpenEndpoint r s before
   inside n before of place =
       let g = at_place r s ls (known e) h.run before n place in
       let now : g.0.stage ≡ 1 = of_open g.0 n of g.2 in
@@ -88,14 +83,15 @@ module _ {r : Role} {s : Sapi} {e : EndState} {ls : List Line} (h : IsReported r
       }
 
 acts : (w : World) (ls : List Line) → AllReported w ls → (r : Role) (s : Sapi) (cs : List Call) (o : Outcome) →
-    IsSameLink (end_of r s w) o.after → KeepsWindow o.after → Runs r s (known (end_of r s w)) (said r s cs o.notices) (known o.after) →
+    IsSameEndpoint (end_of r s w) o.after → HasWindowOfOne o.after →
+    Runs r s (known (end_of r s w)) (said r s cs o.notices) (known o.after) →
     AllReported (acted r s o w) (ls ++ said r s cs o.notices)
 acts w ls h r s cs o link end run =
     let new : List Line = said r s cs o.notices in
     ends_do (λ r' s' e. IsReported r' s' e (ls ++ new)) r s o w (goes_on (h r s) o.after new link end run)
     (λ r' s' n. unseen (h r' s') new (runs-else r' s' r s n cs o.notices (known (end_of r' s' w))))
 
-any_frame : (o : Option Why) (event : Event) → KnowsBy o (λ r f. Unit {0}) event
+any_frame : (o : Option EventRefusal) (event : Event) → KnowsBy o (λ r f. Unit {0}) event
 any_frame o event = grind arith
 
 pub in_order-step : (w : World) (ls : List Line) (event : Event) → AllReported w ls →
@@ -116,7 +112,7 @@ in_order-run : (events : List Event) (w : World) (ls : List Line) → AllReporte
 in_order-run [] w ls h = (w, rw append-nil h)
 in_order-run (event ∷ events) w ls h = rw (← append_assoc) (in_order-run events (world_after event w) _ (in_order-step w ls event h))
 
-pub start-reported : (capacity : Capacity) (channel : Channel) → AllReported (start_in capacity channel) []
+pub start-reported : (capacity : Capacity) (channel : Channel) → AllReported (start_with_capacity capacity channel) []
 start-reported capacity channel = each_start (λ r s e. IsReported r s e []) capacity channel (λ r s. record {
   role = refl;
   sapi = refl;
@@ -126,12 +122,12 @@ start-reported capacity channel = each_start (λ r s e. IsReported r s e []) cap
 })
 
 pub order_claims : (capacity : Capacity) (channel : Channel) (events : List Event) →
-    OrderClaims (lines events (answers events (start_in capacity channel)))
+    OrderClaims (lines events (answers events (start_with_capacity capacity channel)))
 order_claims capacity channel events =
-    let run = in_order-run events (start_in capacity channel) [] (start-reported capacity channel) in
+    let run = in_order-run events (start_with_capacity capacity channel) [] (start-reported capacity channel) in
     record {
       acknowledged = λ r s n before place. acknowledged (run.1 r s) n before place;
-      opened_once = λ r s. omega (arith, (run.1 r s).notified.staged.0);
+      established_once = λ r s. omega (arith, (run.1 r s).notified.staged.0);
       closed_once = λ r s. omega (arith, (run.1 r s).notified.staged.1);
       inside = λ r s n before of place. inside (run.1 r s) n before of place;
     }

@@ -1,33 +1,28 @@
--- The claims on delivery of every benign session. The invariant `IsSession` joins
--- directions, UI frames and causes of both links.
-use Rattle.lapdm_link.specs.Worlds.{rr_for_rej, IsSentOrRr, MayBeRrBy, MayBeRr}
-use Rattle.lapdm_link.proofs.Words.{◌≡◌, refl, sym, subst, ◌∙◌, ap, arith, ℕ, nat_eq, sapi_number, inl, inr, Bool, ◌+◌}
-use Rattle.lapdm_link.proofs.Words.{◌≤◌, true, false, List, [], ◌∷◌, ◌++◌, length, Option, Some, append_assoc}
-use Rattle.lapdm_link.proofs.Words.{cons_option, append-nil, length-append, filter_map-append, Channel, Content, Rr, Rej, Frame, Sapi}
-use Rattle.lapdm_link.proofs.Words.{Zero, Three, Notice, Role, Mobile, Network, start, Call, Event, Why, other, Capacity, World, start_in}
-use Rattle.lapdm_link.proofs.Words.{refusal, answer, world_after, answers, IsHarmlessBy, IsHarmless, IsAsSent, Line, Asked, Rivals}
-use Rattle.lapdm_link.proofs.Words.{Notified}
-use Rattle.lapdm_link.proofs.Words.{Message, OrderClaims, CountsAgree, is_sapi, answer_lines, Claims, acked_numbers, delivered}
+-- The claims about delivery hold in every benign session. The invariant `IsSession` combines the directions, UI frames and causes of both
+-- links.
+use Rattle.lapdm_link.{specs.Worlds.{rr_for_rej, IsOldestSentOrRr, EventAllowsRrForRej, AllowsRrForRej}, proofs.Words.{◌≡◌, refl, sym}}
+use Rattle.lapdm_link.proofs.Words.{subst, ◌∙◌, ap, arith, ℕ, nat_eq, sapi_number, inl, inr, Bool, ◌+◌, ◌≤◌, true, false, List, [], ◌∷◌}
+use Rattle.lapdm_link.proofs.Words.{◌++◌, length, Option, Some, append_assoc, cons_option, append-nil, length-append, filter_map-append}
+use Rattle.lapdm_link.proofs.Words.{Channel, Content, Rr, Rej, Frame, Sapi, Zero, Three, Notice, Role, Mobile, Network, start, Call, Event}
+use Rattle.lapdm_link.proofs.Words.{EventRefusal, other, Capacity, World, start_with_capacity, refusal, answer, world_after, answers}
+use Rattle.lapdm_link.proofs.Words.{IsHarmlessEvent, IsHarmless, IsOldestSentOrNone, Line, Asked, RivalSabm, Notified, Message, OrderClaims}
+use Rattle.lapdm_link.proofs.{Words.{AckedAtMostDelivered, is_same_sapi, answer_lines, Claims, acked_numbers, delivered}, Queues.is_on}
+use Rattle.lapdm_link.proofs.{Queues.{content_of, content_on, contents_on, AllOf, IsForSapi, contents-own, contents-else}, Views.end_of}
+use Rattle.lapdm_link.proofs.Views.{way, rest, without_first, acted, lines_of_step, is_end, by_link, other_is, link_else, end_does}
+use Rattle.lapdm_link.proofs.{Views.{end_does-else, way_does, calls-own, calls-else, notices-own, notices-else}, ByKind.{KnowsBy, by_kind}}
+use Rattle.lapdm_link.proofs.{Taking.taken-frame, Asked.is_called, Order.{AllOccur, occur-append, stands, AllReported, in_order-step}}
+use Rattle.lapdm_link.proofs.{Order.{start-reported, order_claims}, Directions.{number_as_rr, segment_as_rr, start-direction}, Keeping.gone}
+use Rattle.lapdm_link.proofs.Links.{Side, side, Act, acts_own, acted_by, lines, IsActed, called, took, rival, other_after}
+use Rattle.lapdm_link.proofs.{Delivery.{IsCarried, carried-acts, delivered_in_order, acked_most, none_oversize}, Units.{none, HasUnits}}
+use Rattle.lapdm_link.proofs.{Units.{units-here, units-there, units-lost, units-claim}, Openings.{IsCaused, HasOpenings, IsOpenedAfter}}
+use Rattle.lapdm_link.proofs.Openings.{establishments-more, establishments-here, establishments-there, of-rest}
 use Rattle.lapdm_window.specs.declared.Notice.TheVariants as N
 use Rattle.lapdm_link.specs.Claims as C
-use Rattle.lapdm_link.proofs.Queues.{is_on, content_of, content_on, contents_on, AllOf, IsOf, contents-own, contents-else}
-use Rattle.lapdm_link.proofs.Views.{end_of, way, rest, without_first, acted, spoken, is_end, by_link, other_is, link_else, end_does}
-use Rattle.lapdm_link.proofs.Views.{end_does-else, way_does, calls-own, calls-else, notices-own, notices-else}
-use Rattle.lapdm_link.proofs.ByKind.{KnowsBy, by_kind}
-use Rattle.lapdm_link.proofs.Taking.{taken-frame}
-use Rattle.lapdm_link.proofs.Asked.{is_called}
-use Rattle.lapdm_link.proofs.Order.{AllOccur, occur-append, stands, AllReported, in_order-step, start-reported, order_claims}
-use Rattle.lapdm_link.proofs.Directions.{number_as_rr, segment_as_rr, start-direction}
-use Rattle.lapdm_link.proofs.Keeping.{gone}
 use Rattle.lapdm_link.proofs.Links as L
-use Rattle.lapdm_link.proofs.Links.{Side, side, Act, acts_own, acted_by, lines, IsActed, called, took, rival, other_after}
-use Rattle.lapdm_link.proofs.Delivery.{IsCarried, carried-acts, delivered_in_order, acked_most, none_oversize}
-use Rattle.lapdm_link.proofs.Units.{none, HasUnits, units-here, units-there, units-lost, units-claim}
-use Rattle.lapdm_link.proofs.Openings.{IsCaused, HasOpenings, IsOpenedAfter, openings-more, openings-here, openings-there, of-rest}
 
 -- ---- one link
 
--- the invariant of one link, for both of its endpoints
+-- the invariant of one link, stated for both of its endpoints
 pub data IsLink (r q : Role) (s : Sapi) (x y : Side) (ls : List Line) : Type 0 where
   link : IsCarried x y → HasUnits x y → HasUnits y x → HasOpenings r s x ls → HasOpenings q s y ls → IsLink r q s x y ls
 
@@ -44,14 +39,14 @@ link-acts : {x y : Side} {a : Act} (ls : List Line) → IsActed x y a → x.end.
     IsLink a.role (other a.role) a.sapi x y ls →
     IsLink a.role (other a.role) a.sapi (L.after a x) (other_after a y) (ls ++ lines a) × AllOccur IsOpenedAfter ls (lines a)
 link-acts ls i role same (link c u v o p) =
-    let opens = openings-here ls i role same o p in
-    (link (carried-acts i c) (units-here i u) (units-there i v) opens.0 (openings-there ls i p), opens.1)
+    let opens = establishments-here ls i role same o p in
+    (link (carried-acts i c) (units-here i u) (units-there i v) opens.0 (establishments-there ls i p), opens.1)
 
 more : {r q : Role} {s : Sapi} {x y : Side} {ls : List Line} (new : List Line) → IsLink r q s x y ls → IsLink r q s x y (ls ++ new)
-more {r} {q} {s} {x} {y} {ls} new (link c u v o p) = link c u v (openings-more r s ls new x o) (openings-more q s ls new y p)
+more {r} {q} {s} {x} {y} {ls} new (link c u v o p) = link c u v (establishments-more r s ls new x o) (establishments-more q s ls new y p)
 
 module _ {r q : Role} {s : Sapi} (x y : Side) {ls : List Line} where
-  -- the first frame in transit is lost
+  -- the invariant holds after the oldest frame in transit is lost
   first_gone : (o : Option Content) (cs : List Content) → IsLink r q s x (record y { out = cons_option o cs }) ls →
       IsLink r q s x (record y { out = cs }) ls
   first_gone d cs (link c u v o p) =
@@ -62,7 +57,7 @@ module _ {r q : Role} {s : Sapi} (x y : Side) {ls : List Line} where
   rest_gone [] h = h
   rest_gone (f ∷ fs) h = first_gone (content_on s f) (contents_on s fs) h
 
--- a REJ in transit is replaced by an RR with the same N(R)
+-- the invariant holds after a REJ in transit is replaced by an RR with the same N(R)
 link-rr : {r q : Role} {s : Sapi} (x y : Side) {ls : List Line} (nr : ℕ) (pf : Bool) (cs : List Content) →
     IsLink r q s x (record y { out = Rej nr pf ∷ cs }) ls → IsLink r q s x (record y { out = Rr nr pf ∷ cs }) ls
 link-rr x y nr pf cs (link c u v o p) =
@@ -95,12 +90,13 @@ first_lost Network s w ls h = rest_gone _ (side Mobile s w ls) w.queues.up h
 sides : {x y : Side} → x.end ≡ y.end → x.out ≡ y.out → x.asked ≡ y.asked → x.notified ≡ y.notified → x ≡ y
 sides h g k l = λ i. record { end = h i; out = g i; asked = k i; notified = l i }
 
--- a step of one endpoint changes that endpoint only
-module _ (v : World) (ls : List Line) (a : Act) (own : AllOf (IsOf a.sapi) a.does.frames) where
+-- a step of one endpoint changes the state of that endpoint only
+module _ (v : World) (ls : List Line) (a : Act) (own : AllOf (IsForSapi a.sapi) a.does.frames) where
   here : side a.role a.sapi (acted_by a v) (ls ++ lines a) ≡ L.after a (side a.role a.sapi v ls)
   here = sides (end_does a.role a.sapi a.does v)
       (rw (way_does a.role a.sapi a.does v, filter_map-append, contents-own a.sapi a.does.frames own) refl)
-      (calls-own a.role a.sapi ls a.rivals a.asks a.does.notices) (notices-own a.role a.sapi ls a.rivals a.asks a.does.notices)
+      (calls-own a.role a.sapi ls a.rivals a.layer3_calls a.does.notices)
+      (notices-own a.role a.sapi ls a.rivals a.layer3_calls a.does.notices)
 
   out-else : (r' r : Role) (s : Sapi) → is_end r s r' a.sapi ≡ false →
       contents_on s (way r (acted r' a.sapi a.does v)) ≡ contents_on s (way r v)
@@ -110,12 +106,12 @@ module _ (v : World) (ls : List Line) (a : Act) (own : AllOf (IsOf a.sapi) a.doe
 
   elsewhere : (r : Role) (s : Sapi) → is_end r s a.role a.sapi ≡ false → side r s (acted_by a v) (ls ++ lines a) ≡ side r s v ls
   elsewhere r s n = sides (end_does-else a.role a.sapi a.does v r s n) (out-else a.role r s n)
-      (calls-else a.role a.sapi ls a.rivals a.asks a.does.notices r s n)
-      (notices-else a.role a.sapi ls a.rivals a.asks a.does.notices r s n)
+      (calls-else a.role a.sapi ls a.rivals a.layer3_calls a.does.notices r s n)
+      (notices-else a.role a.sapi ls a.rivals a.layer3_calls a.does.notices r s n)
 
   links-act : {x y : Side} → side a.role a.sapi v ls ≡ x → side (other a.role) a.sapi v ls ≡ y →
       IsLink a.role (other a.role) a.sapi (L.after a x) y (ls ++ lines a) →
-      ((s : Sapi) → is_sapi s a.sapi ≡ false → Links a.role s v ls) → AllLinks (acted_by a v) (ls ++ lines a)
+      ((s : Sapi) → is_same_sapi s a.sapi ≡ false → Links a.role s v ls) → AllLinks (acted_by a v) (ls ++ lines a)
   links-act e e' own others = seen_by a.role (acted_by a v) (ls ++ lines a)
       (by_link (λ s. Links a.role s (acted_by a v) (ls ++ lines a)) a.sapi
       (rw (here ∙ ap (L.after a) e, elsewhere (other a.role) a.sapi (other_is a.role a.sapi) ∙ e') own)
@@ -128,12 +124,11 @@ abbrev pub IsAfterDelivered : List Line → Line → Type 0
 IsAfterDelivered before (Notified r s (N.Acked n)) = length (acked_numbers r s before) + 1 ≤ length (delivered (other r) s before)
 IsAfterDelivered before other = Unit {0}
 
--- if in the end no more messages are acknowledged than delivered, each acknowledgement
--- follows its delivery, as these lines deliver nothing
+-- the step delivers nothing, so if after it no more messages are acknowledged than delivered, each acknowledgement follows its delivery
 notified-after : (r : Role) (s : Sapi) (is : List Message) (cs : List Call) (ns : List Notice) (ls : List Line) →
-    (let zs : List Line = ls ++ spoken r s is cs ns in length (acked_numbers r s zs) ≤ length (delivered (other r) s zs)) →
-    AllOccur IsAfterDelivered ls (spoken r s is cs ns)
-notified-after r s (i ∷ is) cs ns ls h = (tt, notified-after r s is cs ns (ls ++ Rivals i ∷ []) (rw append_assoc h))
+    (let zs : List Line = ls ++ lines_of_step r s is cs ns in length (acked_numbers r s zs) ≤ length (delivered (other r) s zs)) →
+    AllOccur IsAfterDelivered ls (lines_of_step r s is cs ns)
+notified-after r s (i ∷ is) cs ns ls h = (tt, notified-after r s is cs ns (ls ++ RivalSabm i ∷ []) (rw append_assoc h))
 notified-after r s [] (c ∷ cs) ns ls h = (tt, notified-after r s [] cs ns (ls ++ Asked r s c ∷ []) (rw append_assoc h))
 notified-after r s [] [] (N.Acked i ∷ ns) ls h =
     let g = rw (notices-own r s ls [] [] (N.Acked i ∷ ns), notices-else r s ls [] [] (N.Acked i ∷ ns) (other r) s (other_is r s)) at h in
@@ -144,7 +139,7 @@ notified-after r s [] [] [] ls h = tt
 
 -- ---- a session
 
--- the invariant of a session: lines, links and their order
+-- the invariant of a session: what its log says, both links, and the order of its lines
 pub record IsSession (w : World) (ls : List Line) : Type 0 where
   pub reported : AllReported w ls
   pub links : AllLinks w ls
@@ -156,14 +151,14 @@ Goes ls z new = AllReported z (ls ++ new) → AllLinks z (ls ++ new) × AllOccur
 
 acts : (ls : List Line) (v : World) {x y : Side} {a : Act} → IsActed x y a → x.end.role ≡ a.role → x.end.sapi ≡ a.sapi →
     side a.role a.sapi v ls ≡ x → side (other a.role) a.sapi v ls ≡ other_after a y → IsLink a.role (other a.role) a.sapi x y ls →
-    ((s : Sapi) → is_sapi s a.sapi ≡ false → Links a.role s v ls) → Goes ls (acted_by a v) (lines a)
+    ((s : Sapi) → is_same_sapi s a.sapi ≡ false → Links a.role s v ls) → Goes ls (acted_by a v) (lines a)
 acts ls v {x} {y} {a} i role same e e' h others reported =
     let link = link-acts ls i role same h in
     let all : AllLinks (acted_by a v) (ls ++ lines a) = links-act v ls a (acts_own i same) e e' link.0 others in
     let most = acked_most (reported a.role a.sapi) (reported (other a.role) a.sapi) (carried (all a.role a.sapi)) in
-    (all, notified-after a.role a.sapi a.rivals a.asks a.does.notices ls most, link.1)
+    (all, notified-after a.role a.sapi a.rivals a.layer3_calls a.does.notices ls most, link.1)
 
-comes-first : (s : Sapi) (f : Frame) (fs : List Frame) → is_on s f ≡ true → IsAsSent (Some f) fs →
+comes-first : (s : Sapi) (f : Frame) (fs : List Frame) → is_on s f ≡ true → IsOldestSentOrNone (Some f) fs →
     contents_on s fs ≡ cons_option (content_of f.content) (contents_on s (rest fs))
 comes-first s f fs on sent = grind arith
 
@@ -178,9 +173,9 @@ lost : (sender : Role) (w : World) (ls : List Line) → AllLinks w ls → AllLin
 lost Mobile w ls h = seen_by Network (without_first Mobile w) ls (λ s. first_lost Network s w ls (h Network s))
 lost Network w ls h = seen_by Mobile (without_first Network w) ls (λ s. first_lost Mobile s w ls (h Mobile s))
 
--- the frame arrives as it was sent, or as an RR in place of a REJ
+-- the arriving frame is the one that was sent, or an RR in place of a REJ
 came : (r : Role) (s : Sapi) (w : World) (ls : List Line) (f : Frame) (fs : List Frame) → way (other r) w ≡ fs → is_on s f ≡ true →
-    IsSentOrRr (Some f) fs → Links r s w ls →
+    IsOldestSentOrRr (Some f) fs → Links r s w ls →
     IsLink r (other r) s (side r s w ls)
     (record (side (other r) s w ls) { out = cons_option (content_of f.content) (contents_on s (rest fs)) }) ls
 came r s w ls f (g ∷ gs) is on (inl same) h =
@@ -197,14 +192,14 @@ came r s w ls f (g ∷ gs) is on (inr same) h =
     (ap (λ (k : Frame). k.content) (sym same)) (first-rr x y g.content (contents_on s gs) as_sent)
 came r s w ls f [] is on sent h = absurd sent
 
-as_sent : (o : Option Why) (event : Event) (w : World) → MayBeRrBy o event w →
-    KnowsBy o (λ sender f. IsSentOrRr (Some f) (way sender w)) event
+as_sent : (o : Option EventRefusal) (event : Event) (w : World) → EventAllowsRrForRej o event w →
+    KnowsBy o (λ sender f. IsOldestSentOrRr (Some f) (way sender w)) event
 as_sent o event w h = grind arith
 
-goes : (w : World) (ls : List Line) (event : Event) → MayBeRrBy (refusal event w) event w → IsSession w ls →
+goes : (w : World) (ls : List Line) (event : Event) → EventAllowsRrForRej (refusal event w) event w → IsSession w ls →
     Goes ls (world_after event w) (answer_lines event (answer event w))
 goes w ls event harmless h =
-    by_kind w (Goes ls) (λ sender f. IsSentOrRr (Some f) (way sender w))
+    by_kind w (Goes ls) (λ sender f. IsOldestSentOrRr (Some f) (way sender w))
     (λ g. (rw append-nil h.links, tt, tt))
     (λ r s call placed ok. (let x = h.reported r s in
     acts ls w (called placed (is_called (end_of r s w) x.end call ok)) x.role x.sapi refl refl (h.links r s) (λ t n. h.links r t)))
@@ -216,7 +211,7 @@ goes w ls event harmless h =
     (λ info ok. (let x = h.reported Mobile Zero in acts ls w rival x.role x.sapi refl refl (h.links Mobile Zero) (λ t n. h.links Mobile t)))
     event (as_sent (refusal event w) event w harmless)
 
-session-step : (w : World) (ls : List Line) (event : Event) → MayBeRrBy (refusal event w) event w → IsSession w ls →
+session-step : (w : World) (ls : List Line) (event : Event) → EventAllowsRrForRej (refusal event w) event w → IsSession w ls →
     IsSession (world_after event w) (ls ++ answer_lines event (answer event w))
 session-step w ls event harmless h =
     let new : List Line = answer_lines event (answer event w) in
@@ -225,7 +220,7 @@ session-step w ls event harmless h =
     let after_delivered : AllOccur IsAfterDelivered [] (ls ++ new) = occur-append IsAfterDelivered [] ls new h.after_delivered g.1 in
     record { reported = reported; links = g.0; after_delivered = after_delivered; after_cause = occur-append _ [] ls new h.after_cause g.2 }
 
-session-run : (events : List Event) (w : World) (ls : List Line) → MayBeRr events w → IsSession w ls →
+session-run : (events : List Event) (w : World) (ls : List Line) → AllowsRrForRej events w → IsSession w ls →
     ((z : World) × IsSession z (ls ++ C.lines events (answers events w)))
 session-run [] w ls harmless h = (w, rw append-nil h)
 session-run (event ∷ events) w ls harmless h =
@@ -238,28 +233,30 @@ start-link : (r q : Role) (s : Sapi) (channel : Channel) → IsLink r q s (first
 start-link r q s channel = link (record { there = start-direction; back = start-direction }) (record { some = none })
     (record { some = none }) (tt, tt) (tt, tt)
 
-start-links : (capacity : Capacity) (channel : Channel) → AllLinks (start_in capacity channel) []
+start-links : (capacity : Capacity) (channel : Channel) → AllLinks (start_with_capacity capacity channel) []
 start-links capacity channel Mobile Zero = start-link Mobile Network Zero channel
 start-links capacity channel Mobile Three = start-link Mobile Network Three channel
 start-links capacity channel Network Zero = start-link Network Mobile Zero channel
 start-links capacity channel Network Three = start-link Network Mobile Three channel
 
-started : (capacity : Capacity) (channel : Channel) → IsSession (start_in capacity channel) []
+started : (capacity : Capacity) (channel : Channel) → IsSession (start_with_capacity capacity channel) []
 started capacity channel =
     record { reported = start-reported capacity channel; links = start-links capacity channel; after_delivered = tt; after_cause = tt }
 
-pub counts_with_rr : (capacity : Capacity) (channel : Channel) (events : List Event) → MayBeRr events (start_in capacity channel) →
-    CountsAgree (C.lines events (answers events (start_in capacity channel)))
+pub counts_with_rr : (capacity : Capacity) (channel : Channel) (events : List Event) →
+    AllowsRrForRej events (start_with_capacity capacity channel) →
+    AckedAtMostDelivered (C.lines events (answers events (start_with_capacity capacity channel)))
 counts_with_rr capacity channel events harmless r s =
-    let (z, h) = session-run events (start_in capacity channel) [] harmless (started capacity channel) in
+    let (z, h) = session-run events (start_with_capacity capacity channel) [] harmless (started capacity channel) in
     acked_most (h.reported r s) (h.reported (other r) s) (carried (h.links r s))
 
-pub claims_with_rr : (capacity : Capacity) (channel : Channel) (events : List Event) → MayBeRr events (start_in capacity channel) →
-    Claims (C.lines events (answers events (start_in capacity channel)))
+pub claims_with_rr : (capacity : Capacity) (channel : Channel) (events : List Event) →
+    AllowsRrForRej events (start_with_capacity capacity channel) →
+    Claims (C.lines events (answers events (start_with_capacity capacity channel)))
 claims_with_rr capacity channel events harmless =
-    let ls : List Line = C.lines events (answers events (start_in capacity channel)) in
+    let ls : List Line = C.lines events (answers events (start_with_capacity capacity channel)) in
     let in_order : OrderClaims ls = order_claims capacity channel events in
-    let (z, h) = session-run events (start_in capacity channel) [] harmless (started capacity channel) in
+    let (z, h) = session-run events (start_with_capacity capacity channel) [] harmless (started capacity channel) in
     record {
       in_order = λ r s. delivered_in_order (h.reported r s) (h.reported (other r) s) (carried (h.links r s));
       acknowledged = λ r s n before place. (
@@ -268,22 +265,24 @@ claims_with_rr capacity channel events harmless =
       );
       units = λ r s. units-claim (side r s z ls) (side (other r) s z ls) (units (h.links r s));
       cause = λ r s info before place. stands IsOpenedAfter ls before (Notified r s (N.Opened info)) h.after_cause place;
-      once = in_order.opened_once;
+      once = in_order.established_once;
       no_oversize = λ r s. none_oversize (h.reported (other r) s) (h.reported r s) (carried (swapped (h.links r s)));
     }
 
--- a frame as it was sent is a case of `MayBeRrBy`
-sent_at_all : (o : Option Why) (event : Event) (w : World) → IsHarmlessBy o event w → MayBeRrBy o event w
-sent_at_all o event w h = grind arith
+-- a frame that arrives as it was sent also satisfies `EventAllowsRrForRej`
+harmless_allows_rr : (o : Option EventRefusal) (event : Event) (w : World) → IsHarmlessEvent o event w → EventAllowsRrForRej o event w
+harmless_allows_rr o event w h = grind arith
 
-at_all : (events : List Event) (w : World) → IsHarmless events w → MayBeRr events w
+at_all : (events : List Event) (w : World) → IsHarmless events w → AllowsRrForRej events w
 at_all [] w h = tt
-at_all (event ∷ events) w h = (sent_at_all (refusal event w) event w h.0, at_all events (world_after event w) h.1)
+at_all (event ∷ events) w h = (harmless_allows_rr (refusal event w) event w h.0, at_all events (world_after event w) h.1)
 
-pub counts : (capacity : Capacity) (channel : Channel) (events : List Event) → IsHarmless events (start_in capacity channel) →
-    CountsAgree (C.lines events (answers events (start_in capacity channel)))
-counts capacity channel events harmless = counts_with_rr capacity channel events (at_all events (start_in capacity channel) harmless)
+pub counts : (capacity : Capacity) (channel : Channel) (events : List Event) → IsHarmless events (start_with_capacity capacity channel) →
+    AckedAtMostDelivered (C.lines events (answers events (start_with_capacity capacity channel)))
+counts capacity channel events harmless = counts_with_rr capacity channel events (at_all events
+    (start_with_capacity capacity channel) harmless)
 
-pub claims : (capacity : Capacity) (channel : Channel) (events : List Event) → IsHarmless events (start_in capacity channel) →
-    Claims (C.lines events (answers events (start_in capacity channel)))
-claims capacity channel events harmless = claims_with_rr capacity channel events (at_all events (start_in capacity channel) harmless)
+pub claims : (capacity : Capacity) (channel : Channel) (events : List Event) → IsHarmless events (start_with_capacity capacity channel) →
+    Claims (C.lines events (answers events (start_with_capacity capacity channel)))
+claims capacity channel events harmless = claims_with_rr capacity channel events (at_all events
+    (start_with_capacity capacity channel) harmless)

@@ -1,28 +1,23 @@
--- `IsDone` for each received frame, whatever it is.
-use Rattle.lapdm_link.proofs.Words.{◌≡◌, refl, sym, ap, subst, arith, ◌≤◌, List, [], ◌∷◌, Some, None, inl, inr}
-use Rattle.lapdm_link.proofs.Words.{append-nil, Content, I, Rr}
-use Rattle.lapdm_link.proofs.Words.{Rej, Ui, Frame, Message, State, Closed, Reason, Notice, EndState, Outcome, KeepsWindow, vr}
-use Rattle.lapdm_link.proofs.Words.{takes_i_frame}
-use Rattle.lapdm_link.proofs.Words.{takes_rr, takes_rej, after_frame, HasBegun, IsReplyTo, cause_of}
-use Rattle.lapdm_window.specs.Tables.{Reply, Nothing, SaysDm, SaysUa, IsOpenedBy, IsOpen, IsClosed, IsReleased, TakesUnit, TakesI, TakesRr}
-use Rattle.lapdm_window.specs.Tables.{TakesRej, outcome_of, reply_to}
-use Rattle.lapdm_window.specs.declared.State.TheVariants.{Open}
+-- Every received frame, of whatever kind, satisfies `IsDone`.
+use Rattle.lapdm_link.proofs.Words.{◌≡◌, refl, sym, ap, subst, arith, ◌≤◌, List, [], ◌∷◌, Some, None, inl, inr, append-nil, Content, I, Rr}
+use Rattle.lapdm_link.proofs.Words.{Rej, Ui, Frame, Message, State, Closed, Reason, Notice, EndState, Outcome, HasWindowOfOne, vr}
+use Rattle.lapdm_link.proofs.{Words.{takes_i_frame, takes_rr, takes_rej, after_frame, HasBegun, IsReplyTo, cause_of}, Queues.content_of}
+use Rattle.lapdm_link.proofs.{Queues.{AllFrames, frames-say}, Notified.{stage_of, known, Notifies}, Notifying.{InOpen, in-takes_i_frame}}
+use Rattle.lapdm_link.proofs.{Notifying.{in-takes_rr, in-takes_rej}, Keeping.{Both, Arriving}, Acting.{SaysPlain, OpensBy, Goes, unit_in}}
+use Rattle.lapdm_link.proofs.Acting.{ReportsUnit, IsTaken, none-of, step_in_open, moves, remains, ends, opens}
+use Rattle.lapdm_window.specs.Tables.{Reply, Nothing, SendsDm, SendsUa, AcceptsSabm, ConfirmsEstablishment, ClosesLink, AcceptsDisc}
+use Rattle.lapdm_window.specs.{Tables.{TakesUnit, TakesI, TakesRr, TakesRej, outcome_of, reply_to}, declared.State.TheVariants.Open}
 use Rattle.lapdm_window.specs.declared.Notice.TheVariants as N
-use Rattle.lapdm_link.proofs.Queues.{content_of, AllFrames, frames-say}
-use Rattle.lapdm_link.proofs.Notified.{stage_of, known, Notifies}
-use Rattle.lapdm_link.proofs.Notifying.{InOpen, in-takes_i_frame, in-takes_rr, in-takes_rej}
-use Rattle.lapdm_link.proofs.Keeping.{Both, Arriving}
-use Rattle.lapdm_link.proofs.Acting.{SaysPlain, OpensBy, Goes, unit_in, ReportsUnit, IsTaken, none-of, openly, moves, remains, ends, opens}
 
--- no UI frame is sent in answer to a frame
+-- an endpoint sends no UI frame in answer to a frame
 no_unit : (x z : EndState) (c : Content) → SaysPlain None x z c → unit_in c ≡ None
 no_unit x z (Ui p info) (plain, inl e) = cc
 no_unit x z (Ui p info) (plain, inr e) = cc (e.0)
 no_unit x z other h = refl
 
-module _ (x : EndState) (w : KeepsWindow x) where
+module _ (x : EndState) (w : HasWindowOfOne x) where
   rule : {o : Outcome} (c : Content) → content_of c ≡ Some c → InOpen (Arriving c (vr x)) Both x o → IsTaken c x o
-  rule {o} c is h = openly None c x x.taken o h (λ y out comes k. (refl, rw is at k)) (sym (append-nil x.taken)) refl refl
+  rule {o} c is h = step_in_open None c x x.taken o h (λ y out comes k. (refl, rw is at k)) (sym (append-nil x.taken)) refl refl
 
   becomes : {c : Content} (s : State) (k : Message) (fs : List Frame) (ns : List Notice) →
       (let z : EndState = record x { state = s; kept = k } in let o : Outcome = record { after = z; frames = fs; notices = ns } in
@@ -51,16 +46,16 @@ module _ (x : EndState) (w : KeepsWindow x) where
 
   taken-reply : (r : Reply) (c : Content) → IsReplyTo c x r → IsTaken c x (outcome_of r x)
   taken-reply Nothing c cause = quietly _ tt
-  taken-reply SaysDm c cause = quietly _ (inl refl, (tt, refl), tt)
-  taken-reply (SaysUa info) c cause = quietly _ (inl refl, (tt, cause), tt)
-  taken-reply (IsOpenedBy info) c cause =
+  taken-reply SendsDm c cause = quietly _ (inl refl, (tt, refl), tt)
+  taken-reply (SendsUa info) c cause = quietly _ (inl refl, (tt, cause), tt)
+  taken-reply (AcceptsSabm info) c cause =
       opened info info _ (ap stage_of cause.2) refl (inl refl, (tt, inl (refl, refl)), tt)
       (subst (λ d. OpensBy d x info) (sym cause.1) (refl, cause.2, cause.3))
-  taken-reply (IsOpen info) c cause =
+  taken-reply (ConfirmsEstablishment info) c cause =
       opened x.kept info [] (ap stage_of cause.1) (sym cause.2) tt
       (subst (λ d. OpensBy d x info) (sym cause.0) (refl, cause.1, cause.2))
-  taken-reply (IsClosed reason) c cause = over [] (began cause) tt
-  taken-reply IsReleased c cause = over _ (rw cause (omega arith)) (inl refl, (tt, inr (refl, inr (inl cause))), tt)
+  taken-reply (ClosesLink reason) c cause = over [] (began cause) tt
+  taken-reply AcceptsDisc c cause = over _ (rw cause (omega arith)) (inl refl, (tt, inr (refl, inr (inl cause))), tt)
   taken-reply (TakesUnit []) c cause = absurd (omega (arith, cause.2))
   taken-reply (TakesUnit (i ∷ is)) c cause =
       subst (λ d. IsTaken d x (outcome_of (TakesUnit (i ∷ is)) x)) (sym cause.1)

@@ -1,12 +1,10 @@
--- UI frames arrive in order or are lost: those reported and in transit are a subsequence of those sent.
-use Rattle.lapdm_link.proofs.Words.{◌≡◌, refl, List, [], ◌∷◌, ◌++◌, inl, inr, append_assoc, Option, Some, None}
-use Rattle.lapdm_link.proofs.Words.{filter_map, cons_option, filter_map-append, Content, Ui, false, Message, Notice, IsSubsequence}
-use Rattle.lapdm_link.proofs.Words.{unit_sent_in, unit_delivered_in}
-use Rattle.lapdm_link.proofs.Queues.{contents, content_of}
-use Rattle.lapdm_link.proofs.Acting.{unit_in, ReportsUnit}
-use Rattle.lapdm_link.proofs.Links.{Side, Act, IsActed, called, took, rival, after, other_after}
+-- UI frames arrive in order or are lost: the messages reported, followed by those in transit, are a subsequence of those sent.
+use Rattle.lapdm_link.proofs.Words.{◌≡◌, refl, List, [], ◌∷◌, ◌++◌, inl, inr, append_assoc, Option, Some, None, filter_map, cons_option}
+use Rattle.lapdm_link.proofs.Words.{filter_map-append, Content, Ui, false, Message, Notice, IsSubsequence, unit_sent_by_call}
+use Rattle.lapdm_link.proofs.{Words.unit_in_notice, Queues.{contents, content_of}, Acting.{unit_in, ReportsUnit}, Links.{Side, Act}}
+use Rattle.lapdm_link.proofs.Links.{IsActed, called, took, rival, after, other_after}
 
--- a subsequence, as an inductive type
+-- the first list is a subsequence of the second, as an inductive type
 pub data IsSome : List Message → List Message → Type 0 where
   none : IsSome [] []
   kept : {m : Message} {xs ys : List Message} → IsSome xs ys → IsSome (m ∷ xs) (m ∷ ys)
@@ -38,12 +36,12 @@ trans (kept h) (kept g) = kept (trans h g)
 trans (gone h) (kept g) = gone (trans h g)
 trans h (gone g) = gone (trans h g)
 
--- what y reported and what is in transit from x is a subsequence of what x was asked to send
+-- the UI messages that y has reported, followed by those in transit from x, are a subsequence of those that x was asked to send
 pub record HasUnits (x y : Side) : Type 0 where
-  pub some : IsSome (filter_map unit_delivered_in y.notified ++ filter_map unit_in x.out) (filter_map unit_sent_in x.asked)
+  pub some : IsSome (filter_map unit_in_notice y.notified ++ filter_map unit_in x.out) (filter_map unit_sent_by_call x.asked)
 
-pub units-claim : (x y : Side) → HasUnits x y → IsSubsequence (filter_map unit_delivered_in y.notified) (filter_map unit_sent_in x.asked)
-units-claim x y h = subsequence (trans (front (filter_map unit_delivered_in y.notified) (filter_map unit_in x.out)) h.some)
+pub units-claim : (x y : Side) → HasUnits x y → IsSubsequence (filter_map unit_in_notice y.notified) (filter_map unit_sent_by_call x.asked)
+units-claim x y h = subsequence (trans (front (filter_map unit_in_notice y.notified) (filter_map unit_in x.out)) h.some)
 
 in_front : (o : Option Content) (cs : List Content) → cons_option o [] ++ cs ≡ cons_option o cs
 in_front None cs = refl
@@ -52,18 +50,18 @@ in_front (Some c) cs = refl
 lost : (o : Option Content) (cs : List Content) → IsSome (filter_map unit_in cs) (filter_map unit_in (cons_option o cs))
 lost o cs = rw (← in_front o cs, filter_map-append) (append (front [] (filter_map unit_in (cons_option o []))) (all _))
 
-sent : {x y : Side} {a : Act} → IsActed x y a → filter_map unit_in (contents a.does.frames) ≡ filter_map unit_sent_in a.asks
+sent : {x y : Side} {a : Act} → IsActed x y a → filter_map unit_in (contents a.does.frames) ≡ filter_map unit_sent_by_call a.layer3_calls
 sent (called p c) = c.units
 sent (took e t) = t.units
 sent rival = refl
 
 no_more : (c : Content) (ns : List Notice) (cs : List Content) → ReportsUnit c ns →
-    IsSome (filter_map unit_delivered_in ns ++ filter_map unit_in cs) (filter_map unit_in (cons_option (content_of c) cs))
+    IsSome (filter_map unit_in_notice ns ++ filter_map unit_in cs) (filter_map unit_in (cons_option (content_of c) cs))
 no_more c ns cs (inl h) = rw h (lost (content_of c) cs)
 no_more c ns cs (inr h) = rw (h, ← filter_map-append, in_front (content_of c) cs) (all _)
 
 taken : {x y : Side} {a : Act} → IsActed x y a →
-    IsSome (filter_map unit_delivered_in a.does.notices ++ filter_map unit_in a.left) (filter_map unit_in y.out)
+    IsSome (filter_map unit_in_notice a.does.notices ++ filter_map unit_in a.left) (filter_map unit_in y.out)
 taken {a = a} (called p c) = no_more (Ui false []) a.does.notices a.left c.reports
 taken {a = a} (took {c = c} e t) = rw e (no_more c a.does.notices a.left t.reports)
 taken rival = all _

@@ -1,19 +1,18 @@
--- How the parts of a world change when one endpoint, queue or list of lines changes.
-use Rattle.lapdm_link.proofs.Words.{arith, Some, ◌≡◌, refl, Bool, true, false, ◌&&◌, List, [], ◌∷◌, ◌++◌, map, drop}
-use Rattle.lapdm_link.proofs.Words.{Option, None}
+-- How the parts of a session's state change when one endpoint, one queue or the log changes.
+use Rattle.lapdm_link.proofs.Words.{arith, Some, ◌≡◌, refl, Bool, true, false, ◌&&◌, List, [], ◌∷◌, ◌++◌, map, drop, Option, None}
 use Rattle.lapdm_link.proofs.Words.{append-nil, filter_map, filter_map-append, Channel, Frame, Message, Sapi, Zero, Three, Notice, Role}
-use Rattle.lapdm_link.proofs.Words.{Mobile, Network, EndState, Outcome, start, Call, other, end_in, with_end_in, World, start_on, Line}
-use Rattle.lapdm_link.proofs.Words.{Asked, Rivals, Notified, is_role, is_sapi, call_in, notice_in, calls, notices}
+use Rattle.lapdm_link.proofs.Words.{Mobile, Network, EndState, Outcome, start, Call, other, endpoint_in, with_endpoint_in, World, Line}
+use Rattle.lapdm_link.proofs.Words.{Asked, RivalSabm, Notified, is_same_role, is_same_sapi, call_in_line, notice_in_line, calls, notices}
+use Rattle.lapdm_link.proofs.Words.{Capacity, start_with_capacity}
 use Rattle.lapdm_window.specs.Sides.{SideState, link_in, with_link_in}
-use Rattle.lapdm_link.proofs.Words.{Capacity, start_in}
 use Rattle.lapdm_link.specs.Queues as W
 
--- ---- names for the parts of a world
+-- ---- names for the parts of a session's state
 abbrev pub rest : {T : Type 0} → List T → List T
 rest xs = drop 1 xs
 
 abbrev pub end_of : Role → Sapi → World → EndState
-end_of r s w = end_in r s w.ends
+end_of r s w = endpoint_in r s w.ends
 
 abbrev pub way : Role → World → List Frame
 way r w = W.queue_of r w.queues
@@ -22,38 +21,38 @@ abbrev pub without_first : Role → World → World
 without_first r w = record w { queues = W.without_first r w.queues }
 
 abbrev pub with_frames : Role → List Frame → World → World
-with_frames r fs w = record w { queues = W.with_more r fs w.queues }
+with_frames r fs w = record w { queues = W.with_appended r fs w.queues }
 
--- the world after a step of an endpoint
+-- the state of the session after this endpoint has this outcome
 abbrev pub acted : Role → Sapi → Outcome → World → World
-acted r s o w = with_frames r o.frames (record w { ends = with_end_in r s o.after w.ends })
+acted r s o w = with_frames r o.frames (record w { ends = with_endpoint_in r s o.after w.ends })
 
 abbrev pub is_end : Role → Sapi → Role → Sapi → Bool
-is_end r s r' s' = is_role r r' && is_sapi s s'
+is_end r s r' s' = is_same_role r r' && is_same_sapi s s'
 
--- the calls and notices of an endpoint as lines
+-- the log lines for these calls and notices of an endpoint
 abbrev pub said : Role → Sapi → List Call → List Notice → List Line
 said r s cs ns = map (Asked r s) cs ++ map (Notified r s) ns
 
-pub by_link : (P : Sapi → Type 0) (s : Sapi) → P s → ((s' : Sapi) → is_sapi s' s ≡ false → P s') → (s' : Sapi) → P s'
+pub by_link : (P : Sapi → Type 0) (s : Sapi) → P s → ((s' : Sapi) → is_same_sapi s' s ≡ false → P s') → (s' : Sapi) → P s'
 by_link P s h g s' = grind arith
 
 pub each_way : (P : Role → Type 0) (r : Role) → P r → P (other r) → (r' : Role) → P r'
 each_way P r h g r' = grind arith
 
 pub each_start : (P : Role → Sapi → EndState → Type 0) (capacity : Capacity) (channel : Channel) →
-    ((r : Role) (s : Sapi) → P r s (start r s channel)) → (r : Role) (s : Sapi) → P r s (end_of r s (start_in capacity channel))
+    ((r : Role) (s : Sapi) → P r s (start r s channel)) → (r : Role) (s : Sapi) → P r s (end_of r s (start_with_capacity capacity channel))
 each_start P capacity channel h r s = grind arith
 
--- a property of both endpoints of a side, from that of the one that took a step and that of the other
+-- a property of the endpoint that acted and of the other endpoint of its side holds of both endpoints of the side
 side_does : (P : Sapi → EndState → Type 0) (s : Sapi) (e : EndState) (side : SideState) → P s e →
-    ((s' : Sapi) → is_sapi s' s ≡ false → P s' (link_in s' side)) → (s' : Sapi) → P s' (link_in s' (with_link_in s e side))
+    ((s' : Sapi) → is_same_sapi s' s ≡ false → P s' (link_in s' side)) → (s' : Sapi) → P s' (link_in s' (with_link_in s e side))
 side_does P Zero e side h g Zero = h
 side_does P Zero e side h g Three = g Three refl
 side_does P Three e side h g Zero = g Zero refl
 side_does P Three e side h g Three = h
 
--- a property of all endpoints, from that of the one that took a step and those of the others
+-- a property of the endpoint that acted and of all others holds of all four endpoints
 pub ends_do : (P : Role → Sapi → EndState → Type 0) (r : Role) (s : Sapi) (o : Outcome) (w : World) → P r s o.after →
     ((r' : Role) (s' : Sapi) → is_end r' s' r s ≡ false → P r' s' (end_of r' s' w)) → (r' : Role) (s' : Sapi) →
     P r' s' (end_of r' s' (acted r s o w))
@@ -68,12 +67,12 @@ way_does r s o w = grind arith
 pub way_does-other : (r : Role) (s : Sapi) (o : Outcome) (w : World) → way (other r) (acted r s o w) ≡ way (other r) w
 way_does-other r s o w = grind arith
 
--- a property of each queue after the first frame of one queue is removed
+-- a property of each queue remains true after the oldest frame of one queue is removed
 pub each_lost : (P : Role → List Frame → Type 0) → ((r : Role) (fs : List Frame) → P r fs → P r (rest fs)) → (sender : Role) (w : World) →
     ((r : Role) → P r (way r w)) → (r : Role) → P r (way r (without_first sender w))
 each_lost P gone sender w h r = grind arith
 
--- ---- lines of one endpoint, and of the others
+-- ---- log lines of one endpoint, and of the others
 pub is_end-self : (r : Role) (s : Sapi) → is_end r s r s ≡ true
 is_end-self r s = grind arith
 
@@ -89,14 +88,14 @@ pub end_does-else : (r : Role) (s : Sapi) (o : Outcome) (w : World) (r' : Role) 
 end_does-else r s o w = ends_do (λ r' s' e. is_end r' s' r s ≡ false → e ≡ end_of r' s' w) r s o w (λ n. cc (n, is_end-self r s))
     (λ r' s' n m. refl)
 
-pub link_else : (r' r : Role) (s' s : Sapi) → is_sapi s' s ≡ false → is_end r' s' r s ≡ false
+pub link_else : (r' r : Role) (s' s : Sapi) → is_same_sapi s' s ≡ false → is_end r' s' r s ≡ false
 link_else r' r s' s h = grind arith
 
--- `said` after SABM frames of other mobiles
-abbrev pub spoken : Role → Sapi → List Message → List Call → List Notice → List Line
-spoken r s is cs ns = map Rivals is ++ said r s cs ns
+-- the log lines `said`, after the lines of the SABM frames that other mobiles sent
+abbrev pub lines_of_step : Role → Sapi → List Message → List Call → List Notice → List Line
+lines_of_step r s is cs ns = map RivalSabm is ++ said r s cs ns
 
--- a filter accepts all of these lines, or none
+-- a function that picks part of each line picks all of these lines, or (below) none
 all_of : {T : Type 0} (pick : Line → Option T) (line : T → Line) → ((x : T) → pick (line x) ≡ Some x) → (xs : List T) →
     filter_map pick (map line xs) ≡ xs
 all_of pick line h [] = refl
@@ -108,32 +107,38 @@ none_of pick line h [] = refl
 none_of pick line h (x ∷ xs) = rw (h x) (none_of pick line h xs)
 
 module _ (r : Role) (s : Sapi) (ls : List Line) (is : List Message) (cs : List Call) (ns : List Notice) where
-  pub calls-own : calls r s (ls ++ spoken r s is cs ns) ≡ calls r s ls ++ cs
+  pub calls-own : calls r s (ls ++ lines_of_step r s is cs ns) ≡ calls r s ls ++ cs
   calls-own =
-      let asked = all_of (call_in r s) (Asked r s) (λ c. rw (is_end-self r s) refl) cs in
+      let asked = all_of (call_in_line r s) (Asked r s) (λ c. rw (is_end-self r s) refl) cs in
       simp (
         filter_map-append,
         append-nil,
         asked,
-        none_of (call_in r s) Rivals (λ i. refl),
-        none_of (call_in r s) (Notified r s) (λ n. refl),
+        none_of (call_in_line r s) RivalSabm (λ i. refl),
+        none_of (call_in_line r s) (Notified r s) (λ n. refl),
       )
 
-  pub notices-own : notices r s (ls ++ spoken r s is cs ns) ≡ notices r s ls ++ ns
+  pub notices-own : notices r s (ls ++ lines_of_step r s is cs ns) ≡ notices r s ls ++ ns
   notices-own =
-      let notified = all_of (notice_in r s) (Notified r s) (λ n. rw (is_end-self r s) refl) ns in
-      simp (filter_map-append, notified, none_of (notice_in r s) Rivals (λ i. refl), none_of (notice_in r s) (Asked r s) (λ c. refl))
+      let notified = all_of (notice_in_line r s) (Notified r s) (λ n. rw (is_end-self r s) refl) ns in
+      simp (
+        filter_map-append,
+        notified,
+        none_of (notice_in_line r s) RivalSabm (λ i. refl),
+        none_of (notice_in_line r s) (Asked r s)
+            (λ c. refl),
+      )
 
   module _ (r' : Role) (s' : Sapi) (e : is_end r' s' r s ≡ false) where
-    pub calls-else : calls r' s' (ls ++ spoken r s is cs ns) ≡ calls r' s' ls
+    pub calls-else : calls r' s' (ls ++ lines_of_step r s is cs ns) ≡ calls r' s' ls
     calls-else =
-        let pick = call_in r' s' in let asked = none_of pick (Asked r s) (λ c. rw e refl) cs in
-        simp (filter_map-append, append-nil, asked, none_of pick Rivals (λ i. refl), none_of pick (Notified r s) (λ n. refl))
+        let pick = call_in_line r' s' in let asked = none_of pick (Asked r s) (λ c. rw e refl) cs in
+        simp (filter_map-append, append-nil, asked, none_of pick RivalSabm (λ i. refl), none_of pick (Notified r s) (λ n. refl))
 
-    pub notices-else : notices r' s' (ls ++ spoken r s is cs ns) ≡ notices r' s' ls
+    pub notices-else : notices r' s' (ls ++ lines_of_step r s is cs ns) ≡ notices r' s' ls
     notices-else =
-        let pick = notice_in r' s' in let notified = none_of pick (Notified r s) (λ n. rw e refl) ns in
-        simp (filter_map-append, append-nil, notified, none_of pick Rivals (λ i. refl), none_of pick (Asked r s) (λ c. refl))
+        let pick = notice_in_line r' s' in let notified = none_of pick (Notified r s) (λ n. rw e refl) ns in
+        simp (filter_map-append, append-nil, notified, none_of pick RivalSabm (λ i. refl), none_of pick (Asked r s) (λ c. refl))
 
 pub notices-at : (r : Role) (s : Sapi) (before : List Line) (n : Notice) (more : List Line) →
     notices r s (before ++ Notified r s n ∷ more) ≡ notices r s before ++ n ∷ notices r s more

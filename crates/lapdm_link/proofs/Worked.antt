@@ -1,15 +1,14 @@
--- Worked sessions, and for each claim lines that violate it.
-use Rattle.lapdm_link.proofs.Words.{◌≡◌, refl, arith, ℕ, false, List, [], ◌∷◌, ◌++◌, replicate, inl, inr, Option, Some}
-use Rattle.lapdm_link.proofs.Words.{None, Sdcch, I, Ui, Frame, Message, zero, suc, Contains, Zero, Three, Role, Mobile, Network, Opens}
-use Rattle.lapdm_link.proofs.Words.{OpensBare, Sends, SendsUnit, Closes, T200Expires, queue_of, Event, Send, Close, T200Expiry, Open}
-use Rattle.lapdm_link.proofs.Words.{OpenBare, Ask}
-use Rattle.lapdm_link.proofs.Words.{Deliver, Lose, Rival, World, start_in, start_on, world_after, answers, IsHarmless, Line, Asked, Rivals}
-use Rattle.lapdm_link.proofs.Words.{Notified, lines, Claims, OrderClaims, IsSubsequence}
-use Rattle.lapdm_link.specs.Events.{SendUnit, boundless_air}
+-- Worked examples of sessions, and for each claim a log that violates it.
+use Rattle.lapdm_link.proofs.Words.{◌≡◌, refl, arith, ℕ, false, List, [], ◌∷◌, ◌++◌, replicate, inl, inr, Option, Some, None, Sdcch, I, Ui}
+use Rattle.lapdm_link.proofs.Words.{Frame, Message, zero, suc, Contains, Zero, Three, Role, Mobile, Network, Opens, OpensBare, Sends}
+use Rattle.lapdm_link.proofs.Words.{SendsUnit, Closes, T200Expires, queue_of, Event, Send, Close, T200Expiry, Open, OpenBare, Ask, Deliver}
+use Rattle.lapdm_link.proofs.Words.{Lose, Rival, World, start_with_capacity, start_on, world_after, answers, IsHarmless, Line, Asked}
+use Rattle.lapdm_link.{proofs.Words.{RivalSabm, Notified, lines, Claims, OrderClaims, IsSubsequence}, specs.Events.SendUnit}
+use Rattle.lapdm_link.specs.Events.{unbounded_queues}
 use Rattle.lapdm_window.specs.declared.Notice.TheVariants as N
 use Rattle.lapdm_window.specs.declared.Reason.TheVariants as R
 
--- an event, or the arrival, unchanged, of the first frame in transit
+-- an event, or the arrival of the oldest frame in transit exactly as it was sent
 data Move : Type 0 where
   Happens : Event → Move
   Arrives : Role → Move
@@ -32,10 +31,10 @@ lines_of events = lines events (answers events (start_on Sdcch))
 abbrev notified : List Move → List Line
 notified moves = lines_of (played moves (start_on Sdcch))
 
--- ---- establishment: another mobile was first, so the mobile whose information the network does not return gives up
+-- ---- contention: another mobile's SABM arrives first, so the UA has other information and this mobile gives up
 
 contention : notified (Happens (Rival (7 ∷ [])) ∷ Happens (Open (1 ∷ [])) ∷ Arrives Mobile ∷ Arrives Mobile ∷ Arrives Network ∷ [])
-    ≡ Rivals (7 ∷ []) ∷ Asked Mobile Zero (Opens (1 ∷ [])) ∷ Notified Network Zero (N.Opened (7 ∷ [])) ∷ Notified Mobile Zero
+    ≡ RivalSabm (7 ∷ []) ∷ Asked Mobile Zero (Opens (1 ∷ [])) ∷ Notified Network Zero (N.Opened (7 ∷ [])) ∷ Notified Mobile Zero
     (N.Closed R.Contention) ∷ []
 contention = refl
 
@@ -45,7 +44,7 @@ opening = Happens (Open (1 ∷ [])) ∷ Arrives Mobile ∷ Arrives Network ∷ [
 abbrev opened : List Line
 opened = Asked Mobile Zero (Opens (1 ∷ [])) ∷ Notified Network Zero (N.Opened (1 ∷ [])) ∷ Notified Mobile Zero (N.Opened (1 ∷ [])) ∷ []
 
--- ---- a message of three segments; the second is lost and is sent again at T200 expiry
+-- ---- a message of three segments: the second segment is lost, and is sent again at T200 expiry
 
 abbrev long : Message
 long = replicate 41 9
@@ -56,8 +55,8 @@ segments : notified (opening ++ Happens (Ask Mobile Zero (Send long)) ∷ Arrive
     (N.Acked 1) ∷ []
 segments = refl
 
--- ---- T200 expires too early: each segment arrives twice, its repetition is answered by a REJ, and the REJ makes the
--- sender repeat the next segment
+-- ---- T200 expires too early: each segment arrives twice; the second arrival is answered by a REJ, which makes the sender repeat the next
+-- segment
 
 crossing : notified (opening
     ++ Happens (Ask Mobile Zero (Send (5 ∷ []))) ∷ Happens (Ask Mobile Zero T200Expiry) ∷ Arrives Mobile ∷ Arrives Mobile ∷
@@ -69,7 +68,7 @@ crossing : notified (opening
     ∷ Notified Network Zero (N.Got (6 ∷ [])) ∷ Notified Mobile Zero (N.Acked 2) ∷ []
 crossing = refl
 
--- ---- both sides establish SAPI 3 at once
+-- ---- both sides establish SAPI 3 at the same time
 
 collision : notified (Happens (OpenBare Mobile) ∷ Happens (OpenBare Network) ∷ Arrives Mobile ∷ Arrives Network ∷ Arrives Mobile ∷ Arrives
     Network ∷ Happens (Ask Mobile Three (Send (5 ∷ []))) ∷ Arrives Mobile ∷ Arrives Network ∷ [])
@@ -84,8 +83,8 @@ release : notified (opening ++ Happens (Ask Mobile Zero Close) ∷ Arrives Mobil
     ≡ opened ++ Asked Mobile Zero Closes ∷ Notified Network Zero (N.Closed R.Released) ∷ Notified Mobile Zero (N.Closed R.Released) ∷ []
 release = refl
 
--- ---- a session is benign if frames arrive as they were sent; if another message arrives in place of a frame, the claims
--- on delivery fail
+-- ---- a session is benign if frames arrive as they were sent; if another message arrives in place of a frame, the claims about delivery
+-- fail
 
 abbrev sending : List Event
 sending = played (opening ++ Happens (Ask Mobile Zero (Send (2 ∷ []))) ∷ []) (start_on Sdcch)
@@ -106,8 +105,8 @@ forged_breaks h = other_message (h.in_order Mobile Zero).0 (h.in_order Mobile Ze
     other_message : (more : List Message) → (3 ∷ []) ∷ more ≡ (2 ∷ []) ∷ [] → ⊥
     other_message more e = cc e
 
--- ---- each premise is needed: without it a frame arrives twice, or before one sent earlier (in queues without bound), or was in
--- transit before the session; or endpoints are open before it
+-- ---- each premise is needed: the claims fail if a frame arrives twice, or before an older one (queues of unlimited length allow this), or
+-- if frames were in transit or links open before the session
 
 abbrev moved : List Move → World → World
 moved [] w = w
@@ -116,8 +115,8 @@ moved (move ∷ moves) w = moved moves (world_after (event_of move w) w)
 abbrev notified_from : World → List Move → List Line
 notified_from w moves = let events = played moves w in lines events (answers events w)
 
-abbrev roomy : World
-roomy = start_in boundless_air Sdcch
+abbrev unbounded_world : World
+unbounded_world = start_with_capacity unbounded_queues Sdcch
 
 abbrev sends_unit : ℕ → Move
 sends_unit octet = Happens (Ask Mobile Zero (SendUnit (octet ∷ [])))
@@ -125,22 +124,23 @@ sends_unit octet = Happens (Ask Mobile Zero (SendUnit (octet ∷ [])))
 abbrev given : ℕ → Move
 given octet = Happens (Deliver Mobile (Some (record { sapi = 0; cr = false; content = Ui false (octet ∷ []) })))
 
-given_twice : notified_from roomy (sends_unit 4 ∷ given 4 ∷ given 4 ∷ []) ≡ Asked Mobile Zero (SendsUnit (4 ∷ [])) ∷ Notified Network Zero
+given_twice : notified_from unbounded_world (sends_unit 4 ∷ given 4 ∷ given 4 ∷ []) ≡ Asked Mobile Zero (SendsUnit
+    (4 ∷ [])) ∷ Notified Network Zero
     (N.Unit (4 ∷ [])) ∷ Notified Network Zero (N.Unit (4 ∷ [])) ∷ []
 given_twice = refl
 
-given_twice_breaks : Claims (notified_from roomy (sends_unit 4 ∷ given 4 ∷ given 4 ∷ [])) → ⊥
+given_twice_breaks : Claims (notified_from unbounded_world (sends_unit 4 ∷ given 4 ∷ given 4 ∷ [])) → ⊥
 given_twice_breaks h = none (h.units Mobile Zero)
   where
     none : IsSubsequence ((4 ∷ []) ∷ (4 ∷ []) ∷ []) ((4 ∷ []) ∷ []) → ⊥
     none (inl same) = let e : (4 ∷ []) ∷ [] ≡ [] = same.1 in cc e
     none (inr e) = cc e
 
-out_of_order : notified_from roomy (sends_unit 4 ∷ sends_unit 5 ∷ given 5 ∷ given 4 ∷ []) ≡ Asked Mobile Zero (SendsUnit (4 ∷ []))
+out_of_order : notified_from unbounded_world (sends_unit 4 ∷ sends_unit 5 ∷ given 5 ∷ given 4 ∷ []) ≡ Asked Mobile Zero (SendsUnit (4 ∷ []))
     ∷ Asked Mobile Zero (SendsUnit (5 ∷ [])) ∷ Notified Network Zero (N.Unit (5 ∷ [])) ∷ Notified Network Zero (N.Unit (4 ∷ [])) ∷ []
 out_of_order = refl
 
-out_of_order_breaks : Claims (notified_from roomy (sends_unit 4 ∷ sends_unit 5 ∷ given 5 ∷ given 4 ∷ [])) → ⊥
+out_of_order_breaks : Claims (notified_from unbounded_world (sends_unit 4 ∷ sends_unit 5 ∷ given 5 ∷ given 4 ∷ [])) → ⊥
 out_of_order_breaks h = none (h.units Mobile Zero)
   where
     none : IsSubsequence ((5 ∷ []) ∷ (4 ∷ []) ∷ []) ((4 ∷ []) ∷ (5 ∷ []) ∷ []) → ⊥
@@ -148,16 +148,17 @@ out_of_order_breaks h = none (h.units Mobile Zero)
     none (inr (inl same)) = let e : (4 ∷ []) ∷ [] ≡ [] = same.1 in cc e
     none (inr (inr e)) = cc e
 
--- the network's UA is in transit from an earlier establishment
-abbrev stale : World
-stale = record (start_on Sdcch) { queues = (moved (Happens (Open (1 ∷ [])) ∷ Arrives Mobile ∷ []) (start_on Sdcch)).queues }
+-- a state in which the network's UA from an earlier establishment is still in transit
+abbrev with_old_ua : World
+with_old_ua = record (start_on Sdcch) { queues = (moved (Happens (Open (1 ∷ [])) ∷ Arrives Mobile ∷ []) (start_on Sdcch)).queues }
 
-stale_answer : notified_from stale (Happens (Open (1 ∷ [])) ∷ Arrives Network ∷ []) ≡ Asked Mobile Zero (Opens (1 ∷ [])) ∷ Notified Mobile
+stale_answer : notified_from with_old_ua (Happens (Open (1 ∷ [])) ∷ Arrives Network ∷ []) ≡ Asked Mobile Zero (Opens
+    (1 ∷ [])) ∷ Notified Mobile
     Zero
     (N.Opened (1 ∷ [])) ∷ []
 stale_answer = refl
 
-stale_answer_breaks : Claims (notified_from stale (Happens (Open (1 ∷ [])) ∷ Arrives Network ∷ [])) → ⊥
+stale_answer_breaks : Claims (notified_from with_old_ua (Happens (Open (1 ∷ [])) ∷ Arrives Network ∷ [])) → ⊥
 stale_answer_breaks h =
     let cause = h.cause Mobile Zero (1 ∷ []) (Asked Mobile Zero (Opens (1 ∷ [])) ∷ []) ([], refl) in not_notified cause.0
   where
@@ -165,7 +166,7 @@ stale_answer_breaks h =
     not_notified (zero, few, e) = cc e
     not_notified (suc k, few, e) = omega (arith, few)
 
--- both endpoints are open before the session
+-- a state in which both endpoints are open before the session begins
 abbrev restored : World
 restored = record (start_on Sdcch) { ends = (moved opening (start_on Sdcch)).ends }
 
@@ -177,7 +178,7 @@ open_before_breaks : OrderClaims (notified_from restored (Happens (Ask Mobile Ze
 open_before_breaks h =
     omega (arith, (h.inside Network Zero (N.Got (2 ∷ [])) (Asked Mobile Zero (Sends (2 ∷ [])) ∷ []) tt ([], refl)).opened)
 
--- ---- lines that violate the other claims on delivery
+-- ---- logs that violate the other claims about delivery
 
 early_acknowledgement : Claims (Notified Mobile Zero (N.Acked 1) ∷ []) → ⊥
 early_acknowledgement h = omega (arith, (h.acknowledged Mobile Zero 1 [] ([], refl)).1)
@@ -209,7 +210,7 @@ opened_twice h = omega (arith, h.once Mobile Zero)
 too_long : Claims (Notified Mobile Zero N.Oversize ∷ []) → ⊥
 too_long h = h.no_oversize Mobile Zero [] ([], refl)
 
--- ---- lines that violate the claims on order
+-- ---- logs that violate the claims about order
 
 acknowledged_unsent : OrderClaims (Notified Mobile Zero (N.Acked 1) ∷ []) → ⊥
 acknowledged_unsent h = omega (arith, (h.acknowledged Mobile Zero 1 [] ([], refl)).1)
@@ -221,7 +222,7 @@ wrong_number h = not_one 2 (h.acknowledged Mobile Zero 2 (Asked Mobile Zero (Sen
     not_one n h g = omega (arith, h, g)
 
 opened_again : OrderClaims (Notified Mobile Zero (N.Opened []) ∷ Notified Mobile Zero (N.Opened []) ∷ []) → ⊥
-opened_again h = omega (arith, h.opened_once Mobile Zero)
+opened_again h = omega (arith, h.established_once Mobile Zero)
 
 closed_again : OrderClaims (Notified Mobile Zero (N.Closed R.Failed) ∷ Notified Mobile Zero (N.Closed R.Failed) ∷ []) → ⊥
 closed_again h = omega (arith, h.closed_once Mobile Zero)

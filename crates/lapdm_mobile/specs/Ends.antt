@@ -1,7 +1,7 @@
--- The `Endpoint` inside a `Mobile`.
+-- The mobile's endpoint as an `Endpoint`, which both sides share.
 use Rattle.lapdm_end.specs.declared.ends.Endpoint.{Endpoint}
 use Rattle.lapdm_mobile.specs.declared.mobile.Mobile.{Mobile}
 
--- the endpoint that a `Mobile` wraps
-abbrev pub end_of : Mobile → Endpoint
-end_of m = m.end
+-- the `Endpoint` that a `Mobile` contains
+abbrev pub endpoint_of : Mobile → Endpoint
+endpoint_of m = m.end

@@ -1,20 +1,18 @@
 //! The calls of the mobile's endpoint.
 
 ghost use Rattle.std.specs.Prelude.{◌≡◌, IfOk, OnErr};
-ghost use Rattle.lapdm_frame.specs.declared.Channel.TheVariants as C;
-ghost use Rattle.lapdm_frame.specs.Content.{frame_of};
-ghost use Rattle.lapdm_frame.specs.Frames.{Fits};
-ghost use Rattle.lapdm_window.specs.declared.Sapi.TheVariants as S;
-ghost use Rattle.lapdm_window.specs.Ends.{EndState, start};
-ghost use Rattle.lapdm_window.specs.Ends as E;
-ghost use Rattle.lapdm_window.specs.Calls.{after_call, Opens, OpensBare, Sends, SendsUnit, Closes, T200Expires, Idles};
-ghost use Rattle.lapdm_window.specs.Tables.{after_frame};
+ghost use Rattle.lapdm_end.specs.lapdm_frame.declared.Channel.TheVariants as C;
+ghost use Rattle.lapdm_end.specs.lapdm_frame.Content.{frame_of};
+ghost use Rattle.lapdm_end.specs.lapdm_frame.Frames.{Fits};
+ghost use Rattle.lapdm_end.specs.lapdm_window.declared.Sapi.TheVariants as S;
+ghost use Rattle.lapdm_end.specs.lapdm_window.Ends.{EndState, start};
+ghost use Rattle.lapdm_end.specs.lapdm_window.Ends as E;
+ghost use Rattle.lapdm_end.specs.lapdm_window.Calls.{after_call, Opens, OpensBare, Sends, SendsUnit, Closes, T200Expires, SendsFill};
+ghost use Rattle.lapdm_end.specs.lapdm_window.Tables.{after_frame};
 ghost use Rattle.lapdm_end.specs.Abstraction.{Represents, sapi_of, channel_of};
 ghost use Rattle.lapdm_end.specs.Refinement.{Refines, IsRefusedAs};
 
-use lapdm_end::{Endpoint, Role};
-use lapdm_frame::{Channel, FrameView};
-use lapdm_window::{Call, Effects, Refused, Sapi, State};
+use lapdm_end::{Call, Channel, Effects, Endpoint, FrameView, Refused, Role, Sapi, State};
 
 /// The mobile's endpoint of a data link. A refused call changes nothing.
 #[derive(Debug, Drop)]
@@ -23,31 +21,31 @@ pub struct Mobile {
 }
 
 impl Mobile {
-    ghost use Rattle.lapdm_mobile.specs.Ends.{end_of};
+    ghost use Rattle.lapdm_mobile.specs.Ends.{endpoint_of};
 
-    /// An endpoint in Idle, of SAPI 0 on SDCCH.
+    /// An endpoint in Idle, for SAPI 0 on SDCCH.
     pub fn new() -> Mobile
-        ensures represents { Represents (end_of result) (start E.Mobile S.Zero C.Sdcch) }
-        ensures sapi { sapi_of (end_of result) ≡ S.Zero }
-        ensures channel { channel_of (end_of result) ≡ C.Sdcch }
+        ensures represents { Represents (endpoint_of result) (start E.Mobile S.Zero C.Sdcch) }
+        ensures sapi { sapi_of (endpoint_of result) ≡ S.Zero }
+        ensures channel { channel_of (endpoint_of result) ≡ C.Sdcch }
     {
         Mobile::new_on(Sapi::Zero, Channel::Sdcch)
     }
 
-    /// An endpoint in Idle, on SDCCH.
+    /// An endpoint in Idle, for this SAPI on SDCCH.
     pub fn with_sapi(sapi: Sapi) -> Mobile
-        ensures represents { Represents (end_of result) (start E.Mobile sapi C.Sdcch) }
-        ensures sapi { sapi_of (end_of result) ≡ sapi }
-        ensures channel { channel_of (end_of result) ≡ C.Sdcch }
+        ensures represents { Represents (endpoint_of result) (start E.Mobile sapi C.Sdcch) }
+        ensures sapi { sapi_of (endpoint_of result) ≡ sapi }
+        ensures channel { channel_of (endpoint_of result) ≡ C.Sdcch }
     {
         Mobile::new_on(sapi, Channel::Sdcch)
     }
 
-    /// An endpoint in Idle.
+    /// An endpoint in Idle, for this SAPI on this channel.
     pub fn new_on(sapi: Sapi, channel: Channel) -> Mobile
-        ensures represents { Represents (end_of result) (start E.Mobile sapi channel) }
-        ensures sapi { sapi_of (end_of result) ≡ sapi }
-        ensures channel { channel_of (end_of result) ≡ channel }
+        ensures represents { Represents (endpoint_of result) (start E.Mobile sapi channel) }
+        ensures sapi { sapi_of (endpoint_of result) ≡ sapi }
+        ensures channel { channel_of (endpoint_of result) ≡ channel }
     {
         Mobile {
             end: Endpoint::new_on(Role::Mobile, sapi, channel),
@@ -55,110 +53,110 @@ impl Mobile {
     }
 
     pub fn sapi(&self) -> Sapi
-        ensures sapi { result ≡ sapi_of (end_of self.now) }
-        ensures represents { (e : EndState) → Represents (end_of self.now) e → result ≡ e.sapi }
+        ensures sapi { result ≡ sapi_of (endpoint_of self.now) }
+        ensures represents { (e : EndState) → Represents (endpoint_of self.now) e → result ≡ e.sapi }
     {
         self.end.sapi()
     }
 
     pub fn state(&self) -> State
-        ensures { (e : EndState) → Represents (end_of self.now) e → result ≡ e.state }
+        ensures { (e : EndState) → Represents (endpoint_of self.now) e → result ≡ e.state }
     {
         self.end.state()
     }
 
     /// Begins to establish the link of SAPI 0: sends a SABM with this information, 1 to N201 octets.
     pub fn open(&mut self, info: &[u8]) -> Result<Effects, Refused>
-        requires { sapi_of (end_of self.old) ≡ S.Zero }
-        ensures refusal { IsRefusedAs (Opens info.now) (end_of self.old) result }
+        requires { sapi_of (endpoint_of self.old) ≡ S.Zero }
+        ensures refusal { IsRefusedAs (Opens info.now) (endpoint_of self.old) result }
         ensures refines { IfOk result
-            (λ effects. Refines (after_call (Opens info.now)) (end_of self.old) effects
-            (end_of self.new)) }
+            (λ effects. Refines (after_call (Opens info.now)) (endpoint_of self.old) effects
+            (endpoint_of self.new)) }
         ensures refused { OnErr result (self.new ≡ self.old) }
-        ensures sapi { sapi_of (end_of self.new) ≡ sapi_of (end_of self.old) }
-        ensures channel { channel_of (end_of self.new) ≡ channel_of (end_of self.old) }
+        ensures sapi { sapi_of (endpoint_of self.new) ≡ sapi_of (endpoint_of self.old) }
+        ensures channel { channel_of (endpoint_of self.new) ≡ channel_of (endpoint_of self.old) }
     {
         self.end.call_returning(&Call::Open(info))
     }
 
     /// Begins to establish the link of SAPI 3: sends a SABM without information.
     pub fn open_bare(&mut self) -> Result<Effects, Refused>
-        requires { sapi_of (end_of self.old) ≡ S.Three }
-        ensures refusal { IsRefusedAs OpensBare (end_of self.old) result }
+        requires { sapi_of (endpoint_of self.old) ≡ S.Three }
+        ensures refusal { IsRefusedAs OpensBare (endpoint_of self.old) result }
         ensures refines { IfOk result
             (λ effects. Refines (after_call OpensBare)
-            (end_of self.old) effects (end_of self.new)) }
+            (endpoint_of self.old) effects (endpoint_of self.new)) }
         ensures refused { OnErr result (self.new ≡ self.old) }
-        ensures sapi { sapi_of (end_of self.new) ≡ sapi_of (end_of self.old) }
-        ensures channel { channel_of (end_of self.new) ≡ channel_of (end_of self.old) }
+        ensures sapi { sapi_of (endpoint_of self.new) ≡ sapi_of (endpoint_of self.old) }
+        ensures channel { channel_of (endpoint_of self.new) ≡ channel_of (endpoint_of self.old) }
     {
         self.end.call_returning(&Call::OpenBare)
     }
 
-    /// Sends a message of 1 to 251 octets over the link, acknowledged.
+    /// Sends a message of 1 to 251 octets in I frames, which the network acknowledges.
     pub fn send(&mut self, message: &[u8]) -> Result<Effects, Refused>
-        ensures refusal { IsRefusedAs (Sends message.now) (end_of self.old) result }
+        ensures refusal { IsRefusedAs (Sends message.now) (endpoint_of self.old) result }
         ensures refines { IfOk result
-            (λ effects. Refines (after_call (Sends message.now)) (end_of self.old) effects
-            (end_of self.new)) }
+            (λ effects. Refines (after_call (Sends message.now)) (endpoint_of self.old) effects
+            (endpoint_of self.new)) }
         ensures refused { OnErr result (self.new ≡ self.old) }
-        ensures sapi { sapi_of (end_of self.new) ≡ sapi_of (end_of self.old) }
-        ensures channel { channel_of (end_of self.new) ≡ channel_of (end_of self.old) }
+        ensures sapi { sapi_of (endpoint_of self.new) ≡ sapi_of (endpoint_of self.old) }
+        ensures channel { channel_of (endpoint_of self.new) ≡ channel_of (endpoint_of self.old) }
     {
         self.end.call_returning(&Call::Send(message))
     }
 
-    /// Sends a message of 1 to N201 octets in one UI frame, unacknowledged.
+    /// Sends a message of 1 to N201 octets in one UI frame, which is not acknowledged.
     pub fn unit(&mut self, message: &[u8]) -> Result<Effects, Refused>
-        ensures refusal { IsRefusedAs (SendsUnit message.now) (end_of self.old) result }
+        ensures refusal { IsRefusedAs (SendsUnit message.now) (endpoint_of self.old) result }
         ensures refines { IfOk result
-            (λ effects. Refines (after_call (SendsUnit message.now)) (end_of self.old) effects
-            (end_of self.new)) }
+            (λ effects. Refines (after_call (SendsUnit message.now)) (endpoint_of self.old) effects
+            (endpoint_of self.new)) }
         ensures refused { OnErr result (self.new ≡ self.old) }
-        ensures sapi { sapi_of (end_of self.new) ≡ sapi_of (end_of self.old) }
-        ensures channel { channel_of (end_of self.new) ≡ channel_of (end_of self.old) }
+        ensures sapi { sapi_of (endpoint_of self.new) ≡ sapi_of (endpoint_of self.old) }
+        ensures channel { channel_of (endpoint_of self.new) ≡ channel_of (endpoint_of self.old) }
     {
         self.end.call_returning(&Call::Unit(message))
     }
 
-    /// Begins to release the link: sends a DISC. What is not acknowledged is discarded.
+    /// Begins to release the link: sends a DISC. Messages that are not acknowledged are discarded.
     pub fn close(&mut self) -> Result<Effects, Refused>
-        ensures refusal { IsRefusedAs Closes (end_of self.old) result }
+        ensures refusal { IsRefusedAs Closes (endpoint_of self.old) result }
         ensures refines { IfOk result
-            (λ effects. Refines (after_call Closes) (end_of self.old) effects (end_of self.new)) }
+            (λ effects. Refines (after_call Closes) (endpoint_of self.old) effects (endpoint_of self.new)) }
         ensures refused { OnErr result (self.new ≡ self.old) }
-        ensures sapi { sapi_of (end_of self.new) ≡ sapi_of (end_of self.old) }
-        ensures channel { channel_of (end_of self.new) ≡ channel_of (end_of self.old) }
+        ensures sapi { sapi_of (endpoint_of self.new) ≡ sapi_of (endpoint_of self.old) }
+        ensures channel { channel_of (endpoint_of self.new) ≡ channel_of (endpoint_of self.old) }
     {
         self.end.call_returning(&Call::Close)
     }
 
-    /// T200 expiry.
+    /// Handles T200 expiry.
     pub fn timer(&mut self) -> Result<Effects, Refused>
-        ensures refusal { IsRefusedAs T200Expires (end_of self.old) result }
+        ensures refusal { IsRefusedAs T200Expires (endpoint_of self.old) result }
         ensures refines { IfOk result
-            (λ effects. Refines (after_call T200Expires) (end_of self.old) effects (end_of self.new)) }
+            (λ effects. Refines (after_call T200Expires) (endpoint_of self.old) effects (endpoint_of self.new)) }
         ensures refused { OnErr result (self.new ≡ self.old) }
-        ensures sapi { sapi_of (end_of self.new) ≡ sapi_of (end_of self.old) }
-        ensures channel { channel_of (end_of self.new) ≡ channel_of (end_of self.old) }
+        ensures sapi { sapi_of (endpoint_of self.new) ≡ sapi_of (endpoint_of self.old) }
+        ensures channel { channel_of (endpoint_of self.new) ≡ channel_of (endpoint_of self.old) }
     {
         self.end.call_returning(&Call::Timer)
     }
 
-    /// Sends the fill frame, for a block with nothing else to send.
+    /// Sends the fill frame, for use when there is nothing else to send in a block.
     pub fn idle(&self) -> Effects
-        ensures { Refines (after_call Idles) (end_of self.now) result (end_of self.now) }
+        ensures { Refines (after_call SendsFill) (endpoint_of self.now) result (endpoint_of self.now) }
     {
         self.end.idle()
     }
 
-    /// Receives a frame.
+    /// Processes a received frame.
     pub fn take(&mut self, frame: &FrameView<'_>) -> Effects
-        requires { Fits (channel_of (end_of self.old)) (frame_of frame.now) }
-        ensures refines { Refines (after_frame (frame_of frame.now)) (end_of self.old) result
-            (end_of self.new) }
-        ensures sapi { sapi_of (end_of self.new) ≡ sapi_of (end_of self.old) }
-        ensures channel { channel_of (end_of self.new) ≡ channel_of (end_of self.old) }
+        requires { Fits (channel_of (endpoint_of self.old)) (frame_of frame.now) }
+        ensures refines { Refines (after_frame (frame_of frame.now)) (endpoint_of self.old) result
+            (endpoint_of self.new) }
+        ensures sapi { sapi_of (endpoint_of self.new) ≡ sapi_of (endpoint_of self.old) }
+        ensures channel { channel_of (endpoint_of self.new) ≡ channel_of (endpoint_of self.old) }
     {
         self.end.take(frame)
     }

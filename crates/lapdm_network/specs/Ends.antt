@@ -1,7 +1,7 @@
--- The `Endpoint` inside a `Network`.
+-- The network's endpoint as an `Endpoint`, which both sides share.
 use Rattle.lapdm_end.specs.declared.ends.Endpoint.{Endpoint}
 use Rattle.lapdm_network.specs.declared.network.Network.{Network}
 
--- the endpoint that a `Network` wraps
-abbrev pub end_of : Network → Endpoint
-end_of m = m.end
+-- the `Endpoint` that a `Network` contains
+abbrev pub endpoint_of : Network → Endpoint
+endpoint_of m = m.end

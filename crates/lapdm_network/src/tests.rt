@@ -1,18 +1,19 @@
 ghost use Rattle.std.specs.Prelude.{◌≡◌};
 ghost use Rattle.lapdm_end.specs.Abstraction.{channel_of};
-ghost use Rattle.lapdm_network.specs.Ends.{end_of};
+ghost use Rattle.lapdm_network.specs.Ends.{endpoint_of};
 
 use super::*;
-use lapdm_frame::{Body, Channel, FrameView, fits_on};
-use lapdm_window::{Effects, Message, Notice, Refused, Sapi, State};
+use lapdm_end::{
+    Body, Channel, Effects, FrameView, Message, Notice, Refused, Sapi, State, fits_on,
+};
 use std::process::Abort;
 
-// A session of an endpoint on one channel.
+// An endpoint, and the channel on which it works.
 #[derive(Drop)]
 struct Session {
     end: Network,
     channel: Channel,
-    ghost same: { channel_of (end_of end) ≡ channel },
+    ghost same: { channel_of (endpoint_of end) ≡ channel },
 }
 
 impl Session {
@@ -28,8 +29,8 @@ impl Session {
         self.end.take(frame)
     }
 
-    // Checks the answer to a frame of SAPI 0.
-    fn row(
+    // Gives the endpoint a frame of SAPI 0, and checks its answer.
+    fn take_and_check(
         &mut self,
         rt: &impl Abort,
         cr: bool,
@@ -38,13 +39,13 @@ impl Session {
         told: Option<Notice>,
     ) {
         let effects = self.take(rt, &FrameView { sapi: 0, cr, body });
-        assert!(rt; is_sent(&effects, sent));
-        assert!(rt; is_told(&effects, &told));
+        assert!(rt; sends_only(&effects, sent));
+        assert!(rt; reports_only(&effects, &told));
     }
 }
 
-// Whether nothing was sent, if `octets` is empty, or one block of these octets and fill.
-fn is_sent(effects: &Effects, octets: &[u8]) -> bool {
+// Whether the endpoint sent exactly one block of these octets and fill, or no block if `octets` is empty.
+fn sends_only(effects: &Effects, octets: &[u8]) -> bool {
     match effects.frames.as_slice() {
         [] => octets.is_empty(),
         [block] => {
@@ -56,15 +57,15 @@ fn is_sent(effects: &Effects, octets: &[u8]) -> bool {
     }
 }
 
-fn is_told(effects: &Effects, told: &Option<Notice>) -> bool {
+fn reports_only(effects: &Effects, told: &Option<Notice>) -> bool {
     match (effects.notices.as_slice(), told) {
         ([], None) => true,
-        ([one], Some(other)) => is_same(one, other),
+        ([one], Some(other)) => is_same_notice(one, other),
         _ => false,
     }
 }
 
-fn is_same(one: &Notice, other: &Notice) -> bool {
+fn is_same_notice(one: &Notice, other: &Notice) -> bool {
     match (one, other) {
         (Notice::Opened(a), Notice::Opened(b))
         | (Notice::Got(a), Notice::Got(b))
@@ -93,7 +94,7 @@ fn opened(rt: &impl Abort) -> Session {
         info: &[1],
     };
     let told = Some(Notice::Opened(Message::new(&[1])));
-    session.row(rt, false, sabm, &[0x01, 0x73, 0x05, 0x01], told);
+    session.take_and_check(rt, false, sabm, &[0x01, 0x73, 0x05, 0x01], told);
     session
 }
 
@@ -102,35 +103,35 @@ fn answers_a_repeated_sabm_and_rejects_a_repeated_segment_once(rt: HostRuntime) 
     let mut session = opened(&rt);
     let sabm = |info| Body::Sabm { p: true, info };
     let got = Some(Notice::Got(Message::new(&[0xaa])));
-    session.row(
+    session.take_and_check(
         &rt,
         false,
         i_frame(0, 0, false, &[0xaa]),
         &[0x01, 0x21, 0x01],
         got,
     );
-    session.row(&rt, false, sabm(&[1]), &[0x01, 0x73, 0x05, 0x01], None);
-    session.row(&rt, false, sabm(&[2]), &[], None);
-    session.row(&rt, false, sabm(&[1, 0]), &[], None);
-    session.row(&rt, false, sabm(&[]), &[], None);
-    session.row(
+    session.take_and_check(&rt, false, sabm(&[1]), &[0x01, 0x73, 0x05, 0x01], None);
+    session.take_and_check(&rt, false, sabm(&[2]), &[], None);
+    session.take_and_check(&rt, false, sabm(&[1, 0]), &[], None);
+    session.take_and_check(&rt, false, sabm(&[]), &[], None);
+    session.take_and_check(
         &rt,
         false,
         i_frame(0, 0, false, &[0xaa]),
         &[0x01, 0x29, 0x01],
         None,
     );
-    session.row(&rt, false, i_frame(0, 0, false, &[0xaa]), &[], None);
+    session.take_and_check(&rt, false, i_frame(0, 0, false, &[0xaa]), &[], None);
 }
 
 #[test]
-fn drops_a_message_that_is_too_long_by_one_segment(rt: HostRuntime) {
+fn discards_a_message_that_its_last_segment_makes_too_long(rt: HostRuntime) {
     let mut session = opened(&rt);
     for i in 0..13u8 {
         let ready = [0x01, 32 * ((i + 1) % 8) + 1, 0x01];
-        session.row(&rt, false, i_frame(i % 8, 0, true, &[7; 20]), &ready, None);
+        session.take_and_check(&rt, false, i_frame(i % 8, 0, true, &[7; 20]), &ready, None);
     }
-    session.row(
+    session.take_and_check(
         &rt,
         false,
         i_frame(5, 0, false, &[7]),
@@ -138,7 +139,7 @@ fn drops_a_message_that_is_too_long_by_one_segment(rt: HostRuntime) {
         Some(Notice::Oversize),
     );
     let got = Some(Notice::Got(Message::new(&[0xaa])));
-    session.row(
+    session.take_and_check(
         &rt,
         false,
         i_frame(6, 0, false, &[0xaa]),
@@ -150,19 +151,19 @@ fn drops_a_message_that_is_too_long_by_one_segment(rt: HostRuntime) {
 #[test]
 fn ignores_what_the_mobile_does_not_send(rt: HostRuntime) {
     let mut session = opened(&rt);
-    session.row(&rt, true, i_frame(0, 0, false, &[0xaa]), &[], None);
+    session.take_and_check(&rt, true, i_frame(0, 0, false, &[0xaa]), &[], None);
     let other = FrameView {
         sapi: 5,
         cr: false,
         body: i_frame(0, 0, false, &[0xaa]),
     };
     let effects = session.take(&rt, &other);
-    assert!(rt; is_sent(&effects, &[]) && is_told(&effects, &None));
-    session.row(&rt, false, Body::Rnr { nr: 0, pf: true }, &[], None);
-    session.row(&rt, false, Body::Ua { f: true, info: &[] }, &[], None);
+    assert!(rt; sends_only(&effects, &[]) && reports_only(&effects, &None));
+    session.take_and_check(&rt, false, Body::Rnr { nr: 0, pf: true }, &[], None);
+    session.take_and_check(&rt, false, Body::Ua { f: true, info: &[] }, &[], None);
     assert_eq!(rt; session.end.state(), State::Open);
     let got = Some(Notice::Got(Message::new(&[0xaa])));
-    session.row(
+    session.take_and_check(
         &rt,
         false,
         i_frame(0, 0, false, &[0xaa]),
@@ -171,27 +172,29 @@ fn ignores_what_the_mobile_does_not_send(rt: HostRuntime) {
     );
 }
 
-// No N(R) but this one acknowledges anything.
-fn only_counts(rt: &impl Abort, session: &mut Session, number: u8) {
+// Checks that an RR with an N(R) other than `number` acknowledges nothing; with 8, that no RR does.
+fn ignores_other_nr(rt: &impl Abort, session: &mut Session, number: u8) {
     for nr in 0..8u8 {
         if nr != number {
-            session.row(rt, true, Body::Rr { nr, pf: false }, &[], None);
+            session.take_and_check(rt, true, Body::Rr { nr, pf: false }, &[], None);
         }
     }
 }
 
 #[test]
-fn counts_no_wrong_number_in_any_state_of_the_window(rt: HostRuntime) {
+fn ignores_every_wrong_nr_in_any_state_of_the_window(rt: HostRuntime) {
     let mut session = opened(&rt);
     for round in 0..9u8 {
         let va = round % 8;
-        only_counts(&rt, &mut session, 8);
+        ignores_other_nr(&rt, &mut session, 8);
         let sent = session.end.send(&[round]);
-        assert!(rt; matches!(&sent, Ok(effects) if is_sent(effects, &[0x03, 2 * va, 0x05, round])));
+        assert!(rt;
+            matches!(&sent, Ok(effects) if sends_only(effects, &[0x03, 2 * va, 0x05, round]))
+        );
         let next = (va + 1) % 8;
-        only_counts(&rt, &mut session, next);
+        ignores_other_nr(&rt, &mut session, next);
         let acked = Some(Notice::Acked(u64::from(round) + 1));
-        session.row(
+        session.take_and_check(
             &rt,
             true,
             Body::Rr {
@@ -205,18 +208,18 @@ fn counts_no_wrong_number_in_any_state_of_the_window(rt: HostRuntime) {
 }
 
 #[test]
-fn makes_each_end(rt: HostRuntime) {
+fn makes_endpoints_of_both_sapis(rt: HostRuntime) {
     assert_eq!(rt; Network::new().sapi(), Sapi::Zero);
     let mut network = Network::with_sapi(Sapi::Three);
     assert_eq!(rt; network.sapi(), Sapi::Three);
-    assert!(rt; is_sent(&network.idle(), &[0x03, 0x03, 0x01]));
+    assert!(rt; sends_only(&network.idle(), &[0x03, 0x03, 0x01]));
     assert!(rt;
-        matches!(&network.unit(&[9]), Ok(effects) if is_sent(effects, &[0x0f, 0x03, 0x05, 9]))
+        matches!(&network.unit(&[9]), Ok(effects) if sends_only(effects, &[0x0f, 0x03, 0x05, 9]))
     );
     assert!(rt; matches!(network.close(), Err(Refused::NotOpen)));
     assert!(rt; matches!(network.timer(), Err(Refused::NotRunning)));
     assert!(rt;
-        matches!(&network.open_bare(), Ok(effects) if is_sent(effects, &[0x0f, 0x3f, 0x01]))
+        matches!(&network.open_bare(), Ok(effects) if sends_only(effects, &[0x0f, 0x3f, 0x01]))
     );
     assert_eq!(rt; network.state(), State::Opening);
 }

@@ -1,38 +1,33 @@
--- What each reply of the tables implies for the endpoint and the frame, by cases on state and kind.
-use Rattle.std.proofs.Common.{◌≡◌, refl, sym, inl, inr, ◌⊎◌, arith, ◌≤◌, length, Bool, true, false, ◌&&◌}
-use Rattle.std.proofs.Common.{if◌then◌else◌, [], ◌∷◌}
-use Rattle.std.specs.Str.{bytes_eq}
-use Rattle.std.proofs.lemmas.Slice.Eq.{bytes_eq-Decides}
-use Rattle.lapdm_frame.specs.Content.{Content, I, Rr, Rej, Sabm, Dm, Ui, Disc, Ua, Frame}
-use Rattle.segmenting.specs.Segments.{Message}
-use Rattle.lapdm_window.specs.declared.Sapi.{Sapi}
-use Rattle.lapdm_window.specs.declared.Sapi.TheVariants.{Zero, Three}
-use Rattle.lapdm_window.specs.declared.State.{State}
-use Rattle.lapdm_window.specs.declared.State.TheVariants.{Idle, Opening, Open, Closing, Closed}
-use Rattle.lapdm_window.specs.Ends.{Role, Mobile, Network, EndState}
-use Rattle.lapdm_window.specs.Tables.{Reply, Nothing, SaysDm, SaysUa, IsOpenedBy, IsOpen, IsClosed, IsReleased, TakesUnit, TakesI, TakesRr}
-use Rattle.lapdm_window.specs.Tables.{TakesRej, is_command, is_poll, sabm_in_idle, dm_to_poll, in_idle, other_ua, sabm_in_opening}
-use Rattle.lapdm_window.specs.Tables.{in_opening, answers_sabm, in_open, in_closing, in_closed, in_state, unit_reply, reply, reply_to}
+-- What each reply of the tables implies for the endpoint and for the frame received, by cases on the state and the frame kind.
+use Rattle.std.proofs.Common.{◌≡◌, refl, sym, inl, inr, ◌⊎◌, arith, ◌≤◌, length, Bool, true, false, ◌&&◌, if◌then◌else◌, [], ◌∷◌}
+use Rattle.std.{proofs.lemmas.Slice.Eq.bytes_eq-Decides, specs.Str.bytes_eq}
+use Rattle.segmenting.specs.{lapdm_frame.Content.{Content, I, Rr, Rej, Sabm, Dm, Ui, Disc, Ua, Frame}, Segments.Message}
+use Rattle.lapdm_window.specs.declared.{Sapi.{Sapi, TheVariants.{Zero, Three}}, State.{State, TheVariants.{Idle, Opening, Open, Closing}}}
+use Rattle.lapdm_window.specs.{declared.State.TheVariants.Closed, Ends.{Role, Mobile, Network, EndState}, Tables.{Reply, Nothing, SendsDm}}
+use Rattle.lapdm_window.specs.Tables.{SendsUa, AcceptsSabm, ConfirmsEstablishment, ClosesLink, AcceptsDisc, TakesUnit, TakesI, TakesRr}
+use Rattle.lapdm_window.specs.Tables.{TakesRej, is_command, is_poll, reply_to_sabm_in_idle, dm_to_poll, reply_in_idle, reply_to_other_ua}
+use Rattle.lapdm_window.specs.Tables.{reply_to_sabm_in_opening, reply_in_opening, answers_sabm, reply_in_open, reply_in_closing}
+use Rattle.lapdm_window.specs.Tables.{reply_in_closed, in_state, reply_to_ui, reply, reply_to}
 
--- the endpoint asked for the link or has it
+-- the endpoint has at least started to establish its link: Opening, Open or Closing
 abbrev pub HasBegun : EndState → Type 0
 HasBegun x = (x.state ≡ Opening) ⊎ ((x.state ≡ Open) ⊎ (x.state ≡ Closing))
 
--- a SABM with this information may open the endpoint
+-- a SABM with this information can establish the link at this side and SAPI
 abbrev pub MayOpen : Sapi → Role → Message → Type 0
 MayOpen Zero Network (i ∷ is) = Unit {0}
 MayOpen Three r [] = Unit {0}
 MayOpen s r info = ⊥
 
--- what the reply to the content c implies for c and for the endpoint x
+-- what this reply to the content c says about c and about the endpoint x before the reply
 abbrev pub IsReplyTo : Content → EndState → Reply → Type 0
 IsReplyTo c x Nothing = Unit {0}
-IsReplyTo c x SaysDm = Unit {0}
-IsReplyTo c x (SaysUa info) = ((x.state ≡ Open) × (x.kept ≡ info)) ⊎ ((info ≡ []) × HasBegun x)
-IsReplyTo c x (IsOpenedBy info) = (p : Bool) × (c ≡ Sabm p info) × (x.state ≡ Idle) × MayOpen x.sapi x.role info
-IsReplyTo c x (IsOpen info) = (c ≡ Ua true info) × (x.state ≡ Opening) × (info ≡ x.kept)
-IsReplyTo c x (IsClosed reason) = HasBegun x
-IsReplyTo c x IsReleased = x.state ≡ Open
+IsReplyTo c x SendsDm = Unit {0}
+IsReplyTo c x (SendsUa info) = ((x.state ≡ Open) × (x.kept ≡ info)) ⊎ ((info ≡ []) × HasBegun x)
+IsReplyTo c x (AcceptsSabm info) = (p : Bool) × (c ≡ Sabm p info) × (x.state ≡ Idle) × MayOpen x.sapi x.role info
+IsReplyTo c x (ConfirmsEstablishment info) = (c ≡ Ua true info) × (x.state ≡ Opening) × (info ≡ x.kept)
+IsReplyTo c x (ClosesLink reason) = HasBegun x
+IsReplyTo c x AcceptsDisc = x.state ≡ Open
 IsReplyTo c x (TakesUnit info) = (p : Bool) × (c ≡ Ui p info) × (1 ≤ length info)
 IsReplyTo c x (TakesI ns nr p segment) = (c ≡ I ns nr p segment.1 segment.0) × (x.state ≡ Open)
 IsReplyTo c x (TakesRr nr poll) = (pf : Bool) × (c ≡ Rr nr pf) × (x.state ≡ Open)
@@ -40,7 +35,7 @@ IsReplyTo c x (TakesRej nr poll) = (pf : Bool) × (c ≡ Rej nr pf) × (x.state 
 
 module _ (x : EndState) where
   of_sabm_in_idle : (p : Bool) (s : Sapi) (r : Role) (info : Message) → x.state ≡ Idle → x.sapi ≡ s → x.role ≡ r →
-      IsReplyTo (Sabm p info) x (sabm_in_idle s r info)
+      IsReplyTo (Sabm p info) x (reply_to_sabm_in_idle s r info)
   of_sabm_in_idle p Zero Mobile info e a b = tt
   of_sabm_in_idle p Zero Network [] e a b = tt
   of_sabm_in_idle p Zero Network (i ∷ is) e a b = (p, refl, e, rw (a, b) tt)
@@ -51,34 +46,35 @@ module _ (x : EndState) where
   of_dm_to_poll true c = tt
   of_dm_to_poll false c = tt
 
-  of_idle : (poll : Bool) (c : Content) → x.state ≡ Idle → IsReplyTo c x (in_idle poll c x)
+  of_idle : (poll : Bool) (c : Content) → x.state ≡ Idle → IsReplyTo c x (reply_in_idle poll c x)
   of_idle poll (Sabm p info) e = of_sabm_in_idle p x.sapi x.role info e refl refl
   of_idle poll (Disc p) e = tt
   of_idle poll other e = of_dm_to_poll poll other
 
-  of_sabm_in_opening : (p : Bool) (s : Sapi) (info : Message) → x.state ≡ Opening → IsReplyTo (Sabm p info) x (sabm_in_opening s info)
+  of_sabm_in_opening : (p : Bool) (s : Sapi) (info : Message) → x.state ≡ Opening →
+      IsReplyTo (Sabm p info) x (reply_to_sabm_in_opening s info)
   of_sabm_in_opening p Zero info e = tt
   of_sabm_in_opening p Three [] e = inr (refl, inl e)
   of_sabm_in_opening p Three (i ∷ is) e = tt
 
   of_ua_in_opening : (s : Sapi) (same : Bool) (info : Message) → x.state ≡ Opening → bytes_eq info x.kept ≡ same →
-      IsReplyTo (Ua true info) x (if same then IsOpen info else other_ua s)
+      IsReplyTo (Ua true info) x (if same then ConfirmsEstablishment info else reply_to_other_ua s)
   of_ua_in_opening s true info e same = (refl, e, (bytes_eq-Decides info x.kept).0 same)
   of_ua_in_opening Zero false info e same = inl e
   of_ua_in_opening Three false info e same = tt
 
-  of_opening : (c : Content) → x.state ≡ Opening → IsReplyTo c x (in_opening c x)
+  of_opening : (c : Content) → x.state ≡ Opening → IsReplyTo c x (reply_in_opening c x)
   of_opening (Sabm p info) e = of_sabm_in_opening p x.sapi info e
   of_opening (Ua true info) e = of_ua_in_opening x.sapi (bytes_eq info x.kept) info e refl
   of_opening (Dm true) e = inl e
   of_opening other e = tt
 
   of_sabm_in_open : (p answers same : Bool) (info : Message) → x.state ≡ Open → bytes_eq info x.kept ≡ same →
-      IsReplyTo (Sabm p info) x (if answers && same then SaysUa info else Nothing)
+      IsReplyTo (Sabm p info) x (if answers && same then SendsUa info else Nothing)
   of_sabm_in_open p true true info e same = inl (e, sym ((bytes_eq-Decides info x.kept).0 same))
   of_sabm_in_open p answers same info e h = tt
 
-  of_open : (cmd : Bool) (c : Content) → x.state ≡ Open → IsReplyTo c x (in_open cmd c x)
+  of_open : (cmd : Bool) (c : Content) → x.state ≡ Open → IsReplyTo c x (reply_in_open cmd c x)
   of_open cmd (I ns nr p more info) e = (refl, e)
   of_open cmd (Rr nr pf) e = (pf, refl, e)
   of_open cmd (Rej nr pf) e = (pf, refl, e)
@@ -87,13 +83,13 @@ module _ (x : EndState) where
   of_open cmd (Dm f) e = inr (inl e)
   of_open cmd other e = tt
 
-  of_closing : (c : Content) → x.state ≡ Closing → IsReplyTo c x (in_closing c)
+  of_closing : (c : Content) → x.state ≡ Closing → IsReplyTo c x (reply_in_closing c)
   of_closing (Ua true []) e = inr (inr e)
   of_closing (Dm true) e = inr (inr e)
   of_closing (Disc p) e = inr (refl, inr (inr e))
   of_closing other e = tt
 
-  of_closed : (poll : Bool) (c : Content) → IsReplyTo c x (in_closed poll c)
+  of_closed : (poll : Bool) (c : Content) → IsReplyTo c x (reply_in_closed poll c)
   of_closed poll (Sabm p info) = tt
   of_closed poll (Disc p) = tt
   of_closed poll other = of_dm_to_poll poll other
@@ -105,7 +101,7 @@ module _ (x : EndState) where
   of_state Closing cmd c e = of_closing c e
   of_state Closed cmd c e = of_closed (is_poll cmd c) c
 
-  of_unit : (p : Bool) (info : Message) → IsReplyTo (Ui p info) x (unit_reply info)
+  of_unit : (p : Bool) (info : Message) → IsReplyTo (Ui p info) x (reply_to_ui info)
   of_unit p [] = tt
   of_unit p (i ∷ is) = (p, refl, omega arith)
 

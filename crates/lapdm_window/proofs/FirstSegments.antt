@@ -1,27 +1,22 @@
--- Relates the two indices of the next segment: among the segments of the first message
--- held, and among all segments.
-use Rattle.std.proofs.Common.{◌≡◌, refl, sym, ◌∙◌, ap, arith, ℕ, zero, suc, ◌+◌, ◌-◌, ◌*◌, ◌<◌, ◌≤◌}
-use Rattle.std.proofs.Common.{min, Bool, true, false, List, [], ◌∷◌, ◌++◌, length, take, drop, get_or, Option, Some, None}
-use Rattle.std.proofs.Common.{slice_get}
-use Rattle.std.specs.List.{flat_map}
-use Rattle.std.proofs.Math.ListN.{get_or-append}
-use Rattle.std.proofs.Math.Seq.{drop-append_seam}
-use Rattle.std.proofs.lemmas.List.{length-append, length-drop, length-take-le, drop-drop, get_or-drop}
-use Rattle.std.proofs.lemmas.Bool.{false≢true}
-use Rattle.segmenting.specs.Segments.{Message, Segment, IsMessage, cut, segments, count_of}
-use Rattle.segmenting.proofs.Lemmas.{length-segments, begins_within, segment_is}
+-- The next segment has two indices: one among the segments of the first message held, and one among all segments. These lemmas relate them.
+use Rattle.std.proofs.Common.{◌≡◌, refl, sym, ◌∙◌, ap, arith, ℕ, zero, suc, ◌+◌, ◌-◌, ◌*◌, ◌<◌, ◌≤◌, min, Bool, true, false, List, [], ◌∷◌}
+use Rattle.std.proofs.{Common.{◌++◌, length, take, drop, get_or, Option, Some, None, slice_get}, Math.ListN.get_or-append}
+use Rattle.std.proofs.{Math.Seq.drop-append_seam, lemmas.List.{length-append, length-drop, length-take-le, drop-drop, get_or-drop}}
+use Rattle.std.{proofs.lemmas.Bool.false≢true, specs.List.flat_map}
+use Rattle.segmenting.{specs.Segments.{Message, Segment, IsMessage, cut, segments, count_of}, proofs.Lemmas.length-segments}
+use Rattle.segmenting.proofs.Lemmas.{begins_within, segment_is}
 
 abbrev octets_in : Option Segment → List ℕ
 octets_in None = []
 octets_in (Some p) = p.0
 
-abbrev more_in : Option Segment → Bool
-more_in None = false
-more_in (Some p) = p.1
+abbrev m_bit_in : Option Segment → Bool
+m_bit_in None = false
+m_bit_in (Some p) = p.1
 
--- a segment with M = 1 is not the last, and one with M = 0 is
+-- a segment with M = 1 is not the last of its message, and a segment with M = 0 is
 goes_on-cut : (n k i : ℕ) (m : List ℕ) (octets : List ℕ) → slice_get (cut n k m) i ≡ Some (octets, true) → i < k
-goes_on-cut n zero zero m octets h = absurd (false≢true (ap more_in h))
+goes_on-cut n zero zero m octets h = absurd (false≢true (ap m_bit_in h))
 goes_on-cut n zero (suc i) m octets h = cc
 goes_on-cut n (suc k) zero m octets h = omega arith
 goes_on-cut n (suc k) (suc i) m octets h = omega (arith, goes_on-cut n k i (drop n m) octets h)
@@ -29,7 +24,7 @@ goes_on-cut n (suc k) (suc i) m octets h = omega (arith, goes_on-cut n k i (drop
 ends-cut : (n k i : ℕ) (m : List ℕ) (octets : List ℕ) → slice_get (cut n k m) i ≡ Some (octets, false) → i ≡ k
 ends-cut n zero zero m octets h = refl
 ends-cut n zero (suc i) m octets h = cc
-ends-cut n (suc k) zero m octets h = absurd (false≢true (sym (ap more_in h)))
+ends-cut n (suc k) zero m octets h = absurd (false≢true (sym (ap m_bit_in h)))
 ends-cut n (suc k) (suc i) m octets h = omega (arith, ends-cut n k i (drop n m) octets h)
 
 pub goes_on : (n i : ℕ) (m : Message) (octets : List ℕ) → slice_get (segments n m) i ≡ Some (octets, true) → i + 1 < count_of n m
@@ -47,13 +42,13 @@ pub size_of : (n i : ℕ) (m : Message) (octets : List ℕ) (more : Bool) → 0 
     slice_get (segments n m) i ≡ Some (octets, more) → HasSize n octets
 size_of n i m octets more room h within is =
     let l = length m - i * n in
-    let begins : i * n < length m = begins_within n i m room h.some within in
+    let sends_sabm : i * n < length m = begins_within n i m room h.some within in
     let same : octets ≡ take (min l n) (drop (i * n) m) = ap octets_in (sym is ∙ segment_is n i m room h within) in
     let size : length (take (min l n) (drop (i * n) m)) ≡ min l n = length-take-le (min l n) (drop (i * n) m)
     (omega (arith, length-drop (i * n) m)) in
     record { some = omega (arith, ap length same); most = omega (arith, ap length same) }
 
--- the first segments of all messages are those of the first message
+-- an index within the first message finds the same segment in the first message and in the segments of all messages
 pub first_segments : (n place : ℕ) (held : List Message) (d : Segment) → 1 ≤ length held → place < length (segments n (get_or held 0 [])) →
     get_or (flat_map (segments n) held) place d ≡ get_or (segments n (get_or held 0 [])) place d
 first_segments n place [] d some_held h = absurd (omega (arith, some_held))
@@ -64,7 +59,7 @@ pub within_all : (n place : ℕ) (held : List Message) → 1 ≤ length held →
 within_all n place [] some_held h = absurd (omega (arith, some_held))
 within_all n place (m ∷ ms) some_held h = omega (arith, length-append (segments n m) (flat_map (segments n) ms), h)
 
--- after the segments of the first message come those of the others
+-- after the segments of the first message follow the segments of the other messages
 pub other_segments : (n place : ℕ) (held : List Message) → 1 ≤ length held → place ≡ length (segments n (get_or held 0 [])) →
     drop place (flat_map (segments n) held) ≡ flat_map (segments n) (drop 1 held)
 other_segments n place [] some_held h = absurd (omega (arith, some_held))

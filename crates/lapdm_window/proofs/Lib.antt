@@ -1,19 +1,19 @@
-pub use Rattle.lapdm_frame.proofs as lapdm_frame
+pub use Rattle.segmenting.proofs.lapdm_frame as lapdm_frame
 pub use Rattle.segmenting.proofs as segmenting
 mod Causes
 mod Counting
-mod Few
+mod StepBounds
 mod FirstSegments
-mod Following
+mod ByWindowAnswers
 mod Keeping
 pub mod Lemmas
 mod Moves
 mod Numbers
 mod Parts
-mod Pasts
+mod Histories
 mod Refusing
-mod Rows
+mod EndpointExamples
 mod Sessions
 mod SidesBySapi
 mod Stepping
-mod Thens
+mod Sequencing

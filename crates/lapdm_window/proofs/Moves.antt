@@ -1,36 +1,26 @@
--- After each call a window holds the unacknowledged segments, and its answer is that of the rules.
-use Rattle.std.proofs.Common.{◌≡◌, ◌≢◌, refl, sym, ◌∙◌, ap, subst, arith, ℕ, ◌+◌, ◌/◌, ◌<◌, ◌≤◌}
-use Rattle.std.proofs.Common.{Bool, true, false, not, nat_eq, nat_lt, ◌&&◌, List, [], ◌∷◌, ◌++◌, length, drop, get_or, Some}
-use Rattle.std.proofs.Common.{slice_get, IsTrue}
-use Rattle.std.specs.List.{flat_map}
-use Rattle.std.proofs.lemmas.Bool.{false≢true}
-use Rattle.std.proofs.lemmas.Bool.Decides.{nat_tests}
-use Rattle.std.proofs.lemmas.List.{length-append, length-drop, drop-drop, drop-append-le, append-nil}
-use Rattle.std.proofs.lemmas.List.Concat.{flat_map-append}
-use Rattle.std.proofs.lemmas.List.Elements.{All-push}
-use Rattle.std.proofs.lemmas.Option.{get_or_from_slice_get}
-use Rattle.lapdm_frame.specs.declared.Channel.{Channel}
-use Rattle.lapdm_frame.specs.Layout.{n201}
-use Rattle.segmenting.specs.Segments.{Message, Segment, IsMessage, segments, count_of}
-use Rattle.segmenting.proofs.Lemmas.{length-segments}
+-- After each call a window still holds the unacknowledged segments, and it gives the answer that the rules define.
+use Rattle.std.proofs.Common.{◌≡◌, ◌≢◌, refl, sym, ◌∙◌, ap, subst, arith, ℕ, ◌+◌, ◌/◌, ◌<◌, ◌≤◌, Bool, true, false, not, nat_eq, nat_lt}
+use Rattle.std.proofs.{Common.{◌&&◌, List, [], ◌∷◌, ◌++◌, length, drop, get_or, Some, slice_get, IsTrue}, lemmas.Bool.false≢true}
+use Rattle.std.proofs.lemmas.{Bool.Decides.nat_tests, List.{length-append, length-drop, drop-drop, drop-append-le, append-nil}}
+use Rattle.std.{proofs.lemmas.{List.{Concat.flat_map-append, Elements.All-push}, Option.get_or_from_slice_get}, specs.List.flat_map}
+use Rattle.segmenting.specs.{lapdm_frame.{declared.Channel.Channel, Layout.n201}, Segments.{Message, Segment, IsMessage, segments}}
+use Rattle.segmenting.{specs.Segments.count_of, proofs.Lemmas.length-segments}
+use Rattle.lapdm_window.specs.{declared.window.Window.Window, Ends.{EndState, HasWindowOfOne, is_outstanding, all_segments, next_segment}}
+use Rattle.lapdm_window.specs.{Ends.{acked_message_count, vs, va}, Rules.{has_segment_to_send, with_next_outstanding, acknowledges}}
+use Rattle.lapdm_window.specs.{Rules.{with_acked, acked_number, counts, reports_acked}, Calls.with_queued, Answers.ack_answer}
+use Rattle.lapdm_window.{specs.{Answers.outstanding_segment, Abstraction.{HoldsUnacked, Represents}}, proofs.Numbers.nothing_sent}
+use Rattle.lapdm_window.proofs.{Numbers.{one_sent, is_outstanding-nothing, is_outstanding-one}, FirstSegments.{first_segments, within_all}}
+use Rattle.lapdm_window.proofs.{FirstSegments.{other_segments, drop-next, get_or-same, within-same}, Counting.acked_message_count-most}
+use Rattle.lapdm_window.proofs.Counting.{acked_message_count-more, acked_message_count-last, all_segments-taken, acked_message_count-taken}
 use Rattle.lapdm_window.specs.declared.Acked.TheVariants as V
-use Rattle.lapdm_window.specs.declared.window.Window.{Window}
-use Rattle.lapdm_window.specs.Ends.{EndState, KeepsWindow, waits, all_segments, next_segment, wholly_acked, vs, va}
-use Rattle.lapdm_window.specs.Rules.{has_segment, with_next, acknowledges, with_acked, acked_number, counts, reports_acked}
-use Rattle.lapdm_window.specs.Calls.{with_taken}
-use Rattle.lapdm_window.specs.Answers.{acked_by, waiting_segment}
-use Rattle.lapdm_window.specs.Abstraction.{HoldsUnacked, Represents}
-use Rattle.lapdm_window.proofs.Numbers.{nothing_sent, one_sent, waits-nothing, waits-one}
-use Rattle.lapdm_window.proofs.FirstSegments.{first_segments, within_all, other_segments, drop-next, get_or-same, within-same}
-use Rattle.lapdm_window.proofs.Counting.{wholly_acked-most, wholly_acked-more, wholly_acked-last, all_segments-taken, wholly_acked-taken}
 
--- x is the segment with index `place` of the first message held
+-- x is the segment with index `place` among the segments of the first message held
 pub record IsFirst (channel : Channel) (held : List Message) (place : ℕ) (x : Segment) : Type 0 where
   pub some : 1 ≤ length held
   pub within : place < count_of (n201 channel) (get_or held 0 [])
   pub piece : slice_get (segments (n201 channel) (get_or held 0 [])) place ≡ Some x
 
--- x is the next segment of the endpoint
+-- x is the next segment that the endpoint sends
 pub record IsNext (e : EndState) (x : Segment) : Type 0 where
   pub within : e.acked < length (all_segments e)
   pub piece : next_segment e ≡ x
@@ -85,24 +75,25 @@ pub within_held : (n place : ℕ) (held : List Message) → 0 < n → place < co
 within_held n place [] room h = omega (arith, no_message n place h, zero-div n room)
 within_held n place (m ∷ ms) room h = omega (arith, within_all n place (m ∷ ms) (omega arith) (omega (arith, h, length-segments n m)))
 
-pub KeepsWindow-taken : (e : EndState) (m : Message) → KeepsWindow e → IsMessage m → KeepsWindow (with_taken m e)
-KeepsWindow-taken e m h good = record {
+pub HasWindowOfOne-taken : (e : EndState) (m : Message) → HasWindowOfOne e → IsMessage m → HasWindowOfOne (with_queued m e)
+HasWindowOfOne-taken e m h good = record {
   messages = All-push IsMessage e.taken m h.messages good;
   sent = omega (arith, h.sent, ap length (all_segments-taken e m), length-append (all_segments e) (segments (n201 e.channel) m));
   behind = h.behind;
   window = h.window;
 }
 
-pub Holds-taken : (e : EndState) (m : Message) (held : List Message) (place : ℕ) → KeepsWindow e → HoldsUnacked held place e →
-    place ≤ length (flat_map (segments (n201 e.channel)) held) → HoldsUnacked (held ++ m ∷ []) place (with_taken m e)
+pub Holds-taken : (e : EndState) (m : Message) (held : List Message) (place : ℕ) → HasWindowOfOne e → HoldsUnacked held place e →
+    place ≤ length (flat_map (segments (n201 e.channel)) held) → HoldsUnacked (held ++ m ∷ []) place (with_queued m e)
 Holds-taken e m held place end h within =
     let n = n201 e.channel in
     let parts : flat_map (segments n) (held ++ m ∷ []) ≡ flat_map (segments n) held ++ segments n m =
     flat_map-append (segments n) held (m ∷ [])
     ∙ ap (λ ps. flat_map (segments n) held ++ ps) (append-nil (segments n m)) in
     record {
-      messages = ap (λ ms. ms ++ m ∷ []) h.messages ∙ sym (drop-append-le (wholly_acked e) e.taken (m ∷ []) (wholly_acked-most e)) ∙ ap
-          (λ i. drop i (e.taken ++ m ∷ [])) (sym (wholly_acked-taken e m end));
+      messages = ap (λ ms. ms ++ m ∷ []) h.messages ∙ sym (drop-append-le (acked_message_count e) e.taken (m ∷ [])
+          (acked_message_count-most e)) ∙ ap
+          (λ i. drop i (e.taken ++ m ∷ [])) (sym (acked_message_count-taken e m end));
       next = ap (drop place) parts ∙ drop-append-le place (flat_map (segments n) held) (segments n m) within ∙ ap
           (λ ps. ps ++ segments n m) h.next
           ∙ sym (drop-append-le e.acked (all_segments e) (segments n m) (omega (arith, end.behind, end.sent)))
@@ -110,32 +101,35 @@ Holds-taken e m held place end h within =
     }
 
 -- ---- the next segment becomes outstanding
-pub has_segment-waits : (e : EndState) → KeepsWindow e → vs e ≢ va e → has_segment e ≡ false
-has_segment-waits e h other = ap (λ b. not b && nat_lt e.sent (length (all_segments e))) (waits-one e (one_sent e h other))
+pub has_segment_to_send-is_outstanding : (e : EndState) → HasWindowOfOne e → vs e ≢ va e → has_segment_to_send e ≡ false
+has_segment_to_send-is_outstanding e h other = ap (λ b. not b && nat_lt e.sent (length (all_segments e))) (is_outstanding-one e
+    (one_sent e h other))
 
-pub has_segment-none : (e : EndState) → KeepsWindow e → length (all_segments e) ≤ e.acked → has_segment e ≡ false
-has_segment-none e h none = grind (arith, nat_tests, h.behind)
+pub has_segment_to_send-none : (e : EndState) → HasWindowOfOne e → length (all_segments e) ≤ e.acked → has_segment_to_send e ≡ false
+has_segment_to_send-none e h none = grind (arith, nat_tests, h.behind)
 
-pub has_segment-left : (e : EndState) → KeepsWindow e → vs e ≡ va e → e.acked < length (all_segments e) → has_segment e ≡ true
-has_segment-left e h same left =
+pub has_segment_to_send-left : (e : EndState) → HasWindowOfOne e → vs e ≡ va e → e.acked < length (all_segments e) →
+    has_segment_to_send e ≡ true
+has_segment_to_send-left e h same left =
     let none : e.sent ≡ e.acked = nothing_sent e h same in
     grind (arith, nat_tests)
 
-pub KeepsWindow-next : (e : EndState) → KeepsWindow e → vs e ≡ va e → e.acked < length (all_segments e) → KeepsWindow (with_next e)
-KeepsWindow-next e h same left =
+pub HasWindowOfOne-next : (e : EndState) → HasWindowOfOne e → vs e ≡ va e → e.acked < length (all_segments e) →
+    HasWindowOfOne (with_next_outstanding e)
+HasWindowOfOne-next e h same left =
     let none : e.sent ≡ e.acked = nothing_sent e h same in
     record { messages = h.messages; sent = omega arith; behind = omega arith; window = omega arith }
 
 -- ---- the outstanding segment is acknowledged
-pub KeepsWindow-acked : (e : EndState) → KeepsWindow e → KeepsWindow (with_acked e)
-KeepsWindow-acked e h = record { messages = h.messages; sent = h.sent; behind = omega arith; window = omega arith }
+pub HasWindowOfOne-acked : (e : EndState) → HasWindowOfOne e → HasWindowOfOne (with_acked e)
+HasWindowOfOne-acked e h = record { messages = h.messages; sent = h.sent; behind = omega arith; window = omega arith }
 
 pub Holds-more : (e : EndState) (held : List Message) (place : ℕ) → e.sent ≡ e.acked + 1 → HoldsUnacked held place e →
     e.acked < length (all_segments e) → (next_segment e).1 ≡ true → HoldsUnacked held (place + 1) (with_acked e)
 Holds-more e held place one h within more =
     let n = n201 e.channel in
     record {
-      messages = h.messages ∙ ap (λ i. drop i e.taken) (sym (wholly_acked-more e one within more));
+      messages = h.messages ∙ ap (λ i. drop i e.taken) (sym (acked_message_count-more e one within more));
       next = drop-next (flat_map (segments n) held) (all_segments e) place e.acked h.next ∙ ap (λ i. drop i (all_segments e)) (sym one);
     }
 
@@ -145,23 +139,23 @@ pub Holds-last : (e : EndState) (held : List Message) (place : ℕ) → e.sent �
 Holds-last e held place one h within last some_held ends =
     let n = n201 e.channel in
     record {
-      messages = ap (drop 1) h.messages ∙ drop-drop 1 (wholly_acked e) e.taken ∙ ap
-          (λ i. drop i e.taken) (sym (wholly_acked-last e one within last));
+      messages = ap (drop 1) h.messages ∙ drop-drop 1 (acked_message_count e) e.taken ∙ ap
+          (λ i. drop i e.taken) (sym (acked_message_count-last e one within last));
       next = sym (other_segments n (place + 1) held some_held ends)
           ∙ drop-next (flat_map (segments n) held) (all_segments e) place e.acked h.next
           ∙ ap (λ i. drop i (all_segments e)) (sym one);
     }
 
 -- ---- what an N(R) acknowledges
-pub acknowledges-not_waiting : (e : EndState) (nr : ℕ) → KeepsWindow e → vs e ≡ va e → acknowledges nr e ≡ false
-acknowledges-not_waiting e nr h same = ap (λ b. b && nat_eq nr (vs e)) (waits-nothing e (nothing_sent e h same))
+pub acknowledges-not_waiting : (e : EndState) (nr : ℕ) → HasWindowOfOne e → vs e ≡ va e → acknowledges nr e ≡ false
+acknowledges-not_waiting e nr h same = ap (λ b. b && nat_eq nr (vs e)) (is_outstanding-nothing e (nothing_sent e h same))
 
 pub acknowledges-other : (e : EndState) (nr : ℕ) → nr ≢ vs e → acknowledges nr e ≡ false
 acknowledges-other e nr h = grind (arith, nat_tests)
 
-pub acknowledges-waiting : (e : EndState) (nr : ℕ) → KeepsWindow e → vs e ≢ va e → nr ≡ vs e → acknowledges nr e ≡ true
+pub acknowledges-waiting : (e : EndState) (nr : ℕ) → HasWindowOfOne e → vs e ≢ va e → nr ≡ vs e → acknowledges nr e ≡ true
 acknowledges-waiting e nr h other same =
-    let waiting : waits e ≡ true = waits-one e (one_sent e h other) in
+    let waiting : is_outstanding e ≡ true = is_outstanding-one e (one_sent e h other) in
     grind (arith, nat_tests)
 
 pub counts-nothing : (e : EndState) (nr : ℕ) → acknowledges nr e ≡ false → (counts nr e).after ≡ e
@@ -174,21 +168,21 @@ counts-something e nr h = rw h (after-reports (next_segment e).1 e)
     after-reports true e = refl
     after-reports false e = refl
 
-pub acked_by-nothing : (e : EndState) (nr : ℕ) → acknowledges nr e ≡ false → acked_by nr e ≡ V.Nothing
-acked_by-nothing e nr h = rw h
+pub ack_answer-nothing : (e : EndState) (nr : ℕ) → acknowledges nr e ≡ false → ack_answer nr e ≡ V.Nothing
+ack_answer-nothing e nr h = rw h
 
-pub acked_by-segment : (e : EndState) (nr : ℕ) → acknowledges nr e ≡ true → (next_segment e).1 ≡ true → acked_by nr e ≡ V.Piece
-acked_by-segment e nr h more = rw (h, more)
+pub ack_answer-segment : (e : EndState) (nr : ℕ) → acknowledges nr e ≡ true → (next_segment e).1 ≡ true → ack_answer nr e ≡ V.Piece
+ack_answer-segment e nr h more = rw (h, more)
 
-pub acked_by-message : (e : EndState) (nr : ℕ) → acknowledges nr e ≡ true → (next_segment e).1 ≡ false →
-    acked_by nr e ≡ V.Message (acked_number e)
-acked_by-message e nr h more = rw (h, more)
+pub ack_answer-message : (e : EndState) (nr : ℕ) → acknowledges nr e ≡ true → (next_segment e).1 ≡ false →
+    ack_answer nr e ≡ V.Message (acked_number e)
+ack_answer-message e nr h more = rw (h, more)
 
-pub waiting_is : (e : EndState) (x : Segment) → waits e ≡ true → IsNext e x → Some x ≡ waiting_segment e
+pub waiting_is : (e : EndState) (x : Segment) → is_outstanding e ≡ true → IsNext e x → Some x ≡ outstanding_segment e
 waiting_is e x waiting next = rw waiting (ap (λ (p : Segment). Some p) (sym next.piece))
 
-pub acked-waits : (e : EndState) → IsTrue (waits (with_acked e)) → ⊥
-acked-waits e t = absurd (false≢true (sym (waits-nothing (with_acked e) refl) ∙ t))
+pub acked-is_outstanding : (e : EndState) → IsTrue (is_outstanding (with_acked e)) → ⊥
+acked-is_outstanding e t = absurd (false≢true (sym (is_outstanding-nothing (with_acked e) refl) ∙ t))
 
 pub Represents-same : (w : Window) (e f : EndState) → f ≡ e → Represents w e → Represents w f
 Represents-same w e f same h = subst (Represents w) (sym same) h

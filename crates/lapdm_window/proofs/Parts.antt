@@ -1,34 +1,22 @@
--- A window represents some endpoint if and only if its values satisfy `AreConsistent`;
--- `Pasts` constructs the past of that endpoint.
-use Rattle.std.proofs.Common.{◌≡◌, refl, sym, ◌∙◌, ap, subst, arith, ℕ, ◌+◌, ◌%◌, ◌^◌, ◌<◌, ◌≤◌}
-use Rattle.std.proofs.Common.{◌⊎◌, inl, inr, List, [], length, drop, get_or}
-use Rattle.std.specs.List.{flat_map}
-use Rattle.std.proofs.lemmas.List.{length-drop, length-take}
-use Rattle.std.proofs.lemmas.Bool.{cases_lt}
-use Rattle.lapdm_frame.specs.Layout.{n201}
-use Rattle.segmenting.specs.Segments.{Message, Segment, segments, count_of}
-use Rattle.segmenting.specs.Joiners.{HasJoined}
-use Rattle.segmenting.specs.Parts.{JoinerValues}
-use Rattle.segmenting.proofs.Lemmas.{room_of, length-segments, joiner_past}
-use Rattle.lapdm_window.specs.declared.Sapi.TheVariants.{Zero}
-use Rattle.lapdm_window.specs.declared.State.TheVariants.{Open}
-use Rattle.lapdm_window.specs.declared.window.Window.{Window}
-use Rattle.lapdm_window.specs.Ends.{Mobile, EndState, all_segments, wholly_acked, capped_number}
-use Rattle.lapdm_window.specs.Abstraction.{Tracks, HoldsUnacked, Represents}
-use Rattle.lapdm_window.specs.Parts.{WindowValues, values_of, AreConsistent}
-use Rattle.lapdm_window.proofs.FirstSegments.{within_all}
-use Rattle.lapdm_window.proofs.Moves.{within_held}
-use Rattle.lapdm_window.proofs.Pasts.{IsPast, past_of}
+-- A window represents some endpoint if and only if its values satisfy `AreConsistent`. `Pasts` constructs the history of that endpoint.
+use Rattle.std.proofs.Common.{◌≡◌, refl, sym, ◌∙◌, ap, subst, arith, ℕ, ◌+◌, ◌%◌, ◌^◌, ◌<◌, ◌≤◌, ◌⊎◌, inl, inr, List, [], length, drop}
+use Rattle.std.{proofs.{Common.get_or, lemmas.{List.{length-drop, length-take}, Bool.cases_lt}}, specs.List.flat_map}
+use Rattle.segmenting.specs.{lapdm_frame.Layout.n201, Segments.{Message, Segment, segments, count_of}, Joiners.HoldsReassemblyOf}
+use Rattle.segmenting.{specs.Parts.JoinerValues, proofs.Lemmas.{room_of, length-segments, joiner_past}}
+use Rattle.lapdm_window.specs.{declared.{Sapi.TheVariants.Zero, State.TheVariants.Open, window.Window.Window}, Ends.{Mobile, EndState}}
+use Rattle.lapdm_window.specs.{Ends.{all_segments, acked_message_count, number_capped_at_64_bits}, Abstraction.HasSameVariables}
+use Rattle.lapdm_window.specs.{Abstraction.{HoldsUnacked, Represents}, Parts.{WindowValues, values_of, AreConsistent}}
+use Rattle.lapdm_window.proofs.{FirstSegments.within_all, Moves.within_held, Histories.{IsHistory, history_of}}
 
--- windows with the same values represent the same endpoints
+-- two windows with the same values represent the same endpoints
 abbrev Joins : JoinerValues → List Segment → Type 0
-Joins j taken = HasJoined j.part j.octets taken
+Joins j taken = HoldsReassemblyOf j.part j.octets taken
 
 abbrev HoldsIn : WindowValues → EndState → Type 0
 HoldsIn x e = HoldsUnacked x.held x.place e
 
-pub Tracks-values : {w v : Window} {e : EndState} → values_of w ≡ values_of v → Tracks w e → Tracks v e
-Tracks-values {w} {v} {e} same h =
+pub HasSameVariables-values : {w v : Window} {e : EndState} → values_of w ≡ values_of v → HasSameVariables w e → HasSameVariables v e
+HasSameVariables-values {w} {v} {e} same h =
     record {
       channel = ap (λ (x : WindowValues). x.channel) (sym same) ∙ h.channel;
       vs = ap (λ (x : WindowValues). x.vs) (sym same) ∙ h.vs;
@@ -47,19 +35,19 @@ pub Represents-values : {w v : Window} {e : EndState} → values_of w ≡ values
 Represents-values {w} {v} {e} same h =
     record {
       end = h.end;
-      tracks = Tracks-values same h.tracks;
+      tracks = HasSameVariables-values same h.tracks;
       holds = Holds-values w v e same h.holds;
       retries = λ t. ap (λ (x : WindowValues). x.retries) (sym same) ∙ h.retries t;
     }
 
--- `AreConsistent` holds of each window that represents an endpoint
+-- the values of every window that represents an endpoint satisfy `AreConsistent`
 one_segment : (w : Window) (e : EndState) → Represents w e → (w.vs ≡ w.va) ⊎ ((w.vs ≡ (w.va + 1) % 8) × (1 ≤ length w.held.items))
 one_segment w e h =
     elim (cases_lt e.acked e.sent) [
       | inl more ↦
           let one : e.sent ≡ e.acked + 1 = omega (arith, h.end.window) in
           let number : w.vs ≡ (w.va + 1) % 8 = h.tracks.vs ∙ ap (λ i. i % 8) one ∙ next e.acked w.va h.tracks.va in
-          inr (number, w.waiting (λ same. risen w.va (sym same ∙ number)))
+          inr (number, w.waiting (λ same. differs_from_next w.va (sym same ∙ number)))
       | inr none ↦
           let same : e.sent ≡ e.acked = omega (arith, h.end.behind) in
           inl (h.tracks.vs ∙ ap (λ i. i % 8) same ∙ sym h.tracks.va)
@@ -68,13 +56,13 @@ one_segment w e h =
     next : (n v : ℕ) → v ≡ n % 8 → (n + 1) % 8 ≡ (v + 1) % 8
     next n v h = grind arith
 
-    risen : (v : ℕ) → v ≡ (v + 1) % 8 → ⊥
-    risen v h = grind arith
+    differs_from_next : (v : ℕ) → v ≡ (v + 1) % 8 → ⊥
+    differs_from_next v h = grind arith
 
 counted : (w : Window) (e : EndState) → Represents w e → w.done ≡ 0 → w.va ≡ w.place % 8
 counted w e h none =
     let n = n201 e.channel in
-    let whole : wholly_acked e ≡ 0 = omega (arith, h.tracks.done) in
+    let whole : acked_message_count e ≡ 0 = omega (arith, h.tracks.done) in
     let held : w.held.items ≡ e.taken = h.holds.messages ∙ ap (λ i. drop i e.taken) whole in
     let below : w.place < count_of n (get_or w.held.items 0 []) = omega
     (arith, w.within, ap (λ c. count_of (n201 c) (get_or w.held.items 0 [])) h.tracks.channel) in
@@ -103,8 +91,8 @@ in_step w e h = record {
   joined = omega (arith, length-take w.joiner.len w.joiner.octets, w.joiner.within);
 }
 
--- the number of outstanding segments, 0 or 1
-record Waits (x : WindowValues) : Type 0 where
+-- the number of outstanding segments, which is 0 or 1
+record OutstandingCount (x : WindowValues) : Type 0 where
   pub sent : ℕ
   pub few : sent ≤ 1
   pub number : x.vs ≡ (x.va + sent) % 8
@@ -113,7 +101,7 @@ record Waits (x : WindowValues) : Type 0 where
 none_waits : (vs va : ℕ) → va ≤ 7 → vs ≡ va → vs ≡ (va + 0) % 8
 none_waits vs va fits same = grind arith
 
-waits_of : (x : WindowValues) → x.va ≤ 7 → (x.vs ≡ x.va) ⊎ ((x.vs ≡ (x.va + 1) % 8) × (1 ≤ length x.held)) → Waits x
+waits_of : (x : WindowValues) → x.va ≤ 7 → (x.vs ≡ x.va) ⊎ ((x.vs ≡ (x.va + 1) % 8) × (1 ≤ length x.held)) → OutstandingCount x
 waits_of x fits (inl same) = record { sent = 0; few = omega arith; number = none_waits x.vs x.va fits same; held = inl refl }
 waits_of x fits (inr more) = record { sent = 1; few = omega arith; number = more.0; held = inr more.1 }
 
@@ -126,12 +114,12 @@ room_for n place sent held room below few (inr some) =
 sent_number : (acked va sent : ℕ) → acked % 8 ≡ va → (va + sent) % 8 ≡ (acked + sent) % 8
 sent_number acked va sent h = grind arith
 
-capped-fits : (n : ℕ) → n < 2 ^ 64 → n ≡ capped_number n
+capped-fits : (n : ℕ) → n < 2 ^ 64 → n ≡ number_capped_at_64_bits n
 capped-fits n h = omega arith
 
--- an endpoint with this past, in Open
-abbrev with_past : Window → List Message → ℕ → ℕ → List Segment → EndState
-with_past w taken acked sent accepted = record {
+-- an endpoint in Open with this history
+abbrev with_history : Window → List Message → ℕ → ℕ → List Segment → EndState
+with_history w taken acked sent accepted = record {
   role = Mobile;
   sapi = Zero;
   channel = w.channel;
@@ -145,7 +133,7 @@ with_past w taken acked sent accepted = record {
   retries = w.retries;
 }
 
--- the window represents some endpoint
+-- this window represents at least one endpoint
 abbrev pub RepresentsOne : Window → Type 0
 RepresentsOne w = (e : EndState) × Represents w e
 
@@ -153,20 +141,20 @@ pub represents_one : (w : Window) → AreConsistent (values_of w) → w.done < 2
 represents_one w h fits =
     let n = n201 w.channel in
     let room = room_of w.channel in
-    let waits = waits_of (values_of w) h.va h.waiting in
-    let in_past = past_of n w.done w.va w.place waits.sent w.held.items room.some room.most h.va h.held.messages h.within
-    (room_for n w.place waits.sent w.held.items room.some h.within waits.few waits.held) h.counted in
-    let past : IsPast n w.done w.va w.place waits.sent w.held.items in_past.taken in_past.acked = in_past.past in
+    let is_outstanding = waits_of (values_of w) h.va h.waiting in
+    let in_past = history_of n w.done w.va w.place is_outstanding.sent w.held.items room.some room.most h.va h.held.messages h.within
+    (room_for n w.place is_outstanding.sent w.held.items room.some h.within is_outstanding.few is_outstanding.held) h.counted in
+    let past : IsHistory n w.done w.va w.place is_outstanding.sent w.held.items in_past.taken in_past.acked = in_past.past in
     let came = joiner_past w.joiner w.vr h.vr in (
-      with_past w in_past.taken in_past.acked (in_past.acked + waits.sent) came.taken,
+      with_history w in_past.taken in_past.acked (in_past.acked + is_outstanding.sent) came.taken,
       record {
-        end = record { messages = past.messages; sent = past.within; behind = omega arith; window = omega (arith, waits.few) };
+        end = record { messages = past.messages; sent = past.within; behind = omega arith; window = omega (arith, is_outstanding.few) };
         tracks = record {
           channel = refl;
-          vs = waits.number ∙ sent_number in_past.acked w.va waits.sent past.number;
+          vs = is_outstanding.number ∙ sent_number in_past.acked w.va is_outstanding.sent past.number;
           va = sym past.number;
           vr = sym came.count;
-          done = capped-fits w.done fits ∙ ap capped_number (sym past.wholly);
+          done = capped-fits w.done fits ∙ ap number_capped_at_64_bits (sym past.wholly);
           rejecting = refl;
           joined = came.joined;
         };

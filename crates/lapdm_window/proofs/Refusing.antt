@@ -1,20 +1,16 @@
--- What follows if a call is not refused.
+-- What a call's not being refused implies: none of the conditions of its refusals holds.
 use Rattle.std.proofs.Common.{◌≡◌, refl, sym, arith, Bool, true, false, not, nat_eq, nat_lt, List, ◌∷◌, length, None}
-use Rattle.std.proofs.lemmas.Bool.{false≢true}
-use Rattle.std.proofs.lemmas.Bool.Decides.{nat_tests}
+use Rattle.std.proofs.lemmas.Bool.{false≢true, Decides.nat_tests}
 use Rattle.segmenting.specs.Segments.{Message, IsMessage}
-use Rattle.lapdm_window.specs.declared.State.{State}
+use Rattle.lapdm_window.specs.{declared.{State.State, Refused.Refused}, Ends.EndState, Rules.is_open, Calls.first_refusal}
+use Rattle.lapdm_window.specs.Calls.{message_refusals, is_idle}
 use Rattle.lapdm_window.specs.declared.State.TheVariants as S
-use Rattle.lapdm_window.specs.declared.Refused.{Refused}
-use Rattle.lapdm_window.specs.Ends.{EndState}
-use Rattle.lapdm_window.specs.Rules.{is_open}
-use Rattle.lapdm_window.specs.Calls.{first_of, put_refusals, is_idle}
 
 pub record Passes (b : Bool) (refusal : Refused) (others : List (Bool × Refused)) : Type 0 where
   pub no : b ≡ false
-  pub rest : first_of others ≡ None
+  pub rest : first_refusal others ≡ None
 
-pub passes : (b : Bool) (refusal : Refused) (others : List (Bool × Refused)) → first_of ((b, refusal) ∷ others) ≡ None →
+pub passes : (b : Bool) (refusal : Refused) (others : List (Bool × Refused)) → first_refusal ((b, refusal) ∷ others) ≡ None →
     Passes b refusal others
 passes true refusal others h = cc
 passes false refusal others h = record { no = refl; rest = h }
@@ -23,7 +19,7 @@ pub not_false : (b : Bool) → not b ≡ false → b ≡ true
 not_false true h = refl
 not_false false h = sym h
 
-pub is_message : (m : Message) (x : EndState) → first_of (put_refusals m x) ≡ None → IsMessage m
+pub is_message : (m : Message) (x : EndState) → first_refusal (message_refusals m x) ≡ None → IsMessage m
 is_message m x h =
     let some = passes _ _ _ h in
     let most = passes _ _ _ some.rest in

@@ -1,20 +1,13 @@
--- Worked sessions of two endpoints, whose frames arrive in order or are lost.
+-- Worked examples of sessions of two endpoints whose frames arrive in order or are lost.
 use Rattle.std.proofs.Common.{◌≡◌, ℕ, true, false, List, [], ◌∷◌, ◌++◌, map, drop, replicate, refl, Ok, Err, Result}
-use Rattle.lapdm_frame.specs.declared.Channel.{Channel}
-use Rattle.lapdm_frame.specs.declared.Channel.TheVariants.{Sdcch, Sacch}
-use Rattle.lapdm_frame.specs.Content.{Sabm, Frame}
-use Rattle.lapdm_frame.specs.Frames.{octets_of}
+use Rattle.segmenting.specs.lapdm_frame.{declared.Channel.{Channel, TheVariants.{Sdcch, Sacch}}, Content.{Sabm, Frame}, Frames.octets_of}
 use Rattle.segmenting.specs.Segments.{Message}
-use Rattle.lapdm_window.specs.declared.Sapi.TheVariants.{Zero}
-use Rattle.lapdm_window.specs.declared.Notice.{Notice}
+use Rattle.lapdm_window.specs.{declared.{Sapi.TheVariants.Zero, Notice.Notice, Refused.Refused}, Ends.{EndState, start, Mobile, Network}}
+use Rattle.lapdm_window.specs.{Ends.Outcome, Calls.{Call, Opens, Sends, Closes, T200Expires}, Steps.{Asked, Received, step}}
 use Rattle.lapdm_window.specs.declared.Notice.TheVariants as N
 use Rattle.lapdm_window.specs.declared.Reason.TheVariants as R
-use Rattle.lapdm_window.specs.declared.Refused.{Refused}
 use Rattle.lapdm_window.specs.declared.Refused.TheVariants as No
 use Rattle.lapdm_window.specs.declared.State.TheVariants as S
-use Rattle.lapdm_window.specs.Ends.{EndState, start, Mobile, Network, Outcome}
-use Rattle.lapdm_window.specs.Calls.{Call, Opens, Sends, Closes, T200Expires}
-use Rattle.lapdm_window.specs.Steps.{Asked, Received, step}
 
 data Event : Type 0 where
   Mob : Call → Event
@@ -31,7 +24,7 @@ record Pair : Type 0 where
   up : List Frame
   down : List Frame
 
--- the visible outcome of an event: its notices and blocks, or the refusal
+-- what is visible of an event: the notices and the blocks sent, or the reason for the refusal
 abbrev Seen : Type 0
 Seen = Result (List Notice × List (List ℕ)) Refused
 
@@ -47,7 +40,7 @@ abbrev with_network : Result Outcome Refused → Pair → Pair
 with_network (Ok o) p = record p { network = o.after; down = p.down ++ o.frames }
 with_network (Err refusal) p = p
 
--- the first frame in transit arrives
+-- the endpoint receives the oldest frame in transit
 abbrev taken_from : List Frame → EndState → Result Outcome Refused
 taken_from [] e = Err No.NotRunning
 taken_from (f ∷ fs) e = step (Received f) e
@@ -83,7 +76,7 @@ session p (event ∷ events) = seen_at event p ∷ session (after_event event p)
 abbrev idle_on : Channel → Pair
 idle_on channel = record { mobile = start Mobile Zero channel; network = start Network Zero channel; up = []; down = [] }
 
--- both endpoints in Open, with information 01
+-- both endpoints in Open; the link was established with information 01
 abbrev open_pair : Pair
 open_pair =
     let idle = idle_on Sdcch in
@@ -98,7 +91,7 @@ block octets fill = octets ++ replicate fill 0x2b
 abbrev sent : List ℕ → ℕ → Seen
 sent octets fill = Ok ([], block octets fill ∷ [])
 
--- another mobile opens the network's endpoint
+-- another mobile establishes the link at the network first
 contention : session (idle_on Sdcch)
     (Rival (0x02 ∷ []) ∷ Mob (Opens (0x01 ∷ [])) ∷ Up ∷ Net (Sends (0xaa ∷ [])) ∷ Net T200Expires ∷ Up ∷ Down ∷ Down ∷ Down ∷ Up ∷ [])
     ≡ sent (0x01 ∷ 0x3f ∷ 0x05 ∷ 0x02 ∷ []) 19 ∷ sent (0x01 ∷ 0x3f ∷ 0x05 ∷ 0x01 ∷ []) 19
@@ -107,7 +100,7 @@ contention : session (idle_on Sdcch)
     ∷ Ok (N.Closed R.Contention ∷ [], []) ∷ nothing ∷ sent (0x03 ∷ 0x1f ∷ 0x01 ∷ []) 20 ∷ Ok (N.Closed R.Failed ∷ [], []) ∷ []
 contention = refl
 
--- messages in both directions, with an I frame as acknowledgement
+-- messages in both directions, one of which is acknowledged by an I frame
 both_ways : session open_pair
     (Mob (Sends (0xaa ∷ [])) ∷ Mob (Sends (0xcc ∷ [])) ∷ Up ∷ LoseDown ∷ Net (Sends (0xbb ∷ [])) ∷ Down ∷ Up ∷ Down ∷ [])
     ≡ sent (0x01 ∷ 0x00 ∷ 0x05 ∷ 0xaa ∷ []) 19 ∷ nothing
@@ -126,13 +119,13 @@ crossing_rej : session open_pair
     ∷ Ok (N.Acked 2 ∷ [], []) ∷ nothing ∷ []
 crossing_rej = refl
 
--- the mobile repeats an I frame 23 times on SDCCH, then gives up
+-- on SDCCH the mobile repeats an I frame 23 times and then gives up
 unanswered_message : session open_pair (Mob (Sends (0xaa ∷ [])) ∷ replicate 25 (Mob T200Expires))
     ≡ sent (0x01 ∷ 0x00 ∷ 0x05 ∷ 0xaa ∷ []) 19 ∷ replicate 23 (sent (0x01 ∷ 0x10 ∷ 0x05 ∷ 0xaa ∷ []) 19)
     ++ Ok (N.Closed R.Failed ∷ [], []) ∷ Err No.NotRunning ∷ []
 unanswered_message = refl
 
--- a release discards what is not acknowledged
+-- a release discards the messages that are not acknowledged
 release : session open_pair
     (Mob (Sends (0xaa ∷ [])) ∷ Mob (Sends (0xbb ∷ [])) ∷ Mob (Sends (0xcc ∷ [])) ∷ Mob Closes ∷ Up ∷ Up ∷ Down ∷ Down ∷ Mob Closes ∷ [])
     ≡ sent (0x01 ∷ 0x00 ∷ 0x05 ∷ 0xaa ∷ []) 19 ∷ nothing ∷ nothing ∷ sent (0x01 ∷ 0x53 ∷ 0x01 ∷ []) 20
@@ -151,15 +144,15 @@ eight_messages : session open_pair (replicate 9 (Mob (Sends (0xaa ∷ []))))
     ≡ sent (0x01 ∷ 0x00 ∷ 0x05 ∷ 0xaa ∷ []) 19 ∷ replicate 7 nothing ++ Err No.Full ∷ []
 eight_messages = refl
 
--- a message of two segments on SACCH
-abbrev nineteen : Message
-nineteen = 0 ∷ 1 ∷ 2 ∷ 3 ∷ 4 ∷ 5 ∷ 6 ∷ 7 ∷ 8 ∷ 9 ∷ 10 ∷ 11 ∷ 12 ∷ 13 ∷ 14 ∷ 15 ∷ 16 ∷ 17 ∷ 18 ∷ []
+-- on SACCH a message of 19 octets has two segments
+abbrev message_of_19_octets : Message
+message_of_19_octets = 0 ∷ 1 ∷ 2 ∷ 3 ∷ 4 ∷ 5 ∷ 6 ∷ 7 ∷ 8 ∷ 9 ∷ 10 ∷ 11 ∷ 12 ∷ 13 ∷ 14 ∷ 15 ∷ 16 ∷ 17 ∷ 18 ∷ []
 
 two_segments_on_sacch : session (idle_on Sacch)
-    (Mob (Opens (replicate 19 0)) ∷ Mob (Opens (0x01 ∷ [])) ∷ Up ∷ Down ∷ Mob (Sends nineteen) ∷ Up ∷ Down ∷ Up ∷ Down ∷ [])
+    (Mob (Opens (replicate 19 0)) ∷ Mob (Opens (0x01 ∷ [])) ∷ Up ∷ Down ∷ Mob (Sends message_of_19_octets) ∷ Up ∷ Down ∷ Up ∷ Down ∷ [])
     ≡ Err No.TooLong ∷ sent (0x00 ∷ 0x00 ∷ 0x01 ∷ 0x3f ∷ 0x05 ∷ 0x01 ∷ []) 17
     ∷ Ok (N.Opened (0x01 ∷ []) ∷ [], block (0x00 ∷ 0x00 ∷ 0x01 ∷ 0x73 ∷ 0x05 ∷ 0x01 ∷ []) 17 ∷ []) ∷ Ok (N.Opened (0x01 ∷ []) ∷ [], [])
     ∷ sent (0x00 ∷ 0x00 ∷ 0x01 ∷ 0x00 ∷ 0x4b ∷ 0 ∷ 1 ∷ 2 ∷ 3 ∷ 4 ∷ 5 ∷ 6 ∷ 7 ∷ 8 ∷ 9 ∷ 10 ∷ 11 ∷ 12 ∷ 13 ∷ 14 ∷ 15 ∷ 16 ∷ 17 ∷ []) 0
     ∷ sent (0x00 ∷ 0x00 ∷ 0x01 ∷ 0x21 ∷ 0x01 ∷ []) 18 ∷ sent (0x00 ∷ 0x00 ∷ 0x01 ∷ 0x02 ∷ 0x05 ∷ 0x12 ∷ []) 17
-    ∷ Ok (N.Got nineteen ∷ [], block (0x00 ∷ 0x00 ∷ 0x01 ∷ 0x41 ∷ 0x01 ∷ []) 18 ∷ []) ∷ Ok (N.Acked 1 ∷ [], []) ∷ []
+    ∷ Ok (N.Got message_of_19_octets ∷ [], block (0x00 ∷ 0x00 ∷ 0x01 ∷ 0x41 ∷ 0x01 ∷ []) 18 ∷ []) ∷ Ok (N.Acked 1 ∷ [], []) ∷ []
 two_segments_on_sacch = refl

@@ -1,10 +1,8 @@
--- Case analysis: what a side does with a frame, by the frame's SAPI.
-use Rattle.std.proofs.Common.{◌≡◌, ◌≢◌, refl, arith, Bool, true, false, nat_eq, if◌then◌else◌}
-use Rattle.std.proofs.lemmas.Bool.Decides.{nat_tests}
-use Rattle.lapdm_frame.specs.Content.{Frame}
-use Rattle.lapdm_window.specs.declared.Sapi.TheVariants.{Zero, Three}
-use Rattle.lapdm_window.specs.Tables.{after_frame}
-use Rattle.lapdm_window.specs.Sides.{SideState, SideStep, does, does_nothing, takes}
+-- What a side does with a received frame, by cases on the SAPI of the frame.
+use Rattle.std.proofs.{Common.{◌≡◌, ◌≢◌, refl, arith, Bool, true, false, nat_eq, if◌then◌else◌}, lemmas.Bool.Decides.nat_tests}
+use Rattle.segmenting.specs.lapdm_frame.Content.{Frame}
+use Rattle.lapdm_window.specs.{declared.Sapi.TheVariants.{Zero, Three}, Tables.after_frame, Sides.{SideState, SideStep, does, does_nothing}}
+use Rattle.lapdm_window.specs.Sides.{takes}
 
 pub by_sapi : (f : Frame) (a : SideState) (P : SideStep → Type 0) → (f.sapi ≡ 0 → P (does Zero (after_frame f a.link0) a)) →
     (f.sapi ≡ 3 → P (does Three (after_frame f a.link3) a)) → (f.sapi ≢ 0 → f.sapi ≢ 3 → P (does_nothing a)) → P (takes f a)

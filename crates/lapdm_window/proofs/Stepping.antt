@@ -1,20 +1,13 @@
--- The laws of a step, from the lemmas on calls and on frames.
-use Rattle.std.proofs.Common.{◌≡◌, refl, ◌≤◌, length, All, Option, Some, None}
-use Rattle.std.specs.Prelude.{IfOk}
-use Rattle.std.proofs.lemmas.List.Elements.{All-weaker}
-use Rattle.lapdm_frame.specs.Frames.{Fits, octets_of}
-use Rattle.lapdm_frame.specs.Readings.{IsOnlyCanonical}
-use Rattle.lapdm_frame.proofs.Canonical.{only_canonical}
-use Rattle.lapdm_window.specs.declared.Refused.{Refused}
-use Rattle.lapdm_window.specs.Ends.{EndState, Outcome, IsEnd}
-use Rattle.lapdm_window.specs.Calls.{refusal_of, after_call}
-use Rattle.lapdm_window.specs.Tables.{after_frame}
-use Rattle.lapdm_window.specs.Steps.{Input, Asked, Received, MayTake, answer_unless, step, IsSameLink}
-use Rattle.lapdm_window.proofs.Thens.{Delivers}
-use Rattle.lapdm_window.proofs.Few.{AtMost, few-frame, few-call}
-use Rattle.lapdm_window.proofs.Keeping.{Keeps, keeps-frame, keeps-call}
+-- The laws that hold for every step, combined from the lemmas on calls and those on received frames.
+use Rattle.std.{proofs.{Common.{◌≡◌, refl, ◌≤◌, length, All, Option, Some, None}, lemmas.List.Elements.All-weaker}, specs.Prelude.IfOk}
+use Rattle.segmenting.{specs.lapdm_frame.{Frames.{Fits, octets_of}, Readings.IsOnlyCanonical}, proofs.lapdm_frame.Canonical.only_canonical}
+use Rattle.lapdm_window.specs.{declared.Refused.Refused, Ends.{EndState, Outcome, IsValidEndpoint}, Calls.{refusal_of, after_call}}
+use Rattle.lapdm_window.specs.{Tables.after_frame, Steps.{Input, Asked, Received, IsPossibleInput, outcome_unless_refused, step}}
+use Rattle.lapdm_window.{specs.Steps.IsSameEndpoint, proofs.{Sequencing.Delivers, StepBounds.{AtMost, few-frame, few-call}, Keeping.Keeps}}
+use Rattle.lapdm_window.proofs.Keeping.{keeps-frame, keeps-call}
 
-unless : (refusal : Option Refused) (o : Outcome) (P : Outcome → Type 0) → (refusal ≡ None → P o) → IfOk (answer_unless refusal o) P
+unless : (refusal : Option Refused) (o : Outcome) (P : Outcome → Type 0) → (refusal ≡ None → P o) →
+    IfOk (outcome_unless_refused refusal o) P
 unless None o P h = h refl
 unless (Some refusal) o P h = tt
 
@@ -28,20 +21,23 @@ step-few input e = few input e (λ o. (length o.frames ≤ 2) × (length o.notic
 pub step-delivers : (input : Input) (e : EndState) → IfOk (step input e) (λ o. Delivers e o)
 step-delivers input e = few input e (λ o. Delivers e o) (λ o h. h.delivered)
 
-keeps : (input : Input) (e : EndState) (P : Outcome → Type 0) → IsEnd e → MayTake e input → ((o : Outcome) → Keeps e o → P o) →
+keeps : (input : Input) (e : EndState) (P : Outcome → Type 0) → IsValidEndpoint e → IsPossibleInput e input → ((o : Outcome) →
+    Keeps e o → P o) →
     IfOk (step input e) P
 keeps (Asked call) e P end may h = unless (refusal_of call e) (after_call call e) P
     (λ ok. h (after_call call e) (keeps-call call e end may ok))
 keeps (Received f) e P end may h = h (after_frame f e) (keeps-frame f e end may)
 
-pub step-end : (input : Input) (e : EndState) → IsEnd e → MayTake e input → IfOk (step input e) (λ o. IsEnd o.after)
-step-end input e end may = keeps input e (λ o. IsEnd o.after) end may (λ o h. h.end)
+pub step-end : (input : Input) (e : EndState) → IsValidEndpoint e → IsPossibleInput e input →
+    IfOk (step input e) (λ o. IsValidEndpoint o.after)
+step-end input e end may = keeps input e (λ o. IsValidEndpoint o.after) end may (λ o h. h.end)
 
-pub step-link : (input : Input) (e : EndState) → IsEnd e → MayTake e input → IfOk (step input e) (λ o. IsSameLink e o.after)
+pub step-link : (input : Input) (e : EndState) → IsValidEndpoint e → IsPossibleInput e input →
+    IfOk (step input e) (λ o. IsSameEndpoint e o.after)
 step-link input e end may =
-    keeps input e (λ o. IsSameLink e o.after) end may (λ o h. record { role = h.role; sapi = h.sapi; channel = h.channel })
+    keeps input e (λ o. IsSameEndpoint e o.after) end may (λ o h. record { role = h.role; sapi = h.sapi; channel = h.channel })
 
-pub step-frames : (input : Input) (e : EndState) → IsEnd e → MayTake e input →
+pub step-frames : (input : Input) (e : EndState) → IsValidEndpoint e → IsPossibleInput e input →
     IfOk (step input e) (λ o. All (λ f. IsOnlyCanonical e.channel f (octets_of e.channel f)) o.frames)
 step-frames input e end may =
     keeps input e (λ o. All (λ f. IsOnlyCanonical e.channel f (octets_of e.channel f)) o.frames) end may

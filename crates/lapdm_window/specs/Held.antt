@@ -1,4 +1,4 @@
--- The messages that a window holds.
+-- The list of messages that a window holds.
 use Rattle.std.specs.Prelude.{List}
 use Rattle.segmenting.specs.Segments.{Message}
 

@@ -1,4 +1,4 @@
-pub use Rattle.lapdm_frame.specs as lapdm_frame
+pub use Rattle.segmenting.specs.lapdm_frame as lapdm_frame
 pub use Rattle.segmenting.specs as segmenting
 pub mod Held
 pub mod Ends

@@ -1,9 +1,9 @@
--- The value of a window as plain data.
+-- The state of a window as plain data.
 use Rattle.std.specs.Prelude.{◌≡◌, ◌⊎◌, ◌+◌, ◌%◌, ◌<◌, ◌≤◌, ℕ, Bool, List, [], length, map}
 use Rattle.std.specs.Prelude.{slice_index_or, All}
-use Rattle.lapdm_frame.specs.declared.Channel.{Channel}
-use Rattle.lapdm_frame.specs.Layout.{n201}
-use Rattle.segmenting.specs.Segments.{Message, IsMessage, count_of, longest}
+use Rattle.segmenting.specs.lapdm_frame.declared.Channel.{Channel}
+use Rattle.segmenting.specs.lapdm_frame.Layout.{n201}
+use Rattle.segmenting.specs.Segments.{Message, IsMessage, count_of, max_message_octets}
 use Rattle.segmenting.specs.Buffers.{octets_in}
 use Rattle.segmenting.specs.Parts.{JoinerValues}
 use Rattle.segmenting.specs.Parts as J
@@ -12,7 +12,7 @@ use Rattle.lapdm_window.specs.declared.window.parts.WindowParts.{WindowParts}
 use Rattle.lapdm_window.specs.Ends.{EndState}
 use Rattle.lapdm_window.specs.Abstraction.{Represents}
 
--- the value of a window
+-- the state of a window: its channel, messages, variables and reassembly
 pub record WindowValues : Type 0 where
   pub channel : Channel
   pub held : List Message
@@ -25,7 +25,7 @@ pub record WindowValues : Type 0 where
   pub retries : ℕ
   pub joiner : JoinerValues
 
--- the value of this window
+-- the state of this window
 abbrev pub values_of : Window → WindowValues
 values_of w = record {
   channel = w.channel;
@@ -40,9 +40,9 @@ values_of w = record {
   joiner = J.values_of w.joiner;
 }
 
--- the value that a `WindowParts` of the program represents
-abbrev pub said_by : WindowParts → WindowValues
-said_by p = record {
+-- the window state that a `WindowParts` of the program describes
+abbrev pub values_in : WindowParts → WindowValues
+values_in p = record {
   channel = p.channel;
   held = map octets_in p.held.now;
   place = p.place;
@@ -55,27 +55,27 @@ said_by p = record {
   joiner = record { octets = p.joined.now; part = p.part };
 }
 
--- some window with these values represents the endpoint e
+-- a window with these values exists and represents the endpoint e
 pub record ValuesRepresent (x : WindowValues) (e : EndState) : Type 0 where
   pub window : Window
   pub values : values_of window ≡ x
   pub represents : Represents window e
 
--- some window with these values represents some endpoint
-abbrev pub AreOfAWindow : WindowValues → Type 0
-AreOfAWindow x = (e : EndState) × ValuesRepresent x e
+-- a window with these values exists and represents some endpoint
+abbrev pub AreOfSomeWindow : WindowValues → Type 0
+AreOfSomeWindow x = (e : EndState) × ValuesRepresent x e
 
--- for the body of the test: at most eight messages, each of 1 to 251 octets
-pub record AreHeld (held : List Message) : Type 0 where
+-- at most eight messages, each of 1 to 251 octets; only the check in `restore` uses this
+pub record AreValidHeldMessages (held : List Message) : Type 0 where
   pub few : length held ≤ 8
   pub messages : All IsMessage held
 
--- for the body of the test: the conditions that the values in `AreOfAWindow` meet
+-- the conditions that are equivalent to `AreOfSomeWindow`, in the form in which `restore` checks them
 pub record AreConsistent (x : WindowValues) : Type 0 where
-  pub held : AreHeld x.held
+  pub held : AreValidHeldMessages x.held
   pub within : x.place < count_of (n201 x.channel) (slice_index_or x.held 0 [])
   pub waiting : (x.vs ≡ x.va) ⊎ ((x.vs ≡ (x.va + 1) % 8) × (1 ≤ length x.held))
   pub va : x.va ≤ 7
   pub vr : x.vr ≤ 7
   pub counted : x.done ≡ 0 → x.va ≡ x.place % 8
-  pub joined : length x.joiner.octets ≤ longest
+  pub joined : length x.joiner.octets ≤ max_message_octets

@@ -1,8 +1,9 @@
-//! What an endpoint sends and reports. Both lists are stored inline, so an endpoint
-//! writes them into a buffer of the caller, and clearing one only resets its length.
+//! The frames and notices that an endpoint produces. Both lists have a fixed capacity and are stored in place, so that clearing one only
+//! resets its length.
 ghost use Rattle.std.specs.Prelude.{◌≡◌, ◌<◌, ◌≤◌, [], ◌∷◌, ◌++◌, length};
 
 use crate::Notice;
+use segmenting::BLOCK_OCTETS;
 use std::marker::Model;
 
 /// The frames that a call sends and the notices that it reports.
@@ -37,11 +38,11 @@ impl Effects {
 /// At most two blocks, in the order in which they are sent.
 #[derive(Debug, Drop)]
 pub struct Frames {
-    blocks: [[u8; 23]; 2],
+    blocks: [[u8; BLOCK_OCTETS]; 2],
     len: usize,
 }
 
-// Contracts see a list of blocks, each a list of octets.
+// In contracts, a `Frames` stands for a list of blocks, each a list of octets.
 impl Model for Frames {
     ghost use Rattle.std.specs.Prelude.{◌≤◌, List, ℕ, take};
 
@@ -57,7 +58,7 @@ impl Frames {
         ensures { result ≡ [] }
     {
         Frames {
-            blocks: [[0; 23]; 2],
+            blocks: [[0; BLOCK_OCTETS]; 2],
             len: 0,
         }
     }
@@ -70,7 +71,7 @@ impl Frames {
     }
 
     /// Appends a block.
-    pub fn push(&mut self, block: [u8; 23])
+    pub fn push(&mut self, block: [u8; BLOCK_OCTETS])
         requires { length self.old < 2 }
         ensures { self.new ≡ self.old ++ block ∷ [] }
     {
@@ -79,7 +80,7 @@ impl Frames {
         self.len = len + 1;
     }
 
-    pub fn as_slice(&self) -> &[[u8; 23]]
+    pub fn as_slice(&self) -> &[[u8; BLOCK_OCTETS]]
         ensures value { result.now ≡ self.now }
         ensures fits { length result.now ≤ 2 }
     {
@@ -94,7 +95,7 @@ pub struct Notices {
     len: usize,
 }
 
-// Contracts see a list of notices.
+// In contracts, a `Notices` stands for a list of notices.
 impl Model for Notices {
     ghost use Rattle.std.specs.Prelude.{◌≤◌, List, take};
     ghost use Rattle.lapdm_window.specs.declared.Notice.{Notice};
@@ -110,7 +111,7 @@ impl Notices {
     pub fn new() -> Notices
         ensures { result ≡ [] }
     {
-        // A variant with a field is initialised in place; one without would be built elsewhere and copied.
+        // The fill value is a variant with a field because the compiler would build a variant without one elsewhere and copy it.
         Notices {
             items: [Notice::Acked(0), Notice::Acked(0), Notice::Acked(0)],
             len: 0,

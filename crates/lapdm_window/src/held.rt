@@ -1,5 +1,5 @@
-//! The messages that a window holds, in fixed buffers. They are written in place;
-//! removing them only changes the count.
+//! The messages that a window holds, in buffers of fixed size. A message is written directly into its buffer, and messages are removed by
+//! changing the count.
 
 ghost use Rattle.std.specs.Prelude.{◌≡◌, ◌<◌, ◌≤◌, ◌==◌, [], ◌∷◌, ◌++◌, length, map, drop, slice_index_or};
 ghost use Rattle.segmenting.specs.Buffers.{octets_in};
@@ -14,7 +14,7 @@ pub(crate) struct Held {
     len: usize,
 }
 
-// Contracts see a list of messages.
+// In contracts, a `Held` stands for a list of messages.
 impl Model for Held {
     ghost use Rattle.std.specs.Prelude.{◌≤◌, map, take};
     ghost use Rattle.segmenting.specs.Buffers.{octets_in};
@@ -90,7 +90,7 @@ impl Held {
         &self.buffers[..self.len]
     }
 
-    /// Overwrites the list with these messages.
+    /// Replaces the list by these messages.
     pub(crate) fn restore(&mut self, buffers: &[PlainMessage])
         requires { length buffers.now ≤ 8 }
         ensures items { self.new.items ≡ map octets_in buffers.now }

@@ -1,6 +1,5 @@
-//! The definition of an endpoint of a data link, and its window (GSM 04.06, section
-//! 5.5): sends messages in segments, one outstanding at a time, and accepts segments.
-//! Also the types of an endpoint's calls. No call allocates.
+//! Defines an endpoint of a data link (GSM 04.06, section 5) and implements its window, which sends messages in segments, one outstanding
+//! at a time, and accepts segments. Also defines the types of an endpoint's calls. No call allocates.
 #![tactic(auto)]
 
 ghost use Rattle.std.specs.Prelude.{◌≡◌, ◌≤◌};
@@ -13,14 +12,17 @@ mod message;
 mod window;
 
 pub use effects::{Effects, Frames, Notices};
-use lapdm_frame::Channel;
-pub use laws::{law_delivered, law_end, law_few, law_frames_fit, law_wholly_acked};
+pub use laws::{
+    law_acked_message_count, law_at_most_two_effects, law_endpoint_stays_valid,
+    law_notices_deliver_messages, law_sent_frames_fit,
+};
 pub use message::Message;
-use segmenting::Joined;
+use segmenting::Channel;
+pub use segmenting::{Joined, Part, Piece, PlainMessage};
 use thiserror::Error;
 pub use window::{Window, WindowParts};
 
-/// N200 of GSM 04.06: how often a frame is repeated in this state before the link fails.
+/// N200 of GSM 04.06: how often a frame is repeated before the link fails, by the state of the link.
 pub fn n200(channel: Channel, state: State) -> u8
     ensures value { result ≡ most_repeats channel state }
     ensures most { result ≤ 23 }
@@ -51,16 +53,16 @@ pub enum State {
     Open,
     /// A DISC was sent, and its answer is awaited.
     Closing,
-    /// The link has ended; this is final.
+    /// The link has ended. An endpoint never leaves this state.
     Closed,
 }
 
 /// Why a link is closed.
 #[derive(Clone, Copy, PartialEq, Eq, Debug)]
 pub enum Reason {
-    /// The network's endpoint was opened by another mobile (contention resolution).
+    /// Another mobile established the link at the network (contention resolution).
     Contention,
-    /// A frame was repeated N200 times without answer, or a DM was received in Open.
+    /// A frame was repeated N200 times without an answer, or a DM was received in state Open.
     Failed,
     /// The other endpoint answered the SABM with a DM.
     Refused,
@@ -71,20 +73,20 @@ pub enum Reason {
 /// A report to layer 3 (indication or confirm).
 #[derive(Debug, Drop)]
 pub enum Notice {
-    /// The link is established, with this information.
+    /// The link is established; the UA or SABM that established it had this information.
     Opened(Message),
-    /// A message was received over the link.
+    /// A message was received in I frames.
     Got(Message),
-    /// A message was received in a UI frame, unacknowledged.
+    /// A message was received in a UI frame, which is not acknowledged.
     Unit(Message),
-    /// A message is wholly acknowledged: its number, from 1, among those sent, saturating at the largest u64.
+    /// All segments of a message are acknowledged. The field numbers the messages sent, from 1, and saturates at the largest u64.
     Acked(u64),
     /// A received message had more than 251 octets and was discarded.
     Oversize,
     Closed(Reason),
 }
 
-// For lists of other crates, whose unused elements need a value.
+// Needed by lists of other crates to fill their unused elements.
 impl Default for Notice {
     fn default() -> Notice
         ensures { result ≡ Notice.Oversize }
@@ -104,15 +106,15 @@ pub enum Call<'a> {
     Send(&'a [u8]),
     /// Send a message of at most N201 octets in one UI frame, unacknowledged.
     Unit(&'a [u8]),
-    /// Release the link. What is not acknowledged is discarded.
+    /// Release the link. Messages that are not acknowledged are discarded.
     Close,
     /// T200 expiry.
     Timer,
-    /// Send the fill frame, which is of SAPI 0 on either link.
+    /// Send the fill frame. It has SAPI 0, even if the endpoint has SAPI 3.
     Idle,
 }
 
-/// Why a call is refused. The first reason that applies is given, in the order that the call documents.
+/// Why a call is refused. If several reasons apply, the call returns the one that it tests first, as its documentation says.
 #[derive(Clone, Copy, PartialEq, Eq, Debug, Error)]
 pub enum Refused {
     /// The state is not Idle.
@@ -127,31 +129,31 @@ pub enum Refused {
     /// The message has no octets.
     #[error("the message is empty, expected at least one octet")]
     Empty,
-    /// The message or information has too many octets.
+    /// The message has more than 251 octets, or the information has more than N201.
     #[error("the message is too long: more than 251 octets, or more than N201 in one frame")]
     TooLong,
-    /// Eight messages are not wholly acknowledged.
+    /// Eight messages that were sent are not wholly acknowledged.
     #[error("eight messages are not wholly acknowledged, the most that a link holds")]
     Full,
 }
 
-/// What an N(R) acknowledges.
+/// What a received N(R) acknowledges.
 #[derive(Clone, Copy, PartialEq, Eq, Debug)]
 pub enum Acked {
     Nothing,
-    /// A segment that is not the last of its message.
+    /// A segment, but not the last one of its message.
     Piece,
-    /// The last segment of the message with this number.
+    /// The last segment of a message; the field is the number of the message, from 1.
     Message(u64),
 }
 
-/// What happens to a received segment.
+/// What the window does with a received segment.
 #[derive(Clone, Copy, PartialEq, Eq, Debug)]
 pub enum Info {
     Accepted(Joined),
     /// The segment is discarded.
     OutOfSequence {
-        /// Whether a REJ is due.
+        /// Whether a REJ must be sent.
         reject: bool,
     },
 }
@@ -159,9 +161,9 @@ pub enum Info {
 /// What happens to the outstanding segment at T200 expiry.
 #[derive(Clone, Copy, PartialEq, Eq, Debug)]
 pub enum Timer {
-    /// It is sent again.
+    /// The segment is sent again.
     Again,
-    /// It was already repeated N200 times.
+    /// The segment was already repeated N200 times.
     Spent,
     /// No segment is outstanding.
     NotRunning,

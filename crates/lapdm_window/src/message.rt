@@ -1,30 +1,30 @@
 //! A message of layer 3.
 ghost use Rattle.std.specs.Prelude.{◌≡◌, ◌≤◌, length};
-ghost use Rattle.segmenting.specs.Segments.{longest};
+ghost use Rattle.segmenting.specs.Segments.{max_message_octets};
 
-use segmenting::LONGEST;
+use segmenting::LONGEST_MESSAGE;
 use std::marker::Model;
 
-/// A message of at most 251 octets, stored inline.
+/// A message of at most 251 octets, stored in place.
 #[derive(Debug, Drop)]
 pub struct Message {
-    held: [u8; LONGEST],
+    held: [u8; LONGEST_MESSAGE],
     len: usize,
 }
 
-// Contracts see a list of octets.
+// In contracts, a `Message` stands for a list of octets.
 impl Model for Message {
     ghost use Rattle.std.specs.Prelude.{◌≤◌, List, ℕ, take};
-    ghost use Rattle.segmenting.specs.Segments.{longest};
+    ghost use Rattle.segmenting.specs.Segments.{max_message_octets};
 
     ghost Value = { List ℕ };
 
     ghost view = { λ m. take m.len m.held };
 
-    ghost invariant = { λ m. m.len ≤ longest };
+    ghost invariant = { λ m. m.len ≤ max_message_octets };
 }
 
-// For lists of other crates, whose unused elements need a value.
+// Needed by lists of other crates to fill their unused elements.
 impl Default for Message {
     ghost use Rattle.std.specs.Prelude.{[]};
 
@@ -32,7 +32,7 @@ impl Default for Message {
         ensures { result ≡ [] }
     {
         Message {
-            held: [0; LONGEST],
+            held: [0; LONGEST_MESSAGE],
             len: 0,
         }
     }
@@ -40,18 +40,18 @@ impl Default for Message {
 
 impl Message {
     pub fn new(octets: &[u8]) -> Message
-        requires { length octets.now ≤ longest }
+        requires { length octets.now ≤ max_message_octets }
         ensures { result ≡ octets.now }
     {
         let len = octets.len();
-        let mut held = [0; LONGEST];
+        let mut held = [0; LONGEST_MESSAGE];
         held[..len].copy_from_slice(octets);
         Message { held, len }
     }
 
-    /// Overwrites the message with these octets.
+    /// Replaces the message by these octets.
     pub fn write(&mut self, octets: &[u8])
-        requires { length octets.now ≤ longest }
+        requires { length octets.now ≤ max_message_octets }
         ensures { self.new ≡ octets.now }
     {
         let len = octets.len();
@@ -61,7 +61,7 @@ impl Message {
 
     pub fn octets(&self) -> &[u8]
         ensures value { result.now ≡ self.now }
-        ensures most { length result.now ≤ longest }
+        ensures most { length result.now ≤ max_message_octets }
     {
         &self.held[..self.len]
     }

@@ -1,5 +1,5 @@
 use super::*;
-use lapdm_frame::Channel;
+use segmenting::{BLOCK_OCTETS, Channel};
 use std::process::Abort;
 use std::test::Fail;
 
@@ -20,14 +20,14 @@ fn on_info(
     window.on_info(ns, p, piece, more)
 }
 
-fn fill_up(rt: &impl Abort, window: &mut Window) {
+fn fill_with_messages(rt: &impl Abort, window: &mut Window) {
     for i in 0..8 {
         assert_eq!(rt; window.put(&[i]), Ok(()));
     }
     assert_eq!(rt; window.put(&[8]), Err(Refused::Full));
 }
 
-fn runs_out_after(rt: &impl Abort, window: &mut Window, retries: u32) {
+fn fails_after_retries(rt: &impl Abort, window: &mut Window, retries: u32) {
     for _ in 0..retries {
         assert_eq!(rt; window.on_timer(), Timer::Again);
     }
@@ -35,11 +35,11 @@ fn runs_out_after(rt: &impl Abort, window: &mut Window, retries: u32) {
 }
 
 #[test]
-fn sends_by_a_worked_session(rt: HostRuntime) {
+fn sends_as_in_an_example_session(rt: HostRuntime) {
     let mut window = Window::new();
     assert_eq!(rt; window.put(&[]), Err(Refused::Empty));
     assert_eq!(rt; window.put(&[0; 252]), Err(Refused::TooLong));
-    fill_up(&rt, &mut window);
+    fill_with_messages(&rt, &mut window);
     assert_eq!(rt; window.on_timer(), Timer::NotRunning);
     assert!(rt; window.send_next());
     assert!(rt; !window.send_next());
@@ -47,19 +47,19 @@ fn sends_by_a_worked_session(rt: HostRuntime) {
     assert_eq!(rt; on_ack(&rt, &mut window, 1), Acked::Message(1));
     assert_eq!(rt; window.put(&[9]), Ok(()));
     assert!(rt; window.send_next());
-    runs_out_after(&rt, &mut window, 23);
+    fails_after_retries(&rt, &mut window, 23);
 }
 
 #[test]
-fn gives_up_after_five_times_on_sacch(rt: HostRuntime) {
+fn fails_after_five_repetitions_on_sacch(rt: HostRuntime) {
     let mut window = Window::new_on(Channel::Sacch);
     assert_eq!(rt; window.put(&[1]), Ok(()));
     assert!(rt; window.send_next());
-    runs_out_after(&rt, &mut window, 5);
+    fails_after_retries(&rt, &mut window, 5);
 }
 
 #[test]
-fn receives_by_a_worked_session(rt: HostRuntime) {
+fn receives_as_in_an_example_session(rt: HostRuntime) {
     let mut window = Window::new();
     for (p, reject) in [(false, true), (false, false), (true, true)] {
         let info = on_info(&rt, &mut window, 1, p, &[0xaa], false);
@@ -71,8 +71,8 @@ fn receives_by_a_worked_session(rt: HostRuntime) {
     assert_eq!(rt; window.vr(), 1);
 }
 
-// Delivers the next segment, and its acknowledgement.
-fn carry(rt: &impl Abort, from: &mut Window, to: &mut Window) -> (Info, Acked) {
+// Carries the next segment from one window to the other, and its acknowledgement back.
+fn carry_segment_and_ack(rt: &impl Abort, from: &mut Window, to: &mut Window) -> (Info, Acked) {
     assert!(rt; !from.on_reject());
     assert!(rt; from.send_next());
     assert!(rt; from.on_reject());
@@ -97,10 +97,10 @@ fn carries_251_octets_on_either_channel(rt: HostRuntime) {
         assert_eq!(rt; from.put(&octets), Ok(()));
         for _ in 1..pieces {
             let on_the_way = (Info::Accepted(Joined::More), Acked::Piece);
-            assert_eq!(rt; carry(&rt, &mut from, &mut to), on_the_way);
+            assert_eq!(rt; carry_segment_and_ack(&rt, &mut from, &mut to), on_the_way);
         }
         let there = (Info::Accepted(Joined::Whole), Acked::Message(1));
-        assert_eq!(rt; carry(&rt, &mut from, &mut to), there);
+        assert_eq!(rt; carry_segment_and_ack(&rt, &mut from, &mut to), there);
         assert_eq!(rt; to.message(), octets.as_slice());
     }
 }
@@ -110,13 +110,13 @@ fn carries_eight_messages_three_times(rt: HostRuntime) {
     let mut from = Window::new();
     let mut to = Window::new();
     for round in 0..3u64 {
-        fill_up(&rt, &mut from);
+        fill_with_messages(&rt, &mut from);
         for i in 0..8u8 {
             let there = (
                 Info::Accepted(Joined::Whole),
                 Acked::Message(8 * round + u64::from(i) + 1),
             );
-            assert_eq!(rt; carry(&rt, &mut from, &mut to), there);
+            assert_eq!(rt; carry_segment_and_ack(&rt, &mut from, &mut to), there);
             assert_eq!(rt; to.message(), [i].as_slice());
         }
         assert_eq!(rt; from.vs(), 0);
@@ -124,11 +124,14 @@ fn carries_eight_messages_three_times(rt: HostRuntime) {
 }
 
 #[test]
-fn lists_effects_in_their_order(rt: HostRuntime) {
+fn keeps_frames_and_notices_in_order(rt: HostRuntime) {
     let mut frames = Frames::new();
-    frames.push([1; 23]);
-    frames.push([2; 23]);
-    assert_eq!(rt; frames.as_slice(), [[1; 23], [2; 23]].as_slice());
+    frames.push([1; BLOCK_OCTETS]);
+    frames.push([2; BLOCK_OCTETS]);
+    assert_eq!(rt;
+        frames.as_slice(),
+        [[1; BLOCK_OCTETS], [2; BLOCK_OCTETS]].as_slice()
+    );
     let mut notices = Notices::new();
     notices.push(Notice::Got(Message::new(&[7, 8])));
     notices.push(Notice::Acked(3));

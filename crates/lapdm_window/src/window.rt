@@ -1,14 +1,13 @@
-//! The window of one I frame.
+//! A window of one I frame: at most one segment is outstanding.
 
 ghost use Rattle.std.specs.Prelude.{◌≡◌, ◌≢◌, ◌+◌, ◌<◌, ◌≤◌, ◌↔◌, length, [], slice_index_or, All};
 ghost use Rattle.std.specs.Prelude.{IsTrue, IsSome, IfSome};
-ghost use Rattle.lapdm_frame.specs.Layout.{n201, most_information};
-ghost use Rattle.segmenting.specs.Segments.{IsMessage, longest, count_of};
+ghost use Rattle.segmenting.specs.lapdm_frame.Layout.{n201, largest_n201};
+ghost use Rattle.segmenting.specs.Segments.{IsMessage, max_message_octets, count_of};
 
 use crate::held::Held;
 use crate::{Acked, Info, Refused, State, Timer, n200};
-use lapdm_frame::Channel;
-use segmenting::{Joiner, LONGEST, Piece, Pieces};
+use segmenting::{Channel, Joiner, LONGEST_MESSAGE, Piece, Pieces};
 
 mod parts;
 
@@ -19,9 +18,9 @@ pub use parts::WindowParts;
 pub struct Window {
     held: Held,
     joiner: Joiner,
-    // The index, among the segments of the first message, of the outstanding segment or else the next one.
+    // The index of the outstanding segment, or else of the next segment, among the segments of the first message held.
     place: usize,
-    // The number of wholly acknowledged messages.
+    // The number of messages of which all segments are acknowledged.
     done: u64,
     channel: Channel,
     vs: u8,
@@ -43,15 +42,16 @@ impl Window {
     ghost use Rattle.std.specs.Option.{option_map};
     ghost use Rattle.std.specs.Result.{result_err};
     ghost use Rattle.segmenting.specs.Segments.{segments};
-    ghost use Rattle.segmenting.specs.Joining.{latest};
+    ghost use Rattle.segmenting.specs.Joining.{latest_message};
     ghost use Rattle.lapdm_window.specs.declared.Sapi.{Sapi};
-    ghost use Rattle.lapdm_window.specs.Ends.{EndState, Role, start, waits, vs, va, vr};
-    ghost use Rattle.lapdm_window.specs.Rules.{has_segment, with_next, counts};
-    ghost use Rattle.lapdm_window.specs.Calls.{with_taken};
-    ghost use Rattle.lapdm_window.specs.Answers.{put_refusal, waiting_segment, acked_by, info_answer, after_info, t200_answer, after_t200};
-    ghost use Rattle.lapdm_window.specs.Abstraction.{Represents, IsWaiting, channel_of};
+    ghost use Rattle.lapdm_window.specs.Ends.{EndState, Role, start, is_outstanding, vs, va, vr};
+    ghost use Rattle.lapdm_window.specs.Rules.{has_segment_to_send, with_next_outstanding, counts};
+    ghost use Rattle.lapdm_window.specs.Calls.{with_queued};
+    ghost use Rattle.lapdm_window.specs.Answers.{message_refusal, outstanding_segment, ack_answer, i_frame_answer, after_i_frame};
+    ghost use Rattle.lapdm_window.specs.Answers.{t200_answer, after_t200};
+    ghost use Rattle.lapdm_window.specs.Abstraction.{Represents, HasOutstanding, channel_of};
 
-    /// A window on SDCCH in its initial state.
+    /// A window for SDCCH in its initial state.
     pub fn new() -> Window
         ensures represents { (role : Role) (sapi : Sapi)
             → Represents result (start role sapi Channel.Sdcch) }
@@ -60,7 +60,7 @@ impl Window {
         Window::new_on(Channel::Sdcch)
     }
 
-    /// A window on the channel in its initial state.
+    /// A window for this channel in its initial state.
     pub fn new_on(channel: Channel) -> Window
         ensures represents { (role : Role) (sapi : Sapi) → Represents result (start role sapi channel) }
         ensures channel { channel_of result ≡ channel }
@@ -82,16 +82,16 @@ impl Window {
     /// Queues a message to send.
     pub fn put(&mut self, message: &[u8]) -> Result<(), Refused>
         ensures answer { (e : EndState) → Represents self.old e
-            → result_err result ≡ put_refusal message.now e }
+            → result_err result ≡ message_refusal message.now e }
         ensures taken { (e : EndState) → Represents self.old e
-            → OnOk result (Represents self.new (with_taken message.now e)) }
+            → OnOk result (Represents self.new (with_queued message.now e)) }
         ensures refused { OnErr result (self.new ≡ self.old) }
         ensures channel { channel_of self.new ≡ channel_of self.old }
     {
         if message.is_empty() {
             return Err(Refused::Empty);
         }
-        if message.len() > LONGEST {
+        if message.len() > LONGEST_MESSAGE {
             return Err(Refused::TooLong);
         }
         if self.held.is_full() {
@@ -101,12 +101,12 @@ impl Window {
         Ok(())
     }
 
-    /// Makes the next segment outstanding, if none is outstanding and one is left.
+    /// Makes the next segment outstanding, if there is one and none is outstanding. Returns whether it did.
     pub fn send_next(&mut self) -> bool
-        ensures answer { (e : EndState) → Represents self.old e → result ≡ has_segment e }
+        ensures answer { (e : EndState) → Represents self.old e → result ≡ has_segment_to_send e }
         ensures sent { (e : EndState) → Represents self.old e
-            → Represents self.new (if result then with_next e else e) }
-        ensures waiting { IsTrue result → IsWaiting self.new }
+            → Represents self.new (if result then with_next_outstanding e else e) }
+        ensures waiting { IsTrue result → HasOutstanding self.new }
         ensures channel { channel_of self.new ≡ channel_of self.old }
     {
         if self.vs != self.va || self.held.is_empty() {
@@ -117,11 +117,11 @@ impl Window {
         true
     }
 
-    /// The outstanding segment.
+    /// The outstanding segment, if there is one.
     pub fn waiting(&self) -> Option<Piece<'_>>
         ensures piece { (e : EndState) → Represents self.now e
-            → option_map (λ p. (p.octets.now, p.more)) result ≡ waiting_segment e }
-        ensures waiting { IsSome result ↔ IsWaiting self.now }
+            → option_map (λ p. (p.octets.now, p.more)) result ≡ outstanding_segment e }
+        ensures waiting { IsSome result ↔ HasOutstanding self.now }
         ensures size { IfSome result (λ p. (1 ≤ length p.octets.now)
             × (length p.octets.now ≤ n201 (channel_of self.now))) }
     {
@@ -131,10 +131,10 @@ impl Window {
         Some(self.next())
     }
 
-    /// Evaluates an N(R): it acknowledges the outstanding segment if it is V(S), and nothing else.
+    /// Evaluates a received N(R), which acknowledges the outstanding segment if it equals V(S), and otherwise nothing.
     pub fn on_ack(&mut self, nr: u8) -> Acked
         requires { nr ≤ 7 }
-        ensures answer { (e : EndState) → Represents self.old e → result ≡ acked_by nr e }
+        ensures answer { (e : EndState) → Represents self.old e → result ≡ ack_answer nr e }
         ensures counted { (e : EndState) → Represents self.old e → Represents self.new (counts nr e).after }
         ensures channel { channel_of self.new ≡ channel_of self.old }
     {
@@ -153,15 +153,15 @@ impl Window {
         Acked::Message(self.done)
     }
 
-    /// Takes the segment of an I frame with this N(S) and P.
+    /// Takes the segment of a received I frame with this N(S) and P bit.
     pub fn on_info(&mut self, ns: u8, p: bool, piece: &[u8], more: bool) -> Info
         requires ns { ns ≤ 7 }
         requires some { 1 ≤ length piece.now }
-        requires most { length piece.now ≤ most_information }
+        requires most { length piece.now ≤ largest_n201 }
         ensures answer { (e : EndState) → Represents self.old e
-            → result ≡ info_answer ns p (piece.now, more) e }
+            → result ≡ i_frame_answer ns p (piece.now, more) e }
         ensures taken { (e : EndState) → Represents self.old e
-            → Represents self.new (after_info result (piece.now, more) e) }
+            → Represents self.new (after_i_frame result (piece.now, more) e) }
         ensures channel { channel_of self.new ≡ channel_of self.old }
     {
         if ns != self.vr {
@@ -174,20 +174,20 @@ impl Window {
         Info::Accepted(self.joiner.take(piece, more))
     }
 
-    /// Whether a segment is outstanding, to be sent again at a REJ.
+    /// Whether a segment is outstanding, which must be sent again when a REJ is received.
     pub fn on_reject(&self) -> bool
-        ensures answer { (e : EndState) → Represents self.now e → result ≡ waits e }
-        ensures waiting { IsTrue result ↔ IsWaiting self.now }
+        ensures answer { (e : EndState) → Represents self.now e → result ≡ is_outstanding e }
+        ensures waiting { IsTrue result ↔ HasOutstanding self.now }
     {
         self.vs != self.va
     }
 
-    /// T200 expiry.
+    /// Handles T200 expiry.
     pub fn on_timer(&mut self) -> Timer
         ensures answer { (e : EndState) → Represents self.old e → result ≡ t200_answer e }
         ensures counted { (e : EndState) → Represents self.old e
             → Represents self.new (after_t200 result e) }
-        ensures waiting { result ≡ Timer.Again → IsWaiting self.new }
+        ensures waiting { result ≡ Timer.Again → HasOutstanding self.new }
         ensures unchanged { result ≢ Timer.Again → self.new ≡ self.old }
         ensures channel { channel_of self.new ≡ channel_of self.old }
     {
@@ -209,7 +209,7 @@ impl Window {
         self.vs
     }
 
-    /// V(A), the N(S) of the first unacknowledged segment.
+    /// V(A), the N(S) of the oldest unacknowledged segment.
     pub fn va(&self) -> u8
         ensures number { (e : EndState) → Represents self.now e → result ≡ va e }
         ensures fits { result ≤ 7 }
@@ -217,7 +217,7 @@ impl Window {
         self.va
     }
 
-    /// V(R), the N(S) of the next segment to be accepted.
+    /// V(R), the N(S) of the segment that is expected next.
     pub fn vr(&self) -> u8
         ensures number { (e : EndState) → Represents self.now e → result ≡ vr e }
         ensures fits { result ≤ 7 }
@@ -227,13 +227,13 @@ impl Window {
 
     /// The message that the last accepted segment completed, or no octets if it completed none.
     pub fn message(&self) -> &[u8]
-        ensures latest { (e : EndState) → Represents self.now e → result.now ≡ latest e.accepted }
-        ensures most { length result.now ≤ longest }
+        ensures latest_message { (e : EndState) → Represents self.now e → result.now ≡ latest_message e.accepted }
+        ensures most { length result.now ≤ max_message_octets }
     {
         self.joiner.message()
     }
 
-    // The outstanding segment of the first message, or else the next one.
+    // The outstanding segment or, if none is outstanding, the next one; it belongs to the first message held.
     fn next(&self) -> Piece<'_>
         requires { 1 ≤ length self.now.held.items }
         ensures { let first = slice_index_or self.now.held.items 0 [] in

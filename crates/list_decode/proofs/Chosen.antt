@@ -1,24 +1,16 @@
--- The branch whose best word comes next, and the branches after it is returned.
-use Rattle.std.proofs.Common.{◌≡◌, ◌≢◌, ℕ, zero, suc, ◌+◌, ◌<◌, ◌≤◌, List, [], ◌∷◌, ◌++◌, map}
-use Rattle.std.proofs.Common.{length, get_or, set, take, drop, Some, None, refl, ap, ap₂, sym, ◌∙◌, subst, arith}
-use Rattle.std.specs.List.{All, Contains, slice_get}
-use Rattle.std.proofs.lemmas.List.{get_or_append_left, get_or_push, length-append, map-append, set-get_or, set_split}
-use Rattle.std.proofs.lemmas.List.Elements.{All-nil, All-cons, All-head, All-tail, All-append, All-drop, All-set, All-take, All-weaker}
-use Rattle.weight_bound.specs.conv_code.Likelihood.{FallsBehind}
-use Rattle.list_decode.specs.Branches.{IsBestDeviation, IsBranch, IsBranchOf, IsSpan, IsDeviation, class_of, departures_in, deviation_of}
-use Rattle.list_decode.specs.Choices.{IsAtMost, IsFirst, IsDeviationOf, deviation_list}
-use Rattle.list_decode.specs.Classes.{Class, Covers, IsInClass}
-use Rattle.list_decode.specs.Partitioning.{IsNext}
-use Rattle.list_decode.specs.Passes.{IsPass, soft_of}
-use Rattle.list_decode.specs.Ranking.{IsCandidate}
-use Rattle.list_decode.specs.declared.branch.Branch.{Branch}
-use Rattle.list_decode.specs.declared.branch.Span.{Span}
-use Rattle.list_decode.specs.declared.branch.Deviation.{Deviation}
-use Rattle.list_decode.specs.declared.choice.Choice.{Choice}
-use Rattle.list_decode.specs.declared.partitioning.Next.{Next}
-use Rattle.list_decode.specs.declared.pass.Pass.{Pass}
-use Rattle.list_decode.proofs.Choices.{all_at, blank, branch_deviation, deviation_is}
-use Rattle.list_decode.proofs.NextLists.{below_best, goes_on}
+-- The branch whose best word is the next word, and the branches after this word is returned.
+use Rattle.std.proofs.Common.{◌≡◌, ◌≢◌, ℕ, zero, suc, ◌+◌, ◌<◌, ◌≤◌, List, [], ◌∷◌, ◌++◌, map, length, get_or, set, take, drop, Some, None}
+use Rattle.std.proofs.{Common.{refl, ap, ap₂, sym, ◌∙◌, subst, arith}, lemmas.List.{get_or_append_left, get_or_push, length-append}}
+use Rattle.std.proofs.lemmas.List.{map-append, set-get_or, set_split, Elements.{All-nil, All-cons, All-head, All-tail, All-append}}
+use Rattle.std.{proofs.lemmas.List.Elements.{All-drop, All-set, All-take, All-weaker}, specs.List.{All, Contains, slice_get}}
+use Rattle.weight_bound.specs.conv_code.Likelihood.{RanksAfter}
+use Rattle.list_decode.specs.Branches.{IsBestDeviation, IsBranch, IsBranchOfReturnedWord, IsSpan, IsDeviation, class_of_branch}
+use Rattle.list_decode.specs.{Branches.{deviations_in_span, word_of_deviation}, Choices.{RanksNotBefore, IsBestRankedBranch}}
+use Rattle.list_decode.specs.{Choices.{IsDeviationFromReturnedWord, deviating_word}, Classes.{DeviationClass, PartitionsUnreturnedWords}}
+use Rattle.list_decode.specs.{Classes.IsInClass, Partitioning.IsNextRankedWord, Passes.{IsCompletePass, pass_soft_bits}}
+use Rattle.list_decode.specs.{Ranking.IsCandidate, declared.branch.{Branch.Branch, Span.Span, Deviation.Deviation}}
+use Rattle.list_decode.specs.declared.{choice.BranchChoice.BranchChoice, partitioning.NextWord.NextWord, pass.Pass.Pass}
+use Rattle.list_decode.proofs.{Choices.{all_at, blank, branch_deviation, deviation_is}, NextLists.{below_best, goes_on}}
 
 -- ---- the chosen branch
 
@@ -33,20 +25,21 @@ slice_get-is (c ∷ bs) b d zero at = (omega arith, same at)
     same e = all_at (λ x. c ≡ x) (c ∷ []) b zero (All-cons (λ x. c ≡ x) c [] refl (All-nil (λ x. c ≡ x))) e
 slice_get-is (c ∷ bs) b d (suc k) at = let rest = slice_get-is bs b d k at in (omega (arith, rest.0), rest.1)
 
--- a returned word u, a span of it, and the best word that deviates there
+-- u is a candidate, `span` a span of u, and x makes the best word that deviates from u there
 pub record IsChosen (pass : Pass) (u : List ℕ) (span : Span) (x : Deviation) : Type 0 where
-  pub candidate : IsCandidate (soft_of pass) u
+  pub candidate : IsCandidate (pass_soft_bits pass) u
   pub is_span : IsSpan pass u span
   pub deviation : IsDeviation pass u x
   pub from : span.from ≤ x.departure.place
   pub to : x.departure.place < span.to
 
-module _ (pass : Pass) (us : List (List ℕ)) (branches : List Branch) (choice : Choice) (lists : All (IsCandidate (soft_of pass)) us)
-    (all : All (IsBranchOf pass us) branches) (first : IsFirst pass us branches (Some choice)) where
+module _ (pass : Pass) (us : List (List ℕ)) (branches : List Branch) (choice : BranchChoice) (lists : All (IsCandidate
+    (pass_soft_bits pass)) us)
+    (all : All (IsBranchOfReturnedWord pass us) branches) (first : IsBestRankedBranch pass us branches (Some choice)) where
   pub within : choice.branch < length branches
   within = (slice_get-is branches first.0.0 blank choice.branch first.0.1).0
 
-  pub chosen_branch : IsBranchOf pass us (get_or branches choice.branch blank)
+  pub chosen_branch : IsBranchOfReturnedWord pass us (get_or branches choice.branch blank)
   chosen_branch = all choice.branch blank within
 
   best_is : (get_or branches choice.branch blank).best ≡ Some choice.deviation
@@ -68,34 +61,37 @@ module _ (pass : Pass) (us : List (List ℕ)) (branches : List Branch) (choice :
     to = best_chosen.3;
   }
 
--- ---- one more word
+-- ---- the branches after one more word is returned
 
 get_or-kept : (us : List (List ℕ)) (u : List ℕ) (i : ℕ) → i < length us → get_or us i [] ≡ get_or (us ++ u ∷ []) i []
 get_or-kept us u i lt = sym (get_or_append_left us (u ∷ []) [] i lt)
 
-pub branch_kept : (pass : Pass) (us : List (List ℕ)) (u : List ℕ) (b : Branch) → IsBranchOf pass us b → IsBranchOf pass (us ++ u ∷ []) b
+pub branch_kept : (pass : Pass) (us : List (List ℕ)) (u : List ℕ) (b : Branch) → IsBranchOfReturnedWord pass us b →
+    IsBranchOfReturnedWord pass (us ++ u ∷ []) b
 branch_kept pass us u b is = record {
   within = let i = is.within in omega (arith, length-append us (u ∷ []));
   is = subst (λ u. IsBranch pass u b) (get_or-kept us u b.span.list is.within) is.is;
 }
 
-classes_kept : (pass : Pass) (us : List (List ℕ)) (u : List ℕ) (bs : List Branch) → All (IsBranchOf pass us) bs →
-    map (class_of us) bs ≡ map (class_of (us ++ u ∷ [])) bs
+classes_kept : (pass : Pass) (us : List (List ℕ)) (u : List ℕ) (bs : List Branch) → All (IsBranchOfReturnedWord pass us) bs →
+    map (class_of_branch us) bs ≡ map (class_of_branch (us ++ u ∷ [])) bs
 classes_kept pass us u [] all = refl
 classes_kept pass us u (b ∷ bs) all =
-    ap₂ (λ c cs. c ∷ cs) (ap (λ v. departures_in v b.span) (get_or-kept us u b.span.list (All-head (IsBranchOf pass us) b bs all).within))
-    (classes_kept pass us u bs (All-tail (IsBranchOf pass us) b bs all))
+    ap₂ (λ c cs. c ∷ cs) (ap (λ v. deviations_in_span v b.span) (get_or-kept us u b.span.list (All-head
+    (IsBranchOfReturnedWord pass us) b bs all).within))
+    (classes_kept pass us u bs (All-tail (IsBranchOfReturnedWord pass us) b bs all))
 
 -- each of the classes is the class of one of the branches
-pub class_at : (us : List (List ℕ)) (bs : List Branch) (P : Branch → Type 0) (e : Class) → All P bs → Contains (map (class_of us) bs) e →
-    (b : Branch) × P b × (class_of us b ≡ e)
+pub class_at : (us : List (List ℕ)) (bs : List Branch) (P : Branch → Type 0) (e : DeviationClass) → All P bs →
+    Contains (map (class_of_branch us) bs) e →
+    (b : Branch) × P b × (class_of_branch us b ≡ e)
 class_at us [] P e all found = absurd (omega (arith, found.1))
 class_at us (b ∷ bs) P e all (zero, lt, is) = (b, All-head P b bs all, is)
 class_at us (b ∷ bs) P e all (suc k, lt, is) = class_at us bs P e (All-tail P b bs all) (k, omega arith, is)
 
-module _ (pass : Pass) (us : List (List ℕ)) (branches : List Branch) (choice : Choice) (is : IsPass pass)
-    (lists : All (IsCandidate (soft_of pass)) us)
-    (all : All (IsBranchOf pass us) branches) (first : IsFirst pass us branches (Some choice)) where
+module _ (pass : Pass) (us : List (List ℕ)) (branches : List Branch) (choice : BranchChoice) (is : IsCompletePass pass)
+    (lists : All (IsCandidate (pass_soft_bits pass)) us)
+    (all : All (IsBranchOfReturnedWord pass us) branches) (first : IsBestRankedBranch pass us branches (Some choice)) where
   abbrev i : ℕ
   i = choice.branch
 
@@ -106,13 +102,13 @@ module _ (pass : Pass) (us : List (List ℕ)) (branches : List Branch) (choice :
   u = get_or us (get_or branches choice.branch blank).span.list []
 
   abbrev v : List ℕ
-  v = deviation_of pass (get_or us (get_or branches choice.branch blank).span.list []) choice.deviation
+  v = word_of_deviation pass (get_or us (get_or branches choice.branch blank).span.list []) choice.deviation
 
   has : IsChosen pass (get_or us (get_or branches choice.branch blank).span.list []) (get_or branches choice.branch blank).span
       choice.deviation
   has = chosen pass us branches choice lists all first
 
-  chosen_here : IsBranchOf pass us (get_or branches choice.branch blank)
+  chosen_here : IsBranchOfReturnedWord pass us (get_or branches choice.branch blank)
   chosen_here = chosen_branch pass us branches choice lists all first
 
   best_here : (get_or branches choice.branch blank).best ≡ Some choice.deviation
@@ -124,30 +120,34 @@ module _ (pass : Pass) (us : List (List ℕ)) (branches : List Branch) (choice :
   u_within : (get_or branches choice.branch blank).span.list < length us
   u_within = (chosen_branch pass us branches choice lists all first).within
 
-  v_is : IsCandidate (soft_of pass) (deviation_of pass (get_or us (get_or branches choice.branch blank).span.list []) choice.deviation)
+  v_is : IsCandidate (pass_soft_bits pass) (word_of_deviation pass (get_or us
+      (get_or branches choice.branch blank).span.list []) choice.deviation)
   v_is = deviation_is pass u choice.deviation is has.candidate has.deviation
 
-  split : map (class_of us) branches ≡
-      map (class_of us) (take choice.branch branches) ++ class_of us (get_or branches choice.branch blank) ∷ map (class_of us)
+  split : map (class_of_branch us) branches ≡
+      map (class_of_branch us) (take choice.branch branches) ++ class_of_branch us (get_or branches choice.branch blank) ∷ map
+      (class_of_branch us)
       (drop (suc choice.branch) branches)
-  split = ap (map (class_of us)) (sym (set-get_or branches i blank) ∙ set_split branches i b inside)
-      ∙ map-append (class_of us) (take i branches) (b ∷ drop (suc i) branches)
+  split = ap (map (class_of_branch us)) (sym (set-get_or branches i blank) ∙ set_split branches i b inside)
+      ∙ map-append (class_of_branch us) (take i branches) (b ∷ drop (suc i) branches)
 
-  best : (e : Class) (w : List ℕ) → Contains (map (class_of us) branches) e → IsCandidate (soft_of pass) w → IsInClass e w →
-      w ≢ deviation_of pass (get_or us (get_or branches choice.branch blank).span.list []) choice.deviation →
-      FallsBehind (soft_of pass) w (deviation_of pass (get_or us (get_or branches choice.branch blank).span.list []) choice.deviation)
+  best : (e : DeviationClass) (w : List ℕ) → Contains (map (class_of_branch us) branches) e → IsCandidate (pass_soft_bits pass) w →
+      IsInClass e w →
+      w ≢ word_of_deviation pass (get_or us (get_or branches choice.branch blank).span.list []) choice.deviation →
+      RanksAfter (pass_soft_bits pass) w (word_of_deviation pass (get_or us
+      (get_or branches choice.branch blank).span.list []) choice.deviation)
   best e w member is_w in_class ne =
-      let here : deviation_list pass us choice.deviation ≡ v = ap (λ k. deviation_of pass (get_or us k []) choice.deviation)
+      let here : deviating_word pass us choice.deviation ≡ v = ap (λ k. word_of_deviation pass (get_or us k []) choice.deviation)
       (best_chosen pass us branches choice lists all first).1 in
-      let found = class_at us branches (λ b. IsBranchOf pass us b × IsAtMost pass us choice.deviation b.best) e
+      let found = class_at us branches (λ b. IsBranchOfReturnedWord pass us b × RanksNotBefore pass us choice.deviation b.best) e
       (λ k d lt. (all k d lt, first.1 k d lt)) member in
-      subst (FallsBehind (soft_of pass) w) here
+      subst (RanksAfter (pass_soft_bits pass) w) here
       (below_best pass us found.0.span choice.deviation w found.0.best found.1.0.is.best found.1.1 is_w
       (subst (λ e. IsInClass e w) (sym found.2) in_class) (λ e. ne (e ∙ here)))
 
-  module _ (next : Next) (at : next.branch ≡ choice.branch) (left : next.deviation ≡ choice.deviation)
+  module _ (next : NextWord) (at : next.branch ≡ choice.branch) (left : next.deviation ≡ choice.deviation)
       (before : IsBranch pass (get_or us (get_or branches choice.branch blank).span.list []) next.parts.before)
-      (behind_v : IsBranch pass (deviation_of pass (get_or us (get_or branches choice.branch blank).span.list []) choice.deviation)
+      (behind_v : IsBranch pass (word_of_deviation pass (get_or us (get_or branches choice.branch blank).span.list []) choice.deviation)
       next.parts.behind)
       (after : IsBranch pass (get_or us (get_or branches choice.branch blank).span.list []) next.parts.after)
       (before_span : (next.parts.before.span.list ≡ (get_or branches choice.branch blank).span.list) ×
@@ -161,10 +161,10 @@ module _ (pass : Pass) (us : List (List ℕ)) (branches : List Branch) (choice :
     abbrev us' : List (List ℕ)
     us' = us ++ v ∷ []
 
-    abbrev f : Branch → Class
-    f = class_of (us ++ v ∷ [])
+    abbrev f : Branch → DeviationClass
+    f = class_of_branch (us ++ v ∷ [])
 
-    -- the words returned before v do not change
+    -- the words that were returned before the new word v are unchanged
     same_u : (k : ℕ) → k ≡ (get_or branches choice.branch blank).span.list → get_or us' k [] ≡ u
     same_u k same = ap (λ k. get_or us' k []) same ∙ sym (get_or-kept us v b.span.list u_within)
 
@@ -172,39 +172,42 @@ module _ (pass : Pass) (us : List (List ℕ)) (branches : List Branch) (choice :
     same_v k same = get_or_push us v [] k (sym same)
 
     old_branch : (p : Branch) → p.span.list ≡ (get_or branches choice.branch blank).span.list →
-        IsBranch pass (get_or us (get_or branches choice.branch blank).span.list []) p → IsBranchOf pass us' p
+        IsBranch pass (get_or us (get_or branches choice.branch blank).span.list []) p → IsBranchOfReturnedWord pass us' p
     old_branch p same is_p = record {
       within = let k = u_within in omega (arith, length-append us (v ∷ []));
       is = subst (λ u. IsBranch pass u p) (sym (same_u p.span.list same)) is_p;
     }
 
-    new_branch : IsBranchOf pass us' next.parts.behind
+    new_branch : IsBranchOfReturnedWord pass us' next.parts.behind
     new_branch = record {
       within = let k = behind_span.0 in omega (arith, length-append us (v ∷ []));
       is = subst (λ u. IsBranch pass u next.parts.behind) (sym (same_v next.parts.behind.span.list behind_span.0)) behind_v;
     }
 
-    each : All (IsBranchOf pass us') ((set branches choice.branch next.parts.before ++ next.parts.behind ∷ []) ++ next.parts.after ∷ [])
-    each = All-append (IsBranchOf pass us') (set branches i next.parts.before ++ next.parts.behind ∷ []) (next.parts.after ∷ [])
-        (All-append (IsBranchOf pass us') (set branches i next.parts.before) (next.parts.behind ∷ [])
-        (All-set (IsBranchOf pass us') branches i next.parts.before (old_branch next.parts.before before_span.0 before)
-        (All-weaker (IsBranchOf pass us) (IsBranchOf pass us') (λ b is_b. branch_kept pass us v b is_b) branches all))
-        (All-cons (IsBranchOf pass us') next.parts.behind [] new_branch (All-nil (IsBranchOf pass us'))))
-        (All-cons (IsBranchOf pass us') next.parts.after [] (old_branch next.parts.after after_span.0 after)
-        (All-nil (IsBranchOf pass us')))
+    each : All (IsBranchOfReturnedWord pass us') ((set branches choice.branch next.parts.before ++ next.parts.behind ∷ []) ++
+        next.parts.after ∷ [])
+    each = All-append (IsBranchOfReturnedWord pass us') (set branches i next.parts.before ++ next.parts.behind ∷ []) (next.parts.after ∷ [])
+        (All-append (IsBranchOfReturnedWord pass us') (set branches i next.parts.before) (next.parts.behind ∷ [])
+        (All-set (IsBranchOfReturnedWord pass us') branches i next.parts.before (old_branch next.parts.before before_span.0 before)
+        (All-weaker (IsBranchOfReturnedWord pass us) (IsBranchOfReturnedWord pass us')
+        (λ b is_b. branch_kept pass us v b is_b) branches all))
+        (All-cons (IsBranchOfReturnedWord pass us') next.parts.behind [] new_branch (All-nil (IsBranchOfReturnedWord pass us'))))
+        (All-cons (IsBranchOfReturnedWord pass us') next.parts.after [] (old_branch next.parts.after after_span.0 after)
+        (All-nil (IsBranchOfReturnedWord pass us')))
 
-    classes : ((map (class_of us) (take choice.branch branches) ++ departures_in u next.parts.before.span ∷ map (class_of us)
+    classes : ((map (class_of_branch us) (take choice.branch branches) ++ deviations_in_span u next.parts.before.span ∷ map
+        (class_of_branch us)
         (drop (suc choice.branch) branches))
-        ++ departures_in v next.parts.behind.span ∷ []) ++ departures_in u next.parts.after.span ∷ [] ≡
+        ++ deviations_in_span v next.parts.behind.span ∷ []) ++ deviations_in_span u next.parts.after.span ∷ [] ≡
         map f ((set branches choice.branch next.parts.before ++ next.parts.behind ∷ []) ++ next.parts.after ∷ [])
     classes =
-        let early = classes_kept pass us v (take i branches) (All-take (IsBranchOf pass us) i branches all) in
-        let late = classes_kept pass us v (drop (suc i) branches) (All-drop (IsBranchOf pass us) (suc i) branches all) in
-        let one = ap (λ u. departures_in u next.parts.before.span) (sym (same_u next.parts.before.span.list before_span.0)) in
-        let two = ap (λ u. departures_in u next.parts.behind.span) (sym (same_v next.parts.behind.span.list behind_span.0)) in
-        let three = ap (λ u. departures_in u next.parts.after.span) (sym (same_u next.parts.after.span.list after_span.0)) in
-        let old : map (class_of us) (take i branches)
-        ++ departures_in u next.parts.before.span ∷ map (class_of us) (drop (suc i) branches) ≡
+        let early = classes_kept pass us v (take i branches) (All-take (IsBranchOfReturnedWord pass us) i branches all) in
+        let late = classes_kept pass us v (drop (suc i) branches) (All-drop (IsBranchOfReturnedWord pass us) (suc i) branches all) in
+        let one = ap (λ u. deviations_in_span u next.parts.before.span) (sym (same_u next.parts.before.span.list before_span.0)) in
+        let two = ap (λ u. deviations_in_span u next.parts.behind.span) (sym (same_v next.parts.behind.span.list behind_span.0)) in
+        let three = ap (λ u. deviations_in_span u next.parts.after.span) (sym (same_u next.parts.after.span.list after_span.0)) in
+        let old : map (class_of_branch us) (take i branches)
+        ++ deviations_in_span u next.parts.before.span ∷ map (class_of_branch us) (drop (suc i) branches) ≡
         map f (set branches i next.parts.before) =
         ap₂ (λ xs ys. xs ++ ys) early (ap₂ (λ c cs. c ∷ cs) one late)
         ∙ sym (map-append f (take i branches) (next.parts.before ∷ drop (suc i) branches))
@@ -214,29 +217,35 @@ module _ (pass : Pass) (us : List (List ℕ)) (branches : List Branch) (choice :
         three
         ∙ sym (map-append f (set branches i next.parts.before ++ next.parts.behind ∷ []) (next.parts.after ∷ []))
 
-    is_next_deviation : IsNext pass us branches
-        (deviation_of pass (get_or us (get_or branches choice.branch blank).span.list []) choice.deviation) next
+    is_next_deviation : IsNextRankedWord pass us branches
+        (word_of_deviation pass (get_or us (get_or branches choice.branch blank).span.list []) choice.deviation) next
     is_next_deviation = record {
       within = subst (λ k. k < length branches) (sym at) inside;
       value = ap (λ (x : Deviation). x.likelihood) left ∙ has.deviation.value;
-      deviation = subst (IsDeviationOf pass us) (sym left) (branch_deviation pass us b choice.deviation chosen_here best_here);
-      written = ap (λ k. deviation_of pass (get_or us k []) choice.deviation) (sym (best_chosen pass us branches choice lists all first).1)
-          ∙ ap (deviation_list pass us) (sym left);
-      each = subst (λ k. All (IsBranchOf pass us') ((set branches k next.parts.before ++ next.parts.behind ∷ []) ++ next.parts.after ∷ []))
+      deviation = subst (IsDeviationFromReturnedWord pass us) (sym left)
+          (branch_deviation pass us b choice.deviation chosen_here best_here);
+      written = ap (λ k. word_of_deviation pass (get_or us k []) choice.deviation) (sym
+          (best_chosen pass us branches choice lists all first).1)
+          ∙ ap (deviating_word pass us) (sym left);
+      each = subst (λ k. All (IsBranchOfReturnedWord pass us')
+          ((set branches k next.parts.before ++ next.parts.behind ∷ []) ++ next.parts.after ∷ []))
           (sym at) each;
       covers = (λ ranked covers.
           let went = goes_on pass us u b.span choice.deviation is has.candidate has.deviation v_is has.from has.to
-          (map (class_of us) (take i branches)) (map (class_of us) (drop (suc i) branches)) next.parts.before.span next.parts.behind.span
+          (map (class_of_branch us) (take i branches)) (map (class_of_branch us) (drop
+          (suc i) branches)) next.parts.before.span next.parts.behind.span
           next.parts.after.span
-          ranked (subst (Covers (soft_of pass) us) split covers) (λ e w member. best e w (subst (λ cs. Contains cs e) (sym split) member))
+          ranked (subst (PartitionsUnreturnedWords (pass_soft_bits pass) us) split covers) (λ e w member. best e w (subst
+          (λ cs. Contains cs e)
+          (sym split) member))
           before_span.1 before_span.2 behind_span.1 behind_span.2 after_span.1 after_span.2 in (
             went.0,
-            subst (Covers (soft_of pass) us') (classes
+            subst (PartitionsUnreturnedWords (pass_soft_bits pass) us') (classes
                 ∙ ap (λ k. map f ((set branches k next.parts.before ++ next.parts.behind ∷ []) ++ next.parts.after ∷ [])) (sym at)) went.1,
           ));
     }
 
     pub is_next : (written : List ℕ) →
-        written ≡ deviation_of pass (get_or us (get_or branches choice.branch blank).span.list []) choice.deviation →
-        IsNext pass us branches written next
-    is_next written same = subst (λ v. IsNext pass us branches v next) (sym same) is_next_deviation
+        written ≡ word_of_deviation pass (get_or us (get_or branches choice.branch blank).span.list []) choice.deviation →
+        IsNextRankedWord pass us branches written next
+    is_next written same = subst (λ v. IsNextRankedWord pass us branches v next) (sym same) is_next_deviation

@@ -1,21 +1,20 @@
 -- A class can be replaced by parts of it that have the same candidates.
-use Rattle.std.proofs.Common.{◌⊎◌, ℕ, inl, inr, ℤ, List, [], ◌∷◌, ◌++◌, sym, subst}
+use Rattle.std.proofs.{Common.{◌⊎◌, ℕ, inl, inr, ℤ, List, [], ◌∷◌, ◌++◌, sym, subst}, lemmas.List.Elements.{All-nil, All-cons, All-head}}
+use Rattle.std.proofs.lemmas.List.Elements.{All-append, Contains-append_left, Contains-append_right, Contains-append_cases}
 use Rattle.std.specs.List.{Contains}
-use Rattle.std.proofs.lemmas.List.Elements.{All-nil, All-cons, All-head, All-append, Contains-append_left, Contains-append_right}
-use Rattle.std.proofs.lemmas.List.Elements.{Contains-append_cases}
-use Rattle.list_decode.specs.Classes.{Class, IsInClass, Covers}
-use Rattle.list_decode.specs.Ranking.{IsCandidate}
-use Rattle.list_decode.proofs.ClassSteps.{Part, Disjoint, Listed, New, Apart-part, Apart-push, others_apart, All-replace, Contains-first}
-use Rattle.list_decode.proofs.ClassSteps.{Contains-split, Contains-after}
-use Rattle.list_decode.proofs.Rankings.{All-after}
+use Rattle.list_decode.{specs.{Classes.{DeviationClass, IsInClass, PartitionsUnreturnedWords}, Ranking.IsCandidate}, proofs.ClassSteps.Part}
+use Rattle.list_decode.proofs.ClassSteps.{Disjoint, Listed, New, AreDisjoint-part, AreDisjoint-push, others_apart, All-replace}
+use Rattle.list_decode.proofs.{ClassSteps.{Contains-first, Contains-split, Contains-after}, Rankings.All-after}
 
-module _ (s : List ℤ) (us : List (List ℕ)) (before after : List Class) (c : Class) (covers : Covers s us (before ++ c ∷ after)) where
-  new_in : (e : Class) → Part e c → New us e
+module _ (s : List ℤ) (us : List (List ℕ)) (before after : List DeviationClass) (c : DeviationClass)
+    (covers : PartitionsUnreturnedWords s us
+    (before ++ c ∷ after)) where
+  new_in : (e : DeviationClass) → Part e c → New us e
   new_in e part w in_class given = All-head (New us) c after (All-after (New us) before (c ∷ after) covers.new) w (part w in_class) given
 
-  -- the class of a candidate after e replaces c
-  stood : (e : Class) (w : List ℕ) (d : Class) → Contains (before ++ c ∷ after) d → IsInClass d w →
-      IsInClass c w ⊎ ((d : Class) × Contains (before ++ e ∷ after) d × IsInClass d w)
+  -- a word of one of the classes is still in one of the classes after e replaces c, or was in c
+  stood : (e : DeviationClass) (w : List ℕ) (d : DeviationClass) → Contains (before ++ c ∷ after) d → IsInClass d w →
+      IsInClass c w ⊎ ((d : DeviationClass) × Contains (before ++ e ∷ after) d × IsInClass d w)
   stood e w d member in_class = elim (Contains-append_cases before (c ∷ after) d member) [
     | inl early ↦ inr (d, Contains-append_left before (e ∷ after) d early, in_class)
     | inr late ↦ elim (Contains-split c d after late) [
@@ -24,16 +23,17 @@ module _ (s : List ℤ) (us : List (List ℕ)) (before after : List Class) (c : 
     ]
   ]
 
-  here : (e : Class) → Contains (before ++ e ∷ after) e
+  here : (e : DeviationClass) → Contains (before ++ e ∷ after) e
   here e = Contains-append_right before (e ∷ after) e (Contains-first e after)
 
-  -- one part that has all candidates of the class
-  pub narrow_covers : (e : Class) → IsCandidate s e.list → Part e c → ((w : List ℕ) → IsCandidate s w → IsInClass c w → IsInClass e w) →
-      Covers s us (before ++ e ∷ after)
+  -- a class can be replaced by one part of it that has all its candidates
+  pub narrow_covers : (e : DeviationClass) → IsCandidate s e.list → Part e c → ((w : List ℕ) → IsCandidate s w → IsInClass c w →
+      IsInClass e w) →
+      PartitionsUnreturnedWords s us (before ++ e ∷ after)
   narrow_covers e list part all = record {
     lists = All-replace (Listed s) before after c e covers.lists list;
     new = All-replace (New us) before after c e covers.new (new_in e part);
-    apart = Apart-part before after c e part covers.apart;
+    apart = AreDisjoint-part before after c e part covers.apart;
     others = (λ w is. elim (covers.others w is) [
       | inl given ↦ inl given
       | inr in_class ↦ inr (elim (stood e w in_class.0 in_class.1 in_class.2)
@@ -41,9 +41,10 @@ module _ (s : List ℤ) (us : List (List ℕ)) (before after : List Class) (c : 
     ]);
   }
 
-  -- two parts that together have all candidates of the class
-  pub split_covers : (a b : Class) → IsCandidate s a.list → IsCandidate s b.list → Part a c → Part b c → Disjoint a b →
-      ((w : List ℕ) → IsCandidate s w → IsInClass c w → IsInClass a w ⊎ IsInClass b w) → Covers s us ((before ++ a ∷ after) ++ b ∷ [])
+  -- a class can be replaced by two parts of it that together have all its candidates
+  pub split_covers : (a b : DeviationClass) → IsCandidate s a.list → IsCandidate s b.list → Part a c → Part b c → Disjoint a b →
+      ((w : List ℕ) → IsCandidate s w → IsInClass c w → IsInClass a w ⊎ IsInClass b w) →
+      PartitionsUnreturnedWords s us ((before ++ a ∷ after) ++ b ∷ [])
   split_covers a b list_a list_b part_a part_b disjoint all = record {
     lists = All-append (Listed s) (before ++ a ∷ after) (b ∷ []) (All-replace (Listed s) before after c a covers.lists list_a)
         (All-cons (Listed s) b [] list_b (All-nil (Listed s)));
@@ -51,7 +52,7 @@ module _ (s : List ℤ) (us : List (List ℕ)) (before after : List Class) (c : 
         (All-cons (New us) b [] (new_in b part_b) (All-nil (New us)));
     apart =
         let others = others_apart before after c b part_b covers.apart in
-        Apart-push (before ++ a ∷ after) b (Apart-part before after c a part_a covers.apart)
+        AreDisjoint-push (before ++ a ∷ after) b (AreDisjoint-part before after c a part_a covers.apart)
         (All-append (λ d. Disjoint d b) before (a ∷ after) others.0 (All-cons (λ d. Disjoint d b) a after disjoint others.1));
     others = (λ w is. elim (covers.others w is) [
       | inl given ↦ inl given

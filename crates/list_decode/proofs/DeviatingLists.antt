@@ -1,64 +1,57 @@
--- Every other word deviates from the best word of a state at a first position and loses at least the loss stored there.
-use Rattle.std.proofs.Common.{◌≡◌, ◌≢◌, ◌⊎◌, ℕ, zero, suc, ◌+◌, ◌-◌, ◌*◌, ◌/◌, ◌%◌, ◌^◌}
-use Rattle.std.proofs.Common.{◌<◌, ◌≤◌, inl, inr, ℤ, ◌+ℤ◌, ◌-ℤ◌, List, [], ◌∷◌, ◌++◌, length, get_or}
-use Rattle.std.proofs.Common.{take, drop, refl, ap, ap₂, sym, ◌∙◌, subst, arith}
-use Rattle.std.specs.Prelude.{◌<ℤ◌}
-use Rattle.std.proofs.lemmas.Bool.{cases_lt}
-use Rattle.std.proofs.lemmas.Int.{ints, by_lt_z}
-use Rattle.std.proofs.lemmas.List.{length-take, take-append-drop}
-use Rattle.bit_blocks.specs.Bits.{AllBits}
-use Rattle.weight_bound.specs.conv_code.Code.{encoding}
-use Rattle.weight_bound.specs.conv_code.Likelihood.{likelihood, IsBefore, FallsBehind, IsMostLikely}
-use Rattle.weight_bound.proofs.conv_code.Coding.{bit_at-most_1}
-use Rattle.trellis_decode.specs.Trellis.{next, gain, branch_metric, HasTail, IsNotAfter, Loses, Less, Later, read_out, IsBest, AreDecisions}
-use Rattle.trellis_decode.proofs.Lemmas.{gain-start, HasTail-from_tail, HasTail-bits, IsInformation-ends, IsMostLikely-best}
-use Rattle.trellis_decode.proofs.Lemmas.{IsBefore-not_after}
-use Rattle.trellis_decode.proofs.Lemmas.{gain-cons, Loses-same, length-read_out}
-use Rattle.weight_bound.proofs.conv_code.Lemmas.{same_number}
-use Rattle.list_decode.specs.Classes.{DepartsAt}
-use Rattle.list_decode.specs.DeviatingLists.{state_after, loss_at, deviation_from, IsLeastLoss}
-use Rattle.list_decode.specs.Ranking.{IsCandidate, IsSecond}
+-- Every word other than the best word from a state first deviates from it at some position, and loses at least the loss stored there.
+use Rattle.std.proofs.Common.{◌≡◌, ◌≢◌, ◌⊎◌, ℕ, zero, suc, ◌+◌, ◌-◌, ◌*◌, ◌/◌, ◌%◌, ◌^◌, ◌<◌, ◌≤◌, inl, inr, ℤ, ◌+ℤ◌, ◌-ℤ◌, List, [], ◌∷◌}
+use Rattle.std.proofs.{Common.{◌++◌, length, get_or, take, drop, refl, ap, ap₂, sym, ◌∙◌, subst, arith}, lemmas.{Bool.cases_lt, Int.ints}}
+use Rattle.std.{proofs.lemmas.{Int.by_lt_z, List.{length-take, take-append-drop}}, specs.Prelude.◌<ℤ◌}
+use Rattle.weight_bound.specs.{bit_blocks.Bits.AllBits, conv_code.{Code.encoding, Likelihood.{likelihood, IsLexicographicallyBefore}}}
+use Rattle.weight_bound.{specs.conv_code.Likelihood.{RanksAfter, IsMostLikely}, proofs.conv_code.{Coding.bit_at-most_1, Lemmas.same_number}}
+use Rattle.trellis_decode.specs.Trellis.{next, metric_from, branch_metric, HasTailBits, IsNotLexicographicallyAfter, IsNoBetterPath}
+use Rattle.trellis_decode.specs.Trellis.{LessMetric, EqualMetricButLater, traceback, IsSurvivor, AreDecisions}
+use Rattle.trellis_decode.proofs.Lemmas.{metric_from-start, HasTailBits-from_tail, HasTailBits-bits, IsInformation-ends, IsMostLikely-best}
+use Rattle.trellis_decode.proofs.Lemmas.{IsLexicographicallyBefore-not_after, metric_from-cons, IsNoBetterPath-same, length-traceback}
+use Rattle.list_decode.specs.{Classes.DeviatesAt, DeviatingLists.{state_after, loss_at, survivor_with_deviation, IsLeastLossPosition}}
+use Rattle.list_decode.specs.Ranking.{IsCandidate, IsSecondMostLikely}
 
--- the path metric of a bit and the rest of a word
-pub gain-more : (state x : ℕ) (u : List ℕ) (soft : List ℤ) → 2 ≤ length soft →
-    gain state (x ∷ u) soft ≡ branch_metric state x (take 2 soft) +ℤ gain (next state x) u (drop 2 soft)
-gain-more state x u soft long =
-    ap (gain state (x ∷ u)) (sym (take-append-drop 2 soft)) ∙ gain-cons state x u (take 2 soft) (drop 2 soft)
+-- the path metric of a word is the branch metric of its first bit plus the path metric of the rest
+pub metric_from-more : (state x : ℕ) (u : List ℕ) (soft : List ℤ) → 2 ≤ length soft →
+    metric_from state (x ∷ u) soft ≡ branch_metric state x (take 2 soft) +ℤ metric_from (next state x) u (drop 2 soft)
+metric_from-more state x u soft long =
+    ap (metric_from state (x ∷ u)) (sym (take-append-drop 2 soft)) ∙ metric_from-cons state x u (take 2 soft) (drop 2 soft)
     (omega (arith, length-take 2 soft))
 
-Loses-more : (state x : ℕ) (w u : List ℕ) (soft : List ℤ) → 2 ≤ length soft → Loses (next state x) (drop 2 soft) w u →
-    Loses state soft (x ∷ w) (x ∷ u)
-Loses-more state x w u soft long h =
-    subst (λ soft. Loses state soft (x ∷ w) (x ∷ u)) (take-append-drop 2 soft)
-    (Loses-same state x w u (take 2 soft) (drop 2 soft) (omega (arith, length-take 2 soft)) h)
+IsNoBetterPath-more : (state x : ℕ) (w u : List ℕ) (soft : List ℤ) → 2 ≤ length soft → IsNoBetterPath (next state x) (drop 2 soft) w u →
+    IsNoBetterPath state soft (x ∷ w) (x ∷ u)
+IsNoBetterPath-more state x w u soft long h =
+    subst (λ soft. IsNoBetterPath state soft (x ∷ w) (x ∷ u)) (take-append-drop 2 soft)
+    (IsNoBetterPath-same state x w u (take 2 soft) (drop 2 soft) (omega (arith, length-take 2 soft)) h)
 
 pub kept_best : (rows : List ℕ) (losses : List (List ℤ)) (soft : List ℤ) → AreDecisions rows losses soft → 1 ≤ length rows → (s : ℕ) →
     s < 16 →
-    IsBest s (read_out rows s) soft (gain s (read_out rows s) soft)
+    IsSurvivor s (traceback rows s) soft (metric_from s (traceback rows s) soft)
 kept_best [] losses soft kept some s lt = absurd (omega arith)
 kept_best (row ∷ rows) [] soft kept some s lt = absurd kept
 kept_best (row ∷ rows) (lost ∷ losses) soft kept some s lt = kept.1.best s lt
 
 pub AllBits-kept : (rows : List ℕ) (losses : List (List ℤ)) (soft : List ℤ) → AreDecisions rows losses soft → 1 ≤ length rows →
-    AllBits (read_out rows 0)
-AllBits-kept rows losses soft kept some = HasTail-bits (read_out rows 0) (kept_best rows losses soft kept some 0 (omega arith)).ends
+    AllBits (traceback rows 0)
+AllBits-kept rows losses soft kept some = HasTailBits-bits (traceback rows 0) (kept_best rows losses soft kept some 0 (omega arith)).ends
 
--- ---- the deviation at a position
+-- ---- the word that deviates at a position
 
 pub record IsDeviationFrom (rows : List ℕ) (losses : List (List ℤ)) (soft : List ℤ) (state place : ℕ) : Type 0 where
-  pub gained : gain state (deviation_from rows state place) soft ≡ gain state (read_out rows state) soft -ℤ loss_at state
-      (read_out rows state) losses place
-  pub ends : HasTail (deviation_from rows state place)
-  pub count : length (deviation_from rows state place) ≡ length rows
-  pub departs : DepartsAt (read_out rows state) (deviation_from rows state place) place
+  pub has_metric : metric_from state (survivor_with_deviation rows state place) soft ≡ metric_from state
+      (traceback rows state) soft -ℤ loss_at state
+      (traceback rows state) losses place
+  pub ends : HasTailBits (survivor_with_deviation rows state place)
+  pub count : length (survivor_with_deviation rows state place) ≡ length rows
+  pub departs : DeviatesAt (traceback rows state) (survivor_with_deviation rows state place) place
 
-pub agree-cons : (x : ℕ) (u w : List ℕ) (place : ℕ) → DepartsAt u w place → DepartsAt (x ∷ u) (x ∷ w) (suc place)
+pub agree-cons : (x : ℕ) (u w : List ℕ) (place : ℕ) → DeviatesAt u w place → DeviatesAt (x ∷ u) (x ∷ w) (suc place)
 agree-cons x u w place h = record { within = (let i = h.within in omega arith); same = same; differs = h.differs } where
   same : (j : ℕ) → j < suc place → get_or (x ∷ u) j 0 ≡ get_or (x ∷ w) j 0
   same zero lt = refl
   same (suc j) lt = h.same j (omega arith)
 
-departs_now : (x y : ℕ) (u w : List ℕ) → x ≢ y → DepartsAt (x ∷ u) (y ∷ w) 0
+departs_now : (x y : ℕ) (u w : List ℕ) → x ≢ y → DeviatesAt (x ∷ u) (y ∷ w) 0
 departs_now x y u w ne = record { within = omega arith; same = (λ j lt. absurd (omega arith)); differs = ne }
 
 pub is_deviation_from : (rows : List ℕ) (losses : List (List ℤ)) (soft : List ℤ) (state place : ℕ) → AreDecisions rows losses soft →
@@ -69,10 +62,10 @@ is_deviation_from (row ∷ rows) [] soft state place kept lt within = absurd kep
 is_deviation_from (row ∷ rows) (lost ∷ losses) soft state zero kept lt within =
     let there : next state (1 - row / 2 ^ state % 2) < 16 = omega arith in
     let best = kept_best rows losses (drop 2 soft) kept.2 (omega arith) (next state (1 - row / 2 ^ state % 2)) there in
-    let same = length-read_out rows (next state (1 - row / 2 ^ state % 2)) in
+    let same = length-traceback rows (next state (1 - row / 2 ^ state % 2)) in
     let loss = kept.1.lost state lt (omega arith) in
     record {
-      gained = omega (arith, ints);
+      has_metric = omega (arith, ints);
       ends = (omega arith, (λ short. absurd (omega arith)), best.ends);
       count = ap suc same;
       departs = departs_now _ _ _ _ (λ e. omega arith);
@@ -81,25 +74,26 @@ is_deviation_from (row ∷ rows) (lost ∷ losses) soft state (suc place) kept l
     let bit = row / 2 ^ state % 2 in
     let there : next state bit < 16 = omega arith in
     let rest = is_deviation_from rows losses (drop 2 soft) (next state bit) place kept.2 there (omega arith) in
-    let gu = gain-more state bit (read_out rows (next state bit)) soft kept.0 in
-    let gv = gain-more state bit (deviation_from rows (next state bit) place) soft kept.0 in
-    let is = rest.gained in
+    let gu = metric_from-more state bit (traceback rows (next state bit)) soft kept.0 in
+    let gv = metric_from-more state bit (survivor_with_deviation rows (next state bit) place) soft kept.0 in
+    let is = rest.has_metric in
     record {
-      gained = omega (arith, ints);
+      has_metric = omega (arith, ints);
       ends = (omega arith, (λ short. absurd (let c = rest.count in omega arith)), rest.ends);
       count = ap suc rest.count;
       departs = agree-cons bit _ _ place rest.departs;
     }
 
--- ---- every other word
+-- ---- what every other word loses
 
 pub record Left (rows : List ℕ) (losses : List (List ℤ)) (soft : List ℤ) (state : ℕ) (w : List ℕ) : Type 0 where
   pub place : ℕ
   pub within : place + 4 < length rows
-  pub departs : DepartsAt (read_out rows state) w place
-  pub behind : (gain state w soft <ℤ (gain state (read_out rows state) soft -ℤ loss_at state (read_out rows state) losses place)) ⊎
-      ((gain state w soft ≡ (gain state (read_out rows state) soft -ℤ loss_at state (read_out rows state) losses place))
-      × IsNotAfter (deviation_from rows state place) w)
+  pub departs : DeviatesAt (traceback rows state) w place
+  pub behind : (metric_from state w soft <ℤ (metric_from state (traceback rows state) soft -ℤ loss_at state
+      (traceback rows state) losses place)) ⊎
+      ((metric_from state w soft ≡ (metric_from state (traceback rows state) soft -ℤ loss_at state (traceback rows state) losses place))
+      × IsNotLexicographicallyAfter (survivor_with_deviation rows state place) w)
 
 other_bit : (x y : ℕ) → x ≤ 1 → y ≤ 1 → x ≢ y → y ≡ 1 - x
 other_bit zero zero hx hy ne = absurd (ne refl)
@@ -114,8 +108,8 @@ module _ (row : ℕ) (rows : List ℕ) (lost : List ℤ) (losses : List (List �
 
   left_later : (w : List ℕ) → Left rows losses (drop 2 soft) (next state bit) w → Left (row ∷ rows) (lost ∷ losses) soft state (bit ∷ w)
   left_later w rest =
-      let gu = gain-more state bit (read_out rows (next state bit)) soft kept.0 in
-      let gw = gain-more state bit w soft kept.0 in
+      let gu = metric_from-more state bit (traceback rows (next state bit)) soft kept.0 in
+      let gw = metric_from-more state bit w soft kept.0 in
       record {
         place = suc rest.place;
         within = let i = rest.within in omega arith;
@@ -127,33 +121,33 @@ module _ (row : ℕ) (rows : List ℕ) (lost : List ℤ) (losses : List (List �
       }
 
   -- the last four bits of every word are 0, so no word deviates there
-  long : (y : ℕ) (w : List ℕ) → HasTail (y ∷ w) → length w ≡ length rows → bit ≢ y → 4 ≤ length rows
+  long : (y : ℕ) (w : List ℕ) → HasTailBits (y ∷ w) → length w ≡ length rows → bit ≢ y → 4 ≤ length rows
   long y w ends same ne = elim (cases_lt (length rows) 4) [
     | inl short ↦ absurd
-        (ne ((kept.1.best state lt).ends.1 (let n = length-read_out rows (next state bit) in omega arith) ∙ sym (ends.1 (omega arith))))
+        (ne ((kept.1.best state lt).ends.1 (let n = length-traceback rows (next state bit) in omega arith) ∙ sym (ends.1 (omega arith))))
     | inr fine ↦ omega arith
   ]
 
-  left_now : (w : List ℕ) → HasTail w → length w ≡ length rows → 4 ≤ length rows →
+  left_now : (w : List ℕ) → HasTailBits w → length w ≡ length rows → 4 ≤ length rows →
       Left (row ∷ rows) (lost ∷ losses) soft state ((1 - bit) ∷ w)
   left_now w ends same four =
       let there : next state (1 - bit) < 16 = omega arith in
-      let rest = read_out rows (next state (1 - bit)) in
+      let rest = traceback rows (next state (1 - bit)) in
       let best = kept_best rows losses (drop 2 soft) kept.2 (omega arith) (next state (1 - bit)) there in
       let loss = kept.1.lost state lt four in
       record {
         place = 0;
         within = omega arith;
         departs = departs_now bit (1 - bit) _ w (λ e. omega arith);
-        behind = elim (Loses-more state (1 - bit) w rest soft kept.0
-            (best.wins w ends (same ∙ sym (length-read_out rows (next state (1 - bit)))))) [
-              | Less h ↦ inl (omega (arith, ints))
-              | Later h after ↦ inr (omega (arith, ints), after)
+        behind = elim (IsNoBetterPath-more state (1 - bit) w rest soft kept.0
+            (best.beats_others w ends (same ∙ sym (length-traceback rows (next state (1 - bit)))))) [
+              | LessMetric h ↦ inl (omega (arith, ints))
+              | EqualMetricButLater h after ↦ inr (omega (arith, ints), after)
             ];
       }
 
 pub left : (rows : List ℕ) (losses : List (List ℤ)) (soft : List ℤ) (state : ℕ) (w : List ℕ) → AreDecisions rows losses soft →
-    state < 16 → HasTail w → length w ≡ length rows → read_out rows state ≢ w → Left rows losses soft state w
+    state < 16 → HasTailBits w → length w ≡ length rows → traceback rows state ≢ w → Left rows losses soft state w
 left [] losses soft state [] kept lt ends same ne = absurd (ne refl)
 left [] losses soft state (y ∷ w) kept lt ends same ne = absurd (omega arith)
 left (row ∷ rows) [] soft state w kept lt ends same ne = absurd kept
@@ -170,28 +164,29 @@ left (row ∷ rows) (lost ∷ losses) soft state (y ∷ w) kept lt ends same ne 
       (long row rows lost losses soft state kept lt y w ends (omega arith) other))
 ]
 
--- ---- the best of all deviations
+-- ---- the best of all deviating words
 
 module _ (soft : List ℤ) (rows : List ℕ) (losses : List (List ℤ)) (place : ℕ) (loss : ℤ) (kept : AreDecisions rows losses soft)
     (within : place + 4 < length rows)
-    (least : IsLeastLoss (read_out rows 0) losses (length (read_out rows 0) - 4) place loss) where
+    (least : IsLeastLossPosition (traceback rows 0) losses (length (traceback rows 0) - 4) place loss) where
   abbrev u : List ℕ
-  u = read_out rows 0
+  u = traceback rows 0
 
   abbrev v : List ℕ
-  v = deviation_from rows 0 place
+  v = survivor_with_deviation rows 0 place
 
   here : IsDeviationFrom rows losses soft 0 place
   here = is_deviation_from rows losses soft 0 place kept (omega arith) within
 
-  gained : gain 0 v soft ≡ gain 0 u soft -ℤ loss
-  gained = let g = here.gained in let is = least.value in omega (arith, ints)
+  has_metric : metric_from 0 v soft ≡ metric_from 0 u soft -ℤ loss
+  has_metric = let g = here.has_metric in let is = least.value in omega (arith, ints)
 
   bits : (k : ℕ) → get_or v k 0 ≤ 1
-  bits k = bit_at-most_1 v k (HasTail-bits v here.ends)
+  bits k = bit_at-most_1 v k (HasTailBits-bits v here.ends)
 
-  -- an equally likely word that deviates from u elsewhere comes later
-  before_at : (w : List ℕ) (k : ℕ) → k + 4 < length rows → DepartsAt u w k → loss_at 0 u losses k ≡ loss → k ≢ place → IsBefore v w
+  -- an equally likely word that deviates from u at another position comes later in lexicographic order
+  before_at : (w : List ℕ) (k : ℕ) → k + 4 < length rows → DeviatesAt u w k → loss_at 0 u losses k ≡ loss → k ≢ place →
+      IsLexicographicallyBefore v w
   before_at w k inside at tie other = elim (cases_lt k place) [
     | inl early ↦
         let zero_bit = least.before k early tie in
@@ -204,7 +199,7 @@ module _ (soft : List ℤ) (rows : List ℕ) (losses : List (List ℤ)) (place :
         }
     | inr not_early ↦
         let late : place < k = elim (cases_lt place k) [ inl lt ↦ lt | inr not_late ↦ absurd (other (omega arith)) ] in
-        let one_bit = least.after k late (let n = length-read_out rows 0 in omega arith) tie in
+        let one_bit = least.after k late (let n = length-traceback rows 0 in omega arith) tie in
         record {
           place = place;
           within = let n = here.count in omega arith;
@@ -217,12 +212,12 @@ module _ (soft : List ℤ) (rows : List ℕ) (losses : List (List ℤ)) (place :
     zero_of zero le ne = refl
     zero_of (suc x) le ne = absurd (ne (omega arith))
 
-  falls_behind : (w : List ℕ) → IsCandidate soft w → length w ≡ length rows → w ≢ v → Left rows losses soft 0 w → FallsBehind soft w v
+  falls_behind : (w : List ℕ) → IsCandidate soft w → length w ≡ length rows → w ≢ v → Left rows losses soft 0 w → RanksAfter soft w v
   falls_behind w is same ne at =
-      let gv = gain-start soft v (HasTail-bits v here.ends) in
-      let gw = gain-start soft w is.information.bits in
-      let g = gained in
-      let low = least.least at.place (let n = length-read_out rows 0 in let i = at.within in omega arith) in
+      let gv = metric_from-start soft v (HasTailBits-bits v here.ends) in
+      let gw = metric_from-start soft w is.information.bits in
+      let g = has_metric in
+      let low = least.least at.place (let n = length-traceback rows 0 in let i = at.within in omega arith) in
       elim at.behind [
         | inl less ↦ inl (omega (arith, ints))
         | inr tie ↦ let e = tie.0 in by_lt_z loss (loss_at 0 u losses at.place)
@@ -232,14 +227,14 @@ module _ (soft : List ℤ) (rows : List ℕ) (losses : List (List ℤ)) (place :
             inr (
               omega (arith, ints),
               elim (same_number at.place place) [
-                | inl there ↦ IsBefore-not_after v w is.information.bits (same ∙ sym here.count)
-                    (subst (λ k. IsNotAfter (deviation_from rows 0 k) w) there tie.1) ne
+                | inl there ↦ IsLexicographicallyBefore-not_after v w is.information.bits (same ∙ sym here.count)
+                    (subst (λ k. IsNotLexicographicallyAfter (survivor_with_deviation rows 0 k) w) there tie.1) ne
                 | inr elsewhere ↦ before_at w at.place at.within at.departs equal elsewhere
               ],
             ))
       ]
 
-  second : length soft ≡ 2 * length rows → IsSecond soft u v
+  second : length soft ≡ 2 * length rows → IsSecondMostLikely soft u v
   second pairs = record {
     candidate = record {
       information = IsInformation-ends v (let n = here.count in let i = within in omega arith) here.ends;
@@ -247,24 +242,24 @@ module _ (soft : List ℤ) (rows : List ℕ) (losses : List (List ℤ)) (place :
     };
     differs = λ e. here.departs.differs (ap (λ w. get_or w place 0) (sym e));
     others = λ w is not_u not_v. falls_behind w is (let c = is.count in omega arith) not_v
-        (left rows losses soft 0 w kept (omega arith) (HasTail-from_tail w is.information.bits is.information.tail)
+        (left rows losses soft 0 w kept (omega arith) (HasTailBits-from_tail w is.information.bits is.information.tail)
         (let c = is.count in omega arith) (λ e. not_u (sym e)));
   }
 
   loss_is : loss ≡ likelihood soft (encoding u) -ℤ likelihood soft (encoding v)
   loss_is =
       let best = kept_best rows losses soft kept (let i = within in omega arith) 0 (omega arith) in
-      let gu = gain-start soft u (HasTail-bits u best.ends) in
-      let gv = gain-start soft v (HasTail-bits v here.ends) in
-      let g = gained in
+      let gu = metric_from-start soft u (HasTailBits-bits u best.ends) in
+      let gv = metric_from-start soft v (HasTailBits-bits v here.ends) in
+      let g = has_metric in
       omega (arith, ints)
 
--- the word up to the position, the other bit, and then the survivors
+-- the deviating word consists of the word up to the position, the other bit, and then the survivor from the next state
 deviation_written : (rows : List ℕ) (state place : ℕ) → place < length rows →
-    take place (read_out rows state) ++ (1 - get_or (read_out rows state) place 0) ∷
-    read_out (drop (place + 1) rows)
-    (next (state_after state (take place (read_out rows state))) (1 - get_or (read_out rows state) place 0))
-    ≡ deviation_from rows state place
+    take place (traceback rows state) ++ (1 - get_or (traceback rows state) place 0) ∷
+    traceback (drop (place + 1) rows)
+    (next (state_after state (take place (traceback rows state))) (1 - get_or (traceback rows state) place 0))
+    ≡ survivor_with_deviation rows state place
 deviation_written [] state place within = absurd (omega arith)
 deviation_written (row ∷ rows) state zero within = refl
 deviation_written (row ∷ rows) state (suc place) within =
@@ -276,27 +271,27 @@ deviation_written (row ∷ rows) state (suc place) within =
 
 pub record AreFirstTwo (soft : List ℤ) (u v : List ℕ) (margin : ℤ) : Type 0 where
   pub best : IsMostLikely soft u
-  pub second : IsSecond soft u v
+  pub second : IsSecondMostLikely soft u v
   pub value : margin ≡ likelihood soft (encoding u) -ℤ likelihood soft (encoding v)
 
 pub first_two : (soft : List ℤ) (rows : List ℕ) (losses : List (List ℤ)) (u v : List ℕ) (place state : ℕ) (loss : ℤ) →
-    AreDecisions rows losses soft → length soft ≡ 2 * length rows → 5 ≤ length rows → u ≡ read_out rows 0 →
-    IsLeastLoss u losses (length u - 4) place loss → place + 4 < length u →
+    AreDecisions rows losses soft → length soft ≡ 2 * length rows → 5 ≤ length rows → u ≡ traceback rows 0 →
+    IsLeastLossPosition u losses (length u - 4) place loss → place + 4 < length u →
     state ≡ state_after 0 (take place u) →
-    v ≡ take place u ++ (1 - get_or u place 0) ∷ read_out (drop (place + 1) rows) (next state (1 - get_or u place 0)) →
+    v ≡ take place u ++ (1 - get_or u place 0) ∷ traceback (drop (place + 1) rows) (next state (1 - get_or u place 0)) →
     AreFirstTwo soft u v loss
 first_two soft rows losses u v place state loss kept pairs five is least within known written =
-    let n = length-read_out rows 0 in
+    let n = length-traceback rows 0 in
     let inside : place + 4 < length rows = let i = subst (λ u. place + 4 < length u) is within in omega arith in
-    let least' = subst (λ u. IsLeastLoss u losses (length u - 4) place loss) is least in
-    let v_is : v ≡ deviation_from rows 0 place =
+    let least' = subst (λ u. IsLeastLossPosition u losses (length u - 4) place loss) is least in
+    let v_is : v ≡ survivor_with_deviation rows 0 place =
     written
-    ∙ ap (λ s. take place u ++ (1 - get_or u place 0) ∷ read_out (drop (place + 1) rows) (next s (1 - get_or u place 0))) known
-    ∙ ap (λ u. take place u ++ (1 - get_or u place 0) ∷ read_out (drop (place + 1) rows)
+    ∙ ap (λ s. take place u ++ (1 - get_or u place 0) ∷ traceback (drop (place + 1) rows) (next s (1 - get_or u place 0))) known
+    ∙ ap (λ u. take place u ++ (1 - get_or u place 0) ∷ traceback (drop (place + 1) rows)
     (next (state_after 0 (take place u)) (1 - get_or u place 0))) is
     ∙ deviation_written rows 0 place (omega arith) in
-    subst (λ u. AreFirstTwo soft u v loss) (sym is) (subst (λ v. AreFirstTwo soft (read_out rows 0) v loss) (sym v_is) (record {
-      best = IsMostLikely-best soft (read_out rows 0) _ (omega arith) (omega arith)
+    subst (λ u. AreFirstTwo soft u v loss) (sym is) (subst (λ v. AreFirstTwo soft (traceback rows 0) v loss) (sym v_is) (record {
+      best = IsMostLikely-best soft (traceback rows 0) _ (omega arith) (omega arith)
           (kept_best rows losses soft kept (omega arith) 0 (omega arith));
       second = second soft rows losses place loss kept inside least' pairs;
       value = loss_is soft rows losses place loss kept inside least';

@@ -1,27 +1,22 @@
--- The best word that deviates from a returned one at a free position, where the returned word follows the survivors.
-use Rattle.std.proofs.Common.{◌≡◌, ◌≢◌, ◌⊎◌, ℕ, zero, suc, ◌+◌, ◌-◌, ◌*◌, ◌/◌, ◌%◌, ◌^◌}
-use Rattle.std.proofs.Common.{◌<◌, ◌≤◌, true, inl, inr, ℤ, ◌-ℤ◌, List, [], ◌∷◌, ◌++◌, length, get_or, take}
-use Rattle.std.proofs.Common.{drop, refl, ap, sym, ◌∙◌, subst, arith}
-use Rattle.std.specs.Prelude.{◌<ℤ◌}
-use Rattle.std.proofs.lemmas.Bool.{cases_lt}
-use Rattle.std.proofs.lemmas.Int.{ints, by_lt_z}
-use Rattle.weight_bound.specs.conv_code.Code.{encoding}
-use Rattle.weight_bound.specs.conv_code.Likelihood.{likelihood, IsBefore, FallsBehind}
-use Rattle.weight_bound.proofs.conv_code.Coding.{bit_at-most_1}
-use Rattle.trellis_decode.specs.Trellis.{next, gain, HasTail, IsNotAfter, read_out, AreDecisions}
-use Rattle.list_decode.specs.Classes.{DepartsAt, Class, IsInClass}
-use Rattle.list_decode.specs.DeviatingLists.{state_after, loss_at, deviation_from, FollowsRows, deviation, IsLeastFree}
-use Rattle.list_decode.specs.Ranking.{IsCandidate}
-use Rattle.weight_bound.proofs.conv_code.Lemmas.{same_number}
-use Rattle.trellis_decode.proofs.Lemmas.{HasTail-bits, HasTail-from_tail, IsBefore-not_after, IsInformation-ends, gain-start}
-use Rattle.trellis_decode.proofs.Lemmas.{length-read_out}
-use Rattle.list_decode.proofs.ClassSteps.{departs_once}
-use Rattle.list_decode.proofs.DeviatingLists.{gain-more, is_deviation_from, agree-cons, left}
+-- The best word that deviates from a returned word at a free position, where the returned word follows the survivors.
+use Rattle.std.proofs.Common.{◌≡◌, ◌≢◌, ◌⊎◌, ℕ, zero, suc, ◌+◌, ◌-◌, ◌*◌, ◌/◌, ◌%◌, ◌^◌, ◌<◌, ◌≤◌, true, inl, inr, ℤ, ◌-ℤ◌, List, [], ◌∷◌}
+use Rattle.std.proofs.{Common.{◌++◌, length, get_or, take, drop, refl, ap, sym, ◌∙◌, subst, arith}, lemmas.{Bool.cases_lt, Int.ints}}
+use Rattle.std.{proofs.lemmas.Int.by_lt_z, specs.Prelude.◌<ℤ◌}
+use Rattle.weight_bound.specs.conv_code.{Code.encoding, Likelihood.{likelihood, IsLexicographicallyBefore, RanksAfter}}
+use Rattle.weight_bound.proofs.conv_code.{Coding.bit_at-most_1, Lemmas.same_number}
+use Rattle.trellis_decode.specs.Trellis.{next, metric_from, HasTailBits, IsNotLexicographicallyAfter, traceback, AreDecisions}
+use Rattle.trellis_decode.proofs.Lemmas.{HasTailBits-bits, HasTailBits-from_tail, IsLexicographicallyBefore-not_after, IsInformation-ends}
+use Rattle.trellis_decode.proofs.Lemmas.{metric_from-start, length-traceback}
+use Rattle.list_decode.specs.{Classes.{DeviatesAt, DeviationClass, IsInClass}, DeviatingLists.{state_after, loss_at}}
+use Rattle.list_decode.specs.DeviatingLists.{survivor_with_deviation, FollowsSurvivors, deviation, IsLeastLossFreePosition}
+use Rattle.list_decode.{specs.Ranking.IsCandidate, proofs.{ClassSteps.departs_once, DeviatingLists.{metric_from-more, is_deviation_from}}}
+use Rattle.list_decode.proofs.DeviatingLists.{agree-cons, left}
 
--- ---- ranking after is transitive
+-- ---- the order of rank is transitive
 
-IsBefore-trans : (u v w : List ℕ) → IsBefore u v → IsBefore v w → IsBefore u w
-IsBefore-trans u v w h g = elim (cases_lt h.place g.place) [
+IsLexicographicallyBefore-trans : (u v w : List ℕ) → IsLexicographicallyBefore u v → IsLexicographicallyBefore v w →
+    IsLexicographicallyBefore u w
+IsLexicographicallyBefore-trans u v w h g = elim (cases_lt h.place g.place) [
   | inl early ↦ record {
     place = h.place;
     within = h.within;
@@ -43,43 +38,43 @@ IsBefore-trans u v w h g = elim (cases_lt h.place g.place) [
   ]
 ]
 
-pub FallsBehind-trans : (s : List ℤ) (w v u : List ℕ) → FallsBehind s w v → FallsBehind s v u → FallsBehind s w u
-FallsBehind-trans s w v u (inl less) (inl less') = inl (omega (arith, ints))
-FallsBehind-trans s w v u (inl less) (inr tie) = let e = tie.0 in inl (omega (arith, ints))
-FallsBehind-trans s w v u (inr tie) (inl less) = let e = tie.0 in inl (omega (arith, ints))
-FallsBehind-trans s w v u (inr tie) (inr tie') = inr (tie.0 ∙ tie'.0, IsBefore-trans u v w tie'.1 tie.1)
+pub RanksAfter-trans : (s : List ℤ) (w v u : List ℕ) → RanksAfter s w v → RanksAfter s v u → RanksAfter s w u
+RanksAfter-trans s w v u (inl less) (inl less') = inl (omega (arith, ints))
+RanksAfter-trans s w v u (inl less) (inr tie) = let e = tie.0 in inl (omega (arith, ints))
+RanksAfter-trans s w v u (inr tie) (inl less) = let e = tie.0 in inl (omega (arith, ints))
+RanksAfter-trans s w v u (inr tie) (inr tie') = inr (tie.0 ∙ tie'.0, IsLexicographicallyBefore-trans u v w tie'.1 tie.1)
 
 -- ---- the word that deviates from another
 
-pub length-follows : (from : ℕ) (u rows : List ℕ) (state : ℕ) → FollowsRows from u rows state → length u ≡ length rows
-length-follows zero u rows state h = ap length h ∙ length-read_out rows state
+pub length-follows : (from : ℕ) (u rows : List ℕ) (state : ℕ) → FollowsSurvivors from u rows state → length u ≡ length rows
+length-follows zero u rows state h = ap length h ∙ length-traceback rows state
 length-follows (suc from) [] rows state h = absurd h
 length-follows (suc from) (x ∷ u) [] state h = absurd h
 length-follows (suc from) (x ∷ u) (row ∷ rows) state h = ap suc (length-follows from u rows (next state x) h)
 
-deviation-deviation_from : (rows : List ℕ) (state place : ℕ) →
-    deviation (read_out rows state) rows state place ≡ deviation_from rows state place
-deviation-deviation_from [] state place = refl
-deviation-deviation_from (row ∷ rows) state zero = refl
-deviation-deviation_from (row ∷ rows) state (suc place) =
-    ap (λ rest. (row / 2 ^ state % 2) ∷ rest) (deviation-deviation_from rows (next state (row / 2 ^ state % 2)) place)
+deviation-survivor_with_deviation : (rows : List ℕ) (state place : ℕ) →
+    deviation (traceback rows state) rows state place ≡ survivor_with_deviation rows state place
+deviation-survivor_with_deviation [] state place = refl
+deviation-survivor_with_deviation (row ∷ rows) state zero = refl
+deviation-survivor_with_deviation (row ∷ rows) state (suc place) =
+    ap (λ rest. (row / 2 ^ state % 2) ∷ rest) (deviation-survivor_with_deviation rows (next state (row / 2 ^ state % 2)) place)
 
 pub record IsDeviation (u rows : List ℕ) (losses : List (List ℤ)) (soft : List ℤ) (state place : ℕ) : Type 0 where
-  pub gained : gain state (deviation u rows state place) soft ≡ gain state u soft -ℤ loss_at state u losses place
-  pub ends : HasTail (deviation u rows state place)
+  pub has_metric : metric_from state (deviation u rows state place) soft ≡ metric_from state u soft -ℤ loss_at state u losses place
+  pub ends : HasTailBits (deviation u rows state place)
   pub count : length (deviation u rows state place) ≡ length rows
-  pub departs : DepartsAt u (deviation u rows state place) place
+  pub departs : DeviatesAt u (deviation u rows state place) place
 
 pub is_deviation : (from : ℕ) (u rows : List ℕ) (losses : List (List ℤ)) (soft : List ℤ) (state place : ℕ) → AreDecisions rows losses soft →
-    state < 16 → HasTail u → FollowsRows from u rows state → from ≤ place → place + 4 < length rows →
+    state < 16 → HasTailBits u → FollowsSurvivors from u rows state → from ≤ place → place + 4 < length rows →
     IsDeviation u rows losses soft state place
 is_deviation zero u rows losses soft state place kept lt ends follows le within =
     let d = is_deviation_from rows losses soft state place kept lt within in
     subst (λ u. IsDeviation u rows losses soft state place) (sym follows) (record {
-      gained = ap (λ w. gain state w soft) (deviation-deviation_from rows state place) ∙ d.gained;
-      ends = subst HasTail (sym (deviation-deviation_from rows state place)) d.ends;
-      count = ap length (deviation-deviation_from rows state place) ∙ d.count;
-      departs = subst (λ w. DepartsAt (read_out rows state) w place) (sym (deviation-deviation_from rows state place)) d.departs;
+      has_metric = ap (λ w. metric_from state w soft) (deviation-survivor_with_deviation rows state place) ∙ d.has_metric;
+      ends = subst HasTailBits (sym (deviation-survivor_with_deviation rows state place)) d.ends;
+      count = ap length (deviation-survivor_with_deviation rows state place) ∙ d.count;
+      departs = subst (λ w. DeviatesAt (traceback rows state) w place) (sym (deviation-survivor_with_deviation rows state place)) d.departs;
     })
 is_deviation (suc from) [] rows losses soft state place kept lt ends follows le within = absurd follows
 is_deviation (suc from) (x ∷ u) [] losses soft state place kept lt ends follows le within = absurd follows
@@ -88,11 +83,11 @@ is_deviation (suc from) (x ∷ u) (row ∷ rows) (lost ∷ losses) soft state ze
 is_deviation (suc from) (x ∷ u) (row ∷ rows) (lost ∷ losses) soft state (suc place) kept lt ends follows le within =
     let there : next state x < 16 = omega arith in
     let rest = is_deviation from u rows losses (drop 2 soft) (next state x) place kept.2 there ends.2 follows (omega arith) (omega arith) in
-    let gu = gain-more state x u soft kept.0 in
-    let gv = gain-more state x (deviation u rows (next state x) place) soft kept.0 in
-    let is = rest.gained in
+    let gu = metric_from-more state x u soft kept.0 in
+    let gv = metric_from-more state x (deviation u rows (next state x) place) soft kept.0 in
+    let is = rest.has_metric in
     record {
-      gained = omega (arith, ints);
+      has_metric = omega (arith, ints);
       ends = (ends.0, (λ short. absurd (let c = rest.count in omega arith)), rest.ends);
       count = ap suc rest.count;
       departs = agree-cons x _ _ place rest.departs;
@@ -101,25 +96,31 @@ is_deviation (suc from) (x ∷ u) (row ∷ rows) (lost ∷ losses) soft state (s
 -- a word that deviates from u where u follows the survivors loses at least the loss stored there
 pub record FallsShort (u rows : List ℕ) (losses : List (List ℤ)) (soft : List ℤ) (state place : ℕ) (w : List ℕ) : Type 0 where
   pub within : place + 4 < length rows
-  pub short : (gain state w soft <ℤ (gain state u soft -ℤ loss_at state u losses place)) ⊎
-      ((gain state w soft ≡ (gain state u soft -ℤ loss_at state u losses place)) × IsNotAfter (deviation u rows state place) w)
+  pub short : (metric_from state w soft <ℤ (metric_from state u soft -ℤ loss_at state u losses place)) ⊎
+      ((metric_from state w soft ≡ (metric_from state u soft -ℤ loss_at state u losses place)) ×
+      IsNotLexicographicallyAfter (deviation u rows state place) w)
 
 falls_short : (from : ℕ) (u rows : List ℕ) (losses : List (List ℤ)) (soft : List ℤ) (state place : ℕ) (w : List ℕ) →
-    AreDecisions rows losses soft → state < 16 → HasTail u → HasTail w → length w ≡ length rows → FollowsRows from u rows state →
+    AreDecisions rows losses soft → state < 16 → HasTailBits u → HasTailBits w → length w ≡ length rows →
+    FollowsSurvivors from u rows state →
     from ≤ place →
-    DepartsAt u w place → FallsShort u rows losses soft state place w
+    DeviatesAt u w place → FallsShort u rows losses soft state place w
 falls_short zero u rows losses soft state place w kept lt ends wends same follows le departs =
-    subst (λ u. FallsShort u rows losses soft state place w) (sym follows) (chosen (subst (λ u. DepartsAt u w place) follows departs))
+    subst (λ u. FallsShort u rows losses soft state place w) (sym follows) (chosen (subst (λ u. DeviatesAt u w place) follows departs))
   where
-    chosen : DepartsAt (read_out rows state) w place → FallsShort (read_out rows state) rows losses soft state place w
+    chosen : DeviatesAt (traceback rows state) w place → FallsShort (traceback rows state) rows losses soft state place w
     chosen at =
         let l = left rows losses soft state w kept lt wends same (λ e. at.differs (ap (λ v. get_or v place 0) e)) in
-        let here : l.place ≡ place = departs_once (read_out rows state) w l.place place l.departs at in
-        subst (λ place. FallsShort (read_out rows state) rows losses soft state place w) here (record {
+        let here : l.place ≡ place = departs_once (traceback rows state) w l.place place l.departs at in
+        subst (λ place. FallsShort (traceback rows state) rows losses soft state place w) here (record {
           within = l.within;
           short = elim l.behind [
             | inl less ↦ inl less
-            | inr tie ↦ inr (tie.0, subst (λ v. IsNotAfter v w) (sym (deviation-deviation_from rows state l.place)) tie.1)
+            | inr tie ↦ inr (
+              tie.0,
+              subst (λ v. IsNotLexicographicallyAfter v w) (sym
+                  (deviation-survivor_with_deviation rows state l.place)) tie.1,
+            )
           ];
         })
 falls_short (suc from) [] rows losses soft state place w kept lt ends wends same follows le departs = absurd follows
@@ -134,7 +135,7 @@ falls_short (suc from) (x ∷ u) (row ∷ rows) (lost ∷ losses) soft state (su
     (later (falls_short from u rows losses (drop 2 soft) (next state x) place w kept.2 (omega arith) ends.2 wends.2 (omega arith) follows
     (omega arith) behind))
   where
-    behind : DepartsAt u w place
+    behind : DeviatesAt u w place
     behind = record {
       within = (let i = departs.within in omega arith);
       same = (λ j lt. departs.same (suc j) (omega arith));
@@ -144,8 +145,8 @@ falls_short (suc from) (x ∷ u) (row ∷ rows) (lost ∷ losses) soft state (su
     later : FallsShort u rows losses (drop 2 soft) (next state x) place w →
         FallsShort (x ∷ u) (row ∷ rows) (lost ∷ losses) soft state (suc place) (x ∷ w)
     later rest =
-        let gu = gain-more state x u soft kept.0 in
-        let gw = gain-more state x w soft kept.0 in
+        let gu = metric_from-more state x u soft kept.0 in
+        let gw = metric_from-more state x w soft kept.0 in
         record {
           within = let i = rest.within in omega arith;
           short = elim rest.short [
@@ -156,19 +157,19 @@ falls_short (suc from) (x ∷ u) (row ∷ rows) (lost ∷ losses) soft state (su
 
 -- a word follows the survivors after the position of its deviation
 pub follows_behind : (u rows : List ℕ) (state place : ℕ) → length u ≡ length rows → place < length rows →
-    FollowsRows (place + 1) (deviation u rows state place) rows state
+    FollowsSurvivors (place + 1) (deviation u rows state place) rows state
 follows_behind [] [] state place same within = absurd (omega arith)
 follows_behind [] (row ∷ rows) state place same within = absurd (omega arith)
 follows_behind (x ∷ u) [] state place same within = absurd (omega arith)
 follows_behind (x ∷ u) (row ∷ rows) state zero same within = refl
 follows_behind (x ∷ u) (row ∷ rows) state (suc place) same within =
     let more : suc place + 1 ≡ suc (place + 1) = omega arith in
-    subst (λ from. FollowsRows from (x ∷ deviation u rows (next state x) place) (row ∷ rows) state) (sym more)
+    subst (λ from. FollowsSurvivors from (x ∷ deviation u rows (next state x) place) (row ∷ rows) state) (sym more)
     (follows_behind u rows (next state x) place (omega arith) (omega arith))
 
--- the word up to the position, the other bit, and then the survivors
+-- the deviating word consists of the word up to the position, the other bit, and then the survivor from the next state
 pub deviation_written : (u rows : List ℕ) (state place : ℕ) → place < length u → length rows ≡ length u →
-    take place u ++ (1 - get_or u place 0) ∷ read_out (drop (place + 1) rows)
+    take place u ++ (1 - get_or u place 0) ∷ traceback (drop (place + 1) rows)
     (next (state_after state (take place u)) (1 - get_or u place 0))
     ≡ deviation u rows state place
 deviation_written [] rows state place within same = absurd (omega arith)
@@ -178,20 +179,20 @@ deviation_written (x ∷ u) (row ∷ rows) state (suc place) within same =
     let more : suc place + 1 ≡ suc (place + 1) = omega arith in
     rw more (ap (λ rest. x ∷ rest) (deviation_written u rows (next state x) place (omega arith) (omega arith)))
 
--- ---- the best of a class
+-- ---- the best word of a class
 
 -- a class whose word is a candidate that follows the survivors from a position on, before which no position is free
-pub record IsFollowed (soft : List ℤ) (rows : List ℕ) (losses : List (List ℤ)) (c : Class) (from : ℕ) : Type 0 where
+pub record IsFollowed (soft : List ℤ) (rows : List ℕ) (losses : List (List ℤ)) (c : DeviationClass) (from : ℕ) : Type 0 where
   pub kept : AreDecisions rows losses soft
   pub pairs : length soft ≡ 2 * length rows
   pub candidate : IsCandidate soft c.list
-  pub follows : FollowsRows from c.list rows 0
+  pub follows : FollowsSurvivors from c.list rows 0
   pub later : (k : ℕ) → c.free k ≡ true → from ≤ k
 
-module _ (soft : List ℤ) (rows : List ℕ) (losses : List (List ℤ)) (c : Class) (from : ℕ)
+module _ (soft : List ℤ) (rows : List ℕ) (losses : List (List ℤ)) (c : DeviationClass) (from : ℕ)
     (followed : IsFollowed soft rows losses c from) where
-  list_ends : HasTail c.list
-  list_ends = HasTail-from_tail c.list followed.candidate.information.bits followed.candidate.information.tail
+  list_ends : HasTailBits c.list
+  list_ends = HasTailBits-from_tail c.list followed.candidate.information.bits followed.candidate.information.tail
 
   same_length : length c.list ≡ length rows
   same_length = length-follows from c.list rows 0 followed.follows
@@ -202,14 +203,14 @@ module _ (soft : List ℤ) (rows : List ℕ) (losses : List (List ℤ)) (c : Cla
       let count = candidate.count in
       let pairs = followed.pairs in
       falls_short from c.list rows losses soft 0 at.place w followed.kept (omega arith) list_ends
-      (HasTail-from_tail w candidate.information.bits candidate.information.tail) (omega arith) followed.follows
+      (HasTailBits-from_tail w candidate.information.bits candidate.information.tail) (omega arith) followed.follows
       (followed.later at.place at.free) at.departs
 
   -- if no such position is free, the class has no candidate
   pub none_in_class : ((k : ℕ) → k + 4 < length rows → c.free k ≡ true → ⊥) → (w : List ℕ) → IsCandidate soft w → IsInClass c w → ⊥
   none_in_class none w candidate at = none at.place (in_class_short w candidate at).within at.free
 
-  module _ (place : ℕ) (least : IsLeastFree c.list losses c.free (length c.list - 4) place) where
+  module _ (place : ℕ) (least : IsLeastLossFreePosition c.list losses c.free (length c.list - 4) place) where
     abbrev v : List ℕ
     v = deviation c.list rows 0 place
 
@@ -226,19 +227,19 @@ module _ (soft : List ℤ) (rows : List ℕ) (losses : List (List ℤ)) (c : Cla
       count = followed.pairs ∙ ap (λ n. 2 * n) (sym here.count);
     }
 
-    pub deviation_departs : DepartsAt c.list v place
+    pub deviation_departs : DeviatesAt c.list v place
     deviation_departs = here.departs
 
     pub deviation_value : likelihood soft (encoding v) ≡ likelihood soft (encoding c.list) -ℤ loss_at 0 c.list losses place
     deviation_value =
-        let gv = gain-start soft v (HasTail-bits v here.ends) in
-        let gu = gain-start soft c.list (HasTail-bits c.list list_ends) in
-        let g = here.gained in
+        let gv = metric_from-start soft v (HasTailBits-bits v here.ends) in
+        let gu = metric_from-start soft c.list (HasTailBits-bits c.list list_ends) in
+        let g = here.has_metric in
         omega (arith, ints)
 
-    -- an equally likely word that deviates elsewhere comes later
-    before_at : (w : List ℕ) (k : ℕ) → k + 4 < length rows → DepartsAt c.list w k → c.free k ≡ true →
-        loss_at 0 c.list losses k ≡ loss_at 0 c.list losses place → k ≢ place → IsBefore v w
+    -- an equally likely word that deviates at another position comes later in lexicographic order
+    before_at : (w : List ℕ) (k : ℕ) → k + 4 < length rows → DeviatesAt c.list w k → c.free k ≡ true →
+        loss_at 0 c.list losses k ≡ loss_at 0 c.list losses place → k ≢ place → IsLexicographicallyBefore v w
     before_at w k within at free tie other = elim (cases_lt k place) [
       | inl early ↦
           let zero_bit = least.before k early free tie in
@@ -256,7 +257,7 @@ module _ (soft : List ℤ) (rows : List ℕ) (losses : List (List ℤ)) (c : Cla
             place = place;
             within = let n = here.count in omega arith;
             same = (λ j lt. sym (here.departs.same j lt) ∙ at.same j (omega arith));
-            zero = zero_of (get_or v place 0) (bit_at-most_1 v place (HasTail-bits v here.ends))
+            zero = zero_of (get_or v place 0) (bit_at-most_1 v place (HasTailBits-bits v here.ends))
                 (λ e. here.departs.differs (one_bit ∙ sym e));
             differs = (λ e. let s = at.same place late in omega arith);
           }
@@ -265,12 +266,12 @@ module _ (soft : List ℤ) (rows : List ℕ) (losses : List (List ℤ)) (c : Cla
       zero_of zero le ne = refl
       zero_of (suc x) le ne = absurd (ne (omega arith))
 
-    -- every other candidate of the class ranks after it
-    pub deviation_best : (w : List ℕ) → IsCandidate soft w → IsInClass c w → w ≢ v → FallsBehind soft w v
+    -- every other candidate of the class ranks after the best deviating word v
+    pub deviation_best : (w : List ℕ) → IsCandidate soft w → IsInClass c w → w ≢ v → RanksAfter soft w v
     deviation_best w candidate at ne =
         let short = in_class_short w candidate at in
-        let gu = gain-start soft c.list (HasTail-bits c.list list_ends) in
-        let gw = gain-start soft w candidate.information.bits in
+        let gu = metric_from-start soft c.list (HasTailBits-bits c.list list_ends) in
+        let gw = metric_from-start soft w candidate.information.bits in
         let value = deviation_value in
         let low = least.least at.place (let n = same_length in let i = short.within in omega arith) at.free in
         let count : length w ≡ length v = let a = candidate.count in let b = followed.pairs in let n = here.count in omega arith in
@@ -283,8 +284,8 @@ module _ (soft : List ℤ) (rows : List ℕ) (losses : List (List ℤ)) (c : Cla
               inr (
                 omega (arith, ints),
                 elim (same_number at.place place) [
-                  | inl there ↦ IsBefore-not_after v w candidate.information.bits count
-                      (subst (λ k. IsNotAfter (deviation c.list rows 0 k) w) there tie.1) ne
+                  | inl there ↦ IsLexicographicallyBefore-not_after v w candidate.information.bits count
+                      (subst (λ k. IsNotLexicographicallyAfter (deviation c.list rows 0 k) w) there tie.1) ne
                   | inr elsewhere ↦ before_at w at.place short.within at.departs at.free equal elsewhere
                 ],
               ))

@@ -1,27 +1,20 @@
--- The free position with the least loss, after one more position.
-use Rattle.std.proofs.Common.{◌≡◌, ◌≢◌, ◌⊎◌, ℕ, zero, suc, ◌+◌, ◌<◌, ◌≤◌, Bool, true, inl, inr, ℤ}
-use Rattle.std.proofs.Common.{pos, ◌+ℤ◌, ◌-ℤ◌, List, get_or, take, refl, ap, ap₂, sym, ◌∙◌, subst, arith}
-use Rattle.std.specs.Prelude.{◌<ℤ◌, ◌≤ℤ◌}
-use Rattle.std.proofs.lemmas.Bool.{cases_lt}
-use Rattle.std.proofs.lemmas.Int.{ints}
-use Rattle.bit_blocks.specs.Bits.{AllBits}
-use Rattle.weight_bound.proofs.conv_code.Coding.{bit_at-most_1}
-use Rattle.list_decode.specs.DeviatingLists.{state_after, loss_at, IsLeastFree}
-use Rattle.list_decode.specs.FreePlaces.{IsDeparture, IsSpot}
-use Rattle.list_decode.specs.declared.branch.Spot.{Spot}
-use Rattle.list_decode.specs.declared.departure.Departure.{Departure}
-use Rattle.weight_bound.proofs.conv_code.Lemmas.{same_number}
-use Rattle.list_decode.proofs.Losses.{below_limit, not_below_limit}
+-- The free position with the least loss, when one more position is examined.
+use Rattle.std.proofs.Common.{◌≡◌, ◌≢◌, ◌⊎◌, ℕ, zero, suc, ◌+◌, ◌<◌, ◌≤◌, Bool, true, inl, inr, ℤ, pos, ◌+ℤ◌, ◌-ℤ◌, List, get_or, take}
+use Rattle.std.{proofs.{Common.{refl, ap, ap₂, sym, ◌∙◌, subst, arith}, lemmas.{Bool.cases_lt, Int.ints}}, specs.Prelude.{◌<ℤ◌, ◌≤ℤ◌}}
+use Rattle.weight_bound.{specs.bit_blocks.Bits.AllBits, proofs.conv_code.{Coding.bit_at-most_1, Lemmas.same_number}}
+use Rattle.list_decode.specs.{DeviatingLists.{state_after, loss_at, IsLeastLossFreePosition}, FreePlaces.IsPossibleDeviation}
+use Rattle.list_decode.specs.{FreePlaces.IsBestPositionSoFar, declared.branch.BestPositionSoFar.BestPositionSoFar}
+use Rattle.list_decode.{specs.declared.departure.PossibleDeviation.PossibleDeviation, proofs.Losses.{below_limit, not_below_limit}}
 
 -- no position before n is free
 abbrev pub NoneFree : (free : ℕ → Bool) (n : ℕ) → Type 0
 NoneFree free n = (k : ℕ) → k < n → free k ≡ true → ⊥
 
--- a position that was found
-pub is_departure : (u : List ℕ) (losses : List (List ℤ)) (k state : ℕ) (lost : ℤ) (departure : Departure) → AllBits u →
+-- the values that are stored for a position that was found
+pub is_departure : (u : List ℕ) (losses : List (List ℤ)) (k state : ℕ) (lost : ℤ) (departure : PossibleDeviation) → AllBits u →
     state ≡ state_after 0 (take k u) →
     lost ≡ loss_at 0 u losses k → departure.place ≡ k → departure.state ≡ state → departure.loss ≡ lost →
-    departure.limit ≡ lost +ℤ pos 1 -ℤ pos (get_or u k 0) → IsDeparture u losses departure
+    departure.limit ≡ lost +ℤ pos 1 -ℤ pos (get_or u k 0) → IsPossibleDeviation u losses departure
 is_departure u losses k state lost departure bits found is_lost at s l m = record {
   bit = bit_at-most_1 u departure.place bits;
   state = s ∙ found ∙ ap (λ k. state_after 0 (take k u)) (sym at);
@@ -33,9 +26,10 @@ module _ (u : List ℕ) (losses : List (List ℤ)) (free : ℕ → Bool) (k : �
   abbrev loss : ℕ → ℤ
   loss = loss_at 0 u losses
 
-  -- the best position stays the best
-  pub free_kept : (place : ℕ) → get_or u place 0 ≤ 1 → IsLeastFree u losses free k place →
-      (free k ≡ true → (loss place <ℤ loss k) ⊎ ((loss k ≡ loss place) × (get_or u place 0 ≢ 0))) → IsLeastFree u losses free (k + 1) place
+  -- the best position so far stays the best
+  pub free_kept : (place : ℕ) → get_or u place 0 ≤ 1 → IsLeastLossFreePosition u losses free k place →
+      (free k ≡ true → (loss place <ℤ loss k) ⊎ ((loss k ≡ loss place) × (get_or u place 0 ≢ 0))) →
+      IsLeastLossFreePosition u losses free (k + 1) place
   free_kept place bit old more = record {
     within = let i = old.within in omega arith;
     unlocked = old.unlocked;
@@ -59,8 +53,8 @@ module _ (u : List ℕ) (losses : List (List ℤ)) (free : ℕ → Bool) (k : �
     one zero le ne = absurd (ne refl)
     one (suc x) le ne = omega arith
 
-  -- this is the first free position
-  pub free_first : NoneFree free k → free k ≡ true → IsLeastFree u losses free (k + 1) k
+  -- position k is the first free position
+  pub free_first : NoneFree free k → free k ≡ true → IsLeastLossFreePosition u losses free (k + 1) k
   free_first none is_free = record {
     within = omega arith;
     unlocked = is_free;
@@ -72,9 +66,9 @@ module _ (u : List ℕ) (losses : List (List ℤ)) (free : ℕ → Bool) (k : �
     after = (λ j late lt free_j equal. absurd (omega arith));
   }
 
-  -- this position is better
-  pub free_taken : (place : ℕ) → IsLeastFree u losses free k place → free k ≡ true →
-      (loss k <ℤ loss place) ⊎ ((loss k ≡ loss place) × (get_or u place 0 ≡ 0)) → IsLeastFree u losses free (k + 1) k
+  -- position k is better than the best position so far
+  pub free_taken : (place : ℕ) → IsLeastLossFreePosition u losses free k place → free k ≡ true →
+      (loss k <ℤ loss place) ⊎ ((loss k ≡ loss place) × (get_or u place 0 ≡ 0)) → IsLeastLossFreePosition u losses free (k + 1) k
   free_taken place old is_free less = record {
     within = omega arith;
     unlocked = is_free;
@@ -96,27 +90,28 @@ module _ (u : List ℕ) (losses : List (List ℤ)) (free : ℕ → Bool) (k : �
     after = (λ j late lt free_j equal. absurd (omega arith));
   }
 
-  -- the best position so far, and one more
-  pub spot_first : (new : Spot) → NoneFree free k → free k ≡ true → new.place ≡ k → new.state ≡ state_after 0 (take k u) →
-      new.limit ≡ loss k +ℤ pos 1 -ℤ pos (get_or u k 0) → IsSpot u losses free (k + 1) new
+  -- the best position after position k has been examined too
+  pub spot_first : (new : BestPositionSoFar) → NoneFree free k → free k ≡ true → new.place ≡ k → new.state ≡ state_after 0 (take k u) →
+      new.limit ≡ loss k +ℤ pos 1 -ℤ pos (get_or u k 0) → IsBestPositionSoFar u losses free (k + 1) new
   spot_first new none is_free at state limit = record {
     state = state ∙ ap (λ k. state_after 0 (take k u)) (sym at);
     limit = limit ∙ ap (λ k. loss k +ℤ pos 1 -ℤ pos (get_or u k 0)) (sym at);
-    least = subst (λ place. IsLeastFree u losses free (k + 1) place) (sym at) (free_first none is_free);
+    least = subst (λ place. IsLeastLossFreePosition u losses free (k + 1) place) (sym at) (free_first none is_free);
   }
 
-  pub spot_taken : (best new : Spot) → AllBits u → IsSpot u losses free k best → free k ≡ true → new.place ≡ k →
+  pub spot_taken : (best new : BestPositionSoFar) → AllBits u → IsBestPositionSoFar u losses free k best → free k ≡ true → new.place ≡ k →
       new.state ≡ state_after 0 (take k u) → new.limit ≡ loss k +ℤ pos 1 -ℤ pos (get_or u k 0) → loss k <ℤ best.limit →
-      IsSpot u losses free (k + 1) new
+      IsBestPositionSoFar u losses free (k + 1) new
   spot_taken best new bits old is_free at state limit less = record {
     state = state ∙ ap (λ k. state_after 0 (take k u)) (sym at);
     limit = limit ∙ ap (λ k. loss k +ℤ pos 1 -ℤ pos (get_or u k 0)) (sym at);
-    least = subst (λ place. IsLeastFree u losses free (k + 1) place) (sym at) (free_taken best.place old.least is_free
+    least = subst (λ place. IsLeastLossFreePosition u losses free (k + 1) place) (sym at) (free_taken best.place old.least is_free
         (below_limit (loss k) (loss best.place) (get_or u best.place 0) (bit_at-most_1 u best.place bits)
         (subst (λ limit. loss k <ℤ limit) old.limit less)));
   }
 
-  pub spot_kept : (best : Spot) → AllBits u → IsSpot u losses free k best → best.limit ≤ℤ loss k → IsSpot u losses free (k + 1) best
+  pub spot_kept : (best : BestPositionSoFar) → AllBits u → IsBestPositionSoFar u losses free k best → best.limit ≤ℤ loss k →
+      IsBestPositionSoFar u losses free (k + 1) best
   spot_kept best bits old most = record {
     state = old.state;
     limit = old.limit;

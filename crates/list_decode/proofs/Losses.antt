@@ -1,17 +1,11 @@
--- The position with the least loss, after one more position.
-use Rattle.std.proofs.Common.{◌≡◌, ◌≢◌, ◌⊎◌, ℕ, zero, suc, ◌+◌, ◌/◌, ◌%◌, ◌^◌, ◌<◌, ◌≤◌}
-use Rattle.std.proofs.Common.{◌++◌, slice_set, inl, inr, ℤ, pos, ◌+ℤ◌, ◌-ℤ◌, List, [], ◌∷◌, length, get_or, take}
-use Rattle.std.proofs.Common.{drop, refl, ap, ap₂, sym, ◌∙◌, subst, arith, below_more}
-use Rattle.std.specs.Prelude.{◌<ℤ◌, ◌≤ℤ◌}
-use Rattle.std.proofs.lemmas.Bool.{cases_lt}
-use Rattle.std.proofs.lemmas.Int.{ints, by_lt_z}
-use Rattle.trellis_decode.specs.Trellis.{next, read_out}
-use Rattle.list_decode.specs.DeviatingLists.{state_after, loss_at, IsLeastLoss}
-use Rattle.list_decode.specs.Readings.{IsBestDeparture, IsReading}
-use Rattle.list_decode.specs.declared.departure.Departure.{Departure}
-use Rattle.list_decode.specs.declared.departure.Reading.{Reading}
-use Rattle.trellis_decode.proofs.Lemmas.{length-read_out}
-use Rattle.std.proofs.lemmas.List.{take_more, take_more_set}
+-- The position with the least loss, when one more position is examined.
+use Rattle.std.proofs.Common.{◌≡◌, ◌≢◌, ◌⊎◌, ℕ, zero, suc, ◌+◌, ◌/◌, ◌%◌, ◌^◌, ◌<◌, ◌≤◌, ◌++◌, slice_set, inl, inr, ℤ, pos, ◌+ℤ◌, ◌-ℤ◌}
+use Rattle.std.proofs.Common.{List, [], ◌∷◌, length, get_or, take, drop, refl, ap, ap₂, sym, ◌∙◌, subst, arith, below_more}
+use Rattle.std.{proofs.lemmas.{Bool.cases_lt, Int.{ints, by_lt_z}, List.{take_more, take_more_set}}, specs.Prelude.{◌<ℤ◌, ◌≤ℤ◌}}
+use Rattle.trellis_decode.{specs.Trellis.{next, traceback}, proofs.Lemmas.length-traceback}
+use Rattle.list_decode.specs.{DeviatingLists.{state_after, loss_at, IsLeastLossPosition}, Readings.IsBestPossibleDeviation}
+use Rattle.list_decode.specs.{Readings.IsPartialTraceback, declared.departure.PossibleDeviation.PossibleDeviation}
+use Rattle.list_decode.specs.declared.departure.PartialTraceback.{PartialTraceback}
 
 pub reached_more : (u : List ℕ) (k state : ℕ) → k < length u →
     state_after state (take (k + 1) u) ≡ next (state_after state (take k u)) (get_or u k 0)
@@ -25,49 +19,52 @@ pub reached_small : (state : ℕ) (u : List ℕ) → state < 16 → state_after 
 reached_small state [] small = small
 reached_small state (x ∷ u) small = reached_small (next state x) u (omega arith)
 
--- from a position on, a word of survivors is read out from the state at that position
+-- from a position on, the survivor of a state is what traceback reads from the state reached at that position
 pub chosen_from : (rows : List ℕ) (state place : ℕ) → place ≤ length rows →
-    drop place (read_out rows state) ≡ read_out (drop place rows) (state_after state (take place (read_out rows state)))
+    drop place (traceback rows state) ≡ traceback (drop place rows) (state_after state (take place (traceback rows state)))
 chosen_from rows state zero within = refl
 chosen_from [] state (suc place) within = absurd (omega arith)
 chosen_from (row ∷ rows) state (suc place) within = chosen_from rows (next state (row / 2 ^ state % 2)) place (omega arith)
 
--- a bit of the survivors
+-- each bit of a survivor is the decision in the state reached before it
 pub chosen_bit : (rows : List ℕ) (state k : ℕ) → k < length rows →
-    get_or (read_out rows state) k 0 ≡ get_or rows k 0 / 2 ^ state_after state (take k (read_out rows state)) % 2
+    get_or (traceback rows state) k 0 ≡ get_or rows k 0 / 2 ^ state_after state (take k (traceback rows state)) % 2
 chosen_bit [] state k within = absurd (omega arith)
 chosen_bit (row ∷ rows) state zero within = refl
 chosen_bit (row ∷ rows) state (suc k) within = chosen_bit rows (next state (row / 2 ^ state % 2)) k (omega arith)
 
-pub bit_small : (rows : List ℕ) (state k : ℕ) → get_or (read_out rows state) k 0 ≤ 1
+pub bit_small : (rows : List ℕ) (state k : ℕ) → get_or (traceback rows state) k 0 ≤ 1
 bit_small [] state k = omega arith
 bit_small (row ∷ rows) state zero = omega arith
 bit_small (row ∷ rows) state (suc k) = bit_small rows (next state (row / 2 ^ state % 2)) k
 
-pub chosen_behind : (rows u : List ℕ) (place state : ℕ) → u ≡ read_out rows 0 → place < length rows → length rows ≡ length u →
-    state ≡ state_after 0 (take place u) → drop (place + 1) u ≡ read_out (drop (place + 1) rows) (next state (get_or u place 0))
+pub chosen_behind : (rows u : List ℕ) (place state : ℕ) → u ≡ traceback rows 0 → place < length rows → length rows ≡ length u →
+    state ≡ state_after 0 (take place u) → drop (place + 1) u ≡ traceback (drop (place + 1) rows) (next state (get_or u place 0))
 chosen_behind rows u place state is within count at =
     let there : state_after 0 (take (place + 1) u) ≡ next state (get_or u place 0) =
     reached_more u place 0 (omega arith) ∙ ap (λ s. next s (get_or u place 0)) (sym at) in
     ap (drop (place + 1)) is
     ∙ chosen_from rows 0 (place + 1) (omega arith)
-    ∙ ap (λ w. read_out (drop (place + 1) rows) (state_after 0 (take (place + 1) w))) (sym is)
-    ∙ ap (read_out (drop (place + 1) rows)) there
+    ∙ ap (λ w. traceback (drop (place + 1) rows) (state_after 0 (take (place + 1) w))) (sym is)
+    ∙ ap (traceback (drop (place + 1) rows)) there
 
-pub departure_at : (u : List ℕ) (losses : List (List ℤ)) (k state : ℕ) (loss : ℤ) (new : Departure) → k + 4 < length u →
-    state ≡ state_after 0 (take k u) → loss ≡ loss_at 0 u losses k → IsLeastLoss u losses (k + 1) k (loss_at 0 u losses k) → new.place ≡ k →
-    new.state ≡ state → new.loss ≡ loss → new.limit ≡ loss +ℤ pos 1 -ℤ pos (get_or u k 0) → IsBestDeparture u losses (k + 1) new
+pub departure_at : (u : List ℕ) (losses : List (List ℤ)) (k state : ℕ) (loss : ℤ) (new : PossibleDeviation) → k + 4 < length u →
+    state ≡ state_after 0 (take k u) → loss ≡ loss_at 0 u losses k → IsLeastLossPosition u losses (k + 1) k (loss_at 0 u losses k) →
+    new.place ≡ k →
+    new.state ≡ state → new.loss ≡ loss → new.limit ≡ loss +ℤ pos 1 -ℤ pos (get_or u k 0) → IsBestPossibleDeviation u losses (k + 1) new
 departure_at u losses k state loss new inside reached_is loss_is least at s l m = record {
   found = omega arith;
   within = omega arith;
   state = s ∙ reached_is ∙ ap (λ k. state_after 0 (take k u)) (sym at);
-  least = subst (λ place. IsLeastLoss u losses (k + 1) place new.loss) (sym at)
-      (subst (IsLeastLoss u losses (k + 1) k) (sym (l ∙ loss_is)) least);
+  least = subst (λ place. IsLeastLossPosition u losses (k + 1) place new.loss) (sym at)
+      (subst (IsLeastLossPosition u losses (k + 1) k) (sym (l ∙ loss_is)) least);
   limit = m ∙ ap₂ (λ loss place. loss +ℤ pos 1 -ℤ pos (get_or u place 0)) (sym l) (sym at);
 }
 
-pub least_kept : (u : List ℕ) (losses : List (List ℤ)) (k place : ℕ) (loss : ℤ) → get_or u place 0 ≤ 1 → IsLeastLoss u losses k place loss →
-    (loss <ℤ loss_at 0 u losses k) ⊎ ((loss_at 0 u losses k ≡ loss) × (get_or u place 0 ≢ 0)) → IsLeastLoss u losses (k + 1) place loss
+pub least_kept : (u : List ℕ) (losses : List (List ℤ)) (k place : ℕ) (loss : ℤ) → get_or u place 0 ≤ 1 →
+    IsLeastLossPosition u losses k place loss →
+    (loss <ℤ loss_at 0 u losses k) ⊎ ((loss_at 0 u losses k ≡ loss) × (get_or u place 0 ≢ 0)) →
+    IsLeastLossPosition u losses (k + 1) place loss
 least_kept u losses k place loss bit old more = record {
   value = old.value;
   least = below_more _ _ old.least (elim more [ inl less ↦ omega (arith, ints) | inr tie ↦ let e = tie.0 in omega (arith, ints) ]);
@@ -83,9 +80,9 @@ least_kept u losses k place loss bit old more = record {
   one zero le ne = absurd (ne refl)
   one (suc x) le ne = omega arith
 
-pub least_taken : (u : List ℕ) (losses : List (List ℤ)) (k place : ℕ) (loss : ℤ) → place ≤ k → IsLeastLoss u losses k place loss →
+pub least_taken : (u : List ℕ) (losses : List (List ℤ)) (k place : ℕ) (loss : ℤ) → place ≤ k → IsLeastLossPosition u losses k place loss →
     (loss_at 0 u losses k <ℤ loss) ⊎ ((loss_at 0 u losses k ≡ loss) × (get_or u place 0 ≡ 0)) →
-    IsLeastLoss u losses (k + 1) k (loss_at 0 u losses k)
+    IsLeastLossPosition u losses (k + 1) k (loss_at 0 u losses k)
 least_taken u losses k place loss found old less = record {
   value = refl;
   least = below_more _ _ (λ j lt. let low = old.least j lt in elim less [
@@ -105,7 +102,7 @@ least_taken u losses k place loss found old less = record {
   after = λ j late lt equal. absurd (omega arith);
 }
 
--- a later position is better exactly if its loss is below the limit
+-- if the loss of a later position is below the limit, it is less than the least loss so far, or equal to it where the bit is 0
 pub below_limit : (loss least : ℤ) (bit : ℕ) → bit ≤ 1 → loss <ℤ (least +ℤ pos 1 -ℤ pos bit) →
     (loss <ℤ least) ⊎ ((loss ≡ least) × (bit ≡ 0))
 below_limit loss least zero one h = by_lt_z loss least (λ less. inl less) (λ not_less. inr (omega (arith, ints), refl))
@@ -119,12 +116,13 @@ not_below_limit loss least (suc zero) one h =
     by_lt_z least loss (λ less. inl less) (λ not_less. inr (omega (arith, ints), (λ e. omega arith)))
 not_below_limit loss least (suc (suc bit)) one h = absurd (omega arith)
 
--- ---- reading out one more position
+-- ---- one step of the traceback: one more position is read out
 
-module _ (rows : List ℕ) (losses : List (List ℤ)) (u : List ℕ) (k : ℕ) (old : Reading) (reading : IsReading rows losses u k old)
+module _ (rows : List ℕ) (losses : List (List ℤ)) (u : List ℕ) (k : ℕ) (old : PartialTraceback)
+    (reading : IsPartialTraceback rows losses u k old)
     (inside : k + 4 < length rows) where
   abbrev chosen : List ℕ
-  chosen = read_out rows 0
+  chosen = traceback rows 0
 
   abbrev lost : ℤ
   lost = get_or (get_or losses k []) old.state (pos 0)
@@ -133,7 +131,7 @@ module _ (rows : List ℕ) (losses : List (List ℤ)) (u : List ℕ) (k : ℕ) (
   bit = get_or rows k 0 / 2 ^ old.state % 2
 
   inside_chosen : k + 4 < length chosen
-  inside_chosen = rw (length-read_out rows 0) inside
+  inside_chosen = rw (length-traceback rows 0) inside
 
   lost_is : lost ≡ loss_at 0 chosen losses k
   lost_is = ap (λ s. get_or (get_or losses k []) s (pos 0)) reading.state
@@ -141,8 +139,8 @@ module _ (rows : List ℕ) (losses : List (List ℤ)) (u : List ℕ) (k : ℕ) (
   bit_is : bit ≡ get_or chosen k 0
   bit_is = ap (λ s. get_or rows k 0 / 2 ^ s % 2) reading.state ∙ sym (chosen_bit rows 0 k (omega arith))
 
-  pub best_taken : (new : Departure) → lost <ℤ old.best.limit → new.place ≡ k → new.state ≡ old.state → new.loss ≡ lost →
-      new.limit ≡ lost +ℤ pos 1 -ℤ pos bit → IsBestDeparture chosen losses (k + 1) new
+  pub best_taken : (new : PossibleDeviation) → lost <ℤ old.best.limit → new.place ≡ k → new.state ≡ old.state → new.loss ≡ lost →
+      new.limit ≡ lost +ℤ pos 1 -ℤ pos bit → IsBestPossibleDeviation chosen losses (k + 1) new
   best_taken new less place state loss limit =
       let best = reading.best in
       let is = lost_is in
@@ -153,7 +151,7 @@ module _ (rows : List ℕ) (losses : List (List ℤ)) (u : List ℕ) (k : ℕ) (
       (least_taken chosen losses k old.best.place old.best.loss best.found best.least better)
       place state loss (limit ∙ ap (λ (bit : ℕ). lost +ℤ pos 1 -ℤ pos bit) bit_is)
 
-  pub best_kept : old.best.limit ≤ℤ lost → IsBestDeparture chosen losses (k + 1) old.best
+  pub best_kept : old.best.limit ≤ℤ lost → IsBestPossibleDeviation chosen losses (k + 1) old.best
   best_kept not_less =
       let best = reading.best in
       let is = lost_is in
@@ -168,8 +166,8 @@ module _ (rows : List ℕ) (losses : List (List ℤ)) (u : List ℕ) (k : ℕ) (
         limit = best.limit;
       }
 
-  pub read_more : (new : Reading) (written : ℕ) → k < length u → written ≡ bit → new.state ≡ next old.state written →
-      IsBestDeparture chosen losses (k + 1) new.best → IsReading rows losses (slice_set u k written) (k + 1) new
+  pub read_more : (new : PartialTraceback) (written : ℕ) → k < length u → written ≡ bit → new.state ≡ next old.state written →
+      IsBestPossibleDeviation chosen losses (k + 1) new.best → IsPartialTraceback rows losses (slice_set u k written) (k + 1) new
   read_more new written within is state best = record {
     small = omega arith;
     state = state ∙ ap₂ next reading.state (is ∙ bit_is) ∙ sym (reached_more chosen k 0 (let i = inside_chosen in omega arith));

@@ -1,52 +1,48 @@
--- For every word there is a second one: the best of all others, by induction on the number of words.
-use Rattle.std.proofs.Common.{◌≡◌, ◌≢◌, ◌⊎◌, ℕ, zero, suc, ◌+◌, ◌-◌, ◌*◌, ◌^◌, ◌<◌, ◌≤◌}
-use Rattle.std.proofs.Common.{inl, inr, ℤ, ◌<ℤ◌, List, length, get_or, ap, sym, ◌∙◌, subst, arith}
-use Rattle.std.proofs.Math.Nat.{div-eq_of_lt}
-use Rattle.std.proofs.lemmas.Bool.{cases_lt}
-use Rattle.std.proofs.lemmas.Int.{ints, by_lt_z}
-use Rattle.std.proofs.lemmas.Nat.{pow-add, pow_pos}
-use Rattle.weight_bound.specs.conv_code.Code.{encoding}
-use Rattle.weight_bound.specs.conv_code.Likelihood.{likelihood, IsBefore, FallsBehind}
-use Rattle.trellis_decode.specs.Words.{word}
+-- For every word, the best of all other words exists: by induction on the number of words.
+use Rattle.std.proofs.Common.{◌≡◌, ◌≢◌, ◌⊎◌, ℕ, zero, suc, ◌+◌, ◌-◌, ◌*◌, ◌^◌, ◌<◌, ◌≤◌, inl, inr, ℤ, ◌<ℤ◌, List, length, get_or, ap, sym}
+use Rattle.std.proofs.{Common.{◌∙◌, subst, arith}, Math.Nat.div-eq_of_lt, lemmas.{Bool.cases_lt, Int.{ints, by_lt_z}, Nat.pow-add}}
+use Rattle.std.proofs.lemmas.Nat.{pow_pos}
+use Rattle.weight_bound.specs.conv_code.{Code.encoding, Likelihood.{likelihood, IsLexicographicallyBefore, RanksAfter}}
 use Rattle.weight_bound.proofs.conv_code.Lemmas.{same_number}
-use Rattle.trellis_decode.proofs.Lemmas.{length-word, IsBefore-word, IsInformation-word, word-information}
-use Rattle.list_decode.specs.Ranking.{IsCandidate, IsSecond}
+use Rattle.trellis_decode.{specs.Words.word, proofs.Lemmas.{length-word, IsLexicographicallyBefore-word, IsInformation-word}}
+use Rattle.trellis_decode.proofs.Lemmas.{word-information}
+use Rattle.list_decode.specs.Ranking.{IsCandidate, IsSecondMostLikely}
 
 -- two words in lexicographic order differ
-differs_before : (u v : List ℕ) → IsBefore u v → u ≢ v
+differs_before : (u v : List ℕ) → IsLexicographicallyBefore u v → u ≢ v
 differs_before u v before same = before.differs (ap (λ w. get_or w before.place 0) (sym same) ∙ before.zero)
 
 module _ (soft : List ℤ) (n passed : ℕ) where
   abbrev list_of : ℕ → List ℕ
   list_of m = word n (16 * m)
 
-  -- the best word with a lower number, except for the one that is excluded
-  record Leads (number : ℕ) : Type 0 where
+  -- the best of the words with a number below `number`, except for the excluded word
+  record IsChainOfDeviations (number : ℕ) : Type 0 where
     chosen : ℕ
     within : chosen < number
     other : chosen ≢ passed
-    leads : (m : ℕ) → m < number → m ≢ chosen → m ≢ passed → FallsBehind soft (list_of m) (list_of chosen)
+    leads : (m : ℕ) → m < number → m ≢ chosen → m ≢ passed → RanksAfter soft (list_of m) (list_of chosen)
 
-  behind_more : (a b : List ℕ) (v : List ℕ) → FallsBehind soft v a → likelihood soft (encoding a) <ℤ likelihood soft (encoding b) →
-      FallsBehind soft v b
+  behind_more : (a b : List ℕ) (v : List ℕ) → RanksAfter soft v a → likelihood soft (encoding a) <ℤ likelihood soft (encoding b) →
+      RanksAfter soft v b
   behind_more a b v (inl less) more = inl (omega (arith, ints))
   behind_more a b v (inr same) more = let e = same.0 in inl (omega (arith, ints))
 
-  -- of two words, the one with the higher number is more likely or ranks after
+  -- of two words, the one with the higher number either has a greater path metric or ranks after the other
   compared : (a b : ℕ) → a < b → 16 * b < 2 ^ n →
-      (likelihood soft (encoding (list_of a)) <ℤ likelihood soft (encoding (list_of b))) ⊎ FallsBehind soft (list_of b) (list_of a)
+      (likelihood soft (encoding (list_of a)) <ℤ likelihood soft (encoding (list_of b))) ⊎ RanksAfter soft (list_of b) (list_of a)
   compared a b less within =
       let lower : 16 * a < 2 ^ n = omega arith in
-      let before : IsBefore (list_of a) (list_of b) =
-      IsBefore-word n (16 * a) (16 * b) (omega arith) (div-eq_of_lt lower ∙ sym (div-eq_of_lt within)) in
+      let before : IsLexicographicallyBefore (list_of a) (list_of b) =
+      IsLexicographicallyBefore-word n (16 * a) (16 * b) (omega arith) (div-eq_of_lt lower ∙ sym (div-eq_of_lt within)) in
       by_lt_z (likelihood soft (encoding (list_of a))) (likelihood soft (encoding (list_of b)))
       (λ more. inl more)
       (λ most. inr (by_lt_z (likelihood soft (encoding (list_of b))) (likelihood soft (encoding (list_of a)))
       (λ below. inl below)
       (λ equal. inr (omega (arith, ints), before))))
 
-  -- one more word is the best, or the best stays the best
-  one_more : (number : ℕ) → 16 * number < 2 ^ n → number ≢ passed → Leads number → Leads (suc number)
+  -- one more word becomes the best, or the best word so far stays the best
+  one_more : (number : ℕ) → 16 * number < 2 ^ n → number ≢ passed → IsChainOfDeviations number → IsChainOfDeviations (suc number)
   one_more number room other before = elim (compared before.chosen number before.within room) [
     | inl more ↦ record {
       chosen = number;
@@ -63,14 +59,14 @@ module _ (soft : List ℤ) (n passed : ℕ) where
       within = let h = before.within in omega arith;
       other = before.other;
       leads = (λ m lt ne ne'. elim (same_number m number) [
-        | inl same ↦ subst (λ m. FallsBehind soft (list_of m) (list_of before.chosen)) (sym same) behind
+        | inl same ↦ subst (λ m. RanksAfter soft (list_of m) (list_of before.chosen)) (sym same) behind
         | inr differs ↦ before.leads m (omega arith) ne ne'
       ]);
     }
   ]
 
   -- the excluded word changes nothing
-  none_more : (number : ℕ) → number ≡ passed → Leads number → Leads (suc number)
+  none_more : (number : ℕ) → number ≡ passed → IsChainOfDeviations number → IsChainOfDeviations (suc number)
   none_more number same before = record {
     chosen = before.chosen;
     within = let h = before.within in omega arith;
@@ -78,7 +74,7 @@ module _ (soft : List ℤ) (n passed : ℕ) where
     leads = (λ m lt ne ne'. before.leads m (omega arith) ne ne');
   }
 
-  leading : (number : ℕ) → 16 * number ≤ 2 ^ n → Leads number ⊎ ((m : ℕ) → m < number → m ≡ passed)
+  leading : (number : ℕ) → 16 * number ≤ 2 ^ n → IsChainOfDeviations number ⊎ ((m : ℕ) → m < number → m ≡ passed)
   leading zero room = inr (λ m lt. absurd (omega arith))
   leading (suc number) room = elim (same_number number passed) [
     | inl same ↦ elim (leading number (omega arith)) [
@@ -97,9 +93,10 @@ module _ (soft : List ℤ) (n passed : ℕ) where
   ]
 
   -- the best of all others is the second word after the excluded one
-  IsSecond-chosen : (lists : ℕ) → 5 ≤ n → length soft ≡ 2 * n → 16 * lists ≡ 2 ^ n → 16 * passed < 2 ^ n → (l : Leads lists) →
-      IsSecond soft (list_of passed) (list_of l.chosen)
-  IsSecond-chosen lists long pairs all known l = record {
+  IsSecondMostLikely-chosen : (lists : ℕ) → 5 ≤ n → length soft ≡ 2 * n → 16 * lists ≡ 2 ^ n → 16 * passed < 2 ^ n →
+      (l : IsChainOfDeviations lists) →
+      IsSecondMostLikely soft (list_of passed) (list_of l.chosen)
+  IsSecondMostLikely-chosen lists long pairs all known l = record {
     candidate = record { information = IsInformation-word n l.chosen long; count = rw (length-word n (16 * l.chosen)) pairs };
     differs = apart;
     others = every;
@@ -109,7 +106,7 @@ module _ (soft : List ℤ) (n passed : ℕ) where
     ordered a b less within =
         let lower : 16 * a < 2 ^ n = omega arith in
         differs_before (list_of a) (list_of b)
-        (IsBefore-word n (16 * a) (16 * b) (omega arith) (div-eq_of_lt lower ∙ sym (div-eq_of_lt within)))
+        (IsLexicographicallyBefore-word n (16 * a) (16 * b) (omega arith) (div-eq_of_lt lower ∙ sym (div-eq_of_lt within)))
 
     apart : list_of l.chosen ≢ list_of passed
     apart same =
@@ -119,7 +116,7 @@ module _ (soft : List ℤ) (n passed : ℕ) where
           | inr not_less ↦ let ne = l.other in ordered passed l.chosen (omega arith) (omega arith) (sym same)
         ]
 
-    every : (w : List ℕ) → IsCandidate soft w → w ≢ list_of passed → w ≢ list_of l.chosen → FallsBehind soft w (list_of l.chosen)
+    every : (w : List ℕ) → IsCandidate soft w → w ≢ list_of passed → w ≢ list_of l.chosen → RanksAfter soft w (list_of l.chosen)
     every w candidate ne ne' =
         let spelt = word-information w candidate.information in
         let m = spelt.0 in
@@ -127,11 +124,11 @@ module _ (soft : List ℤ) (n passed : ℕ) where
         let long : length w ≡ n = omega arith in
         let is : list_of m ≡ w = ap (λ n. word n (16 * m)) (sym long) ∙ spelt.2 in
         let below : 16 * m < 2 ^ n = subst (λ n. 16 * m < 2 ^ n) long spelt.1 in
-        subst (λ w. FallsBehind soft w (list_of l.chosen)) is
+        subst (λ w. RanksAfter soft w (list_of l.chosen)) is
         (l.leads m (omega arith) (λ same. ne' (sym is ∙ ap list_of same)) (λ same. ne (sym is ∙ ap list_of same)))
 
--- every word has a second one
-pub some_second : (soft : List ℤ) (u : List ℕ) → IsCandidate soft u → (v : List ℕ) × IsSecond soft u v
+-- for every word there is a second word: the best of all others
+pub some_second : (soft : List ℤ) (u : List ℕ) → IsCandidate soft u → (v : List ℕ) × IsSecondMostLikely soft u v
 some_second soft u candidate =
     let n = length u in
     let long = candidate.information.count in
@@ -144,8 +141,8 @@ some_second soft u candidate =
     elim (leading soft n spelt.0 (2 ^ (n - 4)) (omega arith)) [
       | inl l ↦ (
         word n (16 * l.chosen),
-        subst (λ u. IsSecond soft u (word n (16 * l.chosen))) spelt.2
-            (IsSecond-chosen soft n spelt.0 (2 ^ (n - 4)) long candidate.count (sym partition) spelt.1 l),
+        subst (λ u. IsSecondMostLikely soft u (word n (16 * l.chosen))) spelt.2
+            (IsSecondMostLikely-chosen soft n spelt.0 (2 ^ (n - 4)) long candidate.count (sym partition) spelt.1 l),
       )
       | inr none ↦
           let first = none 0 (omega arith) in

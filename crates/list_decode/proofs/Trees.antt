@@ -1,55 +1,53 @@
--- The returned words as they are stored: each but the first is a deviation from an earlier word.
-use Rattle.std.proofs.Common.{◌≡◌, ◌≢◌, ℕ, zero, suc, ◌+◌, ◌-◌, ◌<◌, ◌≤◌, inl, inr, List, []}
-use Rattle.std.proofs.Common.{◌∷◌, ◌++◌, length, get_or, set, take, drop, refl, ap, sym, ◌∙◌, subst, arith}
-use Rattle.std.specs.List.{All}
-use Rattle.std.specs.Prelude.{nat_eq}
-use Rattle.std.proofs.lemmas.Bool.{cases_lt}
-use Rattle.std.proofs.lemmas.List.{get_or_append_left, get_or_push, length-append, length-take, take_all}
-use Rattle.std.proofs.lemmas.List.{take_more_set}
-use Rattle.bit_blocks.specs.Bits.{AllBits}
+-- How returned words are stored: each word but the first is a deviation from an earlier word.
+use Rattle.std.proofs.Common.{◌≡◌, ◌≢◌, ℕ, zero, suc, ◌+◌, ◌-◌, ◌<◌, ◌≤◌, inl, inr, List, [], ◌∷◌, ◌++◌, length, get_or, set, take, drop}
+use Rattle.std.proofs.{Common.{refl, ap, sym, ◌∙◌, subst, arith}, lemmas.{Bool.cases_lt, List.{get_or_append_left, get_or_push}}}
+use Rattle.std.{proofs.lemmas.List.{length-append, length-take, take_all, take_more_set}, specs.{List.All, Prelude.nat_eq}}
+use Rattle.weight_bound.specs.{bit_blocks.Bits.AllBits, conv_code.Likelihood.IsLexicographicallyBefore}
 use Rattle.weight_bound.proofs.conv_code.Coding.{bit_at-most_1}
-use Rattle.weight_bound.specs.conv_code.Likelihood.{IsBefore}
-use Rattle.list_decode.specs.Branches.{IsDeviation, deviation_of}
-use Rattle.list_decode.specs.Choices.{IsOrder, IsDeviationOf, deviation_list}
-use Rattle.list_decode.specs.Classes.{DepartsAt}
-use Rattle.list_decode.specs.Lists.{Forks, IsGiven, IsTree, Leads, grown, lists_of, no_deviation}
-use Rattle.list_decode.specs.Passes.{IsPass, soft_of}
-use Rattle.list_decode.specs.Ranking.{IsCandidate}
-use Rattle.list_decode.specs.declared.branch.Deviation.{Deviation}
-use Rattle.list_decode.specs.declared.lists.Lists.{Lists}
-use Rattle.list_decode.specs.declared.pass.Pass.{Pass}
-use Rattle.list_decode.proofs.Choices.{deviation_departs_at}
+use Rattle.list_decode.specs.{Branches.{IsDeviation, word_of_deviation}, Choices.{TellsLexicographicOrder, IsDeviationFromReturnedWord}}
+use Rattle.list_decode.specs.{Choices.deviating_word, Classes.DeviatesAt, Lists.{DeviatesAtSamePosition, IsMadeByDeviation}}
+use Rattle.list_decode.specs.Lists.{IsDeviationTree, IsChainOfDeviations, with_deviating_words, words_of_lists, no_deviation}
+use Rattle.list_decode.specs.{Passes.{IsCompletePass, pass_soft_bits}, Ranking.IsCandidate, declared.branch.Deviation.Deviation}
+use Rattle.list_decode.{specs.declared.{lists.Lists.Lists, pass.Pass.Pass}, proofs.Choices.deviation_departs_at}
 use Rattle.list_decode.proofs.ClassSteps.{departs_before}
 
--- ---- the words
+-- ---- the list of the returned words
 
-length-grown : (pass : Pass) (us : List (List ℕ)) (xs : List Deviation) → length (grown pass us xs) ≡ length us + length xs
-length-grown pass us [] = omega arith
-length-grown pass us (x ∷ xs) =
-    let rest = length-grown pass (us ++ deviation_list pass us x ∷ []) xs in
-    omega (arith, length-append us (deviation_list pass us x ∷ []))
+length-with_deviating_words : (pass : Pass) (us : List (List ℕ)) (xs : List Deviation) →
+    length (with_deviating_words pass us xs) ≡ length us + length xs
+length-with_deviating_words pass us [] = omega arith
+length-with_deviating_words pass us (x ∷ xs) =
+    let rest = length-with_deviating_words pass (us ++ deviating_word pass us x ∷ []) xs in
+    omega (arith, length-append us (deviating_word pass us x ∷ []))
 
-grown-push : (pass : Pass) (us : List (List ℕ)) (xs : List Deviation) (x : Deviation) →
-    grown pass us (xs ++ x ∷ []) ≡ grown pass us xs ++ deviation_list pass (grown pass us xs) x ∷ []
-grown-push pass us [] x = refl
-grown-push pass us (y ∷ xs) x = grown-push pass (us ++ deviation_list pass us y ∷ []) xs x
+with_deviating_words-push : (pass : Pass) (us : List (List ℕ)) (xs : List Deviation) (x : Deviation) →
+    with_deviating_words pass us (xs ++ x ∷ []) ≡ with_deviating_words pass us xs ++ deviating_word pass
+    (with_deviating_words pass us xs) x ∷ []
+with_deviating_words-push pass us [] x = refl
+with_deviating_words-push pass us (y ∷ xs) x = with_deviating_words-push pass (us ++ deviating_word pass us y ∷ []) xs x
 
-grown-first : (pass : Pass) (us : List (List ℕ)) (xs : List Deviation) → 0 < length us → get_or (grown pass us xs) 0 [] ≡ get_or us 0 []
-grown-first pass us [] some = refl
-grown-first pass us (x ∷ xs) some =
-    grown-first pass (us ++ deviation_list pass us x ∷ []) xs (omega (arith, length-append us (deviation_list pass us x ∷ [])))
-    ∙ get_or_append_left us (deviation_list pass us x ∷ []) [] 0 some
+with_deviating_words-first : (pass : Pass) (us : List (List ℕ)) (xs : List Deviation) → 0 < length us →
+    get_or (with_deviating_words pass us xs) 0 [] ≡ get_or us 0 []
+with_deviating_words-first pass us [] some = refl
+with_deviating_words-first pass us (x ∷ xs) some =
+    with_deviating_words-first pass (us ++ deviating_word pass us x ∷ []) xs (omega (
+      arith,
+      length-append us
+          (deviating_word pass us x ∷ []),
+    ))
+    ∙ get_or_append_left us (deviating_word pass us x ∷ []) [] 0 some
 
 module _ (pass : Pass) (lists : Lists) (many : length lists.deviations ≡ 63) (most : lists.count ≤ 64) where
-  pub length-lists : length (lists_of pass lists) ≡ lists.count
+  pub length-lists : length (words_of_lists pass lists) ≡ lists.count
   length-lists =
-      let all = length-grown pass (take lists.count (take pass.bits lists.first ∷ [])) (take (lists.count - 1) lists.deviations) in
+      let all = length-with_deviating_words pass (take lists.count (take pass.bits lists.first ∷ [])) (take
+      (lists.count - 1) lists.deviations) in
       omega (arith, length-take lists.count (take pass.bits lists.first ∷ []), length-take (lists.count - 1) lists.deviations)
 
-  pub first-list : 0 < lists.count → get_or (lists_of pass lists) 0 [] ≡ take pass.bits lists.first
+  pub first-list : 0 < lists.count → get_or (words_of_lists pass lists) 0 [] ≡ take pass.bits lists.first
   first-list some =
       let one = take_all lists.count (take pass.bits lists.first ∷ []) (omega arith) in
-      grown-first pass (take lists.count (take pass.bits lists.first ∷ [])) (take (lists.count - 1) lists.deviations)
+      with_deviating_words-first pass (take lists.count (take pass.bits lists.first ∷ [])) (take (lists.count - 1) lists.deviations)
       (omega (arith, length-take lists.count (take pass.bits lists.first ∷ [])))
       ∙ ap (λ us. get_or us 0 []) one
 
@@ -57,20 +55,21 @@ module _ (pass : Pass) (lists : Lists) (many : length lists.deviations ≡ 63) (
   more x = record { first = lists.first; deviations = set lists.deviations (lists.count - 1) x; count = lists.count + 1 }
 
   pub lists-push : (x : Deviation) → 0 < lists.count → lists.count < 64 →
-      lists_of pass (record { first = lists.first; deviations = set lists.deviations (lists.count - 1) x; count = lists.count + 1 }) ≡
-      lists_of pass lists ++ deviation_list pass (lists_of pass lists) x ∷ []
+      words_of_lists pass (record { first = lists.first; deviations = set lists.deviations (lists.count - 1) x; count = lists.count + 1 }) ≡
+      words_of_lists pass lists ++ deviating_word pass (words_of_lists pass lists) x ∷ []
   lists-push x some few =
       let one : take (lists.count + 1) (take pass.bits lists.first ∷ []) ≡ take lists.count (take pass.bits lists.first ∷ []) =
       take_all (lists.count + 1) (take pass.bits lists.first ∷ []) (omega arith)
       ∙ sym (take_all lists.count (take pass.bits lists.first ∷ []) (omega arith)) in
       let next : lists.count + 1 - 1 ≡ lists.count - 1 + 1 = omega arith in
-      ap (λ us. grown pass us (take (lists.count + 1 - 1) (set lists.deviations (lists.count - 1) x))) one
-      ∙ ap (λ n. grown pass (take lists.count (take pass.bits lists.first ∷ [])) (take n (set lists.deviations (lists.count - 1) x))) next
-      ∙ ap (grown pass (take lists.count (take pass.bits lists.first ∷ [])))
+      ap (λ us. with_deviating_words pass us (take (lists.count + 1 - 1) (set lists.deviations (lists.count - 1) x))) one
+      ∙ ap (λ n. with_deviating_words pass (take lists.count (take pass.bits lists.first ∷ [])) (take n (set lists.deviations
+      (lists.count - 1) x))) next
+      ∙ ap (with_deviating_words pass (take lists.count (take pass.bits lists.first ∷ [])))
       (take_more_set lists.deviations (lists.count - 1) x (omega arith))
-      ∙ grown-push pass (take lists.count (take pass.bits lists.first ∷ [])) (take (lists.count - 1) lists.deviations) x
+      ∙ with_deviating_words-push pass (take lists.count (take pass.bits lists.first ∷ [])) (take (lists.count - 1) lists.deviations) x
 
--- ---- one more word
+-- ---- one more word is stored as a deviation
 
 get_or-set : (xs : List Deviation) (k : ℕ) (x : Deviation) → k < length xs → get_or (set xs k x) k no_deviation ≡ x
 get_or-set [] k x within = absurd (omega arith)
@@ -83,84 +82,86 @@ get_or-other (y ∷ xs) zero j x before = absurd (omega arith)
 get_or-other (y ∷ xs) (suc k) zero x before = refl
 get_or-other (y ∷ xs) (suc k) (suc j) x before = get_or-other xs k j x (omega arith)
 
-given_kept : (pass : Pass) (us : List (List ℕ)) (w : List ℕ) (i : ℕ) (x : Deviation) → i < length us → IsGiven pass us i x →
-    IsGiven pass (us ++ w ∷ []) i x
+given_kept : (pass : Pass) (us : List (List ℕ)) (w : List ℕ) (i : ℕ) (x : Deviation) → i < length us → IsMadeByDeviation pass us i x →
+    IsMadeByDeviation pass (us ++ w ∷ []) i x
 given_kept pass us w i x within given =
     let e = given.earlier in
     let parent = get_or_append_left us (w ∷ []) [] x.list (omega arith) in record {
       earlier = given.earlier;
       deviation = subst (λ u. IsDeviation pass u x) (sym parent) given.deviation;
-      is = get_or_append_left us (w ∷ []) [] i within ∙ given.is ∙ ap (λ u. deviation_of pass u x) (sym parent);
+      is = get_or_append_left us (w ∷ []) [] i within ∙ given.is ∙ ap (λ u. word_of_deviation pass u x) (sym parent);
     }
 
-given_new : (pass : Pass) (us : List (List ℕ)) (i : ℕ) (x : Deviation) → i ≡ length us → IsDeviationOf pass us x →
-    IsGiven pass (us ++ deviation_list pass us x ∷ []) i x
+given_new : (pass : Pass) (us : List (List ℕ)) (i : ℕ) (x : Deviation) → i ≡ length us → IsDeviationFromReturnedWord pass us x →
+    IsMadeByDeviation pass (us ++ deviating_word pass us x ∷ []) i x
 given_new pass us i x end is =
     let w = is.within in
-    let parent = get_or_append_left us (deviation_list pass us x ∷ []) [] x.list w in record {
+    let parent = get_or_append_left us (deviating_word pass us x ∷ []) [] x.list w in record {
       earlier = omega arith;
       deviation = subst (λ u. IsDeviation pass u x) (sym parent) is.deviation;
-      is = get_or_push us (deviation_list pass us x) [] i (sym end) ∙ ap (λ u. deviation_of pass u x) (sym parent);
+      is = get_or_push us (deviating_word pass us x) [] i (sym end) ∙ ap (λ u. word_of_deviation pass u x) (sym parent);
     }
 
-pub tree_more : (pass : Pass) (lists : Lists) (x : Deviation) → length lists.deviations ≡ 63 → IsTree pass lists → 0 < lists.count →
-    lists.count < 64 → IsDeviationOf pass (lists_of pass lists) x →
-    IsTree pass (record { first = lists.first; deviations = set lists.deviations (lists.count - 1) x; count = lists.count + 1 })
+pub tree_more : (pass : Pass) (lists : Lists) (x : Deviation) → length lists.deviations ≡ 63 → IsDeviationTree pass lists →
+    0 < lists.count →
+    lists.count < 64 → IsDeviationFromReturnedWord pass (words_of_lists pass lists) x →
+    IsDeviationTree pass (record { first = lists.first; deviations = set lists.deviations (lists.count - 1) x; count = lists.count + 1 })
 tree_more pass lists x many tree some few is = record {
   most = omega arith;
-  each = (λ k within. subst (λ us. IsGiven pass us (k + 1) (get_or (set lists.deviations (lists.count - 1) x) k no_deviation))
+  each = (λ k within. subst (λ us. IsMadeByDeviation pass us (k + 1) (get_or (set lists.deviations (lists.count - 1) x) k no_deviation))
       (sym (lists-push pass lists many tree.most x some few)) (one k within));
 } where
   us : List (List ℕ)
-  us = lists_of pass lists
+  us = words_of_lists pass lists
 
   one : (k : ℕ) → k + 1 < lists.count + 1 →
-      IsGiven pass (lists_of pass lists ++ deviation_list pass (lists_of pass lists) x ∷ []) (k + 1)
+      IsMadeByDeviation pass (words_of_lists pass lists ++ deviating_word pass (words_of_lists pass lists) x ∷ []) (k + 1)
       (get_or (set lists.deviations (lists.count - 1) x) k no_deviation)
   one k within = elim (cases_lt (k + 1) lists.count) [
-    | inl early ↦ subst (λ y. IsGiven pass (us ++ deviation_list pass us x ∷ []) (k + 1) y)
+    | inl early ↦ subst (λ y. IsMadeByDeviation pass (us ++ deviating_word pass us x ∷ []) (k + 1) y)
         (sym (get_or-other lists.deviations (lists.count - 1) k x (omega arith)))
-        (given_kept pass us (deviation_list pass us x) (k + 1) (get_or lists.deviations k no_deviation)
+        (given_kept pass us (deviating_word pass us x) (k + 1) (get_or lists.deviations k no_deviation)
         (let n = length-lists pass lists many tree.most in omega arith) (tree.each k early))
     | inr late ↦
         let here : lists.count - 1 ≡ k = omega arith in
-        subst (λ y. IsGiven pass (us ++ deviation_list pass us x ∷ []) (k + 1) y)
+        subst (λ y. IsMadeByDeviation pass (us ++ deviating_word pass us x ∷ []) (k + 1) y)
         (sym (ap (λ j. get_or (set lists.deviations j x) k no_deviation) here ∙ get_or-set lists.deviations k x (omega arith)))
         (given_new pass us (k + 1) x (let n = length-lists pass lists many tree.most in omega arith) is)
   ]
 
 pub tree_first : (pass : Pass) (first : List ℕ) (deviations : List Deviation) →
-    IsTree pass (record { first = first; deviations = deviations; count = 1 })
+    IsDeviationTree pass (record { first = first; deviations = deviations; count = 1 })
 tree_first pass first deviations = record { most = omega arith; each = (λ k within. absurd (omega arith)) }
 
--- ---- the order of two words
+-- ---- the lexicographic order of two words that deviate from a common word
 
-module _ (pass : Pass) (us : List (List ℕ)) (w : List ℕ) (x up : Deviation) (is : IsPass pass) (all : All (IsCandidate (soft_of pass)) us)
-    (given : IsGiven pass us x.list up) (before : up.departure.place < x.departure.place) where
-  pub forks_above : Forks us w x → Forks us w up
+module _ (pass : Pass) (us : List (List ℕ)) (w : List ℕ) (x up : Deviation) (is : IsCompletePass pass) (all : All (IsCandidate
+    (pass_soft_bits pass)) us)
+    (given : IsMadeByDeviation pass us x.list up) (before : up.departure.place < x.departure.place) where
+  pub forks_above : DeviatesAtSamePosition us w x → DeviatesAtSamePosition us w up
   forks_above forks =
       let e = given.earlier in
       let inside = forks.within in
-      let parent : IsCandidate (soft_of pass) (get_or us up.list []) = all up.list [] (omega arith) in
-      let child : IsCandidate (soft_of pass) (get_or us x.list []) = all x.list [] forks.within in
+      let parent : IsCandidate (pass_soft_bits pass) (get_or us up.list []) = all up.list [] (omega arith) in
+      let child : IsCandidate (pass_soft_bits pass) (get_or us x.list []) = all x.list [] forks.within in
       let n = parent.count in
       let m = child.count in record {
         within = omega arith;
         departs = departs_before (get_or us up.list []) (get_or us x.list []) w up.departure.place x.departure.place (omega arith)
-            (subst (λ v. DepartsAt (get_or us up.list []) v up.departure.place) (sym given.is)
+            (subst (λ v. DeviatesAt (get_or us up.list []) v up.departure.place) (sym given.is)
             (deviation_departs_at pass (get_or us up.list []) up is parent given.deviation)) forks.departs before;
         bit = given.deviation.bit;
       }
 
-pub forks_first : (pass : Pass) (us : List (List ℕ)) (x : Deviation) → IsPass pass → All (IsCandidate (soft_of pass)) us →
-    IsDeviationOf pass us x → Forks us (deviation_list pass us x) x
+pub forks_first : (pass : Pass) (us : List (List ℕ)) (x : Deviation) → IsCompletePass pass → All (IsCandidate (pass_soft_bits pass)) us →
+    IsDeviationFromReturnedWord pass us x → DeviatesAtSamePosition us (deviating_word pass us x) x
 forks_first pass us x is all deviation = record {
   within = deviation.within;
   departs = deviation_departs_at pass (get_or us x.list []) x is (all x.list [] deviation.within) deviation.deviation;
   bit = deviation.deviation.bit;
 }
 
--- a bit that differs from another
+-- of two different bits, if one is 1 the other is 0
 other_bit : (a b : ℕ) → b ≤ 1 → a ≡ 1 → a ≢ b → b ≡ 0
 other_bit a zero small one other = refl
 other_bit a (suc b) small one other = absurd (other (omega arith))
@@ -168,10 +169,10 @@ other_bit a (suc b) small one other = absurd (other (omega arith))
 other_zero : (a b : ℕ) → a ≡ 0 → a ≢ b → b ≢ 0
 other_zero a b none other e = other (none ∙ sym e)
 
--- v deviates from u where w still agrees with u, so v and w first differ there
-module _ (u v w : List ℕ) (p q : ℕ) (lv : DepartsAt u v p) (lw : DepartsAt u w q) (early : p < q) (bits_v : AllBits v)
+-- if v deviates from u where w still agrees with u, then v and w first differ there
+module _ (u v w : List ℕ) (p q : ℕ) (lv : DeviatesAt u v p) (lw : DeviatesAt u w q) (early : p < q) (bits_v : AllBits v)
     (long_v : length v ≡ length u) (long_w : length w ≡ length u) where
-  pub fork_before : get_or u p 0 ≡ 1 → IsBefore v w
+  pub fork_before : get_or u p 0 ≡ 1 → IsLexicographicallyBefore v w
   fork_before one =
       let i = lv.within in record {
         place = p;
@@ -181,7 +182,7 @@ module _ (u v w : List ℕ) (p q : ℕ) (lv : DepartsAt u v p) (lw : DepartsAt u
         differs = (λ e. let s = lw.same p early in omega arith);
       }
 
-  pub fork_behind : get_or u p 0 ≡ 0 → IsBefore w v
+  pub fork_behind : get_or u p 0 ≡ 0 → IsLexicographicallyBefore w v
   fork_behind none =
       let i = lv.within in record {
         place = p;
@@ -191,35 +192,38 @@ module _ (u v w : List ℕ) (p q : ℕ) (lv : DepartsAt u v p) (lw : DepartsAt u
         differs = other_zero (get_or u p 0) (get_or v p 0) none lv.differs;
       }
 
-by_one : (v w : List ℕ) (b : ℕ) → b ≤ 1 → (b ≡ 1 → IsBefore v w) → (b ≡ 0 → IsBefore w v) → IsOrder v w (nat_eq b 1)
+by_one : (v w : List ℕ) (b : ℕ) → b ≤ 1 → (b ≡ 1 → IsLexicographicallyBefore v w) → (b ≡ 0 → IsLexicographicallyBefore w v) →
+    TellsLexicographicOrder v w (nat_eq b 1)
 by_one v w zero small one none = inr (none refl)
 by_one v w (suc zero) small one none = one refl
 by_one v w (suc (suc b)) small one none = absurd (omega arith)
 
-by_zero : (v w : List ℕ) (b : ℕ) → b ≤ 1 → (b ≡ 0 → IsBefore v w) → (b ≡ 1 → IsBefore w v) → IsOrder v w (nat_eq b 0)
+by_zero : (v w : List ℕ) (b : ℕ) → b ≤ 1 → (b ≡ 0 → IsLexicographicallyBefore v w) → (b ≡ 1 → IsLexicographicallyBefore w v) →
+    TellsLexicographicOrder v w (nat_eq b 0)
 by_zero v w zero small none one = none refl
 by_zero v w (suc zero) small none one = inr (one refl)
 by_zero v w (suc (suc b)) small none one = absurd (omega arith)
 
-module _ (pass : Pass) (us : List (List ℕ)) (v w : List ℕ) (x y : Deviation) (all : All (IsCandidate (soft_of pass)) us)
-    (is_v : IsCandidate (soft_of pass) v) (is_w : IsCandidate (soft_of pass) w) (fx : Forks us v x) (fy : Forks us w y)
+module _ (pass : Pass) (us : List (List ℕ)) (v w : List ℕ) (x y : Deviation) (all : All (IsCandidate (pass_soft_bits pass)) us)
+    (is_v : IsCandidate (pass_soft_bits pass) v) (is_w : IsCandidate (pass_soft_bits pass) w) (fx : DeviatesAtSamePosition us v x)
+    (fy : DeviatesAtSamePosition us w y)
     (same : x.list ≡ y.list) where
   abbrev here : List ℕ
   here = get_or us x.list []
 
-  is_u : IsCandidate (soft_of pass) (get_or us x.list [])
+  is_u : IsCandidate (pass_soft_bits pass) (get_or us x.list [])
   is_u = all x.list [] fx.within
 
-  as_long : (t : List ℕ) → IsCandidate (soft_of pass) t → length t ≡ length (get_or us x.list [])
+  as_long : (t : List ℕ) → IsCandidate (pass_soft_bits pass) t → length t ≡ length (get_or us x.list [])
   as_long t is_t = let n = is_u.count in let m = is_t.count in omega arith
 
-  left_y : DepartsAt (get_or us x.list []) w y.departure.place
-  left_y = subst (λ k. DepartsAt (get_or us k []) w y.departure.place) (sym same) fy.departs
+  left_y : DeviatesAt (get_or us x.list []) w y.departure.place
+  left_y = subst (λ k. DeviatesAt (get_or us k []) w y.departure.place) (sym same) fy.departs
 
   bit_y : y.departure.bit ≡ get_or (get_or us x.list []) y.departure.place 0
   bit_y = fy.bit ∙ ap (λ k. get_or (get_or us k []) y.departure.place 0) (sym same)
 
-  pub order_first : x.departure.place < y.departure.place → IsOrder v w (nat_eq x.departure.bit 1)
+  pub order_first : x.departure.place < y.departure.place → TellsLexicographicOrder v w (nat_eq x.departure.bit 1)
   order_first early =
       by_one v w x.departure.bit (subst (λ b. b ≤ 1) (sym fx.bit) (bit_at-most_1 here x.departure.place is_u.information.bits))
       (λ one. fork_before here v w x.departure.place y.departure.place fx.departs left_y early is_v.information.bits (as_long v is_v)
@@ -227,7 +231,7 @@ module _ (pass : Pass) (us : List (List ℕ)) (v w : List ℕ) (x y : Deviation)
       (λ none. fork_behind here v w x.departure.place y.departure.place fx.departs left_y early is_v.information.bits (as_long v is_v)
       (as_long w is_w) (sym fx.bit ∙ none))
 
-  pub order_second : y.departure.place < x.departure.place → IsOrder v w (nat_eq y.departure.bit 0)
+  pub order_second : y.departure.place < x.departure.place → TellsLexicographicOrder v w (nat_eq y.departure.bit 0)
   order_second early =
       by_zero v w y.departure.bit (subst (λ b. b ≤ 1) (sym bit_y) (bit_at-most_1 here y.departure.place is_u.information.bits))
       (λ none. fork_behind here w v y.departure.place x.departure.place left_y fx.departs early is_w.information.bits (as_long w is_w)
@@ -235,7 +239,7 @@ module _ (pass : Pass) (us : List (List ℕ)) (v w : List ℕ) (x y : Deviation)
       (λ one. fork_before here w v y.departure.place x.departure.place left_y fx.departs early is_w.information.bits (as_long w is_w)
       (as_long v is_v) (sym bit_y ∙ one))
 
--- ---- writing a word
+-- ---- writing out a word along its chain of deviations
 
 drop-set : (xs : List ℕ) (k x : ℕ) → k < length xs → drop k (set xs k x) ≡ x ∷ drop (k + 1) xs
 drop-set [] k x within = absurd (omega arith)
@@ -245,10 +249,10 @@ drop-set (y ∷ xs) (suc k) x within =
     rw more (drop-set xs k x (omega arith))
 
 pub leads_more : (lists : Lists) (xs : List ℕ) (start at i : ℕ) → start < length xs → 0 < at → at < lists.count →
-    Leads lists (drop (start + 1) xs) at i →
-    Leads lists (drop start (set xs start at)) (get_or lists.deviations (at - 1) no_deviation).list i
+    IsChainOfDeviations lists (drop (start + 1) xs) at i →
+    IsChainOfDeviations lists (drop start (set xs start at)) (get_or lists.deviations (at - 1) no_deviation).list i
 leads_more lists xs start at i within some small leads =
-    subst (λ cs. Leads lists cs (get_or lists.deviations (at - 1) no_deviation).list i) (sym (drop-set xs start at within))
+    subst (λ cs. IsChainOfDeviations lists cs (get_or lists.deviations (at - 1) no_deviation).list i) (sym (drop-set xs start at within))
     (some, small, refl, leads)
 
 drop-at : (xs : List ℕ) (k : ℕ) → k < length xs → drop k xs ≡ get_or xs k 0 ∷ drop (k + 1) xs
@@ -258,37 +262,41 @@ drop-at (x ∷ xs) (suc k) within =
     let more : suc k + 1 ≡ suc (k + 1) = omega arith in
     rw more (drop-at xs k (omega arith))
 
--- u is the word that the chain has reached, and cs is the rest of the chain
+-- u is the word that has been reached along the chain, and cs is the rest of the chain
 abbrev pub OnTheWay : Pass → Lists → List ℕ → ℕ → List ℕ → Type 0
-OnTheWay pass lists cs i u = (at : ℕ) × (u ≡ get_or (lists_of pass lists) at []) × (at < lists.count) × Leads lists cs at i
+OnTheWay pass lists cs i u = (at : ℕ) × (u ≡ get_or (words_of_lists pass lists) at []) × (at < lists.count) ×
+    IsChainOfDeviations lists cs at i
 
 -- the next word of the chain
 pub record Further (pass : Pass) (lists : Lists) (cs : List ℕ) (i c : ℕ) (u : List ℕ) : Type 0 where
   pub some : 0 < c
   pub within : c < lists.count
-  pub candidate : IsCandidate (soft_of pass) u
+  pub candidate : IsCandidate (pass_soft_bits pass) u
   pub deviation : IsDeviation pass u (get_or lists.deviations (c - 1) no_deviation)
-  pub next : (v : List ℕ) → v ≡ deviation_of pass u (get_or lists.deviations (c - 1) no_deviation) → OnTheWay pass lists cs i v
+  pub next : (v : List ℕ) → v ≡ word_of_deviation pass u (get_or lists.deviations (c - 1) no_deviation) → OnTheWay pass lists cs i v
 
-pub further : (pass : Pass) (lists : Lists) (xs : List ℕ) (k i : ℕ) (u : List ℕ) → length lists.deviations ≡ 63 → IsTree pass lists →
-    All (IsCandidate (soft_of pass)) (lists_of pass lists) → k < length xs → OnTheWay pass lists (drop k xs) i u →
+pub further : (pass : Pass) (lists : Lists) (xs : List ℕ) (k i : ℕ) (u : List ℕ) → length lists.deviations ≡ 63 →
+    IsDeviationTree pass lists →
+    All (IsCandidate (pass_soft_bits pass)) (words_of_lists pass lists) → k < length xs → OnTheWay pass lists (drop k xs) i u →
     Further pass lists (drop (k + 1) xs) i (get_or xs k 0) u
 further pass lists xs k i u many tree all within path =
-    from path.0 path.1 path.2 (subst (λ cs. Leads lists cs path.0 i) (drop-at xs k within) path.3)
+    from path.0 path.1 path.2 (subst (λ cs. IsChainOfDeviations lists cs path.0 i) (drop-at xs k within) path.3)
   where
-    from : (at : ℕ) → u ≡ get_or (lists_of pass lists) at [] → at < lists.count → Leads lists (get_or xs k 0 ∷ drop (k + 1) xs) at i →
+    from : (at : ℕ) → u ≡ get_or (words_of_lists pass lists) at [] → at < lists.count →
+        IsChainOfDeviations lists (get_or xs k 0 ∷ drop (k + 1) xs) at i →
         Further pass lists (drop (k + 1) xs) i (get_or xs k 0) u
     from at is small leads =
         let c = get_or xs k 0 in
         let back : c - 1 + 1 ≡ c = let s = leads.0 in omega arith in
         let x = get_or lists.deviations (c - 1) no_deviation in
-        let given : IsGiven pass (lists_of pass lists) c x =
-        subst (λ i. IsGiven pass (lists_of pass lists) i x) back (tree.each (c - 1) (let s = leads.1 in omega arith)) in
-        let here : get_or (lists_of pass lists) x.list [] ≡ u = ap (λ k. get_or (lists_of pass lists) k []) leads.2 ∙ sym is in record {
+        let given : IsMadeByDeviation pass (words_of_lists pass lists) c x =
+        subst (λ i. IsMadeByDeviation pass (words_of_lists pass lists) i x) back (tree.each (c - 1) (let s = leads.1 in omega arith)) in
+        let here : get_or (words_of_lists pass lists) x.list [] ≡ u = ap (λ k. get_or (words_of_lists pass lists) k []) leads.2
+        ∙ sym is in record {
           some = leads.0;
           within = leads.1;
-          candidate = subst (IsCandidate (soft_of pass)) (sym is)
+          candidate = subst (IsCandidate (pass_soft_bits pass)) (sym is)
               (all at [] (let n = length-lists pass lists many tree.most in omega arith));
           deviation = subst (λ u. IsDeviation pass u x) here given.deviation;
-          next = (λ v written. (c, written ∙ sym (given.is ∙ ap (λ u. deviation_of pass u x) here), leads.1, leads.3));
+          next = (λ v written. (c, written ∙ sym (given.is ∙ ap (λ u. word_of_deviation pass u x) here), leads.1, leads.3));
         }

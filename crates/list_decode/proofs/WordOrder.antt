@@ -1,16 +1,10 @@
--- Lexicographic order of words, as the slice comparison decides it.
-use Rattle.std.proofs.Common.{◌≡◌, ◌≢◌, ◌⊎◌, ℕ, ◌<◌, Bool, true, false, cond, eqb, ltb, inl, inr, List, []}
-use Rattle.std.proofs.Common.{◌∷◌, length, refl, sym, ◌∙◌, subst, arith, eq-eqb, ne_eqb, ap}
-use Rattle.std.specs.Ordering.{nat_cmp, is_lt, is_some_and}
-use Rattle.std.specs.Cmp.Lexicographic.{slice_partial_cmp}
-use Rattle.std.specs.Prelude.{Some}
-use Rattle.std.proofs.lemmas.Cmp.{same_from_slice_cmp_tested}
-use Rattle.std.proofs.lemmas.Bool.Decides.{nat_tests}
-use Rattle.bit_blocks.specs.Bits.{AllBits}
-use Rattle.weight_bound.specs.conv_code.Likelihood.{IsBefore}
-use Rattle.trellis_decode.specs.Trellis.{IsNotAfter}
-use Rattle.weight_bound.proofs.conv_code.Lemmas.{same_list, same_number}
-use Rattle.trellis_decode.proofs.Lemmas.{IsBefore-not_after}
+-- The comparison of slices decides the lexicographic order of words.
+use Rattle.std.proofs.Common.{◌≡◌, ◌≢◌, ◌⊎◌, ℕ, ◌<◌, Bool, true, false, cond, eqb, ltb, inl, inr, List, [], ◌∷◌, length, refl, sym, ◌∙◌}
+use Rattle.std.proofs.{Common.{subst, arith, eq-eqb, ne_eqb, ap}, lemmas.{Cmp.same_from_slice_cmp_tested, Bool.Decides.nat_tests}}
+use Rattle.std.specs.{Ordering.{nat_cmp, is_lt, is_some_and}, Cmp.Lexicographic.slice_partial_cmp, Prelude.Some}
+use Rattle.weight_bound.{specs.{bit_blocks.Bits.AllBits, conv_code.Likelihood.IsLexicographicallyBefore}, proofs.conv_code.Lemmas.same_list}
+use Rattle.weight_bound.proofs.conv_code.Lemmas.{same_number}
+use Rattle.trellis_decode.{specs.Trellis.IsNotLexicographicallyAfter, proofs.Lemmas.IsLexicographicallyBefore-not_after}
 
 abbrev pub test : List ℕ → List ℕ → Bool
 test [] [] = false
@@ -37,7 +31,7 @@ not_itself : (u : List ℕ) → test u u ≡ true → ⊥
 not_itself [] h = cc
 not_itself (x ∷ u) h = not_itself u (tail x x (test u u) (ltb x x) true refl h)
 
-not_after : (u v : List ℕ) → length v ≡ length u → test u v ≡ true → IsNotAfter u v
+not_after : (u v : List ℕ) → length v ≡ length u → test u v ≡ true → IsNotLexicographicallyAfter u v
 not_after [] v same h = tt
 not_after (x ∷ u) [] same h = absurd (omega arith)
 not_after (x ∷ u) (y ∷ v) same h = elim (same_number x y) [
@@ -45,7 +39,7 @@ not_after (x ∷ u) (y ∷ v) same h = elim (same_number x y) [
   | inr other ↦ inl (less x y (head x y (test u v) (ltb x y) true other h))
 ]
 
-not_before : (u v : List ℕ) → length v ≡ length u → test u v ≡ false → IsNotAfter v u
+not_before : (u v : List ℕ) → length v ≡ length u → test u v ≡ false → IsNotLexicographicallyAfter v u
 not_before u [] same h = tt
 not_before [] (y ∷ v) same h = absurd (omega arith)
 not_before (x ∷ u) (y ∷ v) same h = elim (same_number x y) [
@@ -54,13 +48,13 @@ not_before (x ∷ u) (y ∷ v) same h = elim (same_number x y) [
 ]
 
 -- if the comparison is true, u comes before v
-pub before_tested : (u v : List ℕ) → AllBits v → length v ≡ length u → test u v ≡ true → IsBefore u v
-before_tested u v bits same h = IsBefore-not_after u v bits same (not_after u v same h)
+pub before_tested : (u v : List ℕ) → AllBits v → length v ≡ length u → test u v ≡ true → IsLexicographicallyBefore u v
+before_tested u v bits same h = IsLexicographicallyBefore-not_after u v bits same (not_after u v same h)
     (λ e. not_itself u (subst (λ v. test u v ≡ true) e h))
 
--- if it is false, v is u or comes before it
-pub behind_tested : (u v : List ℕ) → AllBits u → length v ≡ length u → test u v ≡ false → (u ≡ v) ⊎ IsBefore v u
+-- if the comparison is false, v equals u or comes before u
+pub behind_tested : (u v : List ℕ) → AllBits u → length v ≡ length u → test u v ≡ false → (u ≡ v) ⊎ IsLexicographicallyBefore v u
 behind_tested u v bits same h = elim (same_list u v) [
   | inl equal ↦ inl equal
-  | inr other ↦ inr (IsBefore-not_after v u bits (sym same) (not_before u v same h) other)
+  | inr other ↦ inr (IsLexicographicallyBefore-not_after v u bits (sym same) (not_before u v same h) other)
 ]

@@ -1,35 +1,39 @@
-//! The branch with the best word of all.
+//! The choice of the branch whose best word ranks first.
 
 ghost use Rattle.std.specs.Prelude.{◌≡◌, ◌⊎◌, ◌+◌, ◌<◌, ◌++◌, ◌∷◌, [], List, ℕ, Bool, true, false, Some};
 ghost use Rattle.std.specs.Prelude.{None, IfSome, length};
 ghost use Rattle.std.specs.List.{All};
-ghost use Rattle.weight_bound.specs.conv_code.Likelihood.{FallsBehind};
-ghost use Rattle.list_decode.specs.Branches.{IsBranchOf};
-ghost use Rattle.list_decode.specs.Choices.{IsFirst, IsOrder, IsDeviationOf, deviation_list};
-ghost use Rattle.list_decode.specs.Lists.{IsTree, lists_of};
-ghost use Rattle.list_decode.specs.Passes.{IsPass, soft_of};
+ghost use Rattle.weight_bound.specs.conv_code.Likelihood.{RanksAfter};
+ghost use Rattle.list_decode.specs.Branches.{IsBranchOfReturnedWord};
+ghost use Rattle.list_decode.specs.Choices.{IsBestRankedBranch, TellsLexicographicOrder, IsDeviationFromReturnedWord, deviating_word};
+ghost use Rattle.list_decode.specs.Lists.{IsDeviationTree, words_of_lists};
+ghost use Rattle.list_decode.specs.Passes.{IsCompletePass, pass_soft_bits};
 ghost use Rattle.list_decode.specs.Ranking.{IsCandidate};
 ghost use Rattle.list_decode.specs.declared.branch.Branch.{Branch as TheBranch};
 
 use crate::branch::{Branch, Deviation};
 use crate::lists::Lists;
 use crate::pass::Pass;
-use bit_blocks::INFORMATION_BITS;
+use trellis_decode::INFORMATION_BITS;
 
-/// The index of a branch, and its best word.
+/// The index of a branch, and the deviation that makes its best word.
 #[derive(Clone, Copy)]
-pub(crate) struct Choice {
+pub(crate) struct BranchChoice {
     pub(crate) branch: usize,
     pub(crate) deviation: Deviation,
 }
 
 /// The branch whose best word ranks first, or `None` if no branch has a word.
-pub(crate) fn first_branch(pass: &Pass, lists: &Lists, branches: &[Branch]) -> Option<Choice>
-    requires pass { IsPass pass.now }
-    requires tree { IsTree pass.now lists.now }
-    requires lists { All (IsCandidate (soft_of pass.now)) (lists_of pass.now lists.now) }
-    requires branches { All (IsBranchOf pass.now (lists_of pass.now lists.now)) branches.now }
-    ensures first { IsFirst pass.now (lists_of pass.now lists.now) branches.now result }
+pub(crate) fn find_best_branch(
+    pass: &Pass,
+    lists: &Lists,
+    branches: &[Branch],
+) -> Option<BranchChoice>
+    requires pass { IsCompletePass pass.now }
+    requires tree { IsDeviationTree pass.now lists.now }
+    requires lists { All (IsCandidate (pass_soft_bits pass.now)) (words_of_lists pass.now lists.now) }
+    requires branches { All (IsBranchOfReturnedWord pass.now (words_of_lists pass.now lists.now)) branches.now }
+    ensures first { IsBestRankedBranch pass.now (words_of_lists pass.now lists.now) branches.now result }
 {
     let mut first = None;
     for (i, branch) in branches.iter().enumerate() {
@@ -40,31 +44,32 @@ pub(crate) fn first_branch(pass: &Pass, lists: &Lists, branches: &[Branch]) -> O
     first
 }
 
-/// The better of the first choice so far and the best word of branch `number`.
+/// The better of two choices: `first`, the best so far, and branch `number`, whose best word `deviation` makes.
 fn earlier(
     pass: &Pass,
     lists: &Lists,
-    first: Option<Choice>,
+    first: Option<BranchChoice>,
     number: usize,
     deviation: &Deviation,
-) -> Option<Choice>
-    requires pass { IsPass pass.now }
-    requires tree { IsTree pass.now lists.now }
-    requires lists { All (IsCandidate (soft_of pass.now)) (lists_of pass.now lists.now) }
-    requires first { IfSome first (λ old. IsDeviationOf pass.now (lists_of pass.now lists.now) old.deviation) }
-    requires new { IsDeviationOf pass.now (lists_of pass.now lists.now) deviation.now }
-    ensures { (branches : List TheBranch) (branch : TheBranch) → IsFirst pass.now (lists_of pass.now lists.now) branches first →
+) -> Option<BranchChoice>
+    requires pass { IsCompletePass pass.now }
+    requires tree { IsDeviationTree pass.now lists.now }
+    requires lists { All (IsCandidate (pass_soft_bits pass.now)) (words_of_lists pass.now lists.now) }
+    requires first { IfSome first (λ old. IsDeviationFromReturnedWord pass.now (words_of_lists pass.now lists.now) old.deviation) }
+    requires new { IsDeviationFromReturnedWord pass.now (words_of_lists pass.now lists.now) deviation.now }
+    ensures { (branches : List TheBranch) (branch : TheBranch) →
+        IsBestRankedBranch pass.now (words_of_lists pass.now lists.now) branches first →
         branch.best ≡ Some deviation.now → number ≡ length branches →
-        IsFirst pass.now (lists_of pass.now lists.now) (branches ++ branch ∷ []) result }
+        IsBestRankedBranch pass.now (words_of_lists pass.now lists.now) (branches ++ branch ∷ []) result }
 {
     match first {
-        None => Some(Choice {
+        None => Some(BranchChoice {
             branch: number,
             deviation: *deviation,
         }),
         Some(old) => {
-            if comes_before(pass, lists, deviation, &old.deviation) {
-                Some(Choice {
+            if ranks_before(pass, lists, deviation, &old.deviation) {
+                Some(BranchChoice {
                     branch: number,
                     deviation: *deviation,
                 })
@@ -75,48 +80,50 @@ fn earlier(
     }
 }
 
-/// Whether `first` ranks before `second`: by path metric, and for equal metrics by lexicographic order.
-fn comes_before(pass: &Pass, lists: &Lists, first: &Deviation, second: &Deviation) -> bool
-    requires pass { IsPass pass.now }
-    requires tree { IsTree pass.now lists.now }
-    requires lists { All (IsCandidate (soft_of pass.now)) (lists_of pass.now lists.now) }
-    requires first { IsDeviationOf pass.now (lists_of pass.now lists.now) first.now }
-    requires second { IsDeviationOf pass.now (lists_of pass.now lists.now) second.now }
-    ensures before { result ≡ true → FallsBehind (soft_of pass.now) (deviation_list pass.now (lists_of pass.now lists.now) second.now)
-        (deviation_list pass.now (lists_of pass.now lists.now) first.now) }
+/// Whether the word of `first` ranks before the word of `second`: by path metric, and if these are equal, by lexicographic order.
+fn ranks_before(pass: &Pass, lists: &Lists, first: &Deviation, second: &Deviation) -> bool
+    requires pass { IsCompletePass pass.now }
+    requires tree { IsDeviationTree pass.now lists.now }
+    requires lists { All (IsCandidate (pass_soft_bits pass.now)) (words_of_lists pass.now lists.now) }
+    requires first { IsDeviationFromReturnedWord pass.now (words_of_lists pass.now lists.now) first.now }
+    requires second { IsDeviationFromReturnedWord pass.now (words_of_lists pass.now lists.now) second.now }
+    ensures before { result ≡ true → RanksAfter (pass_soft_bits pass.now) (deviating_word pass.now
+        (words_of_lists pass.now lists.now) second.now)
+        (deviating_word pass.now (words_of_lists pass.now lists.now) first.now) }
     ensures behind { result ≡ false →
-        (deviation_list pass.now (lists_of pass.now lists.now) first.now ≡
-        deviation_list pass.now (lists_of pass.now lists.now) second.now) ⊎
-        FallsBehind (soft_of pass.now) (deviation_list pass.now (lists_of pass.now lists.now) first.now)
-        (deviation_list pass.now (lists_of pass.now lists.now) second.now) }
+        (deviating_word pass.now (words_of_lists pass.now lists.now) first.now ≡
+        deviating_word pass.now (words_of_lists pass.now lists.now) second.now) ⊎
+        RanksAfter (pass_soft_bits pass.now) (deviating_word pass.now (words_of_lists pass.now lists.now) first.now)
+        (deviating_word pass.now (words_of_lists pass.now lists.now) second.now) }
 {
     if first.likelihood != second.likelihood {
         return first.likelihood > second.likelihood;
     }
-    match fork(pass, lists, first, second) {
+    match order_by_chain(pass, lists, first, second) {
         Some(before) => before,
-        None => is_before(pass, lists, first, second),
+        None => is_lexicographically_before(pass, lists, first, second),
     }
 }
 
-/// Whether the first word comes before the second in lexicographic order, without writing them out. Goes up the chains of deviations to
-/// the last common word: the two words first differ where the earlier of the two deviations from it is. `None` if that does not decide.
-fn fork(pass: &Pass, lists: &Lists, first: &Deviation, second: &Deviation) -> Option<bool>
-    requires pass { IsPass pass.now }
-    requires tree { IsTree pass.now lists.now }
-    requires lists { All (IsCandidate (soft_of pass.now)) (lists_of pass.now lists.now) }
-    requires first { IsDeviationOf pass.now (lists_of pass.now lists.now) first.now }
-    requires second { IsDeviationOf pass.now (lists_of pass.now lists.now) second.now }
-    ensures { IfSome result (IsOrder (deviation_list pass.now (lists_of pass.now lists.now) first.now)
-        (deviation_list pass.now (lists_of pass.now lists.now) second.now)) }
+/// Whether the first word comes before the second in lexicographic order, without writing out either. It follows both chains of
+/// deviations back to a word that they share; the two words differ first where the earlier of the two deviations from it is. `None`
+/// if this does not decide.
+fn order_by_chain(pass: &Pass, lists: &Lists, first: &Deviation, second: &Deviation) -> Option<bool>
+    requires pass { IsCompletePass pass.now }
+    requires tree { IsDeviationTree pass.now lists.now }
+    requires lists { All (IsCandidate (pass_soft_bits pass.now)) (words_of_lists pass.now lists.now) }
+    requires first { IsDeviationFromReturnedWord pass.now (words_of_lists pass.now lists.now) first.now }
+    requires second { IsDeviationFromReturnedWord pass.now (words_of_lists pass.now lists.now) second.now }
+    ensures { IfSome result (TellsLexicographicOrder (deviating_word pass.now (words_of_lists pass.now lists.now) first.now)
+        (deviating_word pass.now (words_of_lists pass.now lists.now) second.now)) }
 {
     let mut x = *first;
     let mut y = *second;
     while x.list != y.list {
         if x.list > y.list {
-            x = lists.above(pass, &x)?;
+            x = lists.parent_deviation(pass, &x)?;
         } else {
-            y = lists.above(pass, &y)?;
+            y = lists.parent_deviation(pass, &y)?;
         }
     }
     if x.departure.place < y.departure.place {
@@ -129,14 +136,19 @@ fn fork(pass: &Pass, lists: &Lists, first: &Deviation, second: &Deviation) -> Op
 }
 
 /// Writes both words and compares them in lexicographic order.
-fn is_before(pass: &Pass, lists: &Lists, first: &Deviation, second: &Deviation) -> bool
-    requires pass { IsPass pass.now }
-    requires tree { IsTree pass.now lists.now }
-    requires lists { All (IsCandidate (soft_of pass.now)) (lists_of pass.now lists.now) }
-    requires first { IsDeviationOf pass.now (lists_of pass.now lists.now) first.now }
-    requires second { IsDeviationOf pass.now (lists_of pass.now lists.now) second.now }
-    ensures { IsOrder (deviation_list pass.now (lists_of pass.now lists.now) first.now)
-        (deviation_list pass.now (lists_of pass.now lists.now) second.now) result }
+fn is_lexicographically_before(
+    pass: &Pass,
+    lists: &Lists,
+    first: &Deviation,
+    second: &Deviation,
+) -> bool
+    requires pass { IsCompletePass pass.now }
+    requires tree { IsDeviationTree pass.now lists.now }
+    requires lists { All (IsCandidate (pass_soft_bits pass.now)) (words_of_lists pass.now lists.now) }
+    requires first { IsDeviationFromReturnedWord pass.now (words_of_lists pass.now lists.now) first.now }
+    requires second { IsDeviationFromReturnedWord pass.now (words_of_lists pass.now lists.now) second.now }
+    ensures { TellsLexicographicOrder (deviating_word pass.now (words_of_lists pass.now lists.now) first.now)
+        (deviating_word pass.now (words_of_lists pass.now lists.now) second.now) result }
 {
     let mut first_word = [0; INFORMATION_BITS];
     let mut second_word = [0; INFORMATION_BITS];

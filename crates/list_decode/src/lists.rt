@@ -1,79 +1,80 @@
-//! The words that were returned. Each is stored as a deviation from an earlier word and is written out only when it is needed.
+//! The words that were returned. Each but the first is stored as a deviation from an earlier word, and written out only when needed.
 
 ghost use Rattle.std.specs.Prelude.{◌≡◌, ◌≤◌, ◌<◌, List, ℕ, length, slice_index_or, drop, IfSome};
 ghost use Rattle.std.specs.Prelude.{[]};
 ghost use Rattle.std.specs.List.{All};
-ghost use Rattle.list_decode.specs.Lists.{Forks, IsTree, Leads, lists_of};
-ghost use Rattle.list_decode.specs.Passes.{IsPass, soft_of};
+ghost use Rattle.list_decode.specs.Lists.{DeviatesAtSamePosition, IsDeviationTree, IsChainOfDeviations, words_of_lists};
+ghost use Rattle.list_decode.specs.Passes.{IsCompletePass, pass_soft_bits};
 ghost use Rattle.list_decode.specs.Ranking.{IsCandidate};
 
-use crate::MOST_LISTS;
+use crate::MAX_LISTS;
 use crate::branch::Deviation;
 use crate::pass::Pass;
-use bit_blocks::INFORMATION_BITS;
+use trellis_decode::INFORMATION_BITS;
 
-/// The words that were returned, numbered from 0.
+/// The words that were returned, numbered from 0 in order of rank.
 #[derive(Clone, Copy)]
 pub(crate) struct Lists {
-    /// Word 0, padded with zeros.
+    /// The bits of word 0, which is the most likely word, padded with zeros.
     pub(crate) first: [u8; INFORMATION_BITS],
-    /// Word `k + 1` deviates from an earlier word as entry `k` says.
+    /// Entry `k` tells how word `k + 1` deviates from an earlier word.
     pub(crate) deviations: [Deviation; 63],
     pub(crate) count: usize,
 }
 
-/// Word numbers from index `start` on. Each word deviates from the one before it.
+/// A chain of word numbers, in `lists` from index `start` on. Each word deviates from the one before it, and the first from word 0.
 #[derive(Clone, Copy)]
-struct Chain {
-    lists: [u8; MOST_LISTS],
+struct DeviationChain {
+    lists: [u8; MAX_LISTS],
     start: usize,
 }
 
 impl Lists {
-    /// Writes the word with this number.
+    /// Writes the word with the number `list` to `u`.
     pub(crate) fn write(&self, pass: &Pass, list: u8, u: &mut [u8])
-        requires pass { IsPass pass.now }
-        requires tree { IsTree pass.now self.now }
-        requires lists { All (IsCandidate (soft_of pass.now)) (lists_of pass.now self.now) }
+        requires pass { IsCompletePass pass.now }
+        requires tree { IsDeviationTree pass.now self.now }
+        requires lists { All (IsCandidate (pass_soft_bits pass.now)) (words_of_lists pass.now self.now) }
         requires within { list < self.now.count }
         requires count { length u.old ≡ pass.now.bits }
-        ensures { u.new ≡ slice_index_or (lists_of pass.now self.now) list [] }
+        ensures { u.new ≡ slice_index_or (words_of_lists pass.now self.now) list [] }
     {
         let chain = self.chain_to(pass, list);
         u.copy_from_slice(&self.first[..pass.bits]);
-        for k in chain.start..MOST_LISTS {
+        for k in chain.start..MAX_LISTS {
             self.deviations[usize::from(chain.lists[k]) - 1].take(pass, u);
         }
     }
 
-    /// The chain of deviations that leads from word 0 to a word.
-    fn chain_to(&self, pass: &Pass, list: u8) -> Chain
-        requires tree { IsTree pass.now self.now }
+    /// The chain of words that leads from word 0 to the word with the number `list`.
+    fn chain_to(&self, pass: &Pass, list: u8) -> DeviationChain
+        requires tree { IsDeviationTree pass.now self.now }
         requires within { list < self.now.count }
-        ensures start { result.start ≤ MOST_LISTS }
-        ensures chain { Leads self.now (drop result.start result.lists) 0 list }
+        ensures start { result.start ≤ MAX_LISTS }
+        ensures chain { IsChainOfDeviations self.now (drop result.start result.lists) 0 list }
     {
-        let mut lists = [0; MOST_LISTS];
-        let mut start = MOST_LISTS;
+        let mut lists = [0; MAX_LISTS];
+        let mut start = MAX_LISTS;
         let mut at = list;
         while at != 0 {
             start -= 1;
             lists[start] = at;
             at = self.deviations[usize::from(at) - 1].list;
         }
-        Chain { lists, start }
+        DeviationChain { lists, start }
     }
 
-    /// The deviation that makes the word from which `stray` deviates, or `None` if its position is not before that of `stray`.
-    pub(crate) fn above(&self, pass: &Pass, deviation: &Deviation) -> Option<Deviation>
-        requires pass { IsPass pass.now }
-        requires tree { IsTree pass.now self.now }
-        requires lists { All (IsCandidate (soft_of pass.now)) (lists_of pass.now self.now) }
+    /// The deviation that made the word from which `deviation` deviates, or `None` if its position is not before the position of
+    /// `deviation`.
+    pub(crate) fn parent_deviation(&self, pass: &Pass, deviation: &Deviation) -> Option<Deviation>
+        requires pass { IsCompletePass pass.now }
+        requires tree { IsDeviationTree pass.now self.now }
+        requires lists { All (IsCandidate (pass_soft_bits pass.now)) (words_of_lists pass.now self.now) }
         requires within { deviation.now.list < self.now.count }
         requires some { 0 < deviation.now.list }
         ensures earlier { IfSome result (λ up. up.list < deviation.now.list) }
-        ensures forks { IfSome result (λ up. (w : List ℕ) → Forks (lists_of pass.now self.now) w deviation.now →
-            Forks (lists_of pass.now self.now) w up) }
+        ensures forks { IfSome result (λ up. (w : List ℕ) → DeviatesAtSamePosition (words_of_lists pass.now self.now) w deviation.now →
+            DeviatesAtSamePosition (words_of_lists pass.now self.now) w up) }
     {
         let up = self.deviations[usize::from(deviation.list) - 1];
         if up.departure.place < deviation.departure.place {

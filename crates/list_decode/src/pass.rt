@@ -1,13 +1,13 @@
-//! The backward pass over the soft values.
+//! The backward Viterbi pass over the soft bits.
 
 ghost use Rattle.std.specs.Prelude.{◌≡◌, ◌≤◌, ◌%◌, length};
-ghost use Rattle.weight_bound.specs.conv_code.Likelihood.{AllSoft};
-ghost use Rattle.list_decode.specs.Passes.{IsPass, IsReady, soft_of};
+ghost use Rattle.weight_bound.specs.conv_code.Likelihood.{AllSoftBits};
+ghost use Rattle.list_decode.specs.Passes.{IsCompletePass, HasSoftBits, pass_soft_bits};
 
-use bit_blocks::{CODED_BITS, INFORMATION_BITS};
-use trellis_decode::fill_decisions;
+use trellis_decode::{CODED_BITS, INFORMATION_BITS, fill_decisions};
 
-/// The soft values, two for each bit, and for each position the survivor bit of every state and the loss when the other bit is taken.
+/// The soft bits, two for each information bit, and for each position the decision of every state (`rows`) and how much path metric the
+/// other bit would lose (`losses`).
 #[derive(Drop)]
 pub(crate) struct Pass {
     pub(crate) soft: [i8; CODED_BITS],
@@ -17,14 +17,14 @@ pub(crate) struct Pass {
 }
 
 impl Pass {
-    /// Copies the soft values. `run` makes the rest.
+    /// Copies the soft bits. The decisions and losses are computed later, by `run`.
     pub(crate) fn new(soft: &[i8]) -> Pass
         requires at_least { 10 ≤ length soft.now }
         requires at_most { length soft.now ≤ CODED_BITS }
         requires pairs { length soft.now % 2 ≡ 0 }
-        requires soft { AllSoft soft.now }
-        ensures soft { soft_of result ≡ soft.now }
-        ensures ready { IsReady result }
+        requires soft { AllSoftBits soft.now }
+        ensures soft { pass_soft_bits result ≡ soft.now }
+        ensures ready { HasSoftBits result }
     {
         let bits = soft.len() / 2;
         let mut copy = [0; CODED_BITS];
@@ -37,12 +37,12 @@ impl Pass {
         }
     }
 
-    /// Makes the survivors and losses in place.
+    /// Runs the backward pass: computes the decisions and the losses.
     pub(crate) fn run(&mut self)
-        requires ready { IsReady self.old }
+        requires ready { HasSoftBits self.old }
         ensures soft { self.new.soft ≡ self.old.soft }
         ensures bits { self.new.bits ≡ self.old.bits }
-        ensures pass { IsPass self.new }
+        ensures pass { IsCompletePass self.new }
     {
         let bits = self.bits;
         let soft = self.soft;

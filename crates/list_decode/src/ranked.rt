@@ -1,33 +1,32 @@
-//! The information words in order of rank, the most likely first.
+//! The information lists (words) in order of rank, the most likely first.
 //!
-//! The algorithm is list Viterbi decoding (Seshadri and Sundberg, 1994) with Lawler's partition (1972). A backward pass (`keep`) stores
-//! the survivors and losses. Every word that was not returned yet deviates from a returned word at a position of one of its spans, and
-//! follows the survivors from there on. The best deviation of a span is found by a walk along it, and the best of all spans is the next
-//! word. Its span is then split at the position of the deviation, and the positions after it in the new word make a third span.
+//! The algorithm is list Viterbi decoding (Seshadri and Sundberg, 1994) with Lawler's partition (1972). A backward pass stores the
+//! decisions and losses of all states. Every word not returned yet deviates from a returned word at a position in one of its spans; the
+//! best such word follows the survivors afterwards. A walk along a span finds its best deviation, and the best of all spans is the next
+//! word. Its span is then split at the position of the deviation, and the positions of the new word after it make a third span.
 
 ghost use Rattle.std.specs.Prelude.{◌≡◌, ◌↔◌, ◌≤◌, ◌+◌, ◌-◌, ◌*◌, ◌%◌, ◌<◌, ◌++◌, ◌∷◌};
 ghost use Rattle.std.specs.Prelude.{[], length, take, None, IfSome, MatchOption};
 ghost use Rattle.weight_bound.specs.conv_code.Code.{encoding, IsInformation};
-ghost use Rattle.weight_bound.specs.conv_code.Likelihood.{AllSoft, likelihood};
+ghost use Rattle.weight_bound.specs.conv_code.Likelihood.{AllSoftBits, likelihood};
 ghost use Rattle.list_decode.specs.Ranking.{IsDone, IsRanked};
 
-use crate::MOST_LISTS;
+use crate::MAX_LISTS;
 use crate::branch::{Branch, Deviation, Span};
-use crate::departure::Exit;
+use crate::departure::DeviationPoint;
 use crate::lists::Lists;
-use crate::partitioning::find_next;
+use crate::partitioning::find_next_word;
 use crate::pass::Pass;
-use bit_blocks::{CODED_BITS, INFORMATION_BITS};
 use std::marker::Model;
-use trellis_decode::decode;
+use trellis_decode::{CODED_BITS, INFORMATION_BITS, decode};
 
-/// The information words for soft values by rank, at most 64. A word with a greater path metric comes first; of words with equal
-/// metrics, the first in lexicographic order does.
+/// Returns the information lists for given soft bits in order of rank, at most 64. A list with a greater path metric comes first; of
+/// lists with equal metrics, the first in lexicographic order does.
 #[derive(Drop)]
 pub struct Ranked {
     pass: Pass,
     lists: Lists,
-    /// One branch for the first word, and two more for each further word.
+    /// One branch for the first word, and two more for each word after it.
     branches: [Branch; 127],
 }
 
@@ -36,20 +35,20 @@ impl Model for Ranked {
 
     ghost Value = { Ranking };
 
-    ghost use Rattle.list_decode.specs.Ranked.{IsSound, ranking_of};
+    ghost use Rattle.list_decode.specs.Ranked.{IsSoundRanking, ranking_of};
 
     ghost view = { ranking_of };
 
-    ghost invariant = { IsSound };
+    ghost invariant = { IsSoundRanking };
 }
 
 impl Ranked {
-    /// Starts with no word returned. `soft` has two values for each of 5 to 228 information bits.
+    /// A ranking of which no word has been returned yet. `soft` has two soft bits for each of 5 to 228 information bits.
     pub fn new(soft: &[i8]) -> Ranked
         requires at_least { 10 ≤ length soft.now }
         requires at_most { length soft.now ≤ CODED_BITS }
         requires pairs { length soft.now % 2 ≡ 0 }
-        requires soft { AllSoft soft.now }
+        requires soft { AllSoftBits soft.now }
         ensures soft { result.soft ≡ soft.now }
         ensures given { result.given ≡ [] }
     {
@@ -62,7 +61,7 @@ impl Ranked {
         };
         let deviation = Deviation {
             likelihood: 0,
-            departure: Exit::new(0, 0, 0),
+            departure: DeviationPoint::new(0, 0, 0),
             list: 0,
         };
         Ranked {
@@ -76,7 +75,7 @@ impl Ranked {
         }
     }
 
-    /// Writes the next word and returns its path metric. Returns `None` if 64 words were returned or none is left.
+    /// Writes the next word to `u` and returns its path metric. Returns `None` if 64 words were returned or no word is left.
     pub fn next(&mut self, u: &mut [u8]) -> Option<i32>
         requires count { length self.old.soft ≡ 2 * length u.old }
         ensures soft { self.new.soft ≡ self.old.soft }
@@ -87,16 +86,16 @@ impl Ranked {
         ensures done { (result ≡ None) ↔ IsDone self.old }
     {
         if self.lists.count == 0 {
-            return Some(self.begin(u));
+            return Some(self.write_most_likely_word(u));
         }
-        if self.lists.count == MOST_LISTS {
+        if self.lists.count == MAX_LISTS {
             return None;
         }
-        self.go_on(u)
+        self.write_next_best_word(u)
     }
 
-    /// Writes the most likely word.
-    fn begin(&mut self, u: &mut [u8]) -> i32
+    /// Writes the most likely word to `u` and returns its path metric.
+    fn write_most_likely_word(&mut self, u: &mut [u8]) -> i32
         requires count { length self.old.soft ≡ 2 * length u.old }
         requires none { self.old.given ≡ [] }
         ensures soft { self.new.soft ≡ self.old.soft }
@@ -120,11 +119,11 @@ impl Ranked {
         likelihood
     }
 
-    /// Writes the best word that deviates from a returned one.
-    fn go_on(&mut self, u: &mut [u8]) -> Option<i32>
+    /// Writes the best word not returned yet to `u` and returns its path metric, or `None` if no word is left.
+    fn write_next_best_word(&mut self, u: &mut [u8]) -> Option<i32>
         requires count { length self.old.soft ≡ 2 * length u.old }
         requires some { 0 < length self.old.given }
-        requires space { length self.old.given < MOST_LISTS }
+        requires space { length self.old.given < MAX_LISTS }
         ensures soft { self.new.soft ≡ self.old.soft }
         ensures ranked { IsRanked self.new.soft self.new.given }
         ensures given { MatchOption result ((self.new ≡ self.old) × (u.new ≡ u.old) × IsDone self.old) (λ value.
@@ -132,7 +131,7 @@ impl Ranked {
     {
         let given = self.lists.count;
         let count = 2 * given - 1;
-        let next = find_next(&self.pass, &self.lists, &self.branches[..count], u)?;
+        let next = find_next_word(&self.pass, &self.lists, &self.branches[..count], u)?;
         self.branches[next.branch] = next.parts.before;
         self.branches[count] = next.parts.behind;
         self.branches[count + 1] = next.parts.after;

@@ -1,19 +1,15 @@
--- Segmentation: `pieces` is the only correct segmentation, and gives each segment by
--- its index. By induction on the number of full segments.
-use Rattle.std.proofs.Common.{◌≡◌, refl, sym, ◌∙◌, ap, subst, arith, ℕ, zero, suc, ◌+◌, ◌-◌, ◌*◌, ◌/◌}
-use Rattle.std.proofs.Common.{◌<◌, ◌≤◌, min, Bool, true, false, List, [], ◌∷◌, ◌++◌, length, take, drop, nat_lt, Some}
-use Rattle.std.proofs.Common.{inl, inr, ◌↔◌, slice_get}
-use Rattle.std.proofs.Math.Nat.{suc-mul, mul-le-mul_right, eq-or-lt_of_le}
-use Rattle.std.proofs.Math.Seq.{take-append_seam, drop-append_seam, take-length}
-use Rattle.std.proofs.lemmas.Nat.{div-mul-add}
-use Rattle.std.proofs.lemmas.Bool.Decides.{nat_tests}
-use Rattle.std.proofs.lemmas.List.{append-nil, take-append-drop, length-take-le, length-drop, length-append, drop-drop}
-use Rattle.lapdm_frame.specs.declared.Channel.{Channel}
-use Rattle.lapdm_frame.specs.declared.Channel.TheVariants.{Sdcch, Sacch}
-use Rattle.lapdm_frame.specs.Layout.{n201}
-use Rattle.segmenting.specs.Segments.{Message, Segment, IsMessage, IsFull, AreCut, joined_octets, AreSegments, cut, segments, most_segments}
+-- `segments` is the only correct segmentation of a message, and each segment can be computed from its index. The proofs are by induction on
+-- the number of full segments.
+use Rattle.std.proofs.Common.{◌≡◌, refl, sym, ◌∙◌, ap, subst, arith, ℕ, zero, suc, ◌+◌, ◌-◌, ◌*◌, ◌/◌, ◌<◌, ◌≤◌, min, Bool, true, false}
+use Rattle.std.proofs.{Common.{List, [], ◌∷◌, ◌++◌, length, take, drop, nat_lt, Some, inl, inr, ◌↔◌, slice_get}, Math.Nat.suc-mul}
+use Rattle.std.proofs.Math.{Nat.{mul-le-mul_right, eq-or-lt_of_le}, Seq.{take-append_seam, drop-append_seam, take-length}}
+use Rattle.std.proofs.lemmas.{Nat.div-mul-add, Bool.Decides.nat_tests, List.{append-nil, take-append-drop, length-take-le, length-drop}}
+use Rattle.std.proofs.lemmas.List.{length-append, drop-drop}
+use Rattle.lapdm_frame.specs.{declared.Channel.{Channel, TheVariants.{Sdcch, Sacch}}, Layout.n201}
+use Rattle.segmenting.specs.Segments.{Message, Segment, IsMessage, IsFullSegment, AreFullExceptLast, reassembled_octets, AreSegments, cut}
+use Rattle.segmenting.specs.Segments.{segments, max_segments_per_message}
 
--- m fills k segments of n octets and leaves 1 to n octets for the last
+-- the message m gives k full segments of n octets and leaves 1 to n octets for the last segment
 pub record Fills (n k : ℕ) (m : List ℕ) : Type 0 where
   pub above : k * n < length m
   pub below : length m ≤ k * n + n
@@ -31,33 +27,34 @@ fills_rest n k m h =
       below = omega (arith, suc-mul k n, length-drop n m, h.above, h.below);
     }
 
-AreCut-cons : (n : ℕ) (p : Segment) (ps : List Segment) → IsFull n p → AreCut n ps → AreCut n (p ∷ ps)
-AreCut-cons n p [] h rest = absurd rest
-AreCut-cons n p (q ∷ ps) h rest = (h, rest)
+AreFullExceptLast-cons : (n : ℕ) (p : Segment) (ps : List Segment) → IsFullSegment n p → AreFullExceptLast n ps →
+    AreFullExceptLast n (p ∷ ps)
+AreFullExceptLast-cons n p [] h rest = absurd rest
+AreFullExceptLast-cons n p (q ∷ ps) h rest = (h, rest)
 
-AreCut-cut : (n k : ℕ) (m : List ℕ) → Fills n k m → AreCut n (cut n k m)
-AreCut-cut n zero m h = record { some = omega (arith, h.above); most = omega (arith, h.below); more = refl }
-AreCut-cut n (suc k) m h =
-    AreCut-cons n _ _ (record { size = length-take-le n m (omega (arith, suc-mul k n, h.above)); more = refl })
-    (AreCut-cut n k (drop n m) (fills_rest n k m h))
+AreFullExceptLast-cut : (n k : ℕ) (m : List ℕ) → Fills n k m → AreFullExceptLast n (cut n k m)
+AreFullExceptLast-cut n zero m h = record { some = omega (arith, h.above); most = omega (arith, h.below); more = refl }
+AreFullExceptLast-cut n (suc k) m h =
+    AreFullExceptLast-cons n _ _ (record { size = length-take-le n m (omega (arith, suc-mul k n, h.above)); more = refl })
+    (AreFullExceptLast-cut n k (drop n m) (fills_rest n k m h))
 
-joined_octets-cut : (n k : ℕ) (m : List ℕ) → joined_octets (cut n k m) ≡ m
-joined_octets-cut n zero m = append-nil m
-joined_octets-cut n (suc k) m = ap (λ rest. take n m ++ rest) (joined_octets-cut n k (drop n m)) ∙ take-append-drop n m
+reassembled_octets-cut : (n k : ℕ) (m : List ℕ) → reassembled_octets (cut n k m) ≡ m
+reassembled_octets-cut n zero m = append-nil m
+reassembled_octets-cut n (suc k) m = ap (λ rest. take n m ++ rest) (reassembled_octets-cut n k (drop n m)) ∙ take-append-drop n m
 
 pub are_segments : (n : ℕ) (m : Message) → 0 < n → IsMessage m → AreSegments n m (segments n m)
 are_segments n m some_room h =
-    record { octets = joined_octets-cut n _ m; cut = AreCut-cut n _ m (fills n m some_room h) }
+    record { octets = reassembled_octets-cut n _ m; cut = AreFullExceptLast-cut n _ m (fills n m some_room h) }
 
--- the segments are those that `cut` gives for their octets, k full ones and the last
+-- the segments ps are the ones that `cut` makes of their joined octets: k full segments and the last one
 record IsCounted (n : ℕ) (ps : List Segment) (k : ℕ) : Type 0 where
-  same : ps ≡ cut n k (joined_octets ps)
-  fill : Fills n k (joined_octets ps)
+  same : ps ≡ cut n k (reassembled_octets ps)
+  fill : Fills n k (reassembled_octets ps)
 
 one_more : (n k : ℕ) (octets : List ℕ) (ps : List Segment) → length octets ≡ n → IsCounted n ps k →
     IsCounted n ((octets, true) ∷ ps) (suc k)
 one_more n k octets ps size h =
-    let rest = joined_octets ps in
+    let rest = reassembled_octets ps in
     let first : take n (octets ++ rest) ≡ octets = ap (λ i. take i (octets ++ rest)) (sym size) ∙ take-append_seam octets rest in
     let others : drop n (octets ++ rest) ≡ rest = ap (λ i. drop i (octets ++ rest)) (sym size) ∙ drop-append_seam octets rest in
     let tail : ps ≡ cut n k (drop n (octets ++ rest)) = h.same ∙ ap (cut n k) (sym others) in
@@ -69,7 +66,7 @@ one_more n k octets ps size h =
       };
     }
 
-counted : (n : ℕ) (ps : List Segment) → AreCut n ps → (k : ℕ) × IsCounted n ps k
+counted : (n : ℕ) (ps : List Segment) → AreFullExceptLast n ps → (k : ℕ) × IsCounted n ps k
 counted n [] h = absurd h
 counted n ((octets, more) ∷ []) h = (
   0,
@@ -97,9 +94,9 @@ count_is n k m some_room h =
 pub only_segments : (n : ℕ) (m : Message) (ps : List Segment) → 0 < n → AreSegments n m ps → ps ≡ segments n m
 only_segments n m ps some_room h =
     let c = counted n ps h.cut in
-    let e : joined_octets ps ≡ m = h.octets in
-    let k : (length (joined_octets ps) - 1) / n ≡ c.0 = count_is n c.0 (joined_octets ps) some_room c.1.fill in
-    c.1.same ∙ ap (λ i. cut n i (joined_octets ps)) (sym k) ∙ ap (segments n) e
+    let e : reassembled_octets ps ≡ m = h.octets in
+    let k : (length (reassembled_octets ps) - 1) / n ≡ c.0 = count_is n c.0 (reassembled_octets ps) some_room c.1.fill in
+    c.1.same ∙ ap (λ i. cut n i (reassembled_octets ps)) (sym k) ∙ ap (segments n) e
 
 pub one_cutting : (n : ℕ) (m : Message) (ps : List Segment) → 0 < n → IsMessage m → AreSegments n m ps ↔ (ps ≡ segments n m)
 one_cutting n m ps some_room h =
@@ -115,7 +112,7 @@ length-segments n m = length-cut n _ m
 drop-drop_next : (n i : ℕ) (m : List ℕ) → drop (i * n) (drop n m) ≡ drop (suc i * n) m
 drop-drop_next n i m = drop-drop (i * n) n m ∙ ap (λ j. drop j m) (omega (arith, suc-mul i n))
 
--- segment i: full if i < k, else what is left of the message
+-- the segment with index i: full if i < k, otherwise the rest of the message
 pub slice_get-cut_full : (n k i : ℕ) (m : List ℕ) → i < k → slice_get (cut n k m) i ≡ Some (take n (drop (i * n) m), true)
 slice_get-cut_full n zero i m h = absurd (omega (arith, h))
 slice_get-cut_full n (suc k) zero m h = let none : 0 ≡ 0 * n = omega arith in ap (λ j. Some (take n (drop j m), true)) none
@@ -126,16 +123,16 @@ pub slice_get-cut_last : (n k : ℕ) (m : List ℕ) → slice_get (cut n k m) k 
 slice_get-cut_last n zero m = let none : 0 ≡ 0 * n = omega arith in ap (λ j. Some (drop j m, false)) none
 slice_get-cut_last n (suc k) m = slice_get-cut_last n k (drop n m) ∙ ap (λ (rest : List ℕ). Some (rest, false)) (drop-drop_next n k m)
 
--- N201 of a channel: 1 to 20 octets
-pub record HasSpace (n : ℕ) : Type 0 where
+-- n has the range of N201: 1 to 20 octets
+pub record IsN201 (n : ℕ) : Type 0 where
   pub some : 1 ≤ n
   pub most : n ≤ 20
 
-pub room_of : (channel : Channel) → HasSpace (n201 channel)
+pub room_of : (channel : Channel) → IsN201 (n201 channel)
 room_of Sdcch = record { some = omega arith; most = omega arith }
 room_of Sacch = record { some = omega arith; most = omega arith }
 
--- segment i begins within the message
+-- the segment with index i begins before the end of the message
 pub begins_within : (n i : ℕ) (m : Message) → 1 ≤ n → 1 ≤ length m → i < length (segments n m) → i * n < length m
 begins_within n i m room some_octets h =
     let k = (length m - 1) / n in
@@ -143,7 +140,7 @@ begins_within n i m room some_octets h =
     let f : k * n < length m = grind arith in
     omega (arith, mul-le-mul_right n below)
 
--- segment i is the octets of the message from i * n on
+-- the segment with index i has the octets of the message from position i * n on
 pub segment_is : (n i : ℕ) (m : Message) → 0 < n → IsMessage m → i < length (segments n m) →
     slice_get (segments n m) i ≡ Some (take (min (length m - i * n) n) (drop (i * n) m), nat_lt n (length m - i * n))
 segment_is n i m room h within =
@@ -163,7 +160,7 @@ segment_is n i m room h within =
           (λ (p : Segment). Some p) (grind (arith, nat_tests))
     ]
 
--- the same for a number r that is N201 of a channel
+-- the same as `begins_within`, for a number r that equals N201 of the channel
 pub begins_at : (channel : Channel) (r i : ℕ) (m : Message) → r ≡ n201 channel → 1 ≤ length m → i < length (segments (n201 channel) m) →
     i * r < length m
 begins_at channel r i m same some_octets h =
@@ -179,6 +176,6 @@ segment_at channel r i l m same size h within =
     (segment_is (n201 channel) i m (room_of channel).some h within) ∙ ap
     (λ j. Some (take j (drop (i * r) m), nat_lt r (length m - i * r))) e
 
-pub few_segments : (channel : Channel) (r l : ℕ) → r ≡ n201 channel → l ≤ 251 → (l - 1) / r + 1 ≤ most_segments channel
+pub few_segments : (channel : Channel) (r l : ℕ) → r ≡ n201 channel → l ≤ 251 → (l - 1) / r + 1 ≤ max_segments_per_message channel
 few_segments Sdcch r l same h = subst (λ (n : ℕ). (l - 1) / n + 1 ≤ 13) (sym same) (grind arith)
 few_segments Sacch r l same h = subst (λ (n : ℕ). (l - 1) / n + 1 ≤ 14) (sym same) (grind arith)

@@ -5,56 +5,56 @@ use Rattle.std.specs.Prelude.{Some, None, unwrap_or}
 use Rattle.std.specs.List.{filter_map}
 use Rattle.segmenting.specs.declared.joiner.Joined.{Joined}
 use Rattle.segmenting.specs.declared.joiner.Joined.TheVariants.{More, Whole, Oversize}
-use Rattle.segmenting.specs.Segments.{Message, Segment, longest}
+use Rattle.segmenting.specs.Segments.{Message, Segment, max_message_octets}
 
 -- the octets, or `None` if there are more than 251
 abbrev pub unless_oversize : List ℕ → Option Message
-unless_oversize octets = if nat_lt longest (length octets) then None else Some octets
+unless_oversize octets = if nat_lt max_message_octets (length octets) then None else Some octets
 
--- what the segments complete, given the octets `begun` of a message before them: at
--- each segment with M = 0 a message, or `None` if it is oversize
-abbrev pub endings : List ℕ → List Segment → List (Option Message)
-endings begun [] = []
-endings begun ((octets, true) ∷ ps) = endings (begun ++ octets) ps
-endings begun ((octets, false) ∷ ps) = unless_oversize (begun ++ octets) ∷ endings [] ps
+-- what these segments complete, if the octets `begun` of a message came before them: at each segment with M = 0, a message, or `None` if
+-- that message is oversize
+abbrev pub ended_messages : List ℕ → List Segment → List (Option Message)
+ended_messages begun [] = []
+ended_messages begun ((octets, true) ∷ ps) = ended_messages (begun ++ octets) ps
+ended_messages begun ((octets, false) ∷ ps) = unless_oversize (begun ++ octets) ∷ ended_messages [] ps
 
--- the messages that these segments complete, without oversize ones
+-- the messages that these segments complete; oversize messages are left out
 abbrev pub messages : List Segment → List Message
-messages ps = filter_map (λ ending. ending) (endings [] ps)
+messages ps = filter_map (λ ending. ending) (ended_messages [] ps)
 
--- how many messages these segments complete, oversize ones included: the number of segments with M = 0
-abbrev pub ended_count : List Segment → ℕ
-ended_count ps = count_by (λ p. not p.1) ps
+-- the number of messages that these segments complete, oversize ones included: the number of segments with M = 0
+abbrev pub completed_count : List Segment → ℕ
+completed_count ps = count_by (λ p. not p.1) ps
 
--- the octets of the incomplete message after these segments
-abbrev pub open_after : List ℕ → List Segment → List ℕ
-open_after begun [] = begun
-open_after begun ((octets, true) ∷ ps) = open_after (begun ++ octets) ps
-open_after begun ((octets, false) ∷ ps) = open_after [] ps
+-- the octets of the message that is still incomplete after these segments
+abbrev pub unfinished_octets_after : List ℕ → List Segment → List ℕ
+unfinished_octets_after begun [] = begun
+unfinished_octets_after begun ((octets, true) ∷ ps) = unfinished_octets_after (begun ++ octets) ps
+unfinished_octets_after begun ((octets, false) ∷ ps) = unfinished_octets_after [] ps
 
-abbrev pub open_part : List Segment → List ℕ
-open_part ps = open_after [] ps
+abbrev pub unfinished_octets : List Segment → List ℕ
+unfinished_octets ps = unfinished_octets_after [] ps
 
--- what a segment does after these segments: `Oversize`, else `More` if M = 1, else `Whole`
-abbrev pub answer_to : List Segment → Segment → Joined
-answer_to ps p =
-    if nat_lt longest (length (open_part ps ++ p.0)) then Oversize else (if p.1 then More else Whole)
+-- what a segment does after the segments `ps`: `Oversize` if the message is too long, else `More` if M = 1, else `Whole`
+abbrev pub segment_answer : List Segment → Segment → Joined
+segment_answer ps p =
+    if nat_lt max_message_octets (length (unfinished_octets ps ++ p.0)) then Oversize else (if p.1 then More else Whole)
 
--- the message that is delivered with this answer
-abbrev pub delivered_at : Joined → Message → List Message
-delivered_at Whole m = m ∷ []
-delivered_at other m = []
+-- the message that a joiner delivers with this answer: m after `Whole`, none after the others
+abbrev pub delivered_with_answer : Joined → Message → List Message
+delivered_with_answer Whole m = m ∷ []
+delivered_with_answer other m = []
 
--- the message, if any, that the segment p completes after the segments ps
+-- the message, if any, that the segment p completes when it follows the segments ps
 abbrev pub delivered : List Segment → Segment → List Message
-delivered ps p = delivered_at (answer_to ps p) (open_part ps ++ p.0)
+delivered ps p = delivered_with_answer (segment_answer ps p) (unfinished_octets ps ++ p.0)
 
--- the message that the last of these segments completes, or no octets if it completes none
-abbrev pub latest_after : List ℕ → List Segment → Message
-latest_after begun [] = []
-latest_after begun ((octets, true) ∷ ps) = latest_after (begun ++ octets) ps
-latest_after begun ((octets, false) ∷ []) = unwrap_or (unless_oversize (begun ++ octets)) []
-latest_after begun ((octets, false) ∷ p ∷ ps) = latest_after [] (p ∷ ps)
+-- the message that the last of these segments completes, or no octets if that segment completes no message
+abbrev pub latest_message_after : List ℕ → List Segment → Message
+latest_message_after begun [] = []
+latest_message_after begun ((octets, true) ∷ ps) = latest_message_after (begun ++ octets) ps
+latest_message_after begun ((octets, false) ∷ []) = unwrap_or (unless_oversize (begun ++ octets)) []
+latest_message_after begun ((octets, false) ∷ p ∷ ps) = latest_message_after [] (p ∷ ps)
 
-abbrev pub latest : List Segment → Message
-latest ps = latest_after [] ps
+abbrev pub latest_message : List Segment → Message
+latest_message ps = latest_message_after [] ps

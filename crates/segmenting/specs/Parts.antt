@@ -1,17 +1,17 @@
--- The value of a joiner as plain data.
+-- The state of a joiner as plain data.
 use Rattle.std.specs.Prelude.{◌≡◌, ℕ, List, take}
 use Rattle.segmenting.specs.declared.joiner.Part.{Part}
 use Rattle.segmenting.specs.declared.joiner.Joiner.{Joiner}
 
--- the octets that a joiner holds, and what they are
+-- what a joiner holds: octets, and which part of a message they are
 pub record JoinerValues : Type 0 where
   pub octets : List ℕ
   pub part : Part
 
--- the octets and the part of a joiner
+-- the octets that this joiner holds, and which part of a message they are
 abbrev pub values_of : Joiner → JoinerValues
 values_of j = record { octets = take j.len j.octets; part = j.part }
 
--- some joiner has these values
-abbrev pub IsOfAJoiner : JoinerValues → Type 0
-IsOfAJoiner x = (j : Joiner) × (values_of j ≡ x)
+-- at least one joiner has these values
+abbrev pub AreOfSomeJoiner : JoinerValues → Type 0
+AreOfSomeJoiner x = (j : Joiner) × (values_of j ≡ x)

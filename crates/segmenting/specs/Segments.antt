@@ -13,55 +13,55 @@ Message = List ℕ
 abbrev pub Segment : Type 0
 Segment = List ℕ × Bool
 
--- the most octets of a message
-abbrev pub longest : ℕ
-longest = 251
+-- the greatest length of a message, in octets
+abbrev pub max_message_octets : ℕ
+max_message_octets = 251
 
 -- the message has 1 to 251 octets
 pub record IsMessage (m : Message) : Type 0 where
   pub some : 1 ≤ length m
-  pub most : length m ≤ longest
+  pub most : length m ≤ max_message_octets
 
--- the segment has n octets, as many as its frame can hold, and M = 1
-pub record IsFull (n : ℕ) (p : Segment) : Type 0 where
+-- the segment has n octets, as many as an I frame can carry, and M = 1
+pub record IsFullSegment (n : ℕ) (p : Segment) : Type 0 where
   pub size : length p.0 ≡ n
   pub more : p.1 ≡ true
 
 -- the segment has 1 to n octets, and M = 0
-pub record IsLast (n : ℕ) (p : Segment) : Type 0 where
+pub record IsLastSegment (n : ℕ) (p : Segment) : Type 0 where
   pub some : 1 ≤ length p.0
   pub most : length p.0 ≤ n
   pub more : p.1 ≡ false
 
--- every segment but the last is full
-abbrev pub AreCut : ℕ → List Segment → Type 0
-AreCut n [] = ⊥
-AreCut n (p ∷ []) = IsLast n p
-AreCut n (p ∷ q ∷ ps) = IsFull n p × AreCut n (q ∷ ps)
+-- every segment but the last is full; the last has 1 to n octets and M = 0
+abbrev pub AreFullExceptLast : ℕ → List Segment → Type 0
+AreFullExceptLast n [] = ⊥
+AreFullExceptLast n (p ∷ []) = IsLastSegment n p
+AreFullExceptLast n (p ∷ q ∷ ps) = IsFullSegment n p × AreFullExceptLast n (q ∷ ps)
 
 -- the octets of the segments, one after another
-abbrev pub joined_octets : List Segment → List ℕ
-joined_octets ps = flat_map (λ p. p.0) ps
+abbrev pub reassembled_octets : List Segment → List ℕ
+reassembled_octets ps = flat_map (λ p. p.0) ps
 
--- these are the segments of the message m in frames of n octets of information
+-- ps are the segments of the message m if each I frame carries at most n octets
 pub record AreSegments (n : ℕ) (m : Message) (ps : List Segment) : Type 0 where
-  pub octets : joined_octets ps ≡ m
-  pub cut : AreCut n ps
+  pub octets : reassembled_octets ps ≡ m
+  pub cut : AreFullExceptLast n ps
 
--- k full segments of n octets, and the rest of the message as the last
+-- the message cut into k full segments of n octets and a last segment with the rest
 abbrev pub cut : ℕ → ℕ → Message → List Segment
 cut n zero m = (m, false) ∷ []
 cut n (suc k) m = (take n m, true) ∷ cut n k (drop n m)
 
--- the segments of a message in frames of n octets of information
+-- the segments of a message if each I frame carries at most n octets
 abbrev pub segments : ℕ → Message → List Segment
 segments n m = cut n ((length m - 1) / n) m
 
--- the number of segments of a message in frames of n octets
+-- the number of segments of a message if each I frame carries at most n octets
 abbrev pub count_of : ℕ → Message → ℕ
 count_of n m = (length m - 1) / n + 1
 
--- the number of segments of a message of 251 octets, the most, on each channel
-abbrev pub most_segments : Channel → ℕ
-most_segments Sdcch = 13
-most_segments Sacch = 14
+-- the number of segments of the longest message, 251 octets, on each channel
+abbrev pub max_segments_per_message : Channel → ℕ
+max_segments_per_message Sdcch = 13
+max_segments_per_message Sacch = 14

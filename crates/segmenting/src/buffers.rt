@@ -3,17 +3,17 @@
 ghost use Rattle.std.specs.Prelude.{◌≡◌, ◌≤◌, [], length};
 ghost use Rattle.segmenting.specs.Buffers.{octets_in, plain_message};
 
-/// A message as plain data, with the layout of C. It may be longer than a link accepts.
+/// A message as plain data, with the memory layout of C. It may be longer than the 251 octets that a link accepts.
 #[repr(C)]
 #[derive(Clone, Copy, PartialEq, Eq, Debug)]
 pub struct PlainMessage {
     pub count: u8,
-    /// The octets; those from `count` on have no meaning.
+    /// The octets of the message, followed by octets without meaning from index `count` on.
     pub octets: [u8; 255],
 }
 
 impl PlainMessage {
-    /// A message without octets; the buffer is all zeros.
+    /// An empty message; all octets of its buffer are 0.
     pub fn empty() -> PlainMessage
         ensures { result ≡ plain_message [] }
     {
@@ -30,7 +30,7 @@ impl PlainMessage {
         &self.octets[..usize::from(self.count)]
     }
 
-    /// Overwrites the buffer with a message, then zeros.
+    /// Replaces the message by these octets, and fills the rest of the buffer with zeros.
     pub fn write(&mut self, octets: &[u8])
         requires { length octets.now ≤ 255 }
         ensures { self.new ≡ plain_message octets.now }

@@ -1,15 +1,15 @@
 //! Reassembles messages from segments.
 
 ghost use Rattle.std.specs.Prelude.{◌≡◌, ◌≤◌, length};
-ghost use Rattle.lapdm_frame.specs.Layout.{most_information};
-ghost use Rattle.segmenting.specs.Segments.{longest};
+ghost use Rattle.lapdm_frame.specs.Layout.{largest_n201};
+ghost use Rattle.segmenting.specs.Segments.{max_message_octets};
 ghost use Rattle.segmenting.specs.declared.joiner.Part.TheVariants.{Over};
 
-use crate::LONGEST;
+use crate::LONGEST_MESSAGE;
 
 mod parts;
 
-/// The result of taking a segment.
+/// What a joiner did with a segment.
 #[derive(Clone, Copy, PartialEq, Eq, Debug)]
 pub enum Joined {
     /// The message continues in the next segment.
@@ -20,55 +20,55 @@ pub enum Joined {
     Oversize,
 }
 
-/// What the octets of a `Joiner` are.
+/// Which part of a message the octets held by a `Joiner` are.
 #[derive(Clone, Copy, PartialEq, Eq, Debug)]
 pub enum Part {
     /// The first octets of an incomplete message.
     Open,
     /// A message that was delivered.
     Whole,
-    /// None: the rest of an oversize message is being discarded.
+    /// No octets: the rest of an oversize message is being discarded.
     Over,
 }
 
 /// Reassembles messages of at most 251 octets.
 #[derive(Debug, Drop)]
 pub struct Joiner {
-    octets: [u8; LONGEST],
+    octets: [u8; LONGEST_MESSAGE],
     len: usize,
     part: Part,
-    ghost within: { len ≤ longest },
+    ghost within: { len ≤ max_message_octets },
     ghost dropped: { part ≡ Over → len ≡ 0 },
 }
 
 impl Joiner {
     ghost use Rattle.std.specs.Prelude.{◌+◌, ◌<◌, List, [], ◌∷◌, ◌++◌, take, IfSome, MatchOption};
     ghost use Rattle.segmenting.specs.Segments.{Segment};
-    ghost use Rattle.segmenting.specs.Joining.{answer_to, open_part, latest};
-    ghost use Rattle.segmenting.specs.Joiners.{HasTaken};
+    ghost use Rattle.segmenting.specs.Joining.{segment_answer, unfinished_octets, latest_message};
+    ghost use Rattle.segmenting.specs.Joiners.{HasTakenSegments};
 
-    /// A joiner that has taken no segment.
+    /// A joiner that has not yet taken any segments.
     pub fn new() -> Joiner
-        ensures { HasTaken result [] }
+        ensures { HasTakenSegments result [] }
     {
         Joiner {
-            octets: [0; LONGEST],
+            octets: [0; LONGEST_MESSAGE],
             len: 0,
             part: Part::Open,
         }
     }
 
-    /// Takes the next segment. After `Oversize` for a segment with `more`, all segments up
-    /// to the next one without `more`, and that one, are discarded; each answers `Oversize`.
+    /// Takes the next segment. If the message becomes too long, the answer is `Oversize` for this segment and for all others up to the one
+    /// without `more` that ends the message; all are discarded.
     pub fn take(&mut self, piece: &[u8], more: bool) -> Joined
         requires some { 1 ≤ length piece.now }
-        requires most { length piece.now ≤ most_information }
-        ensures answer { (taken : List Segment) → HasTaken self.old taken
-            → result ≡ answer_to taken (piece.now, more) }
-        ensures after { (taken : List Segment) → HasTaken self.old taken
-            → HasTaken self.new (taken ++ (piece.now, more) ∷ []) }
+        requires most { length piece.now ≤ largest_n201 }
+        ensures answer { (taken : List Segment) → HasTakenSegments self.old taken
+            → result ≡ segment_answer taken (piece.now, more) }
+        ensures after { (taken : List Segment) → HasTakenSegments self.old taken
+            → HasTakenSegments self.new (taken ++ (piece.now, more) ∷ []) }
     {
-        let Some(start) = self.place_for(piece) else {
+        let Some(start) = self.write_position_for(piece) else {
             self.len = 0;
             self.part = if more { Part::Over } else { Part::Open };
             return Joined::Oversize;
@@ -86,9 +86,9 @@ impl Joiner {
 
     /// The message that the last segment completed, or no octets if it completed none.
     pub fn message(&self) -> &[u8]
-        ensures latest { (taken : List Segment) → HasTaken self.now taken
-            → result.now ≡ latest taken }
-        ensures most { length result.now ≤ longest }
+        ensures latest_message { (taken : List Segment) → HasTakenSegments self.now taken
+            → result.now ≡ latest_message taken }
+        ensures most { length result.now ≤ max_message_octets }
     {
         match self.part {
             Part::Whole => &self.octets[..self.len],
@@ -96,19 +96,19 @@ impl Joiner {
         }
     }
 
-    // Where to write the segment, unless it makes the message too long.
-    fn place_for(&self, piece: &[u8]) -> Option<usize>
-        ensures space { IfSome result (λ start. start + length piece.now ≤ longest) }
-        ensures place { (taken : List Segment) → HasTaken self.now taken → MatchOption result
-            (longest < length (open_part taken ++ piece.now))
-            (λ start. take start self.now.octets ≡ open_part taken) }
+    // The index at which the octets of the segment are written, or `None` if they make the message too long.
+    fn write_position_for(&self, piece: &[u8]) -> Option<usize>
+        ensures space { IfSome result (λ start. start + length piece.now ≤ max_message_octets) }
+        ensures place { (taken : List Segment) → HasTakenSegments self.now taken → MatchOption result
+            (max_message_octets < length (unfinished_octets taken ++ piece.now))
+            (λ start. take start self.now.octets ≡ unfinished_octets taken) }
     {
         let start = match self.part {
             Part::Open => self.len,
             Part::Whole => 0,
             Part::Over => return None,
         };
-        if piece.len() > LONGEST - start {
+        if piece.len() > LONGEST_MESSAGE - start {
             return None;
         }
         Some(start)

@@ -2,7 +2,7 @@
 
 ghost use Rattle.std.specs.Prelude.{◌≡◌, ◌<◌, ◌≤◌, length};
 ghost use Rattle.lapdm_frame.specs.Layout.{n201};
-ghost use Rattle.segmenting.specs.Segments.{longest};
+ghost use Rattle.segmenting.specs.Segments.{max_message_octets};
 
 use lapdm_frame::Channel;
 
@@ -14,26 +14,26 @@ pub struct Piece<'a> {
     pub more: bool,
 }
 
-/// The segments of a message, each borrowed from it.
+/// All segments of a message. They borrow their octets from the message.
 #[derive(Clone, Copy, Debug)]
 pub struct Pieces<'a> {
     message: &'a [u8],
     channel: Channel,
     ghost some: { 1 ≤ length message.now },
-    ghost most: { length message.now ≤ longest },
+    ghost most: { length message.now ≤ max_message_octets },
 }
 
 impl<'a> Pieces<'a> {
     ghost use Rattle.std.specs.Prelude.{slice_get, Some};
-    ghost use Rattle.segmenting.specs.Segments.{segments, most_segments};
-    ghost use Rattle.segmenting.specs.Cuttings.{segments_of, cut_for, LiesIn};
+    ghost use Rattle.segmenting.specs.Segments.{segments, max_segments_per_message};
+    ghost use Rattle.segmenting.specs.Cuttings.{segments_of, channel_of_pieces, IsBorrowedFrom};
 
     /// The segments of the message for SDCCH, of at most 20 octets each.
     pub fn new(message: &'a [u8]) -> Pieces<'a>
         requires some { 1 ≤ length message.now }
-        requires most { length message.now ≤ longest }
+        requires most { length message.now ≤ max_message_octets }
         ensures pieces { segments_of result ≡ segments (n201 Channel.Sdcch) message.now }
-        ensures channel { cut_for result ≡ Channel.Sdcch }
+        ensures channel { channel_of_pieces result ≡ Channel.Sdcch }
     {
         Pieces::new_on(message, Channel::Sdcch)
     }
@@ -41,9 +41,9 @@ impl<'a> Pieces<'a> {
     /// The segments of the message, of at most N201 octets of the channel each.
     pub fn new_on(message: &'a [u8], channel: Channel) -> Pieces<'a>
         requires some { 1 ≤ length message.now }
-        requires most { length message.now ≤ longest }
+        requires most { length message.now ≤ max_message_octets }
         ensures pieces { segments_of result ≡ segments (n201 channel) message.now }
-        ensures channel { cut_for result ≡ channel }
+        ensures channel { channel_of_pieces result ≡ channel }
     {
         Pieces { message, channel }
     }
@@ -52,16 +52,16 @@ impl<'a> Pieces<'a> {
     pub fn count(&self) -> usize
         ensures count { result ≡ length (segments_of self.now) }
         ensures some { 1 ≤ result }
-        ensures most { result ≤ most_segments (cut_for self.now) }
+        ensures most { result ≤ max_segments_per_message (channel_of_pieces self.now) }
     {
         (self.message.len() - 1) / self.channel.n201() + 1
     }
 
-    /// Segment i, from 0.
+    /// The segment with index i, counted from 0.
     pub fn piece(&self, i: usize) -> Piece<'a>
         requires { i < length (segments_of self.now) }
         ensures value { slice_get (segments_of self.now) i ≡ Some (result.octets.now, result.more) }
-        ensures lent { LiesIn self.now i result.octets }
+        ensures lent { IsBorrowedFrom self.now i result.octets }
     {
         let most = self.channel.n201();
         let start = i * most;

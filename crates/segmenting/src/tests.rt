@@ -2,7 +2,7 @@ use super::*;
 use lapdm_frame::Channel;
 use std::process::Abort;
 
-// The octets 0, 1, 2 and so on.
+// The octets 0, 1, 2 and so on up to 251.
 fn counted() -> [u8; 252] {
     let mut octets = [0u8; 252];
     for (i, octet) in octets.iter_mut().enumerate() {
@@ -12,7 +12,7 @@ fn counted() -> [u8; 252] {
 }
 
 fn segments_of<'a>(rt: &impl Abort, message: &'a [u8], channel: Channel) -> Pieces<'a> {
-    assert!(rt; !message.is_empty() && message.len() <= LONGEST);
+    assert!(rt; !message.is_empty() && message.len() <= LONGEST_MESSAGE);
     Pieces::new_on(message, channel)
 }
 
@@ -27,7 +27,7 @@ fn take(rt: &impl Abort, joiner: &mut Joiner, piece: &[u8], more: bool) -> Joine
 }
 
 #[test]
-fn cuts_worked_messages(rt: HostRuntime) {
+fn segments_example_messages(rt: HostRuntime) {
     let octets = counted();
     let two = segments_of(&rt, &octets[..40], Channel::Sdcch);
     assert_eq!(rt; two.count(), 2);
@@ -46,10 +46,10 @@ fn cuts_worked_messages(rt: HostRuntime) {
         }
     );
 
-    let longest = segments_of(&rt, &octets[..251], Channel::Sdcch);
-    assert_eq!(rt; longest.count(), 13);
+    let max_message_octets = segments_of(&rt, &octets[..251], Channel::Sdcch);
+    assert_eq!(rt; max_message_octets.count(), 13);
     assert_eq!(rt;
-        segment_at(&rt, &longest, 12),
+        segment_at(&rt, &max_message_octets, 12),
         Piece {
             octets: &octets[240..251],
             more: false
@@ -68,7 +68,7 @@ fn cuts_worked_messages(rt: HostRuntime) {
 }
 
 #[test]
-fn joins_what_it_cut(rt: HostRuntime) {
+fn reassembles_the_segments_of_a_message(rt: HostRuntime) {
     let octets = counted();
     let mut joiner = Joiner::new();
     for channel in [Channel::Sdcch, Channel::Sacch] {
@@ -87,7 +87,7 @@ fn joins_what_it_cut(rt: HostRuntime) {
     }
 }
 
-fn goes_on_for(rt: &impl Abort, joiner: &mut Joiner, pieces: usize) {
+fn takes_full_segments(rt: &impl Abort, joiner: &mut Joiner, pieces: usize) {
     for _ in 0..pieces {
         assert_eq!(rt; take(rt, joiner, &[7; 20], true), Joined::More);
         assert_eq!(rt; joiner.message().len(), 0);
@@ -100,22 +100,22 @@ fn takes_one_octet(rt: &impl Abort, joiner: &mut Joiner) {
 }
 
 #[test]
-fn joins_251_octets_and_no_more(rt: HostRuntime) {
+fn reassembles_at_most_251_octets(rt: HostRuntime) {
     let mut joiner = Joiner::new();
-    goes_on_for(&rt, &mut joiner, 12);
+    takes_full_segments(&rt, &mut joiner, 12);
     assert_eq!(rt; take(&rt, &mut joiner, &[8; 11], false), Joined::Whole);
     assert_eq!(rt; joiner.message().len(), 251);
 
-    goes_on_for(&rt, &mut joiner, 12);
+    takes_full_segments(&rt, &mut joiner, 12);
     assert_eq!(rt; take(&rt, &mut joiner, &[8; 12], false), Joined::Oversize);
     assert_eq!(rt; joiner.message().len(), 0);
     takes_one_octet(&rt, &mut joiner);
 }
 
 #[test]
-fn drops_an_oversize_to_its_end(rt: HostRuntime) {
+fn discards_an_oversize_message_up_to_its_last_segment(rt: HostRuntime) {
     let mut joiner = Joiner::new();
-    goes_on_for(&rt, &mut joiner, 12);
+    takes_full_segments(&rt, &mut joiner, 12);
     assert_eq!(rt; take(&rt, &mut joiner, &[7; 20], true), Joined::Oversize);
     assert_eq!(rt; take(&rt, &mut joiner, &[9], true), Joined::Oversize);
     assert_eq!(rt; take(&rt, &mut joiner, &[9], false), Joined::Oversize);

@@ -1,12 +1,8 @@
--- Correlations extended by one soft bit, and the correlation of a sum of soft bits.
-use Rattle.std.proofs.Common.{zero, suc, ◌≤◌, [], refl, ◌≡◌, ℕ, ◌+◌, ◌<◌, List, ◌∷◌, length, drop, get_or, ap}
-use Rattle.std.proofs.Common.{ℤ, pos, ◌+ℤ◌, arith}
-use Rattle.std.proofs.lemmas.List.{drop_more}
-use Rattle.std.proofs.lemmas.Int.{ints}
-use Rattle.std.proofs.lemmas.List.Elements.{All-head, All-tail}
-use Rattle.bit_blocks.specs.Bits.{IsBit, AllBits}
-use Rattle.bit_blocks.specs.SoftValues.{agreement, likelihood, wrong_places}
-use Rattle.training_seq.specs.Sums.{add_values, sign_of, wrong_at}
+-- Correlations with one more soft bit, and the correlation of a sum of soft bits.
+use Rattle.std.proofs.Common.{zero, suc, ◌≤◌, [], refl, ◌≡◌, ℕ, ◌+◌, ◌<◌, List, ◌∷◌, length, drop, get_or, ap, ℤ, pos, ◌+ℤ◌, arith}
+use Rattle.std.proofs.lemmas.{List.{drop_more, Elements.{All-head, All-tail}}, Int.ints}
+use Rattle.bit_blocks.specs.{Bits.{IsBit, AllBits}, SoftValues.{agreement, likelihood, count_wrong_bits}}
+use Rattle.training_seq.specs.Sums.{add_values, sign_of, count_wrong_at}
 
 pub correlation_more : (soft : List ℤ) (bits : List ℕ) (i : ℕ) (total all : ℤ) → i < length soft → i < length bits →
     total +ℤ likelihood (drop i soft) (drop i bits) ≡ all →
@@ -20,7 +16,7 @@ correlation_more soft bits i total all hs hb before =
 
 -- the wrong soft bits from index i on are those from i + 1 on, plus one if soft bit i is wrong
 pub wrong_more : (soft : List ℤ) (bits : List ℕ) (i : ℕ) → i < length soft → i < length bits →
-    wrong_places (drop i soft) (drop i bits) ≡ wrong_at soft i (sign_of (get_or bits i 0)) + wrong_places (drop (i + 1) soft)
+    count_wrong_bits (drop i soft) (drop i bits) ≡ count_wrong_at soft i (sign_of (get_or bits i 0)) + count_wrong_bits (drop (i + 1) soft)
     (drop (i + 1) bits)
 wrong_more soft bits i hs hb = rw (drop_more soft i (pos 0), drop_more bits i 0) refl
 

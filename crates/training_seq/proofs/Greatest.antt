@@ -1,9 +1,7 @@
--- The first greatest of some scores, as a loop finds it.
-use Rattle.std.proofs.Common.{◌≡◌, ◌≢◌, ◌⊎◌, inl, inr, ℕ, zero, suc, sym, subst, ◌+◌, ◌<◌, ◌≤◌, ℤ}
-use Rattle.std.proofs.Common.{◌<ℤ◌, ◌≤ℤ◌, arith}
-use Rattle.std.proofs.lemmas.Int.{ints, by_lt_z}
-use Rattle.std.proofs.lemmas.Bool.{cases_eq}
-use Rattle.training_seq.specs.Choice.{IsFirstGreatest}
+-- A loop finds the greatest of several scores, and the first if several are equal.
+use Rattle.std.proofs.{Common.{◌≡◌, ◌≢◌, ◌⊎◌, inl, inr, ℕ, zero, suc, sym, subst, ◌+◌, ◌<◌, ◌≤◌, ℤ, ◌<ℤ◌, ◌≤ℤ◌, arith}, lemmas.Int.ints}
+use Rattle.std.proofs.lemmas.{Int.by_lt_z, Bool.cases_eq}
+use Rattle.training_seq.specs.Choice.{IsFirstMaximum}
 
 -- every other index below `end` has a smaller score, or an equal one and comes later
 pub record LeadsBelow (score : ℕ → ℤ) (end best : ℕ) : Type 0 where
@@ -45,16 +43,16 @@ LeadsBelow-kept score end best leads less = record {
       (λ over. let w = leads.within in inr (omega (arith, ints), omega arith)))
   behind n h ne (inr other) = leads.others n (omega arith) ne
 
-pub IsFirstGreatest-from_LeadsBelow : (score : ℕ → ℤ) (best : ℕ) → LeadsBelow score 8 best → IsFirstGreatest score 7 best
-IsFirstGreatest-from_LeadsBelow score best leads = record {
+pub IsFirstMaximum-from_LeadsBelow : (score : ℕ → ℤ) (best : ℕ) → LeadsBelow score 8 best → IsFirstMaximum score 7 best
+IsFirstMaximum-from_LeadsBelow score best leads = record {
   within = let w = leads.within in omega arith;
   others = λ n h ne. leads.others n (omega arith) ne;
 }
 
 -- equal scores have the same first greatest index
-pub IsFirstGreatest-same : (score total : ℕ → ℤ) (last best : ℕ) → ((n : ℕ) → n ≤ last → score n ≡ total n) →
-    IsFirstGreatest score last best → IsFirstGreatest total last best
-IsFirstGreatest-same score total last best same first = record {
+pub IsFirstMaximum-same : (score total : ℕ → ℤ) (last best : ℕ) → ((n : ℕ) → n ≤ last → score n ≡ total n) →
+    IsFirstMaximum score last best → IsFirstMaximum total last best
+IsFirstMaximum-same score total last best same first = record {
   within = first.within;
   others = λ n h ne.
       let here = same n h in
@@ -74,12 +72,12 @@ leads score (suc n) =
     (λ more. (n + 1, subst (λ k. LeadsBelow score k (n + 1)) longer (LeadsBelow-overtaken score (n + 1) before.0 before.1 more)))
     (λ less. (before.0, subst (λ k. LeadsBelow score k before.0) longer (LeadsBelow-kept score (n + 1) before.0 before.1 less)))
 
-pub some_first_greatest : (score : ℕ → ℤ) → (best : ℕ) × IsFirstGreatest score 7 best
+pub some_first_greatest : (score : ℕ → ℤ) → (best : ℕ) × IsFirstMaximum score 7 best
 some_first_greatest score =
-    let found = leads score 7 in (found.0, IsFirstGreatest-from_LeadsBelow score found.0 found.1)
+    let found = leads score 7 in (found.0, IsFirstMaximum-from_LeadsBelow score found.0 found.1)
 
--- it is unique
-pub one_first_greatest : (score : ℕ → ℤ) (last m n : ℕ) → IsFirstGreatest score last m → IsFirstGreatest score last n → m ≡ n
+-- the first index with the greatest score is unique
+pub one_first_greatest : (score : ℕ → ℤ) (last m n : ℕ) → IsFirstMaximum score last m → IsFirstMaximum score last n → m ≡ n
 one_first_greatest score last m n h g = elim (cases_eq m n) [
   | inl same ↦ same
   | inr other ↦ elim (h.others n g.within (λ e. other (sym e))) [

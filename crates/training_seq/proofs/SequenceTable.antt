@@ -1,13 +1,8 @@
 -- Properties of the eight training sequences, checked by computation.
-use Rattle.std.proofs.Common.{◌≡◌, ℕ, zero, suc, ◌<◌, ◌≤◌, Bool, eqb, leb, pos, List, [], ◌∷◌, length, get_or}
-use Rattle.std.proofs.Common.{refl, sym, subst, arith, rules, tests}
-use Rattle.std.proofs.lemmas.Int.{ints}
-use Rattle.std.specs.List.{list_all}
-use Rattle.std.proofs.lemmas.List.Sums.{AllPass-from_list_all}
+use Rattle.std.proofs.Common.{◌≡◌, ℕ, zero, suc, ◌<◌, ◌≤◌, Bool, eqb, leb, pos, List, [], ◌∷◌, length, get_or, refl, sym, subst, arith}
+use Rattle.std.{proofs.{Common.{rules, tests}, lemmas.{Int.ints, List.Sums.AllPass-from_list_all}}, specs.List.list_all}
 use Rattle.bit_blocks.specs.Bits.{AllBits}
-use Rattle.training_seq.specs.Ranges.{IsWithin}
-use Rattle.training_seq.specs.Sums.{sign_of, signs_of}
-use Rattle.training_seq.specs.Sequences.{training_sequence, training_sequences}
+use Rattle.training_seq.specs.{Ranges.IsMagnitudeWithin, Sums.{sign_of, signs_of}, Sequences.{training_sequence, training_sequences}}
 
 abbrev are_bits : List ℕ → Bool
 are_bits bits = list_all (λ bit. leb bit 1) bits
@@ -25,7 +20,7 @@ AllBits-training_sequence tsc h k d lt =
     let bit = AllPass-from_list_all (λ bit. leb bit 1) (training_sequence tsc) found k d lt in
     search (rules, tests)
 
-sign-small : (bit : ℕ) → bit ≤ 1 → IsWithin 1 (sign_of bit)
+sign-small : (bit : ℕ) → bit ≤ 1 → IsMagnitudeWithin 1 (sign_of bit)
 sign-small zero h = (omega (arith, ints), omega (arith, ints))
 sign-small (suc zero) h = (omega (arith, ints), omega (arith, ints))
 sign-small (suc (suc bit)) h = absurd (omega arith)
@@ -35,8 +30,8 @@ sign_at [] i h = absurd (omega (arith, h))
 sign_at (bit ∷ bits) zero h = refl
 sign_at (bit ∷ bits) (suc i) h = sign_at bits i (omega (arith, h))
 
-pub small_sign : (tsc i : ℕ) → tsc ≤ 7 → i < 26 → IsWithin 1 (get_or (signs_of (training_sequence tsc)) i (pos 0))
+pub small_sign : (tsc i : ℕ) → tsc ≤ 7 → i < 26 → IsMagnitudeWithin 1 (get_or (signs_of (training_sequence tsc)) i (pos 0))
 small_sign tsc i h lt =
     let bits = training_sequence tsc in
     let there : i < length bits = omega (arith, lt, length-training_sequence tsc h) in
-    subst (IsWithin 1) (sym (sign_at bits i there)) (sign-small (get_or bits i 0) (AllBits-training_sequence tsc h i 0 there))
+    subst (IsMagnitudeWithin 1) (sym (sign_at bits i there)) (sign-small (get_or bits i 0) (AllBits-training_sequence tsc h i 0 there))

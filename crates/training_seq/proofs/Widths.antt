@@ -1,16 +1,16 @@
--- Sums of four soft bits fit 16 bits.
-use Rattle.std.proofs.Common.{◌≡◌, ℤ, ◌+ℤ◌, FitsSigned, w16, to_z, of_z, arith}
-use Rattle.std.proofs.lemmas.Int.{ints}
-use Rattle.training_seq.specs.Ranges.{IsWithin}
+-- A sum of four soft bits fits in 16 bits.
+use Rattle.std.proofs.{Common.{◌≡◌, ℤ, ◌+ℤ◌, FitsSigned, w16, to_z, of_z, arith}, lemmas.Int.ints}
+use Rattle.training_seq.specs.Ranges.{IsMagnitudeWithin}
 
 -- a value converted to 16 bits and back
 abbrev pub kept : ℤ → ℤ
 kept z = to_z w16 (of_z w16 z)
 
-kept_is : (z : ℤ) → IsWithin 512 z → kept z ≡ z
+kept_is : (z : ℤ) → IsMagnitudeWithin 512 z → kept z ≡ z
 kept_is z h = omega (arith, ints)
 
-module _ (a b c d : ℤ) (ha : IsWithin 128 a) (hb : IsWithin 128 b) (hc : IsWithin 128 c) (hd : IsWithin 128 d) where
+module _ (a b c d : ℤ) (ha : IsMagnitudeWithin 128 a) (hb : IsMagnitudeWithin 128 b) (hc : IsMagnitudeWithin 128 c)
+    (hd : IsMagnitudeWithin 128 d) where
   three_kept : kept (kept (kept a +ℤ kept b) +ℤ kept c) ≡ (a +ℤ b) +ℤ c
   three_kept =
       let ka = kept_is a (omega (arith, ints), omega (arith, ints)) in

@@ -1,6 +1,6 @@
--- Bounds of the numbers inside this crate.
+-- Bounds of the numbers that this crate computes with.
 use Rattle.std.specs.Prelude.{ℕ, ℤ, pos, neg_ℤ, ◌≤ℤ◌}
 
--- the absolute value is at most the bound
-abbrev pub IsWithin : ℕ → ℤ → Type 0
-IsWithin bound value = (neg_ℤ (pos bound) ≤ℤ value) × (value ≤ℤ pos bound)
+-- the absolute value of a number is at most the bound
+abbrev pub IsMagnitudeWithin : ℕ → ℤ → Type 0
+IsMagnitudeWithin bound value = (neg_ℤ (pos bound) ≤ℤ value) × (value ≤ℤ pos bound)

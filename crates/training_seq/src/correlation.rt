@@ -1,12 +1,12 @@
 //! The correlation of soft bits with a training sequence, as a sum of products.
 ghost use Rattle.std.specs.Prelude.{◌≡◌, ◌≤◌, length, All, neg_ℤ, pos, ◌*ℤ◌, ◌≤ℤ◌};
 ghost use Rattle.bit_blocks.specs.SoftValues.{likelihood};
-ghost use Rattle.training_seq.specs.Ranges.{IsWithin};
+ghost use Rattle.training_seq.specs.Ranges.{IsMagnitudeWithin};
 ghost use Rattle.training_seq.specs.Sequences.{training_sequence};
 
 use crate::sequences::signs;
 
-/// The correlation of 26 soft bits with a training sequence: their sum, each negated where the sequence has a 1.
+/// The correlation of 26 soft bits with a training sequence: the sum of the soft bits, each negated where the sequence has a 1.
 pub fn correlate(soft: &[i8], tsc: u8) -> i32
     requires count { length soft.now ≡ 26 }
     requires known { tsc ≤ 7 }
@@ -18,7 +18,7 @@ pub fn correlate(soft: &[i8], tsc: u8) -> i32
 fn widened(soft: &[i8]) -> [i16; 26]
     requires { length soft.now ≡ 26 }
     ensures value { result ≡ soft.now }
-    ensures small { All (IsWithin 512) result }
+    ensures small { All (IsMagnitudeWithin 512) result }
 {
     let mut wide = [0; 26];
     for (i, value) in soft.iter().enumerate() {
@@ -28,7 +28,7 @@ fn widened(soft: &[i8]) -> [i16; 26]
 }
 
 pub(crate) fn correlate_sums(sums: &[i16; 26], tsc: u8) -> i16
-    requires small { All (IsWithin 512) sums.now }
+    requires small { All (IsMagnitudeWithin 512) sums.now }
     requires known { tsc ≤ 7 }
     ensures { result ≡ likelihood sums.now (training_sequence tsc) }
 {
@@ -40,12 +40,12 @@ pub(crate) fn correlate_sums(sums: &[i16; 26], tsc: u8) -> i16
     total
 }
 
-/// The value if `sign` is 1, negated if it is -1.
+/// `value` if `sign` is 1, and `-value` if it is -1.
 pub(crate) fn times_sign(value: i16, sign: i16) -> i16
-    requires small { IsWithin 512 value }
-    requires sign { IsWithin 1 sign }
+    requires small { IsMagnitudeWithin 512 value }
+    requires sign { IsMagnitudeWithin 1 sign }
     ensures value { result ≡ value *ℤ sign }
-    ensures within { IsWithin 512 result }
+    ensures within { IsMagnitudeWithin 512 result }
 {
     value * sign
 }

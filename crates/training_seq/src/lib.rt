@@ -1,5 +1,5 @@
 //! The eight training sequences (midambles) of the normal burst (GSM 05.02, today 3GPP TS 45.002, section 5.2.3), and the choice of the
-//! one that a block was sent with.
+//! sequence with which a received block was sent.
 #![tactic(auto)]
 
 mod choice;
@@ -14,8 +14,8 @@ pub use sequences::sequence;
 mod tests {
     use super::*;
 
-    // Codes 0 to 7.
-    const DIGITS: [&[u8; 26]; 8] = [
+    // The training sequences with the codes 0 to 7.
+    const SEQUENCE_DIGITS: [&[u8; 26]; 8] = [
         b"00100101110000100010010111",
         b"00101101110111100010110111",
         b"01000011101110100100001110",
@@ -39,23 +39,23 @@ mod tests {
     #[test]
     fn finds_each_sequence_that_was_sent(rt: HostRuntime) {
         for tsc in 0..8 {
-            let part = received(DIGITS[tsc as usize]);
+            let part = received(SEQUENCE_DIGITS[tsc as usize]);
             assert_eq!(rt; correlate(&part, tsc), 26 * 127, "code {tsc}");
             assert_eq!(rt; best(&part, &part, &part, &part), (tsc, 0), "code {tsc}");
         }
     }
 
     #[test]
-    fn a_lost_block_has_the_first_code_and_no_right_place(rt: HostRuntime) {
+    fn a_lost_block_has_code_0_and_104_wrong_bits(rt: HostRuntime) {
         let lost = [0; 26];
         assert_eq!(rt; best(&lost, &lost, &lost, &lost), (0, 104));
     }
 
-    // Sequences 5 and 2 differ in 8 bits.
+    // Sequences 5 and 2 differ in 8 bits, so 24 soft bits of three bursts with sequence 2 are wrong for sequence 5.
     #[test]
-    fn strength_outweighs_the_number_of_parts(rt: HostRuntime) {
-        let strong = received(DIGITS[5]);
-        let weak = received(DIGITS[2]).map(|value| value / 127);
+    fn one_strong_burst_outweighs_three_weak_ones(rt: HostRuntime) {
+        let strong = received(SEQUENCE_DIGITS[5]);
+        let weak = received(SEQUENCE_DIGITS[2]).map(|value| value / 127);
         assert_eq!(rt; best(&strong, &weak, &weak, &weak), (5, 24));
     }
 }

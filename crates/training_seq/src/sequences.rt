@@ -31,7 +31,7 @@ static SEQUENCES: [[u8; 26]; 8] = [
     ],
 ];
 
-// The signs of the same bits: 1 for a 0, and -1 for a 1.
+// The eight sequences as signs: 1 for a 0, and -1 for a 1.
 static SIGNS: [[i16; 26]; 8] = [
     [
         1, 1, -1, 1, 1, -1, 1, -1, -1, -1, 1, 1, 1, 1, -1, 1, 1, 1, -1, 1, 1, -1, 1, -1, -1, -1,
@@ -72,7 +72,7 @@ pub fn sequence(tsc: u8) -> [u8; 26]
     SEQUENCES[tsc as usize]
 }
 
-/// The signs of a training sequence.
+/// The 26 signs of a training sequence: 1 for a 0, and -1 for a 1.
 pub(crate) fn signs(tsc: u8) -> &'static [i16; 26]
     requires { tsc ≤ 7 }
     ensures { result.now ≡ signs_of (training_sequence tsc) }

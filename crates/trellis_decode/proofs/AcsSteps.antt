@@ -1,98 +1,84 @@
--- One Viterbi step (add, compare, select) in two vectors of eight 16-bit lanes, in bit-reversed state order: the next states after
--- bit 0 and after bit 1 are then whole vectors.
-use Rattle.std.proofs.Common.{◌≡◌, ℕ, ◌+◌, ◌-◌, ◌<◌, true, false, if◌then◌else◌, ℤ, pos, negsuc, ◌+ℤ◌}
-use Rattle.std.proofs.Common.{◌-ℤ◌, ◌≤ℤ◌, List, get_or, length}
-use Rattle.std.proofs.Common.{refl, ap, sym, ◌∙◌, subst, arith, int_lt, inl, inr}
-use Rattle.std.proofs.lemmas.Bool.{cases_lt}
-use Rattle.std.proofs.lemmas.Int.{ints, by_lt_z}
-use Rattle.trellis_decode.specs.Trellis.{next, branch_metric, candidate, Chooses}
-use Rattle.trellis_decode.proofs.BranchMetricLanes.{each, zero_lanes, one_lanes, zero_branch_metrics, one_branch_metrics}
-use Rattle.trellis_decode.specs.Lanes.{lane}
-use Rattle.trellis_decode.specs.AcsLanes.{choices, in_order, in_turns, unbiased, taken_bit, bit_reversed, path_metrics}
+-- One Viterbi step (add, compare, select) in two vectors of eight 16-bit lanes. The states are in bit-reversed order, so that the next
+-- states after bit 0 are one whole vector, and those after bit 1 the other.
+use Rattle.std.proofs.Common.{◌≡◌, ℕ, ◌+◌, ◌-◌, ◌<◌, true, false, if◌then◌else◌, ℤ, pos, negsuc, ◌+ℤ◌, ◌-ℤ◌, ◌≤ℤ◌, List, get_or, length}
+use Rattle.std.proofs.{Common.{refl, ap, sym, ◌∙◌, subst, arith, int_lt, inl, inr}, lemmas.{Bool.cases_lt, Int.{ints, by_lt_z}}}
+use Rattle.trellis_decode.specs.{Trellis.{next, branch_metric, candidate, IsDecision}, Lanes.lane, AcsLanes.lane_decisions}
+use Rattle.trellis_decode.specs.AcsLanes.{lanes_in_state_order, interleaved_lanes, lane_metric, lane_decision, bit_reversed, path_metrics}
+use Rattle.trellis_decode.proofs.BranchMetricLanes.{each, zero_lanes, one_lanes, zero_branch_metrics, one_branch_metrics, same_below}
 
--- the larger candidate of one lane, and its bit
+-- in one lane, the greater candidate metric is the path metric, and its bit is the decision
 pub chosen_lane : (after pair : List ℤ) (s : ℕ) (v o e zero_candidate one_candidate value taken : ℤ) →
-    lane after (next s 0) ≡ unbiased v → lane after (next s 1) ≡ unbiased o →
+    lane after (next s 0) ≡ lane_metric v → lane after (next s 1) ≡ lane_metric o →
     branch_metric s 0 pair ≡ e → branch_metric s 1 pair ≡ pos 0 -ℤ e →
     zero_candidate ≡ v +ℤ e → one_candidate ≡ o -ℤ e →
     value ≡ (if int_lt zero_candidate one_candidate then one_candidate else zero_candidate) →
     taken ≡ (if int_lt zero_candidate one_candidate then negsuc 0 else pos 0) →
-    Chooses after pair s (unbiased value) (taken_bit taken)
+    IsDecision after pair s (lane_metric value) (lane_decision taken)
 unfolding candidate
 chosen_lane after pair s v o e zero_candidate one_candidate value taken hv ho e0 e1 z w chosen bit =
     by_lt_z zero_candidate one_candidate
     (λ less.
     let t : int_lt zero_candidate one_candidate ≡ true = grind (arith, ints) in
     let v1 : value ≡ one_candidate = chosen ∙ ap (λ t. if t then one_candidate else zero_candidate) t in
-    inr (ap taken_bit (bit ∙ ap (λ t. if t then negsuc 0 else pos 0) t), omega (arith, ints), omega (arith, ints)))
+    inr (ap lane_decision (bit ∙ ap (λ t. if t then negsuc 0 else pos 0) t), omega (arith, ints), omega (arith, ints)))
     (λ not_less.
     let t : int_lt zero_candidate one_candidate ≡ false = grind (arith, ints) in
     let v0 : value ≡ zero_candidate = chosen ∙ ap (λ t. if t then one_candidate else zero_candidate) t in
-    inl (ap taken_bit (bit ∙ ap (λ t. if t then negsuc 0 else pos 0) t), omega (arith, ints), omega (arith, ints)))
+    inl (ap lane_decision (bit ∙ ap (λ t. if t then negsuc 0 else pos 0) t), omega (arith, ints), omega (arith, ints)))
 
--- ---- states and their lanes in two vectors
+-- ---- the lanes of the states in two vectors
 
 bit_reversed_twice : (k : ℕ) → k < 8 → bit_reversed (bit_reversed k) ≡ k
-bit_reversed_twice = each (λ k. bit_reversed (bit_reversed k) ≡ k) 8 ((((((((tt, refl), refl), refl), refl), refl), refl), refl), refl)
+bit_reversed_twice = same_below _ _ refl
 
--- a statement that holds for each lane holds for each state
+-- a statement that holds for the state of each lane holds for each state
 pub each_state : (P : ℕ → Type 0) → ((k : ℕ) → k < 8 → P (bit_reversed k)) → ((k : ℕ) → k < 8 → P (8 + bit_reversed k)) →
     (s : ℕ) → s < 16 → P s
 each_state P low high s lt = elim (cases_lt s 8) [
   | inl below ↦ subst P (bit_reversed_twice s below) (low (bit_reversed s) (omega arith))
   | inr from ↦
       let twice = bit_reversed_twice (s - 8) (omega arith) in
-      let at : 8 + bit_reversed (bit_reversed (s - 8)) ≡ s = omega arith in
-      subst P at (high (bit_reversed (s - 8)) (omega arith))
+      subst P (omega arith) (high (bit_reversed (s - 8)) (omega arith))
 ]
 
-pub low_in_order : (low high : List ℤ) (k : ℕ) → k < 8 → lane (in_order low high) (bit_reversed k) ≡ lane low k
-low_in_order low high = each (λ k. lane (in_order low high) (bit_reversed k) ≡ lane low k) 8
-    ((((((((tt, refl), refl), refl), refl), refl), refl), refl), refl)
+pub low_in_order : (low high : List ℤ) (k : ℕ) → k < 8 → lane (lanes_in_state_order low high) (bit_reversed k) ≡ lane low k
+low_in_order low high = same_below _ _ refl
 
-pub high_in_order : (low high : List ℤ) (k : ℕ) → k < 8 → lane (in_order low high) (8 + bit_reversed k) ≡ lane high k
-high_in_order low high = each (λ k. lane (in_order low high) (8 + bit_reversed k) ≡ lane high k) 8
-    ((((((((tt, refl), refl), refl), refl), refl), refl), refl), refl)
+pub high_in_order : (low high : List ℤ) (k : ℕ) → k < 8 → lane (lanes_in_state_order low high) (8 + bit_reversed k) ≡ lane high k
+high_in_order low high = same_below _ _ refl
 
-pub low_choice : (low high : List ℤ) (k : ℕ) → k < 8 → get_or (choices low high) (bit_reversed k) 0 ≡ taken_bit (lane low k)
-low_choice low high = each (λ k. get_or (choices low high) (bit_reversed k) 0 ≡ taken_bit (lane low k)) 8
-    ((((((((tt, refl), refl), refl), refl), refl), refl), refl), refl)
+pub low_choice : (low high : List ℤ) (k : ℕ) → k < 8 → get_or (lane_decisions low high) (bit_reversed k) 0 ≡ lane_decision (lane low k)
+low_choice low high = same_below _ _ refl
 
-pub high_choice : (low high : List ℤ) (k : ℕ) → k < 8 → get_or (choices low high) (8 + bit_reversed k) 0 ≡ taken_bit (lane high k)
-high_choice low high = each (λ k. get_or (choices low high) (8 + bit_reversed k) 0 ≡ taken_bit (lane high k)) 8
-    ((((((((tt, refl), refl), refl), refl), refl), refl), refl), refl)
+pub high_choice : (low high : List ℤ) (k : ℕ) → k < 8 →
+    get_or (lane_decisions low high) (8 + bit_reversed k) 0 ≡ lane_decision (lane high k)
+high_choice low high = same_below _ _ refl
 
-pub even_metric : (even odd : List ℤ) (k : ℕ) → k < 8 → lane (path_metrics even odd) (next (bit_reversed k) 0) ≡ unbiased (lane even k)
-even_metric even odd = each (λ k. lane (path_metrics even odd) (next (bit_reversed k) 0) ≡ unbiased (lane even k)) 8
-    ((((((((tt, refl), refl), refl), refl), refl), refl), refl), refl)
+pub even_metric : (even odd : List ℤ) (k : ℕ) → k < 8 → lane (path_metrics even odd) (next (bit_reversed k) 0) ≡ lane_metric (lane even k)
+even_metric even odd = same_below _ _ refl
 
-pub odd_metric : (even odd : List ℤ) (k : ℕ) → k < 8 → lane (path_metrics even odd) (next (bit_reversed k) 1) ≡ unbiased (lane odd k)
-odd_metric even odd = each (λ k. lane (path_metrics even odd) (next (bit_reversed k) 1) ≡ unbiased (lane odd k)) 8
-    ((((((((tt, refl), refl), refl), refl), refl), refl), refl), refl)
+pub odd_metric : (even odd : List ℤ) (k : ℕ) → k < 8 → lane (path_metrics even odd) (next (bit_reversed k) 1) ≡ lane_metric (lane odd k)
+odd_metric even odd = same_below _ _ refl
 
 pub even_metric_high : (even odd : List ℤ) (k : ℕ) → k < 8 →
-    lane (path_metrics even odd) (next (8 + bit_reversed k) 0) ≡ unbiased (lane even k)
-even_metric_high even odd = each (λ k. lane (path_metrics even odd) (next (8 + bit_reversed k) 0) ≡ unbiased (lane even k)) 8
-    ((((((((tt, refl), refl), refl), refl), refl), refl), refl), refl)
+    lane (path_metrics even odd) (next (8 + bit_reversed k) 0) ≡ lane_metric (lane even k)
+even_metric_high even odd = same_below _ _ refl
 
 pub odd_metric_high : (even odd : List ℤ) (k : ℕ) → k < 8 →
-    lane (path_metrics even odd) (next (8 + bit_reversed k) 1) ≡ unbiased (lane odd k)
-odd_metric_high even odd = each (λ k. lane (path_metrics even odd) (next (8 + bit_reversed k) 1) ≡ unbiased (lane odd k)) 8
-    ((((((((tt, refl), refl), refl), refl), refl), refl), refl), refl)
+    lane (path_metrics even odd) (next (8 + bit_reversed k) 1) ≡ lane_metric (lane odd k)
+odd_metric_high even odd = same_below _ _ refl
 
--- the path metrics after a step, from those of states 0 to 7 and 8 to 15
+-- the path metrics that result from a step, from the lanes of states 0 to 7 (low) and 8 to 15 (high)
 abbrev pub stepped : List ℤ → List ℤ → List ℤ
-stepped low high = path_metrics (in_turns low high 0 1 2 3) (in_turns low high 4 5 6 7)
+stepped low high = path_metrics (interleaved_lanes low high 0 1 2 3) (interleaved_lanes low high 4 5 6 7)
 
-pub low_metric : (low high : List ℤ) (k : ℕ) → k < 8 → lane (stepped low high) (bit_reversed k) ≡ unbiased (lane low k)
-low_metric low high = each (λ k. lane (stepped low high) (bit_reversed k) ≡ unbiased (lane low k)) 8
-    ((((((((tt, refl), refl), refl), refl), refl), refl), refl), refl)
+pub low_metric : (low high : List ℤ) (k : ℕ) → k < 8 → lane (stepped low high) (bit_reversed k) ≡ lane_metric (lane low k)
+low_metric low high = same_below _ _ refl
 
-pub high_metric : (low high : List ℤ) (k : ℕ) → k < 8 → lane (stepped low high) (8 + bit_reversed k) ≡ unbiased (lane high k)
-high_metric low high = each (λ k. lane (stepped low high) (8 + bit_reversed k) ≡ unbiased (lane high k)) 8
-    ((((((((tt, refl), refl), refl), refl), refl), refl), refl), refl)
+pub high_metric : (low high : List ℤ) (k : ℕ) → k < 8 → lane (stepped low high) (8 + bit_reversed k) ≡ lane_metric (lane high k)
+high_metric low high = same_below _ _ refl
 
--- the branch metric of bit 1 is the negative of that of bit 0, and so is that of the state 8 higher
+-- the branch metric of bit 1 is the negative of that of bit 0, and so is the branch metric of bit 0 in the state 8 higher
 module _ (pair : List ℤ) (count : length pair ≡ 2) where
   abbrev sum : ℤ
   sum = lane pair 0 +ℤ lane pair 1
@@ -101,10 +87,10 @@ module _ (pair : List ℤ) (count : length pair ≡ 2) where
   difference = lane pair 0 -ℤ lane pair 1
 
   abbrev zeros : List ℤ
-  zeros = zero_lanes pair count sum difference (pos 0 -ℤ sum) (pos 0 -ℤ difference) refl refl refl refl
+  zeros = zero_lanes _ count sum difference (pos 0 -ℤ sum) (pos 0 -ℤ difference) refl refl refl refl
 
   abbrev ones : List ℤ
-  ones = one_lanes pair count sum difference (pos 0 -ℤ sum) (pos 0 -ℤ difference) refl refl refl refl
+  ones = one_lanes _ count sum difference (pos 0 -ℤ sum) (pos 0 -ℤ difference) refl refl refl refl
 
   zero_at : (s : ℕ) → s < 16 → lane zeros s ≡ branch_metric s 0 pair
   zero_at = zero_branch_metrics pair count sum difference (pos 0 -ℤ sum) (pos 0 -ℤ difference) refl refl refl refl
@@ -121,15 +107,29 @@ module _ (pair : List ℤ) (count : length pair ≡ 2) where
   pub branch_metric-one : (s : ℕ) → s < 16 → branch_metric s 1 pair ≡ pos 0 -ℤ branch_metric s 0 pair
   branch_metric-one s lt =
       let sums = bit_reversed_sum in
-      let gaps = bit_reversed_difference in
+      let subtract_lanes = bit_reversed_difference in
       sym (one_at s lt)
-      ∙ each (λ s. lane ones s ≡ pos 0 -ℤ lane zeros s) 16
-      ((((((((((((((((tt, refl), refl), refl), refl), sums), gaps), sums), gaps), sums), gaps), sums), gaps), refl), refl), refl), refl) s
+      ∙ each (λ s. lane ones s ≡ pos 0 -ℤ lane zeros s) _ (
+        (
+          (
+            (
+              (
+                (((((((((((tt, refl), refl), refl), refl), sums), subtract_lanes), sums), subtract_lanes), sums), subtract_lanes), sums),
+                subtract_lanes,
+              ),
+              refl,
+            ),
+            refl,
+          ),
+          refl,
+        ),
+        refl,
+      ) s
       lt
       ∙ ap (λ e. pos 0 -ℤ e) (zero_at s lt)
 
   pub branch_metric-high : (s : ℕ) → s < 8 → branch_metric (8 + s) 0 pair ≡ pos 0 -ℤ branch_metric s 0 pair
-  branch_metric-high s lt = sym (zero_at (8 + s) (omega arith))
+  branch_metric-high s lt = sym (zero_at _ (omega arith))
       ∙ each (λ s. lane zeros (8 + s) ≡ pos 0 -ℤ lane zeros s) 8
       ((((((((tt, refl), refl), refl), refl), bit_reversed_sum), bit_reversed_difference), bit_reversed_sum), bit_reversed_difference) s lt
       ∙ ap (λ e. pos 0 -ℤ e) (zero_at s (omega arith))
@@ -140,24 +140,24 @@ minus_bit_reversed v e candidate is = omega (arith, ints)
 pub plus_bit_reversed : (v e candidate : ℤ) → candidate ≡ v +ℤ e → candidate ≡ v -ℤ (pos 0 -ℤ e)
 plus_bit_reversed v e candidate is = omega (arith, ints)
 
--- the candidate of bit 0 in one lane
+-- the candidate metric of bit 0 in one lane
 pub candidate_lane : (after pair : List ℤ) (s : ℕ) (v e zero_candidate : ℤ) →
-    lane after (next s 0) ≡ unbiased v → branch_metric s 0 pair ≡ e → zero_candidate ≡ v +ℤ e →
-    unbiased zero_candidate ≡ candidate after pair s 0
+    lane after (next s 0) ≡ lane_metric v → branch_metric s 0 pair ≡ e → zero_candidate ≡ v +ℤ e →
+    lane_metric zero_candidate ≡ candidate after pair s 0
 unfolding candidate
 candidate_lane after pair s v e zero_candidate hv he is = omega (arith, ints)
 
--- a path metric is no less than the smaller of the next two, since one of the two branch metrics is not negative
+-- a path metric is no less than the smaller path metric of the two next states, since one of the two branch metrics is not negative
 pub floor_kept : (after pair : List ℤ) (s bit : ℕ) (value floor : ℤ) → length pair ≡ 2 → s < 16 →
-    floor ≤ℤ lane after (next s 0) → floor ≤ℤ lane after (next s 1) → Chooses after pair s value bit → floor ≤ℤ value
+    floor ≤ℤ lane after (next s 0) → floor ≤ℤ lane after (next s 1) → IsDecision after pair s value bit → floor ≤ℤ value
 unfolding candidate
 floor_kept after pair s bit value floor count lt low0 low1 (inl zero_taken) =
-    let bit_reversed_branch_metric = branch_metric-one pair count s lt in
+    let bit_reversed_branch_metric = branch_metric-one _ count s lt in
     let is = zero_taken.1 in
     let best = zero_taken.2 in
     omega (arith, ints)
 floor_kept after pair s bit value floor count lt low0 low1 (inr one_taken) =
-    let bit_reversed_branch_metric = branch_metric-one pair count s lt in
+    let bit_reversed_branch_metric = branch_metric-one _ count s lt in
     let is = one_taken.1 in
     let best = one_taken.2 in
     omega (arith, ints)

@@ -1,15 +1,11 @@
--- The vector operations on eight 16-bit lanes, lane by lane. The operations themselves work on unsigned lanes.
-use Rattle.std.proofs.Common.{◌≡◌, ℕ, zero, suc, ◌+◌, ◌-◌, ◌/◌, ◌%◌, ◌^◌, ◌<◌, ◌≤◌, Bool, true}
-use Rattle.std.proofs.Common.{false, if◌then◌else◌, ℤ, pos, negsuc, ◌+ℤ◌}
-use Rattle.std.proofs.Common.{◌-ℤ◌, ◌≤ℤ◌, List, [], ◌∷◌, ◌++◌, map, length, get_or, replicate, refl, ap, ap₂}
-use Rattle.std.proofs.Common.{sym, ◌∙◌, subst, arith}
-use Rattle.std.proofs.Common.{int_lt, w8, w16, FitsSigned, ◌⊎◌, inl, inr}
-use Rattle.std.specs.Int.{cast_signed, cast_unsigned}
-use Rattle.std.proofs.lemmas.Int.{ints, to_z-of_z, wrapping_add_is, wrapping_sub_is, int_wrap_fits}
-use Rattle.std.proofs.lemmas.Simd.{mask_l-lt, mask_l-mod, bit_mask_l}
+-- What the SIMD operations on eight 16-bit lanes do in each lane. The operations themselves are defined on unsigned lanes.
+use Rattle.std.proofs.Common.{◌≡◌, ℕ, zero, suc, ◌+◌, ◌-◌, ◌/◌, ◌%◌, ◌^◌, ◌<◌, ◌≤◌, Bool, true, false, if◌then◌else◌, ℤ, pos, negsuc, ◌+ℤ◌}
+use Rattle.std.proofs.Common.{◌-ℤ◌, ◌≤ℤ◌, List, [], ◌∷◌, ◌++◌, map, length, get_or, replicate, refl, ap, ap₂, sym, ◌∙◌, arith, int_lt, w8}
+use Rattle.std.proofs.{Common.{w16, FitsSigned, ◌⊎◌, inl, inr}, lemmas.Int.{ints, to_z-of_z, wrapping_add_is, wrapping_sub_is}}
+use Rattle.std.{proofs.lemmas.{Int.int_wrap_fits, Simd.{mask_l-lt, mask_l-mod, bit_mask_l}}, specs.Int.{cast_signed, cast_unsigned}}
 use lib.Lanes.{zip2, sel_l, mask_l, top}
-use Rattle.trellis_decode.specs.Lanes.{lane}
-use Rattle.trellis_decode.specs.AcsLanes.{AreTaken, AreBranchMetrics, AreGaps, AreNarrow, AreNear, HaveHeadroom, in_order, in_turns}
+use Rattle.trellis_decode.specs.{Lanes.lane, AcsLanes.{AreDecisionLanes, AreBranchMetrics, AbsoluteValuesFit, AreInt16}}
+use Rattle.trellis_decode.specs.AcsLanes.{DifferencesFit16Bits, HaveHeadroom16, lanes_in_state_order, interleaved_lanes}
 
 lane-zip2 : (f : ℕ → ℕ → ℕ) (a b : List ℤ) (s : ℕ) → s < length a → s < length b →
     lane (map (cast_signed w16) (zip2 f (map (cast_unsigned w16) a) (map (cast_unsigned w16) b))) s
@@ -17,16 +13,13 @@ lane-zip2 : (f : ℕ → ℕ → ℕ) (a b : List ℤ) (s : ℕ) → s < length 
 lane-zip2 f [] b s ha hb = absurd (omega arith)
 lane-zip2 f (x ∷ a) [] s ha hb = absurd (omega arith)
 lane-zip2 f (x ∷ a) (y ∷ b) zero ha hb = refl
-lane-zip2 f (x ∷ a) (y ∷ b) (suc s) ha hb =
-    let ha' : s < length a = omega arith in
-    let hb' : s < length b = omega arith in
-    lane-zip2 f a b s ha' hb'
+lane-zip2 f (x ∷ a) (y ∷ b) (suc s) ha hb = lane-zip2 f a b s (omega arith) (omega arith)
 
 length-lanes-zip2 : (f : ℕ → ℕ → ℕ) (a b : List ℤ) → length a ≡ length b →
     length (map (cast_signed w16) (zip2 f (map (cast_unsigned w16) a) (map (cast_unsigned w16) b))) ≡ length a
 length-lanes-zip2 f [] b e = refl
 length-lanes-zip2 f (x ∷ a) [] e = absurd (omega arith)
-length-lanes-zip2 f (x ∷ a) (y ∷ b) e = let e' : length a ≡ length b = omega arith in ap suc (length-lanes-zip2 f a b e')
+length-lanes-zip2 f (x ∷ a) (y ∷ b) e = ap suc (length-lanes-zip2 f a b (omega arith))
 
 pub fits_between : (x : ℤ) → negsuc 32767 ≤ℤ x → x ≤ℤ pos 32767 → FitsSigned w16 x
 fits_between (pos n) low high = record { sfits = omega (arith, ints) }
@@ -34,84 +27,82 @@ fits_between (negsuc n) low high = record { sfits = omega (arith, ints) }
 
 pub sum-lane : (x y : ℤ) → FitsSigned w16 x → FitsSigned w16 y → FitsSigned w16 (x +ℤ y) →
     cast_signed w16 ((cast_unsigned w16 x + cast_unsigned w16 y) % 2 ^ 16) ≡ x +ℤ y
-sum-lane x y hx hy h = wrapping_add_is w16 x y hx hy ∙ int_wrap_fits w16 (x +ℤ y) h
+sum-lane x y hx hy h = wrapping_add_is _ x y hx hy ∙ int_wrap_fits _ _ h
 
 pub difference-lane : (x y : ℤ) → FitsSigned w16 x → FitsSigned w16 y → FitsSigned w16 (x -ℤ y) →
     cast_signed w16 ((cast_unsigned w16 x + (2 ^ 16 - cast_unsigned w16 y)) % 2 ^ 16) ≡ x -ℤ y
-difference-lane x y hx hy h = wrapping_sub_is w16 x y hx hy ∙ int_wrap_fits w16 (x -ℤ y) h
+difference-lane x y hx hy h = wrapping_sub_is _ x y hx hy ∙ int_wrap_fits _ _ h
 
-pub AreNarrow-modest : (a : List ℤ) → HaveHeadroom a → AreNarrow a
-AreNarrow-modest a h = record { count = h.count; fits = fits } where
+pub AreInt16-modest : (a : List ℤ) → HaveHeadroom16 a → AreInt16 a
+AreInt16-modest a h = record { count = h.count; fits = fits } where
   fits : (k : ℕ) → k < 8 → FitsSigned w16 (lane a k)
-  fits k lt = let low = h.low k lt in let high = h.high k lt in fits_between (lane a k) (omega (arith, ints)) (omega (arith, ints))
+  fits k lt = let low = h.low k lt in let high = h.high k lt in fits_between _ (omega (arith, ints)) (omega (arith, ints))
 
-pub AreNarrow-branch_metrics : (a : List ℤ) → AreBranchMetrics a → AreNarrow a
-AreNarrow-branch_metrics a h = record { count = h.count; fits = fits } where
+pub AreInt16-branch_metrics : (a : List ℤ) → AreBranchMetrics a → AreInt16 a
+AreInt16-branch_metrics a h = record { count = h.count; fits = fits } where
   fits : (k : ℕ) → k < 8 → FitsSigned w16 (lane a k)
-  fits k lt = let low = h.low k lt in let high = h.high k lt in fits_between (lane a k) (omega (arith, ints)) (omega (arith, ints))
+  fits k lt = let low = h.low k lt in let high = h.high k lt in fits_between _ (omega (arith, ints)) (omega (arith, ints))
 
-sums_fit : (a b : List ℤ) → HaveHeadroom a → AreBranchMetrics b → (k : ℕ) → k < 8 → FitsSigned w16 (lane a k +ℤ lane b k)
+sums_fit : (a b : List ℤ) → HaveHeadroom16 a → AreBranchMetrics b → (k : ℕ) → k < 8 → FitsSigned w16 (lane a k +ℤ lane b k)
 sums_fit a b ha hb k lt =
     let low = ha.low k lt in
     let high = ha.high k lt in
     let low' = hb.low k lt in
     let high' = hb.high k lt in
-    fits_between (lane a k +ℤ lane b k) (omega (arith, ints)) (omega (arith, ints))
+    fits_between _ (omega (arith, ints)) (omega (arith, ints))
 
-differences_fit : (a b : List ℤ) → HaveHeadroom a → AreBranchMetrics b → (k : ℕ) → k < 8 → FitsSigned w16 (lane a k -ℤ lane b k)
+differences_fit : (a b : List ℤ) → HaveHeadroom16 a → AreBranchMetrics b → (k : ℕ) → k < 8 → FitsSigned w16 (lane a k -ℤ lane b k)
 differences_fit a b ha hb k lt =
     let low = ha.low k lt in
     let high = ha.high k lt in
     let low' = hb.low k lt in
     let high' = hb.high k lt in
-    fits_between (lane a k -ℤ lane b k) (omega (arith, ints)) (omega (arith, ints))
+    fits_between _ (omega (arith, ints)) (omega (arith, ints))
 
-pub lane-sums : (a b : List ℤ) → HaveHeadroom a → AreBranchMetrics b → (k : ℕ) → k < 8 →
+pub lane-sums : (a b : List ℤ) → HaveHeadroom16 a → AreBranchMetrics b → (k : ℕ) → k < 8 →
     lane (map (cast_signed w16) (zip2 (λ x y. (x + y) % 2 ^ 16) (map (cast_unsigned w16) a) (map (cast_unsigned w16) b))) k
     ≡ lane a k +ℤ lane b k
 lane-sums a b ha hb k lt =
-    let sa : k < length a = omega (arith, ha.count) in
     let sb : k < length b = omega (arith, hb.count) in
-    lane-zip2 (λ x y. (x + y) % 2 ^ 16) a b k sa sb
-    ∙ sum-lane (lane a k) (lane b k) ((AreNarrow-modest a ha).fits k lt) ((AreNarrow-branch_metrics b hb).fits k lt)
+    lane-zip2 (λ x y. (x + y) % 2 ^ 16) a b k (omega (arith, ha.count)) sb
+    ∙ sum-lane _ _ ((AreInt16-modest a ha).fits k lt) ((AreInt16-branch_metrics b hb).fits k lt)
     (sums_fit a b ha hb k lt)
 
-pub AreNarrow-sums : (a b : List ℤ) → HaveHeadroom a → AreBranchMetrics b →
-    AreNarrow (map (cast_signed w16) (zip2 (λ x y. (x + y) % 2 ^ 16) (map (cast_unsigned w16) a) (map (cast_unsigned w16) b)))
-AreNarrow-sums a b ha hb = record {
+pub AreInt16-sums : (a b : List ℤ) → HaveHeadroom16 a → AreBranchMetrics b →
+    AreInt16 (map (cast_signed w16) (zip2 (λ x y. (x + y) % 2 ^ 16) (map (cast_unsigned w16) a) (map (cast_unsigned w16) b)))
+AreInt16-sums a b ha hb = record {
   count = length-lanes-zip2 (λ x y. (x + y) % 2 ^ 16) a b (ha.count ∙ sym hb.count) ∙ ha.count;
-  fits = λ k lt. subst (FitsSigned w16) (sym (lane-sums a b ha hb k lt)) (sums_fit a b ha hb k lt);
+  fits = λ k lt. rw (lane-sums a b ha hb k lt) (sums_fit a b ha hb k lt);
 }
 
-pub lane-differences : (a b : List ℤ) → HaveHeadroom a → AreBranchMetrics b → (k : ℕ) → k < 8 →
+pub lane-differences : (a b : List ℤ) → HaveHeadroom16 a → AreBranchMetrics b → (k : ℕ) → k < 8 →
     lane (map (cast_signed w16) (zip2 (λ x y. (x + (2 ^ 16 - y)) % 2 ^ 16) (map (cast_unsigned w16) a) (map (cast_unsigned w16) b))) k
     ≡ lane a k -ℤ lane b k
 lane-differences a b ha hb k lt =
-    let sa : k < length a = omega (arith, ha.count) in
     let sb : k < length b = omega (arith, hb.count) in
-    lane-zip2 (λ x y. (x + (2 ^ 16 - y)) % 2 ^ 16) a b k sa sb
-    ∙ difference-lane (lane a k) (lane b k) ((AreNarrow-modest a ha).fits k lt) ((AreNarrow-branch_metrics b hb).fits k lt)
+    lane-zip2 (λ x y. (x + (2 ^ 16 - y)) % 2 ^ 16) a b k (omega (arith, ha.count)) sb
+    ∙ difference-lane _ _ ((AreInt16-modest a ha).fits k lt) ((AreInt16-branch_metrics b hb).fits k lt)
     (differences_fit a b ha hb k lt)
 
-pub AreNarrow-differences : (a b : List ℤ) → HaveHeadroom a → AreBranchMetrics b →
-    AreNarrow (map (cast_signed w16) (zip2 (λ x y. (x + (2 ^ 16 - y)) % 2 ^ 16) (map (cast_unsigned w16) a) (map (cast_unsigned w16) b)))
-AreNarrow-differences a b ha hb = record {
+pub AreInt16-differences : (a b : List ℤ) → HaveHeadroom16 a → AreBranchMetrics b →
+    AreInt16 (map (cast_signed w16) (zip2 (λ x y. (x + (2 ^ 16 - y)) % 2 ^ 16) (map (cast_unsigned w16) a) (map (cast_unsigned w16) b)))
+AreInt16-differences a b ha hb = record {
   count = length-lanes-zip2 (λ x y. (x + (2 ^ 16 - y)) % 2 ^ 16) a b (ha.count ∙ sym hb.count) ∙ ha.count;
-  fits = λ k lt. subst (FitsSigned w16) (sym (lane-differences a b ha hb k lt)) (differences_fit a b ha hb k lt);
+  fits = λ k lt. rw (lane-differences a b ha hb k lt) (differences_fit a b ha hb k lt);
 }
 
--- a lane survives the conversion to unsigned and back
+-- a lane converted to an unsigned number and back is unchanged
 pub lane_back : (a : List ℤ) (rest : List ℕ) (s : ℕ) → s < length a → FitsSigned w16 (lane a s) →
     cast_signed w16 (get_or (map (cast_unsigned w16) a ++ rest) s 0) ≡ lane a s
 lane_back [] rest s lt fits = absurd (omega arith)
 lane_back (x ∷ a) rest zero lt fits = to_z-of_z w16 x fits
-lane_back (x ∷ a) rest (suc s) lt fits = let lt' : s < length a = omega arith in lane_back a rest s lt' fits
+lane_back (x ∷ a) rest (suc s) lt fits = lane_back a _ s (omega arith) fits
 
--- the comparison "less than" of one lane: all ones or 0
+-- the comparison "less than" of one lane: all bits one if it is true, else 0
 abbrev compared : ℕ → ℕ → ℕ
 compared x y = if int_lt (cast_signed w16 x) (cast_signed w16 y) then 65535 else 0
 
-int_lt-lanes : (a b : List ℤ) → AreNarrow a → AreNarrow b → (s : ℕ) → s < 8 →
+int_lt-lanes : (a b : List ℤ) → AreInt16 a → AreInt16 b → (s : ℕ) → s < 8 →
     int_lt (cast_signed w16 (cast_unsigned w16 (lane a s))) (cast_signed w16 (cast_unsigned w16 (lane b s))) ≡ int_lt (lane a s) (lane b s)
 int_lt-lanes a b ha hb s lt = ap₂ int_lt (to_z-of_z w16 (lane a s) (ha.fits s lt)) (to_z-of_z w16 (lane b s) (hb.fits s lt))
 
@@ -127,52 +118,45 @@ compared_lanes a b = map (top 15) (zip2 compared (map (cast_unsigned w16) a) (ma
 length-compared : (a b : List ℤ) → length a ≡ length b → length (compared_lanes a b) ≡ length a
 length-compared [] b e = refl
 length-compared (x ∷ a) [] e = absurd (omega arith)
-length-compared (x ∷ a) (y ∷ b) e = let e' : length a ≡ length b = omega arith in ap suc (length-compared a b e')
+length-compared (x ∷ a) (y ∷ b) e = ap suc (length-compared a b (omega arith))
 
 compared-at : (a b : List ℤ) (s : ℕ) → s < length a → s < length b →
     get_or (compared_lanes a b) s false ≡ top 15 (compared (cast_unsigned w16 (lane a s)) (cast_unsigned w16 (lane b s)))
 compared-at [] b s ha hb = absurd (omega arith)
 compared-at (x ∷ a) [] s ha hb = absurd (omega arith)
 compared-at (x ∷ a) (y ∷ b) zero ha hb = refl
-compared-at (x ∷ a) (y ∷ b) (suc s) ha hb =
-    let ha' : s < length a = omega arith in
-    let hb' : s < length b = omega arith in
-    compared-at a b s ha' hb'
+compared-at (x ∷ a) (y ∷ b) (suc s) ha hb = compared-at a b s (omega arith) (omega arith)
 
-compared-lanes : (a b : List ℤ) → AreNarrow a → AreNarrow b → (s : ℕ) → s < 8 →
+compared-lanes : (a b : List ℤ) → AreInt16 a → AreInt16 b → (s : ℕ) → s < 8 →
     get_or (compared_lanes a b) s false ≡ int_lt (lane a s) (lane b s)
 compared-lanes a b ha hb s lt =
-    let sa : s < length a = omega (arith, ha.count) in
     let sb : s < length b = omega (arith, hb.count) in
-    compared-at a b s sa sb
+    compared-at a b s (omega (arith, ha.count)) sb
     ∙ top-compared (cast_unsigned w16 (lane a s)) (cast_unsigned w16 (lane b s))
     ∙ int_lt-lanes a b ha hb s lt
 
 abbrev larger_lanes : List ℤ → List ℤ → List ℤ
 larger_lanes a b = map (cast_signed w16) (sel_l (compared_lanes a b) (map (cast_unsigned w16) b) (map (cast_unsigned w16) a))
 
-larger-at : (a b : List ℤ) (s : ℕ) → s < length a → s < length b →
+lane_maxima-at : (a b : List ℤ) (s : ℕ) → s < length a → s < length b →
     lane (larger_lanes a b) s
     ≡ cast_signed w16 (if get_or (compared_lanes a b) s false then cast_unsigned w16 (lane b s) else cast_unsigned w16 (lane a s))
-larger-at [] b s ha hb = absurd (omega arith)
-larger-at (x ∷ a) [] s ha hb = absurd (omega arith)
-larger-at (x ∷ a) (y ∷ b) zero ha hb = refl
-larger-at (x ∷ a) (y ∷ b) (suc s) ha hb =
-    let ha' : s < length a = omega arith in
-    let hb' : s < length b = omega arith in
-    larger-at a b s ha' hb'
+lane_maxima-at [] b s ha hb = absurd (omega arith)
+lane_maxima-at (x ∷ a) [] s ha hb = absurd (omega arith)
+lane_maxima-at (x ∷ a) (y ∷ b) zero ha hb = refl
+lane_maxima-at (x ∷ a) (y ∷ b) (suc s) ha hb = lane_maxima-at a b s (omega arith) (omega arith)
 
-length-larger : (a b : List ℤ) → length a ≡ length b → length (larger_lanes a b) ≡ length a
-length-larger [] b e = refl
-length-larger (x ∷ a) [] e = absurd (omega arith)
-length-larger (x ∷ a) (y ∷ b) e = let e' : length a ≡ length b = omega arith in ap suc (length-larger a b e')
+length-lane_maxima : (a b : List ℤ) → length a ≡ length b → length (larger_lanes a b) ≡ length a
+length-lane_maxima [] b e = refl
+length-lane_maxima (x ∷ a) [] e = absurd (omega arith)
+length-lane_maxima (x ∷ a) (y ∷ b) e = ap suc (length-lane_maxima a b (omega arith))
 
-pub lane-larger : (a b : List ℤ) → AreNarrow a → AreNarrow b → (s : ℕ) → s < 8 →
+pub lane-lane_maxima : (a b : List ℤ) → AreInt16 a → AreInt16 b → (s : ℕ) → s < 8 →
     lane (larger_lanes a b) s ≡ (if int_lt (lane a s) (lane b s) then lane b s else lane a s)
-lane-larger a b ha hb s lt =
+lane-lane_maxima a b ha hb s lt =
     let sa : s < length a = omega (arith, ha.count) in
     let sb : s < length b = omega (arith, hb.count) in
-    larger-at a b s sa sb
+    lane_maxima-at a b s sa sb
     ∙ ap (λ t. cast_signed w16 (if t then cast_unsigned w16 (lane b s) else cast_unsigned w16 (lane a s))) (compared-lanes a b ha hb s lt)
     ∙ elim (int_lt (lane a s) (lane b s)) as (λ t. cast_signed w16
     (if t then cast_unsigned w16 (lane b s) else cast_unsigned w16 (lane a s)) ≡ (if t then lane b s else lane a s)) [
@@ -180,10 +164,10 @@ lane-larger a b ha hb s lt =
       | false ↦ to_z-of_z w16 (lane a s) (ha.fits s lt)
     ]
 
-pub AreNarrow-larger : (a b : List ℤ) → AreNarrow a → AreNarrow b → AreNarrow (larger_lanes a b)
-AreNarrow-larger a b ha hb = record {
-  count = length-larger a b (ha.count ∙ sym hb.count) ∙ ha.count;
-  fits = λ s lt. subst (FitsSigned w16) (sym (lane-larger a b ha hb s lt))
+pub AreInt16-lane_maxima : (a b : List ℤ) → AreInt16 a → AreInt16 b → AreInt16 (larger_lanes a b)
+AreInt16-lane_maxima a b ha hb = record {
+  count = length-lane_maxima a b (ha.count ∙ sym hb.count) ∙ ha.count;
+  fits = λ s lt. rw (lane-lane_maxima a b ha hb s lt)
       (elim (int_lt (lane a s) (lane b s)) as (λ t. FitsSigned w16 (if t then lane b s else lane a s)) [
         | true ↦ hb.fits s lt
         | false ↦ ha.fits s lt
@@ -197,15 +181,14 @@ passed lanes = map (cast_signed w16) (map (cast_unsigned w16) lanes)
 passed-each : (lanes : List ℤ) → ((s : ℕ) → s < length lanes → FitsSigned w16 (lane lanes s)) → passed lanes ≡ lanes
 passed-each [] fits = refl
 passed-each (x ∷ lanes) fits =
-    let here : 0 < suc (length lanes) = omega arith in
-    ap₂ (λ y ys. y ∷ ys) (to_z-of_z w16 x (fits 0 here))
-    (passed-each lanes (λ s lt. fits (suc s) (let lt' : suc s < suc (length lanes) = omega arith in lt')))
+    ap₂ (λ y ys. y ∷ ys) (to_z-of_z w16 x (fits 0 (omega arith)))
+    (passed-each _ (λ s lt. fits (suc s) (omega arith)))
 
 lane_alone : (b : List ℤ) (k : ℕ) → k < length b → FitsSigned w16 (lane b k) →
     cast_signed w16 (get_or (map (cast_unsigned w16) b) k 0) ≡ lane b k
 lane_alone [] k lt fits = absurd (omega arith)
 lane_alone (x ∷ b) zero lt fits = to_z-of_z w16 x fits
-lane_alone (x ∷ b) (suc k) lt fits = let lt' : k < length b = omega arith in lane_alone b k lt' fits
+lane_alone (x ∷ b) (suc k) lt fits = lane_alone b k (omega arith) fits
 
 -- a lane of the second of two concatenated vectors
 lane_after : (a b : List ℤ) (n k place : ℕ) → length a ≡ n → n + k ≡ place → k < length b → FitsSigned w16 (lane b k) →
@@ -214,9 +197,7 @@ lane_after [] b n k place ha at lt fits =
     let e : place ≡ k = omega arith in
     ap (λ p. cast_signed w16 (get_or (map (cast_unsigned w16) b) p 0)) e ∙ lane_alone b k lt fits
 lane_after (x ∷ a) b n k zero ha at lt fits = absurd (omega arith)
-lane_after (x ∷ a) b n k (suc place) ha at lt fits =
-    let at' : length a + k ≡ place = omega arith in
-    lane_after a b (length a) k place refl at' lt fits
+lane_after (x ∷ a) b n k (suc place) ha at lt fits = lane_after a b _ k _ refl (omega arith) lt fits
 
 cons_is : {x y : ℤ} {xs ys : List ℤ} → x ≡ y → xs ≡ ys → x ∷ xs ≡ y ∷ ys
 cons_is e es = ap₂ (λ z zs. z ∷ zs) e es
@@ -225,36 +206,36 @@ cons_is e es = ap₂ (λ z zs. z ∷ zs) e es
 abbrev at : List ℤ → List ℤ → ℕ → ℤ
 at a b place = cast_signed w16 (get_or (map (cast_unsigned w16) a ++ map (cast_unsigned w16) b) place 0)
 
-module _ (a b : List ℤ) (ha : AreNarrow a) (hb : AreNarrow b) where
+module _ (a b : List ℤ) (ha : AreInt16 a) (hb : AreInt16 b) where
   at_first : (k : ℕ) → k < 8 → at a b k ≡ lane a k
-  at_first k lt = lane_back a (map (cast_unsigned w16) b) k (omega (arith, ha.count)) (ha.fits k lt)
+  at_first k lt = lane_back a _ k (omega (arith, ha.count)) (ha.fits k lt)
 
   at_second : (k place : ℕ) → k < 8 → 8 + k ≡ place → at a b place ≡ lane b k
-  at_second k place lt e = lane_after a b 8 k place ha.count e (omega (arith, hb.count)) (hb.fits k lt)
+  at_second k place lt e = lane_after a b 8 k _ ha.count e (omega (arith, hb.count)) (hb.fits k lt)
 
   pub four_in_turns : (i j k l i' j' k' l' : ℕ) → i < 8 → j < 8 → k < 8 → l < 8 → 8 + i ≡ i' → 8 + j ≡ j' → 8 + k ≡ k' → 8 + l ≡ l' →
-      at a b i ∷ at a b i' ∷ at a b j ∷ at a b j' ∷ at a b k ∷ at a b k' ∷ at a b l ∷ at a b l' ∷ [] ≡ in_turns a b i j k l
+      at a b i ∷ at a b i' ∷ at a b j ∷ at a b j' ∷ at a b k ∷ at a b k' ∷ at a b l ∷ at a b l' ∷ [] ≡ interleaved_lanes a b i j k l
   four_in_turns i j k l i' j' k' l' hi hj hk hl ei ej ek el =
-      cons_is (at_first i hi) (cons_is (at_second i i' hi ei) (cons_is (at_first j hj) (cons_is (at_second j j' hj ej)
-      (cons_is (at_first k hk) (cons_is (at_second k k' hk ek) (cons_is (at_first l hl) (cons_is (at_second l l' hl el) refl)))))))
+      cons_is (at_first i hi) (cons_is (at_second i _ hi ei) (cons_is (at_first j hj) (cons_is (at_second j _ hj ej)
+      (cons_is (at_first k hk) (cons_is (at_second k _ hk ek) (cons_is (at_first l hl) (cons_is (at_second l _ hl el) refl)))))))
 
   pub ordered : (at a b 0 ∷ at a b 4 ∷ at a b 2 ∷ at a b 6 ∷ at a b 1 ∷ at a b 5 ∷ at a b 3 ∷ at a b 7 ∷
-      at a b 8 ∷ at a b 12 ∷ at a b 10 ∷ at a b 14 ∷ at a b 9 ∷ at a b 13 ∷ at a b 11 ∷ at a b 15 ∷ []) ≡ in_order a b
+      at a b 8 ∷ at a b 12 ∷ at a b 10 ∷ at a b 14 ∷ at a b 9 ∷ at a b 13 ∷ at a b 11 ∷ at a b 15 ∷ []) ≡ lanes_in_state_order a b
   ordered =
       cons_is (at_first 0 (omega arith)) (cons_is (at_first 4 (omega arith))
       (cons_is (at_first 2 (omega arith)) (cons_is (at_first 6 (omega arith))
       (cons_is (at_first 1 (omega arith)) (cons_is (at_first 5 (omega arith))
       (cons_is (at_first 3 (omega arith)) (cons_is (at_first 7 (omega arith))
-      (cons_is (at_second 0 8 (omega arith) refl) (cons_is (at_second 4 12 (omega arith) refl)
-      (cons_is (at_second 2 10 (omega arith) refl) (cons_is (at_second 6 14 (omega arith) refl)
-      (cons_is (at_second 1 9 (omega arith) refl) (cons_is (at_second 5 13 (omega arith) refl)
-      (cons_is (at_second 3 11 (omega arith) refl) (cons_is (at_second 7 15 (omega arith) refl) refl)))))))))))))))
+      (cons_is (at_second 0 8 (omega arith) refl) (cons_is (at_second 4 _ (omega arith) refl)
+      (cons_is (at_second 2 _ (omega arith) refl) (cons_is (at_second 6 _ (omega arith) refl)
+      (cons_is (at_second 1 9 (omega arith) refl) (cons_is (at_second 5 _ (omega arith) refl)
+      (cons_is (at_second 3 _ (omega arith) refl) (cons_is (at_second 7 _ (omega arith) refl) refl)))))))))))))))
 
--- a 16-bit lane of all ones or zeros, as 8 bits
+-- a 16-bit lane whose bits are all one or all zero, as an 8-bit lane
 abbrev narrowed : ℕ → ℕ
 narrowed x = cast_unsigned w8 (cast_signed w16 x)
 
--- the comparison of two vectors, in 8-bit lanes
+-- the result of comparing two vectors, in 8-bit lanes
 abbrev taken_lanes : ℕ → List ℤ → List ℤ → List ℤ
 taken_lanes n a b =
     map (cast_signed w8)
@@ -280,63 +261,59 @@ length-taken [] b zero ea eb = refl
 length-taken [] b (suc n) ea eb = absurd (omega arith)
 length-taken (x ∷ a) b zero ea eb = absurd (omega arith)
 length-taken (x ∷ a) [] (suc n) ea eb = absurd (omega arith)
-length-taken (x ∷ a) (y ∷ b) (suc n) ea eb =
-    let ea' : length a ≡ n = omega arith in
-    let eb' : length b ≡ n = omega arith in
-    ap suc (length-taken a b n ea' eb')
+length-taken (x ∷ a) (y ∷ b) (suc n) ea eb = ap suc (length-taken a b n (omega arith) (omega arith))
 
 taken_one_is : (t : Bool) → taken_one t ≡ (if t then negsuc 0 else pos 0)
 taken_one_is true = refl
 taken_one_is false = refl
 
-pub lane-taken : (a b : List ℤ) → AreNarrow a → AreNarrow b → (k : ℕ) → k < 8 →
+pub lane-taken : (a b : List ℤ) → AreInt16 a → AreInt16 b → (k : ℕ) → k < 8 →
     lane (taken_lanes 8 a b) k ≡ (if int_lt (lane a k) (lane b k) then negsuc 0 else pos 0)
 lane-taken a b ha hb k lt =
     taken-at a b 8 k ha.count hb.count lt
     ∙ ap taken_one (int_lt-lanes a b ha hb k lt)
-    ∙ taken_one_is (int_lt (lane a k) (lane b k))
+    ∙ taken_one_is _
 
-pub length-taken_lanes : (a b : List ℤ) → AreNarrow a → AreNarrow b → length (taken_lanes 8 a b) ≡ 8
+pub length-taken_lanes : (a b : List ℤ) → AreInt16 a → AreInt16 b → length (taken_lanes 8 a b) ≡ 8
 length-taken_lanes a b ha hb = length-taken a b 8 ha.count hb.count
 
-pub AreTaken-each : (lanes : List ℤ) (t : ℕ → Bool) → length lanes ≡ 8 →
-    ((k : ℕ) → k < 8 → lane lanes k ≡ (if t k then negsuc 0 else pos 0)) → AreTaken lanes
-AreTaken-each lanes t count is = record { count = count; each = λ k lt. one_of (t k) (is k lt) } where
+pub AreDecisionLanes-each : (lanes : List ℤ) (t : ℕ → Bool) → length lanes ≡ 8 →
+    ((k : ℕ) → k < 8 → lane lanes k ≡ (if t k then negsuc 0 else pos 0)) → AreDecisionLanes lanes
+AreDecisionLanes-each lanes t count is = record { count = count; each = λ k lt. one_of (t k) (is k lt) } where
   one_of : {x : ℤ} (b : Bool) → x ≡ (if b then negsuc 0 else pos 0) → (x ≡ negsuc 0) ⊎ (x ≡ pos 0)
   one_of true is = inl is
   one_of false is = inr is
 
 -- ---- differences of lanes, their absolute values and signs
 
-pub lane-gaps : (a b : List ℤ) → AreNarrow a → AreNarrow b → AreNear a b → (k : ℕ) → k < 8 →
+pub lane-subtract_lanes : (a b : List ℤ) → AreInt16 a → AreInt16 b → DifferencesFit16Bits a b → (k : ℕ) → k < 8 →
     lane (map (cast_signed w16) (zip2 (λ x y. (x + (2 ^ 16 - y)) % 2 ^ 16) (map (cast_unsigned w16) a) (map (cast_unsigned w16) b))) k
     ≡ lane a k -ℤ lane b k
-lane-gaps a b ha hb near k lt =
-    let sa : k < length a = omega (arith, ha.count) in
+lane-subtract_lanes a b ha hb near k lt =
     let sb : k < length b = omega (arith, hb.count) in
-    lane-zip2 (λ x y. (x + (2 ^ 16 - y)) % 2 ^ 16) a b k sa sb
-    ∙ difference-lane (lane a k) (lane b k) (ha.fits k lt) (hb.fits k lt) (near.fits k lt)
+    lane-zip2 (λ x y. (x + (2 ^ 16 - y)) % 2 ^ 16) a b k (omega (arith, ha.count)) sb
+    ∙ difference-lane _ _ (ha.fits k lt) (hb.fits k lt) (near.fits k lt)
 
-pub AreNarrow-gaps : (a b : List ℤ) → AreNarrow a → AreNarrow b → AreNear a b →
-    AreNarrow (map (cast_signed w16) (zip2 (λ x y. (x + (2 ^ 16 - y)) % 2 ^ 16) (map (cast_unsigned w16) a) (map (cast_unsigned w16) b)))
-AreNarrow-gaps a b ha hb near = record {
+pub AreInt16-subtract_lanes : (a b : List ℤ) → AreInt16 a → AreInt16 b → DifferencesFit16Bits a b →
+    AreInt16 (map (cast_signed w16) (zip2 (λ x y. (x + (2 ^ 16 - y)) % 2 ^ 16) (map (cast_unsigned w16) a) (map (cast_unsigned w16) b)))
+AreInt16-subtract_lanes a b ha hb near = record {
   count = length-lanes-zip2 (λ x y. (x + (2 ^ 16 - y)) % 2 ^ 16) a b (ha.count ∙ sym hb.count) ∙ ha.count;
-  fits = λ k lt. subst (FitsSigned w16) (sym (lane-gaps a b ha hb near k lt)) (near.fits k lt);
+  fits = λ k lt. rw (lane-subtract_lanes a b ha hb near k lt) (near.fits k lt);
 }
 
-AreGaps-fits : (a : List ℤ) → AreGaps a → (s : ℕ) → s < 16 → FitsSigned w16 (lane a s)
-AreGaps-fits a h s lt =
+AbsoluteValuesFit-fits : (a : List ℤ) → AbsoluteValuesFit a → (s : ℕ) → s < 16 → FitsSigned w16 (lane a s)
+AbsoluteValuesFit-fits a h s lt =
     let low = h.low s lt in
     let high = h.high s lt in
-    fits_between (lane a s) (omega (arith, ints)) (omega (arith, ints))
+    fits_between _ (omega (arith, ints)) (omega (arith, ints))
 
-pub passed-gaps : (a : List ℤ) → AreGaps a → passed a ≡ a
-passed-gaps a h = passed-each a (λ s lt. AreGaps-fits a h s (omega (arith, h.count)))
+pub passed-subtract_lanes : (a : List ℤ) → AbsoluteValuesFit a → passed a ≡ a
+passed-subtract_lanes a h = passed-each a (λ s lt. AbsoluteValuesFit-fits a h s (omega (arith, h.count)))
 
 abbrev bit_reversed_bits : ℕ → ℕ
 bit_reversed_bits x = (0 + (65536 - x)) % 65536
 
--- the absolute value of each lane: the larger of it and its negative
+-- the absolute value of each lane: the greater of the lane and its negative
 abbrev pub sizes_of : ℕ → List ℤ → List ℤ
 sizes_of n a =
     map (cast_signed w16)
@@ -347,27 +324,26 @@ sizes_of n a =
 abbrev size_one : ℕ → ℤ
 size_one x = cast_signed w16 (if top 15 (compared x (bit_reversed_bits x)) then bit_reversed_bits x else x)
 
-sizes-at : (a : List ℤ) (n s : ℕ) → length a ≡ n → s < n → lane (sizes_of n a) s ≡ size_one (cast_unsigned w16 (lane a s))
-sizes-at [] zero s e lt = absurd (omega arith)
-sizes-at [] (suc n) s e lt = absurd (omega arith)
-sizes-at (x ∷ a) zero s e lt = absurd (omega arith)
-sizes-at (x ∷ a) (suc n) zero e lt = refl
-sizes-at (x ∷ a) (suc n) (suc s) e lt = sizes-at a n s (omega arith) (omega arith)
+absolute_values-at : (a : List ℤ) (n s : ℕ) → length a ≡ n → s < n → lane (sizes_of n a) s ≡ size_one (cast_unsigned w16 (lane a s))
+absolute_values-at [] zero s e lt = absurd (omega arith)
+absolute_values-at [] (suc n) s e lt = absurd (omega arith)
+absolute_values-at (x ∷ a) zero s e lt = absurd (omega arith)
+absolute_values-at (x ∷ a) (suc n) zero e lt = refl
+absolute_values-at (x ∷ a) (suc n) (suc s) e lt = absolute_values-at a n s (omega arith) (omega arith)
 
-length-sizes : (a : List ℤ) (n : ℕ) → length a ≡ n → length (sizes_of n a) ≡ n
-length-sizes [] zero e = refl
-length-sizes [] (suc n) e = absurd (omega arith)
-length-sizes (x ∷ a) zero e = absurd (omega arith)
-length-sizes (x ∷ a) (suc n) e = let e' : length a ≡ n = omega arith in ap suc (length-sizes a n e')
+length-absolute_values : (a : List ℤ) (n : ℕ) → length a ≡ n → length (sizes_of n a) ≡ n
+length-absolute_values [] zero e = refl
+length-absolute_values [] (suc n) e = absurd (omega arith)
+length-absolute_values (x ∷ a) zero e = absurd (omega arith)
+length-absolute_values (x ∷ a) (suc n) e = ap suc (length-absolute_values a n (omega arith))
 
 size_one_is : (x : ℤ) → negsuc 32766 ≤ℤ x → x ≤ℤ pos 32767 →
     size_one (cast_unsigned w16 x) ≡ (if int_lt x (pos 0 -ℤ x) then pos 0 -ℤ x else x)
 size_one_is x low high =
     let fits : FitsSigned w16 x = fits_between x (omega (arith, ints)) (omega (arith, ints)) in
-    let fits' : FitsSigned w16 (pos 0 -ℤ x) = fits_between (pos 0 -ℤ x) (omega (arith, ints)) (omega (arith, ints)) in
-    let none : FitsSigned w16 (pos 0) = fits_between (pos 0) (omega (arith, ints)) (omega (arith, ints)) in
     let back = to_z-of_z w16 x fits in
-    let negative : cast_signed w16 (bit_reversed_bits (cast_unsigned w16 x)) ≡ pos 0 -ℤ x = difference-lane (pos 0) x none fits fits' in
+    let negative : cast_signed w16 (bit_reversed_bits (cast_unsigned w16 x)) ≡ pos 0 -ℤ x = difference-lane _ x (fits_between (pos 0)
+    (omega (arith, ints)) (omega (arith, ints))) fits (fits_between (pos 0 -ℤ x) (omega (arith, ints)) (omega (arith, ints))) in
     ap (λ t. cast_signed w16 (if t then bit_reversed_bits (cast_unsigned w16 x) else cast_unsigned w16 x))
     (top-compared (cast_unsigned w16 x) (bit_reversed_bits (cast_unsigned w16 x)) ∙ ap₂ int_lt back negative)
     ∙ elim (int_lt x (pos 0 -ℤ x)) as (λ t. cast_signed w16 (if t then bit_reversed_bits (cast_unsigned w16 x) else cast_unsigned w16 x)
@@ -376,19 +352,19 @@ size_one_is x low high =
       | false ↦ back
     ]
 
-pub lane-sizes : (a : List ℤ) → AreGaps a → (s : ℕ) → s < 16 →
+pub lane-absolute_values : (a : List ℤ) → AbsoluteValuesFit a → (s : ℕ) → s < 16 →
     lane (sizes_of 16 a) s ≡ (if int_lt (lane a s) (pos 0 -ℤ lane a s) then pos 0 -ℤ lane a s else lane a s)
-lane-sizes a h s lt = sizes-at a 16 s h.count lt ∙ size_one_is (lane a s) (h.low s lt) (h.high s lt)
+lane-absolute_values a h s lt = absolute_values-at a 16 s h.count lt ∙ size_one_is (lane a s) (h.low s lt) (h.high s lt)
 
-pub AreGaps-sizes : (a : List ℤ) → AreGaps a → AreGaps (sizes_of 16 a)
-AreGaps-sizes a h = record {
-  count = length-sizes a 16 h.count;
-  low = λ s lt. subst (λ x. negsuc 32766 ≤ℤ x) (sym (lane-sizes a h s lt)) (let low = h.low s lt in let high = h.high s lt in
+pub AbsoluteValuesFit-absolute_values : (a : List ℤ) → AbsoluteValuesFit a → AbsoluteValuesFit (sizes_of 16 a)
+AbsoluteValuesFit-absolute_values a h = record {
+  count = length-absolute_values a _ h.count;
+  low = λ s lt. rw (lane-absolute_values a h s lt) (let low = h.low s lt in let high = h.high s lt in
       elim (int_lt (lane a s) (pos 0 -ℤ lane a s)) as (λ t. negsuc 32766 ≤ℤ (if t then pos 0 -ℤ lane a s else lane a s)) [
         | true ↦ omega (arith, ints)
         | false ↦ low
       ]);
-  high = λ s lt. subst (λ x. x ≤ℤ pos 32767) (sym (lane-sizes a h s lt)) (let low = h.low s lt in let high = h.high s lt in
+  high = λ s lt. rw (lane-absolute_values a h s lt) (let low = h.low s lt in let high = h.high s lt in
       elim (int_lt (lane a s) (pos 0 -ℤ lane a s)) as (λ t. (if t then pos 0 -ℤ lane a s else lane a s) ≤ℤ pos 32767) [
         | true ↦ omega (arith, ints)
         | false ↦ high
@@ -411,19 +387,19 @@ length-signs : (a : List ℤ) (n : ℕ) → length a ≡ n → length (signs_of 
 length-signs [] zero e = refl
 length-signs [] (suc n) e = absurd (omega arith)
 length-signs (x ∷ a) zero e = absurd (omega arith)
-length-signs (x ∷ a) (suc n) e = let e' : length a ≡ n = omega arith in ap suc (length-signs a n e')
+length-signs (x ∷ a) (suc n) e = ap suc (length-signs a n (omega arith))
 
-pub bit-signs : (a : List ℤ) → AreGaps a → (s : ℕ) → s < 16 →
+pub bit-signs : (a : List ℤ) → AbsoluteValuesFit a → (s : ℕ) → s < 16 →
     mask_l (signs_of 16 a) % 18446744073709551616 / 2 ^ s % 2 ≡ (if int_lt (lane a s) (pos 0) then 1 else 0)
 bit-signs a h s lt =
     let few : length (signs_of 16 a) ≤ 64 = omega (arith, length-signs a 16 h.count) in
     ap (λ row. row / 2 ^ s % 2) (mask_l-mod (signs_of 16 a) 64 few)
-    ∙ bit_mask_l (signs_of 16 a) s
+    ∙ bit_mask_l _ s
     ∙ ap (λ t. if t then 1 else 0)
-    (signs-at a 16 s h.count lt ∙ top-compared (cast_unsigned w16 (lane a s)) 0
-    ∙ ap (λ x. int_lt x (pos 0)) (to_z-of_z w16 (lane a s) (AreGaps-fits a h s lt)))
+    (signs-at a _ s h.count lt ∙ top-compared (cast_unsigned w16 (lane a s)) 0
+    ∙ ap (λ x. int_lt x (pos 0)) (to_z-of_z w16 (lane a s) (AbsoluteValuesFit-fits a h s lt)))
 
-pub signs-fit : (a : List ℤ) → AreGaps a → mask_l (signs_of 16 a) % 18446744073709551616 < 65536
+pub signs-fit : (a : List ℤ) → AbsoluteValuesFit a → mask_l (signs_of 16 a) % 18446744073709551616 < 65536
 signs-fit a h =
     let bound : mask_l (signs_of 16 a) < 2 ^ 16 = rw (length-signs a 16 h.count) at (mask_l-lt (signs_of 16 a)) in
     omega arith

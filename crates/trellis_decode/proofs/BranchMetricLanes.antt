@@ -1,22 +1,31 @@
 -- The branch metrics of all sixteen states at one position are four numbers: the sum and the difference of the two soft bits, and
 -- their negatives.
-use Rattle.std.proofs.Common.{◌≡◌, ℕ, zero, suc, ◌+◌, ◌<◌, ℤ, pos, negsuc, ◌+ℤ◌, ◌-ℤ◌, ◌*ℤ◌, List, []}
-use Rattle.std.proofs.Common.{◌∷◌, length, refl, ap, sym, ◌∙◌}
-use Rattle.std.proofs.Common.{arith, below_more}
-use Rattle.std.proofs.Math.IntN.{one, neg_ℤ, *ℤ-one, *ℤ-negsuc}
-use Rattle.std.proofs.lemmas.Int.{ints}
+use Rattle.std.proofs.Common.{◌≡◌, ℕ, zero, suc, ◌+◌, ◌<◌, ℤ, pos, negsuc, ◌+ℤ◌, ◌-ℤ◌, ◌*ℤ◌, List, [], ◌∷◌, length, refl, ap, sym, ◌∙◌}
+use Rattle.std.proofs.{Common.{arith, below_more, inl, inr}, lemmas.{Bool.cases_lt, Int.ints}, Math.IntN.{one, neg_ℤ, *ℤ-one, *ℤ-negsuc}}
 use Rattle.conv_code.specs.Likelihood.{agreement}
-use Rattle.trellis_decode.specs.Lanes.{lane}
-use Rattle.trellis_decode.specs.Trellis.{branch_metric}
+use Rattle.trellis_decode.specs.{Lanes.lane, Trellis.branch_metric}
 
--- P holds for each number below n, as one conjunction
+-- P holds for each number below n, written as one conjunction
 abbrev pub EachBelow : (ℕ → Type 0) → ℕ → Type 0
 EachBelow P zero = Unit {0}
 EachBelow P (suc n) = EachBelow P n × P n
 
 pub each : (P : ℕ → Type 0) (n : ℕ) → EachBelow P n → (s : ℕ) → s < n → P s
 each P zero h s lt = absurd (omega arith)
-each P (suc n) h s lt = below_more P n (each P n h.0) h.1 s (let lt' : s < n + 1 = omega arith in lt')
+each P (suc n) h s lt = below_more P n (each P n h.0) h.1 s (omega arith)
+
+-- f of each number below n
+abbrev values : {A : Type 0} → (ℕ → A) → ℕ → List A
+values f zero = []
+values f (suc n) = f n ∷ values f n
+
+-- two functions agree below n if the lists of their values do, which `refl` computes
+pub same_below : {A : Type 0} (f g : ℕ → A) {n : ℕ} → values f n ≡ values g n → (k : ℕ) → k < n → f k ≡ g k
+same_below f g {n = zero} h k lt = absurd (omega arith)
+same_below f g {n = suc n} h k lt =
+    let here : f n ≡ g n = cc in
+    let below : values f n ≡ values g n = cc in
+    elim (cases_lt k n) [ inl less ↦ same_below f g below k less | inr from ↦ let e : k ≡ n = omega arith in rw e here ]
 
 pub agreement-zero : (p : ℤ) → agreement p 0 ≡ p
 unfolding one

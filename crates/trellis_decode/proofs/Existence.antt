@@ -1,19 +1,14 @@
--- A most likely information list exists for all soft bits: induction over all lists, in lexicographic order.
-use Rattle.std.proofs.Common.{◌≡◌, ◌≢◌, ℕ, zero, suc, ◌+◌, ◌-◌, ◌*◌, ◌^◌, ◌<◌, ◌≤◌, ℤ, List}
-use Rattle.std.proofs.Common.{length, ap, sym, ◌∙◌, arith}
-use Rattle.std.proofs.lemmas.Int.{by_lt_z}
-use Rattle.std.proofs.lemmas.Nat.{pow-add, pow_pos}
-use Rattle.conv_code.specs.Code.{encoding}
-use Rattle.conv_code.specs.Likelihood.{FallsBehind, IsMostLikely, likelihood}
-use Rattle.trellis_decode.specs.Words.{word}
-use Rattle.trellis_decode.proofs.Searching.{new_leads, old_leads, IsMostLikely-chosen}
-use Rattle.trellis_decode.proofs.WordLists.{length-word}
+-- For any soft bits, a most likely information list exists: by induction over all lists in lexicographic order.
+use Rattle.std.proofs.Common.{◌≡◌, ◌≢◌, ℕ, zero, suc, ◌+◌, ◌-◌, ◌*◌, ◌^◌, ◌<◌, ◌≤◌, ℤ, List, length, ap, sym, ◌∙◌, arith}
+use Rattle.std.proofs.lemmas.{Int.by_lt_z, Nat.{pow-add, pow_pos}}
+use Rattle.conv_code.specs.{Code.encoding, Likelihood.{RanksAfter, IsMostLikely, likelihood}}
+use Rattle.trellis_decode.{specs.Words.word, proofs.{Searching.{new_leads, old_leads, IsMostLikely-chosen}, WordLists.length-word}}
 
--- the best of the first `number` lists, and the first of equals
+-- the best of the first `number` lists, and the first if several are equally likely
 record Leading (soft : List ℤ) (n number : ℕ) : Type 0 where
   chosen : ℕ
   within : chosen < number
-  others : (m : ℕ) → m < number → m ≢ chosen → FallsBehind soft (word n (16 * m)) (word n (16 * chosen))
+  others : (m : ℕ) → m < number → m ≢ chosen → RanksAfter soft (word n (16 * m)) (word n (16 * chosen))
 
 leading : (soft : List ℤ) (n number : ℕ) → 16 * (number + 1) ≤ 2 ^ n → Leading soft n (number + 1)
 leading soft n zero headroom = record {

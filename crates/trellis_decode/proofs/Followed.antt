@@ -1,38 +1,34 @@
--- The decisions of the sixteen states, in one vector, select entries of a survivor map.
-use Rattle.std.proofs.Common.{◌≡◌, ℕ, zero, suc, ◌+◌, ◌-◌, ◌<◌, ◌⊎◌, inl, inr, if◌then◌else◌, ℤ, pos}
-use Rattle.std.proofs.Common.{negsuc, List, [], ◌∷◌, ◌++◌}
-use Rattle.std.proofs.Common.{map, length, get_or, replicate, refl, ap, ap₂, sym, ◌∙◌, subst, arith, int_lt, w8, FitsSigned}
-use Rattle.std.specs.Int.{cast_signed, cast_unsigned}
-use Rattle.std.proofs.lemmas.Bool.{cases_lt}
-use Rattle.trellis_decode.specs.Hard.{AreSmall}
-use Rattle.trellis_decode.specs.Lanes.{lane}
-use Rattle.trellis_decode.specs.AcsLanes.{choices, lane_of, bit_reversed, AreTaken, taken_bit}
-use Rattle.trellis_decode.proofs.BranchMetricLanes.{each}
-use Rattle.trellis_decode.proofs.AcsSteps.{each_state, low_choice, high_choice}
+-- The decisions of the sixteen states, in one vector of lanes, select the entries of the extended survivor map.
+use Rattle.std.proofs.Common.{◌≡◌, ℕ, zero, suc, ◌+◌, ◌-◌, ◌<◌, ◌⊎◌, inl, inr, if◌then◌else◌, ℤ, pos, negsuc, List, [], ◌∷◌, ◌++◌, map}
+use Rattle.std.proofs.Common.{length, get_or, replicate, refl, ap, ap₂, sym, ◌∙◌, subst, arith, int_lt, w8, FitsSigned}
+use Rattle.std.{proofs.lemmas.Bool.cases_lt, specs.Int.{cast_signed, cast_unsigned}}
+use Rattle.trellis_decode.specs.{Hard.AreInt8, Lanes.lane, AcsLanes.{lane_decisions, lane_of_state, bit_reversed, AreDecisionLanes}}
+use Rattle.trellis_decode.{specs.AcsLanes.lane_decision, proofs.{BranchMetricLanes.{each, same_below}, AcsSteps.{each_state, low_choice}}}
+use Rattle.trellis_decode.proofs.AcsSteps.{high_choice}
 
--- -1 and 0 survive the conversion to an octet and back
+-- -1 and 0, converted to an octet and back, are unchanged
 kept : (x : ℤ) → (x ≡ negsuc 0) ⊎ (x ≡ pos 0) → cast_signed w8 (cast_unsigned w8 x) ≡ x
-kept x (inl is) = subst (λ x. cast_signed w8 (cast_unsigned w8 x) ≡ x) (sym is) refl
-kept x (inr is) = subst (λ x. cast_signed w8 (cast_unsigned w8 x) ≡ x) (sym is) refl
+kept x (inl is) = rw is refl
+kept x (inr is) = rw is refl
 
 small : (x : ℤ) → (x ≡ negsuc 0) ⊎ (x ≡ pos 0) → FitsSigned w8 x
-small x (inl is) = subst (FitsSigned w8) (sym is) (record { sfits = omega arith })
-small x (inr is) = subst (FitsSigned w8) (sym is) (record { sfits = omega arith })
+small x (inl is) = rw is (record { sfits = omega arith })
+small x (inr is) = rw is (record { sfits = omega arith })
 
-bit_taken : (x : ℤ) → (x ≡ negsuc 0) ⊎ (x ≡ pos 0) → (if int_lt x (pos 0) then 1 else 0) ≡ taken_bit x
-bit_taken x (inl is) = subst (λ x. (if int_lt x (pos 0) then 1 else 0) ≡ taken_bit x) (sym is) refl
-bit_taken x (inr is) = subst (λ x. (if int_lt x (pos 0) then 1 else 0) ≡ taken_bit x) (sym is) refl
+bit_taken : (x : ℤ) → (x ≡ negsuc 0) ⊎ (x ≡ pos 0) → (if int_lt x (pos 0) then 1 else 0) ≡ lane_decision x
+bit_taken x (inl is) = rw is refl
+bit_taken x (inr is) = rw is refl
 
 -- one lane of two concatenated vectors
 octet_first : (a : List ℤ) (rest : List ℕ) (k : ℕ) → k < length a → get_or (map (cast_unsigned w8) a ++ rest) k 0
     ≡ cast_unsigned w8 (lane a k)
 octet_first [] rest k lt = absurd (omega arith)
 octet_first (x ∷ a) rest zero lt = refl
-octet_first (x ∷ a) rest (suc k) lt = let lt' : k < length a = omega arith in octet_first a rest k lt'
+octet_first (x ∷ a) rest (suc k) lt = octet_first a _ k (omega arith)
 
 octet_after : (a : List ℤ) (b : List ℤ) (n k at : ℕ) → length a ≡ n → n + k ≡ at → k < length b →
     get_or (map (cast_unsigned w8) a ++ map (cast_unsigned w8) b) at 0 ≡ cast_unsigned w8 (lane b k)
-octet_after [] [] n k at ha e lt = absurd (omega arith)
+octet_after [] [] n k at _ e lt = absurd (omega arith)
 octet_after [] (y ∷ b) n zero zero ha e lt = refl
 octet_after [] (y ∷ b) n zero (suc at) ha e lt = absurd (omega arith)
 octet_after [] (y ∷ b) n (suc k) zero ha e lt = absurd (omega arith)
@@ -49,43 +45,40 @@ abbrev pub none : List ℤ
 none = replicate 16 (pos 0)
 
 none_at : (k : ℕ) → k < 16 → lane none k ≡ pos 0
-none_at = each (λ k. lane none k ≡ pos 0) 16
-    ((((((((((((((((tt, refl), refl), refl), refl), refl), refl), refl), refl), refl), refl), refl), refl), refl), refl), refl), refl)
+none_at = same_below _ _ refl
 
-pub AreSmall-none : AreSmall none
-AreSmall-none = record { count = refl; fits = λ k lt. subst (FitsSigned w8) (sym (none_at k lt)) (record { sfits = omega arith }) }
+pub AreInt8-none : AreInt8 none
+AreInt8-none = record { count = refl; fits = λ k lt. rw (none_at k lt) (record { sfits = omega arith }) }
 
-place_low : (k : ℕ) → k < 8 → lane_of (bit_reversed k) ≡ k
-place_low = each (λ k. lane_of (bit_reversed k) ≡ k) 8 ((((((((tt, refl), refl), refl), refl), refl), refl), refl), refl)
+place_low : (k : ℕ) → k < 8 → lane_of_state (bit_reversed k) ≡ k
+place_low = same_below _ _ refl
 
-place_high : (k : ℕ) → k < 8 → lane_of (8 + bit_reversed k) ≡ 8 + k
-place_high = each (λ k. lane_of (8 + bit_reversed k) ≡ 8 + k) 8 ((((((((tt, refl), refl), refl), refl), refl), refl), refl), refl)
+place_high : (k : ℕ) → k < 8 → lane_of_state (8 + bit_reversed k) ≡ 8 + k
+place_high = same_below _ _ refl
 
-module _ (low high : List ℤ) (hl : AreTaken low) (hh : AreTaken high) where
+module _ (low high : List ℤ) (hl : AreDecisionLanes low) (hh : AreDecisionLanes high) where
   abbrev at : ℕ → ℤ
   at k = cast_signed w8 (get_or (map (cast_unsigned w8) low ++ map (cast_unsigned w8) high) k 0)
 
   abbrev pub joined : List ℤ
-  joined =
-      at 0 ∷ at 1 ∷ at 2 ∷ at 3 ∷ at 4 ∷ at 5 ∷ at 6 ∷ at 7 ∷ at 8 ∷ at 9 ∷ at 10 ∷ at 11 ∷ at 12 ∷ at 13 ∷ at 14 ∷ at 15 ∷ []
+  joined = at 0 ∷ at 1 ∷ at 2 ∷ at 3 ∷ at 4 ∷ at 5 ∷ at 6 ∷ at 7 ∷ at 8 ∷ at 9 ∷ at 10 ∷ at 11 ∷ at 12 ∷ at 13 ∷ at 14 ∷ at 15 ∷ []
 
   joined_at : (k : ℕ) → k < 16 → lane joined k ≡ at k
-  joined_at = each (λ k. lane joined k ≡ at k) 16
-      ((((((((((((((((tt, refl), refl), refl), refl), refl), refl), refl), refl), refl), refl), refl), refl), refl), refl), refl), refl)
+  joined_at = same_below _ _ refl
 
   low_at : (k : ℕ) → k < 8 → lane joined k ≡ lane low k
   low_at k lt = joined_at k (omega arith)
-      ∙ ap (cast_signed w8) (octet_first low (map (cast_unsigned w8) high) k (omega (arith, hl.count))) ∙ kept (lane low k) (hl.each k lt)
+      ∙ ap (cast_signed w8) (octet_first _ _ k (omega (arith, hl.count))) ∙ kept _ (hl.each k lt)
 
   high_at : (k : ℕ) → k < 8 → lane joined (8 + k) ≡ lane high k
   high_at k lt = joined_at (8 + k) (omega arith)
       ∙ ap (cast_signed w8) (octet_after low high 8 k (8 + k) hl.count refl (omega (arith, hh.count))) ∙ kept (lane high k) (hh.each k lt)
 
-  pub AreSmall-joined : AreSmall joined
-  AreSmall-joined = record {
+  pub AreInt8-joined : AreInt8 joined
+  AreInt8-joined = record {
     count = refl;
     fits = λ k lt. elim (cases_lt k 8) [
-      | inl below ↦ subst (FitsSigned w8) (sym (low_at k below)) (small (lane low k) (hl.each k below))
+      | inl below ↦ rw (low_at k below) (small _ (hl.each k below))
       | inr from ↦
           let e : 8 + (k - 8) ≡ k = omega arith in
           let lt' : k - 8 < 8 = omega arith in
@@ -94,10 +87,10 @@ module _ (low high : List ℤ) (hl : AreTaken low) (hh : AreTaken high) where
     ];
   }
 
-  pub joined_choice : (s : ℕ) → s < 16 → (if int_lt (lane joined (lane_of s)) (lane none (lane_of s)) then 1 else 0)
-      ≡ get_or (choices low high) s 0
+  pub joined_choice : (s : ℕ) → s < 16 → (if int_lt (lane joined (lane_of_state s)) (lane none (lane_of_state s)) then 1 else 0)
+      ≡ get_or (lane_decisions low high) s 0
   joined_choice = each_state
-      (λ s. (if int_lt (lane joined (lane_of s)) (lane none (lane_of s)) then 1 else 0) ≡ get_or (choices low high) s 0)
+      (λ s. (if int_lt (lane joined (lane_of_state s)) (lane none (lane_of_state s)) then 1 else 0) ≡ get_or (lane_decisions low high) s 0)
       (λ k lt. ap (λ p. if int_lt (lane joined p) (lane none p) then 1 else 0) (place_low k lt)
       ∙ ap₂ (λ x z. if int_lt x z then 1 else 0) (low_at k lt) (none_at k (omega arith)) ∙ bit_taken (lane low k) (hl.each k lt)
       ∙ sym (low_choice low high k lt))

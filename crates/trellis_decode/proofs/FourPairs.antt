@@ -1,19 +1,15 @@
 -- The branch metrics of four positions, computed from eight soft bits in one vector.
-use Rattle.std.proofs.Common.{◌≡◌, ℕ, zero, suc, ◌+◌, ◌-◌, ◌%◌, ◌<◌, ◌≤◌, ℤ, pos, negsuc, ◌+ℤ◌}
-use Rattle.std.proofs.Common.{◌-ℤ◌, ◌≤ℤ◌, List, [], ◌∷◌, ◌++◌, map}
+use Rattle.std.proofs.Common.{◌≡◌, ℕ, zero, suc, ◌+◌, ◌-◌, ◌%◌, ◌<◌, ◌≤◌, ℤ, pos, negsuc, ◌+ℤ◌, ◌-ℤ◌, ◌≤ℤ◌, List, [], ◌∷◌, ◌++◌, map}
 use Rattle.std.proofs.Common.{length, get_or, take, drop, refl, ap, ap₂, sym, ◌∙◌, subst, arith, lit≤, w8, w16, FitsSigned}
+use Rattle.std.proofs.lemmas.{Int.{ints, to_z-of_z, of_z-to_z}, List.{get_or-take, get_or-drop, drop-drop, drop-take, take-take}}
+use Rattle.std.proofs.lemmas.List.{take-append-drop, length-take, length-drop, Elements.{All-head, All-tail, All-take, All-drop}}
 use Rattle.std.specs.Int.{cast_signed, cast_unsigned}
-use Rattle.std.proofs.lemmas.Int.{ints, to_z-of_z, of_z-to_z}
-use Rattle.std.proofs.lemmas.List.{get_or-take, get_or-drop, drop-drop, drop-take, take-take, take-append-drop, length-take, length-drop}
-use Rattle.std.proofs.lemmas.List.Elements.{All-head, All-tail, All-take, All-drop}
 use lib.Lanes.{Each1}
-use Rattle.trellis_decode.specs.Lanes.{lane, IsSignedOctet, AreSignedOctets}
-use Rattle.trellis_decode.specs.Trellis.{branch_metric}
-use Rattle.trellis_decode.specs.AcsLanes.{AreBranchMetrics, HasBranchMetrics, bit_reversed}
-use Rattle.trellis_decode.proofs.BranchMetricLanes.{each, zero_branch_metrics, zero_lanes}
-use Rattle.trellis_decode.proofs.AcsVectors.{fits_between, sum-lane, difference-lane}
+use Rattle.trellis_decode.specs.{Lanes.{lane, IsSignedOctet, AreSignedOctets}, Trellis.branch_metric, AcsLanes.AreBranchMetrics}
+use Rattle.trellis_decode.{specs.AcsLanes.{HasBranchMetrics, bit_reversed}, proofs.BranchMetricLanes.{each, zero_branch_metrics}}
+use Rattle.trellis_decode.proofs.{BranchMetricLanes.{zero_lanes, same_below}, AcsVectors.{fits_between, sum-lane, difference-lane}}
 
--- ---- octets widened to 16-bit lanes
+-- ---- soft bits widened to 16-bit lanes
 
 pub fits_octet : (x : ℤ) → IsSignedOctet x → FitsSigned w8 x
 fits_octet (pos n) h = record { sfits = omega (arith, ints, h.0, h.1) }
@@ -25,7 +21,7 @@ fits_wide x h = let low = h.0 in let high = h.1 in fits_between x (omega (arith,
 pub widened_fits : (soft : List ℤ) → AreSignedOctets soft → Each1 (λ a. FitsSigned w16 (cast_signed w8 a)) (map (cast_unsigned w8) soft)
 widened_fits [] octets = tt
 widened_fits (x ∷ soft) octets =
-    let head = All-head IsSignedOctet x soft octets in (
+    let head = All-head IsSignedOctet x _ octets in (
       subst (FitsSigned w16) (sym (to_z-of_z w8 x (fits_octet x head))) (fits_wide x head),
       widened_fits soft (All-tail IsSignedOctet x soft octets),
     )
@@ -34,12 +30,12 @@ pub widened_same : (soft : List ℤ) → AreSignedOctets soft →
     map (cast_signed w16) (map (λ a. cast_unsigned w16 (cast_signed w8 a)) (map (cast_unsigned w8) soft)) ≡ soft
 widened_same [] octets = refl
 widened_same (x ∷ soft) octets =
-    let head = All-head IsSignedOctet x soft octets in
+    let head = All-head IsSignedOctet x _ octets in
     ap₂ (λ y ys. y ∷ ys)
     (ap (λ y. cast_signed w16 (cast_unsigned w16 y)) (to_z-of_z w8 x (fits_octet x head)) ∙ to_z-of_z w16 x (fits_wide x head))
-    (widened_same soft (All-tail IsSignedOctet x soft octets))
+    (widened_same _ (All-tail IsSignedOctet x _ octets))
 
--- ---- one position
+-- ---- the branch metrics of one position
 
 -- the branch metrics of bit 0 in states 0 to 7, in bit-reversed order
 abbrev branch_metric_lanes : ℤ → ℤ → ℤ → ℤ → List ℤ
@@ -48,12 +44,11 @@ branch_metric_lanes a b c d = a ∷ c ∷ a ∷ c ∷ b ∷ d ∷ b ∷ d ∷ []
 module _ (pair : List ℤ) (count : length pair ≡ 2) (a b c d : ℤ)
     (at_a : a ≡ lane pair 0 +ℤ lane pair 1) (at_b : b ≡ lane pair 0 -ℤ lane pair 1) (at_c : c ≡ pos 0 -ℤ a) (at_d : d ≡ pos 0 -ℤ b) where
   counted : (s : ℕ) → s < 16 → lane (zero_lanes pair count a b c d at_a at_b at_c at_d) s ≡ branch_metric s 0 pair
-  counted = zero_branch_metrics pair count a b c d at_a at_b at_c at_d
+  counted = zero_branch_metrics _ count a b c d at_a at_b at_c at_d
 
   zero_lane : (k : ℕ) → k < 8 →
       lane (branch_metric_lanes a b c d) k ≡ lane (zero_lanes pair count a b c d at_a at_b at_c at_d) (bit_reversed k)
-  zero_lane = each (λ k. lane (branch_metric_lanes a b c d) k ≡ lane (zero_lanes pair count a b c d at_a at_b at_c at_d) (bit_reversed k)) 8
-      ((((((((tt, refl), refl), refl), refl), refl), refl), refl), refl)
+  zero_lane = same_below _ _ refl
 
   HasBranchMetrics-pair : HasBranchMetrics (branch_metric_lanes a b c d) pair
   HasBranchMetrics-pair = record { count = count; each = λ k lt. zero_lane k lt ∙ counted (bit_reversed k) (omega arith) }
@@ -93,7 +88,7 @@ module _ (pair : List ℤ) (count : length pair ≡ 2) (a b c d : ℤ)
           ((((((((tt, high_a), high_c), high_a), high_c), high_b), high_d), high_b), high_d);
     }
 
--- ---- four positions
+-- ---- the branch metrics of four positions
 
 -- a soft bit as an unsigned lane
 abbrev bits_at : List ℤ → ℕ → ℕ
@@ -108,7 +103,7 @@ difference_at soft i j = (bits_at soft i + (65536 - bits_at soft j)) % 65536
 abbrev bit_reversed_round : ℕ → ℕ
 bit_reversed_round x = (0 + (65536 - x)) % 65536
 
--- the branch metrics of the pair at index i
+-- the branch metrics of bit 0 in states 0 to 7 for the pair of soft bits at index i
 abbrev pub branch_metrics_at : List ℤ → ℕ → List ℤ
 branch_metrics_at soft i = branch_metric_lanes
     (cast_signed w16 (sum_at soft i (i + 1))) (cast_signed w16 (difference_at soft i (i + 1)))
@@ -124,26 +119,26 @@ module _ (soft : List ℤ) (octets : AreSignedOctets soft) (count : length soft 
         ≡ cast_unsigned w16 (lane xs k)
     in_first [] k lt = absurd (omega arith)
     in_first (x ∷ xs) zero lt = refl
-    in_first (x ∷ xs) (suc k) lt = let lt' : k < length xs = omega arith in in_first xs k lt'
+    in_first (x ∷ xs) (suc k) lt = in_first xs k (omega arith)
 
   fits_at : (k : ℕ) → k < 8 → FitsSigned w16 (lane soft k)
-  fits_at k lt = fits_wide (lane soft k) (octet_at k lt)
+  fits_at k lt = fits_wide _ (octet_at k lt)
 
   sum_is : (i j : ℕ) → i < 8 → j < 8 → cast_signed w16 (sum_at soft i j) ≡ lane soft i +ℤ lane soft j
   sum_is i j hi hj =
       let a = octet_at i hi in
       let b = octet_at j hj in
       ap₂ (λ x y. cast_signed w16 ((x + y) % 65536)) (bits_are i hi) (bits_are j hj)
-      ∙ sum-lane (lane soft i) (lane soft j) (fits_at i hi) (fits_at j hj)
-      (fits_between (lane soft i +ℤ lane soft j) (omega (arith, ints, a.0, a.1, b.0, b.1)) (omega (arith, ints, a.0, a.1, b.0, b.1)))
+      ∙ sum-lane _ _ (fits_at i hi) (fits_at j hj)
+      (fits_between _ (omega (arith, ints, a.0, a.1, b.0, b.1)) (omega (arith, ints, a.0, a.1, b.0, b.1)))
 
   difference_is : (i j : ℕ) → i < 8 → j < 8 → cast_signed w16 (difference_at soft i j) ≡ lane soft i -ℤ lane soft j
   difference_is i j hi hj =
       let a = octet_at i hi in
       let b = octet_at j hj in
       ap₂ (λ x y. cast_signed w16 ((x + (65536 - y)) % 65536)) (bits_are i hi) (bits_are j hj)
-      ∙ difference-lane (lane soft i) (lane soft j) (fits_at i hi) (fits_at j hj)
-      (fits_between (lane soft i -ℤ lane soft j) (omega (arith, ints, a.0, a.1, b.0, b.1)) (omega (arith, ints, a.0, a.1, b.0, b.1)))
+      ∙ difference-lane _ _ (fits_at i hi) (fits_at j hj)
+      (fits_between _ (omega (arith, ints, a.0, a.1, b.0, b.1)) (omega (arith, ints, a.0, a.1, b.0, b.1)))
 
   bit_reversed_is : (x : ℕ) (y : ℤ) → x < 65536 → cast_signed w16 x ≡ y → negsuc 32766 ≤ℤ y → y ≤ℤ pos 32767 →
       cast_signed w16 (bit_reversed_round x) ≡ pos 0 -ℤ y
@@ -151,9 +146,9 @@ module _ (soft : List ℤ) (octets : AreSignedOctets soft) (count : length soft 
       ap (λ x. cast_signed w16 ((0 + (65536 - x)) % 65536)) (sym (of_z-to_z w16 x small) ∙ ap (cast_unsigned w16) is)
       ∙ difference-lane (pos 0) y (fits_between (pos 0) (omega (arith, ints)) (omega (arith, ints)))
       (fits_between y (omega (arith, ints)) (omega (arith, ints)))
-      (fits_between (pos 0 -ℤ y) (omega (arith, ints)) (omega (arith, ints)))
+      (fits_between _ (omega (arith, ints)) (omega (arith, ints)))
 
-  -- the pair at index i
+  -- the pair of soft bits at index i
   module _ (i : ℕ) (headroom : i + 2 ≤ 8) where
     abbrev pair : List ℤ
     pair = take 2 (drop i soft)
@@ -165,7 +160,7 @@ module _ (soft : List ℤ) (octets : AreSignedOctets soft) (count : length soft 
     lane_pair k lt = get_or-take 2 (drop i soft) k (pos 0) lt ∙ get_or-drop i soft k (pos 0)
 
     first_there : lane pair 0 ≡ lane soft i
-    first_there = lane_pair 0 (lit≤ tt) ∙ (let e : i + 0 ≡ i = omega arith in ap (lane soft) e)
+    first_there = lane_pair 0 (lit≤ tt) ∙ (ap (lane soft) (omega arith))
 
     second_there : lane pair 1 ≡ lane soft (i + 1)
     second_there = lane_pair 1 (lit≤ tt)
@@ -189,10 +184,10 @@ module _ (soft : List ℤ) (octets : AreSignedOctets soft) (count : length soft 
     d = cast_signed w16 (bit_reversed_round (difference_at soft i (i + 1)))
 
     at_a : a ≡ lane pair 0 +ℤ lane pair 1
-    at_a = sum_is i (i + 1) hi hj ∙ sym (ap₂ (λ x y. x +ℤ y) first_there second_there)
+    at_a = sum_is i _ hi hj ∙ sym (ap₂ (λ x y. x +ℤ y) first_there second_there)
 
     at_b : b ≡ lane pair 0 -ℤ lane pair 1
-    at_b = difference_is i (i + 1) hi hj ∙ sym (ap₂ (λ x y. x -ℤ y) first_there second_there)
+    at_b = difference_is i _ hi hj ∙ sym (ap₂ (λ x y. x -ℤ y) first_there second_there)
 
     at_c : c ≡ pos 0 -ℤ a
     at_c =
@@ -206,40 +201,38 @@ module _ (soft : List ℤ) (octets : AreSignedOctets soft) (count : length soft 
     at_d : d ≡ pos 0 -ℤ b
     at_d =
         let p = octet_at i hi in
-        let q = octet_at (i + 1) hj in
-        let is = difference_is i (i + 1) hi hj in
-        let small : difference_at soft i (i + 1) < 65536 = omega arith in
-        bit_reversed_is (difference_at soft i (i + 1)) b small refl (omega (arith, ints, p.0, p.1, q.0, q.1))
+        let q = octet_at _ hj in
+        let is = difference_is i _ hi hj in
+        bit_reversed_is _ b (omega arith) refl (omega (arith, ints, p.0, p.1, q.0, q.1))
         (omega (arith, ints, p.0, p.1, q.0, q.1))
 
     pub HasBranchMetrics-at : HasBranchMetrics (branch_metrics_at soft i) pair
-    HasBranchMetrics-at = HasBranchMetrics-pair pair length_pair a b c d at_a at_b at_c at_d
+    HasBranchMetrics-at = HasBranchMetrics-pair _ length_pair a b c d at_a at_b at_c at_d
 
     pub AreBranchMetrics-at : AreBranchMetrics (branch_metrics_at soft i)
     AreBranchMetrics-at =
         let p = octet_at i hi in
-        let q = octet_at (i + 1) hj in
-        AreBranchMetrics-pair pair length_pair a b c d at_a at_b at_c at_d
-        (subst (λ x. negsuc 127 ≤ℤ x) (sym first_there) p.0) (subst (λ x. x ≤ℤ pos 127) (sym first_there) p.1)
-        (subst (λ x. negsuc 127 ≤ℤ x) (sym second_there) q.0) (subst (λ x. x ≤ℤ pos 127) (sym second_there) q.1)
+        let q = octet_at _ hj in
+        AreBranchMetrics-pair _ length_pair a b c d at_a at_b at_c at_d
+        (rw first_there p.0) (rw first_there p.1)
+        (rw second_there q.0) (rw second_there q.1)
 
--- ---- pairs of a longer list
+-- ---- the pairs of soft bits of a longer list
 
--- the pair at index i
+-- the pair of soft bits at index i
 abbrev pub pair_at : List ℤ → ℕ → List ℤ
 pair_at soft i = take 2 (drop i soft)
 
 pub AreSignedOctets-pair : (soft : List ℤ) (i : ℕ) → AreSignedOctets soft → AreSignedOctets (pair_at soft i)
-AreSignedOctets-pair soft i octets = All-take IsSignedOctet 2 (drop i soft) (All-drop IsSignedOctet i soft octets)
+AreSignedOctets-pair soft i octets = All-take IsSignedOctet 2 _ (All-drop IsSignedOctet i _ octets)
 
 pub pair_and_after : (soft : List ℤ) (i j : ℕ) → i + 2 ≡ j → pair_at soft i ++ drop j soft ≡ drop i soft
 pair_and_after soft i j e =
     ap (λ rest. pair_at soft i ++ rest) (ap (λ n. drop n soft) (sym e) ∙ sym (drop-drop 2 i soft)) ∙ take-append-drop 2 (drop i soft)
 
--- a pair of a slice is a pair of the whole list
+-- a pair of soft bits in a slice is a pair in the whole list
 pub pair_of_part : (soft : List ℤ) (from n i j : ℕ) → i + 2 ≤ n → from + i ≡ j → pair_at (take n (drop from soft)) i ≡ pair_at soft j
 pair_of_part soft from n i j inside e =
-    let all : i + (n - i) ≡ n = omega arith in
-    ap (take 2) (ap (λ n. drop i (take n (drop from soft))) (sym all) ∙ drop-take i (n - i) (drop from soft))
+    ap (take 2) (ap (λ n. drop i (take n (drop from soft))) (sym (omega arith)) ∙ drop-take i _ _)
     ∙ take-take 2 (n - i) (drop i (drop from soft)) (omega arith)
     ∙ ap (take 2) (drop-drop i from soft ∙ ap (λ n. drop n soft) e)

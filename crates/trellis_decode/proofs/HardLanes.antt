@@ -1,18 +1,12 @@
--- The vector operations on sixteen 8-bit lanes, lane by lane. The operations themselves work on unsigned lanes.
-use Rattle.std.proofs.Common.{◌≡◌, ℕ, zero, suc, ◌+◌, ◌-◌, ◌*◌, ◌/◌, ◌%◌, ◌^◌, ◌<◌, ◌≤◌, Bool}
-use Rattle.std.proofs.Common.{true, false, if◌then◌else◌, ℤ, pos, negsuc}
-use Rattle.std.proofs.Common.{◌+ℤ◌, ◌-ℤ◌, ◌≤ℤ◌, List, [], ◌∷◌, ◌++◌, map, length, get_or, replicate, refl}
-use Rattle.std.proofs.Common.{ap, ap₂, sym, ◌∙◌, subst, arith}
-use Rattle.std.proofs.Common.{int_lt, w8, FitsSigned}
-use Rattle.std.specs.Int.{cast_signed, cast_unsigned}
-use Rattle.std.proofs.lemmas.Int.{ints, to_z-of_z, wrapping_add_is, wrapping_sub_is, int_wrap_fits}
-use Rattle.std.proofs.lemmas.List.{length-map, get_or-map, get_or_append_left}
-use Rattle.std.proofs.lemmas.Simd.{SwzOk, SwzOk-from_below, Each1-from_get_or, swz_l, get_or-swz_l_below, length-swz_l, mask_l-mod}
-use Rattle.std.proofs.lemmas.Simd.{bit_mask_l}
+-- What the SIMD operations on sixteen 8-bit lanes do in each lane. The operations themselves are defined on unsigned lanes.
+use Rattle.std.proofs.Common.{◌≡◌, ℕ, zero, suc, ◌+◌, ◌-◌, ◌*◌, ◌/◌, ◌%◌, ◌^◌, ◌<◌, ◌≤◌, Bool, true, false, if◌then◌else◌, ℤ, pos, negsuc}
+use Rattle.std.proofs.Common.{◌+ℤ◌, ◌-ℤ◌, ◌≤ℤ◌, List, [], ◌∷◌, ◌++◌, map, length, get_or, replicate, refl, ap, ap₂, sym, ◌∙◌, subst, arith}
+use Rattle.std.proofs.{Common.{int_lt, w8, FitsSigned}, lemmas.Int.{ints, to_z-of_z, wrapping_add_is, wrapping_sub_is, int_wrap_fits}}
+use Rattle.std.proofs.lemmas.{List.{length-map, get_or-map, get_or_append_left}, Simd.{SwzOk, SwzOk-from_below, Each1-from_get_or, swz_l}}
+use Rattle.std.{proofs.lemmas.Simd.{get_or-swz_l_below, length-swz_l, mask_l-mod, bit_mask_l}, specs.Int.{cast_signed, cast_unsigned}}
 use lib.Lanes.{zip2, sel_l, mask_l, top}
-use Rattle.trellis_decode.specs.Lanes.{lane}
-use Rattle.trellis_decode.specs.Hard.{AreSmall, AreUnits, HasHeadroom, one_place, sign, zero_place}
-use Rattle.trellis_decode.proofs.BranchMetricLanes.{each}
+use Rattle.trellis_decode.specs.{Lanes.lane, Hard.{AreInt8, AreMinusOneToOne, HaveHeadroom8, lane_after_one, sign, lane_after_zero}}
+use Rattle.trellis_decode.proofs.BranchMetricLanes.{same_below}
 
 abbrev bits : List ℤ → List ℕ
 bits = map (cast_unsigned w8)
@@ -20,7 +14,7 @@ bits = map (cast_unsigned w8)
 bits_at : (a : List ℤ) (k : ℕ) → k < length a → get_or (bits a) k 0 ≡ cast_unsigned w8 (lane a k)
 bits_at [] k lt = absurd (omega arith)
 bits_at (x ∷ a) zero lt = refl
-bits_at (x ∷ a) (suc k) lt = let lt' : k < length a = omega arith in bits_at a k lt'
+bits_at (x ∷ a) (suc k) lt = bits_at a k (omega arith)
 
 zip-lane : (f : ℕ → ℕ → ℕ) (xs ys : List ℕ) (k : ℕ) → k < length xs → k < length ys →
     lane (map (cast_signed w8) (zip2 f xs ys)) k ≡ cast_signed w8 (f (get_or xs k 0) (get_or ys k 0))
@@ -41,17 +35,17 @@ fits_between : (x : ℤ) → negsuc 127 ≤ℤ x → x ≤ℤ pos 127 → FitsSi
 fits_between (pos n) low high = record { sfits = omega (arith, ints) }
 fits_between (negsuc n) low high = record { sfits = omega (arith, ints) }
 
-AreSmall-headroom : (a : List ℤ) → HasHeadroom a → (k : ℕ) → k < 16 → FitsSigned w8 (lane a k)
-AreSmall-headroom a h k lt = let low = h.low k lt in let high = h.high k lt in fits_between (lane a k) (omega (arith, ints))
+AreInt8-headroom : (a : List ℤ) → HaveHeadroom8 a → (k : ℕ) → k < 16 → FitsSigned w8 (lane a k)
+AreInt8-headroom a h k lt = let low = h.low k lt in let high = h.high k lt in fits_between _ (omega (arith, ints))
     (omega (arith, ints))
 
-AreSmall-units : (a : List ℤ) → AreUnits a → (k : ℕ) → k < 16 → FitsSigned w8 (lane a k)
-AreSmall-units a h k lt = let low = h.low k lt in let high = h.high k lt in fits_between (lane a k) (omega (arith, ints))
+AreInt8-units : (a : List ℤ) → AreMinusOneToOne a → (k : ℕ) → k < 16 → FitsSigned w8 (lane a k)
+AreInt8-units a h k lt = let low = h.low k lt in let high = h.high k lt in fits_between _ (omega (arith, ints))
     (omega (arith, ints))
 
--- ---- the candidates of bit 0 and of bit 1
+-- ---- the candidate metrics of bit 0 and of bit 1
 
--- a vector permuted to the next states after bit 0, and after bit 1
+-- a vector permuted so that the lane of each state holds the entry of its next state after bit 0, and after bit 1
 abbrev pub next_zero : List ℕ → List ℕ
 next_zero xs =
     get_or xs 0 0 ∷ get_or xs 8 0 ∷ get_or xs 1 0 ∷ get_or xs 9 0 ∷ get_or xs 2 0 ∷ get_or xs 10 0 ∷ get_or xs 3 0 ∷ get_or xs 11 0 ∷
@@ -62,22 +56,20 @@ next_one xs =
     get_or xs 4 0 ∷ get_or xs 12 0 ∷ get_or xs 5 0 ∷ get_or xs 13 0 ∷ get_or xs 6 0 ∷ get_or xs 14 0 ∷ get_or xs 7 0 ∷ get_or xs 15 0 ∷
     get_or xs 4 0 ∷ get_or xs 12 0 ∷ get_or xs 5 0 ∷ get_or xs 13 0 ∷ get_or xs 6 0 ∷ get_or xs 14 0 ∷ get_or xs 7 0 ∷ get_or xs 15 0 ∷ []
 
-next_zero-at : (xs : List ℕ) (k : ℕ) → k < 16 → get_or (next_zero xs) k 0 ≡ get_or xs (zero_place k) 0
-next_zero-at xs = each (λ k. get_or (next_zero xs) k 0 ≡ get_or xs (zero_place k) 0) 16
-    ((((((((((((((((tt, refl), refl), refl), refl), refl), refl), refl), refl), refl), refl), refl), refl), refl), refl), refl), refl)
+next_zero-at : (xs : List ℕ) (k : ℕ) → k < 16 → get_or (next_zero xs) k 0 ≡ get_or xs (lane_after_zero k) 0
+next_zero-at xs = same_below _ _ refl
 
-next_one-at : (xs : List ℕ) (k : ℕ) → k < 16 → get_or (next_one xs) k 0 ≡ get_or xs (one_place k) 0
-next_one-at xs = each (λ k. get_or (next_one xs) k 0 ≡ get_or xs (one_place k) 0) 16
-    ((((((((((((((((tt, refl), refl), refl), refl), refl), refl), refl), refl), refl), refl), refl), refl), refl), refl), refl), refl)
+next_one-at : (xs : List ℕ) (k : ℕ) → k < 16 → get_or (next_one xs) k 0 ≡ get_or xs (lane_after_one k) 0
+next_one-at xs = same_below _ _ refl
 
-module _ (a branch_metrics : List ℤ) (ha : HasHeadroom a) (he : AreUnits branch_metrics) where
+module _ (a branch_metrics : List ℤ) (ha : HaveHeadroom8 a) (he : AreMinusOneToOne branch_metrics) where
   twice_at : (i : ℕ) → i < 16 → get_or (bits a ++ bits a) i 0 ≡ cast_unsigned w8 (lane a i)
   twice_at i lt =
       let within : i < length (bits a) = omega (arith, length-map a (cast_unsigned w8), ha.count) in
       get_or_append_left (bits a) (bits a) 0 i within ∙ bits_at a i (omega (arith, ha.count))
 
   branch_metric_at : (k : ℕ) → k < 16 → get_or (bits branch_metrics) k 0 ≡ cast_unsigned w8 (lane branch_metrics k)
-  branch_metric_at k lt = bits_at branch_metrics k (omega (arith, he.count))
+  branch_metric_at k lt = bits_at _ k (omega (arith, he.count))
 
   long : (k : ℕ) → k < 16 → k < length (bits branch_metrics)
   long k lt = omega (arith, length-map branch_metrics (cast_unsigned w8), he.count)
@@ -88,7 +80,7 @@ module _ (a branch_metrics : List ℤ) (ha : HasHeadroom a) (he : AreUnits branc
       let high = ha.high i li in
       let low' = he.low k lk in
       let high' = he.high k lk in
-      fits_between (lane a i +ℤ lane branch_metrics k) (omega (arith, ints)) (omega (arith, ints))
+      fits_between _ (omega (arith, ints)) (omega (arith, ints))
 
   difference_fits : (i k : ℕ) → i < 16 → k < 16 → FitsSigned w8 (lane a i -ℤ lane branch_metrics k)
   difference_fits i k li lk =
@@ -96,7 +88,7 @@ module _ (a branch_metrics : List ℤ) (ha : HasHeadroom a) (he : AreUnits branc
       let high = ha.high i li in
       let low' = he.low k lk in
       let high' = he.high k lk in
-      fits_between (lane a i -ℤ lane branch_metrics k) (omega (arith, ints)) (omega (arith, ints))
+      fits_between _ (omega (arith, ints)) (omega (arith, ints))
 
   abbrev pub zeros : List ℤ
   zeros = map (cast_signed w8) (zip2 (λ x y. (x + y) % 256) (next_zero (bits a ++ bits a)) (bits branch_metrics))
@@ -104,44 +96,44 @@ module _ (a branch_metrics : List ℤ) (ha : HasHeadroom a) (he : AreUnits branc
   abbrev pub ones : List ℤ
   ones = map (cast_signed w8) (zip2 (λ x y. (x + (256 - y)) % 256) (next_one (bits a ++ bits a)) (bits branch_metrics))
 
-  pub lane-zeros : (k : ℕ) → k < 16 → lane zeros k ≡ lane a (zero_place k) +ℤ lane branch_metrics k
+  pub lane-zeros : (k : ℕ) → k < 16 → lane zeros k ≡ lane a (lane_after_zero k) +ℤ lane branch_metrics k
   lane-zeros k lt =
-      let inside : zero_place k < 16 = omega arith in
+      let inside : lane_after_zero k < 16 = omega arith in
       zip-lane (λ x y. (x + y) % 256) (next_zero (bits a ++ bits a)) (bits branch_metrics) k lt (long k lt)
-      ∙ ap₂ (λ x y. cast_signed w8 ((x + y) % 256)) (next_zero-at (bits a ++ bits a) k lt ∙ twice_at (zero_place k) inside)
+      ∙ ap₂ (λ x y. cast_signed w8 ((x + y) % 256)) (next_zero-at (bits a ++ bits a) k lt ∙ twice_at (lane_after_zero k) inside)
       (branch_metric_at k lt)
-      ∙ wrapping_add_is w8 (lane a (zero_place k)) (lane branch_metrics k) (AreSmall-headroom a ha (zero_place k) inside)
-      (AreSmall-units branch_metrics he k lt)
-      ∙ int_wrap_fits w8 _ (sum_fits (zero_place k) k inside lt)
+      ∙ wrapping_add_is w8 (lane a (lane_after_zero k)) (lane branch_metrics k) (AreInt8-headroom a ha (lane_after_zero k) inside)
+      (AreInt8-units branch_metrics he k lt)
+      ∙ int_wrap_fits w8 _ (sum_fits (lane_after_zero k) k inside lt)
 
-  pub lane-ones : (k : ℕ) → k < 16 → lane ones k ≡ lane a (one_place k) -ℤ lane branch_metrics k
+  pub lane-ones : (k : ℕ) → k < 16 → lane ones k ≡ lane a (lane_after_one k) -ℤ lane branch_metrics k
   lane-ones k lt =
-      let inside : one_place k < 16 = omega arith in
-      zip-lane (λ x y. (x + (256 - y)) % 256) (next_one (bits a ++ bits a)) (bits branch_metrics) k lt (long k lt)
-      ∙ ap₂ (λ x y. cast_signed w8 ((x + (256 - y)) % 256)) (next_one-at (bits a ++ bits a) k lt ∙ twice_at (one_place k) inside)
+      let inside : lane_after_one k < 16 = omega arith in
+      zip-lane (λ x y. (x + (256 - y)) % 256) (next_one (bits a ++ bits a)) _ k lt (long k lt)
+      ∙ ap₂ (λ x y. cast_signed w8 ((x + (256 - y)) % 256)) (next_one-at _ k lt ∙ twice_at _ inside)
       (branch_metric_at k lt)
-      ∙ wrapping_sub_is w8 (lane a (one_place k)) (lane branch_metrics k) (AreSmall-headroom a ha (one_place k) inside)
-      (AreSmall-units branch_metrics he k lt)
-      ∙ int_wrap_fits w8 _ (difference_fits (one_place k) k inside lt)
+      ∙ wrapping_sub_is _ _ _ (AreInt8-headroom a ha _ inside)
+      (AreInt8-units _ he k lt)
+      ∙ int_wrap_fits _ _ (difference_fits _ k inside lt)
 
   counted : 16 ≡ length (bits branch_metrics)
   counted = omega (arith, length-map branch_metrics (cast_unsigned w8), he.count)
 
-  pub AreSmall-zeros : AreSmall zeros
-  AreSmall-zeros = record {
+  pub AreInt8-zeros : AreInt8 zeros
+  AreInt8-zeros = record {
     count = length-zip (λ x y. (x + y) % 256) (next_zero (bits a ++ bits a)) (bits branch_metrics) counted;
-    fits = λ k lt. subst (FitsSigned w8) (sym (lane-zeros k lt)) (sum_fits (zero_place k) k (omega arith) lt);
+    fits = λ k lt. subst (FitsSigned w8) (sym (lane-zeros k lt)) (sum_fits (lane_after_zero k) k (omega arith) lt);
   }
 
-  pub AreSmall-ones : AreSmall ones
-  AreSmall-ones = record {
+  pub AreInt8-ones : AreInt8 ones
+  AreInt8-ones = record {
     count = length-zip (λ x y. (x + (256 - y)) % 256) (next_one (bits a ++ bits a)) (bits branch_metrics) counted;
-    fits = λ k lt. subst (FitsSigned w8) (sym (lane-ones k lt)) (difference_fits (one_place k) k (omega arith) lt);
+    fits = λ k lt. subst (FitsSigned w8) (sym (lane-ones k lt)) (difference_fits (lane_after_one k) k (omega arith) lt);
   }
 
--- ---- the better candidate
+-- ---- the greater candidate metric of each lane
 
--- the comparison "less than" of one lane: all ones or 0
+-- the comparison "less than" of one lane: all bits one if it is true, else 0
 abbrev compared : ℕ → ℕ → ℕ
 compared x y = if int_lt (cast_signed w8 x) (cast_signed w8 y) then 255 else 0
 
@@ -151,7 +143,7 @@ top-compared x y = elim (int_lt (cast_signed w8 x) (cast_signed w8 y)) as (λ t.
   | false ↦ refl
 ]
 
--- a comparison selects a lane of one of two vectors
+-- in each lane, a comparison selects the lane of one of two vectors
 chosen-at : (a b xs ys : List ℕ) (k : ℕ) → k < length a → k < length b → k < length xs → k < length ys →
     get_or (sel_l (map (top 7) (zip2 compared a b)) xs ys) k 0
     ≡ (if int_lt (cast_signed w8 (get_or a k 0)) (cast_signed w8 (get_or b k 0)) then get_or xs k 0 else get_or ys k 0)
@@ -186,24 +178,22 @@ zero_places = 0 ∷ 8 ∷ 1 ∷ 9 ∷ 2 ∷ 10 ∷ 3 ∷ 11 ∷ 0 ∷ 8 ∷ 1 �
 abbrev one_places : List ℕ
 one_places = 4 ∷ 12 ∷ 5 ∷ 13 ∷ 6 ∷ 14 ∷ 7 ∷ 15 ∷ 4 ∷ 12 ∷ 5 ∷ 13 ∷ 6 ∷ 14 ∷ 7 ∷ 15 ∷ []
 
-zero_places-at : (k : ℕ) → k < 16 → get_or zero_places k 0 ≡ zero_place k
-zero_places-at = each (λ k. get_or zero_places k 0 ≡ zero_place k) 16
-    ((((((((((((((((tt, refl), refl), refl), refl), refl), refl), refl), refl), refl), refl), refl), refl), refl), refl), refl), refl)
+zero_places-at : (k : ℕ) → k < 16 → get_or zero_places k 0 ≡ lane_after_zero k
+zero_places-at = same_below _ _ refl
 
-one_places-at : (k : ℕ) → k < 16 → get_or one_places k 0 ≡ one_place k
-one_places-at = each (λ k. get_or one_places k 0 ≡ one_place k) 16
-    ((((((((((((((((tt, refl), refl), refl), refl), refl), refl), refl), refl), refl), refl), refl), refl), refl), refl), refl), refl)
+one_places-at : (k : ℕ) → k < 16 → get_or one_places k 0 ≡ lane_after_one k
+one_places-at = same_below _ _ refl
 
-module _ (zero_candidates one_candidates : List ℤ) (hz : AreSmall zero_candidates) (ho : AreSmall one_candidates) where
+module _ (zero_candidates one_candidates : List ℤ) (hz : AreInt8 zero_candidates) (ho : AreInt8 one_candidates) where
   abbrev less : ℕ → Bool
   less k = int_lt (lane zero_candidates k) (lane one_candidates k)
 
   zero_back : (k : ℕ) → k < 16 → cast_signed w8 (get_or (bits zero_candidates) k 0) ≡ lane zero_candidates k
-  zero_back k lt = ap (cast_signed w8) (bits_at zero_candidates k (omega (arith, hz.count)))
+  zero_back k lt = ap (cast_signed w8) (bits_at _ k (omega (arith, hz.count)))
       ∙ to_z-of_z w8 (lane zero_candidates k) (hz.fits k lt)
 
   one_back : (k : ℕ) → k < 16 → cast_signed w8 (get_or (bits one_candidates) k 0) ≡ lane one_candidates k
-  one_back k lt = ap (cast_signed w8) (bits_at one_candidates k (omega (arith, ho.count)))
+  one_back k lt = ap (cast_signed w8) (bits_at _ k (omega (arith, ho.count)))
       ∙ to_z-of_z w8 (lane one_candidates k) (ho.fits k lt)
 
   zero_long : length (bits zero_candidates) ≡ 16
@@ -227,53 +217,53 @@ module _ (zero_candidates one_candidates : List ℤ) (hz : AreSmall zero_candida
       length-chosen (bits zero_candidates) (bits one_candidates) xs ys (one_long ∙ sym zero_long) (ex ∙ sym zero_long) (ey ∙ sym zero_long)
       ∙ zero_long
 
-  abbrev larger : List ℤ
-  larger = map (cast_signed w8)
+  abbrev lane_maxima : List ℤ
+  lane_maxima = map (cast_signed w8)
       (sel_l (map (top 7) (zip2 compared (bits zero_candidates) (bits one_candidates))) (bits one_candidates) (bits zero_candidates))
 
-  count-larger : length larger ≡ 16
-  count-larger = length-map _ (cast_signed w8) ∙ length-picked (bits one_candidates) (bits zero_candidates) one_long zero_long
+  count-lane_maxima : length lane_maxima ≡ 16
+  count-lane_maxima = length-map _ (cast_signed w8) ∙ length-picked _ _ one_long zero_long
 
-  pub lane-larger : (k : ℕ) → k < 16 → lane larger k ≡ (if less k then lane one_candidates k else lane zero_candidates k)
-  lane-larger k lt =
+  pub lane-lane_maxima : (k : ℕ) → k < 16 → lane lane_maxima k ≡ (if less k then lane one_candidates k else lane zero_candidates k)
+  lane-lane_maxima k lt =
       get_or-map (cast_signed w8) (sel_l (map (top 7) (zip2 compared (bits zero_candidates) (bits one_candidates))) (bits one_candidates)
       (bits zero_candidates)) k 0
       (pos 0) (let n = length-picked (bits one_candidates) (bits zero_candidates) one_long zero_long in omega arith)
-      ∙ ap (cast_signed w8) (picked (bits one_candidates) (bits zero_candidates) one_long zero_long k lt)
+      ∙ ap (cast_signed w8) (picked _ _ one_long zero_long k lt)
       ∙ elim (less k) as (λ t. cast_signed w8 (if t then get_or (bits one_candidates) k 0 else get_or (bits zero_candidates) k 0)
       ≡ (if t then lane one_candidates k else lane zero_candidates k)) [
         | true ↦ one_back k lt
         | false ↦ zero_back k lt
       ]
 
-  pub AreSmall-larger : AreSmall larger
-  AreSmall-larger = record {
-    count = count-larger;
-    fits = λ k lt. subst (FitsSigned w8) (sym (lane-larger k lt))
+  pub AreInt8-lane_maxima : AreInt8 lane_maxima
+  AreInt8-lane_maxima = record {
+    count = count-lane_maxima;
+    fits = λ k lt. subst (FitsSigned w8) (sym (lane-lane_maxima k lt))
         (elim (less k) as (λ t. FitsSigned w8 (if t then lane one_candidates k else lane zero_candidates k)) [
           | true ↦ ho.fits k lt
           | false ↦ hz.fits k lt
         ]);
   }
 
-  -- for each lane, the lane of the next state by the better bit
+  -- for each lane, the lane of the next state after the bit with the greater candidate metric
   abbrev next_places : List ℕ
   next_places = sel_l (map (top 7) (zip2 compared (bits zero_candidates) (bits one_candidates))) one_places zero_places
 
-  next_place : (k : ℕ) → k < 16 → get_or next_places k 0 ≡ (if less k then one_place k else zero_place k)
-  next_place k lt = picked one_places zero_places refl refl k lt
+  next_place : (k : ℕ) → k < 16 → get_or next_places k 0 ≡ (if less k then lane_after_one k else lane_after_zero k)
+  next_place k lt = picked _ _ refl refl k lt
       ∙ ap₂ (λ x y. if less k then x else y) (one_places-at k lt) (zero_places-at k lt)
 
-  inside : (k : ℕ) (t : Bool) → k < 16 → (if t then one_place k else zero_place k) < 16
+  inside : (k : ℕ) (t : Bool) → k < 16 → (if t then lane_after_one k else lane_after_zero k) < 16
   inside k true lt = omega arith
   inside k false lt = omega arith
 
-  pub lane-followed : (xs : List ℕ) (k : ℕ) → k < 16 →
-      get_or (swz_l w8 16 xs 0 next_places) k 0 ≡ get_or xs (if less k then one_place k else zero_place k) 0
-  lane-followed xs k lt =
+  pub lane-extend_map : (xs : List ℕ) (k : ℕ) → k < 16 →
+      get_or (swz_l w8 16 xs 0 next_places) k 0 ≡ get_or xs (if less k then lane_after_one k else lane_after_zero k) 0
+  lane-extend_map xs k lt =
       let is = next_place k lt in
       let small = inside k (less k) lt in
-      let first : 16 * ((0 + k) / 16) + get_or next_places k 0 ≡ (if less k then one_place k else zero_place k) = omega arith in
+      let first : 16 * ((0 + k) / 16) + get_or next_places k 0 ≡ (if less k then lane_after_one k else lane_after_zero k) = omega arith in
       get_or-swz_l_below w8 16 xs 0 next_places k (let n = length-picked one_places zero_places refl refl in omega arith) (omega arith)
       ∙ ap (λ n. get_or xs n 0) first
 
@@ -284,29 +274,29 @@ module _ (zero_candidates one_candidates : List ℤ) (hz : AreSmall zero_candida
       (λ k lt. let within : k < 16 = omega arith in
       let is = next_place k within in let small = inside k (less k) within in omega arith))
 
-  pub length-followed : (xs : List ℕ) → length (swz_l w8 16 xs 0 next_places) ≡ 16
-  length-followed xs = length-swz_l w8 16 xs 0 next_places ∙ length-picked one_places zero_places refl refl
+  pub length-extend_map : (xs : List ℕ) → length (swz_l w8 16 xs 0 next_places) ≡ 16
+  length-extend_map xs = length-swz_l w8 16 xs 0 _ ∙ length-picked _ _ refl refl
 
-  -- a map with one bit more at the front, by two fixed swizzles
+  -- a survivor map with one more bit at the front, computed by two fixed swizzles
   abbrev selected : List ℕ → List ℕ
   selected xs = sel_l (map (top 7) (zip2 compared (bits zero_candidates) (bits one_candidates))) (next_one (xs ++ xs))
       (next_zero (xs ++ xs))
 
   pub lane-selected : (xs : List ℕ) → length xs ≡ 16 → (k : ℕ) → k < 16 →
-      get_or (selected xs) k 0 ≡ get_or xs (if less k then one_place k else zero_place k) 0
+      get_or (selected xs) k 0 ≡ get_or xs (if less k then lane_after_one k else lane_after_zero k) 0
   lane-selected xs counted k lt =
-      picked (next_one (xs ++ xs)) (next_zero (xs ++ xs)) refl refl k lt
+      picked _ _ refl refl k lt
       ∙ ap₂ (λ x y. if less k then x else y)
-      (next_one-at (xs ++ xs) k lt ∙ get_or_append_left xs xs 0 (one_place k) (omega arith))
-      (next_zero-at (xs ++ xs) k lt ∙ get_or_append_left xs xs 0 (zero_place k) (omega arith))
-      ∙ elim (less k) as (λ t. (if t then get_or xs (one_place k) 0 else get_or xs (zero_place k) 0)
-      ≡ get_or xs (if t then one_place k else zero_place k) 0) [
+      (next_one-at _ k lt ∙ get_or_append_left xs xs 0 (lane_after_one k) (omega arith))
+      (next_zero-at _ k lt ∙ get_or_append_left xs xs 0 (lane_after_zero k) (omega arith))
+      ∙ elim (less k) as (λ t. (if t then get_or xs (lane_after_one k) 0 else get_or xs (lane_after_zero k) 0)
+      ≡ get_or xs (if t then lane_after_one k else lane_after_zero k) 0) [
         | true ↦ refl
         | false ↦ refl
       ]
 
   pub length-selected : (xs : List ℕ) → length (selected xs) ≡ 16
-  length-selected xs = length-picked (next_one (xs ++ xs)) (next_zero (xs ++ xs)) refl refl
+  length-selected xs = length-picked _ _ refl refl
 
 -- ---- the signs of eight soft bits
 
@@ -325,14 +315,14 @@ length-signs : (a : List ℤ) (n : ℕ) → length a ≡ n → length (signs_bel
 length-signs [] zero e = refl
 length-signs [] (suc n) e = absurd (omega arith)
 length-signs (x ∷ a) zero e = absurd (omega arith)
-length-signs (x ∷ a) (suc n) e = let e' : length a ≡ n = omega arith in ap suc (length-signs a n e')
+length-signs (x ∷ a) (suc n) e = ap suc (length-signs a n (omega arith))
 
 pub bit-signs : (a : List ℤ) → length a ≡ 8 → ((k : ℕ) → k < 8 → FitsSigned w8 (lane a k)) → (k : ℕ) → k < 8 →
     mask_l (signs_below 8 a) % 18446744073709551616 / 2 ^ k % 2 ≡ sign (lane a k)
 bit-signs a count fits k lt =
     let few : length (signs_below 8 a) ≤ 64 = omega (arith, length-signs a 8 count) in
     ap (λ row. row / 2 ^ k % 2) (mask_l-mod (signs_below 8 a) 64 few)
-    ∙ bit_mask_l (signs_below 8 a) k
+    ∙ bit_mask_l _ k
     ∙ ap (λ t. if t then 1 else 0)
     (signs-at a 8 k count lt ∙ top-compared (cast_unsigned w8 (lane a k)) 0
     ∙ ap (λ x. int_lt x (pos 0)) (to_z-of_z w8 (lane a k) (fits k lt)))

@@ -1,113 +1,105 @@
--- One Viterbi step (add, compare, select) for hard bits, in sixteen 8-bit lanes. The branch metrics are a table by the two signs,
--- checked by computation.
-use Rattle.std.proofs.Common.{◌≡◌, ℕ, zero, suc, ◌+◌, ◌*◌, ◌<◌, ◌≤◌, Bool, true, false, if◌then◌else◌}
-use Rattle.std.proofs.Common.{ℤ, pos, negsuc, ◌+ℤ◌, ◌-ℤ◌, ◌*ℤ◌}
-use Rattle.std.proofs.Common.{List, [], ◌∷◌, map, get_or, take, drop, length, refl, ap, sym, ◌∙◌, subst, arith, int_lt}
-use Rattle.std.proofs.Common.{replicate, w8}
-use Rattle.std.proofs.Common.{FitsSigned, inl, inr}
-use Rattle.std.specs.Int.{cast_signed, cast_unsigned}
-use Rattle.std.specs.List.{All}
-use Rattle.std.proofs.lemmas.Int.{ints}
-use Rattle.trellis_decode.specs.Lanes.{lane, AreSignedOctets}
-use Rattle.trellis_decode.specs.Hard.{AreSmall, HasHardBranchMetrics, HasHeadroom, IsHard, hard_metrics, one_place, scaled, sign}
-use Rattle.trellis_decode.specs.Hard.{zero_place}
-use Rattle.trellis_decode.specs.Trellis.{branch_metric, next, candidate, Chooses}
-use Rattle.trellis_decode.specs.AcsLanes.{lane_of}
-use Rattle.trellis_decode.specs.Walks.{AreWithin}
-use Rattle.trellis_decode.proofs.BranchMetricLanes.{each}
-use Rattle.trellis_decode.proofs.AcsSteps.{branch_metric-one}
+-- One Viterbi step (add, compare, select) for hard bits, in sixteen 8-bit lanes. The branch metrics are a table indexed by the signs of
+-- the two soft bits, which is checked by computation.
+use Rattle.std.proofs.Common.{◌≡◌, ℕ, zero, suc, ◌+◌, ◌*◌, ◌<◌, ◌≤◌, Bool, true, false, if◌then◌else◌, ℤ, pos, negsuc, ◌+ℤ◌, ◌-ℤ◌, ◌*ℤ◌}
+use Rattle.std.proofs.Common.{List, [], ◌∷◌, map, get_or, take, drop, length, refl, ap, sym, ◌∙◌, subst, arith, int_lt, replicate, w8, inl}
+use Rattle.std.{proofs.{Common.inr, lemmas.Int.ints}, specs.{Int.{cast_signed, cast_unsigned}, List.All}}
+use Rattle.trellis_decode.specs.{Lanes.{lane, AreSignedOctets}, Hard.{AreInt8, HasHardBranchMetrics, HaveHeadroom8, IsHard, hard_metrics}}
+use Rattle.trellis_decode.specs.{Hard.{lane_after_one, metric_of_hard_lane, sign, lane_after_zero}, Trellis.{branch_metric, next}}
+use Rattle.trellis_decode.specs.{Trellis.{candidate, IsDecision}, AcsLanes.lane_of_state, SurvivorPaths.AreMetricsWithin}
+use Rattle.trellis_decode.proofs.{BranchMetricLanes.{each, same_below}, AcsSteps.branch_metric-one}
 
 -- ---- states and their lanes
 
-pub hard_metric : (lanes : List ℤ) (s : ℕ) → s < 16 → lane (hard_metrics lanes) s ≡ scaled (lane lanes (lane_of s))
-hard_metric lanes = each (λ s. lane (hard_metrics lanes) s ≡ scaled (lane lanes (lane_of s))) 16
-    ((((((((((((((((tt, refl), refl), refl), refl), refl), refl), refl), refl), refl), refl), refl), refl), refl), refl), refl), refl)
+pub hard_metric : (lanes : List ℤ) (s : ℕ) → s < 16 → lane (hard_metrics lanes) s ≡ metric_of_hard_lane (lane lanes (lane_of_state s))
+hard_metric lanes = same_below _ _ refl
 
-place_twice : (k : ℕ) → k < 16 → lane_of (lane_of k) ≡ k
-place_twice = each (λ k. lane_of (lane_of k) ≡ k) 16
-    ((((((((((((((((tt, refl), refl), refl), refl), refl), refl), refl), refl), refl), refl), refl), refl), refl), refl), refl), refl)
+place_twice : (k : ℕ) → k < 16 → lane_of_state (lane_of_state k) ≡ k
+place_twice = same_below _ _ refl
 
-zero_next : (s : ℕ) → s < 16 → zero_place (lane_of s) ≡ lane_of (next s 0)
-zero_next = each (λ s. zero_place (lane_of s) ≡ lane_of (next s 0)) 16
-    ((((((((((((((((tt, refl), refl), refl), refl), refl), refl), refl), refl), refl), refl), refl), refl), refl), refl), refl), refl)
+zero_next : (s : ℕ) → s < 16 → lane_after_zero (lane_of_state s) ≡ lane_of_state (next s 0)
+zero_next = same_below _ _ refl
 
-one_next : (s : ℕ) → s < 16 → one_place (lane_of s) ≡ lane_of (next s 1)
-one_next = each (λ s. one_place (lane_of s) ≡ lane_of (next s 1)) 16
-    ((((((((((((((((tt, refl), refl), refl), refl), refl), refl), refl), refl), refl), refl), refl), refl), refl), refl), refl), refl)
+one_next : (s : ℕ) → s < 16 → lane_after_one (lane_of_state s) ≡ lane_of_state (next s 1)
+one_next = same_below _ _ refl
 
-pub inside : (s : ℕ) → s < 16 → lane_of s < 16
+pub inside : (s : ℕ) → s < 16 → lane_of_state s < 16
 inside s lt = omega arith
 
--- ---- the candidates of bit 0 and of bit 1
+-- ---- the candidate metrics of bit 0 and of bit 1
 
-chosen_scaled : (after pair : List ℤ) (s : ℕ) (z o value : ℤ) → scaled z ≡ candidate after pair s 0 → scaled o ≡ candidate after pair s 1 →
-    value ≡ (if int_lt z o then o else z) → Chooses after pair s (scaled value) (if int_lt z o then 1 else 0)
+chosen_scaled : (after pair : List ℤ) (s : ℕ) (z o value : ℤ) → metric_of_hard_lane z ≡ candidate after pair s 0 →
+    metric_of_hard_lane o ≡ candidate after pair s 1 →
+    value ≡ (if int_lt z o then o else z) → IsDecision after pair s (metric_of_hard_lane value) (if int_lt z o then 1 else 0)
 chosen_scaled after pair s z o value zero_is one_is is =
-    subst (λ value. Chooses after pair s (scaled value) (if int_lt z o then 1 else 0)) (sym is) (by (int_lt z o) refl)
+    rw is (by (int_lt z o) refl)
   where
-    by : (t : Bool) → int_lt z o ≡ t → Chooses after pair s (scaled (if t then o else z)) (if t then 1 else 0)
+    by : (t : Bool) → int_lt z o ≡ t → IsDecision after pair s (metric_of_hard_lane (if t then o else z)) (if t then 1 else 0)
     by true e = inr (refl, one_is, omega (arith, ints))
     by false e = inl (refl, zero_is, omega (arith, ints))
 
 module _ (after branch_metrics pair : List ℤ) (has : HasHardBranchMetrics branch_metrics pair) where
-  pub zero_candidate : (candidates : List ℤ) → ((k : ℕ) → k < 16 → lane candidates k ≡ lane after (zero_place k) +ℤ lane branch_metrics k) →
-      (s : ℕ) → s < 16 → scaled (lane candidates (lane_of s)) ≡ candidate (hard_metrics after) pair s 0
+  pub zero_candidate : (candidates : List ℤ) → ((k : ℕ) → k < 16 →
+      lane candidates k ≡ lane after (lane_after_zero k) +ℤ lane branch_metrics k) →
+      (s : ℕ) → s < 16 → metric_of_hard_lane (lane candidates (lane_of_state s)) ≡ candidate (hard_metrics after) pair s 0
   unfolding candidate
   zero_candidate candidates are s lt =
       let next_in : next s 0 < 16 = omega arith in
-      let is = are (lane_of s) (inside s lt) ∙ ap (λ k. lane after k +ℤ lane branch_metrics (lane_of s)) (zero_next s lt) in
+      let is = are (lane_of_state s) (inside s lt) ∙ ap (λ k. lane after k +ℤ lane branch_metrics (lane_of_state s)) (zero_next s lt) in
       let there = hard_metric after (next s 0) next_in in
       let counted = has.each s lt in
       omega (arith, ints)
 
-  pub one_candidate : (candidates : List ℤ) → ((k : ℕ) → k < 16 → lane candidates k ≡ lane after (one_place k) -ℤ lane branch_metrics k) →
-      (s : ℕ) → s < 16 → scaled (lane candidates (lane_of s)) ≡ candidate (hard_metrics after) pair s 1
+  pub one_candidate : (candidates : List ℤ) → ((k : ℕ) → k < 16 →
+      lane candidates k ≡ lane after (lane_after_one k) -ℤ lane branch_metrics k) →
+      (s : ℕ) → s < 16 → metric_of_hard_lane (lane candidates (lane_of_state s)) ≡ candidate (hard_metrics after) pair s 1
   unfolding candidate
   one_candidate candidates are s lt =
       let next_in : next s 1 < 16 = omega arith in
-      let is = are (lane_of s) (inside s lt) ∙ ap (λ k. lane after k -ℤ lane branch_metrics (lane_of s)) (one_next s lt) in
+      let is = are (lane_of_state s) (inside s lt) ∙ ap (λ k. lane after k -ℤ lane branch_metrics (lane_of_state s)) (one_next s lt) in
       let there = hard_metric after (next s 1) next_in in
       let counted = has.each s lt in
       let bit_reversed_round = branch_metric-one pair has.count s lt in
       omega (arith, ints)
 
-  module _ (zeros ones values : List ℤ) (zeros_are : (k : ℕ) → k < 16 → lane zeros k ≡ lane after (zero_place k) +ℤ lane branch_metrics k)
-      (ones_are : (k : ℕ) → k < 16 → lane ones k ≡ lane after (one_place k) -ℤ lane branch_metrics k)
+  module _ (zeros ones values : List ℤ) (zeros_are : (k : ℕ) → k < 16 →
+      lane zeros k ≡ lane after (lane_after_zero k) +ℤ lane branch_metrics k)
+      (ones_are : (k : ℕ) → k < 16 → lane ones k ≡ lane after (lane_after_one k) -ℤ lane branch_metrics k)
       (better : (k : ℕ) → k < 16 → lane values k ≡ (if int_lt (lane zeros k) (lane ones k) then lane ones k else lane zeros k)) where
     -- the decision of a state
     abbrev pub bit_of : ℕ → ℕ
-    bit_of s = if int_lt (lane zeros (lane_of s)) (lane ones (lane_of s)) then 1 else 0
+    bit_of s = if int_lt (lane zeros (lane_of_state s)) (lane ones (lane_of_state s)) then 1 else 0
 
-    pub hard_chosen : (s : ℕ) → s < 16 → Chooses (hard_metrics after) pair s (lane (hard_metrics values) s) (bit_of s)
+    pub hard_chosen : (s : ℕ) → s < 16 → IsDecision (hard_metrics after) pair s (lane (hard_metrics values) s) (bit_of s)
     hard_chosen s lt =
-        subst (λ value. Chooses (hard_metrics after) pair s value (bit_of s)) (sym (hard_metric values s lt))
-        (chosen_scaled (hard_metrics after) pair s (lane zeros (lane_of s)) (lane ones (lane_of s)) (lane values (lane_of s))
-        (zero_candidate zeros zeros_are s lt) (one_candidate ones ones_are s lt) (better (lane_of s) (inside s lt)))
+        subst (λ value. IsDecision (hard_metrics after) pair s value (bit_of s)) (sym (hard_metric values s lt))
+        (chosen_scaled (hard_metrics after) pair s (lane zeros (lane_of_state s)) (lane ones (lane_of_state s)) (lane values
+        (lane_of_state s))
+        (zero_candidate zeros zeros_are s lt) (one_candidate ones ones_are s lt) (better (lane_of_state s) (inside s lt)))
 
--- the map entry of the next state by the decision
+-- the map entry of the next state after the decided bit
 pub followed_place : (map : List ℕ) (z o : ℤ) (s : ℕ) → s < 16 →
-    get_or map (if int_lt z o then one_place (lane_of s) else zero_place (lane_of s)) 0
-    ≡ get_or map (lane_of (next s (if int_lt z o then 1 else 0))) 0
+    get_or map (if int_lt z o then lane_after_one (lane_of_state s) else lane_after_zero (lane_of_state s)) 0
+    ≡ get_or map (lane_of_state (next s (if int_lt z o then 1 else 0))) 0
 followed_place map z o s lt =
-    elim (int_lt z o) as (λ t. get_or map (if t then one_place (lane_of s) else zero_place (lane_of s)) 0
-    ≡ get_or map (lane_of (next s (if t then 1 else 0))) 0) [
+    elim (int_lt z o) as (λ t. get_or map (if t then lane_after_one (lane_of_state s) else lane_after_zero (lane_of_state s)) 0
+    ≡ get_or map (lane_of_state (next s (if t then 1 else 0))) 0) [
       | true ↦ ap (λ k. get_or map k 0) (one_next s lt)
       | false ↦ ap (λ k. get_or map k 0) (zero_next s lt)
     ]
 
--- ---- bounds
+-- ---- bounds of the path metrics
 
-pub HasHeadroom-within : (lanes : List ℤ) (most : ℕ) → most ≤ 60000 → length lanes ≡ 16 → AreWithin most (hard_metrics lanes) →
-    HasHeadroom lanes
-HasHeadroom-within lanes most few count within = record {
+pub HaveHeadroom8-within : (lanes : List ℤ) (most : ℕ) → most ≤ 60000 → length lanes ≡ 16 → AreMetricsWithin most (hard_metrics lanes) →
+    HaveHeadroom8 lanes
+HaveHeadroom8-within lanes most few count within = record {
   count = count;
   low = λ k lt.
-      let low = within.low (lane_of k) (inside k lt) in
-      let path_metric = hard_metric lanes (lane_of k) (inside k lt) ∙ ap (λ k. scaled (lane lanes k)) (place_twice k lt) in
+      let low = within.low (lane_of_state k) (inside k lt) in
+      let path_metric = hard_metric _ _ (inside k lt) ∙ ap (λ k. metric_of_hard_lane (lane lanes k)) (place_twice k lt) in
       omega (arith, ints);
   high = λ k lt.
-      let high = within.high (lane_of k) (inside k lt) in
-      let path_metric = hard_metric lanes (lane_of k) (inside k lt) ∙ ap (λ k. scaled (lane lanes k)) (place_twice k lt) in
+      let high = within.high (lane_of_state k) (inside k lt) in
+      let path_metric = hard_metric _ _ (inside k lt) ∙ ap (λ k. metric_of_hard_lane (lane lanes k)) (place_twice k lt) in
       omega (arith, ints);
 }
 
@@ -117,21 +109,19 @@ hard_octets soft hard k d lt = elim (hard k d lt) [
   | inr low ↦ (omega (arith, ints), omega (arith, ints))
 ]
 
--- the path metrics at the end of the trellis: all 0
+-- the lanes at the end of the trellis, which represent path metrics of 0
 abbrev start : List ℤ
 start = replicate 16 (negsuc 119)
 
 pub start_metric : (s : ℕ) → s < 16 → lane (hard_metrics start) s ≡ pos 0
-start_metric = each (λ s. lane (hard_metrics start) s ≡ pos 0) 16
-    ((((((((((((((((tt, refl), refl), refl), refl), refl), refl), refl), refl), refl), refl), refl), refl), refl), refl), refl), refl)
+start_metric = same_below _ _ refl
 
-pub AreSmall-start : AreSmall start
-AreSmall-start = record { count = refl; fits = λ k lt. subst (FitsSigned w8) (sym (same k lt)) (record { sfits = omega arith }) } where
+pub AreInt8-start : AreInt8 start
+AreInt8-start = record { count = refl; fits = λ k lt. rw (same k lt) (record { sfits = omega arith }) } where
   same : (k : ℕ) → k < 16 → lane start k ≡ negsuc 119
-  same = each (λ k. lane start k ≡ negsuc 119) 16
-      ((((((((((((((((tt, refl), refl), refl), refl), refl), refl), refl), refl), refl), refl), refl), refl), refl), refl), refl), refl)
+  same = same_below _ _ refl
 
--- the pair at index i by its two lanes
+-- the pair of soft bits at index i, written as its two elements
 pub pair_lanes : (soft : List ℤ) (i : ℕ) → i + 2 ≤ length soft → take 2 (drop i soft) ≡ lane soft i ∷ lane soft (i + 1) ∷ []
 pair_lanes [] i within = absurd (omega arith)
 pair_lanes (x ∷ []) zero within = absurd (omega arith)
@@ -140,7 +130,7 @@ pair_lanes (x ∷ soft) (suc i) within =
     let at : suc i + 1 ≡ suc (i + 1) = omega arith in
     pair_lanes soft i (omega arith) ∙ ap (λ k. lane soft i ∷ lane (x ∷ soft) k ∷ []) (sym at)
 
--- ---- branch metrics
+-- ---- the table of branch metrics
 
 abbrev pub hard_table : List (List ℤ)
 hard_table =
@@ -153,46 +143,39 @@ hard_table =
     (negsuc 0 ∷ pos 1 ∷ negsuc 0 ∷ pos 1 ∷ pos 0 ∷ pos 0 ∷ pos 0 ∷ pos 0 ∷
     pos 1 ∷ negsuc 0 ∷ pos 1 ∷ negsuc 0 ∷ pos 0 ∷ pos 0 ∷ pos 0 ∷ pos 0 ∷ []) ∷ []
 
--- a row of the table, converted to octets and back
+-- a row of the table of branch metrics, converted to octets and back
 abbrev pub hard_row : ℕ → List ℤ → List ℤ
 hard_row n d = map (cast_signed w8) (map (cast_unsigned w8) (get_or hard_table n d))
 
 module _ (d : List ℤ) where
   abbrev Counts : ℕ → ℤ → ℤ → Type 0
-  Counts n p q = (s : ℕ) → s < 16 → branch_metric s 0 (p ∷ q ∷ []) ≡ pos 254 *ℤ lane (hard_row n d) (lane_of s)
+  Counts n p q = (s : ℕ) → s < 16 → branch_metric s 0 (p ∷ q ∷ []) ≡ pos 254 *ℤ lane (hard_row n d) (lane_of_state s)
 
   counts_0 : Counts 0 (pos 127) (pos 127)
   unfolding branch_metric
-  counts_0 = each (λ s. branch_metric s 0 (pos 127 ∷ pos 127 ∷ []) ≡ pos 254 *ℤ lane (hard_row 0 d) (lane_of s)) 16
-      ((((((((((((((((tt, refl), refl), refl), refl), refl), refl), refl), refl), refl), refl), refl), refl), refl), refl), refl), refl)
+  counts_0 = same_below _ _ refl
 
   counts_1 : Counts 1 (negsuc 126) (pos 127)
   unfolding branch_metric
-  counts_1 = each (λ s. branch_metric s 0 (negsuc 126 ∷ pos 127 ∷ []) ≡ pos 254 *ℤ lane (hard_row 1 d) (lane_of s)) 16
-      ((((((((((((((((tt, refl), refl), refl), refl), refl), refl), refl), refl), refl), refl), refl), refl), refl), refl), refl), refl)
+  counts_1 = same_below _ _ refl
 
   counts_2 : Counts 2 (pos 127) (negsuc 126)
   unfolding branch_metric
-  counts_2 = each (λ s. branch_metric s 0 (pos 127 ∷ negsuc 126 ∷ []) ≡ pos 254 *ℤ lane (hard_row 2 d) (lane_of s)) 16
-      ((((((((((((((((tt, refl), refl), refl), refl), refl), refl), refl), refl), refl), refl), refl), refl), refl), refl), refl), refl)
+  counts_2 = same_below _ _ refl
 
   counts_3 : Counts 3 (negsuc 126) (negsuc 126)
   unfolding branch_metric
-  counts_3 = each (λ s. branch_metric s 0 (negsuc 126 ∷ negsuc 126 ∷ []) ≡ pos 254 *ℤ lane (hard_row 3 d) (lane_of s)) 16
-      ((((((((((((((((tt, refl), refl), refl), refl), refl), refl), refl), refl), refl), refl), refl), refl), refl), refl), refl), refl)
+  counts_3 = same_below _ _ refl
 
-  -- the row for two signs has their branch metrics
+  -- the row for two signs has the branch metrics of soft bits with these signs
   by_signs : (n : ℕ) (p q a b : ℤ) → p ≡ a → q ≡ b → n ≡ sign p + 2 * sign q → Counts (sign a + 2 * sign b) a b → Counts n p q
   by_signs n p q a b at_a at_b is counts =
-      subst (λ n. Counts n p q) (sym is)
-      (subst (λ p. Counts (sign p + 2 * sign q) p q) (sym at_a) (subst (λ q. Counts (sign a + 2 * sign q) a q) (sym at_b) counts))
+      rw is
+      (rw at_a (rw at_b counts))
 
   pub HasHardBranchMetrics-row : (n : ℕ) (p q : ℤ) → IsHard p → IsHard q → n ≡ sign p + 2 * sign q →
       HasHardBranchMetrics (hard_row n d) (p ∷ q ∷ [])
-  HasHardBranchMetrics-row n p q (inl hp) (inl hq) is = record { count = refl; each = by_signs n p q (pos 127) (pos 127) hp hq is counts_0 }
-  HasHardBranchMetrics-row n p q (inr hp) (inl hq) is =
-      record { count = refl; each = by_signs n p q (negsuc 126) (pos 127) hp hq is counts_1 }
-  HasHardBranchMetrics-row n p q (inl hp) (inr hq) is =
-      record { count = refl; each = by_signs n p q (pos 127) (negsuc 126) hp hq is counts_2 }
-  HasHardBranchMetrics-row n p q (inr hp) (inr hq) is =
-      record { count = refl; each = by_signs n p q (negsuc 126) (negsuc 126) hp hq is counts_3 }
+  HasHardBranchMetrics-row n p q (inl hp) (inl hq) is = record { count = refl; each = by_signs n p q _ _ hp hq is counts_0 }
+  HasHardBranchMetrics-row n p q (inr hp) (inl hq) is = record { count = refl; each = by_signs n p q _ _ hp hq is counts_1 }
+  HasHardBranchMetrics-row n p q (inl hp) (inr hq) is = record { count = refl; each = by_signs n p q _ _ hp hq is counts_2 }
+  HasHardBranchMetrics-row n p q (inr hp) (inr hq) is = record { count = refl; each = by_signs n p q _ _ hp hq is counts_3 }

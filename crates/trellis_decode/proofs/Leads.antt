@@ -1,42 +1,37 @@
--- The metric difference between bit 0 and bit 1: its sign is the decision, its absolute value the cost of the other bit.
-use Rattle.std.proofs.Common.{◌≡◌, ℕ, true, false, if◌then◌else◌, ℤ, pos, negsuc, ◌+ℤ◌, ◌-ℤ◌, ◌≤ℤ◌}
-use Rattle.std.proofs.Common.{◌+◌, ◌-◌, ◌<◌, ◌⊎◌, List, ap, sym, ◌∙◌}
-use Rattle.std.proofs.Common.{subst, arith, int_lt, inl, inr, refl}
-use Rattle.std.proofs.lemmas.Int.{ints, by_lt_z}
-use Rattle.trellis_decode.specs.Lanes.{lane}
-use Rattle.trellis_decode.specs.Trellis.{next, branch_metric, candidate, Chooses}
-use Rattle.trellis_decode.specs.AcsLanes.{AreClose, AreBranchMetrics, AreGaps, AreNear, HasBranchMetrics, in_order, unbiased, bit_reversed}
-use Rattle.trellis_decode.specs.AcsLanes.{path_metrics}
-use Rattle.trellis_decode.specs.Candidates.{AreCandidates}
-use Rattle.trellis_decode.specs.declared.acs_step.Candidates.{Candidates}
-use Rattle.trellis_decode.proofs.AcsSteps.{each_state, low_in_order, high_in_order, even_metric, odd_metric, even_metric_high}
-use Rattle.trellis_decode.proofs.AcsSteps.{odd_metric_high, branch_metric-one, branch_metric-high}
-use Rattle.trellis_decode.proofs.AcsVectors.{fits_between}
+-- The difference between the candidate metrics of bit 0 and bit 1: its sign is the decision, and its absolute value the cost of the other
+-- bit.
+use Rattle.std.proofs.Common.{◌≡◌, ℕ, true, false, if◌then◌else◌, ℤ, pos, negsuc, ◌+ℤ◌, ◌-ℤ◌, ◌≤ℤ◌, ◌+◌, ◌-◌, ◌<◌, ◌⊎◌, List, ap, sym, ◌∙◌}
+use Rattle.std.proofs.{Common.{subst, arith, int_lt, inl, inr, refl}, lemmas.Int.{ints, by_lt_z}}
+use Rattle.trellis_decode.specs.{Lanes.lane, Trellis.{next, branch_metric, candidate, IsDecision}, AcsLanes.DifferByAtMost4096}
+use Rattle.trellis_decode.specs.AcsLanes.{AreBranchMetrics, AbsoluteValuesFit, DifferencesFit16Bits, HasBranchMetrics, lanes_in_state_order}
+use Rattle.trellis_decode.specs.{AcsLanes.{lane_metric, bit_reversed, path_metrics}, Candidates.AreCandidates}
+use Rattle.trellis_decode.{specs.declared.acs_step.Candidates.Candidates, proofs.AcsSteps.{each_state, low_in_order, high_in_order}}
+use Rattle.trellis_decode.proofs.AcsSteps.{even_metric, odd_metric, even_metric_high, odd_metric_high, branch_metric-one}
+use Rattle.trellis_decode.proofs.{AcsSteps.branch_metric-high, AcsVectors.fits_between}
 
--- the difference in one state, from its terms
-pub lead_is : (after pair : List ℤ) (s : ℕ) (v o e lead : ℤ) → lane after (next s 0) ≡ unbiased v → lane after (next s 1) ≡ unbiased o →
+-- the difference in one state, computed from the path metrics and the branch metrics
+pub lead_is : (after pair : List ℤ) (s : ℕ) (v o e lead : ℤ) → lane after (next s 0) ≡ lane_metric v →
+    lane after (next s 1) ≡ lane_metric o →
     branch_metric s 0 pair ≡ e → branch_metric s 1 pair ≡ pos 0 -ℤ e → lead ≡ v -ℤ o +ℤ e +ℤ e →
     lead ≡ candidate after pair s 0 -ℤ candidate after pair s 1
 unfolding candidate
 lead_is after pair s v o e lead hv ho e0 e1 is = omega (arith, ints)
 
 -- the decision is 1 if the difference is negative
-pub choice_is : (after pair : List ℤ) (s bit bit' : ℕ) (value lead : ℤ) → Chooses after pair s value bit →
+pub choice_is : (after pair : List ℤ) (s bit bit' : ℕ) (value lead : ℤ) → IsDecision after pair s value bit →
     lead ≡ candidate after pair s 0 -ℤ candidate after pair s 1 → bit' ≡ (if int_lt lead (pos 0) then 1 else 0) →
-    Chooses after pair s value bit'
+    IsDecision after pair s value bit'
 choice_is after pair s bit bit' value lead chooses is b =
     by_lt_z lead (pos 0)
     (λ less.
     let t : int_lt lead (pos 0) ≡ true = grind (arith, ints) in
-    let one : bit' ≡ 1 = b ∙ ap (λ t. if t then 1 else 0) t in
-    elim chooses [ inl h ↦ absurd (let order = h.2 in omega (arith, ints)) | inr h ↦ inr (one, h.1, h.2) ])
+    elim chooses [ inl h ↦ absurd (let order = h.2 in omega (arith, ints)) | inr h ↦ inr (b ∙ ap (λ t. if t then 1 else 0) t, h.1, h.2) ])
     (λ not_less.
     let t : int_lt lead (pos 0) ≡ false = grind (arith, ints) in
-    let zero : bit' ≡ 0 = b ∙ ap (λ t. if t then 1 else 0) t in
-    elim chooses [ inl h ↦ inl (zero, h.1, h.2) | inr h ↦ absurd (let order = h.2 in omega (arith, ints)) ])
+    elim chooses [ inl h ↦ inl (b ∙ ap (λ t. if t then 1 else 0) t, h.1, h.2) | inr h ↦ absurd (let order = h.2 in omega (arith, ints)) ])
 
--- the absolute difference is the cost of the other bit
-pub loss_is : (after pair : List ℤ) (s bit : ℕ) (value lead loss : ℤ) → Chooses after pair s value bit →
+-- the absolute value of the difference is the cost of the other bit
+pub loss_is : (after pair : List ℤ) (s bit : ℕ) (value lead loss : ℤ) → IsDecision after pair s value bit →
     lead ≡ candidate after pair s 0 -ℤ candidate after pair s 1 → loss ≡ (if int_lt lead (pos 0 -ℤ lead) then pos 0 -ℤ lead else lead) →
     loss ≡ candidate after pair s bit -ℤ candidate after pair s (1 - bit)
 loss_is after pair s bit value lead loss chooses is l =
@@ -57,15 +52,15 @@ loss_is after pair s bit value lead loss chooses is l =
       | inr h ↦ absurd (let order = h.2 in omega (arith, ints))
     ])
 
--- ---- the differences in all states
+-- ---- the differences in all sixteen states
 
 pub record AreLeads (even odd branch_metrics leads : List ℤ) : Type 0 where
-  pub gaps : AreGaps leads
+  pub subtract_lanes : AbsoluteValuesFit leads
   pub each : (pair : List ℤ) → HasBranchMetrics branch_metrics pair → (s : ℕ) → s < 16 →
       lane leads s ≡ candidate (path_metrics even odd) pair s 0 -ℤ candidate (path_metrics even odd) pair s 1
 
 module _ (even odd branch_metrics : List ℤ) (candidates : Candidates) (is : AreCandidates even odd branch_metrics candidates)
-    (close : AreClose even odd)
+    (close : DifferByAtMost4096 even odd)
     (bounded : AreBranchMetrics branch_metrics) where
   low_gap : (k : ℕ) → k < 8 → lane candidates.low_zero.lanes k -ℤ lane candidates.low_one.lanes k
       ≡ lane even k -ℤ lane odd k +ℤ lane branch_metrics k +ℤ lane branch_metrics k
@@ -78,7 +73,7 @@ module _ (even odd branch_metrics : List ℤ) (candidates : Candidates) (is : Ar
   abbrev Fits : ℤ → Type 0
   Fits x = (negsuc 32766 ≤ℤ x) × (x ≤ℤ pos 32767)
 
-  -- the difference of two path metrics, plus or minus two branch metrics, fits 16 bits
+  -- the difference of two path metrics, plus or minus twice a branch metric, fits in 16 bits
   fits : (k : ℕ) (gap : ℤ) → k < 8 → (gap ≡ lane even k -ℤ lane odd k +ℤ lane branch_metrics k +ℤ lane branch_metrics k)
       ⊎ (gap ≡ lane even k -ℤ lane odd k -ℤ lane branch_metrics k -ℤ lane branch_metrics k) → Fits gap
   fits k gap lt is =
@@ -97,22 +92,22 @@ module _ (even odd branch_metrics : List ℤ) (candidates : Candidates) (is : Ar
   high_fits : (k : ℕ) → k < 8 → Fits (lane candidates.high_zero.lanes k -ℤ lane candidates.high_one.lanes k)
   high_fits k lt = fits k _ lt (inr (high_gap k lt))
 
-  pub low_near : AreNear candidates.low_zero.lanes candidates.low_one.lanes
+  pub low_near : DifferencesFit16Bits candidates.low_zero.lanes candidates.low_one.lanes
   low_near = record { fits = λ k lt. let fits = low_fits k lt in fits_between _ (let low = fits.0 in omega (arith, ints)) fits.1 }
 
-  pub high_near : AreNear candidates.high_zero.lanes candidates.high_one.lanes
+  pub high_near : DifferencesFit16Bits candidates.high_zero.lanes candidates.high_one.lanes
   high_near = record { fits = λ k lt. let fits = high_fits k lt in fits_between _ (let low = fits.0 in omega (arith, ints)) fits.1 }
 
   module _ (low high leads : List ℤ)
       (low_lane : (k : ℕ) → k < 8 → lane low k ≡ lane candidates.low_zero.lanes k -ℤ lane candidates.low_one.lanes k)
       (high_lane : (k : ℕ) → k < 8 → lane high k ≡ lane candidates.high_zero.lanes k -ℤ lane candidates.high_one.lanes k)
-      (ordered : leads ≡ in_order low high) where
-    leads_fit : AreGaps leads
+      (ordered : leads ≡ lanes_in_state_order low high) where
+    leads_fit : AbsoluteValuesFit leads
     leads_fit =
-        let fit = each_state (λ s. Fits (lane (in_order low high) s))
+        let fit = each_state (λ s. Fits (lane (lanes_in_state_order low high) s))
         (λ k lt. subst Fits (sym (low_in_order low high k lt ∙ low_lane k lt)) (low_fits k lt))
         (λ k lt. subst Fits (sym (high_in_order low high k lt ∙ high_lane k lt)) (high_fits k lt)) in
-        subst AreGaps (sym ordered) (record { count = refl; low = λ s lt. (fit s lt).0; high = λ s lt. (fit s lt).1 })
+        subst AbsoluteValuesFit (sym ordered) (record { count = refl; low = λ s lt. (fit s lt).0; high = λ s lt. (fit s lt).1 })
 
     low_state : (pair : List ℤ) → HasBranchMetrics branch_metrics pair → (k : ℕ) → k < 8 →
         lane low k ≡ candidate (path_metrics even odd) pair (bit_reversed k) 0 -ℤ candidate (path_metrics even odd) pair (bit_reversed k) 1
@@ -136,12 +131,12 @@ module _ (even odd branch_metrics : List ℤ) (candidates : Candidates) (is : Ar
     each_lead : (pair : List ℤ) → HasBranchMetrics branch_metrics pair → (s : ℕ) → s < 16 →
         lane leads s ≡ candidate (path_metrics even odd) pair s 0 -ℤ candidate (path_metrics even odd) pair s 1
     each_lead pair has s lt =
-        let Leads : ℕ → Type 0 = λ s. lane (in_order low high) s ≡
+        let Leads : ℕ → Type 0 = λ s. lane (lanes_in_state_order low high) s ≡
         candidate (path_metrics even odd) pair s 0 -ℤ candidate (path_metrics even odd) pair s 1 in
         ap (λ l. lane l s) ordered
         ∙ each_state Leads
-        (λ k lt. low_in_order low high k lt ∙ low_state pair has k lt)
-        (λ k lt. high_in_order low high k lt ∙ high_state pair has k lt) s lt
+        (λ k lt. low_in_order _ high k lt ∙ low_state _ has k lt)
+        (λ k lt. high_in_order low _ k lt ∙ high_state _ has k lt) s lt
 
     pub leads_are : AreLeads even odd branch_metrics leads
-    leads_are = record { gaps = leads_fit; each = each_lead }
+    leads_are = record { subtract_lanes = leads_fit; each = each_lead }

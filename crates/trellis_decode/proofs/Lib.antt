@@ -15,5 +15,5 @@ mod Leads
 mod FourPairs
 mod AcsSteps
 mod AcsVectors
-mod Walks
+mod SurvivorPaths
 mod WordLists

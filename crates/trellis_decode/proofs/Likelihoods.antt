@@ -1,6 +1,5 @@
--- The path metric, extended by one soft bit.
-use Rattle.std.proofs.Common.{◌≡◌, ℕ, zero, suc, ◌<◌, ℤ, pos, ◌+ℤ◌, List, [], ◌∷◌, length, get_or, take, arith}
-use Rattle.std.proofs.lemmas.Int.{ints}
+-- The path metric of one more soft bit.
+use Rattle.std.proofs.{Common.{◌≡◌, ℕ, zero, suc, ◌<◌, ℤ, pos, ◌+ℤ◌, List, [], ◌∷◌, length, get_or, take, arith}, lemmas.Int.ints}
 use Rattle.conv_code.specs.Likelihood.{agreement, likelihood}
 
 pub likelihood-more : (s : List ℤ) (c : List ℕ) (k : ℕ) → k < length s → k < length c →
@@ -9,7 +8,5 @@ likelihood-more [] c k hs hc = absurd (omega arith)
 likelihood-more (p ∷ s) [] k hs hc = absurd (omega arith)
 likelihood-more (p ∷ s) (x ∷ c) zero hs hc = omega (arith, ints)
 likelihood-more (p ∷ s) (x ∷ c) (suc k) hs hc =
-    let hs' : k < length s = omega arith in
-    let hc' : k < length c = omega arith in
-    let rest = likelihood-more s c k hs' hc' in
+    let rest = likelihood-more s c k (omega arith) (omega arith) in
     omega (arith, ints)

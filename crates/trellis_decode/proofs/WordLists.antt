@@ -1,44 +1,37 @@
--- All information lists in lexicographic order, numbered by the binary numbers that they spell.
-use Rattle.std.proofs.Common.{◌≡◌, ℕ, zero, suc, ◌+◌, ◌-◌, ◌*◌, ◌/◌, ◌%◌, ◌^◌, ◌<◌, ◌≤◌, inl}
-use Rattle.std.proofs.Common.{inr, List, [], ◌∷◌, length, get_or, drop}
-use Rattle.std.proofs.Common.{refl, ap, ap₂, sym, ◌∙◌, subst, arith}
-use Rattle.std.proofs.Math.Nat.{add-mul-div_left, div-eq_of_lt, pow-suc, pow-succ', div-one, div-div-eq-div-mul, div-mul-le_self}
-use Rattle.std.proofs.Math.Nat.{div-lt_iff_lt-mul, eq-or-lt_of_le}
-use Rattle.std.proofs.lemmas.Bool.{cases_lt}
-use Rattle.std.proofs.lemmas.Nat.{pow_pos}
-use Rattle.std.proofs.lemmas.List.Elements.{All-nil, All-cons, All-head, All-tail}
-use Rattle.std.specs.List.{All}
-use Rattle.bit_blocks.specs.Bits.{AllBits, IsBit}
-use Rattle.conv_code.specs.Code.{IsInformation}
-use Rattle.conv_code.specs.Likelihood.{IsBefore}
+-- All information lists in lexicographic order. The number of a list is the binary number that its bits form.
+use Rattle.std.proofs.Common.{◌≡◌, ℕ, zero, suc, ◌+◌, ◌-◌, ◌*◌, ◌/◌, ◌%◌, ◌^◌, ◌<◌, ◌≤◌, inl, inr, List, [], ◌∷◌, length, get_or, drop}
+use Rattle.std.proofs.{Common.{refl, ap, ap₂, sym, ◌∙◌, subst, arith}, Math.Nat.{add-mul-div_left, div-eq_of_lt, pow-suc, pow-succ'}}
+use Rattle.std.proofs.{Math.Nat.{div-one, div-div-eq-div-mul, div-mul-le_self, div-lt_iff_lt-mul, eq-or-lt_of_le}, lemmas.Bool.cases_lt}
+use Rattle.std.{proofs.lemmas.{Nat.pow_pos, List.Elements.{All-nil, All-cons, All-head, All-tail}}, specs.List.All}
+use Rattle.conv_code.specs.{bit_blocks.Bits.{AllBits, IsBit}, Code.IsInformation, Likelihood.IsLexicographicallyBefore}
 use Rattle.trellis_decode.specs.Words.{word}
 
 pub length-word : (n number : ℕ) → length (word n number) ≡ n
 length-word zero number = refl
-length-word (suc n) number = ap suc (length-word n number)
+length-word (suc n) number = ap suc (length-word n _)
 
 pub get_or-word : (n number k j : ℕ) → k + j + 1 ≡ n → get_or (word n number) k 0 ≡ number / 2 ^ j % 2
 get_or-word zero number k j e = absurd (omega arith)
-get_or-word (suc n) number zero j e = let at : n ≡ j = omega arith in ap (λ j. number / 2 ^ j % 2) at
-get_or-word (suc n) number (suc k) j e = let e' : k + j + 1 ≡ n = omega arith in get_or-word n number k j e'
+get_or-word (suc n) number zero j e = ap (λ j. number / 2 ^ j % 2) (omega arith)
+get_or-word (suc n) number (suc k) j e = get_or-word n _ k j (omega arith)
 
 drop-word : (n number k m : ℕ) → k + m ≡ n → drop k (word n number) ≡ word m number
-drop-word n number zero m e = let at : n ≡ m = omega arith in ap (λ n. word n number) at
+drop-word n number zero m e = ap (λ n. word n number) (omega arith)
 drop-word zero number (suc k) m e = absurd (omega arith)
-drop-word (suc n) number (suc k) m e = let e' : k + m ≡ n = omega arith in drop-word n number k m e'
+drop-word (suc n) number (suc k) m e = drop-word n _ k m (omega arith)
 
 AllBits-word : (n number : ℕ) → AllBits (word n number)
-AllBits-word zero number = All-nil IsBit
+AllBits-word zero number = All-nil _
 AllBits-word (suc n) number =
     let bit : number / 2 ^ n % 2 ≤ 1 = omega arith in
     All-cons IsBit (number / 2 ^ n % 2) (word n number) bit (AllBits-word n number)
 
 pub IsInformation-word : (n number : ℕ) → 5 ≤ n → IsInformation (word n (16 * number))
 IsInformation-word n number long = record {
-  count = rw (length-word n (16 * number)) long;
-  bits = AllBits-word n (16 * number);
-  tail = rw (length-word n (16 * number))
-      (subst (All (λ bit. bit ≡ 0)) (sym (drop-word n (16 * number) (n - 4) 4 (omega arith))) last_four);
+  count = rw (length-word n _) long;
+  bits = AllBits-word n _;
+  tail = rw (length-word n _)
+      (rw (drop-word n (16 * number) (n - 4) 4 (omega arith)) last_four);
 } where
   b8 : 16 * number / 8 % 2 ≡ 0
   b8 = omega arith
@@ -59,16 +52,16 @@ IsInformation-word n number long = record {
       (All-cons (λ bit. bit ≡ 0) _ (word 1 (16 * number)) b2
       (All-cons (λ bit. bit ≡ 0) _ [] b1 (All-nil (λ bit. bit ≡ 0)))))
 
--- `word n` ignores bits from n on
+-- `word n` ignores the bits of a number from bit n on
 word-high : (n r x : ℕ) → word n (r + 2 ^ n * x) ≡ word n r
 word-high zero r x = refl
 word-high (suc n) r x =
     let doubled : r + 2 ^ suc n * x ≡ r + 2 ^ n * (2 * x) = rw (pow-succ' 2 n) (omega arith) in
     let half = add-mul-div_left r (2 * x) (pow_pos n) in
     let bit : (r + 2 ^ n * (2 * x)) / 2 ^ n % 2 ≡ r / 2 ^ n % 2 = rw half (omega arith) in
-    ap (word (suc n)) doubled ∙ ap₂ (λ bit rest. bit ∷ rest) bit (word-high n r (2 * x))
+    ap (word (suc n)) doubled ∙ ap₂ (λ bit rest. bit ∷ rest) bit (word-high n r _)
 
--- each bit list spells a number
+-- the bits of each bit list form a binary number
 spelled : (v : List ℕ) → AllBits v → (number : ℕ) × (number < 2 ^ length v) × (word (length v) number ≡ v)
 spelled [] bits = (0, omega arith, refl)
 spelled (x ∷ v) bits =
@@ -98,27 +91,31 @@ div-le a b power above le = elim (cases_lt (b / power) (a / power)) [
 ]
 
 -- numeric order is lexicographic order
-pub IsBefore-word : (n a b : ℕ) → a < b → a / 2 ^ n ≡ b / 2 ^ n → IsBefore (word n a) (word n b)
-IsBefore-word zero a b less same = absurd (let same' : a ≡ b = sym (div-one a) ∙ same ∙ div-one b in omega arith)
-IsBefore-word (suc n) a b less same =
+pub IsLexicographicallyBefore-word : (n a b : ℕ) → a < b → a / 2 ^ n ≡ b / 2 ^ n → IsLexicographicallyBefore (word n a) (word n b)
+IsLexicographicallyBefore-word zero a b less same = absurd (omega arith)
+IsLexicographicallyBefore-word (suc n) a b less same =
     let halves : a / 2 ^ n / 2 ≡ b / 2 ^ n / 2 =
     div-div-eq-div-mul a (2 ^ n) 2 ∙ ap (λ p. a / p) (sym (pow-suc 2 n)) ∙ same ∙ ap (λ p. b / p) (pow-suc 2 n)
     ∙ sym (div-div-eq-div-mul b (2 ^ n) 2) in
-    let ordered : a / 2 ^ n ≤ b / 2 ^ n = div-le a b (2 ^ n) (pow_pos n) (omega arith) in
-    elim (eq-or-lt_of_le ordered) [
-      | inl equal ↦ later (ap (λ q. q % 2) equal) (IsBefore-word n a b less equal)
+    elim (eq-or-lt_of_le (div-le a b (2 ^ n) (pow_pos n) (omega arith))) [
+      | inl equal ↦ later (ap (λ q. q % 2) equal) (IsLexicographicallyBefore-word n a b less equal)
       | inr above ↦
-          let zero_bit : a / 2 ^ n % 2 ≡ 0 = omega arith in
-          let one_bit : b / 2 ^ n % 2 ≡ 1 = omega arith in
-          record { place = 0; within = omega arith; same = (λ j lt. absurd (omega arith)); zero = zero_bit; differs = (λ e. omega arith) }
+          record {
+            place = 0;
+            within = omega arith;
+            same = (λ j lt. absurd (omega arith));
+            zero = omega arith;
+            differs = (λ e. omega arith);
+          }
     ]
   where
-    same_places : a / 2 ^ n % 2 ≡ b / 2 ^ n % 2 → (rest : IsBefore (word n a) (word n b)) → (j : ℕ) → j < suc rest.place →
+    same_places : a / 2 ^ n % 2 ≡ b / 2 ^ n % 2 → (rest : IsLexicographicallyBefore (word n a) (word n b)) → (j : ℕ) → j < suc rest.place →
         get_or (word (suc n) a) j 0 ≡ get_or (word (suc n) b) j 0
     same_places head rest zero lt = head
     same_places head rest (suc j) lt = rest.same j (omega arith)
 
-    later : a / 2 ^ n % 2 ≡ b / 2 ^ n % 2 → IsBefore (word n a) (word n b) → IsBefore (word (suc n) a) (word (suc n) b)
+    later : a / 2 ^ n % 2 ≡ b / 2 ^ n % 2 → IsLexicographicallyBefore (word n a) (word n b) →
+        IsLexicographicallyBefore (word (suc n) a) (word (suc n) b)
     later head rest = record {
       place = suc rest.place;
       within = omega arith;
@@ -127,7 +124,7 @@ IsBefore-word (suc n) a b less same =
       differs = rest.differs;
     }
 
--- each information list spells a multiple of 16
+-- the bits of each information list form a multiple of 16, since the last four are 0
 pub word-information : (v : List ℕ) → IsInformation v → (number : ℕ) × (16 * number < 2 ^ length v) × (word (length v) (16 * number) ≡ v)
 word-information v h =
     let spelt = spelled v h.bits in

@@ -1,56 +1,57 @@
--- Path metrics of the sixteen states in two vectors of eight 16-bit lanes, in bit-reversed order.
+-- The path metrics of the sixteen trellis states, kept in two SIMD vectors of eight 16-bit lanes in bit-reversed order.
 use Rattle.std.specs.Prelude.{ℕ, ◌≡◌, ◌+◌, ◌*◌, ◌/◌, ◌%◌, ◌<◌, ◌⊎◌, ◌≤ℤ◌, ℤ, pos, negsuc}
 use Rattle.std.specs.Prelude.{◌+ℤ◌, ◌-ℤ◌, List, [], ◌∷◌, length, FitsSigned}
 use Rattle.std.specs.Int.{w16}
 use Rattle.trellis_decode.specs.Lanes.{lane}
 use Rattle.trellis_decode.specs.Trellis.{branch_metric}
-use Rattle.trellis_decode.specs.declared.acs_step.Values.{Values}
+use Rattle.trellis_decode.specs.declared.acs_step.PathMetrics.{PathMetrics}
 
 -- eight lanes of signed 16-bit numbers
-pub record AreNarrow (lanes : List ℤ) : Type 0 where
+pub record AreInt16 (lanes : List ℤ) : Type 0 where
   pub count : length lanes ≡ 8
   pub fits : (k : ℕ) → k < 8 → FitsSigned w16 (lane lanes k)
 
--- the path metric that a 16-bit lane represents: lanes are lowered by 31,000
-abbrev pub unbiased : ℤ → ℤ
-unbiased value = value +ℤ pos 31000
+-- the path metric that a 16-bit lane represents: a lane holds the path metric minus 31,000
+abbrev pub lane_metric : ℤ → ℤ
+lane_metric value = value +ℤ pos 31000
 
--- the path metrics of states 0 to 15, from vectors of the even and the odd states in bit-reversed order of the upper three bits
+-- the path metrics of states 0 to 15, from a vector of the even states and a vector of the odd states, each in the bit-reversed order
+-- of the upper three bits of the state
 abbrev pub path_metrics : List ℤ → List ℤ → List ℤ
 path_metrics even odd =
-    unbiased (lane even 0) ∷ unbiased (lane odd 0) ∷ unbiased (lane even 4) ∷ unbiased (lane odd 4) ∷
-    unbiased (lane even 2) ∷ unbiased (lane odd 2) ∷ unbiased (lane even 6) ∷ unbiased (lane odd 6) ∷
-    unbiased (lane even 1) ∷ unbiased (lane odd 1) ∷ unbiased (lane even 5) ∷ unbiased (lane odd 5) ∷
-    unbiased (lane even 3) ∷ unbiased (lane odd 3) ∷ unbiased (lane even 7) ∷ unbiased (lane odd 7) ∷ []
+    lane_metric (lane even 0) ∷ lane_metric (lane odd 0) ∷ lane_metric (lane even 4) ∷ lane_metric (lane odd 4) ∷
+    lane_metric (lane even 2) ∷ lane_metric (lane odd 2) ∷ lane_metric (lane even 6) ∷ lane_metric (lane odd 6) ∷
+    lane_metric (lane even 1) ∷ lane_metric (lane odd 1) ∷ lane_metric (lane even 5) ∷ lane_metric (lane odd 5) ∷
+    lane_metric (lane even 3) ∷ lane_metric (lane odd 3) ∷ lane_metric (lane even 7) ∷ lane_metric (lane odd 7) ∷ []
 
--- the path metrics of states 0 to 15 in a `Values`
-abbrev pub path_metric : Values → List ℤ
+-- the path metrics of states 0 to 15 that a `PathMetrics` holds
+abbrev pub path_metric : PathMetrics → List ℤ
 path_metric values = path_metrics values.even.lanes values.odd.lanes
 
--- eight lanes to which a branch metric may be added or subtracted without overflow of 16 bits
-pub record HaveHeadroom (lanes : List ℤ) : Type 0 where
+-- a branch metric can be added to or subtracted from each of the eight lanes without overflow of 16 bits
+pub record HaveHeadroom16 (lanes : List ℤ) : Type 0 where
   pub count : length lanes ≡ 8
   pub low : (k : ℕ) → k < 8 → negsuc 32499 ≤ℤ lane lanes k
   pub high : (k : ℕ) → k < 8 → lane lanes k ≤ℤ pos 32500
 
--- the lanes of two vectors differ by at most 4,096
-pub record AreClose (a b : List ℤ) : Type 0 where
+-- lane by lane, two vectors differ by at most 4,096
+pub record DifferByAtMost4096 (a b : List ℤ) : Type 0 where
   pub low : (k : ℕ) → k < 8 → negsuc 4095 ≤ℤ (lane a k -ℤ lane b k)
   pub high : (k : ℕ) → k < 8 → (lane a k -ℤ lane b k) ≤ℤ pos 4096
 
--- the differences of the lanes of two vectors fit 16 bits
-pub record AreNear (a b : List ℤ) : Type 0 where
+-- lane by lane, the difference of two vectors fits in 16 bits
+pub record DifferencesFit16Bits (a b : List ℤ) : Type 0 where
   pub fits : (k : ℕ) → k < 8 → FitsSigned w16 (lane a k -ℤ lane b k)
 
--- sixteen lanes from -32,767 to 32,767, so that their absolute values fit 16 bits
-pub record AreGaps (lanes : List ℤ) : Type 0 where
+-- sixteen lanes from -32,767 to 32,767, whose absolute values fit in 16 bits
+pub record AbsoluteValuesFit (lanes : List ℤ) : Type 0 where
   pub count : length lanes ≡ 16
   pub low : (s : ℕ) → s < 16 → negsuc 32766 ≤ℤ lane lanes s
   pub high : (s : ℕ) → s < 16 → lane lanes s ≤ℤ pos 32767
 
--- the lanes of two bit-reversed vectors, states 0 to 7 and 8 to 15, in the order of the states
-abbrev pub in_order : List ℤ → List ℤ → List ℤ
-in_order low high =
+-- the lanes of states 0 to 15 in state order, from two vectors (states 0 to 7 and 8 to 15) whose lanes are in bit-reversed order
+abbrev pub lanes_in_state_order : List ℤ → List ℤ → List ℤ
+lanes_in_state_order low high =
     lane low 0 ∷ lane low 4 ∷ lane low 2 ∷ lane low 6 ∷ lane low 1 ∷ lane low 5 ∷ lane low 3 ∷ lane low 7 ∷
     lane high 0 ∷ lane high 4 ∷ lane high 2 ∷ lane high 6 ∷ lane high 1 ∷ lane high 5 ∷ lane high 3 ∷ lane high 7 ∷ []
 
@@ -60,37 +61,37 @@ pub record AreBranchMetrics (lanes : List ℤ) : Type 0 where
   pub low : (k : ℕ) → k < 8 → negsuc 255 ≤ℤ lane lanes k
   pub high : (k : ℕ) → k < 8 → lane lanes k ≤ℤ pos 256
 
--- lanes i, j, k and l of two vectors, interleaved
-abbrev pub in_turns : List ℤ → List ℤ → ℕ → ℕ → ℕ → ℕ → List ℤ
-in_turns a b i j k l = lane a i ∷ lane b i ∷ lane a j ∷ lane b j ∷ lane a k ∷ lane b k ∷ lane a l ∷ lane b l ∷ []
+-- lanes i, j, k and l of two vectors, interleaved: lane i of a, lane i of b, lane j of a, and so on
+abbrev pub interleaved_lanes : List ℤ → List ℤ → ℕ → ℕ → ℕ → ℕ → List ℤ
+interleaved_lanes a b i j k l = lane a i ∷ lane b i ∷ lane a j ∷ lane b j ∷ lane a k ∷ lane b k ∷ lane a l ∷ lane b l ∷ []
 
--- the decision that a lane represents: bit 1 if it is negative, else bit 0
-abbrev pub taken_bit : ℤ → ℕ
-taken_bit (pos n) = 0
-taken_bit (negsuc n) = 1
+-- the decision that a lane represents: bit 1 if the lane is negative, else bit 0
+abbrev pub lane_decision : ℤ → ℕ
+lane_decision (pos n) = 0
+lane_decision (negsuc n) = 1
 
--- the bit-reversal of a three-bit number
+-- a three-bit number with its bits in reverse order
 abbrev pub bit_reversed : ℕ → ℕ
 bit_reversed k = 4 * (k % 2) + 2 * (k / 2 % 2) + k / 4
 
--- the lanes are the branch metrics of bit 0 in states 0 to 7, in bit-reversed order, for a pair of soft bits
+-- the lanes hold the branch metrics of bit 0 in states 0 to 7, in bit-reversed order, for a pair of soft bits
 pub record HasBranchMetrics (lanes pair : List ℤ) : Type 0 where
   pub count : length pair ≡ 2
   pub each : (k : ℕ) → k < 8 → lane lanes k ≡ branch_metric (bit_reversed k) 0 pair
 
--- the index of state s in a survivor map: its lower three bits reversed
-abbrev pub lane_of : ℕ → ℕ
-lane_of s = 8 * (s / 8) + bit_reversed (s % 8)
+-- the lane of state s in a survivor map: the number s with its lower three bits in reverse order
+abbrev pub lane_of_state : ℕ → ℕ
+lane_of_state s = 8 * (s / 8) + bit_reversed (s % 8)
 
--- the decisions of states 0 to 15, from two bit-reversed vectors: states 0 to 7 and 8 to 15
-abbrev pub choices : List ℤ → List ℤ → List ℕ
-choices low high =
-    taken_bit (lane low 0) ∷ taken_bit (lane low 4) ∷ taken_bit (lane low 2) ∷ taken_bit (lane low 6) ∷
-    taken_bit (lane low 1) ∷ taken_bit (lane low 5) ∷ taken_bit (lane low 3) ∷ taken_bit (lane low 7) ∷
-    taken_bit (lane high 0) ∷ taken_bit (lane high 4) ∷ taken_bit (lane high 2) ∷ taken_bit (lane high 6) ∷
-    taken_bit (lane high 1) ∷ taken_bit (lane high 5) ∷ taken_bit (lane high 3) ∷ taken_bit (lane high 7) ∷ []
+-- the decisions of states 0 to 15 in state order, from two vectors (states 0 to 7 and 8 to 15) whose lanes are in bit-reversed order
+abbrev pub lane_decisions : List ℤ → List ℤ → List ℕ
+lane_decisions low high =
+    lane_decision (lane low 0) ∷ lane_decision (lane low 4) ∷ lane_decision (lane low 2) ∷ lane_decision (lane low 6) ∷
+    lane_decision (lane low 1) ∷ lane_decision (lane low 5) ∷ lane_decision (lane low 3) ∷ lane_decision (lane low 7) ∷
+    lane_decision (lane high 0) ∷ lane_decision (lane high 4) ∷ lane_decision (lane high 2) ∷ lane_decision (lane high 6) ∷
+    lane_decision (lane high 1) ∷ lane_decision (lane high 5) ∷ lane_decision (lane high 3) ∷ lane_decision (lane high 7) ∷ []
 
--- eight lanes, each -1 or 0
-pub record AreTaken (lanes : List ℤ) : Type 0 where
+-- eight decisions: each lane is -1 (for bit 1) or 0 (for bit 0)
+pub record AreDecisionLanes (lanes : List ℤ) : Type 0 where
   pub count : length lanes ≡ 8
   pub each : (k : ℕ) → k < 8 → (lane lanes k ≡ negsuc 0) ⊎ (lane lanes k ≡ pos 0)

@@ -1,14 +1,14 @@
--- The state of the backward pass of `keep`.
+-- The invariant of the backward pass of `fill_decisions`.
 use Rattle.std.specs.Prelude.{ℕ, ◌≡◌, ◌*◌, ◌<◌, ◌≤◌, ◌≤ℤ◌, ℤ, negsuc, List, length}
 use Rattle.trellis_decode.specs.Lanes.{AreSignedOctets, lane}
-use Rattle.trellis_decode.specs.Trellis.{IsBest, AreDecisions, read_out}
+use Rattle.trellis_decode.specs.Trellis.{IsSurvivor, AreDecisions, traceback}
 
--- decision rows and costs for the last positions, at least four, with the path metric of each state before them
-pub record HasDecisions (rows : List ℕ) (losses : List (List ℤ)) (soft values : List ℤ) : Type 0 where
+-- the decisions and their costs for the last positions (at least four), and the path metric of each state before these positions
+pub record HasDecisionsAndMetrics (rows : List ℕ) (losses : List (List ℤ)) (soft values : List ℤ) : Type 0 where
   pub decisions : AreDecisions rows losses soft
   pub count : length soft ≡ 2 * length rows
   pub same : length losses ≡ length rows
   pub at_least : 4 ≤ length rows
   pub octets : AreSignedOctets soft
   pub low : (s : ℕ) → s < 16 → negsuc 1023 ≤ℤ lane values s
-  pub best : (s : ℕ) → s < 16 → IsBest s (read_out rows s) soft (lane values s)
+  pub best : (s : ℕ) → s < 16 → IsSurvivor s (traceback rows s) soft (lane values s)

@@ -1,8 +1,8 @@
--- Lanes of vectors, and the range of soft bits.
+-- The lanes of SIMD vectors, and the range of a signed octet.
 use Rattle.std.specs.Prelude.{ℕ, ◌≤ℤ◌, ℤ, pos, negsuc, List, slice_index_or}
 use Rattle.std.specs.List.{All}
 
--- lane s of a vector
+-- lane s of a vector, or 0 if it has no such lane
 abbrev pub lane : List ℤ → ℕ → ℤ
 lane lanes s = slice_index_or lanes s (pos 0)
 

@@ -4,6 +4,6 @@ pub mod Decisions
 pub mod Lanes
 pub mod Trellis
 pub mod AcsLanes
-pub mod Walks
+pub mod SurvivorPaths
 pub mod Candidates
 pub mod Words

@@ -2,7 +2,7 @@
 use Rattle.std.specs.Prelude.{ℕ, ◌/◌, ◌%◌, ◌^◌, List, [], ◌∷◌}
 use Rattle.std.proofs.Common.{zero, suc}
 
--- the n bits of a number, most significant first
+-- the n lowest bits of a number, most significant bit first
 abbrev pub word : ℕ → ℕ → List ℕ
 word zero number = []
 word (suc n) number = (number / 2 ^ n % 2) ∷ word n number

@@ -1,21 +1,21 @@
-//! Branch metrics of four bits, from their eight soft values.
+//! The branch metrics of four bits, computed from their eight soft bits.
 
 ghost use Rattle.std.specs.Prelude.{◌≡◌, ℕ, ◌*◌, ◌<◌, length, slice_index_or, take, drop};
 ghost use Rattle.trellis_decode.specs.Lanes.{AreSignedOctets};
 ghost use Rattle.trellis_decode.specs.AcsLanes.{AreBranchMetrics, HasBranchMetrics};
 
-use crate::acs_lanes::Eight;
+use crate::acs_lanes::EightLanes;
 use std::simd::prelude::*;
 
-/// The branch metrics of four bits, each from a pair of soft values: the metric of bit 0 in the states 0 to 7, in bit-reversed order.
+/// For each of four bits, the branch metric of bit 0 in the states 0 to 7, in bit-reversed order, from the bit's pair of soft bits.
 ///
-/// Bit 1 has the negated metric, and so does bit 0 in the state 8 higher.
+/// The others are these metrics negated: bit 1 has the negated metric in the same state, and bit 0 has it in the state 8 higher.
 #[inline]
-pub fn four_branch_metrics(soft: &[i8]) -> [Eight; 4]
+pub fn four_branch_metrics(soft: &[i8]) -> [EightLanes; 4]
     requires count { length soft.now ≡ 8 }
     requires octets { AreSignedOctets soft.now }
-    ensures has { (k : ℕ) (d : Eight) → k < 4 → HasBranchMetrics (slice_index_or result k d).lanes (take 2 (drop (2 * k) soft.now)) }
-    ensures branch_metrics { (k : ℕ) (d : Eight) → k < 4 → AreBranchMetrics (slice_index_or result k d).lanes }
+    ensures has { (k : ℕ) (d : EightLanes) → k < 4 → HasBranchMetrics (slice_index_or result k d).lanes (take 2 (drop (2 * k) soft.now)) }
+    ensures branch_metrics { (k : ℕ) (d : EightLanes) → k < 4 → AreBranchMetrics (slice_index_or result k d).lanes }
 {
     let values = widened(soft);
     let firsts = values.swizzle::<8>([0, 0, 2, 2, 4, 4, 6, 6]);
@@ -25,22 +25,22 @@ pub fn four_branch_metrics(soft: &[i8]) -> [Eight; 4]
     let early = plain.shuffle::<8>(bit_reversed, [0, 8, 1, 9, 2, 10, 3, 11]);
     let late = plain.shuffle::<8>(bit_reversed, [4, 12, 5, 13, 6, 14, 7, 15]);
     [
-        Eight {
+        EightLanes {
             lanes: early.swizzle::<8>([0, 1, 0, 1, 2, 3, 2, 3]),
         },
-        Eight {
+        EightLanes {
             lanes: early.swizzle::<8>([4, 5, 4, 5, 6, 7, 6, 7]),
         },
-        Eight {
+        EightLanes {
             lanes: late.swizzle::<8>([0, 1, 0, 1, 2, 3, 2, 3]),
         },
-        Eight {
+        EightLanes {
             lanes: late.swizzle::<8>([4, 5, 4, 5, 6, 7, 6, 7]),
         },
     ]
 }
 
-/// Widens eight soft values to 16 bits.
+/// Widens eight soft bits to 16-bit numbers.
 fn widened(soft: &[i8]) -> i16x8
     requires count { length soft.now ≡ 8 }
     requires octets { AreSignedOctets soft.now }

@@ -18,41 +18,41 @@ mod trellis;
 
 ghost use Rattle.std.specs.Prelude.{◌≡◌, ℕ, ◌*◌, ◌≤◌, List, length};
 ghost use Rattle.conv_code.specs.Code.{encoding};
-ghost use Rattle.conv_code.specs.Likelihood.{AllSoft, IsMostLikely, likelihood};
+ghost use Rattle.conv_code.specs.Likelihood.{AllSoftBits, IsMostLikely, likelihood};
 
-use crate::backward::{fill_survivors, walk_places};
+use crate::backward::{extend_survivors, fill_survivors};
 use crate::hard::{are_hard, decode_hard};
-use crate::survivors::{follow_survivors, write_few};
-use bit_blocks::INFORMATION_BITS;
+use crate::survivors::{trace_back_survivors, write_last_state_bits};
+pub use conv_code::{CODED_BITS, INFORMATION_BITS};
 pub use exhaustive::search;
-pub use trellis::{fill_decisions, read_list};
+pub use trellis::{fill_decisions, trace_back};
 
-/// Writes the most likely information list for the soft values, the lexicographically first of equally likely ones, and returns its path
-/// metric.
+/// Writes the most likely information list for the soft bits to `u` and returns its path metric. Of equally likely lists, it takes the
+/// first in lexicographic order.
 ///
-/// `soft` has two values for each bit of `u`. The old content of `u` is ignored.
+/// `soft` has two soft bits for each bit of `u`. The old content of `u` is ignored.
 pub fn decode(soft: &[i8], u: &mut [u8]) -> i32
     requires count { length soft.now ≡ 2 * length u.old }
     requires at_least { 5 ≤ length u.old }
     requires at_most { length u.old ≤ INFORMATION_BITS }
-    requires soft { AllSoft soft.now }
+    requires soft { AllSoftBits soft.now }
     ensures best { IsMostLikely soft.now u.new }
     ensures value { result ≡ likelihood soft.now (encoding u.new) }
     ensures only { (v : List ℕ) → IsMostLikely soft.now v → v ≡ u.new }
 {
-    // The first eight values almost always show that the soft values are not hard bits.
+    // If not all soft bits are hard bits, the first eight almost always show it.
     if u.len() % 4 == 0 && are_hard(&soft[..8]) && are_hard(soft) {
         return decode_hard(soft, u);
     }
     decode_soft(soft, u)
 }
 
-/// Does what `decode` does, for any soft values.
+/// Decodes as `decode` does, but without the faster decoder for hard bits.
 fn decode_soft(soft: &[i8], u: &mut [u8]) -> i32
     requires count { length soft.now ≡ 2 * length u.old }
     requires at_least { 5 ≤ length u.old }
     requires at_most { length u.old ≤ INFORMATION_BITS }
-    requires soft { AllSoft soft.now }
+    requires soft { AllSoftBits soft.now }
     ensures best { IsMostLikely soft.now u.new }
     ensures value { result ≡ likelihood soft.now (encoding u.new) }
 {
@@ -60,10 +60,10 @@ fn decode_soft(soft: &[i8], u: &mut [u8]) -> i32
     let mut survivors = [[0; 16]; 57];
     let survivors = &mut survivors[..u.len() / 4];
     let values = fill_survivors(&soft[2 * few..], survivors);
-    let walk = walk_places(values, &soft[..8], few);
+    let walk = extend_survivors(values, &soft[..8], few);
     let at = walk.map.to_array()[0] % 16;
     let (first, others) = u.split_at_mut(few);
-    write_few(at, few, first);
-    follow_survivors(survivors, at, others);
-    walk.values.of_state_0()
+    write_last_state_bits(at, few, first);
+    trace_back_survivors(survivors, at, others);
+    walk.values.metric_of_state_0()
 }

@@ -1,77 +1,79 @@
-//! Survivor maps: for each state, the state in which its survivor ends after a few bits. With a map for four bits, traceback takes one
-//! lookup for four bits.
+//! A survivor map tells, for each state, in which state its survivor ends after a few bits. With maps over four bits, traceback needs
+//! one lookup for every four bits.
 
 ghost use Rattle.std.specs.Prelude.{◌≡◌, ℕ, ◌+◌, ◌-◌, ◌*◌, ◌<◌, List, [], ◌++◌, ℤ, length, drop, slice_index};
 ghost use Rattle.trellis_decode.specs.Lanes.{AreSignedOctets};
 ghost use Rattle.trellis_decode.specs.Trellis.{next};
-ghost use Rattle.trellis_decode.specs.AcsLanes.{AreBranchMetrics, AreNarrow, AreTaken, choices, HasBranchMetrics, HaveHeadroom, lane_of};
+ghost use Rattle.trellis_decode.specs.AcsLanes.{AreBranchMetrics, AreInt16, AreDecisionLanes, lane_decisions, HasBranchMetrics};
+ghost use Rattle.trellis_decode.specs.AcsLanes.{HaveHeadroom16, lane_of_state};
 ghost use Rattle.trellis_decode.specs.AcsLanes.{path_metric};
-ghost use Rattle.trellis_decode.specs.Walks.{AreWithin, IsWalk, read_survivors};
+ghost use Rattle.trellis_decode.specs.SurvivorPaths.{AreMetricsWithin, AreSurvivors, traceback_of_survivors};
 ghost use Rattle.trellis_decode.specs.Words.{word};
 
-use crate::acs_lanes::{Eight, Taken};
-use crate::acs_step::{Step, Values};
-use crate::hard::{StateLanes, selected_lanes};
+use crate::acs_lanes::{EightDecisions, EightLanes};
+use crate::acs_step::{PathMetrics, Step};
+use crate::hard::{StateLanes, extend_map_fixed};
 use std::simd::prelude::*;
 
-/// The survivors from all states over a few bits.
+/// The survivors of all states over a few bits.
 #[derive(Clone, Copy)]
-pub struct Walk {
-    /// The path metrics before those bits.
-    pub values: Values,
-    /// The survivor map: for each state, at its place, the place of the state in which its survivor ends.
+pub struct Survivors {
+    /// The path metrics before these bits.
+    pub values: PathMetrics,
+    /// The survivor map: the lane of each state holds the lane of the state in which its survivor ends.
     pub map: u8x16,
 }
 
-impl Walk {
-    /// The survivors over no bits.
-    pub fn new(values: Values) -> Walk
-        requires even { AreNarrow values.even.lanes }
-        requires odd { AreNarrow values.odd.lanes }
+impl Survivors {
+    /// The survivors over zero bits: each ends in the state in which it starts.
+    pub fn new(values: PathMetrics) -> Survivors
+        requires even { AreInt16 values.even.lanes }
+        requires odd { AreInt16 values.odd.lanes }
         ensures even { result.values.even.lanes ≡ values.even.lanes }
         ensures odd { result.values.odd.lanes ≡ values.odd.lanes }
-        ensures walk { IsWalk (path_metric values) (path_metric values) result.map [] }
+        ensures walk { AreSurvivors (path_metric values) (path_metric values) result.map [] }
         ensures count { length result.map ≡ 16 }
     {
-        Walk {
+        Survivors {
             values,
             map: u8x16::from_array([0, 1, 2, 3, 4, 5, 6, 7, 8, 9, 10, 11, 12, 13, 14, 15]),
         }
     }
 
-    /// Extends the survivors by one bit at the front, whose branch metrics are `edges`.
-    pub fn step(self, branch_metrics: Eight) -> Walk
-        requires even { HaveHeadroom self.values.even.lanes }
-        requires odd { HaveHeadroom self.values.odd.lanes }
+    /// Extends each survivor by one bit at its front; `branch_metrics` are the branch metrics of that bit.
+    pub fn step(self, branch_metrics: EightLanes) -> Survivors
+        requires even { HaveHeadroom16 self.values.even.lanes }
+        requires odd { HaveHeadroom16 self.values.odd.lanes }
         requires count { length self.map ≡ 16 }
         requires branch_metrics { AreBranchMetrics branch_metrics.lanes }
         ensures walk { (pair : List ℤ) → HasBranchMetrics branch_metrics.lanes pair → (after soft : List ℤ) →
-            IsWalk after (path_metric self.values) self.map soft →
-            IsWalk after (path_metric result.values) result.map (pair ++ soft) }
+            AreSurvivors after (path_metric self.values) self.map soft →
+            AreSurvivors after (path_metric result.values) result.map (pair ++ soft) }
         ensures within { (pair : List ℤ) → HasBranchMetrics branch_metrics.lanes pair → AreSignedOctets pair → (most : ℕ) →
-            AreWithin most (path_metric self.values) →
-            AreWithin (most + 256) (path_metric result.values) }
-        ensures even { AreNarrow result.values.even.lanes }
-        ensures odd { AreNarrow result.values.odd.lanes }
+            AreMetricsWithin most (path_metric self.values) →
+            AreMetricsWithin (most + 256) (path_metric result.values) }
+        ensures even { AreInt16 result.values.even.lanes }
+        ensures odd { AreInt16 result.values.odd.lanes }
         ensures count { length result.map ≡ 16 }
     {
         let step = Step::new(self.values, branch_metrics);
-        Walk {
+        Survivors {
             values: step.values,
-            map: followed(self.map, step.low, step.high),
+            map: extend_map(self.map, step.low, step.high),
         }
     }
 }
 
-/// Extends a survivor map by one bit at the front: the decision of each state.
+/// Extends a survivor map by one bit at the front, which is the decision of each state.
 ///
-/// A map has the states 0 to 7 in bit-reversed order, and then the states 8 to 15 in the same order.
-fn followed(map: u8x16, low: Taken, high: Taken) -> u8x16
+/// The lanes of a map are the states 0 to 7 in bit-reversed order, then the states 8 to 15 in the same order.
+fn extend_map(map: u8x16, low: EightDecisions, high: EightDecisions) -> u8x16
     requires map { length map ≡ 16 }
-    requires low { AreTaken low.lanes }
-    requires high { AreTaken high.lanes }
+    requires low { AreDecisionLanes low.lanes }
+    requires high { AreDecisionLanes high.lanes }
     ensures each { (s : ℕ) → s < 16 →
-        slice_index result (lane_of s) ≡ slice_index map (lane_of (next s (slice_index (choices low.lanes high.lanes) s))) }
+        slice_index result (lane_of_state s) ≡ slice_index map (lane_of_state (next s (slice_index
+        (lane_decisions low.lanes high.lanes) s))) }
     ensures count { length result ≡ 16 }
 {
     let taken = StateLanes {
@@ -83,11 +85,11 @@ fn followed(map: u8x16, low: Taken, high: Taken) -> u8x16
     let none = StateLanes {
         lanes: i8x16::splat(0),
     };
-    selected_lanes(map, taken, none)
+    extend_map_fixed(map, taken, none)
 }
 
-/// The four bits of the state at each place, the oldest first.
-static BITS: [[u8; 4]; 16] = [
+/// The four bits of the state in each lane of a survivor map, the oldest bit first.
+static STATE_BITS: [[u8; 4]; 16] = [
     [0, 0, 0, 0],
     [0, 1, 0, 0],
     [0, 0, 1, 0],
@@ -106,19 +108,19 @@ static BITS: [[u8; 4]; 16] = [
     [1, 1, 1, 1],
 ];
 
-/// The four bits of the state at a place.
+/// The four bits of the state in lane `at` of a survivor map, the oldest bit first.
 fn bits_at(at: u8) -> [u8; 4]
     requires { at < 16 }
-    ensures { result ≡ word 4 (lane_of at) }
+    ensures { result ≡ word 4 (lane_of_state at) }
 {
-    BITS[usize::from(at)]
+    STATE_BITS[usize::from(at)]
 }
 
-/// Traceback: follows the maps from place `at` on, and writes the four bits of each state that is reached.
-pub fn follow_survivors(survivors: &[[u8; 16]], at: u8, u: &mut [u8])
+/// Traceback: follows the survivor maps from lane `at`, and writes the four bits of each state that it reaches.
+pub fn trace_back_survivors(survivors: &[[u8; 16]], at: u8, u: &mut [u8])
     requires count { length u.old ≡ 4 * length survivors.now }
     requires at { at < 16 }
-    ensures { u.new ≡ read_survivors survivors.now at }
+    ensures { u.new ≡ traceback_of_survivors survivors.now at }
 {
     let mut at = at;
     for (group, map) in survivors.iter().enumerate() {
@@ -127,12 +129,12 @@ pub fn follow_survivors(survivors: &[[u8; 16]], at: u8, u: &mut [u8])
     }
 }
 
-/// Writes the last `few` bits of the state at a place, which lead to it from state 0.
-pub fn write_few(at: u8, few: usize, u: &mut [u8])
+/// Writes the last `few` bits of the state in lane `at`, which are the bits that lead from state 0 to this state.
+pub fn write_last_state_bits(at: u8, few: usize, u: &mut [u8])
     requires count { length u.old ≡ few }
     requires few { few < 4 }
     requires at { at < 16 }
-    ensures { u.new ≡ drop (4 - few) (word 4 (lane_of at)) }
+    ensures { u.new ≡ drop (4 - few) (word 4 (lane_of_state at)) }
 {
     u.copy_from_slice(&bits_at(at)[4 - few..]);
 }

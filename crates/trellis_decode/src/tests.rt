@@ -1,8 +1,8 @@
 use super::*;
-use bit_blocks::{CODED_BITS, INFORMATION_BITS};
+use conv_code::{CODED_BITS, INFORMATION_BITS};
 use std::test::Fail;
 
-// `decode`, or `None` if a condition of its contract does not hold.
+// Calls `decode`, or returns `None` if a precondition of its contract does not hold.
 fn decoded(soft: &[i8], u: &mut [u8]) -> Option<i32> {
     if soft.len() != 2 * u.len() || u.len() < 5 || u.len() > INFORMATION_BITS {
         return None;
@@ -24,7 +24,7 @@ fn searched(soft: &[i8], u: &mut [u8]) -> Option<i32> {
 }
 
 #[test]
-fn takes_the_first_list_where_nothing_is_known(rt: HostRuntime) -> Result<(), Fail> {
+fn decodes_erased_bits_to_zeros(rt: HostRuntime) -> Result<(), Fail> {
     let soft = [0; CODED_BITS];
     for length in [5, 6, 7, 8, 17, 18, 39, 127, 227, INFORMATION_BITS] {
         let mut u = [9; INFORMATION_BITS];
@@ -36,7 +36,7 @@ fn takes_the_first_list_where_nothing_is_known(rt: HostRuntime) -> Result<(), Fa
 }
 
 #[test]
-fn lets_a_strong_value_outweigh_weak_ones(rt: HostRuntime) -> Result<(), Fail> {
+fn lets_a_strong_soft_bit_outweigh_weak_ones(rt: HostRuntime) -> Result<(), Fail> {
     let mut soft = [1; 36];
     soft[0] = -7;
     let mut u = [9; 18];
@@ -46,7 +46,7 @@ fn lets_a_strong_value_outweigh_weak_ones(rt: HostRuntime) -> Result<(), Fail> {
 }
 
 #[test]
-fn ends_with_four_zeros(rt: HostRuntime) -> Result<(), Fail> {
+fn decodes_only_lists_with_zero_tail(rt: HostRuntime) -> Result<(), Fail> {
     let mut soft = [1; 36];
     soft[34] = -1;
     soft[35] = -1;
@@ -56,7 +56,7 @@ fn ends_with_four_zeros(rt: HostRuntime) -> Result<(), Fail> {
     Ok(())
 }
 
-// Hard bits: 127 for a 0, -127 for a 1.
+// Writes coded bits as hard bits: 127 for a 0, -127 for a 1.
 fn hard(coded: &[u8], soft: &mut [i8]) {
     for (value, bit) in soft.iter_mut().zip(coded) {
         *value = if *bit == 0 { 127 } else { -127 };
@@ -64,7 +64,7 @@ fn hard(coded: &[u8], soft: &mut [i8]) {
 }
 
 #[test]
-fn reads_a_synchronisation_word(rt: HostRuntime) -> Result<(), Fail> {
+fn decodes_a_synchronisation_burst(rt: HostRuntime) -> Result<(), Fail> {
     let coded = [
         0, 0, 0, 0, 0, 0, 0, 0, 0, 0, 0, 0, 0, 0, 0, 0, 0, 0, 0, 0, 0, 0, 0, 0, 0, 0, 0, 0, 0, 0,
         0, 0, 0, 0, 0, 0, 0, 0, 0, 0, 0, 0, 0, 0, 0, 0, 0, 0, 0, 0, 1, 1, 1, 0, 1, 0, 0, 1, 1, 0,
@@ -82,8 +82,8 @@ fn reads_a_synchronisation_word(rt: HostRuntime) -> Result<(), Fail> {
     Ok(())
 }
 
-// Pseudo-random values of -1, 0 and 1, so that many lists tie, and a few of 127.
-fn noise(soft: &mut [i8], start: u32) {
+// Pseudo-random soft bits: mostly -1, 0 and 1, so that many lists tie, and some of 127.
+fn fill_with_noise(soft: &mut [i8], start: u32) {
     let mut seed = start;
     for value in soft.iter_mut() {
         seed ^= seed << 13;
@@ -98,12 +98,12 @@ fn noise(soft: &mut [i8], start: u32) {
 }
 
 #[test]
-fn answers_as_the_search_over_all_lists(rt: HostRuntime) -> Result<(), Fail> {
+fn agrees_with_exhaustive_search(rt: HostRuntime) -> Result<(), Fail> {
     for length in [5, 6, 7, 8, 9, 10, 11] {
         for seed in 1..30 {
             assert!(rt; length <= 11);
             let mut soft = [0; 22];
-            noise(&mut soft, seed);
+            fill_with_noise(&mut soft, seed);
             let soft = &soft[..2 * length];
             let mut u = [9; 11];
             let mut v = [9; 11];

@@ -1,20 +1,21 @@
-//! The Viterbi algorithm for a list decoder: it keeps each decision and its cost, from the last bit to the first. `decode` keeps only
-//! survivor maps.
+//! The Viterbi algorithm for a list decoder. From the last bit to the first, it keeps every decision and its cost, where `decode` keeps
+//! only survivor maps.
 
 ghost use Rattle.std.specs.Prelude.{◌≡◌, ◌+◌, ◌*◌, ◌<◌, ◌≤◌, drop, length};
 ghost use Rattle.std.specs.List.{All};
-ghost use Rattle.trellis_decode.specs.Decisions.{HasDecisions};
+ghost use Rattle.trellis_decode.specs.Decisions.{HasDecisionsAndMetrics};
 ghost use Rattle.trellis_decode.specs.Lanes.{AreSignedOctets};
-ghost use Rattle.trellis_decode.specs.Trellis.{AreDecisions, read_out};
-ghost use Rattle.trellis_decode.specs.AcsLanes.{AreNarrow, path_metric};
+ghost use Rattle.trellis_decode.specs.Trellis.{AreDecisions, traceback};
+ghost use Rattle.trellis_decode.specs.AcsLanes.{AreInt16, path_metric};
 
-use crate::acs_step::Values;
-use crate::backward::closing_values;
+use crate::acs_step::PathMetrics;
+use crate::backward::tail_metrics;
 use crate::branch_metrics::four_branch_metrics;
 use crate::decision_step::DecisionStep;
-use bit_blocks::INFORMATION_BITS;
+use conv_code::INFORMATION_BITS;
 
-/// Writes the decisions of all states at each bit, and the cost of the other decision.
+/// Writes, for each bit, the decisions of all states to `rows` (bit `s` is the decision of state `s`), and to `losses` how much path
+/// metric the other decision would lose in each state.
 pub fn fill_decisions(soft: &[i8], rows: &mut [u16], losses: &mut [[i16; 16]])
     requires count { length soft.now ≡ 2 * length rows.old }
     requires same { length losses.old ≡ length rows.old }
@@ -25,17 +26,17 @@ pub fn fill_decisions(soft: &[i8], rows: &mut [u16], losses: &mut [[i16; 16]])
     ensures count { length soft.now ≡ 2 * length rows.new }
     ensures octets { AreSignedOctets soft.now }
 {
-    see_octets(soft);
+    prove_octet_range(soft);
     let few = rows.len() % 4;
-    let mut values = closing_values(&soft[2 * (rows.len() - 4)..]);
+    let mut values = tail_metrics(&soft[2 * (rows.len() - 4)..]);
     for group in (0..rows.len() / 4 - 1).rev() {
-        values = fill_places(values, soft, few + 4 * group, 4, rows, losses);
+        values = fill_decision_rows(values, soft, few + 4 * group, 4, rows, losses);
     }
-    fill_places(values, soft, 0, few, rows, losses);
+    fill_decision_rows(values, soft, 0, few, rows, losses);
 }
 
-/// Shows that the soft values are between -128 and 127, because each read value is. The compiler removes the loop.
-fn see_octets(soft: &[i8])
+/// Shows the prover that every soft bit is between -128 and 127, because each one read is an `i8`. The compiler removes the loop.
+fn prove_octet_range(soft: &[i8])
     ensures { AreSignedOctets soft.now }
 {
     for (k, value) in soft.iter().enumerate() {
@@ -43,30 +44,32 @@ fn see_octets(soft: &[i8])
     }
 }
 
-/// Does what `keep` does for `places` bits from `first` on. `after` are the path metrics after them; returns those before them.
+/// Does the work of `fill_decisions` for `places` bits from index `first` on. `after` holds the path metrics after these bits; the
+/// result, those before them.
 #[inline]
-fn fill_places(
-    after: Values,
+fn fill_decision_rows(
+    after: PathMetrics,
     soft: &[i8],
     first: usize,
     places: usize,
     rows: &mut [u16],
     losses: &mut [[i16; 16]],
-) -> Values
+) -> PathMetrics
     requires places { places ≤ 4 }
     requires inside { first + 4 ≤ length rows.old }
     requires count { length soft.now ≡ 2 * length rows.old }
     requires same { length losses.old ≡ length rows.old }
     requires at_most { length rows.old ≤ INFORMATION_BITS }
     requires octets { AreSignedOctets soft.now }
-    requires decided { HasDecisions (drop (first + places) rows.old) (drop (first + places) losses.old)
+    requires decided { HasDecisionsAndMetrics (drop (first + places) rows.old) (drop (first + places) losses.old)
         (drop (2 * (first + places)) soft.now)
         (path_metric after) }
-    requires even { AreNarrow after.even.lanes }
-    requires odd { AreNarrow after.odd.lanes }
-    ensures decided { HasDecisions (drop first rows.new) (drop first losses.new) (drop (2 * first) soft.now) (path_metric result) }
-    ensures even { AreNarrow result.even.lanes }
-    ensures odd { AreNarrow result.odd.lanes }
+    requires even { AreInt16 after.even.lanes }
+    requires odd { AreInt16 after.odd.lanes }
+    ensures decided { HasDecisionsAndMetrics (drop first rows.new) (drop first losses.new) (drop (2 * first) soft.now)
+        (path_metric result) }
+    ensures even { AreInt16 result.even.lanes }
+    ensures odd { AreInt16 result.odd.lanes }
 {
     let branch_metrics = four_branch_metrics(&soft[2 * first..2 * first + 8]);
     let mut values = after;
@@ -79,11 +82,11 @@ fn fill_places(
     values
 }
 
-/// Traceback: follows the decisions from a state, and writes them.
-pub fn read_list(rows: &[u16], state: u16, u: &mut [u8])
+/// Traceback: follows the decisions from `state`, and writes them to `u`.
+pub fn trace_back(rows: &[u16], state: u16, u: &mut [u8])
     requires count { length u.old ≡ length rows.now }
     requires state { state < 16 }
-    ensures { u.new ≡ read_out rows.now state }
+    ensures { u.new ≡ traceback rows.now state }
 {
     let mut state = state;
     for (k, row) in rows.iter().enumerate() {

@@ -1,24 +1,23 @@
-//! The program `um`: calls `run` with its arguments and standard streams, and exits with the number
-//! of the status.
+//! The program `um`: calls `run` with the command-line words and the standard streams, and exits with the number of the status.
 #![tactic(auto)]
 
 use std::env;
 use std::io::ErrorKind;
 use std::process::ExitCode;
-use um_block::PlainRadio;
-use um_cli::{Words, run};
-use um_io::{ReadSource, WriteSink};
+use um_cli::{PlainRadio, ReadSource, Words, WriteSink, run};
 
-/// Exit status if memory is lacking to read the arguments; `NO_WORDS` for any other failure.
-const NO_MEMORY: u8 = 6;
+/// The exit status if there is too little memory to read the command-line words; it is `NO_WORDS_STATUS` if reading them fails otherwise.
+const NO_MEMORY_STATUS: u8 = 6;
 
-const NO_WORDS: u8 = 8;
+const NO_WORDS_STATUS: u8 = 8;
 
 fn main(rt: HostRuntime) -> ExitCode {
     let arguments = match env::args(&rt) {
         Ok(arguments) => arguments,
-        Err(error) if error.kind() == ErrorKind::OutOfMemory => return ExitCode::from(NO_MEMORY),
-        Err(_) => return ExitCode::from(NO_WORDS),
+        Err(error) if error.kind() == ErrorKind::OutOfMemory => return ExitCode::from(
+            NO_MEMORY_STATUS,
+        ),
+        Err(_) => return ExitCode::from(NO_WORDS_STATUS),
     };
     let mut words = Words::new();
     for word in arguments.skip(1) {

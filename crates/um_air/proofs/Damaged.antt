@@ -1,19 +1,17 @@
--- Lightly damaged bursts are received as the block that was sent: the decoder corrects them (`weight_bound`).
+-- Lightly damaged bursts are accepted with the octets that were sent, because the decoder corrects them (`weight_bound`).
 use Rattle.um_air.proofs.Words.{◌≡◌, ℕ, ℤ, ◌≤◌, List, map, length, Some, IsSentBlock, soft_bits, IsReceivedBlock, Received}
-use Rattle.um_air.proofs.Words.{some_received_block, restored_block, Block, with_flips}
-use Rattle.um_air.specs.Damage.{AreLightlyDamaged}
-use Rattle.um_air.proofs.FewFlipped.{lightly_damaged}
-use Rattle.um_air.proofs.GoingOn.{flipped_shape}
+use Rattle.um_air.proofs.{Words.{some_received_block, restored_block, Block, with_bits_inverted}, FewFlipped.lightly_damaged}
+use Rattle.um_air.{proofs.AnswerExists.flipped_shape, specs.Damage.AreLightlyDamaged}
 
 pub damaged_received : (octets : List ℕ) (bursts : List (List ℤ)) (r : Received) → AreLightlyDamaged octets bursts →
     IsReceivedBlock bursts r → r.accepted ≡ Some octets
 damaged_received octets bursts r h is = restored_block bursts octets h.bits h.soft r h.coded h.gathered h.damage is
 
 pub flipped_damaged : (octets : List ℕ) (tsc : ℕ) (block : Block) (places : List ℕ) → IsSentBlock octets tsc block → length places ≤ 3 →
-    AreLightlyDamaged octets (map soft_bits (with_flips places block))
+    AreLightlyDamaged octets (map soft_bits (with_bits_inverted places block))
 flipped_damaged octets tsc block places sent few =
     let shape = flipped_shape octets tsc block places sent in
-    let (r, is) = some_received_block (map soft_bits (with_flips places block)) shape.0 shape.1 in
+    let (r, is) = some_received_block (map soft_bits (with_bits_inverted places block)) shape.0 shape.1 in
     record {
       bits = sent.coded_bits;
       coded = sent.code;

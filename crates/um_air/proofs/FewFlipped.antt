@@ -1,26 +1,26 @@
--- A block with at most three inverted bits is accepted with the octets that were sent:
--- at most three of its 456 soft values are wrong, and the decoder corrects these.
-use Rattle.um_air.proofs.Words.{◌≡◌, ◌≢◌, refl, sym, ◌∙◌, ap, arith, ℕ, ◌+◌, ◌*◌, ◌/◌, ◌%◌, ◌<◌}
-use Rattle.um_air.proofs.Words.{◌≤◌, Bool, true, false, ◌||◌, ◌==◌, if◌then◌else◌, nat_eq, ℤ, pos, negsuc, List, []}
-use Rattle.um_air.proofs.Words.{◌∷◌, map, length, get_or, take, drop, All, Some, inl, inr, unsigned_abs, cases_eq, nat_tests}
-use Rattle.um_air.proofs.Words.{get_or-set_other, get_or_default, get_or-take, get_or-drop, length-take, length-append, get_or-map}
-use Rattle.um_air.proofs.Words.{map-set_same, wrong_places, burst_of, place_of, burst_place, IsInterleaved, burst_place-lower}
-use Rattle.um_air.proofs.Words.{burst_place-upper, burst_of-below, halves-at, IsLightlyDamaged, IsLightlyDamaged-equal, IsSentBlock}
-use Rattle.um_air.proofs.Words.{soft_value, soft_bits, coded_places, IsReceivedBlock, Received, AreBits, few_spoilt, clean_gathered}
-use Rattle.um_air.proofs.Words.{coded_block_bits, restored_block, Block, with_flip, with_flips}
+-- A block with at most three inverted bits is accepted with the octets that were sent: at most three of its 456 soft values are wrong, and
+-- the decoder corrects that many.
+use Rattle.um_air.proofs.Words.{◌≡◌, ◌≢◌, refl, sym, ◌∙◌, ap, arith, ℕ, ◌+◌, ◌*◌, ◌/◌, ◌%◌, ◌<◌, ◌≤◌, Bool, true, false, ◌||◌, ◌==◌}
+use Rattle.um_air.proofs.Words.{if◌then◌else◌, nat_eq, ℤ, pos, negsuc, List, [], ◌∷◌, map, length, get_or, take, drop, All, Some, inl, inr}
+use Rattle.um_air.proofs.Words.{unsigned_abs, cases_eq, nat_tests, get_or-set_other, get_or_default, get_or-take, get_or-drop, length-take}
+use Rattle.um_air.proofs.Words.{length-append, get_or-map, map-set_same, count_wrong_bits, burst_of, position_in_burst}
+use Rattle.um_air.proofs.Words.{position_in_four_bursts, IsInterleaved, position_in_four_bursts-lower, position_in_four_bursts-upper}
+use Rattle.um_air.proofs.Words.{burst_of-below, halves-at, IsLightlyDamaged, IsLightlyDamaged-equal, IsSentBlock, soft_bit_of, soft_bits}
+use Rattle.um_air.proofs.Words.{coded_soft_bits, IsReceivedBlock, Received, AreBits, few_listed_positions, clean_gathered, coded_block_bits}
+use Rattle.um_air.proofs.Words.{restored_block, Block, with_bit_inverted, with_bits_inverted}
 use Rattle.um_block.proofs.Lemmas.{listed}
 use Rattle.um_block.specs.burst_map.NormalBurst as N
 
--- bit q of the four bursts, one after another
+-- the bit with index q, 0 to 591, of the four bursts one after another
 abbrev bit_at : Block → ℕ → ℕ
 bit_at block q = get_or (get_or block (q / 148) []) (q % 148) 0
 
-other_bit : (place q : ℕ) (block : Block) → q ≢ place → bit_at (with_flip place block) q ≡ bit_at block q
+other_bit : (place q : ℕ) (block : Block) → q ≢ place → bit_at (with_bit_inverted place block) q ≡ bit_at block q
 other_bit place q block other =
     let bit : List ℕ → ℕ = λ burst. get_or burst (q % 148) 0 in
     elim (cases_eq (q % 148) (place % 148)) [
       | inl same ↦ ap bit (get_or-set_other block (place / 148) (q / 148) _ [] (λ e. omega (arith, same, e, other)))
-      | inr apart ↦ sym (get_or-map bit (with_flip place block) (q / 148) []) ∙ ap (λ bits. get_or bits (q / 148) 0)
+      | inr apart ↦ sym (get_or-map bit (with_bit_inverted place block) (q / 148) []) ∙ ap (λ bits. get_or bits (q / 148) 0)
           (map-set_same bit block (place / 148) _ [] (get_or-set_other (get_or block (place / 148) []) (place % 148) (q % 148) _ 0 apart))
           ∙ get_or-map bit block (q / 148) []
     ]
@@ -28,67 +28,81 @@ other_bit place q block other =
 or_false : (a b : Bool) → (a || b) ≡ false → (a ≡ false) × (b ≡ false)
 or_false a b h = grind arith
 
-flipped-other : (places : List ℕ) (block : Block) (q : ℕ) → listed q places ≡ false → bit_at (with_flips places block) q ≡ bit_at block q
+flipped-other : (places : List ℕ) (block : Block) (q : ℕ) → listed q places ≡ false →
+    bit_at (with_bits_inverted places block) q ≡ bit_at block q
 unfolding listed
 flipped-other [] block q h = refl
 flipped-other (p ∷ ps) block q h =
     let parts : (nat_eq q p ≡ false) × (listed q ps ≡ false) = or_false _ _ h in
     let first : nat_eq q p ≡ false = parts.0 in
-    flipped-other ps (with_flip p block) q parts.1 ∙ other_bit p q block (grind (arith, nat_tests))
+    flipped-other ps (with_bit_inverted p block) q parts.1 ∙ other_bit p q block (grind (arith, nat_tests))
 
 -- ---- the soft values of a block
 
-soft_value-strength : (x : ℕ) → unsigned_abs (soft_value x) ≡ 127
-soft_value-strength x =
+soft_bit_of-strength : (x : ℕ) → unsigned_abs (soft_bit_of x) ≡ 127
+soft_bit_of-strength x =
     elim (x == 0) as (λ (b : Bool). unsigned_abs (if b then pos 127 else negsuc 126) ≡ 127) [ true ↦ refl | false ↦ refl ]
 
--- soft value i of the part of a burst that begins at bit `low`
+-- the soft value with index i in the 57 coded bits of a burst that begin at bit `low`
 part_at : (block : Block) (b low i q : ℕ) → i < 57 → low ≤ 88 → q ≡ 148 * b + low + i →
-    get_or (take 57 (drop low (soft_bits (get_or block b [])))) i (pos 127) ≡ soft_value (bit_at block q)
+    get_or (take 57 (drop low (soft_bits (get_or block b [])))) i (pos 127) ≡ soft_bit_of (bit_at block q)
 part_at block b low i q l within at =
     let burst : List ℕ = get_or block b [] in
     let of : q / 148 ≡ b = omega arith in
     let place : q % 148 ≡ low + i = omega arith in
     get_or-take 57 (drop low (soft_bits burst)) i (pos 127) l ∙ get_or-drop low (soft_bits burst) i (pos 127)
-    ∙ get_or-map soft_value burst (low + i) 0 ∙ rw (of, place) refl
+    ∙ get_or-map soft_bit_of burst (low + i) 0 ∙ rw (of, place) refl
 
-module _ (block : Block) (soft : List ℤ) (gathered : IsInterleaved soft (map coded_places (map soft_bits block))) where
-  soft_at : (k : ℕ) → k < 456 → get_or soft k (pos 127) ≡ soft_value (bit_at block (burst_place k))
+module _ (block : Block) (soft : List ℤ) (gathered : IsInterleaved soft (map coded_soft_bits (map soft_bits block))) where
+  soft_at : (k : ℕ) → k < 456 → get_or soft k (pos 127) ≡ soft_bit_of (bit_at block (position_in_four_bursts k))
   soft_at k h =
       let b : ℕ = burst_of k in
       let s : List ℤ = soft_bits (get_or block b []) in
-      let here : get_or (map coded_places (map soft_bits block)) b [] ≡ coded_places s =
-      get_or-map coded_places (map soft_bits block) b [] ∙ ap coded_places (get_or-map soft_bits block b []) in
-      let long : length (coded_places s) ≡ 114 = ap length (sym here)
+      let here : get_or (map coded_soft_bits (map soft_bits block)) b [] ≡ coded_soft_bits s =
+      get_or-map coded_soft_bits (map soft_bits block) b [] ∙ ap coded_soft_bits (get_or-map soft_bits block b []) in
+      let long : length (coded_soft_bits s) ≡ 114 = ap length (sym here)
       ∙ gathered.each_count b [] (omega (arith, burst_of-below k, gathered.burst_count)) in
       let first : length (N.first_half s) ≡ 57 = omega (arith, long, length-append {A = ℤ}, length-take {A = ℤ}) in
-      sym (gathered.places k (pos 127) h) ∙ ap (λ xs. get_or xs (place_of k) (pos 127)) here
-      ∙ halves-at (N.first_half s) (N.second_half s) k (pos 127) (soft_value (bit_at block (burst_place k))) first
-      (λ i l e. part_at block b 3 i (burst_place k) l (omega arith) (omega (arith, e, l, burst_place-lower k (omega (arith, e, l)))))
-      (λ i l e. part_at block b 88 i (burst_place k) l (omega arith) (omega (arith, e, l, burst_place-upper k (omega (arith, e, l)))))
+      sym (gathered.places k (pos 127) h) ∙ ap (λ xs. get_or xs (position_in_burst k) (pos 127)) here
+      ∙ halves-at (N.first_half s) (N.second_half s) k (pos 127) (soft_bit_of (bit_at block (position_in_four_bursts k))) first
+      (λ i l e. part_at block b 3 i (position_in_four_bursts k) l (omega arith) (omega (
+        arith,
+        e,
+        l,
+        position_in_four_bursts-lower k
+            (omega (arith, e, l)),
+      )))
+      (λ i l e. part_at block b 88 i (position_in_four_bursts k) l (omega arith) (omega (
+        arith,
+        e,
+        l,
+        position_in_four_bursts-upper k
+            (omega (arith, e, l)),
+      )))
 
 -- ---- the block
 
 module _ (octets : List ℕ) (tsc : ℕ) (block : Block) (places : List ℕ) (r : Received) (s : IsSentBlock octets tsc block)
-    (few : length places ≤ 3) (h : IsReceivedBlock (map soft_bits (with_flips places block)) r) where
-  same_value : (k : ℕ) → k < 456 → listed (burst_place k) places ≡ false → get_or h.soft k (pos 0) ≡ soft_value (get_or s.coded_bits k 0)
+    (few : length places ≤ 3) (h : IsReceivedBlock (map soft_bits (with_bits_inverted places block)) r) where
+  same_value : (k : ℕ) → k < 456 → listed (position_in_four_bursts k) places ≡ false →
+      get_or h.soft k (pos 0) ≡ soft_bit_of (get_or s.coded_bits k 0)
   same_value k l no_turn =
       get_or_default h.soft k (pos 0) (pos 127) (omega (arith, l, h.gathered.coded_count))
-      ∙ soft_at (with_flips places block) h.soft h.gathered k l
-      ∙ ap soft_value (flipped-other places block (burst_place k) no_turn)
+      ∙ soft_at (with_bits_inverted places block) h.soft h.gathered k l
+      ∙ ap soft_bit_of (flipped-other places block (position_in_four_bursts k) no_turn)
       ∙ sym (soft_at block (soft_bits s.coded_bits) (clean_gathered octets tsc block s) k l)
-      ∙ get_or-map soft_value s.coded_bits k 0
+      ∙ get_or-map soft_bit_of s.coded_bits k 0
 
-  few_wrong : wrong_places h.soft s.coded_bits ≤ 3
+  few_wrong : count_wrong_bits h.soft s.coded_bits ≤ 3
   few_wrong =
       let bits : AreBits 456 s.coded_bits = coded_block_bits octets s.coded_bits s.code in
-      omega (arith, few, few_spoilt h.soft s.coded_bits places h.gathered.coded_count bits.many bits.each same_value)
+      omega (arith, few, few_listed_positions h.soft s.coded_bits places h.gathered.coded_count bits.many bits.each same_value)
 
   strong : All (λ value. unsigned_abs value ≡ 127) h.soft
   strong k d l =
       ap unsigned_abs (get_or_default h.soft k d (pos 127) l
-      ∙ soft_at (with_flips places block) h.soft h.gathered k (omega (arith, l, h.gathered.coded_count)))
-      ∙ soft_value-strength (bit_at (with_flips places block) (burst_place k))
+      ∙ soft_at (with_bits_inverted places block) h.soft h.gathered k (omega (arith, l, h.gathered.coded_count)))
+      ∙ soft_bit_of-strength (bit_at (with_bits_inverted places block) (position_in_four_bursts k))
 
   pub lightly_damaged : IsLightlyDamaged h.soft s.coded_bits
   lightly_damaged =
@@ -96,4 +110,4 @@ module _ (octets : List ℕ) (tsc : ℕ) (block : Block) (places : List ℕ) (r 
 
   pub accepted_as_sent : r.accepted ≡ Some octets
   accepted_as_sent =
-      restored_block (map soft_bits (with_flips places block)) octets s.coded_bits h.soft r s.code h.gathered lightly_damaged h
+      restored_block (map soft_bits (with_bits_inverted places block)) octets s.coded_bits h.soft r s.code h.gathered lightly_damaged h

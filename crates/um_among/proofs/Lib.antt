@@ -1,2 +1,3 @@
-mod FirstToHold
-pub mod Once
+pub use Rattle.list_decode.proofs as list_decode
+mod FirstCrcMatch
+pub mod UniqueReports

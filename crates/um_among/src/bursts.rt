@@ -1,55 +1,54 @@
-//! Access and synchronisation bursts: the first of the most likely words whose CRC holds.
+//! Receives access and synchronisation bursts: takes the first of the most likely words whose CRC holds.
 //!
 //! Their CRCs are short: six bits in an access burst and ten in a synchronisation burst. The CRC of a word that was not sent holds by
-//! chance once in 64 or 1,024 words tried. Ask for more than one word only if another check rejects wrong bursts.
+//! chance about once in 64 or 1,024 words tried. Let a call try more than one word only if another check rejects wrong bursts.
 ghost use Rattle.std.specs.Prelude.{◌≡◌, ◌≢◌, ◌≤◌, ◌↔◌, ℕ, IsNone, IsSome, List};
-ghost use Rattle.bit_blocks.specs.SoftValues.{AllSoft};
+ghost use Rattle.um_block.specs.bit_blocks.SoftValues.{AllSoftBits};
 ghost use Rattle.um_block.specs.conv_code.Code.{IsInformation};
-ghost use Rattle.um_block.specs.conv_code.Likelihood.{FallsBehind};
+ghost use Rattle.um_block.specs.conv_code.Likelihood.{RanksAfter};
 ghost use Rattle.list_decode.specs.Ranking.{IsCandidate};
-ghost use Rattle.um_block.specs.Received.{IsReceivedAccess, IsReceivedSync, access_places, sync_places};
-ghost use Rattle.um_among.specs.Among.{IsAccessAmong, IsSyncAmong, NoneHolds};
-ghost use Rattle.um_among.specs.Parities.{HoldsInAccess, HoldsInSync};
+ghost use Rattle.um_block.specs.Received.{IsReceivedAccess, IsReceivedSync, access_soft_bits, sync_soft_bits};
+ghost use Rattle.um_among.specs.Among.{IsAccessListReport, IsSyncListReport, NoCrcHolds};
+ghost use Rattle.um_among.specs.Parities.{AccessCrcHolds, SyncCrcHolds};
 
 use crate::crc::Crc;
 use crate::reports::{AccessAmong, SyncAmong};
-use crate::search::first_to_hold;
-use bit_blocks::Bits;
-use burst_map::{AccessView, BURST_BITS, SyncView};
-use list_decode::MOST_LISTS;
+use crate::search::first_crc_match;
+use list_decode::MAX_LISTS;
 use um_block::{
-    ReceivedAccess, ReceivedSync, access_data, join_halves, receive_access, receive_sync, sync_data,
+    AccessView, BURST_BITS, Bits, ReceivedAccess, ReceivedSync, SyncView, access_data, join_halves,
+    receive_access, receive_sync, sync_data,
 };
 
-/// Receives an access burst under the six bits of a base station's identity code (BSIC): takes the first of the `most` most likely
-/// words, 1 to 64, whose CRC holds.
+/// Receives an access burst for the six bits of a base station identity code (BSIC): takes the first of the `most` most likely words
+/// whose CRC holds; `most` is 1 to 64.
 ///
 /// The CRC of six bits holds by chance about once in 64 words tried, so with many words a wrong one is usually accepted when the right
 /// one is not the first. Use a `most` above 1 only if another check rejects wrong bits.
 pub fn receive_access_among(burst: &[i8; 88], bsic: &Bits<6>, most: u32) -> AccessAmong
-    requires soft { AllSoft burst.now }
+    requires soft { AllSoftBits burst.now }
     requires at_least { 1 ≤ most }
-    requires at_most { most ≤ MOST_LISTS }
-    ensures received { IsAccessAmong burst.now bsic.now most result }
-    ensures only { (other : AccessAmong) → IsAccessAmong burst.now bsic.now most other → other ≡ result }
-    ensures best { IsSome result.report.accepted → (v : List ℕ) → IsCandidate (access_places burst.now) v → HoldsInAccess bsic.now v →
-        v ≢ result.report.u → FallsBehind (access_places burst.now) v result.report.u }
-    ensures none { IsNone result.report.accepted ↔ NoneHolds (HoldsInAccess bsic.now) (access_places burst.now) most }
+    requires at_most { most ≤ MAX_LISTS }
+    ensures received { IsAccessListReport burst.now bsic.now most result }
+    ensures only { (other : AccessAmong) → IsAccessListReport burst.now bsic.now most other → other ≡ result }
+    ensures best { IsSome result.report.accepted → (v : List ℕ) → IsCandidate (access_soft_bits burst.now) v → AccessCrcHolds bsic.now v →
+        v ≢ result.report.u → RanksAfter (access_soft_bits burst.now) v result.report.u }
+    ensures none { IsNone result.report.accepted ↔ NoCrcHolds (AccessCrcHolds bsic.now) (access_soft_bits burst.now) most }
     ensures information { IsInformation result.report.u }
     ensures first { (r : ReceivedAccess) → IsReceivedAccess burst.now bsic.now r → IsSome r.accepted →
         result ≡ record { report = r; rank = 1 } }
     ensures alone { result.rank ≡ 1 → IsReceivedAccess burst.now bsic.now result.report }
     ensures one { most ≡ 1 → result.rank ≡ 1 }
 {
-    taken_access(burst, bsic, most)
+    take_access_word(burst, bsic, most)
 }
 
-/// Proves the definition. The other guarantees follow from it.
-fn taken_access(burst: &[i8; 88], bsic: &Bits<6>, most: u32) -> AccessAmong
-    requires soft { AllSoft burst.now }
+/// Does the work of `receive_access_among`. The contract states only the definition, from which the other clauses follow.
+fn take_access_word(burst: &[i8; 88], bsic: &Bits<6>, most: u32) -> AccessAmong
+    requires soft { AllSoftBits burst.now }
     requires at_least { 1 ≤ most }
-    requires at_most { most ≤ MOST_LISTS }
-    ensures { IsAccessAmong burst.now bsic.now most result }
+    requires at_most { most ≤ MAX_LISTS }
+    ensures { IsAccessListReport burst.now bsic.now most result }
 {
     let report = receive_access(burst, bsic);
     if report.accepted.is_some() {
@@ -57,7 +56,7 @@ fn taken_access(burst: &[i8; 88], bsic: &Bits<6>, most: u32) -> AccessAmong
     }
     let parts = AccessView::new(burst);
     let mut u = [0; 18];
-    let Some(found) = first_to_hold(&Crc::Access(*bsic), parts.body(), most, &mut u) else {
+    let Some(found) = first_crc_match(&Crc::Access(*bsic), parts.body(), most, &mut u) else {
         return AccessAmong { report, rank: 1 };
     };
     AccessAmong {
@@ -71,33 +70,33 @@ fn taken_access(burst: &[i8; 88], bsic: &Bits<6>, most: u32) -> AccessAmong
     }
 }
 
-/// Receives a synchronisation burst: takes the first of the `most` most likely words, 1 to 64, whose CRC holds.
+/// Receives a synchronisation burst: takes the first of the `most` most likely words whose CRC holds; `most` is 1 to 64.
 ///
 /// The CRC of ten bits holds by chance about once in 1,024 words tried, so with 64 words a wrong one is accepted in about one of sixteen
 /// bursts of noise. Use a `most` above 1 only if another check rejects wrong bits.
 pub fn receive_sync_among(burst: &[i8; BURST_BITS], most: u32) -> SyncAmong
-    requires soft { AllSoft burst.now }
+    requires soft { AllSoftBits burst.now }
     requires at_least { 1 ≤ most }
-    requires at_most { most ≤ MOST_LISTS }
-    ensures received { IsSyncAmong burst.now most result }
-    ensures only { (other : SyncAmong) → IsSyncAmong burst.now most other → other ≡ result }
-    ensures best { IsSome result.report.accepted → (v : List ℕ) → IsCandidate (sync_places burst.now) v → HoldsInSync v →
-        v ≢ result.report.u → FallsBehind (sync_places burst.now) v result.report.u }
-    ensures none { IsNone result.report.accepted ↔ NoneHolds HoldsInSync (sync_places burst.now) most }
+    requires at_most { most ≤ MAX_LISTS }
+    ensures received { IsSyncListReport burst.now most result }
+    ensures only { (other : SyncAmong) → IsSyncListReport burst.now most other → other ≡ result }
+    ensures best { IsSome result.report.accepted → (v : List ℕ) → IsCandidate (sync_soft_bits burst.now) v → SyncCrcHolds v →
+        v ≢ result.report.u → RanksAfter (sync_soft_bits burst.now) v result.report.u }
+    ensures none { IsNone result.report.accepted ↔ NoCrcHolds SyncCrcHolds (sync_soft_bits burst.now) most }
     ensures information { IsInformation result.report.u }
     ensures first { (r : ReceivedSync) → IsReceivedSync burst.now r → IsSome r.accepted → result ≡ record { report = r; rank = 1 } }
     ensures alone { result.rank ≡ 1 → IsReceivedSync burst.now result.report }
     ensures one { most ≡ 1 → result.rank ≡ 1 }
 {
-    taken_sync(burst, most)
+    take_sync_word(burst, most)
 }
 
-/// Proves the definition. The other guarantees follow from it.
-fn taken_sync(burst: &[i8; BURST_BITS], most: u32) -> SyncAmong
-    requires soft { AllSoft burst.now }
+/// Does the work of `receive_sync_among`. The contract states only the definition, from which the other clauses follow.
+fn take_sync_word(burst: &[i8; BURST_BITS], most: u32) -> SyncAmong
+    requires soft { AllSoftBits burst.now }
     requires at_least { 1 ≤ most }
-    requires at_most { most ≤ MOST_LISTS }
-    ensures { IsSyncAmong burst.now most result }
+    requires at_most { most ≤ MAX_LISTS }
+    ensures { IsSyncListReport burst.now most result }
 {
     let report = receive_sync(burst);
     if report.accepted.is_some() {
@@ -105,7 +104,7 @@ fn taken_sync(burst: &[i8; BURST_BITS], most: u32) -> SyncAmong
     }
     let parts = SyncView::new(burst);
     let mut u = [0; 39];
-    let Some(found) = first_to_hold(
+    let Some(found) = first_crc_match(
         &Crc::Sync,
         &join_halves(parts.first(), parts.second()),
         most,

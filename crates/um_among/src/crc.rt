@@ -1,12 +1,11 @@
-//! The CRCs by which a word is tried.
+//! The CRC of each channel, with which the list decoder checks a word.
 ghost use Rattle.std.specs.Prelude.{◌≡◌, ◌↔◌, ◌≤◌, IsTrue, length, take};
-ghost use Rattle.bit_blocks.specs.Bits.{AllBits};
-ghost use Rattle.um_among.specs.Parities.{Holds, places};
+ghost use Rattle.um_block.specs.bit_blocks.Bits.{AllBits};
+ghost use Rattle.um_among.specs.Parities.{CrcHolds, places};
 
-use bit_blocks::Bits;
-use fire_code::{rach_holds, sch_holds, xcch_holds};
+use um_block::{Bits, rach_holds, sch_holds, xcch_holds};
 
-/// The channel whose CRC is checked.
+/// The channel, which determines the CRC that is checked.
 #[derive(Clone, Copy)]
 pub(crate) enum Crc {
     Block,
@@ -20,18 +19,18 @@ impl Crc {
     pub(crate) fn holds(&self, u: &[u8]) -> bool
         requires places { length u.now ≡ places self.now }
         requires bits { AllBits u.now }
-        ensures { IsTrue result ↔ Holds self.now u.now }
+        ensures { IsTrue result ↔ CrcHolds self.now u.now }
     {
         match self {
-            Crc::Block => xcch_holds(&Bits::from_array(front::<224>(u))),
-            Crc::Access(bsic) => rach_holds(&Bits::from_array(front::<14>(u)), bsic),
-            Crc::Sync => sch_holds(&Bits::from_array(front::<35>(u))),
+            Crc::Block => xcch_holds(&Bits::from_array(first_bits::<224>(u))),
+            Crc::Access(bsic) => rach_holds(&Bits::from_array(first_bits::<14>(u)), bsic),
+            Crc::Sync => sch_holds(&Bits::from_array(first_bits::<35>(u))),
         }
     }
 }
 
 /// The first `N` bits of a word.
-fn front<const N: usize>(u: &[u8]) -> [u8; N]
+fn first_bits<const N: usize>(u: &[u8]) -> [u8; N]
     requires size { N ≤ length u.now }
     requires bits { AllBits u.now }
     ensures value { result ≡ take N u.now }

@@ -13,6 +13,7 @@ mod search;
 #[cfg(test)]
 mod tests;
 
-pub use blocks::{receive_block_among, receive_gathered_among};
+pub use blocks::{receive_block_among, receive_deinterleaved_among};
 pub use bursts::{receive_access_among, receive_sync_among};
+pub use list_decode::{MAX_LISTS, margin};
 pub use reports::{AccessAmong, BlockAmong, SyncAmong};

@@ -1,17 +1,15 @@
 ghost use Rattle.std.specs.Prelude.{◌↔◌, IsTrue, All};
-ghost use Rattle.bit_blocks.specs.SoftValues.{AllSoft};
+ghost use Rattle.um_block.specs.bit_blocks.SoftValues.{AllSoftBits};
 
 use crate::{
     AccessAmong, BlockAmong, SyncAmong, receive_access_among, receive_block_among,
     receive_sync_among,
 };
-use bit_blocks::Bits;
-use burst_map::BURST_BITS;
 use std::process::Abort;
-use um_block::{send_block, soften};
+use um_block::{BLOCK_OCTETS, BURST_BITS, Bits, send_block, soften};
 
 fn are_soft(values: &[i8]) -> bool
-    ensures { IsTrue result ↔ AllSoft values.now }
+    ensures { IsTrue result ↔ AllSoftBits values.now }
 {
     values.iter().all(|value| *value != -128)
 }
@@ -46,11 +44,11 @@ fn softened(rt: &impl Abort, burst: &[u8; BURST_BITS]) -> [i8; BURST_BITS] {
     soften(burst)
 }
 
-// The sent word and its neighbour differ in seven positions. Four of them are flipped, so the neighbour is more likely by one position
-// and the sent word has rank 2.
+// The coded bits of the sent word and of a neighbouring word differ in seven positions. Four of these bits are flipped, so the neighbour
+// agrees with one more of the received bits than the sent word does, and the sent word has rank 2.
 #[test]
-fn the_second_list_is_the_one_sent(rt: HostRuntime) {
-    let mut octets = [0x2b; 23];
+fn the_second_most_likely_word_is_the_sent_one(rt: HostRuntime) {
+    let mut octets = [0x2b; BLOCK_OCTETS];
     octets[0] = 3;
     octets[1] = 3;
     octets[2] = 1;
@@ -73,8 +71,8 @@ fn the_second_list_is_the_one_sent(rt: HostRuntime) {
     }
 }
 
-// All words are equally likely, so they come in lexicographic order: zeros, with all values of the last six of the forty CRC bits.
-// The CRC of zeros would be ones.
+// All words are equally likely, so they come in lexicographic order: the first 64 are zeros except for the last six of the forty CRC
+// bits, which take every value. None of these CRCs holds, because the CRC of zeros is forty ones.
 #[test]
 fn a_lost_block_stays_lost(rt: HostRuntime) {
     let lost = block(&rt, &[[0; BURST_BITS]; 4], 64);
@@ -84,9 +82,10 @@ fn a_lost_block_stays_lost(rt: HostRuntime) {
     assert_eq!(rt; lost.rank, 1);
 }
 
-// All words are equally likely. For zeros the six CRC bits are the inverted BSIC, which gives the rank among the first 64 words.
+// All words are equally likely, so the first 64 have the information bits 0 and take every value of the six CRC bits in turn. The right
+// CRC of zeros is the inverted BSIC, which therefore gives the rank.
 #[test]
-fn a_lost_access_burst_fits_each_code(rt: HostRuntime) {
+fn a_lost_access_burst_matches_each_bsic(rt: HostRuntime) {
     for (bsic, rank) in [
         ([1, 1, 1, 1, 1, 1], 1),
         ([1, 1, 1, 1, 1, 0], 2),

@@ -1,14 +1,9 @@
 -- An accepted block consists of 23 octets.
 use Rattle.std.proofs.Common.{◌≡◌, ℕ, ℤ, List, length, take, Option, Some, None, ap, subst, sym, ◌∙◌, arith}
-use Rattle.std.proofs.lemmas.List.Elements.{All-take}
-use Rattle.std.specs.Prelude.{IfSome, MatchOption}
-use Rattle.std.proofs.lemmas.List.{length-take, length-take-le}
-use Rattle.bit_blocks.specs.Bits.{IsBit, AllBits}
-use Rattle.bit_blocks.specs.Octets.{AllOctets, octets_of}
-use Rattle.bit_blocks.proofs.Lemmas.{length-octets_of, AllOctets-octets_of}
+use Rattle.std.{proofs.lemmas.List.{Elements.All-take, length-take, length-take-le}, specs.Prelude.{IfSome, MatchOption}}
+use Rattle.bit_blocks.{specs.{Bits.{IsBit, AllBits}, Octets.{AllOctets, octets_of}}, proofs.Lemmas.{length-octets_of, AllOctets-octets_of}}
 use Rattle.fire_code.specs.Words.{IsXcchWord}
-use Rattle.um_block.specs.Received.{IsReceivedBlock}
-use Rattle.um_block.specs.declared.received.Received.{Received}
+use Rattle.um_block.specs.{Received.IsReceivedBlock, declared.received.Received.Received}
 
 accepted_of : (u : List ℕ) (accepted : Option (List ℕ)) →
     MatchOption accepted (¬ IsXcchWord (take 224 u)) (λ octets. IsXcchWord (take 224 u) × (octets ≡ octets_of (take 184 u))) →

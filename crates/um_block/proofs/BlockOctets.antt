@@ -1,14 +1,10 @@
 -- The octets of a block with their Fire code bits, padded with zeros, and their packed coded bits.
-use Rattle.std.proofs.Common.{◌≡◌, ℕ, ◌*◌, ◌≤◌, List, ◌++◌, length, length-append, take, drop, replicate, ap, ap₂}
-use Rattle.std.proofs.Common.{sym, subst, ◌∙◌, append_assoc, arith}
-use Rattle.std.proofs.lemmas.Grind.{flat_map-append}
-use Rattle.std.proofs.lemmas.List.{take_at, drop_at}
+use Rattle.std.proofs.Common.{◌≡◌, ℕ, ◌*◌, ◌≤◌, List, ◌++◌, length, length-append, take, drop, replicate, ap, ap₂, sym, subst, ◌∙◌}
+use Rattle.std.proofs.{Common.{append_assoc, arith}, lemmas.{Grind.flat_map-append, List.{take_at, drop_at}}}
 use borrow.Rule.Slice.PartMut.{put_mid}
-use Rattle.bit_blocks.specs.Octets.{octet_bits, bits_of}
-use Rattle.bit_blocks.specs.Packed.{ArePacked}
+use Rattle.bit_blocks.specs.{Octets.{octet_bits, bits_of}, Packed.AreCodedBitsPacked}
 use Rattle.fire_code.specs.Words.{IsXcchWord}
-use Rattle.conv_code.specs.Code.{encoding}
-use Rattle.conv_code.proofs.Lemmas.{ArePacked-front}
+use Rattle.conv_code.{specs.Code.encoding, proofs.Lemmas.AreCodedBitsPacked-front}
 use Rattle.um_block.specs.Sent.{with_tail}
 
 -- the Fire code octets are written after the information octets
@@ -23,7 +19,7 @@ behind_octets octets crc front part long one two =
     ∙ sym (append_assoc octets crc (replicate 4 0))
 
 module _ (octets crc word : List ℕ) (is : word ≡ octets ++ crc ++ replicate 4 0) where
-  -- the bits are the information list and 28 more zeros
+  -- the bits of the 32 octets are the information list, followed by 28 more zeros
   bits_of_word : bits_of word ≡ with_tail (bits_of octets ++ bits_of crc) ++ replicate 28 0
   bits_of_word =
       ap bits_of is
@@ -31,9 +27,11 @@ module _ (octets crc word : List ℕ) (is : word ≡ octets ++ crc ++ replicate 
       ∙ ap (λ bits. bits ++ replicate 32 0) (flat_map-append octet_bits octets crc)
       ∙ sym (append_assoc (bits_of octets ++ bits_of crc) (replicate 4 0) (replicate 28 0))
 
-  pub ArePacked-block : (packed : List ℕ) → IsXcchWord (bits_of octets ++ bits_of crc) → ArePacked 64 (encoding (bits_of word)) packed →
-      ArePacked 57 (encoding (with_tail (bits_of octets ++ bits_of crc))) packed
-  ArePacked-block packed holds are =
+  pub AreCodedBitsPacked-block : (packed : List ℕ) → IsXcchWord (bits_of octets ++ bits_of crc) →
+      AreCodedBitsPacked 64 (encoding (bits_of word)) packed →
+      AreCodedBitsPacked 57 (encoding (with_tail (bits_of octets ++ bits_of crc))) packed
+  AreCodedBitsPacked-block packed holds are =
       let u = with_tail (bits_of octets ++ bits_of crc) in
       let long : 4 * 57 ≤ length u = omega (arith, holds.count, length-append (bits_of octets ++ bits_of crc) (replicate 4 0)) in
-      ArePacked-front 64 57 u (replicate 28 0) packed (omega arith) long (subst (λ w. ArePacked 64 (encoding w) packed) bits_of_word are)
+      AreCodedBitsPacked-front 64 57 u (replicate 28 0) packed (omega arith) long (subst (λ w. AreCodedBitsPacked 64
+      (encoding w) packed) bits_of_word are)

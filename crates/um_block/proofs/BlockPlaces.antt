@@ -1,71 +1,60 @@
--- Each coded bit has a position of its own among the 592 bits of four bursts, so n damaged bits make at most n coded bits wrong.
-use Rattle.std.proofs.Common.{◌≡◌, ◌≢◌, refl, sym, ◌∙◌, ap, subst, arith, ℕ, zero, suc, ◌+◌, ◌-◌, ◌*◌}
-use Rattle.std.proofs.Common.{◌<◌, ◌≤◌, Bool, true, false, ◌||◌, if◌then◌else◌, nat_eq, ℤ, pos, List, [], ◌∷◌}
-use Rattle.std.proofs.Common.{◌++◌, map, length, get_or, drop, Contains}
-use Rattle.std.specs.Prelude.{slice_range}
-use Rattle.std.specs.List.{All}
-use Rattle.std.proofs.lemmas.Bool.{false≢true}
-use Rattle.std.proofs.lemmas.Bool.Decides.{nat_tests}
-use Rattle.std.proofs.lemmas.List.{get_or_append_left, get_or-append_right, get_or-take, get_or-drop, get_or-map, length-take}
-use Rattle.std.proofs.lemmas.List.{length-drop, length-map}
-use Rattle.std.proofs.lemmas.List.Elements.{All-head, All-tail}
-use Rattle.bit_blocks.specs.Bits.{IsBit, AllBits}
-use Rattle.bit_blocks.specs.SoftValues.{is_wrong, wrong_places}
-use Rattle.interleave.specs.Places.{burst_of, place_of, burst_place}
-use Rattle.interleave.specs.Bursts.{IsInterleaved}
-use Rattle.interleave.proofs.Lemmas.{burst_of-below, halves-at, burst_place-lower, burst_place-upper, burst_place-below}
-use Rattle.interleave.proofs.Lemmas.{burst_place-differs}
-use Rattle.um_block.specs.Sent.{IsCodedBlock, IsSentBlock}
-use Rattle.um_block.specs.Received.{soft_value, soft_bits, coded_places, end_to_end}
-use Rattle.um_block.proofs.Words.{coded_block_bits}
-use Rattle.um_block.proofs.SentOnce.{one_coded_block}
-use Rattle.um_block.proofs.SentShapes.{sent_block_bits}
-use Rattle.um_block.proofs.CleanBursts.{halves, parts_of_bursts}
-use Rattle.um_block.proofs.CleanRestoring.{clean_gathered}
+-- Each coded bit has a position of its own among the 592 bits of four bursts, so n damaged bits damage at most n coded bits.
+use Rattle.std.proofs.Common.{◌≡◌, ◌≢◌, refl, sym, ◌∙◌, ap, subst, arith, ℕ, zero, suc, ◌+◌, ◌-◌, ◌*◌, ◌<◌, ◌≤◌, Bool, true, false, ◌||◌}
+use Rattle.std.proofs.Common.{if◌then◌else◌, nat_eq, ℤ, pos, List, [], ◌∷◌, ◌++◌, map, length, get_or, drop, Contains}
+use Rattle.std.proofs.lemmas.{Bool.{false≢true, Decides.nat_tests}, List.{get_or_append_left, get_or-append_right, get_or-take}}
+use Rattle.std.proofs.lemmas.List.{get_or-drop, get_or-map, length-take, length-drop, length-map, Elements.{All-head, All-tail}}
+use Rattle.std.specs.{Prelude.slice_range, List.All}
+use Rattle.bit_blocks.specs.{Bits.{IsBit, AllBits}, SoftValues.{is_wrong_bit, count_wrong_bits}}
+use Rattle.interleave.specs.{Places.{burst_of, position_in_burst, position_in_four_bursts}, Bursts.IsInterleaved}
+use Rattle.interleave.proofs.Lemmas.{burst_of-below, halves-at, position_in_four_bursts-lower, position_in_four_bursts-upper}
+use Rattle.interleave.proofs.Lemmas.{position_in_four_bursts-below, position_in_four_bursts-differs}
+use Rattle.um_block.specs.{Sent.{IsCodedBlock, IsSentBlock}, Received.{soft_bit_of, soft_bits, coded_soft_bits, concatenated}}
+use Rattle.um_block.proofs.{Words.coded_block_bits, SentOnce.one_coded_block, SentShapes.sent_block_bits, CleanBursts.halves}
+use Rattle.um_block.proofs.{CleanBursts.parts_of_bursts, CleanRestoring.clean_gathered}
 
--- ---- positions
+-- ---- the positions of the coded bits among the 592 bits
 
 abbrev pub IsBurst : {X : Type 0} → List X → Type 0
 IsBurst burst = length burst ≡ 148
 
--- bit i of burst b among the concatenated bursts
-end_to_end-at : {X : Type 0} (bursts : List (List X)) (b i : ℕ) (d : X) → All IsBurst bursts → b < length bursts → i < 148 →
-    get_or (end_to_end bursts) (148 * b + i) d ≡ get_or (get_or bursts b []) i d
-end_to_end-at [] b i d each hb hi = absurd (omega arith)
-end_to_end-at (burst ∷ bursts) zero i d each hb hi =
+-- bit i of burst b is bit 148 b + i of the bursts put end to end
+concatenated-at : {X : Type 0} (bursts : List (List X)) (b i : ℕ) (d : X) → All IsBurst bursts → b < length bursts → i < 148 →
+    get_or (concatenated bursts) (148 * b + i) d ≡ get_or (get_or bursts b []) i d
+concatenated-at [] b i d each hb hi = absurd (omega arith)
+concatenated-at (burst ∷ bursts) zero i d each hb hi =
     let long : length burst ≡ 148 = All-head IsBurst burst bursts each in
     let at : 148 * 0 + i ≡ i = omega arith in
-    ap (λ q. get_or (burst ++ end_to_end bursts) q d) at ∙ get_or_append_left burst (end_to_end bursts) d i (omega arith)
-end_to_end-at (burst ∷ bursts) (suc b) i d each hb hi =
+    ap (λ q. get_or (burst ++ concatenated bursts) q d) at ∙ get_or_append_left burst (concatenated bursts) d i (omega arith)
+concatenated-at (burst ∷ bursts) (suc b) i d each hb hi =
     let long : length burst ≡ 148 = All-head IsBurst burst bursts each in
     let at : 148 * suc b + i - 148 ≡ 148 * b + i = omega arith in
-    get_or-append_right burst (end_to_end bursts) 148 (148 * suc b + i) d long (omega arith)
-    ∙ ap (λ q. get_or (end_to_end bursts) q d) at
-    ∙ end_to_end-at bursts b i d (All-tail IsBurst burst bursts each) (omega arith) hi
+    get_or-append_right burst (concatenated bursts) 148 (148 * suc b + i) d long (omega arith)
+    ∙ ap (λ q. get_or (concatenated bursts) q d) at
+    ∙ concatenated-at bursts b i d (All-tail IsBurst burst bursts each) (omega arith) hi
 
 range-at : {X : Type 0} (s : List X) (i j k : ℕ) (d : X) → k < j - i → get_or (slice_range s i j) k d ≡ get_or s (i + k) d
 range-at s i j k d h = get_or-take (j - i) (drop i s) k d h ∙ get_or-drop i s k d
 
--- coded bit k is at its position among the 592 bits
+-- coded bit k is the bit at position `position_in_four_bursts k` of the bursts put end to end
 pub at_burst_place : {X : Type 0} (bursts : List (List X)) (c : List X) (k : ℕ) (d : X) → length bursts ≡ 4 → All IsBurst bursts →
-    IsInterleaved c (map halves bursts) → k < 456 → get_or c k d ≡ get_or (end_to_end bursts) (burst_place k) d
+    IsInterleaved c (map halves bursts) → k < 456 → get_or c k d ≡ get_or (concatenated bursts) (position_in_four_bursts k) d
 at_burst_place bursts c k d four each gathered h =
     let b = burst_of k in
     let s = get_or bursts b [] in
-    let whole = end_to_end bursts in
+    let whole = concatenated bursts in
     let below : b < 4 = burst_of-below k in
     let within : b < length bursts = omega arith in
     let long : length s ≡ 148 = each b [] within in
     let first : length (slice_range s 3 60) ≡ 57 = omega (arith, length-take 57 (drop 3 s), length-drop 3 s) in
     sym (gathered.places k d h)
-    ∙ ap (λ xs. get_or xs (place_of k) d) (get_or-map halves bursts b [] [] within)
-    ∙ halves-at (slice_range s 3 60) (slice_range s 88 145) k d (get_or whole (burst_place k) d) first
+    ∙ ap (λ xs. get_or xs (position_in_burst k) d) (get_or-map halves bursts b [] [] within)
+    ∙ halves-at (slice_range s 3 60) (slice_range s 88 145) k d (get_or whole (position_in_four_bursts k) d) first
     (λ i l e.
-    let at : 148 * b + (3 + i) ≡ burst_place k = omega (arith, burst_place-lower k (omega arith)) in
-    range-at s 3 60 i d l ∙ sym (end_to_end-at bursts b (3 + i) d each within (omega arith)) ∙ ap (λ q. get_or whole q d) at)
+    let at : 148 * b + (3 + i) ≡ position_in_four_bursts k = omega (arith, position_in_four_bursts-lower k (omega arith)) in
+    range-at s 3 60 i d l ∙ sym (concatenated-at bursts b (3 + i) d each within (omega arith)) ∙ ap (λ q. get_or whole q d) at)
     (λ i l e.
-    let at : 148 * b + (88 + i) ≡ burst_place k = omega (arith, burst_place-upper k (omega arith)) in
-    range-at s 88 145 i d l ∙ sym (end_to_end-at bursts b (88 + i) d each within (omega arith)) ∙ ap (λ q. get_or whole q d) at)
+    let at : 148 * b + (88 + i) ≡ position_in_four_bursts k = omega (arith, position_in_four_bursts-upper k (omega arith)) in
+    range-at s 88 145 i d l ∙ sym (concatenated-at bursts b (88 + i) d each within (omega arith)) ∙ ap (λ q. get_or whole q d) at)
 
 module _ (octets c : List ℕ) (tsc : ℕ) (sent : List (List ℕ)) (s : IsSentBlock octets tsc sent) (code : IsCodedBlock octets c) where
   same_code : s.coded_bits ≡ c
@@ -82,15 +71,15 @@ module _ (octets c : List ℕ) (tsc : ℕ) (sent : List (List ℕ)) (s : IsSentB
   each_burst : All IsBurst sent
   each_burst b d h = ((sent_block_bits octets tsc sent s).1 b d h).many
 
-  pub sent_place : (k d : ℕ) → k < 456 → get_or (end_to_end sent) (burst_place k) d ≡ get_or c k d
+  pub sent_place : (k d : ℕ) → k < 456 → get_or (concatenated sent) (position_in_four_bursts k) d ≡ get_or c k d
   sent_place k d h = sym (at_burst_place sent c k d four each_burst sent_halves h)
 
 pub received_place : (bursts : List (List ℤ)) (soft : List ℤ) → length bursts ≡ 4 → All (λ burst. length burst ≡ 148) bursts →
-    IsInterleaved soft (map coded_places bursts) →
-    (k : ℕ) (d : ℤ) → k < 456 → get_or soft k d ≡ get_or (end_to_end bursts) (burst_place k) d
+    IsInterleaved soft (map coded_soft_bits bursts) →
+    (k : ℕ) (d : ℤ) → k < 456 → get_or soft k d ≡ get_or (concatenated bursts) (position_in_four_bursts k) d
 received_place bursts soft four each gathered k d h = at_burst_place bursts soft k d four each gathered h
 
--- ---- wrong bits
+-- ---- the number of wrong coded bits
 
 unfoldable pub listed : ℕ → List ℕ → Bool
 listed q [] = false
@@ -101,15 +90,15 @@ or_false true b h = absurd (false≢true (sym h))
 or_false false b h = (refl, h)
 
 -- whether the position of coded bit k is in the list
-spoilt : List ℕ → ℕ → Bool
-spoilt places k = listed (burst_place k) places
+is_listed_position : List ℕ → ℕ → Bool
+is_listed_position places k = listed (position_in_four_bursts k) places
 
 -- the number of indices from a to a + n - 1 that pass a test
-hits : (ℕ → Bool) → ℕ → ℕ → ℕ
-hits test a zero = 0
-hits test a (suc n) = (if test a then 1 else 0) + hits test (a + 1) n
+count_where : (ℕ → Bool) → ℕ → ℕ → ℕ
+count_where test a zero = 0
+count_where test a (suc n) = (if test a then 1 else 0) + count_where test (a + 1) n
 
-right : (x : ℕ) → x ≤ 1 → is_wrong (soft_value x) x ≡ false
+right : (x : ℕ) → x ≤ 1 → is_wrong_bit (soft_bit_of x) x ≡ false
 right zero h = refl
 right (suc zero) h = refl
 right (suc (suc x)) h = absurd (omega arith)
@@ -121,78 +110,80 @@ at_most_hit true false m n h le = absurd (false≢true (sym (h refl)))
 at_most_hit false true m n h le = omega arith
 at_most_hit false false m n h le = omega arith
 
-wrong-hits : (soft : List ℤ) (c places : List ℕ) (a : ℕ) → length soft ≡ length c → AllBits c →
-    ((k : ℕ) → k < length soft → spoilt places (a + k) ≡ false → get_or soft k (pos 0) ≡ soft_value (get_or c k 0)) →
-    wrong_places soft c ≤ hits (spoilt places) a (length soft)
-unfolding hits
-wrong-hits [] [] places a e bits same = omega arith
-wrong-hits [] (x ∷ c) places a e bits same = absurd (omega arith)
-wrong-hits (p ∷ soft) [] places a e bits same = absurd (omega arith)
-wrong-hits (p ∷ soft) (x ∷ c) places a e bits same =
+wrong-count_where : (soft : List ℤ) (c places : List ℕ) (a : ℕ) → length soft ≡ length c → AllBits c →
+    ((k : ℕ) → k < length soft → is_listed_position places (a + k) ≡ false → get_or soft k (pos 0) ≡ soft_bit_of (get_or c k 0)) →
+    count_wrong_bits soft c ≤ count_where (is_listed_position places) a (length soft)
+unfolding count_where
+wrong-count_where [] [] places a e bits same = omega arith
+wrong-count_where [] (x ∷ c) places a e bits same = absurd (omega arith)
+wrong-count_where (p ∷ soft) [] places a e bits same = absurd (omega arith)
+wrong-count_where (p ∷ soft) (x ∷ c) places a e bits same =
     let e' : length soft ≡ length c = omega arith in
     let first : a + 0 ≡ a = omega arith in
-    let here : spoilt places a ≡ false → is_wrong p x ≡ false =
-    λ h. ap (λ v. is_wrong v x) (same 0 (omega arith) (ap (spoilt places) first ∙ h)) ∙ right x (All-head IsBit x c bits) in
-    let rest = wrong-hits soft c places (a + 1) e' (All-tail IsBit x c bits)
+    let here : is_listed_position places a ≡ false → is_wrong_bit p x ≡ false =
+    λ h. ap (λ v. is_wrong_bit v x) (same 0 (omega arith) (ap (is_listed_position places) first ∙ h)) ∙ right x (All-head IsBit x c bits) in
+    let rest = wrong-count_where soft c places (a + 1) e' (All-tail IsBit x c bits)
     (λ k lt h.
     let next : a + 1 + k ≡ a + suc k = omega arith in
-    same (suc k) (omega arith) (ap (spoilt places) (sym next) ∙ h)) in
-    at_most_hit (is_wrong p x) (spoilt places a) (wrong_places soft c) (hits (spoilt places) (a + 1) (length soft)) here rest
+    same (suc k) (omega arith) (ap (is_listed_position places) (sym next) ∙ h)) in
+    at_most_hit (is_wrong_bit p x) (is_listed_position places a) (count_wrong_bits soft c) (count_where (is_listed_position places) (a + 1)
+    (length soft)) here rest
 
--- whether coded bit k is at position p; at most one is
+-- whether coded bit k is at position p; this is so for at most one coded bit
 stands_at : ℕ → ℕ → Bool
-stands_at p k = nat_eq (burst_place k) p
+stands_at p k = nat_eq (position_in_four_bursts k) p
 
-no_hits : (test : ℕ → Bool) (a n : ℕ) → ((k : ℕ) → a ≤ k → k < a + n → test k ≡ false) → hits test a n ≡ 0
-unfolding hits
+no_hits : (test : ℕ → Bool) (a n : ℕ) → ((k : ℕ) → a ≤ k → k < a + n → test k ≡ false) → count_where test a n ≡ 0
+unfolding count_where
 no_hits test a zero none = refl
 no_hits test a (suc n) none =
     let rest = no_hits test (a + 1) n (λ k low high. none k (omega arith) (omega arith)) in
-    ap (λ t. (if t then 1 else 0) + hits test (a + 1) n) (none a (omega arith) (omega arith)) ∙ omega (arith, rest)
+    ap (λ t. (if t then 1 else 0) + count_where test (a + 1) n) (none a (omega arith) (omega arith)) ∙ omega (arith, rest)
 
-one_more : (p a n : ℕ) (t : Bool) → nat_eq (burst_place a) p ≡ t → a + suc n ≤ 456 → hits (stands_at p) (a + 1) n ≤ 1 →
-    (if t then 1 else 0) + hits (stands_at p) (a + 1) n ≤ 1
+one_more : (p a n : ℕ) (t : Bool) → nat_eq (position_in_four_bursts a) p ≡ t → a + suc n ≤ 456 → count_where (stands_at p) (a + 1) n ≤ 1 →
+    (if t then 1 else 0) + count_where (stands_at p) (a + 1) n ≤ 1
 unfolding stands_at
 one_more p a n false e h rest = omega (arith, rest)
 one_more p a n true e h rest =
-    let here : burst_place a ≡ p = grind (arith, nat_tests) in
+    let here : position_in_four_bursts a ≡ p = grind (arith, nat_tests) in
     let none = no_hits (stands_at p) (a + 1) n (λ k low high. others k low high here) in
     omega (arith, none)
   where
-    others : (k : ℕ) → a + 1 ≤ k → k < a + 1 + n → burst_place a ≡ p → nat_eq (burst_place k) p ≡ false
+    others : (k : ℕ) → a + 1 ≤ k → k < a + 1 + n → position_in_four_bursts a ≡ p → nat_eq (position_in_four_bursts k) p ≡ false
     others k low high here =
-        let apart : burst_place k ≢ p =
-        λ same. let e = burst_place-differs k a (omega arith) (omega arith) (same ∙ sym here) in omega (arith, e) in
+        let apart : position_in_four_bursts k ≢ p =
+        λ same. let e = position_in_four_bursts-differs k a (omega arith) (omega arith) (same ∙ sym here) in omega (arith, e) in
         grind (arith, nat_tests)
 
-one_hit : (p a n : ℕ) → a + n ≤ 456 → hits (stands_at p) a n ≤ 1
-unfolding hits stands_at
+one_hit : (p a n : ℕ) → a + n ≤ 456 → count_where (stands_at p) a n ≤ 1
+unfolding count_where stands_at
 one_hit p a zero h = omega arith
-one_hit p a (suc n) h = one_more p a n (nat_eq (burst_place a) p) refl h (one_hit p (a + 1) n (omega arith))
+one_hit p a (suc n) h = one_more p a n (nat_eq (position_in_four_bursts a) p) refl h (one_hit p (a + 1) n (omega arith))
 
 or_hits : (a b : Bool) → (if a || b then 1 else 0) ≤ (if a then 1 else 0) + (if b then 1 else 0)
 or_hits true b = omega arith
 or_hits false b = omega arith
 
-either_hits : (p : ℕ) (ps : List ℕ) (a n : ℕ) → hits (spoilt (p ∷ ps)) a n ≤ hits (stands_at p) a n + hits (spoilt ps) a n
-unfolding hits spoilt listed stands_at
+either_hits : (p : ℕ) (ps : List ℕ) (a n : ℕ) →
+    count_where (is_listed_position (p ∷ ps)) a n ≤ count_where (stands_at p) a n + count_where (is_listed_position ps) a n
+unfolding count_where is_listed_position listed stands_at
 either_hits p ps a zero = omega arith
 either_hits p ps a (suc n) =
-    omega (arith, or_hits (nat_eq (burst_place a) p) (listed (burst_place a) ps), either_hits p ps (a + 1) n)
+    omega (arith, or_hits (nat_eq (position_in_four_bursts a) p) (listed (position_in_four_bursts a) ps), either_hits p ps (a + 1) n)
 
-few_hits : (places : List ℕ) (a n : ℕ) → a + n ≤ 456 → hits (spoilt places) a n ≤ length places
-unfolding spoilt listed
-few_hits [] a n h = omega (arith, no_hits (spoilt []) a n (λ k low high. refl))
+few_hits : (places : List ℕ) (a n : ℕ) → a + n ≤ 456 → count_where (is_listed_position places) a n ≤ length places
+unfolding is_listed_position listed
+few_hits [] a n h = omega (arith, no_hits (is_listed_position []) a n (λ k low high. refl))
 few_hits (p ∷ ps) a n h = omega (arith, one_hit p a n h, either_hits p ps a n, few_hits ps a n h)
 
--- soft bits that are those of the coded bits except at the listed positions: at most as many are wrong
-pub few_spoilt : (soft : List ℤ) (c places : List ℕ) → length soft ≡ 456 → length c ≡ 456 → AllBits c →
-    ((k : ℕ) → k < 456 → listed (burst_place k) places ≡ false → get_or soft k (pos 0) ≡ soft_value (get_or c k 0)) →
-    wrong_places soft c ≤ length places
-unfolding spoilt
-few_spoilt soft c places count long bits same =
-    let most = wrong-hits soft c places 0 (count ∙ sym long) bits
-    (λ k lt h. let e : k ≡ 0 + k = omega arith in same k (omega arith) (ap (λ i. listed (burst_place i) places) e ∙ h)) in
+-- if the soft bits are those of the coded bits except at the listed positions, at most as many are wrong as positions are listed
+pub few_listed_positions : (soft : List ℤ) (c places : List ℕ) → length soft ≡ 456 → length c ≡ 456 → AllBits c →
+    ((k : ℕ) → k < 456 → listed (position_in_four_bursts k) places ≡ false → get_or soft k (pos 0) ≡ soft_bit_of (get_or c k 0)) →
+    count_wrong_bits soft c ≤ length places
+unfolding is_listed_position
+few_listed_positions soft c places count long bits same =
+    let most = wrong-count_where soft c places 0 (count ∙ sym long) bits
+    (λ k lt h. let e : k ≡ 0 + k = omega arith in same k (omega arith) (ap (λ i. listed (position_in_four_bursts i) places) e ∙ h)) in
     omega (arith, most, few_hits places 0 (length soft) (omega arith))
 
 -- a position that fails the test is not in the list
@@ -207,28 +198,28 @@ not_among q (p ∷ ps) h (zero, lt, e) =
     false≢true (sym apart ∙ found)
 not_among q (p ∷ ps) h (suc n, lt, e) = not_among q ps (or_false (nat_eq q p) (listed q ps) h).1 (n, omega arith, e)
 
--- bursts received as sent except at the listed positions
+-- if bursts are received as sent except at the listed positions, at most as many coded bits are wrong as positions are listed
 pub few_wrong : (octets c : List ℕ) (tsc : ℕ) (sent : List (List ℕ)) (bursts : List (List ℤ)) (soft : List ℤ) (places : List ℕ) →
     IsSentBlock octets tsc sent → IsCodedBlock octets c → length bursts ≡ 4 → All (λ burst. length burst ≡ 148) bursts →
-    IsInterleaved soft (map coded_places bursts) →
+    IsInterleaved soft (map coded_soft_bits bursts) →
     ((q : ℕ) → q < 592 → (Contains places q → ⊥) →
-    get_or (end_to_end bursts) q (pos 0) ≡ get_or (end_to_end (map soft_bits sent)) q (pos 0)) → wrong_places soft c ≤ length places
+    get_or (concatenated bursts) q (pos 0) ≡ get_or (concatenated (map soft_bits sent)) q (pos 0)) → count_wrong_bits soft c ≤ length places
 few_wrong octets c tsc sent bursts soft places s code four each gathered same =
     let bits = coded_block_bits octets c code in
-    let clean : IsInterleaved (soft_bits c) (map coded_places (map soft_bits sent)) =
-    subst (λ x. IsInterleaved (soft_bits x) (map coded_places (map soft_bits sent))) (one_coded_block octets s.coded_bits c s.code code)
+    let clean : IsInterleaved (soft_bits c) (map coded_soft_bits (map soft_bits sent)) =
+    subst (λ x. IsInterleaved (soft_bits x) (map coded_soft_bits (map soft_bits sent))) (one_coded_block octets s.coded_bits c s.code code)
     (clean_gathered octets tsc sent s) in
     let shape = sent_block_bits octets tsc sent s in
-    few_spoilt soft c places gathered.coded_count bits.many bits.each
+    few_listed_positions soft c places gathered.coded_count bits.many bits.each
     (λ k h unlisted.
-    let q = burst_place k in
+    let q = position_in_four_bursts k in
     received_place bursts soft four each gathered k (pos 0) h
-    ∙ same q (burst_place-below k) (not_among q places unlisted)
+    ∙ same q (position_in_four_bursts-below k) (not_among q places unlisted)
     ∙ sym (received_place (map soft_bits sent) (soft_bits c) (length-map sent soft_bits ∙ shape.0)
     (softened_bursts sent (λ b d lt. (shape.1 b d lt).many)) clean k (pos 0) h)
-    ∙ get_or-map soft_value c k 0 (pos 0) (omega (arith, bits.many)))
+    ∙ get_or-map soft_bit_of c k 0 (pos 0) (omega (arith, bits.many)))
   where
     softened_bursts : (xs : List (List ℕ)) → All IsBurst xs → All (λ burst. length burst ≡ 148) (map soft_bits xs)
     softened_bursts xs each b d h =
         let within : b < length xs = subst (λ n. b < n) (length-map xs soft_bits) h in
-        ap length (get_or-map soft_bits xs b [] d within) ∙ length-map (get_or xs b []) soft_value ∙ each b [] within
+        ap length (get_or-map soft_bits xs b [] d within) ∙ length-map (get_or xs b []) soft_bit_of ∙ each b [] within

@@ -1,41 +1,34 @@
 -- The parts of a burst that is received as it was sent.
-use Rattle.std.proofs.Common.{◌≡◌, ◌⊎◌, inl, inr, ℕ, zero, suc, ◌-◌, ◌<◌, ◌≤◌, Bool, true, false, ◌||◌}
-use Rattle.std.proofs.Common.{eqb, int_lt, ℤ, List, [], ◌∷◌, ◌++◌, map, take, drop, length, get_or, ap, ap₂, sym, ◌∙◌}
-use Rattle.std.proofs.Common.{refl, arith, append_assoc, length-append, zero-add}
-use Rattle.std.specs.Prelude.{slice_range}
-use Rattle.std.specs.List.{All}
-use Rattle.std.proofs.lemmas.Bool.{eqb-true}
-use Rattle.std.proofs.lemmas.List.{take_at, drop_at, take-map, drop-map, map-append, take-append-drop, length-take, length-drop}
-use Rattle.std.proofs.lemmas.List.Elements.{All-head, All-tail}
-use Rattle.bit_blocks.specs.Bits.{IsBit, AllBits}
-use Rattle.bit_blocks.specs.SoftValues.{wrong_places}
-use Rattle.bit_blocks.proofs.Lemmas.{passes_below, at_passes_below}
+use Rattle.std.proofs.Common.{◌≡◌, ◌⊎◌, inl, inr, ℕ, zero, suc, ◌-◌, ◌<◌, ◌≤◌, Bool, true, false, ◌||◌, eqb, int_lt, ℤ, List, [], ◌∷◌, ◌++◌}
+use Rattle.std.proofs.Common.{map, take, drop, length, get_or, ap, ap₂, sym, ◌∙◌, refl, arith, append_assoc, length-append, zero-add}
+use Rattle.std.proofs.lemmas.{Bool.eqb-true, List.{take_at, drop_at, take-map, drop-map, map-append, take-append-drop, length-take}}
+use Rattle.std.{proofs.lemmas.List.{length-drop, Elements.{All-head, All-tail}}, specs.{Prelude.slice_range, List.All}}
+use Rattle.bit_blocks.{specs.{Bits.{IsBit, AllBits}, SoftValues.count_wrong_bits}, proofs.Lemmas.{passes_below, at_passes_below}}
 use Rattle.trellis_decode.proofs.Lemmas.{less_by_test}
-use Rattle.training_seq.specs.Choice.{IsFirstGreatest, total_correlation}
-use Rattle.training_seq.specs.Sequences.{training_sequence}
+use Rattle.training_seq.specs.{Choice.{IsFirstMaximum, total_correlation}, Sequences.training_sequence}
 use Rattle.training_seq.proofs.Lemmas.{length-training_sequence}
 use Rattle.burst_map.specs.Tails.{tail_bits}
+use Rattle.um_block.specs.Received.{soft_bit_of, soft_bits, coded_soft_bits}
 use Rattle.burst_map.specs.NormalBurst as N
 use Rattle.burst_map.specs.AccessBurst as A
 use Rattle.burst_map.specs.SyncBurst as S
-use Rattle.um_block.specs.Received.{soft_value, soft_bits, coded_places}
 
--- ---- parts
+-- ---- slices of a burst
 
--- the slice between a front and a back
+-- the slice of a list between its front and its back
 pub range_at : {X : Type 0} (front part back : List X) (i j : ℕ) → length front ≡ i → length part ≡ j - i →
     slice_range (front ++ (part ++ back)) i j ≡ part
 range_at front part back i j hf hp = ap (take (j - i)) (drop_at front (part ++ back) i hf) ∙ take_at part back (j - i) hp
 
 pub softened-range : (bits : List ℕ) (i j : ℕ) → slice_range (soft_bits bits) i j ≡ soft_bits (slice_range bits i j)
-softened-range bits i j = ap (take (j - i)) (drop-map soft_value i bits) ∙ take-map soft_value (j - i) (drop i bits)
+softened-range bits i j = ap (take (j - i)) (drop-map soft_bit_of i bits) ∙ take-map soft_bit_of (j - i) (drop i bits)
 
--- the same for a burst given as three parts
+-- if a burst consists of a front, a part and a back, its slice between front and back is the part
 part_at : (burst front part back : List ℕ) (i j : ℕ) → burst ≡ front ++ (part ++ back) → length front ≡ i → length part ≡ j - i →
     slice_range burst i j ≡ part
 part_at burst front part back i j whole hf hp = ap (λ b. slice_range b i j) whole ∙ range_at front part back i j hf hp
 
--- the same slice of the burst as soft bits
+-- if a burst consists of a front, a part and a back, the slice of its soft bits consists of the soft bits of the part
 softened_part : (burst front part back : List ℕ) (i j : ℕ) → burst ≡ front ++ (part ++ back) → length front ≡ i → length part ≡ j - i →
     slice_range (soft_bits burst) i j ≡ soft_bits part
 softened_part burst front part back i j whole hf hp =
@@ -51,7 +44,7 @@ module _ (a b c d e f g : List ℕ) where
   sixth_of_seven : a ++ b ++ c ++ d ++ e ++ f ++ g ≡ (a ++ b ++ c ++ d ++ e) ++ (f ++ g)
   sixth_of_seven = simp append_assoc
 
--- ---- the normal burst
+-- ---- the parts of the normal burst
 
 module _ (first second : List ℕ) (tsc : ℕ) (known : tsc ≤ 7) (hf : length first ≡ 57) (hs : length second ≡ 57) where
   flag : List ℕ
@@ -122,12 +115,12 @@ parts_of_bursts (part ∷ parts) tsc known each =
     (parts_of_bursts parts tsc known (All-tail IsPart part parts each))
 
 -- the coded soft bits of bursts are the soft bits of their coded bits
-pub softened_halves : (bursts : List (List ℕ)) → map coded_places (map soft_bits bursts) ≡ map soft_bits (map halves bursts)
+pub softened_halves : (bursts : List (List ℕ)) → map coded_soft_bits (map soft_bits bursts) ≡ map soft_bits (map halves bursts)
 softened_halves [] = refl
 softened_halves (burst ∷ bursts) =
     ap₂ (λ x y. x ∷ y)
     (ap₂ (λ x y. x ++ y) (softened-range burst 3 60) (softened-range burst 88 145)
-    ∙ sym (map-append soft_value (slice_range burst 3 60) (slice_range burst 88 145)))
+    ∙ sym (map-append soft_bit_of (slice_range burst 3 60) (slice_range burst 88 145)))
     (softened_halves bursts)
 
 pub clean_training_of : (parts : List (List ℕ)) (tsc b : ℕ) → tsc ≤ 7 → All IsPart parts → b < length parts →
@@ -137,14 +130,14 @@ clean_training_of (part ∷ parts) tsc zero known each h = clean_training part t
 clean_training_of (part ∷ parts) tsc (suc b) known each h =
     clean_training_of parts tsc b known (All-tail IsPart part parts each) (omega arith)
 
--- ---- training sequences
+-- ---- the training sequence that is found
 
--- no soft bit of a sequence is wrong for that sequence
-pub wrong_places-own : (bits : List ℕ) → AllBits bits → wrong_places (soft_bits bits) bits ≡ 0
-wrong_places-own [] all = refl
-wrong_places-own (zero ∷ bits) all = zero-add _ ∙ wrong_places-own bits (All-tail IsBit 0 bits all)
-wrong_places-own (suc zero ∷ bits) all = zero-add _ ∙ wrong_places-own bits (All-tail IsBit 1 bits all)
-wrong_places-own (suc (suc x) ∷ bits) all =
+-- no soft bit of a training sequence received as sent is wrong for that sequence
+pub count_wrong_bits-own : (bits : List ℕ) → AllBits bits → count_wrong_bits (soft_bits bits) bits ≡ 0
+count_wrong_bits-own [] all = refl
+count_wrong_bits-own (zero ∷ bits) all = zero-add _ ∙ count_wrong_bits-own bits (All-tail IsBit 0 bits all)
+count_wrong_bits-own (suc zero ∷ bits) all = zero-add _ ∙ count_wrong_bits-own bits (All-tail IsBit 1 bits all)
+count_wrong_bits-own (suc (suc x) ∷ bits) all =
     let head = All-head IsBit (suc (suc x)) bits all in absurd (omega arith)
 
 -- the total correlation of four midambles received as sent with any training sequence
@@ -165,7 +158,7 @@ either_true true y h = inl refl
 either_true false y h = inr h
 
 pub best_own : (sent : ℕ) → sent ≤ 7 →
-    let soft = soft_bits (training_sequence sent) in IsFirstGreatest (total_correlation soft soft soft soft) 7 sent
+    let soft = soft_bits (training_sequence sent) in IsFirstMaximum (total_correlation soft soft soft soft) 7 sent
 unfolding total
 best_own sent known = record {
   within = known;
@@ -178,7 +171,7 @@ best_own sent known = record {
       ];
 }
 
--- ---- the access burst and the synchronisation burst
+-- ---- the parts of the access burst and of the synchronisation burst
 
 module _ (c : List ℕ) (count : length c ≡ 36) where
   pub clean_body : A.body (soft_bits (A.access_burst c)) ≡ soft_bits c
@@ -211,7 +204,7 @@ module _ (first second : List ℕ) (hf : length first ≡ 39) (hs : length secon
       (softened_part (S.sync_burst first second) (tail_bits ++ first ++ S.sync_sequence) second tail_bits 106 145
       (fourth_of_five tail_bits first S.sync_sequence second tail_bits)
       (omega (arith, length-append (tail_bits ++ first) S.sync_sequence, length-append tail_bits first)) hs)
-      ∙ sym (map-append soft_value first second)
+      ∙ sym (map-append soft_bit_of first second)
 
   pub clean_sync_training : S.training (soft_bits (S.sync_burst first second)) ≡ soft_bits S.sync_sequence
   clean_sync_training =

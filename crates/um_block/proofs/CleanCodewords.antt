@@ -1,24 +1,20 @@
--- Coded bits received as sent decode to their information list: every other list has different coded bits, and so a smaller path metric.
-use Rattle.std.proofs.Common.{◌≡◌, ◌≢◌, ◌⊎◌, inl, inr, ℕ, zero, suc, ◌+◌, ◌*◌, ◌/◌, ◌%◌, ◌≤◌}
-use Rattle.std.proofs.Common.{ℤ, pos, negsuc, ◌<ℤ◌, List, [], ◌∷◌, length, subst, ap, ap₂, sym, ◌∙◌, refl, arith}
-use Rattle.std.proofs.lemmas.Int.{ints}
-use Rattle.std.proofs.lemmas.Bool.{cases_eq}
-use Rattle.std.proofs.lemmas.List.{length-map}
+-- Coded bits received as sent decode to the sent information list: all other lists have other coded bits, and so a smaller path metric.
+use Rattle.std.proofs.Common.{◌≡◌, ◌≢◌, ◌⊎◌, inl, inr, ℕ, zero, suc, ◌+◌, ◌*◌, ◌/◌, ◌%◌, ◌≤◌, ℤ, pos, negsuc, ◌<ℤ◌, List, [], ◌∷◌, length}
+use Rattle.std.proofs.{Common.{subst, ap, ap₂, sym, ◌∙◌, refl, arith}, lemmas.{Int.ints, Bool.cases_eq, List.length-map}}
 use Rattle.std.proofs.lemmas.List.Elements.{All-head, All-tail}
 use Rattle.bit_blocks.specs.Bits.{IsBit, AllBits}
-use Rattle.conv_code.specs.Code.{encoding, IsInformation}
-use Rattle.conv_code.proofs.Lemmas.{AllBits-coded, length-coded, coded_from_start, IsMostLikely-only}
-use Rattle.conv_code.specs.Likelihood.{agreement, likelihood, IsMostLikely}
-use Rattle.conv_code.specs.States.{next, first_bit, coded_from}
-use Rattle.um_block.specs.Received.{soft_value, soft_bits}
+use Rattle.conv_code.specs.{Code.{encoding, IsInformation}, Likelihood.{agreement, likelihood, IsMostLikely}, States.next}
+use Rattle.conv_code.{specs.States.{first_coded_bit, encoding_from_state}, proofs.Lemmas.{AllBits-coded, length-coded, coded_from_start}}
+use Rattle.conv_code.proofs.Lemmas.{IsMostLikely-only}
+use Rattle.um_block.specs.Received.{soft_bit_of, soft_bits}
 
--- a soft bit of full confidence adds 127 for its own bit, and -127 for the other
-agreement-own : (x : ℕ) → x ≤ 1 → agreement (soft_value x) x ≡ pos 127
+-- a soft bit of full confidence adds 127 to the path metric for its own bit, and -127 for the opposite bit
+agreement-own : (x : ℕ) → x ≤ 1 → agreement (soft_bit_of x) x ≡ pos 127
 agreement-own zero h = refl
 agreement-own (suc zero) h = refl
 agreement-own (suc (suc x)) h = absurd (omega arith)
 
-agreement-other : (x y : ℕ) → x ≤ 1 → y ≤ 1 → x ≢ y → agreement (soft_value x) y ≡ negsuc 126
+agreement-other : (x y : ℕ) → x ≤ 1 → y ≤ 1 → x ≢ y → agreement (soft_bit_of x) y ≡ negsuc 126
 agreement-other zero zero hx hy ne = absurd (ne refl)
 agreement-other zero (suc zero) hx hy ne = refl
 agreement-other (suc zero) zero hx hy ne = refl
@@ -34,7 +30,7 @@ likelihood-own (x ∷ c) bits =
     let rest = likelihood-own c (All-tail IsBit x c bits) in
     omega (arith, ints, here, rest)
 
--- other bits than those of the soft bits have a smaller path metric
+-- for the soft bits of c, any other bits d have a smaller path metric
 agrees_less : (c d : List ℕ) → AllBits c → AllBits d → length c ≡ length d →
     (c ≡ d) ⊎ (likelihood (soft_bits c) d <ℤ pos (127 * length c))
 agrees_less [] [] bc bd e = inl refl
@@ -50,7 +46,7 @@ agrees_less (x ∷ c) (y ∷ d) bc bd e =
       | inl same ↦ elim rest [
         | inl all ↦ inl (ap₂ (λ z w. z ∷ w) same all)
         | inr less ↦
-            let here : agreement (soft_value x) y ≡ pos 127 = ap (agreement (soft_value x)) (sym same) ∙ agreement-own x hx in
+            let here : agreement (soft_bit_of x) y ≡ pos 127 = ap (agreement (soft_bit_of x)) (sym same) ∙ agreement-own x hx in
             inr (omega (arith, ints, here, less))
       ]
       | inr other ↦
@@ -67,19 +63,20 @@ agrees_less (x ∷ c) (y ∷ d) bc bd e =
 same_bit : (x y a b : ℕ) → x ≤ 1 → y ≤ 1 → (x + a + b) % 2 ≡ (y + a + b) % 2 → x ≡ y
 same_bit x y a b hx hy e = omega arith
 
--- from one state, different lists have different coded bits
+-- starting in the same state, different lists have different coded bits
 same_information : (state : ℕ) (u v : List ℕ) → AllBits u → AllBits v → length u ≡ length v →
-    coded_from state u ≡ coded_from state v → u ≡ v
+    encoding_from_state state u ≡ encoding_from_state state v → u ≡ v
 same_information state [] [] bu bv e same = refl
 same_information state [] (y ∷ v) bu bv e same = absurd (omega arith)
 same_information state (x ∷ u) [] bu bv e same = absurd (omega arith)
 same_information state (x ∷ u) (y ∷ v) bu bv e same =
     let e' : length u ≡ length v = omega arith in
-    let first : first_bit state x ≡ first_bit state y = cc in
-    let tail : coded_from (next state x) u ≡ coded_from (next state y) v = cc in
+    let first : first_coded_bit state x ≡ first_coded_bit state y = cc in
+    let tail : encoding_from_state (next state x) u ≡ encoding_from_state (next state y) v = cc in
     let head : x ≡ y =
     same_bit x y (state / 4 % 2) (state / 8 % 2) (All-head IsBit x u bu) (All-head IsBit y v bv) first in
-    let tail' : coded_from (next state x) u ≡ coded_from (next state x) v = tail ∙ ap (λ z. coded_from (next state z) v) (sym head) in
+    let tail' : encoding_from_state (next state x) u ≡ encoding_from_state (next state x) v = tail
+    ∙ ap (λ z. encoding_from_state (next state z) v) (sym head) in
     ap₂ (λ z w. z ∷ w) head
     (same_information (next state x) u v (All-tail IsBit x u bu) (All-tail IsBit y v bv) e' tail')
 
@@ -91,7 +88,7 @@ one_information u v bu bv e same =
 clean_most_likely : (w : List ℕ) → IsInformation w → IsMostLikely (soft_bits (encoding w)) w
 clean_most_likely w information = record {
   information = information;
-  count = length-map (encoding w) soft_value ∙ length-coded w;
+  count = length-map (encoding w) soft_bit_of ∙ length-coded w;
   others = λ v other count ne.
       let long : length (encoding w) ≡ length (encoding v) = length-coded w ∙ ap (λ n. 2 * n) (sym count) ∙ sym (length-coded v) in
       elim (agrees_less (encoding w) (encoding v) (AllBits-coded w) (AllBits-coded v) long) [

@@ -1,33 +1,24 @@
--- Every burst and every block has a report: a most likely list exists, and whether its CRC holds is decidable.
-use Rattle.std.proofs.Common.{◌≡◌, ◌⊎◌, inl, inr, ℕ, ◌+◌, ◌-◌, ◌≤◌, ℤ, pos, Option, Some, None, List}
-use Rattle.std.proofs.Common.{◌++◌, map, take, drop, length, get_or, subst, ap, ap₂, sym, ◌∙◌, refl, arith, lit≤}
-use Rattle.std.specs.Prelude.{MatchOption, slice_range}
+-- Every burst and every block has a report: a most likely list exists, and its CRC either holds or does not.
+use Rattle.std.proofs.Common.{◌≡◌, ◌⊎◌, inl, inr, ℕ, ◌+◌, ◌-◌, ◌≤◌, ℤ, pos, Option, Some, None, List, ◌++◌, map, take, drop, length, get_or}
+use Rattle.std.proofs.{Common.{subst, ap, ap₂, sym, ◌∙◌, refl, arith, lit≤}, lemmas.List.{length-take, length-drop, length-append}}
+use Rattle.std.{proofs.lemmas.List.{length-map, take-append-drop, Elements.{All-map, All-take}}, specs.Prelude.{MatchOption, slice_range}}
 use Rattle.std.specs.List.{All}
-use Rattle.std.proofs.lemmas.List.{length-take, length-drop, length-append, length-map, take-append-drop}
-use Rattle.std.proofs.lemmas.List.Elements.{All-map, All-take}
-use Rattle.bit_blocks.specs.Bits.{IsBit, AllBits}
-use Rattle.bit_blocks.specs.Octets.{octets_of}
-use Rattle.bit_blocks.specs.SoftValues.{likelihood, wrong_places}
-use Rattle.fire_code.specs.Words.{IsXcchWord, IsRachWord, IsSchWord}
-use Rattle.fire_code.proofs.Lemmas.{some_xcch_crc, some_rach_crc, some_sch_crc, one_xcch_crc, one_rach_crc, one_sch_crc}
-use Rattle.conv_code.specs.Code.{encoding}
-use Rattle.conv_code.proofs.Lemmas.{same_list}
+use Rattle.bit_blocks.specs.{Bits.{IsBit, AllBits}, Octets.octets_of, SoftValues.{likelihood, count_wrong_bits}}
+use Rattle.fire_code.{specs.Words.{IsXcchWord, IsRachWord, IsSchWord}, proofs.Lemmas.{some_xcch_crc, some_rach_crc, some_sch_crc}}
+use Rattle.fire_code.proofs.Lemmas.{one_xcch_crc, one_rach_crc, one_sch_crc}
+use Rattle.conv_code.{specs.Code.encoding, proofs.Lemmas.same_list}
 use Rattle.trellis_decode.proofs.Lemmas.{some_most_likely}
-use Rattle.training_seq.specs.Choice.{total_correlation}
-use Rattle.training_seq.proofs.Lemmas.{some_first_greatest}
-use Rattle.interleave.specs.Bursts.{IsInterleaved}
-use Rattle.interleave.proofs.Lemmas.{some_gathered}
+use Rattle.training_seq.{specs.Choice.total_correlation, proofs.Lemmas.some_first_greatest}
+use Rattle.interleave.{specs.Bursts.IsInterleaved, proofs.Lemmas.some_gathered}
+use Rattle.um_block.specs.Received.{coded_soft_bits, access_soft_bits, sync_soft_bits, training_bits_of_burst, wrong_training_bits}
+use Rattle.um_block.specs.{Received.{IsReceivedBlock, IsReceivedAccess, IsReceivedSync}, declared.received.Received.Received}
+use Rattle.um_block.specs.declared.received.{ReceivedAccess.ReceivedAccess, ReceivedSync.ReceivedSync}
 use Rattle.burst_map.specs.AccessBurst as A
 use Rattle.burst_map.specs.SyncBurst as S
-use Rattle.um_block.specs.Received.{coded_places, access_places, sync_places, training_of, wrong_training_places, IsReceivedBlock}
-use Rattle.um_block.specs.Received.{IsReceivedAccess, IsReceivedSync}
-use Rattle.um_block.specs.declared.received.Received.{Received}
-use Rattle.um_block.specs.declared.received.ReceivedAccess.{ReceivedAccess}
-use Rattle.um_block.specs.declared.received.ReceivedSync.{ReceivedSync}
 
--- ---- whether a CRC holds
+-- ---- a CRC either holds or does not
 
--- a list is a word if and only if it ends in the CRC of its information
+-- a list is a codeword or not: it is one if it ends in the CRC of its information bits
 decided : (P : List ℕ → Type 0) (n : ℕ) (w p : List ℕ) → P (take n w ++ p) →
     ((q : List ℕ) → P (take n w ++ p) → P (take n w ++ q) → p ≡ q) → P w ⊎ (¬ P w)
 decided P n w p holds only =
@@ -37,7 +28,7 @@ decided P n w p holds only =
       | inr other ↦ inr (λ h. other (only (drop n w) holds (subst P (sym whole) h)))
     ]
 
--- the accepted value, or none
+-- the accepted value if a condition holds, or `None` if it does not
 answered : {X : Type 0} (P : Type 0) (x : X) → P ⊎ (¬ P) → (a : Option X) × MatchOption a (¬ P) (λ v. P × (v ≡ x))
 answered P x (inl holds) = (Some x, (holds, refl))
 answered P x (inr fails) = (None, fails)
@@ -69,23 +60,23 @@ sch_decided w count bits =
     let p = some_sch_crc d long (AllBits-front 25 w bits) in
     decided IsSchWord 25 w p.0 p.1 (λ q h g. one_sch_crc d p.0 q long h g)
 
--- ---- a block
+-- ---- the report of a block
 
 length-range : (burst : List ℤ) (i j : ℕ) → i ≤ j → j ≤ length burst → length (slice_range burst i j) ≡ j - i
 length-range burst i j ordered within = omega (arith, length-take (j - i) (drop i burst), length-drop i burst)
 
-length-coded_places : (burst : List ℤ) → length burst ≡ 148 → length (coded_places burst) ≡ 114
-length-coded_places burst long =
+length-coded_soft_bits : (burst : List ℤ) → length burst ≡ 148 → length (coded_soft_bits burst) ≡ 114
+length-coded_soft_bits burst long =
     let first = length-range burst 3 60 (lit≤ tt) (omega arith) in
     let second = length-range burst 88 145 (lit≤ tt) (omega arith) in
     length-append (slice_range burst 3 60) (slice_range burst 88 145) ∙ ap₂ (λ m n. m + n) first second
 
 some_block_gathered : (bursts : List (List ℤ)) → length bursts ≡ 4 → All (λ burst. length burst ≡ 148) bursts →
-    (soft : List ℤ) × IsInterleaved soft (map coded_places bursts)
+    (soft : List ℤ) × IsInterleaved soft (map coded_soft_bits bursts)
 some_block_gathered bursts four each =
-    let parts = map coded_places bursts in
-    some_gathered (pos 0) parts (length-map bursts coded_places ∙ four)
-    (All-map (λ part. length part ≡ 114) coded_places bursts (λ i d h. length-coded_places (get_or bursts i d) (each i d h)))
+    let parts = map coded_soft_bits bursts in
+    some_gathered (pos 0) parts (length-map bursts coded_soft_bits ∙ four)
+    (All-map (λ part. length part ≡ 114) coded_soft_bits bursts (λ i d h. length-coded_soft_bits (get_or bursts i d) (each i d h)))
 
 pub some_received_block : (bursts : List (List ℤ)) → length bursts ≡ 4 → All (λ burst. length burst ≡ 148) bursts →
     (r : Received) × IsReceivedBlock bursts r
@@ -95,14 +86,15 @@ some_received_block bursts four each =
     let best = some_most_likely soft 228 gathered.1.coded_count (lit≤ tt) in
     let u = best.0 in
     let tsc = some_first_greatest
-    (total_correlation (training_of bursts 0) (training_of bursts 1) (training_of bursts 2) (training_of bursts 3)) in
+    (total_correlation (training_bits_of_burst bursts 0) (training_bits_of_burst bursts 1) (training_bits_of_burst bursts 2)
+    (training_bits_of_burst bursts 3)) in
     let answer = answered (IsXcchWord (take 224 u)) (octets_of (take 184 u))
     (xcch_decided (take 224 u) (length-front 224 u (omega (arith, best.2))) (AllBits-front 224 u best.1.information.bits)) in (
       record {
         u = u;
         metric = likelihood soft (encoding u);
         tsc = tsc.0;
-        wrong_training = wrong_training_places bursts tsc.0;
+        wrong_training = wrong_training_bits bursts tsc.0;
         accepted = answer.0;
       },
       record {
@@ -116,12 +108,12 @@ some_received_block bursts four each =
       },
     )
 
--- ---- the other bursts
+-- ---- the reports of an access burst and of a synchronisation burst
 
 pub some_received_access : (burst : List ℤ) (bsic : List ℕ) → length burst ≡ 88 → length bsic ≡ 6 → AllBits bsic →
     (r : ReceivedAccess) × IsReceivedAccess burst bsic r
 some_received_access burst bsic count code code_bits =
-    let soft = access_places burst in
+    let soft = access_soft_bits burst in
     let best = some_most_likely soft 18 (length-range burst 49 85 (lit≤ tt) (omega arith)) (lit≤ tt) in
     let u = best.0 in
     let answer = answered (IsRachWord (take 14 u) bsic) (take 8 u)
@@ -130,7 +122,7 @@ some_received_access burst bsic count code code_bits =
       record {
         u = u;
         metric = likelihood soft (encoding u);
-        wrong_training = wrong_places (A.training burst) A.access_sequence;
+        wrong_training = count_wrong_bits (A.training burst) A.access_sequence;
         accepted = answer.0;
       },
       record { best = best.1; metric = refl; wrong_training = refl; accepted = answer.1 },
@@ -138,7 +130,7 @@ some_received_access burst bsic count code code_bits =
 
 pub some_received_sync : (burst : List ℤ) → length burst ≡ 148 → (r : ReceivedSync) × IsReceivedSync burst r
 some_received_sync burst count =
-    let soft = sync_places burst in
+    let soft = sync_soft_bits burst in
     let first = length-range burst 3 42 (lit≤ tt) (omega arith) in
     let second = length-range burst 106 145 (lit≤ tt) (omega arith) in
     let long : length soft ≡ 78 =
@@ -150,7 +142,7 @@ some_received_sync burst count =
       record {
         u = u;
         metric = likelihood soft (encoding u);
-        wrong_training = wrong_places (S.training burst) S.sync_sequence;
+        wrong_training = count_wrong_bits (S.training burst) S.sync_sequence;
         accepted = answer.0;
       },
       record { best = best.1; metric = refl; wrong_training = refl; accepted = answer.1 },

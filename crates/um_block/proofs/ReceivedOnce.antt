@@ -1,22 +1,15 @@
 -- The report of a burst or block is unique.
-use Rattle.std.proofs.Common.{◌≡◌, ℕ, ℤ, Option, Some, None, List, map, take, subst, ap, ap₂, sym, ◌∙◌, refl}
-use Rattle.std.specs.Prelude.{MatchOption}
-use Rattle.bit_blocks.specs.Octets.{octets_of}
-use Rattle.bit_blocks.specs.SoftValues.{likelihood}
+use Rattle.std.{proofs.Common.{◌≡◌, ℕ, ℤ, Option, Some, None, List, map, take, subst, ap, ap₂, sym, ◌∙◌, refl}, specs.Prelude.MatchOption}
+use Rattle.bit_blocks.specs.{Octets.octets_of, SoftValues.likelihood}
 use Rattle.fire_code.specs.Words.{IsXcchWord, IsRachWord, IsSchWord}
-use Rattle.conv_code.specs.Code.{encoding}
-use Rattle.conv_code.specs.Likelihood.{IsMostLikely}
-use Rattle.conv_code.proofs.Lemmas.{IsMostLikely-only}
-use Rattle.training_seq.specs.Choice.{total_correlation}
-use Rattle.training_seq.proofs.Lemmas.{one_first_greatest}
+use Rattle.conv_code.{specs.{Code.encoding, Likelihood.IsMostLikely}, proofs.Lemmas.IsMostLikely-only}
+use Rattle.training_seq.{specs.Choice.total_correlation, proofs.Lemmas.one_first_greatest}
 use Rattle.interleave.proofs.Lemmas.{same_coded}
-use Rattle.um_block.specs.Received.{coded_places, access_places, sync_places, training_of, wrong_training_places, IsReceivedBlock}
-use Rattle.um_block.specs.Received.{IsReceivedAccess, IsReceivedSync}
-use Rattle.um_block.specs.declared.received.Received.{Received}
-use Rattle.um_block.specs.declared.received.ReceivedAccess.{ReceivedAccess}
-use Rattle.um_block.specs.declared.received.ReceivedSync.{ReceivedSync}
+use Rattle.um_block.specs.Received.{coded_soft_bits, access_soft_bits, sync_soft_bits, training_bits_of_burst, wrong_training_bits}
+use Rattle.um_block.specs.{Received.{IsReceivedBlock, IsReceivedAccess, IsReceivedSync}, declared.received.Received.Received}
+use Rattle.um_block.specs.declared.received.{ReceivedAccess.ReceivedAccess, ReceivedSync.ReceivedSync}
 
--- an accepted value that a condition determines
+-- the accepted value is unique if a condition decides whether there is one
 one_accepted : {X : Type 0} (P : Type 0) (x : X) (a b : Option X) →
     MatchOption a (¬ P) (λ v. P × (v ≡ x)) → MatchOption b (¬ P) (λ v. P × (v ≡ x)) → a ≡ b
 one_accepted P x None None h g = refl
@@ -57,20 +50,21 @@ accepted_once IsWord answer n u u' a b same h g =
 
 pub one_received_block : (bursts : List (List ℤ)) (r r' : Received) → IsReceivedBlock bursts r → IsReceivedBlock bursts r' → r ≡ r'
 one_received_block bursts r r' h g =
-    let score = total_correlation (training_of bursts 0) (training_of bursts 1) (training_of bursts 2) (training_of bursts 3) in
-    let soft : h.soft ≡ g.soft = same_coded h.soft g.soft (map coded_places bursts) h.gathered g.gathered in
+    let score = total_correlation (training_bits_of_burst bursts 0) (training_bits_of_burst bursts 1) (training_bits_of_burst bursts 2)
+    (training_bits_of_burst bursts 3) in
+    let soft : h.soft ≡ g.soft = same_coded h.soft g.soft (map coded_soft_bits bursts) h.gathered g.gathered in
     let u : r.u ≡ r'.u = IsMostLikely-only g.soft r'.u r.u g.best (subst (λ s. IsMostLikely s r.u) soft h.best) in
     let tsc : r.tsc ≡ r'.tsc = one_first_greatest score 7 r.tsc r'.tsc h.tsc g.tsc in
     same_block r r' u
     (h.metric ∙ ap₂ (λ s v. likelihood s (encoding v)) soft u ∙ sym g.metric)
     tsc
-    (h.wrong_training ∙ ap (wrong_training_places bursts) tsc ∙ sym g.wrong_training)
+    (h.wrong_training ∙ ap (wrong_training_bits bursts) tsc ∙ sym g.wrong_training)
     (accepted_once IsXcchWord (λ v. octets_of (take 184 v)) 224 r.u r'.u r.accepted r'.accepted u h.accepted g.accepted)
 
 pub one_received_access : (burst : List ℤ) (bsic : List ℕ) (r r' : ReceivedAccess) →
     IsReceivedAccess burst bsic r → IsReceivedAccess burst bsic r' → r ≡ r'
 one_received_access burst bsic r r' h g =
-    let soft = access_places burst in
+    let soft = access_soft_bits burst in
     let u : r.u ≡ r'.u = IsMostLikely-only soft r'.u r.u g.best h.best in
     same_access r r' u
     (h.metric ∙ ap (λ v. likelihood soft (encoding v)) u ∙ sym g.metric)
@@ -79,7 +73,7 @@ one_received_access burst bsic r r' h g =
 
 pub one_received_sync : (burst : List ℤ) (r r' : ReceivedSync) → IsReceivedSync burst r → IsReceivedSync burst r' → r ≡ r'
 one_received_sync burst r r' h g =
-    let soft = sync_places burst in
+    let soft = sync_soft_bits burst in
     let u : r.u ≡ r'.u = IsMostLikely-only soft r'.u r.u g.best h.best in
     same_sync r r' u
     (h.metric ∙ ap (λ v. likelihood soft (encoding v)) u ∙ sym g.metric)

@@ -1,10 +1,7 @@
--- All information can be sent: its CRC exists, and its coded bits can be interleaved.
+-- Any information bits can be sent: their CRC exists, and their coded bits can be interleaved.
 use Rattle.std.proofs.Common.{◌≡◌, ℕ, ◌≤◌, List, ◌++◌, length, refl}
-use Rattle.bit_blocks.specs.Bits.{AllBits}
-use Rattle.bit_blocks.specs.Octets.{AllOctets, bits_of}
-use Rattle.bit_blocks.proofs.Lemmas.{AllBits-bits_of}
-use Rattle.fire_code.specs.Words.{IsXcchWord, IsRachWord, IsSchWord}
-use Rattle.fire_code.proofs.Lemmas.{some_xcch_crc, some_rach_crc, some_sch_crc}
+use Rattle.bit_blocks.{specs.{Bits.AllBits, Octets.{AllOctets, bits_of}}, proofs.Lemmas.AllBits-bits_of}
+use Rattle.fire_code.{specs.Words.{IsXcchWord, IsRachWord, IsSchWord}, proofs.Lemmas.{some_xcch_crc, some_rach_crc, some_sch_crc}}
 use Rattle.conv_code.specs.Code.{encoding}
 use Rattle.interleave.proofs.Lemmas.{some_spread}
 use Rattle.um_block.specs.Sent.{with_tail, IsCodedBlock, IsCodedAccess, IsCodedSync, IsSentBlock, IsSentAccess, IsSentSync}

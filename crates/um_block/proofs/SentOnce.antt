@@ -1,16 +1,12 @@
--- The bursts of given information are unique, since its CRC is.
+-- The bursts of given information bits are unique, since the CRC of these bits is unique.
 use Rattle.std.proofs.Common.{◌≡◌, ℕ, List, map, drop, take, subst, ap, sym, ◌∙◌}
 use Rattle.bit_blocks.specs.Octets.{bits_of}
 use Rattle.conv_code.specs.Code.{encoding}
-use Rattle.interleave.specs.Bursts.{IsInterleaved}
-use Rattle.interleave.proofs.Lemmas.{same_bursts}
-use Rattle.fire_code.specs.Words.{IsXcchWord, IsRachWord, IsSchWord}
-use Rattle.fire_code.proofs.Lemmas.{one_xcch_crc, one_rach_crc, one_sch_crc}
-use Rattle.burst_map.specs.NormalBurst.{normal_burst}
-use Rattle.burst_map.specs.AccessBurst.{access_burst}
-use Rattle.burst_map.specs.SyncBurst.{sync_burst}
-use Rattle.um_block.specs.Sent.{IsCodedBlock, IsCodedAccess, IsCodedSync, IsSentBlock, IsSentAccess, IsSentSync}
-use Rattle.um_block.proofs.Words.{one_list, length-block}
+use Rattle.interleave.{specs.Bursts.IsInterleaved, proofs.Lemmas.same_bursts}
+use Rattle.fire_code.{specs.Words.{IsXcchWord, IsRachWord, IsSchWord}, proofs.Lemmas.{one_xcch_crc, one_rach_crc, one_sch_crc}}
+use Rattle.burst_map.specs.{NormalBurst.normal_burst, AccessBurst.access_burst, SyncBurst.sync_burst}
+use Rattle.um_block.{specs.Sent.{IsCodedBlock, IsCodedAccess, IsCodedSync, IsSentBlock, IsSentAccess, IsSentSync}, proofs.Words.one_list}
+use Rattle.um_block.proofs.Words.{length-block}
 
 pub one_coded_block : (octets c c' : List ℕ) → IsCodedBlock octets c → IsCodedBlock octets c' → c ≡ c'
 one_coded_block octets c c' h g =

@@ -1,20 +1,14 @@
--- The lengths of sent bursts, and that they consist of bits.
-use Rattle.std.proofs.Common.{◌≡◌, ℕ, ◌+◌, ◌≤◌, List, [], ◌∷◌, ◌++◌, length, length-append, map, take, drop}
-use Rattle.std.proofs.Common.{refl, sym, ap, ◌∙◌, subst, arith}
-use Rattle.std.specs.List.{All}
-use Rattle.std.proofs.lemmas.List.{length-map, length-drop, length-take-le}
-use Rattle.std.proofs.lemmas.List.Elements.{All-nil, All-cons, All-head, All-tail, All-append, All-take, All-drop}
-use Rattle.bit_blocks.specs.Bits.{IsBit, AllBits}
-use Rattle.bit_blocks.proofs.Lemmas.{AllBits-table}
+-- Sent bursts have the right length and consist of bits.
+use Rattle.std.proofs.Common.{◌≡◌, ℕ, ◌+◌, ◌≤◌, List, [], ◌∷◌, ◌++◌, length, length-append, map, take, drop, refl, sym, ap, ◌∙◌, subst}
+use Rattle.std.proofs.{Common.arith, lemmas.List.{length-map, length-drop, length-take-le, Elements.{All-nil, All-cons, All-head}}}
+use Rattle.std.{proofs.lemmas.List.Elements.{All-tail, All-append, All-take, All-drop}, specs.List.All}
+use Rattle.bit_blocks.{specs.Bits.{IsBit, AllBits}, proofs.Lemmas.AllBits-table}
 use Rattle.interleave.proofs.Lemmas.{AllBits-bursts}
-use Rattle.training_seq.specs.Sequences.{training_sequence}
-use Rattle.training_seq.proofs.Lemmas.{length-training_sequence, AllBits-training_sequence}
-use Rattle.burst_map.specs.Tails.{tail_bits}
-use Rattle.burst_map.specs.NormalBurst.{normal_burst}
-use Rattle.burst_map.specs.AccessBurst.{access_burst, access_sequence, extended_tail_bits}
+use Rattle.training_seq.{specs.Sequences.training_sequence, proofs.Lemmas.{length-training_sequence, AllBits-training_sequence}}
+use Rattle.burst_map.specs.{Tails.tail_bits, NormalBurst.normal_burst, AccessBurst.{access_burst, access_sequence, extended_tail_bits}}
 use Rattle.burst_map.specs.SyncBurst.{sync_burst, sync_sequence}
-use Rattle.um_block.specs.Sent.{IsSentBlock, IsSentAccess, IsSentSync}
-use Rattle.um_block.proofs.Words.{AreBits, coded_block_bits, coded_access_bits, coded_sync_bits}
+use Rattle.um_block.{specs.Sent.{IsSentBlock, IsSentAccess, IsSentSync}, proofs.Words.{AreBits, coded_block_bits, coded_access_bits}}
+use Rattle.um_block.proofs.Words.{coded_sync_bits}
 
 joined : (m n : ℕ) (xs ys : List ℕ) → AreBits m xs → AreBits n ys → AreBits (m + n) (xs ++ ys)
 joined m n xs ys x y = record {
@@ -28,7 +22,7 @@ tail = record { many = refl; each = AllBits-table tail_bits refl }
 flag : AreBits 1 (1 ∷ [])
 flag = record { many = refl; each = AllBits-table (1 ∷ []) refl }
 
--- ---- layouts
+-- ---- the layouts of the three kinds of bursts
 
 normal_bits : (first second : List ℕ) (tsc : ℕ) → tsc ≤ 7 → AreBits 57 first → AreBits 57 second →
     AreBits 148 (normal_burst first second tsc)

@@ -1,4 +1,4 @@
--- A list of four elements.
+-- A list of four elements consists of its elements 0 to 3.
 use Rattle.std.proofs.Common.{◌≡◌, List, [], ◌∷◌, length, get_or, refl, arith}
 
 pub four : {A : Type 0} (xs : List A) (d : A) → length xs ≡ 4 →

@@ -1,16 +1,12 @@
--- Information lists of words (information, CRC, tail), and their coded bits.
-use Rattle.std.proofs.Common.{◌≡◌, ℕ, ◌+◌, ◌*◌, ◌<◌, List, ◌++◌, take, length, replicate, refl, subst, ap, sym}
-use Rattle.std.proofs.Common.{◌∙◌, arith, lit<, append_assoc, length-append}
-use Rattle.std.proofs.lemmas.List.{take_at}
-use Rattle.bit_blocks.specs.Bits.{AllBits}
-use Rattle.bit_blocks.specs.Octets.{bits_of}
-use Rattle.bit_blocks.proofs.Lemmas.{AllBits-append, length-bits_of}
+-- Information lists that consist of information bits, CRC and tail, and their coded bits.
+use Rattle.std.proofs.Common.{◌≡◌, ℕ, ◌+◌, ◌*◌, ◌<◌, List, ◌++◌, take, length, replicate, refl, subst, ap, sym, ◌∙◌, arith, lit<}
+use Rattle.std.proofs.{Common.{append_assoc, length-append}, lemmas.List.take_at}
+use Rattle.bit_blocks.{specs.{Bits.AllBits, Octets.bits_of}, proofs.Lemmas.{AllBits-append, length-bits_of}}
 use Rattle.fire_code.specs.Words.{IsXcchWord, IsRachWord, IsSchWord}
-use Rattle.conv_code.specs.Code.{encoding, IsInformation}
-use Rattle.conv_code.proofs.Lemmas.{IsInformation-tail, AllBits-coded, length-coded}
-use Rattle.um_block.specs.Sent.{with_tail, Carries, IsCodedBlock, IsCodedAccess, IsCodedSync}
+use Rattle.conv_code.{specs.Code.{encoding, IsInformation}, proofs.Lemmas.{IsInformation-tail, AllBits-coded, length-coded}}
+use Rattle.um_block.specs.Sent.{with_tail, CarriesDataAndCrc, IsCodedBlock, IsCodedAccess, IsCodedSync}
 
--- u is a word of n bits with its tail, and d is its first k bits
+-- u is a codeword of n bits followed by the tail, and d is its first k bits
 pub record Carried (IsWord : List ℕ → Type 0) (n k : ℕ) (u d : List ℕ) : Type 0 where
   pub information : IsInformation u
   pub count : length u ≡ n + 4
@@ -19,7 +15,7 @@ pub record Carried (IsWord : List ℕ → Type 0) (n k : ℕ) (u d : List ℕ) :
 
 module _ (IsWord : List ℕ → Type 0) (n k : ℕ) (some : 0 < k) (long : (w : List ℕ) → IsWord w → length w ≡ n)
     (bits : (w : List ℕ) → IsWord w → AllBits w) where
-  carried : (u d : List ℕ) → length d ≡ k → Carries IsWord u d → Carried IsWord n k u d
+  carried : (u d : List ℕ) → length d ≡ k → CarriesDataAndCrc IsWord u d → Carried IsWord n k u d
   carried u d e h =
       let word = d ++ h.crc in
       let tail : List ℕ = replicate 4 0 in
@@ -33,22 +29,22 @@ module _ (IsWord : List ℕ → Type 0) (n k : ℕ) (some : 0 < k) (long : (w : 
         front = ap (take k) (h.list ∙ append_assoc d h.crc tail) ∙ take_at d (h.crc ++ tail) k e;
       }
 
-pub xcch_carried : (u d : List ℕ) → length d ≡ 184 → Carries IsXcchWord u d → Carried IsXcchWord 224 184 u d
+pub xcch_carried : (u d : List ℕ) → length d ≡ 184 → CarriesDataAndCrc IsXcchWord u d → Carried IsXcchWord 224 184 u d
 xcch_carried = carried IsXcchWord 224 184 (lit< tt) (λ w h. h.count) (λ w h. h.bits)
 
-pub rach_carried : (b u d : List ℕ) → length d ≡ 8 → Carries (λ w. IsRachWord w b) u d → Carried (λ w. IsRachWord w b) 14 8 u d
+pub rach_carried : (b u d : List ℕ) → length d ≡ 8 → CarriesDataAndCrc (λ w. IsRachWord w b) u d → Carried (λ w. IsRachWord w b) 14 8 u d
 rach_carried b = carried (λ w. IsRachWord w b) 14 8 (lit< tt) (λ w h. h.count) (λ w h. h.bits)
 
-pub sch_carried : (u d : List ℕ) → length d ≡ 25 → Carries IsSchWord u d → Carried IsSchWord 35 25 u d
+pub sch_carried : (u d : List ℕ) → length d ≡ 25 → CarriesDataAndCrc IsSchWord u d → Carried IsSchWord 35 25 u d
 sch_carried = carried IsSchWord 35 25 (lit< tt) (λ w h. h.count) (λ w h. h.bits)
 
--- the information list of given information is unique
+-- the information list of given information bits is unique
 pub one_list : (IsWord : List ℕ → Type 0) (u u' d : List ℕ) → ((p p' : List ℕ) → IsWord (d ++ p) → IsWord (d ++ p') → p ≡ p') →
-    Carries IsWord u d → Carries IsWord u' d → u ≡ u'
+    CarriesDataAndCrc IsWord u d → CarriesDataAndCrc IsWord u' d → u ≡ u'
 one_list IsWord u u' d one h g = h.list ∙ ap (λ p. with_tail (d ++ p)) (one h.crc g.crc h.word g.word) ∙ sym g.list
 
--- information with its CRC and tail is an information list
-pub carries : (IsWord : List ℕ → Type 0) (d p : List ℕ) → IsWord (d ++ p) → Carries IsWord (with_tail (d ++ p)) d
+-- information bits with their CRC and tail are an information list that carries them
+pub carries : (IsWord : List ℕ → Type 0) (d p : List ℕ) → IsWord (d ++ p) → CarriesDataAndCrc IsWord (with_tail (d ++ p)) d
 carries IsWord d p word = record { crc = p; word = word; list = refl }
 
 pub length-block : (octets : List ℕ) → length octets ≡ 23 → length (bits_of octets) ≡ 184
@@ -58,12 +54,12 @@ length-block octets count = length-bits_of octets ∙ ap (λ n. 8 * n) count
 pub block_carried : (octets c : List ℕ) (code : IsCodedBlock octets c) → Carried IsXcchWord 224 184 code.u (bits_of octets)
 block_carried octets c code = xcch_carried code.u (bits_of octets) (length-block octets code.count) code.information
 
--- information, CRC and tail form an information list
+-- information bits, CRC and tail form an information list
 pub IsInformation-joined : (word d p : List ℕ) → word ≡ with_tail (d ++ p) → 0 < length d → AllBits d → AllBits p → IsInformation word
 IsInformation-joined word d p joined some d_bits p_bits =
     subst IsInformation (sym joined) (IsInformation-tail (d ++ p) (omega (arith, length-append d p)) (AllBits-append d p d_bits p_bits))
 
--- ---- coded bits
+-- ---- the coded bits of an information list
 
 pub record AreBits (count : ℕ) (bits : List ℕ) : Type 0 where
   pub many : length bits ≡ count

@@ -4,12 +4,12 @@ use Rattle.std.specs.Prelude.{ℕ, ◌≡◌, ◌==◌, if◌then◌else◌, ℤ
 use Rattle.std.specs.Prelude.{slice_index_or, MatchOption}
 use Rattle.std.specs.List.{flat_map}
 use Rattle.bit_blocks.specs.Octets.{octets_of}
-use Rattle.bit_blocks.specs.SoftValues.{likelihood, wrong_places}
+use Rattle.bit_blocks.specs.SoftValues.{likelihood, count_wrong_bits}
 use Rattle.fire_code.specs.Words.{IsXcchWord, IsRachWord, IsSchWord}
 use Rattle.conv_code.specs.Code.{encoding}
 use Rattle.conv_code.specs.Likelihood.{IsMostLikely}
 use Rattle.interleave.specs.Bursts.{IsInterleaved}
-use Rattle.training_seq.specs.Choice.{IsBestSequence, total_wrong_places}
+use Rattle.training_seq.specs.Choice.{IsBestSequence, total_wrong_bits}
 use Rattle.burst_map.specs.NormalBurst as normal
 use Rattle.burst_map.specs.AccessBurst as access
 use Rattle.burst_map.specs.SyncBurst as sync
@@ -18,69 +18,71 @@ use Rattle.um_block.specs.declared.received.ReceivedAccess.{ReceivedAccess}
 use Rattle.um_block.specs.declared.received.ReceivedSync.{ReceivedSync}
 
 -- the soft bit of a bit at full confidence: 127 for 0, -127 for 1
-abbrev pub soft_value : ℕ → ℤ
-soft_value bit = if bit == 0 then pos 127 else negsuc 126
+abbrev pub soft_bit_of : ℕ → ℤ
+soft_bit_of bit = if bit == 0 then pos 127 else negsuc 126
 
--- the soft bits of bits at full confidence
+-- the soft bits of a list of bits at full confidence
 abbrev pub soft_bits : List ℕ → List ℤ
-soft_bits bits = map soft_value bits
+soft_bits bits = map soft_bit_of bits
 
--- the concatenation of bursts; four of 148 bits have positions 0 to 591
-abbrev pub end_to_end : {X : Type 0} → List (List X) → List X
-end_to_end bursts = flat_map (λ burst. burst) bursts
+-- the bursts put end to end in one list; the bits of four bursts of 148 bits have the positions 0 to 591
+abbrev pub concatenated : {X : Type 0} → List (List X) → List X
+concatenated bursts = flat_map (λ burst. burst) bursts
 
 -- the 114 coded soft bits of a normal burst
-abbrev pub coded_places : List ℤ → List ℤ
-coded_places burst = normal.first_half burst ++ normal.second_half burst
+abbrev pub coded_soft_bits : List ℤ → List ℤ
+coded_soft_bits burst = normal.first_half burst ++ normal.second_half burst
 
 -- the 36 coded soft bits of an access burst
-abbrev pub access_places : List ℤ → List ℤ
-access_places burst = access.body burst
+abbrev pub access_soft_bits : List ℤ → List ℤ
+access_soft_bits burst = access.body burst
 
 -- the 78 coded soft bits of a synchronisation burst
-abbrev pub sync_places : List ℤ → List ℤ
-sync_places burst = sync.first_half burst ++ sync.second_half burst
+abbrev pub sync_soft_bits : List ℤ → List ℤ
+sync_soft_bits burst = sync.first_half burst ++ sync.second_half burst
 
 -- the 26 soft bits of the midamble of burst b
-abbrev pub training_of : List (List ℤ) → ℕ → List ℤ
-training_of bursts b = normal.training (slice_index_or bursts b [])
+abbrev pub training_bits_of_burst : List (List ℤ) → ℕ → List ℤ
+training_bits_of_burst bursts b = normal.training (slice_index_or bursts b [])
 
 -- tsc is the training sequence code with the greatest total correlation with the midambles of four bursts
 abbrev pub IsReceivedSequence : List (List ℤ) → ℕ → Type 0
 IsReceivedSequence bursts tsc =
-    IsBestSequence (training_of bursts 0) (training_of bursts 1) (training_of bursts 2) (training_of bursts 3) tsc
+    IsBestSequence (training_bits_of_burst bursts 0) (training_bits_of_burst bursts 1) (training_bits_of_burst bursts 2)
+    (training_bits_of_burst bursts 3) tsc
 
--- the number of wrong soft bits in the midambles of four bursts, of 104, for training sequence tsc
-abbrev pub wrong_training_places : List (List ℤ) → ℕ → ℕ
-wrong_training_places bursts tsc =
-    total_wrong_places (training_of bursts 0) (training_of bursts 1) (training_of bursts 2) (training_of bursts 3) tsc
+-- how many of the 104 soft bits in the midambles of four bursts are wrong for training sequence tsc
+abbrev pub wrong_training_bits : List (List ℤ) → ℕ → ℕ
+wrong_training_bits bursts tsc =
+    total_wrong_bits (training_bits_of_burst bursts 0) (training_bits_of_burst bursts 1) (training_bits_of_burst bursts 2)
+    (training_bits_of_burst bursts 3) tsc
 
--- r is the report of four normal bursts of 148 soft bits each; `accepted` holds the octets if and only if the Fire code bits match
+-- r is the report of four normal bursts of 148 soft bits each; `accepted` has the 23 octets if and only if the Fire code bits match
 pub record IsReceivedBlock (bursts : List (List ℤ)) (r : Received) : Type 0 where
   pub soft : List ℤ
-  pub gathered : IsInterleaved soft (map coded_places bursts)
+  pub gathered : IsInterleaved soft (map coded_soft_bits bursts)
   pub best : IsMostLikely soft r.u
   pub metric : r.metric ≡ likelihood soft (encoding r.u)
   pub tsc : IsReceivedSequence bursts r.tsc
-  pub wrong_training : r.wrong_training ≡ wrong_training_places bursts r.tsc
+  pub wrong_training : r.wrong_training ≡ wrong_training_bits bursts r.tsc
   pub accepted : MatchOption r.accepted
       (¬ IsXcchWord (take 224 r.u))
       (λ octets. IsXcchWord (take 224 r.u) × (octets ≡ octets_of (take 184 r.u)))
 
--- r is the report of an access burst of 88 soft bits under a BSIC; `accepted` holds the eight bits if and only if the CRC holds
+-- r is the report of an access burst of 88 soft bits for a BSIC; `accepted` has the eight information bits if and only if the CRC holds
 pub record IsReceivedAccess (burst : List ℤ) (bsic : List ℕ) (r : ReceivedAccess) : Type 0 where
-  pub best : IsMostLikely (access_places burst) r.u
-  pub metric : r.metric ≡ likelihood (access_places burst) (encoding r.u)
-  pub wrong_training : r.wrong_training ≡ wrong_places (access.training burst) access.access_sequence
+  pub best : IsMostLikely (access_soft_bits burst) r.u
+  pub metric : r.metric ≡ likelihood (access_soft_bits burst) (encoding r.u)
+  pub wrong_training : r.wrong_training ≡ count_wrong_bits (access.training burst) access.access_sequence
   pub accepted : MatchOption r.accepted
       (¬ IsRachWord (take 14 r.u) bsic)
       (λ info. IsRachWord (take 14 r.u) bsic × (info ≡ take 8 r.u))
 
--- r is the report of a synchronisation burst of 148 soft bits; `accepted` holds the 25 bits if and only if the CRC holds
+-- r is the report of a synchronisation burst of 148 soft bits; `accepted` has the 25 information bits if and only if the CRC holds
 pub record IsReceivedSync (burst : List ℤ) (r : ReceivedSync) : Type 0 where
-  pub best : IsMostLikely (sync_places burst) r.u
-  pub metric : r.metric ≡ likelihood (sync_places burst) (encoding r.u)
-  pub wrong_training : r.wrong_training ≡ wrong_places (sync.training burst) sync.sync_sequence
+  pub best : IsMostLikely (sync_soft_bits burst) r.u
+  pub metric : r.metric ≡ likelihood (sync_soft_bits burst) (encoding r.u)
+  pub wrong_training : r.wrong_training ≡ count_wrong_bits (sync.training burst) sync.sync_sequence
   pub accepted : MatchOption r.accepted
       (¬ IsSchWord (take 35 r.u))
       (λ info. IsSchWord (take 35 r.u) × (info ≡ take 25 r.u))

@@ -2,10 +2,10 @@
 use Rattle.std.specs.Prelude.{ℕ, zero, suc, ◌+◌, ◌-◌, ◌^◌, min}
 
 -- a counter plus one, saturating at the greatest u64
-abbrev pub next_tally : ℕ → ℕ
-next_tally n = min (n + 1) (2 ^ 64 - 1)
+abbrev pub next_counter : ℕ → ℕ
+next_counter n = min (n + 1) (2 ^ 64 - 1)
 
--- a counter raised k times
-abbrev pub tally_after : ℕ → ℕ → ℕ
-tally_after zero n = n
-tally_after (suc k) n = next_tally (tally_after k n)
+-- a counter after it has been raised k times
+abbrev pub counter_after : ℕ → ℕ → ℕ
+counter_after zero n = n
+counter_after (suc k) n = next_counter (counter_after k n)

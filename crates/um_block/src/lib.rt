@@ -1,5 +1,5 @@
-//! Blocks, access bursts and synchronisation bursts (GSM 05.03, today 3GPP TS 45.003): encodes information to the bits of bursts, and
-//! decodes the soft bits of received ones.
+//! Blocks, access bursts and synchronisation bursts (GSM 05.03, today 3GPP TS 45.003): encodes information bits into bursts, and decodes
+//! received bursts of soft bits.
 #![tactic(auto)]
 
 mod counting;
@@ -12,15 +12,18 @@ mod softening;
 #[cfg(test)]
 mod tests;
 
-pub use counting::{
-    wrong_access_places, wrong_block_places, wrong_coded_places, wrong_sync_places,
+pub use bit_blocks::{
+    BLOCK_BITS, BLOCK_OCTETS, Bits, CODED_BITS, INFORMATION_BITS, from_octets, to_octets,
 };
-pub use laws::{law_block_places, law_few_wrong};
+pub use burst_map::{AccessView, BURST_BITS, SyncView};
+pub use counting::{wrong_access_bits, wrong_block_bits, wrong_coded_bits, wrong_sync_bits};
+pub use fire_code::{rach_holds, sch_holds, xcch_holds};
+pub use laws::{law_coded_bit_positions, law_wrong_bits_are_bounded};
 pub use radio::{PlainRadio, Radio};
 pub use received::{Received, ReceivedAccess, ReceivedSync};
 pub use receiving::{
-    access_data, block_data, gather_block, join_halves, receive_access, receive_block,
-    receive_gathered, receive_sync, sync_data,
+    access_data, block_data, deinterleave_block, join_halves, receive_access, receive_block,
+    receive_deinterleaved, receive_sync, sync_data,
 };
 pub use sending::{send_access, send_block, send_sync};
 pub use softening::{soften, soften_block};

@@ -1,19 +1,19 @@
-//! The radio: encodes and decodes blocks, and counts both.
+//! The radio: encodes and decodes blocks, and counts the blocks sent and received.
 ghost use Rattle.std.specs.Prelude.{◌≡◌, ℕ, ◌≤◌, ℤ, List, Some, map, All};
 ghost use Rattle.bit_blocks.specs.Bits.{AllBits};
-ghost use Rattle.bit_blocks.specs.SoftValues.{AllSoft};
+ghost use Rattle.bit_blocks.specs.SoftValues.{AllSoftBits};
 ghost use Rattle.interleave.specs.Bursts.{IsInterleaved};
 ghost use Rattle.weight_bound.specs.Restoring.{IsLightlyDamaged};
 ghost use Rattle.um_block.specs.Sent.{IsCodedBlock, IsSentBlock};
 ghost use Rattle.um_block.specs.Restored.{IsCleanBlock};
-ghost use Rattle.um_block.specs.Received.{coded_places, soft_bits, IsReceivedBlock};
-ghost use Rattle.um_block.specs.Tallies.{next_tally};
+ghost use Rattle.um_block.specs.Received.{coded_soft_bits, soft_bits, IsReceivedBlock};
+ghost use Rattle.um_block.specs.Tallies.{next_counter};
 
 use crate::{Received, receive_block, send_block};
 use bit_blocks::BLOCK_OCTETS;
 use burst_map::BURST_BITS;
 
-/// Sends and receives blocks like `send_block` and `receive_block`, and counts each. The counters saturate at the greatest u64.
+/// Sends and receives blocks as `send_block` and `receive_block` do, and counts them. The counters saturate at the greatest u64.
 pub trait Radio {
     /// The number of blocks sent.
     ghost sent: { Self → ℕ };
@@ -27,19 +27,19 @@ pub trait Radio {
         ensures sent { IsSentBlock octets.now tsc result }
         ensures only { (other : List (List ℕ)) → IsSentBlock octets.now tsc other → other ≡ result }
         ensures bits { All AllBits result }
-        ensures raised { sent self.new ≡ next_tally (sent self.old) }
+        ensures raised { sent self.new ≡ next_counter (sent self.old) }
         ensures unchanged { heard self.new ≡ heard self.old };
 
     /// Decodes the four bursts of a block.
     fn receive(&mut self, bursts: &[[i8; BURST_BITS]; 4]) -> Received
-        requires { All AllSoft bursts.now }
+        requires { All AllSoftBits bursts.now }
         ensures received { IsReceivedBlock bursts.now result }
         ensures only { (other : Received) → IsReceivedBlock bursts.now other → other ≡ result }
         ensures clean { (octets : List ℕ) (tsc : ℕ) (sent : List (List ℕ)) →
             IsSentBlock octets tsc sent → bursts.now ≡ map soft_bits sent → IsCleanBlock octets tsc result }
         ensures restores { (octets c : List ℕ) (soft : List ℤ) → IsCodedBlock octets c →
-            IsInterleaved soft (map coded_places bursts.now) → IsLightlyDamaged soft c → result.accepted ≡ Some octets }
-        ensures raised { heard self.new ≡ next_tally (heard self.old) }
+            IsInterleaved soft (map coded_soft_bits bursts.now) → IsLightlyDamaged soft c → result.accepted ≡ Some octets }
+        ensures raised { heard self.new ≡ next_counter (heard self.old) }
         ensures unchanged { sent self.new ≡ sent self.old };
 }
 

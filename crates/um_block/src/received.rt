@@ -7,7 +7,7 @@ use bit_blocks::{BLOCK_OCTETS, Bits, INFORMATION_BITS};
 pub struct Received {
     /// The most likely information list: 184 information bits, 40 Fire code bits, four zeros.
     pub u: Bits<INFORMATION_BITS>,
-    /// Its path metric.
+    /// The path metric of this information list.
     pub metric: i32,
     /// The training sequence code with the greatest total correlation, 0 to 7.
     pub tsc: u8,
@@ -22,11 +22,11 @@ pub struct Received {
 pub struct ReceivedAccess {
     /// The most likely information list: eight information bits, six check bits, four zeros.
     pub u: Bits<18>,
-    /// Its path metric.
+    /// The path metric of this information list.
     pub metric: i32,
     /// The number of wrong training bits, 0 to 41.
     pub wrong_training: u32,
-    /// The eight information bits, if the CRC holds under the BSIC.
+    /// The eight information bits, if the CRC holds for the BSIC.
     pub accepted: Option<Bits<8>>,
 }
 
@@ -35,7 +35,7 @@ pub struct ReceivedAccess {
 pub struct ReceivedSync {
     /// The most likely information list: 25 information bits, ten check bits, four zeros.
     pub u: Bits<39>,
-    /// Its path metric.
+    /// The path metric of this information list.
     pub metric: i32,
     /// The number of wrong training bits, 0 to 64.
     pub wrong_training: u32,

@@ -3,18 +3,18 @@
 ghost use Rattle.std.specs.Prelude.{◌≡◌, ℕ, ◌≤◌, ◌++◌, ℤ, List, Some, length, map, take, All, MatchOption};
 ghost use Rattle.bit_blocks.specs.Bits.{AllBits};
 ghost use Rattle.bit_blocks.specs.Octets.{octets_of};
-ghost use Rattle.bit_blocks.specs.SoftValues.{AllSoft};
+ghost use Rattle.bit_blocks.specs.SoftValues.{AllSoftBits};
 ghost use Rattle.fire_code.specs.Words.{IsXcchWord, IsRachWord, IsSchWord};
 ghost use Rattle.interleave.specs.Bursts.{IsInterleaved};
 ghost use Rattle.weight_bound.specs.Restoring.{IsLightlyDamaged};
 ghost use Rattle.um_block.specs.Sent.{IsCodedBlock, IsCodedAccess, IsCodedSync, IsSentBlock, IsSentAccess, IsSentSync};
 ghost use Rattle.um_block.specs.Restored.{IsCleanBlock, IsCleanAccess, IsCleanSync};
-ghost use Rattle.um_block.specs.Received.{coded_places, access_places, sync_places, soft_bits};
-ghost use Rattle.um_block.specs.Received.{IsReceivedSequence, wrong_training_places, IsReceivedBlock, IsReceivedAccess, IsReceivedSync};
+ghost use Rattle.um_block.specs.Received.{coded_soft_bits, access_soft_bits, sync_soft_bits, soft_bits};
+ghost use Rattle.um_block.specs.Received.{IsReceivedSequence, wrong_training_bits, IsReceivedBlock, IsReceivedAccess, IsReceivedSync};
 
 use crate::received::{Received, ReceivedAccess, ReceivedSync};
 use bit_blocks::{
-    BLOCK_BITS, BLOCK_OCTETS, Bits, CODED_BITS, INFORMATION_BITS, to_octets, wrong_places,
+    BLOCK_BITS, BLOCK_OCTETS, Bits, CODED_BITS, INFORMATION_BITS, count_wrong_bits, to_octets,
 };
 use burst_map::{AccessView, BURST_BITS, NormalView, SyncView, access_sequence, sync_sequence};
 use fire_code::{rach_holds, sch_holds, xcch_holds};
@@ -24,21 +24,21 @@ use trellis_decode::decode;
 
 /// Decodes the four normal bursts of a block, 148 soft bits each, -127 to 127.
 pub fn receive_block(bursts: &[[i8; BURST_BITS]; 4]) -> Received
-    requires { All AllSoft bursts.now }
+    requires { All AllSoftBits bursts.now }
     ensures received { IsReceivedBlock bursts.now result }
     ensures only { (other : Received) → IsReceivedBlock bursts.now other → other ≡ result }
     ensures clean { (octets : List ℕ) (tsc : ℕ) (sent : List (List ℕ)) →
         IsSentBlock octets tsc sent → bursts.now ≡ map soft_bits sent → IsCleanBlock octets tsc result }
     ensures restores { (octets c : List ℕ) (soft : List ℤ) → IsCodedBlock octets c →
-        IsInterleaved soft (map coded_places bursts.now) → IsLightlyDamaged soft c → result.accepted ≡ Some octets }
+        IsInterleaved soft (map coded_soft_bits bursts.now) → IsLightlyDamaged soft c → result.accepted ≡ Some octets }
 {
-    receive_gathered(bursts, &gather_block(bursts))
+    receive_deinterleaved(bursts, &deinterleave_block(bursts))
 }
 
-/// The same for bursts that are already deinterleaved into `soft`.
-pub fn receive_gathered(bursts: &[[i8; BURST_BITS]; 4], soft: &[i8; CODED_BITS]) -> Received
-    requires soft { AllSoft soft.now }
-    requires gathered { IsInterleaved soft.now (map coded_places bursts.now) }
+/// Decodes the four normal bursts of a block whose coded soft bits are already deinterleaved into `soft`.
+pub fn receive_deinterleaved(bursts: &[[i8; BURST_BITS]; 4], soft: &[i8; CODED_BITS]) -> Received
+    requires soft { AllSoftBits soft.now }
+    requires gathered { IsInterleaved soft.now (map coded_soft_bits bursts.now) }
     ensures { IsReceivedBlock bursts.now result }
 {
     let mut u = [0; INFORMATION_BITS];
@@ -54,10 +54,10 @@ pub fn receive_gathered(bursts: &[[i8; BURST_BITS]; 4], soft: &[i8; CODED_BITS])
 }
 
 /// Deinterleaves the coded soft bits of a block.
-pub fn gather_block(bursts: &[[i8; BURST_BITS]; 4]) -> [i8; CODED_BITS]
-    requires { All AllSoft bursts.now }
-    ensures gathered { IsInterleaved result (map coded_places bursts.now) }
-    ensures soft { AllSoft result }
+pub fn deinterleave_block(bursts: &[[i8; BURST_BITS]; 4]) -> [i8; CODED_BITS]
+    requires { All AllSoftBits bursts.now }
+    ensures gathered { IsInterleaved result (map coded_soft_bits bursts.now) }
+    ensures soft { AllSoftBits result }
 {
     gather(&[
         coded_part(&bursts[0]),
@@ -69,7 +69,7 @@ pub fn gather_block(bursts: &[[i8; BURST_BITS]; 4]) -> [i8; CODED_BITS]
 
 /// The 114 coded soft bits of a normal burst.
 fn coded_part(burst: &[i8; BURST_BITS]) -> [i8; 114]
-    ensures { result ≡ coded_places burst.now }
+    ensures { result ≡ coded_soft_bits burst.now }
 {
     let parts = NormalView::new(burst);
     let mut part = [0; 114];
@@ -78,10 +78,11 @@ fn coded_part(burst: &[i8; BURST_BITS]) -> [i8; 114]
     part
 }
 
-/// The training sequence code of four bursts, and the number of wrong training bits.
+/// The training sequence code with the greatest total correlation with the midambles of four bursts, and the number of wrong training
+/// bits for it.
 fn best_sequence(bursts: &[[i8; BURST_BITS]; 4]) -> (u8, u32)
     ensures tsc { IsReceivedSequence bursts.now result.0 }
-    ensures wrong { result.1 ≡ wrong_training_places bursts.now result.0 }
+    ensures wrong { result.1 ≡ wrong_training_bits bursts.now result.0 }
 {
     best(
         NormalView::new(&bursts[0]).training(),
@@ -91,7 +92,7 @@ fn best_sequence(bursts: &[[i8; BURST_BITS]; 4]) -> (u8, u32)
     )
 }
 
-/// The octets of an information list, or `None` if its Fire code bits do not match.
+/// The 23 octets of a block's information list, or `None` if its Fire code bits do not match.
 pub fn block_data(u: &[u8; INFORMATION_BITS]) -> Option<[u8; BLOCK_OCTETS]>
     requires { AllBits u.now }
     ensures { MatchOption result
@@ -108,14 +109,14 @@ pub fn block_data(u: &[u8; INFORMATION_BITS]) -> Option<[u8; BLOCK_OCTETS]>
     Some(octets)
 }
 
-/// Decodes an access burst of 88 soft bits, -127 to 127, under a base station identity code (BSIC).
+/// Decodes an access burst of 88 soft bits, -127 to 127, for a base station identity code (BSIC).
 pub fn receive_access(burst: &[i8; 88], bsic: &Bits<6>) -> ReceivedAccess
-    requires { AllSoft burst.now }
+    requires { AllSoftBits burst.now }
     ensures received { IsReceivedAccess burst.now bsic.now result }
     ensures only { (other : ReceivedAccess) → IsReceivedAccess burst.now bsic.now other → other ≡ result }
     ensures clean { (info sent : List ℕ) → IsSentAccess info bsic.now sent → burst.now ≡ soft_bits sent
         → IsCleanAccess info bsic.now result }
-    ensures restores { (info c : List ℕ) → IsCodedAccess info bsic.now c → IsLightlyDamaged (access_places burst.now) c →
+    ensures restores { (info c : List ℕ) → IsCodedAccess info bsic.now c → IsLightlyDamaged (access_soft_bits burst.now) c →
         result.accepted ≡ Some info }
 {
     let parts = AccessView::new(burst);
@@ -124,12 +125,12 @@ pub fn receive_access(burst: &[i8; 88], bsic: &Bits<6>) -> ReceivedAccess
     ReceivedAccess {
         u: Bits::from_array(u),
         metric,
-        wrong_training: wrong_places(parts.training(), access_sequence()),
+        wrong_training: count_wrong_bits(parts.training(), access_sequence()),
         accepted: access_data(&u, bsic),
     }
 }
 
-/// The eight information bits of an information list, or `None` if its CRC does not match under the BSIC.
+/// The eight information bits of an access burst's information list, or `None` if its CRC does not hold for the BSIC.
 pub fn access_data(u: &[u8; 18], bsic: &Bits<6>) -> Option<Bits<8>>
     requires { AllBits u.now }
     ensures { MatchOption result
@@ -148,11 +149,11 @@ pub fn access_data(u: &[u8; 18], bsic: &Bits<6>) -> Option<Bits<8>>
 
 /// Decodes a synchronisation burst of 148 soft bits, -127 to 127.
 pub fn receive_sync(burst: &[i8; BURST_BITS]) -> ReceivedSync
-    requires { AllSoft burst.now }
+    requires { AllSoftBits burst.now }
     ensures received { IsReceivedSync burst.now result }
     ensures only { (other : ReceivedSync) → IsReceivedSync burst.now other → other ≡ result }
     ensures clean { (info sent : List ℕ) → IsSentSync info sent → burst.now ≡ soft_bits sent → IsCleanSync info result }
-    ensures restores { (info c : List ℕ) → IsCodedSync info c → IsLightlyDamaged (sync_places burst.now) c →
+    ensures restores { (info c : List ℕ) → IsCodedSync info c → IsLightlyDamaged (sync_soft_bits burst.now) c →
         result.accepted ≡ Some info }
 {
     let parts = SyncView::new(burst);
@@ -162,12 +163,12 @@ pub fn receive_sync(burst: &[i8; BURST_BITS]) -> ReceivedSync
     ReceivedSync {
         u: Bits::from_array(u),
         metric,
-        wrong_training: wrong_places(parts.training(), sync_sequence()),
+        wrong_training: count_wrong_bits(parts.training(), sync_sequence()),
         accepted: sync_data(&u),
     }
 }
 
-/// The 78 coded soft bits of two halves.
+/// Joins the two halves of a synchronisation burst to its 78 coded soft bits.
 pub fn join_halves(first: &[i8], second: &[i8]) -> [i8; 78]
     requires first { length first.now ≡ 39 }
     requires second { length second.now ≡ 39 }
@@ -179,7 +180,7 @@ pub fn join_halves(first: &[i8], second: &[i8]) -> [i8; 78]
     soft
 }
 
-/// The 25 information bits of an information list, or `None` if its CRC does not match.
+/// The 25 information bits of a synchronisation burst's information list, or `None` if its CRC does not hold.
 pub fn sync_data(u: &[u8; 39]) -> Option<Bits<25>>
     requires { AllBits u.now }
     ensures { MatchOption result

@@ -6,7 +6,7 @@ ghost use Rattle.bit_blocks.specs.Octets.{bits_of};
 ghost use Rattle.burst_map.specs.NormalBurst.{normal_burst};
 ghost use Rattle.fire_code.specs.Words.{IsXcchWord};
 ghost use Rattle.interleave.specs.Bursts.{IsInterleaved};
-ghost use Rattle.interleave.specs.Columns.{AreColumns};
+ghost use Rattle.interleave.specs.Columns.{AreColumnsOfCodedBits};
 ghost use Rattle.um_block.specs.Sent.{with_tail, IsCodedBlock, IsSentBlock, IsSentAccess, IsSentSync};
 
 use bit_blocks::{BLOCK_OCTETS, Bits};
@@ -15,14 +15,14 @@ use conv_code::{encode, encode_octets};
 use fire_code::{rach_parity, sch_parity, xcch_parity_of_octets};
 use interleave::Columns;
 
-/// The four normal bursts of a block of 23 octets, with a training sequence code of 0 to 7.
+/// Encodes a block of 23 octets into four normal bursts, with a training sequence code of 0 to 7.
 pub fn send_block(octets: &[u8; BLOCK_OCTETS], tsc: u8) -> [[u8; BURST_BITS]; 4]
     requires { tsc ≤ 7 }
     ensures sent { IsSentBlock octets.now tsc result }
     ensures only { (other : List (List ℕ)) → IsSentBlock octets.now tsc other → other ≡ result }
     ensures bits { All AllBits result }
 {
-    let columns = code_block(octets);
+    let columns = encode_block(octets);
     [
         send_burst(&columns, 0, tsc),
         send_burst(&columns, 1, tsc),
@@ -31,14 +31,14 @@ pub fn send_block(octets: &[u8; BLOCK_OCTETS], tsc: u8) -> [[u8; BURST_BITS]; 4]
     ]
 }
 
-/// The 456 coded bits of 23 octets, packed by columns.
-fn code_block(octets: &[u8; BLOCK_OCTETS]) -> Columns
-    ensures { (coded : List ℕ) × IsCodedBlock octets.now coded × AreColumns coded result.octets }
+/// The 456 coded bits of a block of 23 octets, packed into columns for interleaving.
+fn encode_block(octets: &[u8; BLOCK_OCTETS]) -> Columns
+    ensures { (coded : List ℕ) × IsCodedBlock octets.now coded × AreColumnsOfCodedBits coded result.octets }
 {
     Columns::new(&encode_octets(&with_crc(octets)))
 }
 
-/// The octets of a block, their five Fire code octets, and zeros.
+/// The 23 octets of a block, followed by their five Fire code octets and four zero octets.
 fn with_crc(octets: &[u8; BLOCK_OCTETS]) -> [u8; 32]
     ensures { (crc : List ℕ) × IsXcchWord (bits_of octets.now ++ bits_of crc) × (result ≡ octets.now ++ crc ++ replicate 4 0) }
 {
@@ -48,11 +48,11 @@ fn with_crc(octets: &[u8; BLOCK_OCTETS]) -> [u8; 32]
     word
 }
 
-/// Burst `b` of a block. Both halves are written in place.
+/// Builds burst `b` of a block, and writes both halves of its coded bits in place.
 fn send_burst(columns: &Columns, b: usize, tsc: u8) -> [u8; BURST_BITS]
     requires which { b < 4 }
     requires known { tsc ≤ 7 }
-    ensures { (coded : List ℕ) (parts : List (List ℕ)) → AreColumns coded columns.now.octets → IsInterleaved coded parts →
+    ensures { (coded : List ℕ) (parts : List (List ℕ)) → AreColumnsOfCodedBits coded columns.now.octets → IsInterleaved coded parts →
         result ≡ normal_burst (take 57 (slice_index_or parts b [])) (drop 57 (slice_index_or parts b [])) tsc }
 {
     let mut burst = [0; BURST_BITS];
@@ -62,8 +62,8 @@ fn send_burst(columns: &Columns, b: usize, tsc: u8) -> [u8; BURST_BITS]
     burst
 }
 
-/// The access burst of eight information bits under a base station identity code (BSIC), network colour code first, most significant
-/// bit first.
+/// Encodes eight information bits into an access burst for a base station identity code (BSIC). `bsic` starts with the network colour
+/// code, most significant bit first.
 pub fn send_access(info: &Bits<8>, bsic: &Bits<6>) -> [u8; 88]
     ensures sent { IsSentAccess info.now bsic.now result }
     ensures only { (other : List ℕ) → IsSentAccess info.now bsic.now other → other ≡ result }
@@ -71,28 +71,28 @@ pub fn send_access(info: &Bits<8>, bsic: &Bits<6>) -> [u8; 88]
 {
     let crc = rach_parity(info).xor(bsic);
     let mut word = [0; 18];
-    add_tail(info.as_slice(), crc.as_slice(), &mut word);
+    write_crc_and_tail(info.as_slice(), crc.as_slice(), &mut word);
     let mut coded = [0; 36];
     encode(&word, &mut coded);
     access(&coded)
 }
 
-/// The synchronisation burst of 25 information bits.
+/// Encodes 25 information bits into a synchronisation burst.
 pub fn send_sync(info: &Bits<25>) -> [u8; BURST_BITS]
     ensures sent { IsSentSync info.now result }
     ensures only { (other : List ℕ) → IsSentSync info.now other → other ≡ result }
     ensures bits { AllBits result }
 {
     let mut word = [0; 39];
-    add_tail(info.as_slice(), sch_parity(info).as_slice(), &mut word);
+    write_crc_and_tail(info.as_slice(), sch_parity(info).as_slice(), &mut word);
     let mut coded = [0; 78];
     encode(&word, &mut coded);
     let (first, second) = coded.split_at(39);
     sync(first, second)
 }
 
-/// Writes the information bits, the check bits and the four tail bits.
-fn add_tail(info: &[u8], crc: &[u8], word: &mut [u8])
+/// Writes the information bits, the check bits and the four tail bits to `word`.
+fn write_crc_and_tail(info: &[u8], crc: &[u8], word: &mut [u8])
     requires count { length info.now + length crc.now + 4 ≡ length word.old }
     requires some { 0 < length info.now }
     requires info_bits { AllBits info.now }

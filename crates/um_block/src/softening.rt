@@ -1,38 +1,38 @@
-//! Bits as soft bits of full confidence.
+//! Converts bits to soft bits of full confidence.
 ghost use Rattle.std.specs.Prelude.{◌≡◌, ◌≤◌, map, take, drop, All};
 ghost use Rattle.bit_blocks.specs.Bits.{AllBits};
-ghost use Rattle.bit_blocks.specs.SoftValues.{AllSoft};
+ghost use Rattle.bit_blocks.specs.SoftValues.{AllSoftBits};
 ghost use Rattle.um_block.specs.Received.{soft_bits};
 
 use burst_map::BURST_BITS;
 
-/// The bits of a burst as soft bits of full confidence: 127 for 0, -127 for 1.
+/// Converts the bits of a burst to soft bits of full confidence: 127 for 0, -127 for 1.
 pub fn soften(burst: &[u8; BURST_BITS]) -> [i8; BURST_BITS]
     requires { AllBits burst.now }
     ensures value { result ≡ soft_bits burst.now }
-    ensures soft { AllSoft result }
+    ensures soft { AllSoftBits result }
 {
     let mut soft = [0; BURST_BITS];
     soften_into(burst, &mut soft);
     soft
 }
 
-/// The same for the four bursts of a block, written to `soft`.
+/// Converts the bits of the four bursts of a block to soft bits of full confidence, and writes these to `soft`.
 pub fn soften_block(block: &[[u8; BURST_BITS]; 4], soft: &mut [[i8; BURST_BITS]; 4])
     requires { All AllBits block.now }
     ensures value { soft.new ≡ map soft_bits block.now }
-    ensures soft { All AllSoft soft.new }
+    ensures soft { All AllSoftBits soft.new }
 {
     for b in 0..4 {
         soften_into(&block[b], &mut soft[b]);
     }
 }
 
-// Sixteen bits at a time; the last sixteen overlap the ones before by twelve.
+// Converts sixteen bits at a time; the last sixteen overlap the sixteen before them by twelve.
 fn soften_into(burst: &[u8; BURST_BITS], soft: &mut [i8; BURST_BITS])
     requires { AllBits burst.now }
     ensures value { soft.new ≡ soft_bits burst.now }
-    ensures soft { AllSoft soft.new }
+    ensures soft { AllSoftBits soft.new }
 {
     let mut at = 0;
     while at < 132 {

@@ -1,5 +1,5 @@
 ghost use Rattle.std.specs.Prelude.{◌↔◌, IsTrue, All};
-ghost use Rattle.bit_blocks.specs.SoftValues.{AllSoft};
+ghost use Rattle.bit_blocks.specs.SoftValues.{AllSoftBits};
 
 use super::*;
 use bit_blocks::{BLOCK_BITS, BLOCK_OCTETS, Bits, from_octets};
@@ -7,7 +7,7 @@ use burst_map::BURST_BITS;
 use std::process::Abort;
 
 fn are_soft(values: &[i8]) -> bool
-    ensures { IsTrue result ↔ AllSoft values.now }
+    ensures { IsTrue result ↔ AllSoftBits values.now }
 {
     values.iter().all(|value| *value != -128)
 }
@@ -32,7 +32,7 @@ fn softened(rt: &impl Abort, burst: &[u8; BURST_BITS]) -> [i8; BURST_BITS] {
 }
 
 #[test]
-fn a_lost_block_is_the_first_word(rt: HostRuntime) {
+fn a_lost_block_decodes_to_zeros(rt: HostRuntime) {
     let lost = block(&rt, &[[0; BURST_BITS]; 4]);
     let expected = Received {
         u: Bits::zero(),
@@ -45,7 +45,7 @@ fn a_lost_block_is_the_first_word(rt: HostRuntime) {
 }
 
 #[test]
-fn soft_values_outweigh_signs(rt: HostRuntime) {
+fn a_strong_soft_bit_outweighs_weak_ones(rt: HostRuntime) {
     let mut burst = [0; 88];
     burst[49..85].fill(1);
     burst[49] = -7;
@@ -58,7 +58,7 @@ fn soft_values_outweigh_signs(rt: HostRuntime) {
 }
 
 #[test]
-fn a_lost_access_burst_fits_one_code_alone(rt: HostRuntime) {
+fn a_lost_access_burst_matches_only_one_bsic(rt: HostRuntime) {
     let fits = access(&rt, &[0; 88], [1; 6]);
     assert_eq!(rt; fits.accepted, Some(Bits::zero()));
     assert_eq!(rt; fits.metric, 0);
@@ -66,7 +66,7 @@ fn a_lost_access_burst_fits_one_code_alone(rt: HostRuntime) {
 }
 
 #[test]
-fn the_last_bits_of_an_access_word_are_zero(rt: HostRuntime) {
+fn the_tail_of_an_access_burst_decodes_to_zeros(rt: HostRuntime) {
     let mut burst = [0; 88];
     burst[49..85].fill(1);
     burst[83] = -1;
@@ -93,9 +93,9 @@ fn a_block_is_restored_without_one_of_its_bursts(rt: HostRuntime) {
     assert_eq!(rt; received.accepted, Some(octets));
 }
 
-// Seven wrong coded bits, the free distance, give the coded bits of another list, whose CRC fails.
+// Seven wrong coded bits (the free distance is seven) turn the coded bits into those of another information list, whose CRC fails.
 #[test]
-fn a_neighbour_is_reported_and_not_accepted(rt: HostRuntime) {
+fn a_list_with_a_bad_crc_is_reported_but_not_accepted(rt: HostRuntime) {
     let mut octets = [0x2b; BLOCK_OCTETS];
     octets[0] = 3;
     octets[1] = 3;

@@ -1,39 +1,29 @@
--- A command over bursts has one output for every input if its answers to bursts are unique and
--- always exist.
-use Rattle.std.proofs.Common.{◌≡◌, ℕ, ℤ, ◌+◌, ◌≤◌, inl, inr, List, [], ◌∷◌, ◌++◌, length, length-append}
-use Rattle.std.proofs.Common.{refl, sym, ◌∙◌, subst, arith}
-use Rattle.std.specs.List.{All}
-use Rattle.std.proofs.lemmas.Bool.{cases_lt}
-use Rattle.std.proofs.lemmas.List.Elements.{All-nil, All-cons, All-append}
-use Rattle.bit_blocks.specs.Bits.{AllBits}
-use Rattle.um_lines.proofs.OneMeaning.{same_meaning, good_meaning}
-use Rattle.um_formats.specs.declared.burst_lines.BurstLine.{BurstLine}
-use Rattle.um_formats.specs.declared.burst_lines.BurstLine.TheVariants.{Skip, Normal, Access, Sync}
-use Rattle.um_formats.specs.BurstLines.{burst_fault, BurstMeans}
-use Rattle.um_formats.proofs.BurstLaws.{one_meaning, normal_burst, access_burst, sync_burst}
-use Rattle.um_driver.specs.Rules.{IsDetermined, IsTotal}
-use Rattle.um_driver.specs.Laws.{HasOneOutput}
-use Rattle.um_driver.proofs.OutputExists.{has_one_output}
-use Rattle.um_driver.proofs.RunLemmas.{Runs-keep}
-use Rattle.um_driver.proofs.Weaker.{IsWeaker}
+-- A command that reads bursts has exactly one output for every input if its answers to bursts are unique and always exist.
+use Rattle.std.proofs.Common.{◌≡◌, ℕ, ℤ, ◌+◌, ◌≤◌, inl, inr, List, [], ◌∷◌, ◌++◌, length, length-append, refl, sym, ◌∙◌, subst, arith}
+use Rattle.std.{proofs.lemmas.{Bool.cases_lt, List.Elements.{All-nil, All-cons, All-append}}, specs.List.All}
+use Rattle.um_block.specs.bit_blocks.Bits.{AllBits}
+use Rattle.um_driver.proofs.{um_lines.OneMeaning.{same_meaning, good_meaning}, OutputExists.has_one_output, RunLemmas.Runs-keep}
+use Rattle.um_driver.{proofs.Weaker.IsWeaker, specs.{Rules.{IsDetermined, IsTotal}, Laws.HasOneOutput}}
+use Rattle.um_formats.specs.{declared.burst_lines.BurstLine.{BurstLine, TheVariants.{Skip, Normal, Access, Sync}}, BurstLines.burst_fault}
+use Rattle.um_formats.{specs.BurstLines.BurstMeans, proofs.BurstLaws.{one_meaning, normal_burst, access_burst, sync_burst}}
 use Rattle.um_bursts.specs.BurstRules.{Answers, IsBlockAnswer, IsBurstAnswer, burst_rules}
 
 abbrev pub AreWhole : List (List ℤ) → Type 0
 AreWhole bursts = All (λ burst. length burst ≡ 148) bursts
 
--- bursts have at most one answer
+-- the four bursts of a block, an access burst and a synchronisation burst each have at most one answer
 pub record HaveOneAnswer (a : Answers) : Type 0 where
   pub block : (bursts : List (List ℤ)) (y y' : List ℕ) → a.block bursts y → a.block bursts y' → y ≡ y'
   pub access : (bsic : List ℕ) (burst : List ℤ) (y y' : List ℕ) → a.access bsic burst y → a.access bsic burst y' → y ≡ y'
   pub sync : (burst : List ℤ) (y y' : List ℕ) → a.sync burst y → a.sync burst y' → y ≡ y'
 
--- bursts have an answer
+-- the four bursts of a block, an access burst and a synchronisation burst each have an answer
 pub record HaveSomeAnswer (a : Answers) : Type 0 where
   pub block : (bursts : List (List ℤ)) → length bursts ≡ 4 → AreWhole bursts → (y : List ℕ) × a.block bursts y
   pub access : (bsic : List ℕ) (burst : List ℤ) → length burst ≡ 88 → length bsic ≡ 6 → AllBits bsic → (y : List ℕ) × a.access bsic burst y
   pub sync : (burst : List ℤ) → length burst ≡ 148 → (y : List ℕ) × a.sync burst y
 
--- each answer in `a` is an answer in `b`
+-- each answer that `a` allows is an answer that `b` allows
 pub record AreAlso (a b : Answers) : Type 0 where
   pub block : (bursts : List (List ℤ)) (y : List ℕ) → a.block bursts y → b.block bursts y
   pub access : (bsic : List ℕ) (burst : List ℤ) (y : List ℕ) → a.access bsic burst y → b.access bsic burst y
@@ -54,7 +44,7 @@ weaker_bursts a b also = record {
   step = λ held after line y (m, means, answer). (m, means, also_answer a b also held m y after answer);
 }
 
--- the bursts held: fewer than four, of 148 values each
+-- the bursts held are fewer than four, of 148 soft bits each
 record IsHeld (held : List (List ℤ)) : Type 0 where
   few : length held ≤ 3
   each : AreWhole held
@@ -100,7 +90,7 @@ module _ (a : Answers) where
   step_keeps held after line y h (Access bsic soft, means, (s, _)) = subst IsHeld (sym s) h
   step_keeps held after line y h (Sync soft, means, (s, _)) = subst IsHeld (sym s) h
 
-  -- there is an answer to bursts whose last has just arrived
+  -- there is an answer to the bursts held when one more normal burst has arrived
   some_block_answer : HaveSomeAnswer a → (held : List (List ℤ)) (soft : List ℤ) → IsHeld held → length soft ≡ 148 →
       (y : List ℕ) × (after : List (List ℤ)) × IsBlockAnswer a (held ++ soft ∷ []) y after
   some_block_answer some held soft h count =

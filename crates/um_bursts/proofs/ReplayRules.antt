@@ -1,11 +1,10 @@
--- The command `replay` has one output for every input: bursts have exactly one answer.
+-- The command `replay` has exactly one output for every input, since bursts have exactly one answer.
 use Rattle.std.proofs.Common.{◌≡◌, [], refl, sym, ap, ◌∙◌, subst}
 use Rattle.um_block.proofs.Lemmas.{accepted_count, one_received_block, one_received_access, one_received_sync, some_received_block}
 use Rattle.um_block.proofs.Lemmas.{some_received_access, some_received_sync}
-use Rattle.um_formats.specs.Reports.{IsBlockReport, access_report_text, sync_report_text}
-use Rattle.um_formats.proofs.ReportLaws.{one_block_report, some_block_report}
-use Rattle.um_driver.specs.Rules.{IsDetermined}
-use Rattle.um_driver.specs.Laws.{HasOneOutput}
+use Rattle.um_formats.{specs.Reports.{IsBlockReport, access_report_text, sync_report_text}, proofs.ReportLaws.one_block_report}
+use Rattle.um_formats.proofs.ReportLaws.{some_block_report}
+use Rattle.um_driver.specs.{Rules.IsDetermined, Laws.HasOneOutput}
 use Rattle.um_bursts.proofs.BurstRules.{HaveOneAnswer, HaveSomeAnswer, bursts_are_determined, bursts_have_one_output}
 use Rattle.um_bursts.specs.Replay.{replay_answers, replay_rules}
 

@@ -8,15 +8,14 @@ use Rattle.um_formats.specs.declared.held.NextBurst.TheVariants as N
 use Rattle.um_formats.specs.Held.{Held}
 use Rattle.um_driver.specs.Rules.{Rules}
 
--- the possible answers to the four bursts of a block, to an access burst with its BSIC, and to a
--- synchronisation burst
+-- the possible answers to the four bursts of a block, to an access burst with its BSIC, and to a synchronisation burst
 pub record Answers : Type 1 where
   pub block : (bursts : List (List ℤ)) (answer : List ℕ) → Type 0
   pub access : (bsic : List ℕ) (burst : List ℤ) (answer : List ℕ) → Type 0
   pub sync : (burst : List ℤ) (answer : List ℕ) → Type 0
 
--- the answer to these normal bursts when the last has just arrived, and the bursts held afterwards:
--- fewer than four are kept, four are answered as a block
+-- the answer to the normal bursts held when the last of them has just arrived, and the bursts held afterwards: fewer than four are kept,
+-- four are answered as a block
 abbrev pub IsBlockAnswer : Answers → List (List ℤ) → List ℕ → List (List ℤ) → Type 0
 IsBlockAnswer a bursts answer after =
     ((length bursts < 4) × (answer ≡ []) × (after ≡ bursts)) ⊎ ((length bursts ≡ 4) × (after ≡ []) × a.block bursts answer)
@@ -28,15 +27,15 @@ IsBurstAnswer a held (Normal soft) answer after = IsBlockAnswer a (held ++ soft 
 IsBurstAnswer a held (Access bsic soft) answer after = (after ≡ held) × a.access bsic soft answer
 IsBurstAnswer a held (Sync soft) answer after = (after ≡ held) × a.sync soft answer
 
--- the answer to what a line adds, with the bursts held now
-abbrev pub IsNextAnswer : Answers → NextBurst → Held → List ℕ → Type 0
-IsNextAnswer a N.Skip now answer = answer ≡ []
-IsNextAnswer a N.Held now answer = answer ≡ []
-IsNextAnswer a N.Block now answer = a.block now.places answer
-IsNextAnswer a (N.Access bsic soft) now answer = a.access bsic soft answer
-IsNextAnswer a (N.Sync soft) now answer = a.sync soft answer
+-- the answer to what a line adds, where `now` are the bursts held after it
+abbrev pub IsAnswerToNextBurst : Answers → NextBurst → Held → List ℕ → Type 0
+IsAnswerToNextBurst a N.Skip now answer = answer ≡ []
+IsAnswerToNextBurst a N.Held now answer = answer ≡ []
+IsAnswerToNextBurst a N.Block now answer = a.block now.places answer
+IsAnswerToNextBurst a (N.Access bsic soft) now answer = a.access bsic soft answer
+IsAnswerToNextBurst a (N.Sync soft) now answer = a.sync soft answer
 
--- the rules of a command over bursts; its state is the bursts of an unfinished block, in order
+-- the rules of a command that reads bursts; its state is the list of bursts of an unfinished block, in order
 abbrev pub burst_rules : Answers → Rules (List (List ℤ))
 burst_rules a = record {
   fault = λ held line. burst_fault (length held) line;

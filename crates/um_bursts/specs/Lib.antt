@@ -1,4 +1,5 @@
 pub use Rattle.um_driver.specs as um_driver
+pub use Rattle.um_driver.specs.um_lines as um_lines
 -- The definitions that the contracts of this crate cite.
 pub mod BurstRules
 pub mod Replay

@@ -8,7 +8,7 @@ use Rattle.um_formats.specs.Reports.{IsBlockReport, access_report_text, sync_rep
 use Rattle.um_driver.specs.Rules.{Rules}
 use Rattle.um_bursts.specs.BurstRules.{Answers, burst_rules}
 
--- bursts are answered by the report of what is received
+-- the answer to bursts is the report of what was received
 abbrev pub replay_answers : Answers
 replay_answers = record {
   block = λ bursts answer. (r : Received) × IsReceivedBlock bursts r × IsBlockReport r answer;

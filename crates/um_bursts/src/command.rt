@@ -1,23 +1,22 @@
-//! A command over lines of bursts.
+//! A command that reads lines of bursts.
 ghost use Rattle.std.specs.Prelude.{◌≡◌, ◌<◌, ℤ, List, [], ◌∷◌, ◌++◌, length};
-ghost use Rattle.um_formats.specs.Held.{BringsSoft};
-ghost use Rattle.um_bursts.specs.BurstRules.{burst_rules, IsNextAnswer};
+ghost use Rattle.um_formats.specs.Held.{HasOnlySoftValues};
+ghost use Rattle.um_bursts.specs.BurstRules.{burst_rules, IsAnswerToNextBurst};
 ghost use Rattle.um_driver.specs.Rules.{Answers};
 
 use crate::reports::Reports;
 use std::marker::Model;
 use um_driver::Command;
-use um_formats::{HeldBursts, NextBurst, read_burst_into};
-use um_lines::{LineFault, Text};
+use um_formats::{HeldBursts, LineFault, NextBurst, Text, hold_normal, read_burst_into};
 
-/// Answers bursts by these reports, and holds the bursts of an incomplete block.
+/// Answers bursts as `reports` does, and holds the bursts of an incomplete block.
 #[derive(Drop)]
 pub struct BurstCommand<R> {
     held: HeldBursts,
     reports: R,
 }
 
-// Its model is the list of bursts held.
+// In contracts, a `BurstCommand` is the list of the bursts that it holds.
 impl<R> Model for BurstCommand<R> {
     ghost use Rattle.std.specs.Prelude.{ℤ, List};
 
@@ -27,7 +26,7 @@ impl<R> Model for BurstCommand<R> {
 }
 
 impl<R: Reports> BurstCommand<R> {
-    /// A command that holds no bursts.
+    /// A command that holds no bursts yet.
     pub fn new(reports: R) -> BurstCommand<R>
         ensures { result ≡ [] }
     {
@@ -58,9 +57,19 @@ impl<R: Reports> Command for BurstCommand<R> {
         ensures keeps { tt {0} ≡ tt }
         ensures size { length out.new < 2000 }
     {
-        let next = read_burst_into(line, &mut self.held)?;
-        write_answer(out, &self.reports, &next, &self.held);
-        Ok(())
+        match hold_normal(line, &mut self.held) {
+            Some(whole) => {
+                if whole {
+                    self.reports.block(out, self.held.block());
+                }
+                Ok(())
+            }
+            None => {
+                let next = read_burst_into(line, &mut self.held)?;
+                write_answer(out, &self.reports, &next, &self.held);
+                Ok(())
+            }
+        }
     }
 
     fn finish(&self) -> Option<LineFault> {
@@ -72,11 +81,11 @@ impl<R: Reports> Command for BurstCommand<R> {
     }
 }
 
-/// Writes the answer to what a line adds.
+/// Writes the answer to what a line adds (`next`).
 fn write_answer<R: Reports>(out: &mut Text, reports: &R, next: &NextBurst, held: &HeldBursts)
     requires empty { out.old ≡ [] }
-    requires soft { BringsSoft next.now }
-    ensures answer { IsNextAnswer R.answers next.now held.now out.new }
+    requires soft { HasOnlySoftValues next.now }
+    ensures answer { IsAnswerToNextBurst R.answers next.now held.now out.new }
     ensures size { length out.new < 2000 }
 {
     match next {

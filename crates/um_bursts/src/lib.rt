@@ -1,5 +1,5 @@
-//! Commands that read lines of recorded bursts. Four normal bursts are answered together as a
-//! block, any other burst alone; each command defines its own answers.
+//! Commands that read lines of recorded bursts. Four normal bursts are answered together as a block, any other burst alone; each command
+//! defines its own answers.
 #![tactic(auto)]
 
 mod command;
@@ -9,3 +9,4 @@ mod reports;
 pub use command::BurstCommand;
 pub use replay::Replay;
 pub use reports::Reports;
+pub use um_formats::{Text, octets_from_bits_at};

@@ -2,13 +2,10 @@
 ghost use Rattle.um_bursts.specs.Replay.{replay_answers};
 
 use crate::reports::Reports;
-use bit_blocks::Bits;
-use burst_map::BURST_BITS;
-use um_block::{receive_access, receive_block, receive_sync};
-use um_formats::{access_report, block_report, sync_report};
-use um_lines::Text;
+use um_block::{BURST_BITS, Bits, receive_access, receive_block, receive_sync};
+use um_formats::{Text, access_report, block_report, sync_report};
 
-/// Answers bursts by the report of what is received.
+/// Answers bursts by the report of what was received.
 #[derive(Drop)]
 pub struct Replay {}
 

@@ -1,12 +1,11 @@
 //! The answers of a command to bursts.
 ghost use Rattle.std.specs.Prelude.{◌≡◌, ◌<◌, [], length};
 ghost use Rattle.std.specs.List.{All};
-ghost use Rattle.bit_blocks.specs.SoftValues.{AllSoft};
+ghost use Rattle.um_block.specs.bit_blocks.SoftValues.{AllSoftBits};
 ghost use Rattle.um_bursts.specs.BurstRules.{Answers};
 
-use bit_blocks::Bits;
-use burst_map::BURST_BITS;
-use um_lines::Text;
+use um_block::{BURST_BITS, Bits};
+use um_formats::Text;
 
 /// Writes the answers to the bursts of a block, to an access burst and to a synchronisation burst.
 pub trait Reports {
@@ -16,21 +15,21 @@ pub trait Reports {
     /// Answers the four bursts of a block.
     fn block(&self, out: &mut Text, bursts: &[[i8; BURST_BITS]; 4])
         requires empty { out.old ≡ [] }
-        requires soft { All AllSoft bursts.now }
+        requires soft { All AllSoftBits bursts.now }
         ensures answer { answers.block bursts.now out.new }
         ensures size { length out.new < 2000 };
 
-    /// Answers an access burst, for the cell with this BSIC.
+    /// Answers an access burst for the cell with this BSIC.
     fn access(&self, out: &mut Text, bsic: &Bits<6>, burst: &[i8; 88])
         requires empty { out.old ≡ [] }
-        requires soft { AllSoft burst.now }
+        requires soft { AllSoftBits burst.now }
         ensures answer { answers.access bsic.now burst.now out.new }
         ensures size { length out.new < 2000 };
 
     /// Answers a synchronisation burst.
     fn sync(&self, out: &mut Text, burst: &[i8; BURST_BITS])
         requires empty { out.old ≡ [] }
-        requires soft { AllSoft burst.now }
+        requires soft { AllSoftBits burst.now }
         ensures answer { answers.sync burst.now out.new }
         ensures size { length out.new < 2000 };
 }

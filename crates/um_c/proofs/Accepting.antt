@@ -1,7 +1,6 @@
--- The accepted octets determine the flag and the octets of a report.
-use Rattle.std.proofs.Common.{◌≡◌, refl, sym, ◌∙◌, arith, ℕ, ◌↔◌, List, replicate, Option, Some, None}
+-- The accepted octets determine the fields `accepted` and `octets` of a report.
+use Rattle.std.proofs.{Common.{◌≡◌, refl, sym, ◌∙◌, arith, ℕ, ◌↔◌, List, replicate, Option, Some, None}, lemmas.Bool.false≢true}
 use Rattle.std.specs.Prelude.{MatchOption, IsSome, IsNone}
-use Rattle.std.proofs.lemmas.Bool.{false≢true}
 
 abbrev pub IsFlagged : ℕ → Option (List ℕ) → ℕ → List ℕ → Type 0
 IsFlagged n accepted flag output = MatchOption accepted ((flag ≡ 0) × (output ≡ replicate n 0)) (λ octets. (flag ≡ 1) × (output ≡ octets))

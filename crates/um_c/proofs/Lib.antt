@@ -2,8 +2,8 @@ mod Accepting
 mod Calls
 mod Places
 mod Plain
-mod Playing
-mod RepairedOnce
-mod OutOnce
+mod AsFrameSessions
+mod UniqueRepairs
+mod UniqueReports
 mod Opened
 mod Exchanged

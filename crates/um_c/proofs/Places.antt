@@ -1,12 +1,9 @@
--- Arrays written element by element.
-use Rattle.std.proofs.Common.{◌≡◌, refl, ◌∙◌, ap, arith, ℕ, zero, suc, ◌+◌, ◌-◌, ◌<◌, ◌≤◌, List, []}
-use Rattle.std.proofs.Common.{◌∷◌, ◌++◌, length, take, replicate, slice_set, slice_index_or, get_or, map}
-use Rattle.segmenting.specs.declared.buffers.PlainMessage.{PlainMessage}
-use Rattle.segmenting.specs.Buffers.{octets_in, plain_message}
-use Rattle.lapdm_window.specs.declared.Notice.{Notice}
-use Rattle.um_c.specs.declared.effects.PlainNotice.{PlainNotice}
-use Rattle.um_c.specs.Effects.{plain_notice, nothing}
-use Rattle.um_c.specs.States.{buffers_for}
+-- What an array contains after its elements have been written one by one.
+use Rattle.std.proofs.Common.{◌≡◌, refl, ◌∙◌, ap, arith, ℕ, zero, suc, ◌+◌, ◌-◌, ◌<◌, ◌≤◌, List, [], ◌∷◌, ◌++◌, length, take, replicate}
+use Rattle.std.proofs.Common.{slice_set, slice_index_or, get_or, map}
+use Rattle.um_air.specs.segmenting.{declared.buffers.PlainMessage.PlainMessage, Buffers.{octets_in, plain_message}}
+use Rattle.um_air.specs.lapdm_window.declared.Notice.{Notice}
+use Rattle.um_c.specs.{declared.effects.PlainNotice.PlainNotice, Effects.{plain_notice, nothing}, States.buffers_of_messages}
 
 pub three_written : {A : Type 0} (xs : List A) (a b c : A) → length xs ≡ 3 →
     slice_set (slice_set (slice_set xs 0 a) 1 b) 2 c ≡ a ∷ b ∷ c ∷ []
@@ -37,10 +34,10 @@ three_notices old notices a b c three few at at1 at2 =
     ∙ ap (λ x. place notices 0 ∷ place notices 1 ∷ x ∷ []) at2
     ∙ three_places notices few
 
--- one more message
+-- the array after one more message is written
 buffers_more : (k i : ℕ) (held : List PlainMessage) (other : PlainMessage) → i < length held → i < k →
-    slice_set (buffers_for k (map octets_in (take i held))) i (plain_message (octets_in (get_or held i other)))
-    ≡ buffers_for k (map octets_in (take (suc i) held))
+    slice_set (buffers_of_messages k (map octets_in (take i held))) i (plain_message (octets_in (get_or held i other)))
+    ≡ buffers_of_messages k (map octets_in (take (suc i) held))
 buffers_more zero i held other at room = absurd (omega (arith, room))
 buffers_more (suc k) i [] other at room = absurd (omega (arith, at))
 buffers_more (suc k) zero (m ∷ ms) other at room = refl
@@ -49,10 +46,11 @@ buffers_more (suc k) (suc i) (m ∷ ms) other at room =
     (buffers_more k i ms other (omega (arith, at)) (omega (arith, room)))
 
 pub room_written : (held : List PlainMessage) (i : ℕ) (buffers : List PlainMessage) (room other : PlainMessage) (octets : List ℕ) →
-    i < length held → length held ≤ 8 → buffers ≡ buffers_for 8 (map octets_in (take i held)) → octets ≡ octets_in (get_or held i other) →
-    room ≡ plain_message octets → slice_set buffers i room ≡ buffers_for 8 (map octets_in (take (i + 1) held))
+    i < length held → length held ≤ 8 → buffers ≡ buffers_of_messages 8 (map octets_in (take i held)) →
+    octets ≡ octets_in (get_or held i other) →
+    room ≡ plain_message octets → slice_set buffers i room ≡ buffers_of_messages 8 (map octets_in (take (i + 1) held))
 room_written held i buffers room other octets at few so_far is written =
     ap (λ (x : List PlainMessage). slice_set x i room) so_far
-    ∙ ap (slice_set (buffers_for 8 (map octets_in (take i held))) i) (written ∙ ap plain_message is)
+    ∙ ap (slice_set (buffers_of_messages 8 (map octets_in (take i held))) i) (written ∙ ap plain_message is)
     ∙ buffers_more 8 i held other at (omega (arith, at, few))
-    ∙ ap (λ (k : ℕ). buffers_for 8 (map octets_in (take k held))) (let next : suc i ≡ i + 1 = omega arith in next)
+    ∙ ap (λ (k : ℕ). buffers_of_messages 8 (map octets_in (take k held))) (let next : suc i ≡ i + 1 = omega arith in next)

@@ -1,24 +1,24 @@
--- Endpoints that a program joins: its calls on the states that it holds, and how it carries the
--- blocks that they send.
+-- A C program that joins endpoints: it calls them with the states that it holds, and carries the blocks that they send from one to the
+-- other.
 use Rattle.std.specs.Prelude.{ℕ, ℤ, ◌≡◌, ◌≤◌, ◌==◌, ◌&&◌, ◌≢◌, ◌⊎◌, if◌then◌else◌, true, false}
 use Rattle.std.specs.Prelude.{List, [], ◌∷◌, ◌++◌, length, take, map, Option, Some, None}
 use Rattle.std.specs.List.{filter_map}
 use Rattle.lapdm_frame.specs.declared.Channel.{Channel}
 use Rattle.lapdm_frame.specs.Content.{Frame}
 use Rattle.lapdm_frame.specs.Frames.{IsFrame}
-use Rattle.segmenting.specs.Segments.{Message}
-use Rattle.segmenting.specs.Buffers.{octets_in}
-use Rattle.lapdm_window.specs.declared.Sapi.{Sapi}
-use Rattle.lapdm_window.specs.declared.Notice.{Notice}
-use Rattle.lapdm_window.specs.declared.Notice.TheVariants as N
-use Rattle.lapdm_window.specs.declared.Reason.{Reason}
-use Rattle.lapdm_window.specs.declared.Reason.TheVariants as R
-use Rattle.lapdm_window.specs.Ends.{Role, Mobile, Network, sapi_number}
-use Rattle.lapdm_window.specs.Calls.{Call}
-use Rattle.um_air.specs.lapdm_link.Queues.{Queues, empty_queues, queue_of, with_more, without_first}
-use Rattle.um_air.specs.lapdm_link.Events.{other, rival_frame, rival_refusal}
+use Rattle.um_air.specs.segmenting.Segments.{Message}
+use Rattle.um_air.specs.segmenting.Buffers.{octets_in}
+use Rattle.um_air.specs.lapdm_window.declared.Sapi.{Sapi}
+use Rattle.um_air.specs.lapdm_window.declared.Notice.{Notice}
+use Rattle.um_air.specs.lapdm_window.declared.Notice.TheVariants as N
+use Rattle.um_air.specs.lapdm_window.declared.Reason.{Reason}
+use Rattle.um_air.specs.lapdm_window.declared.Reason.TheVariants as R
+use Rattle.um_air.specs.lapdm_window.Ends.{Role, Mobile, Network, sapi_number}
+use Rattle.um_air.specs.lapdm_window.Calls.{Call}
+use Rattle.um_air.specs.lapdm_link.Queues.{Queues, empty_queues, queue_of, with_appended, without_first}
+use Rattle.um_air.specs.lapdm_link.Events.{other, rival_sabm, rival_refusal}
 use Rattle.um_air.specs.lapdm_link.Worlds.{rr_for_rej}
-use Rattle.um_air.specs.lapdm_link.Claims.{Line, Asked, Notified, is_role, is_sapi}
+use Rattle.um_air.specs.lapdm_link.Claims.{Line, Asked, Notified, is_same_role, is_same_sapi}
 use Rattle.um_air.specs.lapdm_link.Claims as C
 use Rattle.um_air.specs.Damage.{AreLightlyDamaged}
 use Rattle.um_c.specs.declared.states.PlainEnd.{PlainEnd}
@@ -27,13 +27,13 @@ use Rattle.um_c.specs.Reports.{IsBlockReport, IsBlockReportAmong}
 use Rattle.um_c.specs.declared.effects.PlainNotice.{PlainNotice}
 use Rattle.um_c.specs.declared.effects.PlainEffects.{PlainEffects}
 use Rattle.um_c.specs.States.{channel_number}
-use Rattle.um_c.specs.EndCalls.{IsCalledAs, IsGivenAs, IsBegunAs}
+use Rattle.um_c.specs.EndCalls.{IsCalledAs, IsBlockTakenAs, IsNewEndpointAs}
 
--- ---- what a call reports
+-- ---- reading the effects of a call
 
--- the notices that effects report
-abbrev pub reason_in : ℕ → Reason
-reason_in number =
+-- the reason that stands for this number; below, the notice and all notices in the effects
+abbrev pub reason_from_number : ℕ → Reason
+reason_from_number number =
     if number == 0 then R.Contention else if number == 1 then R.Failed else if number == 2 then R.Refused else R.Released
 
 abbrev pub notice_in : PlainNotice → Option Notice
@@ -43,103 +43,103 @@ notice_in n =
     else if n.kind == 3 then Some (N.Unit (octets_in n.message))
     else if n.kind == 4 then Some (N.Acked n.number)
     else if n.kind == 5 then Some N.Oversize
-    else if n.kind == 6 then Some (N.Closed (reason_in n.reason))
+    else if n.kind == 6 then Some (N.Closed (reason_from_number n.reason))
     else None
 
 abbrev pub notices_in : PlainEffects → List Notice
 notices_in output = filter_map notice_in (take output.notice_count output.notices)
 
--- the blocks that a call sent; none if the answer is not 0
-abbrev pub blocks_out : (answer : ℕ) → PlainEffects → List (List ℕ)
-blocks_out answer output = if answer == 0 then take output.frame_count output.frames else []
+-- the blocks that a call sent, if its answer is 0; otherwise none
+abbrev pub blocks_sent : (answer : ℕ) → PlainEffects → List (List ℕ)
+blocks_sent answer output = if answer == 0 then take output.frame_count output.frames else []
 
--- ---- one turn
+-- ---- one step of the program
 
--- one step of the program: an endpoint is called, is given the first block in transit to its side,
--- or is shown a block that is no frame of its link; the first block in transit from a side is lost;
--- or the SABM of another mobile is appended to the uplink
-pub data Turn : Type 0 where
-  Calls : (role : Role) (sapi : Sapi) (call : Call) (answer : ℕ) (output : PlainEffects) → Turn
-  Gives : (role : Role) (sapi : Sapi) (block : List ℕ) (answer : ℕ) (output : PlainEffects) → Turn
-  Shows : (role : Role) (sapi : Sapi) (block : List ℕ) (answer : ℕ) (output : PlainEffects) → Turn
-  Loses : (sender : Role) → Turn
-  Rivals : (info : Message) (block : List ℕ) → Turn
+-- one step of the program: an endpoint is called; an endpoint gets the oldest block in transit to its side; an endpoint is shown a block
+-- that encodes no frame of its link; the oldest block from a side is lost; or the SABM of another mobile is added to the uplink
+pub data ProgramStep : Type 0 where
+  Calls : (role : Role) (sapi : Sapi) (call : Call) (answer : ℕ) (output : PlainEffects) → ProgramStep
+  TakesOldest : (role : Role) (sapi : Sapi) (block : List ℕ) (answer : ℕ) (output : PlainEffects) → ProgramStep
+  TakesForeign : (role : Role) (sapi : Sapi) (block : List ℕ) (answer : ℕ) (output : PlainEffects) → ProgramStep
+  LosesOldest : (sender : Role) → ProgramStep
+  RivalSabm : (info : Message) (block : List ℕ) → ProgramStep
 
--- the states of the endpoints that the program has, and the blocks in transit to the network and to
--- the mobile, in order
+-- the states of the endpoints that the program has, and the blocks in transit to the network and to the mobile, in order
 pub record Joined : Type 0 where
   pub state : Role → Sapi → Option PlainEnd
   pub queues : Queues (List ℕ)
 
--- one endpoint has a new state, all others are unchanged, and what it sent is appended to the ways
--- `left`
-pub record IsLeft (r : Role) (s : Sapi) (old new : PlainEnd) (out : List (List ℕ)) (left : Queues (List ℕ)) (a b : Joined) : Type 0 where
+-- in the step from a to b, the state of one endpoint changes from `old` to `new`, all other states stay the same, and the blocks `out` are
+-- added to the blocks in transit `left`
+pub record IsEndpointChange (r : Role) (s : Sapi) (old new : PlainEnd) (out : List (List ℕ)) (left : Queues (List ℕ))
+    (a b : Joined) : Type 0 where
   pub before : a.state r s ≡ Some old
   pub after : b.state r s ≡ Some new
-  pub others : (r' : Role) (s' : Sapi) → is_role r' r && is_sapi s' s ≡ false → b.state r' s' ≡ a.state r' s'
-  pub queues : b.queues ≡ with_more r out left
+  pub others : (r' : Role) (s' : Sapi) → is_same_role r' r && is_same_sapi s' s ≡ false → b.state r' s' ≡ a.state r' s'
+  pub queues : b.queues ≡ with_appended r out left
 
--- the block is no frame, or a frame of another link
-abbrev pub IsOfNone : Channel → Sapi → List ℕ → Type 0
-IsOfNone channel s block = (f : Frame) → IsFrame channel f block → f.sapi ≢ sapi_number s
+-- the block encodes no frame, or a frame with another SAPI
+abbrev pub IsNotForLink : Channel → Sapi → List ℕ → Type 0
+IsNotForLink channel s block = (f : Frame) → IsFrame channel f block → f.sapi ≢ sapi_number s
 
--- the turn leads from a to b: the call or the block is answered as its contract says
-abbrev pub IsTurn : Channel → Joined → Turn → Joined → Type 0
-IsTurn channel a (Calls r s call answer output) b =
+-- the step leads from a to b, and the call or the block is answered as its contract says
+abbrev pub IsProgramStep : Channel → Joined → ProgramStep → Joined → Type 0
+IsProgramStep channel a (Calls r s call answer output) b =
     (old new : PlainEnd) × (output_old : PlainEffects) × IsCalledAs call answer old new output_old output
-    × IsLeft r s old new (blocks_out answer output) a.queues a b
-IsTurn channel a (Gives r s block answer output) b =
-    (old new : PlainEnd) × (output_old : PlainEffects) × IsGivenAs block answer old new output_old output
-    × IsLeft r s old new (blocks_out answer output) (without_first (other r) a.queues) a b × (length block ≡ 23)
-IsTurn channel a (Shows r s block answer output) b =
-    (old new : PlainEnd) × (output_old : PlainEffects) × IsGivenAs block answer old new output_old output
-    × IsLeft r s old new (blocks_out answer output) a.queues a b × (length block ≡ 23) × IsOfNone channel s block
-IsTurn channel a (Loses sender) b = b ≡ record a { queues = without_first sender a.queues }
-IsTurn channel a (Rivals info block) b =
-    (b ≡ record a { queues = with_more Mobile (block ∷ []) a.queues }) × IsFrame channel (rival_frame info) block
+    × IsEndpointChange r s old new (blocks_sent answer output) a.queues a b
+IsProgramStep channel a (TakesOldest r s block answer output) b =
+    (old new : PlainEnd) × (output_old : PlainEffects) × IsBlockTakenAs block answer old new output_old output
+    × IsEndpointChange r s old new (blocks_sent answer output) (without_first (other r) a.queues) a b × (length block ≡ 23)
+IsProgramStep channel a (TakesForeign r s block answer output) b =
+    (old new : PlainEnd) × (output_old : PlainEffects) × IsBlockTakenAs block answer old new output_old output
+    × IsEndpointChange r s old new (blocks_sent answer output) a.queues a b × (length block ≡ 23) × IsNotForLink channel s block
+IsProgramStep channel a (LosesOldest sender) b = b ≡ record a { queues = without_first sender a.queues }
+IsProgramStep channel a (RivalSabm info block) b =
+    (b ≡ record a { queues = with_appended Mobile (block ∷ []) a.queues }) × IsFrame channel (rival_sabm info) block
     × (rival_refusal channel info ≡ None)
 
--- ---- a run
+-- ---- several steps
 
--- the number of a role
+-- the number that C programs see for a role
 abbrev pub role_number : Role → ℕ
 role_number Mobile = 0
 role_number Network = 1
 
--- a state that was begun, unless the program does not have that endpoint
-abbrev pub IsBegunIn : Channel → Role → Sapi → Option PlainEnd → Type 0
-IsBegunIn channel r s None = Unit {0}
-IsBegunIn channel r s (Some new) =
-    (old : PlainEnd) × IsBegunAs (role_number r) (sapi_number s) (channel_number channel) true old new
+-- the program does not have this endpoint, or its state is that of a new endpoint
+abbrev pub IsNewEndpointOrNone : Channel → Role → Sapi → Option PlainEnd → Type 0
+IsNewEndpointOrNone channel r s None = Unit {0}
+IsNewEndpointOrNone channel r s (Some new) =
+    (old : PlainEnd) × IsNewEndpointAs (role_number r) (sapi_number s) (channel_number channel) true old new
 
--- each state was begun, and nothing is in transit
-pub record IsJoined (channel : Channel) (a : Joined) : Type 0 where
-  pub begun : (r : Role) (s : Sapi) → IsBegunIn channel r s (a.state r s)
+-- the program at its start: each state is that of a new endpoint, and no block is in transit
+pub record IsProgramStart (channel : Channel) (a : Joined) : Type 0 where
+  pub begun : (r : Role) (s : Sapi) → IsNewEndpointOrNone channel r s (a.state r s)
   pub queues : a.queues ≡ empty_queues
 
--- successive turns that `May` allows lead from a to z
-abbrev pub IsRun : Channel → (Channel → Joined → Turn → Type 0) → (a : Joined) → List Turn → (z : Joined) → Type 0
+-- these steps lead from a to z, and `May` holds of each
+abbrev pub IsRun : Channel → (Channel → Joined → ProgramStep → Type 0) → (a : Joined) → List ProgramStep → (z : Joined) → Type 0
 IsRun channel May a [] z = z ≡ a
-IsRun channel May a (turn ∷ turns) z = May channel a turn × (b : Joined) × IsTurn channel a turn b × IsRun channel May b turns z
+IsRun channel May a (turn ∷ turns) z = May channel a turn × (b : Joined) × IsProgramStep channel a turn b × IsRun channel May b turns z
 
--- there is a first block in transit, and it satisfies `Like`
-abbrev pub IsFirst : (List ℕ → Type 0) → List (List ℕ) → Type 0
-IsFirst Like [] = ⊥
-IsFirst Like (first ∷ others) = Like first
+-- the list has a first block, and it satisfies `Like`
+abbrev pub FirstSatisfies : (List ℕ → Type 0) → List (List ℕ) → Type 0
+FirstSatisfies Like [] = ⊥
+FirstSatisfies Like (first ∷ others) = Like first
 
--- the block is the same frame as the one sent, perhaps with other fill; for a REJ it may be an RR
--- with the same N(R)
+-- the block encodes the same frame as the one sent, perhaps with other fill octets; if that is a REJ, it may encode an RR with the same
+-- N(R)
 abbrev pub IsSameFrame : Channel → (sent block : List ℕ) → Type 0
 IsSameFrame channel sent block = (f : Frame) → IsFrame channel f sent →
     IsFrame channel f block ⊎ IsFrame channel (record f { content = rr_for_rej f.content }) block
 
--- each block that arrives is the first in transit
-abbrev pub Carries : Channel → Joined → Turn → Type 0
-Carries channel a (Gives r s block answer output) = IsFirst (λ first. IsSameFrame channel first block) (queue_of (other r) a.queues)
+-- each block that an endpoint gets encodes the same frame as the oldest block in transit to it
+abbrev pub Carries : Channel → Joined → ProgramStep → Type 0
+Carries channel a (TakesOldest r s block answer output) = FirstSatisfies (λ first. IsSameFrame channel first block) (queue_of
+    (other r) a.queues)
 Carries channel a turn = Unit {0}
 
--- the block is received from four lightly damaged bursts of the block sent, as their most likely
--- word, or as the first of the most likely words whose CRC holds
+-- the block is what a receiver accepts from lightly damaged bursts of the block sent: their most likely word, or the first of the most
+-- likely words whose CRC holds
 pub record IsReceivedAs (sent block : List ℕ) : Type 0 where
   pub bursts : List (List ℤ)
   pub damage : AreLightlyDamaged sent bursts
@@ -147,23 +147,24 @@ pub record IsReceivedAs (sent block : List ℕ) : Type 0 where
   pub received : IsBlockReport bursts report ⊎ ((most rank : ℕ) × (1 ≤ most) × IsBlockReportAmong bursts most rank report)
   pub octets : block ≡ report.octets
 
--- each block that arrives is received from lightly damaged bursts of the first in transit
-abbrev pub ReceivesFirst : Channel → Joined → Turn → Type 0
-ReceivesFirst channel a (Gives r s block answer output) = IsFirst (λ first. IsReceivedAs first block) (queue_of (other r) a.queues)
+-- each block that an endpoint gets is what a receiver accepts from lightly damaged bursts of the oldest block in transit to it
+abbrev pub ReceivesFirst : Channel → Joined → ProgramStep → Type 0
+ReceivesFirst channel a (TakesOldest r s block answer output) = FirstSatisfies (λ first. IsReceivedAs first block) (queue_of
+    (other r) a.queues)
 ReceivesFirst channel a turn = Unit {0}
 
--- any block may arrive
-abbrev pub Anything : Channel → Joined → Turn → Type 0
-Anything channel a turn = Unit {0}
+-- no condition: any block may arrive
+abbrev pub NoCondition : Channel → Joined → ProgramStep → Type 0
+NoCondition channel a turn = Unit {0}
 
--- the calls and notices of a turn, from its answer alone
-abbrev pub turn_lines : Turn → List Line
-turn_lines (Calls r s call answer output) = if answer == 0 then Asked r s call ∷ map (Notified r s) (notices_in output) else []
-turn_lines (Gives r s block answer output) = if answer == 0 then map (Notified r s) (notices_in output) else []
-turn_lines (Shows r s block answer output) = if answer == 0 then map (Notified r s) (notices_in output) else []
-turn_lines (Loses sender) = []
-turn_lines (Rivals info block) = C.Rivals info ∷ []
+-- the log lines of a step, computed from its answer and effects alone: the call and the notices
+abbrev pub program_step_lines : ProgramStep → List Line
+program_step_lines (Calls r s call answer output) = if answer == 0 then Asked r s call ∷ map (Notified r s) (notices_in output) else []
+program_step_lines (TakesOldest r s block answer output) = if answer == 0 then map (Notified r s) (notices_in output) else []
+program_step_lines (TakesForeign r s block answer output) = if answer == 0 then map (Notified r s) (notices_in output) else []
+program_step_lines (LosesOldest sender) = []
+program_step_lines (RivalSabm info block) = C.RivalSabm info ∷ []
 
-abbrev pub lines : List Turn → List Line
+abbrev pub lines : List ProgramStep → List Line
 lines [] = []
-lines (turn ∷ turns) = turn_lines turn ++ lines turns
+lines (turn ∷ turns) = program_step_lines turn ++ lines turns

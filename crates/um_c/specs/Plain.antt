@@ -1,4 +1,4 @@
--- A frame as a C struct: its kind as a number, and all fields.
+-- A frame as a C struct: the number of its kind, and all fields that a frame may have.
 use Rattle.std.specs.Prelude.{ℕ, ◌≡◌, ◌==◌, ◌⊎◌, ◌-◌, nat_le, not, if◌then◌else◌, Bool, true, false, List, slice_get}
 use Rattle.std.specs.Prelude.{◌++◌, length, take, replicate, Option, Some, None}
 use Rattle.lapdm_frame.specs.declared.Channel.{Channel}
@@ -11,11 +11,11 @@ use Rattle.lapdm_frame.specs.Frames.{bit, Fits, octets_of}
 use Rattle.lapdm_frame.specs.Readings.{IsOnlyFrame, IsOnlyRefusal}
 use Rattle.um_c.specs.declared.frames.PlainFrame.{PlainFrame}
 
--- the channel with this number
+-- the channel for which this number stands, if any: 0 SDCCH, 1 SACCH
 abbrev pub channel_of : ℕ → Option Channel
 channel_of number = if number == 0 then Some Sdcch else if number == 1 then Some Sacch else None
 
--- the fields of a frame: a field that its kind lacks is 0, and zeros follow the information
+-- a frame as a C struct: fields that its kind does not have are 0, and zeros follow the information
 abbrev pub plain_fields : ℕ → Bool → Fields → PlainFrame
 plain_fields sapi cr f = record {
   kind = kind_number f.kind;
@@ -32,50 +32,51 @@ plain_fields sapi cr f = record {
 abbrev pub plain : Frame → PlainFrame
 plain f = plain_fields f.sapi f.cr (fields_of f.content)
 
--- the number of a refusal, 1 to 7; 0 means success
-abbrev pub number_of : Refusal → ℕ
-number_of Lpd = 1
-number_of Ea = 2
-number_of Control = 3
-number_of El = 4
-number_of Length = 5
-number_of Empty = 6
-number_of More = 7
+-- the number that C programs see for a refusal, 1 to 7; 0 means success
+abbrev pub frame_refusal_number : Refusal → ℕ
+frame_refusal_number Lpd = 1
+frame_refusal_number Ea = 2
+frame_refusal_number Control = 3
+frame_refusal_number El = 4
+frame_refusal_number Length = 5
+frame_refusal_number Empty = 6
+frame_refusal_number More = 7
 
--- the answer is 0 and the fields are those of the only frame of the octets; or the answer is the
--- number of their only refusal, and nothing is written
+-- either the octets encode exactly one frame, the answer is 0 and the fields of that frame are written; or they are refused, the answer is
+-- the number of the reason, and nothing is written
 abbrev pub IsReadAs : Channel → List ℕ → ℕ → (before after : PlainFrame) → Type 0
 IsReadAs channel octets answer before after =
     ((f : Frame) × IsOnlyFrame channel f octets × (answer ≡ 0) × (after ≡ plain f))
-    ⊎ ((reason : Refusal) × IsOnlyRefusal channel octets reason × (answer ≡ number_of reason) × (after ≡ before))
+    ⊎ ((reason : Refusal) × IsOnlyRefusal channel octets reason × (answer ≡ frame_refusal_number reason) × (after ≡ before))
 
--- the bit of a field: any number but 0 is a 1
-abbrev pub says : ℕ → Bool
-says field = not (field == 0)
+-- the bit for which a number in a C struct stands: 0 if the number is 0, otherwise 1
+abbrev pub is_nonzero : ℕ → Bool
+is_nonzero field = not (field == 0)
 
--- a content whose information has this many octets
-abbrev pub with_count : ℕ → Content → Option Content
-with_count count content = if length (fields_of content).info == count then Some content else None
+-- the content, if its information has this many octets; otherwise `None`
+abbrev pub content_with_count : ℕ → Content → Option Content
+content_with_count count content = if length (fields_of content).info == count then Some content else None
 
--- the content that the fields describe: none for a number that no kind has, and none if a kind without information has a nonzero
--- count; other fields that the kind lacks are ignored
-abbrev pub said_of : PlainFrame → Option Kind → Option Content
-said_of f None = None
-said_of f (Some kind) = with_count f.count (content_with kind f.ns f.nr (says f.pf) (says f.more) (take f.count f.info))
+-- the content that the fields describe. There is none if no kind has this number, or if a kind without information has a count other than
+-- 0; other fields that the kind does not have are ignored.
+abbrev pub content_of_kind : PlainFrame → Option Kind → Option Content
+content_of_kind f None = None
+content_of_kind f (Some kind) = content_with_count f.count (content_with kind f.ns f.nr (is_nonzero f.pf) (is_nonzero f.more)
+    (take f.count f.info))
 
-abbrev pub said_content : PlainFrame → Option Content
-said_content f = said_of f (slice_get kinds f.kind)
+abbrev pub content_from_fields : PlainFrame → Option Content
+content_from_fields f = content_of_kind f (slice_get kinds f.kind)
 
-abbrev pub with_address : ℕ → Bool → Option Content → Option Frame
-with_address sapi cr None = None
-with_address sapi cr (Some content) = Some (record { sapi = sapi; cr = cr; content = content })
+abbrev pub frame_with_address_fields : ℕ → Bool → Option Content → Option Frame
+frame_with_address_fields sapi cr None = None
+frame_with_address_fields sapi cr (Some content) = Some (record { sapi = sapi; cr = cr; content = content })
 
--- the frame that the fields describe; none if they count more than 20 octets
-abbrev pub frame_by : PlainFrame → Option Frame
-frame_by f = if nat_le f.count 20 then with_address f.sapi (says f.cr) (said_content f) else None
+-- the frame that the fields describe, or `None` if they count more than 20 octets of information
+abbrev pub frame_from_fields : PlainFrame → Option Frame
+frame_from_fields f = if nat_le f.count 20 then frame_with_address_fields f.sapi (is_nonzero f.cr) (content_from_fields f) else None
 
--- the answer is true, and the canonical octets are written, if the fields describe a frame that
--- fits the channel; otherwise it is false, and nothing is written
+-- if the fields describe a frame that fits in a block of the channel, the answer is true and the canonical octets are written; otherwise
+-- the answer is false, and nothing is written
 abbrev pub IsWrittenAs : Channel → Option Frame → Bool → (before after : List ℕ) → Type 0
 IsWrittenAs channel None answer before after = (answer ≡ false) × (after ≡ before)
 IsWrittenAs channel (Some f) answer before after =

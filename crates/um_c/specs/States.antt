@@ -1,28 +1,28 @@
--- An endpoint as a C struct: what its numbers and arrays mean, and how they are written.
+-- The state of an endpoint as a C struct: what its numbers and arrays mean, and how it is written.
 use Rattle.std.specs.Prelude.{ℕ, zero, suc, ◌≡◌, ◌==◌, nat_le, if◌then◌else◌, Bool, true, List, [], ◌∷◌, length}
 use Rattle.std.specs.Prelude.{take, map, Option, Some, None}
 use Rattle.lapdm_frame.specs.declared.Channel.{Channel}
 use Rattle.lapdm_frame.specs.declared.Channel.TheVariants.{Sdcch, Sacch}
 use Rattle.lapdm_frame.specs.Frames.{bit}
-use Rattle.segmenting.specs.declared.joiner.Part.{Part}
-use Rattle.segmenting.specs.declared.joiner.Part.TheVariants as P
-use Rattle.segmenting.specs.declared.buffers.PlainMessage.{PlainMessage}
-use Rattle.segmenting.specs.Segments.{Message}
-use Rattle.segmenting.specs.Buffers.{octets_in, plain_message}
-use Rattle.lapdm_window.specs.declared.Sapi.{Sapi}
-use Rattle.lapdm_window.specs.declared.Sapi.TheVariants.{Zero, Three}
-use Rattle.lapdm_window.specs.declared.State.{State}
-use Rattle.lapdm_window.specs.declared.State.TheVariants as S
-use Rattle.lapdm_window.specs.Ends.{EndState}
-use Rattle.lapdm_window.specs.Parts.{WindowValues}
+use Rattle.um_air.specs.segmenting.declared.joiner.Part.{Part}
+use Rattle.um_air.specs.segmenting.declared.joiner.Part.TheVariants as P
+use Rattle.um_air.specs.segmenting.declared.buffers.PlainMessage.{PlainMessage}
+use Rattle.um_air.specs.segmenting.Segments.{Message}
+use Rattle.um_air.specs.segmenting.Buffers.{octets_in, plain_message}
+use Rattle.um_air.specs.lapdm_window.declared.Sapi.{Sapi}
+use Rattle.um_air.specs.lapdm_window.declared.Sapi.TheVariants.{Zero, Three}
+use Rattle.um_air.specs.lapdm_window.declared.State.{State}
+use Rattle.um_air.specs.lapdm_window.declared.State.TheVariants as S
+use Rattle.um_air.specs.lapdm_window.Ends.{EndState}
+use Rattle.um_air.specs.lapdm_window.Parts.{WindowValues}
 use Rattle.lapdm_end.specs.declared.Role.{Role}
 use Rattle.lapdm_end.specs.declared.Role.TheVariants.{Mobile, Network}
 use Rattle.lapdm_end.specs.Parts.{EndValues, ValuesRepresent}
 use Rattle.um_c.specs.declared.states.PlainEnd.{PlainEnd}
-use Rattle.um_c.specs.Plain.{says, channel_of}
+use Rattle.um_c.specs.Plain.{is_nonzero, channel_of}
 
--- the role, SAPI, state or message part with this number; and the window and the endpoint of a
--- state
+-- what the numbers in the struct stand for, if anything: a role, a SAPI, a state of the link, and a part of a message; below, the values of
+-- the window and of the endpoint
 abbrev pub role_of : ℕ → Option Role
 role_of number = if number == 0 then Some Mobile else if number == 1 then Some Network else None
 
@@ -38,11 +38,12 @@ state_of number =
     else if number == 4 then Some S.Closed
     else None
 
-abbrev pub part_of : ℕ → Option Part
-part_of number = if number == 0 then Some P.Open else if number == 1 then Some P.Whole else if number == 2 then Some P.Over else None
+abbrev pub part_from_number : ℕ → Option Part
+part_from_number number = if number == 0 then Some P.Open else if number == 1 then Some P.Whole else if number == 2 then Some P.Over else
+    None
 
-abbrev pub window_with : PlainEnd → Option Channel → Option Part → Bool → Option WindowValues
-window_with s (Some channel) (Some part) true =
+abbrev pub window_values_with : PlainEnd → Option Channel → Option Part → Bool → Option WindowValues
+window_values_with s (Some channel) (Some part) true =
     Some (record {
       channel = channel;
       held = map octets_in (take s.held_count s.held);
@@ -51,35 +52,35 @@ window_with s (Some channel) (Some part) true =
       va = s.va;
       vr = s.vr;
       done = s.done;
-      rejecting = says s.rejecting;
+      rejecting = is_nonzero s.rejecting;
       retries = s.repeats;
       joiner = record { octets = octets_in s.joined; part = part };
     })
-window_with s channel part few = None
+window_values_with s channel part few = None
 
-abbrev pub said_window : PlainEnd → Option WindowValues
-said_window s = window_with s (channel_of s.channel) (part_of s.part) (nat_le s.held_count 8)
+abbrev pub window_values_from : PlainEnd → Option WindowValues
+window_values_from s = window_values_with s (channel_of s.channel) (part_from_number s.part) (nat_le s.held_count 8)
 
-abbrev pub end_with : PlainEnd → Option Role → Option Sapi → Option State → Option WindowValues → Option EndValues
-end_with s (Some role) (Some sapi) (Some state) (Some window) =
+abbrev pub endpoint_values_with : PlainEnd → Option Role → Option Sapi → Option State → Option WindowValues → Option EndValues
+endpoint_values_with s (Some role) (Some sapi) (Some state) (Some window) =
     Some (record { role = role; sapi = sapi; state = state; kept = octets_in s.kept; retries = s.retries; window = window })
-end_with s role sapi state window = None
+endpoint_values_with s role sapi state window = None
 
--- the values of a state, if each number is in range and at most eight messages are held
-abbrev pub said_end : PlainEnd → Option EndValues
-said_end s = end_with s (role_of s.role) (sapi_of s.sapi) (state_of s.state) (said_window s)
+-- the values for which the struct stands, if all its numbers are in range and it holds at most eight messages
+abbrev pub endpoint_values_from : PlainEnd → Option EndValues
+endpoint_values_from s = endpoint_values_with s (role_of s.role) (sapi_of s.sapi) (state_of s.state) (window_values_from s)
 
--- the state represents this endpoint
+-- the struct represents the endpoint e
 pub record StateRepresents (s : PlainEnd) (e : EndState) : Type 0 where
   pub values : EndValues
-  pub said : said_end s ≡ Some values
-  pub stand : ValuesRepresent values e
+  pub decoded : endpoint_values_from s ≡ Some values
+  pub represents_values : ValuesRepresent values e
 
--- the state represents some endpoint
-abbrev pub IsOfAnEnd : PlainEnd → Type 0
-IsOfAnEnd s = (e : EndState) × StateRepresents s e
+-- the struct represents some endpoint
+abbrev pub RepresentsSomeEndpoint : PlainEnd → Type 0
+RepresentsSomeEndpoint s = (e : EndState) × StateRepresents s e
 
--- the numbers of roles, SAPIs, channels, states and parts
+-- the numbers that C programs see for roles, SAPIs, channels, states of the link and parts of a message
 abbrev pub role_number : Role → ℕ
 role_number Mobile = 0
 role_number Network = 1
@@ -104,13 +105,13 @@ part_number P.Open = 0
 part_number P.Whole = 1
 part_number P.Over = 2
 
--- k elements: these messages, then messages without octets
-abbrev pub buffers_for : ℕ → List Message → List PlainMessage
-buffers_for zero held = []
-buffers_for (suc k) [] = plain_message [] ∷ buffers_for k []
-buffers_for (suc k) (m ∷ ms) = plain_message m ∷ buffers_for k ms
+-- an array of k buffers: these messages, then empty messages
+abbrev pub buffers_of_messages : ℕ → List Message → List PlainMessage
+buffers_of_messages zero held = []
+buffers_of_messages (suc k) [] = plain_message [] ∷ buffers_of_messages k []
+buffers_of_messages (suc k) (m ∷ ms) = plain_message m ∷ buffers_of_messages k ms
 
--- the state written for these values, with zeros in the unused octets
+-- the struct that is written for these values, with zeros in all unused octets
 abbrev pub plain_end : EndValues → PlainEnd
 plain_end x = record {
   done = x.window.done;
@@ -129,9 +130,9 @@ plain_end x = record {
   part = part_number x.window.joiner.part;
   kept = plain_message x.kept;
   joined = plain_message x.window.joiner.octets;
-  held = buffers_for 8 x.window.held;
+  held = buffers_of_messages 8 x.window.held;
 }
 
--- the state is one that is written; each endpoint has only one such state
-abbrev pub IsPlain : PlainEnd → Type 0
-IsPlain s = (x : EndValues) × (s ≡ plain_end x)
+-- the struct has the form in which structs are written; each endpoint has exactly one struct of this form
+abbrev pub IsWrittenStruct : PlainEnd → Type 0
+IsWrittenStruct s = (x : EndValues) × (s ≡ plain_end x)

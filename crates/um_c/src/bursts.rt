@@ -1,55 +1,54 @@
-//! Access bursts and synchronisation bursts.
+//! Exports for access bursts and synchronisation bursts.
 ghost use Rattle.std.specs.Prelude.{◌≡◌, ◌↔◌, ℕ, List, replicate, IsTrue, false, MatchOption};
-ghost use Rattle.bit_blocks.specs.Bits.{AllBits};
-ghost use Rattle.bit_blocks.specs.SoftValues.{AllSoft};
+ghost use Rattle.um_block.specs.bit_blocks.Bits.{AllBits};
+ghost use Rattle.um_block.specs.bit_blocks.SoftValues.{AllSoftBits};
 ghost use Rattle.um_block.specs.Sent.{IsSentAccess, IsSentSync};
 ghost use Rattle.um_c.specs.Reports.{IsAccessReport, IsSyncReport};
 
 use crate::soft::are_soft;
-use bit_blocks::Bits;
 use um_block::{
-    receive_access, receive_sync, send_access, send_sync, wrong_access_places, wrong_sync_places,
+    BURST_BITS, Bits, receive_access, receive_sync, send_access, send_sync, wrong_access_bits,
+    wrong_sync_bits,
 };
 
-/// The report on an access burst.
+/// What was received from an access burst.
 #[repr(C)]
 #[derive(Drop)]
 pub struct AccessReport {
-    /// The likelihood of the word: at most 36 * 127.
+    /// The path metric of the word, at most 36 * 127.
     pub metric: i32,
-    /// How many of the 41 training bits are wrong. A value of 0 counts as wrong.
+    /// How many of the 41 training bits are wrong. A soft value of 0 counts as wrong.
     pub wrong_training: u32,
-    /// How many of the 36 coded bits differ from those of the word. A value of 0 counts as wrong.
+    /// How many of the 36 coded bits differ from those of the word. A soft value of 0 counts as wrong.
     pub wrong_coded: u32,
-    /// 1 if the CRC holds for this BSIC, else 0.
+    /// 1 if the CRC holds for this BSIC, otherwise 0.
     pub accepted: u8,
-    /// The data bits if the CRC holds, else zeros.
+    /// The 8 data bits if the CRC holds, otherwise zeros.
     pub info: [u8; 8],
-    /// The most likely word, one bit an octet: 8 data bits, 6 CRC bits with the BSIC added, four
-    /// zeros.
+    /// The most likely word, with one bit in each octet: 8 data bits, 6 CRC bits to which the BSIC is added modulo 2, four zeros.
     pub word: [u8; 18],
 }
 
-/// The report on a synchronisation burst.
+/// What was received from a synchronisation burst.
 #[repr(C)]
 #[derive(Drop)]
 pub struct SyncReport {
-    /// The likelihood of the word: at most 78 * 127.
+    /// The path metric of the word, at most 78 * 127.
     pub metric: i32,
-    /// How many of the 64 training bits are wrong. A value of 0 counts as wrong.
+    /// How many of the 64 training bits are wrong. A soft value of 0 counts as wrong.
     pub wrong_training: u32,
-    /// How many of the 78 coded bits differ from those of the word. A value of 0 counts as wrong.
+    /// How many of the 78 coded bits differ from those of the word. A soft value of 0 counts as wrong.
     pub wrong_coded: u32,
-    /// 1 if the CRC holds, else 0.
+    /// 1 if the CRC holds, otherwise 0.
     pub accepted: u8,
-    /// The data bits if the CRC holds, else zeros.
+    /// The 25 data bits if the CRC holds, otherwise zeros.
     pub info: [u8; 25],
-    /// The most likely word, one bit an octet: 25 data bits, 10 CRC bits, four zeros.
+    /// The most likely word, with one bit in each octet: 25 data bits, 10 CRC bits, four zeros.
     pub word: [u8; 39],
 }
 
-/// Writes the access burst of 8 bits for a BSIC of 6 bits, one bit an octet. Returns false, and
-/// writes nothing, if an octet is not 0 or 1.
+/// Codes 8 bits as the access burst for a BSIC of 6 bits, with one bit in each octet. Returns false, and writes nothing, if an octet is
+/// neither 0 nor 1.
 #[unsafe(no_mangle)]
 pub extern "C" fn um_send_access(info: &[u8; 8], bsic: &[u8; 6], burst: &mut [u8; 88]) -> bool
     ensures known { IsTrue result ↔ (AllBits info.now × AllBits bsic.now) }
@@ -67,15 +66,15 @@ pub extern "C" fn um_send_access(info: &[u8; 8], bsic: &[u8; 6], burst: &mut [u8
     true
 }
 
-/// Decodes an access burst of soft values for a BSIC. Returns false, and writes nothing, if a value
-/// is -128 or an octet of the BSIC is not 0 or 1.
+/// Decodes the soft values of an access burst for this BSIC. Returns false, and writes nothing, if a soft value is -128 or an octet of the
+/// BSIC is neither 0 nor 1.
 #[unsafe(no_mangle)]
 pub extern "C" fn um_receive_access(
     burst: &[i8; 88],
     bsic: &[u8; 6],
     report: &mut AccessReport,
 ) -> bool
-    ensures known { IsTrue result ↔ (AllSoft burst.now × AllBits bsic.now) }
+    ensures known { IsTrue result ↔ (AllSoftBits burst.now × AllBits bsic.now) }
     ensures received { IsTrue result → IsAccessReport burst.now bsic.now report.new }
     ensures only { IsTrue result → (other : AccessReport) → IsAccessReport burst.now bsic.now other
         → other ≡ report.new }
@@ -94,7 +93,7 @@ pub extern "C" fn um_receive_access(
     *report = AccessReport {
         metric: received.metric,
         wrong_training: received.wrong_training,
-        wrong_coded: wrong_access_places(burst, &word),
+        wrong_coded: wrong_access_bits(burst, &word),
         accepted,
         info,
         word,
@@ -102,10 +101,9 @@ pub extern "C" fn um_receive_access(
     true
 }
 
-/// Writes the synchronisation burst of 25 bits, one bit an octet. Returns false, and writes
-/// nothing, if an octet is not 0 or 1.
+/// Codes 25 bits as a synchronisation burst, with one bit in each octet. Returns false, and writes nothing, if an octet is neither 0 nor 1.
 #[unsafe(no_mangle)]
-pub extern "C" fn um_send_sync(info: &[u8; 25], burst: &mut [u8; 148]) -> bool
+pub extern "C" fn um_send_sync(info: &[u8; 25], burst: &mut [u8; BURST_BITS]) -> bool
     ensures known { IsTrue result ↔ AllBits info.now }
     ensures sent { IsTrue result → IsSentSync info.now burst.new }
     ensures only { IsTrue result → (other : List ℕ) → IsSentSync info.now other → other ≡ burst.new }
@@ -118,11 +116,10 @@ pub extern "C" fn um_send_sync(info: &[u8; 25], burst: &mut [u8; 148]) -> bool
     true
 }
 
-/// Decodes a synchronisation burst of soft values. Returns false, and writes nothing, if a value is
-/// -128.
+/// Decodes the soft values of a synchronisation burst. Returns false, and writes nothing, if one of them is -128.
 #[unsafe(no_mangle)]
-pub extern "C" fn um_receive_sync(burst: &[i8; 148], report: &mut SyncReport) -> bool
-    ensures soft { IsTrue result ↔ AllSoft burst.now }
+pub extern "C" fn um_receive_sync(burst: &[i8; BURST_BITS], report: &mut SyncReport) -> bool
+    ensures soft { IsTrue result ↔ AllSoftBits burst.now }
     ensures received { IsTrue result → IsSyncReport burst.now report.new }
     ensures only { IsTrue result → (other : SyncReport) → IsSyncReport burst.now other
         → other ≡ report.new }
@@ -138,7 +135,7 @@ pub extern "C" fn um_receive_sync(burst: &[i8; 148], report: &mut SyncReport) ->
     *report = SyncReport {
         metric: received.metric,
         wrong_training: received.wrong_training,
-        wrong_coded: wrong_sync_places(burst, &word),
+        wrong_coded: wrong_sync_bits(burst, &word),
         accepted,
         info,
         word,
@@ -146,7 +143,7 @@ pub extern "C" fn um_receive_sync(burst: &[i8; 148], report: &mut SyncReport) ->
     true
 }
 
-/// 1 and the accepted bits, or 0 and zeros.
+/// 1 and the accepted bits, or 0 and zeros if none were accepted.
 fn accepted_bits<const N: usize>(accepted: &Option<Bits<N>>) -> (u8, [u8; N])
     ensures { MatchOption accepted.now
         ((result.0 ≡ 0) × (result.1 ≡ replicate N 0))

@@ -1,33 +1,33 @@
-//! What an endpoint sends and reports, as fixed-size arrays.
+//! The frames and notices of a call, in arrays of fixed size.
 ghost use Rattle.std.specs.Prelude.{◌≡◌, ◌≤◌, ◌-◌, ◌++◌, map, length, replicate, slice_index_or};
-ghost use Rattle.segmenting.specs.Segments.{longest};
+ghost use Rattle.um_air.specs.segmenting.Segments.{max_message_octets};
 ghost use Rattle.um_c.specs.Effects.{notice_of, plain_notice, plain_effects, nothing, reason_number};
 
-use lapdm_window::{Effects, Notice, Reason};
-use segmenting::PlainMessage;
+use lapdm_end::{Effects, Notice, PlainMessage, Reason};
+use lapdm_frame::BLOCK_OCTETS;
 
-/// A notice of an endpoint.
+/// A notice that an endpoint reports to layer 3.
 #[repr(C)]
 #[derive(Clone, Copy, Drop)]
 pub struct PlainNotice {
-    /// The number of the acknowledged message; else 0.
+    /// The number of the acknowledged message, from 1; 0 in other notices.
     pub number: u64,
     /// 0 no notice, 1 opened, 2 got, 3 unit, 4 acked, 5 oversize, 6 closed.
     pub kind: u8,
-    /// Why the link was closed: 0 contention, 1 failed, 2 refused, 3 released. Else 0.
+    /// Why the link was closed: 0 contention, 1 failed, 2 refused, 3 released; 0 in other notices.
     pub reason: u8,
-    /// The octets of an opened, got or unit notice; else none.
+    /// The octets that an opened, got or unit notice carries; empty in other notices.
     pub message: PlainMessage,
 }
 
-/// The frames and notices of a call, in order. Unused elements are zero.
+/// The frames that a call sends and the notices that it reports, in order. Unused elements are zero.
 #[repr(C)]
 #[derive(Drop)]
 pub struct PlainEffects {
     pub notices: [PlainNotice; 3],
     pub notice_count: u8,
     pub frame_count: u8,
-    pub frames: [[u8; 23]; 2],
+    pub frames: [[u8; BLOCK_OCTETS]; 2],
 }
 
 /// Writes the frames and notices of a call.
@@ -40,11 +40,11 @@ pub(crate) fn write_effects(output: &Effects, effects: &mut PlainEffects)
     effects.notice_count = output.notices.as_slice().len() as u8;
 }
 
-fn write_frames(sent: &[[u8; 23]], frames: &mut [[u8; 23]; 2])
+fn write_frames(sent: &[[u8; BLOCK_OCTETS]], frames: &mut [[u8; BLOCK_OCTETS]; 2])
     requires { length sent.now ≤ 2 }
-    ensures { frames.new ≡ sent.now ++ replicate (2 - length sent.now) (replicate 23 0) }
+    ensures { frames.new ≡ sent.now ++ replicate (2 - length sent.now) (replicate BLOCK_OCTETS 0) }
 {
-    *frames = [[0; 23]; 2];
+    *frames = [[0; BLOCK_OCTETS]; 2];
     frames[..sent.len()].copy_from_slice(sent);
 }
 
@@ -52,8 +52,8 @@ fn write_notices(reported: &[Notice], notices: &mut [PlainNotice; 3])
     requires { length reported.now ≤ 3 }
     ensures { notices.new ≡ map plain_notice reported.now ++ replicate (3 - length reported.now) nothing }
 {
-    // Most calls report nothing, and fill the array at once. The other notices are written one by
-    // one: with a loop the compiler would not see that the fill frame reports nothing.
+    // Most calls report nothing, and then the array is filled at once. Otherwise the notices are written one by one, because with a loop
+    // the compiler would not see that a call that sends a fill frame reports nothing.
     if reported.is_empty() {
         *notices = [nothing(); 3];
         return;
@@ -74,7 +74,7 @@ fn nothing() -> PlainNotice
     }
 }
 
-/// Writes notice `i`, or zeros if there is none.
+/// Writes the notice with index i, or zeros if there is none.
 fn write_notice(reported: &[Notice], i: usize, place: &mut PlainNotice)
     ensures { place.new ≡ slice_index_or (map plain_notice reported.now) i nothing }
 {
@@ -91,7 +91,7 @@ fn write_notice(reported: &[Notice], i: usize, place: &mut PlainNotice)
 
 impl PlainNotice {
     fn write(&mut self, kind: u8, number: u64, reason: u8, octets: &[u8])
-        requires { length octets.now ≤ longest }
+        requires { length octets.now ≤ max_message_octets }
         ensures { self.new ≡ notice_of kind number reason octets.now }
     {
         self.number = number;

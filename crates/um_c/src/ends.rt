@@ -1,38 +1,37 @@
-//! The calls of one endpoint, whose state the caller holds.
+//! Exports for one endpoint, whose state the caller holds.
 //!
-//! Each call makes the buffer for its effects before the endpoint: the compiler then fills it with
-//! zeros only once.
+//! Each call makes the buffer for its effects before it makes the endpoint, because the compiler then fills the buffer with zeros only
+//! once.
 ghost use Rattle.std.specs.Prelude.{◌≡◌, false, OnOk, IfErr, IsTrue};
-ghost use Rattle.segmenting.specs.Buffers.{octets_in};
-ghost use Rattle.lapdm_window.specs.Ends.{EndState};
+ghost use Rattle.um_air.specs.segmenting.Buffers.{octets_in};
+ghost use Rattle.um_air.specs.lapdm_window.Ends.{EndState};
 ghost use Rattle.lapdm_end.specs.Abstraction.{Represents, sapi_of as link_sapi};
-ghost use Rattle.lapdm_window.specs.Calls.{call_of, IsOfSapi, IsUnnumbered, Opens, OpensBare, Sends, SendsUnit, Closes, T200Expires, Idles};
+ghost use Rattle.um_air.specs.lapdm_window.Calls.{call_of, IsCallOfSapi, SendsUiFrame, Opens, OpensBare, Sends, SendsUnit, Closes};
+ghost use Rattle.um_air.specs.lapdm_window.Calls.{T200Expires};
+ghost use Rattle.um_air.specs.lapdm_window.Calls.{SendsFill};
 ghost use Rattle.lapdm_end.specs.Parts.{values_of};
-ghost use Rattle.um_c.specs.States.{plain_end, IsPlain};
+ghost use Rattle.um_c.specs.States.{plain_end, IsWrittenStruct};
 ghost use Rattle.um_c.specs.Effects.{plain_effects};
-ghost use Rattle.um_c.specs.EndCalls.{refused_number, MayAsk, IsCalledAs, IsGivenAs, IsBegunAs};
+ghost use Rattle.um_c.specs.EndCalls.{call_refusal_number, IsCallOfEndpoint, IsCalledAs, IsBlockTakenAs, IsNewEndpointAs};
 
 use crate::effects::{PlainEffects, write_effects};
 use crate::frames::channel_of;
 use crate::states::{PlainEnd, read_end, role_of, sapi_of, write_end};
-use lapdm_end::{Endpoint, Role};
-use lapdm_frame::{Channel, read_on};
-use lapdm_window::{Call, Effects, Refused, Sapi};
-use segmenting::PlainMessage;
+use lapdm_end::{Call, Effects, Endpoint, PlainMessage, Refused, Role, Sapi};
+use lapdm_frame::{BLOCK_OCTETS, Channel, read_on};
 
-pub(crate) const NO_END: u8 = 7;
+pub(crate) const NOT_AN_ENDPOINT: u8 = 7;
 
-pub(crate) const NO_CALL: u8 = 8;
+pub(crate) const NOT_A_CALL: u8 = 8;
 
-const NO_FRAME: u8 = 9;
+const NOT_A_FRAME: u8 = 9;
 
-/// Writes the state of a new endpoint. Returns false, and writes nothing, if there is no such role,
-/// SAPI or channel.
+/// Writes the state of a new endpoint. Returns false, and writes nothing, if one of the numbers stands for no role, SAPI or channel.
 #[unsafe(no_mangle)]
 pub extern "C" fn um_end_new(end: &mut PlainEnd, role: u8, sapi: u8, channel: u8) -> bool
-    ensures begun { IsBegunAs role sapi channel result end.old end.new }
+    ensures begun { IsNewEndpointAs role sapi channel result end.old end.new }
     ensures numbers { IsTrue result → (end.new.role ≡ role) × (end.new.sapi ≡ sapi) × (end.new.channel ≡ channel) }
-    ensures plain { IsTrue result → IsPlain end.new }
+    ensures plain { IsTrue result → IsWrittenStruct end.new }
 {
     let Some(role) = role_of(role) else {
         return false;
@@ -47,7 +46,7 @@ pub extern "C" fn um_end_new(end: &mut PlainEnd, role: u8, sapi: u8, channel: u8
     true
 }
 
-/// Opens the link of SAPI 0 with a SABM frame that carries this information.
+/// Begins to establish the link of SAPI 0: sends a SABM with this information.
 #[unsafe(no_mangle)]
 pub extern "C" fn um_end_open(
     end: &mut PlainEnd,
@@ -55,21 +54,21 @@ pub extern "C" fn um_end_open(
     effects: &mut PlainEffects,
 ) -> u8
     ensures called { IsCalledAs (Opens (octets_in info.now)) result end.old end.new effects.old effects.new }
-    ensures plain { result ≡ 0 → IsPlain end.new }
+    ensures plain { result ≡ 0 → IsWrittenStruct end.new }
 {
     ask(end, &Call::Open(info.octets()), effects)
 }
 
-/// Opens the link of SAPI 3 with a SABM frame without information.
+/// Begins to establish the link of SAPI 3: sends a SABM without information.
 #[unsafe(no_mangle)]
 pub extern "C" fn um_end_open_bare(end: &mut PlainEnd, effects: &mut PlainEffects) -> u8
     ensures called { IsCalledAs OpensBare result end.old end.new effects.old effects.new }
-    ensures plain { result ≡ 0 → IsPlain end.new }
+    ensures plain { result ≡ 0 → IsWrittenStruct end.new }
 {
     ask(end, &Call::OpenBare, effects)
 }
 
-/// Sends a message over the link.
+/// Sends a message in I frames, which the other endpoint acknowledges.
 #[unsafe(no_mangle)]
 pub extern "C" fn um_end_send(
     end: &mut PlainEnd,
@@ -77,12 +76,12 @@ pub extern "C" fn um_end_send(
     effects: &mut PlainEffects,
 ) -> u8
     ensures called { IsCalledAs (Sends (octets_in message.now)) result end.old end.new effects.old effects.new }
-    ensures plain { result ≡ 0 → IsPlain end.new }
+    ensures plain { result ≡ 0 → IsWrittenStruct end.new }
 {
     ask(end, &Call::Send(message.octets()), effects)
 }
 
-/// Sends a message in one UI frame, outside the link.
+/// Sends a message in one UI frame, which is not acknowledged.
 #[unsafe(no_mangle)]
 pub extern "C" fn um_end_unit(
     end: &PlainEnd,
@@ -91,103 +90,103 @@ pub extern "C" fn um_end_unit(
 ) -> u8
     ensures { IsCalledAs (SendsUnit (octets_in message.now)) result end.now end.now effects.old effects.new }
 {
-    ask_only(end, &Call::Unit(message.octets()), effects)
+    ask_unchanged(end, &Call::Unit(message.octets()), effects)
 }
 
-/// Closes the link. Unacknowledged messages are discarded.
+/// Begins to release the link: sends a DISC. Messages that are not acknowledged are discarded.
 #[unsafe(no_mangle)]
 pub extern "C" fn um_end_close(end: &mut PlainEnd, effects: &mut PlainEffects) -> u8
     ensures called { IsCalledAs Closes result end.old end.new effects.old effects.new }
-    ensures plain { result ≡ 0 → IsPlain end.new }
+    ensures plain { result ≡ 0 → IsWrittenStruct end.new }
 {
     ask(end, &Call::Close, effects)
 }
 
-/// T200 has expired.
+/// Handles T200 expiry.
 #[unsafe(no_mangle)]
 pub extern "C" fn um_end_timer(end: &mut PlainEnd, effects: &mut PlainEffects) -> u8
     ensures called { IsCalledAs T200Expires result end.old end.new effects.old effects.new }
-    ensures plain { result ≡ 0 → IsPlain end.new }
+    ensures plain { result ≡ 0 → IsWrittenStruct end.new }
 {
     ask(end, &Call::Timer, effects)
 }
 
-/// Sends the fill frame, for when there is nothing else to send.
+/// Sends the fill frame, for use when there is nothing else to send in a block.
 #[unsafe(no_mangle)]
 pub extern "C" fn um_end_idle(end: &PlainEnd, effects: &mut PlainEffects) -> u8
-    ensures { IsCalledAs Idles result end.now end.now effects.old effects.new }
+    ensures { IsCalledAs SendsFill result end.now end.now effects.old effects.new }
 {
     let mut output = Effects::new();
-    let mut held = any_end();
+    let mut held = endpoint_to_overwrite();
     if !read_end(end, &mut held) {
-        return NO_END;
+        return NOT_AN_ENDPOINT;
     }
-    held.idle_into(&mut output);
-    write_out(Ok(()), &output, effects)
+    held.send_fill_into(&mut output);
+    write_call_effects(Ok(()), &output, effects)
 }
 
-/// Takes a received block.
+/// Processes a received block.
 #[unsafe(no_mangle)]
 pub extern "C" fn um_end_take(
     end: &mut PlainEnd,
-    octets: &[u8; 23],
+    octets: &[u8; BLOCK_OCTETS],
     effects: &mut PlainEffects,
 ) -> u8
-    ensures given { IsGivenAs octets.now result end.old end.new effects.old effects.new }
-    ensures plain { result ≡ 0 → IsPlain end.new }
+    ensures given { IsBlockTakenAs octets.now result end.old end.new effects.old effects.new }
+    ensures plain { result ≡ 0 → IsWrittenStruct end.new }
 {
     let mut output = Effects::new();
-    let mut held = any_end();
+    let mut held = endpoint_to_overwrite();
     if !read_end(end, &mut held) {
-        return NO_END;
+        return NOT_AN_ENDPOINT;
     }
     match read_on(octets, held.channel()) {
-        Err(_) => return NO_FRAME,
+        Err(_) => return NOT_A_FRAME,
         Ok(frame) => held.take_into(&frame, &mut output),
     }
-    carry_out(Ok(()), &output, &held, end, effects)
+    write_call_result(Ok(()), &output, &held, end, effects)
 }
 
-/// Makes a call on an endpoint.
+/// Carries out a call of layer 3 to an endpoint.
 #[inline(always)]
 pub(crate) fn ask(end: &mut PlainEnd, call: &Call<'_>, effects: &mut PlainEffects) -> u8
     ensures called { IsCalledAs (call_of call.now) result end.old end.new effects.old effects.new }
-    ensures plain { result ≡ 0 → IsPlain end.new }
+    ensures plain { result ≡ 0 → IsWrittenStruct end.new }
 {
     let mut output = Effects::new();
-    let mut held = any_end();
+    let mut held = endpoint_to_overwrite();
     if !read_end(end, &mut held) {
-        return NO_END;
+        return NOT_AN_ENDPOINT;
     }
     if !may_ask(&held, call) {
-        return NO_CALL;
+        return NOT_A_CALL;
     }
     let answer = held.call(call, &mut output);
-    carry_out(answer, &output, &held, end, effects)
+    write_call_result(answer, &output, &held, end, effects)
 }
 
-/// Makes a call that leaves the endpoint as it is.
+/// Carries out a call that does not change the endpoint.
 #[inline(always)]
-pub(crate) fn ask_only(end: &PlainEnd, call: &Call<'_>, effects: &mut PlainEffects) -> u8
-    requires { IsUnnumbered (call_of call.now) }
+pub(crate) fn ask_unchanged(end: &PlainEnd, call: &Call<'_>, effects: &mut PlainEffects) -> u8
+    requires { SendsUiFrame (call_of call.now) }
     ensures { IsCalledAs (call_of call.now) result end.now end.now effects.old effects.new }
 {
     let mut output = Effects::new();
-    let mut held = any_end();
+    let mut held = endpoint_to_overwrite();
     if !read_end(end, &mut held) {
-        return NO_END;
+        return NOT_AN_ENDPOINT;
     }
     let answer = held.call(call, &mut output);
-    write_out(answer, &output, effects)
+    write_call_effects(answer, &output, effects)
 }
 
-/// Whether an endpoint of this SAPI and role has this call. SAPI 0 is opened by the mobile with
-/// information, SAPI 3 by either side without.
+/// Whether an endpoint with this SAPI and role has this call: a mobile establishes SAPI 0 with information, and either side establishes
+/// SAPI 3 without.
 fn may_ask(end: &Endpoint, call: &Call<'_>) -> bool
-    ensures sapi { IsTrue result → IsOfSapi (link_sapi end.now) (call_of call.now) }
-    ensures may { IsTrue result → (e : EndState) → Represents end.now e → MayAsk e (call_of call.now) }
+    ensures sapi { IsTrue result → IsCallOfSapi (link_sapi end.now) (call_of call.now) }
+    ensures may { IsTrue result → (e : EndState) → Represents end.now e → IsCallOfEndpoint e (call_of call.now) }
     ensures never { result ≡ false → (e : EndState) → Represents end.now e
-        → MayAsk e (call_of call.now) → ⊥ }
+        → IsCallOfEndpoint e (call_of call.now) → ⊥ }
 {
     match *call {
         Call::Open(_) => match (end.sapi(), end.role()) {
@@ -207,13 +206,13 @@ fn may_ask(end: &Endpoint, call: &Call<'_>) -> bool
     }
 }
 
-/// Any endpoint, to be overwritten by `read_end`.
-fn any_end() -> Endpoint {
+/// An endpoint whose contents do not matter, because `read_end` overwrites it.
+fn endpoint_to_overwrite() -> Endpoint {
     Endpoint::new_on(Role::Mobile, Sapi::Zero, Channel::Sdcch)
 }
 
-/// Writes the effects of a call and the new state, or returns the number of the refusal.
-fn carry_out(
+/// Writes the effects of a call and the new state, and returns 0; or returns the number of the refusal.
+fn write_call_result(
     answer: Result<(), Refused>,
     output: &Effects,
     after: &Endpoint,
@@ -223,32 +222,36 @@ fn carry_out(
     ensures done { OnOk answer ((result ≡ 0) × (end.new ≡ plain_end (values_of after.now))
         × (effects.new ≡ plain_effects output.now.frames output.now.notices)) }
     ensures plain { result ≡ 0 → end.new ≡ plain_end (values_of after.now) }
-    ensures refused { IfErr answer (λ reason. (result ≡ refused_number reason) × (end.new ≡ end.old)
+    ensures refused { IfErr answer (λ reason. (result ≡ call_refusal_number reason) × (end.new ≡ end.old)
         × (effects.new ≡ effects.old)) }
 {
-    let number = write_out(answer, output, effects);
+    let number = write_call_effects(answer, output, effects);
     if answer.is_ok() {
         write_end(after, end);
     }
     number
 }
 
-/// Writes the effects of a call, or returns the number of the refusal.
-fn write_out(answer: Result<(), Refused>, output: &Effects, effects: &mut PlainEffects) -> u8
+/// Writes the effects of a call, and returns 0; or returns the number of the refusal.
+fn write_call_effects(
+    answer: Result<(), Refused>,
+    output: &Effects,
+    effects: &mut PlainEffects,
+) -> u8
     ensures done { OnOk answer ((result ≡ 0) × (effects.new ≡ plain_effects output.now.frames output.now.notices)) }
-    ensures refused { IfErr answer (λ reason. (result ≡ refused_number reason) × (effects.new ≡ effects.old)) }
+    ensures refused { IfErr answer (λ reason. (result ≡ call_refusal_number reason) × (effects.new ≡ effects.old)) }
 {
     match answer {
         Ok(()) => {
             write_effects(output, effects);
             0
         }
-        Err(reason) => refused_number(reason),
+        Err(reason) => call_refusal_number(reason),
     }
 }
 
-fn refused_number(reason: Refused) -> u8
-    ensures { result ≡ refused_number reason }
+fn call_refusal_number(reason: Refused) -> u8
+    ensures { result ≡ call_refusal_number reason }
 {
     match reason {
         Refused::NotIdle => 1,

@@ -1,31 +1,32 @@
-//! LAPDm frames as structs.
+//! Exports that read and write LAPDm frames.
 ghost use Rattle.std.specs.Prelude.{◌≡◌, ◌≤◌, Some, None, false, length, MatchOption};
 ghost use Rattle.lapdm_frame.specs.declared.Channel.{Channel as ChannelOf};
 ghost use Rattle.lapdm_frame.specs.Content.{content_of, fields_in, frame_of};
 ghost use Rattle.lapdm_frame.specs.Frames.{Fits};
-ghost use Rattle.um_c.specs.Plain.{channel_of, number_of, plain, plain_fields, frame_by, said_content, IsReadAs, IsWrittenAs};
+ghost use Rattle.um_c.specs.Plain.{channel_of, frame_refusal_number, plain, plain_fields, frame_from_fields, content_from_fields, IsReadAs};
+ghost use Rattle.um_c.specs.Plain.{IsWrittenAs};
 
 use lapdm_frame::{
-    Body, Channel, FrameFields, FrameView, Kind, Refusal, fits_on, read_on, write_on,
+    BLOCK_OCTETS, Body, Channel, FrameFields, FrameView, Kind, Refusal, fits_on, read_on, write_on,
 };
 
-/// The fields of a frame.
+/// A frame, with all fields that a frame of any kind may have.
 #[repr(C)]
 #[derive(Drop)]
 pub struct PlainFrame {
-    /// 0 I, 1 RR, 2 RNR, 3 REJ, 4 SABM, 5 DM, 6 UI, 7 DISC, 8 UA.
+    /// The frame kind: 0 I, 1 RR, 2 RNR, 3 REJ, 4 SABM, 5 DM, 6 UI, 7 DISC, 8 UA.
     pub kind: u8,
     /// The SAPI, 0 to 7.
     pub sapi: u8,
-    /// The command/response bit. Here and in the other bits any number but 0 is a 1.
+    /// The command/response bit. In this and the other bits, any number other than 0 counts as 1.
     pub cr: u8,
-    /// The poll/final bit.
+    /// The poll or final bit.
     pub pf: u8,
     /// N(S) of an I frame, 0 to 7.
     pub ns: u8,
     /// N(R) of an I, RR, RNR or REJ frame, 0 to 7.
     pub nr: u8,
-    /// The M bit of an I frame: whether more segments follow.
+    /// The M bit of an I frame: 1 if the message continues in the next I frame.
     pub more: u8,
     /// The number of octets of information, at most 20.
     pub count: u8,
@@ -33,10 +34,14 @@ pub struct PlainFrame {
     pub info: [u8; 20],
 }
 
-/// Reads the frame of a block of 23 octets on SDCCH (channel 0) or SACCH (1), and returns 0. If
-/// there is no frame, writes nothing and returns the reason, 1 to 7; 8 for another channel.
+/// Reads the frame in a block of 23 octets on SDCCH (`channel` 0) or SACCH (1), and returns 0. If the block is not a frame, writes nothing
+/// and returns the number of the reason, 1 to 7. Returns 8 for any other channel.
 #[unsafe(no_mangle)]
-pub extern "C" fn um_read_frame(octets: &[u8; 23], channel: u8, frame: &mut PlainFrame) -> u8
+pub extern "C" fn um_read_frame(
+    octets: &[u8; BLOCK_OCTETS],
+    channel: u8,
+    frame: &mut PlainFrame,
+) -> u8
     ensures { MatchOption (channel_of channel)
         ((result ≡ 8) × (frame.new ≡ frame.old))
         (λ known. IsReadAs known octets.now result frame.old frame.new) }
@@ -49,22 +54,26 @@ pub extern "C" fn um_read_frame(octets: &[u8; 23], channel: u8, frame: &mut Plai
             *frame = plain(&view);
             0
         }
-        Err(refusal) => number_of(refusal),
+        Err(refusal) => frame_refusal_number(refusal),
     }
 }
 
-/// Writes the canonical block of a frame. Returns false, and writes nothing, if the fields describe
-/// no frame that fits the channel.
+/// Writes the canonical block of a frame. Returns false, and writes nothing, if the fields do not describe a frame that fits in a block of
+/// the channel.
 #[unsafe(no_mangle)]
-pub extern "C" fn um_write_frame(frame: &PlainFrame, channel: u8, octets: &mut [u8; 23]) -> bool
+pub extern "C" fn um_write_frame(
+    frame: &PlainFrame,
+    channel: u8,
+    octets: &mut [u8; BLOCK_OCTETS],
+) -> bool
     ensures { MatchOption (channel_of channel)
         ((result ≡ false) × (octets.new ≡ octets.old))
-        (λ known. IsWrittenAs known (frame_by frame.now) result octets.old octets.new) }
+        (λ known. IsWrittenAs known (frame_from_fields frame.now) result octets.old octets.new) }
 {
     let Some(channel) = channel_of(channel) else {
         return false;
     };
-    let Some(view) = said(frame) else {
+    let Some(view) = decoded(frame) else {
         return false;
     };
     if !fits_on(&view, channel) {
@@ -74,7 +83,7 @@ pub extern "C" fn um_write_frame(frame: &PlainFrame, channel: u8, octets: &mut [
     true
 }
 
-/// The channel with this number.
+/// The channel for which this number stands: 0 SDCCH, 1 SACCH.
 pub(crate) fn channel_of(number: u8) -> Option<Channel>
     ensures { result ≡ channel_of number }
 {
@@ -85,8 +94,8 @@ pub(crate) fn channel_of(number: u8) -> Option<Channel>
     }
 }
 
-fn number_of(refusal: Refusal) -> u8
-    ensures { result ≡ number_of refusal }
+fn frame_refusal_number(refusal: Refusal) -> u8
+    ensures { result ≡ frame_refusal_number refusal }
 {
     match refusal {
         Refusal::Lpd => 1,
@@ -99,7 +108,7 @@ fn number_of(refusal: Refusal) -> u8
     }
 }
 
-/// The fields of a frame.
+/// The frame, which must fit in a block, as a C struct.
 #[tactic(auto, using(lapdm_frame::proofs::FieldLaws::few_octets))]
 fn plain(view: &FrameView<'_>) -> PlainFrame
     requires { (channel : ChannelOf) × Fits channel (frame_of view.now) }
@@ -127,9 +136,9 @@ fn plain_fields(sapi: u8, cr: bool, fields: &FrameFields<'_>) -> PlainFrame
     }
 }
 
-/// The frame that the fields describe, whether it fits or not.
-fn said(frame: &PlainFrame) -> Option<FrameView<'_>>
-    ensures { MatchOption result (frame_by frame.now ≡ None) (λ view. frame_by frame.now ≡ Some (frame_of view)) }
+/// The frame that the fields describe, whether or not it fits in a block.
+fn decoded(frame: &PlainFrame) -> Option<FrameView<'_>>
+    ensures { MatchOption result (frame_from_fields frame.now ≡ None) (λ view. frame_from_fields frame.now ≡ Some (frame_of view)) }
 {
     if frame.count > 20 {
         return None;
@@ -137,14 +146,14 @@ fn said(frame: &PlainFrame) -> Option<FrameView<'_>>
     Some(FrameView {
         sapi: frame.sapi,
         cr: frame.cr != 0,
-        body: said_body(frame)?,
+        body: body_from_struct(frame)?,
     })
 }
 
-/// The body that the fields say.
-fn said_body(frame: &PlainFrame) -> Option<Body<'_>>
+/// The body of the frame that the fields describe.
+fn body_from_struct(frame: &PlainFrame) -> Option<Body<'_>>
     requires { frame.now.count ≤ 20 }
-    ensures { MatchOption result (said_content frame.now ≡ None) (λ body. said_content frame.now ≡ Some (content_of body)) }
+    ensures { MatchOption result (content_from_fields frame.now ≡ None) (λ body. content_from_fields frame.now ≡ Some (content_of body)) }
 {
     let kind = Kind::of_number(frame.kind)?;
     let fields = FrameFields {

@@ -1,5 +1,5 @@
-//! The sizes of the exported structs. A wrong number here does not compile, and `checks/library`
-//! compares the numbers with `um.h`.
+//! The sizes of the exported structs. If a number here is wrong, this module does not compile; `checks/library` compares the numbers with
+//! `um.h`.
 
 use crate::blocks::BlockReport;
 use crate::bursts::{AccessReport, SyncReport};
@@ -9,7 +9,7 @@ use crate::margins::MarginReport;
 use crate::repairs::RepairReport;
 use crate::sides::PlainSide;
 use crate::states::PlainEnd;
-use segmenting::PlainMessage;
+use lapdm_end::PlainMessage;
 
 const UM_BLOCK_REPORT: [u8; 268] = [0; size_of::<BlockReport>()];
 

@@ -1,8 +1,7 @@
-//! Blocks, bursts, frames and endpoints for C and for languages that call C.
+//! The library for C and for languages that can call C: blocks, bursts, frames and endpoints.
 //!
-//! Each export checks the preconditions of the call below it, so its caller only has to respect the
-//! types. No call allocates memory, keeps state or waits; each may be called from any thread.
-//! `bindings/c/um.h` declares them.
+//! Each export checks the preconditions of what it calls, so a caller only has to respect the types. No call allocates memory, keeps state
+//! or waits, and each may be called from any thread. `bindings/c/um.h` declares them.
 #![tactic(auto)]
 
 mod blocks;
@@ -20,7 +19,8 @@ mod soft;
 mod states;
 
 pub use joined::{
-    law_joined_arrival, law_joined_bursts, law_joined_call, law_joined_counts, law_joined_delivery,
-    law_joined_order, law_joined_shown,
+    law_joined_endpoints_acked, law_joined_endpoints_arrival, law_joined_endpoints_bursts,
+    law_joined_endpoints_call, law_joined_endpoints_delivery, law_joined_endpoints_order,
+    law_joined_endpoints_other_block,
 };
 pub use opening::open_link;

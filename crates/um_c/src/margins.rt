@@ -1,30 +1,28 @@
-//! How certain a block's word is: its lead over the next most likely word.
+//! How certain the decoded word of a block is: by how much its likelihood exceeds that of the next most likely word.
 ghost use Rattle.std.specs.Prelude.{◌≡◌, ◌↔◌, All, IsTrue, false};
-ghost use Rattle.bit_blocks.specs.SoftValues.{AllSoft};
+ghost use Rattle.um_block.specs.bit_blocks.SoftValues.{AllSoftBits};
 ghost use Rattle.um_c.specs.MarginReports.{IsMarginReport};
 
 use crate::soft::are_soft_bursts;
-use list_decode::margin;
-use um_block::gather_block;
+use um_among::margin;
+use um_block::{BURST_BITS, INFORMATION_BITS, deinterleave_block};
 
 /// The two most likely words of a block.
 #[repr(C)]
 #[derive(Drop)]
 pub struct MarginReport {
-    /// How much more likely the first word is than the second: 0 if and only if another word is as
-    /// likely.
+    /// By how much the path metric of the first word exceeds that of the second: 0 if and only if another word is equally likely.
     pub margin: i32,
-    /// The most likely word, as reported: 184 data bits, 40 CRC bits, four zeros.
-    pub word: [u8; 228],
-    /// The most likely of all other words, the first of several.
-    pub next: [u8; 228],
+    /// The most likely word, as `um_receive_block` reports it: 184 data bits, 40 CRC bits, four zeros.
+    pub word: [u8; INFORMATION_BITS],
+    /// The most likely of all other words; the first one if several are equally likely.
+    pub next: [u8; INFORMATION_BITS],
 }
 
-/// Finds the two most likely words of four bursts. Returns false, and writes nothing, if a value is
-/// -128.
+/// Finds the two most likely words of four bursts. Returns false, and writes nothing, if a soft value is -128.
 #[unsafe(no_mangle)]
-pub extern "C" fn um_margin_block(bursts: &[[i8; 148]; 4], report: &mut MarginReport) -> bool
-    ensures soft { IsTrue result ↔ All AllSoft bursts.now }
+pub extern "C" fn um_margin_block(bursts: &[[i8; BURST_BITS]; 4], report: &mut MarginReport) -> bool
+    ensures soft { IsTrue result ↔ All AllSoftBits bursts.now }
     ensures compared { IsTrue result → IsMarginReport bursts.now report.new }
     ensures only { IsTrue result → (other : MarginReport) → IsMarginReport bursts.now other
         → other ≡ report.new }
@@ -33,9 +31,9 @@ pub extern "C" fn um_margin_block(bursts: &[[i8; 148]; 4], report: &mut MarginRe
     if !are_soft_bursts(bursts) {
         return false;
     }
-    let soft = gather_block(bursts);
-    let mut word = [0; 228];
-    let mut next = [0; 228];
+    let soft = deinterleave_block(bursts);
+    let mut word = [0; INFORMATION_BITS];
+    let mut next = [0; INFORMATION_BITS];
     let ahead = margin(&soft, &mut word, &mut next);
     *report = MarginReport {
         margin: ahead,

@@ -1,25 +1,24 @@
-//! Repair of words whose wrong bits lie close together.
+//! The export that repairs words whose wrong bits lie close together.
 ghost use Rattle.std.specs.Prelude.{◌≡◌, ℕ};
 ghost use Rattle.um_c.specs.RepairReports.{IsRepairedAs};
 
-use bit_blocks::Bits;
 use fire_repair::{RepairAnswer, repair};
+use um_block::Bits;
 
 /// How a word was repaired.
 #[repr(C)]
 #[derive(Drop)]
 pub struct RepairReport {
-    /// The index of the first wrong bit.
+    /// The index of the first wrong bit, 0 to 223.
     pub first: u8,
-    /// The number of bits from the first to the last wrong one, at most twelve.
+    /// The number of bits from the first wrong bit to the last, both included; at most twelve.
     pub span: u8,
-    /// The repaired word, one bit an octet: 184 data bits, 40 CRC bits.
+    /// The repaired word, with one bit in each octet: 184 data bits, 40 CRC bits.
     pub word: [u8; 224],
 }
 
-/// Repairs a word of 184 data bits and 40 CRC bits whose wrong bits lie within twelve consecutive
-/// ones. Returns 0 if its CRC holds; 1 if it was repaired, and the report is written; 2 if there is
-/// no such repair; 3 if an octet is not 0 or 1.
+/// Repairs a word of 184 data bits and 40 CRC bits if all its wrong bits lie within twelve consecutive bits. Returns 0 if the CRC holds; 1
+/// if the word was repaired, and then writes the report; 2 if there is no such repair; 3 if an octet is neither 0 nor 1.
 #[unsafe(no_mangle)]
 pub extern "C" fn um_repair(word: &[u8; 224], report: &mut RepairReport) -> u8
     ensures answer { IsRepairedAs word.now result report.old report.new }

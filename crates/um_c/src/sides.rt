@@ -1,18 +1,19 @@
-//! The calls of a side, whose state the caller holds: an endpoint of SAPI 0 and one of SAPI 3.
+//! Exports for a side, whose state the caller holds: its endpoints for SAPI 0 and SAPI 3.
 ghost use Rattle.std.specs.Prelude.{◌≡◌, ◌≢◌, ◌↔◌, Some, IsTrue};
-ghost use Rattle.segmenting.specs.Buffers.{octets_in};
-ghost use Rattle.lapdm_window.specs.declared.Sapi.{Sapi as LinkSapi};
-ghost use Rattle.lapdm_window.specs.Calls.{call_of, Opens, OpensBare, Sends, SendsUnit, Closes, T200Expires, Idles};
-ghost use Rattle.um_c.specs.States.{sapi_of, IsPlain};
-ghost use Rattle.um_c.specs.SideCalls.{IsSide, link_of, IsOfSapi3, IsSideBegunAs, IsSideCalledAs, IsSideGivenAs};
+ghost use Rattle.um_air.specs.segmenting.Buffers.{octets_in};
+ghost use Rattle.um_air.specs.lapdm_window.declared.Sapi.{Sapi as LinkSapi};
+ghost use Rattle.um_air.specs.lapdm_window.Calls.{call_of, Opens, OpensBare, Sends, SendsUnit, Closes, T200Expires, SendsFill};
+ghost use Rattle.um_c.specs.States.{sapi_of, IsWrittenStruct};
+ghost use Rattle.um_c.specs.SideCalls.{IsSide, link_of, IsOfSapi3, IsNewSideAs, IsSideCalledAs, IsSideBlockTakenAs};
 
 use crate::effects::PlainEffects;
-use crate::ends::{NO_CALL, NO_END, ask, ask_only, um_end_idle, um_end_new, um_end_take};
+use crate::ends::{
+    NOT_A_CALL, NOT_AN_ENDPOINT, ask, ask_unchanged, um_end_idle, um_end_new, um_end_take,
+};
 use crate::frames::channel_of;
 use crate::states::{PlainEnd, sapi_of};
-use lapdm_frame::read_on;
-use lapdm_window::{Call, Sapi};
-use segmenting::PlainMessage;
+use lapdm_end::{Call, PlainMessage, Sapi};
+use lapdm_frame::{BLOCK_OCTETS, read_on};
 
 /// The state of both endpoints of a side.
 #[repr(C)]
@@ -24,14 +25,13 @@ pub struct PlainSide {
     pub link3: PlainEnd,
 }
 
-/// Writes the state of a new side. Returns false, and writes nothing, if there is no such role or
-/// channel.
+/// Writes the state of a new side. Returns false, and writes nothing, if one of the numbers stands for no role or channel.
 #[unsafe(no_mangle)]
 pub extern "C" fn um_side_new(side: &mut PlainSide, role: u8, channel: u8) -> bool
-    ensures begun { IsSideBegunAs role channel result side.old side.new }
+    ensures begun { IsNewSideAs role channel result side.old side.new }
     ensures side { IsTrue result → IsSide side.new }
-    ensures plain0 { IsTrue result → IsPlain side.new.link0 }
-    ensures plain3 { IsTrue result → IsPlain side.new.link3 }
+    ensures plain0 { IsTrue result → IsWrittenStruct side.new.link0 }
+    ensures plain3 { IsTrue result → IsWrittenStruct side.new.link3 }
 {
     if !um_end_new(&mut side.link0, role, 0, channel) {
         return false;
@@ -39,8 +39,7 @@ pub extern "C" fn um_side_new(side: &mut PlainSide, role: u8, channel: u8) -> bo
     um_end_new(&mut side.link3, role, 3, channel)
 }
 
-/// Opens the link of SAPI 0 with a SABM frame that carries this information; only a mobile has this
-/// call.
+/// Begins to establish the link of SAPI 0: sends a SABM with this information. Only a mobile has this call.
 #[unsafe(no_mangle)]
 pub extern "C" fn um_side_open(
     side: &mut PlainSide,
@@ -48,21 +47,21 @@ pub extern "C" fn um_side_open(
     effects: &mut PlainEffects,
 ) -> u8
     ensures called { IsSideCalledAs 0 (Opens (octets_in info.now)) result side.old side.new effects.old effects.new }
-    ensures plain { result ≡ 0 → IsPlain side.new.link0 }
+    ensures plain { result ≡ 0 → IsWrittenStruct side.new.link0 }
 {
-    ask_side(side, 0, &Call::Open(info.octets()), effects)
+    ask_link_of_side(side, 0, &Call::Open(info.octets()), effects)
 }
 
-/// Opens the link of SAPI 3 with a SABM frame without information.
+/// Begins to establish the link of SAPI 3: sends a SABM without information.
 #[unsafe(no_mangle)]
 pub extern "C" fn um_side_open_bare(side: &mut PlainSide, effects: &mut PlainEffects) -> u8
     ensures called { IsSideCalledAs 3 OpensBare result side.old side.new effects.old effects.new }
-    ensures plain { result ≡ 0 → IsPlain side.new.link3 }
+    ensures plain { result ≡ 0 → IsWrittenStruct side.new.link3 }
 {
-    ask_side(side, 3, &Call::OpenBare, effects)
+    ask_link_of_side(side, 3, &Call::OpenBare, effects)
 }
 
-/// Sends a message over the link of this SAPI.
+/// Sends a message over the link of this SAPI in I frames, which the other side acknowledges.
 #[unsafe(no_mangle)]
 pub extern "C" fn um_side_send(
     side: &mut PlainSide,
@@ -71,12 +70,12 @@ pub extern "C" fn um_side_send(
     effects: &mut PlainEffects,
 ) -> u8
     ensures called { IsSideCalledAs sapi (Sends (octets_in message.now)) result side.old side.new effects.old effects.new }
-    ensures plain { result ≡ 0 → (s : LinkSapi) → Some s ≡ sapi_of sapi → IsPlain (link_of s side.new) }
+    ensures plain { result ≡ 0 → (s : LinkSapi) → Some s ≡ sapi_of sapi → IsWrittenStruct (link_of s side.new) }
 {
-    ask_side(side, sapi, &Call::Send(message.octets()), effects)
+    ask_link_of_side(side, sapi, &Call::Send(message.octets()), effects)
 }
 
-/// Sends a message in one UI frame of this SAPI, outside the link.
+/// Sends a message in one UI frame with this SAPI, which is not acknowledged.
 #[unsafe(no_mangle)]
 pub extern "C" fn um_side_unit(
     side: &PlainSide,
@@ -87,59 +86,59 @@ pub extern "C" fn um_side_unit(
     ensures { IsSideCalledAs sapi (SendsUnit (octets_in message.now)) result side.now side.now effects.old effects.new }
 {
     if !is_side(side) {
-        return NO_END;
+        return NOT_AN_ENDPOINT;
     }
     let call = Call::Unit(message.octets());
     match sapi_of(sapi) {
-        Some(Sapi::Zero) => ask_only(&side.link0, &call, effects),
-        Some(Sapi::Three) => ask_only(&side.link3, &call, effects),
-        None => NO_CALL,
+        Some(Sapi::Zero) => ask_unchanged(&side.link0, &call, effects),
+        Some(Sapi::Three) => ask_unchanged(&side.link3, &call, effects),
+        None => NOT_A_CALL,
     }
 }
 
-/// Closes the link of this SAPI. Unacknowledged messages are discarded.
+/// Begins to release the link of this SAPI: sends a DISC. Messages that are not acknowledged are discarded.
 #[unsafe(no_mangle)]
 pub extern "C" fn um_side_close(side: &mut PlainSide, sapi: u8, effects: &mut PlainEffects) -> u8
     ensures called { IsSideCalledAs sapi Closes result side.old side.new effects.old effects.new }
-    ensures plain { result ≡ 0 → (s : LinkSapi) → Some s ≡ sapi_of sapi → IsPlain (link_of s side.new) }
+    ensures plain { result ≡ 0 → (s : LinkSapi) → Some s ≡ sapi_of sapi → IsWrittenStruct (link_of s side.new) }
 {
-    ask_side(side, sapi, &Call::Close, effects)
+    ask_link_of_side(side, sapi, &Call::Close, effects)
 }
 
-/// T200 of the link of this SAPI has expired.
+/// Handles T200 expiry on the link of this SAPI.
 #[unsafe(no_mangle)]
 pub extern "C" fn um_side_timer(side: &mut PlainSide, sapi: u8, effects: &mut PlainEffects) -> u8
     ensures called { IsSideCalledAs sapi T200Expires result side.old side.new effects.old effects.new }
-    ensures plain { result ≡ 0 → (s : LinkSapi) → Some s ≡ sapi_of sapi → IsPlain (link_of s side.new) }
+    ensures plain { result ≡ 0 → (s : LinkSapi) → Some s ≡ sapi_of sapi → IsWrittenStruct (link_of s side.new) }
 {
-    ask_side(side, sapi, &Call::Timer, effects)
+    ask_link_of_side(side, sapi, &Call::Timer, effects)
 }
 
-/// Sends the fill frame, for when there is nothing else to send.
+/// Sends the fill frame, for use when there is nothing else to send in a block.
 #[unsafe(no_mangle)]
 pub extern "C" fn um_side_idle(side: &PlainSide, effects: &mut PlainEffects) -> u8
-    ensures { IsSideCalledAs 0 Idles result side.now side.now effects.old effects.new }
+    ensures { IsSideCalledAs 0 SendsFill result side.now side.now effects.old effects.new }
 {
     if !is_side(side) {
-        return NO_END;
+        return NOT_AN_ENDPOINT;
     }
     um_end_idle(&side.link0, effects)
 }
 
-/// Gives a received block to the endpoint of its SAPI, and writes that SAPI to `sapi`. A block that
-/// is no frame of SAPI 3 goes to the endpoint of SAPI 0.
+/// Passes a received block to the endpoint of its SAPI, and writes that SAPI to `sapi`. A block that is not a frame with SAPI 3 goes to the
+/// endpoint of SAPI 0.
 #[unsafe(no_mangle)]
 pub extern "C" fn um_side_take(
     side: &mut PlainSide,
-    octets: &[u8; 23],
+    octets: &[u8; BLOCK_OCTETS],
     sapi: &mut u8,
     effects: &mut PlainEffects,
 ) -> u8
-    ensures given { IsSideGivenAs octets.now result side.old side.new sapi.old sapi.new effects.old effects.new }
-    ensures plain { result ≡ 0 → (s : LinkSapi) → Some s ≡ sapi_of sapi.new → IsPlain (link_of s side.new) }
+    ensures given { IsSideBlockTakenAs octets.now result side.old side.new sapi.old sapi.new effects.old effects.new }
+    ensures plain { result ≡ 0 → (s : LinkSapi) → Some s ≡ sapi_of sapi.new → IsWrittenStruct (link_of s side.new) }
 {
     if !is_side(side) {
-        return NO_END;
+        return NOT_AN_ENDPOINT;
     }
     if is_of_sapi_3(octets, side.link0.channel) {
         let answer = um_end_take(&mut side.link3, octets, effects);
@@ -151,7 +150,7 @@ pub extern "C" fn um_side_take(
     answer
 }
 
-/// Writes the SAPI of the endpoint that took a block, unless it was refused.
+/// Writes the SAPI of the endpoint that got a block, if the answer is 0.
 fn write_sapi(answer: u8, number: u8, sapi: &mut u8)
     ensures written { answer ≡ 0 → sapi.new ≡ number }
     ensures unchanged { answer ≢ 0 → sapi.new ≡ sapi.old }
@@ -161,22 +160,27 @@ fn write_sapi(answer: u8, number: u8, sapi: &mut u8)
     }
 }
 
-/// Makes a call on the endpoint of this SAPI.
-fn ask_side(side: &mut PlainSide, sapi: u8, call: &Call<'_>, effects: &mut PlainEffects) -> u8
+/// Carries out a call of layer 3 to the endpoint of this SAPI.
+fn ask_link_of_side(
+    side: &mut PlainSide,
+    sapi: u8,
+    call: &Call<'_>,
+    effects: &mut PlainEffects,
+) -> u8
     ensures called { IsSideCalledAs sapi (call_of call.now) result side.old side.new effects.old effects.new }
-    ensures plain { result ≡ 0 → (s : LinkSapi) → Some s ≡ sapi_of sapi → IsPlain (link_of s side.new) }
+    ensures plain { result ≡ 0 → (s : LinkSapi) → Some s ≡ sapi_of sapi → IsWrittenStruct (link_of s side.new) }
 {
     if !is_side(side) {
-        return NO_END;
+        return NOT_AN_ENDPOINT;
     }
     match sapi_of(sapi) {
         Some(Sapi::Zero) => ask(&mut side.link0, call, effects),
         Some(Sapi::Three) => ask(&mut side.link3, call, effects),
-        None => NO_CALL,
+        None => NOT_A_CALL,
     }
 }
 
-/// Whether these are the two endpoints of one side.
+/// Whether the two endpoints form a side: SAPI 0 and SAPI 3, with the same role and channel.
 fn is_side(side: &PlainSide) -> bool
     ensures { IsTrue result ↔ IsSide side.now }
 {
@@ -186,8 +190,8 @@ fn is_side(side: &PlainSide) -> bool
         && side.link0.channel == side.link3.channel
 }
 
-/// Whether a block is a frame of SAPI 3.
-fn is_of_sapi_3(octets: &[u8; 23], channel: u8) -> bool
+/// Whether a block encodes a frame with SAPI 3.
+fn is_of_sapi_3(octets: &[u8; BLOCK_OCTETS], channel: u8) -> bool
     ensures { IsTrue result ↔ IsOfSapi3 channel octets.now }
 {
     let Some(channel) = channel_of(channel) else {

@@ -1,63 +1,63 @@
-//! An endpoint as numbers and arrays in the caller's memory. It is read from there and written back
-//! in place, with only the octets of each message that count.
+//! The state of an endpoint as numbers and arrays in the caller's memory. A call reads the state, changes it, and writes it back in place;
+//! of each message only the octets that count are copied.
 ghost use Rattle.std.specs.Prelude.{◌≡◌, ◌≤◌, ◌↔◌, Some, None, length, map, IsTrue, MatchOption};
-ghost use Rattle.segmenting.specs.Buffers.{octets_in};
-ghost use Rattle.lapdm_window.specs.Ends.{EndState};
-ghost use Rattle.lapdm_window.specs.Parts.{said_by as window_by};
-ghost use Rattle.lapdm_end.specs.Parts.{values_of, said_by};
+ghost use Rattle.um_air.specs.segmenting.Buffers.{octets_in};
+ghost use Rattle.um_air.specs.lapdm_window.Ends.{EndState};
+ghost use Rattle.um_air.specs.lapdm_window.Parts.{values_in as window_by};
+ghost use Rattle.lapdm_end.specs.Parts.{values_of, values_in};
 ghost use Rattle.lapdm_end.specs.Abstraction.{Represents};
 ghost use Rattle.um_c.specs.Plain.{channel_of};
-ghost use Rattle.um_c.specs.States.{role_of, sapi_of, state_of, part_of, said_window, said_end, StateRepresents, IsOfAnEnd, role_number};
-ghost use Rattle.um_c.specs.States.{sapi_number, channel_number, state_number, part_number, buffers_for, plain_end};
+ghost use Rattle.um_c.specs.States.{role_of, sapi_of, state_of, part_from_number, window_values_from, endpoint_values_from};
+ghost use Rattle.um_c.specs.States.{StateRepresents, RepresentsSomeEndpoint};
+ghost use Rattle.um_c.specs.States.{role_number};
+ghost use Rattle.um_c.specs.States.{sapi_number, channel_number, state_number, part_number, buffers_of_messages, plain_end};
 
 use crate::frames::channel_of;
-use lapdm_end::{EndParts, Endpoint, Role};
+use lapdm_end::{EndParts, Endpoint, Part, PlainMessage, Role, Sapi, State, WindowParts};
 use lapdm_frame::Channel;
-use lapdm_window::{Sapi, State, WindowParts};
-use segmenting::{Part, PlainMessage};
 
 /// The state of one endpoint.
 #[repr(C)]
 #[derive(Drop)]
 pub struct PlainEnd {
-    /// How many messages are completely acknowledged.
+    /// The number of messages of which all segments are acknowledged.
     pub done: u64,
-    /// 0 mobile, 1 network.
+    /// The role: 0 mobile, 1 network.
     pub role: u8,
-    /// 0 or 3.
+    /// The SAPI: 0 or 3.
     pub sapi: u8,
-    /// 0 SDCCH, 1 SACCH.
+    /// The channel: 0 SDCCH, 1 SACCH.
     pub channel: u8,
-    /// 0 idle, 1 opening, 2 open, 3 closing, 4 closed.
+    /// The state of the link: 0 idle, 1 opening, 2 open, 3 closing, 4 closed.
     pub state: u8,
-    /// How often the unanswered SABM or DISC was repeated.
+    /// How often the SABM or DISC that awaits an answer has been repeated.
     pub retries: u8,
     /// V(S), V(A) and V(R).
     pub vs: u8,
     pub va: u8,
     pub vr: u8,
-    /// How often the unacknowledged I frame was repeated.
+    /// How often the outstanding I frame has been repeated.
     pub repeats: u8,
-    /// Whether a REJ was sent, and no segment accepted since.
+    /// The reject condition: 1 if a REJ was sent and no segment has been accepted since, otherwise 0.
     pub rejecting: u8,
-    /// The index of the next or the unacknowledged segment in the first message held.
+    /// The index of the outstanding segment, or else of the next segment, among the segments of the first message held.
     pub place: u8,
-    /// How many messages are held: those not completely acknowledged.
+    /// The number of messages held, which are those that are not wholly acknowledged.
     pub held_count: u8,
-    /// What `joined` is: 0 the beginning of a message, 1 a message that was delivered, 2 nothing,
-    /// since the message was too long.
+    /// What `joined` is: 0 the beginning of a message, 1 a message that was delivered, 2 nothing, because the rest of a message that is too
+    /// long is being discarded.
     pub part: u8,
-    /// The information of the SABM.
+    /// The information in the SABM that this endpoint sent, or in the SABM that established its link.
     pub kept: PlainMessage,
     pub joined: PlainMessage,
     pub held: [PlainMessage; 8],
 }
 
-/// Reads the state into `end` if it represents an endpoint; otherwise leaves `end` as it is.
+/// Reads the state into `end` if it represents an endpoint, and returns whether it does. Otherwise `end` stays unchanged.
 pub(crate) fn read_end(plain: &PlainEnd, end: &mut Endpoint) -> bool
-    ensures said { IsTrue result → said_end plain.now ≡ Some (values_of end.new) }
+    ensures decoded { IsTrue result → endpoint_values_from plain.now ≡ Some (values_of end.new) }
     ensures represents { IsTrue result → (e : EndState) → StateRepresents plain.now e → Represents end.new e }
-    ensures known { IsTrue result ↔ IsOfAnEnd plain.now }
+    ensures known { IsTrue result ↔ RepresentsSomeEndpoint plain.now }
 {
     match parts_in(plain) {
         Some(parts) => end.restore(&parts),
@@ -66,8 +66,8 @@ pub(crate) fn read_end(plain: &PlainEnd, end: &mut Endpoint) -> bool
 }
 
 fn parts_in(plain: &PlainEnd) -> Option<EndParts<'_>>
-    ensures { MatchOption result (said_end plain.now ≡ None)
-        (λ parts. said_end plain.now ≡ Some (said_by parts)) }
+    ensures { MatchOption result (endpoint_values_from plain.now ≡ None)
+        (λ parts. endpoint_values_from plain.now ≡ Some (values_in parts)) }
 {
     let role = role_of(plain.role)?;
     let sapi = sapi_of(plain.sapi)?;
@@ -84,11 +84,11 @@ fn parts_in(plain: &PlainEnd) -> Option<EndParts<'_>>
 }
 
 fn window_in(plain: &PlainEnd) -> Option<WindowParts<'_>>
-    ensures { MatchOption result (said_window plain.now ≡ None)
-        (λ parts. said_window plain.now ≡ Some (window_by parts)) }
+    ensures { MatchOption result (window_values_from plain.now ≡ None)
+        (λ parts. window_values_from plain.now ≡ Some (window_by parts)) }
 {
     let channel = channel_of(plain.channel)?;
-    let part = part_of(plain.part)?;
+    let part = part_from_number(plain.part)?;
     if plain.held_count > 8 {
         return None;
     }
@@ -140,8 +140,8 @@ fn state_of(number: u8) -> Option<State>
     }
 }
 
-fn part_of(number: u8) -> Option<Part>
-    ensures { result ≡ part_of number }
+fn part_from_number(number: u8) -> Option<Part>
+    ensures { result ≡ part_from_number number }
 {
     match number {
         0 => Some(Part::Open),
@@ -151,7 +151,7 @@ fn part_of(number: u8) -> Option<Part>
     }
 }
 
-/// Writes the values of an endpoint.
+/// Writes the state of an endpoint.
 pub(crate) fn write_end(end: &Endpoint, plain: &mut PlainEnd)
     ensures { plain.new ≡ plain_end (values_of end.now) }
 {
@@ -176,10 +176,10 @@ pub(crate) fn write_end(end: &Endpoint, plain: &mut PlainEnd)
     write_buffers(window.held, &mut plain.held);
 }
 
-/// Writes these messages, followed by messages without octets.
+/// Writes these messages, and fills the rest of the array with empty messages.
 fn write_buffers(messages: &[PlainMessage], buffers: &mut [PlainMessage; 8])
     requires { length messages.now ≤ 8 }
-    ensures { buffers.new ≡ buffers_for 8 (map octets_in messages.now) }
+    ensures { buffers.new ≡ buffers_of_messages 8 (map octets_in messages.now) }
 {
     *buffers = [PlainMessage::empty(); 8];
     for (i, message) in messages.iter().enumerate() {

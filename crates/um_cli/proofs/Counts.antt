@@ -1,14 +1,9 @@
--- The message count of `make`: `parse` and `count_of` agree on words that begin with a digit from 1
--- to 9.
-use Rattle.std.proofs.Common.{rules, ◌≡◌, ℕ, ◌≤◌, ◌<◌, ◌^◌, Bool, true, false, ◌&&◌, nat_le, List, []}
-use Rattle.std.proofs.Common.{◌∷◌, length, slice_index, Some, None, Result, Ok, Err, if◌then◌else◌, ◌⊎◌, refl, ap}
-use Rattle.std.proofs.Common.{subst, inl, inr, arith}
-use Rattle.std.specs.Str.{all_ascii_digits}
-use Rattle.std.specs.Str.Parse.{digits_value, ParsesUnsigned}
-use Rattle.std.specs.Result.{OkIff}
-use Rattle.std.proofs.lemmas.Bool.{cases_Bool, cases_lt, le-leb, lt-leb}
-use Rattle.std.proofs.lemmas.Str.Parse.{IsNumeralModel, numerals_by_value, parse_plain}
-use Rattle.um_cli.specs.Shapes.{count_of, shape_of}
+-- The number of messages of `make`: for words that begin with a digit 1 to 9, the library's `parse` agrees with `message_count_of`.
+use Rattle.std.proofs.Common.{rules, ◌≡◌, ℕ, ◌≤◌, ◌<◌, ◌^◌, Bool, true, false, ◌&&◌, nat_le, List, [], ◌∷◌, length, slice_index, Some, None}
+use Rattle.std.proofs.{Common.{Result, Ok, Err, if◌then◌else◌, ◌⊎◌, refl, ap, subst, inl, inr, arith}, lemmas.Bool.{cases_Bool, cases_lt}}
+use Rattle.std.proofs.lemmas.{Bool.{le-leb, lt-leb}, Str.Parse.{IsNumeralModel, numerals_by_value, parse_plain}}
+use Rattle.std.specs.{Str.{all_ascii_digits, Parse.{digits_value, ParsesUnsigned}}, Result.OkIff}
+use Rattle.um_cli.specs.Shapes.{message_count_of, command_of_words}
 
 own : IsNumeralModel (λ ds. all_ascii_digits ds ≡ true) (digits_value 10)
 own = numerals_by_value _ (search rules)
@@ -26,7 +21,7 @@ uncounted true true true false n h = refl
 uncounted true true true true n (inl e) = absurd cc
 uncounted true true true true n (inr e) = absurd cc
 
--- what `parse` returns for a word without a sign
+-- r is what the library's `parse` returns for a word without a sign
 abbrev IsRead : {E : Type 0} → List ℕ → Result ℕ E → Type 0
 IsRead word r = OkIff r ((all_ascii_digits word ≡ true) × (0 < length word) × (digits_value 10 word < 2 ^ 32)) (digits_value 10 word)
 
@@ -34,7 +29,7 @@ plainly : {E : Type 0} (word : List ℕ) (r : Result ℕ E) → ParsesUnsigned 3
 plainly word r parsed first = parse_plain own 32 word r parsed (omega arith)
 
 pub number_read : {E : Type 0} (word : List ℕ) (r : Result ℕ E) (n : ℕ) → ParsesUnsigned 32 10 word r → 49 ≤ slice_index word 0 → r ≡ Ok n →
-    1 ≤ n → n ≤ 1000 → Some n ≡ count_of word
+    1 ≤ n → n ≤ 1000 → Some n ≡ message_count_of word
 number_read {E} word r n parsed first is some most =
     let read : IsRead {E = E} word (Ok n) = subst (IsRead {E = E} word) is (plainly word r parsed first) in
     let v : ℕ = digits_value 10 word in
@@ -46,7 +41,7 @@ number_read {E} word r n parsed first is some most =
     rw (begins, all, least, below) (ap (λ k. Some k) value)
 
 pub none_read : {E : Type 0} (word : List ℕ) (r : Result ℕ E) (e : E) → ParsesUnsigned 32 10 word r → 49 ≤ slice_index word 0 → r ≡ Err e →
-    None ≡ count_of word
+    None ≡ message_count_of word
 none_read {E} word r e parsed first is =
     let read : IsRead {E = E} word (Err e) = subst (IsRead {E = E} word) is (plainly word r parsed first) in
     elim (cases_Bool (all_ascii_digits word)) [
@@ -63,8 +58,8 @@ none_read {E} word r e parsed first is =
           (nat_le (digits_value 10 word) 1000) (digits_value 10 word) (inl other)
     ]
 
--- four words or more have no shape
-pub many_words : (ws : List (List ℕ)) → 4 ≤ length ws → None ≡ shape_of ws
+-- four words or more name no command
+pub many_words : (ws : List (List ℕ)) → 4 ≤ length ws → None ≡ command_of_words ws
 many_words [] many = absurd (omega arith)
 many_words (a ∷ []) many = absurd (omega arith)
 many_words (a ∷ b ∷ []) many = absurd (omega arith)

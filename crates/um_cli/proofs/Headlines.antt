@@ -1,28 +1,20 @@
--- The decoded word is a codeword of greatest likelihood, since a most likely list of bits is not
--- beaten by any other.
-use Rattle.std.proofs.Common.{◌≡◌, ◌≢◌, ℕ, ℤ, true, inl, inr, ◌≤ℤ◌, List, ◌++◌, refl, sym, ap, ◌∙◌, arith}
-use Rattle.std.specs.Str.{bytes_eq}
-use Rattle.std.proofs.lemmas.Bool.{cases_Bool}
-use Rattle.std.proofs.lemmas.Int.{ints}
-use Rattle.std.proofs.lemmas.Slice.Eq.{bytes_eq-Decides}
-use Rattle.um_block.specs.conv_code.Code.{encoding}
-use Rattle.um_block.specs.conv_code.Likelihood.{likelihood, IsMostLikely, FallsBehind}
-use Rattle.um_block.specs.burst_map.AccessBurst as A
-use Rattle.um_block.specs.burst_map.SyncBurst as S
-use Rattle.um_block.proofs.conv_code.Lemmas.{length-coded}
-use Rattle.um_block.specs.Received.{IsReceivedBlock}
-use Rattle.um_block.specs.declared.received.Received.{Received}
-use Rattle.um_bursts.proofs.BurstRules.{weaker_bursts}
-use Rattle.um_bursts.specs.Replay.{replay_answers, replay_rules}
-use Rattle.um_cli.specs.Headline.{IsUnbeaten, IsBestWord, best_answers, headline_rules}
+-- The decoded word is a codeword that is at least as likely as any other, because no list of bits is more likely than a most likely one.
+use Rattle.std.proofs.{Common.{◌≡◌, ◌≢◌, ℕ, ℤ, true, inl, inr, ◌≤ℤ◌, List, ◌++◌, refl, sym, ap, ◌∙◌, arith}, lemmas.Bool.cases_Bool}
+use Rattle.std.{proofs.lemmas.{Int.ints, Slice.Eq.bytes_eq-Decides}, specs.Str.bytes_eq}
+use Rattle.um_end.specs.um_block.{conv_code.{Code.encoding, Likelihood.{likelihood, IsMostLikely, RanksAfter}}, Received.IsReceivedBlock}
+use Rattle.um_end.{specs.um_block.declared.received.Received.Received, proofs.um_block.conv_code.Lemmas.length-coded}
+use Rattle.um_bursts.{proofs.BurstRules.weaker_bursts, specs.Replay.{replay_answers, replay_rules}}
+use Rattle.um_cli.specs.Headline.{IsMaximumLikelihood, IsBestWord, best_replay_answers, replay_rules_with_best_words}
 use Rattle.um_driver.proofs.Weaker.{IsWeaker}
+use Rattle.um_end.specs.um_block.burst_map.AccessBurst as A
+use Rattle.um_end.specs.um_block.burst_map.SyncBurst as S
 
--- no list is more likely than a most likely one
-not_behind : (soft : List ℤ) (u v : List ℕ) → FallsBehind soft v u → likelihood soft (encoding v) ≤ℤ likelihood soft (encoding u)
-not_behind soft u v (inl less) = omega (arith, ints, less)
-not_behind soft u v (inr (same, _)) = omega (arith, ints, same)
+-- no other list of bits is more likely than a most likely one
+at_least_as_likely : (soft : List ℤ) (u v : List ℕ) → RanksAfter soft v u → likelihood soft (encoding v) ≤ℤ likelihood soft (encoding u)
+at_least_as_likely soft u v (inl less) = omega (arith, ints, less)
+at_least_as_likely soft u v (inr (same, _)) = omega (arith, ints, same)
 
-unbeaten : (soft : List ℤ) (u : List ℕ) → IsMostLikely soft u → IsUnbeaten soft u
+unbeaten : (soft : List ℤ) (u : List ℕ) → IsMostLikely soft u → IsMaximumLikelihood soft u
 unbeaten soft u best = record {
   codeword = record { u = u; information = best.information; count = refl; code = refl };
   places = best.count ∙ sym (length-coded u);
@@ -34,7 +26,7 @@ unbeaten soft u best = record {
     | inr other ↦
         let differs : word.u ≢ u = λ e. let yes : bytes_eq word.u u ≡ true = (bytes_eq-Decides word.u u).1 e in absurd cc in
         let value : likelihood soft c ≡ likelihood soft (encoding word.u) = ap (likelihood soft) word.code in
-        let behind = not_behind soft u word.u (best.others word.u word.information word.count differs) in
+        let behind = at_least_as_likely soft u word.u (best.others word.u word.information word.count differs) in
         omega (arith, ints, value, behind)
   ];
 }
@@ -47,8 +39,8 @@ best_word bursts r received = record {
   accepted = received.accepted;
 }
 
-pub headline_is_weaker : IsWeaker replay_rules headline_rules
-headline_is_weaker = weaker_bursts replay_answers best_answers (record {
+pub headline_is_weaker : IsWeaker replay_rules replay_rules_with_best_words
+headline_is_weaker = weaker_bursts replay_answers best_replay_answers (record {
   block = λ bursts y (r, received, text). record { r = r; word = best_word bursts r received; text = text };
   access = λ bsic burst y (r, received, text). record {
     r = r;

@@ -1,57 +1,40 @@
--- `replay` restores what `code` wrote: line by line, each burst of `code` is a line of `replay`,
--- and a block is decoded without errors.
-use Rattle.std.proofs.Common.{◌≡◌, ℕ, ℤ, ◌≤◌, inl, inr, List, [], ◌∷◌, ◌++◌, length, map, refl, sym, ap}
-use Rattle.std.proofs.Common.{◌∙◌, subst, append_assoc, append-nil, arith, lit<}
-use Rattle.std.specs.List.{All}
-use Rattle.std.proofs.lemmas.List.{length-map}
-use Rattle.std.proofs.lemmas.List.Elements.{All-nil, All-cons, All-head, All-tail, All-append}
-use Rattle.um_block.specs.bit_blocks.Bits.{AllBits}
-use Rattle.um_io.specs.Lines.{IsLine, IsDivided, text_of}
-use Rattle.um_block.specs.Sent.{IsSentBlock, IsSentAccess, IsSentSync}
-use Rattle.um_block.specs.Received.{soft_bits, soft_value, IsReceivedBlock}
-use Rattle.um_block.specs.declared.received.Received.{Received}
-use Rattle.um_block.proofs.Lemmas.{AreBits, accepted_count, clean_block, clean_access, clean_sync, sent_block_bits, sent_access_bits}
-use Rattle.um_block.proofs.Lemmas.{sent_sync_bits, some_received_block, some_received_access, some_received_sync}
-use Rattle.um_code.specs.um_formats.declared.code.CodeLine.{CodeLine}
+-- `replay` recovers what `code` was given. The proof goes line by line: each line that `code` writes is a line of `replay`, and a block
+-- without damage is decoded correctly.
+use Rattle.std.proofs.Common.{◌≡◌, ℕ, ℤ, ◌≤◌, inl, inr, List, [], ◌∷◌, ◌++◌, length, map, refl, sym, ap, ◌∙◌, subst, append_assoc}
+use Rattle.std.proofs.{Common.{append-nil, arith, lit<}, lemmas.List.{length-map, Elements.{All-nil, All-cons, All-head, All-tail}}}
+use Rattle.std.{proofs.lemmas.List.Elements.All-append, specs.List.All}
+use Rattle.um_end.specs.um_block.{bit_blocks.Bits.AllBits, Sent.{IsSentBlock, IsSentAccess, IsSentSync}, Received.{soft_bits, soft_bit_of}}
+use Rattle.um_end.specs.{um_block.{Received.IsReceivedBlock, declared.received.Received.Received}, um_io.Lines.{IsLine, IsDivided}}
+use Rattle.um_end.{specs.um_io.{Lines.text_of_lines, Reading.input_limit}, proofs.um_block.Lemmas.{AreBits, accepted_count, clean_block}}
+use Rattle.um_end.proofs.um_block.Lemmas.{clean_access, clean_sync, sent_block_bits, sent_access_bits, sent_sync_bits, some_received_block}
+use Rattle.um_end.proofs.{um_block.Lemmas.{some_received_access, some_received_sync}, um_lines.OneMeaning.no_fault}
+use Rattle.um_code.specs.um_formats.declared.{code.CodeLine.CodeLine, burst_lines.BurstLine.{BurstLine, TheVariants.{Normal, Access, Sync}}}
+use Rattle.um_code.specs.um_formats.{BurstLines.{burst_fault, BurstMeans}, BurstTexts.{normal_text, block_text, access_text, sync_text}}
+use Rattle.um_code.specs.um_formats.{CodeLines.CodeMeans, Reports.{IsBlockReport, access_report_text, sync_report_text}}
+use Rattle.um_code.{specs.Code.{IsCodeAnswer, code_rules}, proofs.um_formats.{BurstLaws.{one_meaning, short}, WrittenBursts.normal_line}}
+use Rattle.um_code.proofs.um_formats.WrittenBursts.{access_line, sync_line, normal_restored, access_restored, sync_restored, normal_whole}
+use Rattle.um_code.proofs.um_formats.{WrittenBursts.{access_whole, sync_whole}, ReportLaws.some_block_report, CodeLaws.can_be_sent}
+use Rattle.um_driver.specs.{Rules.{Runs, IsLineAccepted, concatenated_text}, Outputs.IsOutput, declared.status.Status.TheVariants.Done}
+use Rattle.um_driver.proofs.{GoodInputs.{good_from_output, output_from_good}, RunLemmas.{Runs-append, joined-append}}
+use Rattle.um_bursts.specs.{BurstRules.IsBurstAnswer, Replay.{replay_answers, replay_rules}}
+use Rattle.um_cli.specs.Restored.{IsReportOfCodeLine, AreReportsOfCodeLines}
 use Rattle.um_code.specs.um_formats.declared.code.CodeLine.TheVariants as C
-use Rattle.um_code.specs.um_formats.declared.burst_lines.BurstLine.{BurstLine}
-use Rattle.um_code.specs.um_formats.declared.burst_lines.BurstLine.TheVariants.{Normal, Access, Sync}
-use Rattle.um_code.specs.um_formats.BurstLines.{burst_fault, BurstMeans}
-use Rattle.um_code.specs.um_formats.BurstTexts.{normal_text, block_text, access_text, sync_text}
-use Rattle.um_code.specs.um_formats.CodeLines.{CodeMeans}
-use Rattle.um_lines.proofs.OneMeaning.{no_fault}
-use Rattle.um_code.specs.um_formats.Reports.{IsBlockReport, access_report_text, sync_report_text}
-use Rattle.um_code.proofs.um_formats.BurstLaws.{one_meaning, short}
-use Rattle.um_code.proofs.um_formats.WrittenBursts.{normal_line, access_line, sync_line, normal_restored, access_restored, sync_restored}
-use Rattle.um_code.proofs.um_formats.WrittenBursts.{normal_whole, access_whole, sync_whole}
-use Rattle.um_code.proofs.um_formats.ReportLaws.{some_block_report}
-use Rattle.um_code.proofs.um_formats.CodeLaws.{can_be_sent}
-use Rattle.um_io.specs.Reading.{input_limit}
-use Rattle.um_driver.specs.Rules.{Runs, IsGood, joined_text}
-use Rattle.um_driver.specs.Outputs.{IsOutput}
-use Rattle.um_driver.specs.declared.status.Status.TheVariants.{Done}
-use Rattle.um_driver.proofs.GoodInputs.{good_from_output, output_from_good}
-use Rattle.um_driver.proofs.RunLemmas.{Runs-append, joined-append}
-use Rattle.um_code.specs.Code.{IsCodeAnswer, code_rules}
-use Rattle.um_bursts.specs.BurstRules.{IsBurstAnswer}
-use Rattle.um_bursts.specs.Replay.{replay_answers, replay_rules}
-use Rattle.um_cli.specs.Restored.{IsRestored, AreRestored}
 
--- the octets are lines of `replay` with these reports, with no burst held before or after them
+-- the octets are lines of `replay` with these reports; no burst is held before the first line or after the last
 pub record IsRead (octets reports : List ℕ) : Type 0 where
   pub lines : List (List ℕ)
   pub answers : List (List ℕ)
   pub plain : All IsLine lines
-  pub whole : octets ≡ text_of lines
+  pub whole : octets ≡ text_of_lines lines
   pub runs : Runs replay_rules [] lines answers []
-  pub reports_are : reports ≡ joined_text answers
+  pub reports_are : reports ≡ concatenated_text answers
 
 nothing_read : IsRead [] []
 nothing_read = record { lines = []; answers = []; plain = All-nil IsLine; whole = refl; runs = refl; reports_are = refl }
 
-text-append : (ls ls' : List (List ℕ)) → text_of (ls ++ ls') ≡ text_of ls ++ text_of ls'
+text-append : (ls ls' : List (List ℕ)) → text_of_lines (ls ++ ls') ≡ text_of_lines ls ++ text_of_lines ls'
 text-append [] ls' = refl
-text-append (l ∷ ls) ls' = ap (λ w. l ++ 10 ∷ w) (text-append ls ls') ∙ sym (append_assoc l (10 ∷ text_of ls) (text_of ls'))
+text-append (l ∷ ls) ls' = ap (λ w. l ++ 10 ∷ w) (text-append ls ls') ∙ sym (append_assoc l (10 ∷ text_of_lines ls) (text_of_lines ls'))
 
 both_read : (x x' y y' : List ℕ) → IsRead x y → IsRead x' y' → IsRead (x ++ x') (y ++ y')
 both_read x x' y y' r r' = record {
@@ -63,8 +46,8 @@ both_read x x' y y' r r' = record {
   reports_are = (let p = r.reports_are in let q = r'.reports_are in cc (p, q)) ∙ sym (joined-append r.answers r'.answers);
 }
 
--- a line with a meaning has no reason
-good_line : (held : List (List ℤ)) (line : List ℕ) (m : BurstLine) → BurstMeans (length held) line m → IsGood replay_rules held line
+-- a line of `replay` that has a meaning is not refused
+good_line : (held : List (List ℤ)) (line : List ℕ) (m : BurstLine) → BurstMeans (length held) line m → IsLineAccepted replay_rules held line
 good_line held line m means =
     let at = length held in
     record {
@@ -72,7 +55,7 @@ good_line held line m means =
       no_fault = no_fault (BurstMeans at line) (burst_fault at line) (one_meaning at line) m means;
     }
 
--- one good line and its answer before others
+-- a run over one line, followed by a run over other lines, is a run over all of them
 then : (held mid after : List (List ℤ)) (line answer : List ℕ) (lines others : List (List ℕ)) (m : BurstLine) →
     BurstMeans (length held) line m → IsBurstAnswer replay_answers held m answer mid → Runs replay_rules mid lines others after →
     Runs replay_rules held (line ∷ lines) (answer ∷ others) after
@@ -85,14 +68,14 @@ last_line held line answer m means answers =
     ([], good_line held line m means, (m, means, answers), refl)
 
 length-softened : (bits : List ℕ) (n : ℕ) → length bits ≡ n → length (soft_bits bits) ≡ n
-length-softened bits n e = length-map bits soft_value ∙ e
+length-softened bits n e = length-map bits soft_bit_of ∙ e
 
 -- ---- access and synchronisation bursts
 
--- `replay` reads the answer of `code` to a line, and its report restores the meaning of the line
+-- `replay` can read the answer of `code` to a line, and its report gives back what the line means
 pub record IsBroughtBack (meaning : CodeLine) (answer : List ℕ) : Type 0 where
   pub report : List ℕ
-  pub restored : IsRestored meaning report
+  pub restored : IsReportOfCodeLine meaning report
   pub read : IsRead answer report
 
 access_back : (info bsic burst : List ℕ) → length bsic ≡ 6 → AllBits bsic → IsSentAccess info bsic burst →
@@ -136,11 +119,11 @@ sync_back info burst sent =
 
 -- ---- blocks
 
-block_text-lines : (bursts : List (List ℕ)) → block_text bursts ≡ text_of (map normal_line bursts)
+block_text-lines : (bursts : List (List ℕ)) → block_text bursts ≡ text_of_lines (map normal_line bursts)
 block_text-lines [] = refl
 block_text-lines (burst ∷ bursts) =
     ap (λ w. normal_text burst ++ w) (block_text-lines bursts)
-    ∙ append_assoc (normal_line burst) (10 ∷ []) (text_of (map normal_line bursts))
+    ∙ append_assoc (normal_line burst) (10 ∷ []) (text_of_lines (map normal_line bursts))
 
 plain_lines : (bursts : List (List ℕ)) → All (AreBits 148) bursts → All IsLine (map normal_line bursts)
 plain_lines [] each = All-nil IsLine
@@ -156,7 +139,7 @@ softened_counts (burst ∷ bursts) each =
     All-cons (λ soft. length soft ≡ 148) (soft_bits burst) (map soft_bits bursts) (length-softened burst 148 b.many)
     (softened_counts bursts (All-tail (AreBits 148) burst bursts each))
 
--- four bursts are read, one after another
+-- the run of `replay` over four bursts, one after another
 four_runs : (a b c d report : List ℕ) (r : Received) → All (AreBits 148) (a ∷ b ∷ c ∷ d ∷ []) →
     IsReceivedBlock (map soft_bits (a ∷ b ∷ c ∷ d ∷ [])) r → IsBlockReport r report →
     Runs replay_rules [] (map normal_line (a ∷ b ∷ c ∷ d ∷ [])) ([] ∷ [] ∷ [] ∷ report ∷ []) []
@@ -199,9 +182,9 @@ block_runs (a ∷ b ∷ c ∷ d ∷ e ∷ more) report r count each received tex
 block_back : (octets : List ℕ) (tsc : ℕ) (bursts : List (List ℕ)) → IsSentBlock octets tsc bursts →
     IsBroughtBack (C.Block tsc octets) (block_text bursts)
 block_back octets tsc bursts sent =
-    let shape = sent_block_bits octets tsc bursts sent in
-    let counts = softened_counts bursts shape.1 in
-    let received = some_received_block (map soft_bits bursts) (length-map bursts soft_bits ∙ shape.0) counts in
+    let command = sent_block_bits octets tsc bursts sent in
+    let counts = softened_counts bursts command.1 in
+    let received = some_received_block (map soft_bits bursts) (length-map bursts soft_bits ∙ command.0) counts in
     let text = some_block_report received.0 (accepted_count (map soft_bits bursts) received.0 received.1) in
     record {
       report = text.0;
@@ -209,30 +192,30 @@ block_back octets tsc bursts sent =
       read = record {
         lines = map normal_line bursts;
         answers = [] ∷ [] ∷ [] ∷ text.0 ∷ [];
-        plain = plain_lines bursts shape.1;
+        plain = plain_lines bursts command.1;
         whole = block_text-lines bursts;
-        runs = block_runs bursts text.0 received.0 shape.0 shape.1 received.1 text.1;
+        runs = block_runs bursts text.0 received.0 command.0 command.1 received.1 text.1;
         reports_are = sym (append-nil text.0);
       };
     }
 
 -- ---- lines and whole inputs
 
-brought_back : (line : List ℕ) (m : CodeLine) (answer : List ℕ) → CodeMeans line m → IsCodeAnswer m answer → IsBroughtBack m answer
-brought_back line C.Skip answer means a = record { report = []; restored = refl; read = subst (λ w. IsRead w []) (sym a) nothing_read }
-brought_back line (C.Block tsc octets) answer means (bursts, sent, text) =
+line_is_restored : (line : List ℕ) (m : CodeLine) (answer : List ℕ) → CodeMeans line m → IsCodeAnswer m answer → IsBroughtBack m answer
+line_is_restored line C.Skip answer means a = record { report = []; restored = refl; read = subst (λ w. IsRead w []) (sym a) nothing_read }
+line_is_restored line (C.Block tsc octets) answer means (bursts, sent, text) =
     subst (IsBroughtBack (C.Block tsc octets)) (sym text) (block_back octets tsc bursts sent)
-brought_back line (C.Rach info bsic) answer means (burst, sent, text) =
+line_is_restored line (C.Rach info bsic) answer means (burst, sent, text) =
     let code = (can_be_sent line (C.Rach info bsic) means).1 in
     subst (IsBroughtBack (C.Rach info bsic)) (sym text) (access_back info bsic burst code.0 code.1 sent)
-brought_back line (C.Sch info) answer means (burst, sent, text) =
+line_is_restored line (C.Sch info) answer means (burst, sent, text) =
     subst (IsBroughtBack (C.Sch info)) (sym text) (sync_back info burst sent)
 
--- `replay` reads the answers of `code` to these lines, and its reports restore the lines
+-- `replay` can read the answers of `code` to these lines, and its reports give back what the lines mean
 pub record AreBroughtBack (lines answers : List (List ℕ)) : Type 0 where
   pub reports : List ℕ
-  pub restored : AreRestored lines reports
-  pub read : IsRead (joined_text answers) reports
+  pub restored : AreReportsOfCodeLines lines reports
+  pub read : IsRead (concatenated_text answers) reports
 
 all_brought_back : (lines answers : List (List ℕ)) (state : Unit {0}) → Runs code_rules tt lines answers state →
     AreBroughtBack lines answers
@@ -240,21 +223,21 @@ all_brought_back [] [] state same = record { reports = []; restored = refl; read
 all_brought_back [] (y ∷ ys) state none = absurd none
 all_brought_back (line ∷ lines) [] state none = absurd none
 all_brought_back (line ∷ lines) (y ∷ ys) state (mid, good, (m, means, a), runs) =
-    let one = brought_back line m y means a in
+    let one = line_is_restored line m y means a in
     let others = all_brought_back lines ys state runs in
     record {
       reports = one.report ++ others.reports;
       restored = (m, one.report, others.reports, means, one.restored, others.restored, refl);
-      read = both_read y (joined_text ys) one.report others.reports one.read others.read;
+      read = both_read y (concatenated_text ys) one.report others.reports one.read others.read;
     }
 
--- the output of `code` for a good input is a good input of `replay`, whose reports restore the
--- lines
+-- what `code` writes for an input z without refused lines is an input x of `replay` without refused lines, and its reports give back what
+-- the lines of z mean
 pub record IsRestoredWhole (z x : List ℕ) : Type 0 where
   pub lines : List (List ℕ)
   pub reports : List ℕ
   pub divided : IsDivided z lines
-  pub restored : AreRestored lines reports
+  pub restored : AreReportsOfCodeLines lines reports
   pub output : IsOutput replay_rules [] x Done reports
 
 pub restored_whole : (z x : List ℕ) → IsOutput code_rules tt z Done x → length x ≤ input_limit → IsRestoredWhole z x

@@ -1,7 +1,7 @@
--- Lists of words of a known length.
+-- Lists of words whose length is known.
 use Rattle.std.proofs.Common.{◌≡◌, ◌<◌, ◌≤◌, List, [], ◌∷◌, map, length, get_or, refl, arith}
 
--- a list of one element, mapped
+-- mapping a function over a list of one element
 pub map-single : {A B : Type 0} (f : A → B) (xs : List A) (d : A) → 1 ≤ length xs → length xs < 2 →
     map f xs ≡ f (get_or xs 0 d) ∷ []
 map-single f [] d some few = absurd (omega arith)

@@ -5,7 +5,7 @@ pub mod Restored
 pub mod Machines
 pub mod Shapes
 pub mod WordLists
--- the crates that the definitions of this crate use
+-- the crates whose definitions this crate uses
 pub use Rattle.um_driver.specs.Table
 pub use Rattle.um_driver.specs.Outputs
 pub use Rattle.um_driver.specs.Rules

@@ -1,4 +1,4 @@
-//! The command line, and the call `run` of the program.
+//! Reads the command-line words, and runs the command that they name.
 #![tactic(auto)]
 
 mod link;
@@ -7,6 +7,7 @@ mod top;
 mod words;
 
 pub use top::{law_one_output, run};
-pub use um_driver::Status;
+pub use um_driver::{MemorySink, MemorySource, PlainSource, ReadSource, Source, Status, WriteSink};
 pub use um_make::Script;
-pub use words::{Shape, Words};
+pub use um_session::PlainRadio;
+pub use words::{Invocation, Words};

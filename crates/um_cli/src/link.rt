@@ -1,22 +1,18 @@
-//! The command `link`: makes a world, and drives the command over it.
+//! Runs the command `link`: makes a world, and drives the command over it.
 ghost use Rattle.std.specs.Prelude.{◌≡◌, ◌≢◌, ◌≤◌};
-ghost use Rattle.um_cli.specs.Arrivals.{arrival_rules};
-ghost use Rattle.um_driver.specs.Table.{IsRun, HasFaultCause, EndsAsDue};
-ghost use Rattle.um_link.specs.um_air.Air.{start_on};
-ghost use Rattle.um_link.specs.Abstraction.{Represents};
+ghost use Rattle.um_cli.specs.Arrivals.{link_rules_with_best_words};
+ghost use Rattle.um_driver.specs.Table.{IsRun, HasFaultCause, EndsAsPrescribed};
+ghost use Rattle.um_end.specs.um_link.um_air.Air.{start_on};
+ghost use Rattle.um_end.specs.um_link.Abstraction.{Represents};
 ghost use Rattle.um_session.specs.Sessions.{idle, link_rules};
 ghost use Rattle.um_session.specs.Promises.{IsLinkRun};
 
-use lapdm_frame::Channel;
 use std::alloc::Global;
-use um_block::Radio;
-use um_driver::{Status, drive};
-use um_io::{Sink, Source};
-use um_link::World;
-use um_session::LinkCommand;
+use um_driver::{Sink, Source, Status, drive};
+use um_session::{Channel, LinkCommand, Radio, World};
 
-/// Runs a script from idle endpoints, with training sequence `tsc` (0 to 7), on a channel.
-/// Allocates all memory before the first octet is read.
+/// Runs a script in a new session, with training sequence `tsc` (0 to 7), on this channel. Allocates all memory before it reads the first
+/// octet.
 pub(crate) fn run_link<S: Source, K: Sink, R: Radio>(
     alloc: Global,
     tsc: u8,
@@ -32,10 +28,10 @@ pub(crate) fn run_link<S: Source, K: Sink, R: Radio>(
         (record { sent = R.sent radio.old; heard = R.heard radio.old })
         (record { sent = R.sent radio.new; heard = R.heard radio.new }) }
 
-    ensures arrivals { IsRun arrival_rules (idle tsc channel) (λ _. Unit {0}) result
+    ensures arrivals { IsRun link_rules_with_best_words (idle tsc channel) (λ _. Unit {0}) result
         (S.left input.old) (S.left input.new) (K.taken output.old) (K.taken output.new) }
 
-    ensures due { EndsAsDue link_rules (idle tsc channel) result
+    ensures due { EndsAsPrescribed link_rules (idle tsc channel) result
         (S.left input.old) (K.taken output.old) (K.taken output.new) }
 
     ensures opening { result ≡ Status.NoMemory → (input.new ≡ input.old) × (output.new ≡ output.old) }
@@ -55,7 +51,7 @@ pub(crate) fn run_link<S: Source, K: Sink, R: Radio>(
     }
 }
 
-/// Runs a script over a new world.
+/// Makes the world of a new session, and runs the script in it.
 fn drive_link<S: Source, K: Sink, R: Radio>(
     alloc: Global,
     link: &mut LinkCommand<'_, R>,
@@ -70,7 +66,7 @@ fn drive_link<S: Source, K: Sink, R: Radio>(
         (record { sent = R.sent link.old.radio.now; heard = R.heard link.old.radio.now })
         (record { sent = R.sent link.new.radio.now; heard = R.heard link.new.radio.now }) }
 
-    ensures due { EndsAsDue link_rules (idle link.old.world.now.tsc link.old.world.now.channel) result
+    ensures due { EndsAsPrescribed link_rules (idle link.old.world.now.tsc link.old.world.now.channel) result
         (S.left input.old) (K.taken output.old) (K.taken output.new) }
 
     ensures opening { result ≡ Status.NoMemory → (input.new ≡ input.old) × (output.new ≡ output.old) }

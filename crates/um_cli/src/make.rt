@@ -1,18 +1,15 @@
-//! The command `make`: runs the generated session, and writes its summary.
+//! Runs the command `make`: carries out the generated session, and writes its summary.
 ghost use Rattle.std.specs.Prelude.{◌≡◌, ◌≤◌, ℕ};
 ghost use Rattle.um_driver.specs.Table.{HasFaultCause};
 ghost use Rattle.um_cli.specs.Make.{IsMakeRun, IsWritten};
 ghost use Rattle.um_make.specs.Texts.{summary_text};
 
 use std::alloc::Global;
-use um_block::Radio;
-use um_driver::{Status, put_all};
-use um_io::Sink;
-use um_lines::Text;
+use um_driver::{Sink, Status, Text, put_all};
 use um_make::{Summary, make, summary_lines};
+use um_session::Radio;
 
-/// Runs the generated session of `n` messages (1 to 1000) with training sequence `tsc` (0 to 7),
-/// and writes its summary.
+/// Carries out the generated session of `n` messages (1 to 1000) with training sequence `tsc` (0 to 7), and writes its summary.
 ///
 /// Allocates all memory before the first block is sent.
 pub(crate) fn run_make<K: Sink, R: Radio>(
@@ -34,13 +31,13 @@ pub(crate) fn run_make<K: Sink, R: Radio>(
     ensures cause { (read : ℕ) → HasFaultCause result read read (K.faults output.old) (K.faults output.new) }
 {
     match make(alloc, n, tsc, radio) {
-        Ok(summary) => put_summary(n, tsc, &summary, output),
+        Ok(summary) => write_summary(n, tsc, &summary, output),
         Err(_) => Status::NoMemory,
     }
 }
 
-/// Writes the four lines of a summary.
-fn put_summary<K: Sink>(n: u32, tsc: u8, summary: &Summary, output: &mut K) -> Status
+/// Writes the four lines of the summary.
+fn write_summary<K: Sink>(n: u32, tsc: u8, summary: &Summary, output: &mut K) -> Status
     ensures written { IsWritten (summary_text n tsc summary.now) result (K.taken output.old) (K.taken output.new) }
     ensures cause { (read : ℕ) → HasFaultCause result read read (K.faults output.old) (K.faults output.new) }
 {

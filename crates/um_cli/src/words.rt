@@ -1,45 +1,46 @@
-//! The words that the program was called with.
+//! The command-line words.
 ghost use Rattle.std.specs.Prelude.{◌≡◌, ◌≤◌, ℕ, List, [], map, slice_index, IfSome};
-ghost use Rattle.um_cli.specs.WordLists.{held_word, added_word};
-ghost use Rattle.um_cli.specs.Shapes.{word_shape, shape_of, session_shape, three_words_shape, make_of, end_of, side_of, count_of, tsc_of};
-ghost use Rattle.um_cli.specs.Shapes.{Fits};
+ghost use Rattle.um_cli.specs.WordLists.{stored_word, words_with};
+ghost use Rattle.um_cli.specs.Shapes.{one_word_command, command_of_words, link_command, three_word_command, make_if_valid, end_if_valid};
+ghost use Rattle.um_cli.specs.Shapes.{side_of};
+ghost use Rattle.um_cli.specs.Shapes.{message_count_of, tsc_of};
+ghost use Rattle.um_cli.specs.Shapes.{HasValidOperands};
 
-/// The command that the words name.
+/// The command that the words name, with its operands.
 #[derive(Clone, Copy, Debug, PartialEq, Eq)]
-pub enum Shape {
-    /// Blocks to bursts.
+pub enum Invocation {
+    /// Codes blocks to bursts.
     Code,
-    /// Bursts to blocks.
+    /// Decodes bursts to blocks.
     Replay,
-    /// Frames to text and back.
+    /// Converts frames to text and back.
     Show,
-    /// Bursts to their two most likely words.
+    /// Finds the two most likely words of each block.
     Margin,
-    /// Corrects words with a short burst of wrong bits.
+    /// Corrects blocks whose wrong bits lie within twelve consecutive bits.
     Repair,
-    /// Both sides over the channel, with a training sequence code and a channel type.
+    /// Runs a session of both sides, with this training sequence code, on this channel.
     Link(u8, Channel),
-    /// The generated session of a number of messages, with a training sequence code.
+    /// Runs the generated session with this number of messages and this training sequence code.
     Make(u32, u8),
-    /// One side over recorded bursts, with the training sequence code of its blocks.
+    /// Runs one side over recorded bursts, with this training sequence code for its own blocks.
     End(End, u8),
 }
 
 use arrayvec::{ArrayString, ArrayVec};
-use lapdm_frame::Channel;
 use std::marker::Model;
-use um_link::End;
+use um_end::End;
+use um_session::Channel;
 
-/// The words after the program's name.
+/// The command-line words, without the program's name.
 ///
-/// Stores at most four words of eight octets: no command has more than three words, or a word of
-/// more than six octets.
+/// At most four words of at most eight octets are stored, because no command has more than three words or a word of more than six octets.
 #[derive(Drop)]
 pub struct Words {
     held: ArrayVec<ArrayString<8>, 4>,
 }
 
-// Its model is the list of stored words, each a list of octets.
+// In contracts, a `Words` stands for the list of stored words, each a list of octets.
 impl Model for Words {
     ghost Value = { List (List ℕ) };
 
@@ -47,7 +48,7 @@ impl Model for Words {
 }
 
 impl Words {
-    /// No words.
+    /// An empty list of words.
     pub fn new() -> Words
         ensures { result ≡ [] }
     {
@@ -56,24 +57,24 @@ impl Words {
         }
     }
 
-    /// Appends a word. Stores a word of more than eight octets as `?`, and drops a fifth word.
+    /// Adds a word. A word of more than eight octets is stored as `?`, and a fifth word is dropped.
     pub fn add(&mut self, word: &str)
-        ensures { self.new ≡ added_word self.old word.now }
+        ensures { self.new ≡ words_with self.old word.now }
     {
         if !self.held.is_full() {
-            self.held.push(hold(word));
+            self.held.push(store_word(word));
         }
     }
 
-    /// The command that the words name, if any.
-    pub fn shape(&self) -> Option<Shape>
-        ensures shape { result ≡ shape_of self.now }
-        ensures fits { IfSome result (λ shape. Fits shape) }
+    /// The command that the words name, or `None`.
+    pub fn command(&self) -> Option<Invocation>
+        ensures command { result ≡ command_of_words self.now }
+        ensures fits { IfSome result (λ command. HasValidOperands command) }
     {
         match self.held.as_slice() {
-            [word] => word_shape(word.as_str()),
-            [word, tsc] => session_shape(word.as_str(), tsc.as_str(), Channel::Sdcch),
-            [word, second, last] => three_words_shape(
+            [word] => one_word_command(word.as_str()),
+            [word, tsc] => link_command(word.as_str(), tsc.as_str(), Channel::Sdcch),
+            [word, second, last] => three_word_command(
                 word.as_str(),
                 second.as_str(),
                 last.as_str(),
@@ -83,8 +84,8 @@ impl Words {
     }
 }
 
-fn hold(word: &str) -> ArrayString<8>
-    ensures { result.bytes ≡ held_word word.now }
+fn store_word(word: &str) -> ArrayString<8>
+    ensures { result.bytes ≡ stored_word word.now }
 {
     match ArrayString::from(word) {
         Ok(held) => held,
@@ -96,41 +97,41 @@ fn hold(word: &str) -> ArrayString<8>
     }
 }
 
-/// The command of three words.
-fn three_words_shape(word: &str, second: &str, last: &str) -> Option<Shape>
-    ensures shape { result ≡ three_words_shape word.now second.now last.now }
-    ensures fits { IfSome result (λ shape. Fits shape) }
+/// The command that three words name, or `None`.
+fn three_word_command(word: &str, second: &str, last: &str) -> Option<Invocation>
+    ensures command { result ≡ three_word_command word.now second.now last.now }
+    ensures fits { IfSome result (λ command. HasValidOperands command) }
 {
     if word == "make" {
-        make_shape(second, last)
+        make_command(second, last)
     } else if word == "end" {
-        end_shape(second, last)
+        end_command(second, last)
     } else if last == "sacch" {
-        session_shape(word, second, Channel::Sacch)
+        link_command(word, second, Channel::Sacch)
     } else {
         None
     }
 }
 
-/// `make` with the message count and the training sequence code in these words.
-fn make_shape(count: &str, tsc: &str) -> Option<Shape>
-    ensures shape { result ≡ make_of (count_of count.now) (tsc_of tsc.now) }
-    ensures fits { IfSome result (λ shape. Fits shape) }
+/// The command `make` with these operands, if they are valid.
+fn make_command(count: &str, tsc: &str) -> Option<Invocation>
+    ensures command { result ≡ make_if_valid (message_count_of count.now) (tsc_of tsc.now) }
+    ensures fits { IfSome result (λ command. HasValidOperands command) }
 {
-    let count = count_of(count)?;
-    Some(Shape::Make(count, tsc_of(tsc)?))
+    let count = message_count_of(count)?;
+    Some(Invocation::Make(count, tsc_of(tsc)?))
 }
 
-/// `end` with the side and the training sequence code in these words.
-fn end_shape(side: &str, tsc: &str) -> Option<Shape>
-    ensures shape { result ≡ end_of (side_of side.now) (tsc_of tsc.now) }
-    ensures fits { IfSome result (λ shape. Fits shape) }
+/// The command `end` with these operands, if they are valid.
+fn end_command(side: &str, tsc: &str) -> Option<Invocation>
+    ensures command { result ≡ end_if_valid (side_of side.now) (tsc_of tsc.now) }
+    ensures fits { IfSome result (λ command. HasValidOperands command) }
 {
     let side = side_of(side)?;
-    Some(Shape::End(side, tsc_of(tsc)?))
+    Some(Invocation::End(side, tsc_of(tsc)?))
 }
 
-/// The side that a word names.
+/// The side that a word names: `mob` or `net`.
 fn side_of(word: &str) -> Option<End>
     ensures { result ≡ side_of word.now }
 {
@@ -141,9 +142,9 @@ fn side_of(word: &str) -> Option<End>
     }
 }
 
-/// The message count of a word: 1 to 1000 in decimal, without leading zeros.
-fn count_of(word: &str) -> Option<u32>
-    ensures value { result ≡ count_of word.now }
+/// The number of messages that a word stands for: 1 to 1000, in decimal without leading zeros.
+fn message_count_of(word: &str) -> Option<u32>
+    ensures value { result ≡ message_count_of word.now }
     ensures fits { IfSome result (λ n. (1 ≤ n) × (n ≤ 1000)) }
 {
     match word.as_bytes() {
@@ -152,10 +153,10 @@ fn count_of(word: &str) -> Option<u32>
     }
 }
 
-/// The number of a word without a sign, if it is 1 to 1000.
+/// The number that a word without a sign stands for, if it is 1 to 1000.
 fn number_of(word: &str) -> Option<u32>
     requires { 49 ≤ slice_index word.now 0 }
-    ensures value { result ≡ count_of word.now }
+    ensures value { result ≡ message_count_of word.now }
     ensures fits { IfSome result (λ n. (1 ≤ n) × (n ≤ 1000)) }
 {
     match word.parse::<u32>() {
@@ -164,19 +165,19 @@ fn number_of(word: &str) -> Option<u32>
     }
 }
 
-/// A session with a training sequence code, on a channel.
-fn session_shape(word: &str, tsc: &str, channel: Channel) -> Option<Shape>
-    ensures shape { result ≡ session_shape word.now tsc.now channel }
-    ensures fits { IfSome result (λ shape. Fits shape) }
+/// The command `link` with this training sequence code, on this channel, if the words name it.
+fn link_command(word: &str, tsc: &str, channel: Channel) -> Option<Invocation>
+    ensures command { result ≡ link_command word.now tsc.now channel }
+    ensures fits { IfSome result (λ command. HasValidOperands command) }
 {
     if word == "link" {
-        Some(Shape::Link(tsc_of(tsc)?, channel))
+        Some(Invocation::Link(tsc_of(tsc)?, channel))
     } else {
         None
     }
 }
 
-/// The training sequence code of a word: one digit, 0 to 7.
+/// The training sequence code that a word stands for: one digit, 0 to 7.
 fn tsc_of(word: &str) -> Option<u8>
     ensures value { result ≡ tsc_of word.now }
     ensures fits { IfSome result (λ tsc. tsc ≤ 7) }
@@ -187,17 +188,17 @@ fn tsc_of(word: &str) -> Option<u8>
     }
 }
 
-/// The command of a single word.
-fn word_shape(word: &str) -> Option<Shape>
-    ensures shape { result ≡ word_shape word.now }
-    ensures fits { IfSome result (λ shape. Fits shape) }
+/// The command that a single word names, or `None`.
+fn one_word_command(word: &str) -> Option<Invocation>
+    ensures command { result ≡ one_word_command word.now }
+    ensures fits { IfSome result (λ command. HasValidOperands command) }
 {
     match word {
-        "code" => Some(Shape::Code),
-        "replay" => Some(Shape::Replay),
-        "show" => Some(Shape::Show),
-        "margin" => Some(Shape::Margin),
-        "repair" => Some(Shape::Repair),
+        "code" => Some(Invocation::Code),
+        "replay" => Some(Invocation::Replay),
+        "show" => Some(Invocation::Show),
+        "margin" => Some(Invocation::Margin),
+        "repair" => Some(Invocation::Repair),
         _ => None,
     }
 }

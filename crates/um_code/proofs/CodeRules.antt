@@ -1,17 +1,13 @@
--- The command `code` has one output for every input: a meaning has exactly one answer.
+-- The command `code` has exactly one output for every input, since a line with a meaning has exactly one answer.
 use Rattle.std.proofs.Common.{◌≡◌, ℕ, List, [], refl, sym, ap, ◌∙◌}
-use Rattle.um_formats.specs.declared.code.CodeLine.{CodeLine}
-use Rattle.um_formats.specs.declared.code.CodeLine.TheVariants.{Skip, Block, Rach, Sch}
-use Rattle.um_formats.specs.CodeLines.{code_fault, CodeMeans}
-use Rattle.um_formats.specs.BurstTexts.{block_text, access_text, sync_text}
-use Rattle.um_formats.proofs.CodeLaws.{one_meaning, can_be_sent}
+use Rattle.um_formats.specs.{declared.code.CodeLine.{CodeLine, TheVariants.{Skip, Block, Rach, Sch}}, CodeLines.{code_fault, CodeMeans}}
+use Rattle.um_formats.{specs.BurstTexts.{block_text, access_text, sync_text}, proofs.CodeLaws.{one_meaning, can_be_sent}}
 use Rattle.um_block.proofs.Lemmas.{one_sent_block, one_access_burst, one_sync_burst, some_sent_block, some_access_burst, some_sync_burst}
-use Rattle.um_driver.specs.Rules.{IsDetermined}
-use Rattle.um_driver.specs.Laws.{HasOneOutput}
-use Rattle.um_driver.proofs.StatelessRules.{stateless_is_determined, stateless_has_one_output}
+use Rattle.um_driver.{specs.{Rules.IsDetermined, Laws.HasOneOutput}, proofs.StatelessRules.stateless_is_determined}
+use Rattle.um_driver.proofs.StatelessRules.{stateless_has_one_output}
 use Rattle.um_code.specs.Code.{IsCodeAnswer, code_rules}
 
--- a meaning has at most one answer
+-- a line with a given meaning has at most one answer
 same_answer : (m : CodeLine) (y y' : List ℕ) → IsCodeAnswer m y → IsCodeAnswer m y' → y ≡ y'
 same_answer Skip y y' a a' = a ∙ sym a'
 same_answer (Block tsc octets) y y' a a' =
@@ -24,7 +20,7 @@ same_answer (Sch info) y y' a a' =
 pub code_is_determined : IsDetermined code_rules
 code_is_determined = stateless_is_determined code_fault CodeMeans IsCodeAnswer one_meaning same_answer
 
--- every meaning of a line can be answered
+-- every line that has a meaning has an answer
 some_answer : (line : List ℕ) (m : CodeLine) → CodeMeans line m → (answer : List ℕ) × IsCodeAnswer m answer
 some_answer line Skip means = ([], refl)
 some_answer line (Block tsc octets) means =

@@ -7,7 +7,7 @@ use Rattle.um_formats.specs.CodeLines.{code_fault, CodeMeans}
 use Rattle.um_formats.specs.BurstTexts.{block_text, access_text, sync_text}
 use Rattle.um_driver.specs.Rules.{Rules, stateless}
 
--- the lines of the bursts that carry what a line means
+-- the answer to a line that means this: the text of the bursts that carry its information
 abbrev pub IsCodeAnswer : CodeLine → List ℕ → Type 0
 IsCodeAnswer Skip answer = answer ≡ []
 IsCodeAnswer (Block tsc octets) answer =
@@ -17,10 +17,10 @@ IsCodeAnswer (Rach info bsic) answer =
 IsCodeAnswer (Sch info) answer =
     (burst : List ℕ) × IsSentSync info burst × (answer ≡ sync_text burst)
 
--- a line and its answer
-abbrev pub AnswersCode : List ℕ → List ℕ → Type 0
-AnswersCode line answer = (meaning : CodeLine) × CodeMeans line meaning × IsCodeAnswer meaning answer
+-- `answer` is the answer of `code` to the line
+abbrev pub AnswersCodeLine : List ℕ → List ℕ → Type 0
+AnswersCodeLine line answer = (meaning : CodeLine) × CodeMeans line meaning × IsCodeAnswer meaning answer
 
 -- the rules of `code`: it has no state, and an input may end after any line
 abbrev pub code_rules : Rules (Unit {0})
-code_rules = stateless code_fault AnswersCode
+code_rules = stateless code_fault AnswersCodeLine

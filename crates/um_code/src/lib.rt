@@ -1,4 +1,4 @@
-//! The command `code`: the bursts of blocks, access bursts and synchronisation bursts.
+//! The command `code`: writes the bursts of blocks, access bursts and synchronisation bursts.
 #![tactic(auto)]
 
 mod command;

@@ -1,16 +1,11 @@
--- The output of an input whose lines and end are all good is all of their answers.
-use Rattle.std.proofs.Common.{◌≡◌, ℕ, ◌≤◌, ◌+◌, Bool, true, false, List, [], ◌∷◌, ◌++◌, length, None, inl}
-use Rattle.std.proofs.Common.{inr, refl, ap, ◌∙◌, append-nil}
-use Rattle.um_io.specs.Lines.{IsDivided}
-use Rattle.um_io.specs.Reading.{input_limit}
-use Rattle.um_driver.specs.Rules.{Rules, Runs, joined_text}
-use Rattle.um_driver.specs.Outputs.{Judges, Yields, IsOutput}
-use Rattle.um_driver.specs.declared.status.Status.TheVariants.{Done}
-use Rattle.um_driver.proofs.Judging.{judges_whole}
-use Rattle.um_driver.proofs.OutputExists.{plain_judged}
+-- If no line of an input is refused and it may end, its output consists of the answers to all its lines.
+use Rattle.std.proofs.Common.{◌≡◌, ℕ, ◌≤◌, ◌+◌, Bool, true, false, List, [], ◌∷◌, ◌++◌, length, None, inl, inr, refl, ap, ◌∙◌, append-nil}
+use Rattle.um_io.specs.{Lines.IsDivided, Reading.input_limit}
+use Rattle.um_driver.specs.{Rules.{Rules, Runs, concatenated_text}, Outputs.{AreProcessedLines, IsOutputOfLines, IsOutput}}
+use Rattle.um_driver.{specs.declared.status.Status.TheVariants.Done, proofs.{Judging.judges_whole, OutputExists.plain_judged}}
 use Rattle.um_driver.proofs.OutputLemmas.{output_of}
 
--- an input within the limit whose lines and end are good, and the answers to them
+-- the input x is within the limit, none of its lines is refused, it may end after the last line, and y are the answers
 pub record IsGoodInput {State : Type 0} (r : Rules State) (a : State) (x y : List ℕ) : Type 0 where
   pub lines : List (List ℕ)
   pub answers : List (List ℕ)
@@ -19,12 +14,12 @@ pub record IsGoodInput {State : Type 0} (r : Rules State) (a : State) (x y : Lis
   pub limit : length x ≤ input_limit
   pub runs : Runs r a lines answers state
   pub end_good : r.end_fault state ≡ None
-  pub output : y ≡ joined_text answers
+  pub output : y ≡ concatenated_text answers
 
--- all processed lines are good
+-- if the status is `Done`, no processed line is refused
 all_run : {State : Type 0} (r : Rules State) (a : State) (n : ℕ) (judged : List (List ℕ)) (ended : Bool) (z : List ℕ) →
-    Yields r a n judged ended Done z → (answers : List (List ℕ)) × (b : State) × Runs r a judged answers b × (r.end_fault b ≡ None)
-    × (ended ≡ true) × (z ≡ joined_text answers)
+    IsOutputOfLines r a n judged ended Done z → (answers : List (List ℕ)) × (b : State) × Runs r a judged answers b × (r.end_fault b ≡ None)
+    × (ended ≡ true) × (z ≡ concatenated_text answers)
 all_run r a n [] true z (inl (good, _, none)) = ([], a, refl, good, refl, none)
 all_run r a n [] true z (inr stop) = let e = stop.status_is in absurd (cc e)
 all_run r a n [] false z (e, _) = absurd (cc e)
@@ -33,7 +28,7 @@ all_run r a n (line ∷ judged) ended z (inl g) =
     (g.answer ∷ answers, b, (g.mid, g.good, g.step, runs), good, e, g.output ∙ ap (λ w. g.answer ++ w) z_is)
 all_run r a n (line ∷ judged) ended z (inr stop) = let e = stop.status_is in absurd (cc e)
 
-divided_judged : (x : List ℕ) (judged : List (List ℕ)) → Judges x judged true → IsDivided x judged
+divided_judged : (x : List ℕ) (judged : List (List ℕ)) → AreProcessedLines x judged true → IsDivided x judged
 divided_judged x judged j = record {
   plain = plain_judged x judged true j;
   whole = elim j.tail [

@@ -1,5 +1,6 @@
+pub use Rattle.um_lines.proofs as um_lines
 pub mod RunLemmas
-pub mod Giving
+pub mod OutputByLines
 pub mod Judging
 pub mod OutputLemmas
 pub mod OutputExists
@@ -8,6 +9,6 @@ pub mod TableLemmas
 pub mod ReadLemmas
 pub mod Turns
 pub mod Reaching
-pub mod Settling
+pub mod AfterWrites
 pub mod Weaker
 pub mod StatelessRules

@@ -1,29 +1,20 @@
--- Every input has an output if each good line has an answer: by induction over the processed lines.
-use Rattle.std.proofs.Common.{◌≡◌, ℕ, ◌+◌, Bool, true, false, List, [], ◌∷◌, ◌++◌, length, Option, Some, None}
-use Rattle.std.proofs.Common.{◌⊎◌, inl, inr, refl, arith}
-use Rattle.std.specs.List.{All}
-use Rattle.std.proofs.lemmas.Bool.{cases_lt}
-use Rattle.std.proofs.lemmas.List.Elements.{All-nil, All-cons, All-head, All-tail, All-append}
-use Rattle.um_io.specs.Lines.{IsLine}
-use Rattle.um_io.specs.Reading.{line_limit}
-use Rattle.um_lines.specs.declared.fault.LineFault.{LineFault}
-use Rattle.um_lines.specs.declared.fault.LineFault.TheVariants.{Long}
-use Rattle.um_lines.specs.Refusals.{refused_text}
-use Rattle.um_driver.specs.Rules.{Rules, IsGood, IsBad, IsDetermined, IsTotal}
-use Rattle.um_driver.specs.Outputs.{Judges, Yields}
-use Rattle.um_driver.specs.Laws.{OutputExists, HasOneOutput}
-use Rattle.um_driver.specs.declared.status.Status.{Status}
-use Rattle.um_driver.specs.declared.status.Status.TheVariants.{Done, BadInput, TooLong}
-use Rattle.um_driver.proofs.Judging.{judges_after}
+-- If every line that is not refused has an answer, every input has an output. The proof is by induction over the processed lines.
+use Rattle.std.proofs.Common.{◌≡◌, ℕ, ◌+◌, Bool, true, false, List, [], ◌∷◌, ◌++◌, length, Option, Some, None, ◌⊎◌, inl, inr, refl, arith}
+use Rattle.std.{proofs.lemmas.{Bool.cases_lt, List.Elements.{All-nil, All-cons, All-head, All-tail, All-append}}, specs.List.All}
+use Rattle.um_io.specs.{Lines.IsLine, Reading.line_limit}
+use Rattle.um_lines.specs.{declared.fault.LineFault.{LineFault, TheVariants.Long}, Refusals.refused_text}
+use Rattle.um_driver.specs.{Rules.{Rules, IsLineAccepted, IsLineRefused, IsDetermined, IsTotal}, Outputs.AreProcessedLines}
+use Rattle.um_driver.specs.{Outputs.IsOutputOfLines, Laws.{OutputExists, HasOneOutput}, declared.status.Status.{Status, TheVariants.Done}}
+use Rattle.um_driver.{specs.declared.status.Status.TheVariants.{BadInput, TooLong}, proofs.Judging.judges_after}
 use Rattle.um_driver.proofs.OutputLemmas.{output_unique}
 
 option_cases : {A : Type 0} (o : Option A) → (o ≡ None) ⊎ ((v : A) × (o ≡ Some v))
 option_cases None = inl refl
 option_cases (Some v) = inr (v, refl)
 
--- processed lines have an output
+-- every list of processed lines has an output
 gives_some : {State : Type 0} (r : Rules State) (a : State) → IsTotal r a → (n : ℕ) (judged : List (List ℕ)) (ended : Bool)
-    → All IsLine judged → (s : Status) × (z : List ℕ) × Yields r a n judged ended s z
+    → All IsLine judged → (s : Status) × (z : List ℕ) × IsOutputOfLines r a n judged ended s z
 gives_some r a total n [] true plain = elim (option_cases (r.end_fault a)) [
   | inl none ↦ (Done, [], inl (none, refl, refl))
   | inr (fault, e) ↦ (BadInput, refused_text n fault, inr (record { fault = fault; bad = e; status_is = refl; output = refl }))
@@ -33,7 +24,7 @@ gives_some {State} r a total n (line ∷ judged) ended plain = elim (cases_lt li
   | inl long ↦ stops Long (inl (long, refl))
   | inr short ↦ elim (option_cases (r.fault a line)) [
     | inl none ↦
-        let good : IsGood r a line = record { short = short; no_fault = none } in
+        let good : IsLineAccepted r a line = record { short = short; no_fault = none } in
         let (answer, mid, step) = total [] [] a refl line (All-head IsLine line judged plain) good in
         let (s, z, g) = gives_some r mid (λ lines answers c runs. total (line ∷ lines) (answer ∷ answers) c (mid, good, step, runs)) (n + 1)
         judged ended (All-tail IsLine line judged plain) in
@@ -42,11 +33,12 @@ gives_some {State} r a total n (line ∷ judged) ended plain = elim (cases_lt li
   ]
 ]
   where
-    stops : (fault : LineFault) → IsBad r a line fault → (s : Status) × (z : List ℕ) × Yields r a n (line ∷ judged) ended s z
+    stops : (fault : LineFault) → IsLineRefused r a line fault →
+        (s : Status) × (z : List ℕ) × IsOutputOfLines r a n (line ∷ judged) ended s z
     stops fault bad = (BadInput, refused_text n fault, inr (record { fault = fault; bad = bad; status_is = refl; output = refl }))
 
--- processed lines have no line feed
-pub plain_judged : (x : List ℕ) (judged : List (List ℕ)) (ended : Bool) → Judges x judged ended → All IsLine judged
+-- processed lines contain no line feed
+pub plain_judged : (x : List ℕ) (judged : List (List ℕ)) (ended : Bool) → AreProcessedLines x judged ended → All IsLine judged
 plain_judged x judged ended j = elim j.tail [
   | inl (e, _) ↦ rw e j.begins.plain
   | inr (e, _) ↦ rw e (All-append IsLine j.lines (j.last ∷ []) j.begins.plain (All-cons IsLine j.last [] j.plain (All-nil IsLine)))
@@ -58,7 +50,7 @@ output_exists r a x total =
     let (status, z, g) = gives_some r a total 1 judged ended (plain_judged x judged ended j) in
     (status, z, (judged, ended, j, g))
 
--- a command that gives each good line exactly one answer has exactly one output for every input
+-- if a command has exactly one answer to every line that it does not refuse, every input has exactly one output
 pub has_one_output : {State : Type 0} (r : Rules State) (a : State) → IsTotal r a → IsDetermined r → HasOneOutput r a
 has_one_output r a total det = record {
   some = λ x. output_exists r a x total;

@@ -1,27 +1,24 @@
--- Which answers have octets among those written.
-use Rattle.std.proofs.Common.{◌≡◌, ℕ, List, [], ◌∷◌, ◌++◌, length, ◌⊎◌, inl, inr, sym, refl, ap, ◌∙◌}
-use Rattle.std.proofs.Common.{append_assoc, append-nil, arith}
+-- Which answers have at least one octet among the octets written.
+use Rattle.std.proofs.Common.{◌≡◌, ℕ, List, [], ◌∷◌, ◌++◌, length, ◌⊎◌, inl, inr, sym, refl, ap, ◌∙◌, append_assoc, append-nil, arith}
 use Rattle.std.proofs.lemmas.Bool.{cases_lt}
-use Rattle.um_driver.specs.Rules.{joined_text}
-use Rattle.um_driver.specs.Table.{IsFront, IsReached}
-use Rattle.um_driver.proofs.Judging.{front_of}
+use Rattle.um_driver.{specs.{Rules.concatenated_text, Table.{IsPrefixOf, AllAnswersHaveStarted}}, proofs.Judging.front_of}
 
--- a prefix of two joined lists ends in the first, or in the second
-pub front_ends : (u more c p : List ℕ) → u ++ more ≡ c ++ p → IsFront u c ⊎ ((w : List ℕ) × IsFront w p × (u ≡ c ++ w))
-front_ends u more c p e = elim (cases_lt (length c) (length u)) [
+-- a prefix of two joined lists is a prefix of the first, or the first and a prefix of the second
+pub prefix_of_joined : (u more c p : List ℕ) → u ++ more ≡ c ++ p → IsPrefixOf u c ⊎ ((w : List ℕ) × IsPrefixOf w p × (u ≡ c ++ w))
+prefix_of_joined u more c p e = elim (cases_lt (length c) (length u)) [
   | inl longer ↦ let (part, u_is, p_is) = front_of c p u more (sym e) (omega (arith, longer)) in inr (part, (more, p_is), u_is)
   | inr h ↦ let (part, c_is, _) = front_of u more c p e h in inl (part, c_is)
 ]
 
--- a prefix of the answers is reached, and y ends in its last answer or behind it
+-- the answers of which y contains at least one octet, as a prefix of all answers; y ends within the last of them or directly after it
 pub record Reach (answers : List (List ℕ)) (y : List ℕ) : Type 0 where
   pub first : List (List ℕ)
   pub second : List (List ℕ)
   pub answers_are : answers ≡ first ++ second
-  pub reached : IsReached y first
-  pub front : IsFront y (joined_text first)
+  pub reached : AllAnswersHaveStarted y first
+  pub front : IsPrefixOf y (concatenated_text first)
 
--- y ends within the first answer
+-- the case in which y ends within the first answer
 reach_within : (answer : List ℕ) (answers : List (List ℕ)) (y part : List ℕ) → answer ≡ y ++ part → Reach (answer ∷ answers) y
 reach_within answer answers [] part e =
     record { first = []; second = answer ∷ answers; answers_are = refl; reached = inl ([], refl); front = ([], refl) }
@@ -41,7 +38,7 @@ reach_within answer answers (o ∷ y) part e = record {
   front = (part, append-nil answer ∙ e);
 }
 
--- y contains all of the first answer
+-- the case in which y contains the whole first answer
 reach_after : (answer : List ℕ) (answers : List (List ℕ)) (y part : List ℕ) → y ≡ answer ++ part → Reach answers part
     → Reach (answer ∷ answers) y
 reach_after answer answers y part e then = record {
@@ -63,9 +60,9 @@ reach_after answer answers y part e then = record {
   front = (then.front.0, rw (then.front.1, e, append_assoc));
 }
 
-pub reach : (answers : List (List ℕ)) (y more : List ℕ) → joined_text answers ≡ y ++ more → Reach answers y
+pub reach : (answers : List (List ℕ)) (y more : List ℕ) → concatenated_text answers ≡ y ++ more → Reach answers y
 reach [] y more e = record { first = []; second = []; answers_are = refl; reached = inl (y, refl); front = (more, e) }
-reach (answer ∷ answers) y more e = elim (front_ends y more answer (joined_text answers) (sym e)) [
+reach (answer ∷ answers) y more e = elim (prefix_of_joined y more answer (concatenated_text answers) (sym e)) [
   | inl (part, answer_is) ↦ reach_within answer answers y part answer_is
   | inr (part, (more', rest_is), y_is) ↦ reach_after answer answers y part y_is (reach answers part more' rest_is)
 ]

@@ -1,8 +1,8 @@
--- Runs over good lines, joined and split.
+-- Joining and splitting runs over lines that are not refused.
 use Rattle.std.proofs.Common.{◌≡◌, ℕ, List, [], ◌∷◌, ◌++◌, length, sym, refl, ap, ◌∙◌, append_assoc}
-use Rattle.um_driver.specs.Rules.{Rules, IsGood, Runs, joined_text}
+use Rattle.um_driver.specs.Rules.{Rules, IsLineAccepted, Runs, concatenated_text}
 
--- one run after another
+-- two runs, one after the other, are a run
 pub Runs-append : {State : Type 0} (r : Rules State) (a b c : State) (ls ls' ys ys' : List (List ℕ)) →
     Runs r a ls ys b → Runs r b ls' ys' c → Runs r a (ls ++ ls') (ys ++ ys') c
 Runs-append r a b c [] ls' [] ys' same then = rw same at then
@@ -10,19 +10,19 @@ Runs-append r a b c (line ∷ ls) ls' (y ∷ ys) ys' (mid, good, step, runs) the
     (mid, good, step, Runs-append r mid b c ls ls' ys ys' runs then)
 Runs-append r a b c _ ls' _ ys' none then = absurd none
 
--- one more line
+-- a run and one more line are a run
 pub Runs-push : {State : Type 0} (r : Rules State) (a b c : State) (ls ys : List (List ℕ)) (line answer : List ℕ) →
-    Runs r a ls ys b → IsGood r b line → r.Step b line answer c → Runs r a (ls ++ line ∷ []) (ys ++ answer ∷ []) c
+    Runs r a ls ys b → IsLineAccepted r b line → r.Step b line answer c → Runs r a (ls ++ line ∷ []) (ys ++ answer ∷ []) c
 Runs-push r a b c ls ys line answer runs good step =
     Runs-append r a b c ls (line ∷ []) ys (answer ∷ []) runs (c, good, step, refl)
 
--- a run has one answer for each line
+-- a run has as many answers as lines
 pub Runs-length : {State : Type 0} (r : Rules State) (a b : State) (ls ys : List (List ℕ)) → Runs r a ls ys b → length ls ≡ length ys
 Runs-length r a b [] [] runs = refl
 Runs-length r a b (line ∷ ls) (y ∷ ys) (mid, good, step, runs) = let e = Runs-length r mid b ls ys runs in cc e
 Runs-length r a b _ _ none = absurd none
 
--- a run, split after some of its answers
+-- a run, split in two after some of its answers
 pub record RunsInTwo {State : Type 0} (r : Rules State) (a c : State) (ls ys ys' : List (List ℕ)) : Type 0 where
   pub first : List (List ℕ)
   pub second : List (List ℕ)
@@ -46,12 +46,12 @@ Runs-split r a c (line ∷ ls) (y ∷ ys) ys' (mid, good, step, runs) =
       whole = ap (λ l. line ∷ l) two.whole;
     }
 
--- joining texts of two lists
-pub joined-append : (ys ys' : List (List ℕ)) → joined_text (ys ++ ys') ≡ joined_text ys ++ joined_text ys'
+-- joining the texts of two lists, one after the other
+pub joined-append : (ys ys' : List (List ℕ)) → concatenated_text (ys ++ ys') ≡ concatenated_text ys ++ concatenated_text ys'
 joined-append [] ys' = refl
-joined-append (y ∷ ys) ys' = ap (λ w. y ++ w) (joined-append ys ys') ∙ sym (append_assoc y (joined_text ys) (joined_text ys'))
+joined-append (y ∷ ys) ys' = ap (λ w. y ++ w) (joined-append ys ys') ∙ sym (append_assoc y (concatenated_text ys) (concatenated_text ys'))
 
--- what each step preserves, a run preserves
+-- what every step preserves, a run preserves
 pub Runs-keep : {State : Type 0} (r : Rules State) (P : State → Type 0)
     → ((a b : State) (line answer : List ℕ) → P a → r.Step a line answer b → P b) →
     (a b : State) (ls ys : List (List ℕ)) → P a → Runs r a ls ys b → P b

@@ -1,12 +1,9 @@
--- A command without a state that answers a line according to its meaning has one output for every
--- input, since a line has one meaning or a reason.
-use Rattle.std.proofs.Common.{◌≡◌, ℕ, List, Option, None, refl, subst}
-use Rattle.um_lines.specs.declared.fault.LineFault.{LineFault}
-use Rattle.um_lines.specs.Meanings.{HasOneMeaningUnless}
-use Rattle.um_lines.proofs.OneMeaning.{good_meaning, same_meaning}
-use Rattle.um_driver.specs.Rules.{IsDetermined, IsTotal, Rules, stateless}
-use Rattle.um_driver.specs.Laws.{HasOneOutput}
-use Rattle.um_driver.proofs.OutputExists.{has_one_output}
+-- A command without a state that answers a line according to its meaning has one output for every input, because every line either has one
+-- meaning or is refused.
+use Rattle.std.proofs.Common.{◌≡◌, ℕ, List, Option, refl, subst}
+use Rattle.um_lines.{specs.{declared.fault.LineFault.LineFault, Meanings.HasOneMeaningUnless}, proofs.OneMeaning.good_meaning}
+use Rattle.um_lines.proofs.OneMeaning.{same_meaning}
+use Rattle.um_driver.{specs.{Rules.{IsDetermined, IsTotal, Rules, stateless}, Laws.HasOneOutput}, proofs.OutputExists.has_one_output}
 
 module _ {Meaning : Type 0} (fault : List ℕ → Option LineFault) (Means : List ℕ → Meaning → Type 0)
     (IsAnswer : Meaning → List ℕ → Type 0) where

@@ -1,29 +1,20 @@
--- One turn of a run, before it writes: by cases over what the reader of lines answers.
-use Rattle.std.proofs.Common.{◌≡◌, ℕ, ◌≤◌, ◌+◌, List, [], ◌∷◌, ◌++◌, length-append, Option, Some, None}
-use Rattle.std.proofs.Common.{◌⊎◌, inl, inr, sym, refl, ap, ◌∙◌, append_assoc, append-nil, length, arith}
-use Rattle.std.specs.Borrow.{Bor}
-use Rattle.um_io.specs.Lines.{text_of}
-use Rattle.um_io.specs.Next.{IsNext, IsStep}
-use Rattle.um_io.specs.Reading.{Reading, IsReady, held_limit}
+-- How a run processes one line, before it writes the answer. The proof is by cases on what the reader of lines returns.
+use Rattle.std.proofs.Common.{◌≡◌, ℕ, ◌≤◌, ◌+◌, List, [], ◌∷◌, ◌++◌, length-append, Option, Some, None, ◌⊎◌, inl, inr, sym, refl, ap, ◌∙◌}
+use Rattle.std.{proofs.Common.{append_assoc, append-nil, length, arith}, specs.Borrow.Bor}
+use Rattle.um_io.specs.{Lines.text_of_lines, Next.{IsNextLineCall, IsReaderStep}, Reading.{Reading, IsAnswerReady, held_limit}}
 use Rattle.um_io.specs.declared.lines.Next.{Next}
+use Rattle.um_lines.specs.{declared.fault.LineFault.{LineFault, TheVariants.Long}, Refusals.refused_text}
+use Rattle.um_driver.specs.{Divided.BeginsWithLines, Rules.{Rules, concatenated_text}, Table.{ReadsAtMostABuffer, InputEnds}}
+use Rattle.um_driver.specs.{Progress.{SourceHasEnded, IsPointOfRun, IsRunUnderway, IsRunEnding}, declared.status.Status.Status}
+use Rattle.um_driver.{specs.declared.status.Status.TheVariants.{Done, BadInput, TooLong, ReadFault}, proofs.ReadLemmas.{arrive, whole_of}}
+use Rattle.um_driver.proofs.ReadLemmas.{answered_of, next_line, line_judged, long_judged, goes_past, unfinished, nothing_read_if_ready}
+use Rattle.um_driver.proofs.{ReadLemmas.failed_unready, RunLemmas.{Runs-push, Runs-length, joined-append}}
 use Rattle.um_io.specs.declared.lines.Next.TheVariants as next
-use Rattle.um_lines.specs.declared.fault.LineFault.{LineFault}
-use Rattle.um_lines.specs.declared.fault.LineFault.TheVariants.{Long}
-use Rattle.um_lines.specs.Refusals.{refused_text}
-use Rattle.um_driver.specs.Divided.{Begins}
-use Rattle.um_driver.specs.Rules.{Rules, joined_text}
-use Rattle.um_driver.specs.Table.{IsNear, InputEnds}
-use Rattle.um_driver.specs.Progress.{EndsAt, IsAt, IsUnderway, IsEnding}
-use Rattle.um_driver.specs.declared.status.Status.{Status}
-use Rattle.um_driver.specs.declared.status.Status.TheVariants.{Done, BadInput, TooLong, ReadFault}
-use Rattle.um_driver.proofs.ReadLemmas.{arrive, whole_of, answered_of, next_line, line_judged, long_judged, goes_past, unfinished}
-use Rattle.um_driver.proofs.ReadLemmas.{no_came, failed_unready}
-use Rattle.um_driver.proofs.RunLemmas.{Runs-push, Runs-length, joined-append}
 
--- more was written, and more lines were answered
-pub IsNear-more : {q y : List ℕ} {lines answers : List (List ℕ)} → IsNear q y lines answers →
-    (w : List ℕ) (lines' answers' : List (List ℕ)) → IsNear q (y ++ w) (lines ++ lines') (answers ++ answers')
-IsNear-more {q} {y} {lines} {answers} n w lines' answers' = record {
+-- `ReadsAtMostABuffer` remains true when more octets are written and more lines answered
+pub ReadsAtMostABuffer-more : {q y : List ℕ} {lines answers : List (List ℕ)} → ReadsAtMostABuffer q y lines answers →
+    (w : List ℕ) (lines' answers' : List (List ℕ)) → ReadsAtMostABuffer q (y ++ w) (lines ++ lines') (answers ++ answers')
+ReadsAtMostABuffer-more {q} {y} {lines} {answers} n w lines' answers' = record {
   before = n.before;
   after = n.after ++ lines';
   written = n.written;
@@ -33,14 +24,15 @@ IsNear-more {q} {y} {lines} {answers} n w lines' answers' = record {
   answers_are = ap (λ l. l ++ answers') n.answers_are ∙ append_assoc n.written n.others answers';
   count = n.count;
   begins = n.begins;
-  front = (n.front.0 ++ w, ap (λ o. o ++ w) n.front.1 ∙ append_assoc (joined_text n.written) n.front.0 w);
+  front = (n.front.0 ++ w, ap (λ o. o ++ w) n.front.1 ∙ append_assoc (concatenated_text n.written) n.front.0 w);
   near = n.near;
 }
 
--- the answers to all lines were written
-pub IsNear-all : {q y : List ℕ} {lines answers : List (List ℕ)} (rest : List ℕ) → Begins q lines rest → length rest ≤ held_limit →
-    length lines ≡ length answers → joined_text answers ≡ y → IsNear q y lines answers
-IsNear-all {lines = lines} {answers = answers} rest begins room count written = record {
+-- `ReadsAtMostABuffer` holds if the answers to all lines have been written
+pub ReadsAtMostABuffer-all : {q y : List ℕ} {lines answers : List (List ℕ)} (rest : List ℕ) → BeginsWithLines q lines rest →
+    length rest ≤ held_limit →
+    length lines ≡ length answers → concatenated_text answers ≡ y → ReadsAtMostABuffer q y lines answers
+ReadsAtMostABuffer-all {lines = lines} {answers = answers} rest begins room count written = record {
   before = lines;
   after = [];
   written = answers;
@@ -50,34 +42,34 @@ IsNear-all {lines = lines} {answers = answers} rest begins room count written = 
   answers_are = sym (append-nil answers);
   count = count;
   begins = begins;
-  front = ([], sym (append-nil (joined_text answers) ∙ written));
+  front = ([], sym (append-nil (concatenated_text answers) ∙ written));
   near = room;
 }
 
 module _ {State : Type 0} {r : Rules State} {a : State} {Represents : State → Type 0} {reading reading' : Reading}
     {left mid left' taken taken' : Option (List ℕ)} {gathered : List ℕ}
-    (u : IsUnderway r a Represents reading left mid taken taken' gathered) (ready : IsReady reading ⊎ (gathered ≡ [])) where
-  -- when octets are read, the answers to all earlier lines have been written
-  near_now : {next : Next} {came : List ℕ} → IsStep reading reading' mid left' next came →
-      IsNear (u.at.q ++ came) u.at.y u.at.lines u.at.answers
+    (u : IsRunUnderway r a Represents reading left mid taken taken' gathered) (ready : IsAnswerReady reading ⊎ (gathered ≡ [])) where
+  -- when the source is read, the answers to all earlier lines have been written
+  near_now : {next : Next} {came : List ℕ} → IsReaderStep reading reading' mid left' next came →
+      ReadsAtMostABuffer (u.at.q ++ came) u.at.y u.at.lines u.at.answers
   near_now {came = came} step = elim ready [
-    | inl answer ↦ stays (no_came step u.goes_on answer)
+    | inl answer ↦ stays (nothing_read_if_ready step u.goes_on answer)
     | inr none ↦ elim u.at.reads.holds [
-      | inl (q_is, _) ↦ IsNear-all (reading.held ++ reading.past ++ came)
+      | inl (q_is, _) ↦ ReadsAtMostABuffer-all (reading.held ++ reading.past ++ came)
           (record {
             plain = u.at.reads.plain;
-            whole = ap (λ o. o ++ came) q_is ∙ append_assoc (text_of u.at.lines) (reading.held ++ reading.past) came;
+            whole = ap (λ o. o ++ came) q_is ∙ append_assoc (text_of_lines u.at.lines) (reading.held ++ reading.past) came;
           }) step.room (Runs-length r a u.at.state u.at.lines u.at.answers u.at.runs) (u.output ∙ rw (none, append-nil))
-      | inr (_, _, ended, _) ↦ stays (step.still ended).0
+      | inr (_, _, ended, _) ↦ stays (step.no_read_after_end ended).0
     ]
   ]
     where
-      stays : came ≡ [] → IsNear (u.at.q ++ came) u.at.y u.at.lines u.at.answers
+      stays : came ≡ [] → ReadsAtMostABuffer (u.at.q ++ came) u.at.y u.at.lines u.at.answers
       stays none = rw (none, append-nil) u.at.near
 
-  -- octets were read
-  abbrev now : {next : Next} {came : List ℕ} → IsStep reading reading' mid left' next came →
-      IsAt r a (reading.held ++ reading.past ++ came) reading.answered reading.number reading'.ended left left' taken taken'
+  -- the point of the run after octets were read
+  abbrev now : {next : Next} {came : List ℕ} → IsReaderStep reading reading' mid left' next came →
+      IsPointOfRun r a (reading.held ++ reading.past ++ came) reading.answered reading.number reading'.ended left left' taken taken'
   now {came = came} step = record {
     q = u.at.q ++ came;
     y = u.at.y;
@@ -91,11 +83,11 @@ module _ {State : Type 0} {r : Rules State} {a : State} {Represents : State → 
     near = near_now step;
   }
 
-  -- the command answered the line
+  -- the point of the run after the command answered the line
   pub line_answered : {Stands' : State → Type 0} {line : Bor (List ℕ)} {text : List ℕ}
-      → IsNext reading mid left' (next.Line line) reading' →
+      → IsNextLineCall reading mid left' (next.Line line) reading' →
       ((b : State) → Represents b → (c : State) × (r.fault b line.now ≡ None) × r.Step b line.now text c × Stands' c) →
-      IsUnderway r a Stands' reading' left left' taken taken' (gathered ++ text)
+      IsRunUnderway r a Stands' reading' left left' taken taken' (gathered ++ text)
   line_answered {line = line} {text = text} n answers =
       let (came, step) = n.goes_on u.goes_on in
       let at = now step in
@@ -113,7 +105,7 @@ module _ {State : Type 0} {r : Rules State} {a : State} {Represents : State → 
           written = at.written;
           runs = Runs-push r a at.state state at.lines at.answers line.now text at.runs
               (record { short = l.short; no_fault = none }) answer;
-          near = rw append-nil at (IsNear-more at.near [] (line.now ∷ []) (text ∷ []));
+          near = rw append-nil at (ReadsAtMostABuffer-more at.near [] (line.now ∷ []) (text ∷ []));
         };
         represents = represents;
         output = joined-append at.answers (text ∷ []) ∙ rw (u.output, append-nil, append_assoc);
@@ -121,11 +113,11 @@ module _ {State : Type 0} {r : Rules State} {a : State} {Represents : State → 
         goes_on = l.over;
       }
 
-  -- the run ends with this status and text
+  -- the run ends with this status, and then writes this text
   ending : {Stands' : State → Type 0} {next : Next} {came : List ℕ} (status : Status) (text : List ℕ)
-      → IsStep reading reading' mid left' next came → Stands' u.at.state →
-      ((rest : List ℕ) → (EndsAt left left' → rest ≡ []) → InputEnds r status (u.at.q ++ came) rest u.at.lines u.at.state text) →
-      IsEnding r a Stands' status left left' taken taken' gathered text
+      → IsReaderStep reading reading' mid left' next came → Stands' u.at.state →
+      ((rest : List ℕ) → (SourceHasEnded left left' → rest ≡ []) → InputEnds r status (u.at.q ++ came) rest u.at.lines u.at.state text) →
+      IsRunEnding r a Stands' status left left' taken taken' gathered text
   ending {came = came} status text step represents ends = record {
     held = reading.held ++ reading.past ++ came;
     answered = reading.answered;
@@ -138,9 +130,9 @@ module _ {State : Type 0} {r : Rules State} {a : State} {Represents : State → 
   }
 
   pub line_refused : {Stands' : State → Type 0} {line : Bor (List ℕ)} {text text' : List ℕ} {number : ℕ} {fault : LineFault}
-      → IsNext reading mid left' (next.Line line) reading' → number ≡ reading'.number → text ≡ refused_text number fault →
+      → IsNextLineCall reading mid left' (next.Line line) reading' → number ≡ reading'.number → text ≡ refused_text number fault →
       ((b : State) → Represents b → (r.fault b line.now ≡ Some fault) × (text' ≡ []) × Stands' b) →
-      IsEnding r a Stands' BadInput left left' taken taken' gathered text
+      IsRunEnding r a Stands' BadInput left left' taken taken' gathered text
   line_refused {line = line} {text = text} {fault = fault} n number_is text_is answers =
       let (came, step) = n.goes_on u.goes_on in
       let l = (answered_of reading reading' (reading.held ++ reading.past ++ came) line.now step.gives).1 in
@@ -151,8 +143,9 @@ module _ {State : Type 0} {r : Rules State} {a : State} {Represents : State → 
         text_is ∙ rw (number_is, l.number, u.at.number_is),
       ))
 
-  pub end_good : {reason : Option LineFault} {text : List ℕ} → IsNext reading mid left' next.End reading' → reason ≡ None → text ≡ [] →
-      ((b : State) → Represents b → reason ≡ r.end_fault b) → IsEnding r a Represents Done left left' taken taken' gathered text
+  pub end_good : {reason : Option LineFault} {text : List ℕ} → IsNextLineCall reading mid left' next.End reading' → reason ≡ None →
+      text ≡ [] →
+      ((b : State) → Represents b → reason ≡ r.end_fault b) → IsRunEnding r a Represents Done left left' taken taken' gathered text
   end_good {text = text} n none text_is says =
       let (came, step) = n.goes_on u.goes_on in
       let (h, none_held, ended) = step.gives in
@@ -160,9 +153,9 @@ module _ {State : Type 0} {r : Rules State} {a : State} {Represents : State → 
       (whole_of (arrive u.at.reads step) none_held ended rest at_end, sym (says u.at.state u.represents) ∙ none, text_is))
 
   pub end_refused : {reason : Option LineFault} {text : List ℕ} {number : ℕ} {fault : LineFault}
-      → IsNext reading mid left' next.End reading' → number ≡ reading'.number → text ≡ refused_text (number + 1) fault →
+      → IsNextLineCall reading mid left' next.End reading' → number ≡ reading'.number → text ≡ refused_text (number + 1) fault →
       reason ≡ Some fault → ((b : State) → Represents b → reason ≡ r.end_fault b) →
-      IsEnding r a Represents BadInput left left' taken taken' gathered text
+      IsRunEnding r a Represents BadInput left left' taken taken' gathered text
   end_refused {text = text} {fault = fault} n number_is text_is some says =
       let (came, step) = n.goes_on u.goes_on in
       let (h, none_held, ended) = step.gives in
@@ -172,8 +165,8 @@ module _ {State : Type 0} {r : Rules State} {a : State} {Represents : State → 
         text_is ∙ rw (number_is, h.number, u.at.number_is),
       ))
 
-  pub long_refused : {text : List ℕ} {number : ℕ} → IsNext reading mid left' next.Long reading' → number ≡ reading'.number →
-      text ≡ refused_text (number + 1) Long → IsEnding r a Represents BadInput left left' taken taken' gathered text
+  pub long_refused : {text : List ℕ} {number : ℕ} → IsNextLineCall reading mid left' next.Long reading' → number ≡ reading'.number →
+      text ≡ refused_text (number + 1) Long → IsRunEnding r a Represents BadInput left left' taken taken' gathered text
   long_refused {text = text} n number_is text_is =
       let (came, step) = n.goes_on u.goes_on in
       let (h, long) = step.gives in
@@ -183,14 +176,15 @@ module _ {State : Type 0} {r : Rules State} {a : State} {Represents : State → 
         text_is ∙ rw (number_is, h.number, u.at.number_is),
       ))
 
-  pub ends_too_long : {text : List ℕ} → IsNext reading mid left' next.TooMany reading' → text ≡ [] →
-      IsEnding r a Represents TooLong left left' taken taken' gathered text
+  pub ends_too_long : {text : List ℕ} → IsNextLineCall reading mid left' next.TooMany reading' → text ≡ [] →
+      IsRunEnding r a Represents TooLong left left' taken taken' gathered text
   ends_too_long {text = text} n text_is =
       let (came, step) = n.goes_on u.goes_on in
       let (h, short, some) = step.gives in
       ending TooLong text step u.represents (λ rest at_end. (goes_past (arrive u.at.reads step) n.valid h short some, text_is))
 
-  pub ends_failed : IsNext reading mid left' next.Failed reading' → IsEnding r a Represents ReadFault left left' taken taken' gathered []
+  pub ends_failed : IsNextLineCall reading mid left' next.Failed reading' →
+      IsRunEnding r a Represents ReadFault left left' taken taken' gathered []
       × (gathered ≡ [])
   ends_failed n =
       let (came, step) = n.goes_on u.goes_on in

@@ -1,22 +1,20 @@
--- A run that satisfies the rules of a machine satisfies every weaker set of rules.
+-- A run that follows a set of rules also follows every weaker set of rules.
 use Rattle.std.proofs.Common.{◌≡◌, ℕ, List, [], ◌∷◌, Option, inl, inr, refl, ap, ◌∙◌}
 use Rattle.um_lines.specs.declared.fault.LineFault.{LineFault}
-use Rattle.um_driver.specs.Rules.{Rules, IsGood, IsBad, Runs}
-use Rattle.um_driver.specs.Table.{IsRefused, InputEnds, Row, IsRun}
-use Rattle.um_driver.specs.declared.status.Status.{Status}
-use Rattle.um_driver.specs.declared.status.Status.TheVariants.{Done, BadWords, BadInput, WriteFault, NoMemory}
+use Rattle.um_driver.specs.{Rules.{Rules, IsLineAccepted, IsLineRefused, Runs}, Table.{IsNextLineRefused, InputEnds, IsTableRow, IsRun}}
+use Rattle.um_driver.specs.declared.status.Status.{Status, TheVariants.{Done, BadWords, BadInput, WriteFault, NoMemory}}
 
--- `f` maps the states of r to those of r': reasons are the same, and each step of r is one of r'
+-- the rules r' are weaker than r: `f` maps states of r to states of r', the same lines are refused, and each step of r is a step of r'
 pub record IsWeakerBy {S T : Type 0} (f : S → T) (r : Rules S) (r' : Rules T) : Type 0 where
   pub fault : (a : S) (line : List ℕ) → r'.fault (f a) line ≡ r.fault a line
   pub end_fault : (a : S) → r'.end_fault (f a) ≡ r.end_fault a
   pub step : (a b : S) (line answer : List ℕ) → r.Step a line answer b → r'.Step (f a) line answer (f b)
 
 module _ {S T : Type 0} (f : S → T) (r : Rules S) (r' : Rules T) (w : IsWeakerBy f r r') where
-  good : (a : S) (line : List ℕ) → IsGood r a line → IsGood r' (f a) line
+  good : (a : S) (line : List ℕ) → IsLineAccepted r a line → IsLineAccepted r' (f a) line
   good a line g = record { short = g.short; no_fault = w.fault a line ∙ g.no_fault }
 
-  bad : (a : S) (line : List ℕ) (fault : LineFault) → IsBad r a line fault → IsBad r' (f a) line fault
+  bad : (a : S) (line : List ℕ) (fault : LineFault) → IsLineRefused r a line fault → IsLineRefused r' (f a) line fault
   bad a line fault (inl long) = inl long
   bad a line fault (inr (short, e)) = inr (short, w.fault a line ∙ e)
 
@@ -25,8 +23,8 @@ module _ {S T : Type 0} (f : S → T) (r : Rules S) (r' : Rules T) (w : IsWeaker
   runs_by a b (line ∷ lines) (y ∷ ys) (mid, g, step, h) = (f mid, good a line g, w.step a mid line y step, runs_by mid b lines ys h)
   runs_by a b _ _ none = absurd none
 
-  refused : (q rest : List ℕ) (lines : List (List ℕ)) (b : S) (fault : LineFault) → IsRefused r q rest lines b fault
-      → IsRefused r' q rest lines (f b) fault
+  refused : (q rest : List ℕ) (lines : List (List ℕ)) (b : S) (fault : LineFault) → IsNextLineRefused r q rest lines b fault
+      → IsNextLineRefused r' q rest lines (f b) fault
   refused q rest lines b fault (inl (line, judged, reason)) = inl (line, judged, bad b line fault reason)
   refused q rest lines b fault (inr (whole, reason)) = inr (whole, w.end_fault b ∙ reason)
 
@@ -37,8 +35,8 @@ module _ {S T : Type 0} (f : S → T) (r : Rules S) (r' : Rules T) (w : IsWeaker
   ends _ q rest lines b text h = h
 
   row : (status : Status) (q rest y : List ℕ) (lines answers further : List (List ℕ)) (b : S)
-      → Row r status q rest y lines answers further b →
-      Row r' status q rest y lines answers further (f b)
+      → IsTableRow r status q rest y lines answers further b →
+      IsTableRow r' status q rest y lines answers further (f b)
   row WriteFault q rest y lines answers further b (inl front) = inl front
   row WriteFault q rest y lines answers further b (inr (due, text, part, h, none, front, e)) =
       inr (due, text, part, ends due q rest lines b text h, none, front, e)
@@ -46,7 +44,7 @@ module _ {S T : Type 0} (f : S → T) (r : Rules S) (r' : Rules T) (w : IsWeaker
   row BadWords q rest y lines answers further b none = absurd none
   row s q rest y lines answers further b h = (h.0, ends s q rest lines b h.0 h.1, h.2, h.3)
 
-  -- the states that a command may represent, mapped by `f`
+  -- a run by r is a run by the weaker rules r', if `f` maps the states that the command may represent
   pub weaker_run_by : (a : S) (Represents : S → Type 0) (Stands' : T → Type 0) → ((b : S) → Represents b → Stands' (f b))
       → (status : Status) (left left' taken taken' : Option (List ℕ)) →
       IsRun r a Represents status left left' taken taken' → IsRun r' (f a) Stands' status left left' taken taken'
@@ -72,7 +70,7 @@ module _ {S T : Type 0} (f : S → T) (r : Rules S) (r' : Rules T) (w : IsWeaker
     row = row status h.q h.rest h.y h.lines h.answers h.further h.state h.row;
   }
 
-  -- the lines and answers are the same, and the state after them is mapped by `f`
+  -- the run by the weaker rules has the same lines and answers, and the state after them is mapped by `f`
   pub weaker_run_state : (a : S) (Represents : S → Type 0) (Stands' : T → Type 0) (then : (b : S) → Represents b → Stands' (f b))
       (status : Status)
       (left left' taken taken' : Option (List ℕ)) (h : IsRun r a Represents status left left' taken taken') →
@@ -80,7 +78,7 @@ module _ {S T : Type 0} (f : S → T) (r : Rules S) (r' : Rules T) (w : IsWeaker
   unfolding weaker_run_by
   weaker_run_state a Represents Stands' then status left left' taken taken' h = refl
 
--- weaker rules over the same states
+-- the rules r' are weaker than r and have the same states
 abbrev pub IsWeaker : {State : Type 0} → Rules State → Rules State → Type 0
 IsWeaker {State} r r' = IsWeakerBy (λ (a : State). a) r r'
 

@@ -1,3 +1,4 @@
+pub use Rattle.um_lines.specs as um_lines
 -- The definitions that the contracts of this crate cite.
 pub mod Progress
 pub mod Divided

@@ -1,4 +1,4 @@
--- The rules of a command: a state machine over lines (this project's own rule).
+-- The rules of a command: a state machine that reads lines (this project's own rule).
 use Rattle.std.specs.Prelude.{ℕ, ◌≡◌, ◌≤◌, ◌<◌, List, [], ◌∷◌, ◌++◌, length, Option, Some, None, Result}
 use Rattle.std.specs.Prelude.{MatchResult, ◌⊎◌}
 use Rattle.um_io.specs.Lines.{IsLine}
@@ -6,14 +6,14 @@ use Rattle.um_io.specs.Reading.{line_limit}
 use Rattle.um_lines.specs.declared.fault.LineFault.{LineFault}
 use Rattle.um_lines.specs.declared.fault.LineFault.TheVariants.{Long}
 
--- `fault` is the first reason of a line in a state, if any; `end_fault` is the reason of an input
--- that ends in a state, if any; `Step` relates a state and a line to an answer and the next state
+-- `fault` is the first reason why a line is refused in a state, if any; `end_fault` is the reason why the input may not end in a state, if
+-- any; `Step` relates a state and a line to an answer and to the next state
 pub record Rules (State : Type 0) : Type 1 where
   pub fault : State → List ℕ → Option LineFault
   pub end_fault : State → Option LineFault
   pub Step : State → List ℕ → List ℕ → State → Type 0
 
--- the rules of a command without a state, whose input may end after any line
+-- the rules of a command that keeps no state between lines, so that its input may end after any line
 abbrev pub stateless : (List ℕ → Option LineFault) → (List ℕ → List ℕ → Type 0) → Rules (Unit {0})
 stateless fault Answer = record {
   fault = λ _ line. fault line;
@@ -21,49 +21,49 @@ stateless fault Answer = record {
   Step = λ _ line answer _. Answer line answer;
 }
 
--- the rules of a command, and its first state
+-- the rules of a command, together with its states and its first state
 pub record Machine : Type 1 where
   pub State : Type 0
   pub rules : Rules State
   pub start : State
 
--- a line without a reason in this state
-pub record IsGood {State : Type 0} (r : Rules State) (a : State) (line : List ℕ) : Type 0 where
+-- the line is not refused in this state
+pub record IsLineAccepted {State : Type 0} (r : Rules State) (a : State) (line : List ℕ) : Type 0 where
   pub short : length line ≤ line_limit
   pub no_fault : r.fault a line ≡ None
 
--- the first reason of a line in this state; `Long` for a line above the line limit
-abbrev pub IsBad : {State : Type 0} → Rules State → State → List ℕ → LineFault → Type 0
-IsBad r a line fault =
+-- why the line is refused in this state: `Long` if it is above the line limit, otherwise the reason that the rules give
+abbrev pub IsLineRefused : {State : Type 0} → Rules State → State → List ℕ → LineFault → Type 0
+IsLineRefused r a line fault =
     ((line_limit < length line) × (fault ≡ Long)) ⊎ ((length line ≤ line_limit) × (r.fault a line ≡ Some fault))
 
--- these lines are good in turn, and these are their answers, from one state to another
+-- these lines, one after another, lead from state a to state b without a refusal, and have these answers
 abbrev pub Runs : {State : Type 0} → Rules State → State → (lines answers : List (List ℕ)) → State → Type 0
 Runs r a [] [] b = b ≡ a
 Runs {State} r a (line ∷ lines) (answer ∷ answers) b =
-    (mid : State) × IsGood r a line × r.Step a line answer mid × Runs r mid lines answers b
+    (mid : State) × IsLineAccepted r a line × r.Step a line answer mid × Runs r mid lines answers b
 Runs r a [] (answer ∷ answers) b = ⊥
 Runs r a (line ∷ lines) [] b = ⊥
 
--- texts, one after another
-abbrev pub joined_text : List (List ℕ) → List ℕ
-joined_text [] = []
-joined_text (text ∷ texts) = text ++ joined_text texts
+-- texts joined one after another
+abbrev pub concatenated_text : List (List ℕ) → List ℕ
+concatenated_text [] = []
+concatenated_text (text ∷ texts) = text ++ concatenated_text texts
 
--- what a command's call for a line does: it writes an answer and then represents the next state, or
--- it returns the reason, writes nothing, and represents the same state
+-- what a command does when it is given a line: it writes an answer and then represents the next state, or it returns the reason for the
+-- refusal, writes nothing, and represents the same state
 abbrev pub Answers : {State : Type 0} → Rules State → State → List ℕ → Result Unit LineFault → List ℕ → (State → Type 0) → Type 0
 Answers {State} r a line result text Represents = MatchResult result
     (λ _. (b : State) × (r.fault a line ≡ None) × r.Step a line text b × Represents b)
     (λ fault. (r.fault a line ≡ Some fault) × (text ≡ []) × Represents a)
 
--- no line has two answers in a state
+-- no line has two different answers or next states in any state
 abbrev pub IsDetermined : {State : Type 0} → Rules State → Type 0
 IsDetermined {State} r =
     (a : State) (line y y' : List ℕ) (b b' : State) → r.Step a line y b → r.Step a line y' b' → (y ≡ y') × (b ≡ b')
 
--- after any good lines, each good line has an answer
+-- in every state that the command can reach, each line that is not refused has an answer
 abbrev pub IsTotal : {State : Type 0} → Rules State → State → Type 0
 IsTotal {State} r a =
     (lines answers : List (List ℕ)) (b : State) → Runs r a lines answers b →
-    (line : List ℕ) → IsLine line → IsGood r b line → (answer : List ℕ) × (c : State) × r.Step b line answer c
+    (line : List ℕ) → IsLine line → IsLineAccepted r b line → (answer : List ℕ) × (c : State) × r.Step b line answer c

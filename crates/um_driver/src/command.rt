@@ -1,4 +1,4 @@
-//! The contract of a command that reads lines.
+//! The interface between the driver and a command that reads lines.
 ghost use Rattle.std.specs.Prelude.{◌≡◌, ◌≤◌, [], length};
 ghost use Rattle.um_io.specs.Lines.{IsLine};
 ghost use Rattle.um_io.specs.Reading.{line_limit};
@@ -6,26 +6,26 @@ ghost use Rattle.um_driver.specs.Rules.{Rules, Answers};
 
 use um_lines::{LineFault, Text};
 
-/// A command over the lines of its input.
+/// A command that reads its input line by line.
 pub trait Command {
-    /// The type of states.
+    /// The type of the command's states.
     ghost State: { Type 0 };
 
-    /// What the command does with lines.
+    /// The rules of the command: which lines it refuses, how it answers the others, and the next state.
     ghost rules: { Rules State };
 
-    /// The state in which a run of this value begins.
+    /// The state in which a run begins if it begins with this value.
     ghost start: { Self → State };
 
-    /// The value represents this state.
+    /// Whether the value represents this state.
     ghost represents: { Self → State → Type 0 };
 
-    /// What no call changes, such as the identity of a borrow; `Unit {0}` if there is nothing.
+    /// A part of the value that no call changes, such as the identity of a borrow; `Unit {0}` if there is none.
     ghost Kept: { Type 0 };
 
     ghost kept: { Self → Kept };
 
-    /// Answers a line, or returns the reason to refuse it.
+    /// Writes the answer to a line, or returns the reason why the line is refused.
     fn answer(&mut self, line: &[u8], out: &mut Text) -> Result<(), LineFault>
         requires size { length line.now ≤ line_limit }
         requires plain { IsLine line.now }
@@ -33,7 +33,7 @@ pub trait Command {
         ensures answered { (a : State) → represents self.old a → Answers rules a line.now result out.new (represents self.new) }
         ensures keeps { kept self.new ≡ kept self.old };
 
-    /// The reason why the input must not end here, if any.
+    /// The reason why the input may not end here, if it may not.
     fn finish(&self) -> Option<LineFault>
         ensures { (a : State) → represents self.now a → result ≡ rules.end_fault a };
 }

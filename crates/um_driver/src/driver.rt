@@ -1,22 +1,21 @@
-//! The driver of all commands.
+//! The driver: runs any command over an input.
 ghost use Rattle.std.specs.Prelude.{◌≡◌, ◌≢◌, ℕ, ◌<◌, List, Option, Some, None, [], ◌++◌, ◌⊎◌, OnOk};
-ghost use Rattle.um_io.specs.Reading.{at_start, IsReady};
+ghost use Rattle.um_io.specs.Reading.{reader_at_start, IsAnswerReady};
 ghost use Rattle.um_lines.specs.Refusals.{refused_text};
 ghost use Rattle.um_driver.specs.Rules.{IsDetermined};
-ghost use Rattle.um_driver.specs.Table.{IsRun, HasFaultCause, EndsAsDue};
-ghost use Rattle.um_driver.specs.Taking.{GathersAll, Counted};
-ghost use Rattle.um_driver.specs.Progress.{IsUnderway, Comes, Concludes, ReadCause};
+ghost use Rattle.um_driver.specs.Table.{IsRun, HasFaultCause, EndsAsPrescribed};
+ghost use Rattle.um_driver.specs.Taking.{GathersTextIfOk, CountsFailures};
+ghost use Rattle.um_driver.specs.Progress.{IsRunUnderway, LineOutcome, IsLastWriteResult, HasReadFaultCause};
 
 use crate::command::Command;
-use crate::gathered::Gathered;
+use crate::gathered::GatheredOutput;
 use crate::status::Status;
 use std::alloc::Global;
 use um_io::{Failed, Lines, Next, Sink, Source};
 use um_lines::{LineFault, Text, refused_line};
 
-/// Has the command answer the next line of the input, or returns the status with which the run
-/// ends.
-fn ask<C: Command, S: Source>(
+/// Reads the next line of the input and lets the command answer it, or returns the status with which the run ends.
+fn answer_next_line<C: Command, S: Source>(
     command: &mut C,
     lines: &mut Lines,
     input: &mut S,
@@ -24,32 +23,32 @@ fn ask<C: Command, S: Source>(
 ) -> Option<Status>
     requires { out.old ≡ [] }
     ensures comes { (a : C.State) (left taken taken' : Option (List ℕ)) (gathered : List ℕ) →
-        IsUnderway C.rules a (C.represents command.old) lines.old left (S.left input.old) taken taken' gathered →
-        IsReady lines.old ⊎ (gathered ≡ []) →
-        Comes C.rules a (C.represents command.new) lines.new left (S.left input.new) taken taken' gathered out.new result }
+        IsRunUnderway C.rules a (C.represents command.old) lines.old left (S.left input.old) taken taken' gathered →
+        IsAnswerReady lines.old ⊎ (gathered ≡ []) →
+        LineOutcome C.rules a (C.represents command.new) lines.new left (S.left input.new) taken taken' gathered out.new result }
     ensures goes_on { result ≡ None → lines.old.answered < lines.new.answered }
-    ensures cause { ReadCause result (S.faults input.old) (S.faults input.new) }
+    ensures cause { HasReadFaultCause result (S.faults input.old) (S.faults input.new) }
     ensures keeps { C.kept command.new ≡ C.kept command.old }
 {
     match lines.next(input) {
         Next::Line(line) => match command.answer(line, out) {
             Ok(()) => None,
-            Err(fault) => Some(refuse(lines.number(), fault, out)),
+            Err(fault) => Some(write_refusal(lines.number(), fault, out)),
         },
         Next::End => match command.finish() {
             None => Some(Status::Done),
-            Some(fault) => Some(refuse(lines.number() + 1, fault, out)),
+            Some(fault) => Some(write_refusal(lines.number() + 1, fault, out)),
         },
-        Next::Long => Some(refuse(lines.number() + 1, LineFault::Long, out)),
+        Next::Long => Some(write_refusal(lines.number() + 1, LineFault::Long, out)),
         Next::TooMany => Some(Status::TooLong),
         Next::Failed => Some(Status::ReadFault),
     }
 }
 
-/// Refuses line `number` of the input, or its end.
+/// Writes the line that refuses line `number` of the input, or the end of the input.
 #[cold]
 #[inline(never)]
-fn refuse(number: u64, fault: LineFault, out: &mut Text) -> Status
+fn write_refusal(number: u64, fault: LineFault, out: &mut Text) -> Status
     ensures text { out.new ≡ refused_text number fault }
     ensures status { result ≡ Status.BadInput }
 {
@@ -58,35 +57,40 @@ fn refuse(number: u64, fault: LineFault, out: &mut Text) -> Status
     Status::BadInput
 }
 
-/// Writes the gathered octets and then `out`, and returns the final status. With `ReadFault`
-/// nothing is gathered, since everything is written before a reading.
+/// Writes the gathered octets and then `out`, and returns the final status. If the source failed, nothing is written: no octets are
+/// gathered then, because all are written before the source is read.
 #[cold]
 #[inline(never)]
-fn conclude<K: Sink>(status: Status, out: &Text, gathered: &mut Gathered, output: &mut K) -> Status
-    ensures concludes { Concludes status (gathered.old ++ out.now) (K.taken output.old) (K.taken output.new) result }
-    ensures cause { (before now : ℕ) → ReadCause (Some status) before now →
+fn write_last_text<K: Sink>(
+    status: Status,
+    out: &Text,
+    gathered: &mut GatheredOutput,
+    output: &mut K,
+) -> Status
+    ensures concludes { IsLastWriteResult status (gathered.old ++ out.now) (K.taken output.old) (K.taken output.new) result }
+    ensures cause { (before now : ℕ) → HasReadFaultCause (Some status) before now →
         HasFaultCause result before now (K.faults output.old) (K.faults output.new) × (result ≢ Status.NoMemory) }
 {
     match status {
         Status::ReadFault => status,
-        _ => match gathered.give(out.octets(), output) {
+        _ => match gathered.write_directly(out.octets(), output) {
             Ok(()) => status,
             Err(_) => Status::WriteFault,
         },
     }
 }
 
-/// Writes the gathered octets if the next answer of the reader needs a reading.
+/// Writes the gathered octets if the reader must read from the source before it can return the next line.
 #[inline(always)]
-fn make_way<K: Sink>(
+fn flush_before_read<K: Sink>(
     lines: &mut Lines,
-    gathered: &mut Gathered,
+    gathered: &mut GatheredOutput,
     output: &mut K,
 ) -> Result<(), Failed>
     ensures unchanged { lines.new ≡ lines.old }
-    ensures gathers { GathersAll result gathered.old gathered.new (K.taken output.old) (K.taken output.new) }
-    ensures ready { OnOk result (IsReady lines.new ⊎ (gathered.new ≡ [])) }
-    ensures counted { Counted result (K.faults output.old) (K.faults output.new) }
+    ensures gathers { GathersTextIfOk result gathered.old gathered.new (K.taken output.old) (K.taken output.new) }
+    ensures ready { OnOk result (IsAnswerReady lines.new ⊎ (gathered.new ≡ [])) }
+    ensures counted { CountsFailures result (K.faults output.old) (K.faults output.new) }
 {
     if lines.is_ready() {
         Ok(())
@@ -95,15 +99,15 @@ fn make_way<K: Sink>(
     }
 }
 
-/// Answers line after line until the run ends. Writes all answers before each reading.
-fn serve<C: Command, S: Source, K: Sink>(
+/// Answers line after line until the run ends. Writes all answers before it reads from the source again.
+fn answer_all_lines<C: Command, S: Source, K: Sink>(
     command: &mut C,
     lines: &mut Lines,
     input: &mut S,
     output: &mut K,
 ) -> Status
     requires represents { C.represents command.old (C.start command.old) }
-    requires first { lines.old ≡ at_start }
+    requires first { lines.old ≡ reader_at_start }
 
     ensures table { IsRun C.rules (C.start command.old) (C.represents command.new) result
         (S.left input.old) (S.left input.new) (K.taken output.old) (K.taken output.new) }
@@ -115,14 +119,14 @@ fn serve<C: Command, S: Source, K: Sink>(
     ensures keeps { C.kept command.new ≡ C.kept command.old }
 {
     let mut out = Text::new();
-    let mut gathered = Gathered::new();
+    let mut gathered = GatheredOutput::new();
     loop {
-        match make_way(lines, &mut gathered, output) {
+        match flush_before_read(lines, &mut gathered, output) {
             Ok(()) => {}
             Err(_) => return Status::WriteFault,
         }
-        match ask(command, lines, input, &mut out) {
-            Some(status) => return conclude(status, &out, &mut gathered, output),
+        match answer_next_line(command, lines, input, &mut out) {
+            Some(status) => return write_last_text(status, &out, &mut gathered, output),
             None => {}
         }
         match gathered.add(out.octets(), output) {
@@ -132,9 +136,9 @@ fn serve<C: Command, S: Source, K: Sink>(
     }
 }
 
-/// Runs a command over the lines of `input`, and writes its answers to `output`.
+/// Runs a command over the lines of `input`, and writes the command's answers to `output`.
 ///
-/// Allocates all memory before the first octet is read.
+/// Allocates all memory before it reads the first octet.
 pub fn drive<C: Command, S: Source, K: Sink>(
     alloc: Global,
     command: &mut C,
@@ -146,8 +150,8 @@ pub fn drive<C: Command, S: Source, K: Sink>(
     ensures table { IsRun C.rules (C.start command.old) (C.represents command.new) result
         (S.left input.old) (S.left input.new) (K.taken output.old) (K.taken output.new) }
 
-    // If no line has two answers, the run ends as the rules say for the whole input.
-    ensures due { IsDetermined C.rules → EndsAsDue C.rules (C.start command.old) result
+    // If no line has two answers, the run ends as the rules prescribe for the whole input.
+    ensures due { IsDetermined C.rules → EndsAsPrescribed C.rules (C.start command.old) result
         (S.left input.old) (K.taken output.old) (K.taken output.new) }
 
     ensures cause { HasFaultCause result (S.faults input.old) (S.faults input.new)
@@ -155,14 +159,14 @@ pub fn drive<C: Command, S: Source, K: Sink>(
 
     ensures words { result ≢ Status.BadWords }
 
-    // Allocation fails before anything is read or written.
+    // If an allocation fails, nothing has been read or written.
     ensures opening { result ≡ Status.NoMemory → (input.new ≡ input.old) × (output.new ≡ output.old) }
     ensures unasked { result ≡ Status.NoMemory → command.new ≡ command.old }
 
     ensures keeps { C.kept command.new ≡ C.kept command.old }
 {
     match Lines::new(alloc) {
-        Ok(mut lines) => serve(command, &mut lines, input, output),
+        Ok(mut lines) => answer_all_lines(command, &mut lines, input, output),
         Err(_) => Status::NoMemory,
     }
 }

@@ -1,23 +1,23 @@
-//! Answers that wait to be written.
+//! Gathers answers, so that several are written in one call.
 ghost use Rattle.std.specs.Prelude.{◌≡◌, ◌≤◌, ◌+◌, [], ◌++◌, length, OnOk, false, IsTrue};
-ghost use Rattle.um_driver.specs.Taking.{TakesAll, Gathers, GathersAll, Counted};
+ghost use Rattle.um_driver.specs.Taking.{TakesWholeText, GathersUnwrittenText, GathersTextIfOk, CountsFailures};
 
 use crate::writing::put_all;
 use std::marker::Model;
 use um_io::{Failed, Sink};
 
-/// The capacity in octets.
+/// How many octets can be gathered.
 const ROOM: usize = 16384;
 
-/// Octets that wait to be written.
+/// Octets of answers that wait to be written.
 #[derive(Drop)]
-pub(crate) struct Gathered {
+pub(crate) struct GatheredOutput {
     room: [u8; ROOM],
     length: usize,
 }
 
-// Its model is the list of octets.
-impl Model for Gathered {
+// In contracts, a `GatheredOutput` stands for its list of octets.
+impl Model for GatheredOutput {
     ghost use Rattle.std.specs.Prelude.{ℕ, ◌≤◌, List, take};
 
     ghost Value = { List ℕ };
@@ -27,11 +27,11 @@ impl Model for Gathered {
     ghost invariant = { λ g. g.length ≤ 16384 };
 }
 
-impl Gathered {
-    pub(crate) fn new() -> Gathered
+impl GatheredOutput {
+    pub(crate) fn new() -> GatheredOutput
         ensures { result ≡ [] }
     {
-        Gathered {
+        GatheredOutput {
             room: [0; ROOM],
             length: 0,
         }
@@ -63,9 +63,9 @@ impl Gathered {
     #[cold]
     #[inline(never)]
     pub(crate) fn flush<K: Sink>(&mut self, output: &mut K) -> Result<(), Failed>
-        ensures taken { TakesAll (K.taken output.old) (K.taken output.new) result self.old }
+        ensures taken { TakesWholeText (K.taken output.old) (K.taken output.new) result self.old }
         ensures empty { OnOk result (self.new ≡ []) }
-        ensures counted { Counted result (K.faults output.old) (K.faults output.new) }
+        ensures counted { CountsFailures result (K.faults output.old) (K.faults output.new) }
     {
         put_all(output, self.octets())?;
         self.length = 0;
@@ -74,19 +74,19 @@ impl Gathered {
 
     /// Writes all gathered octets if `due`.
     pub(crate) fn flush_if<K: Sink>(&mut self, due: bool, output: &mut K) -> Result<(), Failed>
-        ensures gathers { GathersAll result self.old self.new (K.taken output.old) (K.taken output.new) }
+        ensures gathers { GathersTextIfOk result self.old self.new (K.taken output.old) (K.taken output.new) }
         ensures empty { IsTrue due → OnOk result (self.new ≡ []) }
         ensures stays { due ≡ false → self.new ≡ self.old }
-        ensures counted { Counted result (K.faults output.old) (K.faults output.new) }
+        ensures counted { CountsFailures result (K.faults output.old) (K.faults output.new) }
     {
         if due { self.flush(output) } else { Ok(()) }
     }
 
-    /// Gathers `octets`; writes the earlier ones first if they do not all fit.
+    /// Gathers these octets. If they do not all fit, writes the octets gathered before first.
     pub(crate) fn add<K: Sink>(&mut self, octets: &[u8], output: &mut K) -> Result<(), Failed>
         requires { length octets.now ≤ 4096 }
-        ensures gathers { GathersAll result (self.old ++ octets.now) self.new (K.taken output.old) (K.taken output.new) }
-        ensures counted { Counted result (K.faults output.old) (K.faults output.new) }
+        ensures gathers { GathersTextIfOk result (self.old ++ octets.now) self.new (K.taken output.old) (K.taken output.new) }
+        ensures counted { CountsFailures result (K.faults output.old) (K.faults output.new) }
     {
         let full = !self.has_room(octets.len());
         self.flush_if(full, output)?;
@@ -94,11 +94,15 @@ impl Gathered {
         Ok(())
     }
 
-    /// Writes the gathered octets and then `octets`.
-    pub(crate) fn give<K: Sink>(&mut self, octets: &[u8], output: &mut K) -> Result<(), Failed>
+    /// Writes the octets gathered before, and then these octets.
+    pub(crate) fn write_directly<K: Sink>(
+        &mut self,
+        octets: &[u8],
+        output: &mut K,
+    ) -> Result<(), Failed>
         requires { length octets.now ≤ 4096 }
-        ensures taken { TakesAll (K.taken output.old) (K.taken output.new) result (self.old ++ octets.now) }
-        ensures counted { Counted result (K.faults output.old) (K.faults output.new) }
+        ensures taken { TakesWholeText (K.taken output.old) (K.taken output.new) result (self.old ++ octets.now) }
+        ensures counted { CountsFailures result (K.faults output.old) (K.faults output.new) }
     {
         self.add(octets, output)?;
         self.flush(output)

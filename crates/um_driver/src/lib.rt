@@ -1,4 +1,4 @@
-//! One driver for every command that reads lines.
+//! The driver that runs every command that reads lines.
 #![tactic(auto)]
 
 mod command;
@@ -14,6 +14,8 @@ pub use driver::drive;
 pub use laws::{output_exists, output_is_unique};
 pub use stateless::{Answer, Stateless};
 pub use status::Status;
+pub use um_io::{MemorySink, MemorySource, PlainSource, ReadSource, Sink, Source, WriteSink};
+pub use um_lines::Text;
 pub use writing::put_all;
 
 #[cfg(test)]

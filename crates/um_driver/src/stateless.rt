@@ -1,4 +1,4 @@
-//! Commands without a state, whose input may end after any line.
+//! Commands that keep no state between lines, so that their input may end after any line.
 ghost use Rattle.std.specs.Prelude.{◌≡◌, ℕ, List, [], Option, Some, None, MatchResult};
 ghost use Rattle.um_lines.specs.declared.fault.LineFault.{LineFault as Fault};
 ghost use Rattle.um_driver.specs.Rules.{Answers, stateless};
@@ -6,15 +6,15 @@ ghost use Rattle.um_driver.specs.Rules.{Answers, stateless};
 use crate::command::Command;
 use um_lines::{LineFault, Text};
 
-/// A command that answers each line by itself.
+/// A command whose answer to a line does not depend on other lines.
 pub trait Answer {
-    /// The first reason of a line, if it has one.
+    /// The first reason why a line is refused, if any.
     ghost fault: { List ℕ → Option Fault };
 
-    /// The answers that a line may have.
+    /// Which answers a line may have.
     ghost answers: { List ℕ → List ℕ → Type 0 };
 
-    /// Answers a line, or returns the reason to refuse it.
+    /// Writes the answer to a line, or returns the reason why the line is refused.
     fn answer(&self, line: &[u8], out: &mut Text) -> Result<(), LineFault>
         requires empty { out.old ≡ [] }
         ensures { MatchResult result
@@ -22,7 +22,7 @@ pub trait Answer {
             (λ reason. (fault line.now ≡ Some reason) × (out.new ≡ [])) };
 }
 
-/// The command of an `Answer`.
+/// Makes a `Command` of an `Answer`.
 #[derive(Clone, Copy, Debug)]
 pub struct Stateless<A>(pub A);
 

@@ -1,19 +1,19 @@
-//! How a run ends.
+//! The ways in which a run ends.
 ghost use Rattle.std.specs.Prelude.{◌≡◌};
 ghost use Rattle.um_driver.specs.Statuses.{number_of};
 
 /// How a run ended.
 #[derive(Clone, Copy, Debug, PartialEq, Eq)]
 pub enum Status {
-    /// The whole input was read, and the whole output was taken.
+    /// The whole input was read, and the whole output was written.
     Done,
-    /// The words name no command. Nothing was read or written.
+    /// The command-line words name no command. Nothing was read or written.
     BadWords,
-    /// A line of the input is bad, or its end. The last output line says which and why.
+    /// A line of the input was refused, or the input ended too early. The last line of output says where and why.
     BadInput,
-    /// The source failed.
+    /// Reading the input failed.
     ReadFault,
-    /// The sink failed.
+    /// Writing the output failed.
     WriteFault,
     /// Memory could not be allocated. Nothing was read or written.
     NoMemory,

@@ -6,7 +6,7 @@ use std::test::Fail;
 use um_io::{Failed, MemorySink, MemorySource, PlainSource, Source};
 use um_lines::{LineFault, Text, refused_line};
 
-/// Answers lines by their lengths. One octet opens or closes, three octets are refused, and the
+/// A command for tests that answers lines by their lengths: a line of one octet opens or closes, lines of three octets are refused, and the
 /// input may not end while open.
 #[derive(Drop)]
 struct Sizes {
@@ -53,7 +53,7 @@ impl Command for Sizes {
     }
 }
 
-const RUNS: [(&str, Status, &str); 12] = [
+const EXPECTED_RUNS: [(&str, Status, &str); 12] = [
     ("", Status::Done, ""),
     ("\n", Status::Done, ""),
     (
@@ -90,7 +90,7 @@ const RUNS: [(&str, Status, &str); 12] = [
 
 #[test]
 fn lines_are_answered_up_to_the_first_bad_one(rt: HostRuntime) -> Result<(), Fail> {
-    for (input, status, output) in RUNS {
+    for (input, status, output) in EXPECTED_RUNS {
         for most in [1, 2, 7, 5000] {
             let mut source = PlainSource::new(input.as_bytes(), most);
             let mut sink = MemorySink::new(rt.alloc(), 100, most, &[])?;
@@ -103,13 +103,13 @@ fn lines_are_answered_up_to_the_first_bad_one(rt: HostRuntime) -> Result<(), Fai
     Ok(())
 }
 
-// Read four octets at a time, its lines end in the first, the third and the fourth reading.
-const THREE: &[u8] = b"ab\nhello\nxyzzy\n";
+// If four octets are read at a time, its lines end in the first, the third and the fourth read.
+const THREE_LINES: &[u8] = b"ab\nhello\nxyzzy\n";
 
-const ANSWERS: &[u8] = b"refused 2 twice\nrefused 5 twice\nrefused 5 twice\n";
+const THREE_ANSWERS: &[u8] = b"refused 2 twice\nrefused 5 twice\nrefused 5 twice\n";
 
 #[test]
-fn a_reading_that_fails_leaves_the_answers_to_the_lines_read(rt: HostRuntime) -> Result<(), Fail> {
+fn a_failed_read_leaves_the_answers_to_earlier_lines(rt: HostRuntime) -> Result<(), Fail> {
     let calls = [
         (1, Status::ReadFault, 0),
         (2, Status::ReadFault, 16),
@@ -120,22 +120,22 @@ fn a_reading_that_fails_leaves_the_answers_to_the_lines_read(rt: HostRuntime) ->
     ];
     for (call, status, count) in calls {
         let fails = [call];
-        let mut source = MemorySource::new(THREE, 4, &fails);
+        let mut source = MemorySource::new(THREE_LINES, 4, &fails);
         let mut sink = MemorySink::new(rt.alloc(), 48, 48, &[])?;
         let mut sizes = Sizes { open: false };
         let ended = drive(rt.alloc(), &mut sizes, &mut source, &mut sink);
         assert_eq!(rt; ended, status, "{call}");
-        assert_eq!(rt; sink.octets(), &ANSWERS[..count], "{call}");
+        assert_eq!(rt; sink.octets(), &THREE_ANSWERS[..count], "{call}");
     }
     Ok(())
 }
 
 #[test]
-fn a_writing_that_fails_leaves_a_front_of_the_answers(rt: HostRuntime) -> Result<(), Fail> {
+fn a_failed_write_leaves_a_prefix_of_the_answers(rt: HostRuntime) -> Result<(), Fail> {
     let taken = [0, 5, 10, 15, 16, 21, 26, 31, 32, 37, 42, 47, 48];
     for (before, count) in taken.iter().enumerate() {
         let fails = [before as u64 + 1];
-        let mut source = PlainSource::new(THREE, 4);
+        let mut source = PlainSource::new(THREE_LINES, 4);
         let mut sink = MemorySink::new(rt.alloc(), 48, 5, &fails)?;
         let mut sizes = Sizes { open: false };
         let ended = drive(rt.alloc(), &mut sizes, &mut source, &mut sink);
@@ -145,7 +145,7 @@ fn a_writing_that_fails_leaves_a_front_of_the_answers(rt: HostRuntime) -> Result
             Status::Done
         };
         assert_eq!(rt; ended, status, "{before}");
-        assert_eq!(rt; sink.octets(), &ANSWERS[..*count], "{before}");
+        assert_eq!(rt; sink.octets(), &THREE_ANSWERS[..*count], "{before}");
     }
     Ok(())
 }
@@ -171,9 +171,7 @@ fn a_line_of_4096_octets_is_answered_and_one_more_is_long(rt: HostRuntime) -> Re
 }
 
 #[test]
-fn no_more_is_read_than_the_buffer_holds_past_the_answers_taken(
-    rt: HostRuntime,
-) -> Result<(), Fail> {
+fn at_most_one_buffer_is_read_beyond_the_answered_lines(rt: HostRuntime) -> Result<(), Fail> {
     let mut octets = [b'x'; 6300];
     for i in 0..300 {
         octets[21 * i + 20] = b'\n';
@@ -187,11 +185,11 @@ fn no_more_is_read_than_the_buffer_holds_past_the_answers_taken(
     Ok(())
 }
 
-/// A source without an end, whose lines have 4,095 octets.
+/// A source that never ends, with lines of 4,095 octets.
 #[derive(Drop)]
-struct Endless(usize);
+struct EndlessSource(usize);
 
-impl Source for Endless {
+impl Source for EndlessSource {
     ghost left = { λ _. None };
 
     ghost faults = { λ _. 0 };
@@ -206,8 +204,8 @@ impl Source for Endless {
 }
 
 #[test]
-fn an_input_past_the_limit_is_answered_up_to_it(rt: HostRuntime) -> Result<(), Fail> {
-    let mut source = Endless(0);
+fn an_input_above_the_limit_is_answered_up_to_the_limit(rt: HostRuntime) -> Result<(), Fail> {
+    let mut source = EndlessSource(0);
     let mut sink = MemorySink::new(rt.alloc(), 400_000, 400_000, &[])?;
     let mut sizes = Sizes { open: false };
     let ended = drive(rt.alloc(), &mut sizes, &mut source, &mut sink);
@@ -217,7 +215,7 @@ fn an_input_past_the_limit_is_answered_up_to_it(rt: HostRuntime) -> Result<(), F
 }
 
 #[test]
-fn a_status_has_its_number(rt: HostRuntime) {
+fn each_status_has_its_exit_number(rt: HostRuntime) {
     let numbers = [
         (Status::Done, 0),
         (Status::BadWords, 2),

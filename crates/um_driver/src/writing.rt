@@ -1,13 +1,12 @@
-//! Writing to the sink.
-ghost use Rattle.um_driver.specs.Taking.{TakesAll, Counted};
+//! Writes to the sink.
+ghost use Rattle.um_driver.specs.Taking.{TakesWholeText, CountsFailures};
 
 use um_io::{Failed, Sink};
 
-/// Writes all octets of `piece`, in as many calls as needed. After a failure a prefix of them was
-/// taken.
+/// Writes all octets of `piece`, in as many calls as needed. If it fails, the sink has received a prefix of them.
 pub fn put_all<K: Sink>(output: &mut K, piece: &[u8]) -> Result<(), Failed>
-    ensures taken { TakesAll (K.taken output.old) (K.taken output.new) result piece.now }
-    ensures counted { Counted result (K.faults output.old) (K.faults output.new) }
+    ensures taken { TakesWholeText (K.taken output.old) (K.taken output.new) result piece.now }
+    ensures counted { CountsFailures result (K.faults output.old) (K.faults output.new) }
 {
     let mut written = 0;
     while written < piece.len() {

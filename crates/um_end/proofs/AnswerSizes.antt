@@ -1,64 +1,48 @@
--- The length of an answer: a step reports at most one message, preceded by at most one
--- acknowledgement, so its lines fit the output buffer.
-use Rattle.std.proofs.Common.{◌≡◌, ℕ, ◌+◌, ◌*◌, ◌<◌, ◌≤◌, ◌^◌, Bool, true, false, ◌&&◌}
-use Rattle.std.proofs.Common.{if◌then◌else◌, nat_eq, nat_lt, ℤ, pos, negsuc, nat_abs, List, [], ◌∷◌, ◌++◌, length}
-use Rattle.std.proofs.Common.{length-append, append-nil, codes, map, Option, None, Some, refl, sym, ap, ◌∙◌, subst, arith}
-use Rattle.std.specs.Str.{bytes_eq}
-use Rattle.std.specs.Int.Signed.{mag}
-use Rattle.std.specs.Fmt.{decimal, signed_decimal}
-use Rattle.std.specs.List.{join_with_byte}
+-- The length of an answer: a step reports at most one message and at most one acknowledgement before it, so the lines of an answer fit in
+-- the output buffer.
+use Rattle.std.proofs.Common.{◌≡◌, ℕ, ◌+◌, ◌*◌, ◌<◌, ◌≤◌, ◌^◌, Bool, true, false, if◌then◌else◌, nat_eq, nat_lt, ℤ, pos, negsuc, nat_abs}
+use Rattle.std.proofs.Common.{List, [], ◌∷◌, ◌++◌, length, length-append, append-nil, codes, map, Option, None, Some, refl, sym, ap, ◌∙◌}
+use Rattle.std.proofs.{Common.{subst, arith}, lemmas.{Bool.Decides.nat_tests, Fmt.{length-decimal-le, length_signed_le}, List.length-map}}
+use Rattle.std.specs.{Int.Signed.mag, Fmt.{decimal, signed_decimal}, List.join_with_byte}
 use Rattle.hex.specs.Hex.{encode_lower}
-use Rattle.std.proofs.lemmas.Bool.Decides.{nat_tests}
-use Rattle.std.proofs.lemmas.Fmt.{length-decimal-le, length_signed_le}
-use Rattle.std.proofs.lemmas.List.{length-map}
-use Rattle.lapdm_frame.specs.declared.Channel.TheVariants.{Sdcch}
-use Rattle.lapdm_frame.specs.Content.{Content, I, Rr, Rnr, Rej, Sabm, Dm, Ui, Disc, Ua, Frame, information}
-use Rattle.lapdm_frame.specs.Frames.{InformationFits, IsFrame, octets_of}
-use Rattle.lapdm_window.specs.segmenting.declared.joiner.Joined.{Joined}
-use Rattle.lapdm_window.specs.segmenting.declared.joiner.Joined.TheVariants as J
-use Rattle.lapdm_window.specs.segmenting.Segments.{Message, Segment, longest}
-use Rattle.lapdm_window.specs.segmenting.Joining.{open_part, answer_to}
-use Rattle.lapdm_window.specs.declared.Sapi.{Sapi}
-use Rattle.lapdm_window.specs.declared.Sapi.TheVariants.{Zero, Three}
-use Rattle.lapdm_window.specs.declared.State.{State}
-use Rattle.lapdm_window.specs.declared.State.TheVariants as S
-use Rattle.lapdm_window.specs.declared.Notice.{Notice}
-use Rattle.lapdm_window.specs.declared.Notice.TheVariants as N
-use Rattle.lapdm_window.specs.declared.Reason.TheVariants as R
-use Rattle.lapdm_window.specs.Ends.{Role, Mobile, Network, EndState, Outcome, stays, ◌then◌, next_segment, n200, vr}
-use Rattle.lapdm_window.specs.Rules.{has_next, sends_segment, sends_next, acknowledges, reports_acked, counts, notices_of, accepts, says_rr}
-use Rattle.lapdm_window.specs.Rules.{answers_segment, reject_is_due, rejects, takes_i_frame, answers_poll, takes_rr, sends_again, takes_rej}
-use Rattle.lapdm_window.specs.Calls.{Call, Opens, OpensBare, Sends, SendsUnit, Closes, T200Expires, Idles, after_call, with_taken}
-use Rattle.lapdm_window.specs.Tables.{Reply, Nothing, SaysDm, SaysUa, IsOpenedBy, IsOpen, IsClosed, IsReleased, TakesUnit, TakesI}
-use Rattle.lapdm_window.specs.Tables.{TakesRr, TakesRej, becomes_closed, outcome_of, reply_to, after_frame}
-use Rattle.lapdm_window.proofs.Lemmas.{IsReplyTo, cause_of, by_sapi, few-frame, few-call}
-use Rattle.um_lines.proofs.SpelledLaws.{length-encode_lower}
-use Rattle.um_block.specs.declared.received.Received.{Received}
-use Rattle.um_link.specs.lapdm_link.Events.{Open, OpenBare, Ask, Deliver, Lose, Rival, BySide, call_of}
-use Rattle.um_link.specs.um_air.Air.{Octets, Block, Reads, Event, Step, Answer, Refuses, Does}
-use Rattle.um_link.specs.Coded.{AreCoded}
-use Rattle.um_lines.specs.Spelled.{octets_word}
-use Rattle.um_script.specs.AnswerWords.{who_word, link_word}
+use Rattle.um_link.specs.lapdm_frame.{declared.Channel.TheVariants.Sdcch, Content.{Content, I, Frame, information}, Frames.InformationFits}
+use Rattle.um_link.specs.{lapdm_frame.Frames.{IsFrame, octets_of}, lapdm_window.segmenting.declared.joiner.Joined.Joined}
+use Rattle.um_link.specs.lapdm_window.segmenting.{Segments.{Message, Segment, max_message_octets}, Joining.unfinished_octets}
+use Rattle.um_link.specs.lapdm_window.{segmenting.Joining.segment_answer, declared.{Sapi.{Sapi, TheVariants.{Zero, Three}}, Notice.Notice}}
+use Rattle.um_link.specs.lapdm_window.Ends.{Role, Mobile, Network, EndState, Outcome, no_effect, ◌then◌, next_segment, n200, vr}
+use Rattle.um_link.specs.lapdm_window.Rules.{may_send_next, sends_segment, sends_next, acknowledges, reports_acked, counts, segment_notices}
+use Rattle.um_link.specs.lapdm_window.Rules.{accepts_segment, sends_rr, answers_segment, reject_is_due, rejects_segment, takes_i_frame}
+use Rattle.um_link.specs.lapdm_window.{Rules.{answers_poll, takes_rr, sends_again, takes_rej}, Calls.{Call, Opens, OpensBare, Sends}}
+use Rattle.um_link.specs.lapdm_window.{Calls.{SendsUnit, Closes, T200Expires, SendsFill, after_call, with_queued}, Tables.{Reply, Nothing}}
+use Rattle.um_link.specs.lapdm_window.Tables.{SendsDm, SendsUa, AcceptsSabm, ConfirmsEstablishment, ClosesLink, AcceptsDisc, TakesUnit}
+use Rattle.um_link.specs.lapdm_window.Tables.{TakesI, TakesRr, TakesRej, closes_and_reports, outcome_of, reply_to, after_frame}
+use Rattle.um_link.specs.{um_block.declared.received.Received.Received, lapdm_link.Events.{Open, OpenBare, Ask, Deliver, Lose, Rival}}
+use Rattle.um_link.specs.{lapdm_link.Events.{BySide, call_of}, um_air.Air.{Octets, Block, ReadsFrame, Event, Step, Answer, Refuses, Does}}
+use Rattle.um_link.{specs.Coded.AreCoded, proofs.lapdm_window.Lemmas.{IsReplyTo, cause_of, by_sapi, few-frame, few-call}}
+use Rattle.um_lines.{proofs.SpelledLaws.length-encode_lower, specs.Spelled.octets_word}
+use Rattle.um_script.specs.{AnswerWords.{actor_word, sapi_suffix}, AnswerLines.{AnswerLine, reception, reception_words, notice_words}}
+use Rattle.um_script.specs.AnswerLines.{received_block_line, received_block_lines, spaced_words, lines_text, answer_text}
+use Rattle.um_script.{specs.AnswerLines.ReceptionIsInRange, proofs.AnswerLaws.{lines_text_append, join-spaced, report_line}}
+use Rattle.um_end.specs.Terminals.{SideState, link_in, does, does_nothing, takes, takes_frame_if_read, step_of, IsCallAnswer, AnswersCall}
+use Rattle.um_end.specs.{Terminals.ReceivesBursts, EndRuns.{frames_sent_in, IsAnswerText}}
+use Rattle.um_link.specs.lapdm_window.segmenting.declared.joiner.Joined.TheVariants as J
+use Rattle.um_link.specs.lapdm_window.declared.State.TheVariants as S
+use Rattle.um_link.specs.lapdm_window.declared.Notice.TheVariants as N
+use Rattle.um_link.specs.lapdm_window.declared.Reason.TheVariants as R
 use Rattle.um_script.specs.AnswerLines as L
-use Rattle.um_script.specs.AnswerLines.{AnswerLine, reception, reception_words, notice_words, block_line, arrival_lines, spaced_words}
-use Rattle.um_script.specs.AnswerLines.{lines_text}
-use Rattle.um_script.specs.AnswerLines.{answer_text, FitsReception}
-use Rattle.um_script.proofs.AnswerLaws.{lines_text_append, join-spaced, report_line}
-use Rattle.um_end.specs.Terminals.{SideState, link_in, does, does_nothing, takes, takes_read, step_of, IsAsked, Asks, ReceivesBursts}
-use Rattle.um_end.specs.EndRuns.{frames_of, IsAnswerText}
 
--- ---- what a step reports
+-- ---- the notices that a step reports
 
--- the octets of at most one message, or a number of at most 20 digits
-abbrev pub IsLight : Notice → Type 0
-IsLight (N.Opened m) = length m ≤ 251
-IsLight (N.Got m) = length m ≤ 251
-IsLight (N.Unit m) = length m ≤ 251
-IsLight (N.Acked n) = n < 2 ^ 64
-IsLight N.Oversize = Unit {0}
-IsLight (N.Closed reason) = Unit {0}
+-- the notice has at most 251 octets, or a number of at most 20 digits
+abbrev pub HasSmallContents : Notice → Type 0
+HasSmallContents (N.Opened m) = length m ≤ 251
+HasSmallContents (N.Got m) = length m ≤ 251
+HasSmallContents (N.Unit m) = length m ≤ 251
+HasSmallContents (N.Acked n) = n < 2 ^ 64
+HasSmallContents N.Oversize = Unit {0}
+HasSmallContents (N.Closed reason) = Unit {0}
 
--- no notice, or an acknowledgement
+-- either no notice, or a single acknowledgement
 abbrev pub IsAcked : List Notice → Type 0
 IsAcked [] = Unit {0}
 IsAcked (N.Acked n ∷ []) = n < 2 ^ 64
@@ -67,22 +51,22 @@ IsAcked other = ⊥
 -- at most one notice
 abbrev pub IsOne : List Notice → Type 0
 IsOne [] = Unit {0}
-IsOne (notice ∷ []) = IsLight notice
+IsOne (notice ∷ []) = HasSmallContents notice
 IsOne other = ⊥
 
--- at most one notice, and an acknowledgement before it
-abbrev pub IsBrief : List Notice → Type 0
-IsBrief [] = Unit {0}
-IsBrief (notice ∷ []) = IsLight notice
-IsBrief (N.Acked n ∷ notice ∷ []) = (n < 2 ^ 64) × IsLight notice
-IsBrief other = ⊥
+-- at most one notice, perhaps after an acknowledgement
+abbrev pub IsAtMostAckAndOne : List Notice → Type 0
+IsAtMostAckAndOne [] = Unit {0}
+IsAtMostAckAndOne (notice ∷ []) = HasSmallContents notice
+IsAtMostAckAndOne (N.Acked n ∷ notice ∷ []) = (n < 2 ^ 64) × HasSmallContents notice
+IsAtMostAckAndOne other = ⊥
 
-one_brief : (ns : List Notice) → IsOne ns → IsBrief ns
+one_brief : (ns : List Notice) → IsOne ns → IsAtMostAckAndOne ns
 one_brief [] h = tt
 one_brief (n ∷ []) h = h
 one_brief (n ∷ m ∷ ns) h = absurd h
 
-joined : (ns ms : List Notice) → IsAcked ns → IsOne ms → IsBrief (ns ++ ms)
+joined : (ns ms : List Notice) → IsAcked ns → IsOne ms → IsAtMostAckAndOne (ns ++ ms)
 joined [] ms a o = one_brief ms o
 joined (N.Acked n ∷ []) [] a o = a
 joined (N.Acked n ∷ []) (m ∷ []) a o = (a, o)
@@ -94,21 +78,22 @@ joined (N.Unit m ∷ ns) ms a o = absurd a
 joined (N.Oversize ∷ ns) ms a o = absurd a
 joined (N.Closed reason ∷ ns) ms a o = absurd a
 
-all_three : (ns ms ls : List Notice) → IsAcked ns → IsOne ms → ls ≡ [] → IsBrief ((ns ++ ms) ++ ls)
+all_three : (ns ms ls : List Notice) → IsAcked ns → IsOne ms → ls ≡ [] → IsAtMostAckAndOne ((ns ++ ms) ++ ls)
 all_three ns ms ls a o none =
-    subst (λ (l : List Notice). IsBrief ((ns ++ ms) ++ l)) (sym none) (subst IsBrief (sym (append-nil (ns ++ ms))) (joined ns ms a o))
+    subst (λ (l : List Notice). IsAtMostAckAndOne ((ns ++ ms) ++ l)) (sym none) (subst IsAtMostAckAndOne (sym (append-nil (ns ++ ms)))
+    (joined ns ms a o))
 
 by_test : (P : List Notice → Type 0) (b : Bool) (o p : Outcome) → P o.notices → P p.notices → P (if b then o else p).notices
 by_test P true o p h g = h
 by_test P false o p h g = g
 
--- ---- window rules
+-- ---- the rules of the window
 
 next : (e : EndState) → (sends_next e).notices ≡ []
-next e = by_test (λ ns. ns ≡ []) (has_next e) (sends_segment e) (stays e) refl refl
+next e = by_test (λ ns. ns ≡ []) (may_send_next e) (sends_segment e) (no_effect e) refl refl
 
 acked : (nr : ℕ) (e : EndState) → IsAcked (counts nr e).notices
-acked nr e = by_test IsAcked (acknowledges nr e) (reports_acked (next_segment e).1 e) (stays e) (by_more (next_segment e).1) tt
+acked nr e = by_test IsAcked (acknowledges nr e) (reports_acked (next_segment e).1 e) (no_effect e) (by_more (next_segment e).1) tt
   where
     by_more : (b : Bool) → IsAcked (reports_acked b e).notices
     by_more true = tt
@@ -119,16 +104,16 @@ IsWhole J.Whole = Unit {0}
 IsWhole J.More = ⊥
 IsWhole J.Oversize = ⊥
 
-accepted : (segment : Segment) (e : EndState) → IsOne (accepts segment e).notices
-accepted segment e = by_answer (answer_to e.accepted segment) segment.1 refl
+accepted : (segment : Segment) (e : EndState) → IsOne (accepts_segment segment e).notices
+accepted segment e = by_answer (segment_answer e.accepted segment) segment.1 refl
   where
     m : Message
-    m = open_part e.accepted ++ segment.0
+    m = unfinished_octets e.accepted ++ segment.0
 
-    by_answer : (j : Joined) (b : Bool) → answer_to e.accepted segment ≡ j → IsOne (notices_of j b m)
-    by_answer J.Whole b is = whole (nat_lt longest (length m)) refl
+    by_answer : (j : Joined) (b : Bool) → segment_answer e.accepted segment ≡ j → IsOne (segment_notices j b m)
+    by_answer J.Whole b is = whole (nat_lt max_message_octets (length m)) refl
       where
-        whole : (t : Bool) → nat_lt longest (length m) ≡ t → length m ≤ 251
+        whole : (t : Bool) → nat_lt max_message_octets (length m) ≡ t → length m ≤ 251
         whole true q =
             absurd (subst IsWhole (sym is ∙ ap (λ (t : Bool). if t then J.Oversize else (if segment.1 then J.More else J.Whole)) q) tt)
         whole false q = grind (arith, nat_tests)
@@ -138,69 +123,69 @@ accepted segment e = by_answer (answer_to e.accepted segment) segment.1 refl
 
 answered : (p : Bool) (e : EndState) → (answers_segment p e).notices ≡ []
 answered true e = next e
-answered false e = by_test (λ ns. ns ≡ []) (has_next e) (sends_segment e) (says_rr false e) refl refl
+answered false e = by_test (λ ns. ns ≡ []) (may_send_next e) (sends_segment e) (sends_rr false e) refl refl
 
-rejected : (p : Bool) (e : EndState) → IsOne (rejects p e).notices
-rejected p e = by_test IsOne (reject_is_due p e) _ (stays e) tt tt
+rejected : (p : Bool) (e : EndState) → IsOne (rejects_segment p e).notices
+rejected p e = by_test IsOne (reject_is_due p e) _ (no_effect e) tt tt
 
-polled : (b : Bool) (e : EndState) → IsOne (answers_poll b e).notices
-polled b e = by_test IsOne b (says_rr true e) (stays e) tt tt
+notices_of_poll : (b : Bool) (e : EndState) → IsOne (answers_poll b e).notices
+notices_of_poll b e = by_test IsOne b (sends_rr true e) (no_effect e) tt tt
 
 again : (e : EndState) → (sends_again e).notices ≡ []
 again e = by_test (λ ns. ns ≡ []) _ _ (sends_next e) refl (next e)
 
--- N(R) is processed, and then two rules in turn
+-- the notices after an N(R) is evaluated and two further rules are applied
 counted : (nr : ℕ) (first second : EndState → Outcome) (e : EndState) → ((x : EndState) → IsOne (first x).notices) →
-    ((x : EndState) → (second x).notices ≡ []) → IsBrief (counts nr e then first then second).notices
+    ((x : EndState) → (second x).notices ≡ []) → IsAtMostAckAndOne (counts nr e then first then second).notices
 counted nr first second e h g =
     let o = counts nr e in
     all_three o.notices (first o.after).notices (second (o then first).after).notices (acked nr e) (h o.after) (g (o then first).after)
 
-brief-i : (ns nr : ℕ) (p : Bool) (segment : Segment) (e : EndState) → IsBrief (takes_i_frame ns nr p segment e).notices
+brief-i : (ns nr : ℕ) (p : Bool) (segment : Segment) (e : EndState) → IsAtMostAckAndOne (takes_i_frame ns nr p segment e).notices
 brief-i ns nr p segment e =
-    by_test IsBrief (nat_eq ns (vr e)) (counts nr e then accepts segment then answers_segment p)
-    (counts nr e then rejects p then sends_next)
-    (counted nr (accepts segment) (answers_segment p) e (accepted segment) (answered p))
-    (counted nr (rejects p) sends_next e (rejected p) next)
+    by_test IsAtMostAckAndOne (nat_eq ns (vr e)) (counts nr e then accepts_segment segment then answers_segment p)
+    (counts nr e then rejects_segment p then sends_next)
+    (counted nr (accepts_segment segment) (answers_segment p) e (accepted segment) (answered p))
+    (counted nr (rejects_segment p) sends_next e (rejected p) next)
 
-brief-rr : (nr : ℕ) (b : Bool) (e : EndState) → IsBrief (takes_rr nr b e).notices
-brief-rr nr b e = counted nr (answers_poll b) sends_next e (polled b) next
+brief-rr : (nr : ℕ) (b : Bool) (e : EndState) → IsAtMostAckAndOne (takes_rr nr b e).notices
+brief-rr nr b e = counted nr (answers_poll b) sends_next e (notices_of_poll b) next
 
-brief-rej : (nr : ℕ) (b : Bool) (e : EndState) → IsBrief (takes_rej nr b e).notices
-brief-rej nr b e = counted nr (answers_poll b) sends_again e (polled b) again
+brief-rej : (nr : ℕ) (b : Bool) (e : EndState) → IsAtMostAckAndOne (takes_rej nr b e).notices
+brief-rej nr b e = counted nr (answers_poll b) sends_again e (notices_of_poll b) again
 
--- ---- reply tables
+-- ---- the tables of replies
 
--- a reply repeats at most the information of its frame
+-- if two contents are equal, the information of one has at most 251 octets if that of the other has
 short : (c d : Content) → c ≡ d → length (information c) ≤ 251 → length (information d) ≤ 251
 short c d is h = subst (λ (x : Content). length (information x) ≤ 251) is h
 
 brief-reply : (r : Reply) (c : Content) (e : EndState) → IsReplyTo c e r → length (information c) ≤ 251 →
-    IsBrief (outcome_of r e).notices
+    IsAtMostAckAndOne (outcome_of r e).notices
 brief-reply Nothing c e cause h = tt
-brief-reply SaysDm c e cause h = tt
-brief-reply (SaysUa info) c e cause h = tt
-brief-reply (IsOpenedBy info) c e cause h = short c _ cause.1 h
-brief-reply (IsOpen info) c e cause h = short c _ cause.0 h
-brief-reply (IsClosed reason) c e cause h = tt
-brief-reply IsReleased c e cause h = tt
+brief-reply SendsDm c e cause h = tt
+brief-reply (SendsUa info) c e cause h = tt
+brief-reply (AcceptsSabm info) c e cause h = short c _ cause.1 h
+brief-reply (ConfirmsEstablishment info) c e cause h = short c _ cause.0 h
+brief-reply (ClosesLink reason) c e cause h = tt
+brief-reply AcceptsDisc c e cause h = tt
 brief-reply (TakesUnit info) c e cause h = short c _ cause.1 h
 brief-reply (TakesI ns nr p segment) c e cause h = brief-i ns nr p segment e
 brief-reply (TakesRr nr poll) c e cause h = brief-rr nr poll e
 brief-reply (TakesRej nr poll) c e cause h = brief-rej nr poll e
 
--- a frame or a call leads to at most one notice, and an acknowledgement before it
-pub brief-frame : (f : Frame) (e : EndState) → length (information f.content) ≤ 251 → IsBrief (after_frame f e).notices
+-- a frame, or (below) a call, leads to at most one notice, perhaps after an acknowledgement
+pub brief-frame : (f : Frame) (e : EndState) → length (information f.content) ≤ 251 → IsAtMostAckAndOne (after_frame f e).notices
 brief-frame f e h = brief-reply (reply_to f e) f.content e (cause_of e f) h
 
-pub brief-call : (call : Call) (e : EndState) → IsBrief (after_call call e).notices
+pub brief-call : (call : Call) (e : EndState) → IsAtMostAckAndOne (after_call call e).notices
 brief-call (Opens info) e = tt
 brief-call OpensBare e = tt
-brief-call (Sends m) e = subst IsBrief (sym (next (with_taken m e))) tt
+brief-call (Sends m) e = subst IsAtMostAckAndOne (sym (next (with_queued m e))) tt
 brief-call (SendsUnit m) e = tt
 brief-call Closes e = tt
-brief-call T200Expires e = by_test IsBrief (nat_lt e.retries (n200 e.channel e.state)) _ (becomes_closed _ e) tt tt
-brief-call Idles e = tt
+brief-call T200Expires e = by_test IsAtMostAckAndOne (nat_lt e.retries (n200 e.channel e.state)) _ (closes_and_reports _ e) tt tt
+brief-call SendsFill e = tt
 
 -- ---- texts
 
@@ -210,11 +195,11 @@ append_four a b c d = omega (arith, length-append (a ++ b ++ c) d, length-append
 append_five : (a b c d e : List ℕ) → length (a ++ b ++ c ++ d ++ e) ≡ length a + length b + length c + length d + length e
 append_five a b c d e = omega (arith, length-append (a ++ b ++ c ++ d) e, append_four a b c d)
 
-who_three : (role : Role) → length (who_word (BySide role)) ≡ 3
+who_three : (role : Role) → length (actor_word (BySide role)) ≡ 3
 who_three Mobile = refl
 who_three Network = refl
 
-link_short : (sapi : Sapi) → length (link_word sapi) ≤ 1
+link_short : (sapi : Sapi) → length (sapi_suffix sapi) ≤ 1
 link_short Zero = omega arith
 link_short Three = omega arith
 
@@ -225,7 +210,7 @@ octets_short : (m : List ℕ) → length m ≤ 251 → length (octets_word m) �
 octets_short [] h = omega arith
 octets_short (octet ∷ rest) h = omega (arith, h, length-encode_lower (octet ∷ rest))
 
-notice_short : (notice : Notice) → IsLight notice → length (spaced_words (notice_words notice)) ≤ 510
+notice_short : (notice : Notice) → HasSmallContents notice → length (spaced_words (notice_words notice)) ≤ 510
 notice_short (N.Opened m) h = omega (arith, length-append (octets_word m) [], octets_short m h)
 notice_short (N.Got m) h = omega (arith, length-append (octets_word m) [], octets_short m h)
 notice_short (N.Unit m) h = omega (arith, length-append (octets_word m) [], octets_short m h)
@@ -236,7 +221,7 @@ notice_short (N.Closed R.Failed) h = omega arith
 notice_short (N.Closed R.Refused) h = omega arith
 notice_short (N.Closed R.Released) h = omega arith
 
--- the lines of notices
+-- the text of the lines for these notices
 abbrev notified : Role → Sapi → List Notice → List ℕ
 notified role sapi notices = lines_text (map (L.Reports (BySide role) sapi) notices)
 
@@ -244,10 +229,10 @@ line_short : (role : Role) (sapi : Sapi) (notice : Notice) (notices : List Notic
     length (notified role sapi (notice ∷ notices)) ≤ 5 + length (spaced_words (notice_words notice)) + length (notified role sapi notices)
 line_short role sapi notice notices =
     let rest = notified role sapi notices in
-    let all = append_five (who_word (BySide role)) (link_word sapi) (spaced_words (notice_words notice)) (codes "\n") rest in
+    let all = append_five (actor_word (BySide role)) (sapi_suffix sapi) (spaced_words (notice_words notice)) (codes "\n") rest in
     omega (arith, all, ap length (report_line [] (BySide role) sapi notice rest), who_three role, link_short sapi)
 
-notices_short : (role : Role) (sapi : Sapi) (ns : List Notice) → IsBrief ns → length (notified role sapi ns) ≤ 547
+notices_short : (role : Role) (sapi : Sapi) (ns : List Notice) → IsAtMostAckAndOne ns → length (notified role sapi ns) ≤ 547
 notices_short role sapi [] h = omega arith
 notices_short role sapi (n ∷ []) h = omega (arith, line_short role sapi n [], notice_short n h)
 notices_short role sapi (N.Acked k ∷ n ∷ []) h =
@@ -265,7 +250,7 @@ frames_short role tsc [] [] h = refl
 frames_short role tsc [] (b ∷ bs) h = absurd h
 frames_short role tsc (f ∷ fs) [] h = absurd h
 frames_short role tsc (f ∷ fs) (b ∷ bs) h =
-    let name = who_word (BySide role) in
+    let name = actor_word (BySide role) in
     let words = codes " sends " ++ encode_lower f in
     omega (
       arith,
@@ -282,7 +267,7 @@ mag_is : (z : ℤ) → mag z ≤ nat_abs z
 mag_is (pos n) = omega arith
 mag_is (negsuc n) = omega arith
 
-reception_short : (r : Received) → r.tsc ≤ 7 → FitsReception (reception r) → length (spaced_words (reception_words (reception r))) ≤ 61
+reception_short : (r : Received) → r.tsc ≤ 7 → ReceptionIsInRange (reception r) → length (spaced_words (reception_words (reception r))) ≤ 61
 reception_short r tsc h =
     let t = length-decimal-le 1 r.tsc (omega arith) (omega (arith, tsc)) (omega (arith, tsc)) in
     let w = length-decimal-le 20 r.wrong_training (omega arith) (omega (arith, h.train)) h.train in
@@ -300,14 +285,14 @@ reception_short r tsc h =
     )
 
 arrival_short : (role : Role) (r : Received) (octets : Octets) → r.accepted ≡ Some octets → length octets ≡ 23 → r.tsc ≤ 7 →
-    FitsReception (reception r) → length (lines_text (arrival_lines (BySide role) (Some r))) ≤ 118
+    ReceptionIsInRange (reception r) → length (lines_text (received_block_lines (BySide role) (Some r))) ≤ 118
 arrival_short role r octets is count tsc fits =
-    let name = who_word (BySide role) in
+    let name = actor_word (BySide role) in
     let words = codes "takes" ∷ encode_lower octets ∷ reception_words (reception r) in
     let line = join_with_byte 32 (name ∷ words) in
     omega (
       arith,
-      ap (λ accepted. length (lines_text (block_line (BySide role) accepted r ∷ []))) is,
+      ap (λ accepted. length (lines_text (received_block_line (BySide role) accepted r ∷ []))) is,
       length-append (line ++ codes "\n") [],
       length-append line (codes "\n"),
       ap length (join-spaced name words),
@@ -321,9 +306,9 @@ arrival_short role r octets is count tsc fits =
 
 -- ---- answers
 
--- the lines of an answer, and those of the bursts of each frame sent
+-- an answer, with the lines of the bursts of each frame sent, has fewer than 2000 octets
 abbrev pub IsShort : Answer → Type 0
-IsShort answer = length (answer_text answer) + 604 * length (frames_of answer) < 2000
+IsShort answer = length (answer_text answer) + 604 * length (frames_sent_in answer) < 2000
 
 lines_four : (a b c d : List AnswerLine) → length (lines_text (a ++ b ++ c ++ d))
     ≡ length (lines_text a) + length (lines_text b) + length (lines_text c) + length (lines_text d)
@@ -333,11 +318,11 @@ lines_four a b c d =
     ∙ append_four (lines_text a) (lines_text b) (lines_text c) (lines_text d)
 
 outcome_short : (role : Role) (received : Option Received) (sapi : Sapi) (o : Outcome) (a : SideState) (tsc : ℕ) (blocks : List Block) →
-    length o.frames ≤ 2 → IsBrief o.notices → length (lines_text (arrival_lines (BySide role) received)) ≤ 118 →
+    length o.frames ≤ 2 → IsAtMostAckAndOne o.notices → length (lines_text (received_block_lines (BySide role) received)) ≤ 118 →
     AreCoded tsc (map (octets_of Sdcch) o.frames) blocks → IsShort (Does (step_of role received (does sapi o a)))
 outcome_short role received sapi o a tsc blocks few brief arrived coded =
     let frames = map (octets_of Sdcch) o.frames in
-    let all = lines_four (arrival_lines (BySide role) received) (map (L.Reports (BySide role) sapi) o.notices)
+    let all = lines_four (received_block_lines (BySide role) received) (map (L.Reports (BySide role) sapi) o.notices)
     (map (L.Sends (BySide role)) frames)
     (L.All ∷ []) in
     omega (
@@ -351,7 +336,8 @@ outcome_short role received sapi o a tsc blocks few brief arrived coded =
     )
 
 asked_short : (role : Role) (a : SideState) (sapi : Sapi) (call : Call) (b : SideState) (answer : Answer) (tsc : ℕ) (blocks : List Block) →
-    IsAsked role a sapi call b answer → AreCoded tsc (frames_of answer) blocks → length (answer_text answer) < 2000 → IsShort answer
+    IsCallAnswer role a sapi call b answer → AreCoded tsc (frames_sent_in answer) blocks → length (answer_text answer) < 2000 →
+    IsShort answer
 asked_short role a sapi call b (Refuses why) tsc blocks h coded lines = omega (arith, lines)
 asked_short role a sapi call b (Does step) tsc blocks h coded lines =
     let o = after_call call (link_in sapi a) in
@@ -359,12 +345,12 @@ asked_short role a sapi call b (Does step) tsc blocks h coded lines =
     (outcome_short role None sapi o a tsc blocks (few-call call (link_in sapi a)).frames (brief-call call (link_in sapi a))
     (omega arith)) coded
 
--- the answer to a call
+-- the answer to a call has fewer than 2000 octets
 pub call_short : (role : Role) (a : SideState) (event : Event) (b : SideState) (answer : Answer) (tsc : ℕ) (text : List ℕ) →
-    Asks role a event b answer → IsAnswerText tsc answer text → length (answer_text answer) < 2000 → IsShort answer
+    AnswersCall role a event b answer → IsAnswerText tsc answer text → length (answer_text answer) < 2000 → IsShort answer
 call_short role a event b answer tsc text h t lines = by_event event h
   where
-    by_event : (event : Event) → Asks role a event b answer → IsShort answer
+    by_event : (event : Event) → AnswersCall role a event b answer → IsShort answer
     by_event (Open info) h = asked_short role a Zero (Opens info) b answer tsc t.blocks h t.coded lines
     by_event (OpenBare other) h = asked_short role a Three OpensBare b answer tsc t.blocks h t.coded lines
     by_event (Ask other sapi request) h = asked_short role a sapi (call_of request) b answer tsc t.blocks h t.coded lines
@@ -372,7 +358,7 @@ call_short role a event b answer tsc text h t lines = by_event event h
     by_event (Lose sender) h = absurd h
     by_event (Rival info) h = absurd h
 
--- if nothing is sent
+-- an answer that sends nothing satisfies `IsShort` if its own lines have fewer than 2000 octets
 unsent : (step : Step) → step.frames ≡ [] → length (answer_text (Does step)) < 2000 → IsShort (Does step)
 unsent step none lines = let n = ap (λ fs. length fs) none in omega (arith, n, lines)
 
@@ -382,7 +368,7 @@ has_room other h = omega (arith, h)
 
 taken_short : (role : Role) (a : SideState) (r : Received) (f : Frame) (octets : Octets) (tsc : ℕ) (blocks : List Block) →
     r.accepted ≡ Some octets →
-    IsFrame Sdcch f octets → r.tsc ≤ 7 → FitsReception (reception r) → AreCoded tsc (step_of role (Some r) (takes f a)).frames blocks →
+    IsFrame Sdcch f octets → r.tsc ≤ 7 → ReceptionIsInRange (reception r) → AreCoded tsc (step_of role (Some r) (takes f a)).frames blocks →
     length (answer_text (Does (step_of role (Some r) (takes f a)))) < 2000 → IsShort (Does (step_of role (Some r) (takes f a)))
 taken_short role a r f octets tsc blocks is frame known fits =
     let arrived = arrival_short role r octets is frame.count known fits in
@@ -395,15 +381,15 @@ taken_short role a r f octets tsc blocks is frame known fits =
     (brief-frame f a.link3 room) arrived coded)
     (λ p q coded lines. unsent (step_of role (Some r) (does_nothing a)) refl lines)
 
--- the answer to a block
+-- the answer to a block has fewer than 2000 octets
 pub block_short : (role : Role) (a : SideState) (bursts : List (List ℤ)) (b : SideState) (step : Step) (tsc : ℕ) (text : List ℕ) →
-    ReceivesBursts role a bursts b step → ((r : Received) → step.received ≡ Some r → FitsReception (reception r)) →
+    ReceivesBursts role a bursts b step → ((r : Received) → step.received ≡ Some r → ReceptionIsInRange (reception r)) →
     IsAnswerText tsc (Does step) text →
     length (answer_text (Does step)) < 2000 → IsShort (Does step)
 block_short role a bursts b step tsc text h fits t lines = by_read h.read h.report.accepted h.reads refl h.step_is
   where
-    by_read : (read : Option Frame) (accepted : Option Octets) → Reads Sdcch accepted read → h.report.accepted ≡ accepted →
-        step ≡ step_of role (Some h.report) (takes_read read a) → IsShort (Does step)
+    by_read : (read : Option Frame) (accepted : Option Octets) → ReadsFrame Sdcch accepted read → h.report.accepted ≡ accepted →
+        step ≡ step_of role (Some h.report) (takes_frame_if_read read a) → IsShort (Does step)
     by_read None accepted reads is same = unsent step (ap (λ (s : Step). s.frames) same) lines
     by_read (Some f) None reads is same = absurd reads
     by_read (Some f) (Some octets) reads is same =

@@ -1,39 +1,32 @@
--- A call, or the bursts of a block, determines the answer and the links after it.
+-- A call, or the bursts of a block, has only one answer and only one state of the endpoints after it.
 use Rattle.std.proofs.Common.{◌≡◌, sym, ◌∙◌, ap, ap₂, subst, ℤ, List, Option, Some, None}
-use Rattle.lapdm_frame.specs.declared.Channel.TheVariants.{Sdcch}
-use Rattle.lapdm_frame.specs.Content.{Frame}
-use Rattle.lapdm_window.specs.declared.Sapi.{Sapi}
-use Rattle.lapdm_window.specs.Calls.{Call}
-use Rattle.lapdm_window.specs.Ends.{Role}
-use Rattle.um_block.specs.declared.received.Received.{Received}
-use Rattle.um_block.proofs.Lemmas.{one_received_block}
-use Rattle.um_link.specs.lapdm_link.Events.{Open, OpenBare, Ask, Deliver, Lose, Rival, Why, Nothing, call_of}
-use Rattle.um_link.specs.um_air.Air.{Event, Reads, Step, Answer, Refuses, Does}
-use Rattle.um_link.proofs.um_air.Laws.{one_read}
-use Rattle.lapdm_window.specs.Calls.{Opens, OpensBare}
-use Rattle.lapdm_window.specs.declared.Sapi.TheVariants.{Zero, Three}
-use Rattle.um_end.specs.Terminals.{SideState, takes_read, step_of, IsAsked, Asks, ReceivesBursts}
+use Rattle.um_link.specs.{lapdm_frame.{declared.Channel.TheVariants.Sdcch, Content.Frame}, lapdm_window.declared.Sapi.Sapi}
+use Rattle.um_link.specs.lapdm_window.{declared.Sapi.TheVariants.{Zero, Three}, Calls.{Call, Opens, OpensBare}, Ends.Role}
+use Rattle.um_link.specs.{um_block.declared.received.Received.Received, lapdm_link.Events.{Open, OpenBare, Ask, Deliver, Lose, Rival}}
+use Rattle.um_link.specs.{lapdm_link.Events.{EventRefusal, Nothing, call_of}, um_air.Air.{Event, ReadsFrame, Step, Answer, Refuses, Does}}
+use Rattle.um_link.proofs.{um_block.Lemmas.one_received_block, um_air.Laws.one_read}
+use Rattle.um_end.specs.Terminals.{SideState, takes_frame_if_read, step_of, IsCallAnswer, AnswersCall, ReceivesBursts}
 
-why_or : Option Why → Why
+why_or : Option EventRefusal → EventRefusal
 why_or (Some why) = why
 why_or None = Nothing
 
-same_why : (v w : Why) → Some v ≡ Some w → v ≡ w
+same_why : (v w : EventRefusal) → Some v ≡ Some w → v ≡ w
 unfolding why_or
 same_why v w e = ap why_or e
 
-not_both : (o : Option Why) (why : Why) → o ≡ Some why → o ≡ None → ⊥
+not_both : (o : Option EventRefusal) (why : EventRefusal) → o ≡ Some why → o ≡ None → ⊥
 not_both o why h g = cc (h, g)
 
-one_asked : (role : Role) (a : SideState) (sapi : Sapi) (call : Call) (b c : SideState) (x y : Answer) → IsAsked role a sapi call b x →
-    IsAsked role a sapi call c y → (b ≡ c) × (x ≡ y)
+one_asked : (role : Role) (a : SideState) (sapi : Sapi) (call : Call) (b c : SideState) (x y : Answer) → IsCallAnswer role a sapi call b x →
+    IsCallAnswer role a sapi call c y → (b ≡ c) × (x ≡ y)
 one_asked role a sapi call b c (Refuses v) (Refuses w) h k = (h.1 ∙ sym k.1, ap Refuses (same_why v w (sym h.0 ∙ k.0)))
 one_asked role a sapi call b c (Refuses v) (Does t) h k = absurd (not_both _ v h.0 k.0)
 one_asked role a sapi call b c (Does s) (Refuses w) h k = absurd (not_both _ w k.0 h.0)
 one_asked role a sapi call b c (Does s) (Does t) h k = (h.1 ∙ sym k.1, ap Does (h.2 ∙ sym k.2))
 
-pub one_asking : (role : Role) (a : SideState) (event : Event) (b c : SideState) (x y : Answer) → Asks role a event b x →
-    Asks role a event c y →
+pub one_asking : (role : Role) (a : SideState) (event : Event) (b c : SideState) (x y : Answer) → AnswersCall role a event b x →
+    AnswersCall role a event c y →
     (b ≡ c) × (x ≡ y)
 one_asking role a (Open info) b c x y h k = one_asked role a Zero (Opens info) b c x y h k
 one_asking role a (OpenBare other) b c x y h k = one_asked role a Three OpensBare b c x y h k
@@ -48,7 +41,8 @@ pub one_reception : (role : Role) (a : SideState) (bursts : List (List ℤ)) (b 
 one_reception role a bursts b c s t h k =
     let report : h.report ≡ k.report = one_received_block bursts h.report k.report h.received k.received in
     let read : h.read ≡ k.read =
-    one_read Sdcch k.report.accepted h.read k.read (subst (λ (q : Received). Reads Sdcch q.accepted h.read) report h.reads) k.reads in (
-      h.after ∙ ap (λ (f : Option Frame). (takes_read f a).after) read ∙ sym k.after,
-      h.step_is ∙ ap₂ (λ (r : Received) (f : Option Frame). step_of role (Some r) (takes_read f a)) report read ∙ sym k.step_is,
+    one_read Sdcch k.report.accepted h.read k.read (subst (λ (q : Received). ReadsFrame Sdcch q.accepted h.read) report h.reads) k.reads
+    in (
+      h.after ∙ ap (λ (f : Option Frame). (takes_frame_if_read f a).after) read ∙ sym k.after,
+      h.step_is ∙ ap₂ (λ (r : Received) (f : Option Frame). step_of role (Some r) (takes_frame_if_read f a)) report read ∙ sym k.step_is,
     )

@@ -1,49 +1,30 @@
--- The command `end` has one output for every input: calls and bursts have exactly one answer, which
--- exists since every link reached holds only frames that fit and octets.
-use Rattle.std.proofs.Common.{◌≡◌, ℕ, ℤ, ◌+◌, ◌<◌, ◌≤◌, inl, inr, List, [], ◌∷◌, ◌++◌, length}
-use Rattle.std.proofs.Common.{length-append, map, Option, None, Some, refl, sym, ap, ap₂, ◌∙◌, subst, arith}
-use Rattle.std.specs.Prelude.{IfSome}
-use Rattle.std.specs.List.{All, flat_map}
-use Rattle.std.proofs.lemmas.Bool.{cases_lt}
-use Rattle.std.proofs.lemmas.List.Elements.{All-nil, All-cons, All-append, All-head, All-tail}
-use Rattle.lapdm_frame.specs.declared.Channel.{Channel}
-use Rattle.lapdm_frame.specs.declared.Channel.TheVariants.{Sdcch}
-use Rattle.lapdm_frame.specs.Content.{Frame, information}
-use Rattle.lapdm_frame.specs.Frames.{Fits, octets_of}
-use Rattle.lapdm_frame.proofs.Canonical.{octets_canonical}
-use Rattle.lapdm_window.specs.declared.Sapi.{Sapi}
-use Rattle.lapdm_window.specs.declared.Sapi.TheVariants.{Zero, Three}
-use Rattle.lapdm_window.specs.declared.Refused.{Refused}
-use Rattle.lapdm_window.specs.Ends.{Role, EndState, Outcome, IsEnd, start}
-use Rattle.lapdm_window.specs.Calls.{Call, Opens, OpensBare, HasCall, refusal_of, after_call}
-use Rattle.lapdm_window.specs.Tables.{after_frame}
-use Rattle.lapdm_window.proofs.Lemmas.{by_sapi, Keeps, keeps-call, keeps-frame, IsEnd-start}
+-- The command `end` has exactly one output for every input. Calls and bursts have at most one answer, and they have one because the
+-- endpoints only ever send frames that fit in a block and consist of octets.
+use Rattle.std.proofs.Common.{◌≡◌, ℕ, ℤ, ◌+◌, ◌<◌, ◌≤◌, inl, inr, List, [], ◌∷◌, ◌++◌, length, length-append, map, Option, None, Some, refl}
+use Rattle.std.proofs.{Common.{sym, ap, ap₂, ◌∙◌, subst, arith}, lemmas.{Bool.cases_lt, List.Elements.{All-nil, All-cons, All-append}}}
+use Rattle.std.{proofs.lemmas.List.Elements.{All-head, All-tail}, specs.{Prelude.IfSome, List.{All, flat_map}}}
+use Rattle.um_link.specs.lapdm_frame.{declared.Channel.{Channel, TheVariants.Sdcch}, Content.{Frame, information}, Frames.{Fits, octets_of}}
+use Rattle.um_link.specs.lapdm_window.{declared.{Sapi.{Sapi, TheVariants.{Zero, Three}}, Refused.Refused}, Ends.{Role, EndState, Outcome}}
+use Rattle.um_link.specs.lapdm_window.{Ends.{IsValidEndpoint, start}, Calls.{Call, Opens, OpensBare, IsCallOfItsSapi, refusal_of}}
+use Rattle.um_link.specs.{lapdm_window.{Calls.after_call, Tables.after_frame}, lapdm_link.Events.{Request, Send, SendUnit, Close}}
+use Rattle.um_link.specs.lapdm_link.Events.{T200Expiry, Idle, Open, OpenBare, Ask, Deliver, Lose, Rival, as_refusal, ByEndpoint, call_of}
+use Rattle.um_link.specs.{um_block.declared.received.Received.Received, um_air.Air.{Octets, Block, Event, ReadsFrame, Answer, Refuses}}
+use Rattle.um_link.{specs.{um_air.{Air.{Does, Step}, Sessions.IsOctetEvent}, Coded.AreCoded}, proofs.lapdm_frame.Canonical.octets_canonical}
+use Rattle.um_link.proofs.lapdm_window.Lemmas.{by_sapi, Keeps, keeps-call, keeps-frame, IsValidEndpoint-start}
 use Rattle.um_link.proofs.lapdm_link.Lemmas.{AreOctets, CallOctets, EndOctets, SaysOctets, AllSay, OutcomeOctets, call-octets, frame-octets}
-use Rattle.um_link.specs.lapdm_link.Events.{Request, Send, SendUnit, Close, T200Expiry, Idle, Open, OpenBare, Ask, Deliver, Lose, Rival}
-use Rattle.um_link.specs.lapdm_link.Events.{because}
-use Rattle.um_link.specs.lapdm_link.Events.{Because, call_of}
-use Rattle.um_block.proofs.Lemmas.{one_sent_block, some_sent_block, some_received_block, accepted_count, accepted_octets}
-use Rattle.um_block.specs.declared.received.Received.{Received}
+use Rattle.um_link.proofs.um_block.Lemmas.{one_sent_block, some_sent_block, some_received_block, accepted_count, accepted_octets}
+use Rattle.um_link.proofs.um_air.Laws.{some_reading, reads-well, octets_small}
 use Rattle.um_lines.proofs.OneMeaning.{good_meaning, same_meaning}
 use Rattle.um_formats.specs.BurstTexts.{block_text}
-use Rattle.um_link.specs.um_air.Air.{Octets, Block, Event, Reads, Answer, Refuses, Does, Step}
-use Rattle.um_link.specs.um_air.Sessions.{IsOctetEvent}
-use Rattle.um_link.proofs.um_air.Laws.{some_reading, reads-well, octets_small}
-use Rattle.um_link.specs.Coded.{AreCoded}
 use Rattle.um_script.specs.AnswerLines.{answer_text}
-use Rattle.um_driver.specs.Rules.{IsDetermined, IsTotal}
-use Rattle.um_driver.specs.Laws.{HasOneOutput}
-use Rattle.um_driver.proofs.OutputExists.{has_one_output}
-use Rattle.um_driver.proofs.RunLemmas.{Runs-keep}
-use Rattle.um_end.specs.Terminals.{SideState, link_in, with_link_in, SideStep, does, does_nothing, asks, takes_read, step_of, IsAsked}
-use Rattle.um_end.specs.Terminals.{IsCallOf, Asks}
-use Rattle.um_end.specs.EndLines.{Meaning, Nothing, Brings, Calls, end_fault, EndMeans}
-use Rattle.um_end.specs.EndRuns.{EndRun, idle, frames_of, IsAnswerText, Arrived, AnswersBursts, Asked, AnswersMeaning, AnswersLine}
-use Rattle.um_end.specs.EndRuns.{end_rules}
-use Rattle.um_end.proofs.Determined.{one_asking, one_reception}
+use Rattle.um_driver.{specs.{Rules.{IsDetermined, IsTotal}, Laws.HasOneOutput}, proofs.{OutputExists.has_one_output, RunLemmas.Runs-keep}}
+use Rattle.um_end.specs.Terminals.{SideState, link_in, with_link_in, SideStep, does, does_nothing, layer3_calls, takes_frame_if_read}
+use Rattle.um_end.specs.{Terminals.{step_of, IsCallAnswer, IsCallOf, AnswersCall}, EndLines.{Meaning, Nothing, Brings, Calls, end_fault}}
+use Rattle.um_end.specs.{EndLines.EndMeans, EndRuns.{EndRunState, idle, frames_sent_in, IsAnswerText, IsBlockAnswer, AnswersBursts}}
+use Rattle.um_end.{specs.EndRuns.{IsCallAnswered, AnswersMeaning, AnswersLine, end_rules}, proofs.Determined.{one_asking, one_reception}}
 use Rattle.um_end.proofs.EndLineLaws.{end_one_meaning, burst_is_soft, call_is_own}
 
--- ---- one answer
+-- ---- at most one answer
 
 same_coded : (tsc : ℕ) (os : List Octets) (bs cs : List Block) → AreCoded tsc os bs → AreCoded tsc os cs → bs ≡ cs
 same_coded tsc [] [] [] h k = refl
@@ -56,18 +37,19 @@ same_coded tsc (o ∷ os) (b ∷ bs) (c ∷ cs) h k = ap₂ (λ x xs. x ∷ xs) 
 same_text : (tsc : ℕ) (answer : Answer) (y y' : List ℕ) → IsAnswerText tsc answer y → IsAnswerText tsc answer y' → y ≡ y'
 same_text tsc answer y y' h k =
     h.text_is ∙ ap (λ bs. answer_text answer ++ flat_map block_text bs)
-    (same_coded tsc (frames_of answer) h.blocks k.blocks h.coded k.coded)
+    (same_coded tsc (frames_sent_in answer) h.blocks k.blocks h.coded k.coded)
     ∙ sym k.text_is
 
-same_arrival : (s : EndRun) (bursts : List (List ℤ)) (y y' : List ℕ) (b b' : EndRun) → Arrived s bursts y b → Arrived s bursts y' b' →
+same_arrival : (s : EndRunState) (bursts : List (List ℤ)) (y y' : List ℕ) (b b' : EndRunState) → IsBlockAnswer s bursts y b →
+    IsBlockAnswer s bursts y' b' →
     (y ≡ y') × (b ≡ b')
 same_arrival s bursts y y' b b' h k =
     let same = one_reception s.role s.links bursts h.links k.links h.step k.step h.heard k.heard in (
       same_text s.tsc (Does k.step) y y' (subst (λ (x : Step). IsAnswerText s.tsc (Does x) y) same.1 h.text_is) k.text_is,
-      h.after_is ∙ ap (λ (x : SideState). let r : EndRun = record s { links = x; held = [] } in r) same.0 ∙ sym k.after_is,
+      h.after_is ∙ ap (λ (x : SideState). let r : EndRunState = record s { links = x; held = [] } in r) same.0 ∙ sym k.after_is,
     )
 
-same_bursts : (s : EndRun) (bursts : List (List ℤ)) (y y' : List ℕ) (b b' : EndRun) → AnswersBursts s bursts y b →
+same_bursts : (s : EndRunState) (bursts : List (List ℤ)) (y y' : List ℕ) (b b' : EndRunState) → AnswersBursts s bursts y b →
     AnswersBursts s bursts y' b' →
     (y ≡ y') × (b ≡ b')
 same_bursts s bursts y y' b b' (inl (few, e, h)) (inl (few', e', h')) = (e ∙ sym e', h ∙ sym h')
@@ -75,14 +57,15 @@ same_bursts s bursts y y' b b' (inl (few, _, _)) (inr (four, _)) = absurd (omega
 same_bursts s bursts y y' b b' (inr (four, _)) (inl (few, _, _)) = absurd (omega arith)
 same_bursts s bursts y y' b b' (inr (four, h)) (inr (four', h')) = same_arrival s bursts y y' b b' h h'
 
-same_asked : (s : EndRun) (event : Event) (y y' : List ℕ) (b b' : EndRun) → Asked s event y b → Asked s event y' b' → (y ≡ y') × (b ≡ b')
+same_asked : (s : EndRunState) (event : Event) (y y' : List ℕ) (b b' : EndRunState) → IsCallAnswered s event y b →
+    IsCallAnswered s event y' b' → (y ≡ y') × (b ≡ b')
 same_asked s event y y' b b' h k =
     let same = one_asking s.role s.links event h.links k.links h.answer k.answer h.asked k.asked in (
       same_text s.tsc k.answer y y' (subst (λ (x : Answer). IsAnswerText s.tsc x y) same.1 h.text_is) k.text_is,
-      h.after_is ∙ ap (λ (x : SideState). let r : EndRun = record s { links = x } in r) same.0 ∙ sym k.after_is,
+      h.after_is ∙ ap (λ (x : SideState). let r : EndRunState = record s { links = x } in r) same.0 ∙ sym k.after_is,
     )
 
-same_answer : (s : EndRun) (m : Meaning) (y y' : List ℕ) (b b' : EndRun) → AnswersMeaning s m y b → AnswersMeaning s m y' b' →
+same_answer : (s : EndRunState) (m : Meaning) (y y' : List ℕ) (b b' : EndRunState) → AnswersMeaning s m y b → AnswersMeaning s m y' b' →
     (y ≡ y') × (b ≡ b')
 same_answer s Nothing y y' b b' (e, h) (e', h') = (e ∙ sym e', h ∙ sym h')
 same_answer s (Brings soft) y y' b b' h h' = same_bursts s (s.held ++ soft ∷ []) y y' b b' h h'
@@ -94,11 +77,11 @@ end_is_determined s line y y' b b' (m, means, answer) (m', means', answer') =
     let same = same_meaning (EndMeans s.role at line) (end_fault s.role at line) (end_one_meaning s.role at line) m m' means means' in
     same_answer s m' y y' b b' (subst (λ x. AnswersMeaning s x y b) same answer) answer'
 
--- ---- some answer
+-- ---- at least one answer
 
--- a link of this SAPI on SDCCH, whose frames fit and consist of octets
+-- an endpoint of this SAPI on SDCCH, all of whose frames fit in a block and consist of octets
 record IsFit (sapi : Sapi) (e : EndState) : Type 0 where
-  pub end : IsEnd e
+  pub end : IsValidEndpoint e
   pub sapi_is : e.sapi ≡ sapi
   pub channel : e.channel ≡ Sdcch
   pub octets : EndOctets e
@@ -115,7 +98,7 @@ fit_with : (sapi : Sapi) (e : EndState) (a : SideState) → AreFit a → IsFit s
 fit_with Zero e a h fit = record { link0 = fit; link3 = h.link3 }
 fit_with Three e a h fit = record { link0 = h.link0; link3 = fit }
 
--- the links after an action fit, and so do the frames that it sends
+-- after this step the endpoints satisfy `IsFit`, and the frames that it sends fit and consist of octets
 record IsFitSideStep (d : SideStep) : Type 0 where
   pub after : AreFit d.after
   pub frames : All (Fits Sdcch) d.frames
@@ -136,8 +119,8 @@ fit_side_step sapi o a h keeps octets =
       said = octets.frames;
     }
 
-fit_call : (sapi : Sapi) (call : Call) (a : SideState) → CallOctets call → HasCall (link_in sapi a) call → AreFit a →
-    refusal_of call (link_in sapi a) ≡ None → IsFitSideStep (asks sapi call a)
+fit_call : (sapi : Sapi) (call : Call) (a : SideState) → CallOctets call → IsCallOfItsSapi (link_in sapi a) call → AreFit a →
+    refusal_of call (link_in sapi a) ≡ None → IsFitSideStep (layer3_calls sapi call a)
 fit_call sapi call a octets has h ok =
     let fit = fit_in sapi a h in
     fit_side_step sapi (after_call call (link_in sapi a)) a h (keeps-call call (link_in sapi a) fit.end has ok)
@@ -154,15 +137,15 @@ fit_frame sapi f a fits octets h =
 fit_nothing : (a : SideState) → AreFit a → IsFitSideStep (does_nothing a)
 fit_nothing a h = record { after = h; frames = All-nil (Fits Sdcch); said = All-nil SaysOctets }
 
-fit_read : (a : SideState) (accepted : Option Octets) (read : Option Frame) → IfSome accepted AreOctets → Reads Sdcch accepted read →
+fit_read : (a : SideState) (accepted : Option Octets) (read : Option Frame) → IfSome accepted AreOctets → ReadsFrame Sdcch accepted read →
     AreFit a →
-    IsFitSideStep (takes_read read a)
+    IsFitSideStep (takes_frame_if_read read a)
 fit_read a accepted None octets reads h = fit_nothing a h
 fit_read a accepted (Some f) octets reads h =
     let well = reads-well Sdcch accepted f octets reads in
     by_sapi f a IsFitSideStep (λ e. fit_frame Zero f a well.0 well.1 h) (λ e. fit_frame Three f a well.0 well.1 h) (λ e g. fit_nothing a h)
 
--- frames that fit can be coded
+-- frames that fit in a block can be coded
 some_coded : (tsc : ℕ) (fs : List Frame) → tsc ≤ 7 → All (Fits Sdcch) fs → AllSay fs →
     (bs : List Block) × AreCoded tsc (map (octets_of Sdcch) fs) bs
 some_coded tsc [] known h said = ([], tt)
@@ -179,42 +162,43 @@ some_text tsc role received d known h =
     let bs = some_coded tsc d.frames known h.frames h.said in
     (answer_text (Does (step_of role received d)) ++ flat_map block_text bs.0, record { blocks = bs.0; coded = bs.1; text_is = refl })
 
--- what every step of a run preserves
-record IsKept (role : Role) (tsc : ℕ) (s : EndRun) : Type 0 where
+-- the invariant that every step of a run preserves
+record IsKept (role : Role) (tsc : ℕ) (s : EndRunState) : Type 0 where
   pub role_is : s.role ≡ role
   pub tsc_is : s.tsc ≡ tsc
   pub links : AreFit s.links
   pub few : length s.held ≤ 3
   pub each : All (λ burst. length burst ≡ 148) s.held
 
--- ---- some answer to a call
+-- ---- at least one answer to a call
 
-record SomeAnswer (s : EndRun) (event : Event) : Type 0 where
+record SomeAnswer (s : EndRunState) (event : Event) : Type 0 where
   pub links : SideState
   pub answer : Answer
-  pub asked : Asks s.role s.links event links answer
+  pub asked : AnswersCall s.role s.links event links answer
   pub text : List ℕ
   pub text_is : IsAnswerText s.tsc answer text
 
-asked_by : (s : EndRun) (sapi : Sapi) (call : Call) (o : Option Refused) → refusal_of call (link_in sapi s.links) ≡ o → s.tsc ≤ 7 →
-    CallOctets call → HasCall (link_in sapi s.links) call → AreFit s.links →
-    (b : SideState) × (answer : Answer) × IsAsked s.role s.links sapi call b answer × ((y : List ℕ) × IsAnswerText s.tsc answer y)
+asked_by : (s : EndRunState) (sapi : Sapi) (call : Call) (o : Option Refused) → refusal_of call (link_in sapi s.links) ≡ o → s.tsc ≤ 7 →
+    CallOctets call → IsCallOfItsSapi (link_in sapi s.links) call → AreFit s.links →
+    (b : SideState) × (answer : Answer) × IsCallAnswer s.role s.links sapi call b answer × ((y : List ℕ) × IsAnswerText s.tsc answer y)
 asked_by s sapi call (Some why) is known octets has h = (
   s.links,
-  Refuses (Because why),
-  (ap because is, refl),
-  (answer_text (Refuses (Because why)) ++ [], record { blocks = []; coded = tt; text_is = refl }),
+  Refuses (ByEndpoint why),
+  (ap as_refusal is, refl),
+  (answer_text (Refuses (ByEndpoint why)) ++ [], record { blocks = []; coded = tt; text_is = refl }),
 )
 asked_by s sapi call None is known octets has h =
-    let d : SideStep = asks sapi call s.links in
+    let d : SideStep = layer3_calls sapi call s.links in
     let text = some_text s.tsc s.role None d known (fit_call sapi call s.links octets has h is) in
-    (d.after, Does (step_of s.role None d), (ap because is, refl, refl), text)
+    (d.after, Does (step_of s.role None d), (ap as_refusal is, refl, refl), text)
 
-some_asked : (s : EndRun) (sapi : Sapi) (call : Call) → s.tsc ≤ 7 → CallOctets call → HasCall (link_in sapi s.links) call → AreFit s.links →
-    (b : SideState) × (answer : Answer) × IsAsked s.role s.links sapi call b answer × ((y : List ℕ) × IsAnswerText s.tsc answer y)
+some_asked : (s : EndRunState) (sapi : Sapi) (call : Call) → s.tsc ≤ 7 → CallOctets call → IsCallOfItsSapi (link_in sapi s.links) call →
+    AreFit s.links →
+    (b : SideState) × (answer : Answer) × IsCallAnswer s.role s.links sapi call b answer × ((y : List ℕ) × IsAnswerText s.tsc answer y)
 some_asked s sapi call known octets has h = asked_by s sapi call (refusal_of call (link_in sapi s.links)) refl known octets has h
 
--- a request that consists of octets is a call that does
+-- if the message in a request consists of octets, so does the message in its call
 request_octets : (role : Role) (sapi : Sapi) (request : Request) → IsOctetEvent (Ask role sapi request) → CallOctets (call_of request)
 request_octets role sapi (Send m) h = h
 request_octets role sapi (SendUnit m) h = h
@@ -222,15 +206,16 @@ request_octets role sapi Close h = tt
 request_octets role sapi T200Expiry h = tt
 request_octets role sapi Idle h = tt
 
--- every link has this call
-request_has : (e : EndState) (request : Request) → HasCall e (call_of request)
+-- every endpoint has the call of a request
+request_has : (e : EndState) (request : Request) → IsCallOfItsSapi e (call_of request)
 request_has e (Send m) = tt
 request_has e (SendUnit m) = tt
 request_has e Close = tt
 request_has e T200Expiry = tt
 request_has e Idle = tt
 
-some_asking : (s : EndRun) (event : Event) → IsCallOf s.role event × IsOctetEvent event → s.tsc ≤ 7 → AreFit s.links → SomeAnswer s event
+some_asking : (s : EndRunState) (event : Event) → IsCallOf s.role event × IsOctetEvent event → s.tsc ≤ 7 → AreFit s.links →
+    SomeAnswer s event
 some_asking s (Open info) own known h =
     let a = some_asked s Zero (Opens info) known own.1 h.link0.sapi_is h in
     record { links = a.0; answer = a.1; asked = a.2; text = a.3.0; text_is = a.3.1 }
@@ -245,15 +230,15 @@ some_asking s (Deliver sender places) own known h = absurd own.0
 some_asking s (Lose sender) own known h = absurd own.0
 some_asking s (Rival info) own known h = absurd own.0
 
--- ---- some answer to bursts
+-- ---- at least one answer to bursts
 
-some_arrival : (s : EndRun) (bursts : List (List ℤ)) → length bursts ≡ 4 → All (λ burst. length burst ≡ 148) bursts → s.tsc ≤ 7 →
+some_arrival : (s : EndRunState) (bursts : List (List ℤ)) → length bursts ≡ 4 → All (λ burst. length burst ≡ 148) bursts → s.tsc ≤ 7 →
     AreFit s.links →
-    (y : List ℕ) × (after : EndRun) × Arrived s bursts y after
+    (y : List ℕ) × (after : EndRunState) × IsBlockAnswer s bursts y after
 some_arrival s bursts four each known h =
     let report = some_received_block bursts four each in
     let read = some_reading Sdcch report.0.accepted (accepted_count bursts report.0 report.1) in
-    let d : SideStep = takes_read read.0 s.links in
+    let d : SideStep = takes_frame_if_read read.0 s.links in
     let fit : IsFitSideStep d = fit_read s.links report.0.accepted read.0 (accepted_octets bursts report.0 report.1) read.1 h in
     let text = some_text s.tsc s.role (Some report.0) d known fit in (
       text.0,
@@ -273,8 +258,8 @@ one_more held soft each count =
     let Whole : List ℤ → Type 0 = λ burst. length burst ≡ 148 in
     All-append Whole held (soft ∷ []) each (All-cons Whole soft [] count (All-nil Whole))
 
-some_bursts : (role : Role) (tsc : ℕ) (s : EndRun) (soft : List ℤ) → tsc ≤ 7 → IsKept role tsc s → length soft ≡ 148 →
-    (y : List ℕ) × (after : EndRun) × AnswersBursts s (s.held ++ soft ∷ []) y after
+some_bursts : (role : Role) (tsc : ℕ) (s : EndRunState) (soft : List ℤ) → tsc ≤ 7 → IsKept role tsc s → length soft ≡ 148 →
+    (y : List ℕ) × (after : EndRunState) × AnswersBursts s (s.held ++ soft ∷ []) y after
 some_bursts role tsc s soft known k count =
     let bursts = s.held ++ soft ∷ [] in
     let more : length bursts ≡ length s.held + 1 = length-append s.held (soft ∷ []) in
@@ -287,9 +272,9 @@ some_bursts role tsc s soft known k count =
           (a.0, a.1, inr (four, a.2))
     ]
 
-some_meaning : (role : Role) (tsc : ℕ) (s : EndRun) (line : List ℕ) (m : Meaning) → tsc ≤ 7 → IsKept role tsc s →
+some_meaning : (role : Role) (tsc : ℕ) (s : EndRunState) (line : List ℕ) (m : Meaning) → tsc ≤ 7 → IsKept role tsc s →
     EndMeans s.role (length s.held) line m →
-    (y : List ℕ) × (after : EndRun) × AnswersMeaning s m y after
+    (y : List ℕ) × (after : EndRunState) × AnswersMeaning s m y after
 some_meaning role tsc s line Nothing known k means = ([], s, (refl, refl))
 some_meaning role tsc s line (Brings soft) known k means = some_bursts role tsc s soft known k
     (burst_is_soft s.role (length s.held) line soft means).0
@@ -306,11 +291,11 @@ some_meaning role tsc s line (Calls event) known k means =
       },
     )
 
--- ---- every run can continue
+-- ---- every run can be continued
 
 idle_fit : (role : Role) (sapi : Sapi) → IsFit sapi (start role sapi Sdcch)
 idle_fit role sapi = record {
-  end = IsEnd-start role sapi Sdcch;
+  end = IsValidEndpoint-start role sapi Sdcch;
   sapi_is = refl;
   channel = refl;
   octets = record { kept = All-nil (λ octet. octet < 256); taken = All-nil AreOctets };
@@ -326,17 +311,17 @@ idle_kept role tsc = record {
 }
 
 asked_fit : (role : Role) (a : SideState) (sapi : Sapi) (call : Call) (b : SideState) (answer : Answer) → CallOctets call →
-    HasCall (link_in sapi a) call → AreFit a → IsAsked role a sapi call b answer → AreFit b
+    IsCallOfItsSapi (link_in sapi a) call → AreFit a → IsCallAnswer role a sapi call b answer → AreFit b
 asked_fit role a sapi call b (Refuses why) octets has h asked = subst AreFit (sym asked.1) h
 asked_fit role a sapi call b (Does step) octets has h asked =
     subst AreFit (sym asked.1) (fit_call sapi call a octets has h (not_because (refusal_of call (link_in sapi a)) asked.0)).after
   where
-    not_because : (o : Option Refused) → because o ≡ None → o ≡ None
+    not_because : (o : Option Refused) → as_refusal o ≡ None → o ≡ None
     not_because None e = refl
     not_because (Some why) e = absurd (cc e)
 
 asking_fit : (role : Role) (a : SideState) (event : Event) (b : SideState) (answer : Answer) → IsOctetEvent event → AreFit a →
-    Asks role a event b answer → AreFit b
+    AnswersCall role a event b answer → AreFit b
 asking_fit role a (Open info) b answer octets h asked = asked_fit role a Zero (Opens info) b answer octets h.link0.sapi_is h asked
 asking_fit role a (OpenBare other) b answer octets h asked = asked_fit role a Three OpensBare b answer tt h.link3.sapi_is h asked
 asking_fit role a (Ask other sapi request) b answer octets h asked =
@@ -347,7 +332,7 @@ asking_fit role a (Lose sender) b answer octets h asked = absurd asked
 asking_fit role a (Rival info) b answer octets h asked = absurd asked
 
 module _ (role : Role) (tsc : ℕ) where
-  bursts_keep : (s b : EndRun) (soft : List ℤ) (y : List ℕ) → IsKept role tsc s → length soft ≡ 148 →
+  bursts_keep : (s b : EndRunState) (soft : List ℤ) (y : List ℕ) → IsKept role tsc s → length soft ≡ 148 →
       AnswersBursts s (s.held ++ soft ∷ []) y b →
       IsKept role tsc b
   bursts_keep s b soft y k count (inl (few, _, same)) =
@@ -371,7 +356,7 @@ module _ (role : Role) (tsc : ℕ) where
         each = All-nil (λ (burst : List ℤ). length burst ≡ 148);
       })
 
-  step_keeps : (s b : EndRun) (line y : List ℕ) → IsKept role tsc s → AnswersLine s line y b → IsKept role tsc b
+  step_keeps : (s b : EndRunState) (line y : List ℕ) → IsKept role tsc s → AnswersLine s line y b → IsKept role tsc b
   step_keeps s b line y k (Nothing, means, (_, same)) = subst (IsKept role tsc) (sym same) k
   step_keeps s b line y k (Brings soft, means, answer) =
       bursts_keep s b soft y k (burst_is_soft s.role (length s.held) line soft means).0 answer

@@ -1,23 +1,23 @@
--- The calls among the events, the SAPI of each, and the call of the link (internal).
-use Rattle.lapdm_window.specs.declared.Sapi.{Sapi}
-use Rattle.lapdm_window.specs.declared.Sapi.TheVariants.{Zero, Three}
-use Rattle.lapdm_window.specs.Calls.{Call, Opens, OpensBare, Idles}
+-- Which events are calls of layer 3, the SAPI of each, and the call that the endpoint gets (internal).
+use Rattle.um_link.specs.lapdm_window.declared.Sapi.{Sapi}
+use Rattle.um_link.specs.lapdm_window.declared.Sapi.TheVariants.{Zero, Three}
+use Rattle.um_link.specs.lapdm_window.Calls.{Call, Opens, OpensBare, SendsFill}
 use Rattle.um_link.specs.lapdm_link.Events.{Open, OpenBare, Ask, Deliver, Lose, Rival, call_of}
 use Rattle.um_link.specs.um_air.Air.{Event}
 
-abbrev pub IsCall : Event → Type 0
-IsCall (Deliver sender places) = ⊥
-IsCall (Lose sender) = ⊥
-IsCall (Rival info) = ⊥
-IsCall event = Unit {0}
+abbrev pub IsCallEvent : Event → Type 0
+IsCallEvent (Deliver sender places) = ⊥
+IsCallEvent (Lose sender) = ⊥
+IsCallEvent (Rival info) = ⊥
+IsCallEvent event = Unit {0}
 
-abbrev pub sapi_in : Event → Sapi
-sapi_in (OpenBare role) = Three
-sapi_in (Ask role sapi request) = sapi
-sapi_in event = Zero
+abbrev pub sapi_of_call_event : Event → Sapi
+sapi_of_call_event (OpenBare role) = Three
+sapi_of_call_event (Ask role sapi request) = sapi
+sapi_of_call_event event = Zero
 
-abbrev pub call_in : Event → Call
-call_in (Open info) = Opens info
-call_in (OpenBare role) = OpensBare
-call_in (Ask role sapi request) = call_of request
-call_in event = Idles
+abbrev pub call_of_call_event : Event → Call
+call_of_call_event (Open info) = Opens info
+call_of_call_event (OpenBare role) = OpensBare
+call_of_call_event (Ask role sapi request) = call_of request
+call_of_call_event event = SendsFill

@@ -1,21 +1,23 @@
--- One side of a channel: its links of SAPI 0 and 3 on SDCCH, which take calls and receive groups of
--- four bursts (this project's own rule). `lapdm_window` defines what a link does (GSM 04.06 section
--- 5), `um_block` what is received from bursts (GSM 05.03 section 4.1).
+-- One side over bursts: its endpoints for SAPI 0 and 3 on SDCCH get calls of layer 3 and receive groups of four bursts (this project's own
+-- rule). What an endpoint does is defined in `lapdm_window` (GSM 04.06 section 5), what is received from bursts in `um_block` (GSM 05.03
+-- section 4.1).
 use Rattle.std.specs.Prelude.{◌≡◌, ℤ, List, map, Option, Some, None}
-use Rattle.lapdm_frame.specs.declared.Channel.TheVariants.{Sdcch}
-use Rattle.lapdm_frame.specs.Content.{Frame}
-use Rattle.lapdm_frame.specs.Frames.{octets_of}
-use Rattle.lapdm_window.specs.declared.Sapi.{Sapi}
-use Rattle.lapdm_window.specs.declared.Sapi.TheVariants.{Zero, Three}
-use Rattle.lapdm_window.specs.Ends.{Role, Mobile}
-use Rattle.lapdm_window.specs.Calls.{Call, Opens, OpensBare, refusal_of}
-use Rattle.um_block.specs.declared.received.Received.{Received}
-use Rattle.um_block.specs.Received.{IsReceivedBlock}
-use Rattle.um_link.specs.lapdm_link.Events.{Open, OpenBare, Ask, Idle, BySide, call_of, because}
-pub use Rattle.lapdm_window.specs.Sides.{SideState, idle_side, link_in, with_link_in, SideStep, does, does_nothing, asks, takes, takes_read}
-use Rattle.um_link.specs.um_air.Air.{Event, Reads, Step, Answer, Refuses, Does}
+use Rattle.um_link.specs.lapdm_frame.declared.Channel.TheVariants.{Sdcch}
+use Rattle.um_link.specs.lapdm_frame.Content.{Frame}
+use Rattle.um_link.specs.lapdm_frame.Frames.{octets_of}
+use Rattle.um_link.specs.lapdm_window.declared.Sapi.{Sapi}
+use Rattle.um_link.specs.lapdm_window.declared.Sapi.TheVariants.{Zero, Three}
+use Rattle.um_link.specs.lapdm_window.Ends.{Role, Mobile}
+use Rattle.um_link.specs.lapdm_window.Calls.{Call, Opens, OpensBare, refusal_of}
+use Rattle.um_link.specs.um_block.declared.received.Received.{Received}
+use Rattle.um_link.specs.um_block.Received.{IsReceivedBlock}
+use Rattle.um_link.specs.lapdm_link.Events.{Open, OpenBare, Ask, Idle, BySide, call_of, as_refusal}
+pub use Rattle.um_link.specs.lapdm_window.Sides.{SideState, idle_side, link_in, with_link_in, SideStep, does, does_nothing, layer3_calls}
+pub use Rattle.um_link.specs.lapdm_window.Sides.{takes}
+pub use Rattle.um_link.specs.lapdm_window.Sides.{takes_frame_if_read}
+use Rattle.um_link.specs.um_air.Air.{Event, ReadsFrame, Step, Answer, Refuses, Does}
 
--- the step that reports what a link did, with the block received and the frames as octets
+-- the step in which a side received this block and did d, with the frames sent as octets
 abbrev pub step_of : Role → Option Received → SideStep → Step
 step_of role received d = record {
   who = BySide role;
@@ -25,14 +27,15 @@ step_of role received d = record {
   notices = d.notices;
 }
 
--- a call of the link with this SAPI; a refused call changes nothing
-abbrev pub IsAsked : Role → SideState → Sapi → Call → SideState → Answer → Type 0
-IsAsked role a sapi call b (Refuses why) = (because (refusal_of call (link_in sapi a)) ≡ Some why) × (b ≡ a)
-IsAsked role a sapi call b (Does step) =
-    (because (refusal_of call (link_in sapi a)) ≡ None) × (b ≡ (asks sapi call a).after) × (step ≡ step_of role None (asks sapi call a))
+-- the answer to a call of the endpoint with this SAPI, which leads from a to b; a refused call changes nothing
+abbrev pub IsCallAnswer : Role → SideState → Sapi → Call → SideState → Answer → Type 0
+IsCallAnswer role a sapi call b (Refuses why) = (as_refusal (refusal_of call (link_in sapi a)) ≡ Some why) × (b ≡ a)
+IsCallAnswer role a sapi call b (Does step) =
+    (as_refusal (refusal_of call (link_in sapi a)) ≡ None) × (b ≡ (layer3_calls sapi call a).after) ×
+    (step ≡ step_of role None (layer3_calls sapi call a))
 
--- the calls of a side: the mobile opens the link of SAPI 0 with information, either side opens that
--- of SAPI 3 without, and only the link of SAPI 0 sends fill frames
+-- the calls that a side has: the mobile establishes SAPI 0 with information, either side establishes SAPI 3 without, and only the endpoint
+-- of SAPI 0 sends fill frames
 abbrev pub IsCallOf : Role → Event → Type 0
 IsCallOf role (Open info) = role ≡ Mobile
 IsCallOf role (OpenBare other) = other ≡ role
@@ -40,19 +43,18 @@ IsCallOf role (Ask other Three Idle) = ⊥
 IsCallOf role (Ask other sapi request) = other ≡ role
 IsCallOf role event = ⊥
 
--- the links after a call, and its answer
-abbrev pub Asks : Role → SideState → Event → SideState → Answer → Type 0
-Asks role a (Open info) b answer = IsAsked role a Zero (Opens info) b answer
-Asks role a (OpenBare other) b answer = IsAsked role a Three OpensBare b answer
-Asks role a (Ask other sapi request) b answer = IsAsked role a sapi (call_of request) b answer
-Asks role a event b answer = ⊥
+-- the state of the side after a call, and the answer to the call
+abbrev pub AnswersCall : Role → SideState → Event → SideState → Answer → Type 0
+AnswersCall role a (Open info) b answer = IsCallAnswer role a Zero (Opens info) b answer
+AnswersCall role a (OpenBare other) b answer = IsCallAnswer role a Three OpensBare b answer
+AnswersCall role a (Ask other sapi request) b answer = IsCallAnswer role a sapi (call_of request) b answer
+AnswersCall role a event b answer = ⊥
 
--- four bursts of soft values are received as a block; if its accepted octets are a frame, its link
--- takes it
+-- four bursts of soft values are received as a block; if the accepted octets encode a frame, the endpoint of its SAPI receives it
 pub record ReceivesBursts (role : Role) (a : SideState) (bursts : List (List ℤ)) (b : SideState) (step : Step) : Type 0 where
   pub report : Received
   pub read : Option Frame
   pub received : IsReceivedBlock bursts report
-  pub reads : Reads Sdcch report.accepted read
-  pub after : b ≡ (takes_read read a).after
-  pub step_is : step ≡ step_of role (Some report) (takes_read read a)
+  pub reads : ReadsFrame Sdcch report.accepted read
+  pub after : b ≡ (takes_frame_if_read read a).after
+  pub step_is : step ≡ step_of role (Some report) (takes_frame_if_read read a)

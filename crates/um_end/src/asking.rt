@@ -1,15 +1,15 @@
-//! The calls of a link, from events.
+//! The calls of an endpoint, as events ask for them.
 ghost use Rattle.std.specs.Prelude.{◌≡◌};
-ghost use Rattle.lapdm_window.specs.Calls.{call_of, IsOfSapi};
+ghost use Rattle.um_link.specs.lapdm_window.Calls.{call_of, IsCallOfSapi};
 ghost use Rattle.um_link.specs.Naming.{event_of};
-ghost use Rattle.um_end.specs.Asking.{IsCall, sapi_in, call_in};
+ghost use Rattle.um_end.specs.Asking.{IsCallEvent, sapi_of_call_event, call_of_call_event};
 
-use lapdm_window::{Call, Sapi};
+use lapdm_end::{Call, Sapi};
 use um_link::Event;
 
-/// The SAPI of the link that an event calls.
-pub(crate) fn link_asked(event: &Event<'_>) -> Sapi
-    ensures { result ≡ sapi_in (event_of event.now) }
+/// The SAPI of the endpoint that the event calls.
+pub(crate) fn sapi_of_event(event: &Event<'_>) -> Sapi
+    ensures { result ≡ sapi_of_call_event (event_of event.now) }
 {
     match event {
         Event::OpenBare(_) => Sapi::Three,
@@ -20,11 +20,11 @@ pub(crate) fn link_asked(event: &Event<'_>) -> Sapi
     }
 }
 
-/// The call of an event.
-pub(crate) fn call_asked<'a>(event: &Event<'a>) -> Call<'a>
-    requires call { IsCall (event_of event.now) }
-    ensures asked { call_of result ≡ call_in (event_of event.now) }
-    ensures sapi { IsOfSapi (sapi_in (event_of event.now)) (call_of result) }
+/// The call that the event makes.
+pub(crate) fn call_of_event<'a>(event: &Event<'a>) -> Call<'a>
+    requires call { IsCallEvent (event_of event.now) }
+    ensures asked { call_of result ≡ call_of_call_event (event_of event.now) }
+    ensures sapi { IsCallOfSapi (sapi_of_call_event (event_of event.now)) (call_of result) }
 {
     match *event {
         Event::Open(info) => Call::Open(info),

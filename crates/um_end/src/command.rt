@@ -1,51 +1,49 @@
-//! The command `end`: one side over recorded bursts and its own calls.
+//! The command `end`: one side, with recorded bursts and calls as its input.
 ghost use Rattle.std.specs.Prelude.{◌≡◌, ◌+◌, ◌*◌, ◌<◌, ◌≤◌, ℕ, [], ◌∷◌, ◌++◌, length, OnOk};
-ghost use Rattle.um_block.specs.conv_code.Likelihood.{AllSoft};
+ghost use Rattle.um_link.specs.um_block.conv_code.Likelihood.{AllSoftBits};
 ghost use Rattle.um_link.specs.Coded.{AreCoded};
 ghost use Rattle.um_link.specs.Naming.{role_of, step_of, answer_of, step_result};
-ghost use Rattle.um_link.specs.Abstraction.{FitsWho};
-ghost use Rattle.lapdm_window.specs.Ends.{Role};
+ghost use Rattle.um_link.specs.Abstraction.{FitsActor};
+ghost use Rattle.um_link.specs.lapdm_window.Ends.{Role};
 ghost use Rattle.um_link.specs.um_io.Lines.{IsLine};
 ghost use Rattle.um_link.specs.um_io.Reading.{line_limit};
 ghost use Rattle.um_driver.specs.Laws.{HasOneOutput};
 ghost use Rattle.um_driver.specs.Rules.{Answers};
 ghost use Rattle.um_script.specs.AnswerLines.{answer_text};
-ghost use Rattle.um_end.specs.EndRuns.{EndRun, idle, end_rules, frames_of, IsAnswerText, AnswersBursts, IsCodedText};
-ghost use Rattle.um_end.specs.Commands.{RunRepresents, start_of};
+ghost use Rattle.um_end.specs.EndRuns.{EndRunState, idle, end_rules, frames_sent_in, IsAnswerText, AnswersBursts, AppendsCodedFrames};
+ghost use Rattle.um_end.specs.Commands.{CommandRepresents, start_state_of};
 
 use crate::lines::{EndLine, parse_end};
 use crate::terminal::Terminal;
-use bit_blocks::BLOCK_OCTETS;
-use burst_map::BURST_BITS;
 use um_driver::Command;
-use um_formats::{HeldBursts, push_block};
+use um_formats::{BLOCK_OCTETS, BURST_BITS, HeldBursts, push_block};
 use um_lines::{LineFault, Text};
 use um_link::{End, No, Step};
-use um_script::{Room, written_lines};
+use um_script::{Room, write_step_lines};
 
-/// Every list of octets has exactly one output and one status.
+/// For the command `end`, every input has exactly one output and one status.
 pub fn law_one_output()
     ensures { (role : Role) (tsc : ℕ) → tsc ≤ 7 → HasOneOutput end_rules (idle role tsc) }
 {}
 
-/// The command `end`: a terminal, and the bursts of an incomplete block.
+/// The command `end`: a terminal, and the bursts of an unfinished block.
 #[derive(Drop)]
-pub struct OneEnd {
+pub struct EndCommand {
     terminal: Terminal,
     held: HeldBursts,
     room: Room,
-    // The step of the last block, or of the last call that was not refused.
+    // The result of the last block received, or of the last call that was not refused.
     step: Step,
 }
 
-impl OneEnd {
-    /// Idle links of a side, with training sequence code `tsc` (0 to 7), and no bursts.
-    pub fn new(side: End, tsc: u8) -> OneEnd
+impl EndCommand {
+    /// A side with idle endpoints, training sequence code `tsc` (0 to 7), and no bursts held.
+    pub fn new(side: End, tsc: u8) -> EndCommand
         requires { tsc ≤ 7 }
-        ensures represents { RunRepresents result (start_of result) }
-        ensures start { start_of result ≡ idle (role_of side) tsc }
+        ensures represents { CommandRepresents result (start_state_of result) }
+        ensures start { start_state_of result ≡ idle (role_of side) tsc }
     {
-        OneEnd {
+        EndCommand {
             terminal: Terminal::new(side, tsc),
             held: HeldBursts::new(),
             room: Room::new(),
@@ -53,13 +51,13 @@ impl OneEnd {
         }
     }
 
-    /// Holds a burst. With the fourth the block is received.
-    fn hold(&mut self, burst: [i8; BURST_BITS], out: &mut Text)
-        requires soft { AllSoft burst }
+    /// Adds a burst to those held. If it is the fourth, the four are received as a block.
+    fn hold_burst(&mut self, burst: [i8; BURST_BITS], out: &mut Text)
+        requires soft { AllSoftBits burst }
         requires empty { out.old ≡ [] }
-        ensures answers { (s : EndRun) → RunRepresents self.old s →
-            (after : EndRun) × AnswersBursts s (s.held ++ burst ∷ []) out.new after × RunRepresents self.new after }
-        ensures size { (s : EndRun) → RunRepresents self.old s → length out.new < 2000 }
+        ensures answers { (s : EndRunState) → CommandRepresents self.old s →
+            (after : EndRunState) × AnswersBursts s (s.held ++ burst ∷ []) out.new after × CommandRepresents self.new after }
+        ensures size { (s : EndRunState) → CommandRepresents self.old s → length out.new < 2000 }
     {
         if self.held.add(burst) {
             self.terminal
@@ -69,14 +67,14 @@ impl OneEnd {
     }
 }
 
-impl Command for OneEnd {
-    ghost State = { EndRun };
+impl Command for EndCommand {
+    ghost State = { EndRunState };
 
     ghost rules = { end_rules };
 
-    ghost start = { start_of };
+    ghost start = { start_state_of };
 
-    ghost represents = { RunRepresents };
+    ghost represents = { CommandRepresents };
 
     ghost Kept = { Unit {0} };
 
@@ -86,14 +84,14 @@ impl Command for OneEnd {
         requires size { length line.now ≤ line_limit }
         requires plain { IsLine line.now }
         requires empty { out.old ≡ [] }
-        ensures answered { (s : EndRun) → RunRepresents self.old s →
-            Answers end_rules s line.now result out.new (RunRepresents self.new) }
+        ensures answered { (s : EndRunState) → CommandRepresents self.old s →
+            Answers end_rules s line.now result out.new (CommandRepresents self.new) }
         ensures keeps { tt {0} ≡ tt }
-        ensures size { (s : EndRun) → RunRepresents self.old s → length out.new < 2000 }
+        ensures size { (s : EndRunState) → CommandRepresents self.old s → length out.new < 2000 }
     {
         match parse_end(line, self.terminal.side, self.held.count(), &mut self.room)? {
             EndLine::Skip => {}
-            EndLine::Burst(burst) => self.hold(burst, out),
+            EndLine::Burst(burst) => self.hold_burst(burst, out),
             EndLine::Ask(event) => {
                 let done = self.terminal.ask_into(&event, &mut self.step);
                 write_answer(out, &self.terminal, &done, &self.step);
@@ -111,27 +109,27 @@ impl Command for OneEnd {
     }
 }
 
-/// Writes an answer, followed by the bursts of each frame sent.
+/// Writes an answer: its lines, followed by the lines of the bursts of each frame sent.
 fn write_answer(out: &mut Text, terminal: &Terminal, done: &Result<(), No>, step: &Step)
     requires empty { out.old ≡ [] }
-    requires fits { OnOk done.now (FitsWho (step_of step.now)) }
+    requires fits { OnOk done.now (FitsActor (step_of step.now)) }
     ensures text { IsAnswerText terminal.now.tsc (answer_of (step_result done.now step.now)) out.new }
     ensures lines { length (answer_text (answer_of (step_result done.now step.now))) < 2000 }
     ensures length { length out.new ≡
         length (answer_text (answer_of (step_result done.now step.now))) + 604 * length
-        (frames_of (answer_of (step_result done.now step.now))) }
+        (frames_sent_in (answer_of (step_result done.now step.now))) }
 {
-    written_lines(out, done, step);
+    write_step_lines(out, done, step);
     if done.is_ok() {
         push_blocks(out, terminal, step.effects.frames.as_slice());
     }
 }
 
-/// Writes the bursts of each frame.
+/// Appends the lines of the bursts of each frame.
 fn push_blocks(out: &mut Text, terminal: &Terminal, frames: &[[u8; BLOCK_OCTETS]])
     requires space { length out.old < 2000 }
     requires size { length frames.now ≤ 2 }
-    ensures text { IsCodedText terminal.now.tsc frames.now out.old out.new }
+    ensures text { AppendsCodedFrames terminal.now.tsc frames.now out.old out.new }
     ensures length { length out.new ≡ length out.old + 604 * length frames.now }
 {
     for octets in frames {

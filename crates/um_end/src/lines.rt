@@ -1,19 +1,19 @@
-//! The lines of the command `end`.
+//! Parses the lines of the command `end`.
 //!
-//! A line that begins with an endpoint of the side is read as a script line, any other line as a
-//! burst. This module only excludes the forms that `end` does not have, and calls inside a block.
+//! A line that begins with an endpoint of this side is read as a line of a script, and any other line as a burst. This module only adds
+//! which of these lines `end` refuses: other forms, and calls inside a block.
 ghost use Rattle.std.specs.Prelude.{◌≡◌, ◌≤◌, ℕ, List, true, false, Some, length, IfOk};
 ghost use Rattle.std.specs.Result.{result_err};
 ghost use Rattle.um_lines.specs.Words.{words, is_skipped};
 ghost use Rattle.um_lines.specs.Meanings.{HasOneMeaningUnless};
-ghost use Rattle.lapdm_window.specs.Ends.{Role};
+ghost use Rattle.um_link.specs.lapdm_window.Ends.{Role};
 ghost use Rattle.um_link.specs.Naming.{role_of};
 ghost use Rattle.um_script.specs.Naming.{meaning_of as script_meaning};
-ghost use Rattle.um_end.specs.EndLines.{end_fault, EndMeans, meaning_of, IsPossible, begins_own, brought_by, call_meaning, inside};
-ghost use Rattle.um_end.specs.EndLines.{without_singles};
+ghost use Rattle.um_end.specs.EndLines.{end_fault, EndMeans, meaning_of, IsPossible, names_own_endpoint, meaning_of_burst_line};
+ghost use Rattle.um_end.specs.EndLines.{call_meaning, fault_inside_block};
+ghost use Rattle.um_end.specs.EndLines.{burst_fault_to_end_fault};
 
-use burst_map::BURST_BITS;
-use um_formats::{BurstLine, parse_burst};
+use um_formats::{BURST_BITS, BurstLine, parse_burst};
 use um_lines::{LINE_LIMIT, LineFault, first_word, is_skipped};
 use um_link::{End, Event};
 use um_script::{Room, ScriptLine, parse_script};
@@ -23,18 +23,17 @@ use um_script::{Room, ScriptLine, parse_script};
 pub enum EndLine<'a> {
     /// Nothing: the line is empty, or begins with `#`.
     Skip,
-    /// One of the four bursts of a block, as soft values: positive for 0 and negative for 1.
+    /// One of the four bursts of a block, as soft values, which are positive for 0 and negative for 1.
     Burst([i8; BURST_BITS]),
-    /// A call of an endpoint.
+    /// A call of layer 3 to an endpoint of this side.
     Ask(Event<'a>),
 }
 
-/// Reads a line of `end` without its line feed, after `held` bursts of an unfinished block:
-/// `n DIGITS148`, `N HEX296`, `lost`, or a call of the side as in a script. The octets of a call
-/// are stored in `room`.
+/// Parses a line of `end`, without its line feed: `n DIGITS148`, `N HEX296`, `lost`, or a call of this side as in a script. `held` is the
+/// number of bursts of the unfinished block. The octets of a call are stored in `room`.
 ///
-/// The first reason that applies to the whole line is returned: `Long`, `Word`, `Order` (a call
-/// inside a block), `Digits`, `Length` or `Soft`.
+/// If several errors apply, the first in this order is returned, whatever its place in the line: `Long`, `Word`, `Order` (a call inside a
+/// block), `Digits`, `Length`, `Soft`.
 pub fn parse_end<'a>(
     line: &[u8],
     side: End,
@@ -45,7 +44,7 @@ pub fn parse_end<'a>(
     ensures means { IfOk result (λ read. EndMeans (role_of side) held line.now (meaning_of read)) }
     ensures refused { result_err result ≡ end_fault (role_of side) held line.now }
 
-    // A terminal of this side accepts the line.
+    // A terminal of this side can carry out the line.
     ensures possible { IfOk result (IsPossible (role_of side)) }
 {
     if line.len() > LINE_LIMIT {
@@ -54,16 +53,16 @@ pub fn parse_end<'a>(
     if is_skipped(line) {
         return Ok(EndLine::Skip);
     }
-    if is_own(line, side) {
-        read_call(line, side, held, room)
+    if begins_with_own_endpoint(line, side) {
+        parse_call_line(line, side, held, room)
     } else {
-        read_burst(line, side, held)
+        parse_burst_line(line, side, held)
     }
 }
 
 /// Whether a line begins with an endpoint of this side.
-fn is_own(line: &[u8], side: End) -> bool
-    ensures { result ≡ begins_own (role_of side) (words line.now) }
+fn begins_with_own_endpoint(line: &[u8], side: End) -> bool
+    ensures { result ≡ names_own_endpoint (role_of side) (words line.now) }
 {
     let name = match first_word(line) {
         Some((name, _)) => name,
@@ -75,7 +74,7 @@ fn is_own(line: &[u8], side: End) -> bool
     }
 }
 
-fn read_call<'a>(
+fn parse_call_line<'a>(
     line: &[u8],
     side: End,
     held: u8,
@@ -83,21 +82,21 @@ fn read_call<'a>(
 ) -> Result<EndLine<'a>, LineFault>
     requires size { length line.now ≤ 4096 }
     requires not_skipped { is_skipped line.now ≡ false }
-    requires own { begins_own (role_of side) (words line.now) ≡ true }
+    requires own { names_own_endpoint (role_of side) (words line.now) ≡ true }
     ensures means { IfOk result (λ read. EndMeans (role_of side) held line.now (meaning_of read)) }
     ensures refused { result_err result ≡ end_fault (role_of side) held line.now }
 {
     let read = parse_script(line, room);
     if held > 0 {
-        return Err(inside_block(read.err()));
+        return Err(call_fault_inside_block(read.err()));
     }
     match read {
-        Ok(script) => Ok(of_script(script)),
+        Ok(script) => Ok(end_line_of_script_line(script)),
         Err(fault) => Err(fault),
     }
 }
 
-fn of_script(script: ScriptLine<'_>) -> EndLine<'_>
+fn end_line_of_script_line(script: ScriptLine<'_>) -> EndLine<'_>
     ensures { meaning_of result ≡ call_meaning (script_meaning script.entry) }
 {
     match script {
@@ -106,9 +105,9 @@ fn of_script(script: ScriptLine<'_>) -> EndLine<'_>
     }
 }
 
-/// The reason against a call inside a block, given its reason elsewhere.
-fn inside_block(fault: Option<LineFault>) -> LineFault
-    ensures { Some result ≡ inside fault }
+/// Why a call is refused inside a block, given why it would be refused elsewhere.
+fn call_fault_inside_block(fault: Option<LineFault>) -> LineFault
+    ensures { Some result ≡ fault_inside_block fault }
 {
     match fault {
         Some(LineFault::Word) => LineFault::Word,
@@ -116,22 +115,22 @@ fn inside_block(fault: Option<LineFault>) -> LineFault
     }
 }
 
-/// Reads a burst of a block. Access and synchronisation bursts have no form here.
-fn read_burst<'a>(line: &[u8], side: End, held: u8) -> Result<EndLine<'a>, LineFault>
+/// Parses a line with a burst of a block. Access and synchronisation bursts are not allowed in `end`.
+fn parse_burst_line<'a>(line: &[u8], side: End, held: u8) -> Result<EndLine<'a>, LineFault>
     requires size { length line.now ≤ 4096 }
     requires not_skipped { is_skipped line.now ≡ false }
-    requires other { begins_own (role_of side) (words line.now) ≡ false }
+    requires other { names_own_endpoint (role_of side) (words line.now) ≡ false }
     ensures means { IfOk result (λ read. EndMeans (role_of side) held line.now (meaning_of read)) }
     ensures refused { result_err result ≡ end_fault (role_of side) held line.now }
 {
     match parse_burst(line, 3) {
-        Ok(burst) => Ok(of_block(burst)),
-        Err(fault) => Err(without_form(fault)),
+        Ok(burst) => Ok(end_line_of_burst_line(burst)),
+        Err(fault) => Err(fault_outside_block(fault)),
     }
 }
 
-fn of_block<'a>(burst: BurstLine) -> EndLine<'a>
-    ensures { meaning_of result ≡ brought_by burst }
+fn end_line_of_burst_line<'a>(burst: BurstLine) -> EndLine<'a>
+    ensures { meaning_of result ≡ meaning_of_burst_line burst }
 {
     match burst {
         BurstLine::Normal(soft) => EndLine::Burst(soft),
@@ -141,9 +140,9 @@ fn of_block<'a>(burst: BurstLine) -> EndLine<'a>
     }
 }
 
-/// The reason against a line, given its reason inside a block of `replay`.
-fn without_form(fault: LineFault) -> LineFault
-    ensures { Some result ≡ without_singles (Some fault) }
+/// Why a line is refused, given why it is refused as a line of `replay` inside a block.
+fn fault_outside_block(fault: LineFault) -> LineFault
+    ensures { Some result ≡ burst_fault_to_end_fault (Some fault) }
 {
     match fault {
         LineFault::Order => LineFault::Word,
@@ -151,7 +150,7 @@ fn without_form(fault: LineFault) -> LineFault
     }
 }
 
-/// A line has exactly one meaning, or is refused for a first reason and has none.
+/// A line either has exactly one meaning, or has none and is refused; the reason given is the first that applies.
 pub fn law_end_lines()
     ensures { (role : Role) (held : ℕ) (line : List ℕ) → HasOneMeaningUnless (end_fault role held line) (EndMeans role held line) }
 {}

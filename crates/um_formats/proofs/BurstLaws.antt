@@ -1,61 +1,50 @@
--- Lines of `replay`: each has one meaning or one reason, and its values are soft values.
-use Rattle.std.proofs.Common.{◌≡◌, ◌≢◌, [], ◌∷◌, ◌<◌, ℕ, ◌≤◌, false, ◌&&◌, ◌==◌, not, true, ℤ}
-use Rattle.std.proofs.Common.{pos, List, ◌++◌, ◌-◌, length, map, set, take, drop, suc, replicate, refl, ap, ◌∙◌, arith}
-use Rattle.std.specs.Int.{w8, cast_signed}
-use Rattle.std.specs.List.{All}
-use Rattle.std.proofs.lemmas.Bool.Decides.{nat_tests}
-use Rattle.std.proofs.lemmas.Int.{ints}
-use Rattle.std.proofs.lemmas.List.{length-map, length-replicate, drop_all, set_split}
-use Rattle.std.proofs.lemmas.List.Elements.{All-nil, All-cons, All-head, All-tail, All-replicate}
-use Rattle.bit_blocks.specs.Octets.{IsOctet, AllOctets}
-use Rattle.bit_blocks.specs.Bits.{AllBits}
-use Rattle.bit_blocks.specs.SoftValues.{IsSoft, AllSoft}
-use Rattle.um_block.specs.Received.{soft_value, soft_bits}
-use Rattle.um_lines.specs.BurstForms.{burst_forms, burst_elsewhere}
-use Rattle.um_lines.specs.Forms.{LineMeans}
-use Rattle.um_lines.specs.Meanings.{HasOneMeaningUnless}
-use Rattle.um_lines.proofs.FormLaws as Laws
+-- Lines of `replay`: each either has one meaning or is refused, and the values in a meaning are soft values, -127 to 127.
+use Rattle.std.proofs.Common.{◌≡◌, ◌≢◌, [], ◌∷◌, ◌<◌, ℕ, ◌≤◌, false, ◌&&◌, ◌==◌, not, true, ℤ, pos, List, ◌++◌, ◌-◌, length, map, set, take}
+use Rattle.std.proofs.{Common.{drop, suc, replicate, refl, ap, ◌∙◌, arith}, lemmas.{Bool.Decides.nat_tests, Int.ints, List.length-map}}
+use Rattle.std.proofs.lemmas.List.{length-replicate, drop_all, set_split, Elements.{All-nil, All-cons, All-head, All-tail, All-replicate}}
+use Rattle.std.specs.{Int.{w8, cast_signed}, List.All}
+use Rattle.um_block.specs.bit_blocks.{Octets.{IsOctet, AllOctets}, Bits.AllBits, SoftValues.{IsSoftBit, AllSoftBits}}
+use Rattle.um_block.{specs.Received.{soft_bit_of, soft_bits}, proofs.Lemmas.AllSoftBits-softened}
+use Rattle.um_lines.specs.{BurstForms.{burst_forms, is_burst_out_of_order}, Forms.LineMeans, Meanings.HasOneMeaningUnless}
 use Rattle.um_lines.proofs.KnownValues.{AreOctets, line_is, line_short}
-use Rattle.um_formats.specs.declared.burst_lines.BurstLine.{BurstLine}
-use Rattle.um_formats.specs.declared.burst_lines.BurstLine.TheVariants.{Skip, Normal, Access, Sync}
-use Rattle.um_formats.specs.SoftOctets.{signed_octets}
+use Rattle.um_formats.specs.{declared.burst_lines.BurstLine.{BurstLine, TheVariants.{Skip, Normal, Access, Sync}}, SoftOctets.signed_octets}
 use Rattle.um_formats.specs.BurstLines.{burst_line, burst_fault, BurstMeans}
-use Rattle.um_block.proofs.Lemmas.{AllSoft-softened}
+use Rattle.um_lines.proofs.FormLaws as Laws
 
 pub one_meaning : (held : ℕ) (line : List ℕ) → HasOneMeaningUnless (burst_fault held line) (BurstMeans held line)
 one_meaning held line =
-    Laws.one_made burst_line (LineMeans burst_forms (burst_elsewhere held) line) (burst_fault held line)
-    (Laws.one_meaning burst_forms (burst_elsewhere held) line refl)
+    Laws.one_made burst_line (LineMeans burst_forms (is_burst_out_of_order held) line) (burst_fault held line)
+    (Laws.one_meaning burst_forms (is_burst_out_of_order held) line refl)
 
--- octets other than 0x80 are soft values
-soft_octet : (octet : ℕ) → octet < 256 → octet ≢ 128 → IsSoft (cast_signed w8 octet)
+-- an octet other than 0x80 stands for a soft value, -127 to 127
+soft_octet : (octet : ℕ) → octet < 256 → octet ≢ 128 → IsSoftBit (cast_signed w8 octet)
 soft_octet octet small other = (grind (arith, ints, nat_tests), grind (arith, ints, nat_tests))
 
-signed-AllSoft : (octets : List ℕ) → AllOctets octets → All (λ octet. octet ≢ 128) octets → AllSoft (signed_octets octets)
-signed-AllSoft [] small each = All-nil IsSoft
-signed-AllSoft (octet ∷ octets) small each =
+signed-AllSoftBits : (octets : List ℕ) → AllOctets octets → All (λ octet. octet ≢ 128) octets → AllSoftBits (signed_octets octets)
+signed-AllSoftBits [] small each = All-nil IsSoftBit
+signed-AllSoftBits (octet ∷ octets) small each =
     let Unlike : ℕ → Type 0 = λ o. o ≢ 128 in
-    All-cons IsSoft (cast_signed w8 octet) (signed_octets octets)
+    All-cons IsSoftBit (cast_signed w8 octet) (signed_octets octets)
     (soft_octet octet (All-head IsOctet octet octets small) (All-head Unlike octet octets each))
-    (signed-AllSoft octets (All-tail IsOctet octet octets small) (All-tail Unlike octet octets each))
+    (signed-AllSoftBits octets (All-tail IsOctet octet octets small) (All-tail Unlike octet octets each))
 
--- a number of soft values
+-- a list of `count` soft values, -127 to 127
 abbrev pub AreSoft : ℕ → List ℤ → Type 0
-AreSoft count values = (length values ≡ count) × AllSoft values
+AreSoft count values = (length values ≡ count) × AllSoftBits values
 
 pub hard : (count : ℕ) (bits : List ℕ) → (length bits ≡ count) × AllBits bits → AreSoft count (soft_bits bits)
-hard count bits known = (length-map bits soft_value ∙ known.0, AllSoft-softened bits)
+hard count bits known = (length-map bits soft_bit_of ∙ known.0, AllSoftBits-softened bits)
 
 pub soft : (count : ℕ) (octets : List ℕ) → AreOctets count octets × All (λ octet. octet ≢ 128) octets → AreSoft count (signed_octets octets)
-soft count octets known = (length-map octets (cast_signed w8) ∙ known.0.0, signed-AllSoft octets known.0.1 known.1)
+soft count octets known = (length-map octets (cast_signed w8) ∙ known.0.0, signed-AllSoftBits octets known.0.1 known.1)
 
 pub lost : AreSoft 148 (replicate 148 (pos 0))
-lost = (length-replicate 148 (pos 0), All-replicate IsSoft 148 (pos 0) (omega (arith, ints), omega (arith, ints)))
+lost = (length-replicate 148 (pos 0), All-replicate IsSoftBit 148 (pos 0) (omega (arith, ints), omega (arith, ints)))
 
 none_held : (held : ℕ) → (not (held == 0) && true) ≡ false → held ≡ 0
 none_held held e = grind (arith, nat_tests)
 
--- a burst has its number of soft values, and no burst is held when an access or synchronisation burst comes
+-- a burst has the number of soft values that its kind requires, and no burst is held when an access or synchronisation burst comes
 abbrev pub IsBurst : (held : ℕ) → BurstLine → Type 0
 IsBurst held Skip = Unit {0}
 IsBurst held (Normal values) = AreSoft 148 values
@@ -64,7 +53,7 @@ IsBurst held (Sync values) = (held ≡ 0) × AreSoft 148 values
 
 is_burst : (held : ℕ) (line : List ℕ) (meaning : BurstLine) → BurstMeans held line meaning → IsBurst held meaning
 is_burst held line meaning means =
-    line_is burst_forms (burst_elsewhere held) burst_line (IsBurst held) tt (
+    line_is burst_forms (is_burst_out_of_order held) burst_line (IsBurst held) tt (
       λ count values here (bits, rest, is, known, none). rw (is, none) (hard 148 bits known),
       (
         λ count values here (octets, rest, is, known, none). rw (is, none) (soft 148 octets known),
@@ -89,35 +78,35 @@ is_burst held line meaning means =
       ),
     ) line meaning means
 
--- a normal burst is 148 soft values
+-- a normal burst has 148 soft values
 pub normal_burst : (held : ℕ) (line : List ℕ) (values : List ℤ) → BurstMeans held line (Normal values)
-    → (length values ≡ 148) × AllSoft values
+    → (length values ≡ 148) × AllSoftBits values
 normal_burst held line values means = is_burst held line (Normal values) means
 
--- an access burst is 88 soft values and the six bits of an identity code, and no burst is held
+-- an access burst has 88 soft values and six bits of BSIC, and no burst is held when it comes
 pub access_burst : (held : ℕ) (line bsic : List ℕ) (values : List ℤ) → BurstMeans held line (Access bsic values)
-    → (held ≡ 0) × (length bsic ≡ 6) × AllBits bsic × (length values ≡ 88) × AllSoft values
+    → (held ≡ 0) × (length bsic ≡ 6) × AllBits bsic × (length values ≡ 88) × AllSoftBits values
 access_burst held line bsic values means =
     let known = is_burst held line (Access bsic values) means in
     (known.0, known.1, known.2, known.3.0, known.3.1)
 
--- a synchronisation burst is 148 soft values, and no burst is held
+-- a synchronisation burst has 148 soft values, and no burst is held when it comes
 pub sync_burst : (held : ℕ) (line : List ℕ) (values : List ℤ) → BurstMeans held line (Sync values)
-    → (held ≡ 0) × (length values ≡ 148) × AllSoft values
+    → (held ≡ 0) × (length values ≡ 148) × AllSoftBits values
 sync_burst held line values means =
     let known = is_burst held line (Sync values) means in
     (known.0, known.1.0, known.1.1)
 
--- a line with a meaning is within the line limit
+-- a line that has a meaning has at most 4096 octets
 pub short : (held : ℕ) (line : List ℕ) (meaning : BurstLine) → BurstMeans held line meaning → length line ≤ 4096
-short held line meaning means = line_short burst_forms (burst_elsewhere held) burst_line line meaning means
+short held line meaning means = line_short burst_forms (is_burst_out_of_order held) burst_line line meaning means
 
--- writing the fourth burst appends it to the first three
-pub fourth : (bursts : List (List ℤ)) (held : ℕ) (burst : List ℤ) → length bursts ≡ 4 → held ≡ 3 → set bursts held burst
+-- writing the fourth burst into the buffer appends it to the first three
+pub fourth_burst_completes : (bursts : List (List ℤ)) (held : ℕ) (burst : List ℤ) → length bursts ≡ 4 → held ≡ 3 → set bursts held burst
     ≡ take held bursts ++ burst ∷ []
-fourth bursts held burst four last =
+fourth_burst_completes bursts held burst four last =
     let none : drop (suc held) bursts ≡ [] = drop_all (suc held) bursts (omega arith) in
     set_split bursts held burst (omega arith) ∙ ap (λ rest. take held bursts ++ burst ∷ rest) none
 
-pub hard_values : (digits : List ℕ) → AllSoft (soft_bits (map (λ octet. octet - 48) digits))
-hard_values digits = AllSoft-softened (map (λ octet. octet - 48) digits)
+pub hard_values : (digits : List ℕ) → AllSoftBits (soft_bits (map (λ octet. octet - 48) digits))
+hard_values digits = AllSoftBits-softened (map (λ octet. octet - 48) digits)

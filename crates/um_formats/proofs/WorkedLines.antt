@@ -1,24 +1,16 @@
--- Frames, octets and soft values worked by hand.
-use Rattle.std.proofs.Common.{◌≡◌, ◌<◌, pos, negsuc, true, false, List, [], ◌∷◌, ◌++◌, Some, refl, codes, replicate}
-use Rattle.std.proofs.Common.{take, drop, inl, inr, arith}
+-- Worked examples of frames, octets and soft values, computed by hand.
+use Rattle.std.proofs.Common.{◌≡◌, ◌<◌, pos, negsuc, true, false, List, [], ◌∷◌, ◌++◌, Some, refl, codes, replicate, take, drop, inl, inr}
+use Rattle.std.proofs.Common.{arith}
 use Rattle.hex.specs.Hex.{encode_with, encode_lower}
-use Rattle.lapdm_frame.specs.declared.Channel.TheVariants.{Sdcch}
-use Rattle.lapdm_frame.specs.declared.Refusal.{Refusal}
-use Rattle.lapdm_frame.specs.declared.Refusal.TheVariants.{Lpd, Ea}
-use Rattle.lapdm_frame.specs.Content.{I, Rnr, Ui, Frame}
-use Rattle.lapdm_frame.specs.Refusals.{AppliesTo, reason_rank, IsRefused}
-use Rattle.bit_blocks.specs.Octets.{octets_of}
-use Rattle.um_block.specs.Received.{soft_bits}
-use Rattle.um_lines.specs.Fields.{hex_octets, Value, Number, Several}
-use Rattle.um_lines.specs.Forms.{line_says}
+use Rattle.lapdm_frame.specs.{declared.{Channel.TheVariants.Sdcch, Refusal.{Refusal, TheVariants.{Lpd, Ea}}}, Content.{I, Rnr, Ui, Frame}}
+use Rattle.lapdm_frame.specs.Refusals.{RefusalAppliesTo, reason_rank, IsRefused}
+use Rattle.um_block.specs.{bit_blocks.Octets.octets_of, Received.soft_bits}
+use Rattle.um_lines.specs.{Fields.{octets_from_hex, Value, Number, NumberList}, Forms.line_meaning, ShowForms.show_forms}
+use Rattle.um_formats.specs.{FrameTexts.{frame_text, IsTextOfOctets}, ShowLines.frame_from_values, SoftOctets.signed_octets}
 use Rattle.lapdm_frame.specs.declared.Kind.TheVariants as K
 use Rattle.um_lines.specs.ShowForms as N
-use Rattle.um_lines.specs.ShowForms.{show_forms}
-use Rattle.um_formats.specs.FrameTexts.{frame_text, IsFrameText}
-use Rattle.um_formats.specs.ShowLines.{said_frame}
-use Rattle.um_formats.specs.SoftOctets.{signed_octets}
 
--- a frame with information, written and read
+-- a frame with information, first written and then read back
 asked : Frame
 asked = record { sapi = 0; cr = false; content = I 5 2 true false (6 ∷ 1 ∷ []) }
 
@@ -27,21 +19,21 @@ unfolding asked encode_with
 asked_text = refl
 
 abbrev asked_values : List Value
-asked_values = Number 0 ∷ Number 0 ∷ Number 5 ∷ Number 2 ∷ Number 1 ∷ Number 0 ∷ Several (6 ∷ 1 ∷ []) ∷ []
+asked_values = Number 0 ∷ Number 0 ∷ Number 5 ∷ Number 2 ∷ Number 1 ∷ Number 0 ∷ NumberList (6 ∷ 1 ∷ []) ∷ []
 
-asked_says : line_says show_forms (codes "frame sapi 0 cr 0 i ns 5 nr 2 p 1 m 0 info 0601") ≡ Some (N.Frame K.I, asked_values)
+asked_says : line_meaning show_forms (codes "frame sapi 0 cr 0 i ns 5 nr 2 p 1 m 0 info 0601") ≡ Some (N.Frame K.I, asked_values)
 asked_says = refl
 
-asked_said : said_frame (N.Frame K.I) asked_values ≡ Some asked
+asked_said : frame_from_values (N.Frame K.I) asked_values ≡ Some asked
 unfolding asked
 asked_said = refl
 
-asked_octets : hex_octets (codes "0601") ≡ 6 ∷ 1 ∷ []
+asked_octets : octets_from_hex (codes "0601") ≡ 6 ∷ 1 ∷ []
 asked_octets = refl
 
--- the fill does not change the text of a frame
-other_fill : IsFrameText (3 ∷ 3 ∷ 1 ∷ replicate 20 255) (codes "frame sapi 0 cr 1 ui p 0 info -\n")
-other_fill = inl (
+-- other octets after the information do not change the text of a frame
+other_fill_same_text : IsTextOfOctets (3 ∷ 3 ∷ 1 ∷ replicate 20 255) (codes "frame sapi 0 cr 1 ui p 0 info -\n")
+other_fill_same_text = inl (
   record { sapi = 0; cr = true; content = Ui false [] },
   record {
     count = refl;
@@ -54,7 +46,7 @@ other_fill = inl (
   refl,
 )
 
-not_ready : IsFrameText (3 ∷ 0x75 ∷ 1 ∷ replicate 20 0x2b) (codes "frame sapi 0 cr 1 rnr nr 3 pf 1\n")
+not_ready : IsTextOfOctets (3 ∷ 0x75 ∷ 1 ∷ replicate 20 0x2b) (codes "frame sapi 0 cr 1 rnr nr 3 pf 1\n")
 not_ready = inl (
   record { sapi = 0; cr = true; content = Rnr 3 true },
   record {
@@ -68,18 +60,18 @@ not_ready = inl (
   refl,
 )
 
--- zeros are no frame, since EA is 0
+-- a block of zeros is refused as a frame, since its EA bit is 0
 zeros_refused : IsRefused Sdcch (replicate 23 0) Ea
 zeros_refused = record { applies = refl; first = earlier }
   where
-    earlier : (reason : Refusal) → reason_rank reason < 1 → ¬ AppliesTo Sdcch (replicate 23 0) reason
+    earlier : (reason : Refusal) → reason_rank reason < 1 → ¬ RefusalAppliesTo Sdcch (replicate 23 0) reason
     earlier Lpd before applies = omega arith
     earlier reason before applies = omega arith
 
-zeros_text : IsFrameText (replicate 23 0) (codes "unread ea\n")
+zeros_text : IsTextOfOctets (replicate 23 0) (codes "unread ea\n")
 zeros_text = inr (Ea, zeros_refused, refl)
 
--- data and CRC of a block of zeros, whose CRC is 40 ones
+-- the data and the CRC of a block of zeros: the CRC is 40 ones
 zeros_data : encode_lower (octets_of (take 184 (replicate 184 0 ++ replicate 40 1 ++ replicate 4 0)))
     ≡ codes "0000000000000000000000000000000000000000000000"
 unfolding encode_with
@@ -89,8 +81,8 @@ zeros_check : encode_lower (octets_of (take 40 (drop 184 (replicate 184 0 ++ rep
 unfolding encode_with
 zeros_check = refl
 
-signed : signed_octets (hex_octets (codes "007F81ff80")) ≡ pos 0 ∷ pos 127 ∷ negsuc 126 ∷ negsuc 0 ∷ negsuc 127 ∷ []
+signed : signed_octets (octets_from_hex (codes "007F81ff80")) ≡ pos 0 ∷ pos 127 ∷ negsuc 126 ∷ negsuc 0 ∷ negsuc 127 ∷ []
 signed = refl
 
-sure : soft_bits (0 ∷ 1 ∷ []) ≡ pos 127 ∷ negsuc 126 ∷ []
-sure = refl
+certain_soft_bits : soft_bits (0 ∷ 1 ∷ []) ≡ pos 127 ∷ negsuc 126 ∷ []
+certain_soft_bits = refl

@@ -1,21 +1,14 @@
--- Each line that is written for a burst reads back as the burst.
-use Rattle.std.proofs.Common.{◌≡◌, ◌≢◌, ℕ, ◌+◌, ◌≤◌, ◌==◌, false, not, Some, List, [], ◌∷◌, ◌++◌}
-use Rattle.std.proofs.Common.{length, codes, refl, ap, sym, subst, inl, inr, append_assoc, length-append, arith}
-use Rattle.std.specs.List.{All}
-use Rattle.std.proofs.lemmas.Bool.{and_right}
-use Rattle.std.proofs.lemmas.List.{length-map}
-use Rattle.bit_blocks.specs.Bits.{AllBits}
-use Rattle.um_block.specs.Received.{soft_bits}
-use Rattle.um_lines.specs.Fields.{Fixed, BitDigits, Several, bit_digits}
+-- Parsing the line that is written for a burst gives the burst back.
+use Rattle.std.proofs.Common.{◌≡◌, ◌≢◌, ℕ, ◌+◌, ◌≤◌, ◌==◌, false, not, Some, List, [], ◌∷◌, ◌++◌, length, codes, refl, ap, sym, subst, inl}
+use Rattle.std.{proofs.{Common.{inr, append_assoc, length-append, arith}, lemmas.{Bool.and_right, List.length-map}}, specs.List.All}
+use Rattle.um_block.specs.{bit_blocks.Bits.AllBits, Received.soft_bits}
+use Rattle.um_lines.specs.{Fields.{FixedWord, BitDigits, NumberList, bit_digits}, BurstForms.{burst_forms, is_burst_out_of_order}}
+use Rattle.um_lines.proofs.{KnownValues.Fitting, SpelledLaws.{spelled_means, spelled_uncut}}
+use Rattle.um_formats.specs.{declared.burst_lines.BurstLine.TheVariants.{Normal, Access, Sync}, BurstLines.BurstMeans}
+use Rattle.um_formats.specs.WrittenBursts.{IsUnskippedLine}
 use Rattle.um_lines.specs.BurstForms as F
-use Rattle.um_lines.specs.BurstForms.{burst_forms, burst_elsewhere}
-use Rattle.um_lines.proofs.KnownValues.{Fitting}
-use Rattle.um_lines.proofs.SpelledLaws.{spelled_means, spelled_uncut}
-use Rattle.um_formats.specs.declared.burst_lines.BurstLine.TheVariants.{Normal, Access, Sync}
-use Rattle.um_formats.specs.BurstLines.{BurstMeans}
-use Rattle.um_formats.specs.WrittenBursts.{IsWholeLine}
 
--- the lines without their line feeds
+-- the lines of bursts, without their line feeds
 abbrev pub normal_line : List ℕ → List ℕ
 normal_line burst = codes "n " ++ bit_digits burst
 
@@ -28,30 +21,30 @@ sync_line burst = codes "s " ++ bit_digits burst
 length-bit_digits : (bits : List ℕ) → length (bit_digits bits) ≡ length bits
 length-bit_digits bits = length-map bits (λ bit. 48 + bit)
 
--- bits match their fields
-one : (letter burst : List ℕ) → AllBits burst → length burst ≡ 148 → Fitting (Fixed letter ∷ BitDigits 148 ∷ []) (Several burst ∷ [])
+-- the bits of a burst fit the fields of its form
+one : (letter burst : List ℕ) → AllBits burst → length burst ≡ 148 → Fitting (FixedWord letter ∷ BitDigits 148 ∷ []) (NumberList burst ∷ [])
 one letter burst each many = (burst, [], refl, (many, each), refl)
 
 both : (bsic burst : List ℕ) → length bsic ≡ 6 → AllBits bsic → length burst ≡ 88 → AllBits burst
-    → Fitting (Fixed (codes "a") ∷ BitDigits 6 ∷ BitDigits 88 ∷ []) (Several bsic ∷ Several burst ∷ [])
-both bsic burst few bits many each = (bsic, Several burst ∷ [], refl, (few, bits), (burst, [], refl, (many, each), refl))
+    → Fitting (FixedWord (codes "a") ∷ BitDigits 6 ∷ BitDigits 88 ∷ []) (NumberList bsic ∷ NumberList burst ∷ [])
+both bsic burst few bits many each = (bsic, NumberList burst ∷ [], refl, (few, bits), (burst, [], refl, (many, each), refl))
 
--- the line of an access burst as its first word and the rest
+-- the line of an access burst, split into its first word and the rest
 access_line_from_left : (bsic burst : List ℕ) → access_line bsic burst ≡ 97 ∷ 32 ∷ (bit_digits bsic ++ 32 ∷ bit_digits burst)
 access_line_from_left bsic burst = ap (λ rest. 97 ∷ 32 ∷ rest) (append_assoc (bit_digits bsic) (codes " ") (bit_digits burst))
 
--- a normal burst is allowed anywhere in a block
-held_normal : (held : ℕ) → burst_elsewhere held F.Normal ≡ false
+-- a normal burst is never out of order
+held_normal : (held : ℕ) → is_burst_out_of_order held F.Normal ≡ false
 held_normal held = and_right (not (held == 0)) false refl
 
--- ---- each line means its burst
+-- ---- each line that is written means its burst
 
 pub normal_restored : (held : ℕ) (burst : List ℕ) → length burst ≡ 148 → AllBits burst
     → BurstMeans held (normal_line burst) (Normal (soft_bits burst))
 normal_restored held burst many each =
     let short : length (normal_line burst) ≤ 4096 = omega (arith, length-bit_digits burst) in (
-      Some (F.Normal, Several burst ∷ []),
-      spelled_means burst_forms (burst_elsewhere held) F.Normal (codes "n") (BitDigits 148 ∷ []) (Several burst ∷ []) (inl refl)
+      Some (F.Normal, NumberList burst ∷ []),
+      spelled_means burst_forms (is_burst_out_of_order held) F.Normal (codes "n") (BitDigits 148 ∷ []) (NumberList burst ∷ []) (inl refl)
           (held_normal held) refl (one (codes "n") burst each many) tt short refl,
       refl,
     )
@@ -59,8 +52,8 @@ normal_restored held burst many each =
 pub sync_restored : (burst : List ℕ) → length burst ≡ 148 → AllBits burst → BurstMeans 0 (sync_line burst) (Sync (soft_bits burst))
 sync_restored burst many each =
     let short : length (sync_line burst) ≤ 4096 = omega (arith, length-bit_digits burst) in (
-      Some (F.Sync, Several burst ∷ []),
-      spelled_means burst_forms (burst_elsewhere 0) F.Sync (codes "s") (BitDigits 148 ∷ []) (Several burst ∷ [])
+      Some (F.Sync, NumberList burst ∷ []),
+      spelled_means burst_forms (is_burst_out_of_order 0) F.Sync (codes "s") (BitDigits 148 ∷ []) (NumberList burst ∷ [])
           (inr (inr (inr (inr (inr (inl refl)))))) refl refl (one (codes "s") burst each many) tt short refl,
       refl,
     )
@@ -71,34 +64,34 @@ access_restored bsic burst few bits many each =
     let short : length (97 ∷ 32 ∷ (bit_digits bsic ++ 32 ∷ bit_digits burst)) ≤ 4096 =
     omega (arith, length-append (bit_digits bsic) (32 ∷ bit_digits burst), length-bit_digits bsic, length-bit_digits burst) in
     subst (λ line. BurstMeans 0 line (Access bsic (soft_bits burst))) (sym (access_line_from_left bsic burst)) (
-      Some (F.Access, Several bsic ∷ Several burst ∷ []),
-      spelled_means burst_forms (burst_elsewhere 0) F.Access (codes "a") (BitDigits 6 ∷ BitDigits 88 ∷ [])
-          (Several bsic ∷ Several burst ∷ [])
+      Some (F.Access, NumberList bsic ∷ NumberList burst ∷ []),
+      spelled_means burst_forms (is_burst_out_of_order 0) F.Access (codes "a") (BitDigits 6 ∷ BitDigits 88 ∷ [])
+          (NumberList bsic ∷ NumberList burst ∷ [])
           (inr (inr (inr (inl refl)))) refl refl (both bsic burst few bits many each) tt short refl,
       refl,
     )
 
--- ---- no line has a line feed
+-- ---- no line that is written contains a line feed
 
-pub normal_whole : (burst : List ℕ) → length burst ≡ 148 → AllBits burst → IsWholeLine (normal_line burst)
+pub normal_whole : (burst : List ℕ) → length burst ≡ 148 → AllBits burst → IsUnskippedLine (normal_line burst)
 normal_whole burst many each = record {
-  uncut = spelled_uncut (Fixed (codes "n") ∷ BitDigits 148 ∷ []) (Several burst ∷ []) refl
+  uncut = spelled_uncut (FixedWord (codes "n") ∷ BitDigits 148 ∷ []) (NumberList burst ∷ []) refl
       (one (codes "n") burst each many);
   stays = refl;
 }
 
-pub sync_whole : (burst : List ℕ) → length burst ≡ 148 → AllBits burst → IsWholeLine (sync_line burst)
+pub sync_whole : (burst : List ℕ) → length burst ≡ 148 → AllBits burst → IsUnskippedLine (sync_line burst)
 sync_whole burst many each = record {
-  uncut = spelled_uncut (Fixed (codes "s") ∷ BitDigits 148 ∷ []) (Several burst ∷ []) refl
+  uncut = spelled_uncut (FixedWord (codes "s") ∷ BitDigits 148 ∷ []) (NumberList burst ∷ []) refl
       (one (codes "s") burst each many);
   stays = refl;
 }
 
 pub access_whole : (bsic burst : List ℕ) → length bsic ≡ 6 → AllBits bsic → length burst ≡ 88 → AllBits burst
-    → IsWholeLine (access_line bsic burst)
+    → IsUnskippedLine (access_line bsic burst)
 access_whole bsic burst few bits many each = record {
   uncut = subst (All (λ octet. octet ≢ 10)) (sym (access_line_from_left bsic burst))
-      (spelled_uncut (Fixed (codes "a") ∷ BitDigits 6 ∷ BitDigits 88 ∷ []) (Several bsic ∷ Several burst ∷ []) refl
+      (spelled_uncut (FixedWord (codes "a") ∷ BitDigits 6 ∷ BitDigits 88 ∷ []) (NumberList bsic ∷ NumberList burst ∷ []) refl
       (both bsic burst few bits many each));
   stays = refl;
 }

@@ -1,34 +1,25 @@
--- What `show` writes for frames and octets reads back.
-use Rattle.std.proofs.Common.{◌≡◌, ℕ, ◌<◌, ◌≤◌, Bool, true, false, List, [], ◌∷◌, ◌++◌, length, Option, Some}
-use Rattle.std.proofs.Common.{None, codes, refl, ap, rules, sym, ◌∙◌, subst, inl, arith}
-use Rattle.std.specs.List.{All}
-use Rattle.std.proofs.lemmas.List.{append_cancel_right}
+-- Parsing what `show` writes for frames and octets gives them back.
+use Rattle.std.proofs.Common.{◌≡◌, ℕ, ◌<◌, ◌≤◌, Bool, true, false, List, [], ◌∷◌, ◌++◌, length, Option, Some, None, codes, refl, ap, rules}
+use Rattle.std.{proofs.{Common.{sym, ◌∙◌, subst, inl, arith}, lemmas.List.append_cancel_right}, specs.List.All}
 use Rattle.hex.specs.Hex.{encode_lower}
-use Rattle.lapdm_frame.specs.declared.Channel.TheVariants.{Sdcch}
-use Rattle.lapdm_frame.specs.declared.Kind.{Kind}
-use Rattle.lapdm_frame.specs.declared.Kind.TheVariants as K
-use Rattle.lapdm_frame.specs.Content.{Content, I, Fields, Frame, fields_of, information}
-use Rattle.lapdm_frame.specs.Frames.{bit, InformationFits, Fits, IsFrame, IsCanonical, octets_of}
-use Rattle.lapdm_frame.proofs.Canonical.{same_canonical, octets_canonical}
-use Rattle.lapdm_frame.proofs.FieldLaws.{FieldsFit, fields_fit}
-use Rattle.um_lines.specs.Fields.{Fixed, HexOctets, Value, Number, Several}
-use Rattle.um_lines.specs.Forms.{Just, IsOf, LineMeans, AreDistinct, places, anywhere}
-use Rattle.um_lines.specs.ShowForms as F
-use Rattle.um_lines.specs.ShowForms.{ShowName, Shape, Numbered, Supervisory, Informed, Plain, row, marked, shape_fields, frame_fields}
-use Rattle.um_lines.specs.ShowForms.{show_forms}
-use Rattle.um_lines.specs.Spelled.{octets_word, spelled_line}
-use Rattle.um_lines.proofs.KnownValues.{Fitting}
-use Rattle.um_lines.proofs.SpelledLaws.{length-encode_lower, spelled_uncut, spelled_means, lack}
-use Rattle.um_formats.specs.declared.show.ShowLine.TheVariants as S
-use Rattle.um_formats.specs.FrameTexts.{shape_values, frame_row, frame_values, frame_text, octets_text, IsFrameText}
-use Rattle.um_formats.specs.ShowLines.{is_set, said_frame, shown_frame, show_of, ShowMeans}
-use Rattle.um_formats.specs.ShowReading.{least_info}
-use Rattle.um_formats.specs.WrittenBursts.{IsWholeLine}
-use Rattle.um_formats.proofs.ReportLaws.{one_frame_text}
+use Rattle.lapdm_frame.specs.{declared.{Channel.TheVariants.Sdcch, Kind.Kind}, Content.{Content, I, Fields, Frame, fields_of, information}}
+use Rattle.lapdm_frame.{specs.Frames.{bit, InformationFits, Fits, IsFrame, IsCanonical, octets_of}, proofs.Canonical.same_canonical}
+use Rattle.lapdm_frame.proofs.{Canonical.octets_canonical, FieldLaws.{FieldsFit, fields_fit}}
+use Rattle.um_lines.specs.{Fields.{FixedWord, HexOctets, Value, Number, NumberList}, Forms.{Exactly, IsTableEntry, LineMeans, AreDistinct}}
+use Rattle.um_lines.specs.{Forms.{places, no_order_fault}, ShowForms.{ShowLineKind, FrameShape, NumberedInfo, Supervisory, WithInfo}}
+use Rattle.um_lines.specs.{ShowForms.{WithoutInfo, row, m_bit_and_info, shape_fields, frame_fields, show_forms}, Spelled.octets_word}
+use Rattle.um_lines.{specs.Spelled.line_of_values, proofs.{KnownValues.Fitting, SpelledLaws.{length-encode_lower, spelled_uncut}}}
+use Rattle.um_lines.proofs.SpelledLaws.{spelled_means, fixed_words_lack}
+use Rattle.um_formats.specs.FrameTexts.{shape_values, syntax_of_frame, frame_values, frame_text, octets_text, IsTextOfOctets}
+use Rattle.um_formats.specs.ShowLines.{is_set, frame_from_values, show_line_of_frame, show_line_of_values, ShowMeans}
+use Rattle.um_formats.{specs.{ShowReading.least_information_octets, WrittenBursts.IsUnskippedLine}, proofs.ReportLaws.one_frame_text}
 use Rattle.um_formats.proofs.ShowLaws.{said_fits}
+use Rattle.lapdm_frame.specs.declared.Kind.TheVariants as K
+use Rattle.um_lines.specs.ShowForms as F
+use Rattle.um_formats.specs.declared.show.ShowLine.TheVariants as S
 
-abbrev Small : List ℕ → Type 0
-Small octets = All (λ octet. octet < 256) octets
+abbrev AreAllOctets : List ℕ → Type 0
+AreAllOctets octets = All (λ octet. octet < 256) octets
 
 bit_small : (b : Bool) → bit b ≤ 1
 bit_small false = omega arith
@@ -47,19 +38,19 @@ abbrev frame : ℕ → Bool → Content → Frame
 frame s cr content = record { sapi = s; cr = cr; content = content }
 
 abbrev written : Frame → List ℕ
-written f = spelled_line (frame_fields (frame_row f)) (frame_values f)
+written f = line_of_values (frame_fields (syntax_of_frame f)) (frame_values f)
 
 set_bit : (b : Bool) → is_set (bit b) ≡ b
 set_bit false = refl
 set_bit true = refl
 
--- the form of a frame's kind is in the table, and its values give the frame back
+-- the form of a frame's kind is in the table, and the values written for a frame spell that frame
 record IsWritten (s : ℕ) (cr : Bool) (content : Content) : Type 0 where
-  pub of_table : IsOf show_forms (F.Frame (kind content), Just (frame_fields (row (kind content))))
-  pub says : said_frame (F.Frame (kind content)) (frame_values (frame s cr content)) ≡ Some (frame s cr content)
+  pub of_table : IsTableEntry show_forms (F.Frame (kind content), Exactly (frame_fields (row (kind content))))
+  pub says : frame_from_values (F.Frame (kind content)) (frame_values (frame s cr content)) ≡ Some (frame s cr content)
   pub once : AreDistinct (places (frame_values (frame s cr content)))
-  pub spaceless : lack 32 (omega arith) (frame_fields (row (kind content))) ≡ true
-  pub uncut : lack 10 (omega arith) (frame_fields (row (kind content))) ≡ true
+  pub spaceless : fixed_words_lack 32 (omega arith) (frame_fields (row (kind content))) ≡ true
+  pub uncut : fixed_words_lack 10 (omega arith) (frame_fields (row (kind content))) ≡ true
 
 is_written : (s : ℕ) (cr : Bool) (content : Content) → IsWritten s cr content
 is_written s cr (I ns nr p more info) =
@@ -70,97 +61,113 @@ few : (s : ℕ) (cr : Bool) (content : Content) → InformationFits Sdcch conten
 few s cr (I ns nr p more info) many = omega (arith, length-octets_word info many.1)
 few s cr content many = omega (arith, length-octets_word (information content) many)
 
-least : (kind : Kind) (count : ℕ) → (kind ≡ K.I → 1 ≤ count) → least_info (row kind).shape ≤ count
+least : (kind : Kind) (count : ℕ) → (kind ≡ K.I → 1 ≤ count) → least_information_octets (row kind).shape ≤ count
 least K.I count some = some refl
 least other count some = omega arith
 
-fitting : (shape : Shape) (f : Fields) → FieldsFit Sdcch f → least_info shape ≤ length f.info → Small f.info
+fitting : (shape : FrameShape) (f : Fields) → FieldsFit Sdcch f → least_information_octets shape ≤ length f.info → AreAllOctets f.info
     → Fitting (shape_fields shape) (shape_values shape f)
-fitting Numbered f fit many small =
-    let last : Fitting marked (Number (bit f.more) ∷ Several f.info ∷ []) =
+fitting NumberedInfo f fit many small =
+    let last : Fitting m_bit_and_info (Number (bit f.more) ∷ NumberList f.info ∷ []) =
     (bit f.more, _, refl, bit_small f.more, (f.info, _, refl, (many, fit.most, small), refl)) in
     (f.ns, _, refl, fit.sent, (f.nr, _, refl, fit.received, (bit f.pf, _, refl, bit_small f.pf, last)))
 fitting Supervisory f fit many small = (f.nr, _, refl, fit.received, (bit f.pf, _, refl, bit_small f.pf, refl))
-fitting (Informed name) f fit many small =
+fitting (WithInfo name) f fit many small =
     (bit f.pf, _, refl, bit_small f.pf, (f.info, _, refl, (omega arith, fit.most, small), refl))
-fitting (Plain name) f fit many small = (bit f.pf, _, refl, bit_small f.pf, refl)
+fitting (WithoutInfo name) f fit many small = (bit f.pf, _, refl, bit_small f.pf, refl)
 
 same_information : (content : Content) → (fields_of content).info ≡ information content
 same_information (I ns nr p more info) = refl
 same_information other = refl
 
--- the text of a frame that fits reads as its canonical octets
-frame_back : (f : Frame) (line : List ℕ) → Fits Sdcch f → Small (information f.content) → frame_text f ≡ line ++ codes "\n"
-    → IsWholeLine line × ShowMeans line (S.Frame (octets_of Sdcch f))
+-- parsing the text of a frame that fits gives its canonical octets
+frame_back : (f : Frame) (line : List ℕ) → Fits Sdcch f → AreAllOctets (information f.content) → frame_text f ≡ line ++ codes "\n"
+    → IsUnskippedLine line × ShowMeans line (S.Frame (octets_of Sdcch f))
 frame_back f line fits small text =
     let w = is_written f.sapi f.cr f.content in
     let vs = frame_values f in
     let fit = fields_fit Sdcch f.content fits.numbers fits.information in
     let many = least (kind f.content) (length (fields_of f.content).info) fit.some in
-    let octets : Small (fields_of f.content).info = rw (same_information f.content) small in
-    let fitted : Fitting (frame_fields (frame_row f)) vs =
-    (f.sapi, _, refl, fits.sapi, (bit f.cr, _, refl, bit_small f.cr, fitting (frame_row f).shape (fields_of f.content) fit many octets)) in
+    let octets : AreAllOctets (fields_of f.content).info = rw (same_information f.content) small in
+    let fitted : Fitting (frame_fields (syntax_of_frame f)) vs = (
+      f.sapi,
+      _,
+      refl,
+      fits.sapi,
+      (
+        bit f.cr,
+        _,
+        refl,
+        bit_small f.cr,
+        fitting (syntax_of_frame f).shape
+            (fields_of f.content) fit many octets,
+      ),
+    ) in
     let same : written f ≡ line = append_cancel_right _ line (codes "\n") text in
     let short : length (written f) ≤ 4096 = omega (arith, few f.sapi f.cr f.content fits.information) in
-    subst (λ l. IsWholeLine l × ShowMeans l (S.Frame (octets_of Sdcch f))) same (
-      record { uncut = spelled_uncut (frame_fields (frame_row f)) vs w.uncut fitted; stays = refl },
+    subst (λ l. IsUnskippedLine l × ShowMeans l (S.Frame (octets_of Sdcch f))) same (
+      record { uncut = spelled_uncut (frame_fields (syntax_of_frame f)) vs w.uncut fitted; stays = refl },
       (
         Some (F.Frame (kind f.content), vs),
-        spelled_means show_forms anywhere (F.Frame (kind f.content)) (codes "frame") _ vs w.of_table refl w.spaceless fitted w.once short
+        spelled_means show_forms no_order_fault (F.Frame (kind f.content))
+            (codes "frame") _ vs w.of_table refl w.spaceless fitted w.once short
             refl,
-        sym (ap shown_frame w.says),
+        sym (ap show_line_of_frame w.says),
       ),
     )
 
--- the text of canonical octets reads as these octets
-pub canonical_back : (f : Frame) (octets text line : List ℕ) → IsCanonical Sdcch f octets → Small (information f.content)
-    → IsFrameText octets text
-    → text ≡ line ++ codes "\n" → IsWholeLine line × ShowMeans line (S.Frame octets)
+-- parsing the text for canonical octets gives these octets
+pub canonical_back : (f : Frame) (octets text line : List ℕ) → IsCanonical Sdcch f octets → AreAllOctets (information f.content)
+    → IsTextOfOctets octets text
+    → text ≡ line ++ codes "\n" → IsUnskippedLine line × ShowMeans line (S.Frame octets)
 canonical_back f octets text line canonical small is_text whole =
     let frame = canonical.frame in
     let fits = frame.fits in
     let same : octets_of Sdcch f ≡ octets = same_canonical Sdcch f (octets_of Sdcch f) octets (octets_canonical Sdcch f fits) canonical in
     let said : text ≡ frame_text f = one_frame_text octets text (frame_text f) is_text (inl (f, frame, refl)) in
-    subst (λ o. IsWholeLine line × ShowMeans line (S.Frame o)) same (frame_back f line fits small (sym said ∙ whole))
+    subst (λ o. IsUnskippedLine line × ShowMeans line (S.Frame o)) same (frame_back f line fits small (sym said ∙ whole))
 
-octets_fit : (octets : List ℕ) → length octets ≡ 23 → Small octets → Fitting (Fixed (codes "octets") ∷ HexOctets 23 ∷ [])
-    (Several octets ∷ [])
+octets_fit : (octets : List ℕ) → length octets ≡ 23 → AreAllOctets octets → Fitting (FixedWord (codes "octets") ∷ HexOctets 23 ∷ [])
+    (NumberList octets ∷ [])
 octets_fit octets count small = (octets, [], refl, (count, small), refl)
 
--- the line of octets reads as these octets
-pub octets_back : (octets line : List ℕ) → length octets ≡ 23 → Small octets → octets_text octets ≡ line ++ codes "\n"
-    → IsWholeLine line × ShowMeans line (S.Octets octets)
+-- parsing the line for octets gives these octets
+pub octets_back : (octets line : List ℕ) → length octets ≡ 23 → AreAllOctets octets → octets_text octets ≡ line ++ codes "\n"
+    → IsUnskippedLine line × ShowMeans line (S.Octets octets)
 octets_back octets line count small text =
-    let form = Fixed (codes "octets") ∷ HexOctets 23 ∷ [] in
-    let values = Several octets ∷ [] in
+    let form = FixedWord (codes "octets") ∷ HexOctets 23 ∷ [] in
+    let values = NumberList octets ∷ [] in
     let fits = octets_fit octets count small in
     let long : length (encode_lower octets) ≡ 46 = omega (arith, length-encode_lower octets, count) in
-    let short : length (spelled_line form values) ≤ 4096 = omega (arith, long) in
-    subst (λ l. IsWholeLine l × ShowMeans l (S.Octets octets)) (append_cancel_right (spelled_line form values) line (codes "\n") text) (
+    let short : length (line_of_values form values) ≤ 4096 = omega (arith, long) in
+    subst (λ l. IsUnskippedLine l × ShowMeans l (S.Octets octets)) (append_cancel_right (line_of_values form values) line
+    (codes "\n") text) (
       record { uncut = spelled_uncut form values refl fits; stays = refl },
       (
         Some (F.Octets, values),
-        spelled_means show_forms anywhere F.Octets (codes "octets") (HexOctets 23 ∷ []) values (inl refl) refl refl fits tt short refl,
+        spelled_means show_forms no_order_fault F.Octets (codes "octets") (HexOctets 23 ∷ []) values
+            (inl refl) refl refl fits tt short refl,
         refl,
       ),
     )
 
--- ---- the octets of a line that spells a frame are written as that frame
+-- ---- the text for the octets of a line that spells a frame is the line of that frame
 
-from_shown : (octets : List ℕ) (said : Option Frame) → S.Frame octets ≡ shown_frame said
+from_shown : (octets : List ℕ) (said : Option Frame) → S.Frame octets ≡ show_line_of_frame said
     → (f : Frame) × (said ≡ Some f) × (octets ≡ octets_of Sdcch f)
 from_shown octets None e = absurd cc
 from_shown octets (Some f) e = (f, refl, cc)
 
-says_frame : (name : ShowName) (values : List Value) (octets : List ℕ) → S.Frame octets ≡ show_of name values
-    → (f : Frame) × (said_frame name values ≡ Some f) × (octets ≡ octets_of Sdcch f)
-says_frame F.Octets (Several o ∷ []) octets e = absurd cc
+says_frame : (name : ShowLineKind) (values : List Value) (octets : List ℕ) → S.Frame octets ≡ show_line_of_values name values
+    → (f : Frame) × (frame_from_values name values ≡ Some f) × (octets ≡ octets_of Sdcch f)
+says_frame F.Octets (NumberList o ∷ []) octets e = absurd cc
 says_frame F.Octets values octets e = absurd cc
-says_frame name values octets e = from_shown octets (said_frame name values) e
+says_frame name values octets e = from_shown octets (frame_from_values name values) e
 
-pub frame_again : (written octets : List ℕ) → ShowMeans written (S.Frame octets) → (name : ShowName) × (values : List Value) × (f : Frame)
-    × LineMeans show_forms anywhere written (Some (name, values)) × (said_frame name values ≡ Some f)
-    × ((text : List ℕ) → IsFrameText octets text → text ≡ frame_text f)
+pub frame_again : (written octets : List ℕ) → ShowMeans written (S.Frame octets) →
+    (name : ShowLineKind) × (values : List Value) × (f : Frame)
+    × LineMeans show_forms no_order_fault written (Some (name, values)) × (frame_from_values name values ≡ Some f)
+    × ((text : List ℕ) → IsTextOfOctets octets text → text ≡ frame_text f)
 frame_again written octets (None, means, e) = absurd cc
 frame_again written octets (Some (name, values), means, e) =
     let s = says_frame name values octets e in

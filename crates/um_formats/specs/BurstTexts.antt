@@ -1,4 +1,4 @@
--- The text of bursts (this project's own rule).
+-- How bursts are written as lines (this project's own rule).
 use Rattle.std.specs.Prelude.{ℕ, List, ◌++◌, codes}
 use Rattle.std.specs.List.{flat_map}
 use Rattle.um_lines.specs.Fields.{bit_digits}
@@ -15,6 +15,6 @@ access_text bsic burst = codes "a " ++ bit_digits bsic ++ codes " " ++ bit_digit
 abbrev pub sync_text : List ℕ → List ℕ
 sync_text burst = codes "s " ++ bit_digits burst ++ codes "\n"
 
--- the lines of a block's bursts
+-- the lines of the four bursts of a block, one after another
 abbrev pub block_text : List (List ℕ) → List ℕ
 block_text bursts = flat_map normal_text bursts

@@ -1,50 +1,50 @@
--- The text of reports (this project's own rule).
+-- How received blocks and bursts are written as lines (this project's own rule).
 use Rattle.std.specs.Prelude.{ℕ, ◌≡◌, Bool, true, false, ℤ, List, ◌++◌, take, drop, codes, MatchOption, is_some}
 use Rattle.std.specs.Fmt.{decimal, signed_decimal}
 use Rattle.hex.specs.Hex.{encode_lower}
-use Rattle.bit_blocks.specs.Octets.{octets_of}
+use Rattle.um_block.specs.bit_blocks.Octets.{octets_of}
 use Rattle.um_block.specs.declared.received.Received.{Received}
 use Rattle.um_block.specs.declared.received.ReceivedAccess.{ReceivedAccess}
 use Rattle.um_block.specs.declared.received.ReceivedSync.{ReceivedSync}
 use Rattle.um_lines.specs.Fields.{bit_digits}
-use Rattle.um_formats.specs.FrameTexts.{IsFrameText}
+use Rattle.um_formats.specs.FrameTexts.{IsTextOfOctets}
 
--- whether the CRC holds, as a word
+-- the word that says whether the CRC holds: `ok` or `bad`
 abbrev pub crc_word : Bool → List ℕ
 crc_word true = codes "ok"
 crc_word false = codes "bad"
 
--- the quality of a burst or block: wrong training bits, metric, and whether the CRC holds
+-- the words for the quality of a reception: wrong training bits, metric, and whether the CRC holds
 abbrev pub quality_text : ℕ → ℤ → Bool → List ℕ
 quality_text wrong metric holds =
     codes " train " ++ decimal wrong ++ codes " metric " ++ signed_decimal metric
     ++ codes " parity " ++ crc_word holds
 
--- the words of data and CRC
-abbrev pub data_text : List ℕ → List ℕ → List ℕ
-data_text data_word check = codes " data " ++ data_word ++ codes " check " ++ check ++ codes "\n"
+-- the words for the data and the CRC of a reception
+abbrev pub data_and_check_text : List ℕ → List ℕ → List ℕ
+data_and_check_text data_word check = codes " data " ++ data_word ++ codes " check " ++ check ++ codes "\n"
 
 -- `block tsc T train E metric M parity P data HEX46 check HEX10`
-abbrev pub block_line_text : Received → List ℕ
-block_line_text r =
+abbrev pub block_report_line : Received → List ℕ
+block_report_line r =
     codes "block tsc " ++ decimal r.tsc ++ quality_text r.wrong_training r.metric (is_some r.accepted)
-    ++ data_text (encode_lower (octets_of (take 184 r.u))) (encode_lower (octets_of (take 40 (drop 184 r.u))))
+    ++ data_and_check_text (encode_lower (octets_of (take 184 r.u))) (encode_lower (octets_of (take 40 (drop 184 r.u))))
 
--- the report of a block: its line and, exactly if the CRC holds, the line of the octets' frame
+-- the report on a block: its line and, if the CRC holds, the line of the frame in it
 abbrev pub IsBlockReport : Received → List ℕ → Type 0
 IsBlockReport r text =
     MatchOption r.accepted
-    (text ≡ block_line_text r)
-    (λ octets. (second : List ℕ) × IsFrameText octets second × (text ≡ block_line_text r ++ second))
+    (text ≡ block_report_line r)
+    (λ octets. (second : List ℕ) × IsTextOfOctets octets second × (text ≡ block_report_line r ++ second))
 
 -- `access BSIC6 train E metric M parity P data DIGITS8 check DIGITS6`
 abbrev pub access_report_text : List ℕ → ReceivedAccess → List ℕ
 access_report_text bsic r =
     codes "access " ++ bit_digits bsic ++ quality_text r.wrong_training r.metric (is_some r.accepted)
-    ++ data_text (bit_digits (take 8 r.u)) (bit_digits (take 6 (drop 8 r.u)))
+    ++ data_and_check_text (bit_digits (take 8 r.u)) (bit_digits (take 6 (drop 8 r.u)))
 
 -- `sync train E metric M parity P data DIGITS25 check DIGITS10`
 abbrev pub sync_report_text : ReceivedSync → List ℕ
 sync_report_text r =
     codes "sync" ++ quality_text r.wrong_training r.metric (is_some r.accepted)
-    ++ data_text (bit_digits (take 25 r.u)) (bit_digits (take 10 (drop 25 r.u)))
+    ++ data_and_check_text (bit_digits (take 25 r.u)) (bit_digits (take 10 (drop 25 r.u)))

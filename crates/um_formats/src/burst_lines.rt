@@ -1,43 +1,40 @@
-//! The lines of the command `replay`.
-ghost use Rattle.std.specs.Prelude.{◌≡◌, ◌≤◌, ℕ, List, [], ◌∷◌, ◌++◌, length, IsTrue, IfOk, IfSome, codes};
-ghost use Rattle.std.specs.List.{list_all};
+//! Parses the lines of the command `replay`.
+ghost use Rattle.std.specs.Prelude.{◌≡◌, ◌≤◌, ℕ, List, [], ◌∷◌, ◌++◌, length, MatchOption, IfOk, codes};
 ghost use Rattle.std.specs.Result.{result_err};
-ghost use Rattle.bit_blocks.specs.Bits.{AllBits};
+ghost use Rattle.um_block.specs.bit_blocks.Bits.{AllBits};
 ghost use Rattle.um_block.specs.Received.{soft_bits};
-ghost use Rattle.um_lines.specs.Fields.{is_bit_digit, hex_octets};
 ghost use Rattle.um_lines.specs.Words.{words};
 ghost use Rattle.um_lines.specs.Meanings.{HasOneMeaningUnless};
-ghost use Rattle.um_formats.specs.BurstLines.{burst_fault, BurstMeans, read_burst};
-ghost use Rattle.um_formats.specs.Held.{IsSoftLine};
+ghost use Rattle.um_formats.specs.BurstLines.{burst_fault, BurstMeans, parsed_burst};
+ghost use Rattle.um_formats.specs.Held.{IsHardLine, IsOctetLine};
 ghost use Rattle.um_formats.specs.BurstTexts.{normal_text, access_text, sync_text};
-ghost use Rattle.um_formats.specs.WrittenBursts.{IsWholeLine};
+ghost use Rattle.um_formats.specs.WrittenBursts.{IsUnskippedLine};
 
-use crate::soft_digits::{hard_values, has_lowest, soft_values};
-use bit_blocks::Bits;
-use burst_map::BURST_BITS;
+use crate::soft_digits::{hard_values, soft_values};
+use um_block::{BURST_BITS, Bits};
 use um_lines::{
     LINE_LIMIT, LineFault, are_bit_digits, are_hex_digits, bits_of, first_word, is_skipped,
-    octets_of, one_word, two_words,
+    octets_of, parse_only_word, parse_two_words,
 };
 
-/// The meaning of a line of `replay`. Soft values are positive for 0 and negative for 1.
+/// What a line of `replay` means. Soft values are positive for 0 and negative for 1.
 #[derive(Clone, Copy, PartialEq, Eq, Debug)]
 pub enum BurstLine {
     /// Nothing: an empty line, or one that begins with `#`.
     Skip,
-    /// A normal burst, one of the four of a block.
+    /// A normal burst, which is one of the four bursts of a block.
     Normal([i8; BURST_BITS]),
-    /// An access burst and the base station identity code of its cell.
+    /// An access burst, and the base station identity code (BSIC) of the cell.
     Access { bsic: Bits<6>, soft: [i8; 88] },
     /// A synchronisation burst.
     Sync([i8; BURST_BITS]),
 }
 
-/// Parses a line of `replay`, without its line feed: `n DIGITS148`, `a BSIC6 DIGITS88`, `s DIGITS148`, `N HEX296`,
-/// `A BSIC6 HEX176`, `S HEX296` or `lost`. `held` is the number of bursts of the incomplete block.
+/// Parses a line of `replay`, without its line feed: `n DIGITS148`, `a BSIC6 DIGITS88`, `s DIGITS148`, `N HEX296`, `A BSIC6 HEX176`, `S
+/// HEX296` or `lost`. `held` is the number of bursts of the unfinished block before this line.
 ///
-/// The errors, in this order: `Long`, `Word`, `Order`, `Digits`, `Length`, `Soft`. The first that any part of the line has is
-/// returned.
+/// If several errors apply, the first in this order is returned, whatever its place in the line: `Long`, `Word`, `Order`, `Digits`,
+/// `Length`, `Soft`.
 pub fn parse_burst(line: &[u8], held: u8) -> Result<BurstLine, LineFault>
     requires { held ≤ 3 }
     ensures means { IfOk result (BurstMeans held line.now) }
@@ -54,7 +51,7 @@ pub fn parse_burst(line: &[u8], held: u8) -> Result<BurstLine, LineFault>
 
 #[inline(never)]
 fn parse_words(line: &[u8], held: u8) -> Result<BurstLine, LineFault>
-    ensures { result ≡ read_burst held (words line.now) }
+    ensures { result ≡ parsed_burst held (words line.now) }
 {
     let Some((kind, rest)) = first_word(line) else {
         return parse_lost(line);
@@ -62,12 +59,12 @@ fn parse_words(line: &[u8], held: u8) -> Result<BurstLine, LineFault>
     let [letter] = kind else {
         return Err(LineFault::Word);
     };
-    parse_letter(*letter, rest, held)
+    parse_line_with_letter(*letter, rest, held)
 }
 
 #[tactic(auto, using(crate::proofs::OtherBursts::other_letter))]
-fn parse_letter(letter: u8, rest: &[u8], held: u8) -> Result<BurstLine, LineFault>
-    ensures { result ≡ read_burst held ((letter ∷ []) ∷ words rest.now) }
+fn parse_line_with_letter(letter: u8, rest: &[u8], held: u8) -> Result<BurstLine, LineFault>
+    ensures { result ≡ parsed_burst held ((letter ∷ []) ∷ words rest.now) }
 {
     match letter {
         b'n' => parse_hard_normal(rest),
@@ -81,7 +78,7 @@ fn parse_letter(letter: u8, rest: &[u8], held: u8) -> Result<BurstLine, LineFaul
 }
 
 fn parse_lost(word: &[u8]) -> Result<BurstLine, LineFault>
-    ensures { (held : ℕ) → result ≡ read_burst held (word.now ∷ []) }
+    ensures { (held : ℕ) → result ≡ parsed_burst held (word.now ∷ []) }
 {
     match word {
         b"lost" => Ok(BurstLine::Normal([0; BURST_BITS])),
@@ -89,13 +86,13 @@ fn parse_lost(word: &[u8]) -> Result<BurstLine, LineFault>
     }
 }
 
-// A text of digits is one word, so only other texts are searched for a space.
+// A text that consists of digits is one word. Only other texts are searched for a space, to choose the right error.
 #[tactic(auto, using(crate::proofs::DigitWords::bit_word, crate::proofs::DigitWords::whole_word))]
 fn parse_hard_normal(rest: &[u8]) -> Result<BurstLine, LineFault>
-    ensures { (held : ℕ) → result ≡ read_burst held (codes "n" ∷ words rest.now) }
+    ensures { (held : ℕ) → result ≡ parsed_burst held (codes "n" ∷ words rest.now) }
 {
     if !are_bit_digits(rest) {
-        one_word(rest)?;
+        parse_only_word(rest)?;
         return Err(LineFault::Digits);
     }
     if rest.len() != BURST_BITS {
@@ -106,10 +103,10 @@ fn parse_hard_normal(rest: &[u8]) -> Result<BurstLine, LineFault>
 
 #[tactic(auto, using(crate::proofs::DigitWords::hex_word, crate::proofs::DigitWords::whole_word))]
 fn parse_soft_normal(rest: &[u8]) -> Result<BurstLine, LineFault>
-    ensures { (held : ℕ) → result ≡ read_burst held (codes "N" ∷ words rest.now) }
+    ensures { (held : ℕ) → result ≡ parsed_burst held (codes "N" ∷ words rest.now) }
 {
     if !are_hex_digits(rest) {
-        one_word(rest)?;
+        parse_only_word(rest)?;
         return Err(LineFault::Digits);
     }
     if rest.len() != 296 {
@@ -119,9 +116,9 @@ fn parse_soft_normal(rest: &[u8]) -> Result<BurstLine, LineFault>
 }
 
 fn parse_hard_access(rest: &[u8], held: u8) -> Result<BurstLine, LineFault>
-    ensures { result ≡ read_burst held (codes "a" ∷ words rest.now) }
+    ensures { result ≡ parsed_burst held (codes "a" ∷ words rest.now) }
 {
-    let (bsic, digits) = two_words(rest)?;
+    let (bsic, digits) = parse_two_words(rest)?;
     if held > 0 {
         return Err(LineFault::Order);
     }
@@ -138,9 +135,9 @@ fn parse_hard_access(rest: &[u8], held: u8) -> Result<BurstLine, LineFault>
 }
 
 fn parse_soft_access(rest: &[u8], held: u8) -> Result<BurstLine, LineFault>
-    ensures { result ≡ read_burst held (codes "A" ∷ words rest.now) }
+    ensures { result ≡ parsed_burst held (codes "A" ∷ words rest.now) }
 {
-    let (bsic, digits) = two_words(rest)?;
+    let (bsic, digits) = parse_two_words(rest)?;
     if held > 0 {
         return Err(LineFault::Order);
     }
@@ -157,9 +154,9 @@ fn parse_soft_access(rest: &[u8], held: u8) -> Result<BurstLine, LineFault>
 }
 
 fn parse_hard_sync(rest: &[u8], held: u8) -> Result<BurstLine, LineFault>
-    ensures { result ≡ read_burst held (codes "s" ∷ words rest.now) }
+    ensures { result ≡ parsed_burst held (codes "s" ∷ words rest.now) }
 {
-    let digits = one_word(rest)?;
+    let digits = parse_only_word(rest)?;
     if held > 0 {
         return Err(LineFault::Order);
     }
@@ -173,9 +170,9 @@ fn parse_hard_sync(rest: &[u8], held: u8) -> Result<BurstLine, LineFault>
 }
 
 fn parse_soft_sync(rest: &[u8], held: u8) -> Result<BurstLine, LineFault>
-    ensures { result ≡ read_burst held (codes "S" ∷ words rest.now) }
+    ensures { result ≡ parsed_burst held (codes "S" ∷ words rest.now) }
 {
-    let digits = one_word(rest)?;
+    let digits = parse_only_word(rest)?;
     if held > 0 {
         return Err(LineFault::Order);
     }
@@ -188,51 +185,49 @@ fn parse_soft_sync(rest: &[u8], held: u8) -> Result<BurstLine, LineFault>
     Ok(BurstLine::Sync(soft_values(digits)?))
 }
 
-/// The digits of a line `n DIGITS148`.
+/// The digits, if the line is `n DIGITS148`.
 #[inline(always)]
-pub(crate) fn normal_digits(line: &[u8]) -> Option<&[u8]>
-    ensures line { IfSome result (λ digits. line.now ≡ codes "n " ++ digits.now) }
-    ensures each { IfSome result (λ digits. IsTrue (list_all is_bit_digit digits.now)) }
-    ensures size { IfSome result (λ digits. length digits.now ≡ BURST_BITS) }
+pub(crate) fn hard_digits(line: &[u8]) -> Option<&[u8]>
+    ensures { MatchOption result ((digits : List ℕ) → ¬ IsHardLine line.now digits) (λ digits. IsHardLine line.now digits.now) }
 {
-    match line {
-        [b'n', b' ', digits @ ..] if digits.len() == BURST_BITS && are_bit_digits(digits) => {
-            Some(digits)
-        }
-        _ => None,
-    }
-}
-
-/// The octets of a line `N HEX296` without a -128.
-#[inline(always)]
-pub(crate) fn normal_octets(line: &[u8]) -> Option<[u8; BURST_BITS]>
-    ensures { IfSome result (λ octets. (digits : List ℕ) × IsSoftLine line.now digits × (octets ≡ hex_octets digits)) }
-{
-    let digits = match line {
-        [b'N', b' ', digits @ ..] if digits.len() == 296 && are_hex_digits(digits) => digits,
-        _ => return None,
-    };
-    let octets: [u8; BURST_BITS] = octets_of(digits);
-    if has_lowest(&octets) {
+    let digits = line.strip_prefix(b"n ")?;
+    if digits.len() != BURST_BITS {
         return None;
     }
-    Some(octets)
+    if !are_bit_digits(digits) {
+        return None;
+    }
+    Some(digits)
 }
 
-/// A line without a reason has exactly one meaning; a line with a reason has none.
-pub fn law_burst()
+/// The digits of a line `N HEX296`.
+pub(crate) fn soft_digits(line: &[u8]) -> Option<&[u8]>
+    ensures { MatchOption result ((digits : List ℕ) → ¬ IsOctetLine line.now digits) (λ digits. IsOctetLine line.now digits.now) }
+{
+    let digits = line.strip_prefix(b"N ")?;
+    if digits.len() != 296 {
+        return None;
+    }
+    if !are_hex_digits(digits) {
+        return None;
+    }
+    Some(digits)
+}
+
+/// A line that is not refused has exactly one meaning; a line that is refused has none.
+pub fn law_one_burst_meaning()
     ensures { (held : ℕ) (line : List ℕ) → HasOneMeaningUnless (burst_fault held line) (BurstMeans held line) }
 {}
 
-/// The line that is written for a burst of bits reads back as these bits, with the soft values 127 and -127.
-pub fn law_written_bursts()
+/// Parsing the line that is written for a burst of bits gives these bits back, as the soft values 127 and -127.
+pub fn law_written_bursts_read_back()
     ensures normal { (held : ℕ) (burst line : List ℕ) → length burst ≡ BURST_BITS → AllBits burst
         → normal_text burst ≡ line ++ codes "\n"
-        → IsWholeLine line × BurstMeans held line (BurstLine.Normal (soft_bits burst)) }
+        → IsUnskippedLine line × BurstMeans held line (BurstLine.Normal (soft_bits burst)) }
     ensures access { (bsic burst line : List ℕ) → length bsic ≡ 6 → AllBits bsic → length burst ≡ 88 → AllBits burst
         → access_text bsic burst ≡ line ++ codes "\n"
-        → IsWholeLine line × BurstMeans 0 line (BurstLine.Access bsic (soft_bits burst)) }
+        → IsUnskippedLine line × BurstMeans 0 line (BurstLine.Access bsic (soft_bits burst)) }
     ensures sync { (burst line : List ℕ) → length burst ≡ BURST_BITS → AllBits burst
         → sync_text burst ≡ line ++ codes "\n"
-        → IsWholeLine line × BurstMeans 0 line (BurstLine.Sync (soft_bits burst)) }
+        → IsUnskippedLine line × BurstMeans 0 line (BurstLine.Sync (soft_bits burst)) }
 {}

@@ -1,11 +1,10 @@
-//! Writes bursts.
+//! Writes the lines of bursts.
 ghost use Rattle.std.specs.Prelude.{◌≡◌, ◌+◌, ◌<◌, ◌≤◌, [], ◌++◌, length};
 ghost use Rattle.std.specs.List.{All};
-ghost use Rattle.bit_blocks.specs.Bits.{AllBits};
+ghost use Rattle.um_block.specs.bit_blocks.Bits.{AllBits};
 ghost use Rattle.um_formats.specs.BurstTexts.{normal_text, access_text, sync_text, block_text};
 
-use bit_blocks::Bits;
-use burst_map::BURST_BITS;
+use um_block::{BURST_BITS, Bits};
 use um_lines::Text;
 
 /// Writes the line of a normal burst.
@@ -15,7 +14,7 @@ pub fn normal_line(out: &mut Text, burst: &[u8; BURST_BITS])
     ensures line { out.new ≡ normal_text burst.now }
     ensures size { length out.new < 2000 }
 {
-    push_normal(out, burst);
+    push_normal_burst(out, burst);
 }
 
 /// Writes the lines of the four normal bursts of a block.
@@ -36,11 +35,11 @@ pub fn push_block(out: &mut Text, bursts: &[[u8; BURST_BITS]; 4])
     ensures length { length out.new ≡ length out.old + 604 }
 {
     for burst in bursts {
-        push_normal(out, burst);
+        push_normal_burst(out, burst);
     }
 }
 
-/// Writes the line of an access burst, with the base station identity code of its cell.
+/// Writes the line of an access burst and of the base station identity code (BSIC) of its cell.
 pub fn access_line(out: &mut Text, bsic: &Bits<6>, burst: &[u8; 88])
     requires empty { out.old ≡ [] }
     requires bits { AllBits burst.now }
@@ -66,7 +65,7 @@ pub fn sync_line(out: &mut Text, burst: &[u8; BURST_BITS])
     out.push(b"\n");
 }
 
-fn push_normal(out: &mut Text, burst: &[u8; BURST_BITS])
+fn push_normal_burst(out: &mut Text, burst: &[u8; BURST_BITS])
     requires space { length out.old + 151 ≤ 4096 }
     requires bits { AllBits burst.now }
     ensures text { out.new ≡ out.old ++ normal_text burst.now }

@@ -1,32 +1,32 @@
-//! The lines of the command `code`.
+//! Parses the lines of the command `code`.
 ghost use Rattle.std.specs.Prelude.{◌≡◌, ℕ, List, ◌∷◌, IfOk, codes};
 ghost use Rattle.std.specs.Result.{result_err};
 ghost use Rattle.um_lines.specs.Words.{words};
 ghost use Rattle.um_lines.specs.Meanings.{HasOneMeaningUnless};
-ghost use Rattle.um_formats.specs.CodeLines.{code_fault, CodeMeans, read_code};
+ghost use Rattle.um_formats.specs.CodeLines.{code_fault, CodeMeans, parsed_code};
 
-use bit_blocks::{BLOCK_OCTETS, Bits};
+use um_block::{BLOCK_OCTETS, Bits};
 use um_lines::{
-    LINE_LIMIT, LineFault, are_bit_digits, are_hex_digits, bits_of, digit_to, first_word,
-    is_skipped, octets_of, one_word, two_words,
+    LINE_LIMIT, LineFault, are_bit_digits, are_hex_digits, bits_of, first_word, is_skipped,
+    octets_of, parse_digit_up_to, parse_only_word, parse_two_words,
 };
 
-/// The meaning of a line of `code`.
+/// What a line of `code` means.
 #[derive(Clone, Copy, PartialEq, Eq, Debug)]
 pub enum CodeLine {
     /// Nothing: an empty line, or one that begins with `#`.
     Skip,
-    /// A block of 23 octets, sent in four normal bursts with training sequence `tsc`, 0 to 7.
+    /// A block of 23 octets, to be sent in four normal bursts with training sequence `tsc`, 0 to 7.
     Block { tsc: u8, octets: [u8; BLOCK_OCTETS] },
-    /// An access burst with 8 bits, for the cell with this base station identity code.
+    /// The 8 bits of an access burst, and the base station identity code (BSIC) of the cell.
     Rach { info: Bits<8>, bsic: Bits<6> },
-    /// A synchronisation burst with 25 bits.
+    /// The 25 bits of a synchronisation burst.
     Sch { info: Bits<25> },
 }
 
 /// Parses a line of `code`, without its line feed: `block T HEX46`, `rach DIGITS8 BSIC6` or `sch DIGITS25`.
 ///
-/// The errors, in this order: `Long`, `Word`, `Digits`, `Length`. The first that any part of the line has is returned.
+/// If several errors apply, the first in this order is returned, whatever its place in the line: `Long`, `Word`, `Digits`, `Length`.
 pub fn parse_code(line: &[u8]) -> Result<CodeLine, LineFault>
     ensures means { IfOk result (CodeMeans line.now) }
     ensures refused { result_err result ≡ code_fault line.now }
@@ -42,8 +42,12 @@ pub fn parse_code(line: &[u8]) -> Result<CodeLine, LineFault>
 
 #[inline(never)]
 fn parse_words(line: &[u8]) -> Result<CodeLine, LineFault>
-    ensures { result ≡ read_code (words line.now) }
+    ensures { result ≡ parsed_code (words line.now) }
 {
+    // Most lines are blocks, and need no search for a space.
+    if let Some(rest) = line.strip_prefix(b"block ") {
+        return parse_block(rest);
+    }
     let Some((command, rest)) = first_word(line) else {
         return Err(LineFault::Word);
     };
@@ -55,14 +59,19 @@ fn parse_words(line: &[u8]) -> Result<CodeLine, LineFault>
     }
 }
 
+// A text of digits is one word, so only other texts are searched for a space.
+#[tactic(auto, using(crate::proofs::DigitWords::hex_word, crate::proofs::DigitWords::whole_word))]
 fn parse_block(rest: &[u8]) -> Result<CodeLine, LineFault>
-    ensures { result ≡ read_code (codes "block" ∷ words rest.now) }
+    ensures { result ≡ parsed_code (codes "block" ∷ words rest.now) }
 {
-    let (number, digits) = two_words(rest)?;
-    let tsc = digit_to(7, number)?;
+    let Some((number, digits)) = first_word(rest) else {
+        return Err(LineFault::Word);
+    };
     if !are_hex_digits(digits) {
+        parse_only_word(digits)?;
         return Err(LineFault::Digits);
     }
+    let tsc = parse_digit_up_to(7, number)?;
     if digits.len() != 46 {
         return Err(LineFault::Length);
     }
@@ -71,9 +80,9 @@ fn parse_block(rest: &[u8]) -> Result<CodeLine, LineFault>
 }
 
 fn parse_rach(rest: &[u8]) -> Result<CodeLine, LineFault>
-    ensures { result ≡ read_code (codes "rach" ∷ words rest.now) }
+    ensures { result ≡ parsed_code (codes "rach" ∷ words rest.now) }
 {
-    let (info, bsic) = two_words(rest)?;
+    let (info, bsic) = parse_two_words(rest)?;
     if !are_bit_digits(info) || !are_bit_digits(bsic) {
         return Err(LineFault::Digits);
     }
@@ -87,9 +96,9 @@ fn parse_rach(rest: &[u8]) -> Result<CodeLine, LineFault>
 }
 
 fn parse_sch(rest: &[u8]) -> Result<CodeLine, LineFault>
-    ensures { result ≡ read_code (codes "sch" ∷ words rest.now) }
+    ensures { result ≡ parsed_code (codes "sch" ∷ words rest.now) }
 {
-    let info = one_word(rest)?;
+    let info = parse_only_word(rest)?;
     if !are_bit_digits(info) {
         return Err(LineFault::Digits);
     }
@@ -101,7 +110,7 @@ fn parse_sch(rest: &[u8]) -> Result<CodeLine, LineFault>
     })
 }
 
-/// A line without a reason has exactly one meaning; a line with a reason has none.
-pub fn law_code()
+/// A line that is not refused has exactly one meaning; a line that is refused has none.
+pub fn law_one_code_meaning()
     ensures { (line : List ℕ) → HasOneMeaningUnless (code_fault line) (CodeMeans line) }
 {}

@@ -1,20 +1,20 @@
-//! Words of one digit.
+//! Reads words that are one decimal digit.
 ghost use Rattle.std.specs.Prelude.{◌≡◌, ◌-◌, ◌≤◌, slice_index, IsTrue};
-ghost use Rattle.um_lines.specs.Fields.{is_digit_to};
+ghost use Rattle.um_lines.specs.Fields.{is_digit_up_to};
 
-use um_lines::digit_to;
+use um_lines::parse_digit_up_to;
 
-/// Whether a word is one digit of at most `most`.
-pub(crate) fn is_digit_to(most: u8, word: &[u8]) -> bool
+/// Whether a word is one digit from `0` to `most`.
+pub(crate) fn is_digit_up_to(most: u8, word: &[u8]) -> bool
     requires { most ≤ 9 }
-    ensures { result ≡ is_digit_to most word.now }
+    ensures { result ≡ is_digit_up_to most word.now }
 {
-    digit_to(most, word).is_ok()
+    parse_digit_up_to(most, word).is_ok()
 }
 
-/// The number of a word of one digit from `0` to `7`.
+/// The number that a word of one digit stands for, 0 to 7.
 pub(crate) fn digit_of(word: &[u8]) -> u8
-    requires { IsTrue (is_digit_to 7 word.now) }
+    requires { IsTrue (is_digit_up_to 7 word.now) }
     ensures value { result ≡ slice_index word.now 0 - 48 }
     ensures within { result ≤ 7 }
 {

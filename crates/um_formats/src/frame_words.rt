@@ -1,4 +1,4 @@
-//! The words of a frame's line: the word and the fields of each kind, and the parser of a line that spells a frame.
+//! Splits the line of a frame into its words, and finds the frame that they spell. A table gives the word and the fields of each kind.
 ghost use Rattle.std.specs.Prelude.{◌≡◌, ◌-◌, ◌≤◌, ◌∷◌, ℕ, [], not, false, length, slice_index, codes, Some};
 ghost use Rattle.std.specs.Prelude.{IsTrue, IfSome, IfNone, MatchResult, map};
 ghost use Rattle.std.specs.List.{list_any};
@@ -6,55 +6,56 @@ ghost use Rattle.std.specs.Str.{bytes_eq};
 ghost use Rattle.lapdm_frame.specs.Content.{Frame, kinds, content_from, fields_in};
 ghost use Rattle.lapdm_frame.specs.Frames.{octets_of};
 ghost use Rattle.um_lines.specs.Words.{words};
-ghost use Rattle.um_lines.specs.Fields.{has_wrong_digits, has_wrong_length, hex_octets, is_digit_to};
-ghost use Rattle.um_lines.specs.Forms.{some_word, values_of};
-ghost use Rattle.um_lines.specs.ShowForms.{row, named_field, information, marked, shape_fields, frame_fields};
+ghost use Rattle.um_lines.specs.Fields.{has_wrong_digits, has_wrong_length, octets_from_hex, is_digit_up_to};
+ghost use Rattle.um_lines.specs.Forms.{some_word_has, values_of_words};
+ghost use Rattle.um_lines.specs.ShowForms.{row, named_digit_then, information, m_bit_and_info, shape_fields, frame_fields};
 ghost use Rattle.um_lines.specs.ShowForms as F;
-ghost use Rattle.um_formats.specs.ShowLines.{is_set, said_content, said_frame};
-ghost use Rattle.um_formats.specs.ShowReading.{shape_of, bit_name, has_fields, words_fault, begins_named, is_named};
-ghost use Rattle.um_formats.specs.ShowReading.{field_words, line_words, info_word, least_info};
+ghost use Rattle.um_formats.specs.ShowLines.{is_set, content_from_values, frame_from_values};
+ghost use Rattle.um_formats.specs.ShowReading.{shape_of, bit_name, words_fit_fields, first_show_fault, begins_with_name_and_value};
+ghost use Rattle.um_formats.specs.ShowReading.{is_name_and_value};
+ghost use Rattle.um_formats.specs.ShowReading.{field_words, frame_line_words, info_word, least_information_octets};
 
-use crate::digits::{digit_of, is_digit_to};
-use crate::hex_digits::some_octets_of;
-use bit_blocks::BLOCK_OCTETS;
+use crate::digits::{digit_of, is_digit_up_to};
+use crate::hex_digits::octets_of_hex_word;
 use lapdm_frame::{Channel, FrameFields, FrameView, Kind};
-use um_lines::{LineFault, are_octet_digits, are_octets, first_word, two_words};
+use um_block::BLOCK_OCTETS;
+use um_lines::{LineFault, first_word, has_octet_count, is_dash_or_hex, parse_two_words};
 
-/// The fields that follow the word of a kind. `Informed` and `Plain` hold the name of the poll or final bit, `p` or `f`.
+/// The fields that follow the word of a frame kind. `WithInfo` and `WithoutInfo` hold the name of the poll or final bit, `p` or `f`.
 #[derive(Clone, Copy)]
-pub(crate) enum Shape {
+pub(crate) enum FrameShape {
     /// `ns N nr N p P m M info HEX`
-    Numbered,
+    NumberedInfo,
     /// `nr N pf P`
     Supervisory,
     /// `p P info HEX`
-    Informed(&'static [u8]),
+    WithInfo(&'static [u8]),
     /// `p P`
-    Plain(&'static [u8]),
+    WithoutInfo(&'static [u8]),
 }
 
-/// The word and the shape of a kind.
-pub(crate) fn row(kind: Kind) -> (&'static [u8], Shape)
+/// The word for a frame kind, and the shape of its fields.
+pub(crate) fn row(kind: Kind) -> (&'static [u8], FrameShape)
     ensures word { result.0.now ≡ (row kind).word }
     ensures shape { shape_of result.1 ≡ (row kind).shape }
     ensures size { length result.0.now ≤ 4 }
     ensures name { length (bit_name (shape_of result.1)) ≤ 1 }
 {
     match kind {
-        Kind::I => (b"i", Shape::Numbered),
-        Kind::Rr => (b"rr", Shape::Supervisory),
-        Kind::Rnr => (b"rnr", Shape::Supervisory),
-        Kind::Rej => (b"rej", Shape::Supervisory),
-        Kind::Sabm => (b"sabm", Shape::Informed(b"p")),
-        Kind::Dm => (b"dm", Shape::Plain(b"f")),
-        Kind::Ui => (b"ui", Shape::Informed(b"p")),
-        Kind::Disc => (b"disc", Shape::Plain(b"p")),
-        Kind::Ua => (b"ua", Shape::Informed(b"f")),
+        Kind::I => (b"i", FrameShape::NumberedInfo),
+        Kind::Rr => (b"rr", FrameShape::Supervisory),
+        Kind::Rnr => (b"rnr", FrameShape::Supervisory),
+        Kind::Rej => (b"rej", FrameShape::Supervisory),
+        Kind::Sabm => (b"sabm", FrameShape::WithInfo(b"p")),
+        Kind::Dm => (b"dm", FrameShape::WithoutInfo(b"f")),
+        Kind::Ui => (b"ui", FrameShape::WithInfo(b"p")),
+        Kind::Disc => (b"disc", FrameShape::WithoutInfo(b"p")),
+        Kind::Ua => (b"ua", FrameShape::WithInfo(b"f")),
     }
 }
 
-/// The kind that a word names.
-fn kind_named(word: &[u8]) -> Option<Kind>
+/// The frame kind that the word stands for, or `None`.
+fn kind_of_word(word: &[u8]) -> Option<Kind>
     ensures known { IfSome result (λ kind. word.now ≡ (row kind).word) }
     ensures unknown { IfNone result (list_any (bytes_eq word.now) (map (λ kind. (row kind).word) kinds) ≡ false) }
 {
@@ -72,7 +73,7 @@ fn kind_named(word: &[u8]) -> Option<Kind>
     }
 }
 
-/// The words of a kind's fields, without names. Fields that the kind lacks are not used.
+/// The words in the fields of a frame kind, without the names of the fields. A field that the kind does not have is not used.
 #[derive(Clone, Copy)]
 pub(crate) struct FieldWords<'a> {
     pub(crate) ns: &'a [u8],
@@ -82,7 +83,7 @@ pub(crate) struct FieldWords<'a> {
     pub(crate) info: &'a [u8],
 }
 
-/// The kind and the words of a frame's line, without names.
+/// The kind of a frame, and the other words in its line, without the names of the fields.
 #[derive(Clone, Copy)]
 pub(crate) struct FrameWords<'a> {
     pub(crate) sapi: &'a [u8],
@@ -91,18 +92,18 @@ pub(crate) struct FrameWords<'a> {
     pub(crate) fields: FieldWords<'a>,
 }
 
-/// Splits the text that follows the word `frame`. The only fault is `Word`.
+/// Splits the text after the word `frame` into fields. Returns no other fault than `Word`.
 pub(crate) fn frame_words<'a>(text: &'a [u8]) -> Result<FrameWords<'a>, LineFault>
     ensures { MatchResult result
-        (λ found. codes "frame" ∷ words text.now ≡ line_words found)
-        (λ fault. (fault ≡ LineFault.Word) × (words_fault (codes "frame" ∷ words text.now) ≡ Some LineFault.Word)) }
+        (λ found. codes "frame" ∷ words text.now ≡ frame_line_words found)
+        (λ fault. (fault ≡ LineFault.Word) × (first_show_fault (codes "frame" ∷ words text.now) ≡ Some LineFault.Word)) }
 {
-    let (sapi, rest) = named(text, b"sapi")?;
-    let (cr, rest) = named(rest, b"cr")?;
+    let (sapi, rest) = parse_name_and_value(text, b"sapi")?;
+    let (cr, rest) = parse_name_and_value(rest, b"cr")?;
     let Some((word, rest)) = first_word(rest) else {
         return Err(LineFault::Word);
     };
-    let Some(kind) = kind_named(word) else {
+    let Some(kind) = kind_of_word(word) else {
         return Err(LineFault::Word);
     };
     let (_, shape) = row(kind);
@@ -115,17 +116,17 @@ pub(crate) fn frame_words<'a>(text: &'a [u8]) -> Result<FrameWords<'a>, LineFaul
     })
 }
 
-fn field_words<'a>(shape: Shape, text: &'a [u8]) -> Result<FieldWords<'a>, LineFault>
+fn field_words<'a>(shape: FrameShape, text: &'a [u8]) -> Result<FieldWords<'a>, LineFault>
     ensures { MatchResult result
         (λ found. words text.now ≡ field_words (shape_of shape) found)
-        (λ fault. (fault ≡ LineFault.Word) × (has_fields (words text.now) (shape_fields (shape_of shape)) ≡ false)) }
+        (λ fault. (fault ≡ LineFault.Word) × (words_fit_fields (words text.now) (shape_fields (shape_of shape)) ≡ false)) }
 {
     let (ns, nr, more, none): (&[u8], &[u8], &[u8], &[u8]) = (b"0", b"0", b"0", b"-");
     match shape {
-        Shape::Numbered => numbered_words(text),
-        Shape::Supervisory => {
-            let (nr, rest) = named(text, b"nr")?;
-            let pf = last_named(rest, b"pf")?;
+        FrameShape::NumberedInfo => parse_i_frame_words(text),
+        FrameShape::Supervisory => {
+            let (nr, rest) = parse_name_and_value(text, b"nr")?;
+            let pf = parse_last_name_and_value(rest, b"pf")?;
             Ok(FieldWords {
                 ns,
                 nr,
@@ -134,8 +135,8 @@ fn field_words<'a>(shape: Shape, text: &'a [u8]) -> Result<FieldWords<'a>, LineF
                 info: none,
             })
         }
-        Shape::Informed(name) => {
-            let (pf, info) = informed_words::<0>(text, name)?;
+        FrameShape::WithInfo(name) => {
+            let (pf, info) = parse_bit_and_information::<0>(text, name)?;
             Ok(FieldWords {
                 ns,
                 nr,
@@ -144,8 +145,8 @@ fn field_words<'a>(shape: Shape, text: &'a [u8]) -> Result<FieldWords<'a>, LineF
                 info,
             })
         }
-        Shape::Plain(name) => {
-            let pf = last_named(text, name)?;
+        FrameShape::WithoutInfo(name) => {
+            let pf = parse_last_name_and_value(text, name)?;
             Ok(FieldWords {
                 ns,
                 nr,
@@ -157,14 +158,14 @@ fn field_words<'a>(shape: Shape, text: &'a [u8]) -> Result<FieldWords<'a>, LineF
     }
 }
 
-fn numbered_words<'a>(text: &'a [u8]) -> Result<FieldWords<'a>, LineFault>
+fn parse_i_frame_words<'a>(text: &'a [u8]) -> Result<FieldWords<'a>, LineFault>
     ensures { MatchResult result
-        (λ found. words text.now ≡ field_words F.Numbered found)
-        (λ fault. (fault ≡ LineFault.Word) × (has_fields (words text.now) (shape_fields F.Numbered) ≡ false)) }
+        (λ found. words text.now ≡ field_words F.NumberedInfo found)
+        (λ fault. (fault ≡ LineFault.Word) × (words_fit_fields (words text.now) (shape_fields F.NumberedInfo) ≡ false)) }
 {
-    let (ns, rest) = named(text, b"ns")?;
-    let (nr, rest) = named(rest, b"nr")?;
-    let (pf, more, info) = marked_words(rest)?;
+    let (ns, rest) = parse_name_and_value(text, b"ns")?;
+    let (nr, rest) = parse_name_and_value(rest, b"nr")?;
+    let (pf, more, info) = parse_p_m_and_information(rest)?;
     Ok(FieldWords {
         ns,
         nr,
@@ -174,35 +175,38 @@ fn numbered_words<'a>(text: &'a [u8]) -> Result<FieldWords<'a>, LineFault>
     })
 }
 
-fn marked_words<'a>(text: &'a [u8]) -> Result<(&'a [u8], &'a [u8], &'a [u8]), LineFault>
+fn parse_p_m_and_information<'a>(
+    text: &'a [u8],
+) -> Result<(&'a [u8], &'a [u8], &'a [u8]), LineFault>
     ensures { MatchResult result
         (λ all. words text.now ≡ codes "p" ∷ all.0.now ∷ codes "m" ∷ all.1.now ∷ codes "info" ∷ all.2.now ∷ [])
-        (λ fault. (fault ≡ LineFault.Word) × (has_fields (words text.now) (named_field (codes "p") 1 marked) ≡ false)) }
+        (λ fault. (fault ≡ LineFault.Word) × (words_fit_fields (words text.now) (named_digit_then (codes "p") 1 m_bit_and_info) ≡ false)) }
 {
-    let (p, rest) = named(text, b"p")?;
-    let (m, info) = informed_words::<1>(rest, b"m")?;
+    let (p, rest) = parse_name_and_value(text, b"p")?;
+    let (m, info) = parse_bit_and_information::<1>(rest, b"m")?;
     Ok((p, m, info))
 }
 
-/// The words of a bit and of the information. `LEAST` is for the contract only.
-fn informed_words<'a, const LEAST: usize>(
+/// The words of a poll or final bit and of the information. `LEAST` only serves the contract.
+fn parse_bit_and_information<'a, const LEAST: usize>(
     text: &'a [u8],
     name: &[u8],
 ) -> Result<(&'a [u8], &'a [u8]), LineFault>
     ensures { MatchResult result
         (λ both. words text.now ≡ name.now ∷ both.0.now ∷ codes "info" ∷ both.1.now ∷ [])
-        (λ fault. (fault ≡ LineFault.Word) × (has_fields (words text.now) (named_field name.now 1 (information LEAST)) ≡ false)) }
+        (λ fault. (fault ≡ LineFault.Word) × (words_fit_fields (words text.now) (named_digit_then name.now 1 (information LEAST))
+        ≡ false)) }
 {
-    let (pf, rest) = named(text, name)?;
-    let info = last_named(rest, b"info")?;
+    let (pf, rest) = parse_name_and_value(text, name)?;
+    let info = parse_last_name_and_value(rest, b"info")?;
     Ok((pf, info))
 }
 
-/// The value that follows a name, and the text that follows the value.
-fn named<'a>(text: &'a [u8], name: &[u8]) -> Result<(&'a [u8], &'a [u8]), LineFault>
+/// The value that follows this name, and the text after the value.
+fn parse_name_and_value<'a>(text: &'a [u8], name: &[u8]) -> Result<(&'a [u8], &'a [u8]), LineFault>
     ensures { MatchResult result
         (λ both. words text.now ≡ name.now ∷ both.0.now ∷ words both.1.now)
-        (λ fault. (fault ≡ LineFault.Word) × (begins_named name.now (words text.now) ≡ false)) }
+        (λ fault. (fault ≡ LineFault.Word) × (begins_with_name_and_value name.now (words text.now) ≡ false)) }
 {
     let Some((word, rest)) = first_word(text) else {
         return Err(LineFault::Word);
@@ -217,13 +221,13 @@ fn named<'a>(text: &'a [u8], name: &[u8]) -> Result<(&'a [u8], &'a [u8]), LineFa
     }
 }
 
-/// The value that follows a name, if nothing follows the value.
-fn last_named<'a>(text: &'a [u8], name: &[u8]) -> Result<&'a [u8], LineFault>
+/// The value that follows this name, if it is the last word.
+fn parse_last_name_and_value<'a>(text: &'a [u8], name: &[u8]) -> Result<&'a [u8], LineFault>
     ensures { MatchResult result
         (λ value. words text.now ≡ name.now ∷ value.now ∷ [])
-        (λ fault. (fault ≡ LineFault.Word) × (is_named name.now (words text.now) ≡ false)) }
+        (λ fault. (fault ≡ LineFault.Word) × (is_name_and_value name.now (words text.now) ≡ false)) }
 {
-    let (word, value) = two_words(text)?;
+    let (word, value) = parse_two_words(text)?;
     if word == name {
         Ok(value)
     } else {
@@ -232,89 +236,95 @@ fn last_named<'a>(text: &'a [u8], name: &[u8]) -> Result<&'a [u8], LineFault>
 }
 
 impl FrameWords<'_> {
-    /// Whether each word has the digits that its field requires.
-    pub(crate) fn have_digits(&self) -> bool
-        ensures { result ≡ not (some_word has_wrong_digits (frame_fields (row self.now.kind)) (line_words self.now)) }
+    /// Whether every word consists of the digits that its field allows.
+    pub(crate) fn have_valid_digits(&self) -> bool
+        ensures { result ≡ not (some_word_has has_wrong_digits (frame_fields (row self.now.kind)) (frame_line_words self.now)) }
     {
-        is_digit_to(7, self.sapi)
-            & is_digit_to(1, self.cr)
-            & self.fields.have_digits(row(self.kind).1)
+        is_digit_up_to(7, self.sapi)
+            & is_digit_up_to(1, self.cr)
+            & self.fields.have_valid_digits(row(self.kind).1)
     }
 
-    /// Whether the information has as many octets as its field allows.
-    pub(crate) fn have_length(&self) -> bool
-        ensures { result ≡ not (some_word has_wrong_length (frame_fields (row self.now.kind)) (line_words self.now)) }
+    /// Whether the information has as few and as many octets as its field allows.
+    pub(crate) fn have_valid_length(&self) -> bool
+        ensures { result ≡ not (some_word_has has_wrong_length (frame_fields (row self.now.kind)) (frame_line_words self.now)) }
     {
         let (_, shape) = row(self.kind);
-        are_octets(shape.least_info(), Some(20), self.fields.info_word(shape))
+        has_octet_count(
+            shape.least_information_octets(),
+            Some(20),
+            self.fields.info_word(shape),
+        )
     }
 
-    /// The canonical octets of the frame on SDCCH.
+    /// The canonical octets of this frame on SDCCH.
     pub(crate) fn octets(&self) -> [u8; BLOCK_OCTETS]
-        requires digits { some_word has_wrong_digits (frame_fields (row self.now.kind)) (line_words self.now) ≡ false }
-        requires length { some_word has_wrong_length (frame_fields (row self.now.kind)) (line_words self.now) ≡ false }
+        requires digits { some_word_has has_wrong_digits (frame_fields (row self.now.kind)) (frame_line_words self.now) ≡ false }
+        requires length { some_word_has has_wrong_length (frame_fields (row self.now.kind)) (frame_line_words self.now) ≡ false }
         ensures { (f : Frame)
-            × (said_frame (F.Frame self.now.kind) (values_of (frame_fields (row self.now.kind)) (line_words self.now)) ≡ Some f)
+            × (frame_from_values (F.Frame self.now.kind) (values_of_words (frame_fields (row self.now.kind))
+            (frame_line_words self.now)) ≡ Some f)
             × (result ≡ octets_of Channel.Sdcch f) }
     {
         let (_, shape) = row(self.kind);
-        let (room, count) = some_octets_of(self.fields.info_word(shape));
+        let (room, count) = octets_of_hex_word(self.fields.info_word(shape));
         let sapi = digit_of(self.sapi);
-        let cr = is_one(self.cr);
+        let cr = is_digit_one(self.cr);
         let body = self.fields.of_kind(self.kind, shape, &room[..count]).body();
         lapdm_frame::write(&FrameView { sapi, cr, body })
     }
 }
 
-impl Shape {
-    fn least_info(self) -> usize
-        ensures { result ≡ least_info (shape_of self) }
+impl FrameShape {
+    fn least_information_octets(self) -> usize
+        ensures { result ≡ least_information_octets (shape_of self) }
     {
         match self {
-            Shape::Numbered => 1,
+            FrameShape::NumberedInfo => 1,
             _ => 0,
         }
     }
 }
 
 impl<'a> FieldWords<'a> {
-    fn have_digits(&self, shape: Shape) -> bool
-        ensures { result ≡ not (some_word has_wrong_digits (shape_fields (shape_of shape)) (field_words (shape_of shape) self.now)) }
+    fn have_valid_digits(&self, shape: FrameShape) -> bool
+        ensures { result ≡ not (some_word_has has_wrong_digits (shape_fields (shape_of shape)) (field_words (shape_of shape) self.now)) }
     {
         match shape {
-            Shape::Numbered => {
-                is_digit_to(7, self.ns)
-                    & is_digit_to(7, self.nr)
-                    & is_digit_to(1, self.pf)
-                    & is_digit_to(1, self.more)
-                    & are_octet_digits(self.info)
+            FrameShape::NumberedInfo => {
+                is_digit_up_to(7, self.ns)
+                    & is_digit_up_to(7, self.nr)
+                    & is_digit_up_to(1, self.pf)
+                    & is_digit_up_to(1, self.more)
+                    & is_dash_or_hex(self.info)
             }
-            Shape::Supervisory => is_digit_to(7, self.nr) & is_digit_to(1, self.pf),
-            Shape::Informed(_) => is_digit_to(1, self.pf) & are_octet_digits(self.info),
-            Shape::Plain(_) => is_digit_to(1, self.pf),
+            FrameShape::Supervisory => is_digit_up_to(7, self.nr) & is_digit_up_to(1, self.pf),
+            FrameShape::WithInfo(_) => is_digit_up_to(1, self.pf) & is_dash_or_hex(self.info),
+            FrameShape::WithoutInfo(_) => is_digit_up_to(1, self.pf),
         }
     }
 
-    fn info_word(&self, shape: Shape) -> &'a [u8]
+    fn info_word(&self, shape: FrameShape) -> &'a [u8]
         ensures { result.now ≡ info_word (shape_of shape) self.now }
     {
         match shape {
-            Shape::Numbered | Shape::Informed(_) => self.info,
-            Shape::Supervisory | Shape::Plain(_) => b"-",
+            FrameShape::NumberedInfo | FrameShape::WithInfo(_) => self.info,
+            FrameShape::Supervisory | FrameShape::WithoutInfo(_) => b"-",
         }
     }
 
-    /// The fields of a frame of this kind. `info` are the octets of the information.
-    fn of_kind<'b>(&self, kind: Kind, shape: Shape, info: &'b [u8]) -> FrameFields<'b>
-        requires digits { some_word has_wrong_digits (shape_fields (shape_of shape)) (field_words (shape_of shape) self.now) ≡ false }
-        requires octets { info.now ≡ hex_octets (info_word (shape_of shape) self.now) }
-        ensures said { said_content (shape_of shape) kind
-            (values_of (shape_fields (shape_of shape)) (field_words (shape_of shape) self.now)) ≡ Some (content_from (fields_in result)) }
+    /// The fields of the frame, given its kind, the shape of that kind, and the octets of its information.
+    fn of_kind<'b>(&self, kind: Kind, shape: FrameShape, info: &'b [u8]) -> FrameFields<'b>
+        requires digits { some_word_has has_wrong_digits (shape_fields (shape_of shape)) (field_words (shape_of shape) self.now) ≡ false }
+        requires octets { info.now ≡ octets_from_hex (info_word (shape_of shape) self.now) }
+        ensures said { content_from_values (shape_of shape) kind
+            (values_of_words (shape_fields (shape_of shape)) (field_words (shape_of shape) self.now))
+            ≡ Some (content_from (fields_in result)) }
         ensures kind { result.kind ≡ kind }
         ensures numbers { (result.ns ≤ 7) × (result.nr ≤ 7) }
         ensures information { result.info.now ≡ info.now }
     {
-        let pf = is_one(self.pf);
+        let pf = is_digit_one(self.pf);
         let bare = FrameFields {
             kind,
             ns: 0,
@@ -324,23 +334,23 @@ impl<'a> FieldWords<'a> {
             info,
         };
         match shape {
-            Shape::Numbered => FrameFields {
+            FrameShape::NumberedInfo => FrameFields {
                 ns: digit_of(self.ns),
                 nr: digit_of(self.nr),
-                more: is_one(self.more),
+                more: is_digit_one(self.more),
                 ..bare
             },
-            Shape::Supervisory => FrameFields {
+            FrameShape::Supervisory => FrameFields {
                 nr: digit_of(self.nr),
                 ..bare
             },
-            Shape::Informed(_) | Shape::Plain(_) => bare,
+            FrameShape::WithInfo(_) | FrameShape::WithoutInfo(_) => bare,
         }
     }
 }
 
-fn is_one(word: &[u8]) -> bool
-    requires { IsTrue (is_digit_to 1 word.now) }
+fn is_digit_one(word: &[u8]) -> bool
+    requires { IsTrue (is_digit_up_to 1 word.now) }
     ensures { result ≡ is_set (slice_index word.now 0 - 48) }
 {
     word[0] == b'1'

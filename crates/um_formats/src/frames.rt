@@ -1,22 +1,22 @@
-//! Writes frames.
+//! Writes the lines of frames.
 ghost use Rattle.std.specs.Prelude.{◌≡◌, ℕ, ◌+◌, ◌<◌, ◌≤◌, List, [], ◌∷◌, ◌++◌, length, codes};
 ghost use Rattle.lapdm_frame.specs.Content.{frame_of, fields_in};
 ghost use Rattle.lapdm_frame.specs.Frames.{bit, Fits};
-ghost use Rattle.um_lines.specs.Fields.{Fixed};
+ghost use Rattle.um_lines.specs.Fields.{FixedWord};
 ghost use Rattle.um_lines.specs.ShowForms.{shape_fields};
-ghost use Rattle.um_lines.specs.Spelled.{octets_word, spelled_line};
-ghost use Rattle.um_formats.specs.FrameTexts.{shape_values, frame_text, refusal_word, unread_text, octets_text, IsFrameText};
+ghost use Rattle.um_lines.specs.Spelled.{octets_word, line_of_values};
+ghost use Rattle.um_formats.specs.FrameTexts.{shape_values, frame_text, refusal_word, unread_text, octets_text, IsTextOfOctets};
 ghost use Rattle.um_formats.specs.ShowReading.{shape_of, bit_name, digit};
 
-use crate::frame_words::{Shape, row};
-use bit_blocks::BLOCK_OCTETS;
+use crate::frame_words::{FrameShape, row};
 use lapdm_frame::{Channel, FrameFields, FrameView, Refusal};
+use um_block::BLOCK_OCTETS;
 use um_lines::Text;
 
-/// Writes the line of the frame in a block on SDCCH, or `unread` and why the block has none.
+/// Writes the line of the frame in a block on SDCCH, or `unread` and the reason why the block is refused as a frame.
 pub fn frame_line(out: &mut Text, octets: &[u8; BLOCK_OCTETS])
     requires { out.old ≡ [] }
-    ensures line { IsFrameText octets.now out.new }
+    ensures line { IsTextOfOctets octets.now out.new }
     ensures size { length out.new < 2000 }
 {
     push_frame(out, octets);
@@ -33,19 +33,19 @@ pub fn octets_line(out: &mut Text, octets: &[u8; BLOCK_OCTETS])
     out.push(b"\n");
 }
 
-/// As `frame_line`, appended.
+/// Appends the line that `frame_line` writes.
 pub(crate) fn push_frame(out: &mut Text, octets: &[u8; BLOCK_OCTETS])
     requires { length out.old + 100 ≤ 4096 }
-    ensures text { (text : List ℕ) × IsFrameText octets.now text × (out.new ≡ out.old ++ text) }
+    ensures text { (text : List ℕ) × IsTextOfOctets octets.now text × (out.new ≡ out.old ++ text) }
     ensures length { length out.new ≤ length out.old + 100 }
 {
     match lapdm_frame::read(octets) {
-        Ok(f) => push_view(out, &f),
-        Err(reason) => push_unread(out, reason),
+        Ok(f) => push_frame_view(out, &f),
+        Err(reason) => push_unread_line(out, reason),
     }
 }
 
-fn push_view(out: &mut Text, f: &FrameView<'_>)
+fn push_frame_view(out: &mut Text, f: &FrameView<'_>)
     requires space { length out.old + 100 ≤ 4096 }
     requires fits { Fits Channel.Sdcch (frame_of f.now) }
     ensures text { out.new ≡ out.old ++ frame_text (frame_of f.now) }
@@ -54,41 +54,41 @@ fn push_view(out: &mut Text, f: &FrameView<'_>)
     let fields = f.body.fields();
     let (word, shape) = row(fields.kind);
     push_number(out, b"frame sapi ", f.sapi);
-    push_flag(out, b" cr ", f.cr);
+    push_named_bit(out, b" cr ", f.cr);
     push_fields(out, word, shape, &fields);
     out.push(b"\n");
 }
 
-fn push_fields(out: &mut Text, word: &[u8], shape: Shape, f: &FrameFields<'_>)
+fn push_fields(out: &mut Text, word: &[u8], shape: FrameShape, f: &FrameFields<'_>)
     requires space { length out.old + 75 ≤ 4096 }
     requires size { length word.now ≤ 4 }
     requires name { length (bit_name (shape_of shape)) ≤ 1 }
     requires numbers { (f.now.ns ≤ 7) × (f.now.nr ≤ 7) }
     requires information { length f.now.info.now ≤ 20 }
-    ensures text { out.new ≡ out.old ++ 32 ∷ spelled_line (Fixed word.now ∷ shape_fields (shape_of shape))
+    ensures text { out.new ≡ out.old ++ 32 ∷ line_of_values (FixedWord word.now ∷ shape_fields (shape_of shape))
         (shape_values (shape_of shape) (fields_in f.now)) }
     ensures length { length out.new ≤ length out.old + 75 }
 {
     out.push(b" ");
     out.push(word);
     match shape {
-        Shape::Numbered => {
-            push_numbers(out, f);
+        FrameShape::NumberedInfo => {
+            push_i_frame_fields(out, f);
             push_info(out, f.info);
         }
-        Shape::Supervisory => {
+        FrameShape::Supervisory => {
             push_number(out, b" nr ", f.nr);
-            push_flag(out, b" pf ", f.pf);
+            push_named_bit(out, b" pf ", f.pf);
         }
-        Shape::Informed(name) => {
-            push_bit(out, name, f.pf);
+        FrameShape::WithInfo(name) => {
+            push_space_and_named_bit(out, name, f.pf);
             push_info(out, f.info);
         }
-        Shape::Plain(name) => push_bit(out, name, f.pf),
+        FrameShape::WithoutInfo(name) => push_space_and_named_bit(out, name, f.pf),
     }
 }
 
-fn push_numbers(out: &mut Text, f: &FrameFields<'_>)
+fn push_i_frame_fields(out: &mut Text, f: &FrameFields<'_>)
     requires space { length out.old + 18 ≤ 4096 }
     requires numbers { (f.now.ns ≤ 7) × (f.now.nr ≤ 7) }
     ensures text { out.new ≡ out.old ++ (codes " ns " ++ digit f.now.ns ++ codes " nr " ++ digit f.now.nr
@@ -97,18 +97,18 @@ fn push_numbers(out: &mut Text, f: &FrameFields<'_>)
 {
     push_number(out, b" ns ", f.ns);
     push_number(out, b" nr ", f.nr);
-    push_flag(out, b" p ", f.pf);
-    push_flag(out, b" m ", f.more);
+    push_named_bit(out, b" p ", f.pf);
+    push_named_bit(out, b" m ", f.more);
 }
 
-fn push_bit(out: &mut Text, name: &[u8], set: bool)
+fn push_space_and_named_bit(out: &mut Text, name: &[u8], set: bool)
     requires space { length out.old + length name.now + 3 ≤ 4096 }
     ensures text { out.new ≡ out.old ++ 32 ∷ (name.now ++ 32 ∷ digit (bit set)) }
     ensures length { length out.new ≡ length out.old + length name.now + 3 }
 {
     out.push(b" ");
     out.push(name);
-    push_flag(out, b" ", set);
+    push_named_bit(out, b" ", set);
 }
 
 fn push_number(out: &mut Text, name: &[u8], number: u8)
@@ -121,7 +121,7 @@ fn push_number(out: &mut Text, name: &[u8], number: u8)
     out.push(&[b'0' + number]);
 }
 
-fn push_flag(out: &mut Text, name: &[u8], set: bool)
+fn push_named_bit(out: &mut Text, name: &[u8], set: bool)
     requires space { length out.old + length name.now + 1 ≤ 4096 }
     ensures text { out.new ≡ out.old ++ (name.now ++ digit (bit set)) }
     ensures length { length out.new ≡ length out.old + length name.now + 1 }
@@ -144,17 +144,17 @@ fn push_info(out: &mut Text, info: &[u8])
     }
 }
 
-fn push_unread(out: &mut Text, reason: Refusal)
+fn push_unread_line(out: &mut Text, reason: Refusal)
     requires { length out.old + 15 ≤ 4096 }
     ensures text { out.new ≡ out.old ++ unread_text reason }
     ensures length { length out.new ≤ length out.old + 15 }
 {
     out.push(b"unread ");
-    out.push(word_of(reason));
+    out.push(unread_reason_word(reason));
     out.push(b"\n");
 }
 
-fn word_of(reason: Refusal) -> &'static [u8]
+fn unread_reason_word(reason: Refusal) -> &'static [u8]
     ensures word { result.now ≡ refusal_word reason }
     ensures size { length result.now ≤ 7 }
 {

@@ -1,53 +1,53 @@
-//! The normal bursts of an incomplete block.
-ghost use Rattle.std.specs.Prelude.{◌≡◌, ◌-◌, ◌≤◌, [], length, map, IsTrue, IfOk, OnErr};
+//! Holds the bursts of an unfinished block.
+ghost use Rattle.std.specs.Prelude.{◌≡◌, ◌-◌, ◌≤◌, ℕ, List, [], length, map, IsTrue, IfOk, OnErr, MatchOption};
 ghost use Rattle.std.specs.List.{All, list_all};
 ghost use Rattle.std.specs.Result.{result_err};
-ghost use Rattle.um_block.specs.conv_code.Likelihood.{AllSoft};
+ghost use Rattle.um_block.specs.conv_code.Likelihood.{AllSoftBits};
 ghost use Rattle.um_block.specs.Received.{soft_bits};
 ghost use Rattle.um_lines.specs.Fields.{is_bit_digit};
 ghost use Rattle.um_formats.specs.SoftOctets.{signed_octets};
 ghost use Rattle.um_formats.specs.declared.burst_lines.BurstLine.{BurstLine as Meaning};
 ghost use Rattle.um_formats.specs.BurstLines.{burst_fault, BurstMeans};
-ghost use Rattle.um_formats.specs.Held.{HoldsBurst, Brings, BringsSoft, next_normal};
+ghost use Rattle.um_formats.specs.Held.{AddsNormalBurst, HoldsLine, IsHardLine, IsSoftNormalLine, IsLineResult, HasOnlySoftValues};
+ghost use Rattle.um_formats.specs.Held.{next_after_normal_burst};
 
-use crate::burst_lines::{BurstLine, normal_digits, normal_octets, parse_burst};
-use crate::soft_digits::{write_hard, write_signed};
-use bit_blocks::Bits;
-use burst_map::BURST_BITS;
+use crate::burst_lines::{BurstLine, hard_digits, parse_burst, soft_digits};
+use crate::soft_digits::{has_minus_128, write_hard_values, write_signed_values};
 use std::marker::Model;
-use um_lines::LineFault;
+use um_block::{BURST_BITS, Bits};
+use um_lines::{LineFault, write_octets_from_hex};
 
-/// A buffer for the four normal bursts of a block, filled in order. It keeps the last complete block until the next normal burst.
+/// A buffer for the four normal bursts of a block, filled in order. It keeps a complete block until the next normal burst arrives.
 #[derive(Drop)]
 pub struct HeldBursts {
     bursts: [[i8; BURST_BITS]; 4],
     count: u8,
 }
 
-// The model is the list of held bursts and the whole buffer.
+// In contracts, a `HeldBursts` stands for the list of held bursts and the whole buffer.
 impl Model for HeldBursts {
     ghost use Rattle.std.specs.Prelude.{◌≤◌, take};
     ghost use Rattle.std.specs.List.{All};
-    ghost use Rattle.um_block.specs.conv_code.Likelihood.{AllSoft};
+    ghost use Rattle.um_block.specs.conv_code.Likelihood.{AllSoftBits};
     ghost use Rattle.um_formats.specs.Held.{Held};
 
     ghost Value = { Held };
 
     ghost view = { λ h. record { held = take h.count h.bursts; places = h.bursts } };
 
-    ghost invariant = { λ h. (h.count ≤ 3) × All AllSoft h.bursts };
+    ghost invariant = { λ h. (h.count ≤ 3) × All AllSoftBits h.bursts };
 }
 
-/// The result of a line. Normal bursts are held until the block is complete.
+/// The result of a line. Normal bursts are held until their block is complete.
 #[derive(Clone, Copy, Drop)]
 pub enum NextBurst {
     /// Nothing: an empty line, or one that begins with `#`.
     Skip,
-    /// A normal burst, which is held now.
+    /// A normal burst, which is held until the block is complete.
     Held,
-    /// The fourth burst of a block; `HeldBursts::block` returns the block.
+    /// The fourth burst of a block. `HeldBursts::block` returns the whole block.
     Block,
-    /// An access burst and the base station identity code of its cell.
+    /// An access burst, and the base station identity code (BSIC) of the cell.
     Access { bsic: Bits<6>, soft: [i8; 88] },
     /// A synchronisation burst.
     Sync([i8; BURST_BITS]),
@@ -64,7 +64,7 @@ impl HeldBursts {
         }
     }
 
-    /// The number of held bursts, 0 to 3.
+    /// The number of bursts held, 0 to 3.
     pub fn count(&self) -> u8
         ensures count { result ≡ length self.now.held }
         ensures size { result ≤ 3 }
@@ -75,16 +75,16 @@ impl HeldBursts {
     /// The last complete block.
     pub fn block(&self) -> &[[i8; BURST_BITS]; 4]
         ensures bursts { result.now ≡ self.now.places }
-        ensures soft { All AllSoft result.now }
+        ensures soft { All AllSoftBits result.now }
     {
         &self.bursts
     }
 
-    /// Adds a burst. True if it completes a block.
-    #[tactic(auto, using(crate::proofs::BurstLaws::fourth))]
+    /// Adds a burst. Returns true if it completes a block.
+    #[tactic(auto, using(crate::proofs::BurstLaws::fourth_burst_completes))]
     pub fn add(&mut self, burst: [i8; BURST_BITS]) -> bool
-        requires { AllSoft burst }
-        ensures { HoldsBurst self.old burst result self.new }
+        requires { AllSoftBits burst }
+        ensures { AddsNormalBurst self.old burst result self.new }
     {
         self.bursts[self.count as usize] = burst;
         if self.count < 3 {
@@ -96,14 +96,14 @@ impl HeldBursts {
         }
     }
 
-    /// Adds the burst of these digits. True if it completes a block.
-    #[tactic(auto, using(crate::proofs::BurstLaws::fourth))]
-    fn add_hard(&mut self, digits: &[u8]) -> bool
+    /// Adds the burst that these digits `0` and `1` stand for. Returns true if it completes a block.
+    #[tactic(auto, using(crate::proofs::BurstLaws::fourth_burst_completes))]
+    fn add_hard_burst(&mut self, digits: &[u8]) -> bool
         requires each { IsTrue (list_all is_bit_digit digits.now) }
         requires size { length digits.now ≡ BURST_BITS }
-        ensures { HoldsBurst self.old (soft_bits (map (λ octet. octet - 48) digits.now)) result self.new }
+        ensures { AddsNormalBurst self.old (soft_bits (map (λ octet. octet - 48) digits.now)) result self.new }
     {
-        write_hard(digits, &mut self.bursts[self.count as usize]);
+        write_hard_values(digits, &mut self.bursts[self.count as usize]);
         if self.count < 3 {
             self.count += 1;
             false
@@ -113,13 +113,13 @@ impl HeldBursts {
         }
     }
 
-    /// Adds the burst of these octets. True if it completes a block.
-    #[tactic(auto, using(crate::proofs::BurstLaws::fourth))]
-    fn add_soft(&mut self, octets: &[u8; BURST_BITS]) -> bool
-        requires { AllSoft (signed_octets octets.now) }
-        ensures { HoldsBurst self.old (signed_octets octets.now) result self.new }
+    /// Adds the burst whose soft values are these octets. Returns true if it completes a block.
+    #[tactic(auto, using(crate::proofs::BurstLaws::fourth_burst_completes))]
+    fn add_soft_burst(&mut self, octets: &[u8; BURST_BITS]) -> bool
+        requires { AllSoftBits (signed_octets octets.now) }
+        ensures { AddsNormalBurst self.old (signed_octets octets.now) result self.new }
     {
-        write_signed(octets, &mut self.bursts[self.count as usize]);
+        write_signed_values(octets, &mut self.bursts[self.count as usize]);
         if self.count < 3 {
             self.count += 1;
             false
@@ -130,58 +130,57 @@ impl HeldBursts {
     }
 }
 
-/// Parses a line as `parse_burst` does, and adds a normal burst to `held` without a copy. Any other line, and an error, leave `held`
+/// Parses a line as `parse_burst` does. A normal burst is written directly into `held`; any other line, or an error, leaves `held`
 /// unchanged.
 #[inline(always)]
-pub fn read_burst_into(line: &[u8], held: &mut HeldBursts) -> Result<NextBurst, LineFault>
-    ensures means { IfOk result (λ next. (meaning : Meaning) × BurstMeans (length held.old.held) line.now meaning
-        × Brings held.old meaning next held.new) }
-    ensures refused { result_err result ≡ burst_fault (length held.old.held) line.now }
-    ensures soft { IfOk result BringsSoft }
-    ensures unchanged { OnErr result (held.new ≡ held.old) }
+pub fn hold_normal(line: &[u8], held: &mut HeldBursts) -> Option<bool>
+    ensures { MatchOption result
+        ((held.new ≡ held.old) × ((digits : List ℕ) → (¬ IsHardLine line.now digits) × (¬ IsSoftNormalLine line.now digits)))
+        (HoldsLine held.old line.now held.new) }
 {
-    match normal_digits(line) {
-        Some(digits) => Ok(next_normal(held.add_hard(digits))),
-        None => read_soft_into(line, held),
+    match hard_digits(line) {
+        Some(digits) => Some(held.add_hard_burst(digits)),
+        None => hold_soft(line, held),
     }
 }
 
 #[inline(never)]
-fn read_soft_into(line: &[u8], held: &mut HeldBursts) -> Result<NextBurst, LineFault>
+fn hold_soft(line: &[u8], held: &mut HeldBursts) -> Option<bool>
+    ensures { MatchOption result ((held.new ≡ held.old) × ((digits : List ℕ) → ¬ IsSoftNormalLine line.now digits))
+        (HoldsLine held.old line.now held.new) }
+{
+    let digits = soft_digits(line)?;
+    let mut octets = [0; BURST_BITS];
+    write_octets_from_hex(digits, &mut octets);
+    if has_minus_128(&octets) {
+        return None;
+    }
+    Some(held.add_soft_burst(&octets))
+}
+
+/// Parses a line as `parse_burst` does, and adds a normal burst to `held`. Any other line, and an error, leave `held` unchanged.
+#[inline(never)]
+pub fn read_burst_into(line: &[u8], held: &mut HeldBursts) -> Result<NextBurst, LineFault>
     ensures means { IfOk result (λ next. (meaning : Meaning) × BurstMeans (length held.old.held) line.now meaning
-        × Brings held.old meaning next held.new) }
+        × IsLineResult held.old meaning next held.new) }
     ensures refused { result_err result ≡ burst_fault (length held.old.held) line.now }
-    ensures soft { IfOk result BringsSoft }
+    ensures soft { IfOk result HasOnlySoftValues }
     ensures unchanged { OnErr result (held.new ≡ held.old) }
 {
-    match normal_octets(line) {
-        Some(octets) => Ok(next_normal(held.add_soft(&octets))),
-        None => read_other_into(line, held),
+    match parse_burst(line, held.count())? {
+        BurstLine::Skip => Ok(NextBurst::Skip),
+        BurstLine::Normal(burst) => Ok(next_after_normal_burst(held.add(burst))),
+        BurstLine::Access { bsic, soft } => Ok(NextBurst::Access { bsic, soft }),
+        BurstLine::Sync(burst) => Ok(NextBurst::Sync(burst)),
     }
 }
 
-fn next_normal(whole: bool) -> NextBurst
-    ensures { result ≡ next_normal whole }
+fn next_after_normal_burst(whole: bool) -> NextBurst
+    ensures { result ≡ next_after_normal_burst whole }
 {
     if whole {
         NextBurst::Block
     } else {
         NextBurst::Held
-    }
-}
-
-#[inline(never)]
-fn read_other_into(line: &[u8], held: &mut HeldBursts) -> Result<NextBurst, LineFault>
-    ensures means { IfOk result (λ next. (meaning : Meaning) × BurstMeans (length held.old.held) line.now meaning
-        × Brings held.old meaning next held.new) }
-    ensures refused { result_err result ≡ burst_fault (length held.old.held) line.now }
-    ensures soft { IfOk result BringsSoft }
-    ensures unchanged { OnErr result (held.new ≡ held.old) }
-{
-    match parse_burst(line, held.count())? {
-        BurstLine::Skip => Ok(NextBurst::Skip),
-        BurstLine::Normal(burst) => Ok(next_normal(held.add(burst))),
-        BurstLine::Access { bsic, soft } => Ok(NextBurst::Access { bsic, soft }),
-        BurstLine::Sync(burst) => Ok(NextBurst::Sync(burst)),
     }
 }

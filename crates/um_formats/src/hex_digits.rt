@@ -1,24 +1,24 @@
-//! Words of up to 20 octets.
+//! Reads words of at most 20 octets.
 ghost use Rattle.std.specs.Prelude.{◌≡◌, ◌≤◌, length, take, IsTrue};
-ghost use Rattle.um_lines.specs.Fields.{are_octet_digits, hex_octets, octet_count};
+ghost use Rattle.um_lines.specs.Fields.{is_dash_or_hex, octets_from_hex, octet_count};
 ghost use Rattle.um_formats.specs.ShowReading.{is_octets_word};
 
-use um_lines::write_octets;
+use um_lines::write_octets_from_hex;
 
-/// The octets of a word, at the front of the array, and their number.
-pub(crate) fn some_octets_of(word: &[u8]) -> ([u8; 20], usize)
-    requires each { IsTrue (are_octet_digits word.now) }
+/// The octets that a word stands for, at the beginning of the array, and their number.
+pub(crate) fn octets_of_hex_word(word: &[u8]) -> ([u8; 20], usize)
+    requires each { IsTrue (is_dash_or_hex word.now) }
     requires well { IsTrue (is_octets_word word.now) }
     requires size { octet_count word.now ≤ 20 }
     ensures count { result.1 ≡ octet_count word.now }
-    ensures octets { take result.1 result.0 ≡ hex_octets word.now }
+    ensures octets { take result.1 result.0 ≡ octets_from_hex word.now }
     ensures space { length result.0 ≡ 20 }
     ensures within { result.1 ≤ 20 }
 {
     let mut room = [0; 20];
     let count = word.len() / 2;
     if !matches!(word, b"-") {
-        write_octets(word, &mut room[..count]);
+        write_octets_from_hex(word, &mut room[..count]);
     }
     (room, count)
 }

@@ -1,16 +1,16 @@
-//! Reports of received bursts.
+//! Writes the reports on received blocks and bursts.
 ghost use Rattle.std.specs.Prelude.{◌≡◌, ◌+◌, ◌-◌, ◌<◌, ◌≤◌, [], ◌++◌, length, take, drop};
-ghost use Rattle.bit_blocks.specs.Bits.{AllBits};
-ghost use Rattle.bit_blocks.specs.Octets.{bits_of, octets_of};
+ghost use Rattle.um_block.specs.bit_blocks.Bits.{AllBits};
+ghost use Rattle.um_block.specs.bit_blocks.Octets.{bits_of, octets_of};
 ghost use Rattle.hex.specs.Hex.{encode_lower};
 ghost use Rattle.um_lines.specs.Fields.{bit_digits};
-ghost use Rattle.um_formats.specs.Reports.{crc_word, quality_text, data_text, block_line_text, IsBlockReport, access_report_text};
+ghost use Rattle.um_formats.specs.Reports.{crc_word, quality_text, data_and_check_text, block_report_line, IsBlockReport};
+ghost use Rattle.um_formats.specs.Reports.{access_report_text};
 ghost use Rattle.um_formats.specs.Reports.{sync_report_text};
 
 use crate::frames::push_frame;
-use bit_blocks::{BLOCK_BITS, BLOCK_OCTETS, Bits};
-use um_block::{Received, ReceivedAccess, ReceivedSync};
-use um_lines::{Text, packed};
+use um_block::{BLOCK_BITS, BLOCK_OCTETS, Bits, Received, ReceivedAccess, ReceivedSync};
+use um_lines::{Text, octets_from_bits_at};
 
 /// Writes the report of a block and, if its CRC holds, the line of its frame.
 pub fn block_report(out: &mut Text, r: &Received)
@@ -24,7 +24,7 @@ pub fn block_report(out: &mut Text, r: &Received)
     }
 }
 
-/// Writes the report of an access burst. `bsic` is the code that it was decoded with.
+/// Writes the report on an access burst. `bsic` is the identity code (BSIC) with which its CRC was checked.
 pub fn access_report(out: &mut Text, bsic: &Bits<6>, r: &ReceivedAccess)
     requires { out.old ≡ [] }
     ensures report { out.new ≡ access_report_text bsic.now r.now }
@@ -49,16 +49,16 @@ pub fn sync_report(out: &mut Text, r: &ReceivedSync)
 
 fn push_block(out: &mut Text, r: &Received)
     requires { out.old ≡ [] }
-    ensures text { out.new ≡ block_line_text r.now }
+    ensures text { out.new ≡ block_report_line r.now }
     ensures length { length out.new ≤ 400 }
 {
     out.push(b"block tsc ");
     out.push_decimal(u64::from(r.tsc));
     push_quality(out, r.wrong_training, r.metric, r.accepted.is_some());
-    push_octets(
+    push_data_and_check(
         out,
-        &packed::<BLOCK_OCTETS, _>(&r.u, 0),
-        &packed::<5, _>(&r.u, BLOCK_BITS),
+        &octets_from_bits_at::<BLOCK_OCTETS, _>(&r.u, 0),
+        &octets_from_bits_at::<5, _>(&r.u, BLOCK_BITS),
     );
 }
 
@@ -82,12 +82,12 @@ fn parity(holds: bool) -> &'static [u8]
     if holds { b"ok" } else { b"bad" }
 }
 
-// The data are the first `place` bits of the word. The CRC follows, up to `end`.
+// Appends the first `place` bits of the word as the data, and the bits from there to `end` as the CRC.
 fn push_bits<const N: usize>(out: &mut Text, word: &Bits<N>, place: usize, end: usize)
     requires space { length out.old + end + 14 ≤ 4096 }
     requires order { place ≤ end }
     requires within { end ≤ N }
-    ensures text { out.new ≡ out.old ++ data_text (bit_digits (take place word.now))
+    ensures text { out.new ≡ out.old ++ data_and_check_text (bit_digits (take place word.now))
         (bit_digits (take (end - place) (drop place word.now))) }
     ensures length { length out.new ≡ length out.old + end + 14 }
 {
@@ -99,13 +99,13 @@ fn push_bits<const N: usize>(out: &mut Text, word: &Bits<N>, place: usize, end: 
     out.push(b"\n");
 }
 
-fn push_octets(out: &mut Text, octets: &[u8], check: &[u8])
+fn push_data_and_check(out: &mut Text, octets: &[u8], check: &[u8])
     requires space { length out.old + 70 ≤ 4096 }
     requires size { length octets.now + length check.now ≡ 28 }
-    ensures text { out.new ≡ out.old ++ data_text (encode_lower octets.now) (encode_lower check.now) }
+    ensures text { out.new ≡ out.old ++ data_and_check_text (encode_lower octets.now) (encode_lower check.now) }
     ensures length { length out.new ≡ length out.old + 70 }
 
-    // Each element of both is an octet.
+    // Octets are unchanged if they are unpacked to bits and packed again.
     ensures octets { octets_of (bits_of octets.now) ≡ octets.now }
     ensures check { octets_of (bits_of check.now) ≡ check.now }
 {

@@ -1,4 +1,4 @@
-//! The lines of the command `show`.
+//! Parses the lines of the command `show`.
 ghost use Rattle.std.specs.Prelude.{◌≡◌, ℕ, ◌<◌, List, Some, ◌∷◌, ◌++◌, length, IfOk, codes};
 ghost use Rattle.std.specs.List.{All};
 ghost use Rattle.std.specs.Result.{result_err};
@@ -6,33 +6,33 @@ ghost use Rattle.lapdm_frame.specs.Content.{Frame, information};
 ghost use Rattle.lapdm_frame.specs.Frames.{IsCanonical};
 ghost use Rattle.um_lines.specs.Words.{words};
 ghost use Rattle.um_lines.specs.Fields.{Value};
-ghost use Rattle.um_lines.specs.Forms.{LineMeans, anywhere};
-ghost use Rattle.um_lines.specs.ShowForms.{ShowName, show_forms};
+ghost use Rattle.um_lines.specs.Forms.{LineMeans, no_order_fault};
+ghost use Rattle.um_lines.specs.ShowForms.{ShowLineKind, show_forms};
 ghost use Rattle.um_lines.specs.Meanings.{HasOneMeaningUnless};
-ghost use Rattle.um_formats.specs.FrameTexts.{frame_text, octets_text, IsFrameText};
-ghost use Rattle.um_formats.specs.ShowLines.{said_frame, show_fault, ShowMeans, read_show};
-ghost use Rattle.um_formats.specs.WrittenBursts.{IsWholeLine};
+ghost use Rattle.um_formats.specs.FrameTexts.{frame_text, octets_text, IsTextOfOctets};
+ghost use Rattle.um_formats.specs.ShowLines.{frame_from_values, show_fault, ShowMeans, parsed_show};
+ghost use Rattle.um_formats.specs.WrittenBursts.{IsUnskippedLine};
 
 use crate::frame_words::frame_words;
-use bit_blocks::BLOCK_OCTETS;
 use lapdm_frame::Channel;
-use um_lines::{LINE_LIMIT, LineFault, are_hex_digits, is_skipped, octets_of, one_word};
+use um_block::BLOCK_OCTETS;
+use um_lines::{LINE_LIMIT, LineFault, are_hex_digits, is_skipped, octets_of, parse_only_word};
 
-/// The meaning of a line of `show`.
+/// What a line of `show` means.
 #[derive(Clone, Copy, PartialEq, Eq, Debug)]
 pub enum ShowLine {
     /// Nothing: an empty line, or one that begins with `#`.
     Skip,
-    /// Octets, to be written as a frame.
+    /// Octets, for which the frame is to be written.
     Octets([u8; BLOCK_OCTETS]),
-    /// The canonical octets on SDCCH of a frame that the line spells, to be written as octets.
+    /// The canonical octets on SDCCH of a frame that the line spells; they are to be written.
     Frame([u8; BLOCK_OCTETS]),
 }
 
-/// Parses a line of `show`, without its line feed: `octets HEX46`, or a frame as `frame_line` writes it. Hexadecimal digits may
-/// have either case.
+/// Parses a line of `show`, without its line feed: `octets HEX46`, or a frame in the form in which `frame_line` writes it. Hexadecimal
+/// digits may be in upper or lower case.
 ///
-/// The errors, in this order: `Long`, `Word`, `Digits`, `Length`. The first that any part of the line has is returned.
+/// If several errors apply, the first in this order is returned, whatever its place in the line: `Long`, `Word`, `Digits`, `Length`.
 pub fn parse_show(line: &[u8]) -> Result<ShowLine, LineFault>
     ensures means { IfOk result (ShowMeans line.now) }
     ensures refused { result_err result ≡ show_fault line.now }
@@ -48,7 +48,7 @@ pub fn parse_show(line: &[u8]) -> Result<ShowLine, LineFault>
 
 #[inline(never)]
 fn parse_words(line: &[u8]) -> Result<ShowLine, LineFault>
-    ensures { result ≡ read_show (words line.now) }
+    ensures { result ≡ parsed_show (words line.now) }
 {
     if let Some(rest) = line.strip_prefix(b"octets ") {
         parse_octets(rest)
@@ -59,13 +59,13 @@ fn parse_words(line: &[u8]) -> Result<ShowLine, LineFault>
     }
 }
 
-// A text of digits is one word, so only other texts are searched for a space.
+// A text that consists of digits is one word. Only other texts are searched for a space, to choose the right error.
 #[tactic(auto, using(crate::proofs::DigitWords::hex_word, crate::proofs::DigitWords::whole_word))]
 fn parse_octets(rest: &[u8]) -> Result<ShowLine, LineFault>
-    ensures { result ≡ read_show (codes "octets" ∷ words rest.now) }
+    ensures { result ≡ parsed_show (codes "octets" ∷ words rest.now) }
 {
     if !are_hex_digits(rest) {
-        one_word(rest)?;
+        parse_only_word(rest)?;
         return Err(LineFault::Digits);
     }
     if rest.len() != 46 {
@@ -75,33 +75,33 @@ fn parse_octets(rest: &[u8]) -> Result<ShowLine, LineFault>
 }
 
 fn parse_frame(rest: &[u8]) -> Result<ShowLine, LineFault>
-    ensures { result ≡ read_show (codes "frame" ∷ words rest.now) }
+    ensures { result ≡ parsed_show (codes "frame" ∷ words rest.now) }
 {
     let found = frame_words(rest)?;
-    if !found.have_digits() {
+    if !found.have_valid_digits() {
         return Err(LineFault::Digits);
     }
-    if !found.have_length() {
+    if !found.have_valid_length() {
         return Err(LineFault::Length);
     }
     Ok(ShowLine::Frame(found.octets()))
 }
 
-/// A line without a reason has exactly one meaning; a line with a reason has none.
-pub fn law_show()
+/// A line that is not refused has exactly one meaning; a line that is refused has none.
+pub fn law_one_show_meaning()
     ensures { (line : List ℕ) → HasOneMeaningUnless (show_fault line) (ShowMeans line) }
 {}
 
-/// The line of octets reads back as these octets. The line of a frame's canonical octets on SDCCH reads back as these octets. The
-/// octets of a line that spells a frame are written as that frame.
-pub fn law_written_frames()
+/// Parsing the line written for octets gives these octets. Parsing the line written for the frame in canonical octets on SDCCH gives these
+/// octets. For the octets of a line that spells a frame, that frame is written.
+pub fn law_written_frames_read_back()
     ensures octets { (octets line : List ℕ) → length octets ≡ BLOCK_OCTETS → All (λ octet. octet < 256) octets
-        → octets_text octets ≡ line ++ codes "\n" → IsWholeLine line × ShowMeans line (ShowLine.Octets octets) }
+        → octets_text octets ≡ line ++ codes "\n" → IsUnskippedLine line × ShowMeans line (ShowLine.Octets octets) }
     ensures canonical { (f : Frame) (octets text line : List ℕ) → IsCanonical Channel.Sdcch f octets
-        → All (λ octet. octet < 256) (information f.content) → IsFrameText octets text
-        → text ≡ line ++ codes "\n" → IsWholeLine line × ShowMeans line (ShowLine.Frame octets) }
+        → All (λ octet. octet < 256) (information f.content) → IsTextOfOctets octets text
+        → text ≡ line ++ codes "\n" → IsUnskippedLine line × ShowMeans line (ShowLine.Frame octets) }
     ensures again { (written octets : List ℕ) → ShowMeans written (ShowLine.Frame octets)
-        → (name : ShowName) × (values : List Value) × (f : Frame)
-        × LineMeans show_forms anywhere written (Some (name, values)) × (said_frame name values ≡ Some f)
-        × ((text : List ℕ) → IsFrameText octets text → text ≡ frame_text f) }
+        → (name : ShowLineKind) × (values : List Value) × (f : Frame)
+        × LineMeans show_forms no_order_fault written (Some (name, values)) × (frame_from_values name values ≡ Some f)
+        × ((text : List ℕ) → IsTextOfOctets octets text → text ≡ frame_text f) }
 {}

@@ -1,31 +1,31 @@
-//! Words of soft values.
+//! Reads words of hard bits and soft values.
 ghost use Rattle.std.specs.Prelude.{◌≡◌, ◌-◌, ◌*◌, ◌==◌, length, map, true, false, IsTrue, MatchResult};
 ghost use Rattle.std.specs.List.{list_all, list_any};
 ghost use Rattle.hex.specs.Hex.{is_hex_digit};
-ghost use Rattle.bit_blocks.specs.SoftValues.{AllSoft};
-ghost use Rattle.um_lines.specs.Fields.{hex_octets, is_bit_digit};
-ghost use Rattle.um_block.specs.Received.{soft_value, soft_bits};
+ghost use Rattle.um_block.specs.bit_blocks.SoftValues.{AllSoftBits};
+ghost use Rattle.um_lines.specs.Fields.{octets_from_hex, is_bit_digit};
+ghost use Rattle.um_block.specs.Received.{soft_bit_of, soft_bits};
 ghost use Rattle.um_formats.specs.SoftOctets.{signed_octets};
 
 use um_lines::{LineFault, octets_of};
 
-/// The bits of `N` digits as the soft values 127 and -127.
+/// The bits of `N` digits as soft values: 127 for 0, -127 for 1.
 pub(crate) fn hard_values<const N: usize>(digits: &[u8]) -> [i8; N]
     requires each { IsTrue (list_all is_bit_digit digits.now) }
     requires size { length digits.now ≡ N }
     ensures { result ≡ soft_bits (map (λ octet. octet - 48) digits.now) }
 {
     let mut values = [0; N];
-    write_hard(digits, &mut values);
+    write_hard_values(digits, &mut values);
     values
 }
 
-/// Writes the bits of `N` digits as the soft values 127 and -127.
-pub(crate) fn write_hard<const N: usize>(digits: &[u8], values: &mut [i8; N])
+/// Writes the bits of `N` digits as soft values: 127 for 0, -127 for 1.
+pub(crate) fn write_hard_values<const N: usize>(digits: &[u8], values: &mut [i8; N])
     requires each { IsTrue (list_all is_bit_digit digits.now) }
     requires size { length digits.now ≡ N }
     ensures value { values.new ≡ soft_bits (map (λ octet. octet - 48) digits.now) }
-    ensures soft { AllSoft values.new }
+    ensures soft { AllSoftBits values.new }
 {
     for (i, digit) in digits.iter().enumerate() {
         values[i] = hard_value(*digit);
@@ -34,30 +34,31 @@ pub(crate) fn write_hard<const N: usize>(digits: &[u8], values: &mut [i8; N])
 
 fn hard_value(digit: u8) -> i8
     requires { IsTrue (is_bit_digit digit) }
-    ensures { result ≡ soft_value (digit - 48) }
+    ensures { result ≡ soft_bit_of (digit - 48) }
 {
     if digit == b'0' { 127 } else { -127 }
 }
 
-/// The soft values of `2 * N` hexadecimal digits. The error is `Soft` if one of them is -128.
+/// The soft values that `2 * N` hexadecimal digits stand for, or the error `Soft` if one of them is -128.
 pub(crate) fn soft_values<const N: usize>(digits: &[u8]) -> Result<[i8; N], LineFault>
     requires each { IsTrue (list_all is_hex_digit digits.now) }
     requires size { length digits.now ≡ 2 * N }
     ensures { MatchResult result
-        (λ values. (values ≡ signed_octets (hex_octets digits.now)) × (list_any (λ octet. octet == 128) (hex_octets digits.now) ≡ false))
-        (λ fault. (fault ≡ LineFault.Soft) × (list_any (λ octet. octet == 128) (hex_octets digits.now) ≡ true)) }
+        (λ values. (values ≡ signed_octets (octets_from_hex digits.now))
+        × (list_any (λ octet. octet == 128) (octets_from_hex digits.now) ≡ false))
+        (λ fault. (fault ≡ LineFault.Soft) × (list_any (λ octet. octet == 128) (octets_from_hex digits.now) ≡ true)) }
 {
     let octets: [u8; N] = octets_of(digits);
-    if has_lowest(&octets) {
+    if has_minus_128(&octets) {
         return Err(LineFault::Soft);
     }
     let mut values = [0; N];
-    write_signed(&octets, &mut values);
+    write_signed_values(&octets, &mut values);
     Ok(values)
 }
 
-// Whether an octet is 0x80, which is -128.
-pub(crate) fn has_lowest(octets: &[u8]) -> bool
+// Whether one of the octets is 0x80, which stands for -128.
+pub(crate) fn has_minus_128(octets: &[u8]) -> bool
     ensures { result ≡ list_any (λ octet. octet == 128) octets.now }
 {
     let mut found = false;
@@ -67,7 +68,7 @@ pub(crate) fn has_lowest(octets: &[u8]) -> bool
     found
 }
 
-pub(crate) fn write_signed<const N: usize>(octets: &[u8; N], values: &mut [i8; N])
+pub(crate) fn write_signed_values<const N: usize>(octets: &[u8; N], values: &mut [i8; N])
     ensures { values.new ≡ signed_octets octets.now }
 {
     for (i, octet) in octets.iter().enumerate() {

@@ -1,11 +1,10 @@
 use super::*;
-use bit_blocks::Bits;
-use burst_map::BURST_BITS;
 use std::test::Fail;
+use um_block::{BURST_BITS, Bits};
 
 const ZEROS: &str = "0000000000000000000000000000000000000000000000";
 
-const REFUSED: [(&str, &str, LineFault); 18] = [
+const REFUSED_LINES: [(&str, &str, LineFault); 18] = [
     ("rach 0000000 000000", "", LineFault::Length),
     ("rach 0000000x 000000", "", LineFault::Digits),
     ("rach 2 0", "", LineFault::Digits),
@@ -28,7 +27,7 @@ const REFUSED: [(&str, &str, LineFault); 18] = [
 
 #[test]
 fn a_bad_line_has_its_first_reason(rt: HostRuntime) -> Result<(), Fail> {
-    for (front, back, fault) in REFUSED {
+    for (front, back, fault) in REFUSED_LINES {
         let line = format!(in rt.alloc(); "{front}{back}")?;
         assert_eq!(rt; parse_code(line.as_bytes()), Err(fault), "{line}");
     }
@@ -36,14 +35,14 @@ fn a_bad_line_has_its_first_reason(rt: HostRuntime) -> Result<(), Fail> {
 }
 
 #[test]
-fn a_line_above_the_limit_is_long_though_it_is_a_comment(rt: HostRuntime) {
+fn a_comment_above_the_line_limit_is_refused_as_long(rt: HostRuntime) {
     assert_eq!(rt; parse_code(&[b'#'; 4097]), Err(LineFault::Long));
     assert_eq!(rt; parse_code(&[b'#'; 4096]), Ok(CodeLine::Skip));
     assert_eq!(rt; parse_code(b""), Ok(CodeLine::Skip));
 }
 
 #[test]
-fn digits_of_both_cases_are_read_the_high_one_first(rt: HostRuntime) -> Result<(), Fail> {
+fn hex_digits_of_either_case_are_read_high_digit_first(rt: HostRuntime) -> Result<(), Fail> {
     let line = b"block 7 030301000102030405060708090A0b0C0d0E0f1F2e3DfF";
     let octets = [
         3, 3, 1, 0, 1, 2, 3, 4, 5, 6, 7, 8, 9, 10, 11, 12, 13, 14, 15, 31, 46, 61, 255,
@@ -102,7 +101,7 @@ fn soft_values_are_signed_octets(rt: HostRuntime) -> Result<(), Fail> {
 }
 
 #[test]
-fn a_digit_is_a_sure_value_and_a_lost_burst_says_nothing(rt: HostRuntime) -> Result<(), Fail> {
+fn hard_bits_become_127_or_minus_127_and_a_lost_burst_zeros(rt: HostRuntime) -> Result<(), Fail> {
     let line = format!(in rt.alloc(); "n {ZEROS}{ZEROS}{ZEROS}0000000001")?;
     let mut soft = [127; BURST_BITS];
     soft[147] = -127;
@@ -117,8 +116,8 @@ fn a_digit_is_a_sure_value_and_a_lost_burst_says_nothing(rt: HostRuntime) -> Res
     Ok(())
 }
 
-// The access burst of eight zeros with base station identity code 000000.
-const ACCESS: [u8; 88] = [
+// The access burst whose 8 bits and BSIC are all 0.
+const ACCESS_BURST: [u8; 88] = [
     0, 0, 1, 1, 1, 0, 1, 0, 0, 1, 0, 0, 1, 0, 1, 1, 0, 1, 1, 1, 1, 1, 1, 1, 1, 0, 0, 1, 1, 0, 0, 1,
     1, 0, 1, 0, 1, 0, 1, 0, 0, 0, 1, 1, 1, 1, 0, 0, 0, 0, 0, 0, 0, 0, 0, 0, 0, 0, 0, 0, 0, 0, 0, 0,
     0, 1, 1, 1, 0, 1, 0, 0, 1, 1, 0, 1, 0, 0, 1, 0, 0, 0, 0, 1, 1, 0, 0, 0,
@@ -126,7 +125,7 @@ const ACCESS: [u8; 88] = [
 
 #[test]
 fn an_access_burst_is_written_with_its_identity_code(rt: HostRuntime) -> Result<(), Fail> {
-    let bits = Bits::<88>::from_slice(&ACCESS).ok_or("88 bits")?;
+    let bits = Bits::<88>::from_slice(&ACCESS_BURST).ok_or("88 bits")?;
     let burst: &[u8; 88] = bits.as_slice().try_into().ok().ok_or("88 bits")?;
     let mut out = Text::new();
     access_line(&mut out, &Bits::zero(), burst);

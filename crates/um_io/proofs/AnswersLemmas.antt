@@ -1,32 +1,26 @@
--- The lines that a reader answers before it ends are the lines of its source: by induction over the
--- calls, each of which takes one line off the front of the octets.
-use Rattle.std.proofs.Common.{◌≡◌, ◌<◌, ◌+◌, ◌⊎◌, ℕ, Bool, true, false, List, [], ◌∷◌, ◌++◌, length}
-use Rattle.std.proofs.Common.{Option, None, Some, refl, sym, ap, subst, ◌∙◌, arith, inl, inr, ⊎_elim}
-use Rattle.std.proofs.lemmas.List.{append-nil, append_assoc, length-append, nil_from_length}
-use Rattle.std.proofs.lemmas.Bool.{false≢true, cases_Bool}
-use Rattle.std.specs.List.{All}
-use Rattle.std.proofs.lemmas.List.Elements.{All-nil, All-cons}
-use Rattle.um_io.specs.declared.lines.Next.TheVariants.{Line, End, Long, TooMany, Failed}
-use Rattle.um_io.specs.declared.lines.Next.{Next}
-use Rattle.um_io.specs.Lines.{IsLine, text_of, IsCutOff, IsDivided, lines_of}
-use Rattle.um_io.specs.Reading.{Reading, IsReading, at_start}
-use Rattle.um_io.specs.Next.{IsAnswered, IsHeld, IsStep}
-use Rattle.um_io.specs.Answers.{AnswersLines, AreCut, EndsWith}
-use Rattle.um_io.proofs.DivisionLemmas.{lines_of-only}
+-- The lines that a line reader answers before it ends are the lines of its source: by induction over the calls, each of which takes one
+-- line off the front of the octets.
+use Rattle.std.proofs.Common.{◌≡◌, ◌<◌, ◌+◌, ◌⊎◌, ℕ, Bool, true, false, List, [], ◌∷◌, ◌++◌, length, Option, None, Some, refl, sym, ap}
+use Rattle.std.proofs.{Common.{subst, ◌∙◌, arith, inl, inr, ⊎_elim}, lemmas.List.{append-nil, append_assoc, length-append, nil_from_length}}
+use Rattle.std.{proofs.lemmas.{List.Elements.{All-nil, All-cons}, Bool.{false≢true, cases_Bool}}, specs.List.All}
+use Rattle.um_io.specs.{declared.lines.Next.{TheVariants.{Line, End, Long, TooMany, Failed}, Next}, Lines.{IsLine, text_of_lines}}
+use Rattle.um_io.specs.{Lines.{EndsWithoutLineFeed, IsDivided, lines_of_octets}, Reading.{Reading, IsValidReader, reader_at_start}}
+use Rattle.um_io.specs.{Next.{IsLineAnswered, AreOctetsHeld, IsReaderStep}, Answers.{AnswersLines, DividesReadOctets, EndsReaderWith}}
+use Rattle.um_io.proofs.DivisionLemmas.{lines_of_octets-only}
 
--- a line and its line feed, put before octets, is a line before their lines
+-- a line and its line feed, put before octets, add one line before the lines of these octets
 IsDivided-line : (line octets : List ℕ) (lines : List (List ℕ)) → IsLine line → IsDivided octets lines
     → IsDivided (line ++ 10 ∷ octets) (line ∷ lines)
 IsDivided-line line octets lines plain divided =
     record {
       plain = All-cons IsLine line lines plain divided.plain;
       whole = ⊎_elim
-          (λ (whole : octets ≡ text_of lines). inl (ap (λ l. line ++ 10 ∷ l) whole))
-          (λ (cut : IsCutOff octets lines). inr record {
+          (λ (whole : octets ≡ text_of_lines lines). inl (ap (λ l. line ++ 10 ∷ l) whole))
+          (λ (cut : EndsWithoutLineFeed octets lines). inr record {
             front = line ∷ cut.front;
             last = cut.last;
             lines_are = ap (λ l. line ∷ l) cut.lines_are;
-            octets_are = ap (λ l. line ++ 10 ∷ l) cut.octets_are ∙ sym (append_assoc line (10 ∷ text_of cut.front) cut.last);
+            octets_are = ap (λ l. line ++ 10 ∷ l) cut.octets_are ∙ sym (append_assoc line (10 ∷ text_of_lines cut.front) cut.last);
             some = cut.some;
           })
           divided.whole;
@@ -47,17 +41,16 @@ no_more r r' left left' [] came none ended answers = (refl, answers.0)
 no_more r r' left left' (line ∷ lines) came none ended answers =
     let step = answers.7 in
     let nothing : length (r.held ++ r.past ++ answers.0) ≡ 0 = ap length
-    (ap (λ l. r.held ++ r.past ++ l) (step.still ended).0 ∙ append-nil (r.held ++ r.past) ∙ none) in
+    (ap (λ l. r.held ++ r.past ++ l) (step.no_read_after_end ended).0 ∙ append-nil (r.held ++ r.past) ∙ none) in
     absurd (⊎_elim
-    (λ (whole : IsAnswered r answers.2 (r.held ++ r.past ++ answers.0) answers.4.now (10 ∷ [])).
+    (λ (whole : IsLineAnswered r answers.2 (r.held ++ r.past ++ answers.0) answers.4.now (10 ∷ [])).
     omega (arith, ap length whole.octets, length-append (answers.4.now ++ 10 ∷ []) (answers.2.held ++ answers.2.past), whole.some))
-    (λ (last : IsAnswered r answers.2 (r.held ++ r.past ++ answers.0) answers.4.now [] × (answers.2.held ++ answers.2.past ≡ [])
+    (λ (last : IsLineAnswered r answers.2 (r.held ++ r.past ++ answers.0) answers.4.now [] × (answers.2.held ++ answers.2.past ≡ [])
     × (answers.2.ended ≡ true)).
     omega (arith, ap length last.0.octets, length-append (answers.4.now ++ []) (answers.2.held ++ answers.2.past), last.0.some))
     step.gives)
 
--- if nothing is held at the end, the lines answered divide the octets held at the start and those
--- read
+-- if nothing is held at the end, the answered lines are a division of the octets held at the start and those read
 pub IsDivided-answers : (lines : List (List ℕ)) (r r' : Reading) (left left' : Option (List ℕ)) (came : List ℕ)
     → AnswersLines r left lines came r' left' → r'.held ++ r'.past ≡ [] → IsDivided (r.held ++ r.past ++ came) lines
 IsDivided-answers [] r r' left left' came answers none =
@@ -75,14 +68,14 @@ IsDivided-answers (line ∷ lines) r r' left left' came answers none =
     let joined : r.held ++ r.past ++ came ≡ (r.held ++ r.past ++ first) ++ rest = ap (λ l. r.held ++ r.past ++ l) answers.6
     ∙ sym (append_assoc (r.held ++ r.past) first rest) in
     let divided : IsDivided (r.held ++ r.past ++ came) (shown ∷ lines) = ⊎_elim
-    (λ (whole : IsAnswered r mid (r.held ++ r.past ++ first) shown (10 ∷ [])).
+    (λ (whole : IsLineAnswered r mid (r.held ++ r.past ++ first) shown (10 ∷ [])).
     let behind = mid.held ++ mid.past in
     let octets : r.held ++ r.past ++ came ≡ shown ++ 10 ∷ (behind ++ rest) =
     joined ∙ ap (λ l. l ++ rest) whole.octets ∙ append_assoc (shown ++ 10 ∷ []) behind rest
     ∙ append_assoc shown (10 ∷ []) (behind ++ rest) in
     subst (λ l. IsDivided l (shown ∷ lines)) (sym octets) (IsDivided-line shown (behind ++ rest) lines whole.plain
     (IsDivided-answers lines mid r' answers.3 left' rest later none)))
-    (λ (last : IsAnswered r mid (r.held ++ r.past ++ first) shown [] × (mid.held ++ mid.past ≡ []) × (mid.ended ≡ true)).
+    (λ (last : IsLineAnswered r mid (r.held ++ r.past ++ first) shown [] × (mid.held ++ mid.past ≡ []) × (mid.ended ≡ true)).
     let ends = no_more mid r' answers.3 left' lines rest last.1 last.2 later in
     let octets : r.held ++ r.past ++ came ≡ shown =
     joined ∙ ap (λ l. (r.held ++ r.past ++ first) ++ l) ends.1 ∙ append-nil (r.held ++ r.past ++ first) ∙ last.0.octets
@@ -109,7 +102,7 @@ pub record IsLeft (octets came : List ℕ) (left' : Option (List ℕ)) (ended : 
   pub end : ended ≡ true → rest ≡ []
 
 IsLeft-step : (r r' : Reading) (octets : List ℕ) (left' : Option (List ℕ)) (next : Next) (came : List ℕ) → (r.ended ≡ true → octets ≡ [])
-    → IsStep r r' (Some octets) left' next came → IsLeft octets came left' r'.ended
+    → IsReaderStep r r' (Some octets) left' next came → IsLeft octets came left' r'.ended
 IsLeft-step r r' octets None next came known step = absurd step.bytes
 IsLeft-step r r' octets (Some rest) next came known step =
     record {
@@ -148,25 +141,24 @@ IsLeft-answers (line ∷ lines) r r' octets came left' known answers =
     }
 
 -- the lines answered up to the end are the lines of all the octets of the source
-lines_of-answers : (octets : List ℕ) (lines : List (List ℕ)) (came last : List ℕ) (r r' : Reading) (left left' : Option (List ℕ))
-    → AnswersLines at_start (Some octets) lines came r left → IsStep r r' left left' End last → lines ≡ lines_of octets
-lines_of-answers octets lines came last r r' left left' answers step =
+lines_of_octets-answers : (octets : List ℕ) (lines : List (List ℕ)) (came last : List ℕ) (r r' : Reading) (left left' : Option (List ℕ))
+    → AnswersLines reader_at_start (Some octets) lines came r left → IsReaderStep r r' left left' End last → lines ≡ lines_of_octets octets
+lines_of_octets-answers octets lines came last r r' left left' answers step =
     let none : (r.held ++ r.past ≡ []) × (last ≡ []) = nothing_came (r.held ++ r.past) last step.gives.1 in
-    let had = IsLeft-answers lines at_start r octets came left (λ yes. absurd (false≢true yes)) answers in
-    let ends = IsLeft-step r r' had.rest left' End last had.end (subst (λ l. IsStep r r' l left' End last) had.left_is step) in
+    let had = IsLeft-answers lines reader_at_start r octets came left (λ yes. absurd (false≢true yes)) answers in
+    let ends = IsLeft-step r r' had.rest left' End last had.end (subst (λ l. IsReaderStep r r' l left' End last) had.left_is step) in
     let nothing : had.rest ≡ [] = ends.whole ∙ ap (λ l. l ++ ends.rest) none.1 ∙ ends.end step.gives.2 in
     let all : octets ≡ came = had.whole ∙ ap (λ l. came ++ l) nothing ∙ append-nil came in
-    lines_of-only octets lines (subst (λ l. IsDivided l lines) (sym all)
-    (IsDivided-answers lines at_start r (Some octets) left came answers none.0))
+    lines_of_octets-only octets lines (subst (λ l. IsDivided l lines) (sym all)
+    (IsDivided-answers lines reader_at_start r (Some octets) left came answers none.0))
 
--- the octets held and those read are the lines answered, each with its line feed, and what is held
--- at the end
+-- the octets held at the start and those read are the answered lines, each with its line feed, and what is held at the end
 record AreWhole (r r' : Reading) (lines : List (List ℕ)) (came : List ℕ) : Type 0 where
-  octets : r.held ++ r.past ++ came ≡ text_of lines ++ (r'.held ++ r'.past)
-  answered : r'.answered ≡ r.answered + length (text_of lines)
+  octets : r.held ++ r.past ++ came ≡ text_of_lines lines ++ (r'.held ++ r'.past)
+  answered : r'.answered ≡ r.answered + length (text_of_lines lines)
   plain : All IsLine lines
 
--- either this holds, or the last line had no line feed
+-- either `AreWhole` holds after some answers, or the last line had no line feed
 AreWhole-answers : (lines : List (List ℕ)) (r r' : Reading) (left left' : Option (List ℕ)) (came : List ℕ)
     → AnswersLines r left lines came r' left'
     → AreWhole r r' lines came ⊎ ((r'.held ++ r'.past ≡ []) × (r'.ended ≡ true))
@@ -177,22 +169,23 @@ AreWhole-answers [] r r' left left' came (none, same, _) =
       plain = All-nil IsLine;
     }
 AreWhole-answers (line ∷ lines) r r' left left' came (first, rest, mid, between, shown, shown_is, came_is, step, later) = ⊎_elim
-    (λ (whole : IsAnswered r mid (r.held ++ r.past ++ first) shown.now (10 ∷ [])). ⊎_elim
+    (λ (whole : IsLineAnswered r mid (r.held ++ r.past ++ first) shown.now (10 ∷ [])). ⊎_elim
     (λ (then : AreWhole mid r' lines rest).
     let behind = mid.held ++ mid.past in
-    let count = length-append (shown.now ++ 10 ∷ []) (text_of lines) in
-    let text : text_of (line ∷ lines) ≡ (shown.now ++ 10 ∷ []) ++ text_of lines =
-    ap (λ l. l ++ 10 ∷ text_of lines) (sym shown_is) ∙ sym (append_assoc shown.now (10 ∷ []) (text_of lines)) in
+    let count = length-append (shown.now ++ 10 ∷ []) (text_of_lines lines) in
+    let text : text_of_lines (line ∷ lines) ≡ (shown.now ++ 10 ∷ []) ++ text_of_lines lines =
+    ap (λ l. l ++ 10 ∷ text_of_lines lines) (sym shown_is) ∙ sym (append_assoc shown.now (10 ∷ []) (text_of_lines lines)) in
     inl record {
       octets = ap (λ l. r.held ++ r.past ++ l) came_is ∙ sym (append_assoc (r.held ++ r.past) first rest) ∙ ap (λ l. l ++ rest) whole.octets
           ∙ append_assoc (shown.now ++ 10 ∷ []) behind rest ∙ ap (λ l. (shown.now ++ 10 ∷ []) ++ l) then.octets
-          ∙ sym (append_assoc (shown.now ++ 10 ∷ []) (text_of lines) (r'.held ++ r'.past)) ∙ ap (λ l. l ++ (r'.held ++ r'.past)) (sym text);
+          ∙ sym (append_assoc (shown.now ++ 10 ∷ []) (text_of_lines lines) (r'.held ++ r'.past))
+          ∙ ap (λ l. l ++ (r'.held ++ r'.past)) (sym text);
       answered = omega (arith, then.answered, whole.answered, count, ap length text);
       plain = All-cons IsLine line lines (subst IsLine shown_is whole.plain) then.plain;
     })
     (λ (over : (r'.held ++ r'.past ≡ []) × (r'.ended ≡ true)). inr over)
     (AreWhole-answers lines mid r' between left' rest later))
-    (λ (last : IsAnswered r mid (r.held ++ r.past ++ first) shown.now [] × (mid.held ++ mid.past ≡ []) × (mid.ended ≡ true)).
+    (λ (last : IsLineAnswered r mid (r.held ++ r.past ++ first) shown.now [] × (mid.held ++ mid.past ≡ []) × (mid.ended ≡ true)).
     let ends = no_more mid r' between left' lines rest last.1 last.2 later in
     inr (after_end lines mid r' between left' rest last.1 last.2 ends.0 later))
     step.gives
@@ -204,46 +197,45 @@ AreWhole-answers (line ∷ lines) r r' left left' came (first, rest, mid, betwee
         (ap (λ (s : Reading). s.held ++ s.past) is ∙ none, ap (λ (s : Reading). s.ended) is ∙ ended)
     after_end (line ∷ lines) mid r' between left' rest none ended same later = absurd (cc same)
 
--- if a reader stops with octets held or before the end of its source, the octets read are whole
--- lines and what is held
-AreCut-answers : (octets : List ℕ) (lines : List (List ℕ)) (came last : List ℕ) (r r' : Reading) (left left' : Option (List ℕ))
+-- if a reader stops with octets held or before the end of its source, the octets read are whole lines and what is held
+DividesReadOctets-answers : (octets : List ℕ) (lines : List (List ℕ)) (came last : List ℕ) (r r' : Reading) (left left' : Option (List ℕ))
     (next : Next)
-    → AnswersLines at_start (Some octets) lines came r left → IsStep r r' left left' next last → IsReading r'
-    → IsHeld r r' (r.held ++ r.past ++ last) true
-    → ((r.held ++ r.past ++ last ≡ []) → (r'.ended ≡ true) → ⊥) → AreCut octets (came ++ last) lines r'.held r'.past
-AreCut-answers octets lines came last r r' left left' next answers step valid held open_ = ⊎_elim
-    (λ (whole : AreWhole at_start r lines came).
-    let had = IsLeft-answers lines at_start r octets came left (λ yes. absurd (false≢true yes)) answers in
-    let then = IsLeft-step r r' had.rest left' next last had.end (subst (λ l. IsStep r r' l left' next last) had.left_is step) in
-    let size = length-append (text_of lines) r'.held in
+    → AnswersLines reader_at_start (Some octets) lines came r left → IsReaderStep r r' left left' next last → IsValidReader r'
+    → AreOctetsHeld r r' (r.held ++ r.past ++ last) true
+    → ((r.held ++ r.past ++ last ≡ []) → (r'.ended ≡ true) → ⊥) → DividesReadOctets octets (came ++ last) lines r'.held r'.past
+DividesReadOctets-answers octets lines came last r r' left left' next answers step valid held open_ = ⊎_elim
+    (λ (whole : AreWhole reader_at_start r lines came).
+    let had = IsLeft-answers lines reader_at_start r octets came left (λ yes. absurd (false≢true yes)) answers in
+    let then = IsLeft-step r r' had.rest left' next last had.end (subst (λ l. IsReaderStep r r' l left' next last) had.left_is step) in
+    let size = length-append (text_of_lines lines) r'.held in
     record {
       rest = then.rest;
       octets_are = had.whole ∙ ap (λ l. came ++ l) then.whole ∙ sym (append_assoc came last then.rest);
-      came_are = ap (λ l. l ++ last) whole.octets ∙ append_assoc (text_of lines) (r.held ++ r.past) last
-          ∙ ap (λ l. text_of lines ++ l) held.octets;
+      came_are = ap (λ l. l ++ last) whole.octets ∙ append_assoc (text_of_lines lines) (r.held ++ r.past) last
+          ∙ ap (λ l. text_of_lines lines ++ l) held.octets;
       plain = whole.plain;
       line_plain = held.plain;
       limit = omega (arith, valid.limit, held.answered, whole.answered, size);
       past_limit = λ some. omega (arith, valid.past some, held.answered, whole.answered, size);
     })
     (λ (over : (r.held ++ r.past ≡ []) × (r.ended ≡ true)).
-    let none = (step.still over.1).0 in
-    absurd (open_ (ap (λ l. r.held ++ r.past ++ l) none ∙ append-nil (r.held ++ r.past) ∙ over.0) (step.still over.1).1))
-    (AreWhole-answers lines at_start r (Some octets) left came answers)
+    let none = (step.no_read_after_end over.1).0 in
+    absurd (open_ (ap (λ l. r.held ++ r.past ++ l) none ∙ append-nil (r.held ++ r.past) ∙ over.0) (step.no_read_after_end over.1).1))
+    (AreWhole-answers lines reader_at_start r (Some octets) left came answers)
 
--- for each way in which a reader ends
+-- `EndsReaderWith` holds for each way in which a reader ends
 pub ends_with : (octets : List ℕ) (lines : List (List ℕ)) (came last : List ℕ) (r r' : Reading) (left left' : Option (List ℕ)) (next : Next)
-    → AnswersLines at_start (Some octets) lines came r left → IsStep r r' left left' next last → IsReading r'
-    → EndsWith next octets (came ++ last) lines
+    → AnswersLines reader_at_start (Some octets) lines came r left → IsReaderStep r r' left left' next last → IsValidReader r'
+    → EndsReaderWith next octets (came ++ last) lines
 ends_with octets lines came last r r' left left' (Line line) answers step valid = tt
 ends_with octets lines came last r r' left left' End answers step valid =
-    lines_of-answers octets lines came last r r' left left' answers step
+    lines_of_octets-answers octets lines came last r r' left left' answers step
 ends_with octets lines came last r r' left left' Long answers step valid =
     let held = step.gives.0 in
     let long = step.gives.1 in (
       r'.held,
       r'.past,
-      AreCut-answers octets lines came last r r' left left' Long answers step valid held
+      DividesReadOctets-answers octets lines came last r r' left left' Long answers step valid held
           (λ none ended. omega (arith, long, ap length held.octets, ap length none, length-append r'.held r'.past)),
       long,
     )
@@ -252,7 +244,7 @@ ends_with octets lines came last r r' left left' TooMany answers step valid =
     let some = step.gives.2 in (
       r'.held,
       r'.past,
-      AreCut-answers octets lines came last r r' left left' TooMany answers step valid held
+      DividesReadOctets-answers octets lines came last r r' left left' TooMany answers step valid held
           (λ none ended. omega (arith, some, ap length held.octets, ap length none, length-append r'.held r'.past)),
       step.gives.1,
       some,
@@ -261,8 +253,8 @@ ends_with octets lines came last r r' left left' Failed answers step valid =
     let held = step.gives.0 in
     let needs = step.gives.1 in (
       r'.held,
-      subst (λ p. AreCut octets (came ++ last) lines r'.held p) needs.past
-          (AreCut-answers octets lines came last r r' left left' Failed answers step valid held
+      subst (λ p. DividesReadOctets octets (came ++ last) lines r'.held p) needs.past
+          (DividesReadOctets-answers octets lines came last r r' left left' Failed answers step valid held
           (λ none ended. let open_ = needs.ended in cc (ended, open_))),
       needs.short,
     )

@@ -1,28 +1,28 @@
--- One call of the source after another.
+-- The sequence of calls that a line reader makes to its source.
 use Rattle.std.proofs.Common.{◌≡◌, ◌∙◌, ◌⊎◌, ◌<◌, ℕ, Bool, true, false, refl, sym, inl, inr, ⊎_elim, Option, Some, None}
 use Rattle.std.proofs.lemmas.Bool.{cases_Bool}
-use Rattle.um_io.specs.Asking.{Gave, none, more, Asked}
+use Rattle.um_io.specs.Asking.{CallsGaveOctets, none, more, CalledSource}
 
 module _ {S : Type 0} (Took : S → Option ℕ → S → Type 0) (first : S) where
-  pub asked-none : Asked Took first first
+  pub asked-none : CalledSource Took first first
   asked-none = record { before = first; gave = none; then = inl refl }
 
-  -- each call so far gave octets, or the last one came to the end
+  -- each call so far gave octets, or the last call reached the end of the source
   abbrev pub AskedSoFar : S → Bool → Type 0
-  AskedSoFar s ended = Gave Took first s ⊎ ((ended ≡ true) × Asked Took first s)
+  AskedSoFar s ended = CallsGaveOctets Took first s ⊎ ((ended ≡ true) × CalledSource Took first s)
 
   pub so_far-none : (ended : Bool) → AskedSoFar first ended
   so_far-none ended = inl none
 
-  pub asked-so_far : (s : S) (ended : Bool) → AskedSoFar s ended → Asked Took first s
+  pub asked-so_far : (s : S) (ended : Bool) → AskedSoFar s ended → CalledSource Took first s
   asked-so_far s ended (inl gave) = record { before = s; gave = gave; then = inl refl }
   asked-so_far s ended (inr asked) = asked.1
 
-  gave-so_far : (s : S) (ended : Bool) → AskedSoFar s ended → ended ≡ false → Gave Took first s
+  gave-so_far : (s : S) (ended : Bool) → AskedSoFar s ended → ended ≡ false → CallsGaveOctets Took first s
   gave-so_far s ended (inl gave) goes_on = gave
   gave-so_far s ended (inr asked) goes_on = (let e : true ≡ false = sym asked.0 ∙ goes_on in cc e)
 
-  pub asked-failed : (s t : S) (ended : Bool) → AskedSoFar s ended → ended ≡ false → Took s None t → Asked Took first t
+  pub asked-failed : (s t : S) (ended : Bool) → AskedSoFar s ended → ended ≡ false → Took s None t → CalledSource Took first t
   asked-failed s t ended so_far goes_on took =
       record { before = s; gave = gave-so_far s ended so_far goes_on; then = inr (None, took) }
 

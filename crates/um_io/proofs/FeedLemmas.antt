@@ -1,20 +1,16 @@
 -- Line feeds in parts of a list.
-use Rattle.std.proofs.Common.{◌≡◌, ℕ, ◌+◌, ◌-◌, ◌<◌, ◌≤◌, List, ◌++◌, length, take, drop, slice_index}
-use Rattle.std.proofs.Common.{slice_range, Option, None, Some, sym, ap, subst, ◌∙◌, arith, eq-eqb, MatchOption, max, le_refl}
-use Rattle.std.proofs.Common.{⊎_elim}
-use Rattle.std.proofs.lemmas.Bool.{eqb-true, cases_lt}
-use Rattle.std.proofs.lemmas.List.Edits.{length-between}
-use Rattle.std.proofs.lemmas.Slice.{between_is}
-use Rattle.std.proofs.lemmas.List.{take-take, drop-take, length-take, length-append, get_or-take, take_all, get_or-append-add, drop-drop}
-use Rattle.std.proofs.lemmas.List.Elements.{All-from_get_or, All-nil, All-append, All-take, All-drop}
-use Rattle.std.proofs.Math.Seq.{take-append-add, take-add}
+use Rattle.std.proofs.Common.{◌≡◌, ℕ, ◌+◌, ◌-◌, ◌<◌, ◌≤◌, List, ◌++◌, length, take, drop, slice_index, slice_range, Option, None, Some, sym}
+use Rattle.std.proofs.{Common.{ap, subst, ◌∙◌, arith, eq-eqb, MatchOption, max, le_refl, ⊎_elim}, lemmas.Bool.{eqb-true, cases_lt}}
+use Rattle.std.proofs.lemmas.List.{Edits.length-between, take-take, drop-take, length-take, length-append, get_or-take, take_all}
+use Rattle.std.proofs.lemmas.List.{get_or-append-add, drop-drop, Elements.{All-from_get_or, All-nil, All-append, All-take, All-drop}}
+use Rattle.std.proofs.{lemmas.Slice.between_is, Math.Seq.{take-append-add, take-add}}
 use Rattle.memchr.specs.Find.{IsFirstByte, is_byte, Nowhere, Passes}
-use Rattle.um_io.specs.Lines.{IsNoFeed, IsLine, IsFirstFeed}
+use Rattle.um_io.specs.Lines.{IsNotLineFeed, IsLine, IsFirstLineFeed}
 
 -- if none of the first n octets is a line feed, they are a line
 pub IsLine-front : (octets : List ℕ) (n : ℕ) → n ≤ length octets → Nowhere (Passes (is_byte 10) octets) 0 n → IsLine (take n octets)
 IsLine-front octets n fits none =
-    All-from_get_or IsNoFeed (take n octets) 0
+    All-from_get_or IsNotLineFeed (take n octets) 0
     (λ k below is.
     let size = length-take n octets in
     let low : k < n = omega arith in
@@ -22,7 +18,7 @@ IsLine-front octets n fits none =
 
 -- what a search for a line feed returns
 pub MatchOption-feed : (octets : List ℕ) (r : Option ℕ) → IsFirstByte (is_byte 10) octets r
-    → MatchOption r (IsLine octets) (IsFirstFeed octets)
+    → MatchOption r (IsLine octets) (IsFirstLineFeed octets)
 MatchOption-feed octets None none = subst IsLine (take_all (length octets) octets (le_refl (length octets)))
     (IsLine-front octets (length octets) (le_refl (length octets)) none)
 MatchOption-feed octets (Some n) found =
@@ -32,17 +28,17 @@ MatchOption-feed octets (Some n) found =
       feed = eqb-true (slice_index octets n) 10 found.1;
     }
 
--- octets without a line feed, put in front, move the first line feed by their number
-pub IsFirstFeed-behind : (front octets : List ℕ) (n : ℕ) → IsLine front → IsFirstFeed octets n
-    → IsFirstFeed (front ++ octets) (length front + n)
-IsFirstFeed-behind front octets n plain first =
+-- if octets without a line feed are put in front, the index of the first line feed grows by their number
+pub IsFirstLineFeed-behind : (front octets : List ℕ) (n : ℕ) → IsLine front → IsFirstLineFeed octets n
+    → IsFirstLineFeed (front ++ octets) (length front + n)
+IsFirstLineFeed-behind front octets n plain first =
     let high = first.within in record {
       within = omega (arith, length-append front octets);
-      plain = subst IsLine (sym (take-append-add front octets n)) (All-append IsNoFeed front (take n octets) plain first.plain);
+      plain = subst IsLine (sym (take-append-add front octets n)) (All-append IsNotLineFeed front (take n octets) plain first.plain);
       feed = get_or-append-add front octets n 0 ∙ first.feed;
     }
 
--- two adjacent parts of a list
+-- two adjacent slices of a list make one slice
 pub slice_range-joined : (octets : List ℕ) (i j k : ℕ) → i ≤ j → j ≤ k
     → slice_range octets i j ++ slice_range octets j k ≡ slice_range octets i k
 slice_range-joined octets i j k first second =
@@ -52,64 +48,64 @@ slice_range-joined octets i j k first second =
     ap (λ l. take (j - i) (drop i octets) ++ take (k - j) l) (sym rest) ∙ sym (take-add (j - i) (k - j) (drop i octets))
     ∙ ap (λ n. take n (drop i octets)) size
 
--- the front of a part of a list
+-- the first n elements of a slice
 pub slice_range-front : (octets : List ℕ) (i k n : ℕ) → n ≤ k - i → take n (slice_range octets i k) ≡ slice_range octets i (i + n)
 slice_range-front octets i k n fits =
     let size : n ≡ i + n - i = omega arith in
     take-take n (k - i) (drop i octets) fits ∙ ap (λ m. take m (drop i octets)) size
 
--- the rest of a part of a list
+-- a slice without its first n elements
 pub slice_range-rest : (octets : List ℕ) (i k n : ℕ) → i + n ≤ k → drop n (slice_range octets i k) ≡ slice_range octets (i + n) k
 slice_range-rest octets i k n fits =
     let size : k - i ≡ n + (k - (i + n)) = omega arith in
     ap (λ m. drop n (take m (drop i octets))) size ∙ drop-take n (k - (i + n)) (drop i octets)
     ∙ ap (λ l. take (k - (i + n)) l) (drop-drop n i octets)
 
--- two adjacent parts without a line feed have none together
-pub IsLine-upto : (octets : List ℕ) (i j k : ℕ) → i ≤ j → j ≤ k → IsLine (slice_range octets i j) → IsLine (slice_range octets j k)
+-- if two adjacent slices have no line feed, neither has the slice that they make
+pub IsLine-join : (octets : List ℕ) (i j k : ℕ) → i ≤ j → j ≤ k → IsLine (slice_range octets i j) → IsLine (slice_range octets j k)
     → IsLine (slice_range octets i k)
-IsLine-upto octets i j k first second before behind =
-    subst IsLine (slice_range-joined octets i j k first second) (All-append IsNoFeed (slice_range octets i j) (slice_range octets j k)
+IsLine-join octets i j k first second before behind =
+    subst IsLine (slice_range-joined octets i j k first second) (All-append IsNotLineFeed (slice_range octets i j) (slice_range octets j k)
     before behind)
 
--- no line feed before index j, and none from there up to the first, n octets on
-pub IsLine-upto_feed : (octets : List ℕ) (i j k n : ℕ) → i ≤ j → j ≤ k → k ≤ length octets → IsLine (slice_range octets i j)
-    → IsFirstFeed (slice_range octets j k) n → IsLine (slice_range octets i (j + n))
-IsLine-upto_feed octets i j k n first second fits before found =
+-- if there is no line feed before index j, and the first one after it is n octets further, there is none before that one
+pub IsLine-join_feed : (octets : List ℕ) (i j k n : ℕ) → i ≤ j → j ≤ k → k ≤ length octets → IsLine (slice_range octets i j)
+    → IsFirstLineFeed (slice_range octets j k) n → IsLine (slice_range octets i (j + n))
+IsLine-join_feed octets i j k n first second fits before found =
     let high = found.within in
     let size = length-between octets j k fits in
-    IsLine-upto octets i j (j + n) first (omega arith) before (subst IsLine (slice_range-front octets j k n (omega arith)) found.plain)
+    IsLine-join octets i j (j + n) first (omega arith) before (subst IsLine (slice_range-front octets j k n (omega arith)) found.plain)
 
 -- the index of the first line feed, counted from an earlier start
-pub IsFirstFeed-upto : (octets : List ℕ) (i j k n : ℕ) → i ≤ j → j ≤ k → k ≤ length octets → IsLine (slice_range octets i j)
-    → IsFirstFeed (slice_range octets j k) n → IsFirstFeed (slice_range octets i k) (j + n - i)
-IsFirstFeed-upto octets i j k n first second fits before found =
+pub IsFirstLineFeed-upto : (octets : List ℕ) (i j k n : ℕ) → i ≤ j → j ≤ k → k ≤ length octets → IsLine (slice_range octets i j)
+    → IsFirstLineFeed (slice_range octets j k) n → IsFirstLineFeed (slice_range octets i k) (j + n - i)
+IsFirstLineFeed-upto octets i j k n first second fits before found =
     let size = length-between octets i j (omega arith) in
     let at : length (slice_range octets i j) + n ≡ j + n - i = omega arith in
-    let joined = IsFirstFeed-behind (slice_range octets i j) (slice_range octets j k) n before found in
-    subst (λ m. IsFirstFeed (slice_range octets i k) m) at (subst (λ l. IsFirstFeed l (length (slice_range octets i j) + n))
+    let joined = IsFirstLineFeed-behind (slice_range octets i j) (slice_range octets j k) n before found in
+    subst (λ m. IsFirstLineFeed (slice_range octets i k) m) at (subst (λ l. IsFirstLineFeed l (length (slice_range octets i j) + n))
     (slice_range-joined octets i j k first second) joined)
 
--- after n octets are dropped, the scanned part has no line feed still
+-- after n octets are dropped, what remains of the scanned octets still has no line feed
 pub IsLine-skipped : (octets : List ℕ) (i j n : ℕ) → IsLine (slice_range octets i j) → IsLine (slice_range octets (i + n) (max j (i + n)))
 IsLine-skipped octets i j n plain =
     ⊎_elim
     (λ (less : j < i + n).
     let none : max j (i + n) - (i + n) ≡ 0 = omega arith in
-    subst (λ m. IsLine (take m (drop (i + n) octets))) (sym none) (All-nil IsNoFeed))
+    subst (λ m. IsLine (take m (drop (i + n) octets))) (sym none) (All-nil IsNotLineFeed))
     (λ (more : i + n ≤ j).
     let same : j ≡ max j (i + n) = omega arith in
     subst (λ m. IsLine (slice_range octets (i + n) m)) same (subst IsLine (slice_range-rest octets i j n more)
-    (All-drop IsNoFeed n (slice_range octets i j) plain)))
+    (All-drop IsNotLineFeed n (slice_range octets i j) plain)))
     (cases_lt j (i + n))
 
--- a part of an unchanged prefix is unchanged
+-- a slice of an unchanged prefix is unchanged
 pub slice_range-kept : (old new : List ℕ) (i j n : ℕ) → j ≤ n → take n new ≡ take n old → slice_range new i j ≡ slice_range old i j
 slice_range-kept old new i j n within same =
     let front : take j new ≡ take j old = sym (take-take j n new within) ∙ ap (take j) same ∙ take-take j n old within in
     between_is new i j ∙ ap (drop i) front ∙ sym (between_is old i j)
 
--- new octets after the unchanged ones that are held
+-- the octets held after a read: the unchanged octets held before, then the new octets
 pub slice_range-came : (old new : List ℕ) (i j n : ℕ) → i ≤ j → take j new ≡ take j old
     → slice_range new i (j + n) ≡ slice_range old i j ++ slice_range new j (j + n)
 slice_range-came old new i j n ordered same =
@@ -117,16 +113,17 @@ slice_range-came old new i j n ordered same =
     (slice_range-kept old new i j j (le_refl j) same)
 
 -- if the first line feed lies after a prefix, the prefix has none
-pub IsLine-before_feed : (octets : List ℕ) (m n : ℕ) → IsFirstFeed octets n → length (take m octets) ≤ n → IsLine (take m octets)
+pub IsLine-before_feed : (octets : List ℕ) (m n : ℕ) → IsFirstLineFeed octets n → length (take m octets) ≤ n → IsLine (take m octets)
 IsLine-before_feed octets m n found cut =
     let high = found.within in
     let size = length-take m octets in
     let low : m ≤ n = omega arith in
-    subst IsLine (take-take m n octets low) (All-take IsNoFeed m (take n octets) found.plain)
+    subst IsLine (take-take m n octets low) (All-take IsNotLineFeed m (take n octets) found.plain)
 
 -- the first line feed of a prefix that contains it
-pub IsFirstFeed-front : (octets : List ℕ) (m n : ℕ) → IsFirstFeed octets n → n < length (take m octets) → IsFirstFeed (take m octets) n
-IsFirstFeed-front octets m n found cut =
+pub IsFirstLineFeed-front : (octets : List ℕ) (m n : ℕ) → IsFirstLineFeed octets n → n < length (take m octets) →
+    IsFirstLineFeed (take m octets) n
+IsFirstLineFeed-front octets m n found cut =
     let size = length-take m octets in
     let low : n < m = omega arith in record {
       within = cut;

@@ -1,25 +1,21 @@
--- What a reader of lines holds, and how readings change it.
-use Rattle.std.proofs.Common.{◌≡◌, ◌≤◌, ◌<◌, ◌+◌, ◌-◌, ℕ, Bool, true, false, cond, List, [], ◌++◌, length}
-use Rattle.std.proofs.Common.{take, drop, Option, ap, arith, ⊎_elim, ◌⊎◌}
-use Rattle.std.proofs.lemmas.List.{take-append-drop, length-append, length-take}
-use Rattle.std.proofs.lemmas.Bool.{cases_Bool}
-use Rattle.um_io.specs.declared.buffer.Buffer.{Buffer}
-use Rattle.um_io.specs.Buffer.{octets_of}
-use Rattle.um_io.specs.Reading.{Reading, IsReading, NeedsMore, reader_of, input_limit, line_limit, held_limit}
-use Rattle.um_io.specs.Found.{HasCome}
+-- What a line reader holds, and how reads from the source change it.
+use Rattle.std.proofs.Common.{◌≡◌, ◌≤◌, ◌<◌, ◌+◌, ◌-◌, ℕ, Bool, true, false, cond, List, [], ◌++◌, length, take, drop, Option, ap, arith}
+use Rattle.std.proofs.{Common.{⊎_elim, ◌⊎◌}, lemmas.{List.{take-append-drop, length-append, length-take}, Bool.cases_Bool}}
+use Rattle.um_io.specs.{declared.buffer.Buffer.Buffer, Buffer.octets_of, Reading.{Reading, IsValidReader, NeedsMoreOctets, reader_of}}
+use Rattle.um_io.specs.{Reading.{input_limit, line_limit, held_limit}, Found.HasReadOctets}
 
--- the octets held are those within the limit and those past it
+-- the octets held consist of those within the input limit and those past it
 pub length-cut : (octets : List ℕ) (m : ℕ) → length (take m octets) + length (drop m octets) ≡ length octets
 length-cut octets m = omega (arith, length-append (take m octets) (drop m octets), ap length (take-append-drop m octets))
 
--- a buffer holds at most a longest line and its line feed
+-- a buffer holds at most a line of greatest length and its line feed
 pub length-octets_of : (b : Buffer) → length (octets_of b) ≤ held_limit
 length-octets_of b = omega (arith, length-take (b.end - b.start) (drop b.start b.octets.items), b.within)
 
 -- a buffer and counts within their limits form a valid reader
-pub IsReading-from : (b : Buffer) (answered number : ℕ) (ended over : Bool) → answered ≤ input_limit → number ≤ answered
-    → IsReading (reader_of (octets_of b) answered number ended over)
-IsReading-from b answered number ended over limit numbered =
+pub IsValidReader-from : (b : Buffer) (answered number : ℕ) (ended over : Bool) → answered ≤ input_limit → number ≤ answered
+    → IsValidReader (reader_of (octets_of b) answered number ended over)
+IsValidReader-from b answered number ended over limit numbered =
     let octets = octets_of b in
     let m = input_limit - answered in
     let whole = length-cut octets m in
@@ -31,18 +27,18 @@ IsReading-from b answered number ended over limit numbered =
       number = numbered;
     }
 
--- octets were read, and only if they were needed
+-- the octets `came` were read, and only if they were needed
 pub record IsFinding (r s : Reading) (left left' : Option (List ℕ)) (came : List ℕ) : Type 0 where
-  pub has : HasCome r s left left' came
-  pub needed : NeedsMore r ⊎ ((s ≡ r) × (came ≡ []))
+  pub has : HasReadOctets r s left left' came
+  pub needed : NeedsMoreOctets r ⊎ ((s ≡ r) × (came ≡ []))
 
--- the free capacity, and one more while the source has not ended
+-- a bound for the number of reads that can still follow: the free capacity, plus one while the source has not ended
 abbrev pub turns_left : Reading → ℕ
 turns_left r = (line_limit + 1 - (length r.held + length r.past)) + cond r.ended 0 1
 
--- a successful reading leaves fewer turns
-pub turns_left-read : (r s : Reading) (left left' : Option (List ℕ)) (came : List ℕ) → NeedsMore r → HasCome r s left left' came
-    → (s.ended ≡ false → 0 < length came) → IsReading s → turns_left s < turns_left r
+-- after a successful read, fewer reads can follow
+pub turns_left-read : (r s : Reading) (left left' : Option (List ℕ)) (came : List ℕ) → NeedsMoreOctets r → HasReadOctets r s left left' came
+    → (s.ended ≡ false → 0 < length came) → IsValidReader s → turns_left s < turns_left r
 turns_left-read r s left left' came more has some valid =
     let all : length s.held + length s.past ≡ length r.held + length r.past + length came =
     omega (arith, length-append s.held s.past, length-append (r.held ++ r.past) came, length-append r.held r.past, ap length has.octets) in

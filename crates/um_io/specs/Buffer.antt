@@ -1,4 +1,4 @@
--- The octets that a reader of lines holds (internal).
+-- The octets that the buffer of a line reader holds (used inside this crate).
 use Rattle.std.specs.Prelude.{ℕ, List, slice_range}
 use Rattle.um_io.specs.declared.buffer.Buffer.{Buffer}
 

@@ -1,5 +1,5 @@
--- The state of a reader of lines (this project's own rule). An input has at most 67,108,864 octets,
--- and a line at most 4,096 before its line feed.
+-- The state of a line reader (this project's own rule). An input has at most 67,108,864 octets, and a line has at most 4,096 before its
+-- line feed.
 use Rattle.std.specs.Prelude.{ℕ, ◌≡◌, ◌≤◌, ◌<◌, ◌+◌, ◌-◌, Bool, true, false, List, [], length, take, drop}
 use Rattle.std.specs.Prelude.{◌⊎◌}
 use Rattle.um_io.specs.Lines.{IsLine}
@@ -16,9 +16,8 @@ line_limit = 4096
 abbrev pub held_limit : ℕ
 held_limit = line_limit + 1
 
--- the state of a reader: octets read but not yet answered, within the input limit (`held`) and past
--- it (`past`), the octets answered, the lines answered, whether the source has ended, and whether
--- no further line will be answered (`over`)
+-- the state of a line reader: the octets read but not yet answered, within the input limit (`held`) and past it (`past`); how many octets
+-- (`answered`) and lines (`number`) were answered; whether the source has ended; and whether no further line will be answered (`over`)
 pub record Reading : Type 0 where
   pub held : List ℕ
   pub past : List ℕ
@@ -27,33 +26,33 @@ pub record Reading : Type 0 where
   pub ended : Bool
   pub over : Bool
 
--- nothing was read
-abbrev pub at_start : Reading
-at_start = record { held = []; past = []; answered = 0; number = 0; ended = false; over = false }
+-- a reader that has read nothing
+abbrev pub reader_at_start : Reading
+reader_at_start = record { held = []; past = []; answered = 0; number = 0; ended = false; over = false }
 
--- what holds for every reader
-pub record IsReading (r : Reading) : Type 0 where
+-- what always holds for the state of a reader
+pub record IsValidReader (r : Reading) : Type 0 where
   pub limit : r.answered + length r.held ≤ input_limit
   pub past : 0 < length r.past → r.answered + length r.held ≡ input_limit
   pub room : length r.held + length r.past ≤ held_limit
   pub number : r.number ≤ r.answered
 
 -- the octets held give no answer yet
-pub record NeedsMore (r : Reading) : Type 0 where
+pub record NeedsMoreOctets (r : Reading) : Type 0 where
   pub plain : IsLine r.held
   pub short : length r.held ≤ line_limit
   pub past : r.past ≡ []
   pub ended : r.ended ≡ false
 
--- the next answer needs no reading
-abbrev pub IsReady : Reading → Type 0
-IsReady r = (r.over ≡ true) ⊎ (¬ NeedsMore r)
+-- the next answer needs no read from the source
+abbrev pub IsAnswerReady : Reading → Type 0
+IsAnswerReady r = (r.over ≡ true) ⊎ (¬ NeedsMoreOctets r)
 
--- the next answer needs a reading
+-- the next answer needs a read from the source
 abbrev pub NeedsReading : Reading → Type 0
-NeedsReading r = (r.over ≡ false) × NeedsMore r
+NeedsReading r = (r.over ≡ false) × NeedsMoreOctets r
 
--- a reader that holds these octets, divided at the input limit
+-- a reader that holds these octets, divided into those within the input limit and those past it
 abbrev pub reader_of : List ℕ → ℕ → ℕ → Bool → Bool → Reading
 reader_of octets answered number ended over =
     let within = input_limit - answered in

@@ -1,15 +1,15 @@
-//! A source over any reader and a sink over any writer.
+//! Makes any `Read` a source, and any `Write` a sink.
 ghost use Rattle.std.specs.Prelude.{◌≡◌, ◌≤◌, OnOk, OnErr};
 ghost use Rattle.std.specs.Io.{ReadsAtMost, WritesAtMost};
 ghost use Rattle.std.specs.Io.KnownBytes.{ReadConsumes, WriteAppends};
-ghost use Rattle.um_io.specs.Streams.{next_count, Rose, TakesSome};
+ghost use Rattle.um_io.specs.Streams.{next_failure_count, FailureCountRose, TakesAtLeastOneOctet};
 
 use crate::streams::{Failed, Sink, Source, fault};
 use std::io::{Read, Write};
 
-/// A source over a reader; each error of the reader is a fault.
+/// A source that reads from a `Read`; each error of the reader is a fault.
 ///
-/// It knows what is left if the reader does.
+/// The source knows which octets are left if the reader knows it.
 #[derive(Debug, Drop)]
 pub struct ReadSource<R> {
     reader: R,
@@ -36,11 +36,11 @@ impl<R: Read> Source for ReadSource<R> {
             ReadConsumes (left self.old) (left self.new) result into.new }
         ensures later { let count = ⟦<ReadSource<R> as Source>⟧.faults in count self.old ≤ count self.new }
         ensures cause { let count = ⟦<ReadSource<R> as Source>⟧.faults in
-            OnErr result (Rose (count self.old) (count self.new)) }
+            OnErr result (FailureCountRose (count self.old) (count self.new)) }
         ensures unchanged { let count = ⟦<ReadSource<R> as Source>⟧.faults in
             OnOk result (count self.new ≡ count self.old) }
         ensures counted { let count = ⟦<ReadSource<R> as Source>⟧.faults in
-            OnErr result (count self.new ≡ next_count (count self.old)) }
+            OnErr result (count self.new ≡ next_failure_count (count self.old)) }
     {
         match self.reader.read(into) {
             Ok(count) => Ok(count),
@@ -49,10 +49,10 @@ impl<R: Read> Source for ReadSource<R> {
     }
 }
 
-/// A sink over a writer. An error of the writer is a fault, and so is a writer that takes nothing
-/// although it was given some octets.
+/// A sink that writes to a `Write`. An error of the writer is a fault; so is a call in which the writer takes no octet although it was
+/// given some.
 ///
-/// It knows what was taken if the writer does.
+/// The sink knows which octets were taken if the writer knows it.
 #[derive(Debug, Drop)]
 pub struct WriteSink<W> {
     writer: W,
@@ -75,16 +75,16 @@ impl<W: Write> Sink for WriteSink<W> {
 
     fn put(&mut self, piece: &[u8]) -> Result<usize, Failed>
         ensures bound { WritesAtMost result piece.now }
-        ensures some { TakesSome result piece.now }
+        ensures some { TakesAtLeastOneOctet result piece.now }
         ensures octets { let taken = ⟦<WriteSink<W> as Sink>⟧.taken in
             WriteAppends (taken self.old) (taken self.new) result piece.now }
         ensures later { let count = ⟦<WriteSink<W> as Sink>⟧.faults in count self.old ≤ count self.new }
         ensures cause { let count = ⟦<WriteSink<W> as Sink>⟧.faults in
-            OnErr result (Rose (count self.old) (count self.new)) }
+            OnErr result (FailureCountRose (count self.old) (count self.new)) }
         ensures unchanged { let count = ⟦<WriteSink<W> as Sink>⟧.faults in
             OnOk result (count self.new ≡ count self.old) }
         ensures counted { let count = ⟦<WriteSink<W> as Sink>⟧.faults in
-            OnErr result (count self.new ≡ next_count (count self.old)) }
+            OnErr result (count self.new ≡ next_failure_count (count self.old)) }
     {
         match self.writer.write(piece) {
             Ok(count) if count > 0 || piece.is_empty() => Ok(count),
@@ -101,9 +101,9 @@ mod tests {
 
     /// Reads two octets, then fails, then is at its end.
     #[derive(Drop)]
-    struct Breaking(u8);
+    struct FailingReader(u8);
 
-    impl Read for Breaking {
+    impl Read for FailingReader {
         fn read(&mut self, buf: &mut [u8]) -> io::Result<usize> {
             self.0 = self.0.saturating_add(1);
             if self.0 == 2 {
@@ -120,7 +120,7 @@ mod tests {
 
     #[test]
     fn an_error_of_the_reader_is_a_fault(rt: HostRuntime) {
-        let mut source = ReadSource::new(Breaking(0));
+        let mut source = ReadSource::new(FailingReader(0));
         let mut room = [0u8; 4];
         assert_eq!(rt; source.take(&mut room), Ok(2));
         assert_eq!(rt; room, [7, 8, 0, 0]);
@@ -131,9 +131,9 @@ mod tests {
 
     /// Takes one octet, then nothing, then fails.
     #[derive(Drop)]
-    struct Filling(u8);
+    struct FailingWriter(u8);
 
-    impl Write for Filling {
+    impl Write for FailingWriter {
         fn write(&mut self, buf: &[u8]) -> io::Result<usize> {
             self.0 = self.0.saturating_add(1);
             match self.0 {
@@ -150,7 +150,7 @@ mod tests {
 
     #[test]
     fn a_writer_that_takes_nothing_or_fails_is_a_fault(rt: HostRuntime) {
-        let mut sink = WriteSink::new(Filling(0));
+        let mut sink = WriteSink::new(FailingWriter(0));
         assert_eq!(rt; sink.put(b"ab"), Ok(1));
         assert_eq!(rt; sink.put(b"b"), Err(Failed));
         assert_eq!(rt; sink.put(b"b"), Err(Failed));

@@ -1,10 +1,10 @@
-//! The octets that a reader of lines holds.
+//! The buffer of a line reader.
 ghost use Rattle.std.specs.Prelude.{◌≡◌, ◌≤◌, ◌<◌, ◌+◌, ◌-◌, ℕ, List, [], ◌++◌, length, take, drop};
 ghost use Rattle.std.specs.Prelude.{slice_range, vec_len, MatchOption, IfOk, OnOk, OnErr};
 ghost use Rattle.std.specs.Io.KnownBytes.{Consumes, Keeps, IsAtEnd};
 ghost use Rattle.std.specs.Result.{result_ok};
-ghost use Rattle.um_io.specs.Lines.{IsLine, IsFirstFeed};
-ghost use Rattle.um_io.specs.Streams.{Rose};
+ghost use Rattle.um_io.specs.Lines.{IsLine, IsFirstLineFeed};
+ghost use Rattle.um_io.specs.Streams.{FailureCountRose};
 ghost use Rattle.um_io.specs.Reading.{held_limit};
 
 use crate::streams::{Failed, NoMemory, Source};
@@ -14,10 +14,10 @@ use std::alloc::Global;
 /// The maximum number of octets in a line, without its line feed.
 pub(crate) const LINE_LIMIT: usize = 4096;
 
-/// The capacity in octets: a longest line and its line feed.
+/// The capacity of the buffer in octets: a line of greatest length and its line feed.
 const ROOM: usize = LINE_LIMIT + 1;
 
-/// Holds the octets from `start` up to `end`; those up to `scanned` have no line feed.
+/// Holds the octets from index `start` up to `end`; those before index `scanned` have no line feed.
 #[derive(Debug, Drop)]
 pub(crate) struct Buffer {
     octets: Vec<u8>,
@@ -37,7 +37,7 @@ impl Buffer {
     pub(crate) fn new(alloc: Global) -> Result<Self, NoMemory>
         ensures { IfOk result (λ b. octets_of b ≡ []) }
     {
-        let octets = vec![in alloc; 0; ROOM].map_err(|_| NoMemory)?;
+        let octets = vec![in alloc; 0; ROOM]?;
         Ok(Buffer {
             octets,
             start: 0,
@@ -46,7 +46,7 @@ impl Buffer {
         })
     }
 
-    /// How many octets are held.
+    /// The number of octets held.
     pub(crate) fn len(&self) -> usize
         ensures held { result ≡ length (octets_of self.now) }
         ensures space { result ≤ held_limit }
@@ -54,13 +54,12 @@ impl Buffer {
         self.end - self.start
     }
 
-    /// The index of the first line feed. Scans each octet once, except a line feed that was found
-    /// before.
-    pub(crate) fn first_feed(&mut self) -> Option<usize>
+    /// The index of the first line feed in the octets held. Scans each octet only once, except a line feed found by an earlier call.
+    pub(crate) fn first_line_feed(&mut self) -> Option<usize>
         ensures unchanged { octets_of self.new ≡ octets_of self.old }
-        ensures found { MatchOption result (IsLine (octets_of self.old)) (IsFirstFeed (octets_of self.old)) }
+        ensures found { MatchOption result (IsLine (octets_of self.old)) (IsFirstLineFeed (octets_of self.old)) }
     {
-        match feed_in(&self.octets[self.scanned..self.end]) {
+        match find_line_feed(&self.octets[self.scanned..self.end]) {
             Some(at) => {
                 self.scanned += at;
                 Some(self.scanned - self.start)
@@ -72,7 +71,7 @@ impl Buffer {
         }
     }
 
-    /// Asks the source once, for as many octets as fit, and returns how many came.
+    /// Calls the source once, for as many octets as fit, and returns how many it gave.
     pub(crate) fn read<S: Source>(&mut self, source: &mut S) -> Result<usize, Failed>
         requires space { length (octets_of self.old) < held_limit }
         ensures came { IfOk result (λ n. (came : List ℕ) × (octets_of self.new ≡ octets_of self.old ++ came) × (length came ≡ n)
@@ -82,10 +81,10 @@ impl Buffer {
         ensures failed { OnErr result ((octets_of self.new ≡ octets_of self.old) × Keeps (S.left source.old) (S.left source.new)) }
         ensures counted { OnOk result (S.faults source.new ≡ S.faults source.old) }
         ensures later { S.faults source.old ≤ S.faults source.new }
-        ensures cause { OnErr result (Rose (S.faults source.old) (S.faults source.new)) }
+        ensures cause { OnErr result (FailureCountRose (S.faults source.old) (S.faults source.new)) }
     {
         self.move_to_front();
-        let count = fill_from(source, &mut self.octets, self.end)?;
+        let count = read_into(source, &mut self.octets, self.end)?;
         self.end += count;
         Ok(count)
     }
@@ -102,7 +101,7 @@ impl Buffer {
         }
     }
 
-    /// Drops the first `count` octets, and returns their index in the buffer.
+    /// Drops the first `count` of the octets held, and returns their index in the buffer, where they can still be read.
     pub(crate) fn skip(&mut self, count: usize) -> usize
         requires { count ≤ length (octets_of self.old) }
         ensures rest { octets_of self.new ≡ drop count (octets_of self.old) }
@@ -124,8 +123,8 @@ impl Buffer {
     }
 }
 
-/// Asks the source once, writing from `end` on, and returns how many octets came.
-fn fill_from<S: Source>(source: &mut S, octets: &mut Vec<u8>, end: usize) -> Result<usize, Failed>
+/// Calls the source once, lets it write to `octets` from index `end` on, and returns how many octets it gave.
+fn read_into<S: Source>(source: &mut S, octets: &mut Vec<u8>, end: usize) -> Result<usize, Failed>
     requires { end < vec_len octets.old }
     ensures len { vec_len octets.new ≡ vec_len octets.old }
     ensures front { take end octets.new.items ≡ take end octets.old.items }
@@ -136,14 +135,14 @@ fn fill_from<S: Source>(source: &mut S, octets: &mut Vec<u8>, end: usize) -> Res
     ensures failed { OnErr result (Keeps (S.left source.old) (S.left source.new)) }
     ensures counted { OnOk result (S.faults source.new ≡ S.faults source.old) }
     ensures later { S.faults source.old ≤ S.faults source.new }
-    ensures cause { OnErr result (Rose (S.faults source.old) (S.faults source.new)) }
+    ensures cause { OnErr result (FailureCountRose (S.faults source.old) (S.faults source.new)) }
 {
     source.take(&mut octets[end..])
 }
 
 /// The index of the first line feed. A line feed at the front needs no search.
-fn feed_in(octets: &[u8]) -> Option<usize>
-    ensures { MatchOption result (IsLine octets.now) (IsFirstFeed octets.now) }
+fn find_line_feed(octets: &[u8]) -> Option<usize>
+    ensures { MatchOption result (IsLine octets.now) (IsFirstLineFeed octets.now) }
 {
     match octets {
         [b'\n', ..] => Some(0),

@@ -1,21 +1,22 @@
-//! Laws of dividing octets into lines, and of all answers of a reader of lines.
+//! Laws about the division of octets into lines, and about all answers of a line reader. A law is a function with an empty body whose
+//! contract states a theorem.
 ghost use Rattle.std.specs.Prelude.{◌≡◌, ℕ, List, Option, Some, ◌++◌};
-ghost use Rattle.um_io.specs.Lines.{IsDivided, lines_of};
-ghost use Rattle.um_io.specs.Reading.{Reading, IsReading, at_start};
-ghost use Rattle.um_io.specs.Next.{IsStep};
-ghost use Rattle.um_io.specs.Answers.{AnswersLines, EndsWith};
+ghost use Rattle.um_io.specs.Lines.{IsDivided, lines_of_octets};
+ghost use Rattle.um_io.specs.Reading.{Reading, IsValidReader, reader_at_start};
+ghost use Rattle.um_io.specs.Next.{IsReaderStep};
+ghost use Rattle.um_io.specs.Answers.{AnswersLines, EndsReaderWith};
 ghost use Rattle.um_io.specs.declared.lines.Next.{Next};
 
-/// Each list of octets is divided into lines in exactly one way.
+/// Law: each list of octets is divided into lines in exactly one way.
 pub fn law_lines()
-    ensures divided { (octets : List ℕ) → IsDivided octets (lines_of octets) }
-    ensures only { (octets : List ℕ) (lines : List (List ℕ)) → IsDivided octets lines → lines ≡ lines_of octets }
+    ensures divided { (octets : List ℕ) → IsDivided octets (lines_of_octets octets) }
+    ensures only { (octets : List ℕ) (lines : List (List ℕ)) → IsDivided octets lines → lines ≡ lines_of_octets octets }
 {}
 
-/// However a reader ends, the lines answered before are the first lines of its source: all of them
-/// at `End`, otherwise those before the line that is too long or incomplete.
+/// Law: however a line reader ends, the lines that it answered before are the first lines of its source: all lines if it ends with
+/// `End`, otherwise those before the line that is too long or incomplete.
 pub fn law_answers()
     ensures { (octets : List ℕ) (lines : List (List ℕ)) (came last : List ℕ) (r r' : Reading) (left left' : Option (List ℕ)) (next : Next) →
-        AnswersLines at_start (Some octets) lines came r left → IsStep r r' left left' next last → IsReading r' →
-        EndsWith next octets (came ++ last) lines }
+        AnswersLines reader_at_start (Some octets) lines came r left → IsReaderStep r r' left left' next last → IsValidReader r' →
+        EndsReaderWith next octets (came ++ last) lines }
 {}

@@ -1,4 +1,4 @@
-//! Input and output of the commands: sources and sinks of octets, and a reader of lines.
+//! Input and output of the commands: sources and sinks of octets, and a line reader.
 #![tactic(auto)]
 
 mod adapters;

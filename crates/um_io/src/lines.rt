@@ -1,10 +1,10 @@
-//! A reader of the lines of an input, over one buffer.
+//! A line reader: divides an input into lines, with one buffer of fixed size.
 ghost use Rattle.std.specs.Prelude.{◌≡◌, ◌≤◌, ◌<◌, ◌+◌, ◌-◌, ◌↔◌, ℕ, List, Bool, true, false, None, []};
 ghost use Rattle.std.specs.Prelude.{◌++◌, length, MatchBool, MatchOption, IfOk, IfSome, OnOk, OnErr, IsTrue, ◌⊎◌};
 ghost use Rattle.std.specs.Borrow.{sem};
-ghost use Rattle.um_io.specs.Asking.{Asked, AskedOnce};
-ghost use Rattle.um_io.specs.Streams.{Rose};
-ghost use Rattle.um_io.specs.Found.{Shows, LacksAnswer};
+ghost use Rattle.um_io.specs.Asking.{CalledSource, CalledSourceOnce};
+ghost use Rattle.um_io.specs.Streams.{FailureCountRose};
+ghost use Rattle.um_io.specs.Found.{IsFoundWithoutLineFeed, LacksAnswer};
 
 use crate::buffer::{Buffer, LINE_LIMIT};
 use crate::streams::{Failed, NoMemory, Source};
@@ -14,7 +14,7 @@ use std::marker::Model;
 /// The maximum number of octets in an input.
 const INPUT_LIMIT: u64 = 67_108_864;
 
-/// What a reader of lines answers.
+/// The answer of a line reader.
 #[derive(Clone, Copy, Debug, PartialEq, Eq)]
 pub enum Next<'a> {
     /// The next line, without its line feed.
@@ -29,17 +29,17 @@ pub enum Next<'a> {
     Failed,
 }
 
-/// What the octets held show.
+/// What a line reader finds in the octets that it holds.
 #[derive(Clone, Copy, Debug, PartialEq, Eq)]
 enum Found {
-    /// A line, and its number of octets with its line feed, if it has one.
+    /// A line: its length, and its length with its line feed, if it has one.
     Line { length: usize, whole: usize },
     /// The end of the input.
     Nothing,
     /// More octets than a line may have.
-    Above,
-    /// An octet past the limit of the input.
-    Past,
+    LineTooLong,
+    /// An octet past the input limit.
+    PastInputLimit,
 }
 
 /// Reads the lines of an input.
@@ -65,14 +65,14 @@ impl Model for Lines {
 }
 
 impl Lines {
-    ghost use Rattle.um_io.specs.Lines.{IsLine, IsFirstFeed};
-    ghost use Rattle.um_io.specs.Reading.{at_start, IsReading, NeedsMore, IsReady, NeedsReading, held_limit};
-    ghost use Rattle.um_io.specs.Found.{Looks, HasRead, Finds};
-    ghost use Rattle.um_io.specs.Next.{EndsNext, FailedOnly};
+    ghost use Rattle.um_io.specs.Lines.{IsLine, IsFirstLineFeed};
+    ghost use Rattle.um_io.specs.Reading.{reader_at_start, IsValidReader, NeedsMoreOctets, IsAnswerReady, NeedsReading, held_limit};
+    ghost use Rattle.um_io.specs.Found.{IsFoundInHeldOctets, IsReadResult, IsFindResult};
+    ghost use Rattle.um_io.specs.Next.{EndsLineBorrow, CountsFailure};
 
     /// A reader that has read nothing. Allocates all its memory.
     pub fn new(alloc: Global) -> Result<Lines, NoMemory>
-        ensures { IfOk result (λ lines. lines ≡ at_start) }
+        ensures { IfOk result (λ lines. lines ≡ reader_at_start) }
     {
         Ok(Lines {
             buffer: Buffer::new(alloc)?,
@@ -90,15 +90,15 @@ impl Lines {
         self.number
     }
 
-    /// Whether the octets held give the next answer; then `next` reads nothing.
+    /// Whether the octets held already give the next answer, so that `next` reads nothing.
     pub fn is_ready(&mut self) -> bool
         ensures unchanged { self.new ≡ self.old }
-        ensures ready { MatchBool result (IsReady self.old) (NeedsReading self.old) }
+        ensures ready { MatchBool result (IsAnswerReady self.old) (NeedsReading self.old) }
     {
-        self.over || self.look().is_some()
+        self.over || self.find_in_held_octets().is_some()
     }
 
-    /// How many of the octets held are within the limit.
+    /// How many of the octets held are within the input limit.
     fn within(&self) -> usize
         ensures within { result ≡ length self.now.held }
         ensures space { result ≤ held_limit }
@@ -107,62 +107,62 @@ impl Lines {
         left.min(self.buffer.len() as u64) as usize
     }
 
-    /// The index of the first line feed within the limit.
-    fn first_feed(&mut self) -> Option<usize>
+    /// The index of the first line feed within the input limit.
+    fn first_line_feed(&mut self) -> Option<usize>
         ensures unchanged { self.new ≡ self.old }
-        ensures found { MatchOption result (IsLine self.old.held) (IsFirstFeed self.old.held) }
+        ensures found { MatchOption result (IsLine self.old.held) (IsFirstLineFeed self.old.held) }
         ensures space { IfSome result (λ at. at < held_limit) }
     {
         let within = self.within();
-        match self.buffer.first_feed() {
+        match self.buffer.first_line_feed() {
             Some(at) if at < within => Some(at),
             _ => None,
         }
     }
 
-    /// What the octets held show, or `None` if they give no answer yet.
-    fn look(&mut self) -> Option<Found>
+    /// What the reader finds in the octets that it holds, or `None` if they give no answer yet.
+    fn find_in_held_octets(&mut self) -> Option<Found>
         ensures unchanged { self.new ≡ self.old }
-        ensures found { MatchOption result (NeedsMore self.old) (Looks self.old) }
+        ensures found { MatchOption result (NeedsMoreOctets self.old) (IsFoundInHeldOctets self.old) }
     {
-        if let Some(at) = self.first_feed() {
+        if let Some(at) = self.first_line_feed() {
             return Some(Found::Line {
                 length: at,
                 whole: at + 1,
             });
         }
         let within = self.within();
-        without_feed(within, self.buffer.len() - within, self.ended)
+        find_without_line_feed(within, self.buffer.len() - within, self.ended)
     }
 
-    /// Asks the source once.
+    /// Calls the source once.
     #[cold]
     #[inline(never)]
     fn read<S: Source>(&mut self, source: &mut S) -> Result<(), Failed>
-        requires { NeedsMore self.old }
-        ensures read { HasRead self.old self.new (S.left source.old) (S.left source.new) result }
-        ensures asked { AskedOnce S.took source.old source.new self.new.ended result }
-        ensures valid { IsReading self.new }
+        requires { NeedsMoreOctets self.old }
+        ensures read { IsReadResult self.old self.new (S.left source.old) (S.left source.new) result }
+        ensures asked { CalledSourceOnce S.took source.old source.new self.new.ended result }
+        ensures valid { IsValidReader self.new }
         ensures counted { OnOk result (S.faults source.new ≡ S.faults source.old) }
         ensures later { S.faults source.old ≤ S.faults source.new }
-        ensures cause { OnErr result (Rose (S.faults source.old) (S.faults source.new)) }
+        ensures cause { OnErr result (FailureCountRose (S.faults source.old) (S.faults source.new)) }
     {
         let count = self.buffer.read(source)?;
         self.ended = count == 0;
         Ok(())
     }
 
-    /// Asks the source until the octets held give an answer.
+    /// Calls the source until the octets held give an answer.
     fn find<S: Source>(&mut self, source: &mut S) -> Result<Found, Failed>
-        ensures found { Finds self.old self.new (S.left source.old) (S.left source.new) result }
-        ensures unasked { NeedsMore self.old ⊎ (source.new ≡ source.old) }
-        ensures asked { Asked S.took source.old source.new }
+        ensures found { IsFindResult self.old self.new (S.left source.old) (S.left source.new) result }
+        ensures unasked { NeedsMoreOctets self.old ⊎ (source.new ≡ source.old) }
+        ensures asked { CalledSource S.took source.old source.new }
         ensures counted { OnOk result (S.faults source.new ≡ S.faults source.old) }
         ensures later { S.faults source.old ≤ S.faults source.new }
-        ensures cause { OnErr result (Rose (S.faults source.old) (S.faults source.new)) }
+        ensures cause { OnErr result (FailureCountRose (S.faults source.old) (S.faults source.new)) }
     {
         loop {
-            if let Some(found) = self.look() {
+            if let Some(found) = self.find_in_held_octets() {
                 return Ok(found);
             }
             self.read(source)?;
@@ -171,13 +171,13 @@ impl Lines {
 
     /// Returns the next line; reads only if the octets held give no answer.
     ///
-    /// After `Long`, `TooMany` or `Failed` every further answer is `End`. A source that has come to its end is not asked again.
+    /// After `Long`, `TooMany` or `Failed`, every further answer is `End`. A source that has reached its end is not called again.
     #[inline(always)]
     pub fn next<S: Source>(&mut self, source: &mut S) -> Next<'_>
-        ensures* ends { sem 𝓛 (EndsNext self.entry (S.left source.old) (S.left source.new) result) }
-        ensures unasked { IsReady self.old → source.new ≡ source.old }
-        ensures asked { Asked S.took source.old source.new }
-        ensures failed { FailedOnly (S.faults source.old) (S.faults source.new) result }
+        ensures* ends { sem 𝓛 (EndsLineBorrow self.entry (S.left source.old) (S.left source.new) result) }
+        ensures unasked { IsAnswerReady self.old → source.new ≡ source.old }
+        ensures asked { CalledSource S.took source.old source.new }
+        ensures failed { CountsFailure (S.faults source.old) (S.faults source.new) result }
     {
         if self.over {
             return Next::End;
@@ -190,11 +190,11 @@ impl Lines {
                 Next::Line(self.buffer.part(from, from + length))
             }
             Ok(Found::Nothing) => Next::End,
-            Ok(Found::Above) => {
+            Ok(Found::LineTooLong) => {
                 self.over = true;
                 Next::Long
             }
-            Ok(Found::Past) => {
+            Ok(Found::PastInputLimit) => {
                 self.over = true;
                 Next::TooMany
             }
@@ -206,14 +206,14 @@ impl Lines {
     }
 }
 
-/// What `within` octets without a line feed and `past` octets past the limit show.
-fn without_feed(within: usize, past: usize, ended: bool) -> Option<Found>
-    ensures { MatchOption result (LacksAnswer within past ended) (Shows within past ended) }
+/// What the reader finds if it holds `within` octets without a line feed and `past` octets past the input limit.
+fn find_without_line_feed(within: usize, past: usize, ended: bool) -> Option<Found>
+    ensures { MatchOption result (LacksAnswer within past ended) (IsFoundWithoutLineFeed within past ended) }
 {
     if within > LINE_LIMIT {
-        Some(Found::Above)
+        Some(Found::LineTooLong)
     } else if past > 0 {
-        Some(Found::Past)
+        Some(Found::PastInputLimit)
     } else if !ended {
         None
     } else if within > 0 {
@@ -263,9 +263,7 @@ mod tests {
     }
 
     #[test]
-    fn a_failure_ends_the_lines_and_the_end_is_not_asked_for_again(
-        rt: HostRuntime,
-    ) -> Result<(), Fail> {
+    fn nothing_is_read_after_a_failure_or_the_end(rt: HostRuntime) -> Result<(), Fail> {
         let mut source = MemorySource::new(b"a\n", 9, &[1]);
         let mut failed = Lines::new(rt.alloc())?;
         assert_eq!(rt; failed.next(&mut source), Next::Failed);
@@ -284,7 +282,7 @@ mod tests {
     }
 
     #[test]
-    fn only_the_line_feed_is_no_ordinary_octet(rt: HostRuntime) -> Result<(), Fail> {
+    fn only_a_line_feed_ends_a_line(rt: HostRuntime) -> Result<(), Fail> {
         let mut source = PlainSource::new(b"\0\r\n\xff\x80\n\n \t", 9);
         let mut lines = Lines::new(rt.alloc())?;
         assert_eq!(rt; lines.next(&mut source), Next::Line(b"\0\r"));
@@ -296,7 +294,7 @@ mod tests {
     }
 
     #[test]
-    fn a_reading_asks_for_all_that_there_is_room_for(rt: HostRuntime) -> Result<(), Fail> {
+    fn a_read_asks_for_as_much_as_fits(rt: HostRuntime) -> Result<(), Fail> {
         let octets = [b'\n'; 5000];
         let mut source = PlainSource::new(&octets, 5000);
         let mut lines = Lines::new(rt.alloc())?;
@@ -307,11 +305,11 @@ mod tests {
         Ok(())
     }
 
-    /// A source of a number of line feeds.
+    /// A source that gives this number of line feeds.
     #[derive(Drop)]
-    struct Feeds(usize);
+    struct LineFeedSource(usize);
 
-    impl Source for Feeds {
+    impl Source for LineFeedSource {
         ghost left = { λ _. None };
 
         ghost faults = { λ _. 0 };
@@ -325,9 +323,9 @@ mod tests {
     }
 
     #[test]
-    fn an_octet_past_the_limit_ends_the_lines(rt: HostRuntime) -> Result<(), Fail> {
+    fn an_octet_past_the_input_limit_ends_the_lines(rt: HostRuntime) -> Result<(), Fail> {
         for past in 0..2 {
-            let mut source = Feeds(67_108_864 + past);
+            let mut source = LineFeedSource(67_108_864 + past);
             let mut lines = Lines::new(rt.alloc())?;
             for _ in 0..67_108_864 {
                 assert!(rt; lines.next(&mut source) == Next::Line(b""));

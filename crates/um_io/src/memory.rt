@@ -1,11 +1,12 @@
-//! Sources and sinks in memory, whose content is known and which fail at given calls.
+//! Sources and sinks in memory, for tests: their content is known, and they fail at chosen calls.
 ghost use Rattle.std.specs.Prelude.{◌≡◌, ◌≤◌, ◌+◌, ◌↔◌, ℕ, Some, Ok, Err, [], ◌++◌, length, take, drop};
 ghost use Rattle.std.specs.Prelude.{vec_len, vec_capacity, IfOk, OnOk, OnErr, IsErr};
 ghost use Rattle.std.specs.Io.{ReadsAtMost, WritesAtMost};
 ghost use Rattle.std.specs.Io.KnownBytes.{ReadConsumes, WriteAppends};
-ghost use Rattle.um_io.specs.Streams.{next_count, Rose, TakesSome};
-ghost use Rattle.um_io.specs.Memory.{Plain, Feed, Store, new_feed, new_store, given_count, taken_count, with_front, FailsNext, Refuses};
-ghost use Rattle.um_io.specs.Memory.{after_giving, after_failing, after_taking, after_refusing, TookFrom};
+ghost use Rattle.um_io.specs.Streams.{next_failure_count, FailureCountRose, TakesAtLeastOneOctet};
+ghost use Rattle.um_io.specs.Memory.{PlainSourceState, MemorySourceState, SinkState, new_source_state, new_sink_state, given_octet_count};
+ghost use Rattle.um_io.specs.Memory.{taken_octet_count, with_front, NextCallFails, SinkRefuses};
+ghost use Rattle.um_io.specs.Memory.{after_giving, after_failing, after_taking, after_refusing, TookFromMemory};
 ghost use Rattle.std.specs.Result.{result_ok};
 
 use crate::streams::{Failed, NoMemory, Sink, Source, fault};
@@ -13,8 +14,8 @@ use std::alloc::Global;
 use std::marker::Model;
 
 /// Moves at most `most` octets from the front of `left` to the front of `into`.
-fn give(left: &mut &[u8], most: usize, into: &mut [u8]) -> usize
-    ensures exact { result ≡ given_count most left.old.now into.old }
+fn move_octets(left: &mut &[u8], most: usize, into: &mut [u8]) -> usize
+    ensures exact { result ≡ given_octet_count most left.old.now into.old }
     ensures copied { into.new ≡ with_front left.old.now result into.old }
     ensures rest { left.new.now ≡ drop result left.old.now }
 {
@@ -34,9 +35,9 @@ pub struct PlainSource<'a> {
 
 impl<'a> Model for PlainSource<'a> {
     ghost use Rattle.std.specs.Prelude.{◌≤◌};
-    ghost use Rattle.um_io.specs.Memory.{Plain};
+    ghost use Rattle.um_io.specs.Memory.{PlainSourceState};
 
-    ghost Value = { Plain };
+    ghost Value = { PlainSourceState };
 
     ghost view = { λ s. record { left = s.octets.now; most = s.most } };
 
@@ -44,7 +45,7 @@ impl<'a> Model for PlainSource<'a> {
 }
 
 impl<'a> PlainSource<'a> {
-    /// A source of `octets`, which gives at most `most` of them a call.
+    /// A source of `octets`, which gives at most `most` of them in each call.
     pub fn new(octets: &'a [u8], most: usize) -> Self
         requires { 1 ≤ most }
         ensures { result ≡ record { left = octets.now; most = most } }
@@ -66,13 +67,13 @@ impl<'a> Source for PlainSource<'a> {
         ensures later { let count = ⟦<PlainSource<'a> as Source>⟧.faults in
             count self.old ≤ count self.new }
         ensures cause { let count = ⟦<PlainSource<'a> as Source>⟧.faults in
-            OnErr result (Rose (count self.old) (count self.new)) }
+            OnErr result (FailureCountRose (count self.old) (count self.new)) }
 
-        ensures exact { result ≡ Ok (given_count self.old.most self.old.left into.old) }
+        ensures exact { result ≡ Ok (given_octet_count self.old.most self.old.left into.old) }
         ensures copied { IfOk result (λ n. into.new ≡ with_front self.old.left n into.old) }
         ensures rest { IfOk result (λ n. self.new ≡ record self.old { left = drop n self.old.left }) }
     {
-        Ok(give(&mut self.octets, self.most, into))
+        Ok(move_octets(&mut self.octets, self.most, into))
     }
 }
 
@@ -90,9 +91,9 @@ pub struct MemorySource<'a> {
 
 impl<'a> Model for MemorySource<'a> {
     ghost use Rattle.std.specs.Prelude.{◌≤◌};
-    ghost use Rattle.um_io.specs.Memory.{Feed};
+    ghost use Rattle.um_io.specs.Memory.{MemorySourceState};
 
-    ghost Value = { Feed };
+    ghost Value = { MemorySourceState };
 
     ghost view = { λ s. record {
       left = s.octets.now;
@@ -106,11 +107,10 @@ impl<'a> Model for MemorySource<'a> {
 }
 
 impl<'a> MemorySource<'a> {
-    /// A source of `octets`, which gives at most `most` of them a call and fails at the calls
-    /// numbered in `fails`.
+    /// A source of `octets`, which gives at most `most` of them in each call and fails at the calls numbered in `fails`.
     pub fn new(octets: &'a [u8], most: usize, fails: &'a [u64]) -> Self
         requires { 1 ≤ most }
-        ensures { result ≡ new_feed octets.now most fails.now }
+        ensures { result ≡ new_source_state octets.now most fails.now }
     {
         MemorySource {
             octets,
@@ -127,18 +127,18 @@ impl<'a> Source for MemorySource<'a> {
 
     ghost faults = { λ s. s.faults };
 
-    ghost took = { TookFrom };
+    ghost took = { TookFromMemory };
 
     fn take(&mut self, into: &mut [u8]) -> Result<usize, Failed>
         ensures bound { ReadsAtMost result into.new }
         ensures octets { ReadConsumes (Some self.old.left) (Some self.new.left) result into.new }
-        ensures step { TookFrom self.old (result_ok result) self.new }
+        ensures step { TookFromMemory self.old (result_ok result) self.new }
         ensures unchanged { OnOk result (self.new.faults ≡ self.old.faults) }
         ensures later { self.old.faults ≤ self.new.faults }
-        ensures cause { OnErr result (Rose self.old.faults self.new.faults) }
+        ensures cause { OnErr result (FailureCountRose self.old.faults self.new.faults) }
 
-        ensures fails { IsErr result ↔ FailsNext self.old.failing self.old.calls }
-        ensures exact { IfOk result (λ n. n ≡ given_count self.old.most self.old.left into.old) }
+        ensures fails { IsErr result ↔ NextCallFails self.old.failing self.old.calls }
+        ensures exact { IfOk result (λ n. n ≡ given_octet_count self.old.most self.old.left into.old) }
         ensures copied { IfOk result (λ n. into.new ≡ with_front self.old.left n into.old) }
         ensures given { IfOk result (λ n. self.new ≡ after_giving self.old n) }
         ensures failed { OnErr result (self.new ≡ after_failing self.old) }
@@ -148,7 +148,7 @@ impl<'a> Source for MemorySource<'a> {
         if self.failing.contains(&self.calls) {
             return Err(fault(&mut self.faults));
         }
-        Ok(give(&mut self.octets, self.most, into))
+        Ok(move_octets(&mut self.octets, self.most, into))
     }
 }
 
@@ -167,9 +167,9 @@ pub struct MemorySink<'a> {
 
 impl<'a> Model for MemorySink<'a> {
     ghost use Rattle.std.specs.Prelude.{◌≤◌, vec_len, vec_capacity};
-    ghost use Rattle.um_io.specs.Memory.{Store};
+    ghost use Rattle.um_io.specs.Memory.{SinkState};
 
-    ghost Value = { Store };
+    ghost Value = { SinkState };
 
     ghost view = { λ s. record {
       taken = s.octets.items;
@@ -185,13 +185,13 @@ impl<'a> Model for MemorySink<'a> {
 }
 
 impl<'a> MemorySink<'a> {
-    /// A sink that takes at most `most` octets a call and `room` octets in all, and fails at the
-    /// calls numbered in `fails`. Allocates all its memory.
+    /// A sink that takes at most `most` octets in each call and `room` octets in all, and fails at the calls numbered in `fails`. It
+    /// allocates all its memory here.
     pub fn new(alloc: Global, room: usize, most: usize, fails: &'a [u64]) -> Result<Self, NoMemory>
         requires { 1 ≤ most }
-        ensures { IfOk result (λ sink. sink ≡ new_store room most fails.now) }
+        ensures { IfOk result (λ sink. sink ≡ new_sink_state room most fails.now) }
     {
-        let octets = Vec::with_capacity(alloc, room).map_err(|_| NoMemory)?;
+        let octets = Vec::with_capacity(alloc, room)?;
         Ok(MemorySink {
             octets,
             room,
@@ -217,14 +217,14 @@ impl<'a> Sink for MemorySink<'a> {
 
     fn put(&mut self, piece: &[u8]) -> Result<usize, Failed>
         ensures bound { WritesAtMost result piece.now }
-        ensures some { TakesSome result piece.now }
+        ensures some { TakesAtLeastOneOctet result piece.now }
         ensures octets { WriteAppends (Some self.old.taken) (Some self.new.taken) result piece.now }
         ensures unchanged { OnOk result (self.new.faults ≡ self.old.faults) }
         ensures later { self.old.faults ≤ self.new.faults }
-        ensures cause { OnErr result (Rose self.old.faults self.new.faults) }
+        ensures cause { OnErr result (FailureCountRose self.old.faults self.new.faults) }
 
-        ensures fails { IsErr result ↔ Refuses self.old piece.now }
-        ensures exact { IfOk result (λ n. n ≡ taken_count self.old.most piece.now) }
+        ensures fails { IsErr result ↔ SinkRefuses self.old piece.now }
+        ensures exact { IfOk result (λ n. n ≡ taken_octet_count self.old.most piece.now) }
         ensures taken { IfOk result (λ n. self.new ≡ after_taking self.old piece.now n) }
         ensures failed { OnErr result (self.new ≡ after_refusing self.old) }
     {

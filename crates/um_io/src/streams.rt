@@ -3,11 +3,12 @@ ghost use Rattle.std.specs.Prelude.{◌≡◌, ℕ, ◌≤◌, List, Option, OnO
 ghost use Rattle.std.specs.Io.{ReadsAtMost, WritesAtMost};
 ghost use Rattle.std.specs.Result.{result_ok};
 ghost use Rattle.std.specs.Io.KnownBytes.{ReadConsumes, WriteAppends};
-ghost use Rattle.um_io.specs.Streams.{next_count, Rose, TakesSome};
+ghost use Rattle.um_io.specs.Streams.{next_failure_count, FailureCountRose, TakesAtLeastOneOctet};
 
+use std::alloc::AllocError;
 use thiserror::Error;
 
-/// A reading or a writing failed.
+/// A read from a source or a write to a sink failed.
 #[derive(Clone, Copy, Debug, PartialEq, Eq, Error)]
 #[error("the source or the sink failed")]
 pub struct Failed;
@@ -17,10 +18,15 @@ pub struct Failed;
 #[error("out of memory")]
 pub struct NoMemory;
 
+impl From<AllocError> for NoMemory {
+    fn from(_error: AllocError) -> NoMemory {
+        NoMemory
+    }
+}
+
 /// A source of octets.
 ///
-/// `left` are the octets still to come, if the source knows them; `faults` counts failures and
-/// stays at the greatest `u64`.
+/// `left` are the octets still to come, if the source knows them. `faults` counts failures, up to the greatest `u64`.
 pub trait Source {
     ghost left: { Self → Option (List ℕ) };
 
@@ -28,26 +34,23 @@ pub trait Source {
 
     ghost took: { Self → Option ℕ → Self → Type 0 } = { λ _ _ _. Unit {0} };
 
-    /// Writes the next octets to the front of `into`, and returns how many. The rest of `into` may
-    /// hold anything afterwards.
+    /// Writes the next octets to the front of `into`, and returns how many. The rest of `into` may hold anything afterwards.
     fn take(&mut self, into: &mut [u8]) -> Result<usize, Failed>
         ensures bound { ReadsAtMost result into.new }
 
-        // The octets given are the front of those left; 0 means the end of the input, and a failed
-        // call takes none.
+        // The octets given are the front of those left. A result of 0 means the end of the input, and a failed call takes no octets.
         ensures octets { ReadConsumes (left self.old) (left self.new) result into.new }
         ensures step { took self.old (result_ok result) self.new }
 
-        // A successful call leaves the count as it is; a failed one raises it.
+        // A successful call leaves the count of failures unchanged; a failed call raises it.
         ensures unchanged { OnOk result (faults self.new ≡ faults self.old) }
         ensures later { faults self.old ≤ faults self.new }
-        ensures cause { OnErr result (Rose (faults self.old) (faults self.new)) };
+        ensures cause { OnErr result (FailureCountRose (faults self.old) (faults self.new)) };
 }
 
 /// A sink of octets.
 ///
-/// `taken` are the octets taken so far, if the sink knows them; `faults` counts failures and stays
-/// at the greatest `u64`.
+/// `taken` are the octets taken so far, if the sink knows them. `faults` counts failures, up to the greatest `u64`.
 pub trait Sink {
     ghost taken: { Self → Option (List ℕ) };
 
@@ -58,20 +61,20 @@ pub trait Sink {
         ensures bound { WritesAtMost result piece.now }
 
         // If `piece` is not empty, at least one octet is taken.
-        ensures some { TakesSome result piece.now }
+        ensures some { TakesAtLeastOneOctet result piece.now }
 
-        // The octets are appended to those taken before; a failed call takes none.
+        // The octets are appended to those taken before; a failed call takes no octets.
         ensures octets { WriteAppends (taken self.old) (taken self.new) result piece.now }
 
-        // A successful call leaves the count as it is; a failed one raises it.
+        // A successful call leaves the count of failures unchanged; a failed call raises it.
         ensures unchanged { OnOk result (faults self.new ≡ faults self.old) }
         ensures later { faults self.old ≤ faults self.new }
-        ensures cause { OnErr result (Rose (faults self.old) (faults self.new)) };
+        ensures cause { OnErr result (FailureCountRose (faults self.old) (faults self.new)) };
 }
 
 /// Counts a fault, and returns the error.
 pub(crate) fn fault(count: &mut u64) -> Failed
-    ensures raised { count.new ≡ next_count count.old }
+    ensures raised { count.new ≡ next_failure_count count.old }
     ensures later { count.old ≤ count.new }
 {
     *count = count.saturating_add(1);

@@ -1,15 +1,13 @@
--- Hexadecimal digits of octets, several octets at a time.
-use Rattle.std.proofs.Common.{◌≡◌, ℕ, true, ◌==◌, ◌+◌, ◌*◌, ◌<◌, ◌≤◌, ◌-◌, ◌/◌, ◌%◌, List, []}
-use Rattle.std.proofs.Common.{◌∷◌, length, set, get_or, suc, refl, ap, ap₂, ◌∙◌, sym, arith, inl, inr}
-use Rattle.std.proofs.lemmas.Grind.{common_steps}
-use Rattle.std.proofs.lemmas.Bool.{cases_eq, eqb-true}
+-- Writing octets as hexadecimal digits, several octets at a time.
+use Rattle.std.proofs.Common.{◌≡◌, ℕ, true, ◌==◌, ◌+◌, ◌*◌, ◌<◌, ◌≤◌, ◌-◌, ◌/◌, ◌%◌, List, [], ◌∷◌, length, set, get_or, suc, refl, ap, ap₂}
+use Rattle.std.proofs.{Common.{◌∙◌, sym, arith, inl, inr}, lemmas.{Grind.common_steps, Bool.{cases_eq, eqb-true}}}
 use Rattle.bit_blocks.proofs.Lemmas.{passes_below, at_passes_below}
 use Rattle.hex.specs.Hex.{encode_with, encode_lower, lower_digits}
-use Rattle.um_lines.specs.HexPlaces.{HasDigits}
+use Rattle.um_lines.specs.HexPlaces.{HasDigitsOfOctet}
 
--- if the two digits at each position are those of its octet, the list is the digits of all octets
+-- if the two digits at each place are those of the octet with that index, the list consists of the digits of all octets
 pub digits_from_places : (octets digits : List ℕ) → length digits ≡ 2 * length octets
-    → ((k : ℕ) → k < length octets → HasDigits octets digits k) → digits ≡ encode_lower octets
+    → ((k : ℕ) → k < length octets → HasDigitsOfOctet octets digits k) → digits ≡ encode_lower octets
 unfolding encode_with
 digits_from_places [] [] many each = refl
 digits_from_places [] (digit ∷ digits) many each = absurd (omega arith)
@@ -27,11 +25,11 @@ digits_from_places (octet ∷ octets) (high ∷ low ∷ digits) many each =
     ap₂ (λ h l. h ∷ l ∷ digits) first.0 first.1
     ∙ ap (λ others. get_or lower_digits (octet / 16) 0 ∷ get_or lower_digits (octet % 16) 0 ∷ others) rest
 
--- two more digits
+-- the list after the two digits of one more octet are written
 pub digits_set : (octets digits : List ℕ) (n high low : ℕ) → 2 * n + 1 < length digits
     → high ≡ get_or lower_digits (get_or octets n 0 / 16) 0 → low ≡ get_or lower_digits (get_or octets n 0 % 16) 0
-    → ((k : ℕ) → k < n → HasDigits octets digits k)
-    → (k : ℕ) → k < n + 1 → HasDigits octets (set (set digits (2 * n) high) (2 * n + 1) low) k
+    → ((k : ℕ) → k < n → HasDigitsOfOctet octets digits k)
+    → (k : ℕ) → k < n + 1 → HasDigitsOfOctet octets (set (set digits (2 * n) high) (2 * n + 1) low) k
 digits_set octets digits n high low room is-high is-low before k within =
     elim (cases_eq k n) [
       | inl same ↦ (grind (arith, common_steps), grind (arith, common_steps))

@@ -1,7 +1,6 @@
--- Consequences of a line having either exactly one meaning or a fault.
+-- What follows if every line has either exactly one meaning or a fault.
 use Rattle.std.proofs.Common.{◌≡◌, Option, None, Some, refl, sym, ◌∙◌, subst}
-use Rattle.um_lines.specs.declared.fault.LineFault.{LineFault}
-use Rattle.um_lines.specs.Meanings.{HasOneMeaningUnless}
+use Rattle.um_lines.specs.{declared.fault.LineFault.LineFault, Meanings.HasOneMeaningUnless}
 
 module _ {Meaning : Type 0} (Means : Meaning → Type 0) where
   pub same_meaning : (fault : Option LineFault) → HasOneMeaningUnless fault Means → (m m' : Meaning) → Means m → Means m' → m ≡ m'

@@ -3,12 +3,12 @@ use Rattle.std.specs.Prelude.{ℕ, ◌≡◌, ◌+◌, ◌*◌, ◌/◌, ◌%◌
 use Rattle.hex.specs.Hex.{lower_digits}
 use Rattle.um_lines.specs.Fields.{digit_value}
 
--- the octet whose two digits begin at this index
+-- the octet with index k in a list of hexadecimal digits, two for each octet
 abbrev pub octet_at : List ℕ → ℕ → ℕ
 octet_at digits k = 16 * digit_value (slice_index digits (2 * k)) + digit_value (slice_index digits (2 * k + 1))
 
--- the digits of the octet with this index are at their positions
-abbrev pub HasDigits : (octets digits : List ℕ) → ℕ → Type 0
-HasDigits octets digits k =
+-- the list of digits has the two digits of the octet with index k at their place
+abbrev pub HasDigitsOfOctet : (octets digits : List ℕ) → ℕ → Type 0
+HasDigitsOfOctet octets digits k =
     (slice_index digits (2 * k) ≡ slice_index lower_digits (slice_index octets k / 16))
     × (slice_index digits (2 * k + 1) ≡ slice_index lower_digits (slice_index octets k % 16))

@@ -1,10 +1,10 @@
--- The last output line for an input that is refused (this project's own rule).
+-- The last line of output if a line of the input is refused (this project's own rule).
 use Rattle.std.specs.Prelude.{ℕ, List, ◌++◌, codes}
 use Rattle.std.specs.Fmt.{decimal}
 use Rattle.um_lines.specs.declared.fault.LineFault.{LineFault}
 use Rattle.um_lines.specs.declared.fault.LineFault.TheVariants.{Long, Word, Order, Digits, Length, Soft, Place, Twice}
 
--- the word of a fault
+-- the word that stands for a fault in the output
 abbrev pub reason_word : LineFault → List ℕ
 reason_word Long = codes "long"
 reason_word Word = codes "word"

@@ -1,22 +1,22 @@
-//! Octets as hexadecimal digits in lower case, two digits an octet.
+//! Writes octets as hexadecimal digits in lower case, two digits for each octet.
 ghost use Rattle.std.specs.Prelude.{◌≡◌, ◌+◌, ◌*◌, ◌<◌, ◌≤◌, ◌/◌, ◌%◌, ℕ, length, slice_index};
 ghost use Rattle.hex.specs.Hex.{encode_lower, lower_digits};
-ghost use Rattle.um_lines.specs.HexPlaces.{HasDigits};
+ghost use Rattle.um_lines.specs.HexPlaces.{HasDigitsOfOctet};
 
-/// Writes the digits of octets, the high one of each first.
+/// Writes the digits of the octets, for each octet the high digit first.
 #[tactic(auto, using(crate::proofs::LowerDigits::digits_from_places))]
-pub(crate) fn write_lower(octets: &[u8], digits: &mut [u8])
+pub(crate) fn write_lower_hex(octets: &[u8], digits: &mut [u8])
     requires size { length digits.old ≡ 2 * length octets.now }
     ensures { digits.new ≡ encode_lower octets.now }
 {
     if octets.len() < 16 {
-        write_few(octets, digits);
+        write_one_by_one(octets, digits);
     } else {
-        write_many(octets, digits);
+        write_by_sixteens(octets, digits);
     }
 }
 
-fn write_few(octets: &[u8], digits: &mut [u8])
+fn write_one_by_one(octets: &[u8], digits: &mut [u8])
     requires size { length digits.old ≡ 2 * length octets.now }
     ensures { digits.new ≡ encode_lower octets.now }
 {
@@ -26,39 +26,39 @@ fn write_few(octets: &[u8], digits: &mut [u8])
     }
 }
 
-// Converts sixteen octets at a time; the last sixteen may overlap those before them.
-fn write_many(octets: &[u8], digits: &mut [u8])
+// Converts sixteen octets at a time. If the length is not a multiple of sixteen, the last sixteen overlap those before them.
+fn write_by_sixteens(octets: &[u8], digits: &mut [u8])
     requires size { length digits.old ≡ 2 * length octets.now }
     requires some { 16 ≤ length octets.now }
     ensures length { length digits.new ≡ length digits.old }
-    ensures written { (k : ℕ) → k < length octets.now → HasDigits octets.now digits.new k }
+    ensures written { (k : ℕ) → k < length octets.now → HasDigitsOfOctet octets.now digits.new k }
 {
     let last = octets.len() - 16;
     let mut at = 0;
     while at < last {
-        write_sixteen(octets, digits, at);
+        write_sixteen_octets(octets, digits, at);
         at += 16;
     }
-    write_sixteen(octets, digits, last);
+    write_sixteen_octets(octets, digits, last);
 }
 
-fn write_sixteen(octets: &[u8], digits: &mut [u8], at: usize)
+fn write_sixteen_octets(octets: &[u8], digits: &mut [u8], at: usize)
     requires size { length digits.old ≡ 2 * length octets.now }
     requires space { at + 16 ≤ length octets.now }
-    requires before { (k : ℕ) → k < at → HasDigits octets.now digits.old k }
+    requires before { (k : ℕ) → k < at → HasDigitsOfOctet octets.now digits.old k }
     ensures length { length digits.new ≡ length digits.old }
-    ensures written { (k : ℕ) → k < at + 16 → HasDigits octets.now digits.new k }
+    ensures written { (k : ℕ) → k < at + 16 → HasDigitsOfOctet octets.now digits.new k }
 {
-    let (high, low) = sixteen(octets, at);
+    let (high, low) = high_and_low_digits(octets, at);
     for i in 0..16 {
         digits[2 * (at + i)] = high[i];
         digits[2 * (at + i) + 1] = low[i];
     }
 }
 
-/// The high and the low digits of sixteen octets from `at` on. Two separate arrays show the
-/// compiler that writing a digit changes no octet.
-fn sixteen(octets: &[u8], at: usize) -> ([u8; 16], [u8; 16])
+/// The high digits and the low digits of sixteen octets, from octet `at` on. With two separate arrays the compiler knows that writing a
+/// digit changes no octet.
+fn high_and_low_digits(octets: &[u8], at: usize) -> ([u8; 16], [u8; 16])
     requires { at + 16 ≤ length octets.now }
     ensures high { (i : ℕ) → i < 16 → slice_index result.0 i ≡ slice_index lower_digits (slice_index octets.now (at + i) / 16) }
     ensures low { (i : ℕ) → i < 16 → slice_index result.1 i ≡ slice_index lower_digits (slice_index octets.now (at + i) % 16) }

@@ -1,11 +1,11 @@
-//! The output line for an input that is refused.
+//! Writes the last line of output if a line of the input is refused.
 ghost use Rattle.std.specs.Prelude.{◌≡◌, ◌<◌, ◌≤◌, [], length};
 ghost use Rattle.um_lines.specs.Refusals.{reason_word, refused_text};
 
 use crate::fault::LineFault;
 use crate::text::Text;
 
-/// Writes `refused LINE REASON`.
+/// Writes `refused LINE REASON`, with the line number in decimal.
 pub fn refused_line(out: &mut Text, number: u64, fault: LineFault)
     requires { out.old ≡ [] }
     ensures line { out.new ≡ refused_text number fault }

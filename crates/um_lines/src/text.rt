@@ -1,21 +1,21 @@
-//! Text for output.
+//! A buffer for output text.
 ghost use Rattle.std.specs.Prelude.{◌≡◌, ◌+◌, ◌*◌, ◌≤◌, [], ◌++◌, length};
 ghost use Rattle.std.specs.Fmt.{decimal};
 ghost use Rattle.hex.specs.Hex.{encode_lower};
 ghost use Rattle.bit_blocks.specs.Bits.{AllBits};
 ghost use Rattle.um_lines.specs.Fields.{bit_digits};
 
-use crate::lower_digits::write_lower;
+use crate::lower_digits::write_lower_hex;
 use std::marker::Model;
 
-/// Up to 4,096 octets of output lines, stored inline.
+/// At most 4,096 octets of output lines, stored in place.
 #[derive(Drop)]
 pub struct Text {
     room: [u8; 4096],
     length: usize,
 }
 
-// Its model is the list of octets.
+// In contracts, a `Text` stands for its list of octets.
 impl Model for Text {
     ghost use Rattle.std.specs.Prelude.{ℕ, ◌≤◌, List, take};
 
@@ -37,7 +37,7 @@ impl Text {
         }
     }
 
-    /// The octets written.
+    /// All octets written so far.
     pub fn octets(&self) -> &[u8]
         ensures value { result.now ≡ self.now }
         ensures space { length result.now ≤ 4096 }
@@ -94,7 +94,7 @@ impl Text {
         ensures length { length self.new ≡ length self.old + 2 * length octets.now }
     {
         let end = self.length + 2 * octets.len();
-        write_lower(octets, &mut self.room[self.length..end]);
+        write_lower_hex(octets, &mut self.room[self.length..end]);
         self.length = end;
     }
 }
@@ -104,7 +104,45 @@ fn write_digits(digits: &mut [u8], bits: &[u8])
     requires bits { AllBits bits.now }
     ensures { digits.new ≡ bit_digits bits.now }
 {
+    if bits.len() < 16 {
+        write_one_by_one(digits, bits);
+    } else {
+        write_by_sixteens(digits, bits);
+    }
+}
+
+fn write_one_by_one(digits: &mut [u8], bits: &[u8])
+    requires count { length digits.old ≡ length bits.now }
+    requires bits { AllBits bits.now }
+    ensures { digits.new ≡ bit_digits bits.now }
+{
     for (i, bit) in bits.iter().enumerate() {
         digits[i] = b'0' + *bit;
     }
+}
+
+// Writes sixteen digits at a time; the last sixteen may overlap those before them.
+fn write_by_sixteens(digits: &mut [u8], bits: &[u8])
+    requires count { length digits.old ≡ length bits.now }
+    requires some { 16 ≤ length bits.now }
+    requires bits { AllBits bits.now }
+    ensures { digits.new ≡ bit_digits bits.now }
+{
+    let last = bits.len() - 16;
+    let mut at = 0;
+    while at < last {
+        digits[at..at + 16].copy_from_slice(&high_and_low_digits(&bits[at..at + 16]));
+        at += 16;
+    }
+    digits[last..last + 16].copy_from_slice(&high_and_low_digits(&bits[last..last + 16]));
+}
+
+fn high_and_low_digits(bits: &[u8]) -> [u8; 16]
+    requires count { length bits.now ≡ 16 }
+    requires bits { AllBits bits.now }
+    ensures { result ≡ bit_digits bits.now }
+{
+    let mut digits = [0; 16];
+    write_one_by_one(&mut digits, bits);
+    digits
 }

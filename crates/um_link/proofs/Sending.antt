@@ -1,21 +1,16 @@
--- Sending and removing one block of a queue.
-use Rattle.std.proofs.Common.{◌≡◌, sym, ◌∙◌, ap, subst, arith, ℕ, suc, ◌+◌, ◌-◌, ◌<◌, ◌≤◌, List, []}
-use Rattle.std.proofs.Common.{◌∷◌, ◌++◌, length, drop, get_or}
-use Rattle.std.specs.List.{All}
-use Rattle.std.proofs.lemmas.List.Elements.{All-nil, All-cons, All-append, All-drop}
-use Rattle.um_block.specs.bit_blocks.Bits.{AllBits}
+-- What sending one frame, and removing one block, does to a queue.
+use Rattle.std.proofs.Common.{◌≡◌, sym, ◌∙◌, ap, subst, arith, ℕ, suc, ◌+◌, ◌-◌, ◌<◌, ◌≤◌, List, [], ◌∷◌, ◌++◌, length, drop, get_or}
+use Rattle.std.{proofs.lemmas.List.Elements.{All-nil, All-cons, All-append, All-drop}, specs.List.All}
+use Rattle.um_block.specs.{bit_blocks.Bits.AllBits, Sent.IsSentBlock, Tallies.{next_counter, counter_after}}
 use Rattle.circular_buffer.specs.Buffer.{Buffer, buffer}
-use Rattle.um_block.specs.Sent.{IsSentBlock}
 use Rattle.um_air.specs.Air.{Octets, Block}
-use Rattle.um_link.proofs.Adding.{AreOnTheirWay}
-use Rattle.um_link.proofs.Adding as Q
-use Rattle.um_block.specs.Tallies.{next_tally, tally_after}
-use Rattle.um_link.specs.Queues.{IsQueue}
+use Rattle.um_link.{proofs.SendingLoop.AreCodedSoFar, specs.Queues.IsValidQueue}
+use Rattle.um_link.proofs.SendingLoop as Q
 
 pub record AreSentSoFar (tsc : ℕ) (octets : List Octets) (i : ℕ) (old new : Buffer Block) (sent sent' heard heard' : ℕ) : Type 0 where
-  pub on_way : AreOnTheirWay tsc octets i old.items new.items old.capacity new.capacity
+  pub on_way : AreCodedSoFar tsc octets i old.items new.items old.capacity new.capacity
   pub bits : All (All AllBits) new.items
-  pub tally : sent' ≡ tally_after i sent
+  pub tally : sent' ≡ counter_after i sent
   pub other : heard' ≡ heard
 
 pub one_more : (tsc : ℕ) (octets : List Octets) (i : ℕ) (old mid new : Buffer Block) (sent sent' sent'' heard heard' heard'' : ℕ)
@@ -23,7 +18,7 @@ pub one_more : (tsc : ℕ) (octets : List Octets) (i : ℕ) (old mid new : Buffe
     IsSentBlock (get_or octets i []) tsc b → All AllBits b →
     length old.items + length octets ≤ old.capacity →
     new.items ≡ drop (length (mid.items ++ b ∷ []) - mid.capacity) (mid.items ++ b ∷ []) → new.capacity ≡ mid.capacity →
-    sent'' ≡ next_tally sent' → heard'' ≡ heard' →
+    sent'' ≡ next_counter sent' → heard'' ≡ heard' →
     AreSentSoFar tsc octets (i + 1) old new sent sent'' heard heard''
 one_more tsc octets i old mid new sent sent' sent'' heard heard' heard'' b h within is_sent bits room is capacity tally other =
     let next : i + 1 ≡ suc i = omega arith in
@@ -33,12 +28,12 @@ one_more tsc octets i old mid new sent sent' sent'' heard heard' heard'' b h wit
       bits = subst (All (All AllBits)) (sym is) (All-drop (All AllBits) (length (mid.items ++ b ∷ []) - mid.capacity)
           (mid.items ++ b ∷ []) (All-append (All AllBits) mid.items (b ∷ []) h.bits
           (All-cons (All AllBits) b [] bits (All-nil (All AllBits)))));
-      tally = tally ∙ ap next_tally h.tally ∙ sym (ap (λ k. tally_after k sent) next);
+      tally = tally ∙ ap next_counter h.tally ∙ sym (ap (λ k. counter_after k sent) next);
       other = other ∙ h.other;
     }
 
-pub first_gone : (old new : Buffer Block) → IsQueue old → new ≡ buffer (drop 1 old.items) old.capacity → IsQueue new
-first_gone old new h e = subst IsQueue (sym e) (record { capacity = h.capacity; bits = All-drop (All AllBits) 1 old.items h.bits })
+pub first_gone : (old new : Buffer Block) → IsValidQueue old → new ≡ buffer (drop 1 old.items) old.capacity → IsValidQueue new
+first_gone old new h e = subst IsValidQueue (sym e) (record { capacity = h.capacity; bits = All-drop (All AllBits) 1 old.items h.bits })
 
 pub gone_first : (old new : List Block) → 0 < length old → new ≡ drop 1 old → (block : Block) × (old ≡ block ∷ new)
 gone_first [] new some e = absurd (omega (arith, some))

@@ -1,51 +1,29 @@
--- From the contracts of the calls to a step of the definition, by kinds of events.
-use Rattle.std.proofs.Common.{◌≡◌, refl, sym, ◌∙◌, ap, subst, ℕ, Bool, true, false, List, [], ◌∷◌, ◌++◌, length}
-use Rattle.std.proofs.Common.{drop, map, Option, Some}
-use Rattle.std.proofs.Common.{None, arith, ◌≤◌, nat_eq, nat_lt, Result}
-use Rattle.std.proofs.lemmas.Bool.{false≢true}
-use Rattle.std.proofs.lemmas.Bool.Decides.{nat_tests}
-use Rattle.um_link.proofs.Adding.{adds-none}
-use Rattle.lapdm_frame.specs.Layout.{n201}
-use Rattle.lapdm_window.specs.declared.Sapi.TheVariants.{Zero}
-use Rattle.lapdm_window.specs.declared.Refused.TheVariants as Q
-use Rattle.lapdm_window.specs.Calls.{first_of}
-use Rattle.lapdm_window.specs.segmenting.Segments.{Message}
-use Rattle.um_air.specs.Air.{Reads}
-use Rattle.um_link.specs.declared.events.No.{No}
-use Rattle.um_link.specs.declared.events.Step.{Step}
-use Rattle.um_link.specs.Abstraction.{Refines}
-use Rattle.lapdm_frame.specs.declared.Channel.{Channel}
-use Rattle.lapdm_frame.specs.Content.{Frame}
-use Rattle.lapdm_frame.specs.Frames.{octets_of}
-use Rattle.lapdm_window.specs.declared.Sapi.{Sapi}
-use Rattle.lapdm_window.specs.declared.Refused.{Refused}
-use Rattle.lapdm_window.specs.declared.effects.Effects.{Effects}
-use Rattle.lapdm_window.specs.Ends.{Role, Mobile, Network}
-use Rattle.lapdm_window.specs.Calls.{Call, refusal_of}
+-- The contracts of the calls of a world, taken together, give one step of the definition, for each kind of event.
+use Rattle.std.proofs.Common.{◌≡◌, refl, sym, ◌∙◌, ap, subst, ℕ, Bool, true, false, List, [], ◌∷◌, ◌++◌, length, drop, map, Option, Some}
+use Rattle.std.proofs.{Common.{None, arith, ◌≤◌, nat_eq, nat_lt, Result}, lemmas.Bool.{false≢true, Decides.nat_tests}}
+use Rattle.um_link.{proofs.SendingLoop.adds-none, specs.declared.{events.{No.No, Step.Step}, ends.Ends.Ends, links.WorldState.WorldState}}
+use Rattle.um_link.specs.{Abstraction.{Refines, IsLayer3CallTo, IsValidWorld, Represents, blocks_from}, Coded.{AreCoded, AppendsCoded}}
+use Rattle.um_link.specs.{BlockTaking.RefinesTakingFrame, Moves.{Sends, DiffersOnlyInQueue, ReceivesFrom, LosesFrom}, Queues.Receives}
+use Rattle.lapdm_frame.specs.{Layout.n201, declared.Channel.Channel, Content.Frame, Frames.octets_of}
+use Rattle.um_air.specs.lapdm_window.declared.{Sapi.{TheVariants.Zero, Sapi}, Refused.Refused, effects.Effects.Effects}
+use Rattle.um_air.specs.{lapdm_window.{Calls.{first_refusal, Call, refusal_of}, Ends.{Role, Mobile, Network}}, segmenting.Segments.Message}
+use Rattle.um_air.specs.Air.{ReadsFrame, Octets, Block, AirState, with_read_frame, AreCodedFrames, ArrivesWith, Happens, AirStep, refusal}
+use Rattle.um_air.specs.lapdm_link.{Events.{sender_of, without_removed}, Queues.{Queues, queue_of, with_appended, without_first, count}}
 use Rattle.um_block.specs.declared.received.Received.{Received}
+use Rattle.um_air.specs.lapdm_window.declared.Refused.TheVariants as Q
 use Rattle.um_air.specs.lapdm_link.Events as E
-use Rattle.um_air.specs.lapdm_link.Events.{sender_of, without_taken}
-use Rattle.um_air.specs.lapdm_link.Queues.{Queues, queue_of, with_more, without_first, count}
 use Rattle.um_air.specs.Air as A
-use Rattle.um_air.specs.Air.{Octets, Block, AirState, as_read, AreSent, Arrives, Happens, AirStep, refusal}
-use Rattle.um_link.specs.Coded.{AreCoded, AppendsCoded}
-use Rattle.um_link.specs.declared.ends.Ends.{Ends}
 use Rattle.um_link.specs.FourEndpoints as F
-use Rattle.um_link.specs.declared.links.WorldState.{WorldState}
-use Rattle.um_link.specs.BlockTaking.{RefinesTake}
 use Rattle.um_link.specs.BlockTaking as H
-use Rattle.um_link.specs.Abstraction.{IsAskedBy, IsSound, Represents, blocks_from}
-use Rattle.um_link.specs.Moves.{Sends, IsSameBut, ReceivesFrom, LosesFrom}
-use Rattle.um_link.specs.Queues.{Receives}
 
 coded-sent : (channel : Channel) (tsc : ℕ) (fs : List Frame) (bs : List Block) → AreCoded tsc (map (octets_of channel) fs) bs →
-    AreSent channel tsc fs bs
+    AreCodedFrames channel tsc fs bs
 coded-sent channel tsc [] [] h = tt
 coded-sent channel tsc [] (b ∷ bs) h = absurd h
 coded-sent channel tsc (f ∷ fs) [] h = absurd h
 coded-sent channel tsc (f ∷ fs) (b ∷ bs) h = (h.0, coded-sent channel tsc fs bs h.1)
 
--- before its frames are sent, the world represents the endpoints after the step d, with these blocks in transit
+-- after the step d, but before its frames are sent: the world represents the new endpoints, and its queues are still `queues`
 pub record IsReady (a : AirState) (queues : Queues Block) (m : WorldState) (effects : Effects) (d : E.SideStep) : Type 0 where
   pub tsc : m.tsc ≡ a.tsc
   pub channel : m.channel ≡ a.channel
@@ -56,11 +34,11 @@ pub record IsReady (a : AirState) (queues : Queues Block) (m : WorldState) (effe
 
 record IsSent (role : Role) (a : AirState) (queues : Queues Block) (w : WorldState) (d : E.SideStep) : Type 0 where
   blocks : List Block
-  sent : AreSent a.channel a.tsc d.frames blocks
-  represents : Represents w (record a { ends = d.after; queues = with_more role blocks queues })
+  sent : AreCodedFrames a.channel a.tsc d.frames blocks
+  represents : Represents w (record a { ends = d.after; queues = with_appended role blocks queues })
 
 sent-frames : (a : AirState) (queues : Queues Block) (m : WorldState) (effects : Effects) (d : E.SideStep) (blocks : List Block) →
-    IsReady a queues m effects d → AreCoded m.tsc effects.frames blocks → AreSent a.channel a.tsc d.frames blocks
+    IsReady a queues m effects d → AreCoded m.tsc effects.frames blocks → AreCodedFrames a.channel a.tsc d.frames blocks
 sent-frames a queues m effects d blocks r h =
     coded-sent a.channel a.tsc d.frames blocks (subst (λ (t : ℕ). AreCoded t (map (octets_of a.channel) d.frames) blocks) r.tsc
     (subst (λ (os : List Octets). AreCoded m.tsc os blocks) r.does.frames h))
@@ -90,23 +68,23 @@ sent-state Network a queues m w effects d r h = record {
   };
 }
 
--- the step of an endpoint, from its effects
+-- the step of an endpoint that has these effects
 abbrev pub step_by : E.Who → Sapi → Option Received → Effects → A.Step
 step_by who sapi received effects =
     record { who = who; sapi = sapi; received = received; frames = effects.frames; notices = effects.notices }
 
 pub finish : (event : A.Event) (a : AirState) (m w : WorldState) (read : Option Frame) (effects : Effects) (who : E.Who) (sapi : Sapi)
     (received : Option Received) (role : Role) →
-    IsReady a (without_taken event a.queues) m effects (E.side_step (as_read read event) a.ends) → Sends role effects.frames m w →
-    Arrives a event received read → sender_of who ≡ role →
-    who ≡ (E.side_step (as_read read event) a.ends).who → sapi ≡ (E.side_step (as_read read event) a.ends).sapi →
+    IsReady a (without_removed event a.queues) m effects (E.side_step (with_read_frame read event) a.ends) → Sends role effects.frames m w →
+    ArrivesWith a event received read → sender_of who ≡ role →
+    who ≡ (E.side_step (with_read_frame read event) a.ends).who → sapi ≡ (E.side_step (with_read_frame read event) a.ends).sapi →
     (b : AirState) × Represents w b × Happens a event b (step_by who sapi received effects)
 finish event a m w read effects who sapi received role r h arrives sender same_who same_sapi =
-    let d = E.side_step (as_read read event) a.ends in
-    let s : IsSent (sender_of d.who) a (without_taken event a.queues) w d =
-    sent-state (sender_of d.who) a (without_taken event a.queues) m w effects d r
+    let d = E.side_step (with_read_frame read event) a.ends in
+    let s : IsSent (sender_of d.who) a (without_removed event a.queues) w d =
+    sent-state (sender_of d.who) a (without_removed event a.queues) m w effects d r
     (subst (λ (x : Role). Sends x effects.frames m w) (sym sender ∙ ap sender_of same_who) h) in (
-      record a { ends = d.after; queues = with_more (sender_of d.who) s.blocks (without_taken event a.queues) },
+      record a { ends = d.after; queues = with_appended (sender_of d.who) s.blocks (without_removed event a.queues) },
       s.represents,
       record {
         read = read;
@@ -124,19 +102,19 @@ finish event a m w read effects who sapi received role r h arrives sender same_w
       },
     )
 
--- a call of an endpoint that is not refused
+-- an event that is a call of an endpoint and is not refused is carried out as the definition says
 pub called : (event : A.Event) (role : Role) (w w' : WorldState) (ends' : Ends) (effects : Effects) (who : E.Who) (sapi : Sapi)
     (step : A.Step) → step ≡ step_by who sapi None effects →
-    F.Refines w.channel (E.side_step (as_read None event)) w.ends effects ends' →
+    F.Refines w.channel (E.side_step (with_read_frame None event)) w.ends effects ends' →
     ((a : AirState) → Represents w a → refusal event a ≡ None) →
-    ((a : AirState) → Arrives a event None None × (without_taken event a.queues ≡ a.queues)) →
-    sender_of who ≡ role → ((es : E.Ends) → who ≡ (E.side_step (as_read None event) es).who) →
-    ((es : E.Ends) → sapi ≡ (E.side_step (as_read None event) es).sapi) → Sends role effects.frames (record w { ends = ends' }) w' →
+    ((a : AirState) → ArrivesWith a event None None × (without_removed event a.queues ≡ a.queues)) →
+    sender_of who ≡ role → ((es : E.Ends) → who ≡ (E.side_step (with_read_frame None event) es).who) →
+    ((es : E.Ends) → sapi ≡ (E.side_step (with_read_frame None event) es).sapi) → Sends role effects.frames (record w { ends = ends' }) w' →
     (a : AirState) → Represents w a → (b : AirState) × Represents w' b × AirStep a event b (A.Does step)
 called event role w w' ends' effects who sapi step is follows unrefused plain sender same_who same_sapi sends a st =
     let g = follows a.ends st.ends in
-    let p : Arrives a event None None × (without_taken event a.queues ≡ a.queues) = plain a in
-    let d : E.SideStep = E.side_step (as_read None event) a.ends in
+    let p : ArrivesWith a event None None × (without_removed event a.queues ≡ a.queues) = plain a in
+    let d : E.SideStep = E.side_step (with_read_frame None event) a.ends in
     let m : WorldState = record w { ends = ends' } in
     let r : IsReady a a.queues m effects d =
     record {
@@ -158,13 +136,13 @@ same-way : (role : Role) (w : WorldState) (a : AirState) → Represents w a → 
 same-way Mobile w a st = st.up
 same-way Network w a st = st.down
 
-unless-false : (b : Bool) (why : E.Why) (others : Option E.Why) → b ≡ false → E.unless b why others ≡ others
-unless-false false why others h = refl
-unless-false true why others h = absurd (false≢true (sym h))
+refusal_if-false : (b : Bool) (why : E.EventRefusal) (others : Option E.EventRefusal) → b ≡ false → E.refusal_if b why others ≡ others
+refusal_if-false false why others h = refl
+refusal_if-false true why others h = absurd (false≢true (sym h))
 
-unless-true : (b : Bool) (why : E.Why) (others : Option E.Why) → b ≡ true → E.unless b why others ≡ Some why
-unless-true true why others h = refl
-unless-true false why others h = absurd (false≢true h)
+refusal_if-true : (b : Bool) (why : E.EventRefusal) (others : Option E.EventRefusal) → b ≡ true → E.refusal_if b why others ≡ Some why
+refusal_if-true true why others h = refl
+refusal_if-true false why others h = absurd (false≢true h)
 
 on-way : (test : ℕ → Bool) (b : Bool) (role : Role) (w : WorldState) (a : AirState) → Represents w a →
     test (length (blocks_from role w)) ≡ b →
@@ -172,51 +150,52 @@ on-way : (test : ℕ → Bool) (b : Bool) (role : Role) (w : WorldState) (a : Ai
 on-way test b role w a st h = sym (ap (λ bs. test (length bs)) (same-way role w a st)) ∙ h
 
 pub asked-full : (role : Role) (sapi : Sapi) (call : Call) (w : WorldState) → E.is_full (length (blocks_from role w)) ≡ true →
-    (a : AirState) → Represents w a → E.asked_refusal (count a.queues) role sapi call a.ends ≡ Some E.AirFull
-asked-full role sapi call w h a st = unless-true _ E.AirFull _ (on-way E.is_full true role w a st h)
+    (a : AirState) → Represents w a → E.call_refusal (count a.queues) role sapi call a.ends ≡ Some E.AirFull
+asked-full role sapi call w h a st = refusal_if-true _ E.AirFull _ (on-way E.is_full true role w a st h)
 
 pub asked-none : (role : Role) (sapi : Sapi) (call : Call) (w : WorldState) → E.is_full (length (blocks_from role w)) ≡ false →
-    ((es : E.Ends) → F.Represents w.ends es → None ≡ refusal_of call (E.end_in role sapi es)) → (a : AirState) → Represents w a →
-    E.asked_refusal (count a.queues) role sapi call a.ends ≡ None
+    ((es : E.Ends) → F.Represents w.ends es → None ≡ refusal_of call (E.endpoint_in role sapi es)) → (a : AirState) → Represents w a →
+    E.call_refusal (count a.queues) role sapi call a.ends ≡ None
 asked-none role sapi call w h n a st =
-    unless-false _ E.AirFull _ (on-way E.is_full false role w a st h) ∙ ap E.because (sym (n a.ends st.ends))
+    refusal_if-false _ E.AirFull _ (on-way E.is_full false role w a st h) ∙ ap E.as_refusal (sym (n a.ends st.ends))
 
-pub asked-because : (role : Role) (sapi : Sapi) (call : Call) (w : WorldState) (refused : Refused) →
+pub asked-as_refusal : (role : Role) (sapi : Sapi) (call : Call) (w : WorldState) (refused : Refused) →
     E.is_full (length (blocks_from role w)) ≡ false →
-    ((es : E.Ends) → F.Represents w.ends es → Some refused ≡ refusal_of call (E.end_in role sapi es)) → (a : AirState) → Represents w a →
-    E.asked_refusal (count a.queues) role sapi call a.ends ≡ Some (E.Because refused)
-asked-because role sapi call w refused h n a st =
-    unless-false _ E.AirFull _ (on-way E.is_full false role w a st h) ∙ ap E.because (sym (n a.ends st.ends))
+    ((es : E.Ends) → F.Represents w.ends es → Some refused ≡ refusal_of call (E.endpoint_in role sapi es)) → (a : AirState) →
+    Represents w a →
+    E.call_refusal (count a.queues) role sapi call a.ends ≡ Some (E.ByEndpoint refused)
+asked-as_refusal role sapi call w refused h n a st =
+    refusal_if-false _ E.AirFull _ (on-way E.is_full false role w a st h) ∙ ap E.as_refusal (sym (n a.ends st.ends))
 
--- an event that is a call of an endpoint
+-- below, the event is this call of the endpoint with this role and SAPI
 module _ (role : Role) (sapi : Sapi) (call : Call) where
-  pub asked-side_step : (event : A.Event) → IsAskedBy event role sapi call → (es : E.Ends) →
-      E.side_step (as_read None event) es ≡ E.asks role sapi call es
+  pub asked-side_step : (event : A.Event) → IsLayer3CallTo event role sapi call → (es : E.Ends) →
+      E.side_step (with_read_frame None event) es ≡ E.layer3_calls role sapi call es
   asked-side_step (E.Open info) (a, b, c) es = rw (a, b, c) refl
   asked-side_step (E.OpenBare end) (a, b, c) es = rw (a, b, c) refl
   asked-side_step (E.Ask end link request) (a, b, c) es = rw (a, b, c) refl
   asked-side_step other h es = absurd h
 
-  pub asked-refusal : (event : A.Event) → IsAskedBy event role sapi call → (a : AirState) →
-      refusal event a ≡ E.asked_refusal (count a.queues) role sapi call a.ends
+  pub asked-refusal : (event : A.Event) → IsLayer3CallTo event role sapi call → (a : AirState) →
+      refusal event a ≡ E.call_refusal (count a.queues) role sapi call a.ends
   asked-refusal (E.Open info) (x, y, z) a = rw (x, y, z) refl
   asked-refusal (E.OpenBare end) (x, y, z) a = rw (x, y, z) refl
   asked-refusal (E.Ask end link request) (x, y, z) a = rw (x, y, z) refl
   asked-refusal other h a = absurd h
 
-  pub asked-plain : (event : A.Event) → IsAskedBy event role sapi call → (a : AirState) →
-      Arrives a event None None × (without_taken event a.queues ≡ a.queues)
+  pub asked-plain : (event : A.Event) → IsLayer3CallTo event role sapi call → (a : AirState) →
+      ArrivesWith a event None None × (without_removed event a.queues ≡ a.queues)
   asked-plain (E.Open info) h a = (tt, refl)
   asked-plain (E.OpenBare end) h a = (tt, refl)
   asked-plain (E.Ask end link request) h a = (tt, refl)
   asked-plain other h a = absurd h
 
-pub stays : (event : A.Event) (why : E.Why) (w : WorldState) → ((a : AirState) → Represents w a → refusal event a ≡ Some why) →
+pub stays : (event : A.Event) (why : E.EventRefusal) (w : WorldState) → ((a : AirState) → Represents w a → refusal event a ≡ Some why) →
     (a : AirState) →
     Represents w a → (b : AirState) × Represents w b × AirStep a event b (A.Refuses why)
 stays event why w h a st = (a, st, (h a st, refl))
 
-pub stays-ends : (event : A.Event) (why : E.Why) (w : WorldState) (ends' : Ends) → ends' ≡ w.ends →
+pub stays-ends : (event : A.Event) (why : E.EventRefusal) (w : WorldState) (ends' : Ends) → ends' ≡ w.ends →
     ((a : AirState) → Represents w a → refusal event a ≡ Some why) → (a : AirState) → Represents w a →
     (b : AirState) × Represents (record w { ends = ends' }) b × AirStep a event b (A.Refuses why)
 stays-ends event why w ends' e h a st = (
@@ -232,22 +211,23 @@ stays-ends event why w ends' e h a st = (
   (h a st, refl),
 )
 
--- ---- `IsSound` is preserved
-pub sound-ends : (w : WorldState) (ends' : Ends) → IsSound w → F.IsOn (F.ends_channel w.ends) ends' → IsSound (record w { ends = ends' })
+-- ---- `IsValidWorld` is preserved
+pub sound-ends : (w : WorldState) (ends' : Ends) → IsValidWorld w → F.IsOnChannel (F.channel_of_ends w.ends) ends' →
+    IsValidWorld (record w { ends = ends' })
 sound-ends w ends' s on = record {
   tsc = s.tsc;
   channel = s.channel ∙ sym on.mobile;
-  ends = subst (λ (c : Channel). F.IsOn c ends')
+  ends = subst (λ (c : Channel). F.IsOnChannel c ends')
       (sym on.mobile) on;
   up = s.up;
   down = s.down;
 }
 
-pub on-channel : (w : WorldState) (ends' : Ends) (effects : Effects) (side_step : E.Ends → E.SideStep) → IsSound w →
-    F.Refines (F.ends_channel w.ends) side_step w.ends effects ends' → F.Refines w.channel side_step w.ends effects ends'
+pub on-channel : (w : WorldState) (ends' : Ends) (effects : Effects) (side_step : E.Ends → E.SideStep) → IsValidWorld w →
+    F.Refines (F.channel_of_ends w.ends) side_step w.ends effects ends' → F.Refines w.channel side_step w.ends effects ends'
 on-channel w ends' effects side_step s h = subst (λ (c : Channel). F.Refines c side_step w.ends effects ends') (sym s.channel) h
 
--- the first block of a side is removed
+-- between the removal of the oldest block and the step: the world represents the state a, but with these queues
 record IsBetween (a : AirState) (queues : Queues Block) (m : WorldState) : Type 0 where
   tsc : m.tsc ≡ a.tsc
   channel : m.channel ≡ a.channel
@@ -256,7 +236,7 @@ record IsBetween (a : AirState) (queues : Queues Block) (m : WorldState) : Type 
   down : m.down.items ≡ queues.down
 
 is-between : (sender : Role) (w m : WorldState) (a : AirState) (b : Block) → blocks_from sender w ≡ b ∷ blocks_from sender m →
-    IsSameBut sender w m → Represents w a → IsBetween a (without_first sender a.queues) m
+    DiffersOnlyInQueue sender w m → Represents w a → IsBetween a (without_first sender a.queues) m
 is-between Mobile w m a b first s st = record {
   tsc = s.tsc ∙ st.tsc;
   channel = s.channel ∙ st.channel;
@@ -295,18 +275,19 @@ lost sender w m effects h some no_frames no_notices a st =
       down = i.down;
     })
     (sends-none m effects no_frames) tt refl refl refl in
-    (f.0, f.1, (unless-false _ E.Nothing None (on-way E.is_empty false sender w a st some), f.2))
+    (f.0, f.1, (refusal_if-false _ E.Nothing None (on-way E.is_empty false sender w a st some), f.2))
 
 arrived-at : (sender : Role) (places : List ℕ) (w m w' : WorldState) (ends' : Ends) (report : Received) (sapi : Sapi) (effects : Effects)
-    (step : A.Step) → Receives places (blocks_from sender w) report (blocks_from sender m) → IsSameBut sender w m →
-    RefinesTake (E.other sender) m.channel report.accepted m.ends sapi effects ends' → E.is_empty (length (blocks_from sender w)) ≡ false →
+    (step : A.Step) → Receives places (blocks_from sender w) report (blocks_from sender m) → DiffersOnlyInQueue sender w m →
+    RefinesTakingFrame (E.other sender) m.channel report.accepted m.ends sapi effects ends' →
+    E.is_empty (length (blocks_from sender w)) ≡ false →
     E.is_full (length (blocks_from (E.other sender) w)) ≡ false →
     Sends (E.other sender) effects.frames (record m { ends = ends' }) w' → step ≡ step_by (E.BySide (E.other sender)) sapi
     (Some report) effects → (a : AirState) → Represents w a →
     (b : AirState) × Represents w' b × AirStep a (E.Deliver sender places) b (A.Does step)
 arrived-at sender places w m w' ends' report sapi effects step h same hears some room sends is a st =
     let i : IsBetween a (without_first sender a.queues) m = is-between sender w m a h.block h.first same st in
-    let t : H.Takes (E.other sender) m.channel report.accepted a.ends sapi effects ends' = hears a.ends i.ends in
+    let t : H.TakesAcceptedFrame (E.other sender) m.channel report.accepted a.ends sapi effects ends' = hears a.ends i.ends in
     let f = finish (E.Deliver sender places) a (record m { ends = ends' }) w' t.read effects (E.BySide (E.other sender)) sapi (Some report)
     (E.other sender)
     (record {
@@ -314,7 +295,7 @@ arrived-at sender places w m w' ends' report sapi effects step h same hears some
       channel = i.channel;
       ends = t.represents;
       does = subst
-          (λ (c : Channel). F.HasEffects effects c (E.takes_read (E.other sender) t.read a.ends)) i.channel t.does;
+          (λ (c : Channel). F.HasEffects effects c (E.takes_frame_if_read (E.other sender) t.read a.ends)) i.channel t.does;
       up = i.up;
       down = i.down;
     })
@@ -326,13 +307,13 @@ arrived-at sender places w m w' ends' report sapi effects step h same hears some
           ∙ h.first;
       received = h.received;
       reads = subst
-          (λ (c : Channel). Reads c report.accepted t.read) i.channel t.reads;
+          (λ (c : Channel). ReadsFrame c report.accepted t.read) i.channel t.reads;
     })
     refl refl t.sapi in (
       f.0,
       f.1,
       (
-        unless-false _ E.Nothing _ (on-way E.is_empty false sender w a st some) ∙ unless-false _ E.AirFull None
+        refusal_if-false _ E.Nothing _ (on-way E.is_empty false sender w a st some) ∙ refusal_if-false _ E.AirFull None
             (on-way E.is_full false (E.other sender) w a st room),
         subst (λ (s : A.Step). Happens a (E.Deliver sender places) f.0 s)
             (sym is) f.2,
@@ -341,45 +322,46 @@ arrived-at sender places w m w' ends' report sapi effects step h same hears some
 
 pub arrived : (sender end : Role) (places : List ℕ) (w m w' : WorldState) (ends' : Ends) (received : Option Received) (sapi : Sapi)
     (effects : Effects) (step : A.Step) → end ≡ E.other sender → ReceivesFrom sender places w received m →
-    RefinesTake end m.channel (H.accepted_in received) m.ends sapi effects ends' → E.is_empty (length (blocks_from sender w)) ≡ false →
+    RefinesTakingFrame end m.channel (H.accepted_in received) m.ends sapi effects ends' →
+    E.is_empty (length (blocks_from sender w)) ≡ false →
     E.is_full (length (blocks_from end w)) ≡ false →
     Sends end effects.frames (record m { ends = ends' }) w' → step ≡ step_by (E.BySide end) sapi received effects →
     (a : AirState) → Represents w a → (b : AirState) × Represents w' b × AirStep a (E.Deliver sender places) b (A.Does step)
 arrived sender end places w m w' ends' received sapi effects step e h hears some room sends is =
-    let heard : RefinesTake end m.channel h.report.accepted m.ends sapi effects ends' =
-    subst (λ (o : Option Received). RefinesTake end m.channel (H.accepted_in o) m.ends sapi effects ends') h.is hears in
+    let heard : RefinesTakingFrame end m.channel h.report.accepted m.ends sapi effects ends' =
+    subst (λ (o : Option Received). RefinesTakingFrame end m.channel (H.accepted_in o) m.ends sapi effects ends') h.is hears in
     let stepped : step ≡ step_by (E.BySide end) sapi (Some h.report) effects =
     subst (λ (o : Option Received). step ≡ step_by (E.BySide end) sapi o effects) h.is is in
     arrived-at sender places w m w' ends' h.report sapi effects step h.received h.same (subst
-    (λ (r : Role). RefinesTake r m.channel h.report.accepted m.ends sapi effects ends') e heard) some
+    (λ (r : Role). RefinesTakingFrame r m.channel h.report.accepted m.ends sapi effects ends') e heard) some
     (subst (λ (r : Role). E.is_full (length (blocks_from r w)) ≡ false) e room)
     (subst (λ (r : Role). Sends r effects.frames (record m { ends = ends' }) w') e sends)
     (subst (λ (r : Role). step ≡ step_by (E.BySide r) sapi (Some h.report) effects) e stepped)
 
--- a block cannot arrive if the queue lacks space for the answers
+-- an arrival is refused if the queue of the receiving side has no space for the frames that it may send in answer
 pub arrives-full : (sender end : Role) (places : List ℕ) (w : WorldState) → end ≡ E.other sender →
     E.is_empty (length (blocks_from sender w)) ≡ false → E.is_full (length (blocks_from end w)) ≡ true → (a : AirState) → Represents w a →
     (b : AirState) × Represents w b × AirStep a (E.Deliver sender places) b (A.Refuses E.AirFull)
 arrives-full sender end places w e some full =
     stays (E.Deliver sender places) E.AirFull w
-    (λ a st. unless-false _ E.Nothing _ (on-way E.is_empty false sender w a st some) ∙ unless-true _ E.AirFull None
+    (λ a st. refusal_if-false _ E.Nothing _ (on-way E.is_empty false sender w a st some) ∙ refusal_if-true _ E.AirFull None
     (on-way E.is_full true (E.other sender) w a st (subst (λ (r : Role). E.is_full (length (blocks_from r w)) ≡ true) e full)))
 
 room-bound : (n m : ℕ) → nat_lt 62 n ≡ false → m ≡ n → m ≤ 62
 room-bound n m h e = grind (arith, nat_tests)
 
-room-at : (sender : Role) (w m : WorldState) (ends' : Ends) → IsSameBut sender w m →
+room-at : (sender : Role) (w m : WorldState) (ends' : Ends) → DiffersOnlyInQueue sender w m →
     E.is_full (length (blocks_from (E.other sender) w)) ≡ false → length (blocks_from (E.other sender) (record m { ends = ends' })) ≤ 62
 room-at Mobile w m ends' s h = room-bound (length w.down.items) (length m.down.items) h (ap length s.kept)
 room-at Network w m ends' s h = room-bound (length w.up.items) (length m.up.items) h (ap length s.kept)
 
-pub room-other : (sender end : Role) (w m : WorldState) (ends' : Ends) → end ≡ E.other sender → IsSameBut sender w m →
+pub room-other : (sender end : Role) (w m : WorldState) (ends' : Ends) → end ≡ E.other sender → DiffersOnlyInQueue sender w m →
     E.is_full (length (blocks_from end w)) ≡ false → length (blocks_from end (record m { ends = ends' })) ≤ 62
 room-other sender end w m ends' e s h =
     subst (λ (r : Role). length (blocks_from r (record m { ends = ends' })) ≤ 62) (sym e)
     (room-at sender w m ends' s (subst (λ (r : Role). E.is_full (length (blocks_from r w)) ≡ false) e h))
 
-rival-by : (b c : Bool) → b ≡ false → c ≡ false → first_of ((b, Q.Empty) ∷ (c, Q.TooLong) ∷ []) ≡ None
+rival-by : (b c : Bool) → b ≡ false → c ≡ false → first_refusal ((b, Q.Empty) ∷ (c, Q.TooLong) ∷ []) ≡ None
 rival-by false false h g = refl
 rival-by true c h g = absurd (false≢true (sym h))
 rival-by false true h g = absurd (false≢true (sym g))
@@ -387,7 +369,7 @@ rival-by false true h g = absurd (false≢true (sym g))
 pub rival-none : (info : Message) (w : WorldState) → E.is_full (length (blocks_from Mobile w)) ≡ false → nat_eq (length info) 0 ≡ false →
     nat_lt (n201 w.channel) (length info) ≡ false → (a : AirState) → Represents w a → refusal (E.Rival info) a ≡ None
 rival-none info w full some short a st =
-    unless-false _ E.AirFull _ (on-way E.is_full false Mobile w a st full) ∙ ap E.because
+    refusal_if-false _ E.AirFull _ (on-way E.is_full false Mobile w a st full) ∙ ap E.as_refusal
     (rival-by _ _ some (subst (λ (c : Channel). nat_lt (n201 c) (length info) ≡ false) st.channel short))
 
 pub at-event : (e e' : A.Event) (old new : WorldState) (result : Result Step No) → e ≡ e' → Refines e' old result new →

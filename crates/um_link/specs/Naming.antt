@@ -1,8 +1,8 @@
--- What the events and answers of the program represent.
+-- Which events and answers of the definition the values of the program represent.
 use Rattle.std.specs.Prelude.{[], Result, Ok, Err}
-use Rattle.lapdm_window.specs.Ends as R
-use Rattle.lapdm_window.specs.Calls as K
-use Rattle.lapdm_window.specs.declared.Refused.TheVariants as Q
+use Rattle.um_air.specs.lapdm_window.Ends as R
+use Rattle.um_air.specs.lapdm_window.Calls as K
+use Rattle.um_air.specs.lapdm_window.declared.Refused.TheVariants as Q
 use Rattle.um_air.specs.lapdm_link.Events as E
 use Rattle.um_air.specs.Air as A
 use Rattle.um_link.specs.declared.events.End.{End}
@@ -21,17 +21,17 @@ use Rattle.um_link.specs.declared.events.No.{No}
 use Rattle.um_link.specs.declared.events.No.TheVariants as N
 use Rattle.um_link.specs.declared.events.Step.{Step}
 
--- the side that an `End` represents
+-- the side that an `End` of the program represents
 abbrev pub role_of : End → R.Role
 role_of D.Mobile = R.Mobile
 role_of D.Network = R.Network
 
--- the side that sends into a queue
+-- the side whose frames travel in this direction
 abbrev pub sender_of : Way → R.Role
 sender_of Up = R.Mobile
 sender_of Down = R.Network
 
--- the request, and the call, that a `Call` represents
+-- the request, and (below) the call, that a `Call` of the program represents
 abbrev pub request_of : Call → E.Request
 request_of (C.Send m) = E.Send m.now
 request_of (C.Unit m) = E.SendUnit m.now
@@ -42,13 +42,13 @@ request_of C.Idle = E.Idle
 abbrev pub call_of : Call → K.Call
 call_of call = E.call_of (request_of call)
 
--- the event that an `Air` represents: the oldest block of a side arrives, with bits inverted, or is lost
+-- the event that an `Air` of the program represents: the oldest block of a side arrives, perhaps with inverted bits, or is lost
 abbrev pub air_event : R.Role → Air → A.Event
 air_event sender V.Deliver = E.Deliver sender []
 air_event sender V.Lose = E.Lose sender
 air_event sender (V.Flip places) = E.Deliver sender places.now
 
--- the event that an `Event` represents
+-- the event that an `Event` of the program represents
 abbrev pub event_of : Event → A.Event
 event_of (T.Open info) = E.Open info.now
 event_of (T.OpenBare end) = E.OpenBare (role_of end)
@@ -56,25 +56,25 @@ event_of (T.End end sapi call) = E.Ask (role_of end) sapi (request_of call)
 event_of (T.Air way air) = air_event (sender_of way) air
 event_of (T.Rival info) = E.Rival info.now
 
--- what a `Who` represents
+-- the actor that a `Who` of the program represents
 abbrev pub who_of : Who → E.Who
 who_of W.Mobile = E.BySide R.Mobile
 who_of W.Network = E.BySide R.Network
 who_of W.Rival = E.Other
 who_of W.Nobody = E.Nobody
 
--- the refusal that a `No` represents
-abbrev pub why_of : No → E.Why
-why_of N.NotIdle = E.Because Q.NotIdle
-why_of N.NotOpen = E.Because Q.NotOpen
-why_of N.NotRunning = E.Because Q.NotRunning
-why_of N.Empty = E.Because Q.Empty
-why_of N.TooLong = E.Because Q.TooLong
-why_of N.Full = E.Because Q.Full
-why_of N.Nothing = E.Nothing
-why_of N.AirFull = E.AirFull
+-- the refusal that a `No` of the program represents
+abbrev pub event_refusal_of : No → E.EventRefusal
+event_refusal_of N.NotIdle = E.ByEndpoint Q.NotIdle
+event_refusal_of N.NotOpen = E.ByEndpoint Q.NotOpen
+event_refusal_of N.NotRunning = E.ByEndpoint Q.NotRunning
+event_refusal_of N.Empty = E.ByEndpoint Q.Empty
+event_refusal_of N.TooLong = E.ByEndpoint Q.TooLong
+event_refusal_of N.Full = E.ByEndpoint Q.Full
+event_refusal_of N.Nothing = E.Nothing
+event_refusal_of N.AirFull = E.AirFull
 
--- the step that a `Step` represents
+-- the step that a `Step` of the program represents
 abbrev pub step_of : Step → A.Step
 step_of s = record {
   who = who_of s.who;
@@ -84,12 +84,12 @@ step_of s = record {
   notices = s.effects.notices;
 }
 
--- the answer that a result represents
+-- the answer that a result of the program represents
 abbrev pub answer_of : Result Step No → A.Answer
 answer_of (Ok s) = A.Does (step_of s)
-answer_of (Err reason) = A.Refuses (why_of reason)
+answer_of (Err reason) = A.Refuses (event_refusal_of reason)
 
--- the result of a call that writes its step into a buffer of the caller
+-- the result of a call that writes its step into a buffer of the caller: the error, or the contents of the buffer
 abbrev pub step_result : {A : Type 0} → Result A No → Step → Result Step No
 step_result (Ok done) step = Ok step
 step_result (Err reason) step = Err reason

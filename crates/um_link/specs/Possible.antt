@@ -1,16 +1,16 @@
--- The events that a step accepts.
+-- The events that a world can carry out: the indices of bits to invert must be in range.
 use Rattle.um_link.specs.declared.events.Event.{Event}
 use Rattle.um_link.specs.declared.events.Event.TheVariants as T
 use Rattle.um_link.specs.declared.events.Air.{Air}
 use Rattle.um_link.specs.declared.events.Air.TheVariants as V
-use Rattle.um_link.specs.Queues.{ArePlaces}
+use Rattle.um_link.specs.Queues.{AreBitIndices}
 
--- the bits to invert are bits of a block
+-- all bits to invert are bits of a block, 0 to 591
 abbrev pub IsPossibleAir : Air → Type 0
-IsPossibleAir (V.Flip places) = ArePlaces places.now
+IsPossibleAir (V.Flip places) = AreBitIndices places.now
 IsPossibleAir air = Unit {0}
 
--- the bits that the event inverts, if it does, are bits of a block
+-- if the event inverts bits, all of them are bits of a block, 0 to 591
 abbrev pub IsPossible : Event → Type 0
 IsPossible (T.Air way air) = IsPossibleAir air
 IsPossible event = Unit {0}

@@ -1,22 +1,22 @@
--- The queue of blocks of one direction.
+-- The queue of blocks that travel in one direction.
 use Rattle.std.specs.Prelude.{◌≡◌, ℕ, ◌<◌, All, List, ◌∷◌, map}
 use Rattle.um_block.specs.bit_blocks.Bits.{AllBits}
 use Rattle.circular_buffer.specs.Buffer.{Buffer}
 use Rattle.um_block.specs.declared.received.Received.{Received}
 use Rattle.um_block.specs.Received.{IsReceivedBlock, soft_bits}
-use Rattle.um_air.specs.Air.{Block, with_flips}
+use Rattle.um_air.specs.Air.{Block, with_bits_inverted}
 
--- indices of bits in the four bursts of a block, 0 to 591
-abbrev pub ArePlaces : List ℕ → Type 0
-ArePlaces places = All (λ place. place < 592) places
+-- each number is the index of a bit in the four bursts of a block, 0 to 591
+abbrev pub AreBitIndices : List ℕ → Type 0
+AreBitIndices places = All (λ place. place < 592) places
 
--- a queue of at most 64 blocks of bits
-pub record IsQueue (way : Buffer Block) : Type 0 where
+-- a queue of at most 64 blocks, each of four bursts of bits
+pub record IsValidQueue (way : Buffer Block) : Type 0 where
   pub capacity : way.capacity ≡ 64
   pub bits : All (All AllBits) way.items
 
--- the first block is removed, and is received as this report, with these bits inverted
+-- the oldest block is removed, and is received with the bits at these indices inverted, which gives this report
 pub record Receives (places : List ℕ) (old : List Block) (report : Received) (new : List Block) : Type 0 where
   pub block : Block
   pub first : old ≡ block ∷ new
-  pub received : IsReceivedBlock (map soft_bits (with_flips places block)) report
+  pub received : IsReceivedBlock (map soft_bits (with_bits_inverted places block)) report

@@ -1,19 +1,18 @@
-//! Both sides, mobile and network, each with its endpoints of both links.
+//! The endpoints of both sides, mobile and network, for SAPI 0 and 3.
 
 ghost use Rattle.std.specs.Prelude.{◌≡◌, OnOk, OnErr, Some};
 ghost use Rattle.std.specs.Result.{result_err};
 ghost use Rattle.lapdm_frame.specs.Content.{frame_of};
 ghost use Rattle.lapdm_frame.specs.Frames.{Fits};
-ghost use Rattle.lapdm_window.specs.Calls.{call_of, IsOfSapi, refusal_of};
+ghost use Rattle.um_air.specs.lapdm_window.Calls.{call_of, IsCallOfSapi, refusal_of};
 ghost use Rattle.um_air.specs.lapdm_link.Events as E;
 ghost use Rattle.um_link.specs.Naming.{role_of};
 
 use crate::events::End;
-use lapdm_end::{Role, Side};
+use lapdm_end::{Call, Effects, Refused, Role, Sapi, Side};
 use lapdm_frame::{Channel, FrameView};
-use lapdm_window::{Call, Effects, Refused, Sapi};
 
-/// The four endpoints.
+/// The four endpoints: two sides, each with SAPI 0 and SAPI 3.
 #[derive(Drop)]
 pub(crate) struct Ends {
     mobile: Side,
@@ -21,12 +20,12 @@ pub(crate) struct Ends {
 }
 
 impl Ends {
-    ghost use Rattle.um_link.specs.FourEndpoints.{IsOn, Represents, Refines, ends_channel};
+    ghost use Rattle.um_link.specs.FourEndpoints.{IsOnChannel, Represents, Refines, channel_of_ends};
 
     /// All endpoints in Idle.
     pub(crate) fn new_on(channel: Channel) -> Ends
-        ensures represents { Represents result (E.idle_ends channel) }
-        ensures channel { IsOn channel result }
+        ensures represents { Represents result (E.idle_endpoints channel) }
+        ensures channel { IsOnChannel channel result }
     {
         Ends {
             mobile: Side::new_on(Role::Mobile, channel),
@@ -34,7 +33,7 @@ impl Ends {
         }
     }
 
-    /// Carries out a call of layer 3 to an endpoint.
+    /// Carries out a call of layer 3 to the endpoint with this side and SAPI.
     pub(crate) fn ask(
         &mut self,
         end: End,
@@ -42,13 +41,13 @@ impl Ends {
         call: &Call<'_>,
         effects: &mut Effects,
     ) -> Result<(), Refused>
-        requires on { IsOn (ends_channel self.old) self.old }
-        requires call { IsOfSapi sapi (call_of call.now) }
+        requires on { IsOnChannel (channel_of_ends self.old) self.old }
+        requires call { IsCallOfSapi sapi (call_of call.now) }
         ensures refusal { (es : E.Ends) → Represents self.old es
-            → result_err result ≡ refusal_of (call_of call.now) (E.end_in (role_of end) sapi es) }
+            → result_err result ≡ refusal_of (call_of call.now) (E.endpoint_in (role_of end) sapi es) }
         ensures refines { OnOk result
-            (Refines (ends_channel self.old) (E.asks (role_of end) sapi (call_of call.now)) self.old effects.new self.new) }
-        ensures on { IsOn (ends_channel self.old) self.new }
+            (Refines (channel_of_ends self.old) (E.layer3_calls (role_of end) sapi (call_of call.now)) self.old effects.new self.new) }
+        ensures on { IsOnChannel (channel_of_ends self.old) self.new }
         ensures refused { OnErr result (self.new ≡ self.old) }
         ensures out_unchanged { OnErr result (effects.new ≡ effects.old) }
     {
@@ -58,15 +57,17 @@ impl Ends {
         }
     }
 
-    /// Gives a frame to a side, whose endpoint of the frame's SAPI receives it. Returns
-    /// that SAPI, or 0 for a SAPI without endpoint.
+    /// Passes a frame to a side, where the endpoint of the frame's SAPI receives it. Returns that SAPI, or 0 if no endpoint has the frame's
+    /// SAPI.
     pub(crate) fn take(&mut self, end: End, frame: &FrameView<'_>, effects: &mut Effects) -> Sapi
-        requires on { IsOn (ends_channel self.old) self.old }
-        requires fits { Fits (ends_channel self.old) (frame_of frame.now) }
-        ensures refines { Refines (ends_channel self.old) (E.takes_read (role_of end) (Some (frame_of frame.now))) self.old effects.new
+        requires on { IsOnChannel (channel_of_ends self.old) self.old }
+        requires fits { Fits (channel_of_ends self.old) (frame_of frame.now) }
+        ensures refines { Refines (channel_of_ends self.old) (E.takes_frame_if_read (role_of end) (Some
+            (frame_of frame.now))) self.old effects.new
             self.new }
-        ensures sapi { (es : E.Ends) → Represents self.old es → result ≡ (E.takes_read (role_of end) (Some (frame_of frame.now)) es).sapi }
-        ensures on { IsOn (ends_channel self.old) self.new }
+        ensures sapi { (es : E.Ends) → Represents self.old es →
+            result ≡ (E.takes_frame_if_read (role_of end) (Some (frame_of frame.now)) es).sapi }
+        ensures on { IsOnChannel (channel_of_ends self.old) self.new }
     {
         match end {
             End::Mobile => self.mobile.take(frame, effects),

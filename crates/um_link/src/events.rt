@@ -1,13 +1,13 @@
-//! Events of a mobile and a network, and their results.
+//! The events of a session between a mobile and a network, and the results of these events.
 
 ghost use Rattle.std.specs.Prelude.{◌≡◌, None, []};
-ghost use Rattle.lapdm_window.specs.declared.Sapi.TheVariants as S;
-ghost use Rattle.lapdm_window.specs.declared.Sapi.{Sapi as AnySapi};
-ghost use Rattle.lapdm_window.specs.Calls.{call_of, IsOfSapi};
+ghost use Rattle.um_air.specs.lapdm_window.declared.Sapi.TheVariants as S;
+ghost use Rattle.um_air.specs.lapdm_window.declared.Sapi.{Sapi as AnySapi};
+ghost use Rattle.um_air.specs.lapdm_window.Calls.{call_of, IsCallOfSapi};
 ghost use Rattle.um_air.specs.lapdm_link.Events as E;
 ghost use Rattle.um_link.specs.Naming.{request_of};
 
-use lapdm_window::{Call as EndCall, Effects, Sapi};
+use lapdm_end::{Call as EndCall, Effects, Sapi};
 use thiserror::Error;
 use um_block::Received;
 
@@ -28,22 +28,22 @@ pub enum End {
 /// A call of layer 3 to an endpoint of either side and SAPI, or T200 expiry.
 #[derive(Clone, Copy, Drop)]
 pub enum Call<'a> {
-    /// Send a message of 1 to 251 octets, acknowledged.
+    /// Send a message of 1 to 251 octets in I frames, which the other side acknowledges.
     Send(&'a [u8]),
-    /// Send a message of 1 to N201 octets in one UI frame, unacknowledged.
+    /// Send a message of 1 to N201 octets in one UI frame, which is not acknowledged.
     Unit(&'a [u8]),
     Close,
     /// T200 expiry.
     Timer,
-    /// Send the fill frame, which is of SAPI 0 on either link.
+    /// Send the fill frame. It has SAPI 0, even if the endpoint has SAPI 3.
     Idle,
 }
 
 impl<'a> Call<'a> {
-    /// The same call in the type of all calls of an endpoint.
+    /// This call as a call of a single endpoint (`lapdm_end::Call`).
     pub fn whole(self) -> EndCall<'a>
         ensures same { call_of result ≡ E.call_of (request_of self.entry) }
-        ensures any { (sapi : AnySapi) → IsOfSapi sapi (call_of result) }
+        ensures any { (sapi : AnySapi) → IsCallOfSapi sapi (call_of result) }
     {
         match self {
             Call::Send(message) => EndCall::Send(message),
@@ -55,47 +55,46 @@ impl<'a> Call<'a> {
     }
 }
 
-/// What happens to the oldest block of a direction.
+/// What happens to the oldest block in transit in one direction.
 #[derive(Clone, Copy, Drop)]
 pub enum Air<'a> {
     Deliver,
     Lose,
-    /// It arrives with these bits inverted, one after another. Index `p`, 0 to 591, is bit
-    /// `p % 148` of burst `p / 148`.
+    /// It arrives with the bits at these indices inverted, one after another. Index `p`, 0 to 591, is bit `p % 148` of burst `p / 148`.
     Flip(&'a [u16]),
 }
 
-/// An event.
+/// An event of a session.
 #[derive(Clone, Copy, Drop)]
 pub enum Event<'a> {
-    /// The mobile establishes SAPI 0, with information for contention resolution.
+    /// The mobile establishes SAPI 0; the information serves contention resolution.
     Open(&'a [u8]),
-    /// A side establishes SAPI 3.
+    /// A side establishes SAPI 3, without information.
     OpenBare(End),
     End(End, Sapi, Call<'a>),
     Air(Way, Air<'a>),
-    /// Another mobile sends a SABM on SAPI 0, with its own information.
+    /// Another mobile on the same channel sends a SABM for SAPI 0, with its own information.
     Rival(&'a [u8]),
 }
 
-/// Who acted.
+/// Who acted in an event.
 #[derive(Clone, Copy, PartialEq, Eq, Debug)]
 pub enum Who {
     Mobile,
     Network,
     /// The other mobile.
     Rival,
-    /// Nobody: a block was lost.
+    /// Nobody, because a block was lost.
     Nobody,
 }
 
-/// The result of an event.
+/// The result of an event that is not refused.
 #[derive(Debug, Drop)]
 pub struct Step {
     pub who: Who,
-    /// The SAPI of the endpoint that was called or received the frame; 0 if there is none.
+    /// The SAPI of the endpoint that was called or that received the frame; SAPI 0 if no endpoint acted.
     pub sapi: Sapi,
-    /// What was received, if a block arrived.
+    /// The report on the block that arrived, if one did.
     pub received: Option<Received>,
     pub effects: Effects,
 }
@@ -103,7 +102,7 @@ pub struct Step {
 impl Step {
     ghost use Rattle.um_link.specs.Naming.{step_of};
 
-    /// A step in which nobody acts.
+    /// A step in which nobody acts and nothing is sent, received or reported.
     pub fn new() -> Step
         ensures { step_of result
             ≡ record { who = E.Nobody; sapi = S.Zero; received = None; frames = []; notices = [] } }
@@ -135,7 +134,7 @@ pub enum No {
     /// No block is in transit in that direction.
     #[error("no block is in transit in that direction")]
     Nothing,
-    /// More than 62 blocks are in the queue into which the side or the other mobile sends.
+    /// More than 62 blocks are in the queue into which this event may send.
     #[error("more than 62 blocks are in transit in the direction in which the event sends")]
     AirFull,
 }

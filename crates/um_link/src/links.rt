@@ -1,64 +1,65 @@
-//! The endpoints of both links, and the blocks in transit between them.
+//! The state of a session: the endpoints of both sides, and the blocks in transit between them.
 ghost use Rattle.std.specs.Prelude.{◌≡◌, ◌≤◌, ◌<◌, length, IfOk, OnOk, OnErr, None, [], ◌∷◌};
-ghost use Rattle.lapdm_window.specs.declared.Sapi.TheVariants as S;
-ghost use Rattle.lapdm_window.specs.Ends as R;
+ghost use Rattle.um_air.specs.lapdm_window.declared.Sapi.TheVariants as S;
+ghost use Rattle.um_air.specs.lapdm_window.Ends as R;
 ghost use Rattle.lapdm_frame.specs.Layout.{n201};
 ghost use Rattle.lapdm_frame.specs.Frames.{octets_of};
 ghost use Rattle.um_air.specs.lapdm_link.Events as E;
 ghost use Rattle.um_air.specs.Air as A;
 ghost use Rattle.um_air.specs.Air.{start_on};
 ghost use Rattle.um_link.specs.Naming.{role_of, air_event, event_of, step_of, step_result};
-ghost use Rattle.lapdm_window.specs.Calls.{call_of, IsOfSapi};
+ghost use Rattle.um_air.specs.lapdm_window.Calls.{call_of, IsCallOfSapi};
 ghost use Rattle.um_link.specs.Possible.{IsPossible, IsPossibleAir};
-ghost use Rattle.um_block.specs.Tallies.{next_tally, tally_after};
-ghost use Rattle.um_link.specs.Queues.{ArePlaces};
+ghost use Rattle.um_block.specs.Tallies.{next_counter, counter_after};
+ghost use Rattle.um_link.specs.Queues.{AreBitIndices};
 
 use crate::ends::Ends;
 use crate::events::{Air, End, Event, No, Step, Way, Who};
-use crate::queue::{drop_first, receive_first, send_all};
+use crate::queue::{QUEUE_BLOCKS, drop_first, receive_first, send_frames};
 use crate::taking::take_block;
 use circular_buffer::HeapCircularBuffer;
+use lapdm_end::{Call, Effects, Refused, Sapi};
 use lapdm_frame::{Body, Channel, FrameView, write_on};
-use lapdm_window::{Call, Effects, Refused, Sapi};
 use std::alloc::Global;
-use um_block::{Radio, Received};
+use um_block::{BURST_BITS, Radio, Received};
 use um_io::NoMemory;
 
-/// The endpoints, and the queues of both directions.
+/// The four endpoints, and the queues of blocks in both directions.
 #[derive(Drop)]
 pub(crate) struct WorldState {
     tsc: u8,
     channel: Channel,
     ends: Ends,
-    up: HeapCircularBuffer<[[u8; 148]; 4]>,
-    down: HeapCircularBuffer<[[u8; 148]; 4]>,
-    // The soft values of an arriving block. Kept across steps: clearing it on each would stall.
-    soft: [[i8; 148]; 4],
+    up: HeapCircularBuffer<[[u8; BURST_BITS]; 4]>,
+    down: HeapCircularBuffer<[[u8; BURST_BITS]; 4]>,
+    // A buffer for the soft values of an arriving block. It is kept between steps because clearing it in each step would be slow.
+    soft: [[i8; BURST_BITS]; 4],
 }
 
 impl WorldState {
-    ghost use Rattle.um_link.specs.Abstraction.{IsAskedBy, Represents, IsSound, Refines, FitsWho, frames_in, arrivals_in, blocks_from};
+    ghost use Rattle.um_link.specs.Abstraction.{IsLayer3CallTo, Represents, IsValidWorld, Refines, FitsActor, sent_frame_count};
+    ghost use Rattle.um_link.specs.Abstraction.{arrived_block_count, blocks_from};
     ghost use Rattle.um_link.specs.Moves.{Sends, ReceivesFrom, LosesFrom};
 
-    /// Idle endpoints on a channel, and empty queues. Allocates all memory.
+    /// Idle endpoints on this channel, and empty queues. Allocates all memory that the session needs.
     pub(crate) fn new_on(alloc: Global, tsc: u8, channel: Channel) -> Result<WorldState, NoMemory>
         requires { tsc ≤ 7 }
         ensures represents { IfOk result (λ w. Represents w (start_on tsc channel)) }
-        ensures sound { IfOk result (λ w. IsSound w) }
+        ensures sound { IfOk result (λ w. IsValidWorld w) }
     {
-        let up = HeapCircularBuffer::with_capacity(alloc, 64).map_err(|_| NoMemory)?;
-        let down = HeapCircularBuffer::with_capacity(alloc, 64).map_err(|_| NoMemory)?;
+        let up = HeapCircularBuffer::with_capacity(alloc, QUEUE_BLOCKS)?;
+        let down = HeapCircularBuffer::with_capacity(alloc, QUEUE_BLOCKS)?;
         Ok(WorldState {
             tsc,
             channel,
             ends: Ends::new_on(channel),
             up,
             down,
-            soft: [[0; 148]; 4],
+            soft: [[0; BURST_BITS]; 4],
         })
     }
 
-    fn has_none(&self, sender: End) -> bool
+    fn has_no_block(&self, sender: End) -> bool
         ensures { result ≡ E.is_empty (length (blocks_from (role_of sender) self.now)) }
     {
         match sender {
@@ -67,7 +68,7 @@ impl WorldState {
         }
     }
 
-    /// Whether the queue lacks space for the frames of one more step.
+    /// Whether the queue of this side has too little space for the frames of one more step, which are at most two.
     fn is_full(&self, sender: End) -> bool
         ensures { result ≡ E.is_full (length (blocks_from (role_of sender) self.now)) }
     {
@@ -77,23 +78,23 @@ impl WorldState {
         }
     }
 
-    /// Sends the frames of a side.
+    /// Codes the frames that a side sends, and appends their blocks to its queue.
     fn send<R: Radio>(&mut self, radio: &mut R, sender: End, effects: &Effects)
-        requires sound { IsSound self.old }
+        requires sound { IsValidWorld self.old }
         requires space { length (blocks_from (role_of sender) self.old) ≤ 62 }
         ensures sends { Sends (role_of sender) effects.now.frames self.old self.new }
-        ensures sound { IsSound self.new }
-        ensures sent { R.sent radio.new ≡ tally_after (length effects.now.frames) (R.sent radio.old) }
+        ensures sound { IsValidWorld self.new }
+        ensures sent { R.sent radio.new ≡ counter_after (length effects.now.frames) (R.sent radio.old) }
         ensures heard { R.heard radio.new ≡ R.heard radio.old }
     {
         let frames = effects.frames.as_slice();
         match sender {
-            End::Mobile => send_all(radio, &mut self.up, frames, self.tsc),
-            End::Network => send_all(radio, &mut self.down, frames, self.tsc),
+            End::Mobile => send_frames(radio, &mut self.up, frames, self.tsc),
+            End::Network => send_frames(radio, &mut self.down, frames, self.tsc),
         }
     }
 
-    /// Receives the oldest block that a side sent.
+    /// Receives the oldest block that this side sent, with the bits at `places` inverted.
     fn receive<R: Radio>(
         &mut self,
         radio: &mut R,
@@ -101,12 +102,12 @@ impl WorldState {
         places: &[u16],
         received: &mut Option<Received>,
     )
-        requires sound { IsSound self.old }
+        requires sound { IsValidWorld self.old }
         requires some { 0 < length (blocks_from (role_of sender) self.old) }
-        requires places { ArePlaces places.now }
+        requires places { AreBitIndices places.now }
         ensures receives { ReceivesFrom (role_of sender) places.now self.old received.new self.new }
-        ensures sound { IsSound self.new }
-        ensures heard { R.heard radio.new ≡ next_tally (R.heard radio.old) }
+        ensures sound { IsValidWorld self.new }
+        ensures heard { R.heard radio.new ≡ next_counter (R.heard radio.old) }
         ensures sent { R.sent radio.new ≡ R.sent radio.old }
     {
         match sender {
@@ -115,12 +116,12 @@ impl WorldState {
         }
     }
 
-    /// Sends the frames of a step, and enters who acted.
-    fn goes_out<R: Radio>(&mut self, radio: &mut R, end: End, step: &mut Step)
-        requires sound { IsSound self.old }
+    /// Sends the frames of a step, and records in the step who acted.
+    fn send_step_frames<R: Radio>(&mut self, radio: &mut R, end: End, step: &mut Step)
+        requires sound { IsValidWorld self.old }
         requires space { length (blocks_from (role_of end) self.old) ≤ 62 }
         ensures sends { Sends (role_of end) step.old.effects.frames self.old self.new }
-        ensures sound { IsSound self.new }
+        ensures sound { IsValidWorld self.new }
         ensures step { step_of step.new ≡ record {
           who = E.BySide (role_of end);
           sapi = step.old.sapi;
@@ -128,10 +129,10 @@ impl WorldState {
           frames = step.old.effects.frames;
           notices = step.old.effects.notices;
         } }
-        ensures who { FitsWho (step_of step.new) }
+        ensures who { FitsActor (step_of step.new) }
         ensures effects { step.new.effects ≡ step.old.effects }
         ensures received { step.new.received ≡ step.old.received }
-        ensures sent { R.sent radio.new ≡ tally_after (length step.old.effects.frames) (R.sent radio.old) }
+        ensures sent { R.sent radio.new ≡ counter_after (length step.old.effects.frames) (R.sent radio.old) }
         ensures heard { R.heard radio.new ≡ R.heard radio.old }
     {
         self.send(radio, end, &step.effects);
@@ -141,7 +142,7 @@ impl WorldState {
         };
     }
 
-    /// Carries out a call of layer 3 to an endpoint.
+    /// Carries out a call of layer 3 to the endpoint with this side and SAPI.
     fn ask<R: Radio>(
         &mut self,
         radio: &mut R,
@@ -150,17 +151,17 @@ impl WorldState {
         call: &Call<'_>,
         step: &mut Step,
     ) -> Result<(), No>
-        requires sound { IsSound self.old }
-        requires call { IsOfSapi sapi (call_of call.now) }
-        ensures refines { (event : A.Event) → IsAskedBy event (role_of end) sapi (call_of call.now)
+        requires sound { IsValidWorld self.old }
+        requires call { IsCallOfSapi sapi (call_of call.now) }
+        ensures refines { (event : A.Event) → IsLayer3CallTo event (role_of end) sapi (call_of call.now)
             → Refines event self.old (step_result result step.new) self.new }
-        ensures sound { IsSound self.new }
+        ensures sound { IsValidWorld self.new }
         ensures refused { OnErr result (self.new ≡ self.old) }
         ensures out_unchanged { OnErr result (step.new ≡ step.old) }
         ensures silent { OnErr result (radio.new ≡ radio.old) }
-        ensures sent { R.sent radio.new ≡ tally_after (frames_in (step_result result step.new)) (R.sent radio.old) }
-        ensures heard { R.heard radio.new ≡ tally_after (arrivals_in (step_result result step.new)) (R.heard radio.old) }
-        ensures who { OnOk result (FitsWho (step_of step.new)) }
+        ensures sent { R.sent radio.new ≡ counter_after (sent_frame_count (step_result result step.new)) (R.sent radio.old) }
+        ensures heard { R.heard radio.new ≡ counter_after (arrived_block_count (step_result result step.new)) (R.heard radio.old) }
+        ensures who { OnOk result (FitsActor (step_of step.new)) }
     {
         if self.is_full(end) {
             return Err(No::AirFull);
@@ -169,14 +170,14 @@ impl WorldState {
             Ok(()) => {
                 step.sapi = sapi;
                 step.received = None;
-                self.goes_out(radio, end, step);
+                self.send_step_frames(radio, end, step);
                 Ok(())
             }
             Err(refused) => Err(No::from(refused)),
         }
     }
 
-    /// The oldest block that a side sent arrives at the other, with these bits inverted.
+    /// The oldest block that a side sent arrives at the other side, with the bits at these indices inverted.
     fn deliver<R: Radio>(
         &mut self,
         radio: &mut R,
@@ -184,19 +185,19 @@ impl WorldState {
         places: &[u16],
         step: &mut Step,
     ) -> Result<(), No>
-        requires sound { IsSound self.old }
-        requires places { ArePlaces places.now }
+        requires sound { IsValidWorld self.old }
+        requires places { AreBitIndices places.now }
         ensures refines { Refines (E.Deliver (role_of sender) places.now) self.old (step_result result step.new) self.new }
-        ensures sound { IsSound self.new }
+        ensures sound { IsValidWorld self.new }
         ensures refused { OnErr result (self.new ≡ self.old) }
         ensures out_unchanged { OnErr result (step.new ≡ step.old) }
         ensures silent { OnErr result (radio.new ≡ radio.old) }
-        ensures sent { R.sent radio.new ≡ tally_after (frames_in (step_result result step.new)) (R.sent radio.old) }
-        ensures heard { R.heard radio.new ≡ tally_after (arrivals_in (step_result result step.new)) (R.heard radio.old) }
-        ensures who { OnOk result (FitsWho (step_of step.new)) }
+        ensures sent { R.sent radio.new ≡ counter_after (sent_frame_count (step_result result step.new)) (R.sent radio.old) }
+        ensures heard { R.heard radio.new ≡ counter_after (arrived_block_count (step_result result step.new)) (R.heard radio.old) }
+        ensures who { OnOk result (FitsActor (step_of step.new)) }
     {
         let end = other_end(sender);
-        if self.has_none(sender) {
+        if self.has_no_block(sender) {
             return Err(No::Nothing);
         }
         if self.is_full(end) {
@@ -210,16 +211,16 @@ impl WorldState {
             &step.received,
             &mut step.effects,
         );
-        self.goes_out(radio, end, step);
+        self.send_step_frames(radio, end, step);
         Ok(())
     }
 
-    /// Removes the oldest block that a side sent.
+    /// Removes the oldest block that a side sent from its queue.
     fn drop_first(&mut self, sender: End)
-        requires sound { IsSound self.old }
+        requires sound { IsValidWorld self.old }
         requires some { 0 < length (blocks_from (role_of sender) self.old) }
         ensures loses { LosesFrom (role_of sender) self.old self.new }
-        ensures sound { IsSound self.new }
+        ensures sound { IsValidWorld self.new }
     {
         match sender {
             End::Mobile => drop_first(&mut self.up),
@@ -227,17 +228,17 @@ impl WorldState {
         }
     }
 
-    /// The oldest block that a side sent is lost.
+    /// Loses the oldest block that a side sent.
     fn lose(&mut self, sender: End, step: &mut Step) -> Result<(), No>
-        requires sound { IsSound self.old }
+        requires sound { IsValidWorld self.old }
         ensures refines { Refines (E.Lose (role_of sender)) self.old (step_result result step.new) self.new }
-        ensures sound { IsSound self.new }
+        ensures sound { IsValidWorld self.new }
         ensures refused { OnErr result (self.new ≡ self.old) }
         ensures out_unchanged { OnErr result (step.new ≡ step.old) }
-        ensures silent { (frames_in (step_result result step.new) ≡ 0) × (arrivals_in (step_result result step.new) ≡ 0) }
-        ensures who { OnOk result (FitsWho (step_of step.new)) }
+        ensures silent { (sent_frame_count (step_result result step.new) ≡ 0) × (arrived_block_count (step_result result step.new) ≡ 0) }
+        ensures who { OnOk result (FitsActor (step_of step.new)) }
     {
-        if self.has_none(sender) {
+        if self.has_no_block(sender) {
             return Err(No::Nothing);
         }
         self.drop_first(sender);
@@ -248,17 +249,17 @@ impl WorldState {
         Ok(())
     }
 
-    /// Another mobile sends a SABM on SAPI 0.
+    /// Lets another mobile send a SABM for SAPI 0.
     fn rival<R: Radio>(&mut self, radio: &mut R, info: &[u8], step: &mut Step) -> Result<(), No>
-        requires sound { IsSound self.old }
+        requires sound { IsValidWorld self.old }
         ensures refines { Refines (E.Rival info.now) self.old (step_result result step.new) self.new }
-        ensures sound { IsSound self.new }
+        ensures sound { IsValidWorld self.new }
         ensures refused { OnErr result (self.new ≡ self.old) }
         ensures out_unchanged { OnErr result (step.new ≡ step.old) }
         ensures silent { OnErr result (radio.new ≡ radio.old) }
-        ensures sent { R.sent radio.new ≡ tally_after (frames_in (step_result result step.new)) (R.sent radio.old) }
-        ensures heard { R.heard radio.new ≡ tally_after (arrivals_in (step_result result step.new)) (R.heard radio.old) }
-        ensures who { OnOk result (FitsWho (step_of step.new)) }
+        ensures sent { R.sent radio.new ≡ counter_after (sent_frame_count (step_result result step.new)) (R.sent radio.old) }
+        ensures heard { R.heard radio.new ≡ counter_after (arrived_block_count (step_result result step.new)) (R.heard radio.old) }
+        ensures who { OnOk result (FitsActor (step_of step.new)) }
     {
         if self.is_full(End::Mobile) {
             return Err(No::AirFull);
@@ -277,24 +278,24 @@ impl WorldState {
         Ok(())
     }
 
-    /// The oldest block that a side sent arrives or is lost.
-    fn on_air<R: Radio>(
+    /// Lets the oldest block that a side sent arrive or be lost.
+    fn deliver_or_lose<R: Radio>(
         &mut self,
         radio: &mut R,
         sender: End,
         air: &Air<'_>,
         step: &mut Step,
     ) -> Result<(), No>
-        requires sound { IsSound self.old }
+        requires sound { IsValidWorld self.old }
         requires possible { IsPossibleAir air.now }
         ensures refines { Refines (air_event (role_of sender) air.now) self.old (step_result result step.new) self.new }
-        ensures sound { IsSound self.new }
+        ensures sound { IsValidWorld self.new }
         ensures refused { OnErr result (self.new ≡ self.old) }
         ensures out_unchanged { OnErr result (step.new ≡ step.old) }
         ensures silent { OnErr result (radio.new ≡ radio.old) }
-        ensures sent { R.sent radio.new ≡ tally_after (frames_in (step_result result step.new)) (R.sent radio.old) }
-        ensures heard { R.heard radio.new ≡ tally_after (arrivals_in (step_result result step.new)) (R.heard radio.old) }
-        ensures who { OnOk result (FitsWho (step_of step.new)) }
+        ensures sent { R.sent radio.new ≡ counter_after (sent_frame_count (step_result result step.new)) (R.sent radio.old) }
+        ensures heard { R.heard radio.new ≡ counter_after (arrived_block_count (step_result result step.new)) (R.heard radio.old) }
+        ensures who { OnOk result (FitsActor (step_of step.new)) }
     {
         match air {
             Air::Deliver => self.deliver(radio, sender, &[], step),
@@ -303,28 +304,28 @@ impl WorldState {
         }
     }
 
-    pub(crate) fn happen<R: Radio>(
+    pub(crate) fn carry_out_event<R: Radio>(
         &mut self,
         radio: &mut R,
         event: &Event<'_>,
         step: &mut Step,
     ) -> Result<(), No>
-        requires sound { IsSound self.old }
+        requires sound { IsValidWorld self.old }
         requires possible { IsPossible event.now }
         ensures refines { Refines (event_of event.now) self.old (step_result result step.new) self.new }
-        ensures sound { IsSound self.new }
+        ensures sound { IsValidWorld self.new }
         ensures refused { OnErr result (self.new ≡ self.old) }
         ensures out_unchanged { OnErr result (step.new ≡ step.old) }
         ensures silent { OnErr result (radio.new ≡ radio.old) }
-        ensures sent { R.sent radio.new ≡ tally_after (frames_in (step_result result step.new)) (R.sent radio.old) }
-        ensures heard { R.heard radio.new ≡ tally_after (arrivals_in (step_result result step.new)) (R.heard radio.old) }
-        ensures who { OnOk result (FitsWho (step_of step.new)) }
+        ensures sent { R.sent radio.new ≡ counter_after (sent_frame_count (step_result result step.new)) (R.sent radio.old) }
+        ensures heard { R.heard radio.new ≡ counter_after (arrived_block_count (step_result result step.new)) (R.heard radio.old) }
+        ensures who { OnOk result (FitsActor (step_of step.new)) }
     {
         match event {
             Event::Open(info) => self.ask(radio, End::Mobile, Sapi::Zero, &Call::Open(info), step),
             Event::OpenBare(end) => self.ask(radio, *end, Sapi::Three, &Call::OpenBare, step),
             Event::End(end, sapi, call) => self.ask(radio, *end, *sapi, &call.whole(), step),
-            Event::Air(way, air) => self.on_air(radio, way.sender(), air, step),
+            Event::Air(way, air) => self.deliver_or_lose(radio, way.sender(), air, step),
             Event::Rival(info) => self.rival(radio, info, step),
         }
     }
@@ -339,10 +340,10 @@ fn other_end(end: End) -> End
     }
 }
 
-/// The SABM of another mobile.
+/// Replaces the effects by the SABM of another mobile with this information.
 fn rival_effects(info: &[u8], channel: Channel, effects: &mut Effects)
     requires { length info.now ≤ n201 channel }
-    ensures frames { effects.new.frames ≡ octets_of channel (E.rival_frame info.now) ∷ [] }
+    ensures frames { effects.new.frames ≡ octets_of channel (E.rival_sabm info.now) ∷ [] }
     ensures notices { effects.new.notices ≡ [] }
 {
     let frame = FrameView {
@@ -368,10 +369,10 @@ impl Way {
 }
 
 impl From<Refused> for No {
-    ghost use Rattle.um_link.specs.Naming.{why_of};
+    ghost use Rattle.um_link.specs.Naming.{event_refusal_of};
 
     fn from(refused: Refused) -> No
-        ensures { why_of result ≡ E.Because refused }
+        ensures { event_refusal_of result ≡ E.ByEndpoint refused }
     {
         match refused {
             Refused::NotIdle => No::NotIdle,

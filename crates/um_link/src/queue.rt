@@ -1,29 +1,32 @@
-//! Puts blocks into a queue, and takes them out.
+//! Adds blocks to a queue, and removes them.
 ghost use Rattle.std.specs.Prelude.{◌≡◌, ◌+◌, ◌<◌, ◌≤◌, List, All, Some, map, length, ◌∷◌};
 ghost use Rattle.um_block.specs.bit_blocks.Bits.{AllBits};
-ghost use Rattle.um_block.specs.conv_code.Likelihood.{AllSoft};
+ghost use Rattle.um_block.specs.conv_code.Likelihood.{AllSoftBits};
 ghost use Rattle.um_block.specs.Received.{soft_bits};
-ghost use Rattle.um_air.specs.Air.{Block, with_flip, with_flips};
+ghost use Rattle.um_air.specs.Air.{Block, with_bit_inverted, with_bits_inverted};
 ghost use Rattle.um_link.specs.Coded.{AppendsCoded};
-ghost use Rattle.um_block.specs.Tallies.{next_tally, tally_after};
-ghost use Rattle.um_link.specs.Queues.{ArePlaces, IsQueue, Receives};
+ghost use Rattle.um_block.specs.Tallies.{next_counter, counter_after};
+ghost use Rattle.um_link.specs.Queues.{AreBitIndices, IsValidQueue, Receives};
 
 use circular_buffer::HeapCircularBuffer;
-use um_block::{Radio, Received, soften_block};
+use um_block::{BLOCK_OCTETS, BURST_BITS, Radio, Received, soften_block};
 
-/// Codes each frame as a block, and appends it to the queue.
-pub(crate) fn send_all<R: Radio>(
+/// How many blocks a queue holds.
+pub(crate) const QUEUE_BLOCKS: usize = 64;
+
+/// Codes each frame as a block, and appends the block to the queue.
+pub(crate) fn send_frames<R: Radio>(
     radio: &mut R,
-    way: &mut HeapCircularBuffer<[[u8; 148]; 4]>,
-    frames: &[[u8; 23]],
+    way: &mut HeapCircularBuffer<[[u8; BURST_BITS]; 4]>,
+    frames: &[[u8; BLOCK_OCTETS]],
     tsc: u8,
 )
     requires tsc { tsc ≤ 7 }
-    requires way { IsQueue way.old }
-    requires space { length way.old.items + length frames.now ≤ 64 }
+    requires way { IsValidQueue way.old }
+    requires space { length way.old.items + length frames.now ≤ QUEUE_BLOCKS }
     ensures added { AppendsCoded tsc frames.now way.old.items way.new.items }
-    ensures way { IsQueue way.new }
-    ensures sent { R.sent radio.new ≡ tally_after (length frames.now) (R.sent radio.old) }
+    ensures way { IsValidQueue way.new }
+    ensures sent { R.sent radio.new ≡ counter_after (length frames.now) (R.sent radio.old) }
     ensures heard { R.heard radio.new ≡ R.heard radio.old }
 {
     for octets in frames {
@@ -31,54 +34,58 @@ pub(crate) fn send_all<R: Radio>(
     }
 }
 
-/// Receives the first block, with these bits inverted. Writes the soft values into a
-/// buffer of the caller, which need not be cleared.
+/// Receives the oldest block, with the bits at these indices inverted. Uses a buffer of the caller for the soft values; its old contents do
+/// not matter.
 pub(crate) fn receive_first<R: Radio>(
     radio: &mut R,
-    way: &mut HeapCircularBuffer<[[u8; 148]; 4]>,
+    way: &mut HeapCircularBuffer<[[u8; BURST_BITS]; 4]>,
     places: &[u16],
-    soft: &mut [[i8; 148]; 4],
+    soft: &mut [[i8; BURST_BITS]; 4],
     received: &mut Option<Received>,
 )
-    requires way { IsQueue way.old }
+    requires way { IsValidQueue way.old }
     requires some { 0 < length way.old.items }
-    requires places { ArePlaces places.now }
+    requires places { AreBitIndices places.now }
     ensures received { (report : Received) × (received.new ≡ Some report) × Receives places.now way.old.items report way.new.items }
-    ensures way { IsQueue way.new }
-    ensures heard { R.heard radio.new ≡ next_tally (R.heard radio.old) }
+    ensures way { IsValidQueue way.new }
+    ensures heard { R.heard radio.new ≡ next_counter (R.heard radio.old) }
     ensures sent { R.sent radio.new ≡ R.sent radio.old }
 {
-    soften_first(way, places, soft);
+    write_oldest_as_soft_values(way, places, soft);
     drop_first(way);
     *received = Some(radio.receive(soft));
 }
 
-/// Writes the first block as certain soft values, with these bits inverted.
-fn soften_first(way: &HeapCircularBuffer<[[u8; 148]; 4]>, places: &[u16], soft: &mut [[i8; 148]; 4])
-    requires way { IsQueue way.now }
+/// Writes the oldest block as soft values 127 and -127, with the bits at these indices inverted.
+fn write_oldest_as_soft_values(
+    way: &HeapCircularBuffer<[[u8; BURST_BITS]; 4]>,
+    places: &[u16],
+    soft: &mut [[i8; BURST_BITS]; 4],
+)
+    requires way { IsValidQueue way.now }
     requires some { 0 < length way.now.items }
-    requires places { ArePlaces places.now }
+    requires places { AreBitIndices places.now }
     ensures value { (block : Block) (others : List Block) → way.now.items ≡ block ∷ others
-        → soft.new ≡ map soft_bits (with_flips places.now block) }
-    ensures soft { All AllSoft soft.new }
+        → soft.new ≡ map soft_bits (with_bits_inverted places.now block) }
+    ensures soft { All AllSoftBits soft.new }
 {
     let first = way.front().unwrap();
     if places.is_empty() {
         soften_block(first, soft);
     } else {
         let mut block = *first;
-        flip_bits(&mut block, places);
+        invert_bits(&mut block, places);
         soften_block(&block, soft);
     }
 }
 
-/// Removes the first block.
-// `clear` resets an emptied queue to its start, so that the next block reuses memory that was just used.
-pub(crate) fn drop_first(way: &mut HeapCircularBuffer<[[u8; 148]; 4]>)
-    requires way { IsQueue way.old }
+/// Removes the oldest block.
+// If the queue becomes empty, `clear` makes it start at its first element again, so the next block reuses memory that was just used.
+pub(crate) fn drop_first(way: &mut HeapCircularBuffer<[[u8; BURST_BITS]; 4]>)
+    requires way { IsValidQueue way.old }
     requires some { 0 < length way.old.items }
     ensures first { (block : Block) × (way.old.items ≡ block ∷ way.new.items) }
-    ensures way { IsQueue way.new }
+    ensures way { IsValidQueue way.new }
 {
     if way.len() == 1 {
         way.clear();
@@ -87,25 +94,25 @@ pub(crate) fn drop_first(way: &mut HeapCircularBuffer<[[u8; 148]; 4]>)
     }
 }
 
-/// Inverts these bits.
-fn flip_bits(block: &mut [[u8; 148]; 4], places: &[u16])
+/// Inverts the bits at these indices, one after another.
+fn invert_bits(block: &mut [[u8; BURST_BITS]; 4], places: &[u16])
     requires bits { All AllBits block.old }
-    requires places { ArePlaces places.now }
-    ensures flipped { block.new ≡ with_flips places.now block.old }
+    requires places { AreBitIndices places.now }
+    ensures flipped { block.new ≡ with_bits_inverted places.now block.old }
     ensures bits { All AllBits block.new }
 {
     for place in places {
-        flip_at(block, *place);
+        invert_bit_at(block, *place);
     }
 }
 
-fn flip_at(block: &mut [[u8; 148]; 4], place: u16)
+fn invert_bit_at(block: &mut [[u8; BURST_BITS]; 4], place: u16)
     requires bits { All AllBits block.old }
     requires place { place < 592 }
-    ensures flipped { block.new ≡ with_flip place block.old }
+    ensures flipped { block.new ≡ with_bit_inverted place block.old }
     ensures bits { All AllBits block.new }
 {
-    let burst = usize::from(place / 148);
-    let bit = usize::from(place % 148);
+    let burst = usize::from(place) / BURST_BITS;
+    let bit = usize::from(place) % BURST_BITS;
     block[burst][bit] = 1 - block[burst][bit];
 }

@@ -1,16 +1,16 @@
-//! Reads what arrives, and gives it to an endpoint.
+//! Reads the frame from an arriving block, and passes it to a side.
 ghost use Rattle.std.specs.Prelude.{◌≡◌};
-ghost use Rattle.um_link.specs.FourEndpoints.{IsOn, ends_channel};
+ghost use Rattle.um_link.specs.FourEndpoints.{IsOnChannel, channel_of_ends};
 ghost use Rattle.um_link.specs.Naming.{role_of};
-ghost use Rattle.um_link.specs.BlockTaking.{RefinesTake, accepted_in};
+ghost use Rattle.um_link.specs.BlockTaking.{RefinesTakingFrame, accepted_in};
 
 use crate::ends::Ends;
 use crate::events::End;
+use lapdm_end::{Effects, Sapi};
 use lapdm_frame::{Channel, read_on};
-use lapdm_window::{Effects, Sapi};
 use um_block::Received;
 
-/// Reads the frame from the accepted octets, if any, and gives it to the side. Overwrites `effects`.
+/// Reads the frame from the accepted octets, if there are any, and passes it to the side. Replaces the contents of `effects`.
 pub(crate) fn take_block(
     ends: &mut Ends,
     channel: Channel,
@@ -18,10 +18,10 @@ pub(crate) fn take_block(
     received: &Option<Received>,
     effects: &mut Effects,
 ) -> Sapi
-    requires on { IsOn (ends_channel ends.old) ends.old }
-    requires channel { channel ≡ ends_channel ends.old }
-    ensures takes { RefinesTake (role_of end) channel (accepted_in received.now) ends.old result effects.new ends.new }
-    ensures on { IsOn (ends_channel ends.old) ends.new }
+    requires on { IsOnChannel (channel_of_ends ends.old) ends.old }
+    requires channel { channel ≡ channel_of_ends ends.old }
+    ensures takes { RefinesTakingFrame (role_of end) channel (accepted_in received.now) ends.old result effects.new ends.new }
+    ensures on { IsOnChannel (channel_of_ends ends.old) ends.new }
 {
     let Some(report) = received else {
         effects.clear();

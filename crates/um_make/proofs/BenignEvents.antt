@@ -1,15 +1,10 @@
--- The generated events invert at most three bits of each block, and their messages are octets.
-use Rattle.std.proofs.Common.{ℕ, zero, suc, ◌+◌, ◌*◌, ◌%◌, ◌<◌, Bool, true, false, if◌then◌else◌, nat_eq, List}
-use Rattle.std.proofs.Common.{[], ◌∷◌, ◌++◌, map, arith}
-use Rattle.std.specs.List.{range_with_len}
-use Rattle.std.proofs.lemmas.List.Elements.{All-nil, All-cons}
-use Rattle.lapdm_window.specs.declared.Sapi.TheVariants.{Zero}
-use Rattle.lapdm_window.specs.Ends.{Role}
-use Rattle.um_link.specs.lapdm_link.Events.{Ask, Deliver, Lose, T200Expiry, other}
-use Rattle.um_link.specs.um_air.Air.{Event}
-use Rattle.um_link.specs.um_air.Sessions.{AreOctets, IsBenign}
-use Rattle.um_make.specs.Generated.{size_of, sender, is_lost, turn, segment_turns, last_turn, turns, turn_after, segments_of, messages}
-use Rattle.um_make.specs.Generated.{generated_events}
+-- The generated events invert at most three bits of each block, and their messages consist of octets.
+use Rattle.std.proofs.Common.{ℕ, zero, suc, ◌+◌, ◌*◌, ◌%◌, ◌<◌, Bool, true, false, if◌then◌else◌, nat_eq, List, [], ◌∷◌, ◌++◌, map, arith}
+use Rattle.std.{proofs.lemmas.List.Elements.{All-nil, All-cons}, specs.List.range_with_len}
+use Rattle.um_link.specs.{lapdm_window.{declared.Sapi.TheVariants.Zero, Ends.Role}, lapdm_link.Events.{Ask, Deliver, Lose, T200Expiry}}
+use Rattle.um_link.specs.{lapdm_link.Events.other, um_air.{Air.Event, Sessions.{AreOctets, IsBenign}}}
+use Rattle.um_make.specs.Generated.{message_length, sender, is_lost_turn, turn, segment_turns, last_turn, turns, turn_after}
+use Rattle.um_make.specs.Generated.{segment_count_of, messages, generated_events}
 
 benign-append : (es fs : List Event) → IsBenign es → IsBenign fs → IsBenign (es ++ fs)
 benign-append [] fs h k = k
@@ -24,7 +19,7 @@ octets_small i from (suc more) = All-cons small ((i + from) % 256) (map (λ j. (
     (let e : (i + from) % 256 < 256 = omega arith in e) (octets_small i (from + 1) more)
 
 benign-turn : (r : Role) (c : ℕ) → IsBenign (turn r c)
-benign-turn r c = by (is_lost c) (nat_eq (c % 8) 4)
+benign-turn r c = by (is_lost_turn c) (nat_eq (c % 8) 4)
   where
     by : (lost flipped : Bool) →
         IsBenign (if lost then Lose r ∷ Ask r Zero T200Expiry ∷ [] else Deliver r
@@ -41,16 +36,16 @@ benign-turns : (r : Role) (segments c : ℕ) → IsBenign (turns r segments c)
 benign-turns r zero c = tt
 benign-turns r (suc segments) c =
     benign-append (segment_turns r (c + 1)) _
-    (benign-append (turn r (c + 1)) _ (benign-turn r (c + 1)) (benign-again r (c + 1) (is_lost (c + 1))))
+    (benign-append (turn r (c + 1)) _ (benign-turn r (c + 1)) (benign-again r (c + 1) (is_lost_turn (c + 1))))
     (benign-turns r segments (last_turn (c + 1)))
 
 benign-messages : (more i c : ℕ) → IsBenign (messages more i c)
 benign-messages zero i c = tt
 benign-messages (suc more) i c = (
   tt,
-  octets_small i 0 (size_of i),
-  benign-append (turns (sender i) (segments_of i) c) _ (benign-turns (sender i) (segments_of i) c)
-      (benign-messages more (i + 1) (turn_after (segments_of i) c)),
+  octets_small i 0 (message_length i),
+  benign-append (turns (sender i) (segment_count_of i) c) _ (benign-turns (sender i) (segment_count_of i) c)
+      (benign-messages more (i + 1) (turn_after (segment_count_of i) c)),
 )
 
 pub benign-generated : (n : ℕ) → IsBenign (generated_events n)

@@ -7,4 +7,4 @@ pub mod Counting
 pub mod Totals
 pub mod Sizes
 pub mod Tallying
-pub mod Going
+pub mod CountedEvents

@@ -1,17 +1,13 @@
--- The length of a generated run: a message has at most 13 segments, and a segment at most two turns
--- of two events.
-use Rattle.std.proofs.Common.{◌≡◌, ℕ, zero, suc, ◌+◌, ◌*◌, ◌%◌, ◌≤◌, Bool, true, false, if◌then◌else◌, []}
-use Rattle.std.proofs.Common.{◌∷◌, length, length-append, arith}
-use Rattle.std.proofs.lemmas.List.FromFn.{length-map-range_with_len}
-use Rattle.lapdm_window.specs.declared.Sapi.TheVariants.{Zero}
-use Rattle.lapdm_window.specs.Ends.{Role}
-use Rattle.um_link.specs.lapdm_link.Events.{Ask, Deliver, Lose, T200Expiry, other}
-use Rattle.um_make.specs.Generated.{places, size_of, message, sender, is_lost, turn, segment_turns, last_turn, turns, turn_after}
-use Rattle.um_make.specs.Generated.{segments_of}
-use Rattle.um_make.specs.Generated.{messages, generated_events}
+-- The length of a generated session: a message has at most 13 segments, a segment at most two turns, and a turn two events.
+use Rattle.std.proofs.Common.{◌≡◌, ℕ, zero, suc, ◌+◌, ◌*◌, ◌%◌, ◌≤◌, Bool, true, false, if◌then◌else◌, [], ◌∷◌, length, length-append}
+use Rattle.std.proofs.{Common.arith, lemmas.List.FromFn.length-map-range_with_len}
+use Rattle.um_link.specs.{lapdm_window.{declared.Sapi.TheVariants.Zero, Ends.Role}, lapdm_link.Events.{Ask, Deliver, Lose, T200Expiry}}
+use Rattle.um_link.specs.lapdm_link.Events.{other}
+use Rattle.um_make.specs.Generated.{places, message_length, message, sender, is_lost_turn, turn, segment_turns, last_turn, turns}
+use Rattle.um_make.specs.Generated.{turn_after, segment_count_of, messages, generated_events}
 
 turn-size : (r : Role) (c : ℕ) → length (turn r c) ≤ 2
-turn-size r c = by (is_lost c)
+turn-size r c = by (is_lost_turn c)
   where
     by : (lost : Bool) → length (if lost then Lose r ∷ Ask r Zero T200Expiry ∷ [] else Deliver r (places c) ∷ Deliver (other r) [] ∷ []) ≤ 2
     by true = omega arith
@@ -27,15 +23,15 @@ turns-size r (suc segments) c =
     omega (
       arith,
       length-append (segment_turns r (c + 1)) (turns r segments (last_turn (c + 1))),
-      length-append (turn r (c + 1)) (if is_lost (c + 1) then turn r (c + 1 + 1) else []),
+      length-append (turn r (c + 1)) (if is_lost_turn (c + 1) then turn r (c + 1 + 1) else []),
       turn-size r (c + 1),
-      again-size r (c + 1) (is_lost (c + 1)),
+      again-size r (c + 1) (is_lost_turn (c + 1)),
       turns-size r segments (last_turn (c + 1)),
     )
 
-few_segments : (i : ℕ) → segments_of i ≤ 13
+few_segments : (i : ℕ) → segment_count_of i ≤ 13
 few_segments i =
-    let size : length (message i) ≡ size_of i = length-map-range_with_len (λ j. (i + j) % 256) 0 (size_of i) in
+    let size : length (message i) ≡ message_length i = length-map-range_with_len (λ j. (i + j) % 256) 0 (message_length i) in
     omega arith
 
 messages-size : (more i c : ℕ) → length (messages more i c) ≤ 53 * more
@@ -43,10 +39,10 @@ messages-size zero i c = omega arith
 messages-size (suc more) i c =
     omega (
       arith,
-      length-append (turns (sender i) (segments_of i) c) (messages more (i + 1) (turn_after (segments_of i) c)),
-      turns-size (sender i) (segments_of i) c,
+      length-append (turns (sender i) (segment_count_of i) c) (messages more (i + 1) (turn_after (segment_count_of i) c)),
+      turns-size (sender i) (segment_count_of i) c,
       few_segments i,
-      messages-size more (i + 1) (turn_after (segments_of i) c),
+      messages-size more (i + 1) (turn_after (segment_count_of i) c),
     )
 
 pub generated-size : (n : ℕ) → length (generated_events n) ≤ 53 * n + 3

@@ -1,25 +1,21 @@
 -- The radio's counters rise with each block sent and received.
-use Rattle.std.proofs.Common.{◌≡◌, ◌∙◌, refl, ap, ℕ, zero, suc, ◌+◌, Option, Some, None, Result, Ok, Err, Bool, true}
-use Rattle.std.proofs.Common.{false, is_some, not, arith}
-use Rattle.um_block.specs.Tallies.{next_tally, tally_after}
-use Rattle.um_block.specs.declared.received.Received.{Received}
-use Rattle.um_link.specs.declared.events.No.{No}
-use Rattle.um_link.specs.declared.events.Step.{Step}
-use Rattle.um_link.specs.Naming.{answer_of}
-use Rattle.um_link.specs.Abstraction.{frames_in, arrivals_in, count_of}
-use Rattle.um_make.specs.Summaries.{sends, is_take, is_drop, crc_holds, crc_fails}
-use Rattle.um_make.specs.Counting.{one_if}
+use Rattle.std.proofs.Common.{◌≡◌, ◌∙◌, refl, ap, ℕ, zero, suc, ◌+◌, Option, Some, None, Result, Ok, Err, Bool, true, false, is_some, not}
+use Rattle.std.proofs.Common.{arith}
+use Rattle.um_link.specs.{um_block.{Tallies.{next_counter, counter_after}, declared.received.Received.Received}, declared.events.No.No}
+use Rattle.um_link.specs.{declared.events.Step.Step, Naming.answer_of, Abstraction.{sent_frame_count, arrived_block_count, count_of}}
+use Rattle.um_make.specs.{Summaries.{sends, reports_good_crc, reports_bad_crc, crc_holds, crc_fails}, Counting.one_if}
 
-pub raised_by-more : (a b n m : ℕ) → m ≡ b + a → tally_after a (tally_after b n) ≡ tally_after m n
-raised_by-more zero b n m e = ap (λ k. tally_after k n) (let f : b ≡ m = omega arith in f)
-raised_by-more (suc a) b n m e = ap next_tally (raised_by-more a b n (b + a) refl)
-    ∙ ap (λ k. tally_after k n) (let f : suc (b + a) ≡ m = omega arith in f)
+pub raised_by-more : (a b n m : ℕ) → m ≡ b + a → counter_after a (counter_after b n) ≡ counter_after m n
+raised_by-more zero b n m e = ap (λ k. counter_after k n) (let f : b ≡ m = omega arith in f)
+raised_by-more (suc a) b n m e = ap next_counter (raised_by-more a b n (b + a) refl)
+    ∙ ap (λ k. counter_after k n) (let f : suc (b + a) ≡ m = omega arith in f)
 
-pub frames_are : (r : Result Step No) → sends (answer_of r) ≡ frames_in r
+pub frames_are : (r : Result Step No) → sends (answer_of r) ≡ sent_frame_count r
 frames_are (Ok s) = refl
 frames_are (Err reason) = refl
 
-pub arrivals_are : (r : Result Step No) → one_if (is_take (answer_of r)) + one_if (is_drop (answer_of r)) ≡ arrivals_in r
+pub arrivals_are : (r : Result Step No) → one_if (reports_good_crc (answer_of r)) + one_if (reports_bad_crc (answer_of r))
+    ≡ arrived_block_count r
 arrivals_are (Ok s) = by s.received
   where
     by : (report : Option Received) → one_if (crc_holds report) + one_if (crc_fails report) ≡ count_of report

@@ -1,11 +1,10 @@
--- The first generated events, written by hand.
+-- The first generated events, computed by hand.
 use Rattle.std.proofs.Common.{◌≡◌, [], ◌∷◌, refl, length}
-use Rattle.lapdm_window.specs.declared.Sapi.TheVariants.{Zero}
-use Rattle.lapdm_window.specs.Ends.{Mobile, Network}
-use Rattle.um_link.specs.lapdm_link.Events.{Open, Ask, Deliver, Lose, Send, T200Expiry}
-use Rattle.um_make.specs.Generated.{message, segments_of, turns, turn_after, generated_events}
+use Rattle.um_link.specs.{lapdm_window.{declared.Sapi.TheVariants.Zero, Ends.{Mobile, Network}}, lapdm_link.Events.{Open, Ask, Deliver}}
+use Rattle.um_link.specs.lapdm_link.Events.{Lose, Send, T200Expiry}
+use Rattle.um_make.specs.Generated.{message, segment_count_of, turns, turn_after, generated_events}
 
--- one message of 38 octets, in two segments
+-- the session with one message: the message has 38 octets and two segments
 one : generated_events 1
     ≡ Open (1 ∷ []) ∷ Deliver Mobile [] ∷ Deliver Network []
     ∷ Ask Mobile Zero
@@ -14,26 +13,26 @@ one : generated_events 1
     ∷ Deliver Mobile [] ∷ Deliver Network [] ∷ Deliver Mobile [] ∷ Deliver Network [] ∷ []
 one = refl
 
--- the second message has 75 octets in four segments; turn 4 inverts three bits
-second : turns Network (segments_of 2) 2
+-- the second message has 75 octets and four segments; three bits are inverted in turn 4
+second : turns Network (segment_count_of 2) 2
     ≡ Deliver Network [] ∷ Deliver Mobile [] ∷ Deliver Network (28 ∷ 29 ∷ 78 ∷ []) ∷ Deliver Mobile []
     ∷ Deliver Network [] ∷ Deliver Mobile [] ∷ Deliver Network [] ∷ Deliver Mobile [] ∷ []
 second = refl
 
--- the third message has 112 octets in six segments; the second of them is lost in turn 8
-third : turns Mobile (segments_of 3) 6
+-- the third message has 112 octets and six segments; the second segment is lost in turn 8 and sent again
+third_message_turns : turns Mobile (segment_count_of 3) 6
     ≡ Deliver Mobile [] ∷ Deliver Network [] ∷ Lose Mobile ∷ Ask Mobile Zero T200Expiry ∷ Deliver Mobile [] ∷ Deliver Network []
     ∷ Deliver Mobile [] ∷ Deliver Network [] ∷ Deliver Mobile [] ∷ Deliver Network [] ∷ Deliver Mobile (84 ∷ 85 ∷ 134 ∷ [])
     ∷ Deliver Network []
     ∷ Deliver Mobile [] ∷ Deliver Network [] ∷ []
-third = refl
+third_message_turns = refl
 
 -- 37 * 7 is 259, 8 above 251, so message 7 is short again
-seventh : message 7 ≡ 7 ∷ 8 ∷ 9 ∷ 10 ∷ 11 ∷ 12 ∷ 13 ∷ 14 ∷ 15 ∷ []
-seventh = refl
+seventh_message : message 7 ≡ 7 ∷ 8 ∷ 9 ∷ 10 ∷ 11 ∷ 12 ∷ 13 ∷ 14 ∷ 15 ∷ []
+seventh_message = refl
 
--- three messages make 13 turns and 32 events
-turns_of_three : turn_after (segments_of 3) (turn_after (segments_of 2) (turn_after (segments_of 1) 0)) ≡ 13
+-- the first three messages take 13 turns and 32 events
+turns_of_three : turn_after (segment_count_of 3) (turn_after (segment_count_of 2) (turn_after (segment_count_of 1) 0)) ≡ 13
 turns_of_three = refl
 
 events_of_three : length (generated_events 3) ≡ 32

@@ -1,58 +1,57 @@
-//! The position in a generated run.
+//! Keeps track of how far a generated session has proceeded.
 ghost use Rattle.std.specs.Prelude.{◌≡◌, ◌≤◌, ◌<◌, ◌+◌, ◌%◌, ℕ, [], ◌∷◌, map, length, MatchOption};
 ghost use Rattle.std.specs.Prelude.{IfSome, All};
 ghost use Rattle.std.specs.List.{range_with_len};
 ghost use Rattle.um_link.specs.lapdm_link.Events.{other};
 ghost use Rattle.um_link.specs.Naming.{event_of, role_of, sender_of};
 ghost use Rattle.um_link.specs.Possible.{IsPossible};
-ghost use Rattle.um_link.specs.Queues.{ArePlaces};
+ghost use Rattle.um_link.specs.Queues.{AreBitIndices};
 ghost use Rattle.um_make.specs.declared.course.Stage.TheVariants as S;
-ghost use Rattle.um_make.specs.Generated.{generated_events, size_of, message, segments_of, places, sender};
+ghost use Rattle.um_make.specs.Generated.{generated_events, message_length, message, segment_count_of, places, sender};
 
-use lapdm_window::Sapi;
-use um_link::{Air, Call, End, Event, Way};
+use um_link::{Air, Call, End, Event, Sapi, Way};
 use um_script::Room;
 
-/// What comes next.
+/// What happens next in the session.
 #[derive(Clone, Copy, Debug, PartialEq, Eq)]
 pub(crate) enum Stage {
-    /// The mobile opens the link.
+    /// The mobile calls for the link.
     Opening,
-    /// The SABM frame arrives.
+    /// The mobile's SABM arrives at the network.
     Request,
-    /// The answer to it arrives.
+    /// The network's UA arrives at the mobile.
     Answer,
-    /// The next segment has a turn, or the next message is sent.
+    /// The next segment has its turn, or the next message is sent.
     Turn,
     /// The answer to a segment arrives.
-    Back,
-    /// A segment was lost, and T200 of its sender expires.
+    AnswerInTransit,
+    /// A segment was lost, so T200 of its sender expires.
     Timer,
 }
 
-/// The position in the run.
+/// How far the session has proceeded.
 #[derive(Drop)]
-pub(crate) struct Course {
+pub(crate) struct SessionProgress {
     stage: Stage,
-    /// How many messages are still to be sent.
+    /// How many messages have not been sent yet.
     left: u32,
-    /// The number of the last message sent; 0 before the first.
+    /// The number of the message that was sent last; 0 before the first.
     number: u32,
-    /// How many segments of that message have not arrived.
+    /// How many segments of that message have not arrived yet.
     pieces: u32,
     /// How many turns have begun.
     turns: u32,
 }
 
-impl Course {
-    ghost use Rattle.um_make.specs.Courses.{to_come, IsSound};
+impl SessionProgress {
+    ghost use Rattle.um_make.specs.Courses.{remaining_events, HasBoundedTurns};
 
-    pub(crate) fn new(n: u32) -> Course
+    pub(crate) fn new(n: u32) -> SessionProgress
         requires { n ≤ 1000 }
-        ensures all { to_come result ≡ generated_events n }
-        ensures sound { IsSound result }
+        ensures all { remaining_events result ≡ generated_events n }
+        ensures sound { HasBoundedTurns result }
     {
-        Course {
+        SessionProgress {
             stage: Stage::Opening,
             left: n,
             number: 0,
@@ -61,13 +60,13 @@ impl Course {
         }
     }
 
-    /// The next event.
+    /// The next event; `None` after the last.
     pub(crate) fn next<'a>(&mut self, room: &'a mut Room) -> Option<Event<'a>>
-        requires { IsSound self.old }
-        ensures event { MatchOption result ((to_come self.old ≡ []) × (to_come self.new ≡ []))
-            (λ e. to_come self.old ≡ event_of e ∷ to_come self.new) }
+        requires { HasBoundedTurns self.old }
+        ensures event { MatchOption result ((remaining_events self.old ≡ []) × (remaining_events self.new ≡ []))
+            (λ e. remaining_events self.old ≡ event_of e ∷ remaining_events self.new) }
         ensures possible { IfSome result (λ e. IsPossible e) }
-        ensures sound { IsSound self.new }
+        ensures sound { HasBoundedTurns self.new }
     {
         match self.stage {
             Stage::Opening => {
@@ -82,26 +81,26 @@ impl Course {
                 self.stage = Stage::Turn;
                 Some(Event::Air(Way::Down, Air::Deliver))
             }
-            Stage::Back => {
+            Stage::AnswerInTransit => {
                 self.stage = Stage::Turn;
-                Some(Event::Air(self.way_back(), Air::Deliver))
+                Some(Event::Air(self.answer_direction(), Air::Deliver))
             }
             Stage::Timer => {
                 self.stage = Stage::Turn;
                 Some(Event::End(self.sender(), Sapi::Zero, Call::Timer))
             }
-            Stage::Turn => self.go_on(room),
+            Stage::Turn => self.next_turn_event(room),
         }
     }
 
-    /// A turn, or the next message if no segment is left.
-    fn go_on<'a>(&mut self, room: &'a mut Room) -> Option<Event<'a>>
-        requires sound { IsSound self.old }
+    /// The next turn or, if no segment is left, the sending of the next message.
+    fn next_turn_event<'a>(&mut self, room: &'a mut Room) -> Option<Event<'a>>
+        requires sound { HasBoundedTurns self.old }
         requires stage { self.old.stage ≡ S.Turn }
-        ensures event { MatchOption result ((to_come self.old ≡ []) × (to_come self.new ≡ []))
-            (λ e. to_come self.old ≡ event_of e ∷ to_come self.new) }
+        ensures event { MatchOption result ((remaining_events self.old ≡ []) × (remaining_events self.new ≡ []))
+            (λ e. remaining_events self.old ≡ event_of e ∷ remaining_events self.new) }
         ensures possible { IfSome result (λ e. IsPossible e) }
-        ensures sound { IsSound self.new }
+        ensures sound { HasBoundedTurns self.new }
     {
         if self.pieces > 0 {
             Some(self.turn(room))
@@ -112,14 +111,14 @@ impl Course {
         }
     }
 
-    /// The block of a segment arrives or is lost.
+    /// The first event of a turn: the block of a segment arrives or is lost.
     fn turn<'a>(&mut self, room: &'a mut Room) -> Event<'a>
-        requires sound { IsSound self.old }
+        requires sound { HasBoundedTurns self.old }
         requires stage { self.old.stage ≡ S.Turn }
         requires some { 0 < self.old.pieces }
-        ensures event { to_come self.old ≡ event_of result ∷ to_come self.new }
+        ensures event { remaining_events self.old ≡ event_of result ∷ remaining_events self.new }
         ensures possible { IsPossible result }
-        ensures sound { IsSound self.new }
+        ensures sound { HasBoundedTurns self.new }
     {
         self.turns += 1;
         let way = self.way();
@@ -128,7 +127,7 @@ impl Course {
             return Event::Air(way, Air::Lose);
         }
         self.pieces -= 1;
-        self.stage = Stage::Back;
+        self.stage = Stage::AnswerInTransit;
         if self.turns % 8 == 4 {
             let places = places(self.turns);
             return Event::Air(way, Air::Flip(room.hold_places(&places)));
@@ -138,13 +137,13 @@ impl Course {
 
     /// Sends the next message.
     fn send<'a>(&mut self, room: &'a mut Room) -> Event<'a>
-        requires sound { IsSound self.old }
+        requires sound { HasBoundedTurns self.old }
         requires stage { self.old.stage ≡ S.Turn }
         requires none { self.old.pieces ≡ 0 }
         requires some { 0 < self.old.left }
-        ensures event { to_come self.old ≡ event_of result ∷ to_come self.new }
+        ensures event { remaining_events self.old ≡ event_of result ∷ remaining_events self.new }
         ensures possible { IsPossible result }
-        ensures sound { IsSound self.new }
+        ensures sound { HasBoundedTurns self.new }
     {
         self.left -= 1;
         self.number += 1;
@@ -155,7 +154,7 @@ impl Course {
         Event::End(self.sender(), Sapi::Zero, Call::Send(message))
     }
 
-    /// The sender of the message.
+    /// The sender of the current message.
     fn sender(&self) -> End
         ensures { role_of result ≡ sender self.now.number }
     {
@@ -166,7 +165,7 @@ impl Course {
         }
     }
 
-    /// The way of its segments.
+    /// The direction in which the segments of the current message travel.
     fn way(&self) -> Way
         ensures { sender_of result ≡ sender self.now.number }
     {
@@ -176,8 +175,8 @@ impl Course {
         }
     }
 
-    /// The way of the answers to them.
-    fn way_back(&self) -> Way
+    /// The direction in which the answers to these segments travel.
+    fn answer_direction(&self) -> Way
         ensures { sender_of result ≡ other (sender self.now.number) }
     {
         match self.sender() {
@@ -187,17 +186,17 @@ impl Course {
     }
 }
 
-/// How many octets a message has.
+/// The number of octets of this message.
 fn size(number: u32) -> u32
     requires { number ≤ 1000 }
-    ensures size { result ≡ size_of number }
+    ensures size { result ≡ message_length number }
     ensures some { 1 ≤ result }
     ensures most { result ≤ 251 }
 {
     1 + 37 * number % 251
 }
 
-/// The octets of a message, and more.
+/// The octets of this message, followed by others up to 251.
 fn octets(number: u32) -> [u8; 251]
     requires { number ≤ 1000 }
     ensures { result ≡ map (λ j. (number + j) % 256) (range_with_len 0 251) }
@@ -209,12 +208,12 @@ fn octets(number: u32) -> [u8; 251]
     octets
 }
 
-/// The bits that a turn inverts.
+/// The indices of the bits that are inverted in this turn.
 fn places(turn: u32) -> [u16; 3]
     requires size { turn ≤ 30000 }
     requires fourth { turn % 8 ≡ 4 }
     ensures places { result ≡ places turn }
-    ensures within { ArePlaces result }
+    ensures within { AreBitIndices result }
 {
     let first = 7 * turn;
     [

@@ -1,28 +1,28 @@
 //! The counters of one side of a session.
 ghost use Rattle.std.specs.Prelude.{◌≡◌, ◌^◌, ◌≤◌, [], ◌∷◌, length, sum};
 
-use lapdm_window::Notice;
+use um_link::Notice;
 
-/// The counters of one side, for its link of SAPI 0.
+/// The counters of one side, on SAPI 0.
 #[derive(Clone, Copy, Debug, PartialEq, Eq)]
-pub struct EndSummary {
-    /// How many messages it delivered.
+pub struct EndpointSummary {
+    /// How many messages this side delivered.
     pub got: u64,
-    /// How many octets these have.
+    /// How many octets these messages have.
     pub octets: u64,
     /// The sum of these octets.
     pub sum: u64,
-    /// How many of its own messages were acknowledged.
+    /// How many messages of this side were acknowledged.
     pub acked: u64,
 }
 
-impl EndSummary {
-    ghost use Rattle.um_make.specs.Counting.{CountsNotices, GrowsAtMost, IsEndBelow};
+impl EndpointSummary {
+    ghost use Rattle.um_make.specs.Counting.{CountsNotices, EndpointCountersGrowAtMost, EndpointCountersAreAtMost};
 
-    pub(crate) fn new() -> EndSummary
+    pub(crate) fn new() -> EndpointSummary
         ensures { result ≡ record { got = 0; octets = 0; sum = 0; acked = 0 } }
     {
-        EndSummary {
+        EndpointSummary {
             got: 0,
             octets: 0,
             sum: 0,
@@ -30,11 +30,11 @@ impl EndSummary {
         }
     }
 
-    /// Counts a notice.
+    /// Adds a notice to the counters.
     fn count_notice(&mut self, notice: &Notice)
-        requires { IsEndBelow (2 ^ 60) self.old }
+        requires { EndpointCountersAreAtMost (2 ^ 60) self.old }
         ensures counts { CountsNotices (notice.now ∷ []) self.old self.new }
-        ensures most { GrowsAtMost 64005 self.old self.new }
+        ensures most { EndpointCountersGrowAtMost 64005 self.old self.new }
     {
         match notice {
             Notice::Got(message) => {
@@ -48,12 +48,12 @@ impl EndSummary {
         }
     }
 
-    /// Counts notices.
+    /// Adds notices to the counters.
     pub(crate) fn count_notices(&mut self, notices: &[Notice])
-        requires small { IsEndBelow (2 ^ 59) self.old }
+        requires small { EndpointCountersAreAtMost (2 ^ 59) self.old }
         requires size { length notices.now ≤ 3 }
         ensures counts { CountsNotices notices.now self.old self.new }
-        ensures most { GrowsAtMost 192015 self.old self.new }
+        ensures most { EndpointCountersGrowAtMost 192015 self.old self.new }
     {
         for notice in notices {
             self.count_notice(notice);

@@ -1,5 +1,4 @@
-//! The generated run: the events of a session made from a number, stepped over the channel and
-//! counted.
+//! The generated session: makes the events of a session from a number, carries them out, and counts what happens.
 #![tactic(auto)]
 
 ghost use Rattle.std.specs.Prelude.{ℕ, ◌≤◌};
@@ -14,18 +13,18 @@ mod script;
 mod summary;
 mod text;
 
-pub use end_summary::EndSummary;
+pub use end_summary::EndpointSummary;
 pub use run::make;
 pub use script::Script;
 pub use summary::Summary;
 pub use text::summary_lines;
 
-/// A generated run inverts at most three bits of each block, and all of its messages are octets.
+/// A generated session inverts at most three bits of each block, and its messages consist of octets.
 pub fn law_generated_is_benign()
     ensures { (n : ℕ) → IsBenign (generated_events n) }
 {}
 
-/// A generated run has exactly one summary.
+/// A generated session has exactly one summary.
 pub fn law_one_summary()
     ensures { (n tsc : ℕ) → tsc ≤ 7 → HasOneSummary tsc (generated_events n) }
 {}

@@ -1,27 +1,25 @@
-//! Steps a world through the generated events.
+//! Carries out the generated events one after another.
 ghost use Rattle.std.specs.Prelude.{◌≡◌, ◌≤◌, ◌+◌, IfOk, OnErr};
-ghost use Rattle.um_block.specs.Tallies.{tally_after};
+ghost use Rattle.um_link.specs.um_block.Tallies.{counter_after};
 ghost use Rattle.um_make.specs.Generated.{generated_events};
-ghost use Rattle.um_make.specs.Runs.{SumsUp, IsDelivered};
+ghost use Rattle.um_make.specs.Runs.{IsSummaryOfEvents, AcksAreDelivered};
 
 use crate::script::Script;
 use crate::summary::Summary;
 use std::alloc::Global;
-use um_block::Radio;
-use um_io::NoMemory;
-use um_link::{Step, World};
+use um_link::{NoMemory, Radio, Step, World};
 use um_script::Room;
 
-/// Steps a new world through the generated run of `n` messages, over SDCCH with training sequence
-/// `tsc` (0 to 7), and counts what happens. Allocates all memory before the first step.
+/// Carries out the generated session of `n` messages, on SDCCH with training sequence `tsc` (0 to 7), and counts what happens. Allocates
+/// all memory before the first event.
 pub fn make<R: Radio>(alloc: Global, n: u32, tsc: u8, radio: &mut R) -> Result<Summary, NoMemory>
     requires some { 1 ≤ n }
     requires most { n ≤ 1000 }
     requires tsc { tsc ≤ 7 }
-    ensures run { IfOk result (λ s. SumsUp tsc (generated_events n) s) }
-    ensures delivered { IfOk result (λ s. IsDelivered s) }
-    ensures sent { IfOk result (λ s. R.sent radio.new ≡ tally_after s.sends (R.sent radio.old)) }
-    ensures heard { IfOk result (λ s. R.heard radio.new ≡ tally_after (s.takes + s.drops) (R.heard radio.old)) }
+    ensures run { IfOk result (λ s. IsSummaryOfEvents tsc (generated_events n) s) }
+    ensures delivered { IfOk result (λ s. AcksAreDelivered s) }
+    ensures sent { IfOk result (λ s. R.sent radio.new ≡ counter_after s.sends (R.sent radio.old)) }
+    ensures heard { IfOk result (λ s. R.heard radio.new ≡ counter_after (s.takes + s.drops) (R.heard radio.old)) }
     ensures silent { OnErr result (radio.new ≡ radio.old) }
 {
     let mut world = World::new(alloc, tsc)?;

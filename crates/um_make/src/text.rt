@@ -1,27 +1,27 @@
-//! The lines that report a generated run.
+//! Writes the lines that report on a generated session.
 ghost use Rattle.std.specs.Prelude.{◌≡◌, ◌+◌, ◌≤◌, ◌<◌, [], ◌++◌, codes, length};
 ghost use Rattle.std.specs.Fmt.{decimal};
-ghost use Rattle.um_make.specs.Texts.{words_line, steps_line, end_line, summary_text};
+ghost use Rattle.um_make.specs.Texts.{make_line, steps_line, endpoint_line, summary_text};
 
-use crate::end_summary::EndSummary;
+use crate::end_summary::EndpointSummary;
 use crate::summary::Summary;
-use um_lines::Text;
+use um_script::Text;
 
-/// Writes the four lines of a run of `n` messages with training sequence `tsc`.
+/// Writes the four lines for a session of `n` messages with training sequence `tsc`.
 pub fn summary_lines(out: &mut Text, n: u32, tsc: u8, summary: &Summary)
     requires { out.old ≡ [] }
     ensures text { out.new ≡ summary_text n tsc summary.now }
     ensures size { length out.new < 2000 }
 {
-    push_words(out, n, tsc);
-    push_steps(out, summary);
-    push_end(out, b"mob", &summary.mobile);
-    push_end(out, b"net", &summary.network);
+    push_make_line(out, n, tsc);
+    push_steps_line(out, summary);
+    push_endpoint_line(out, b"mob", &summary.mobile);
+    push_endpoint_line(out, b"net", &summary.network);
 }
 
-fn push_words(out: &mut Text, n: u32, tsc: u8)
+fn push_make_line(out: &mut Text, n: u32, tsc: u8)
     requires { out.old ≡ [] }
-    ensures text { out.new ≡ words_line n tsc }
+    ensures text { out.new ≡ make_line n tsc }
     ensures length { length out.new ≤ 100 }
 {
     out.push(b"make ");
@@ -31,7 +31,7 @@ fn push_words(out: &mut Text, n: u32, tsc: u8)
     out.push(b"\n");
 }
 
-fn push_steps(out: &mut Text, summary: &Summary)
+fn push_steps_line(out: &mut Text, summary: &Summary)
     requires { length out.old ≤ 100 }
     ensures text { out.new ≡ out.old ++ steps_line summary.now }
     ensures length { length out.new ≤ length out.old + 250 }
@@ -44,10 +44,10 @@ fn push_steps(out: &mut Text, summary: &Summary)
     out.push(b"\n");
 }
 
-fn push_end(out: &mut Text, name: &[u8], summary: &EndSummary)
+fn push_endpoint_line(out: &mut Text, name: &[u8], summary: &EndpointSummary)
     requires space { length out.old ≤ 1000 }
     requires name { length name.now ≤ 3 }
-    ensures text { out.new ≡ out.old ++ end_line name.now summary.now }
+    ensures text { out.new ≡ out.old ++ endpoint_line name.now summary.now }
     ensures length { length out.new ≤ length out.old + 200 }
 {
     out.push(name);

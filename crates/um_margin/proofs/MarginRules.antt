@@ -1,11 +1,9 @@
--- The command `margin` has one output for every input, since bursts have exactly one comparison.
+-- The command `margin` has exactly one output for every input, since bursts have exactly one comparison.
 use Rattle.std.proofs.Common.{[], refl, sym, ap, ◌∙◌}
-use Rattle.um_block.specs.Received.{access_places, sync_places}
-use Rattle.um_bursts.specs.um_driver.Rules.{IsDetermined}
-use Rattle.um_bursts.specs.um_driver.Laws.{HasOneOutput}
-use Rattle.um_bursts.proofs.BurstRules.{HaveOneAnswer, HaveSomeAnswer, bursts_are_determined, bursts_have_one_output}
-use Rattle.um_margin.specs.Margins.{margin_answers, margin_rules}
-use Rattle.um_margin.specs.Texts.{block_text, access_text, sync_text}
+use Rattle.um_block.specs.Received.{access_soft_bits, sync_soft_bits}
+use Rattle.um_bursts.{specs.um_driver.{Rules.IsDetermined, Laws.HasOneOutput}, proofs.BurstRules.{HaveOneAnswer, HaveSomeAnswer}}
+use Rattle.um_bursts.proofs.BurstRules.{bursts_are_determined, bursts_have_one_output}
+use Rattle.um_margin.specs.{Margins.{margin_answers, margin_rules}, Texts.{block_text, access_text, sync_text}}
 use Rattle.um_margin.proofs.Comparing.{one_compared, one_compared_block, some_compared_block, some_compared_access, some_compared_sync}
 
 one_answer : HaveOneAnswer margin_answers
@@ -13,9 +11,9 @@ one_answer = record {
   block = λ bursts y y' (c, compared, text) (c', compared', text').
       text ∙ ap block_text (one_compared_block bursts c c' compared compared') ∙ sym text';
   access = λ bsic burst y y' (c, compared, text) (c', compared', text').
-      text ∙ ap (access_text bsic) (one_compared (access_places burst) c c' compared compared') ∙ sym text';
+      text ∙ ap (access_text bsic) (one_compared (access_soft_bits burst) c c' compared compared') ∙ sym text';
   sync = λ burst y y' (c, compared, text) (c', compared', text').
-      text ∙ ap sync_text (one_compared (sync_places burst) c c' compared compared') ∙ sym text';
+      text ∙ ap sync_text (one_compared (sync_soft_bits burst) c c' compared compared') ∙ sym text';
 }
 
 some_answer : HaveSomeAnswer margin_answers

@@ -1,20 +1,19 @@
-//! The command `margin`, over the lines of the command `replay`.
+//! The command `margin`, which reads the same lines as the command `replay`.
 ghost use Rattle.std.specs.Prelude.{◌≡◌, ◌++◌, ◌<◌, length};
 ghost use Rattle.std.specs.List.{All};
-ghost use Rattle.bit_blocks.specs.SoftValues.{AllSoft};
-ghost use Rattle.um_block.specs.Received.{access_places, sync_places};
-ghost use Rattle.um_margin.specs.Compared.{IsCompared, IsComparedBlock};
+ghost use Rattle.um_block.specs.bit_blocks.SoftValues.{AllSoftBits};
+ghost use Rattle.um_block.specs.Received.{access_soft_bits, sync_soft_bits};
+ghost use Rattle.um_margin.specs.Compared.{AreComparedWords, AreComparedBlockWords};
 ghost use Rattle.um_margin.specs.Margins.{margin_answers};
 
 use crate::comparison::{Comparison, compare};
 use crate::lines::{access_line, block_line, sync_line};
-use bit_blocks::{Bits, INFORMATION_BITS};
-use burst_map::{AccessView, BURST_BITS, SyncView};
-use um_block::{gather_block, join_halves};
-use um_bursts::Reports;
-use um_lines::Text;
+use um_block::{
+    AccessView, BURST_BITS, Bits, INFORMATION_BITS, SyncView, deinterleave_block, join_halves,
+};
+use um_bursts::{Reports, Text};
 
-/// Answers bursts by their most likely word and the next one.
+/// Answers bursts by a line that compares their two most likely words.
 #[derive(Drop)]
 pub struct Margins {}
 
@@ -35,22 +34,22 @@ impl Reports for Margins {
 }
 
 fn compare_block(bursts: &[[i8; BURST_BITS]; 4]) -> Comparison<INFORMATION_BITS>
-    requires { All AllSoft bursts.now }
-    ensures { IsComparedBlock bursts.now result }
+    requires { All AllSoftBits bursts.now }
+    ensures { AreComparedBlockWords bursts.now result }
 {
-    compare(&gather_block(bursts))
+    compare(&deinterleave_block(bursts))
 }
 
 fn compare_access(burst: &[i8; 88]) -> Comparison<18>
-    requires { AllSoft burst.now }
-    ensures { IsCompared (access_places burst.now) result }
+    requires { AllSoftBits burst.now }
+    ensures { AreComparedWords (access_soft_bits burst.now) result }
 {
     compare(AccessView::new(burst).body())
 }
 
 fn compare_sync(burst: &[i8; BURST_BITS]) -> Comparison<39>
-    requires { AllSoft burst.now }
-    ensures { IsCompared (sync_places burst.now) result }
+    requires { AllSoftBits burst.now }
+    ensures { AreComparedWords (sync_soft_bits burst.now) result }
 {
     let parts = SyncView::new(burst);
     compare(&join_halves(parts.first(), parts.second()))

@@ -1,14 +1,13 @@
-//! The most likely word for soft values, and the next one.
+//! Compares the two most likely words (information lists) for soft bits.
 ghost use Rattle.std.specs.Prelude.{◌≡◌, ◌*◌, ◌≤◌, length};
-ghost use Rattle.bit_blocks.specs.SoftValues.{AllSoft};
-ghost use Rattle.um_margin.specs.Compared.{IsCompared};
+ghost use Rattle.um_block.specs.bit_blocks.SoftValues.{AllSoftBits};
+ghost use Rattle.um_margin.specs.Compared.{AreComparedWords};
 
-use bit_blocks::{Bits, INFORMATION_BITS};
-use list_decode::margin;
+use list_decode::{decode, margin};
 use std::marker::Model;
-use trellis_decode::decode;
+use um_block::{Bits, INFORMATION_BITS};
 
-/// The two most likely words, the difference of their likelihoods, and the likelihood of the first.
+/// The two most likely words, the difference of their path metrics, and the path metric of the first.
 #[derive(Drop, Debug)]
 pub(crate) struct Comparison<const N: usize> {
     pub(crate) best: Bits<N>,
@@ -17,7 +16,7 @@ pub(crate) struct Comparison<const N: usize> {
     pub(crate) metric: i32,
 }
 
-// Its model is one record, whatever `N` is.
+// In contracts, a `Comparison` is a `Compared` record, whatever `N` is.
 impl<const N: usize> Model for Comparison<N> {
     ghost use Rattle.um_margin.specs.Compared.{Compared};
 
@@ -26,13 +25,13 @@ impl<const N: usize> Model for Comparison<N> {
     ghost view = { λ c. record { best = c.best; next = c.next; margin = c.margin; metric = c.metric } };
 }
 
-/// Finds the two most likely words for soft values, of which there are two for each bit.
+/// Finds the two most likely words of `N` bits. `soft` has two soft bits for each of them.
 pub(crate) fn compare<const N: usize>(soft: &[i8]) -> Comparison<N>
     requires count { length soft.now ≡ 2 * N }
     requires at_least { 5 ≤ N }
     requires at_most { N ≤ INFORMATION_BITS }
-    requires soft { AllSoft soft.now }
-    ensures { IsCompared soft.now result }
+    requires soft { AllSoftBits soft.now }
+    ensures { AreComparedWords soft.now result }
 {
     let mut best = [0; N];
     let mut next = [0; N];

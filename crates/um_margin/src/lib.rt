@@ -1,4 +1,4 @@
-//! The command `margin`: the lead of the most likely word over the next one.
+//! The command `margin`: by how much path metric the most likely word leads the next one.
 #![tactic(auto)]
 
 mod command;
@@ -7,4 +7,4 @@ mod laws;
 mod lines;
 
 pub use command::Margins;
-pub use laws::{law_margin, law_one_output, law_same_word};
+pub use laws::{law_best_word_is_received, law_margin, law_one_output};

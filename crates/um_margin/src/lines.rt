@@ -1,10 +1,10 @@
-//! The lines of a comparison.
+//! The answer lines of `margin`, which write a comparison.
 ghost use Rattle.std.specs.Prelude.{◌≡◌, ◌+◌, ◌-◌, ◌<◌, ◌≤◌, [], ◌++◌, length};
-ghost use Rattle.um_margin.specs.Texts.{numbers_text, hex_word, digit_word, block_text, access_text, sync_text};
+ghost use Rattle.um_margin.specs.Texts.{margin_and_metric_text, hex_word_text, digit_word_text, block_text, access_text, sync_text};
 
 use crate::comparison::Comparison;
-use bit_blocks::{BLOCK_BITS, BLOCK_OCTETS, Bits, INFORMATION_BITS};
-use um_lines::{Text, packed};
+use um_block::{BLOCK_BITS, BLOCK_OCTETS, Bits, INFORMATION_BITS};
+use um_bursts::{Text, octets_from_bits_at};
 
 /// Writes `block margin G metric M data HEX46 check HEX10 next HEX46 HEX10`.
 pub(crate) fn block_line(out: &mut Text, c: &Comparison<INFORMATION_BITS>)
@@ -13,7 +13,7 @@ pub(crate) fn block_line(out: &mut Text, c: &Comparison<INFORMATION_BITS>)
     ensures size { length out.new < 2000 }
 {
     out.push(b"block");
-    push_numbers(out, c.margin, c.metric);
+    push_margin_and_metric(out, c.margin, c.metric);
     out.push(b" data ");
     push_hex_word(out, &c.best, b" check ");
     out.push(b" next ");
@@ -29,7 +29,7 @@ pub(crate) fn access_line(out: &mut Text, bsic: &Bits<6>, c: &Comparison<18>)
 {
     out.push(b"access ");
     out.push_digits(bsic.as_slice());
-    push_numbers(out, c.margin, c.metric);
+    push_margin_and_metric(out, c.margin, c.metric);
     out.push(b" data ");
     push_digit_word(out, &c.best, 8, 14, b" check ");
     out.push(b" next ");
@@ -44,7 +44,7 @@ pub(crate) fn sync_line(out: &mut Text, c: &Comparison<39>)
     ensures size { length out.new < 2000 }
 {
     out.push(b"sync");
-    push_numbers(out, c.margin, c.metric);
+    push_margin_and_metric(out, c.margin, c.metric);
     out.push(b" data ");
     push_digit_word(out, &c.best, 25, 35, b" check ");
     out.push(b" next ");
@@ -52,9 +52,9 @@ pub(crate) fn sync_line(out: &mut Text, c: &Comparison<39>)
     out.push(b"\n");
 }
 
-fn push_numbers(out: &mut Text, margin: i32, metric: i32)
+fn push_margin_and_metric(out: &mut Text, margin: i32, metric: i32)
     requires { length out.old + 100 ≤ 4096 }
-    ensures text { out.new ≡ out.old ++ numbers_text margin metric }
+    ensures text { out.new ≡ out.old ++ margin_and_metric_text margin metric }
     ensures length { length out.new ≤ length out.old + 100 }
 {
     out.push(b" margin ");
@@ -63,19 +63,19 @@ fn push_numbers(out: &mut Text, margin: i32, metric: i32)
     out.push(itoa::Buffer::new().format(metric).as_bytes());
 }
 
-// Writes the data and the CRC of a block's word as hexadecimal octets.
+// Writes the data and the CRC of a block's word as hexadecimal octets, with the text `between` between them.
 fn push_hex_word(out: &mut Text, word: &Bits<INFORMATION_BITS>, between: &[u8])
     requires space { length out.old + 100 ≤ 4096 }
     requires size { length between.now ≤ 10 }
-    ensures text { out.new ≡ out.old ++ hex_word word.now between.now }
+    ensures text { out.new ≡ out.old ++ hex_word_text word.now between.now }
     ensures length { length out.new ≡ length out.old + 56 + length between.now }
 {
-    out.push_hex(&packed::<BLOCK_OCTETS, _>(word, 0));
+    out.push_hex(&octets_from_bits_at::<BLOCK_OCTETS, _>(word, 0));
     out.push(between);
-    out.push_hex(&packed::<5, _>(word, BLOCK_BITS));
+    out.push_hex(&octets_from_bits_at::<5, _>(word, BLOCK_BITS));
 }
 
-// Writes the bits of `word` as digits: the data up to index `place`, and the CRC up to `end`.
+// Writes the bits of `word` as digits: the data before index `place`, the text `between`, and the CRC from there to index `end`.
 fn push_digit_word<const N: usize>(
     out: &mut Text,
     word: &Bits<N>,
@@ -87,7 +87,7 @@ fn push_digit_word<const N: usize>(
     requires size { length between.now ≤ 10 }
     requires order { place ≤ end }
     requires within { end ≤ N }
-    ensures text { out.new ≡ out.old ++ digit_word word.now place (end - place) between.now }
+    ensures text { out.new ≡ out.old ++ digit_word_text word.now place (end - place) between.now }
     ensures length { length out.new ≡ length out.old + end + length between.now }
 {
     let bits = word.as_slice();

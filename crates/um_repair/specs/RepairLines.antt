@@ -1,35 +1,35 @@
--- The lines of the command `repair` (this project's own rule).
+-- The input lines of the command `repair` (this project's own rule).
 use Rattle.std.specs.Prelude.{ℕ, List, [], ◌∷◌, ◌++◌, Option, Some, None, Result}
-use Rattle.bit_blocks.specs.Octets.{bits_of}
+use Rattle.um_lines.specs.bit_blocks.Octets.{bits_of}
 use Rattle.um_lines.specs.declared.fault.LineFault.{LineFault}
-use Rattle.um_lines.specs.Fields.{Value, Several}
-use Rattle.um_lines.specs.Forms.{anywhere, line_fault}
-use Rattle.um_lines.specs.Reading.{LineIs, read_words}
-use Rattle.um_lines.specs.RepairForms.{RepairName, CrcWord, repair_forms}
+use Rattle.um_lines.specs.Fields.{Value, NumberList}
+use Rattle.um_lines.specs.Forms.{no_order_fault, line_fault}
+use Rattle.um_lines.specs.Reading.{LineParsesTo, parsed_words}
+use Rattle.um_lines.specs.RepairForms.{RepairLineKind, CrcWord, repair_forms}
 use Rattle.um_repair.specs.declared.parsing.RepairLine.{RepairLine}
 use Rattle.um_repair.specs.declared.parsing.RepairLine.TheVariants.{Skip, Word}
 
 -- the bits of the data octets, then those of the CRC octets
-abbrev pub word_bits : List ℕ → List ℕ → List ℕ
-word_bits data_octets check = bits_of data_octets ++ bits_of check
+abbrev pub bits_of_word_and_check : List ℕ → List ℕ → List ℕ
+bits_of_word_and_check data_octets check = bits_of data_octets ++ bits_of check
 
--- what a line with this form and these values means
-abbrev pub repair_of : RepairName → List Value → RepairLine
-repair_of CrcWord (Several octets ∷ Several check ∷ []) = Word (word_bits octets check)
-repair_of name values = Skip
+-- what a line means that has the form with this name and these values in it
+abbrev pub repair_line_of_values : RepairLineKind → List Value → RepairLine
+repair_line_of_values CrcWord (NumberList octets ∷ NumberList check ∷ []) = Word (bits_of_word_and_check octets check)
+repair_line_of_values name values = Skip
 
-abbrev pub repair_line : Option (RepairName × List Value) → RepairLine
+abbrev pub repair_line : Option (RepairLineKind × List Value) → RepairLine
 repair_line None = Skip
-repair_line (Some meaning) = repair_of meaning.0 meaning.1
+repair_line (Some meaning) = repair_line_of_values meaning.0 meaning.1
 
--- the first reason against a line, if any
+-- the first reason to refuse a line, if there is one
 abbrev pub repair_fault : List ℕ → Option LineFault
-repair_fault line = line_fault repair_forms anywhere line
+repair_fault line = line_fault repair_forms no_order_fault line
 
 -- what a line of `repair` means
-abbrev pub RepairMeans : List ℕ → RepairLine → Type 0
-RepairMeans line = LineIs repair_forms anywhere repair_line line
+abbrev pub RepairLineMeans : List ℕ → RepairLine → Type 0
+RepairLineMeans line = LineParsesTo repair_forms no_order_fault repair_line line
 
--- what a reader returns for the words of a line (internal)
+-- what the parser returns for the words of a line (used inside this crate)
 abbrev pub read_repair : List (List ℕ) → Result RepairLine LineFault
-read_repair words = read_words repair_forms anywhere repair_line words
+read_repair words = parsed_words repair_forms no_order_fault repair_line words

@@ -2,11 +2,11 @@
 use Rattle.std.specs.Prelude.{ℕ, List, ◌++◌, take, drop, codes}
 use Rattle.std.specs.Fmt.{decimal}
 use Rattle.hex.specs.Hex.{encode_lower}
-use Rattle.bit_blocks.specs.Octets.{octets_of}
+use Rattle.um_lines.specs.bit_blocks.Octets.{octets_of}
 use Rattle.fire_repair.specs.declared.repairs.RepairAnswer.{RepairAnswer}
 use Rattle.fire_repair.specs.declared.repairs.RepairAnswer.TheVariants.{Holds, Repaired, NoRepair}
 
--- `repaired first P span S data HEX46 check HEX10`
+-- the line `repaired first P span S data HEX46 check HEX10`
 abbrev pub repaired_text : List ℕ → ℕ → ℕ → List ℕ
 repaired_text word first span =
     codes "repaired first " ++ decimal first ++ codes " span " ++ decimal span

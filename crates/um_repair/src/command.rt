@@ -1,7 +1,7 @@
-//! The command `repair`, for the driver of all commands.
+//! The command `repair`, as the driver of all commands calls it.
 ghost use Rattle.std.specs.Prelude.{◌≡◌, ◌<◌, [], Some, None, length, MatchResult};
 ghost use Rattle.um_repair.specs.RepairLines.{repair_fault};
-ghost use Rattle.um_repair.specs.RepairRules.{AnswersRepair};
+ghost use Rattle.um_repair.specs.RepairRules.{AnswersRepairLine};
 
 use crate::lines::answer_line;
 use crate::parsing::{RepairLine, parse_repair};
@@ -16,12 +16,12 @@ pub struct Repair;
 impl Answer for Repair {
     ghost fault = { repair_fault };
 
-    ghost answers = { AnswersRepair };
+    ghost answers = { AnswersRepairLine };
 
     fn answer(&self, line: &[u8], out: &mut Text) -> Result<(), LineFault>
         requires empty { out.old ≡ [] }
         ensures answered { MatchResult result
-            (λ _. (repair_fault line.now ≡ None) × AnswersRepair line.now out.new)
+            (λ _. (repair_fault line.now ≡ None) × AnswersRepairLine line.now out.new)
             (λ reason. (repair_fault line.now ≡ Some reason) × (out.new ≡ [])) }
         ensures size { length out.new < 2000 }
     {

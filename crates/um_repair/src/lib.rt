@@ -1,4 +1,4 @@
-//! The command `repair`: corrects short bursts of wrong bits in words of the control channels.
+//! The command `repair`: corrects short error bursts in codewords of the control channels.
 #![tactic(auto)]
 
 mod command;

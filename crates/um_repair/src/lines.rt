@@ -2,9 +2,8 @@
 ghost use Rattle.std.specs.Prelude.{◌≡◌, ◌*◌, ◌<◌, [], length};
 ghost use Rattle.um_repair.specs.Texts.{answer_text, repaired_text};
 
-use bit_blocks::{BLOCK_BITS, BLOCK_OCTETS, Bits};
 use fire_repair::RepairAnswer;
-use um_lines::{Text, packed};
+use um_lines::{BLOCK_BITS, BLOCK_OCTETS, Bits, Text, octets_from_bits_at};
 
 /// Writes `holds`, `none`, or `repaired first P span S data HEX46 check HEX10`.
 pub(crate) fn answer_line(out: &mut Text, answer: &RepairAnswer)
@@ -31,8 +30,8 @@ fn repaired_line(out: &mut Text, word: &Bits<224>, first: u8, span: u8)
     out.push(b" span ");
     out.push_decimal(u64::from(span));
     out.push(b" data ");
-    out.push_hex(&packed::<BLOCK_OCTETS, _>(word, 0));
+    out.push_hex(&octets_from_bits_at::<BLOCK_OCTETS, _>(word, 0));
     out.push(b" check ");
-    out.push_hex(&packed::<5, _>(word, BLOCK_BITS));
+    out.push_hex(&octets_from_bits_at::<5, _>(word, BLOCK_BITS));
     out.push(b"\n");
 }

@@ -1,14 +1,14 @@
-//! The lines of the command `repair`.
+//! Parses the input lines of the command `repair`.
 ghost use Rattle.std.specs.Prelude.{◌≡◌, ◌∷◌, IfOk, codes};
 ghost use Rattle.std.specs.Result.{result_err};
-ghost use Rattle.bit_blocks.specs.Bits.{AllBits};
-ghost use Rattle.bit_blocks.specs.Octets.{bits_of};
+ghost use Rattle.um_lines.specs.bit_blocks.Bits.{AllBits};
+ghost use Rattle.um_lines.specs.bit_blocks.Octets.{bits_of};
 ghost use Rattle.um_lines.specs.Words.{words};
-ghost use Rattle.um_repair.specs.RepairLines.{repair_fault, RepairMeans, read_repair, word_bits};
+ghost use Rattle.um_repair.specs.RepairLines.{repair_fault, RepairLineMeans, read_repair, bits_of_word_and_check};
 
-use bit_blocks::{BLOCK_BITS, BLOCK_OCTETS, Bits, from_octets};
 use um_lines::{
-    LINE_LIMIT, LineFault, are_hex_digits, first_word, is_skipped, octets_of, two_words,
+    BLOCK_BITS, BLOCK_OCTETS, Bits, LINE_LIMIT, LineFault, are_hex_digits, first_word, from_octets,
+    is_skipped, octets_of, parse_two_words,
 };
 
 /// What a line of `repair` asks for.
@@ -20,13 +20,11 @@ pub enum RepairLine {
     Word(Bits<224>),
 }
 
-/// Reads a line of `repair` without its line feed: `word HEX46 HEX10`, the data and check of a
-/// block as `replay` writes them.
+/// Parses a line of `repair`, without its line feed: `word HEX46 HEX10`, the data and the CRC of a block as `replay` writes them.
 ///
-/// The first reason that applies to the whole line is returned: `Long`, `Word`, `Digits` or
-/// `Length`.
+/// Refuses a line with the first of these reasons that applies: `Long`, `Word`, `Digits` or `Length`.
 pub fn parse_repair(line: &[u8]) -> Result<RepairLine, LineFault>
-    ensures means { IfOk result (RepairMeans line.now) }
+    ensures means { IfOk result (RepairLineMeans line.now) }
     ensures refused { result_err result ≡ repair_fault line.now }
 {
     if line.len() > LINE_LIMIT {
@@ -53,19 +51,19 @@ fn parse_words(line: &[u8]) -> Result<RepairLine, LineFault>
 fn parse_word(rest: &[u8]) -> Result<RepairLine, LineFault>
     ensures { result ≡ read_repair (codes "word" ∷ words rest.now) }
 {
-    let (octets, check) = two_words(rest)?;
+    let (octets, check) = parse_two_words(rest)?;
     if !are_hex_digits(octets) || !are_hex_digits(check) {
         return Err(LineFault::Digits);
     }
     if octets.len() != 46 || check.len() != 10 {
         return Err(LineFault::Length);
     }
-    Ok(RepairLine::Word(word_of(&octets_of(octets), &octets_of(check))))
+    Ok(RepairLine::Word(word_of_octets(&octets_of(octets), &octets_of(check))))
 }
 
 /// The bits of the data octets, then those of the CRC octets.
-fn word_of(octets: &[u8; BLOCK_OCTETS], check: &[u8; 5]) -> Bits<224>
-    ensures { result ≡ word_bits octets.now check.now }
+fn word_of_octets(octets: &[u8; BLOCK_OCTETS], check: &[u8; 5]) -> Bits<224>
+    ensures { result ≡ bits_of_word_and_check octets.now check.now }
 {
     let mut bits = [0; 224];
     from_octets(octets, &mut bits[..BLOCK_BITS]);

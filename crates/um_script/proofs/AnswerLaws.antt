@@ -1,49 +1,36 @@
--- Different answer lines have different texts: a text is split at its line feeds and spaces, which
--- no word contains, and each line is read back from its words.
-use Rattle.std.proofs.Common.{◌≡◌, ◌≢◌, ℕ, suc, ◌-◌, ◌<◌, ◌≤◌, ◌^◌, ◌==◌, ℤ, pos, negsuc, nat_abs}
-use Rattle.std.proofs.Common.{nat_le, Bool, true, false, List, [], ◌∷◌, ◌++◌, length, length-append, map, take, drop, Option}
-use Rattle.std.proofs.Common.{Some, None, codes, if◌then◌else◌, refl, sym, ap, ◌∙◌, inl, inr, append_assoc, append-nil, arith}
-use Rattle.std.specs.Fmt.{decimal, signed_decimal}
-use Rattle.std.specs.List.{list_all, list_any, join_with_byte, slice_split}
-use Rattle.std.specs.Str.{bytes_eq, all_ascii_digits}
-use Rattle.std.specs.Str.Parse.{digits_value}
-use Rattle.std.proofs.lemmas.Bool.{and_parts, cases_lt, le-leb, leb-true, ne_eqb}
-use Rattle.std.proofs.lemmas.Fmt.{digits_decimal, digits_value-decimal}
-use Rattle.std.proofs.lemmas.List.Elements.{All-nil, All-cons, All-append}
-use Rattle.std.proofs.lemmas.List.Splits.{slice_split_at, join_with_byte-slice_split}
-use Rattle.std.proofs.lemmas.Str.Parse.{IsNumeralModel, numerals_by_value, tells_all_ascii_digits}
-use Rattle.std.specs.List as L
+-- Different answer lines have different texts. No word contains a line feed or a space, so a text can be split into its lines and words,
+-- and each line can be read back from its words.
+use Rattle.std.proofs.Common.{◌≡◌, ◌≢◌, ℕ, suc, ◌-◌, ◌<◌, ◌≤◌, ◌^◌, ◌==◌, ℤ, pos, negsuc, nat_abs, nat_le, Bool, true, false, List, [], ◌∷◌}
+use Rattle.std.proofs.Common.{◌++◌, length, length-append, take, codes, if◌then◌else◌, refl, sym, ap, ◌∙◌, inl, inr, append_assoc}
+use Rattle.std.proofs.{Common.{append-nil, arith}, lemmas.{Bool.{and_parts, cases_lt, le-leb, leb-true, ne_eqb}, Fmt.digits_decimal}}
+use Rattle.std.proofs.lemmas.{Fmt.digits_value-decimal, List.{Elements.{All-nil, All-cons, All-append}, Splits.slice_split_at}}
+use Rattle.std.proofs.lemmas.{List.Splits.join_with_byte-slice_split, Str.Parse.{IsNumeralModel, numerals_by_value, tells_all_ascii_digits}}
+use Rattle.std.specs.{Fmt.{decimal, signed_decimal}, List.{list_all, list_any, join_with_byte, slice_split}, Str.bytes_eq}
+use Rattle.std.specs.Str.{all_ascii_digits, Parse.digits_value}
 use Rattle.hex.specs.Hex.{encode_lower, is_hex_digit}
-use Rattle.lapdm_window.specs.declared.Sapi.{Sapi}
-use Rattle.lapdm_window.specs.declared.Sapi.TheVariants.{Zero, Three}
-use Rattle.lapdm_window.specs.declared.Reason.{Reason}
-use Rattle.lapdm_window.specs.declared.Reason.TheVariants.{Contention, Failed, Refused, Released}
-use Rattle.lapdm_window.specs.declared.Notice.{Notice}
-use Rattle.lapdm_window.specs.declared.Notice.TheVariants as N
-use Rattle.lapdm_window.specs.declared.Refused.TheVariants as Q
-use Rattle.lapdm_window.specs.Ends.{Mobile, Network}
+use Rattle.um_link.specs.lapdm_window.declared.{Sapi.{Sapi, TheVariants.{Zero, Three}}, Reason.{Reason, TheVariants.{Contention, Failed}}}
+use Rattle.um_link.specs.lapdm_window.{declared.{Reason.TheVariants.{Refused, Released}, Notice.Notice}, Ends.{Mobile, Network}}
+use Rattle.um_link.specs.um_air.Sessions.{AreOctets}
+use Rattle.um_lines.{specs.{Fields.octets_from_hex, Words.{IsNotSpace, words}, Spelled.octets_word}, proofs.SpelledLaws.hex_digits_decode}
+use Rattle.um_lines.proofs.WordLists.{words-join}
+use Rattle.um_script.specs.{AnswerWords.{actor_word, sapi_suffix, call_refusal_word, closing_reason_word}, AnswerLines.Reception}
+use Rattle.um_script.specs.AnswerLines.{AnswerLine, No, Takes, Drops, Reports, Sends, All, answer_lines, notice_words, reception_words}
+use Rattle.um_script.specs.AnswerLines.{spaced_words, answer_words, answer_line_text, lines_text, answer_text, ReceptionIsInRange}
+use Rattle.um_script.specs.AnswerLines.{NoticeIsInRange, LineIsInRange, LinesAreInRange}
+use Rattle.std.specs.List as L
+use Rattle.um_link.specs.lapdm_window.declared.Notice.TheVariants as N
+use Rattle.um_link.specs.lapdm_window.declared.Refused.TheVariants as Q
 use Rattle.um_link.specs.lapdm_link.Events as E
 use Rattle.um_link.specs.um_air.Air as A
-use Rattle.um_link.specs.um_air.Sessions.{AreOctets}
-use Rattle.um_lines.specs.Fields.{hex_octets}
-use Rattle.um_lines.specs.Words.{IsNoSpace, words}
-use Rattle.um_lines.proofs.SpelledLaws.{encoded}
-use Rattle.um_lines.proofs.WordLists.{words-join}
-use Rattle.um_lines.specs.Spelled.{octets_word}
-use Rattle.um_script.specs.AnswerWords.{who_word, link_word, refusal_word, closing_word}
-use Rattle.um_script.specs.AnswerLines.{Reception, AnswerLine, No, Takes, Drops, Reports, Sends, All, answer_lines, notice_words}
-use Rattle.um_script.specs.AnswerLines.{reception_words}
-use Rattle.um_script.specs.AnswerLines.{spaced_words, said_words, said_text, lines_text, answer_text, FitsReception, FitsNotice, FitsLine}
-use Rattle.um_script.specs.AnswerLines.{FitLines}
 
 -- ---- how lines are written
 
 pub lines_text_append : (ls ms : List AnswerLine) → lines_text (ls ++ ms) ≡ lines_text ls ++ lines_text ms
 lines_text_append [] ms = refl
-lines_text_append (l ∷ ls) ms = ap (λ t. said_text l ++ t) (lines_text_append ls ms)
-    ∙ sym (append_assoc (said_text l) (lines_text ls) (lines_text ms))
+lines_text_append (l ∷ ls) ms = ap (λ t. answer_line_text l ++ t) (lines_text_append ls ms)
+    ∙ sym (append_assoc (answer_line_text l) (lines_text ls) (lines_text ms))
 
--- a line is its first word, and a space before each further word
+-- joining words with spaces gives the first word, followed by a space and a word for each further word
 pub join-spaced : (w : List ℕ) (ws : List (List ℕ)) → join_with_byte 32 (w ∷ ws) ≡ w ++ spaced_words ws
 join-spaced w [] = sym (append-nil w)
 join-spaced w (v ∷ ws) = ap (λ t. w ++ 32 ∷ t) (join-spaced v ws)
@@ -56,12 +43,12 @@ pub line_spaced : (w : List ℕ) (ws vs : List (List ℕ)) → (w ++ spaced_word
 line_spaced w ws vs =
     append_assoc w (spaced_words ws) (spaced_words vs) ∙ ap (λ t. w ++ t) (sym (spaced-append ws vs)) ∙ sym (join-spaced w (ws ++ vs))
 
--- the line of a notice, after the text written so far and before the lines still to come
+-- appending the words of a notice one after another gives the line of the notice
 pub report_line : (out : List ℕ) (who : E.Who) (sapi : Sapi) (notice : Notice) (rest : List ℕ) →
-    ((((out ++ who_word who) ++ link_word sapi) ++ spaced_words (notice_words notice)) ++ codes "\n") ++ rest
-    ≡ out ++ said_text (Reports who sapi notice) ++ rest
+    ((((out ++ actor_word who) ++ sapi_suffix sapi) ++ spaced_words (notice_words notice)) ++ codes "\n") ++ rest
+    ≡ out ++ answer_line_text (Reports who sapi notice) ++ rest
 report_line out who sapi notice rest =
-    rw (join-spaced (who_word who ++ link_word sapi) (notice_words notice)) (simp append_assoc)
+    rw (join-spaced (actor_word who ++ sapi_suffix sapi) (notice_words notice)) (simp append_assoc)
 
 -- ---- no word has a space or a line feed
 
@@ -94,7 +81,7 @@ own : IsNumeralModel (λ ds. all_ascii_digits ds ≡ true) (digits_value 10)
 own = numerals_by_value _ tells_all_ascii_digits
 
 octets_plain : (octets : List ℕ) → AreOctets octets → is_plain (encode_lower octets) ≡ true
-octets_plain octets small = hex_plain (encode_lower octets) (encoded octets small).0
+octets_plain octets small = hex_plain (encode_lower octets) (hex_digits_decode octets small).0
 
 message_plain : (m : List ℕ) → AreOctets m → is_plain (octets_word m) ≡ true
 message_plain [] small = refl
@@ -107,13 +94,13 @@ signed_plain : (z : ℤ) → nat_abs z < 2 ^ 63 → is_plain (signed_decimal z) 
 signed_plain (pos n) fits = number_plain n (omega arith)
 signed_plain (negsuc n) fits = number_plain (suc n) (omega arith)
 
-who_plain : (who : E.Who) → is_plain (who_word who) ≡ true
+who_plain : (who : E.Who) → is_plain (actor_word who) ≡ true
 who_plain (E.BySide Mobile) = refl
 who_plain (E.BySide Network) = refl
 who_plain E.Other = refl
 who_plain E.Nobody = refl
 
-name_plain : (who : E.Who) (sapi : Sapi) → is_plain (who_word who ++ link_word sapi) ≡ true
+name_plain : (who : E.Who) (sapi : Sapi) → is_plain (actor_word who ++ sapi_suffix sapi) ≡ true
 name_plain (E.BySide Mobile) Zero = refl
 name_plain (E.BySide Mobile) Three = refl
 name_plain (E.BySide Network) Zero = refl
@@ -123,17 +110,17 @@ name_plain E.Other Three = refl
 name_plain E.Nobody Zero = refl
 name_plain E.Nobody Three = refl
 
-why_plain : (why : E.Why) → is_plain (refusal_word why) ≡ true
+why_plain : (why : E.EventRefusal) → is_plain (call_refusal_word why) ≡ true
 why_plain E.Nothing = refl
 why_plain E.AirFull = refl
-why_plain (E.Because Q.NotIdle) = refl
-why_plain (E.Because Q.NotOpen) = refl
-why_plain (E.Because Q.NotRunning) = refl
-why_plain (E.Because Q.Empty) = refl
-why_plain (E.Because Q.TooLong) = refl
-why_plain (E.Because Q.Full) = refl
+why_plain (E.ByEndpoint Q.NotIdle) = refl
+why_plain (E.ByEndpoint Q.NotOpen) = refl
+why_plain (E.ByEndpoint Q.NotRunning) = refl
+why_plain (E.ByEndpoint Q.Empty) = refl
+why_plain (E.ByEndpoint Q.TooLong) = refl
+why_plain (E.ByEndpoint Q.Full) = refl
 
-closing_plain : (reason : Reason) → is_plain (closing_word reason) ≡ true
+closing_plain : (reason : Reason) → is_plain (closing_reason_word reason) ≡ true
 closing_plain Contention = refl
 closing_plain Failed = refl
 closing_plain Refused = refl
@@ -142,7 +129,7 @@ closing_plain Released = refl
 are_plain : List (List ℕ) → Bool
 are_plain ws = list_all is_plain ws
 
-notice_plain : (notice : Notice) → FitsNotice notice → are_plain (notice_words notice) ≡ true
+notice_plain : (notice : Notice) → NoticeIsInRange notice → are_plain (notice_words notice) ≡ true
 unfolding are_plain
 notice_plain (N.Opened m) fits = rw (message_plain m fits) refl
 notice_plain (N.Got m) fits = rw (message_plain m fits) refl
@@ -151,13 +138,13 @@ notice_plain (N.Acked n) fits = rw (number_plain n fits) refl
 notice_plain N.Oversize fits = refl
 notice_plain (N.Closed reason) fits = rw (closing_plain reason) refl
 
-reception_plain : (h : Reception) (rest : List (List ℕ)) → FitsReception h → are_plain rest ≡ true →
+reception_plain : (h : Reception) (rest : List (List ℕ)) → ReceptionIsInRange h → are_plain rest ≡ true →
     are_plain (reception_words h ++ rest) ≡ true
 unfolding are_plain
 reception_plain h rest fits plain =
     rw (number_plain h.tsc fits.tsc, number_plain h.train fits.train, signed_plain h.metric fits.metric, plain) refl
 
-line_plain : (line : AnswerLine) → FitsLine line → are_plain (said_words line) ≡ true
+line_plain : (line : AnswerLine) → LineIsInRange line → are_plain (answer_words line) ≡ true
 unfolding are_plain
 line_plain (No why) fits = rw (why_plain why) refl
 line_plain (Takes who octets h) fits = rw (who_plain who, octets_plain octets fits.0, reception_plain h [] fits.1 refl) refl
@@ -178,14 +165,14 @@ plain_all (octet ∷ word) other below plain =
     let large : 33 ≤ octet = leb-true 33 octet parts.0 in
     All-cons (λ o. o ≢ other) octet word (λ same. omega arith) (plain_all word other below parts.1)
 
-spaceless : (ws : List (List ℕ)) → are_plain ws ≡ true → L.All (L.All IsNoSpace) ws
+spaceless : (ws : List (List ℕ)) → are_plain ws ≡ true → L.All (L.All IsNotSpace) ws
 unfolding are_plain
-spaceless [] plain = All-nil (L.All IsNoSpace)
+spaceless [] plain = All-nil (L.All IsNotSpace)
 spaceless (w ∷ ws) plain =
     let parts = and_parts (is_plain w) (are_plain ws) plain in
-    All-cons (L.All IsNoSpace) w ws (plain_all w 32 (omega arith) parts.0) (spaceless ws parts.1)
+    All-cons (L.All IsNotSpace) w ws (plain_all w 32 (omega arith) parts.0) (spaceless ws parts.1)
 
--- no line feed in words and the spaces between them
+-- the words and the spaces between them contain no line feed
 abbrev Uncut : List ℕ → Type 0
 Uncut text = L.All (λ octet. (octet == 10) ≡ false) text
 
@@ -208,7 +195,7 @@ uncut_join (w ∷ v ∷ ws) plain =
     uncut_append w (32 ∷ join_with_byte 32 (v ∷ ws)) (uncut_word w parts.0)
     (All-cons (λ octet. (octet == 10) ≡ false) 32 (join_with_byte 32 (v ∷ ws)) refl (uncut_join (v ∷ ws) parts.1))
 
--- the first line of a text
+-- splitting a text at its line feeds gives its first line
 cut : (text rest : List ℕ) → Uncut text → slice_split (λ o. o == 10) ((text ++ 10 ∷ []) ++ rest) ≡ text ∷ slice_split (λ o. o == 10) rest
 cut text rest uncut =
     ap (slice_split (λ o. o == 10)) (append_assoc text (10 ∷ []) rest) ∙ slice_split_at (λ o. o == 10) text 10 rest uncut refl
@@ -221,7 +208,7 @@ first_line t u r s h k e =
     let rest : slice_split (λ o. o == 10) r ≡ slice_split (λ o. o == 10) s = cc in
     (first, sym (join_with_byte-slice_split 10 r) ∙ ap (join_with_byte 10) rest ∙ join_with_byte-slice_split 10 s)
 
-some_words : (line : AnswerLine) → said_words line ≢ []
+some_words : (line : AnswerLine) → answer_words line ≢ []
 some_words (No why) e = absurd cc
 some_words (Takes who octets h) e = absurd cc
 some_words (Drops who h octets check) e = absurd cc
@@ -229,11 +216,11 @@ some_words (Reports who sapi notice) e = absurd cc
 some_words (Sends who octets) e = absurd cc
 some_words All e = absurd cc
 
-same_words : (l m : AnswerLine) → FitsLine l → FitsLine m →
-    join_with_byte 32 (said_words l) ≡ join_with_byte 32 (said_words m) → said_words l ≡ said_words m
+same_words : (l m : AnswerLine) → LineIsInRange l → LineIsInRange m →
+    join_with_byte 32 (answer_words l) ≡ join_with_byte 32 (answer_words m) → answer_words l ≡ answer_words m
 same_words l m h k e =
-    sym (words-join (said_words l) (some_words l) (spaceless (said_words l) (line_plain l h))) ∙ ap words e
-    ∙ words-join (said_words m) (some_words m) (spaceless (said_words m) (line_plain m k))
+    sym (words-join (answer_words l) (some_words l) (spaceless (answer_words l) (line_plain l h))) ∙ ap words e
+    ∙ words-join (answer_words m) (some_words m) (spaceless (answer_words m) (line_plain m k))
 
 -- ---- a line is read back from its words
 
@@ -254,16 +241,16 @@ signed_read (octet ∷ word) = if octet == 45 then negsuc (digits_value 10 word 
 reception_read : List ℕ → List ℕ → List ℕ → Reception
 reception_read tsc train metric = record { tsc = digits_value 10 tsc; train = digits_value 10 train; metric = signed_read metric }
 
-why_read : List ℕ → E.Why
+why_read : List ℕ → E.EventRefusal
 why_read word =
     if bytes_eq word (codes "nothing") then E.Nothing
     else if bytes_eq word (codes "airfull") then E.AirFull
-    else if bytes_eq word (codes "notidle") then E.Because Q.NotIdle
-    else if bytes_eq word (codes "notopen") then E.Because Q.NotOpen
-    else if bytes_eq word (codes "notrunning") then E.Because Q.NotRunning
-    else if bytes_eq word (codes "empty") then E.Because Q.Empty
-    else if bytes_eq word (codes "toolong") then E.Because Q.TooLong
-    else E.Because Q.Full
+    else if bytes_eq word (codes "notidle") then E.ByEndpoint Q.NotIdle
+    else if bytes_eq word (codes "notopen") then E.ByEndpoint Q.NotOpen
+    else if bytes_eq word (codes "notrunning") then E.ByEndpoint Q.NotRunning
+    else if bytes_eq word (codes "empty") then E.ByEndpoint Q.Empty
+    else if bytes_eq word (codes "toolong") then E.ByEndpoint Q.TooLong
+    else E.ByEndpoint Q.Full
 
 reason_read : List ℕ → Reason
 reason_read word =
@@ -274,9 +261,9 @@ reason_read word =
 
 notice_read : List ℕ → List ℕ → Notice
 notice_read verb word =
-    if bytes_eq verb (codes "opened") then N.Opened (hex_octets word)
-    else if bytes_eq verb (codes "got") then N.Got (hex_octets word)
-    else if bytes_eq verb (codes "unit") then N.Unit (hex_octets word)
+    if bytes_eq verb (codes "opened") then N.Opened (octets_from_hex word)
+    else if bytes_eq verb (codes "got") then N.Got (octets_from_hex word)
+    else if bytes_eq verb (codes "unit") then N.Unit (octets_from_hex word)
     else if bytes_eq verb (codes "acked") then N.Acked (digits_value 10 word)
     else N.Closed (reason_read word)
 
@@ -285,17 +272,18 @@ two_read name word = if bytes_eq name (codes "no") then No (why_read word) else 
 
 three_read : List ℕ → List ℕ → List ℕ → AnswerLine
 three_read name verb word =
-    if bytes_eq verb (codes "sends") then Sends (who_read name) (hex_octets word)
+    if bytes_eq verb (codes "sends") then Sends (who_read name) (octets_from_hex word)
     else Reports (who_read name) (sapi_read name) (notice_read verb word)
 
 abbrev line_read : List (List ℕ) → AnswerLine
 line_read (a ∷ b ∷ []) = two_read a b
 line_read (a ∷ b ∷ c ∷ []) = three_read a b c
-line_read (a ∷ b ∷ c ∷ d ∷ e ∷ f ∷ g ∷ h ∷ i ∷ []) = Takes (who_read a) (hex_octets c) (reception_read e g i)
-line_read (a ∷ b ∷ c ∷ d ∷ e ∷ f ∷ g ∷ h ∷ i ∷ j ∷ k ∷ l ∷ []) = Drops (who_read a) (reception_read d f h) (hex_octets j) (hex_octets l)
+line_read (a ∷ b ∷ c ∷ d ∷ e ∷ f ∷ g ∷ h ∷ i ∷ []) = Takes (who_read a) (octets_from_hex c) (reception_read e g i)
+line_read (a ∷ b ∷ c ∷ d ∷ e ∷ f ∷ g ∷ h ∷ i ∷ j ∷ k ∷ l ∷ []) = Drops (who_read a) (reception_read d f h) (octets_from_hex j)
+    (octets_from_hex l)
 line_read ws = All
 
-who_back : (who : E.Who) → who_read (who_word who) ≡ who
+who_back : (who : E.Who) → who_read (actor_word who) ≡ who
 unfolding who_read
 who_back (E.BySide Mobile) = refl
 who_back (E.BySide Network) = refl
@@ -303,7 +291,7 @@ who_back E.Other = refl
 who_back E.Nobody = refl
 
 name_back : (who : E.Who) (sapi : Sapi) →
-    (who_read (who_word who ++ link_word sapi) ≡ who) × (sapi_read (who_word who ++ link_word sapi) ≡ sapi)
+    (who_read (actor_word who ++ sapi_suffix sapi) ≡ who) × (sapi_read (actor_word who ++ sapi_suffix sapi) ≡ sapi)
 unfolding who_read sapi_read
 name_back (E.BySide Mobile) Zero = (refl, refl)
 name_back (E.BySide Mobile) Three = (refl, refl)
@@ -314,7 +302,7 @@ name_back E.Other Three = (refl, refl)
 name_back E.Nobody Zero = (refl, refl)
 name_back E.Nobody Three = (refl, refl)
 
-oversize_back : (who : E.Who) (sapi : Sapi) → two_read (who_word who ++ link_word sapi) (codes "oversize") ≡ Reports who sapi N.Oversize
+oversize_back : (who : E.Who) (sapi : Sapi) → two_read (actor_word who ++ sapi_suffix sapi) (codes "oversize") ≡ Reports who sapi N.Oversize
 unfolding two_read who_read sapi_read
 oversize_back (E.BySide Mobile) Zero = refl
 oversize_back (E.BySide Mobile) Three = refl
@@ -325,28 +313,28 @@ oversize_back E.Other Three = refl
 oversize_back E.Nobody Zero = refl
 oversize_back E.Nobody Three = refl
 
-why_back : (why : E.Why) → two_read (codes "no") (refusal_word why) ≡ No why
+why_back : (why : E.EventRefusal) → two_read (codes "no") (call_refusal_word why) ≡ No why
 unfolding two_read why_read
 why_back E.Nothing = refl
 why_back E.AirFull = refl
-why_back (E.Because Q.NotIdle) = refl
-why_back (E.Because Q.NotOpen) = refl
-why_back (E.Because Q.NotRunning) = refl
-why_back (E.Because Q.Empty) = refl
-why_back (E.Because Q.TooLong) = refl
-why_back (E.Because Q.Full) = refl
+why_back (E.ByEndpoint Q.NotIdle) = refl
+why_back (E.ByEndpoint Q.NotOpen) = refl
+why_back (E.ByEndpoint Q.NotRunning) = refl
+why_back (E.ByEndpoint Q.Empty) = refl
+why_back (E.ByEndpoint Q.TooLong) = refl
+why_back (E.ByEndpoint Q.Full) = refl
 
-reason_back : (reason : Reason) → reason_read (closing_word reason) ≡ reason
+reason_back : (reason : Reason) → reason_read (closing_reason_word reason) ≡ reason
 unfolding reason_read
 reason_back Contention = refl
 reason_back Failed = refl
 reason_back Refused = refl
 reason_back Released = refl
 
-octets_back : (octets : List ℕ) → AreOctets octets → hex_octets (encode_lower octets) ≡ octets
-octets_back octets small = (encoded octets small).1
+octets_back : (octets : List ℕ) → AreOctets octets → octets_from_hex (encode_lower octets) ≡ octets
+octets_back octets small = (hex_digits_decode octets small).1
 
-message_back : (m : List ℕ) → AreOctets m → hex_octets (octets_word m) ≡ m
+message_back : (m : List ℕ) → AreOctets m → octets_from_hex (octets_word m) ≡ m
 message_back [] small = refl
 message_back (octet ∷ m) small = octets_back (octet ∷ m) small
 
@@ -365,7 +353,7 @@ signed_back (pos n) fits =
 signed_back (negsuc n) fits =
     let one : suc n - 1 ≡ n = omega arith in ap (λ k. negsuc (k - 1)) (digits_value-decimal own (suc n) (omega arith)) ∙ ap negsuc one
 
-reception_back : (h : Reception) → FitsReception h → reception_read (decimal h.tsc) (decimal h.train) (signed_decimal h.metric) ≡ h
+reception_back : (h : Reception) → ReceptionIsInRange h → reception_read (decimal h.tsc) (decimal h.train) (signed_decimal h.metric) ≡ h
 unfolding reception_read
 reception_back h fits =
     let tsc : digits_value 10 (decimal h.tsc) ≡ h.tsc = digits_value-decimal own h.tsc fits.tsc in
@@ -373,8 +361,8 @@ reception_back h fits =
     let metric : signed_read (signed_decimal h.metric) ≡ h.metric = signed_back h.metric fits.metric in
     rw (tsc, train, metric) refl
 
-notice_back : (who : E.Who) (sapi : Sapi) (notice : Notice) → FitsNotice notice →
-    line_read (said_words (Reports who sapi notice)) ≡ Reports who sapi notice
+notice_back : (who : E.Who) (sapi : Sapi) (notice : Notice) → NoticeIsInRange notice →
+    line_read (answer_words (Reports who sapi notice)) ≡ Reports who sapi notice
 unfolding three_read notice_read
 notice_back who sapi (N.Opened m) fits = rw ((name_back who sapi).0, (name_back who sapi).1, message_back m fits) refl
 notice_back who sapi (N.Got m) fits = rw ((name_back who sapi).0, (name_back who sapi).1, message_back m fits) refl
@@ -383,7 +371,7 @@ notice_back who sapi (N.Acked n) fits = rw ((name_back who sapi).0, (name_back w
 notice_back who sapi N.Oversize fits = oversize_back who sapi
 notice_back who sapi (N.Closed reason) fits = rw ((name_back who sapi).0, (name_back who sapi).1, reason_back reason) refl
 
-line_back : (line : AnswerLine) → FitsLine line → line_read (said_words line) ≡ line
+line_back : (line : AnswerLine) → LineIsInRange line → line_read (answer_words line) ≡ line
 unfolding three_read
 line_back (No why) fits = why_back why
 line_back (Takes who octets h) fits = rw (who_back who, octets_back octets fits.0, reception_back h fits.1) refl
@@ -401,22 +389,22 @@ no_line l ls e =
     omega (
       arith,
       none,
-      length-append (join_with_byte 32 (said_words l) ++ 10 ∷ []) (lines_text ls),
-      length-append (join_with_byte 32 (said_words l)) (10 ∷ []),
+      length-append (join_with_byte 32 (answer_words l) ++ 10 ∷ []) (lines_text ls),
+      length-append (join_with_byte 32 (answer_words l)) (10 ∷ []),
     )
 
-same_lines : (ls ms : List AnswerLine) → FitLines ls → FitLines ms → lines_text ls ≡ lines_text ms → ls ≡ ms
+same_lines : (ls ms : List AnswerLine) → LinesAreInRange ls → LinesAreInRange ms → lines_text ls ≡ lines_text ms → ls ≡ ms
 same_lines [] [] h k e = refl
 same_lines [] (m ∷ ms) h k e = absurd (no_line m ms (sym e))
 same_lines (l ∷ ls) [] h k e = absurd (no_line l ls e)
 same_lines (l ∷ ls) (m ∷ ms) h k e =
-    let parts = first_line (join_with_byte 32 (said_words l)) (join_with_byte 32 (said_words m)) (lines_text ls) (lines_text ms)
-    (uncut_join (said_words l) (line_plain l h.0)) (uncut_join (said_words m) (line_plain m k.0)) e in
+    let parts = first_line (join_with_byte 32 (answer_words l)) (join_with_byte 32 (answer_words m)) (lines_text ls) (lines_text ms)
+    (uncut_join (answer_words l) (line_plain l h.0)) (uncut_join (answer_words m) (line_plain m k.0)) e in
     let first : l ≡ m = sym (line_back l h.0) ∙ ap line_read (same_words l m h.0 k.0 parts.0) ∙ line_back m k.0 in
     let rest : ls ≡ ms = same_lines ls ms h.1 k.1 parts.1 in
     cc
 
-pub different_lines : (x y : A.Answer) → FitLines (answer_lines x) → FitLines (answer_lines y) →
+pub different_lines : (x y : A.Answer) → LinesAreInRange (answer_lines x) → LinesAreInRange (answer_lines y) →
     answer_text x ≡ answer_text y → answer_lines x ≡ answer_lines y
 different_lines x y h k e = same_lines (answer_lines x) (answer_lines y) h k e
 

@@ -1,9 +1,8 @@
--- Unpacking octets to bits and packing them again gives the same octets.
-use Rattle.std.proofs.Common.{◌≡◌, ℕ, suc, ◌+◌, ◌*◌, ◌/◌, ◌%◌, ◌<◌, List, [], ◌∷◌, get_or, Fits, w8}
-use Rattle.std.proofs.Common.{refl, arith}
-use Rattle.bit_blocks.specs.Octets.{bits_of, octets_of}
+-- Octets are unchanged if they are unpacked to bits and packed again.
+use Rattle.std.proofs.Common.{◌≡◌, ℕ, suc, ◌+◌, ◌*◌, ◌/◌, ◌%◌, ◌<◌, List, [], ◌∷◌, get_or, Fits, w8, refl, arith}
+use Rattle.um_link.specs.bit_blocks.Octets.{bits_of, octets_of}
 
--- an octet is the sum of its bits
+-- an octet is the sum of its eight bits, each multiplied by its power of two
 octet_of_bits : (x : ℕ) → x < 256
     → x % 2 + 2 * (x / 2 % 2) + 4 * (x / 4 % 2) + 8 * (x / 8 % 2) + 16 * (x / 16 % 2) + 32 * (x / 32 % 2) + 64 * (x / 64 % 2) + 128
     * (x / 128 % 2) ≡ x

@@ -1,7 +1,5 @@
--- Distinct numbers below a bound are at most as many as the bound (the pigeonhole principle,
--- adapted from the standard library's proof).
-use Rattle.std.proofs.Common.{◌≡◌, ℕ, zero, suc, ◌<◌, ◌≤◌, Bool, true, false, cond, eqb, inl, inr, ◌⊎◌, refl, sym}
-use Rattle.std.proofs.Common.{◌∙◌, arith}
+-- There are at most n different numbers below n (the pigeonhole principle, adapted from the standard library's proof).
+use Rattle.std.proofs.Common.{◌≡◌, ℕ, zero, suc, ◌<◌, ◌≤◌, Bool, true, false, cond, eqb, inl, inr, ◌⊎◌, refl, sym, ◌∙◌, arith}
 use Rattle.std.proofs.lemmas.Bool.{eqb-true, eqb-false}
 
 abbrev avoiding : (ℕ → ℕ) → ℕ → ℕ → ℕ → ℕ
@@ -30,8 +28,8 @@ Into-less f n m into one i p =
     let ne : f i ≡ f n → ⊥ = λ e. let z = one i n (omega arith) (omega arith) e in omega arith in
     elim (avoids (f i) m (f n)) [ inl w ↦ omega (arith, w.0, w.1) | inr w ↦ omega (arith, w.0, w.1) ]
 
-one_less : (f : ℕ → ℕ) (n m : ℕ) → OneToOne f (suc n) → OneToOne (avoiding f m n) n
-one_less f n m one i j p q e =
+without_last : (f : ℕ → ℕ) (n m : ℕ) → OneToOne f (suc n) → OneToOne (avoiding f m n) n
+without_last f n m one i j p q e =
     elim (avoids (f i) m (f n)) [
       | inl v ↦ elim (avoids (f j) m (f n)) [
         | inl w ↦ one i j (omega arith) (omega arith) (v.0 ∙ sym w.0)
@@ -46,4 +44,4 @@ one_less f n m one i j p q e =
 pub pigeonhole : (n m : ℕ) (f : ℕ → ℕ) → Into f n m → OneToOne f n → n ≤ m
 pigeonhole zero m f into one = omega arith
 pigeonhole (suc n) zero f into one = absurd (omega (arith, into n (omega arith)))
-pigeonhole (suc n) (suc m) f into one = omega (arith, pigeonhole n m (avoiding f m n) (Into-less f n m into one) (one_less f n m one))
+pigeonhole (suc n) (suc m) f into one = omega (arith, pigeonhole n m (avoiding f m n) (Into-less f n m into one) (without_last f n m one))

@@ -1,40 +1,31 @@
--- Words that give bit indices of a block: their values, capped at 592, and repeated ones, found by
--- marking each index that occurred.
-use Rattle.std.proofs.Common.{◌≡◌, ℕ, zero, suc, ◌+◌, ◌-◌, ◌*◌, ◌<◌, ◌≤◌, ◌==◌, min, nat_lt, Bool, true}
-use Rattle.std.proofs.Common.{false, not, ◌||◌, List, [], ◌∷◌, length, replicate, drop, get_or, add-one, inl, inr, IsTrue, Ok}
-use Rattle.std.proofs.Common.{refl, ap, sym, ◌∙◌, subst, arith}
-use Rattle.std.specs.Prelude.{slice_set, All}
-use Rattle.std.specs.List.{list_any}
-use Rattle.std.specs.Str.{all_ascii_digits}
-use Rattle.std.specs.Char.{is_ascii_digit, digit_value}
-use Rattle.std.specs.Str.Parse.{digits_value, digits_value_after}
-use Rattle.std.proofs.Math.Seq.{drop-cons}
-use Rattle.std.proofs.lemmas.Bool.{cases_Bool, and_parts, or_parts, eq-eqb, ne_eqb, cases_eq, ltb-true, ltb-false}
-use Rattle.std.proofs.lemmas.Bool.Decides.{nat_tests}
-use Rattle.std.proofs.lemmas.List.{length-set, get_or-replicate, get_or-set_same, get_or-set_other}
-use Rattle.std.proofs.lemmas.List.Elements.{All-cons, All-nil}
-use Rattle.um_script.proofs.Pigeonholes.{pigeonhole}
-use Rattle.um_lines.specs.Fields.{is_decimal}
-use Rattle.um_lines.specs.Forms.{is_repeated}
-use Rattle.um_script.specs.ScriptReading.{is_above, places_read}
-use Rattle.um_script.specs.Held.{numbers_of, is_named_again}
+-- The words that give bit indices of a block: their values, capped at 592, and how repeated indices are found by marking each index that
+-- has occurred.
+use Rattle.std.proofs.Common.{◌≡◌, ℕ, zero, suc, ◌+◌, ◌-◌, ◌*◌, ◌<◌, ◌≤◌, ◌==◌, min, nat_lt, Bool, true, false, not, ◌||◌, List, [], ◌∷◌}
+use Rattle.std.proofs.Common.{length, replicate, drop, get_or, add-one, inl, inr, IsTrue, Ok, refl, ap, sym, ◌∙◌, subst, arith}
+use Rattle.std.proofs.{Math.Seq.drop-cons, lemmas.Bool.{cases_Bool, and_parts, or_parts, eq-eqb, ne_eqb, cases_eq, ltb-true, ltb-false}}
+use Rattle.std.proofs.lemmas.{Bool.Decides.nat_tests, List.{length-set, get_or-replicate, get_or-set_same, get_or-set_other}}
+use Rattle.std.{proofs.lemmas.List.Elements.{All-cons, All-nil}, specs.{Prelude.{slice_set, All}, List.list_any, Str.all_ascii_digits}}
+use Rattle.std.specs.{Str.Parse.{digits_value, digits_value_after}, Char.{is_ascii_digit, digit_value}}
+use Rattle.um_script.{proofs.Pigeonholes.pigeonhole, specs.{ScriptReading.{is_above_591, parsed_bit_indices}, Held.numbers_of_words}}
+use Rattle.um_script.specs.Held.{is_marked_or_repeated}
+use Rattle.um_lines.specs.{Fields.is_decimal, Forms.has_repeated_number}
 
 -- ---- the value of digits
 
--- further digits never make a number smaller
-grows : (n : ℕ) (ds : List ℕ) → n ≤ digits_value_after 10 n ds
-grows n [] = omega arith
-grows n (d ∷ ds) = let rest = grows (n * 10 + digit_value d) ds in omega arith
+-- appending digits to a number never makes it smaller
+appending_digits_never_lowers : (n : ℕ) (ds : List ℕ) → n ≤ digits_value_after 10 n ds
+appending_digits_never_lowers n [] = omega arith
+appending_digits_never_lowers n (d ∷ ds) = let rest = appending_digits_never_lowers (n * 10 + digit_value d) ds in omega arith
 
--- capping a number at 592 before further digits does not change the capped result
-cut_off : (n : ℕ) (ds : List ℕ) → min (digits_value_after 10 (min n 592) ds) 592 ≡ min (digits_value_after 10 n ds) 592
-cut_off n ds =
+-- capping a number at 592 before more digits are appended does not change the capped result
+cap_before_appending : (n : ℕ) (ds : List ℕ) → min (digits_value_after 10 (min n 592) ds) 592 ≡ min (digits_value_after 10 n ds) 592
+cap_before_appending n ds =
     elim (cases_Bool (nat_lt 592 n)) [
       | inl above ↦
           let over : 592 < n = ltb-true 592 n above in
           let most : min n 592 ≡ 592 = omega arith in
-          let a = grows 592 ds in
-          let b = grows n ds in
+          let a = appending_digits_never_lowers 592 ds in
+          let b = appending_digits_never_lowers n ds in
           rw most (omega arith)
       | inr within ↦
           let under : n ≤ 592 = ltb-false 592 n within in
@@ -50,7 +41,7 @@ pub record IsNextPlace (word : List ℕ) (i place new : ℕ) : Type 0 where
   pub digits : IsTrue (all_ascii_digits (drop (i + 1) word))
   pub same : min (digits_value_after 10 new (drop (i + 1) word)) 592 ≡ min (digits_value_after 10 place (drop i word)) 592
 
--- one more digit
+-- the value of a word after one more of its digits is read
 pub next_place : (word : List ℕ) (i place new : ℕ) → i < length word → IsTrue (all_ascii_digits (drop i word))
     → new ≡ min (10 * place + (get_or word i 0 - 48)) 592 → IsNextPlace word i place new
 next_place word i place new within digits is =
@@ -64,7 +55,7 @@ next_place word i place new within digits is =
       digits = parts.1;
       same =
           ap (λ n. min (digits_value_after 10 n (drop (i + 1) word)) 592) (is ∙ ap (λ n. min n 592) value)
-          ∙ cut_off (place * 10 + digit_value (get_or word i 0)) (drop (i + 1) word)
+          ∙ cap_before_appending (place * 10 + digit_value (get_or word i 0)) (drop (i + 1) word)
           ∙ ap (λ ds. min (digits_value_after 10 place ds) 592) (sym cut);
     }
 
@@ -74,7 +65,7 @@ next_place word i place new within digits is =
 abbrev is_among : List ℕ → ℕ → Bool
 is_among before n = list_any (λ m. n == m) before
 
--- whether a number occurs in `before` or twice in the second list
+-- whether a number of the second list occurs in `before` or twice in the second list
 abbrev names_among : List ℕ → List ℕ → Bool
 names_among before [] = false
 names_among before (n ∷ ns) = is_among before n || names_among (n ∷ before) ns
@@ -90,23 +81,23 @@ or_apart (m ∷ ns) before n =
     swapped false true false d = refl
     swapped false false c d = refl
 
-names_apart : (ns before : List ℕ) → names_among before ns ≡ (list_any (is_among before) ns || is_repeated ns)
+names_apart : (ns before : List ℕ) → names_among before ns ≡ (list_any (is_among before) ns || has_repeated_number ns)
 names_apart [] before = refl
 names_apart (n ∷ ns) before =
     rw (names_apart ns (n ∷ before), or_apart ns before n)
-    (regrouped (is_among before n) (list_any (λ m. m == n) ns) (list_any (is_among before) ns) (is_repeated ns))
+    (or_regrouped (is_among before n) (list_any (λ m. m == n) ns) (list_any (is_among before) ns) (has_repeated_number ns))
   where
-    regrouped : (a b c d : Bool) → (a || ((b || c) || d)) ≡ ((a || c) || (b || d))
-    regrouped true b c d = refl
-    regrouped false true true d = refl
-    regrouped false true false d = refl
-    regrouped false false c d = refl
+    or_regrouped : (a b c d : Bool) → (a || ((b || c) || d)) ≡ ((a || c) || (b || d))
+    or_regrouped true b c d = refl
+    or_regrouped false true true d = refl
+    or_regrouped false true false d = refl
+    or_regrouped false false c d = refl
 
 none_among : (ns : List ℕ) → list_any (is_among []) ns ≡ false
 none_among [] = refl
 none_among (n ∷ ns) = none_among ns
 
--- an index is marked if it occurred before
+-- exactly the indices that have occurred are marked
 record Marks (marks : List Bool) (before : List ℕ) : Type 0 where
   pub many : length marks ≡ 592
   pub each : (k : ℕ) → k < 592 → get_or marks k false ≡ is_among before k
@@ -127,11 +118,11 @@ mark marks before n small m =
           ];
     }
 
-again : (ws : List (List ℕ)) (marks : List Bool) (before : List ℕ) → list_any is_above ws ≡ false → Marks marks before
-    → is_named_again marks (numbers_of ws) ≡ names_among before (numbers_of ws)
+again : (ws : List (List ℕ)) (marks : List Bool) (before : List ℕ) → list_any is_above_591 ws ≡ false → Marks marks before
+    → is_marked_or_repeated marks (numbers_of_words ws) ≡ names_among before (numbers_of_words ws)
 again [] marks before within m = refl
 again (w ∷ ws) marks before within m =
-    let parts = or_parts (is_above w) (list_any is_above ws) within in
+    let parts = or_parts (is_above_591 w) (list_any is_above_591 ws) within in
     let small : digits_value 10 w ≤ 591 = ltb-false 591 (digits_value 10 w) parts.0 in
     let first = m.each (digits_value 10 w) (omega arith) in
     let rest = again ws (slice_set marks (digits_value 10 w) true) (digits_value 10 w ∷ before) parts.1
@@ -141,25 +132,26 @@ again (w ∷ ws) marks before within m =
 unmarked : Marks (replicate 592 false) []
 unmarked = record { many = refl; each = λ k within. get_or-replicate 592 k false false within }
 
--- starting without marks, an index is repeated if it is found marked
-pub named_twice : (ws : List (List ℕ)) → list_any is_above ws ≡ false
-    → is_named_again (replicate 592 false) (numbers_of ws) ≡ is_repeated (numbers_of ws)
+-- if no index is marked at first, an index is repeated if and only if it is marked when it is reached
+pub named_twice : (ws : List (List ℕ)) → list_any is_above_591 ws ≡ false
+    → is_marked_or_repeated (replicate 592 false) (numbers_of_words ws) ≡ has_repeated_number (numbers_of_words ws)
 named_twice ws within =
-    again ws (replicate 592 false) [] within unmarked ∙ names_apart (numbers_of ws) [] ∙ rw (none_among (numbers_of ws)) refl
+    again ws (replicate 592 false) [] within unmarked ∙ names_apart (numbers_of_words ws) [] ∙ rw (none_among (numbers_of_words ws)) refl
 
--- an index that is found marked is repeated
+-- if an index is marked when it is reached, it is repeated
 pub named_here : (marks : List Bool) (ws others : List (List ℕ)) (w : List ℕ) (n : ℕ) → ws ≡ w ∷ others → n ≡ min (digits_value 10 w) 592
-    → list_any is_above ws ≡ false → get_or marks n false ≡ true → true ≡ is_named_again marks (numbers_of ws)
+    → list_any is_above_591 ws ≡ false → get_or marks n false ≡ true → true ≡ is_marked_or_repeated marks (numbers_of_words ws)
 named_here marks ws others w n is value within marked =
-    let first : list_any is_above (w ∷ others) ≡ false = subst (λ xs. list_any is_above xs ≡ false) is within in
-    let small : digits_value 10 w ≤ 591 = ltb-false 591 (digits_value 10 w) (or_parts (is_above w) (list_any is_above others) first).0 in
+    let first : list_any is_above_591 (w ∷ others) ≡ false = subst (λ xs. list_any is_above_591 xs ≡ false) is within in
+    let small : digits_value 10 w ≤ 591 = ltb-false 591 (digits_value 10 w) (or_parts (is_above_591 w)
+    (list_any is_above_591 others) first).0 in
     let same : n ≡ digits_value 10 w = omega arith in
     let here : get_or marks (digits_value 10 w) false ≡ true = subst (λ k. get_or marks k false ≡ true) same marked in
     rw is (rw here refl)
 
--- what is read of words that are valid, distinct indices
-pub places_held : (ws : List (List ℕ)) (ns : List ℕ) → list_any (λ w. not (is_decimal w)) ws ≡ false → list_any is_above ws ≡ false
-    → is_repeated (numbers_of ws) ≡ false → ns ≡ numbers_of ws → Ok ns ≡ places_read ws
+-- the result of reading words that are valid indices without repetition
+pub places_held : (ws : List (List ℕ)) (ns : List ℕ) → list_any (λ w. not (is_decimal w)) ws ≡ false → list_any is_above_591 ws ≡ false
+    → has_repeated_number (numbers_of_words ws) ≡ false → ns ≡ numbers_of_words ws → Ok ns ≡ parsed_bit_indices ws
 places_held ws ns decimal within once same = rw (decimal, within, once, same) refl
 
 -- ---- at most 592 distinct indices
@@ -174,36 +166,40 @@ not_found (m ∷ ns) n zero none within same =
 not_found (m ∷ ns) n (suc j) none within same =
     not_found ns n j (or_parts (m == n) (list_any (λ m. m == n) ns) none).1 (omega arith) same
 
-apart_at : (ns : List ℕ) → is_repeated ns ≡ false → (i j : ℕ) → i < length ns → j < length ns → get_or ns i 0 ≡ get_or ns j 0 → i ≡ j
+apart_at : (ns : List ℕ) → has_repeated_number ns ≡ false → (i j : ℕ) → i < length ns → j < length ns → get_or ns i 0 ≡ get_or ns j 0 →
+    i ≡ j
 apart_at [] once i j a b same = absurd (omega arith)
 apart_at (n ∷ ns) once zero zero a b same = refl
 apart_at (n ∷ ns) once zero (suc j) a b same =
-    absurd (not_found ns n j (or_parts (list_any (λ m. m == n) ns) (is_repeated ns) once).0 (omega arith) (sym same))
+    absurd (not_found ns n j (or_parts (list_any (λ m. m == n) ns) (has_repeated_number ns) once).0 (omega arith) (sym same))
 apart_at (n ∷ ns) once (suc i) zero a b same =
-    absurd (not_found ns n i (or_parts (list_any (λ m. m == n) ns) (is_repeated ns) once).0 (omega arith) same)
+    absurd (not_found ns n i (or_parts (list_any (λ m. m == n) ns) (has_repeated_number ns) once).0 (omega arith) same)
 apart_at (n ∷ ns) once (suc i) (suc j) a b same =
-    ap suc (apart_at ns (or_parts (list_any (λ m. m == n) ns) (is_repeated ns) once).1 i j (omega arith) (omega arith) same)
+    ap suc (apart_at ns (or_parts (list_any (λ m. m == n) ns) (has_repeated_number ns) once).1 i j (omega arith) (omega arith) same)
 
-small_at : (ws : List (List ℕ)) → list_any is_above ws ≡ false → (i : ℕ) → i < length (numbers_of ws) → get_or (numbers_of ws) i 0 < 592
+small_at : (ws : List (List ℕ)) → list_any is_above_591 ws ≡ false → (i : ℕ) → i < length (numbers_of_words ws) →
+    get_or (numbers_of_words ws) i 0 < 592
 small_at [] within i low = absurd (omega arith)
 small_at (w ∷ ws) within zero low =
-    let small : digits_value 10 w ≤ 591 = ltb-false 591 (digits_value 10 w) (or_parts (is_above w) (list_any is_above ws) within).0 in
+    let small : digits_value 10 w ≤ 591 = ltb-false 591 (digits_value 10 w) (or_parts (is_above_591 w)
+    (list_any is_above_591 ws) within).0 in
     omega arith
-small_at (w ∷ ws) within (suc i) low = small_at ws (or_parts (is_above w) (list_any is_above ws) within).1 i (omega arith)
+small_at (w ∷ ws) within (suc i) low = small_at ws (or_parts (is_above_591 w) (list_any is_above_591 ws) within).1 i (omega arith)
 
-numbers_many : (ws : List (List ℕ)) → length (numbers_of ws) ≡ length ws
+numbers_many : (ws : List (List ℕ)) → length (numbers_of_words ws) ≡ length ws
 numbers_many [] = refl
 numbers_many (w ∷ ws) = ap suc (numbers_many ws)
 
-pub few_places : (ws : List (List ℕ)) → list_any is_above ws ≡ false → is_repeated (numbers_of ws) ≡ false → length ws ≤ 592
+pub few_places : (ws : List (List ℕ)) → list_any is_above_591 ws ≡ false → has_repeated_number (numbers_of_words ws) ≡ false →
+    length ws ≤ 592
 few_places ws within once =
-    let few = pigeonhole (length (numbers_of ws)) 592 (λ i. get_or (numbers_of ws) i 0) (small_at ws within)
-    (apart_at (numbers_of ws) once) in
+    let few = pigeonhole (length (numbers_of_words ws)) 592 (λ i. get_or (numbers_of_words ws) i 0) (small_at ws within)
+    (apart_at (numbers_of_words ws) once) in
     omega (arith, few, numbers_many ws)
 
-pub are_places : (ws : List (List ℕ)) → list_any is_above ws ≡ false → All (λ place. place < 592) (numbers_of ws)
+pub are_places : (ws : List (List ℕ)) → list_any is_above_591 ws ≡ false → All (λ place. place < 592) (numbers_of_words ws)
 are_places [] within = All-nil (λ place. place < 592)
 are_places (w ∷ ws) within =
-    let parts = or_parts (is_above w) (list_any is_above ws) within in
+    let parts = or_parts (is_above_591 w) (list_any is_above_591 ws) within in
     let small : digits_value 10 w ≤ 591 = ltb-false 591 (digits_value 10 w) parts.0 in
-    All-cons (λ place. place < 592) (digits_value 10 w) (numbers_of ws) (omega arith) (are_places ws parts.1)
+    All-cons (λ place. place < 592) (digits_value 10 w) (numbers_of_words ws) (omega arith) (are_places ws parts.1)

@@ -1,29 +1,23 @@
--- The reader, which splits a line word by word, agrees with the line forms: by cases over the
--- actor, the verb and the number of words.
-use Rattle.std.proofs.Common.{◌≡◌, ℕ, suc, ◌-◌, ◌<◌, eqb, Bool, true, false, ◌||◌, List, [], ◌∷◌, length, map}
-use Rattle.std.proofs.Common.{replicate, Some, None, Ok, Err, codes, if◌then◌else◌, refl, ap, sym, subst, inl, inr, arith}
-use Rattle.std.specs.Cmp.Lexicographic.{pointwise}
-use Rattle.std.specs.List.{list_any}
-use Rattle.std.specs.Str.{bytes_eq}
-use Rattle.std.specs.Str.Parse.{digits_value}
-use Rattle.std.proofs.lemmas.Bool.{cases_Bool}
-use Rattle.std.proofs.lemmas.List.Splits.{length-slice_split}
-use Rattle.std.proofs.lemmas.Slice.Eq.{bytes_eq-Decides}
+-- The parser, which splits a line word by word, agrees with the line forms. The proof is by cases on who acts, what happens, and the number
+-- of words.
+use Rattle.std.proofs.Common.{◌≡◌, ℕ, suc, ◌-◌, ◌<◌, eqb, Bool, true, false, ◌||◌, List, [], ◌∷◌, length, map, replicate, Some, None, Ok}
+use Rattle.std.proofs.{Common.{Err, codes, if◌then◌else◌, refl, ap, sym, subst, inl, inr, arith}, lemmas.Bool.cases_Bool}
+use Rattle.std.{proofs.lemmas.{List.Splits.length-slice_split, Slice.Eq.bytes_eq-Decides}, specs.Cmp.Lexicographic.pointwise}
+use Rattle.std.specs.{List.list_any, Str.{bytes_eq, Parse.digits_value}}
+use Rattle.um_lines.specs.{declared.fault.LineFault.TheVariants.{Word, Digits, Place, Twice}, Fields.{Field, FixedWord, BlockBitIndex}}
+use Rattle.um_lines.specs.Fields.{is_dash_or_hex, has_octet_count, octets_from_hex, fits_field, has_wrong_digits, has_wrong_length}
+use Rattle.um_lines.specs.{Fields.{has_forbidden_soft_value, has_wrong_bit_index}, Forms.{some_word_has, places, values_of_words}}
+use Rattle.um_lines.specs.{Forms.{first_field_fault, fault_or_value, has_repeated_number}, Words.words, LinkForms.endpoint_word}
+use Rattle.um_lines.specs.LinkForms.{direction_word, octets}
+use Rattle.um_script.specs.{ScriptLines.{call_event, sender_of}, ScriptReading.{parsed_words, parsed_octets_word, is_above_591}}
+use Rattle.um_script.specs.ScriptReading.{parsed_bit_indices, event_from_result, parsed_call_verb, parsed_octets_call, parsed_call}
+use Rattle.um_script.specs.ScriptReading.{parsed_deliver_or_lose, parsed_flip, parsed_radio_event, parsed_for_actor, parsed_script_words}
+use Rattle.um_script.specs.Names.{actor_of_name, request_of_name, act_of_name}
 use Rattle.um_link.specs.lapdm_link.Events as E
 use Rattle.um_link.specs.um_air.Air as A
-use Rattle.um_lines.specs.declared.fault.LineFault.TheVariants.{Word, Digits, Place, Twice}
-use Rattle.um_lines.specs.Fields.{Field, Fixed, BlockPlace, are_octet_digits, are_octets, hex_octets, may_stand, has_wrong_digits}
-use Rattle.um_lines.specs.Fields.{has_wrong_length, has_wrong_soft, has_wrong_place}
-use Rattle.um_lines.specs.Forms.{some_word, places, values_of, fields_fault, unless, is_repeated}
-use Rattle.um_lines.specs.Words.{words}
 use Rattle.um_lines.specs.LinkForms as L
-use Rattle.um_lines.specs.LinkForms.{end_word, way_word, octets}
-use Rattle.um_script.specs.ScriptLines.{asks, sender_of}
-use Rattle.um_script.specs.ScriptReading.{read_words, octets_read, is_above, places_read, with_event, bare_call_read, octets_call_read}
-use Rattle.um_script.specs.ScriptReading.{call_read, bare_air_read, flip_read, air_read, acted_read, script_read}
-use Rattle.um_script.specs.Names.{actor_said, request_said, act_said}
 
--- words found equal are equal
+-- if two words are found equal, they are equal
 same_word : (a b : List ℕ) → bytes_eq a b ≡ true → b ≡ a
 same_word a b e = sym ((bytes_eq-Decides a b).0 e)
 
@@ -37,11 +31,11 @@ by_word P known w here other =
 -- ---- octets
 
 octets_given : (a b w : List ℕ) (make : List ℕ → A.Event)
-    → unless (fields_fault (Fixed a ∷ Fixed b ∷ octets ∷ []) (a ∷ b ∷ w ∷ [])) (Some (make (hex_octets w)))
-    ≡ with_event make (octets_read (w ∷ []))
+    → fault_or_value (first_field_fault (FixedWord a ∷ FixedWord b ∷ octets ∷ []) (a ∷ b ∷ w ∷ [])) (Some (make (octets_from_hex w)))
+    ≡ event_from_result make (parsed_octets_word (w ∷ []))
 octets_given a b w make =
-    elim (cases_Bool (are_octet_digits w)) [
-      | inl digits ↦ elim (cases_Bool (are_octets 0 None w)) [
+    elim (cases_Bool (is_dash_or_hex w)) [
+      | inl digits ↦ elim (cases_Bool (has_octet_count 0 None w)) [
         | inl many ↦ rw (digits, many) refl
         | inr few ↦ rw (digits, few) refl
       ]
@@ -49,10 +43,11 @@ octets_given a b w make =
     ]
 
 octets_alone : (a w : List ℕ) (make : List ℕ → A.Event)
-    → unless (fields_fault (Fixed a ∷ octets ∷ []) (a ∷ w ∷ [])) (Some (make (hex_octets w))) ≡ with_event make (octets_read (w ∷ []))
+    → fault_or_value (first_field_fault (FixedWord a ∷ octets ∷ []) (a ∷ w ∷ [])) (Some (make (octets_from_hex w)))
+    ≡ event_from_result make (parsed_octets_word (w ∷ []))
 octets_alone a w make =
-    elim (cases_Bool (are_octet_digits w)) [
-      | inl digits ↦ elim (cases_Bool (are_octets 0 None w)) [
+    elim (cases_Bool (is_dash_or_hex w)) [
+      | inl digits ↦ elim (cases_Bool (has_octet_count 0 None w)) [
         | inl many ↦ rw (digits, many) refl
         | inr few ↦ rw (digits, few) refl
       ]
@@ -77,56 +72,62 @@ by_verb P verb opens send unit close tick idle other =
     by_word P (codes "close") verb close (λ d. by_word P (codes "tick") verb tick (λ e. by_word P (codes "idle") verb idle (λ f.
     other (record { opens = a; send = b; unit = c; close = d; tick = e; idle = f })))))))
 
-bare_call : (end : L.LinkEnd) (verb : List ℕ) → read_words (end_word end ∷ verb ∷ []) ≡ bare_call_read end (request_said verb)
-bare_call L.Mob verb =
-    by_verb (λ v. read_words (end_word L.Mob ∷ v ∷ []) ≡ bare_call_read L.Mob (request_said v)) verb refl refl refl refl refl refl
+parse_call_verb : (end : L.LinkEndpoint) (verb : List ℕ) → parsed_words (endpoint_word end ∷ verb ∷ []) ≡ parsed_call_verb end
+    (request_of_name verb)
+parse_call_verb L.Mob verb =
+    by_verb (λ v. parsed_words (endpoint_word L.Mob ∷ v ∷ []) ≡ parsed_call_verb L.Mob
+    (request_of_name v)) verb refl refl refl refl refl refl
     (λ n. rw (n.opens, n.send, n.unit, n.close, n.tick, n.idle) refl)
-bare_call L.Net verb =
-    by_verb (λ v. read_words (end_word L.Net ∷ v ∷ []) ≡ bare_call_read L.Net (request_said v)) verb refl refl refl refl refl refl
+parse_call_verb L.Net verb =
+    by_verb (λ v. parsed_words (endpoint_word L.Net ∷ v ∷ []) ≡ parsed_call_verb L.Net
+    (request_of_name v)) verb refl refl refl refl refl refl
     (λ n. rw (n.opens, n.send, n.unit, n.close, n.tick, n.idle) refl)
-bare_call L.Mob3 verb =
-    by_verb (λ v. read_words (end_word L.Mob3 ∷ v ∷ []) ≡ bare_call_read L.Mob3 (request_said v)) verb refl refl refl refl refl refl
+parse_call_verb L.Mob3 verb =
+    by_verb (λ v. parsed_words (endpoint_word L.Mob3 ∷ v ∷ []) ≡ parsed_call_verb L.Mob3
+    (request_of_name v)) verb refl refl refl refl refl refl
     (λ n. rw (n.opens, n.send, n.unit, n.close, n.tick, n.idle) refl)
-bare_call L.Net3 verb =
-    by_verb (λ v. read_words (end_word L.Net3 ∷ v ∷ []) ≡ bare_call_read L.Net3 (request_said v)) verb refl refl refl refl refl refl
-    (λ n. rw (n.opens, n.send, n.unit, n.close, n.tick, n.idle) refl)
-
-octets_call : (end : L.LinkEnd) (verb w : List ℕ) →
-    read_words (end_word end ∷ verb ∷ w ∷ []) ≡ octets_call_read end (request_said verb) (w ∷ [])
-octets_call L.Mob verb w =
-    by_verb (λ v. read_words (end_word L.Mob ∷ v ∷ w ∷ []) ≡ octets_call_read L.Mob (request_said v) (w ∷ [])) verb
-    (octets_given (end_word L.Mob) (codes "open") w E.Open)
-    (octets_given (end_word L.Mob) (codes "send") w (λ m. asks L.Mob (E.Send m)))
-    (octets_given (end_word L.Mob) (codes "unit") w (λ m. asks L.Mob (E.SendUnit m)))
-    refl refl refl
-    (λ n. rw (n.opens, n.send, n.unit, n.close, n.tick, n.idle) refl)
-octets_call L.Net verb w =
-    by_verb (λ v. read_words (end_word L.Net ∷ v ∷ w ∷ []) ≡ octets_call_read L.Net (request_said v) (w ∷ [])) verb
-    refl
-    (octets_given (end_word L.Net) (codes "send") w (λ m. asks L.Net (E.Send m)))
-    (octets_given (end_word L.Net) (codes "unit") w (λ m. asks L.Net (E.SendUnit m)))
-    refl refl refl
-    (λ n. rw (n.opens, n.send, n.unit, n.close, n.tick, n.idle) refl)
-octets_call L.Mob3 verb w =
-    by_verb (λ v. read_words (end_word L.Mob3 ∷ v ∷ w ∷ []) ≡ octets_call_read L.Mob3 (request_said v) (w ∷ [])) verb
-    refl
-    (octets_given (end_word L.Mob3) (codes "send") w (λ m. asks L.Mob3 (E.Send m)))
-    (octets_given (end_word L.Mob3) (codes "unit") w (λ m. asks L.Mob3 (E.SendUnit m)))
-    refl refl refl
-    (λ n. rw (n.opens, n.send, n.unit, n.close, n.tick, n.idle) refl)
-octets_call L.Net3 verb w =
-    by_verb (λ v. read_words (end_word L.Net3 ∷ v ∷ w ∷ []) ≡ octets_call_read L.Net3 (request_said v) (w ∷ [])) verb
-    refl
-    (octets_given (end_word L.Net3) (codes "send") w (λ m. asks L.Net3 (E.Send m)))
-    (octets_given (end_word L.Net3) (codes "unit") w (λ m. asks L.Net3 (E.SendUnit m)))
-    refl refl refl
+parse_call_verb L.Net3 verb =
+    by_verb (λ v. parsed_words (endpoint_word L.Net3 ∷ v ∷ []) ≡ parsed_call_verb L.Net3
+    (request_of_name v)) verb refl refl refl refl refl refl
     (λ n. rw (n.opens, n.send, n.unit, n.close, n.tick, n.idle) refl)
 
--- a call with two or more further words fits no form
-IsNoCall : L.LinkEnd → List ℕ → List ℕ → List ℕ → List (List ℕ) → Type 0
-IsNoCall end verb w other ws = read_words (end_word end ∷ verb ∷ w ∷ other ∷ ws) ≡ octets_call_read end (request_said verb) (w ∷ other ∷ ws)
+parse_octets_call : (end : L.LinkEndpoint) (verb w : List ℕ) →
+    parsed_words (endpoint_word end ∷ verb ∷ w ∷ []) ≡ parsed_octets_call end (request_of_name verb) (w ∷ [])
+parse_octets_call L.Mob verb w =
+    by_verb (λ v. parsed_words (endpoint_word L.Mob ∷ v ∷ w ∷ []) ≡ parsed_octets_call L.Mob (request_of_name v) (w ∷ [])) verb
+    (octets_given (endpoint_word L.Mob) (codes "open") w E.Open)
+    (octets_given (endpoint_word L.Mob) (codes "send") w (λ m. call_event L.Mob (E.Send m)))
+    (octets_given (endpoint_word L.Mob) (codes "unit") w (λ m. call_event L.Mob (E.SendUnit m)))
+    refl refl refl
+    (λ n. rw (n.opens, n.send, n.unit, n.close, n.tick, n.idle) refl)
+parse_octets_call L.Net verb w =
+    by_verb (λ v. parsed_words (endpoint_word L.Net ∷ v ∷ w ∷ []) ≡ parsed_octets_call L.Net (request_of_name v) (w ∷ [])) verb
+    refl
+    (octets_given (endpoint_word L.Net) (codes "send") w (λ m. call_event L.Net (E.Send m)))
+    (octets_given (endpoint_word L.Net) (codes "unit") w (λ m. call_event L.Net (E.SendUnit m)))
+    refl refl refl
+    (λ n. rw (n.opens, n.send, n.unit, n.close, n.tick, n.idle) refl)
+parse_octets_call L.Mob3 verb w =
+    by_verb (λ v. parsed_words (endpoint_word L.Mob3 ∷ v ∷ w ∷ []) ≡ parsed_octets_call L.Mob3 (request_of_name v) (w ∷ [])) verb
+    refl
+    (octets_given (endpoint_word L.Mob3) (codes "send") w (λ m. call_event L.Mob3 (E.Send m)))
+    (octets_given (endpoint_word L.Mob3) (codes "unit") w (λ m. call_event L.Mob3 (E.SendUnit m)))
+    refl refl refl
+    (λ n. rw (n.opens, n.send, n.unit, n.close, n.tick, n.idle) refl)
+parse_octets_call L.Net3 verb w =
+    by_verb (λ v. parsed_words (endpoint_word L.Net3 ∷ v ∷ w ∷ []) ≡ parsed_octets_call L.Net3 (request_of_name v) (w ∷ [])) verb
+    refl
+    (octets_given (endpoint_word L.Net3) (codes "send") w (λ m. call_event L.Net3 (E.Send m)))
+    (octets_given (endpoint_word L.Net3) (codes "unit") w (λ m. call_event L.Net3 (E.SendUnit m)))
+    refl refl refl
+    (λ n. rw (n.opens, n.send, n.unit, n.close, n.tick, n.idle) refl)
 
-long_call : (end : L.LinkEnd) (verb w other : List ℕ) (ws : List (List ℕ)) → IsNoCall end verb w other ws
+-- a call that is followed by two or more words has no form
+IsNoCall : L.LinkEndpoint → List ℕ → List ℕ → List ℕ → List (List ℕ) → Type 0
+IsNoCall end verb w other ws = parsed_words (endpoint_word end ∷ verb ∷ w ∷ other ∷ ws) ≡ parsed_octets_call end (request_of_name verb)
+    (w ∷ other ∷ ws)
+
+long_call : (end : L.LinkEndpoint) (verb w other : List ℕ) (ws : List (List ℕ)) → IsNoCall end verb w other ws
 unfolding IsNoCall
 long_call L.Mob verb w other ws =
     by_verb (λ v. IsNoCall L.Mob v w other ws) verb refl refl refl refl refl refl
@@ -141,16 +142,16 @@ long_call L.Net3 verb w other ws =
     by_verb (λ v. IsNoCall L.Net3 v w other ws) verb refl refl refl refl refl refl
     (λ n. rw (n.opens, n.send, n.unit, n.close, n.tick, n.idle) refl)
 
-no_call : (end : L.LinkEnd) → read_words (end_word end ∷ []) ≡ Err Word
+no_call : (end : L.LinkEndpoint) → parsed_words (endpoint_word end ∷ []) ≡ Err Word
 no_call L.Mob = refl
 no_call L.Net = refl
 no_call L.Mob3 = refl
 no_call L.Net3 = refl
 
-calls : (end : L.LinkEnd) (ws : List (List ℕ)) → read_words (end_word end ∷ ws) ≡ call_read end ws
+calls : (end : L.LinkEndpoint) (ws : List (List ℕ)) → parsed_words (endpoint_word end ∷ ws) ≡ parsed_call end ws
 calls end [] = no_call end
-calls end (verb ∷ []) = bare_call end verb
-calls end (verb ∷ w ∷ []) = octets_call end verb w
+calls end (verb ∷ []) = parse_call_verb end verb
+calls end (verb ∷ w ∷ []) = parse_octets_call end verb w
 calls end (verb ∷ w ∷ other ∷ ws) = unfold IsNoCall in long_call end verb w other ws
 
 -- ---- bit indices
@@ -158,45 +159,45 @@ calls end (verb ∷ w ∷ other ∷ ws) = unfold IsNoCall in long_call end verb 
 no_less : (n : ℕ) → suc (suc (suc n)) - 3 ≡ n
 no_less n = omega arith
 
-all_stand : (ws : List (List ℕ)) → pointwise may_stand (replicate (length ws) BlockPlace) ws ≡ true
+all_stand : (ws : List (List ℕ)) → pointwise fits_field (replicate (length ws) BlockBitIndex) ws ≡ true
 all_stand [] = refl
 all_stand (w ∷ ws) = all_stand ws
 
 each_against : (is_against : Field → List ℕ → Bool) (ws : List (List ℕ))
-    → some_word is_against (replicate (length ws) BlockPlace) ws ≡ list_any (is_against BlockPlace) ws
+    → some_word_has is_against (replicate (length ws) BlockBitIndex) ws ≡ list_any (is_against BlockBitIndex) ws
 each_against is_against [] = refl
-each_against is_against (w ∷ ws) = ap (λ rest. is_against BlockPlace w || rest) (each_against is_against ws)
+each_against is_against (w ∷ ws) = ap (λ rest. is_against BlockBitIndex w || rest) (each_against is_against ws)
 
-no_against : (ws : List (List ℕ)) (is_against : Field → List ℕ → Bool) → ((w : List ℕ) → is_against BlockPlace w ≡ false)
-    → some_word is_against (replicate (length ws) BlockPlace) ws ≡ false
+no_against : (ws : List (List ℕ)) (is_against : Field → List ℕ → Bool) → ((w : List ℕ) → is_against BlockBitIndex w ≡ false)
+    → some_word_has is_against (replicate (length ws) BlockBitIndex) ws ≡ false
 no_against [] is_against none = refl
 no_against (w ∷ ws) is_against none = rw (none w) (no_against ws is_against none)
 
-places_of : (ws : List (List ℕ)) → places (values_of (replicate (length ws) BlockPlace) ws) ≡ map (digits_value 10) ws
+places_of : (ws : List (List ℕ)) → places (values_of_words (replicate (length ws) BlockBitIndex) ws) ≡ map (digits_value 10) ws
 places_of [] = refl
 places_of (w ∷ ws) = ap (λ rest. digits_value 10 w ∷ rest) (places_of ws)
 
 by_reasons : (digits place twice : Bool) (ns : List ℕ) (make : List ℕ → A.Event)
-    → unless (if digits then Some Digits else if place then Some Place else if twice then Some Twice else None) (Some (make ns))
-    ≡ with_event make (if digits then Err Digits else if place then Err Place else if twice then Err Twice else Ok ns)
+    → fault_or_value (if digits then Some Digits else if place then Some Place else if twice then Some Twice else None) (Some (make ns))
+    ≡ event_from_result make (if digits then Err Digits else if place then Err Place else if twice then Err Twice else Ok ns)
 by_reasons true place twice ns make = refl
 by_reasons false true twice ns make = refl
 by_reasons false false true ns make = refl
 by_reasons false false false ns make = refl
 
 places_given : (a b : List ℕ) (ws : List (List ℕ)) (make : List ℕ → A.Event)
-    → (let fields = Fixed a ∷ Fixed b ∷ replicate (length ws) BlockPlace in
-    unless (fields_fault fields (a ∷ b ∷ ws)) (Some (make (places (values_of fields (a ∷ b ∷ ws))))))
-    ≡ with_event make (places_read ws)
+    → (let fields = FixedWord a ∷ FixedWord b ∷ replicate (length ws) BlockBitIndex in
+    fault_or_value (first_field_fault fields (a ∷ b ∷ ws)) (Some (make (places (values_of_words fields (a ∷ b ∷ ws))))))
+    ≡ event_from_result make (parsed_bit_indices ws)
 places_given a b ws make =
     rw (
       each_against has_wrong_digits ws,
       no_against ws has_wrong_length (λ w. refl),
-      no_against ws has_wrong_soft (λ w. refl),
-      each_against has_wrong_place ws,
+      no_against ws has_forbidden_soft_value (λ w. refl),
+      each_against has_wrong_bit_index ws,
       places_of ws,
     )
-    (by_reasons (list_any (has_wrong_digits BlockPlace) ws) (list_any is_above ws) (is_repeated (map (digits_value 10) ws))
+    (by_reasons (list_any (has_wrong_digits BlockBitIndex) ws) (list_any is_above_591 ws) (has_repeated_number (map (digits_value 10) ws))
     (map (digits_value 10) ws) make)
 
 -- ---- the channel
@@ -211,44 +212,48 @@ by_air P verb deliver lose flip other =
     by_word P (codes "deliver") verb deliver (λ a. by_word P (codes "lose") verb lose (λ b. by_word P (codes "flip") verb flip (λ c.
     other (record { deliver = a; lose = b; flip = c }))))
 
-bare_air : (way : L.Way) (verb : List ℕ) → read_words (way_word way ∷ verb ∷ []) ≡ bare_air_read way (act_said verb)
-bare_air L.Up verb =
-    by_air (λ v. read_words (way_word L.Up ∷ v ∷ []) ≡ bare_air_read L.Up (act_said v)) verb refl refl refl
+parse_deliver_or_lose : (way : L.Way) (verb : List ℕ) → parsed_words (direction_word way ∷ verb ∷ []) ≡ parsed_deliver_or_lose way
+    (act_of_name verb)
+parse_deliver_or_lose L.Up verb =
+    by_air (λ v. parsed_words (direction_word L.Up ∷ v ∷ []) ≡ parsed_deliver_or_lose L.Up (act_of_name v)) verb refl refl refl
     (λ n. rw (n.deliver, n.lose, n.flip) refl)
-bare_air L.Down verb =
-    by_air (λ v. read_words (way_word L.Down ∷ v ∷ []) ≡ bare_air_read L.Down (act_said v)) verb refl refl refl
+parse_deliver_or_lose L.Down verb =
+    by_air (λ v. parsed_words (direction_word L.Down ∷ v ∷ []) ≡ parsed_deliver_or_lose L.Down (act_of_name v)) verb refl refl refl
     (λ n. rw (n.deliver, n.lose, n.flip) refl)
 
 flips : (way : L.Way) (w : List ℕ) (ws : List (List ℕ))
-    → read_words (way_word way ∷ codes "flip" ∷ w ∷ ws) ≡ with_event (E.Deliver (sender_of way)) (places_read (w ∷ ws))
+    → parsed_words (direction_word way ∷ codes "flip" ∷ w ∷ ws) ≡ event_from_result (E.Deliver (sender_of way)) (parsed_bit_indices
+    (w ∷ ws))
 flips L.Up w ws =
     rw (no_less (length ws), all_stand ws, no_less (length ws))
-    (places_given (way_word L.Up) (codes "flip") (w ∷ ws) (E.Deliver (sender_of L.Up)))
+    (places_given (direction_word L.Up) (codes "flip") (w ∷ ws) (E.Deliver (sender_of L.Up)))
 flips L.Down w ws =
     rw (no_less (length ws), all_stand ws, no_less (length ws))
-    (places_given (way_word L.Down) (codes "flip") (w ∷ ws) (E.Deliver (sender_of L.Down)))
+    (places_given (direction_word L.Down) (codes "flip") (w ∷ ws) (E.Deliver (sender_of L.Down)))
 
 long_air : (way : L.Way) (verb w : List ℕ) (ws : List (List ℕ)) →
-    read_words (way_word way ∷ verb ∷ w ∷ ws) ≡ flip_read way (act_said verb) (w ∷ ws)
+    parsed_words (direction_word way ∷ verb ∷ w ∷ ws) ≡ parsed_flip way (act_of_name verb) (w ∷ ws)
 long_air L.Up verb w ws =
-    by_air (λ v. read_words (way_word L.Up ∷ v ∷ w ∷ ws) ≡ flip_read L.Up (act_said v) (w ∷ ws)) verb refl refl (flips L.Up w ws)
+    by_air (λ v. parsed_words (direction_word L.Up ∷ v ∷ w ∷ ws) ≡ parsed_flip L.Up (act_of_name v) (w ∷ ws)) verb refl refl
+    (flips L.Up w ws)
     (λ n. rw (n.deliver, n.lose, n.flip) refl)
 long_air L.Down verb w ws =
-    by_air (λ v. read_words (way_word L.Down ∷ v ∷ w ∷ ws) ≡ flip_read L.Down (act_said v) (w ∷ ws)) verb refl refl (flips L.Down w ws)
+    by_air (λ v. parsed_words (direction_word L.Down ∷ v ∷ w ∷ ws) ≡ parsed_flip L.Down (act_of_name v) (w ∷ ws)) verb refl refl
+    (flips L.Down w ws)
     (λ n. rw (n.deliver, n.lose, n.flip) refl)
 
-no_air : (way : L.Way) → read_words (way_word way ∷ []) ≡ Err Word
+no_air : (way : L.Way) → parsed_words (direction_word way ∷ []) ≡ Err Word
 no_air L.Up = refl
 no_air L.Down = refl
 
-airs : (way : L.Way) (ws : List (List ℕ)) → read_words (way_word way ∷ ws) ≡ air_read way ws
+airs : (way : L.Way) (ws : List (List ℕ)) → parsed_words (direction_word way ∷ ws) ≡ parsed_radio_event way ws
 airs way [] = no_air way
-airs way (verb ∷ []) = bare_air way verb
+airs way (verb ∷ []) = parse_deliver_or_lose way verb
 airs way (verb ∷ w ∷ ws) = long_air way verb w ws
 
 -- ---- whole lines
 
-rivals : (ws : List (List ℕ)) → read_words (codes "rival" ∷ ws) ≡ with_event E.Rival (octets_read ws)
+rivals : (ws : List (List ℕ)) → parsed_words (codes "rival" ∷ ws) ≡ event_from_result E.Rival (parsed_octets_word ws)
 rivals [] = refl
 rivals (w ∷ []) = octets_alone (codes "rival") w E.Rival
 rivals (w ∷ other ∷ ws) = refl
@@ -262,14 +267,14 @@ record NoName (name : List ℕ) : Type 0 where
   pub down : bytes_eq name (codes "down") ≡ false
   pub rival : bytes_eq name (codes "rival") ≡ false
 
-no_name : (name : List ℕ) (ws : List (List ℕ)) → NoName name → read_words (name ∷ ws) ≡ acted_read (actor_said name) ws
+no_name : (name : List ℕ) (ws : List (List ℕ)) → NoName name → parsed_words (name ∷ ws) ≡ parsed_for_actor (actor_of_name name) ws
 no_name name ws n = rw (n.mob, n.mob3, n.net, n.net3, n.up, n.down, n.rival) refl
 
--- reading words part by part gives what the line forms say
-pub read_by_parts : (ws : List (List ℕ)) → read_words ws ≡ script_read ws
+-- reading the words part by part gives the meaning that the line forms define
+pub read_by_parts : (ws : List (List ℕ)) → parsed_words ws ≡ parsed_script_words ws
 read_by_parts [] = refl
 read_by_parts (name ∷ ws) =
-    let P : List ℕ → Type 0 = λ n. read_words (n ∷ ws) ≡ acted_read (actor_said n) ws in
+    let P : List ℕ → Type 0 = λ n. parsed_words (n ∷ ws) ≡ parsed_for_actor (actor_of_name n) ws in
     by_word P (codes "mob") name (calls L.Mob ws) (λ a.
     by_word P (codes "mob3") name (calls L.Mob3 ws) (λ b.
     by_word P (codes "net") name (calls L.Net ws) (λ c.
@@ -281,18 +286,20 @@ read_by_parts (name ∷ ws) =
 
 -- ---- the text after a word
 
-some_call : (end : L.LinkEnd) (verb : List ℕ) (ws : List (List ℕ)) → 0 < length ws
-    → octets_call_read end (request_said verb) ws ≡ call_read end (verb ∷ ws)
+some_call : (end : L.LinkEndpoint) (verb : List ℕ) (ws : List (List ℕ)) → 0 < length ws
+    → parsed_octets_call end (request_of_name verb) ws ≡ parsed_call end (verb ∷ ws)
 some_call end verb [] some = absurd (omega arith)
 some_call end verb (w ∷ ws) some = refl
 
-pub more_call : (end : L.LinkEnd) (verb text : List ℕ) → octets_call_read end (request_said verb) (words text)
-    ≡ call_read end (verb ∷ words text)
+pub more_call : (end : L.LinkEndpoint) (verb text : List ℕ) → parsed_octets_call end (request_of_name verb) (words text)
+    ≡ parsed_call end (verb ∷ words text)
 more_call end verb text = some_call end verb (words text) (omega (arith, length-slice_split (λ octet. eqb octet 32) text))
 
-some_air : (way : L.Way) (verb : List ℕ) (ws : List (List ℕ)) → 0 < length ws → flip_read way (act_said verb) ws ≡ air_read way (verb ∷ ws)
+some_air : (way : L.Way) (verb : List ℕ) (ws : List (List ℕ)) → 0 < length ws →
+    parsed_flip way (act_of_name verb) ws ≡ parsed_radio_event way (verb ∷ ws)
 some_air way verb [] some = absurd (omega arith)
 some_air way verb (w ∷ ws) some = refl
 
-pub more_air : (way : L.Way) (verb text : List ℕ) → flip_read way (act_said verb) (words text) ≡ air_read way (verb ∷ words text)
+pub more_air : (way : L.Way) (verb text : List ℕ) → parsed_flip way (act_of_name verb) (words text) ≡ parsed_radio_event way
+    (verb ∷ words text)
 more_air way verb text = some_air way verb (words text) (omega (arith, length-slice_split (λ octet. eqb octet 32) text))

@@ -1,7 +1,6 @@
--- A text of one word is that word.
-use Rattle.std.proofs.Common.{◌≡◌, ℕ, List, [], ◌∷◌, ap, sym, ◌∙◌}
+-- If a text has only one word, the word is the text.
+use Rattle.std.proofs.{Common.{◌≡◌, ℕ, List, [], ◌∷◌, ap, sym, ◌∙◌}, lemmas.List.Splits.join_with_byte-slice_split}
 use Rattle.std.specs.List.{join_with_byte}
-use Rattle.std.proofs.lemmas.List.Splits.{join_with_byte-slice_split}
 use Rattle.um_lines.specs.Words.{words}
 
 pub sole_word : (text w : List ℕ) → words text ≡ w ∷ [] → w ≡ text

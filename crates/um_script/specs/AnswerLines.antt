@@ -1,30 +1,30 @@
--- The lines that answer a script line (this project's own rule).
+-- The lines with which `link` and `end` answer one line of input (this project's own rule).
 use Rattle.std.specs.Prelude.{ℕ, ℤ, nat_abs, ◌<◌, ◌^◌, List, [], ◌∷◌, ◌++◌, map, take, drop, codes, Option, Some}
 use Rattle.std.specs.Prelude.{None}
 use Rattle.std.specs.Fmt.{decimal, signed_decimal}
 use Rattle.std.specs.List.{join_with_byte}
 use Rattle.hex.specs.Hex.{encode_lower}
-use Rattle.bit_blocks.specs.Octets.{octets_of}
-use Rattle.lapdm_window.specs.declared.Sapi.{Sapi}
-use Rattle.lapdm_window.specs.declared.Notice.{Notice}
-use Rattle.lapdm_window.specs.declared.Notice.TheVariants as N
+use Rattle.um_link.specs.bit_blocks.Octets.{octets_of}
+use Rattle.um_link.specs.lapdm_window.declared.Sapi.{Sapi}
+use Rattle.um_link.specs.lapdm_window.declared.Notice.{Notice}
+use Rattle.um_link.specs.lapdm_window.declared.Notice.TheVariants as N
 use Rattle.um_link.specs.lapdm_link.Events as E
-use Rattle.um_block.specs.declared.received.Received.{Received}
+use Rattle.um_link.specs.um_block.declared.received.Received.{Received}
 use Rattle.um_link.specs.um_air.Air as A
 use Rattle.um_link.specs.um_air.Sessions.{AreOctets}
 use Rattle.um_lines.specs.Spelled.{octets_word}
-use Rattle.um_script.specs.AnswerWords.{who_word, link_word, refusal_word, closing_word}
+use Rattle.um_script.specs.AnswerWords.{actor_word, sapi_suffix, call_refusal_word, closing_reason_word}
 
--- the report on a received block
+-- what a `takes` or `drops` line says about a received block
 pub record Reception : Type 0 where
   pub tsc : ℕ
   pub train : ℕ
   pub metric : ℤ
 
--- an answer line: the reason for `no`; a block received with a good CRC, or with a bad one; a
--- notice of a link; a block that is sent; or the final `ok`
+-- an answer line: `no` with the reason; `takes` or `drops` for a block received with a good or a bad CRC; a notice of a link; `sends` for a
+-- block; or the final `ok`
 pub data AnswerLine : Type 0 where
-  No : E.Why → AnswerLine
+  No : E.EventRefusal → AnswerLine
   Takes : E.Who → List ℕ → Reception → AnswerLine
   Drops : E.Who → Reception → List ℕ → List ℕ → AnswerLine
   Reports : E.Who → Sapi → Notice → AnswerLine
@@ -34,92 +34,90 @@ pub data AnswerLine : Type 0 where
 abbrev pub reception : Received → Reception
 reception r = record { tsc = r.tsc; train = r.wrong_training; metric = r.metric }
 
-abbrev pub block_line : E.Who → Option (List ℕ) → Received → AnswerLine
-block_line who (Some octets) r = Takes who octets (reception r)
-block_line who None r = Drops who (reception r) (octets_of (take 184 r.u)) (octets_of (take 40 (drop 184 r.u)))
+abbrev pub received_block_line : E.Who → Option (List ℕ) → Received → AnswerLine
+received_block_line who (Some octets) r = Takes who octets (reception r)
+received_block_line who None r = Drops who (reception r) (octets_of (take 184 r.u)) (octets_of (take 40 (drop 184 r.u)))
 
-abbrev pub arrival_lines : E.Who → Option Received → List AnswerLine
-arrival_lines who None = []
-arrival_lines who (Some r) = block_line who r.accepted r ∷ []
+abbrev pub received_block_lines : E.Who → Option Received → List AnswerLine
+received_block_lines who None = []
+received_block_lines who (Some r) = received_block_line who r.accepted r ∷ []
 
--- the lines of an answer, in order
+-- all lines of an answer, in order
 abbrev pub answer_lines : A.Answer → List AnswerLine
 answer_lines (A.Refuses why) = No why ∷ []
 answer_lines (A.Does s) =
-    arrival_lines s.who s.received ++ map (Reports s.who s.sapi) s.notices ++ map (Sends s.who) s.frames ++ All ∷ []
+    received_block_lines s.who s.received ++ map (Reports s.who s.sapi) s.notices ++ map (Sends s.who) s.frames ++ All ∷ []
 
 -- ---- the text of lines
 
--- words, each with a space before it (internal)
+-- the words, each with a space before it (internal)
 abbrev pub spaced_words : List (List ℕ) → List ℕ
 spaced_words [] = []
 spaced_words (word ∷ words) = 32 ∷ word ++ spaced_words words
 
--- the words of the report on a received block
+-- the words that report on a received block
 abbrev pub reception_words : Reception → List (List ℕ)
 reception_words h = codes "tsc" ∷ decimal h.tsc ∷ codes "train" ∷ decimal h.train ∷ codes "metric" ∷ signed_decimal h.metric ∷ []
 
--- the words of a notice
+-- the words for a notice
 abbrev pub notice_words : Notice → List (List ℕ)
 notice_words (N.Opened m) = codes "opened" ∷ octets_word m ∷ []
 notice_words (N.Got m) = codes "got" ∷ octets_word m ∷ []
 notice_words (N.Unit m) = codes "unit" ∷ octets_word m ∷ []
 notice_words (N.Acked n) = codes "acked" ∷ decimal n ∷ []
 notice_words N.Oversize = codes "oversize" ∷ []
-notice_words (N.Closed reason) = codes "closed" ∷ closing_word reason ∷ []
+notice_words (N.Closed reason) = codes "closed" ∷ closing_reason_word reason ∷ []
 
--- the words of a line
-abbrev pub said_words : AnswerLine → List (List ℕ)
-said_words (No why) = codes "no" ∷ refusal_word why ∷ []
-said_words (Takes who octets h) = who_word who ∷ codes "takes" ∷ encode_lower octets ∷ reception_words h
-said_words (Drops who h octets check) =
-    who_word who ∷ codes "drops" ∷ reception_words h ++ (codes "data" ∷ encode_lower octets ∷ codes "check" ∷ encode_lower check ∷ [])
-said_words (Reports who sapi notice) = (who_word who ++ link_word sapi) ∷ notice_words notice
-said_words (Sends who octets) = who_word who ∷ codes "sends" ∷ encode_lower octets ∷ []
-said_words All = codes "ok" ∷ []
+-- the words of an answer line
+abbrev pub answer_words : AnswerLine → List (List ℕ)
+answer_words (No why) = codes "no" ∷ call_refusal_word why ∷ []
+answer_words (Takes who octets h) = actor_word who ∷ codes "takes" ∷ encode_lower octets ∷ reception_words h
+answer_words (Drops who h octets check) =
+    actor_word who ∷ codes "drops" ∷ reception_words h ++ (codes "data" ∷ encode_lower octets ∷ codes "check" ∷ encode_lower check ∷ [])
+answer_words (Reports who sapi notice) = (actor_word who ++ sapi_suffix sapi) ∷ notice_words notice
+answer_words (Sends who octets) = actor_word who ∷ codes "sends" ∷ encode_lower octets ∷ []
+answer_words All = codes "ok" ∷ []
 
--- the text of a line: its words, separated by spaces, and a line feed
-abbrev pub said_text : AnswerLine → List ℕ
-said_text line = join_with_byte 32 (said_words line) ++ codes "\n"
+-- an answer line as text: its words, separated by spaces, and a line feed
+abbrev pub answer_line_text : AnswerLine → List ℕ
+answer_line_text line = join_with_byte 32 (answer_words line) ++ codes "\n"
 
--- the texts of lines, in order
+-- the lines as text, one after another
 abbrev pub lines_text : List AnswerLine → List ℕ
 lines_text [] = []
-lines_text (line ∷ lines) = said_text line ++ lines_text lines
+lines_text (line ∷ lines) = answer_line_text line ++ lines_text lines
 
--- the text of an answer: `no REASON`, or the lines for what was received, the notices, what is
--- sent, and `ok`
+-- an answer as text: either `no REASON`, or lines for what was received, the notices, the frames sent, and `ok`
 abbrev pub answer_text : A.Answer → List ℕ
 answer_text answer = lines_text (answer_lines answer)
 
 -- ---- ranges of octets and numbers
 
--- the training sequence code and the errors in it are below 2^64, and the metric is between -2^63
--- and 2^63
-pub record FitsReception (h : Reception) : Type 0 where
+-- the training sequence code and the number of wrong training bits are below 2^64, and the metric is between -2^63 and 2^63
+pub record ReceptionIsInRange (h : Reception) : Type 0 where
   pub tsc : h.tsc < 2 ^ 64
   pub train : h.train < 2 ^ 64
   pub metric : nat_abs h.metric < 2 ^ 63
 
--- the octets or the number of a notice are in range
-abbrev pub FitsNotice : Notice → Type 0
-FitsNotice (N.Opened m) = AreOctets m
-FitsNotice (N.Got m) = AreOctets m
-FitsNotice (N.Unit m) = AreOctets m
-FitsNotice (N.Acked n) = n < 2 ^ 64
-FitsNotice N.Oversize = Unit {0}
-FitsNotice (N.Closed reason) = Unit {0}
+-- if the notice carries octets or a number, they are in range
+abbrev pub NoticeIsInRange : Notice → Type 0
+NoticeIsInRange (N.Opened m) = AreOctets m
+NoticeIsInRange (N.Got m) = AreOctets m
+NoticeIsInRange (N.Unit m) = AreOctets m
+NoticeIsInRange (N.Acked n) = n < 2 ^ 64
+NoticeIsInRange N.Oversize = Unit {0}
+NoticeIsInRange (N.Closed reason) = Unit {0}
 
--- the octets and numbers of a line are in range
-abbrev pub FitsLine : AnswerLine → Type 0
-FitsLine (No why) = Unit {0}
-FitsLine (Takes who octets h) = AreOctets octets × FitsReception h
-FitsLine (Drops who h octets check) = FitsReception h × AreOctets octets × AreOctets check
-FitsLine (Reports who sapi notice) = FitsNotice notice
-FitsLine (Sends who octets) = AreOctets octets
-FitsLine All = Unit {0}
+-- all octets and numbers in the line are in range
+abbrev pub LineIsInRange : AnswerLine → Type 0
+LineIsInRange (No why) = Unit {0}
+LineIsInRange (Takes who octets h) = AreOctets octets × ReceptionIsInRange h
+LineIsInRange (Drops who h octets check) = ReceptionIsInRange h × AreOctets octets × AreOctets check
+LineIsInRange (Reports who sapi notice) = NoticeIsInRange notice
+LineIsInRange (Sends who octets) = AreOctets octets
+LineIsInRange All = Unit {0}
 
--- the octets and numbers of all lines are in range
-abbrev pub FitLines : List AnswerLine → Type 0
-FitLines [] = Unit {0}
-FitLines (line ∷ lines) = FitsLine line × FitLines lines
+-- all octets and numbers in all lines are in range
+abbrev pub LinesAreInRange : List AnswerLine → Type 0
+LinesAreInRange [] = Unit {0}
+LinesAreInRange (line ∷ lines) = LineIsInRange line × LinesAreInRange lines

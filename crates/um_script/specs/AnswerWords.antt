@@ -1,39 +1,39 @@
--- The words of the lines that answer a script line (this project's own rule).
+-- The words that occur in answer lines (this project's own rule).
 use Rattle.std.specs.Prelude.{ℕ, List, [], codes}
-use Rattle.lapdm_window.specs.declared.Sapi.{Sapi}
-use Rattle.lapdm_window.specs.declared.Sapi.TheVariants.{Zero, Three}
-use Rattle.lapdm_window.specs.declared.Reason.{Reason}
-use Rattle.lapdm_window.specs.declared.Reason.TheVariants.{Contention, Failed, Refused, Released}
-use Rattle.lapdm_window.specs.declared.Refused.TheVariants as Q
-use Rattle.lapdm_window.specs.Ends.{Mobile, Network}
+use Rattle.um_link.specs.lapdm_window.declared.Sapi.{Sapi}
+use Rattle.um_link.specs.lapdm_window.declared.Sapi.TheVariants.{Zero, Three}
+use Rattle.um_link.specs.lapdm_window.declared.Reason.{Reason}
+use Rattle.um_link.specs.lapdm_window.declared.Reason.TheVariants.{Contention, Failed, Refused, Released}
+use Rattle.um_link.specs.lapdm_window.declared.Refused.TheVariants as Q
+use Rattle.um_link.specs.lapdm_window.Ends.{Mobile, Network}
 use Rattle.um_link.specs.lapdm_link.Events as E
 
--- the word of a side, or of the rival mobile
-abbrev pub who_word : E.Who → List ℕ
-who_word (E.BySide Mobile) = codes "mob"
-who_word (E.BySide Network) = codes "net"
-who_word E.Other = codes "rival"
-who_word E.Nobody = []
+-- the word for who acts: `mob`, `net`, `rival` for another mobile, or none if nobody acts
+abbrev pub actor_word : E.Who → List ℕ
+actor_word (E.BySide Mobile) = codes "mob"
+actor_word (E.BySide Network) = codes "net"
+actor_word E.Other = codes "rival"
+actor_word E.Nobody = []
 
--- the suffix of an endpoint's name: `3` for SAPI 3, and none for SAPI 0
-abbrev pub link_word : Sapi → List ℕ
-link_word Zero = []
-link_word Three = codes "3"
+-- the suffix of an endpoint's word: `3` for SAPI 3, nothing for SAPI 0
+abbrev pub sapi_suffix : Sapi → List ℕ
+sapi_suffix Zero = []
+sapi_suffix Three = codes "3"
 
--- the word of the reason for `no`
-abbrev pub refusal_word : E.Why → List ℕ
-refusal_word E.Nothing = codes "nothing"
-refusal_word E.AirFull = codes "airfull"
-refusal_word (E.Because Q.NotIdle) = codes "notidle"
-refusal_word (E.Because Q.NotOpen) = codes "notopen"
-refusal_word (E.Because Q.NotRunning) = codes "notrunning"
-refusal_word (E.Because Q.Empty) = codes "empty"
-refusal_word (E.Because Q.TooLong) = codes "toolong"
-refusal_word (E.Because Q.Full) = codes "full"
+-- the word for the reason after `no`
+abbrev pub call_refusal_word : E.EventRefusal → List ℕ
+call_refusal_word E.Nothing = codes "nothing"
+call_refusal_word E.AirFull = codes "airfull"
+call_refusal_word (E.ByEndpoint Q.NotIdle) = codes "notidle"
+call_refusal_word (E.ByEndpoint Q.NotOpen) = codes "notopen"
+call_refusal_word (E.ByEndpoint Q.NotRunning) = codes "notrunning"
+call_refusal_word (E.ByEndpoint Q.Empty) = codes "empty"
+call_refusal_word (E.ByEndpoint Q.TooLong) = codes "toolong"
+call_refusal_word (E.ByEndpoint Q.Full) = codes "full"
 
--- the word of the reason why a link was closed
-abbrev pub closing_word : Reason → List ℕ
-closing_word Contention = codes "contention"
-closing_word Failed = codes "failed"
-closing_word Refused = codes "refused"
-closing_word Released = codes "released"
+-- the word for the reason why a link was closed
+abbrev pub closing_reason_word : Reason → List ℕ
+closing_reason_word Contention = codes "contention"
+closing_reason_word Failed = codes "failed"
+closing_reason_word Refused = codes "refused"
+closing_reason_word Released = codes "released"

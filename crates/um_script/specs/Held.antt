@@ -1,4 +1,4 @@
--- What a reader of script lines stored in its buffers (internal).
+-- What the parser of script lines stores in its buffers (internal).
 use Rattle.std.specs.Prelude.{ℕ, ◌≡◌, Bool, true, false, not, ◌||◌, List, [], ◌∷◌, Option, Some, None, Result, Ok, Err}
 use Rattle.std.specs.Prelude.{map, slice_index_or, slice_set}
 use Rattle.std.specs.Borrow.{Bor}
@@ -7,34 +7,34 @@ use Rattle.std.specs.Str.Parse.{digits_value}
 use Rattle.um_lines.specs.declared.fault.LineFault.{LineFault}
 use Rattle.um_lines.specs.Words.{words}
 use Rattle.um_lines.specs.Fields.{is_decimal}
-use Rattle.um_script.specs.ScriptReading.{is_above}
+use Rattle.um_script.specs.ScriptReading.{is_above_591}
 
-abbrev pub held_octets : Result (Bor (List ℕ)) LineFault → Result (List ℕ) LineFault
-held_octets (Ok octets) = Ok octets.now
-held_octets (Err fault) = Err fault
+abbrev pub octets_in_buffer : Result (Bor (List ℕ)) LineFault → Result (List ℕ) LineFault
+octets_in_buffer (Ok octets) = Ok octets.now
+octets_in_buffer (Err fault) = Err fault
 
-abbrev pub held_places : Result (Bor (List ℕ)) LineFault → Result (List ℕ) LineFault
-held_places (Ok places) = Ok places.now
-held_places (Err fault) = Err fault
+abbrev pub bit_indices_in_buffer : Result (Bor (List ℕ)) LineFault → Result (List ℕ) LineFault
+bit_indices_in_buffer (Ok places) = Ok places.now
+bit_indices_in_buffer (Err fault) = Err fault
 
--- whether a number is already marked or occurs twice
-abbrev pub is_named_again : List Bool → List ℕ → Bool
-is_named_again marks [] = false
-is_named_again marks (n ∷ ns) = slice_index_or marks n false || is_named_again (slice_set marks n true) ns
+-- whether a number in the list is marked already or occurs twice
+abbrev pub is_marked_or_repeated : List Bool → List ℕ → Bool
+is_marked_or_repeated marks [] = false
+is_marked_or_repeated marks (n ∷ ns) = slice_index_or marks n false || is_marked_or_repeated (slice_set marks n true) ns
 
-abbrev pub numbers_of : List (List ℕ) → List ℕ
-numbers_of ws = map (digits_value 10) ws
+abbrev pub numbers_of_words : List (List ℕ) → List ℕ
+numbers_of_words ws = map (digits_value 10) ws
 
--- the words of the remaining text, if any
-abbrev pub words_after : Option (Bor (List ℕ)) → List (List ℕ)
-words_after None = []
-words_after (Some text) = words text.now
+-- the words of the text that remains, if any remains
+abbrev pub words_of_rest : Option (Bor (List ℕ)) → List (List ℕ)
+words_of_rest None = []
+words_of_rest (Some text) = words text.now
 
--- each word is a decimal number
+-- every word is a decimal number
 abbrev pub AreDecimals : List (List ℕ) → Type 0
 AreDecimals ws = list_any (λ w. not (is_decimal w)) ws ≡ false
 
--- each word is a bit index of a block
-pub record ArePlaceWords (ws : List (List ℕ)) : Type 0 where
+-- every word is the index of a bit in a block, 0 to 591, in decimal
+pub record AreBitIndexWords (ws : List (List ℕ)) : Type 0 where
   pub decimal : AreDecimals ws
-  pub within : list_any is_above ws ≡ false
+  pub within : list_any is_above_591 ws ≡ false

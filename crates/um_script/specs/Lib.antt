@@ -1,3 +1,4 @@
+pub use Rattle.um_lines.specs as um_lines
 pub mod AnswerLines
 pub mod AnswerWords
 pub mod Held

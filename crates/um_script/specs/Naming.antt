@@ -1,4 +1,4 @@
--- What the types of the parser represent.
+-- What the values that the parser returns represent.
 use Rattle.std.specs.Prelude.{Option, Some, None, Result, Ok, Err}
 use Rattle.um_link.specs.um_air.Air as A
 use Rattle.um_lines.specs.declared.fault.LineFault.{LineFault}
@@ -7,18 +7,18 @@ use Rattle.um_link.specs.Naming.{event_of}
 use Rattle.um_link.specs.Possible.{IsPossible}
 use Rattle.um_script.specs.declared.script.ScriptLine.{ScriptLine}
 use Rattle.um_script.specs.declared.script.ScriptLine.TheVariants.{Skip, Step}
-use Rattle.um_script.specs.ScriptReading.{Reading}
+use Rattle.um_script.specs.ScriptReading.{EventOrFault}
 
--- the event of a script line, if it has one
+-- the event that a script line asks for, or `None` if the line is skipped
 abbrev pub meaning_of : ScriptLine → Option A.Event
 meaning_of Skip = None
 meaning_of (Step event) = Some (event_of event)
 
-abbrev pub parse_result : Result Event LineFault → Reading
-parse_result (Ok event) = Ok (Some (event_of event))
-parse_result (Err fault) = Err fault
+abbrev pub event_or_fault : Result Event LineFault → EventOrFault
+event_or_fault (Ok event) = Ok (Some (event_of event))
+event_or_fault (Err fault) = Err fault
 
--- the event is one that the world accepts
-abbrev pub IsPossibleLine : ScriptLine → Type 0
-IsPossibleLine Skip = Unit {0}
-IsPossibleLine (Step event) = IsPossible event
+-- the world can carry out the event: indices of bits to invert are in range
+abbrev pub HasPossibleEvent : ScriptLine → Type 0
+HasPossibleEvent Skip = Unit {0}
+HasPossibleEvent (Step event) = IsPossible event

@@ -1,113 +1,115 @@
--- What is read of the words of a script line, part by part (internal).
+-- What the parser reads from the words of a script line, part by part (internal).
 use Rattle.std.specs.Prelude.{ℕ, nat_lt, Bool, true, false, not, List, [], ◌∷◌, map, Option, Some, None, Result, Ok, Err}
 use Rattle.std.specs.Prelude.{if◌then◌else◌}
 use Rattle.std.specs.List.{list_any}
 use Rattle.std.specs.Str.Parse.{digits_value}
-use Rattle.lapdm_window.specs.declared.Sapi.{Sapi}
-use Rattle.lapdm_window.specs.declared.Sapi.TheVariants.{Zero, Three}
+use Rattle.um_link.specs.lapdm_window.declared.Sapi.{Sapi}
+use Rattle.um_link.specs.lapdm_window.declared.Sapi.TheVariants.{Zero, Three}
 use Rattle.um_link.specs.lapdm_link.Events as E
 use Rattle.um_link.specs.um_air.Air as A
 use Rattle.um_lines.specs.declared.fault.LineFault.{LineFault}
 use Rattle.um_lines.specs.declared.fault.LineFault.TheVariants.{Word, Digits, Length, Place, Twice}
-use Rattle.um_lines.specs.Fields.{are_octet_digits, are_octets, hex_octets, is_decimal}
-use Rattle.um_lines.specs.Forms.{anywhere, form_of, form_fault, entry_says, unless, is_repeated}
+use Rattle.um_lines.specs.Fields.{is_dash_or_hex, has_octet_count, octets_from_hex, is_decimal}
+use Rattle.um_lines.specs.Forms.{no_order_fault, form_of_words, first_word_fault, meaning_of_words, fault_or_value, has_repeated_number}
 use Rattle.um_lines.specs.LinkForms as L
 use Rattle.um_lines.specs.LinkForms.{link_forms}
 use Rattle.um_script.specs.declared.names.Actor.{Actor}
 use Rattle.um_script.specs.declared.names.Actor.TheVariants as W
 use Rattle.um_script.specs.declared.names.Request.{Request}
 use Rattle.um_script.specs.declared.names.Request.TheVariants as Q
-use Rattle.um_script.specs.declared.names.Act.{Act}
-use Rattle.um_script.specs.declared.names.Act.TheVariants as T
-use Rattle.um_script.specs.Names.{end_named, way_named, actor_said, request_said, act_said}
-use Rattle.um_script.specs.ScriptLines.{role_of, sapi_of, sender_of, asks, event_said}
+use Rattle.um_script.specs.declared.names.RadioPathAct.{RadioPathAct}
+use Rattle.um_script.specs.declared.names.RadioPathAct.TheVariants as T
+use Rattle.um_script.specs.Names.{endpoint_named, direction_named, actor_of_name, request_of_name, act_of_name}
+use Rattle.um_script.specs.ScriptLines.{role_of, sapi_of, sender_of, call_event, event_of_meaning}
 
--- an event, nothing, or the reason for a refusal
-abbrev pub Reading : Type 0
-Reading = Result (Option A.Event) LineFault
+-- the result of reading a line: an event, `None` for a skipped line, or the reason why it is refused
+abbrev pub EventOrFault : Type 0
+EventOrFault = Result (Option A.Event) LineFault
 
--- the event of words, or their first reason
-abbrev pub read_words : List (List ℕ) → Reading
-read_words ws = unless (form_fault anywhere (form_of link_forms ws) ws) (event_said (entry_says (form_of link_forms ws) ws))
+-- the event that words mean, or the first reason why they are refused
+abbrev pub parsed_words : List (List ℕ) → EventOrFault
+parsed_words ws = fault_or_value (first_word_fault no_order_fault (form_of_words link_forms ws) ws) (event_of_meaning (meaning_of_words
+    (form_of_words link_forms ws) ws))
 
--- the octets of the words, of which there must be exactly one
-abbrev pub octets_read : List (List ℕ) → Result (List ℕ) LineFault
-octets_read [] = Err Word
-octets_read (w ∷ []) = if not (are_octet_digits w) then Err Digits else if not (are_octets 0 None w) then Err Length else Ok (hex_octets w)
-octets_read (w ∷ other ∷ ws) = Err Word
+-- the octets in the words, of which there must be exactly one
+abbrev pub parsed_octets_word : List (List ℕ) → Result (List ℕ) LineFault
+parsed_octets_word [] = Err Word
+parsed_octets_word (w ∷ []) = if not (is_dash_or_hex w) then Err Digits else if not (has_octet_count 0 None w) then Err Length else Ok
+    (octets_from_hex w)
+parsed_octets_word (w ∷ other ∷ ws) = Err Word
 
-abbrev pub is_above : List ℕ → Bool
-is_above w = nat_lt 591 (digits_value 10 w)
+abbrev pub is_above_591 : List ℕ → Bool
+is_above_591 w = nat_lt 591 (digits_value 10 w)
 
--- the bit indices of words
-abbrev pub places_read : List (List ℕ) → Result (List ℕ) LineFault
-places_read ws =
+-- the bit indices in the words
+abbrev pub parsed_bit_indices : List (List ℕ) → Result (List ℕ) LineFault
+parsed_bit_indices ws =
     if list_any (λ w. not (is_decimal w)) ws then Err Digits
-    else if list_any is_above ws then Err Place
-    else if is_repeated (map (digits_value 10) ws) then Err Twice
+    else if list_any is_above_591 ws then Err Place
+    else if has_repeated_number (map (digits_value 10) ws) then Err Twice
     else Ok (map (digits_value 10) ws)
 
-abbrev pub with_event : (List ℕ → A.Event) → Result (List ℕ) LineFault → Reading
-with_event make (Ok ns) = Ok (Some (make ns))
-with_event make (Err fault) = Err fault
+abbrev pub event_from_result : (List ℕ → A.Event) → Result (List ℕ) LineFault → EventOrFault
+event_from_result make (Ok ns) = Ok (Some (make ns))
+event_from_result make (Err fault) = Err fault
 
-abbrev pub reads : A.Event → Reading
+abbrev pub reads : A.Event → EventOrFault
 reads event = Ok (Some event)
 
 -- ---- calls of an endpoint
 
-abbrev pub is_three : Sapi → Bool
-is_three Zero = false
-is_three Three = true
+abbrev pub is_sapi_3 : Sapi → Bool
+is_sapi_3 Zero = false
+is_sapi_3 Three = true
 
--- a call without octets
-abbrev pub bare_call_read : L.LinkEnd → Option Request → Reading
-bare_call_read end (Some Q.Open) = if is_three (sapi_of end) then reads (E.OpenBare (role_of end)) else Err Word
-bare_call_read end (Some Q.Close) = reads (asks end E.Close)
-bare_call_read end (Some Q.Tick) = reads (asks end E.T200Expiry)
-bare_call_read end (Some Q.Idle) = if is_three (sapi_of end) then Err Word else reads (asks end E.Idle)
-bare_call_read end request = Err Word
+-- a call without octets, such as `close`
+abbrev pub parsed_call_verb : L.LinkEndpoint → Option Request → EventOrFault
+parsed_call_verb end (Some Q.Open) = if is_sapi_3 (sapi_of end) then reads (E.OpenBare (role_of end)) else Err Word
+parsed_call_verb end (Some Q.Close) = reads (call_event end E.Close)
+parsed_call_verb end (Some Q.Tick) = reads (call_event end E.T200Expiry)
+parsed_call_verb end (Some Q.Idle) = if is_sapi_3 (sapi_of end) then Err Word else reads (call_event end E.Idle)
+parsed_call_verb end request = Err Word
 
-abbrev pub is_first : L.LinkEnd → Bool
-is_first L.Mob = true
-is_first end = false
+abbrev pub is_mobile_sapi_0 : L.LinkEndpoint → Bool
+is_mobile_sapi_0 L.Mob = true
+is_mobile_sapi_0 end = false
 
--- a call with further words
-abbrev pub octets_call_read : L.LinkEnd → Option Request → List (List ℕ) → Reading
-octets_call_read end (Some Q.Open) ws = if is_first end then with_event E.Open (octets_read ws) else Err Word
-octets_call_read end (Some Q.Send) ws = with_event (λ m. asks end (E.Send m)) (octets_read ws)
-octets_call_read end (Some Q.Unit) ws = with_event (λ m. asks end (E.SendUnit m)) (octets_read ws)
-octets_call_read end request ws = Err Word
+-- a call that is followed by further words, such as `send`
+abbrev pub parsed_octets_call : L.LinkEndpoint → Option Request → List (List ℕ) → EventOrFault
+parsed_octets_call end (Some Q.Open) ws = if is_mobile_sapi_0 end then event_from_result E.Open (parsed_octets_word ws) else Err Word
+parsed_octets_call end (Some Q.Send) ws = event_from_result (λ m. call_event end (E.Send m)) (parsed_octets_word ws)
+parsed_octets_call end (Some Q.Unit) ws = event_from_result (λ m. call_event end (E.SendUnit m)) (parsed_octets_word ws)
+parsed_octets_call end request ws = Err Word
 
-abbrev pub call_read : L.LinkEnd → List (List ℕ) → Reading
-call_read end [] = Err Word
-call_read end (verb ∷ []) = bare_call_read end (request_said verb)
-call_read end (verb ∷ w ∷ ws) = octets_call_read end (request_said verb) (w ∷ ws)
+abbrev pub parsed_call : L.LinkEndpoint → List (List ℕ) → EventOrFault
+parsed_call end [] = Err Word
+parsed_call end (verb ∷ []) = parsed_call_verb end (request_of_name verb)
+parsed_call end (verb ∷ w ∷ ws) = parsed_octets_call end (request_of_name verb) (w ∷ ws)
 
--- ---- the channel
+-- ---- what happens to a block on the radio path
 
-abbrev pub bare_air_read : L.Way → Option Act → Reading
-bare_air_read way (Some T.Deliver) = reads (E.Deliver (sender_of way) [])
-bare_air_read way (Some T.Lose) = reads (E.Lose (sender_of way))
-bare_air_read way act = Err Word
+abbrev pub parsed_deliver_or_lose : L.Way → Option RadioPathAct → EventOrFault
+parsed_deliver_or_lose way (Some T.Deliver) = reads (E.Deliver (sender_of way) [])
+parsed_deliver_or_lose way (Some T.Lose) = reads (E.Lose (sender_of way))
+parsed_deliver_or_lose way act = Err Word
 
-abbrev pub flip_read : L.Way → Option Act → List (List ℕ) → Reading
-flip_read way (Some T.Flip) ws = with_event (E.Deliver (sender_of way)) (places_read ws)
-flip_read way act ws = Err Word
+abbrev pub parsed_flip : L.Way → Option RadioPathAct → List (List ℕ) → EventOrFault
+parsed_flip way (Some T.Flip) ws = event_from_result (E.Deliver (sender_of way)) (parsed_bit_indices ws)
+parsed_flip way act ws = Err Word
 
-abbrev pub air_read : L.Way → List (List ℕ) → Reading
-air_read way [] = Err Word
-air_read way (verb ∷ []) = bare_air_read way (act_said verb)
-air_read way (verb ∷ w ∷ ws) = flip_read way (act_said verb) (w ∷ ws)
+abbrev pub parsed_radio_event : L.Way → List (List ℕ) → EventOrFault
+parsed_radio_event way [] = Err Word
+parsed_radio_event way (verb ∷ []) = parsed_deliver_or_lose way (act_of_name verb)
+parsed_radio_event way (verb ∷ w ∷ ws) = parsed_flip way (act_of_name verb) (w ∷ ws)
 
 -- ---- whole lines
 
-abbrev pub acted_read : Option Actor → List (List ℕ) → Reading
-acted_read None ws = Err Word
-acted_read (Some (W.End end sapi)) ws = call_read (end_named end sapi) ws
-acted_read (Some (W.Way way)) ws = air_read (way_named way) ws
-acted_read (Some W.Rival) ws = with_event E.Rival (octets_read ws)
+abbrev pub parsed_for_actor : Option Actor → List (List ℕ) → EventOrFault
+parsed_for_actor None ws = Err Word
+parsed_for_actor (Some (W.End end sapi)) ws = parsed_call (endpoint_named end sapi) ws
+parsed_for_actor (Some (W.Way way)) ws = parsed_radio_event (direction_named way) ws
+parsed_for_actor (Some W.Rival) ws = event_from_result E.Rival (parsed_octets_word ws)
 
-abbrev pub script_read : List (List ℕ) → Reading
-script_read [] = Err Word
-script_read (name ∷ ws) = acted_read (actor_said name) ws
+abbrev pub parsed_script_words : List (List ℕ) → EventOrFault
+parsed_script_words [] = Err Word
+parsed_script_words (name ∷ ws) = parsed_for_actor (actor_of_name name) ws

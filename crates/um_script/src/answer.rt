@@ -1,35 +1,31 @@
-//! The lines that answer a script line.
+//! Writes the lines that answer a script line.
 ghost use Rattle.std.specs.Prelude.{◌≡◌, ◌+◌, ◌*◌, ◌-◌, ◌<◌, ◌≤◌, [], ◌∷◌, ◌++◌, length, map, take};
 ghost use Rattle.std.specs.Prelude.{drop, codes, IfOk, OnOk};
 ghost use Rattle.hex.specs.Hex.{encode_lower};
-ghost use Rattle.bit_blocks.specs.Octets.{bits_of, octets_of};
+ghost use Rattle.um_link.specs.bit_blocks.Octets.{bits_of, octets_of};
 ghost use Rattle.um_link.specs.um_air.Air as A;
 ghost use Rattle.um_link.specs.um_air.Sessions.{AreOctets};
 ghost use Rattle.um_lines.specs.Spelled.{octets_word};
-ghost use Rattle.um_script.specs.AnswerLines.{No as Refusal, Reports, Sends, reception, reception_words, notice_words, block_line};
-ghost use Rattle.um_script.specs.AnswerLines.{arrival_lines};
-ghost use Rattle.um_script.specs.AnswerLines.{spaced_words, said_text, lines_text, answer_lines, answer_text};
-ghost use Rattle.um_script.specs.AnswerLines.{FitsReception, FitsNotice, FitsLine, FitLines};
-ghost use Rattle.um_link.specs.Naming.{answer_of, step_of, who_of, why_of, step_result};
-ghost use Rattle.um_link.specs.Abstraction.{FitsWho};
-ghost use Rattle.um_script.specs.AnswerWords.{who_word, link_word, refusal_word, closing_word};
+ghost use Rattle.um_script.specs.AnswerLines.{No as Refusal, Reports, Sends, reception, reception_words, notice_words, received_block_line};
+ghost use Rattle.um_script.specs.AnswerLines.{received_block_lines};
+ghost use Rattle.um_script.specs.AnswerLines.{spaced_words, answer_line_text, lines_text, answer_lines, answer_text};
+ghost use Rattle.um_script.specs.AnswerLines.{ReceptionIsInRange, NoticeIsInRange, LineIsInRange, LinesAreInRange};
+ghost use Rattle.um_link.specs.Naming.{answer_of, step_of, who_of, event_refusal_of, step_result};
+ghost use Rattle.um_link.specs.Abstraction.{FitsActor};
+ghost use Rattle.um_script.specs.AnswerWords.{actor_word, sapi_suffix, call_refusal_word, closing_reason_word};
 
-use bit_blocks::{BLOCK_BITS, BLOCK_OCTETS};
-use lapdm_window::{Notice, Reason, Sapi};
-use um_block::Received;
-use um_lines::{Text, packed};
-use um_link::{No, Step, Who};
+use um_lines::{BLOCK_BITS, BLOCK_OCTETS, Text, octets_from_bits_at};
+use um_link::{No, Notice, Reason, Received, Sapi, Step, Who};
 
-/// Writes the lines of an answer: what was received, the notices and what is sent, or the reason
-/// for `no`.
+/// Writes the lines of an answer: what was received, the notices, what is sent and `ok`, or `no` and the reason.
 pub fn step_lines(out: &mut Text, answer: &Result<Step, No>)
     requires empty { out.old ≡ [] }
-    requires fits { IfOk answer.now (λ step. FitsWho (step_of step)) }
+    requires fits { IfOk answer.now (λ step. FitsActor (step_of step)) }
     ensures text { out.new ≡ answer_text (answer_of answer.now) }
     ensures size { length out.new < 2000 }
 
-    // The octets and numbers are in range, as `law_different_lines` requires.
-    ensures fit { FitLines (answer_lines (answer_of answer.now)) }
+    // All octets and numbers are in range, as `law_text_determines_lines` requires.
+    ensures fit { LinesAreInRange (answer_lines (answer_of answer.now)) }
 {
     match answer {
         Ok(step) => push_step(out, step),
@@ -37,13 +33,13 @@ pub fn step_lines(out: &mut Text, answer: &Result<Step, No>)
     }
 }
 
-/// `step_lines` for a step in a caller-supplied buffer.
-pub fn written_lines(out: &mut Text, done: &Result<(), No>, step: &Step)
+/// `step_lines` for a step that is stored in a buffer of the caller.
+pub fn write_step_lines(out: &mut Text, done: &Result<(), No>, step: &Step)
     requires empty { out.old ≡ [] }
-    requires fits { OnOk done.now (FitsWho (step_of step.now)) }
+    requires fits { OnOk done.now (FitsActor (step_of step.now)) }
     ensures text { out.new ≡ answer_text (answer_of (step_result done.now step.now)) }
     ensures size { length out.new < 2000 }
-    ensures fit { FitLines (answer_lines (answer_of (step_result done.now step.now))) }
+    ensures fit { LinesAreInRange (answer_lines (answer_of (step_result done.now step.now))) }
 {
     match done {
         Ok(()) => push_step(out, step),
@@ -53,7 +49,7 @@ pub fn written_lines(out: &mut Text, done: &Result<(), No>, step: &Step)
 
 fn push_refusal(out: &mut Text, reason: No)
     requires { out.old ≡ [] }
-    ensures text { out.new ≡ said_text (Refusal (why_of reason)) }
+    ensures text { out.new ≡ answer_line_text (Refusal (event_refusal_of reason)) }
     ensures size { length out.new ≤ 20 }
 {
     out.push(b"no ");
@@ -62,7 +58,7 @@ fn push_refusal(out: &mut Text, reason: No)
 }
 
 fn refusal(reason: No) -> &'static [u8]
-    ensures word { result.now ≡ refusal_word (why_of reason) }
+    ensures word { result.now ≡ call_refusal_word (event_refusal_of reason) }
     ensures size { length result.now ≤ 10 }
 {
     match reason {
@@ -82,7 +78,7 @@ fn push_step(out: &mut Text, step: &Step)
     requires { out.old ≡ [] }
     ensures text { out.new ≡ answer_text (answer_of (Ok step.now)) }
     ensures size { length out.new < 2000 }
-    ensures fit { FitLines (answer_lines (answer_of (Ok step.now))) }
+    ensures fit { LinesAreInRange (answer_lines (answer_of (Ok step.now))) }
 {
     push_arrival(out, step.who, &step.received);
     push_notices(out, step.who, step.sapi, step.effects.notices.as_slice());
@@ -92,9 +88,9 @@ fn push_step(out: &mut Text, step: &Step)
 
 fn push_arrival(out: &mut Text, who: Who, received: &Option<Received>)
     requires { out.old ≡ [] }
-    ensures text { out.new ≡ lines_text (arrival_lines (who_of who) received.now) }
+    ensures text { out.new ≡ lines_text (received_block_lines (who_of who) received.now) }
     ensures size { length out.new ≤ 300 }
-    ensures fit { FitLines (arrival_lines (who_of who) received.now) }
+    ensures fit { LinesAreInRange (received_block_lines (who_of who) received.now) }
 {
     match received {
         Some(r) => push_block(out, who, r),
@@ -103,7 +99,7 @@ fn push_arrival(out: &mut Text, who: Who, received: &Option<Received>)
 }
 
 fn name(who: Who) -> &'static [u8]
-    ensures word { result.now ≡ who_word (who_of who) }
+    ensures word { result.now ≡ actor_word (who_of who) }
     ensures size { length result.now ≤ 5 }
 {
     match who {
@@ -117,26 +113,26 @@ fn name(who: Who) -> &'static [u8]
 #[tactic(auto, using(crate::proofs::AnswerLaws::line_spaced))]
 fn push_block(out: &mut Text, who: Who, r: &Received)
     requires { out.old ≡ [] }
-    ensures text { out.new ≡ said_text (block_line (who_of who) r.now.accepted r.now) }
+    ensures text { out.new ≡ answer_line_text (received_block_line (who_of who) r.now.accepted r.now) }
     ensures size { length out.new ≤ 300 }
-    ensures fit { FitsLine (block_line (who_of who) r.now.accepted r.now) }
+    ensures fit { LineIsInRange (received_block_line (who_of who) r.now.accepted r.now) }
 {
     out.push(name(who));
     match &r.accepted {
         Some(octets) => {
-            push_taken(out, octets);
+            push_accepted_block(out, octets);
             push_reception(out, r);
         }
         None => {
             out.push(b" drops");
             push_reception(out, r);
-            push_dropped(out, r);
+            push_dropped_block(out, r);
         }
     }
     out.push(b"\n");
 }
 
-fn push_taken(out: &mut Text, octets: &[u8])
+fn push_accepted_block(out: &mut Text, octets: &[u8])
     requires space { length out.old ≤ 5 }
     requires count { length octets.now ≡ BLOCK_OCTETS }
     ensures text { out.new ≡ out.old ++ spaced_words (codes "takes" ∷ encode_lower octets.now ∷ []) }
@@ -151,7 +147,7 @@ fn push_reception(out: &mut Text, r: &Received)
     requires { length out.old ≤ 60 }
     ensures text { out.new ≡ out.old ++ spaced_words (reception_words (reception r.now)) }
     ensures size { length out.new ≤ length out.old + 120 }
-    ensures fit { FitsReception (reception r.now) }
+    ensures fit { ReceptionIsInRange (reception r.now) }
 {
     out.push(b" tsc ");
     out.push_decimal(u64::from(r.tsc));
@@ -161,7 +157,7 @@ fn push_reception(out: &mut Text, r: &Received)
     out.push(itoa::Buffer::new().format(r.metric).as_bytes());
 }
 
-fn push_dropped(out: &mut Text, r: &Received)
+fn push_dropped_block(out: &mut Text, r: &Received)
     requires { length out.old ≤ 180 }
     ensures text { out.new ≡ out.old ++ spaced_words (codes "data" ∷ encode_lower (octets_of (take BLOCK_BITS r.now.u))
         ∷ codes "check" ∷ encode_lower (octets_of (take 40 (drop BLOCK_BITS r.now.u))) ∷ []) }
@@ -169,21 +165,21 @@ fn push_dropped(out: &mut Text, r: &Received)
     ensures data { AreOctets (octets_of (take BLOCK_BITS r.now.u)) }
     ensures check { AreOctets (octets_of (take 40 (drop BLOCK_BITS r.now.u))) }
 {
-    push_parts(
+    push_data_and_check_words(
         out,
-        &packed::<BLOCK_OCTETS, _>(&r.u, 0),
-        &packed::<5, _>(&r.u, BLOCK_BITS),
+        &octets_from_bits_at::<BLOCK_OCTETS, _>(&r.u, 0),
+        &octets_from_bits_at::<5, _>(&r.u, BLOCK_BITS),
     );
 }
 
-fn push_parts(out: &mut Text, octets: &[u8], check: &[u8])
+fn push_data_and_check_words(out: &mut Text, octets: &[u8], check: &[u8])
     requires space { length out.old ≤ 180 }
     requires size { length octets.now + length check.now ≡ 28 }
     ensures text { out.new ≡ out.old
         ++ spaced_words (codes "data" ∷ encode_lower octets.now ∷ codes "check" ∷ encode_lower check.now ∷ []) }
     ensures size { length out.new ≡ length out.old + 69 }
 
-    // Octets, unchanged by unpacking to bits and packing again.
+    // Octets are unchanged if they are unpacked to bits and packed again.
     ensures fit { AreOctets octets.now × AreOctets check.now }
     ensures octets { octets_of (bits_of octets.now) ≡ octets.now }
     ensures check { octets_of (bits_of check.now) ≡ check.now }
@@ -200,7 +196,7 @@ fn push_notices(out: &mut Text, who: Who, sapi: Sapi, notices: &[Notice])
     requires size { length notices.now ≤ 3 }
     ensures text { out.new ≡ out.old ++ lines_text (map (Reports (who_of who) sapi) notices.now) }
     ensures size { length out.new ≤ length out.old + 520 * length notices.now }
-    ensures fit { FitLines (map (Reports (who_of who) sapi) notices.now) }
+    ensures fit { LinesAreInRange (map (Reports (who_of who) sapi) notices.now) }
 {
     for notice in notices {
         out.push(name(who));
@@ -211,7 +207,7 @@ fn push_notices(out: &mut Text, who: Who, sapi: Sapi, notices: &[Notice])
 }
 
 fn link(sapi: Sapi) -> &'static [u8]
-    ensures word { result.now ≡ link_word sapi }
+    ensures word { result.now ≡ sapi_suffix sapi }
     ensures size { length result.now ≤ 1 }
 {
     match sapi {
@@ -224,12 +220,12 @@ fn push_notice(out: &mut Text, notice: &Notice)
     requires { length out.old ≤ 1400 }
     ensures text { out.new ≡ out.old ++ spaced_words (notice_words notice.now) }
     ensures size { length out.new ≤ length out.old + 512 }
-    ensures fit { FitsNotice notice.now }
+    ensures fit { NoticeIsInRange notice.now }
 {
     match notice {
-        Notice::Opened(message) => push_octets(out, b" opened ", message.octets()),
-        Notice::Got(message) => push_octets(out, b" got ", message.octets()),
-        Notice::Unit(message) => push_octets(out, b" unit ", message.octets()),
+        Notice::Opened(message) => push_word_and_octets(out, b" opened ", message.octets()),
+        Notice::Got(message) => push_word_and_octets(out, b" got ", message.octets()),
+        Notice::Unit(message) => push_word_and_octets(out, b" unit ", message.octets()),
         Notice::Acked(number) => {
             out.push(b" acked ");
             out.push_decimal(*number);
@@ -237,12 +233,12 @@ fn push_notice(out: &mut Text, notice: &Notice)
         Notice::Oversize => out.push(b" oversize"),
         Notice::Closed(reason) => {
             out.push(b" closed ");
-            out.push(closing(*reason));
+            out.push(closing_reason_octets(*reason));
         }
     }
 }
 
-fn push_octets(out: &mut Text, word: &[u8], octets: &[u8])
+fn push_word_and_octets(out: &mut Text, word: &[u8], octets: &[u8])
     requires space { length out.old ≤ 1400 }
     requires word { length word.now ≤ 8 }
     requires octets { length octets.now ≤ 251 }
@@ -258,8 +254,8 @@ fn push_octets(out: &mut Text, word: &[u8], octets: &[u8])
     }
 }
 
-fn closing(reason: Reason) -> &'static [u8]
-    ensures word { result.now ≡ closing_word reason }
+fn closing_reason_octets(reason: Reason) -> &'static [u8]
+    ensures word { result.now ≡ closing_reason_word reason }
     ensures size { length result.now ≤ 10 }
 {
     match reason {
@@ -275,15 +271,15 @@ fn push_frames(out: &mut Text, who: Who, frames: &[[u8; BLOCK_OCTETS]])
     requires size { length frames.now ≤ 2 }
     ensures text { out.new ≡ out.old ++ lines_text (map (Sends (who_of who)) frames.now) }
     ensures size { length out.new ≤ length out.old + 60 * length frames.now }
-    ensures fit { FitLines (map (Sends (who_of who)) frames.now) }
+    ensures fit { LinesAreInRange (map (Sends (who_of who)) frames.now) }
 {
     for frame in frames {
         out.push(name(who));
-        push_sent(out, frame);
+        push_sent_frame(out, frame);
     }
 }
 
-fn push_sent(out: &mut Text, frame: &[u8])
+fn push_sent_frame(out: &mut Text, frame: &[u8])
     requires space { length out.old ≤ 2000 }
     requires count { length frame.now ≡ BLOCK_OCTETS }
     ensures text { out.new ≡ out.old ++ (codes " sends " ++ encode_lower frame.now ++ codes "\n") }
@@ -295,10 +291,11 @@ fn push_sent(out: &mut Text, frame: &[u8])
     out.push(b"\n");
 }
 
-/// Two lists of lines have the same text if and only if they are equal, provided their octets and
-/// numbers are in range (`fit` of `step_lines`).
-pub fn law_different_lines()
+/// Two lists of answer lines have the same text if and only if they are equal, provided that their octets and numbers are in range (see the
+/// clause `fit` of `step_lines`).
+pub fn law_text_determines_lines()
     ensures same { (x y : A.Answer) → answer_lines x ≡ answer_lines y → answer_text x ≡ answer_text y }
-    ensures different { (x y : A.Answer) → FitLines (answer_lines x) → FitLines (answer_lines y) → answer_text x ≡ answer_text y →
+    ensures different { (x y : A.Answer) → LinesAreInRange (answer_lines x) → LinesAreInRange (answer_lines y) →
+        answer_text x ≡ answer_text y →
         answer_lines x ≡ answer_lines y }
 {}

@@ -1,5 +1,5 @@
-//! The lines of a script of `link`, which say what happens at both sides of a link and on the
-//! channel between them, and the lines that answer them.
+//! Parses the lines of a script for `link`, each of which says what happens at a side or on the radio path, and writes the lines that
+//! answer them.
 #![tactic(auto)]
 
 mod answer;
@@ -10,6 +10,7 @@ mod script;
 #[cfg(test)]
 mod tests;
 
-pub use answer::{law_different_lines, step_lines, written_lines};
+pub use answer::{law_text_determines_lines, step_lines, write_step_lines};
 pub use room::Room;
-pub use script::{ScriptLine, law_script, law_script_octets, parse_script};
+pub use script::{ScriptLine, law_messages_are_octets, law_one_script_meaning, parse_script};
+pub use um_lines::{LineFault, Text};

@@ -1,12 +1,11 @@
-//! The words that name an actor and an action.
+//! The first two words of a script line: who acts, and what happens.
 ghost use Rattle.std.specs.Prelude.{◌≡◌};
 ghost use Rattle.std.specs.Str.{bytes_eq};
-ghost use Rattle.um_script.specs.Names.{actor_said, request_said, act_said};
+ghost use Rattle.um_script.specs.Names.{actor_of_name, request_of_name, act_of_name};
 
-use lapdm_window::Sapi;
-use um_link::{End, Way};
+use um_link::{End, Sapi, Way};
 
-/// Which endpoint, way or rival a line is about.
+/// What a line is about: an endpoint, a direction, or another mobile.
 #[derive(Clone, Copy, PartialEq, Eq, Debug)]
 pub(crate) enum Actor {
     End(End, Sapi),
@@ -14,7 +13,7 @@ pub(crate) enum Actor {
     Rival,
 }
 
-/// A call of an endpoint.
+/// What an endpoint is asked to do.
 #[derive(Clone, Copy, PartialEq, Eq, Debug)]
 pub(crate) enum Request {
     Open,
@@ -25,9 +24,9 @@ pub(crate) enum Request {
     Idle,
 }
 
-/// What the channel does to a block.
+/// What happens to a block on the radio path.
 #[derive(Clone, Copy, PartialEq, Eq, Debug)]
-pub(crate) enum Act {
+pub(crate) enum RadioPathAct {
     Deliver,
     Lose,
     Flip,
@@ -40,7 +39,7 @@ fn is(word: &[u8], name: &[u8]) -> bool
 }
 
 pub(crate) fn actor_of(word: &[u8]) -> Option<Actor>
-    ensures { result ≡ actor_said word.now }
+    ensures { result ≡ actor_of_name word.now }
 {
     if is(word, b"mob") {
         Some(Actor::End(End::Mobile, Sapi::Zero))
@@ -62,7 +61,7 @@ pub(crate) fn actor_of(word: &[u8]) -> Option<Actor>
 }
 
 pub(crate) fn request_of(word: &[u8]) -> Option<Request>
-    ensures { result ≡ request_said word.now }
+    ensures { result ≡ request_of_name word.now }
 {
     if is(word, b"open") {
         Some(Request::Open)
@@ -81,15 +80,15 @@ pub(crate) fn request_of(word: &[u8]) -> Option<Request>
     }
 }
 
-pub(crate) fn act_of(word: &[u8]) -> Option<Act>
-    ensures { result ≡ act_said word.now }
+pub(crate) fn act_of(word: &[u8]) -> Option<RadioPathAct>
+    ensures { result ≡ act_of_name word.now }
 {
     if is(word, b"deliver") {
-        Some(Act::Deliver)
+        Some(RadioPathAct::Deliver)
     } else if is(word, b"lose") {
-        Some(Act::Lose)
+        Some(RadioPathAct::Lose)
     } else if is(word, b"flip") {
-        Some(Act::Flip)
+        Some(RadioPathAct::Flip)
     } else {
         None
     }

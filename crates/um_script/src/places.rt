@@ -1,22 +1,22 @@
-//! Words that give bit indices of a block.
+//! Reads the words that give the indices of bits in a block.
 ghost use Rattle.std.specs.Prelude.{◌≡◌, ◌≤◌, ◌∷◌, ℕ, not, length, min, take, IsTrue};
 ghost use Rattle.std.specs.List.{list_any};
 ghost use Rattle.std.specs.Str.{all_ascii_digits};
 ghost use Rattle.std.specs.Str.Parse.{digits_value};
 ghost use Rattle.um_lines.specs.Words.{words};
 ghost use Rattle.um_lines.specs.Fields.{is_decimal};
-ghost use Rattle.um_lines.specs.Forms.{is_repeated};
-ghost use Rattle.um_script.specs.ScriptReading.{is_above};
-ghost use Rattle.um_script.specs.Held.{words_after, numbers_of, AreDecimals, ArePlaceWords};
+ghost use Rattle.um_lines.specs.Forms.{has_repeated_number};
+ghost use Rattle.um_script.specs.ScriptReading.{is_above_591};
+ghost use Rattle.um_script.specs.Held.{words_of_rest, numbers_of_words, AreDecimals, AreBitIndexWords};
 
 use um_lines::first_word;
 
 /// The number of bits in a block.
-const PLACES: u16 = 592;
+const BLOCK_BIT_COUNT: u16 = 592;
 
-/// The first word of a text, and the text after it, if there are more words.
-fn split_word(text: &[u8]) -> (&[u8], Option<&[u8]>)
-    ensures { words text.now ≡ result.0.now ∷ words_after result.1 }
+/// The first word of a text, and the text after it if more words follow.
+fn split_first_word(text: &[u8]) -> (&[u8], Option<&[u8]>)
+    ensures { words text.now ≡ result.0.now ∷ words_of_rest result.1 }
 {
     match first_word(text) {
         None => (text, None),
@@ -46,13 +46,13 @@ fn are_digits(word: &[u8]) -> bool
     all
 }
 
-/// Whether each word of a text is a decimal number.
+/// Whether every word of a text is a decimal number without leading zeros.
 pub(crate) fn are_decimals(text: &[u8]) -> bool
     ensures { result ≡ not (list_any (λ w. not (is_decimal w)) (words text.now)) }
 {
     let mut rest = Some(text);
     while let Some(text) = rest {
-        let (word, others) = split_word(text);
+        let (word, others) = split_first_word(text);
         if !is_decimal(word) {
             return false;
         }
@@ -61,27 +61,27 @@ pub(crate) fn are_decimals(text: &[u8]) -> bool
     true
 }
 
-/// The number of a word of digits, of any length; 592 if it is greater.
-fn place_of(word: &[u8]) -> u16
+/// The number that a word of digits stands for, or 592 if the number is greater; the word may have any length.
+fn bit_index_of_word(word: &[u8]) -> u16
     requires { IsTrue (all_ascii_digits word.now) }
     ensures { result ≡ min (digits_value 10 word.now) 592 }
 {
     let mut place = 0;
     for digit in word {
-        place = (10 * place + u16::from(*digit - b'0')).min(PLACES);
+        place = (10 * place + u16::from(*digit - b'0')).min(BLOCK_BIT_COUNT);
     }
     place
 }
 
 /// Whether some word of a text is a number above 591.
-pub(crate) fn is_some_above(text: &[u8]) -> bool
+pub(crate) fn has_index_above_591(text: &[u8]) -> bool
     requires { AreDecimals (words text.now) }
-    ensures { result ≡ list_any is_above (words text.now) }
+    ensures { result ≡ list_any is_above_591 (words text.now) }
 {
     let mut rest = Some(text);
     while let Some(text) = rest {
-        let (word, others) = split_word(text);
-        if place_of(word) == PLACES {
+        let (word, others) = split_first_word(text);
+        if bit_index_of_word(word) == BLOCK_BIT_COUNT {
             return true;
         }
         rest = others;
@@ -89,16 +89,16 @@ pub(crate) fn is_some_above(text: &[u8]) -> bool
     false
 }
 
-/// Whether two words of a text give the same index.
-pub(crate) fn names_twice(text: &[u8]) -> bool
-    requires { ArePlaceWords (words text.now) }
-    ensures { result ≡ is_repeated (numbers_of (words text.now)) }
+/// Whether two words of a text are the same index.
+pub(crate) fn has_repeated_index(text: &[u8]) -> bool
+    requires { AreBitIndexWords (words text.now) }
+    ensures { result ≡ has_repeated_number (numbers_of_words (words text.now)) }
 {
     let mut named = [false; 592];
     let mut rest = Some(text);
     while let Some(text) = rest {
-        let (word, others) = split_word(text);
-        let place = usize::from(place_of(word));
+        let (word, others) = split_first_word(text);
+        let place = usize::from(bit_index_of_word(word));
         if named[place] {
             return true;
         }
@@ -108,18 +108,18 @@ pub(crate) fn names_twice(text: &[u8]) -> bool
     false
 }
 
-/// Writes the indices that the words of a text give, and returns their number.
+/// Writes the indices that the words of a text stand for, and returns how many there are.
 pub(crate) fn hold_places(places: &mut [u16; 592], text: &[u8]) -> usize
-    requires words { ArePlaceWords (words text.now) }
+    requires words { AreBitIndexWords (words text.now) }
     requires space { length (words text.now) ≤ 592 }
-    ensures places { take result places.new ≡ numbers_of (words text.now) }
+    ensures places { take result places.new ≡ numbers_of_words (words text.now) }
     ensures count { result ≡ length (words text.now) }
 {
     let mut count = 0;
     let mut rest = Some(text);
     while let Some(text) = rest {
-        let (word, others) = split_word(text);
-        places[count] = place_of(word);
+        let (word, others) = split_first_word(text);
+        places[count] = bit_index_of_word(word);
         count += 1;
         rest = others;
     }

@@ -1,18 +1,20 @@
-//! Buffers for the data of one script line.
+//! A buffer for the data of one script line.
 ghost use Rattle.std.specs.Prelude.{◌≡◌, ◌≤◌, ◌*◌, ◌%◌, length, IsTrue, IfOk};
 ghost use Rattle.std.specs.List.{list_all};
 ghost use Rattle.hex.specs.Hex.{is_hex_digit};
 ghost use Rattle.um_lines.specs.Words.{words};
-ghost use Rattle.um_lines.specs.Fields.{hex_octets};
-ghost use Rattle.um_script.specs.ScriptReading.{octets_read, places_read};
-ghost use Rattle.um_link.specs.Queues.{ArePlaces};
-ghost use Rattle.um_script.specs.Held.{held_octets, held_places};
+ghost use Rattle.um_lines.specs.Fields.{octets_from_hex};
+ghost use Rattle.um_script.specs.ScriptReading.{parsed_octets_word, parsed_bit_indices};
+ghost use Rattle.um_link.specs.Queues.{AreBitIndices};
+ghost use Rattle.um_script.specs.Held.{octets_in_buffer, bit_indices_in_buffer};
 
-use crate::places::{are_decimals, hold_places, is_some_above, names_twice};
-use um_lines::{LineFault, are_octet_digits, are_octets, one_word, write_octets};
+use crate::places::{are_decimals, has_index_above_591, has_repeated_index, hold_places};
+use um_lines::{
+    LineFault, has_octet_count, is_dash_or_hex, parse_only_word, write_octets_from_hex,
+};
 
-/// The octets and bit indices of one line, stored inline: a line has at most 2,047 octets of data,
-/// and a block 592 bits.
+/// A buffer, stored in place, for the octets and the bit indices of one line. A line has at most 2,047 octets of data, and a block has 592
+/// bits.
 #[derive(Drop)]
 pub struct Room {
     octets: [u8; 2048],
@@ -28,7 +30,7 @@ impl Room {
         }
     }
 
-    /// Copies octets into the buffer, and lends the copy.
+    /// Copies octets into the buffer, and returns the copy.
     pub fn hold_octets(&mut self, octets: &[u8]) -> &[u8]
         requires { length octets.now ≤ 2048 }
         ensures { result.now ≡ octets.now }
@@ -38,7 +40,7 @@ impl Room {
         held
     }
 
-    /// Copies bit indices into the buffer, and lends the copy.
+    /// Copies bit indices into the buffer, and returns the copy.
     pub fn hold_places(&mut self, places: &[u16]) -> &[u16]
         requires { length places.now ≤ 592 }
         ensures { result.now ≡ places.now }
@@ -48,16 +50,16 @@ impl Room {
         held
     }
 
-    /// Reads the octets of a text of one word, or returns the first reason against it.
+    /// Reads the octets from a text that must be one word, or returns the first reason why it is refused.
     pub(crate) fn read_octets(&mut self, text: &[u8]) -> Result<&[u8], LineFault>
         requires { length text.now ≤ 4096 }
-        ensures { held_octets result ≡ octets_read (words text.now) }
+        ensures { octets_in_buffer result ≡ parsed_octets_word (words text.now) }
     {
-        let word = one_word(text)?;
-        if !are_octet_digits(word) {
+        let word = parse_only_word(text)?;
+        if !is_dash_or_hex(word) {
             return Err(LineFault::Digits);
         }
-        if !are_octets(0, None, word) {
+        if !has_octet_count(0, None, word) {
             return Err(LineFault::Length);
         }
         if matches!(word, b"-") {
@@ -66,30 +68,30 @@ impl Room {
         Ok(self.hold_digits(word))
     }
 
-    /// Decodes digits, two an octet.
+    /// Decodes hexadecimal digits, two for each octet, into the buffer.
     fn hold_digits(&mut self, digits: &[u8]) -> &[u8]
         requires each { IsTrue (list_all is_hex_digit digits.now) }
         requires even { length digits.now % 2 ≡ 0 }
         requires space { length digits.now ≤ 4096 }
-        ensures { result.now ≡ hex_octets digits.now }
+        ensures { result.now ≡ octets_from_hex digits.now }
     {
         let held = &mut self.octets[..digits.len() / 2];
-        write_octets(digits, held);
+        write_octets_from_hex(digits, held);
         held
     }
 
-    /// Reads the bit indices of the words of a text, or returns the first reason against them.
-    pub(crate) fn read_places(&mut self, text: &[u8]) -> Result<&[u16], LineFault>
-        ensures read { held_places result ≡ places_read (words text.now) }
-        ensures possible { IfOk result (λ places. ArePlaces places.now) }
+    /// Reads the bit indices from the words of a text, or returns the first reason why they are refused.
+    pub(crate) fn read_bit_indices(&mut self, text: &[u8]) -> Result<&[u16], LineFault>
+        ensures read { bit_indices_in_buffer result ≡ parsed_bit_indices (words text.now) }
+        ensures possible { IfOk result (λ places. AreBitIndices places.now) }
     {
         if !are_decimals(text) {
             return Err(LineFault::Digits);
         }
-        if is_some_above(text) {
+        if has_index_above_591(text) {
             return Err(LineFault::Place);
         }
-        if names_twice(text) {
+        if has_repeated_index(text) {
             return Err(LineFault::Twice);
         }
         let count = hold_places(&mut self.places, text);

@@ -1,24 +1,24 @@
-//! The lines of a script.
+//! Parses the lines of a script.
 ghost use Rattle.std.specs.Prelude.{◌≡◌, ◌≤◌, ℕ, List, length, Some, IfOk};
 ghost use Rattle.std.specs.Result.{result_err};
 ghost use Rattle.um_link.specs.um_air.Air as A;
 ghost use Rattle.um_link.specs.um_air.Sessions.{IsOctetEvent};
 ghost use Rattle.um_lines.specs.Words.{words};
-ghost use Rattle.um_lines.specs.Forms.{line_fault, anywhere};
+ghost use Rattle.um_lines.specs.Forms.{line_fault, no_order_fault};
 ghost use Rattle.um_lines.specs.LinkForms.{link_forms};
 ghost use Rattle.um_lines.specs.Meanings.{HasOneMeaningUnless};
 ghost use Rattle.um_script.specs.ScriptLines.{ScriptMeans};
-ghost use Rattle.um_script.specs.ScriptReading.{call_read, bare_call_read, octets_call_read, air_read, bare_air_read, flip_read};
-ghost use Rattle.um_script.specs.ScriptReading.{script_read};
-ghost use Rattle.um_script.specs.Naming.{meaning_of, parse_result, IsPossibleLine};
-ghost use Rattle.um_script.specs.Names.{end_named, way_named};
+ghost use Rattle.um_script.specs.ScriptReading.{parsed_call, parsed_call_verb, parsed_octets_call, parsed_radio_event};
+ghost use Rattle.um_script.specs.ScriptReading.{parsed_deliver_or_lose, parsed_flip};
+ghost use Rattle.um_script.specs.ScriptReading.{parsed_script_words};
+ghost use Rattle.um_script.specs.Naming.{meaning_of, event_or_fault, HasPossibleEvent};
+ghost use Rattle.um_script.specs.Names.{endpoint_named, direction_named};
 ghost use Rattle.um_link.specs.Possible.{IsPossible};
 
-use crate::names::{Act, Actor, Request, act_of, actor_of, request_of};
+use crate::names::{Actor, RadioPathAct, Request, act_of, actor_of, request_of};
 use crate::room::Room;
-use lapdm_window::Sapi;
 use um_lines::{LINE_LIMIT, LineFault, first_word, is_skipped};
-use um_link::{Air, Call, End, Event, Way};
+use um_link::{Air, Call, End, Event, Sapi, Way};
 
 /// What a script line asks for.
 #[derive(Clone, Copy, Drop)]
@@ -28,15 +28,15 @@ pub enum ScriptLine<'a> {
     Step(Event<'a>),
 }
 
-/// Reads a script line without its line feed: `mob open HEX`, `X open`, `X send HEX`, `X unit HEX`,
-/// `X close`, `X tick`, `X idle`, `W deliver`, `W lose`, `W flip P ..` or `rival HEX`. The octets
-/// and bit indices of the event are stored in `room`.
+/// Parses a script line, without its line feed: `mob open HEX`, `X open`, `X send HEX`, `X unit HEX`, `X close`, `X tick`, `X idle`, `W
+/// deliver`, `W lose`, `W flip P ..` or `rival HEX`, for an endpoint X and a direction W. The octets and bit indices of the event are
+/// stored in `room`.
 pub fn parse_script<'a>(line: &[u8], room: &'a mut Room) -> Result<ScriptLine<'a>, LineFault>
     ensures means { IfOk result (λ read. ScriptMeans line.now (meaning_of read)) }
-    ensures refused { result_err result ≡ line_fault link_forms anywhere line.now }
+    ensures refused { result_err result ≡ line_fault link_forms no_order_fault line.now }
 
-    // The world accepts the event.
-    ensures possible { IfOk result (λ read. IsPossibleLine read) }
+    // The world can carry out the event.
+    ensures possible { IfOk result (λ read. HasPossibleEvent read) }
 {
     if line.len() > LINE_LIMIT {
         return Err(LineFault::Long);
@@ -52,7 +52,7 @@ pub fn parse_script<'a>(line: &[u8], room: &'a mut Room) -> Result<ScriptLine<'a
 
 fn parse_words<'a>(line: &[u8], room: &'a mut Room) -> Result<Event<'a>, LineFault>
     requires { length line.now ≤ 4096 }
-    ensures read { parse_result result ≡ script_read (words line.now) }
+    ensures read { event_or_fault result ≡ parsed_script_words (words line.now) }
     ensures possible { IfOk result (λ event. IsPossible event) }
 {
     let Some((name, rest)) = first_word(line) else {
@@ -61,7 +61,7 @@ fn parse_words<'a>(line: &[u8], room: &'a mut Room) -> Result<Event<'a>, LineFau
     match actor_of(name) {
         None => Err(LineFault::Word),
         Some(Actor::End(end, sapi)) => parse_call(end, sapi, rest, room),
-        Some(Actor::Way(way)) => parse_air(way, rest, room),
+        Some(Actor::Way(way)) => parse_radio_path_line(way, rest, room),
         Some(Actor::Rival) => Ok(Event::Rival(room.read_octets(rest)?)),
     }
 }
@@ -73,17 +73,17 @@ fn parse_call<'a>(
     room: &'a mut Room,
 ) -> Result<Event<'a>, LineFault>
     requires { length rest.now ≤ 4096 }
-    ensures read { parse_result result ≡ call_read (end_named end sapi) (words rest.now) }
+    ensures read { event_or_fault result ≡ parsed_call (endpoint_named end sapi) (words rest.now) }
     ensures possible { IfOk result (λ event. IsPossible event) }
 {
     match first_word(rest) {
-        None => bare_call(end, sapi, request_of(rest)),
-        Some((verb, octets)) => octets_call(end, sapi, request_of(verb), octets, room),
+        None => parse_call_verb(end, sapi, request_of(rest)),
+        Some((verb, octets)) => parse_octets_call(end, sapi, request_of(verb), octets, room),
     }
 }
 
-fn bare_call<'a>(end: End, sapi: Sapi, asked: Option<Request>) -> Result<Event<'a>, LineFault>
-    ensures read { parse_result result ≡ bare_call_read (end_named end sapi) asked }
+fn parse_call_verb<'a>(end: End, sapi: Sapi, asked: Option<Request>) -> Result<Event<'a>, LineFault>
+    ensures read { event_or_fault result ≡ parsed_call_verb (endpoint_named end sapi) asked }
     ensures possible { IfOk result (λ event. IsPossible event) }
 {
     match (asked, sapi) {
@@ -95,7 +95,7 @@ fn bare_call<'a>(end: End, sapi: Sapi, asked: Option<Request>) -> Result<Event<'
     }
 }
 
-fn octets_call<'a>(
+fn parse_octets_call<'a>(
     end: End,
     sapi: Sapi,
     asked: Option<Request>,
@@ -103,7 +103,7 @@ fn octets_call<'a>(
     room: &'a mut Room,
 ) -> Result<Event<'a>, LineFault>
     requires { length octets.now ≤ 4096 }
-    ensures read { parse_result result ≡ octets_call_read (end_named end sapi) asked (words octets.now) }
+    ensures read { event_or_fault result ≡ parsed_octets_call (endpoint_named end sapi) asked (words octets.now) }
     ensures possible { IfOk result (λ event. IsPossible event) }
 {
     match (asked, end, sapi) {
@@ -120,48 +120,52 @@ fn octets_call<'a>(
     }
 }
 
-fn parse_air<'a>(way: Way, rest: &[u8], room: &'a mut Room) -> Result<Event<'a>, LineFault>
-    ensures read { parse_result result ≡ air_read (way_named way) (words rest.now) }
+fn parse_radio_path_line<'a>(
+    way: Way,
+    rest: &[u8],
+    room: &'a mut Room,
+) -> Result<Event<'a>, LineFault>
+    ensures read { event_or_fault result ≡ parsed_radio_event (direction_named way) (words rest.now) }
     ensures possible { IfOk result (λ event. IsPossible event) }
 {
     match first_word(rest) {
-        None => bare_air(way, act_of(rest)),
+        None => parse_deliver_or_lose(way, act_of(rest)),
         Some((verb, places)) => flip(way, act_of(verb), places, room),
     }
 }
 
-fn bare_air<'a>(way: Way, done: Option<Act>) -> Result<Event<'a>, LineFault>
-    ensures read { parse_result result ≡ bare_air_read (way_named way) done }
+fn parse_deliver_or_lose<'a>(way: Way, done: Option<RadioPathAct>) -> Result<Event<'a>, LineFault>
+    ensures read { event_or_fault result ≡ parsed_deliver_or_lose (direction_named way) done }
     ensures possible { IfOk result (λ event. IsPossible event) }
 {
     match done {
-        Some(Act::Deliver) => Ok(Event::Air(way, Air::Deliver)),
-        Some(Act::Lose) => Ok(Event::Air(way, Air::Lose)),
+        Some(RadioPathAct::Deliver) => Ok(Event::Air(way, Air::Deliver)),
+        Some(RadioPathAct::Lose) => Ok(Event::Air(way, Air::Lose)),
         _ => Err(LineFault::Word),
     }
 }
 
 fn flip<'a>(
     way: Way,
-    done: Option<Act>,
+    done: Option<RadioPathAct>,
     places: &[u8],
     room: &'a mut Room,
 ) -> Result<Event<'a>, LineFault>
-    ensures read { parse_result result ≡ flip_read (way_named way) done (words places.now) }
+    ensures read { event_or_fault result ≡ parsed_flip (direction_named way) done (words places.now) }
     ensures possible { IfOk result (λ event. IsPossible event) }
 {
     match done {
-        Some(Act::Flip) => Ok(Event::Air(way, Air::Flip(room.read_places(places)?))),
+        Some(RadioPathAct::Flip) => Ok(Event::Air(way, Air::Flip(room.read_bit_indices(places)?))),
         _ => Err(LineFault::Word),
     }
 }
 
-/// A script line has exactly one meaning, or is refused for a first reason and has none.
-pub fn law_script()
-    ensures { (line : List ℕ) → HasOneMeaningUnless (line_fault link_forms anywhere line) (ScriptMeans line) }
+/// A script line either has exactly one meaning, or has none and is refused; the reason given is the first that applies.
+pub fn law_one_script_meaning()
+    ensures { (line : List ℕ) → HasOneMeaningUnless (line_fault link_forms no_order_fault line) (ScriptMeans line) }
 {}
 
-/// The messages of every script line are octets.
-pub fn law_script_octets()
+/// The messages in every script line consist of octets.
+pub fn law_messages_are_octets()
     ensures { (line : List ℕ) (event : A.Event) → ScriptMeans line (Some event) → IsOctetEvent event }
 {}

@@ -1,12 +1,12 @@
 use super::*;
-use bit_blocks::{BLOCK_OCTETS, Bits, INFORMATION_BITS, from_octets};
-use lapdm_window::{Effects, Frames, Message, Notice, Notices, Reason, Sapi};
 use std::test::Fail;
-use um_block::Received;
-use um_lines::{LineFault, Text};
-use um_link::{Air, Call, End, Event, No, Step, Way, Who};
+use um_lines::{BLOCK_OCTETS, Bits, INFORMATION_BITS, LineFault, Text, from_octets};
+use um_link::{
+    Air, Call, Effects, End, Event, Frames, Message, No, Notice, Notices, Reason, Received, Sapi,
+    Step, Way, Who,
+};
 
-const REFUSED: [(&str, LineFault); 26] = [
+const REFUSED_LINES: [(&str, LineFault); 26] = [
     ("up flip 592", LineFault::Place),
     ("up flip 5 5", LineFault::Twice),
     ("net open 01", LineFault::Word),
@@ -38,7 +38,7 @@ const REFUSED: [(&str, LineFault); 26] = [
 #[test]
 fn a_bad_line_has_its_first_reason(rt: HostRuntime) {
     let mut room = Room::new();
-    for (line, fault) in REFUSED {
+    for (line, fault) in REFUSED_LINES {
         assert_eq!(rt;
             parse_script(line.as_bytes(), &mut room).err(),
             Some(fault),
@@ -96,14 +96,14 @@ fn the_longest_lines_are_read(rt: HostRuntime) -> Result<(), Fail> {
 
 const FILL: &str = "2b2b2b2b2b2b2b2b2b2b2b2b2b2b2b2b2b2b2b";
 
-/// A block with these octets, then fill octets.
+/// A block with these first octets, followed by fill octets.
 fn block(front: [u8; 4]) -> [u8; BLOCK_OCTETS] {
     let mut octets = [0x2b; BLOCK_OCTETS];
     octets[..4].copy_from_slice(&front);
     octets
 }
 
-/// A received block, whose CRC is good if `accepted` has octets.
+/// A received block. Its CRC is good if `accepted` has octets, otherwise bad.
 fn reception(
     u: Bits<INFORMATION_BITS>,
     tsc: u8,
@@ -131,7 +131,7 @@ fn reports_of(notice: Notice) -> Notices {
 }
 
 #[test]
-fn a_rival_sends(rt: HostRuntime) -> Result<(), Fail> {
+fn a_sabm_of_another_mobile_is_written(rt: HostRuntime) -> Result<(), Fail> {
     let mut out = Text::new();
     let effects = Effects {
         frames: sends([1, 0x3f, 5, 2]),
@@ -152,7 +152,7 @@ fn a_rival_sends(rt: HostRuntime) -> Result<(), Fail> {
 }
 
 #[test]
-fn an_end_takes_reports_and_sends(rt: HostRuntime) -> Result<(), Fail> {
+fn reception_notice_and_sent_frame_are_written_in_order(rt: HostRuntime) -> Result<(), Fail> {
     let mut out = Text::new();
     let effects = Effects {
         frames: sends([0x0d, 0x21, 1, 0x2b]),
@@ -175,7 +175,7 @@ fn an_end_takes_reports_and_sends(rt: HostRuntime) -> Result<(), Fail> {
 }
 
 #[test]
-fn an_end_is_closed(rt: HostRuntime) -> Result<(), Fail> {
+fn a_closing_by_contention_is_written(rt: HostRuntime) -> Result<(), Fail> {
     let mut out = Text::new();
     let effects = Effects {
         frames: Frames::new(),
@@ -198,7 +198,7 @@ fn an_end_is_closed(rt: HostRuntime) -> Result<(), Fail> {
 }
 
 #[test]
-fn a_block_without_parity_is_dropped(rt: HostRuntime) -> Result<(), Fail> {
+fn a_block_with_a_bad_crc_is_written_as_dropped(rt: HostRuntime) -> Result<(), Fail> {
     let mut octets = [0x2b; 28];
     octets[..3].copy_from_slice(&[2, 3, 1]);
     octets[BLOCK_OCTETS..].copy_from_slice(&[0x2c, 0x4e, 0x54, 0x02, 0x33]);

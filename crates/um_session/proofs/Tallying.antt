@@ -1,33 +1,32 @@
--- The radio's counters, which rise by one for each frame sent and each block received.
+-- The counters of the radio rise by one for each block that it sends or receives.
 use Rattle.std.proofs.Common.{◌≡◌, ℕ, zero, suc, ◌+◌, List, [], ◌∷◌, ◌++◌, ap, ◌∙◌, arith}
-use Rattle.um_block.specs.Tallies.{next_tally, tally_after}
-use Rattle.um_link.specs.um_air.Air.{Answer}
-use Rattle.um_session.specs.Courses.{frames_in, arrivals_in, frames_sent, blocks_reception}
+use Rattle.um_link.specs.{um_block.Tallies.{next_counter, counter_after}, um_air.Air.Answer}
+use Rattle.um_session.specs.Courses.{sent_frame_count, arrived_block_count, frames_sent, blocks_received}
 
-pub raised_by-plus : (m n t : ℕ) → tally_after (m + n) t ≡ tally_after m (tally_after n t)
-raised_by-plus zero n t = let e : zero + n ≡ n = omega arith in ap (λ k. tally_after k t) e
+pub raised_by-plus : (m n t : ℕ) → counter_after (m + n) t ≡ counter_after m (counter_after n t)
+raised_by-plus zero n t = let e : zero + n ≡ n = omega arith in ap (λ k. counter_after k t) e
 raised_by-plus (suc m) n t =
     let e : suc m + n ≡ suc (m + n) = omega arith in
-    ap (λ k. tally_after k t) e ∙ ap next_tally (raised_by-plus m n t)
+    ap (λ k. counter_after k t) e ∙ ap next_counter (raised_by-plus m n t)
 
 pub frames_sent-append : (xs ys : List Answer) → frames_sent (xs ++ ys) ≡ frames_sent xs + frames_sent ys
 frames_sent-append [] ys = omega arith
 frames_sent-append (x ∷ xs) ys = let e = frames_sent-append xs ys in omega arith
 
-pub blocks_reception-append : (xs ys : List Answer) → blocks_reception (xs ++ ys) ≡ blocks_reception xs + blocks_reception ys
-blocks_reception-append [] ys = omega arith
-blocks_reception-append (x ∷ xs) ys = let e = blocks_reception-append xs ys in omega arith
+pub blocks_received-append : (xs ys : List Answer) → blocks_received (xs ++ ys) ≡ blocks_received xs + blocks_received ys
+blocks_received-append [] ys = omega arith
+blocks_received-append (x ∷ xs) ys = let e = blocks_received-append xs ys in omega arith
 
--- one more answer
+-- the counters after one more answer
 pub sent_more : (xs : List Answer) (x : Answer) (t : ℕ) →
-    tally_after (frames_sent (xs ++ x ∷ [])) t ≡ tally_after (frames_in x) (tally_after (frames_sent xs) t)
+    counter_after (frames_sent (xs ++ x ∷ [])) t ≡ counter_after (sent_frame_count x) (counter_after (frames_sent xs) t)
 sent_more xs x t =
-    let e : frames_sent (xs ++ x ∷ []) ≡ frames_in x + frames_sent xs = let e = frames_sent-append xs (x ∷ []) in omega arith in
-    ap (λ n. tally_after n t) e ∙ raised_by-plus (frames_in x) (frames_sent xs) t
+    let e : frames_sent (xs ++ x ∷ []) ≡ sent_frame_count x + frames_sent xs = let e = frames_sent-append xs (x ∷ []) in omega arith in
+    ap (λ n. counter_after n t) e ∙ raised_by-plus (sent_frame_count x) (frames_sent xs) t
 
 pub reception_more : (xs : List Answer) (x : Answer) (t : ℕ) →
-    tally_after (blocks_reception (xs ++ x ∷ [])) t ≡ tally_after (arrivals_in x) (tally_after (blocks_reception xs) t)
+    counter_after (blocks_received (xs ++ x ∷ [])) t ≡ counter_after (arrived_block_count x) (counter_after (blocks_received xs) t)
 reception_more xs x t =
-    let e : blocks_reception (xs ++ x ∷ []) ≡ arrivals_in x + blocks_reception xs = let e = blocks_reception-append xs (x ∷ []) in
+    let e : blocks_received (xs ++ x ∷ []) ≡ arrived_block_count x + blocks_received xs = let e = blocks_received-append xs (x ∷ []) in
     omega arith in
-    ap (λ n. tally_after n t) e ∙ raised_by-plus (arrivals_in x) (blocks_reception xs) t
+    ap (λ n. counter_after n t) e ∙ raised_by-plus (arrived_block_count x) (blocks_received xs) t

@@ -1,45 +1,45 @@
--- A session, and the counters of the radio that codes and receives its blocks.
+-- A session together with the counters of the radio that codes and receives its blocks.
 use Rattle.std.specs.Prelude.{ℕ, ◌≡◌, ◌+◌, List, [], ◌∷◌, length, Option, Some, None}
-use Rattle.um_block.specs.declared.received.Received.{Received}
+use Rattle.um_link.specs.um_block.declared.received.Received.{Received}
 use Rattle.um_link.specs.um_air.Air.{Answer, Refuses, Does}
 use Rattle.um_driver.specs.Rules.{Rules}
-use Rattle.um_session.specs.Sessions.{Session, AnswersScript, link_rules}
+use Rattle.um_session.specs.Sessions.{Session, AnswersScriptLine, link_rules}
 
--- how many frames an answer sends, and how many blocks are received with it
-abbrev pub frames_in : Answer → ℕ
-frames_in (Refuses why) = 0
-frames_in (Does step) = length step.frames
+-- how many frames a step sends, and (below) how many blocks it receives
+abbrev pub sent_frame_count : Answer → ℕ
+sent_frame_count (Refuses why) = 0
+sent_frame_count (Does step) = length step.frames
 
-abbrev pub reports_in : Option Received → ℕ
-reports_in None = 0
-reports_in (Some report) = 1
+abbrev pub received_block_count : Option Received → ℕ
+received_block_count None = 0
+received_block_count (Some report) = 1
 
-abbrev pub arrivals_in : Answer → ℕ
-arrivals_in (Refuses why) = 0
-arrivals_in (Does step) = reports_in step.received
+abbrev pub arrived_block_count : Answer → ℕ
+arrived_block_count (Refuses why) = 0
+arrived_block_count (Does step) = received_block_count step.received
 
--- the sums over all answers
+-- the number of frames sent, and (below) of blocks received, in all answers
 abbrev pub frames_sent : List Answer → ℕ
 frames_sent [] = 0
-frames_sent (answer ∷ answers) = frames_in answer + frames_sent answers
+frames_sent (answer ∷ answers) = sent_frame_count answer + frames_sent answers
 
-abbrev pub blocks_reception : List Answer → ℕ
-blocks_reception [] = 0
-blocks_reception (answer ∷ answers) = arrivals_in answer + blocks_reception answers
+abbrev pub blocks_received : List Answer → ℕ
+blocks_received [] = 0
+blocks_received (answer ∷ answers) = arrived_block_count answer + blocks_received answers
 
--- the blocks that a radio has sent and received
+-- how many blocks a radio has sent and received
 pub record Tallies : Type 0 where
   pub sent : ℕ
   pub heard : ℕ
 
-pub record Course : Type 0 where
+pub record SessionWithRadio : Type 0 where
   pub session : Session
   pub before : Tallies
 
--- the rules of `link`, with the radio's counters before the first line
-abbrev pub course_rules : Rules Course
-course_rules = record {
+-- the rules of `link`, with states that also record the radio's counters before the first line
+abbrev pub rules_with_radio : Rules SessionWithRadio
+rules_with_radio = record {
   fault = λ c line. link_rules.fault c.session line;
   end_fault = λ c. None;
-  Step = λ c line text after. AnswersScript c.session line text after.session × (after.before ≡ c.before);
+  Step = λ c line text after. AnswersScriptLine c.session line text after.session × (after.before ≡ c.before);
 }

@@ -1,6 +1,7 @@
-//! The command `link`: a mobile, a network and the channel between them, driven by a script.
+//! The command `link`: a script drives a mobile, a network and the radio path between them.
 #![tactic(auto)]
 
 mod link;
 
 pub use link::LinkCommand;
+pub use um_link::{Channel, PlainRadio, Radio, World};

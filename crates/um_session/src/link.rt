@@ -1,29 +1,27 @@
-//! The command `link`, for the driver of all commands.
+//! The command `link`, in the form that the driver of all commands runs.
 ghost use base.Fml.{GName};
 ghost use Rattle.std.specs.Prelude.{◌≡◌, None};
-ghost use Rattle.um_block.specs.Tallies.{tally_after};
+ghost use Rattle.um_link.specs.um_block.Tallies.{counter_after};
 ghost use Rattle.um_link.specs.Abstraction.{Represents};
 ghost use Rattle.um_session.specs.Sessions.{idle};
-ghost use Rattle.um_session.specs.Courses.{Course, course_rules, frames_sent, blocks_reception};
+ghost use Rattle.um_session.specs.Courses.{SessionWithRadio, rules_with_radio, frames_sent, blocks_received};
 
-use um_block::Radio;
 use um_driver::Command;
-use um_lines::{LineFault, Text};
-use um_link::{Step, World};
-use um_script::{Room, ScriptLine, parse_script, written_lines};
+use um_link::{Radio, Step, World};
+use um_script::{LineFault, Room, ScriptLine, Text, parse_script, write_step_lines};
 
-/// The command `link`: both sides, the channel, and the radio that codes and receives its blocks.
+/// The command `link`: a world, and the radio that codes and receives its blocks.
 #[derive(Drop)]
 pub struct LinkCommand<'a, R> {
     pub world: &'a mut World,
     pub radio: &'a mut R,
     room: Room,
-    // The step of the last event that was not refused.
+    // The result of the last event that was not refused.
     step: Step,
 }
 
 impl<'a, R: Radio> LinkCommand<'a, R> {
-    /// The command over a world in its present state.
+    /// The command `link`, which continues from the present state of this world.
     pub fn new(world: &'a mut World, radio: &'a mut R) -> LinkCommand<'a, R>
         ensures world { result.world.now ≡ world.old }
         ensures radio { result.radio.now ≡ radio.old }
@@ -39,9 +37,9 @@ impl<'a, R: Radio> LinkCommand<'a, R> {
 }
 
 impl<'a, R: Radio> Command for LinkCommand<'a, R> {
-    ghost State = { Course };
+    ghost State = { SessionWithRadio };
 
-    ghost rules = { course_rules };
+    ghost rules = { rules_with_radio };
 
     ghost start = { λ link. record {
       session = idle link.world.now.tsc link.world.now.channel;
@@ -49,8 +47,8 @@ impl<'a, R: Radio> Command for LinkCommand<'a, R> {
     } };
 
     ghost represents = { λ link course. Represents link.world.now course.session.air
-        × (R.sent link.radio.now ≡ tally_after (frames_sent course.session.answers) course.before.sent)
-        × (R.heard link.radio.now ≡ tally_after (blocks_reception course.session.answers) course.before.heard) };
+        × (R.sent link.radio.now ≡ counter_after (frames_sent course.session.answers) course.before.sent)
+        × (R.heard link.radio.now ≡ counter_after (blocks_received course.session.answers) course.before.heard) };
 
     ghost Kept = { GName };
 
@@ -63,7 +61,7 @@ impl<'a, R: Radio> Command for LinkCommand<'a, R> {
                 let done = self
                     .world
                     .step_into(&mut *self.radio, &event, &mut self.step);
-                written_lines(out, &done, &self.step);
+                write_step_lines(out, &done, &self.step);
             }
         }
         Ok(())

@@ -1,17 +1,13 @@
--- The command `show` has one output for every input: a meaning has exactly one answer.
+-- The command `show` has exactly one output for every input, since a line with a meaning has exactly one answer.
 use Rattle.std.proofs.Common.{◌≡◌, ℕ, List, [], refl, sym, ◌∙◌}
-use Rattle.um_formats.specs.declared.show.ShowLine.{ShowLine}
-use Rattle.um_formats.specs.declared.show.ShowLine.TheVariants.{Skip, Octets, Frame}
-use Rattle.um_formats.specs.ShowLines.{show_fault, ShowMeans}
-use Rattle.um_formats.specs.FrameTexts.{octets_text}
-use Rattle.um_formats.proofs.ShowLaws.{one_meaning, shown_octets}
-use Rattle.um_formats.proofs.ReportLaws.{one_frame_text, some_frame_text}
-use Rattle.um_driver.specs.Rules.{IsDetermined}
-use Rattle.um_driver.specs.Laws.{HasOneOutput}
-use Rattle.um_driver.proofs.StatelessRules.{stateless_is_determined, stateless_has_one_output}
+use Rattle.um_formats.specs.{declared.show.ShowLine.{ShowLine, TheVariants.{Skip, Octets, Frame}}, ShowLines.{show_fault, ShowMeans}}
+use Rattle.um_formats.{specs.FrameTexts.octets_text, proofs.{ShowLaws.{one_meaning, shown_octets}, ReportLaws.one_frame_text}}
+use Rattle.um_formats.proofs.ReportLaws.{some_frame_text}
+use Rattle.um_driver.{specs.{Rules.IsDetermined, Laws.HasOneOutput}, proofs.StatelessRules.stateless_is_determined}
+use Rattle.um_driver.proofs.StatelessRules.{stateless_has_one_output}
 use Rattle.um_show.specs.Show.{IsShowAnswer, show_rules}
 
--- a meaning has at most one answer
+-- a line with a given meaning has at most one answer
 same_answer : (m : ShowLine) (y y' : List ℕ) → IsShowAnswer m y → IsShowAnswer m y' → y ≡ y'
 same_answer Skip y y' a a' = a ∙ sym a'
 same_answer (Octets octets) y y' a a' = one_frame_text octets y y' a a'
@@ -20,7 +16,7 @@ same_answer (Frame octets) y y' a a' = a ∙ sym a'
 pub show_is_determined : IsDetermined show_rules
 show_is_determined = stateless_is_determined show_fault ShowMeans IsShowAnswer one_meaning same_answer
 
--- every meaning of a line can be answered
+-- every line that has a meaning has an answer
 some_answer : (line : List ℕ) (m : ShowLine) → ShowMeans line m → (answer : List ℕ) × IsShowAnswer m answer
 some_answer line Skip means = ([], refl)
 some_answer line (Octets octets) means = some_frame_text octets (shown_octets line octets means)

@@ -1,11 +1,10 @@
-//! The command `show`: LAPDm frames from octets to text, and back.
+//! The command `show`: converts LAPDm frames from octets to text, and back.
 ghost use Rattle.std.specs.Prelude.{◌≡◌, Some, None, [], MatchResult};
 ghost use Rattle.um_formats.specs.ShowLines.{show_fault};
-ghost use Rattle.um_show.specs.Show.{AnswersShow};
+ghost use Rattle.um_show.specs.Show.{AnswersShowLine};
 
 use um_driver::Answer;
-use um_formats::{ShowLine, frame_line, octets_line, parse_show};
-use um_lines::{LineFault, Text};
+use um_formats::{LineFault, ShowLine, Text, frame_line, octets_line, parse_show};
 
 /// Answers a line of `show`.
 #[derive(Clone, Copy, Debug)]
@@ -14,7 +13,7 @@ pub struct Show;
 impl Answer for Show {
     ghost fault = { show_fault };
 
-    ghost answers = { AnswersShow };
+    ghost answers = { AnswersShowLine };
 
     fn answer(&self, line: &[u8], out: &mut Text) -> Result<(), LineFault> {
         match parse_show(line)? {

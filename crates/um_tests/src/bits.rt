@@ -1,16 +1,16 @@
-//! The bit order of octets, on values worked out by hand.
-use bit_blocks::{Bits, from_octets, to_octets};
+//! The bit order of octets, tested on values computed by hand.
 use std::test::Fail;
+use um_text::{Bits, from_octets, to_octets};
 
 #[test]
-fn the_bit_of_value_one_comes_first(rt: HostRuntime) {
+fn the_least_significant_bit_comes_first(rt: HostRuntime) {
     let mut bits = [9; 16];
     from_octets(&[0x01, 0xd0], &mut bits);
     assert_eq!(rt; bits, [1, 0, 0, 0, 0, 0, 0, 0, 0, 0, 0, 0, 1, 0, 1, 1]);
 }
 
 #[test]
-fn octets_come_back_from_their_bits(rt: HostRuntime) -> Result<(), Fail> {
+fn octets_are_restored_from_their_bits(rt: HostRuntime) -> Result<(), Fail> {
     let mut bits = [0; 24];
     from_octets(&[0x2b, 0x00, 0xff], &mut bits);
     let mut octets = [7; 3];
@@ -20,7 +20,7 @@ fn octets_come_back_from_their_bits(rt: HostRuntime) -> Result<(), Fail> {
 }
 
 #[test]
-fn bits_are_read_and_written_by_their_places(rt: HostRuntime) -> Result<(), Fail> {
+fn bits_are_read_and_written_by_index(rt: HostRuntime) -> Result<(), Fail> {
     let mut bits = Bits::<3>::from_slice(&[1, 0, 1]).ok_or("three bits")?;
     bits.set(1, 1);
     assert_eq!(rt; bits.get(1), 1);

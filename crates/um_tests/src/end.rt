@@ -1,11 +1,10 @@
-//! Runs of the command `end` on worked values, and lines that are refused. A separate script coded
-//! the bursts, in the same way as the blocks of `vectors/`.
-use crate::outside::{Outside, coded, compare, compare_in_pieces};
+//! Runs of the command `end` on values computed by hand, and lines that it refuses. A separate script coded the bursts in the same way as
+//! the blocks in `vectors/`.
+use crate::outside::{StreamLimits, compare, compare_in_pieces, output_of_code};
 use std::test::Fail;
 use um_cli::Status;
 
-/// The bursts of the SABM that opens the link of SAPI 0 with information 01, with training sequence
-/// 3.
+/// The bursts of the SABM that establishes SAPI 0 with information 01. Their training sequence is 3.
 pub const SABM_BURSTS: &[u8] =
     b"n 00010100001000111111101010100101010000000011101110101000000110100011110110100010001111010100001010001111\
 10101010000001000010001011111010101010010000\n\
@@ -16,8 +15,8 @@ n 000000100010111110100010000001000000100011111010100010000100101000111101101000
 n 00000010000100010101110111101010000010010001010111011010101010100011110110100010001111011010000101000101110111\
 10101010001000010101011101101011101000\n";
 
-/// A network's answer: its report, the opening, its UA, and the bursts of the UA.
-const OPENING: &[u8] =
+/// What a network answers to the SABM: the received block, that the link is open, its UA, and the bursts of the UA.
+const ESTABLISHMENT: &[u8] =
     b"net takes 013f05012b2b2b2b2b2b2b2b2b2b2b2b2b2b2b2b2b2b2b tsc 3 train 0 metric 57912\n\
 net opened 01\n\
 net sends 017305012b2b2b2b2b2b2b2b2b2b2b2b2b2b2b2b2b2b2b\n\
@@ -31,8 +30,8 @@ n 000000100011101110100010000100000000000010101010001010000100101000111101101000
 n 00000010000101010101010111111010000010010001011111011110101010100011110110100010001111011000000101000101110111\
 10101010101000010101011101101111101000\n";
 
-/// A mobile's answer to `mob idle`.
-const FILL: &[u8] = b"mob sends 0103012b2b2b2b2b2b2b2b2b2b2b2b2b2b2b2b2b2b2b2b\n\
+/// What a mobile answers to `mob idle`: its fill frame and the bursts of the fill frame.
+const FILL_FRAME_ANSWER: &[u8] = b"mob sends 0103012b2b2b2b2b2b2b2b2b2b2b2b2b2b2b2b2b2b2b2b\n\
 ok\n\
 n 00010000001000111010101000000100010000100010101110101000000010010010111000010001001011110100000000101010101000\
 10000101000000100011111010100000000000\n\
@@ -43,55 +42,61 @@ n 000000000011101010100010000100000000001011111010100000010100100100101110000100
 n 00000010000001010111011110111010100000000001011111011110101010010010111000010001001011111010100101010101110110\
 10101010101000000001011101101110101000\n";
 
-/// A network's report on a block that was lost.
-const NOTHING: &[u8] =
+/// What a network answers to four lost bursts.
+const FOUR_LOST_BURSTS_ANSWER: &[u8] =
     b"net drops tsc 0 train 104 metric 0 data 0000000000000000000000000000000000000000000000 check 0000000000\nok\n";
 
 #[test]
-fn a_network_opens_at_a_sabm(rt: HostRuntime) {
+fn a_network_answers_the_bursts_of_a_sabm(rt: HostRuntime) {
     compare_in_pieces(
         &rt,
         &["end", "net", "3"],
         SABM_BURSTS,
         Status::Done,
-        OPENING,
+        ESTABLISHMENT,
     );
 }
 
-// What `code` writes is received, and what is sent is coded as by `code`.
+// The bursts in these tests are those that `code` writes for the blocks of the SABM and the UA.
 #[test]
-fn bursts_are_those_of_code(rt: HostRuntime) -> Result<(), Fail> {
-    let sabm = coded(
+fn the_bursts_of_end_equal_those_of_code(rt: HostRuntime) -> Result<(), Fail> {
+    let sabm = output_of_code(
         &rt,
         b"block 3 013f05012b2b2b2b2b2b2b2b2b2b2b2b2b2b2b2b2b2b2b",
     )?;
     assert!(rt; sabm.as_slice() == SABM_BURSTS);
-    let ua = coded(
+    let ua = output_of_code(
         &rt,
         b"block 3 017305012b2b2b2b2b2b2b2b2b2b2b2b2b2b2b2b2b2b2b",
     )?;
-    assert!(rt; OPENING.ends_with(ua.as_slice()));
+    assert!(rt; ESTABLISHMENT.ends_with(ua.as_slice()));
     Ok(())
 }
 
 #[test]
-fn a_fill_frame_goes_out(rt: HostRuntime) {
-    compare_in_pieces(&rt, &["end", "mob", "0"], b"mob idle", Status::Done, FILL);
+fn a_call_of_idle_sends_a_fill_frame(rt: HostRuntime) {
+    compare_in_pieces(
+        &rt,
+        &["end", "mob", "0"],
+        b"mob idle",
+        Status::Done,
+        FILL_FRAME_ANSWER,
+    );
 }
 
 #[test]
-fn nothing_is_heard_of_four_lost_bursts(rt: HostRuntime) {
+fn four_lost_bursts_are_received_as_a_dropped_block(rt: HostRuntime) {
     compare_in_pieces(
         &rt,
         &["end", "net", "0"],
         b"lost\nlost\n# comment\n\nlost\nlost",
         Status::Done,
-        NOTHING,
+        FOUR_LOST_BURSTS_ANSWER,
     );
 }
 
-/// A side, a refused input, and its output.
-const REFUSED: [(&str, &[u8], &[u8]); 9] = [
+/// The side, an input that is refused, and the output.
+const REFUSED_LINES: [(&str, &[u8], &[u8]); 9] = [
     ("mob", b"net idle", b"refused 1 word\n"),
     ("net", b"lost\nnet idle", b"refused 2 order\n"),
     ("net", b"lost", b"refused 2 order\n"),
@@ -104,34 +109,34 @@ const REFUSED: [(&str, &[u8], &[u8]); 9] = [
 ];
 
 #[test]
-fn other_lines_are_refused(rt: HostRuntime) {
-    for (side, input, output) in REFUSED {
+fn lines_that_end_does_not_have_are_refused(rt: HostRuntime) {
+    for (side, input, output) in REFUSED_LINES {
         compare(
             &rt,
             &["end", side, "0"],
             input,
-            Outside::of_most(1000),
+            StreamLimits::moving_at_most(1000),
             Status::BadInput,
             output,
         );
     }
 }
 
-// A refused call is answered by one line, and leaves the endpoint as it was.
+// A refused call is answered by one line, and does not change the endpoint.
 #[test]
-fn a_refused_call_is_one_line(rt: HostRuntime) {
+fn a_refused_call_is_answered_by_one_line(rt: HostRuntime) {
     compare(
         &rt,
         &["end", "mob", "0"],
         b"mob send aa\nmob3 tick\nmob open -\nmob unit -\n",
-        Outside::of_most(1000),
+        StreamLimits::moving_at_most(1000),
         Status::Done,
         b"no notopen\nno notrunning\nno empty\nno empty\n",
     );
 }
 
 #[test]
-fn other_words_are_no_end(rt: HostRuntime) {
+fn other_words_do_not_name_the_command_end(rt: HostRuntime) {
     for words in [
         ["end", "mob", "8"].as_slice(),
         &["end", "bts", "0"],
@@ -144,7 +149,7 @@ fn other_words_are_no_end(rt: HostRuntime) {
             &rt,
             words,
             b"mob idle",
-            Outside::of_most(1000),
+            StreamLimits::moving_at_most(1000),
             Status::BadWords,
             b"",
         );

@@ -1,10 +1,8 @@
-//! Runs with sources and sinks that fail.
+//! Runs in which the source or the sink fails.
 use crate::code::ACCESS_BURST;
-use crate::outside::{Outside, compare};
+use crate::outside::{StreamLimits, compare};
 use std::test::Fail;
-use um_block::PlainRadio;
-use um_cli::{Status, Words, run};
-use um_io::{MemorySink, PlainSource, Source};
+use um_cli::{MemorySink, PlainRadio, PlainSource, Source, Status, Words, run};
 
 const ONE_LINE: &[u8] = b"rach 00000000 000000\n";
 
@@ -12,7 +10,7 @@ const TWO_LINES: &[u8] = b"rach 00000000 000000\nrach 00000000 000000\n";
 
 const THREE_LINES: &[u8] = b"rach 00000000 000000\nrach 00000000 000000\nrach 00000000 000000\n";
 
-/// The first octets of the answers to three lines.
+/// The first `count` octets of the answers to three lines.
 fn answers(count: usize) -> Option<[u8; 294]> {
     if count > 294 || ACCESS_BURST.len() != 98 {
         return None;
@@ -24,9 +22,9 @@ fn answers(count: usize) -> Option<[u8; 294]> {
     Some(all)
 }
 
-/// Gives one line a reading; each answer is then written alone, in 50 and 48 octets.
-fn one_line_a_reading(failing_puts: &[u64]) -> Outside<'_> {
-    Outside {
+/// A source that gives one line for each read, and a sink to which each answer is written alone, first 50 octets and then 48.
+fn one_line_per_read(failing_puts: &[u64]) -> StreamLimits<'_> {
+    StreamLimits {
         take_most: 21,
         failing_takes: &[],
         put_most: 50,
@@ -36,10 +34,10 @@ fn one_line_a_reading(failing_puts: &[u64]) -> Outside<'_> {
 }
 
 #[test]
-fn a_reading_that_fails_leaves_the_answers_to_the_lines_before(rt: HostRuntime) {
-    let third = Outside::failing(8, &[3], &[]);
+fn a_failed_read_leaves_the_answers_to_the_lines_before(rt: HostRuntime) {
+    let third = StreamLimits::failing(8, &[3], &[]);
     compare(&rt, &["code"], ONE_LINE, third, Status::ReadFault, b"");
-    let second = Outside::failing(21, &[2], &[]);
+    let second = StreamLimits::failing(21, &[2], &[]);
     compare(
         &rt,
         &["code"],
@@ -51,10 +49,10 @@ fn a_reading_that_fails_leaves_the_answers_to_the_lines_before(rt: HostRuntime) 
 }
 
 #[test]
-fn a_bad_line_that_was_read_wins_over_a_later_failure(rt: HostRuntime) -> Result<(), Fail> {
+fn a_bad_line_is_refused_although_a_later_read_or_write_fails(rt: HostRuntime) -> Result<(), Fail> {
     let mut output = ACCESS_BURST.to_vec(rt.alloc())?;
     output.extend_from_slice(b"refused 2 word\n")?;
-    let second = Outside::failing(25, &[2], &[]);
+    let second = StreamLimits::failing(25, &[2], &[]);
     let input = b"rach 00000000 000000\nfoo\n";
     compare(
         &rt,
@@ -68,14 +66,14 @@ fn a_bad_line_that_was_read_wins_over_a_later_failure(rt: HostRuntime) -> Result
 }
 
 #[test]
-fn a_long_line_after_a_good_one_is_refused_as_the_second(rt: HostRuntime) -> Result<(), Fail> {
+fn a_long_line_is_refused_with_its_line_number(rt: HostRuntime) -> Result<(), Fail> {
     let mut output = ACCESS_BURST.to_vec(rt.alloc())?;
     output.extend_from_slice(b"refused 2 long\n")?;
     let mut input = ONE_LINE.to_vec(rt.alloc())?;
     for _ in 0..4097 {
         input.push(b'#')?;
     }
-    let ample = Outside::of_most(10_000);
+    let ample = StreamLimits::moving_at_most(10_000);
     compare(
         &rt,
         &["code"],
@@ -88,14 +86,14 @@ fn a_long_line_after_a_good_one_is_refused_as_the_second(rt: HostRuntime) -> Res
 }
 
 #[test]
-fn a_writing_that_fails_ends_the_run(rt: HostRuntime) {
-    let first = Outside::failing(100, &[], &[1]);
+fn a_failed_write_ends_the_run(rt: HostRuntime) {
+    let first = StreamLimits::failing(100, &[], &[1]);
     compare(&rt, &["code"], ONE_LINE, first, Status::WriteFault, b"");
     compare(
         &rt,
         &["code"],
         ONE_LINE,
-        Outside::of_room(0),
+        StreamLimits::with_sink_room(0),
         Status::WriteFault,
         b"",
     );
@@ -103,19 +101,19 @@ fn a_writing_that_fails_ends_the_run(rt: HostRuntime) {
         &rt,
         &["code"],
         b"foo",
-        Outside::of_room(0),
+        StreamLimits::with_sink_room(0),
         Status::WriteFault,
         b"",
     );
 }
 
 #[test]
-fn each_reading_fails_in_turn(rt: HostRuntime) -> Result<(), Fail> {
+fn any_read_may_fail(rt: HostRuntime) -> Result<(), Fail> {
     let all = answers(294).ok_or("three answers")?;
     let cases = [(1, 0), (2, 98), (3, 196), (4, 294)];
     for (call, taken) in cases {
         let calls = [call];
-        let outside = Outside::failing(21, &calls, &[]);
+        let outside = StreamLimits::failing(21, &calls, &[]);
         compare(
             &rt,
             &["code"],
@@ -125,18 +123,18 @@ fn each_reading_fails_in_turn(rt: HostRuntime) -> Result<(), Fail> {
             &all[..taken],
         );
     }
-    let fifth = Outside::failing(21, &[5], &[]);
+    let fifth = StreamLimits::failing(21, &[5], &[]);
     compare(&rt, &["code"], THREE_LINES, fifth, Status::Done, &all);
     Ok(())
 }
 
 #[test]
-fn each_writing_fails_in_turn(rt: HostRuntime) -> Result<(), Fail> {
+fn any_write_may_fail(rt: HostRuntime) -> Result<(), Fail> {
     let all = answers(294).ok_or("three answers")?;
     let cases = [(1, 0), (2, 50), (3, 98), (4, 148), (5, 196), (6, 246)];
     for (call, taken) in cases {
         let calls = [call];
-        let outside = one_line_a_reading(&calls);
+        let outside = one_line_per_read(&calls);
         compare(
             &rt,
             &["code"],
@@ -146,15 +144,13 @@ fn each_writing_fails_in_turn(rt: HostRuntime) -> Result<(), Fail> {
             &all[..taken],
         );
     }
-    let seventh = one_line_a_reading(&[7]);
+    let seventh = one_line_per_read(&[7]);
     compare(&rt, &["code"], THREE_LINES, seventh, Status::Done, &all);
     Ok(())
 }
 
 #[test]
-fn no_more_is_read_than_the_buffer_holds_before_a_line_is_answered(
-    rt: HostRuntime,
-) -> Result<(), Fail> {
+fn at_most_one_buffer_is_read_before_a_line_is_answered(rt: HostRuntime) -> Result<(), Fail> {
     let mut input = Vec::new(rt.alloc());
     for _ in 0..300 {
         input.extend_from_slice(ONE_LINE)?;

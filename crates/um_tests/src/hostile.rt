@@ -1,20 +1,19 @@
-//! Scripts of `link` that invert many bits, the longest lines, and lines that are refused.
-use crate::outside::{Outside, compare, compare_in_pieces, output_of};
+//! Scripts of `link` that invert many bits, the longest lines that are allowed, and lines that are refused.
+use crate::outside::{StreamLimits, compare, compare_in_pieces, compare_refused, output_of};
 use std::alloc::Global;
 use std::test::Fail;
 use um_cli::Status;
 
-const SDCCH: [&str; 2] = ["link", "0"];
+const LINK_SDCCH_WORDS: [&str; 2] = ["link", "0"];
 
-/// Seven inverted bits of a block give another codeword; three inverted training bits leave the
-/// data intact.
-const DAMAGED: &[u8] = b"net idle
+/// A script. Inverting these seven bits of a block gives another codeword; inverting three training bits does not change the data.
+const INVERTED_BITS_SCRIPT: &[u8] = b"net idle
 down flip 3 131 263 277 318 450 541
 net idle
 down flip 61 62 63
 ";
 
-const DAMAGED_ANSWERS: &[u8] = b"net sends 0303012b2b2b2b2b2b2b2b2b2b2b2b2b2b2b2b2b2b2b2b
+const INVERTED_BITS_ANSWERS: &[u8] = b"net sends 0303012b2b2b2b2b2b2b2b2b2b2b2b2b2b2b2b2b2b2b2b
 ok
 mob drops tsc 7 train 0 metric 57912 data 0203012b2b2b2b2b2b2b2b2b2b2b2b2b2b2b2b2b2b2b2b check 2c4e540233
 ok
@@ -25,12 +24,18 @@ ok
 ";
 
 #[test]
-fn seven_bits_make_the_neighbour(rt: HostRuntime) {
-    compare_in_pieces(&rt, &["link", "7"], DAMAGED, Status::Done, DAMAGED_ANSWERS);
+fn seven_inverted_bits_give_another_codeword(rt: HostRuntime) {
+    compare_in_pieces(
+        &rt,
+        &["link", "7"],
+        INVERTED_BITS_SCRIPT,
+        Status::Done,
+        INVERTED_BITS_ANSWERS,
+    );
 }
 
-/// Ranges of bits of a block, each without its upper bound.
-const TURNED: [(u32, u32); 8] = [
+/// Ranges of bits of a block to invert: the first index, and the index after the last.
+const INVERTED_RANGES: [(u32, u32); 8] = [
     (0, 10),
     (61, 87),
     (3, 60),
@@ -41,8 +46,8 @@ const TURNED: [(u32, u32); 8] = [
     (0, 592),
 ];
 
-/// The digits of bursts, with this range of bits inverted.
-fn flipped(bursts: &[u8], from: u32, until: u32, alloc: Global) -> Result<Vec<u8>, Fail> {
+/// The lines of bursts, with the bits from index `from` up to but excluding `until` inverted.
+fn inverted_bursts(bursts: &[u8], from: u32, until: u32, alloc: Global) -> Result<Vec<u8>, Fail> {
     let mut digits = bursts.to_vec(alloc)?;
     let mut place: u32 = 0;
     for octet in digits.as_mut_slice().iter_mut() {
@@ -56,14 +61,14 @@ fn flipped(bursts: &[u8], from: u32, until: u32, alloc: Global) -> Result<Vec<u8
     Ok(digits)
 }
 
-/// Word number `place` of the first line of a report.
+/// The word with index `place` in the first line of a report.
 fn word(report: &[u8], place: usize) -> &[u8] {
     let line = report.split(|octet| *octet == b'\n').next().unwrap_or(b"");
     line.split(|octet| *octet == b' ').nth(place).unwrap_or(b"")
 }
 
-/// The answer of `link` when a block is received for which `replay` writes this report.
-fn heard(report: &[u8], alloc: Global) -> Result<Vec<u8>, Fail> {
+/// What `link` answers when it receives a block for which `replay` writes this report.
+fn link_answer_for(report: &[u8], alloc: Global) -> Result<Vec<u8>, Fail> {
     let taken = word(report, 8) == b"ok".as_slice();
     let mut answer = Vec::new(alloc);
     if taken {
@@ -86,27 +91,25 @@ fn heard(report: &[u8], alloc: Global) -> Result<Vec<u8>, Fail> {
     Ok(answer)
 }
 
-const IDLE: &[u8] = b"net sends 0303012b2b2b2b2b2b2b2b2b2b2b2b2b2b2b2b2b2b2b2b\nok\n";
+const IDLE_ANSWER: &[u8] = b"net sends 0303012b2b2b2b2b2b2b2b2b2b2b2b2b2b2b2b2b2b2b2b\nok\n";
 
 #[test]
-fn however_many_bits_are_flipped_over_it_is_heard_as_replay_hears_it(
-    rt: HostRuntime,
-) -> Result<(), Fail> {
+fn link_receives_inverted_bits_as_replay_does(rt: HostRuntime) -> Result<(), Fail> {
     let block = b"block 0 0303012b2b2b2b2b2b2b2b2b2b2b2b2b2b2b2b2b2b2b2b\n";
     let bursts = output_of(&rt, &["code"], block)?;
-    for (from, until) in TURNED {
-        let recorded = flipped(bursts.as_slice(), from, until, rt.alloc())?;
+    for (from, until) in INVERTED_RANGES {
+        let recorded = inverted_bursts(bursts.as_slice(), from, until, rt.alloc())?;
         let report = output_of(&rt, &["replay"], recorded.as_slice())?;
-        let mut output = IDLE.to_vec(rt.alloc())?;
-        output.extend_from_slice(heard(report.as_slice(), rt.alloc())?.as_slice())?;
+        let mut output = IDLE_ANSWER.to_vec(rt.alloc())?;
+        output.extend_from_slice(link_answer_for(report.as_slice(), rt.alloc())?.as_slice())?;
         let mut input = b"net idle\ndown flip".to_vec(rt.alloc())?;
         for place in from..until {
             input.extend_from_slice(format!(in rt.alloc(); " {place}")?.as_bytes())?;
         }
-        let ample = Outside::of_most(10_000);
+        let ample = StreamLimits::moving_at_most(10_000);
         compare(
             &rt,
-            &SDCCH,
+            &LINK_SDCCH_WORDS,
             input.as_slice(),
             ample,
             Status::Done,
@@ -118,20 +121,27 @@ fn however_many_bits_are_flipped_over_it_is_heard_as_replay_hears_it(
 
 #[test]
 fn the_longest_lines_are_answered(rt: HostRuntime) -> Result<(), Fail> {
-    let ample = Outside::of_most(10_000);
-    for words in [&["code"][..], &["replay"], &["show"], &SDCCH] {
+    let ample = StreamLimits::moving_at_most(10_000);
+    for words in [&["code"][..], &["replay"], &["show"], &LINK_SDCCH_WORDS] {
         compare(&rt, words, &[b'#'; 4096], ample, Status::Done, b"");
     }
     let mut send = [b'0'; 4095];
     send[..9].copy_from_slice(b"mob send ");
-    compare(&rt, &SDCCH, &send, ample, Status::Done, b"no notopen\n");
+    compare(
+        &rt,
+        &LINK_SDCCH_WORDS,
+        &send,
+        ample,
+        Status::Done,
+        b"no notopen\n",
+    );
     let mut flip = b"up flip".to_vec(rt.alloc())?;
     for place in 0..592 {
         flip.extend_from_slice(format!(in rt.alloc(); " {place}")?.as_bytes())?;
     }
     compare(
         &rt,
-        &SDCCH,
+        &LINK_SDCCH_WORDS,
         flip.as_slice(),
         ample,
         Status::Done,
@@ -140,8 +150,8 @@ fn the_longest_lines_are_answered(rt: HostRuntime) -> Result<(), Fail> {
     Ok(())
 }
 
-/// Lines without a meaning, and the reasons.
-const REFUSED: [(&str, &str); 5] = [
+/// Lines that are refused, each with the reason.
+const REFUSED_LINES: [(&str, &str); 5] = [
     ("up flip 592", "place"),
     ("up flip 5 5", "twice"),
     ("net open 01", "word"),
@@ -150,16 +160,9 @@ const REFUSED: [(&str, &str); 5] = [
 ];
 
 #[test]
-fn lines_that_are_no_event_are_refused(rt: HostRuntime) -> Result<(), Fail> {
-    for (line, reason) in REFUSED {
-        let output = format!(in rt.alloc(); "refused 1 {reason}\n")?;
-        compare_in_pieces(
-            &rt,
-            &SDCCH,
-            line.as_bytes(),
-            Status::BadInput,
-            output.as_bytes(),
-        );
+fn malformed_script_lines_are_refused(rt: HostRuntime) -> Result<(), Fail> {
+    for (line, reason) in REFUSED_LINES {
+        compare_refused(&rt, &LINK_SDCCH_WORDS, line.as_bytes(), 1, reason)?;
     }
     for words in [
         &["link", "8"][..],
@@ -167,8 +170,22 @@ fn lines_that_are_no_event_are_refused(rt: HostRuntime) -> Result<(), Fail> {
         &["link", "sacch", "0"],
         &["link", "0", "sdcch"],
     ] {
-        compare(&rt, words, b"", Outside::of_most(7), Status::BadWords, b"");
+        compare(
+            &rt,
+            words,
+            b"",
+            StreamLimits::moving_at_most(7),
+            Status::BadWords,
+            b"",
+        );
     }
-    compare(&rt, &SDCCH, b"", Outside::of_most(7), Status::Done, b"");
+    compare(
+        &rt,
+        &LINK_SDCCH_WORDS,
+        b"",
+        StreamLimits::moving_at_most(7),
+        Status::Done,
+        b"",
+    );
     Ok(())
 }

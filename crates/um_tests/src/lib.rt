@@ -1,4 +1,4 @@
-//! Tests that involve several crates: whole runs over sources and sinks in memory.
+//! Tests that involve several crates: whole runs with sources and sinks in memory.
 #![tactic(auto)]
 
 #[cfg(test)]

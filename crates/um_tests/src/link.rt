@@ -1,17 +1,15 @@
-//! Worked sessions of the command `link`.
+//! Sessions of the command `link`, computed by hand.
 use crate::script::Script;
 use std::process::Abort;
 use std::test::Fail;
-use um_block::PlainRadio;
-use um_cli::{Status, Words, run};
-use um_io::{MemorySink, PlainSource};
+use um_cli::{MemorySink, PlainRadio, PlainSource, Status, Words, run};
 
-const SDCCH: [&str; 2] = ["link", "0"];
+const LINK_SDCCH_WORDS: [&str; 2] = ["link", "0"];
 
-const SACCH: [&str; 3] = ["link", "0", "sacch"];
+const LINK_SACCH_WORDS: [&str; 3] = ["link", "0", "sacch"];
 
-/// An opening whose first block is lost, and a unit.
-const REPEATED: [(&str, &str); 16] = [
+/// The SABM is lost and sent again, and then a message is sent in a UI frame.
+const REPEATED_SABM_SESSION: [(&str, &str); 16] = [
     ("mob open -", "no empty"),
     (
         "mob open 000000000000000000000000000000000000000000",
@@ -35,7 +33,8 @@ const REPEATED: [(&str, &str); 16] = [
     ),
     (
         "up deliver",
-        "net takes 013f510102030405060708090a0b0c0d0e0f1011121314, net opened 0102030405060708090a0b0c0d0e0f1011121314, net sends 0173510102030405060708090a0b0c0d0e0f1011121314, ok",
+        "net takes 013f510102030405060708090a0b0c0d0e0f1011121314, net opened 0102030405060708090a0b0c0d0e0f1011121314, \
+net sends 0173510102030405060708090a0b0c0d0e0f1011121314, ok",
     ),
     (
         "up deliver",
@@ -61,8 +60,8 @@ const REPEATED: [(&str, &str); 16] = [
     ),
 ];
 
-/// Two mobiles open the same link.
-const CONTENTION: [(&str, &str); 10] = [
+/// Two mobiles establish a link to the same network at once.
+const CONTENTION_SESSION: [(&str, &str); 10] = [
     ("rival 02", "rival sends 013f0502, ok"),
     ("mob open 01", "mob sends 013f0501, ok"),
     (
@@ -81,8 +80,8 @@ const CONTENTION: [(&str, &str); 10] = [
     ("up deliver", "net takes 031f01, net closed failed, ok"),
 ];
 
-/// The mobile opens the link.
-const OPENING: [(&str, &str); 3] = [
+/// The mobile establishes the link of SAPI 0.
+const ESTABLISHMENT: [(&str, &str); 3] = [
     ("mob open 01", "mob sends 013f0501, ok"),
     (
         "up deliver",
@@ -91,8 +90,8 @@ const OPENING: [(&str, &str); 3] = [
     ("down deliver", "mob takes 01730501, mob opened 01, ok"),
 ];
 
-/// Messages in both directions; an I frame acknowledges.
-const BOTH_WAYS: [(&str, &str); 8] = [
+/// Messages in both directions; one is acknowledged by an I frame.
+const MESSAGES_IN_BOTH_DIRECTIONS: [(&str, &str); 8] = [
     ("mob send aa", "mob sends 010005aa, ok"),
     ("mob send cc", "ok"),
     (
@@ -112,8 +111,8 @@ const BOTH_WAYS: [(&str, &str); 8] = [
     ("down deliver", "mob takes 014101, mob acked 2, ok"),
 ];
 
-/// A REJ crosses an RR.
-const CROSSING: [(&str, &str); 11] = [
+/// A REJ and an RR are in transit at the same time, in opposite directions.
+const CROSSING_REJ_AND_RR: [(&str, &str); 11] = [
     ("mob send aa", "mob sends 010005aa, ok"),
     ("mob tick", "mob sends 011005aa, ok"),
     (
@@ -136,8 +135,8 @@ const CROSSING: [(&str, &str); 11] = [
     ("down deliver", "mob takes 014901, ok"),
 ];
 
-/// The mobile closes while messages wait.
-const RELEASED: [(&str, &str); 9] = [
+/// The mobile releases the link while messages are not acknowledged yet.
+const RELEASE_WITH_UNACKED_MESSAGES: [(&str, &str); 9] = [
     ("mob send aa", "mob sends 010005aa, ok"),
     ("mob send bb", "ok"),
     ("mob send cc", "ok"),
@@ -155,8 +154,8 @@ const RELEASED: [(&str, &str); 9] = [
     ("mob close", "no notopen"),
 ];
 
-/// Both sides close at once.
-const BOTH_CLOSE: [(&str, &str); 6] = [
+/// Both sides release the link at the same time.
+const BOTH_SIDES_RELEASE: [(&str, &str); 6] = [
     ("mob close", "mob sends 015301, ok"),
     ("net close", "net sends 035301, ok"),
     ("up deliver", "net takes 015301, net sends 017301, ok"),
@@ -165,8 +164,8 @@ const BOTH_CLOSE: [(&str, &str); 6] = [
     ("up deliver", "net takes 037301, net closed released, ok"),
 ];
 
-/// Both sides open the link of SAPI 3.
-const COLLISION: [(&str, &str); 11] = [
+/// Both sides establish SAPI 3 at the same time.
+const SAPI_3_COLLISION: [(&str, &str); 11] = [
     ("mob3 open", "mob sends 0d3f01, ok"),
     ("net3 open", "net sends 0f3f01, ok"),
     ("up deliver", "net takes 0d3f01, net sends 0d7301, ok"),
@@ -183,8 +182,8 @@ const COLLISION: [(&str, &str); 11] = [
     ("mob send aa", "no notopen"),
 ];
 
-/// Only the mobile opens it.
-const SECOND_LINK: [(&str, &str); 3] = [
+/// Only the mobile establishes SAPI 3.
+const MOBILE_ESTABLISHES_SAPI_3: [(&str, &str); 3] = [
     ("mob3 open", "mob sends 0d3f01, ok"),
     (
         "up deliver",
@@ -193,8 +192,8 @@ const SECOND_LINK: [(&str, &str); 3] = [
     ("down deliver", "mob takes 0d7301, mob3 opened -, ok"),
 ];
 
-/// A message of two segments on SACCH.
-const OTHER_CHANNEL: [(&str, &str); 9] = [
+/// A message that takes two segments on SACCH.
+const TWO_SEGMENTS_ON_SACCH: [(&str, &str); 9] = [
     (
         "mob open 00000000000000000000000000000000000000",
         "no toolong",
@@ -224,15 +223,15 @@ const OTHER_CHANNEL: [(&str, &str); 9] = [
     ("down deliver", "mob takes 0000014101, mob acked 1, ok"),
 ];
 
-/// T200 has expired too often.
-const GIVEN_UP: [(&str, &str); 2] = [
+/// T200 expires once more after the last repetition.
+const FAILURE_AFTER_LAST_REPETITION: [(&str, &str); 2] = [
     ("mob tick", "mob closed failed, ok"),
     ("mob tick", "no notrunning"),
 ];
 
-/// A full way is reported before the call is checked, and before a block is received that might be
-/// answered.
-const FULL: [(&str, &str); 6] = [
+/// If the queue of a side is full, `airfull` is reported before the call is checked, and before a block is received to which the side might
+/// have to answer.
+const FULL_QUEUE: [(&str, &str); 6] = [
     ("net idle", "no airfull"),
     ("net tick", "no airfull"),
     ("mob idle", "mob sends 010301, ok"),
@@ -241,8 +240,8 @@ const FULL: [(&str, &str); 6] = [
     ("up deliver", "net takes 010301, ok"),
 ];
 
-/// The mobile's message acknowledges the network's; the network's next one waits.
-const TWO_SENT: [(&str, &str); 7] = [
+/// An I frame of the mobile acknowledges the network's message, whose next message waits for that.
+const ACK_BY_I_FRAME: [(&str, &str); 7] = [
     ("net send bb", "net sends 030005bb, ok"),
     ("net send cc", "ok"),
     (
@@ -255,17 +254,16 @@ const TWO_SENT: [(&str, &str); 7] = [
     ("mob tick", "mob sends 013005aa, ok"),
 ];
 
-/// The octets 00 to fa.
-const MESSAGE: &str =
+/// A message of 251 octets: 00 to fa.
+const MESSAGE_OF_251_OCTETS: &str =
     "000102030405060708090a0b0c0d0e0f101112131415161718191a1b1c1d1e1f202122232425262728292a2b2c2d2e2f30313233343\
 5363738393a3b3c3d3e3f404142434445464748494a4b4c4d4e4f505152535455565758595a5b5c5d5e5f606162636465666768696a6b6c6\
 d6e6f707172737475767778797a7b7c7d7e7f808182838485868788898a8b8c8d8e8f909192939495969798999a9b9c9d9e9fa0a1a2a3a4a\
 5a6a7a8a9aaabacadaeafb0b1b2b3b4b5b6b7b8b9babbbcbdbebfc0c1c2c3c4c5c6c7c8c9cacbcccdcecfd0d1d2d3d4d5d6d7d8d9dadbdcd\
 ddedfe0e1e2e3e4e5e6e7e8e9eaebecedeeeff0f1f2f3f4f5f6f7f8f9fa";
 
-/// The frames of each segment of the message: the segment, its repetition with P = 1, the RR, and
-/// the REJ with F = 1.
-const PIECES: [(&str, &str, &str, &str); 13] = [
+/// The frames for each segment of the message: its I frame, the repetition with P = 1, the RR, and the REJ with F = 1.
+const SEGMENT_FRAMES: [(&str, &str, &str, &str); 13] = [
     (
         "010053000102030405060708090a0b0c0d0e0f10111213",
         "011053000102030405060708090a0b0c0d0e0f10111213",
@@ -346,25 +344,25 @@ const PIECES: [(&str, &str, &str, &str); 13] = [
     ),
 ];
 
-/// The worked sessions, and whether each begins with `OPENING`.
+/// All sessions: the command-line words, whether the session begins with `ESTABLISHMENT`, and the script with its answers.
 const SESSIONS: [(&[&str], bool, &[(&str, &str)]); 9] = [
-    (&SDCCH, false, &REPEATED),
-    (&SDCCH, false, &CONTENTION),
-    (&SDCCH, true, &BOTH_WAYS),
-    (&SDCCH, true, &CROSSING),
-    (&SDCCH, true, &RELEASED),
-    (&SDCCH, true, &BOTH_CLOSE),
-    (&SDCCH, false, &COLLISION),
-    (&SDCCH, false, &SECOND_LINK),
-    (&SACCH, false, &OTHER_CHANNEL),
+    (&LINK_SDCCH_WORDS, false, &REPEATED_SABM_SESSION),
+    (&LINK_SDCCH_WORDS, false, &CONTENTION_SESSION),
+    (&LINK_SDCCH_WORDS, true, &MESSAGES_IN_BOTH_DIRECTIONS),
+    (&LINK_SDCCH_WORDS, true, &CROSSING_REJ_AND_RR),
+    (&LINK_SDCCH_WORDS, true, &RELEASE_WITH_UNACKED_MESSAGES),
+    (&LINK_SDCCH_WORDS, true, &BOTH_SIDES_RELEASE),
+    (&LINK_SDCCH_WORDS, false, &SAPI_3_COLLISION),
+    (&LINK_SDCCH_WORDS, false, &MOBILE_ESTABLISHES_SAPI_3),
+    (&LINK_SACCH_WORDS, false, &TWO_SEGMENTS_ON_SACCH),
 ];
 
 #[test]
-fn worked_sessions_are_answered_line_by_line(rt: HostRuntime) -> Result<(), Fail> {
+fn example_sessions_are_answered_line_by_line(rt: HostRuntime) -> Result<(), Fail> {
     for (words, opens, rows) in SESSIONS {
         let mut script = Script::new(rt.alloc());
         if opens {
-            script.add_all(&OPENING)?;
+            script.add_all(&ESTABLISHMENT)?;
         }
         script.add_all(rows)?;
         script.check(&rt, words);
@@ -373,23 +371,23 @@ fn worked_sessions_are_answered_line_by_line(rt: HostRuntime) -> Result<(), Fail
 }
 
 #[test]
-fn a_long_message_is_handed_up_once(rt: HostRuntime) -> Result<(), Fail> {
+fn a_long_message_is_delivered_once(rt: HostRuntime) -> Result<(), Fail> {
     let mut script = Script::new(rt.alloc());
-    script.add_all(&OPENING)?;
-    let got = format!(in rt.alloc(); ", net got {MESSAGE}")?;
-    let send = format!(in rt.alloc(); "mob send {MESSAGE}")?;
+    script.add_all(&ESTABLISHMENT)?;
+    let got = format!(in rt.alloc(); ", net got {MESSAGE_OF_251_OCTETS}")?;
+    let send = format!(in rt.alloc(); "mob send {MESSAGE_OF_251_OCTETS}")?;
     script.add(
         send.as_str(),
         "mob sends 010053000102030405060708090a0b0c0d0e0f10111213, ok",
     )?;
-    for (place, (piece, again, ready, rejected)) in PIECES.iter().enumerate() {
+    for (place, (piece, again, ready, rejected)) in SEGMENT_FRAMES.iter().enumerate() {
         let handed_up = if place == 12 { got.as_str() } else { "" };
         let arrives = format!(in rt.alloc();
             "net takes {piece}{handed_up}, net sends {ready}, ok"
         )?;
         let repeats = format!(in rt.alloc(); "mob sends {again}, ok")?;
         let returns = format!(in rt.alloc(); "net takes {again}, net sends {rejected}, ok")?;
-        let next = match PIECES.get(place.saturating_add(1)) {
+        let next = match SEGMENT_FRAMES.get(place.saturating_add(1)) {
             Some((piece, _, _, _)) => format!(in rt.alloc(); "mob sends {piece}")?,
             None => format!(in rt.alloc(); "mob acked 1")?,
         };
@@ -400,12 +398,12 @@ fn a_long_message_is_handed_up_once(rt: HostRuntime) -> Result<(), Fail> {
         script.add("up deliver", returns.as_str())?;
         script.add("down deliver", goes_on.as_str())?;
     }
-    script.check(&rt, &SDCCH);
+    script.check(&rt, &LINK_SDCCH_WORDS);
     Ok(())
 }
 
-/// A block is lost, and so is each of its repetitions, until the sender gives up.
-fn give_up(
+/// The sender's block and all its repetitions are lost, until the sender gives up.
+fn fails_after(
     rt: &(impl Abort + AllocGlobal),
     script: &mut Script,
     words: &[&str],
@@ -414,41 +412,59 @@ fn give_up(
 ) -> Result<(), Fail> {
     script.add("up lose", "ok")?;
     script.add_times(times, &[("mob tick", again), ("up lose", "ok")])?;
-    script.add_all(&GIVEN_UP)?;
+    script.add_all(&FAILURE_AFTER_LAST_REPETITION)?;
     script.check(rt, words);
     Ok(())
 }
 
 #[test]
-fn an_end_gives_up(rt: HostRuntime) -> Result<(), Fail> {
+fn a_side_reports_failure_after_n200_repetitions(rt: HostRuntime) -> Result<(), Fail> {
     let mut opening = Script::new(rt.alloc());
     opening.add("mob open 01", "mob sends 013f0501, ok")?;
-    give_up(&rt, &mut opening, &SDCCH, 5, "mob sends 013f0501, ok")?;
+    fails_after(
+        &rt,
+        &mut opening,
+        &LINK_SDCCH_WORDS,
+        5,
+        "mob sends 013f0501, ok",
+    )?;
     let mut open = Script::new(rt.alloc());
-    open.add_all(&OPENING)?;
+    open.add_all(&ESTABLISHMENT)?;
     open.add("mob send aa", "mob sends 010005aa, ok")?;
-    give_up(&rt, &mut open, &SDCCH, 23, "mob sends 011005aa, ok")?;
+    fails_after(
+        &rt,
+        &mut open,
+        &LINK_SDCCH_WORDS,
+        23,
+        "mob sends 011005aa, ok",
+    )?;
     let mut other = Script::new(rt.alloc());
     other.add("mob open 01", "mob sends 0000013f0501, ok")?;
-    give_up(&rt, &mut other, &SACCH, 5, "mob sends 0000013f0501, ok")
+    fails_after(
+        &rt,
+        &mut other,
+        &LINK_SACCH_WORDS,
+        5,
+        "mob sends 0000013f0501, ok",
+    )
 }
 
 #[test]
-fn a_full_way_refuses_first(rt: HostRuntime) -> Result<(), Fail> {
+fn a_full_queue_is_reported_before_other_refusals(rt: HostRuntime) -> Result<(), Fail> {
     let mut script = Script::new(rt.alloc());
     script.add("up lose", "no nothing")?;
     script.add("rival -", "no empty")?;
     script.add_times(63, &[("net idle", "net sends 030301, ok")])?;
-    script.add_all(&FULL)?;
-    script.check(&rt, &SDCCH);
+    script.add_all(&FULL_QUEUE)?;
+    script.check(&rt, &LINK_SDCCH_WORDS);
     Ok(())
 }
 
 #[test]
-fn a_way_holds_64_blocks(rt: HostRuntime) -> Result<(), Fail> {
+fn a_queue_holds_64_blocks(rt: HostRuntime) -> Result<(), Fail> {
     let mut script = Script::new(rt.alloc());
-    script.add_all(&OPENING)?;
-    script.add_all(&TWO_SENT)?;
+    script.add_all(&ESTABLISHMENT)?;
+    script.add_all(&ACK_BY_I_FRAME)?;
     script.add_times(62, &[("net idle", "net sends 030301, ok")])?;
     script.add(
         "up deliver",
@@ -456,27 +472,27 @@ fn a_way_holds_64_blocks(rt: HostRuntime) -> Result<(), Fail> {
     )?;
     script.add_times(62, &[("down deliver", "mob takes 030301, ok")])?;
     script.add("down deliver", "mob takes 013101, mob acked 1, ok")?;
-    script.check(&rt, &SDCCH);
+    script.check(&rt, &LINK_SDCCH_WORDS);
     Ok(())
 }
 
 #[test]
-fn an_end_holds_eight_messages(rt: HostRuntime) -> Result<(), Fail> {
+fn an_endpoint_holds_eight_messages(rt: HostRuntime) -> Result<(), Fail> {
     let mut script = Script::new(rt.alloc());
-    script.add_all(&OPENING)?;
+    script.add_all(&ESTABLISHMENT)?;
     script.add("mob send aa", "mob sends 010005aa, ok")?;
     script.add_times(7, &[("mob send aa", "ok")])?;
     script.add("mob send aa", "no full")?;
-    script.check(&rt, &SDCCH);
+    script.check(&rt, &LINK_SDCCH_WORDS);
     Ok(())
 }
 
 #[test]
-fn the_radio_codes_and_receives_each_block(rt: HostRuntime) -> Result<(), Fail> {
+fn the_radio_is_called_for_each_block(rt: HostRuntime) -> Result<(), Fail> {
     let mut script = Script::new(rt.alloc());
-    script.add_all(&REPEATED)?;
+    script.add_all(&REPEATED_SABM_SESSION)?;
     let mut words = Words::new();
-    for word in SDCCH {
+    for word in LINK_SDCCH_WORDS {
         words.add(word);
     }
     let mut source = PlainSource::new(script.input(), 100);

@@ -1,27 +1,24 @@
-//! Runs of the command `make`. A separate script computed the numbers from the definition of the
-//! generated session.
-use crate::outside::{Outside, compare, compare_in_pieces};
+//! Runs of the command `make`. A separate script computed the numbers from the definition of the generated session.
+use crate::outside::{StreamLimits, compare, compare_in_pieces};
 use std::test::Fail;
-use um_block::PlainRadio;
-use um_cli::{Status, Words, run};
-use um_io::{MemorySink, PlainSource, Source};
+use um_cli::{MemorySink, PlainRadio, PlainSource, Source, Status, Words, run};
 
-/// Three messages of 38, 75 and 112 octets, in 2, 4 and 6 segments, take 13 turns. The eighth is
-/// lost.
-const THREE: &[u8] = b"make 3 5
+/// What `make` writes for three messages of 38, 75 and 112 octets. They have 2, 4 and 6 segments, which take 13 turns because the eighth
+/// turn is lost.
+const THREE_MESSAGES_SUMMARY: &[u8] = b"make 3 5
 steps 32 sends 27 takes 26 drops 0 lost 1
 mob got 1 octets 75 sum 2925 acked 2
 net got 2 octets 150 sum 7293 acked 1
 ";
 
-const THOUSAND: &[u8] = b"make 1000 7
+const THOUSAND_MESSAGES_SUMMARY: &[u8] = b"make 1000 7
 steps 16505 sends 14536 takes 13568 drops 0 lost 968
 mob got 500 octets 63073 sum 8091295 acked 500
 net got 500 octets 62896 sum 8070023 acked 500
 ";
 
-/// Words that name no generated session.
-const OF_NO_SHAPE: [&[&str]; 11] = [
+/// Command-line words that do not name a generated session.
+const INVALID_WORDS: [&[&str]; 11] = [
     &["make"],
     &["make", "3"],
     &["make", "007", "1"],
@@ -38,38 +35,66 @@ const OF_NO_SHAPE: [&[&str]; 11] = [
 #[test]
 fn a_generated_session_is_summed_up_and_nothing_is_read(rt: HostRuntime) {
     let words = ["make", "3", "5"];
-    compare_in_pieces(&rt, &words, b"foo\n", Status::Done, THREE);
-    let failing = Outside::failing(7, &[1], &[]);
-    compare(&rt, &words, b"foo\n", failing, Status::Done, THREE);
+    compare_in_pieces(&rt, &words, b"foo\n", Status::Done, THREE_MESSAGES_SUMMARY);
+    let failing = StreamLimits::failing(7, &[1], &[]);
+    compare(
+        &rt,
+        &words,
+        b"foo\n",
+        failing,
+        Status::Done,
+        THREE_MESSAGES_SUMMARY,
+    );
 }
 
 #[test]
-fn the_longest_session_is_the_same_twice(rt: HostRuntime) {
+fn the_longest_generated_session_gives_the_same_summary_twice(rt: HostRuntime) {
     let words = ["make", "1000", "7"];
-    let ample = Outside::of_most(100);
-    compare(&rt, &words, b"", ample, Status::Done, THOUSAND);
-    compare(&rt, &words, b"", ample, Status::Done, THOUSAND);
-}
-
-#[test]
-fn a_sink_that_fails_has_a_front_of_the_summary(rt: HostRuntime) {
-    let words = ["make", "3", "5"];
-    let first = Outside::failing(50, &[], &[1]);
-    compare(&rt, &words, b"", first, Status::WriteFault, b"");
-    let third = Outside::failing(50, &[], &[3]);
-    compare(&rt, &words, b"", third, Status::WriteFault, &THREE[..100]);
+    let ample = StreamLimits::moving_at_most(100);
     compare(
         &rt,
         &words,
         b"",
-        Outside::of_room(0),
+        ample,
+        Status::Done,
+        THOUSAND_MESSAGES_SUMMARY,
+    );
+    compare(
+        &rt,
+        &words,
+        b"",
+        ample,
+        Status::Done,
+        THOUSAND_MESSAGES_SUMMARY,
+    );
+}
+
+#[test]
+fn a_failed_write_leaves_a_prefix_of_the_summary(rt: HostRuntime) {
+    let words = ["make", "3", "5"];
+    let first = StreamLimits::failing(50, &[], &[1]);
+    compare(&rt, &words, b"", first, Status::WriteFault, b"");
+    let third = StreamLimits::failing(50, &[], &[3]);
+    compare(
+        &rt,
+        &words,
+        b"",
+        third,
+        Status::WriteFault,
+        &THREE_MESSAGES_SUMMARY[..100],
+    );
+    compare(
+        &rt,
+        &words,
+        b"",
+        StreamLimits::with_sink_room(0),
         Status::WriteFault,
         b"",
     );
 }
 
 #[test]
-fn the_radio_codes_and_receives_each_block_of_it(rt: HostRuntime) -> Result<(), Fail> {
+fn the_radio_is_called_for_each_generated_block(rt: HostRuntime) -> Result<(), Fail> {
     let mut words = Words::new();
     for word in ["make", "3", "5"] {
         words.add(word);
@@ -88,9 +113,9 @@ fn the_radio_codes_and_receives_each_block_of_it(rt: HostRuntime) -> Result<(), 
 }
 
 #[test]
-fn other_words_ask_for_none(rt: HostRuntime) {
-    for words in OF_NO_SHAPE {
-        let ample = Outside::of_most(100);
+fn other_words_name_no_generated_session(rt: HostRuntime) {
+    for words in INVALID_WORDS {
+        let ample = StreamLimits::moving_at_most(100);
         compare(&rt, words, b"", ample, Status::BadWords, b"");
     }
 }

@@ -1,15 +1,13 @@
-//! Runs over octets in memory, and their expected results.
+//! Runs a command over octets in memory, and compares the results with those expected.
 ghost use Rattle.std.specs.Prelude.{◌≤◌};
 
 use std::process::Abort;
 use std::test::Fail;
-use um_block::PlainRadio;
-use um_cli::{Status, Words, run};
-use um_io::{MemorySink, MemorySource, PlainSource};
+use um_cli::{MemorySink, MemorySource, PlainRadio, PlainSource, Status, Words, run};
 
-/// The most octets that a call gives or takes, and the calls that fail.
+/// How many octets a read or a write moves at most, and which reads and writes fail.
 #[derive(Clone, Copy)]
-pub struct Outside<'a> {
+pub struct StreamLimits<'a> {
     pub take_most: usize,
     pub failing_takes: &'a [u64],
     pub put_most: usize,
@@ -19,19 +17,23 @@ pub struct Outside<'a> {
     ghost puts_some: { 1 ≤ put_most },
 }
 
-impl<'a> Outside<'a> {
-    /// Never fails, and moves at most `most` octets a call.
-    pub fn of_most(most: usize) -> Outside<'a>
+impl<'a> StreamLimits<'a> {
+    /// A source and a sink that never fail, and move at most `most` octets in each call.
+    pub fn moving_at_most(most: usize) -> StreamLimits<'a>
         requires { 1 ≤ most }
     {
-        Outside::failing(most, &[], &[])
+        StreamLimits::failing(most, &[], &[])
     }
 
-    /// Moves at most `most` octets a call, and fails at the calls with these numbers.
-    pub fn failing(most: usize, failing_takes: &'a [u64], failing_puts: &'a [u64]) -> Outside<'a>
+    /// A source and a sink that move at most `most` octets in each call, and fail in the calls with these numbers.
+    pub fn failing(
+        most: usize,
+        failing_takes: &'a [u64],
+        failing_puts: &'a [u64],
+    ) -> StreamLimits<'a>
         requires { 1 ≤ most }
     {
-        Outside {
+        StreamLimits {
             take_most: most,
             failing_takes,
             put_most: most,
@@ -40,9 +42,9 @@ impl<'a> Outside<'a> {
         }
     }
 
-    /// Never fails, with a sink of this capacity.
-    pub fn of_room(room: usize) -> Outside<'a> {
-        Outside {
+    /// A source and a sink that never fail; the sink has room for this many octets.
+    pub fn with_sink_room(room: usize) -> StreamLimits<'a> {
+        StreamLimits {
             take_most: 100_000,
             failing_takes: &[],
             put_most: 100_000,
@@ -52,12 +54,12 @@ impl<'a> Outside<'a> {
     }
 }
 
-/// Runs the command over the input, and compares the status and the output.
+/// Runs the command over the input, and checks the status and the output.
 pub fn compare(
     rt: &(impl Abort + AllocGlobal),
     words: &[&str],
     input: &[u8],
-    outside: Outside<'_>,
+    outside: StreamLimits<'_>,
     status: Status,
     output: &[u8],
 ) {
@@ -86,7 +88,7 @@ pub fn compare(
     assert_eq!(rt; sink.octets(), output);
 }
 
-/// `compare` with one octet a call, two, seven, and many.
+/// Runs `compare` with one, two, seven and many octets in each call.
 pub fn compare_in_pieces(
     rt: &(impl Abort + AllocGlobal),
     words: &[&str],
@@ -94,18 +96,77 @@ pub fn compare_in_pieces(
     status: Status,
     output: &[u8],
 ) {
-    compare(rt, words, input, Outside::of_most(1), status, output);
-    compare(rt, words, input, Outside::of_most(2), status, output);
-    compare(rt, words, input, Outside::of_most(7), status, output);
-    compare(rt, words, input, Outside::of_most(100_000), status, output);
+    compare(
+        rt,
+        words,
+        input,
+        StreamLimits::moving_at_most(1),
+        status,
+        output,
+    );
+    compare(
+        rt,
+        words,
+        input,
+        StreamLimits::moving_at_most(2),
+        status,
+        output,
+    );
+    compare(
+        rt,
+        words,
+        input,
+        StreamLimits::moving_at_most(7),
+        status,
+        output,
+    );
+    compare(
+        rt,
+        words,
+        input,
+        StreamLimits::moving_at_most(100_000),
+        status,
+        output,
+    );
 }
 
-/// What `code` writes for an input.
-pub fn coded(rt: &(impl Abort + AllocGlobal), input: &[u8]) -> Result<Vec<u8>, Fail> {
+/// `compare_in_pieces` where a line is refused, with its number, and nothing else is written.
+pub fn compare_refused(
+    rt: &(impl Abort + AllocGlobal),
+    words: &[&str],
+    input: &[u8],
+    line: usize,
+    reason: &str,
+) -> Result<(), Fail> {
+    let output = format!(in rt.alloc(); "refused {line} {reason}\n")?;
+    compare_in_pieces(rt, words, input, Status::BadInput, output.as_bytes());
+    Ok(())
+}
+
+/// A line of 4096 octets is read, and one of 4097 is refused.
+pub fn compare_longest_lines(rt: &(impl Abort + AllocGlobal), words: &[&str]) -> Result<(), Fail> {
+    let mut line = vec![in rt.alloc(); b'#'; 4096]?;
+    compare_in_pieces(rt, words, line.as_slice(), Status::Done, b"");
+    line.push(b'#')?;
+    compare_refused(rt, words, line.as_slice(), 1, "long")
+}
+
+/// Line feeds up to the limit of an input are read, and one more is too many.
+pub fn compare_line_feeds(rt: &(impl Abort + AllocGlobal), words: &[&str]) -> Result<(), Fail> {
+    let most = StreamLimits::moving_at_most(5000);
+    let mut feeds = vec![in rt.alloc(); b'\n'; 67_108_864]?;
+    compare(rt, words, feeds.as_slice(), most, Status::Done, b"");
+    feeds.push(b'\n')?;
+    compare(rt, words, feeds.as_slice(), most, Status::TooLong, b"");
+    Ok(())
+}
+
+/// What the command `code` writes for this input.
+pub fn output_of_code(rt: &(impl Abort + AllocGlobal), input: &[u8]) -> Result<Vec<u8>, Fail> {
     output_of(rt, &["code"], input)
 }
 
-/// What a successful run writes for an input.
+/// What a run that succeeds writes for this input.
 pub fn output_of(
     rt: &(impl Abort + AllocGlobal),
     words: &[&str],

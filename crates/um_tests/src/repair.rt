@@ -1,18 +1,18 @@
-//! Runs of the command `repair`, and every burst that can be repaired.
-use crate::outside::{Outside, compare, compare_in_pieces};
-use bit_blocks::{Bits, from_octets};
+//! Runs of the command `repair`, and a test of every error burst that can be repaired.
+use crate::outside::{StreamLimits, compare, compare_in_pieces, compare_refused};
 use fire_repair::{RepairAnswer, repair};
 use std::test::Fail;
 use um_cli::Status;
+use um_text::{Bits, from_octets};
 
-/// The octets of a fill frame, and their CRC.
+/// The 23 octets of a fill frame, and the 5 octets of their CRC.
 const FILL_FRAME: [u8; 28] = [
     0x03, 0x03, 0x01, 0x2b, 0x2b, 0x2b, 0x2b, 0x2b, 0x2b, 0x2b, 0x2b, 0x2b, 0x2b, 0x2b, 0x2b, 0x2b,
     0x2b, 0x2b, 0x2b, 0x2b, 0x2b, 0x2b, 0x2b, 0x2c, 0x4e, 0x54, 0x02, 0x33,
 ];
 
 #[test]
-fn a_word_that_meets_its_parity_holds(rt: HostRuntime) {
+fn a_word_whose_crc_holds_is_reported_as_holding(rt: HostRuntime) {
     compare_in_pieces(
         &rt,
         &["repair"],
@@ -23,9 +23,9 @@ fn a_word_that_meets_its_parity_holds(rt: HostRuntime) {
     );
 }
 
-// Wrong bits: 184; 184 and 195; 0; 0 and 11; 212 and 223; 223.
+// The indices of the wrong bits, line by line: 184; 184 and 195; 0; 0 and 11; 212 and 223; 223.
 #[test]
-fn bursts_of_twelve_places_are_repaired_up_to_both_ends(rt: HostRuntime) {
+fn error_bursts_of_twelve_bits_are_repaired_anywhere_in_the_word(rt: HostRuntime) {
     compare(
         &rt,
         &["repair"],
@@ -36,7 +36,7 @@ word 0108000000000000000000000000000000000000000000 ffffffffff
 word 0000000000000000000000000000000000000000000000 ffffffef7f
 word 0000000000000000000000000000000000000000000000 ffffffff7f
 ",
-        Outside::of_most(1000),
+        StreamLimits::moving_at_most(1000),
         Status::Done,
         b"repaired first 184 span 1 data 0000000000000000000000000000000000000000000000 check ffffffffff
 repaired first 184 span 12 data 0000000000000000000000000000000000000000000000 check ffffffffff
@@ -48,9 +48,9 @@ repaired first 223 span 1 data 0000000000000000000000000000000000000000000000 ch
     );
 }
 
-// Wrong bits: 184, 192 and 200; 0 and 12; 211 and 223; 0 and 223; 0 to 3 and 219 to 223.
+// The indices of the wrong bits, line by line: 184, 192 and 200; 0 and 12; 211 and 223; 0 and 223; 0 to 3 and 219 to 223.
 #[test]
-fn no_repair_of_what_is_wider_or_goes_round(rt: HostRuntime) {
+fn wider_or_wrapped_error_bursts_are_not_repaired(rt: HostRuntime) {
     compare(
         &rt,
         &["repair"],
@@ -60,14 +60,14 @@ word 0000000000000000000000000000000000000000000000 fffffff77f
 word 0100000000000000000000000000000000000000000000 ffffffff7f
 word 0f00000000000000000000000000000000000000000000 ffffffff07
 ",
-        Outside::of_most(1000),
+        StreamLimits::moving_at_most(1000),
         Status::Done,
         b"none\nnone\nnone\nnone\nnone\n",
     );
 }
 
-/// Lines without a meaning, and the reasons.
-const REFUSED: [(&str, &str); 6] = [
+/// Lines that are refused, each with the reason.
+const REFUSED_LINES: [(&str, &str); 6] = [
     (
         "word 0000000000000000000000000000000000000000000000 ff",
         "length",
@@ -89,22 +89,14 @@ const REFUSED: [(&str, &str); 6] = [
 ];
 
 #[test]
-fn lines_of_no_form_are_refused(rt: HostRuntime) -> Result<(), Fail> {
-    for (line, reason) in REFUSED {
-        let output = format!(in rt.alloc(); "refused 1 {reason}\n")?;
-        compare(
-            &rt,
-            &["repair"],
-            line.as_bytes(),
-            Outside::of_most(1000),
-            Status::BadInput,
-            output.as_bytes(),
-        );
+fn lines_without_a_valid_form_are_refused(rt: HostRuntime) -> Result<(), Fail> {
+    for (line, reason) in REFUSED_LINES {
+        compare_refused(&rt, &["repair"], line.as_bytes(), 1, reason)?;
     }
     Ok(())
 }
 
-/// Whether the word is restored after the bits of `shape` are inverted in it, from `start` on.
+/// Whether `repair` restores the word after the ones of `shape`, placed from bit `start` on, are inverted in it.
 fn is_repaired(word: &Bits<224>, start: usize, shape: u32) -> bool {
     let mut wrong = *word;
     let mut places = 0;
@@ -133,7 +125,7 @@ fn is_repaired(word: &Bits<224>, start: usize, shape: u32) -> bool {
 }
 
 #[test]
-fn every_burst_within_twelve_places_is_repaired(rt: HostRuntime) -> Result<(), Fail> {
+fn every_error_burst_within_twelve_bits_is_repaired(rt: HostRuntime) -> Result<(), Fail> {
     let mut bits = [0; 224];
     from_octets(&FILL_FRAME, &mut bits);
     let word = Bits::from_slice(&bits).ok_or("bits")?;

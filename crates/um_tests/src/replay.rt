@@ -1,14 +1,16 @@
-//! Runs of the command `replay` on worked values, and lines that are refused.
+//! Runs of the command `replay` on values computed by hand, and lines that it refuses.
 ghost use Rattle.std.specs.Prelude.{◌≤◌};
 
 use crate::code::{ACCESS_BURST, ACCESS_BURST_OF_ZEROS, BLOCK_OF_ZEROS, SYNC_BURST};
-use crate::outside::{Outside, coded, compare, compare_in_pieces};
+use crate::outside::{
+    StreamLimits, compare, compare_in_pieces, compare_longest_lines, compare_refused,
+    output_of_code,
+};
 use std::process::Abort;
 use std::test::Fail;
 use um_cli::Status;
 
-/// The bursts of a network's fill frame with training sequence 7, with the coded bits of
-/// libosmocoding.
+/// The bursts of a network's fill frame, with training sequence 7. The coded bits were made by libosmocoding.
 const FILL_FRAME: &[u8] =
     b"n 00010000001000111010101000000001010000000011111110101000000111110111100010010111011110010100001000101110\
 10100000000101000010000010101010100000010000\n\
@@ -19,13 +21,13 @@ n 000000000011111010101010000100000010001010111010101000010100111101111000100101
 n 00000010000101010101011110111010101000000001010111011111101011110111100010010111011110011000100000010101010110\
 11101010001000010001011101111010101000\n";
 
-/// The report on them.
+/// What `replay` writes for these bursts.
 const FILL_FRAME_REPORT: &[u8] =
     b"block tsc 7 train 0 metric 57912 parity ok data 0303012b2b2b2b2b2b2b2b2b2b2b2b2b2b2b2b2b2b2b2b check 2c4e540233\n\
 frame sapi 0 cr 1 ui p 0 info -\n";
 
-/// The same bursts, with bits 10, 20 and 30 of the second inverted.
-pub const THREE_WRONG: &[u8] =
+/// The same bursts, with bits 10, 20 and 30 of the second burst inverted.
+pub const BURSTS_WITH_THREE_WRONG_BITS: &[u8] =
     b"n 00010000001000111010101000000001010000000011111110101000000111110111100010010111011110010100001000101110\
 10100000000101000010000010101010100000010000\n\
 n 00010101010111111110000000010111010111111111111010000000010011110111100010010111011110010101111111111110101010\
@@ -35,8 +37,9 @@ n 000000000011111010101010000100000010001010111010101000010100111101111000100101
 n 00000010000101010101011110111010101000000001010111011111101011110111100010010111011110011000100000010101010110\
 11101010001000010001011101111010101000\n";
 
-/// The same bursts with seven coded bits inverted: those in which the coded list of a single 1 differs from all zeros.
-const SEVEN_WRONG: &[u8] =
+/// The same bursts with seven coded bits inverted: the ones in the coded list of data that are a single 1 followed by zeros. So the bits
+/// are a codeword again, but its CRC does not hold.
+const BURSTS_WITH_SEVEN_WRONG_BITS: &[u8] =
     b"n 00000000001000111010101000000001010000000011111110101000000111110111100010010111011110010100001000101110\
 10100000000101000010000010111010100000010000\n\
 n 00010101011111111110100000010101010111111111111010000000010011110111100010010111011110010101111111111110101010\
@@ -46,11 +49,11 @@ n 000000000011111010101000000100000010001010111010101000010100111101111000100101
 n 00000000000101010101011110111010101000000001010111011111101011110111100010010111011110011000100001010101010110\
 11101010001000010001011101111010101000\n";
 
-const OTHER_CODE: &[u8] =
+const BURST_WITH_OTHER_BSIC: &[u8] =
     b"a 000000 0011101001001011011111111001100110101010001111000000000000000000000000000000000000000000\n";
 
 #[test]
-fn an_access_burst_holds_under_its_own_code_alone(rt: HostRuntime) {
+fn the_crc_of_an_access_burst_holds_only_for_its_bsic(rt: HostRuntime) {
     compare_in_pieces(
         &rt,
         &["replay"],
@@ -61,7 +64,7 @@ fn an_access_burst_holds_under_its_own_code_alone(rt: HostRuntime) {
     compare_in_pieces(
         &rt,
         &["replay"],
-        OTHER_CODE,
+        BURST_WITH_OTHER_BSIC,
         Status::Done,
         b"access 000000 train 0 metric 4572 parity bad data 00000000 check 000000\n",
     );
@@ -86,7 +89,7 @@ fn a_synchronisation_burst_is_reported_with_its_check(rt: HostRuntime) {
 }
 
 #[test]
-fn a_block_of_zeros_is_no_frame(rt: HostRuntime) {
+fn a_block_of_zeros_is_reported_as_unread(rt: HostRuntime) {
     compare_in_pieces(
         &rt,
         &["replay"],
@@ -97,8 +100,8 @@ fn a_block_of_zeros_is_no_frame(rt: HostRuntime) {
 }
 
 #[test]
-fn a_block_whose_last_bit_alone_is_one_has_this_check(rt: HostRuntime) -> Result<(), Fail> {
-    let bursts = coded(
+fn a_block_with_only_its_last_bit_set_has_this_crc(rt: HostRuntime) -> Result<(), Fail> {
+    let bursts = output_of_code(
         &rt,
         b"block 3 0000000000000000000000000000000000000000000080\n",
     )?;
@@ -106,7 +109,7 @@ fn a_block_whose_last_bit_alone_is_one_has_this_check(rt: HostRuntime) -> Result
         &rt,
         &["replay"],
         bursts.as_slice(),
-        Outside::of_most(100),
+        StreamLimits::moving_at_most(100),
         Status::Done,
         b"block tsc 3 train 0 metric 57912 parity ok data 0000000000000000000000000000000000000000000080 check ffdfbeff6f\nunread ea\n",
     );
@@ -125,7 +128,7 @@ fn a_fill_frame_is_reported_as_a_frame(rt: HostRuntime) {
 }
 
 #[test]
-fn four_lost_bursts_tie_and_the_first_codeword_is_reported(rt: HostRuntime) {
+fn four_lost_bursts_are_reported_as_the_first_codeword(rt: HostRuntime) {
     compare_in_pieces(
         &rt,
         &["replay"],
@@ -151,12 +154,12 @@ fn a_block_with_a_lost_burst_is_restored(rt: HostRuntime) -> Result<(), Fail> {
 }
 
 #[test]
-fn three_wrong_bits_are_restored_and_seven_make_the_neighbour(rt: HostRuntime) {
+fn three_wrong_bits_are_corrected_but_seven_give_another_codeword(rt: HostRuntime) {
     compare(
         &rt,
         &["replay"],
-        THREE_WRONG,
-        Outside::of_most(1000),
+        BURSTS_WITH_THREE_WRONG_BITS,
+        StreamLimits::moving_at_most(1000),
         Status::Done,
         b"block tsc 7 train 0 metric 57150 parity ok data 0303012b2b2b2b2b2b2b2b2b2b2b2b2b2b2b2b2b2b2b2b check 2c4e540233\n\
 frame sapi 0 cr 1 ui p 0 info -\n",
@@ -164,15 +167,15 @@ frame sapi 0 cr 1 ui p 0 info -\n",
     compare(
         &rt,
         &["replay"],
-        SEVEN_WRONG,
-        Outside::of_most(1000),
+        BURSTS_WITH_SEVEN_WRONG_BITS,
+        StreamLimits::moving_at_most(1000),
         Status::Done,
         b"block tsc 7 train 0 metric 57912 parity bad data 0203012b2b2b2b2b2b2b2b2b2b2b2b2b2b2b2b2b2b2b2b check 2c4e540233\n",
     );
 }
 
-/// Access bursts of soft values, zeros but for the 36 coded ones, which follow 49 zeros: the BSIC
-/// of the line, the values of the coded bits, and the report after the BSIC.
+/// Access bursts whose soft values are 0 except for the 36 coded bits, which follow 49 zeros: the BSIC in the line, the soft values of the
+/// coded bits, and the report after the BSIC.
 const SOFT_BURSTS: [(&str, &str, &str); 5] = [
     (
         "111111",
@@ -202,7 +205,7 @@ const SOFT_BURSTS: [(&str, &str, &str); 5] = [
 ];
 
 #[test]
-fn soft_values_outweigh_signs_and_the_first_of_equals_is_reported(
+fn soft_values_are_weighted_and_the_first_of_tied_words_is_reported(
     rt: HostRuntime,
 ) -> Result<(), Fail> {
     let zeros =
@@ -214,7 +217,7 @@ fn soft_values_outweigh_signs_and_the_first_of_equals_is_reported(
             &rt,
             &["replay"],
             line.as_bytes(),
-            Outside::of_most(7),
+            StreamLimits::moving_at_most(7),
             Status::Done,
             output.as_bytes(),
         );
@@ -224,30 +227,11 @@ fn soft_values_outweigh_signs_and_the_first_of_equals_is_reported(
 
 #[test]
 fn an_input_that_ends_inside_a_block_is_refused_at_its_end(rt: HostRuntime) -> Result<(), Fail> {
-    compare_in_pieces(
-        &rt,
-        &["replay"],
-        &BLOCK_OF_ZEROS[..453],
-        Status::BadInput,
-        b"refused 4 order\n",
-    );
-    compare_in_pieces(
-        &rt,
-        &["replay"],
-        b"lost\n\n#",
-        Status::BadInput,
-        b"refused 4 order\n",
-    );
+    compare_refused(&rt, &["replay"], &BLOCK_OF_ZEROS[..453], 4, "order")?;
+    compare_refused(&rt, &["replay"], b"lost\n\n#", 4, "order")?;
     let mut input = b"lost\nlost\n".to_vec(rt.alloc())?;
     input.extend_from_slice(ACCESS_BURST)?;
-    compare_in_pieces(
-        &rt,
-        &["replay"],
-        input.as_slice(),
-        Status::BadInput,
-        b"refused 3 order\n",
-    );
-    Ok(())
+    compare_refused(&rt, &["replay"], input.as_slice(), 3, "order")
 }
 
 #[test]
@@ -256,49 +240,20 @@ fn a_soft_value_of_minus_128_is_refused(rt: HostRuntime) -> Result<(), Fail> {
     for _ in 0..147 {
         line.extend_from_slice(b"00")?;
     }
-    compare_in_pieces(
-        &rt,
-        &["replay"],
-        line.as_slice(),
-        Status::BadInput,
-        b"refused 1 soft\n",
-    );
-    Ok(())
+    compare_refused(&rt, &["replay"], line.as_slice(), 1, "soft")
 }
 
 #[test]
-fn replay_passes_over_what_is_skipped_and_nothing_else(rt: HostRuntime) -> Result<(), Fail> {
+fn replay_skips_empty_lines_and_comments_only(rt: HostRuntime) -> Result<(), Fail> {
     compare_in_pieces(&rt, &["replay"], b"", Status::Done, b"");
-    compare_in_pieces(
-        &rt,
-        &["replay"],
-        b"foo",
-        Status::BadInput,
-        b"refused 1 word\n",
-    );
-    compare_in_pieces(
-        &rt,
-        &["replay"],
-        b"\nlost\r\n",
-        Status::BadInput,
-        b"refused 2 word\n",
-    );
-    let mut line = vec![in rt.alloc(); b'#'; 4096]?;
-    compare_in_pieces(&rt, &["replay"], line.as_slice(), Status::Done, b"");
-    line.push(b'#')?;
-    compare_in_pieces(
-        &rt,
-        &["replay"],
-        line.as_slice(),
-        Status::BadInput,
-        b"refused 1 long\n",
-    );
-    Ok(())
+    compare_refused(&rt, &["replay"], b"foo", 1, "word")?;
+    compare_refused(&rt, &["replay"], b"\nlost\r\n", 2, "word")?;
+    compare_longest_lines(&rt, &["replay"])
 }
 
-/// The line and the reason of the refusal when the fill frame's bursts are cut after this many
-/// lines, and this many octets of the next.
-fn refused_cut(lines: usize, octets: usize) -> (usize, &'static str)
+/// The line number and the reason of the refusal if the fill frame's bursts are cut off after this many lines and this many octets of the
+/// next line.
+fn refusal_of_cut(lines: usize, octets: usize) -> (usize, &'static str)
     requires { lines ≤ 4 }
 {
     match octets {
@@ -309,14 +264,19 @@ fn refused_cut(lines: usize, octets: usize) -> (usize, &'static str)
     }
 }
 
-/// Runs `replay` over the fill frame's bursts cut there. Only none of them or all of them are good.
-fn replay_cut(rt: &(impl Abort + AllocGlobal), lines: usize, octets: usize) -> Result<(), Fail>
+/// Runs `replay` over the fill frame's bursts, cut off at this point. Only an empty input, and one that lacks just the last line feed,
+/// are not refused.
+fn check_cut_replay(
+    rt: &(impl Abort + AllocGlobal),
+    lines: usize,
+    octets: usize,
+) -> Result<(), Fail>
     requires lines { lines ≤ 3 }
     requires octets { octets ≤ 150 }
 {
     let count = 151 * lines + octets;
     let input = FILL_FRAME.get(..count).ok_or("604 octets")?;
-    let ample = Outside::of_most(100);
+    let ample = StreamLimits::moving_at_most(100);
     if count == 0 {
         compare(rt, &["replay"], input, ample, Status::Done, b"");
     } else if count == 603 {
@@ -329,7 +289,7 @@ fn replay_cut(rt: &(impl Abort + AllocGlobal), lines: usize, octets: usize) -> R
             FILL_FRAME_REPORT,
         );
     } else {
-        let (line, reason) = refused_cut(lines, octets);
+        let (line, reason) = refusal_of_cut(lines, octets);
         let output = format!(in rt.alloc(); "refused {line} {reason}\n")?;
         compare(
             rt,
@@ -347,18 +307,18 @@ fn replay_cut(rt: &(impl Abort + AllocGlobal), lines: usize, octets: usize) -> R
 fn a_recording_cut_at_any_octet_is_refused_where_it_is_cut(rt: HostRuntime) -> Result<(), Fail> {
     for lines in 0..4 {
         for octets in 0..151 {
-            replay_cut(&rt, lines, octets)?;
+            check_cut_replay(&rt, lines, octets)?;
         }
     }
     Ok(())
 }
 
 #[test]
-fn a_failing_outside_leaves_a_front_of_the_report(rt: HostRuntime) {
+fn failing_reads_and_writes_leave_a_prefix_of_the_report(rt: HostRuntime) {
     let all = FILL_FRAME_REPORT;
     for call in 1..8 {
         let calls = [call];
-        let outside = Outside::failing(100, &calls, &[]);
+        let outside = StreamLimits::failing(100, &calls, &[]);
         compare(
             &rt,
             &["replay"],
@@ -368,17 +328,17 @@ fn a_failing_outside_leaves_a_front_of_the_report(rt: HostRuntime) {
             b"",
         );
     }
-    let eighth = Outside::failing(100, &[8], &[]);
+    let eighth = StreamLimits::failing(100, &[8], &[]);
     compare(&rt, &["replay"], FILL_FRAME, eighth, Status::ReadFault, all);
-    let ninth = Outside::failing(100, &[9], &[]);
+    let ninth = StreamLimits::failing(100, &[9], &[]);
     compare(&rt, &["replay"], FILL_FRAME, ninth, Status::Done, all);
-    let full = Outside::of_room(0);
+    let full = StreamLimits::with_sink_room(0);
     compare(&rt, &["replay"], FILL_FRAME, full, Status::WriteFault, b"");
 }
 
-/// A sink that takes at most 50 octets a call, and fails at the calls with these numbers.
-fn taking_fifty(failing_puts: &[u64]) -> Outside<'_> {
-    Outside {
+/// A sink that takes at most 50 octets in each call, and fails in the calls with these numbers.
+fn sink_of_fifty_octets(failing_puts: &[u64]) -> StreamLimits<'_> {
+    StreamLimits {
         take_most: 100,
         failing_takes: &[],
         put_most: 50,
@@ -388,11 +348,11 @@ fn taking_fifty(failing_puts: &[u64]) -> Outside<'_> {
 }
 
 #[test]
-fn each_writing_of_a_report_fails_in_turn(rt: HostRuntime) -> Result<(), Fail> {
+fn any_write_of_a_report_may_fail(rt: HostRuntime) -> Result<(), Fail> {
     for (call, taken) in [(1, 0), (2, 50), (3, 100)] {
         let calls = [call];
         let front = FILL_FRAME_REPORT.get(..taken).ok_or("144 octets")?;
-        let outside = taking_fifty(&calls);
+        let outside = sink_of_fifty_octets(&calls);
         compare(
             &rt,
             &["replay"],
@@ -402,7 +362,7 @@ fn each_writing_of_a_report_fails_in_turn(rt: HostRuntime) -> Result<(), Fail> {
             front,
         );
     }
-    let fourth = taking_fifty(&[4]);
+    let fourth = sink_of_fifty_octets(&[4]);
     let all = FILL_FRAME_REPORT;
     compare(&rt, &["replay"], FILL_FRAME, fourth, Status::Done, all);
     Ok(())

@@ -1,13 +1,11 @@
-//! The texts of frames and reports, and the lines of `show`, by single calls.
-use bit_blocks::Bits;
+//! Tests of the functions that write frames and reports, and of the one that reads the lines of `show`.
 use std::test::Fail;
-use um_block::{Received, ReceivedAccess, ReceivedSync};
 use um_text::{
-    LineFault, ShowLine, Text, access_report, block_report, frame_line, octets_line, parse_show,
-    sync_report,
+    BLOCK_BITS, BLOCK_OCTETS, Bits, LineFault, Received, ReceivedAccess, ReceivedSync, ShowLine,
+    Text, access_report, block_report, frame_line, octets_line, parse_show, sync_report,
 };
 
-// The first octets, the fill octet for the rest, and the text.
+// The first octets of a block, the octet that fills the rest, and the text.
 const FRAMES: [([u8; 5], u8, &str); 24] = [
     (
         [0x01, 0x03, 0x01, 0x2b, 0x2b],
@@ -95,8 +93,8 @@ const FRAMES: [([u8; 5], u8, &str); 24] = [
     ),
 ];
 
-fn filled(first: &[u8; 5], fill: u8) -> [u8; 23] {
-    let mut octets = [fill; 23];
+fn block_filled_with(first: &[u8; 5], fill: u8) -> [u8; BLOCK_OCTETS] {
+    let mut octets = [fill; BLOCK_OCTETS];
     octets[..5].copy_from_slice(first);
     octets
 }
@@ -104,20 +102,20 @@ fn filled(first: &[u8; 5], fill: u8) -> [u8; 23] {
 #[test]
 fn octets_are_written_as_their_frame_or_as_unread(rt: HostRuntime) {
     for (first, fill, text) in FRAMES {
-        let octets = filled(&first, fill);
+        let octets = block_filled_with(&first, fill);
         let mut out = Text::new();
         frame_line(&mut out, &octets);
         assert_eq!(rt; out.octets(), text.as_bytes(), "{text}");
     }
     let mut out = Text::new();
-    octets_line(&mut out, &[0xc5; 23]);
+    octets_line(&mut out, &[0xc5; BLOCK_OCTETS]);
     assert_eq!(rt;
         out.octets(),
         b"octets c5c5c5c5c5c5c5c5c5c5c5c5c5c5c5c5c5c5c5c5c5c5c5\n".as_slice()
     );
 }
 
-// Lines of frames, and their first octets; the rest is 2b.
+// Lines of frames, each with the first octets of its block; the rest is filled with 2b.
 const LINES: [(&str, [u8; 5]); 7] = [
     (
         "frame sapi 0 cr 0 i ns 5 nr 2 p 1 m 0 info 0601",
@@ -146,7 +144,7 @@ const LINES: [(&str, [u8; 5]); 7] = [
 #[test]
 fn the_line_of_a_frame_gives_its_canonical_octets(rt: HostRuntime) {
     for (line, first) in LINES {
-        let octets = filled(&first, 0x2b);
+        let octets = block_filled_with(&first, 0x2b);
         assert_eq!(rt;
             parse_show(line.as_bytes()),
             Ok(ShowLine::Frame(octets)),
@@ -154,7 +152,7 @@ fn the_line_of_a_frame_gives_its_canonical_octets(rt: HostRuntime) {
         );
     }
     let line = b"octets 0aA00000000000000000000000000000000000000000Ff";
-    let mut octets = [0; 23];
+    let mut octets = [0; BLOCK_OCTETS];
     octets[0] = 0x0a;
     octets[1] = 0xa0;
     octets[22] = 0xff;
@@ -162,7 +160,7 @@ fn the_line_of_a_frame_gives_its_canonical_octets(rt: HostRuntime) {
     assert_eq!(rt; parse_show(b"# frame"), Ok(ShowLine::Skip));
 }
 
-const REFUSED: [(&str, LineFault); 19] = [
+const REFUSED_LINES: [(&str, LineFault); 19] = [
     (
         "frame sapi 0 cr 0 i ns 0 nr 0 p 0 m 0 info -",
         LineFault::Length,
@@ -192,13 +190,13 @@ const REFUSED: [(&str, LineFault); 19] = [
 
 #[test]
 fn a_bad_line_of_show_has_its_first_reason(rt: HostRuntime) {
-    for (line, fault) in REFUSED {
+    for (line, fault) in REFUSED_LINES {
         assert_eq!(rt; parse_show(line.as_bytes()), Err(fault), "{line}");
     }
 }
 
 #[test]
-fn a_block_is_reported_with_its_frame_where_the_parity_holds(rt: HostRuntime) {
+fn a_block_is_reported_with_its_frame_if_the_crc_holds(rt: HostRuntime) {
     let mut r = Received {
         u: Bits::zero(),
         metric: -2147483648,
@@ -210,18 +208,22 @@ fn a_block_is_reported_with_its_frame_where_the_parity_holds(rt: HostRuntime) {
     block_report(&mut out, &r);
     assert_eq!(rt;
         out.octets(),
-        b"block tsc 3 train 104 metric -2147483648 parity bad data 0000000000000000000000000000000000000000000000 check 0000000000\n".as_slice()
+        b"block tsc 3 train 104 metric -2147483648 parity bad \
+data 0000000000000000000000000000000000000000000000 check 0000000000\n"
+            .as_slice()
     );
-    for i in 184..224 {
+    for i in BLOCK_BITS..224 {
         r.u.set(i, 1);
     }
-    r.accepted = Some([0; 23]);
+    r.accepted = Some([0; BLOCK_OCTETS]);
     r.metric = 57912;
     out.clear();
     block_report(&mut out, &r);
     assert_eq!(rt;
         out.octets(),
-        b"block tsc 3 train 104 metric 57912 parity ok data 0000000000000000000000000000000000000000000000 check ffffffffff\nunread ea\n".as_slice()
+        b"block tsc 3 train 104 metric 57912 parity ok \
+data 0000000000000000000000000000000000000000000000 check ffffffffff\nunread ea\n"
+            .as_slice()
     );
 }
 

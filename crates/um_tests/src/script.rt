@@ -1,12 +1,11 @@
-//! Scripts of `link` and their answers, in short form: a line, and its answer lines separated by
-//! commas. In `takes` and `sends` lines the octets are given without fill, and blocks are received
-//! undamaged.
+//! Scripts of `link` and their answers in short form: a line, and its answer lines separated by commas. Octets in `takes` and `sends` lines
+//! are given without fill octets, and every block is received undamaged.
 use crate::outside::compare_in_pieces;
 use std::alloc::{AllocError, Global};
 use std::process::Abort;
 use um_cli::Status;
 
-/// A script, and the answers to its lines.
+/// A script, and the answers to its lines, in the short form.
 #[derive(Drop)]
 pub struct Script {
     input: String,
@@ -44,7 +43,7 @@ impl Script {
         Ok(())
     }
 
-    /// Adds the full text of a short answer line.
+    /// Appends an answer line, given in short form, in full.
     fn add_answer(&mut self, short: &str) -> Result<(), AllocError> {
         let mut words = short.split(' ').skip(1);
         let verb = words.next().unwrap_or("");
@@ -65,7 +64,7 @@ impl Script {
         self.input.as_bytes()
     }
 
-    /// Checks that the script has these answers, however its octets are split into calls.
+    /// Checks that `link` gives these answers, whatever number of octets each read and write moves.
     pub fn check(&self, rt: &(impl Abort + AllocGlobal), words: &[&str]) {
         compare_in_pieces(
             rt,

@@ -1,10 +1,13 @@
-//! Runs of the command `show` on worked values, and lines that are refused.
-use crate::outside::{Outside, compare, compare_in_pieces};
+//! Runs of the command `show` on values computed by hand, and lines that it refuses.
+use crate::outside::{
+    StreamLimits, compare, compare_in_pieces, compare_line_feeds, compare_longest_lines,
+    compare_refused,
+};
 use std::test::Fail;
 use um_cli::Status;
 
-/// The first octets, the fill octet up to 23 of them, and the line that shows them.
-const SHOWN: [(&str, &str, &str); 12] = [
+/// The first octets of a block, the octet that fills the rest, and the line that `show` writes.
+const OCTETS_AND_LINES: [(&str, &str, &str); 12] = [
     ("010301", "2b", "frame sapi 0 cr 0 ui p 0 info -"),
     ("030301", "2b", "frame sapi 0 cr 1 ui p 0 info -"),
     ("030301", "ff", "frame sapi 0 cr 1 ui p 0 info -"),
@@ -19,7 +22,7 @@ const SHOWN: [(&str, &str, &str); 12] = [
     ("010303", "2b", "unread more"),
 ];
 
-/// A frame's line, and the octets that it is shown as.
+/// The line of a frame, and the octets that `show` writes for it.
 const FRAMES: [(&str, &str); 2] = [
     (
         "frame sapi 0 cr 0 i ns 5 nr 2 p 1 m 0 info 0601",
@@ -31,8 +34,8 @@ const FRAMES: [(&str, &str); 2] = [
     ),
 ];
 
-/// Lines without a meaning, and the reasons.
-const REFUSED: [(&str, &str); 8] = [
+/// Lines that are refused, each with the reason.
+const REFUSED_LINES: [(&str, &str); 8] = [
     ("frame sapi 0 cr 0 i ns 0 nr 0 p 0 m 0 info -", "length"),
     ("frame sapi 0 cr 0 ui p 0 info 0", "length"),
     ("frame sapi 8 cr 0 rr nr 7 pf 0", "digits"),
@@ -44,10 +47,8 @@ const REFUSED: [(&str, &str); 8] = [
 ];
 
 #[test]
-fn octets_are_shown_as_their_frame_or_the_reason_why_they_are_none(
-    rt: HostRuntime,
-) -> Result<(), Fail> {
-    for (front, fill, shown) in SHOWN {
+fn octets_are_shown_as_a_frame_or_as_unread(rt: HostRuntime) -> Result<(), Fail> {
+    for (front, fill, shown) in OCTETS_AND_LINES {
         let mut line = format!(in rt.alloc(); "octets {front}")?;
         for _ in 0..20 {
             line.push_str(fill)?;
@@ -58,7 +59,7 @@ fn octets_are_shown_as_their_frame_or_the_reason_why_they_are_none(
             &rt,
             &["show"],
             line.as_bytes(),
-            Outside::of_most(7),
+            StreamLimits::moving_at_most(7),
             Status::Done,
             output.as_bytes(),
         );
@@ -82,55 +83,20 @@ fn a_frame_is_shown_as_its_octets(rt: HostRuntime) -> Result<(), Fail> {
 }
 
 #[test]
-fn what_is_no_frame_is_refused(rt: HostRuntime) -> Result<(), Fail> {
-    for (line, reason) in REFUSED {
-        let output = format!(in rt.alloc(); "refused 1 {reason}\n")?;
-        compare_in_pieces(
-            &rt,
-            &["show"],
-            line.as_bytes(),
-            Status::BadInput,
-            output.as_bytes(),
-        );
+fn malformed_lines_are_refused(rt: HostRuntime) -> Result<(), Fail> {
+    for (line, reason) in REFUSED_LINES {
+        compare_refused(&rt, &["show"], line.as_bytes(), 1, reason)?;
     }
     compare_in_pieces(&rt, &["show"], b"", Status::Done, b"");
     Ok(())
 }
 
 #[test]
-fn line_feeds_past_the_limit_are_too_many_to_show(rt: HostRuntime) -> Result<(), Fail> {
-    let mut feeds = vec![in rt.alloc(); b'\n'; 67_108_864]?;
-    compare(
-        &rt,
-        &["show"],
-        feeds.as_slice(),
-        Outside::of_most(5000),
-        Status::Done,
-        b"",
-    );
-    feeds.push(b'\n')?;
-    compare(
-        &rt,
-        &["show"],
-        feeds.as_slice(),
-        Outside::of_most(5000),
-        Status::TooLong,
-        b"",
-    );
-    Ok(())
+fn show_accepts_line_feeds_up_to_the_input_limit(rt: HostRuntime) -> Result<(), Fail> {
+    compare_line_feeds(&rt, &["show"])
 }
 
 #[test]
-fn a_line_to_show_may_have_4096_octets_and_no_more(rt: HostRuntime) -> Result<(), Fail> {
-    let mut line = vec![in rt.alloc(); b'#'; 4096]?;
-    compare_in_pieces(&rt, &["show"], line.as_slice(), Status::Done, b"");
-    line.push(b'#')?;
-    compare_in_pieces(
-        &rt,
-        &["show"],
-        line.as_slice(),
-        Status::BadInput,
-        b"refused 1 long\n",
-    );
-    Ok(())
+fn a_line_of_show_may_have_4096_octets_and_no_more(rt: HostRuntime) -> Result<(), Fail> {
+    compare_longest_lines(&rt, &["show"])
 }

@@ -1,14 +1,10 @@
--- The least and greatest absolute value of a list, extended by one value at a time.
-use Rattle.std.proofs.Common.{◌≡◌, ℕ, ◌+◌, ◌<◌, ◌≤◌, inl, inr, min, max, ℤ, pos, List, length, get_or, take, map}
-use Rattle.std.proofs.Common.{sym, subst, ◌∙◌, arith}
-use Rattle.std.specs.Prelude.{unsigned_abs, ◌⊎◌}
-use Rattle.std.specs.List.{All, Contains}
-use Rattle.std.proofs.lemmas.List.{length-map, get_or-map, take_all}
-use Rattle.std.proofs.lemmas.Bool.{cases_lt}
-use Rattle.std.proofs.lemmas.List.Elements.{All-nil, All-more, All-weaker}
-use Rattle.weight_bound.specs.Restoring.{IsStrengths}
+-- The least and the greatest absolute value of a list, found by reading one value at a time.
+use Rattle.std.proofs.Common.{◌≡◌, ℕ, ◌+◌, ◌<◌, ◌≤◌, inl, inr, min, max, ℤ, pos, List, length, get_or, take, map, sym, subst, ◌∙◌, arith}
+use Rattle.std.proofs.lemmas.{List.{length-map, get_or-map, take_all, Elements.{All-nil, All-more, All-weaker}}, Bool.cases_lt}
+use Rattle.std.specs.{Prelude.{unsigned_abs, ◌⊎◌}, List.{All, Contains}}
+use Rattle.weight_bound.specs.Restoring.{AreLeastAndGreatestStrength}
 
--- an absolute value within two bounds
+-- the absolute value lies within two bounds
 abbrev pub Between : ℕ → ℕ → ℤ → Type 0
 Between lo hi value = (lo ≤ unsigned_abs value) × (unsigned_abs value ≤ hi)
 
@@ -24,7 +20,7 @@ pub Contains-strength : (s : List ℤ) (k strength : ℕ) → k < length s → s
     Contains (map unsigned_abs s) strength
 Contains-strength s k strength within e = (k, rw length-map within, get_or-map unsigned_abs s k (pos 0) strength within ∙ sym e)
 
--- if c equals one of two members, it is a member
+-- if c equals one of two elements of a list, it is an element of the list
 either : (xs : List ℕ) (a b c : ℕ) → (c ≡ a) ⊎ (c ≡ b) → Contains xs a → Contains xs b → Contains xs c
 either xs a b c (inl e) in_a in_b = subst (Contains xs) (sym e) in_a
 either xs a b c (inr e) in_a in_b = subst (Contains xs) (sym e) in_b
@@ -41,7 +37,7 @@ Contains-min xs a b = either xs a b (min a b) (min_or a b)
 pub Contains-max : (xs : List ℕ) (a b : ℕ) → Contains xs a → Contains xs b → Contains xs (max a b)
 Contains-max xs a b = either xs a b (max a b) (max_or a b)
 
--- after k values: each lies within the bounds, and both bounds occur in the list
+-- after k values have been read: the absolute value of each lies within the bounds, and both bounds occur in the list
 pub record IsSoFar (s : List ℤ) (k lo hi : ℕ) : Type 0 where
   pub between : All (Between lo hi) (take k s)
   pub least : Contains (map unsigned_abs s) lo
@@ -64,6 +60,6 @@ IsSoFar-more s k lo hi strength within e h =
       greatest = Contains-max (map unsigned_abs s) hi strength h.greatest here;
     }
 
-pub IsStrengths-whole : (s : List ℤ) (k lo hi : ℕ) → length s ≤ k → IsSoFar s k lo hi → IsStrengths s lo hi
-IsStrengths-whole s k lo hi whole h =
+pub AreLeastAndGreatestStrength-whole : (s : List ℤ) (k lo hi : ℕ) → length s ≤ k → IsSoFar s k lo hi → AreLeastAndGreatestStrength s lo hi
+AreLeastAndGreatestStrength-whole s k lo hi whole h =
     record { between = subst (All (Between lo hi)) (take_all k s whole) h.between; least = h.least; greatest = h.greatest }

@@ -1,9 +1,7 @@
--- Counts over an index range, extended at the end or at the front.
-use Rattle.std.proofs.Common.{◌≡◌, ℕ, zero, suc, ◌+◌, ◌≤◌, Bool, not, ◌==◌, cond, List, ◌∷◌, length, refl, ap}
-use Rattle.std.proofs.Common.{ap₂, ◌∙◌, sym, arith}
-use Rattle.std.specs.List.{count_by, range_with_len}
-use Rattle.std.proofs.lemmas.List.FromFn.{length-range_with_len}
-use Rattle.std.proofs.lemmas.List.Sums.{count_by-le-length, sum_by-cons, sum_by_push}
+-- The number of indexes in a range that pass a test, when the range grows at its end or at its front.
+use Rattle.std.proofs.Common.{◌≡◌, ℕ, zero, suc, ◌+◌, ◌≤◌, Bool, not, ◌==◌, cond, List, ◌∷◌, length, refl, ap, ap₂, ◌∙◌, sym, arith}
+use Rattle.std.{proofs.lemmas.List.{FromFn.length-range_with_len, Sums.{count_by-le-length, sum_by-cons, sum_by_push}}, specs.List.count_by}
+use Rattle.std.specs.List.{range_with_len}
 use Rattle.conv_code.proofs.Coding.{range_more}
 use Rattle.weight_bound.specs.Distance.{is_different, distance}
 
@@ -15,7 +13,7 @@ count_by_more p n =
 pub count_by-le : (p : ℕ → Bool) (n : ℕ) → count_by p (range_with_len 0 n) ≤ n
 count_by-le p n = omega (arith, count_by-le-length p (range_with_len 0 n), length-range_with_len 0 n)
 
--- dropping the first index shifts the others by one
+-- the count from index a + 1 on is that of the test shifted by one, from index a on
 count_by-rest : (p q : ℕ → Bool) (a n : ℕ) → ((k : ℕ) → p (suc k) ≡ q k) →
     count_by p (range_with_len (suc a) n) ≡ count_by q (range_with_len a n)
 count_by-rest p q a zero h = refl

@@ -1,23 +1,14 @@
--- Three wrong soft bits cannot make up for a distance of seven if all strengths are similar: the right list gains at least 2 lo at
--- each of four or more differences and loses at most 2 hi at each of three.
-use Rattle.std.proofs.Common.{◌≡◌, ◌≢◌, ℕ, zero, suc, ◌+◌, ◌*◌, ◌<◌, ◌≤◌, not, ◌==◌, cond, true}
-use Rattle.std.proofs.Common.{false, inl, inr, ℤ, pos, negsuc, ◌+ℤ◌, ◌-ℤ◌, List, [], ◌∷◌, length, refl, sym, ap}
-use Rattle.std.proofs.Common.{◌∙◌, arith}
-use Rattle.std.specs.Prelude.{◌<ℤ◌, ◌≤ℤ◌, ◌⊎◌, int_le, unsigned_abs}
+-- Three wrong soft bits cannot make up for a distance of seven if all soft bits have a similar strength, lo to hi. Compared with any
+-- other list, the right list gains at least 2 lo at each of at least four differences and loses at most 2 hi at each of three.
+use Rattle.std.proofs.Common.{◌≡◌, ◌≢◌, ℕ, zero, suc, ◌+◌, ◌*◌, ◌<◌, ◌≤◌, not, ◌==◌, cond, true, false, inl, inr, ℤ, pos, negsuc, ◌+ℤ◌}
+use Rattle.std.proofs.{Common.{◌-ℤ◌, List, [], ◌∷◌, length, refl, sym, ap, ◌∙◌, arith}, Math.Nat.mul-le-mul_left, lemmas.Int.ints}
+use Rattle.std.{proofs.lemmas.List.Elements.{All-head, All-tail, All-weaker}, specs.Prelude.{◌<ℤ◌, ◌≤ℤ◌, ◌⊎◌, int_le, unsigned_abs}}
 use Rattle.std.specs.List.{All}
-use Rattle.std.proofs.Math.Nat.{mul-le-mul_left}
-use Rattle.std.proofs.lemmas.Int.{ints}
-use Rattle.std.proofs.lemmas.List.Elements.{All-head, All-tail, All-weaker}
-use Rattle.bit_blocks.specs.Bits.{IsBit, AllBits}
-use Rattle.bit_blocks.specs.SoftValues.{wrong_places}
-use Rattle.conv_code.specs.Code.{encoding, IsInformation}
-use Rattle.conv_code.specs.Likelihood.{agreement, likelihood, IsMostLikely}
-use Rattle.conv_code.proofs.Lemmas.{AllBits-coded, length-coded, IsMostLikely-only}
-use Rattle.weight_bound.specs.Distance.{distance}
-use Rattle.weight_bound.specs.Restoring.{IsLightlyDamaged, Restores}
-use Rattle.weight_bound.proofs.AbsoluteValues.{Between, Contains-strength}
-use Rattle.weight_bound.proofs.Counting.{distance-cons}
-use Rattle.weight_bound.proofs.Distances.{at_least_seven}
+use Rattle.bit_blocks.specs.{Bits.{IsBit, AllBits}, SoftValues.count_wrong_bits}
+use Rattle.conv_code.{specs.{Code.{encoding, IsInformation}, Likelihood.{agreement, likelihood, IsMostLikely}}, proofs.Lemmas.AllBits-coded}
+use Rattle.conv_code.proofs.Lemmas.{length-coded, IsMostLikely-only}
+use Rattle.weight_bound.{specs.{Distance.distance, Restoring.{IsLightlyDamaged, LightDamageIsRestored}}, proofs.AbsoluteValues.Between}
+use Rattle.weight_bound.proofs.{AbsoluteValues.Contains-strength, Counting.distance-cons, Distances.at_least_seven}
 
 agreement-zero : (p : ℤ) → agreement p 0 ≡ p
 agreement-zero p = omega (arith, ints)
@@ -25,13 +16,13 @@ agreement-zero p = omega (arith, ints)
 agreement-one : (p : ℤ) → agreement p 1 ≡ pos 0 -ℤ p
 agreement-one p = omega (arith, ints)
 
--- a soft bit is right or wrong, as a test and as a fact
+-- a soft bit is either wrong or right: both the test and the inequality say so
 right_or_wrong : (z : ℤ) → ((int_le z (pos 0) ≡ true) × (z ≤ℤ pos 0)) ⊎ ((int_le z (pos 0) ≡ false) × (pos 0 <ℤ z))
 right_or_wrong (pos zero) = inl (refl, omega (arith, ints))
 right_or_wrong (pos (suc n)) = inr (grind (arith, ints), omega (arith, ints))
 right_or_wrong (negsuc n) = inl (refl, omega (arith, ints))
 
--- what a soft bit adds for the right bit and for the other one: its value and its negative, in either order
+-- what a soft bit p adds to the path metric for a bit (a) and for the opposite bit (b): p and -p, in either order
 abbrev Opposite : ℤ → ℤ → ℤ → Type 0
 Opposite p a b = ((a ≡ p) × (b ≡ pos 0 -ℤ p)) ⊎ ((b ≡ p) × (a ≡ pos 0 -ℤ p))
 
@@ -42,14 +33,14 @@ right_place (pos n) a b lo hi between (inr e) right = omega (arith, ints)
 right_place (negsuc n) a b lo hi between (inl e) right = omega (arith, ints)
 right_place (negsuc n) a b lo hi between (inr e) right = omega (arith, ints)
 
--- where they differ and the soft bit is wrong, it loses at most 2 hi
+-- where the lists differ and the soft bit is wrong, the right list loses at most 2 hi
 wrong_place : (p a b : ℤ) (lo hi : ℕ) → Between lo hi p → Opposite p a b → a ≤ℤ pos 0 → b ≤ℤ (a +ℤ pos (2 * hi))
 wrong_place (pos n) a b lo hi between (inl e) wrong = omega (arith, ints)
 wrong_place (pos n) a b lo hi between (inr e) wrong = omega (arith, ints)
 wrong_place (negsuc n) a b lo hi between (inl e) wrong = omega (arith, ints)
 wrong_place (negsuc n) a b lo hi between (inr e) wrong = omega (arith, ints)
 
--- the other path metric is smaller by 2 lo for each difference, less 2 (lo + hi) for each wrong soft bit
+-- the path metric b of the other list is smaller than a by 2 lo for each difference, minus 2 (lo + hi) for each wrong soft bit
 abbrev IsOutweighed : ℤ → ℤ → ℕ → ℕ → ℕ → ℕ → Type 0
 IsOutweighed a b lo hi differ wrong = (b +ℤ pos (2 * (lo * differ))) ≤ℤ (a +ℤ pos (2 * ((lo + hi) * wrong)))
 
@@ -60,7 +51,7 @@ differing_place p a b lo hi between opposite =
       | inr right ↦ let bound = right_place p a b lo hi between opposite right.1 in rw right.0 (omega (arith, ints))
     ]
 
--- one soft bit: equal bits cancel; where they differ, the bound depends on whether it is wrong
+-- the bound for one soft bit: equal bits add the same; where the bits differ, the bound depends on whether the soft bit is wrong
 one_place : (p : ℤ) (x y lo hi : ℕ) → Between lo hi p → x ≤ 1 → y ≤ 1 →
     IsOutweighed (agreement p x) (agreement p y) lo hi (cond (not (x == y)) 1 0) (cond (int_le (agreement p x) (pos 0)) 1 0)
 one_place p zero zero lo hi between hx hy = omega (arith, ints)
@@ -74,7 +65,7 @@ one_place p zero (suc (suc y)) lo hi between hx hy = absurd (omega arith)
 one_place p (suc zero) (suc (suc y)) lo hi between hx hy = absurd (omega arith)
 
 pub all_places : (s : List ℤ) (c d : List ℕ) (lo hi : ℕ) → length s ≡ length c → length s ≡ length d → AllBits c → AllBits d →
-    All (Between lo hi) s → IsOutweighed (likelihood s c) (likelihood s d) lo hi (distance c d) (wrong_places s c)
+    All (Between lo hi) s → IsOutweighed (likelihood s c) (likelihood s d) lo hi (distance c d) (count_wrong_bits s c)
 all_places [] [] [] lo hi ec ed bits_c bits_d between = omega (arith, ints)
 all_places [] (x ∷ c) d lo hi ec ed bits_c bits_d between = absurd (omega arith)
 all_places [] [] (y ∷ d) lo hi ec ed bits_c bits_d between = absurd (omega arith)
@@ -105,7 +96,7 @@ less_likely s u v information_u information_v pairs same ne damage =
     let sums = all_places s (encoding u) (encoding v) lo hi count_u count_v (AllBits-coded u) (AllBits-coded v) damage.strengths.between in
     let seven = at_least_seven u v information_u information_v (sym same) (λ e. ne (sym e)) in
     weighed (likelihood s (encoding u)) (likelihood s (encoding v)) lo hi (distance (encoding u) (encoding v))
-    (wrong_places s (encoding u)) sums seven damage.few damage.nearly_one_strength
+    (count_wrong_bits s (encoding u)) sums seven damage.few damage.similar_strengths
   where
     weighed : (a b : ℤ) (lo hi d w : ℕ) → IsOutweighed a b lo hi d w → 7 ≤ d → w ≤ 3 → 3 * hi < 4 * lo → b <ℤ a
     weighed a b lo hi d w sums seven few even =
@@ -114,7 +105,7 @@ less_likely s u v information_u information_v pairs same ne damage =
         omega (arith, ints, gained, lost)
 
 -- the sent list is the most likely one, and no other ties with it
-pub restores : (soft : List ℤ) (u : List ℕ) → Restores soft u
+pub restores : (soft : List ℤ) (u : List ℕ) → LightDamageIsRestored soft u
 restores soft u information pairs damage = (
   record {
     information = information;
@@ -124,14 +115,14 @@ restores soft u information pairs damage = (
   (λ v other same ne. less_likely soft u v information other pairs same ne damage),
 )
 
--- so every most likely list is the sent one
+-- for lightly damaged soft bits, the most likely list is the list that was sent
 pub restored : (soft : List ℤ) (u v : List ℕ) → IsInformation u → length soft ≡ 2 * length u → IsLightlyDamaged soft (encoding u) →
     IsMostLikely soft v → v ≡ u
 restored soft u v information pairs damage most = IsMostLikely-only soft u v (restores soft u information pairs damage).0 most
 
 -- soft bits of one nonzero strength meet the condition on strengths
 pub IsLightlyDamaged-equal : (soft : List ℤ) (c : List ℕ) (strength : ℕ) → 0 < length soft → 0 < strength →
-    All (λ value. unsigned_abs value ≡ strength) soft → wrong_places soft c ≤ 3 → IsLightlyDamaged soft c
+    All (λ value. unsigned_abs value ≡ strength) soft → count_wrong_bits soft c ≤ 3 → IsLightlyDamaged soft c
 IsLightlyDamaged-equal soft c strength any more equal few =
     let first = Contains-strength soft 0 strength any (sym (equal 0 (pos 0) any)) in
     record {
@@ -144,5 +135,5 @@ IsLightlyDamaged-equal soft c strength any more equal few =
         least = first;
         greatest = first;
       };
-      nearly_one_strength = omega arith;
+      similar_strengths = omega arith;
     }

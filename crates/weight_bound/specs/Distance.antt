@@ -1,4 +1,4 @@
--- The Hamming distance, and the least distance of the convolutional code.
+-- The Hamming distance, and the free distance of the convolutional code, which is seven.
 use Rattle.std.specs.Prelude.{ℕ, ◌≡◌, ◌≢◌, ◌≤◌, Bool, not, ◌==◌, List, length, slice_index}
 use Rattle.std.specs.List.{count_by, range_with_len}
 use Rattle.conv_code.specs.Code.{encoding, IsInformation}
@@ -12,11 +12,12 @@ abbrev pub distance : List ℕ → List ℕ → ℕ
 distance a b = count_by (is_different a b) (range_with_len 0 (length a))
 
 -- the coded bits of any two different information lists of equal length differ in at least seven positions
-abbrev pub AtLeastSeven : Type 0
-AtLeastSeven = (u v : List ℕ) → IsInformation u → IsInformation v → length u ≡ length v → u ≢ v → 7 ≤ distance (encoding u) (encoding v)
+abbrev pub DistanceAtLeastSeven : Type 0
+DistanceAtLeastSeven = (u v : List ℕ) → IsInformation u → IsInformation v → length u ≡ length v → u ≢ v →
+    7 ≤ distance (encoding u) (encoding v)
 
 -- the coded bits of some two information lists of n bits differ in exactly seven positions
-pub record ReachesSeven (n : ℕ) : Type 0 where
+pub record SomeDistanceIsSeven (n : ℕ) : Type 0 where
   pub u : List ℕ
   pub v : List ℕ
   pub first : IsInformation u

@@ -1,12 +1,12 @@
-//! Distances, wrong bits and strengths.
+//! Hamming distances, numbers of wrong soft bits, and strengths (absolute values) of soft bits.
 
 ghost use Rattle.std.specs.Prelude.{◌≡◌, ◌<◌, ◌≤◌, length};
 ghost use Rattle.bit_blocks.specs.Bits.{AllBits};
-ghost use Rattle.bit_blocks.specs.SoftValues.{AllSoft, wrong_places};
+ghost use Rattle.bit_blocks.specs.SoftValues.{AllSoftBits, count_wrong_bits};
 ghost use Rattle.weight_bound.specs.Distance.{distance};
-ghost use Rattle.weight_bound.specs.Restoring.{IsStrengths};
+ghost use Rattle.weight_bound.specs.Restoring.{AreLeastAndGreatestStrength};
 
-use bit_blocks::{CODED_BITS, wrong_places};
+use bit_blocks::{CODED_BITS, count_wrong_bits};
 
 /// The Hamming distance of two bit lists of equal length, at most 456.
 pub fn distance(a: &[u8], b: &[u8]) -> u32
@@ -25,22 +25,22 @@ pub fn distance(a: &[u8], b: &[u8]) -> u32
     places
 }
 
-/// The number of soft bits that are 0 or have the sign of the other bit.
+/// The number of soft bits that are wrong for the coded bit at the same position: they are 0 or have the sign of the opposite bit.
 pub fn wrong_bits(soft: &[i8], coded: &[u8]) -> u32
     requires count { length soft.now ≡ length coded.now }
     requires at_most { length soft.now ≤ CODED_BITS }
-    requires soft { AllSoft soft.now }
+    requires soft { AllSoftBits soft.now }
     requires bits { AllBits coded.now }
-    ensures { result ≡ wrong_places soft.now coded.now }
+    ensures { result ≡ count_wrong_bits soft.now coded.now }
 {
-    wrong_places(soft, coded)
+    count_wrong_bits(soft, coded)
 }
 
 /// The least and the greatest absolute value of soft bits.
 pub fn strengths(soft: &[i8]) -> (u8, u8)
     requires any { 0 < length soft.now }
-    requires soft { AllSoft soft.now }
-    ensures { IsStrengths soft.now result.0 result.1 }
+    requires soft { AllSoftBits soft.now }
+    ensures { AreLeastAndGreatestStrength soft.now result.0 result.1 }
 {
     let mut least = soft[0].unsigned_abs();
     let mut greatest = least;

@@ -1,10 +1,10 @@
-//! Properties of the code as laws: functions with an empty body, called for their contracts.
+//! Properties of the code as laws: a law is a function with an empty body whose contract states a theorem.
 
 ghost use Rattle.std.specs.Prelude.{◌≡◌, ◌≢◌, ℕ, ◌*◌, ◌≤◌, length};
-ghost use Rattle.bit_blocks.specs.SoftValues.{AllSoft};
+ghost use Rattle.bit_blocks.specs.SoftValues.{AllSoftBits};
 ghost use Rattle.conv_code.specs.Code.{encoding, IsInformation};
 ghost use Rattle.conv_code.specs.Likelihood.{IsMostLikely};
-ghost use Rattle.weight_bound.specs.Distance.{distance, ReachesSeven};
+ghost use Rattle.weight_bound.specs.Distance.{distance, SomeDistanceIsSeven};
 ghost use Rattle.weight_bound.specs.Restoring.{IsLightlyDamaged, OthersAreLessLikely};
 
 use bit_blocks::INFORMATION_BITS;
@@ -20,7 +20,7 @@ pub fn law_distance(u: &[u8], v: &[u8])
 
 /// Law: at every length from five on, the coded bits of some two information lists differ in exactly seven positions.
 pub fn law_least_distance()
-    ensures { (n : ℕ) → 5 ≤ n → ReachesSeven n }
+    ensures { (n : ℕ) → 5 ≤ n → SomeDistanceIsSeven n }
 {}
 
 /// Law: if at most three soft bits are wrong and all are of similar strength (`IsLightlyDamaged`), the sent information list is the
@@ -29,7 +29,7 @@ pub fn law_restores(soft: &[i8], u: &[u8])
     requires information { IsInformation u.now }
     requires at_most { length u.now ≤ INFORMATION_BITS }
     requires count { length soft.now ≡ 2 * length u.now }
-    requires soft { AllSoft soft.now }
+    requires soft { AllSoftBits soft.now }
     requires damage { IsLightlyDamaged soft.now (encoding u.now) }
     ensures best { IsMostLikely soft.now u.now }
     ensures others { OthersAreLessLikely soft.now u.now }

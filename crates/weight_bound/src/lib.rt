@@ -12,7 +12,7 @@ mod tests {
     use super::{distance, strengths, wrong_bits};
 
     #[test]
-    fn counts_by_hand(rt: HostRuntime) {
+    fn counts_small_examples(rt: HostRuntime) {
         assert_eq!(rt; strengths(&[-5, 4, 0]), (0, 5));
         assert_eq!(rt; wrong_bits(&[0, 3, -3], &[0, 0, 0]), 2);
         assert_eq!(rt; distance(&[0, 1, 1], &[1, 1, 0]), 2);

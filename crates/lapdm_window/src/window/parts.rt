@@ -1,52 +1,53 @@
-//! Reads out the value of a window, and restores it.
+//! Exports the state of a window as plain data, and restores a window from it.
 
 ghost use Rattle.std.specs.Prelude.{◌≡◌, ◌↔◌, ◌⊎◌, ◌+◌, ◌%◌, ◌^◌, ◌<◌, ◌≤◌, false, length, map};
 ghost use Rattle.std.specs.Prelude.{slice_index_or, [], All, IsTrue};
-ghost use Rattle.lapdm_frame.specs.Layout.{n201};
-ghost use Rattle.segmenting.specs.Segments.{IsMessage, count_of, longest, most_segments};
+ghost use Rattle.segmenting.specs.lapdm_frame.Layout.{n201};
+ghost use Rattle.segmenting.specs.Segments.{IsMessage, count_of, max_message_octets, max_segments_per_message};
 ghost use Rattle.segmenting.specs.Buffers.{octets_in};
 ghost use Rattle.lapdm_window.specs.Ends.{EndState};
-ghost use Rattle.lapdm_window.specs.Parts.{values_of, said_by, ValuesRepresent, AreOfAWindow, AreHeld, AreConsistent};
+ghost use Rattle.lapdm_window.specs.Parts.{values_of, values_in, ValuesRepresent, AreOfSomeWindow, AreValidHeldMessages, AreConsistent};
 ghost use Rattle.lapdm_window.specs.Abstraction.{Represents};
 
 use super::Window;
-use lapdm_frame::Channel;
-use segmenting::{LONGEST, Part, PlainMessage};
+use segmenting::{Channel, LONGEST_MESSAGE, Part, PlainMessage};
 
-/// The value of a window, with borrowed messages and octets.
+/// The state of a window, with borrowed messages and octets.
 #[derive(Clone, Copy, Debug)]
 pub struct WindowParts<'a> {
     pub channel: Channel,
-    /// The messages not wholly acknowledged, in the order in which layer 3 sent them.
+    /// The messages that are not wholly acknowledged, in the order in which layer 3 sent them.
     pub held: &'a [PlainMessage],
-    /// The index, among the segments of the first message, of the outstanding segment or else the next one.
+    /// The index of the outstanding segment, or else of the next segment, among the segments of the first message held.
     pub place: usize,
     pub vs: u8,
     pub va: u8,
     pub vr: u8,
-    /// The number of wholly acknowledged messages.
+    /// The number of messages of which all segments are acknowledged.
     pub done: u64,
-    /// The reject condition: a REJ was sent, and no segment was accepted since.
+    /// The reject condition: a REJ was sent, and no segment has been accepted since.
     pub rejecting: bool,
-    /// How often the outstanding segment was repeated.
+    /// How often the outstanding segment has been repeated.
     pub retries: u8,
-    /// The octets of the reassembly, and what they are.
+    /// The octets that the reassembly holds, and which part of a message they are.
     pub joined: &'a [u8],
     pub part: Part,
 }
 
 impl WindowParts<'_> {
-    // Whether these values belong to a window that represents some endpoint.
+    // Whether a window with this state exists and represents some endpoint.
     fn are_consistent(&self) -> bool
-        ensures together { IsTrue result ↔ AreConsistent (said_by self.now) }
+        ensures together { IsTrue result ↔ AreConsistent (values_in self.now) }
         ensures counted { self.now.done < 2 ^ 64 }
     {
-        // Binding `done` tells the prover its range.
+        // This binding tells the prover the range of `done`.
         let done = self.done;
-        if !are_held(self.held) || self.place >= first_segments(self.held, self.channel) {
+        if !are_valid_held_messages(self.held)
+            || self.place >= first_segments(self.held, self.channel)
+        {
             return false;
         }
-        if !is_window_of_one(self.vs, self.va, self.held) || self.joined.len() > LONGEST {
+        if !is_window_of_one(self.vs, self.va, self.held) || self.joined.len() > LONGEST_MESSAGE {
             return false;
         }
         if self.va > 7 || self.vr > 7 {
@@ -63,8 +64,8 @@ fn is_window_of_one(vs: u8, va: u8, held: &[PlainMessage]) -> bool
     vs == va || (vs == (va % 8 + 1) % 8 && !held.is_empty())
 }
 
-fn are_held(messages: &[PlainMessage]) -> bool
-    ensures { IsTrue result ↔ AreHeld (map octets_in messages.now) }
+fn are_valid_held_messages(messages: &[PlainMessage]) -> bool
+    ensures { IsTrue result ↔ AreValidHeldMessages (map octets_in messages.now) }
 {
     if messages.len() > 8 {
         return false;
@@ -82,7 +83,7 @@ fn is_message(message: &PlainMessage) -> bool
     ensures { IsTrue result ↔ IsMessage (octets_in message.now) }
 {
     let octets = message.octets();
-    !octets.is_empty() && octets.len() <= LONGEST
+    !octets.is_empty() && octets.len() <= LONGEST_MESSAGE
 }
 
 // The number of segments of the first message, or 1 if there is none.
@@ -106,10 +107,10 @@ fn segments_in(message: &[u8], channel: Channel) -> usize
 
 impl Window {
     pub fn parts(&self) -> WindowParts<'_>
-        ensures values { said_by result ≡ values_of self.now }
+        ensures values { values_in result ≡ values_of self.now }
         ensures size { length result.held.now ≤ 8 }
-        ensures place { result.place < most_segments result.channel }
-        ensures most { length result.joined.now ≤ longest }
+        ensures place { result.place < max_segments_per_message result.channel }
+        ensures most { length result.joined.now ≤ max_message_octets }
     {
         WindowParts {
             channel: self.channel,
@@ -126,12 +127,12 @@ impl Window {
         }
     }
 
-    /// Restores a window from its value. Returns false, and changes nothing, if that represents no endpoint.
+    /// Restores a window from its state. Returns false, and changes nothing, if the state belongs to no possible endpoint.
     pub fn restore(&mut self, parts: &WindowParts<'_>) -> bool
-        ensures same { IsTrue result → values_of self.new ≡ said_by parts.now }
-        ensures represents { IsTrue result → (e : EndState) → ValuesRepresent (said_by parts.now) e
+        ensures same { IsTrue result → values_of self.new ≡ values_in parts.now }
+        ensures represents { IsTrue result → (e : EndState) → ValuesRepresent (values_in parts.now) e
             → Represents self.new e }
-        ensures known { IsTrue result ↔ AreOfAWindow (said_by parts.now) }
+        ensures known { IsTrue result ↔ AreOfSomeWindow (values_in parts.now) }
         ensures unknown { result ≡ false → self.new ≡ self.old }
     {
         if !parts.are_consistent() || !self.joiner.restore(parts.joined, parts.part) {

@@ -1,40 +1,40 @@
-//! Reads out the value of a joiner, and restores it.
+//! Exports the state of a joiner as plain data, and restores a joiner from it.
 
 ghost use Rattle.std.specs.Prelude.{◌≡◌, ◌↔◌, ◌≤◌, false, List, [], length, IsTrue};
-ghost use Rattle.segmenting.specs.Joiners.{HasTaken};
-ghost use Rattle.segmenting.specs.Segments.{Segment, longest};
-ghost use Rattle.segmenting.specs.Parts.{values_of, IsOfAJoiner};
+ghost use Rattle.segmenting.specs.Joiners.{HasTakenSegments};
+ghost use Rattle.segmenting.specs.Segments.{Segment, max_message_octets};
+ghost use Rattle.segmenting.specs.Parts.{values_of, AreOfSomeJoiner};
 
 use super::{Joiner, Part};
-use crate::LONGEST;
+use crate::LONGEST_MESSAGE;
 
 impl Joiner {
     /// The octets that the joiner holds.
     pub fn octets(&self) -> &[u8]
         ensures value { result.now ≡ (values_of self.now).octets }
-        ensures most { length result.now ≤ longest }
+        ensures most { length result.now ≤ max_message_octets }
     {
         &self.octets[..self.len]
     }
 
-    /// What these octets are.
+    /// Which part of a message these octets are.
     pub fn part(&self) -> Part
         ensures { result ≡ (values_of self.now).part }
     {
         self.part
     }
 
-    /// Restores a joiner from its value. Returns false, and changes nothing, if no joiner has it.
+    /// Restores a joiner from octets and their part. Returns false, and changes nothing, if no joiner can hold them.
     pub fn restore(&mut self, octets: &[u8], part: Part) -> bool
         ensures same { IsTrue result
             → values_of self.new ≡ record { octets = octets.now; part = part } }
-        ensures known { IsTrue result ↔ IsOfAJoiner (record { octets = octets.now; part = part }) }
+        ensures known { IsTrue result ↔ AreOfSomeJoiner (record { octets = octets.now; part = part }) }
         ensures unknown { result ≡ false → self.new ≡ self.old }
 
-        // Some list of segments leads to this joiner.
-        ensures taken { IsTrue result → (taken : List Segment) × HasTaken self.new taken }
+        // At least one list of segments leads a joiner to this state.
+        ensures taken { IsTrue result → (taken : List Segment) × HasTakenSegments self.new taken }
     {
-        if octets.len() > LONGEST || !are_kept(octets, part) {
+        if octets.len() > LONGEST_MESSAGE || !is_empty_if_oversize(octets, part) {
             return false;
         }
         let len = octets.len();
@@ -46,8 +46,8 @@ impl Joiner {
     }
 }
 
-// While an oversize message is discarded, no octets are held.
-fn are_kept(octets: &[u8], part: Part) -> bool
+// A joiner that discards an oversize message holds no octets.
+fn is_empty_if_oversize(octets: &[u8], part: Part) -> bool
     ensures { IsTrue result ↔ (part ≡ Part.Over → octets.now ≡ []) }
 {
     match part {

@@ -1,7 +1,5 @@
-use Rattle.std.proofs.Common.{◌≡◌, arith, ◌+◌, ◌-◌, ◌*◌, length, ap, ◌∙◌, sym, take}
-use Rattle.std.proofs.Math.Seq.{take-length}
-use Rattle.bit_blocks.specs.Octets.{bits_of, octets_of}
-use Rattle.bit_blocks.proofs.OctetLists.{octets_of_more, bits_of-octets_of}
+use Rattle.std.proofs.{Common.{◌≡◌, arith, ◌+◌, ◌-◌, ◌*◌, length, ap, ◌∙◌, sym, take}, Math.Seq.take-length}
+use Rattle.bit_blocks.{specs.Octets.{bits_of, octets_of}, proofs.OctetLists.{octets_of_more, bits_of-octets_of}}
 use Rattle.bit_blocks.proofs.octets.to_octets.Goals as goal
 
 pub loop-m-preserved : goal.loop-m-preserved

@@ -1,7 +1,6 @@
 use Rattle.std.proofs.Common.{[], replicate, refl, arith}
-use Rattle.burst_map.specs.AccessBurst.{extended_tail_bits, access_sequence}
+use Rattle.burst_map.{specs.AccessBurst.{extended_tail_bits, access_sequence}, proofs.Filling.{IsFilled, filled_more, AllBits-filled}}
 use Rattle.training_seq.proofs.bit_blocks.Lemmas.{AllBits-table}
-use Rattle.burst_map.proofs.Filling.{IsFilled, filled_more, AllBits-filled}
 use Rattle.burst_map.proofs.access_burst.access.Goals as goal
 
 pub returns-clause-bits : goal.returns-clause-bits

@@ -19,8 +19,8 @@ use contract.Lifetimes.{AllOutlive}
 use contract.Monad.{Fun}
 use contract.Running.{tables, tables_of}
 use sound.WpLaws.{WpFn-mono}
-use types.Kit.{‵, ◌⊛◌, raw, given, some, later, ◌$◌, ◌∵◌, !, qed, by, move, keep, drop, split, split3, join, learn}
-use types.Kit.{fsplit, fjoin, use2, await, pick, suffices, frame, done, rewrite}
+use types.Kit.{‵, ◌⊛◌, raw, given, some, later, ◌$◌, ◌∵◌, !, qed, by, move, keep, drop, split, split3, join, learn, fsplit, fjoin, use2}
+use types.Kit.{await, pick, suffices, frame, done, rewrite}
 use types.Part.{agg}
 use types.Run.{stop, addr, bin, and_then, no_more, returns, enter}
 use types.ByLocal.{alloc_all, pass_all, free_all, look_at, get, through, sets, env}
@@ -38,9 +38,8 @@ use denote.Triple.Entry.{on_entry}
 use denote.Triple.Spec.{Meets, triple_of}
 use denote.Triple.Table.{entered}
 use denote.Triple.Walked.{says, Stays, stay_dropped, walk_of, ends_at, walked, Goes-spent_ref, Goes-dropped, walk_Meets}
-use Rattle.burst_map.proofs.LendsPart.{part_lent, lends_part}
+use Rattle.burst_map.{proofs.LendsPart.{part_lent, lends_part}, specs.contracts.lending.part_mut.Key.name as #self}
 use Rattle.burst_map.specs.contracts.lending.part_mut as F
-use Rattle.burst_map.specs.contracts.lending.part_mut.Key.{name as #self}
 use Rattle.burst_map.proofs.lending.part_mut.Statement as stated
 use Rattle.burst_map.proofs.lending.part_mut.Code as code
 

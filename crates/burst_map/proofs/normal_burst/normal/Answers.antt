@@ -1,7 +1,6 @@
 use Rattle.std.proofs.Common.{[], ◌∷◌, replicate, refl, arith}
-use Rattle.burst_map.specs.Tails.{tail_bits}
+use Rattle.burst_map.{specs.Tails.tail_bits, proofs.Filling.{IsFilled, filled_more, AllBits-filled}}
 use Rattle.training_seq.proofs.bit_blocks.Lemmas.{AllBits-table}
-use Rattle.burst_map.proofs.Filling.{IsFilled, filled_more, AllBits-filled}
 use Rattle.burst_map.proofs.normal_burst.normal.Goals as goal
 
 pub returns : goal.returns

@@ -1,8 +1,6 @@
 use Rattle.std.proofs.Common.{replicate, refl, arith}
-use Rattle.burst_map.specs.Tails.{tail_bits}
-use Rattle.burst_map.specs.SyncBurst.{sync_sequence}
+use Rattle.burst_map.{specs.{Tails.tail_bits, SyncBurst.sync_sequence}, proofs.Filling.{IsFilled, filled_more, AllBits-filled}}
 use Rattle.training_seq.proofs.bit_blocks.Lemmas.{AllBits-table}
-use Rattle.burst_map.proofs.Filling.{IsFilled, filled_more, AllBits-filled}
 use Rattle.burst_map.proofs.sync_burst.sync.Goals as goal
 
 pub returns : goal.returns

@@ -7,7 +7,8 @@ loop-m-init c = (empty_register, omega arith)
 
 pub loop-m-preserved : goal.loop-m-preserved
 loop-m-preserved c = (
-  octet_along c.args.bits.now c.loop-m.m (8 * c.loop-m.m + 8 - 8 * c.loop-m.m) c.loop-m.register c.gathered-octet.result c.entry.result
-      c.requires.bits (omega arith) c.loop-m.invariant.1 c.gathered-octet.ensures.value c.loop-m.invariant.0 c.entry.ensures.multiple,
-  octet_within c.loop-m.register c.entry.result c.loop-m.invariant.1 c.entry.ensures.within,
+  octet_along _ c.loop-m.m (8 * c.loop-m.m + 8 - 8 * c.loop-m.m) _ c.pack_eight_bits-octet.result c.table_entry.result
+      c.requires.bits (omega arith) c.loop-m.invariant.1 c.pack_eight_bits-octet.ensures.value c.loop-m.invariant.0
+      c.table_entry.ensures.multiple,
+  octet_within _ _ c.loop-m.invariant.1 c.table_entry.ensures.within,
 )

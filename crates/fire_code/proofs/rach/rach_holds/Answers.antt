@@ -1,9 +1,7 @@
-use Rattle.std.proofs.Common.{◌≡◌, length, ap, sym, subst, ◌∙◌, arith}
-use Rattle.std.proofs.lemmas.Bool.Decides.{Decides-like, Decides-eqb}
+use Rattle.std.proofs.{Common.{◌≡◌, length, ap, sym, subst, ◌∙◌, arith}, lemmas.Bool.Decides.{Decides-like, Decides-eqb}}
 use Rattle.std.proofs.lemmas.Slice.Eq.{slice_eq-Decides}
-use Rattle.bit_blocks.specs.Bits.{AllBits, add_bits}
-use Rattle.fire_code.proofs.CrcParts.{cut, bits_of_front, bits_of_back}
-use Rattle.fire_code.proofs.RachWords.{rach_word_of_code, code_of_rach_word}
+use Rattle.bit_blocks.specs.Bits.{AllBits, xor_bits}
+use Rattle.fire_code.proofs.{CrcParts.{cut, bits_of_front, bits_of_back}, RachWords.{rach_word_of_code, code_of_rach_word}}
 use Rattle.fire_code.proofs.rach.rach_holds.Goals as goal
 
 pub returns : goal.returns
@@ -13,21 +11,21 @@ returns c =
     let x = c.split_at.result.1.now in
     let code = c.as_slice-2.result.now in
     let given = c.as_slice-3.result.now in
-    let split = cut 8 c.args.w.now whole d x c.as_slice.ensures.value c.split_at.ensures.front c.split_at.ensures.back in
-    let is_sum : c.unwrap-sum.result ≡ x = rw c.unwrap-sum.ensures at c.from_slice.ensures.value in
-    let is_code : code ≡ add_bits c.crc.result x =
-    c.as_slice-2.ensures.value ∙ c.xor-code.ensures.value ∙ ap (λ s. add_bits c.crc.result s) is_sum in
-    let sum_count : length x ≡ 6 = omega (arith, c.split_at.ensures.back_len, c.as_slice.ensures.count) in
+    let split = cut 8 _ _ d x c.as_slice.ensures.value c.split_at.ensures.front c.split_at.ensures.back in
+    let is_code : code ≡ xor_bits c.crc.result x =
+    c.as_slice-2.ensures.value ∙ c.xor-code.ensures.value ∙ ap (λ s. xor_bits c.crc.result s) (rw c.unwrap-sum.ensures at
+    c.from_slice.ensures.value) in
     let bsic = c.as_slice-3.ensures in
-    Decides-like c.eq.result
-    (λ (same : code ≡ given). rach_word_of_code c.args.w.now d x c.crc.result c.args.bsic.now split
-    c.split_at.ensures.front_len (bits_of_front 8 whole d c.as_slice.ensures.bits c.split_at.ensures.front)
-    sum_count (bits_of_back 8 whole x c.as_slice.ensures.bits c.split_at.ensures.back)
+    Decides-like _
+    (λ (same : code ≡ given). rach_word_of_code _ d x _ _ split
+    c.split_at.ensures.front_len (bits_of_front 8 _ d c.as_slice.ensures.bits c.split_at.ensures.front)
+    (omega (arith, c.split_at.ensures.back_len, c.as_slice.ensures.count)) (bits_of_back 8 _ x c.as_slice.ensures.bits
+    c.split_at.ensures.back)
     c.crc.ensures.count c.crc.ensures.bits
     (ap length (sym bsic.value) ∙ bsic.count) (subst AllBits bsic.value bsic.bits)
     c.crc.ensures.multiple (sym is_code ∙ same ∙ bsic.value))
     (λ word. is_code
-    ∙ code_of_rach_word c.args.w.now d x c.crc.result c.args.bsic.now split c.split_at.ensures.front_len
+    ∙ code_of_rach_word _ d x _ _ split c.split_at.ensures.front_len
     c.crc.ensures.count c.crc.ensures.bits c.crc.ensures.multiple word
     ∙ sym bsic.value)
-    (slice_eq-Decides Decides-eqb code given c.eq.result c.eq.ensures)
+    (slice_eq-Decides Decides-eqb code given _ c.eq.ensures)

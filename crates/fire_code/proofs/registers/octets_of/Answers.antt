@@ -3,5 +3,6 @@ use Rattle.fire_code.proofs.registers.octets_of.Goals as goal
 
 pub returns : goal.returns
 returns c =
-    five_octets c.args.register c.octet_of.result c.octet_of-2.result c.octet_of-3.result c.octet_of-4.result c.octet_of-5.result
-    c.octet_of.ensures c.octet_of-2.ensures c.octet_of-3.ensures c.octet_of-4.ensures c.octet_of-5.ensures
+    five_octets c.args.register c.register_octet.result c.register_octet-2.result c.register_octet-3.result c.register_octet-4.result
+    c.register_octet-5.result
+    c.register_octet.ensures c.register_octet-2.ensures c.register_octet-3.ensures c.register_octet-4.ensures c.register_octet-5.ensures

@@ -1,26 +1,21 @@
-use Rattle.std.proofs.Common.{◌≡◌, ◌++◌, length, sym, subst, ap, ◌∙◌, arith}
-use Rattle.bit_blocks.specs.Bits.{AllBits}
-use Rattle.bit_blocks.specs.Octets.{bits_of}
-use Rattle.bit_blocks.specs.Polynomials.{HasQuotient}
-use Rattle.bit_blocks.proofs.Lemmas.{AllBits-bits_of, length-bits_of}
-use Rattle.fire_code.specs.Words.{g40}
-use Rattle.fire_code.proofs.RegisterBits.{inverted_register}
-use Rattle.fire_code.proofs.XcchWords.{xcch_word, same_xcch_crc}
+use Rattle.std.proofs.Common.{arith}
+use Rattle.bit_blocks.{specs.Octets.bits_of, proofs.Lemmas.{AllBits-bits_of, length-bits_of}}
+use Rattle.fire_code.proofs.{RegisterBits.inverted_register, XcchWords.{xcch_word, same_xcch_crc}}
 use Rattle.fire_code.proofs.xcch.xcch_parity_of_octets.Goals as goal
 
 pub returns-clause-word : goal.returns-clause-word
 returns-clause-word c =
     let d = bits_of c.args.octets.now in
     let p = bits_of c.octets_of.result in
-    let inverted = inverted_register 40 c.remainder_of_octets.result p (omega arith) c.remainder_of_octets.type_inv c.octets_of.ensures in
+    let inverted = inverted_register 40 _ p (omega arith) c.remainder_of_octets.type_inv c.octets_of.ensures in
     xcch_word d p (omega (arith, length-bits_of c.args.octets.now)) (AllBits-bits_of c.args.octets.now)
     (omega (arith, length-bits_of c.octets_of.result)) (AllBits-bits_of c.octets_of.result)
-    (subst (λ r. HasQuotient (d ++ r) g40) (sym inverted) c.remainder_of_octets.ensures.multiple)
+    (rw inverted c.remainder_of_octets.ensures.multiple)
 
 pub returns-clause-only : goal.returns-clause-only
 returns-clause-only c p word =
     let p' = bits_of c.octets_of.result in
-    let inverted = inverted_register 40 c.remainder_of_octets.result p' (omega arith) c.remainder_of_octets.type_inv c.octets_of.ensures in
-    same_xcch_crc (bits_of c.args.octets.now) p p' c.remainder_of_octets.result (omega (arith, length-bits_of c.args.octets.now))
+    let inverted = inverted_register 40 _ _ (omega arith) c.remainder_of_octets.type_inv c.octets_of.ensures in
+    same_xcch_crc (bits_of c.args.octets.now) p _ c.remainder_of_octets.result (omega (arith, length-bits_of c.args.octets.now))
     (AllBits-bits_of c.octets_of.result) (omega (arith, length-bits_of c.octets_of.result)) inverted
     c.remainder_of_octets.ensures.multiple word

@@ -1,9 +1,7 @@
 use Rattle.std.proofs.Common.{◌+◌, ◌-◌, refl, subst, sym, arith}
-use Rattle.fire_repair.specs.declared.repairs.RepairAnswer.TheVariants.{Holds, Repaired, NoRepair}
-use Rattle.fire_repair.specs.Answers.{IsAnswer}
-use Rattle.fire_repair.specs.Repairs.{IsRepair, IsSpan}
-use Rattle.fire_repair.proofs.Edges.{Edges}
-use Rattle.fire_repair.proofs.Repairing.{one_answer, no_repair, some_shape, word_of, repair_of, span_of}
+use Rattle.fire_repair.specs.{declared.repairs.RepairAnswer.TheVariants.{Holds, Repaired, NoRepair}, Answers.IsRepairResult}
+use Rattle.fire_repair.{specs.Repairs.{IsRepair, IsSpanOfChangedBits}, proofs.{AreFirstAndLastBit.AreFirstAndLastBit, Repairing.one_answer}}
+use Rattle.fire_repair.proofs.Repairing.{no_repair, some_shape, word_of, repair_of, span_of}
 use Rattle.fire_repair.proofs.repairs.repair.Goals as goal
 
 pub returns-then-syndrome-eq0 : goal.returns-then-syndrome-eq0
@@ -12,8 +10,8 @@ returns-then-syndrome-eq0 c =
     let holds = s.ensures.zero.0 c.if-syndrome-eq0.true in
     record { answer = holds; only = λ other due. one_answer c.args.w.now other Holds due holds }
 
-pub edges-first-requires-clause-some : goal.edges-first-requires-clause-some
-edges-first-requires-clause-some c =
+pub first_and_last_bit-first-requires-clause-some : goal.first_and_last_bit-first-requires-clause-some
+first_and_last_bit-first-requires-clause-some c =
     let w = c.args.w.now in
     let s = c.xcch_syndrome-syndrome in
     let found = c.in-Some.found in
@@ -25,7 +23,7 @@ pub returns-in-None : goal.returns-in-None
 returns-in-None c =
     let w = c.args.w.now in
     let s = c.xcch_syndrome-syndrome in
-    let due : IsAnswer w NoRepair = (
+    let due : IsRepairResult w NoRepair = (
       (λ holds. c.if-syndrome-eq0.false (s.ensures.zero.1 holds)),
       (λ v r. no_repair w v s.result s.ensures.within s.ensures.word
           (λ start shape lt small same. c.in-None.ensures.none refl start shape (omega arith) small same) r),
@@ -38,25 +36,25 @@ returns-in-Some c =
     let s = c.xcch_syndrome-syndrome in
     let found = c.in-Some.found in
     let says = c.in-Some.ensures in
-    let e = c.edges-first.ensures in
-    let first = c.edges-first.result.0 in
-    let last = c.edges-first.result.1 in
-    let edges : Edges found.shape first last = record {
+    let e = c.first_and_last_bit-first.ensures in
+    let first = c.first_and_last_bit-first.result.0 in
+    let last = c.first_and_last_bit-first.result.1 in
+    let first_and_last_bit : AreFirstAndLastBit found.shape first last = record {
       first_bit = e.first;
       last_bit = e.last;
       order = e.within.0;
       within = e.within.1;
       outside = e.outside;
     } in
-    let due : IsAnswer w (Repaired c.flip_burst.result (found.start + first) (last - first + 1)) = (
-      subst (λ v. IsRepair w v) (sym c.flip_burst.ensures)
+    let due : IsRepairResult w (Repaired c.flip_error_burst.result (found.start + first) (last - first + 1)) = (
+      subst (λ v. IsRepair w v) (sym c.flip_error_burst.ensures)
           (repair_of w s.ensures.count s.ensures.bits found.start found.shape says.start says.shape s.result
           (λ holds. c.if-syndrome-eq0.false (s.ensures.zero.1 holds)) says.leaves s.ensures.word),
-      subst (λ v. IsSpan w v (found.start + first) (last - first + 1)) (sym c.flip_burst.ensures)
-          (span_of w s.ensures.count s.ensures.bits found.start found.shape says.start says.shape first last edges),
+      subst (λ v. IsSpanOfChangedBits w v (found.start + first) (last - first + 1)) (sym c.flip_error_burst.ensures)
+          (span_of w s.ensures.count s.ensures.bits found.start found.shape says.start says.shape first last first_and_last_bit),
     ) in
     record {
       answer = due;
       only = λ other due'.
-          one_answer w other (Repaired c.flip_burst.result (found.start + first) (last - first + 1)) due' due;
+          one_answer w other (Repaired c.flip_error_burst.result (found.start + first) (last - first + 1)) due' due;
     }

@@ -1,17 +1,11 @@
 -- The 57 columns cover all coded bits: seven groups of eight, and column 56.
-use Rattle.std.proofs.Common.{◌≡◌, inl, inr, ℕ, zero, suc, ◌+◌, ◌-◌, ◌*◌, ◌/◌, ◌%◌, ◌<◌, List, []}
-use Rattle.std.proofs.Common.{◌∷◌, map, length, get_or, pos, ap, ap₂, sym, ◌∙◌, arith, w8}
+use Rattle.std.proofs.Common.{◌≡◌, inl, inr, ℕ, zero, suc, ◌+◌, ◌-◌, ◌*◌, ◌/◌, ◌%◌, ◌<◌, List, [], ◌∷◌, map, length, get_or, pos, ap, ap₂}
+use Rattle.std.proofs.{Common.{sym, ◌∙◌, arith, w8}, Math.ListN.get_or-map, lemmas.{Bool.cases_lt, List.get_or_default}}
 use Rattle.std.specs.Int.{cast_signed}
-use Rattle.std.proofs.Math.ListN.{get_or-map}
-use Rattle.std.proofs.lemmas.Bool.{cases_lt}
-use Rattle.std.proofs.lemmas.List.{get_or_default}
-use Rattle.interleave.specs.ColumnPlaces.{column_bit, column_place}
-use Rattle.interleave.specs.Places.{burst_of, place_of}
-use Rattle.interleave.proofs.Bijection.{same_coded}
-use Rattle.interleave.proofs.InColumns.{in_column}
-use Rattle.interleave.proofs.WholeBursts.{burst_of-below, place_of-below}
-use Rattle.interleave.proofs.gathering.gather.Goals as goal
+use Rattle.interleave.specs.{ColumnPlaces.{coded_bit_of_column, column_bit_position}, Places.{burst_of, position_in_burst}}
+use Rattle.interleave.proofs.{Bijection.same_coded, InColumns.in_column, WholeBursts.{burst_of-below, position_in_burst-below}}
 use Rattle.interleave.proofs.gathering.gather.Goals.{After-write_column}
+use Rattle.interleave.proofs.gathering.gather.Goals as goal
 
 pub loop-group-preserved : goal.loop-group-preserved
 loop-group-preserved c =
@@ -25,10 +19,10 @@ loop-group-preserved c =
                 let s : ℕ = q - 8 * group in
                 let same : 8 * group + s ≡ q = omega arith in
                 let small : s < 8 = omega arith in
-                ap (λ q. get_or c.write_columns.new.soft (column_bit q r) (pos 0)) (sym same)
+                ap (λ q. get_or c.write_columns.new.soft (coded_bit_of_column q r) (pos 0)) (sym same)
                 ∙ c.write_columns.ensures.own s r small hr
                 ∙ ap (cast_signed w8) (c.eight_columns.ensures s r small hr)
-                ∙ ap (λ q. cast_signed w8 (get_or (get_or octets (r % 4) []) (column_place q r) 0)) same
+                ∙ ap (λ q. cast_signed w8 (get_or (get_or octets (r % 4) []) (column_bit_position q r) 0)) same
           ],
     )
 
@@ -51,7 +45,8 @@ signed c (suc (suc (suc zero))) h = c.octets_of-4.ensures.value
 signed c (suc (suc (suc (suc b)))) h = absurd (omega arith)
 
 written : (c : After-write_column) (q r : ℕ) → q < 57 → r < 8 →
-    get_or c.write_column.new.soft (column_bit q r) (pos 0) ≡ get_or (get_or c.args.parts.now (r % 4) []) (column_place q r) (pos 0)
+    get_or c.write_column.new.soft (coded_bit_of_column q r) (pos 0) ≡ get_or (get_or c.args.parts.now (r % 4) [])
+    (column_bit_position q r) (pos 0)
 unfolding octets
 written c q r hq hr =
     let soft = c.write_column.new.soft in
@@ -62,13 +57,13 @@ written c q r hq hr =
           c.write_column.ensures.others q r hq (omega arith) hr ∙ c.loop-group.invariant.1 q r (omega arith) hr
       | inr after ↦
           let last : 56 ≡ q = omega arith in
-          ap (λ q. get_or soft (column_bit q r) (pos 0)) (sym last)
+          ap (λ q. get_or soft (coded_bit_of_column q r) (pos 0)) (sym last)
           ∙ c.write_column.ensures.own r hr
           ∙ ap (cast_signed w8) (c.last_column.ensures r hr)
-          ∙ ap (λ q. cast_signed w8 (get_or octet (column_place q r) 0)) last
+          ∙ ap (λ q. cast_signed w8 (get_or octet (column_bit_position q r) 0)) last
     ]
-    ∙ sym (get_or-map (cast_signed w8) octet (column_place q r) 0)
-    ∙ ap (λ values. get_or values (column_place q r) (pos 0)) (signed c (r % 4) burst)
+    ∙ sym (get_or-map (cast_signed w8) octet (column_bit_position q r) 0)
+    ∙ ap (λ values. get_or values (column_bit_position q r) (pos 0)) (signed c (r % 4) burst)
 
 pub returns-clause-interleaved : goal.returns-clause-interleaved
 returns-clause-interleaved c =
@@ -81,10 +76,10 @@ returns-clause-interleaved c =
           ap length (get_or_default parts b d [] lt) ∙ long c b (omega arith);
       places = λ k d hk.
           let burst = burst_of-below k in
-          let place = place_of-below k in
+          let place = position_in_burst-below k in
           let count = long c (burst_of k) burst in
           let at = in_column k hk in
-          get_or_default (get_or parts (burst_of k) []) (place_of k) d (pos 0) (omega arith)
+          get_or_default (get_or parts (burst_of k) []) (position_in_burst k) d (pos 0) (omega arith)
           ∙ ap₂ (λ b j. get_or (get_or parts b []) j (pos 0)) at.burst at.place
           ∙ sym (written c (50 * (k / 8) % 57) (k % 8) at.column at.bit)
           ∙ ap (λ k. get_or soft k (pos 0)) at.same

@@ -1,7 +1,5 @@
-use Rattle.std.proofs.Common.{◌++◌, get_or, pos, sym, ◌∙◌, arith}
-use Rattle.std.proofs.lemmas.List.{get_or_default, length-append}
-use Rattle.interleave.specs.Places.{place_of}
-use Rattle.interleave.proofs.WholeBursts.{halves-at, place_of-below}
+use Rattle.std.proofs.{Common.{◌++◌, get_or, pos, sym, ◌∙◌, arith}, lemmas.List.{get_or_default, length-append}}
+use Rattle.interleave.{specs.Places.position_in_burst, proofs.WholeBursts.{halves-at, position_in_burst-below}}
 use Rattle.interleave.proofs.gathering.gather_burst.Goals as goal
 
 pub returns : goal.returns
@@ -9,24 +7,24 @@ returns c =
     let first = c.args.first.now in
     let second = c.args.second.now in
     let old = c.args.soft.now in
-    let middle = c.gather_half.new.soft in
-    let new = c.gather_half-2.new.soft in
+    let middle = c.deinterleave_half.new.soft in
+    let new = c.deinterleave_half-2.new.soft in
     record {
       count = omega arith;
       own = λ k d hk burst.
-          let place = place_of-below k in
+          let place = position_in_burst-below k in
           get_or_default new k d (pos 0) (omega arith)
           ∙ sym
           (halves-at first second k (pos 0) (get_or new k (pos 0)) c.requires.first
           (λ i hi lower.
           sym
-          (c.gather_half-2.ensures.others k hk (λ same j hj upper. absurd (omega arith))
-          ∙ c.gather_half.ensures.own k i hk burst hi lower))
-          (λ i hi upper. sym (c.gather_half-2.ensures.own k i hk burst hi upper)))
-          ∙ get_or_default (first ++ second) (place_of k) (pos 0) d (omega (arith, length-append first second));
+          (c.deinterleave_half-2.ensures.others k hk (λ same j hj upper. absurd (omega arith))
+          ∙ c.deinterleave_half.ensures.own k i hk burst hi lower))
+          (λ i hi upper. sym (c.deinterleave_half-2.ensures.own k i hk burst hi upper)))
+          ∙ get_or_default (first ++ second) (position_in_burst k) (pos 0) d (omega (arith, length-append first second));
       others = λ k d hk other.
           get_or_default new k d (pos 0) (omega arith)
-          ∙ c.gather_half-2.ensures.others k hk (λ same. absurd (other same))
-          ∙ c.gather_half.ensures.others k hk (λ same. absurd (other same))
+          ∙ c.deinterleave_half-2.ensures.others k hk (λ same. absurd (other same))
+          ∙ c.deinterleave_half.ensures.others k hk (λ same. absurd (other same))
           ∙ get_or_default old k (pos 0) d (omega arith);
     }

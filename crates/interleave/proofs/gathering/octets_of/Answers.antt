@@ -1,6 +1,4 @@
-use Rattle.std.proofs.Common.{◌<◌, length, pos, ◌∙◌, arith, w8}
-use Rattle.std.specs.Int.{cast_signed}
-use Rattle.std.proofs.lemmas.List.{ext_get_or, get_or-map, length-map}
+use Rattle.std.{proofs.{Common.{◌<◌, length, pos, ◌∙◌, arith, w8}, lemmas.List.{ext_get_or, get_or-map, length-map}}, specs.Int.cast_signed}
 use Rattle.interleave.proofs.gathering.octets_of.Goals as goal
 
 pub returns-clause-value : goal.returns-clause-value

@@ -1,5 +1,4 @@
-use Rattle.std.proofs.Common.{◌≡◌, ℕ, ◌<◌, length, get_or, pos, w8}
-use Rattle.std.specs.Int.{cast_signed}
+use Rattle.std.{proofs.Common.{◌≡◌, ℕ, ◌<◌, length, get_or, pos, w8}, specs.Int.cast_signed}
 use Rattle.interleave.proofs.gathering.octets_of.Given as goal
 
 abbrev pub invariant-loop-j : goal.invariant-loop-j

@@ -1,14 +1,13 @@
-use Rattle.std.proofs.Common.{inl, inr, ◌+◌, ◌*◌, ◌%◌, arith}
-use Rattle.std.proofs.lemmas.Bool.{cases_lt}
-use Rattle.interleave.specs.ColumnPlaces.{column_bit}
+use Rattle.std.proofs.{Common.{inl, inr, ◌+◌, ◌*◌, ◌%◌, arith}, lemmas.Bool.cases_lt}
+use Rattle.interleave.specs.ColumnPlaces.{coded_bit_of_column}
 use Rattle.interleave.proofs.gathering.write_column.Goals as goal
 
 pub returns-clause-own : goal.returns-clause-own
-unfolding column_bit
+unfolding coded_bit_of_column
 returns-clause-own c r h = c.loop-r.invariant.1 r (omega arith)
 
 pub returns-clause-others : goal.returns-clause-others
-unfolding column_bit
+unfolding coded_bit_of_column
 returns-clause-others c p r hp other hr =
     let q = c.args.q in
     elim (cases_lt (8 * p % 57) (8 * q % 57)) [

@@ -1,8 +1,7 @@
-use Rattle.std.proofs.Common.{◌≡◌, ◌⊎◌, ℕ, ◌+◌, ◌<◌, ◌≤◌, length, get_or, pos, w8}
-use Rattle.std.specs.Int.{cast_signed}
+use Rattle.std.{proofs.Common.{◌≡◌, ◌⊎◌, ℕ, ◌+◌, ◌<◌, ◌≤◌, length, get_or, pos, w8}, specs.Int.cast_signed}
 use Rattle.interleave.proofs.gathering.write_column.Given as goal
 
--- the octets so far are written, all outside the column are unchanged
+-- the soft bits of the column so far are written; all outside the column are unchanged
 abbrev pub invariant-loop-r : goal.invariant-loop-r
 invariant-loop-r l =
     (length l.soft ≡ 456)

@@ -1,7 +1,6 @@
-use Rattle.std.proofs.Common.{◌≡◌, ℕ, zero, suc, ◌+◌, ◌*◌, ◌/◌, ◌%◌, ◌^◌, ◌<◌, get_or, pos, refl, ap}
-use Rattle.std.proofs.Common.{◌∙◌, arith, below_more, w8, w64}
+use Rattle.std.proofs.Common.{◌≡◌, ℕ, zero, suc, ◌+◌, ◌*◌, ◌/◌, ◌%◌, ◌^◌, ◌<◌, get_or, pos, refl, ap, ◌∙◌, arith, below_more, w8, w64}
 use Rattle.std.specs.Int.{cast_signed, to_le_bytes}
-use Rattle.interleave.specs.ColumnPlaces.{column_bit}
+use Rattle.interleave.specs.ColumnPlaces.{coded_bit_of_column}
 use Rattle.interleave.proofs.gathering.write_columns.Goals as goal
 
 octet_at : (n r : ℕ) → r < 8 → get_or (to_le_bytes w64 n) r 0 ≡ n / 256 ^ r % 256
@@ -23,7 +22,7 @@ loop-s-preserved c =
     let soft = c.write_column.new.soft in
     let others = c.write_column.ensures.others in
     let Represents : ℕ → Type 0 = λ i. (r : ℕ) → r < 8 →
-    get_or soft (column_bit (8 * group + i) r) (pos 0) ≡ cast_signed w8 (get_or columns i 0 / 256 ^ r % 256) in
+    get_or soft (coded_bit_of_column (8 * group + i) r) (pos 0) ≡ cast_signed w8 (get_or columns i 0 / 256 ^ r % 256) in
     let all = below_more Represents s
     (λ i hi r hr. others (8 * group + i) r (omega arith) (omega arith) hr ∙ c.loop-s.invariant.1 i r hi hr)
     (λ r hr.

@@ -1,10 +1,8 @@
--- Three rounds of joining transpose eight rows to eight columns: octet r of column s is the value of row r at its position.
-use Rattle.std.proofs.Common.{◌≡◌, ℕ, zero, suc, ◌+◌, ◌*◌, ◌/◌, ◌%◌, ◌^◌, ◌<◌, List, [], ◌∷◌}
-use Rattle.std.proofs.Common.{get_or, ap, ap₂, ◌∙◌, arith}
-use Rattle.interleave.specs.ColumnPlaces.{column_place}
-use Rattle.interleave.proofs.JoinedLanes.{below_at, joined_octet}
-use Rattle.interleave.proofs.joining.eight_columns.Goals as goal
+-- Three rounds of joining turn eight rows into eight columns: octet r of column s is the octet that row r has for that column.
+use Rattle.std.proofs.Common.{◌≡◌, ℕ, zero, suc, ◌+◌, ◌*◌, ◌/◌, ◌%◌, ◌^◌, ◌<◌, List, [], ◌∷◌, get_or, ap, ap₂, ◌∙◌, arith}
+use Rattle.interleave.{specs.ColumnPlaces.column_bit_position, proofs.JoinedLanes.{below_at, joined_octet}}
 use Rattle.interleave.proofs.joining.eight_columns.Goals.{After-join_fours-2}
+use Rattle.interleave.proofs.joining.eight_columns.Goals as goal
 
 -- the octets of column s, bit 0 first
 octets : After-join_fours-2 → ℕ → List ℕ
@@ -63,10 +61,10 @@ column c (suc (suc (suc (suc (suc (suc zero)))))) h = last c 2 (omega arith)
 column c (suc (suc (suc (suc (suc (suc (suc zero))))))) h = last c 3 (omega arith)
 column c (suc (suc (suc (suc (suc (suc (suc (suc s)))))))) h = absurd (omega arith)
 
--- each octet is the burst's value at its position
+-- each octet is the value of its burst at its position
 stands : (c : After-join_fours-2) (s r : ℕ) → s < 8 → r < 8 →
-    get_or (octets c s) r 0 ≡ get_or (get_or c.args.parts.now (r % 4) []) (column_place (8 * c.args.group + s) r) 0
-unfolding octets column_place
+    get_or (octets c s) r 0 ≡ get_or (get_or c.args.parts.now (r % 4) []) (column_bit_position (8 * c.args.group + s) r) 0
+unfolding octets column_bit_position
 stands c s zero hs hr =
     let from = c.start.ensures in
     let place : 2 * (c.start.result + s) ≡ 2 * ((8 * c.args.group + s + 49 * 0) % 57) + 0 = omega arith in

@@ -1,8 +1,6 @@
-use Rattle.std.proofs.Common.{[], get_or, ◌∙◌, arith}
-use Rattle.std.proofs.lemmas.List.{get_or_default}
-use Rattle.interleave.specs.Places.{burst_of, place_of}
-use Rattle.interleave.proofs.Bijection.{same_bursts, AllBits-bursts}
-use Rattle.interleave.proofs.WholeBursts.{burst_of-below, place_of-below}
+use Rattle.std.proofs.{Common.{[], get_or, ◌∙◌, arith}, lemmas.List.get_or_default}
+use Rattle.interleave.{specs.Places.{burst_of, position_in_burst}, proofs.Bijection.{same_bursts, AllBits-bursts}}
+use Rattle.interleave.proofs.WholeBursts.{burst_of-below, position_in_burst-below}
 use Rattle.interleave.proofs.spreading.spread.Goals as goal
 
 pub returns-clause-interleaved : goal.returns-clause-interleaved
@@ -16,8 +14,8 @@ returns-clause-interleaved c =
       places = λ k d hk.
           let burst = burst_of-below k in
           let long = c.loop-b.invariant.1 (burst_of k) [] (omega arith) in
-          let place = place_of-below k in
-          get_or_default (get_or bursts (burst_of k) []) (place_of k) d 0 (omega arith)
+          let place = position_in_burst-below k in
+          get_or_default (get_or bursts (burst_of k) []) (position_in_burst k) d 0 (omega arith)
           ∙ c.loop-b.invariant.2 k hk (omega arith)
           ∙ get_or_default coded k 0 d (omega arith);
     }

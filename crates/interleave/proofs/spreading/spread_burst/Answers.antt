@@ -1,13 +1,12 @@
-use Rattle.std.proofs.Common.{◌+◌, ◌*◌, ◌<◌, get_or, ap, ◌∙◌, arith}
-use Rattle.interleave.proofs.HalfBursts.{half_of_bursts}
-use Rattle.interleave.proofs.Rows.{bit_at-is}
+use Rattle.std.proofs.Common.{◌+◌, ◌*◌, get_or, ap, ◌∙◌, arith}
+use Rattle.interleave.proofs.{HalfBursts.half_of_bursts, Rows.coded_index_at-is}
 use Rattle.interleave.proofs.spreading.spread_burst.Goals as goal
 
 pub returns-clause-places : goal.returns-clause-places
 returns-clause-places c k i hk burst hi place =
     c.loop-i.invariant i (omega arith)
     ∙ ap (λ k. get_or c.args.coded.now k 0)
-    (c.coded_bits-k-items.ensures.value i hi ∙ bit_at-is k c.args.b (57 * c.args.half + i) hk burst place)
+    (c.coded_bits-k-items.ensures.value i hi ∙ coded_index_at-is k c.args.b (57 * c.args.half + i) hk burst place)
 
 pub returns-clause-part : goal.returns-clause-part
 returns-clause-part c bursts whole =

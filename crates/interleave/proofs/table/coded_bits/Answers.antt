@@ -1,6 +1,5 @@
 use Rattle.std.proofs.Common.{arith}
-use Rattle.interleave.proofs.CodedBits.{entry-is}
-use Rattle.interleave.proofs.HalfBursts.{half-stands}
+use Rattle.interleave.proofs.{CodedBits.entry-is, HalfBursts.half-stands}
 use Rattle.interleave.proofs.table.coded_bits.Goals as goal
 
 pub returns-clause-value : goal.returns-clause-value

@@ -1,14 +1,11 @@
-use Rattle.std.proofs.Common.{◌≡◌, ◌∙◌, sym, ap, subst, ℕ, List, arith, replicate}
-use Rattle.std.proofs.lemmas.List.{length-take}
-use Rattle.lapdm_frame.specs.Content.{frame_of, information}
-use Rattle.lapdm_frame.specs.Frames.{address, control, length_octet}
-use Rattle.lapdm_frame.specs.Readings.{IsOnlyCanonical}
+use Rattle.std.proofs.{Common.{◌≡◌, ◌∙◌, sym, ap, subst, ℕ, List, arith, replicate}, lemmas.List.length-take}
+use Rattle.lapdm_frame.specs.{Content.{frame_of, information}, Frames.{address, control, length_octet}, Readings.IsOnlyCanonical}
 use Rattle.lapdm_frame.proofs.Canonical.{written, only_canonical}
 use Rattle.lapdm_frame.proofs.writer.write_on.Goals as goal
 
 pub returns-clause-octets : goal.returns-clause-octets
 returns-clause-octets c =
-    let zeros : c.fill.new.self ≡ replicate c.header-start.result 0 = c.fill.ensures.after (λ y e. e) ∙ ap
+    let zeros : c.fill.new.self ≡ replicate c.layer1_octets-start.result 0 = c.fill.ensures.after (λ y e. e) ∙ ap
     (λ n. replicate n 0) (simp length-take (omega arith)) in
     let f = frame_of c.args.f.now in
     let whole = written c.args.channel (address f) (control f.content) (length_octet f.content) (information f.content) in

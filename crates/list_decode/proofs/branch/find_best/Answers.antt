@@ -1,12 +1,9 @@
-use Rattle.std.proofs.Common.{arith, rules, ◌≡◌, ◌+◌, ◌<◌, ◌≤◌, [], pos, ◌+ℤ◌, ◌-ℤ◌, get_or, take, refl, ap, ap₂, sym}
-use Rattle.std.proofs.Common.{subst, ◌∙◌, to_z, of_z, w16, FitsSigned, ℕ, List}
-use Rattle.std.proofs.lemmas.Int.{to_z-of_z}
+use Rattle.std.proofs.Common.{arith, rules, ◌≡◌, ◌+◌, ◌<◌, ◌≤◌, [], pos, ◌+ℤ◌, ◌-ℤ◌, get_or, take, refl, ap, ap₂, sym, subst, ◌∙◌, to_z}
+use Rattle.std.proofs.{Common.{of_z, w16, FitsSigned, ℕ, List}, lemmas.Int.to_z-of_z}
 use Rattle.trellis_decode.specs.Trellis.{next}
-use Rattle.list_decode.specs.Branches.{between}
-use Rattle.list_decode.specs.DeviatingLists.{IsLeastFree, loss_at, state_after}
-use Rattle.list_decode.proofs.FreePlaces.{is_departure, spot_first}
-use Rattle.list_decode.proofs.Losses.{reached_more, reached_small}
-use Rattle.list_decode.proofs.Spans.{between_from, is_between}
+use Rattle.list_decode.specs.{Branches.between, DeviatingLists.{IsLeastLossFreePosition, loss_at, state_after}}
+use Rattle.list_decode.proofs.{FreePlaces.{is_departure, spot_first}, Losses.{reached_more, reached_small}, Spans.between_from}
+use Rattle.list_decode.proofs.Spans.{is_between}
 use Rattle.list_decode.proofs.branch.find_best.Goals as goal
 
 pub loop-k-init : goal.loop-k-init
@@ -84,6 +81,6 @@ returns c =
     let high = c.loop-k.auto.k-end some in
     let end : c.loop-k.k ≡ span.to = omega arith in (
       is_departure u losses best.place best.state _ c.new.result c.requires.bits old.state lost is.place is.state is.loss is.limit,
-      subst (λ place. IsLeastFree u losses (between span.from span.to) span.to place) (sym is.place)
-          (subst (λ n. IsLeastFree u losses (between span.from span.to) n best.place) end old.least),
+      subst (λ place. IsLeastLossFreePosition u losses (between span.from span.to) span.to place) (sym is.place)
+          (subst (λ n. IsLeastLossFreePosition u losses (between span.from span.to) n best.place) end old.least),
     )

@@ -1,25 +1,22 @@
 use Rattle.std.proofs.Common.{arith, rules, ◌+◌, ◌-◌, ◌*◌, ◌++◌, ◌∷◌, pos, take, drop, get_or, ap, ap₂, sym, subst, ◌∙◌, w32, FitsSigned}
-use Rattle.std.proofs.lemmas.Int.{to_z-of_z}
-use Rattle.std.specs.Prelude.{◌≤ℤ◌}
-use Rattle.bit_blocks.specs.Bits.{AllBits}
-use Rattle.trellis_decode.specs.Trellis.{next, read_out}
-use Rattle.list_decode.specs.DeviatingLists.{state_after}
-use Rattle.list_decode.proofs.DeviatingLists.{AllBits-kept, AreFirstTwo, first_two}
-use Rattle.list_decode.proofs.Losses.{chosen_behind, reached_small}
-use Rattle.list_decode.proofs.Margins.{IsMargin-second, tie_by_margin, hard_margin, both_only}
-use Rattle.list_decode.proofs.second.margin.Goals as goal
+use Rattle.std.{proofs.lemmas.Int.to_z-of_z, specs.Prelude.◌≤ℤ◌}
+use Rattle.weight_bound.specs.bit_blocks.Bits.{AllBits}
+use Rattle.trellis_decode.specs.Trellis.{next, traceback}
+use Rattle.list_decode.{specs.DeviatingLists.state_after, proofs.DeviatingLists.{AllBits-kept, AreFirstTwo, first_two}}
+use Rattle.list_decode.proofs.{Losses.{chosen_behind, reached_small}, Margins.{IsMargin-second, tie_by_margin, hard_margin, both_only}}
 use Rattle.list_decode.proofs.second.margin.Goals.{After-write_deviation}
+use Rattle.list_decode.proofs.second.margin.Goals as goal
 
 pub write_deviation-requires-clause-bits : goal.write_deviation-requires-clause-bits
 write_deviation-requires-clause-bits c =
     let pairs = c.fill_decisions.ensures.count in
-    subst AllBits (sym c.read_least-departure.ensures.list)
+    subst AllBits (sym c.find_least_loss-departure.ensures.list)
     (AllBits-kept c.fill_decisions.new.rows c.fill_decisions.new.losses c.args.soft.now c.fill_decisions.ensures.decisions
     (omega arith))
 
 pub write_deviation-requires-clause-chosen : goal.write_deviation-requires-clause-chosen
 write_deviation-requires-clause-chosen c =
-    let departure = c.read_least-departure in
+    let departure = c.find_least_loss-departure in
     let is = c.new-deviation.ensures in
     let at = is.place in
     chosen_behind c.fill_decisions.new.rows departure.new.u c.new-deviation.result.place c.new-deviation.result.state departure.ensures.list
@@ -29,21 +26,21 @@ write_deviation-requires-clause-chosen c =
 
 pub new-deviation-requires-clause-state : goal.new-deviation-requires-clause-state
 new-deviation-requires-clause-state c =
-    let small = reached_small 0 (take c.read_least-departure.result.place c.read_least-departure.new.u) (omega arith) in
-    let is = c.read_least-departure.ensures.state in
+    let small = reached_small 0 (take c.find_least_loss-departure.result.place c.find_least_loss-departure.new.u) (omega arith) in
+    let is = c.find_least_loss-departure.ensures.state in
     omega arith
 
 both : (c : After-write_deviation) →
-    AreFirstTwo c.args.soft.now c.read_least-departure.new.u c.write_deviation.new.v c.read_least-departure.result.loss
+    AreFirstTwo c.args.soft.now c.find_least_loss-departure.new.u c.write_deviation.new.v c.find_least_loss-departure.result.loss
 both c =
-    let departure = c.read_least-departure in
+    let departure = c.find_least_loss-departure in
     first_two c.args.soft.now c.fill_decisions.new.rows c.fill_decisions.new.losses departure.new.u c.write_deviation.new.v
     departure.result.place departure.result.state _
     c.fill_decisions.ensures.decisions c.fill_decisions.ensures.count (omega arith)
     departure.ensures.list departure.ensures.least departure.ensures.within departure.ensures.state
     (c.write_deviation.ensures
     ∙ ap₂ (λ place state. take place departure.new.u
-    ++ (1 - get_or departure.new.u place 0) ∷ read_out (drop (place + 1) c.fill_decisions.new.rows)
+    ++ (1 - get_or departure.new.u place 0) ∷ traceback (drop (place + 1) c.fill_decisions.new.rows)
     (next state (1 - get_or departure.new.u place 0))) c.new-deviation.ensures.place c.new-deviation.ensures.state)
 
 pub returns-clause-best : goal.returns-clause-best
@@ -54,25 +51,25 @@ returns-clause-second c = (both (goal.at.returns-clause-second c).After-write_de
 
 pub returns-clause-value : goal.returns-clause-value
 returns-clause-value c =
-    let fits : FitsSigned w32 c.read_least-departure.result.loss = search rules in
-    to_z-of_z w32 c.read_least-departure.result.loss fits ∙ (both (goal.at.returns-clause-value c).After-write_deviation).value
+    let fits : FitsSigned w32 c.find_least_loss-departure.result.loss = search rules in
+    to_z-of_z w32 c.find_least_loss-departure.result.loss fits ∙ (both (goal.at.returns-clause-value c).After-write_deviation).value
 
 pub returns-clause-only : goal.returns-clause-only
 returns-clause-only c a b best next_best =
-    both_only c.args.soft.now c.read_least-departure.new.u c.write_deviation.new.v a b (returns-clause-best c)
+    both_only c.args.soft.now c.find_least_loss-departure.new.u c.write_deviation.new.v a b (returns-clause-best c)
     (returns-clause-second c) best next_best
 
 pub returns-clause-margin : goal.returns-clause-margin
 returns-clause-margin c =
-    IsMargin-second c.args.soft.now c.read_least-departure.new.u c.write_deviation.new.v _ (returns-clause-second c)
+    IsMargin-second c.args.soft.now c.find_least_loss-departure.new.u c.write_deviation.new.v _ (returns-clause-second c)
     (returns-clause-value c)
 
 pub returns-clause-tie : goal.returns-clause-tie
-returns-clause-tie c = tie_by_margin c.args.soft.now c.read_least-departure.new.u _ (returns-clause-best c) (returns-clause-margin c)
+returns-clause-tie c = tie_by_margin c.args.soft.now c.find_least_loss-departure.new.u _ (returns-clause-best c) (returns-clause-margin c)
 
 pub returns-clause-hard : goal.returns-clause-hard
 returns-clause-hard c e hard wrong few =
-    let bound = hard_margin c.args.soft.now c.read_least-departure.new.u c.write_deviation.new.v e (returns-clause-best c).information
+    let bound = hard_margin c.args.soft.now c.find_least_loss-departure.new.u c.write_deviation.new.v e (returns-clause-best c).information
     (returns-clause-second c).candidate
     (returns-clause-best c).count (returns-clause-second c).differs hard wrong few in
     subst (λ m. pos (254 * (7 - 2 * e)) ≤ℤ m) (sym (returns-clause-value c)) bound

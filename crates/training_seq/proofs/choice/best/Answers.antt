@@ -1,13 +1,9 @@
 -- Correlation is linear: correlating the sum of four midambles gives the sum of their correlations.
-use Rattle.std.proofs.Common.{◌≡◌, ℕ, ℤ, ◌≤◌, List, length, arith}
-use Rattle.std.proofs.lemmas.Int.{ints}
-use Rattle.training_seq.specs.Choice.{total_correlation}
-use Rattle.bit_blocks.specs.SoftValues.{likelihood}
-use Rattle.training_seq.specs.Sequences.{training_sequence}
-use Rattle.training_seq.specs.Sums.{add_values}
-use Rattle.training_seq.proofs.Correlations.{length-add_values, correlation-add_values}
-use Rattle.training_seq.proofs.Greatest.{IsFirstGreatest-same}
+use Rattle.std.proofs.{Common.{◌≡◌, ℕ, ℤ, ◌≤◌, List, length, arith}, lemmas.Int.ints}
+use Rattle.training_seq.specs.{Choice.total_correlation, Sequences.training_sequence, Sums.add_values}
+use Rattle.training_seq.proofs.{Correlations.{length-add_values, correlation-add_values}, Greatest.IsFirstMaximum-same}
 use Rattle.training_seq.proofs.SequenceTable.{AllBits-training_sequence}
+use Rattle.bit_blocks.specs.SoftValues.{likelihood}
 use Rattle.training_seq.proofs.choice.best.Goals as goal
 
 correlation-four : (a b c d : List ℤ) (tsc : ℕ) → length a ≡ length b → length a ≡ length c → length a ≡ length d → tsc ≤ 7 →
@@ -30,6 +26,6 @@ returns-clause-tsc c =
     let b = c.args.b.now in
     let e = c.args.c.now in
     let d = c.args.d.now in
-    IsFirstGreatest-same _ (total_correlation a b e d) 7 _
+    IsFirstMaximum-same _ (total_correlation a b e d) 7 _
     (λ tsc h. correlation-four a b e d tsc (omega arith) (omega arith) (omega arith) h)
-    (rw c.sums_of.ensures.value at c.strongest-tsc.ensures)
+    (rw c.add_midambles.ensures.value at c.strongest_sequence-tsc.ensures)

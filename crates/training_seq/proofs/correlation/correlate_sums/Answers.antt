@@ -1,10 +1,6 @@
-use Rattle.std.proofs.Common.{◌≡◌, ◌<◌, length, pos, arith, w16, to_z, of_z, get_or, ◌+ℤ◌}
-use Rattle.std.proofs.lemmas.Int.{ints}
+use Rattle.std.proofs.{Common.{◌≡◌, ◌<◌, length, pos, arith, w16, to_z, of_z, get_or, ◌+ℤ◌}, lemmas.Int.ints}
 use Rattle.bit_blocks.specs.SoftValues.{agreement}
-use Rattle.training_seq.specs.Ranges.{IsWithin}
-use Rattle.training_seq.specs.Sequences.{training_sequence}
-use Rattle.training_seq.specs.Sums.{sign_of}
-use Rattle.training_seq.proofs.Correlations.{correlation_more}
+use Rattle.training_seq.{specs.{Ranges.IsMagnitudeWithin, Sequences.training_sequence, Sums.sign_of}, proofs.Correlations.correlation_more}
 use Rattle.training_seq.proofs.SequenceTable.{length-training_sequence, sign_at, small_sign}
 use Rattle.training_seq.proofs.correlation.correlate_sums.Goals as goal
 
@@ -18,9 +14,9 @@ loop-i-preserved c =
     let times_sign = c.times_sign-total.result in
     let here : i < length sums = omega arith in
     let there : i < length bits = omega (arith, long) in
-    let small : IsWithin 512 (get_or sums i (pos 0)) = c.requires.small i (pos 0) here in
+    let small : IsMagnitudeWithin 512 (get_or sums i (pos 0)) = c.requires.small i (pos 0) here in
     let value : to_z w16 (of_z w16 (get_or sums i (pos 0))) ≡ get_or sums i (pos 0) = omega (arith, ints) in
-    let near : IsWithin 1 (get_or c.signs-signs.result.now i (pos 0)) =
+    let near : IsMagnitudeWithin 1 (get_or c.signs-signs.result.now i (pos 0)) =
     rw c.signs-signs.ensures (small_sign c.args.tsc i c.requires.known (omega arith)) in
     let sign : get_or c.signs-signs.result.now i (pos 0) ≡ sign_of (get_or bits i 0) =
     rw c.signs-signs.ensures (sign_at bits i there) in
@@ -36,6 +32,6 @@ loop-i-preserved c =
 
 pub times_sign-total-requires-clause-sign : goal.times_sign-total-requires-clause-sign
 times_sign-total-requires-clause-sign c =
-    let near : IsWithin 1 (get_or c.signs-signs.result.now c.loop-i.i (pos 0)) =
+    let near : IsMagnitudeWithin 1 (get_or c.signs-signs.result.now c.loop-i.i (pos 0)) =
     rw c.signs-signs.ensures (small_sign c.args.tsc c.loop-i.i c.requires.known (omega arith)) in
     (omega (arith, ints), omega (arith, ints))

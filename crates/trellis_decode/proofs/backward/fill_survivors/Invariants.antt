@@ -1,16 +1,15 @@
 use Rattle.std.proofs.Common.{ℕ, ◌*◌, ◌<◌, ◌≤ℤ◌, negsuc, drop}
-use Rattle.trellis_decode.specs.Lanes.{lane}
-use Rattle.trellis_decode.specs.Trellis.{IsBest}
-use Rattle.trellis_decode.specs.AcsLanes.{AreNarrow, lane_of, path_metric}
-use Rattle.trellis_decode.specs.Walks.{read_survivors}
+use Rattle.trellis_decode.specs.{Lanes.lane, Trellis.IsSurvivor, AcsLanes.{AreInt16, lane_of_state, path_metric}}
+use Rattle.trellis_decode.specs.SurvivorPaths.{traceback_of_survivors}
 use Rattle.trellis_decode.proofs.backward.fill_survivors.Given as goal
 
--- the maps filled so far give the best lists from their first position on
+-- traceback through the survivor maps filled so far gives the best lists from the first position of these maps on
 abbrev pub invariant-loop-group : goal.invariant-loop-group
 invariant-loop-group l = record {
   best : (s : ℕ) → s < 16 →
-      IsBest s (read_survivors (drop l.group l.survivors) (lane_of s)) (drop (8 * l.group) l.soft) (lane (path_metric l.values) s);
+      IsSurvivor s (traceback_of_survivors (drop l.group l.survivors) (lane_of_state s)) (drop (8 * l.group) l.soft) (lane
+      (path_metric l.values) s);
   low : (s : ℕ) → s < 16 → negsuc 1023 ≤ℤ lane (path_metric l.values) s;
-  even : AreNarrow l.values.even.lanes;
-  odd : AreNarrow l.values.odd.lanes;
+  even : AreInt16 l.values.even.lanes;
+  odd : AreInt16 l.values.odd.lanes;
 }

@@ -1,17 +1,14 @@
-use Rattle.std.proofs.Common.{◌≡◌, ℕ, ◌+◌, ◌*◌, ◌≤◌, ◌∷◌, [], List, ℤ, lit≤, length, get_or, take, drop}
-use Rattle.std.proofs.Common.{ap, sym, ◌∙◌, subst}
-use Rattle.trellis_decode.specs.Lanes.{AreSignedOctets}
-use Rattle.trellis_decode.specs.AcsLanes.{AreBranchMetrics, HasBranchMetrics}
-use Rattle.trellis_decode.specs.declared.acs_lanes.Eight.{Eight}
-use Rattle.trellis_decode.proofs.BranchMetricLanes.{each}
-use Rattle.trellis_decode.proofs.FourPairs.{branch_metrics_at, HasBranchMetrics-at, AreBranchMetrics-at}
-use Rattle.trellis_decode.proofs.branch_metrics.four_branch_metrics.Goals as goal
+use Rattle.std.proofs.Common.{◌≡◌, ℕ, ◌+◌, ◌*◌, ◌≤◌, ◌∷◌, [], List, ℤ, lit≤, length, get_or, take, drop, ap, sym, ◌∙◌, subst}
+use Rattle.trellis_decode.specs.{Lanes.AreSignedOctets, AcsLanes.{AreBranchMetrics, HasBranchMetrics}}
+use Rattle.trellis_decode.{specs.declared.acs_lanes.EightLanes.EightLanes, proofs.{BranchMetricLanes.each, FourPairs.branch_metrics_at}}
+use Rattle.trellis_decode.proofs.FourPairs.{HasBranchMetrics-at, AreBranchMetrics-at}
 use Rattle.trellis_decode.proofs.branch_metrics.four_branch_metrics.Goals.{After-widened-values}
+use Rattle.trellis_decode.proofs.branch_metrics.four_branch_metrics.Goals as goal
 
-abbrev place : List ℤ → ℕ → Eight
+abbrev place : List ℤ → ℕ → EightLanes
 place values i = record { lanes = branch_metrics_at values i }
 
-abbrev places : List ℤ → List Eight
+abbrev places : List ℤ → List EightLanes
 places values = place values 0 ∷ place values 2 ∷ place values 4 ∷ place values 6 ∷ []
 
 octets : (c : After-widened-values) → AreSignedOctets c.widened-values.result

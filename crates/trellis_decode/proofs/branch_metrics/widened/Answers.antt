@@ -1,6 +1,5 @@
-use Rattle.std.proofs.Common.{arith, map, ap, sym, ◌∙◌, subst, w8, w16, FitsSigned}
-use Rattle.std.specs.Int.{cast_signed, cast_unsigned}
-use Rattle.std.proofs.lemmas.List.{take_all}
+use Rattle.std.{proofs.{Common.{arith, map, ap, sym, ◌∙◌, subst, w8, w16, FitsSigned}, lemmas.List.take_all}, specs.Int.cast_signed}
+use Rattle.std.specs.Int.{cast_unsigned}
 use lib.Lanes.{Each1}
 use Rattle.trellis_decode.proofs.FourPairs.{widened_fits, widened_same}
 use Rattle.trellis_decode.proofs.branch_metrics.widened.Goals as goal

@@ -1,13 +1,9 @@
-use Rattle.std.proofs.Common.{arith, rules, ◌≡◌, ◌≢◌, ◌*◌, ◌+◌, ◌^◌, ◌<◌, length, ap, sym, subst, ◌∙◌}
-use Rattle.std.proofs.Common.{ℕ, ◌<ℤ◌, ◌≤ℤ◌, FitsSigned, to_z, w32}
+use Rattle.std.proofs.Common.{arith, rules, ◌≡◌, ◌≢◌, ◌*◌, ◌+◌, ◌^◌, ◌<◌, length, ap, sym, subst, ◌∙◌, ℕ, ◌<ℤ◌, ◌≤ℤ◌, FitsSigned, to_z, w32}
 use Rattle.std.proofs.lemmas.Int.{to_z-of_z}
-use Rattle.conv_code.specs.Code.{encoding}
-use Rattle.conv_code.specs.Likelihood.{likelihood, FallsBehind, IsMostLikely}
-use Rattle.trellis_decode.specs.Words.{word}
-use Rattle.conv_code.proofs.Lemmas.{IsMostLikely-only}
-use Rattle.trellis_decode.proofs.Searching.{less_by_test, most_by_test, new_leads, old_leads, IsMostLikely-chosen}
-use Rattle.trellis_decode.proofs.exhaustive.search.Goals as goal
+use Rattle.conv_code.{specs.{Code.encoding, Likelihood.{likelihood, RanksAfter, IsMostLikely}}, proofs.Lemmas.IsMostLikely-only}
+use Rattle.trellis_decode.{specs.Words.word, proofs.Searching.{less_by_test, most_by_test, new_leads, old_leads, IsMostLikely-chosen}}
 use Rattle.trellis_decode.proofs.exhaustive.search.Goals.{then-value-best, else-value-best}
+use Rattle.trellis_decode.proofs.exhaustive.search.Goals as goal
 
 pub loop-number-preserved : goal.loop-number-preserved
 loop-number-preserved c =
@@ -16,37 +12,39 @@ loop-number-preserved c =
     let chosen = c.loop-number.chosen in
     let number = c.loop-number.number in
     let kept = c.loop-number.invariant in
-    let same_length : n ≡ length c.write_list-in-loop-number.new.u = omega arith in
-    let within : 16 * number < 2 ^ n = omega (arith, ap (λ n. 2 ^ n) c.loop-number.auto.u, ap (λ n. 2 ^ n) c.write_list.auto.u) in
+    let same_length : n ≡ length c.write_bits_and_zero_tail-in-loop-number.new.u = omega arith in
+    let within : 16 * number < 2 ^ n = omega (
+      arith,
+      ap (λ n. 2 ^ n) c.loop-number.auto.u,
+      ap
+          (λ n. 2 ^ n) c.write_bits_and_zero_tail.auto.u,
+    ) in
     let fits : FitsSigned w32 c.path_metric-value.result = search rules in
     let value : c.path_metric-value.result ≡ likelihood soft (encoding (word n (16 * number))) =
-    c.path_metric-value.ensures ∙ ap (λ u. likelihood soft (encoding u)) c.write_list-in-loop-number.ensures.list in
+    c.path_metric-value.ensures ∙ ap (λ u. likelihood soft (encoding u)) c.write_bits_and_zero_tail-in-loop-number.ensures.list in
     let Best : ℕ → ℕ → Type 0 = λ n m. to_z w32 c.if-value-best.best-bits ≡ likelihood soft (encoding (word n (16 * m))) in
     let Leads : ℕ → ℕ → Type 0 = λ n leader. (m : ℕ) → m < number + 1 → m ≢ leader →
-    FallsBehind soft (word n (16 * m)) (word n (16 * leader)) in
+    RanksAfter soft (word n (16 * m)) (word n (16 * leader)) in
     elim c.if-value-best.branch [
       | then-value-best w ↦
           let is = w.chosen-is in
-          let best_is : to_z w32 c.if-value-best.best-bits ≡ likelihood soft (encoding (word n (16 * number))) = w.best-is
-          ∙ to_z-of_z w32 c.path_metric-value.result fits ∙ value in
           let more : likelihood soft (encoding (word n (16 * chosen))) <ℤ likelihood soft (encoding (word n (16 * number))) =
           less_by_test _ _ _ _ kept.value (to_z-of_z w32 c.path_metric-value.result fits ∙ value) w.if-value-best.true in
           record {
             before = omega arith;
-            value = subst (λ n. Best n c.if-value-best.chosen) same_length (subst (Best n) (sym is) best_is);
-            others = subst (λ n. Leads n c.if-value-best.chosen) same_length (subst (Leads n) (sym is)
-                (new_leads soft n chosen number kept.before within kept.others more));
+            value = rw (← same_length) (rw is (w.best-is ∙ to_z-of_z w32 c.path_metric-value.result fits ∙ value));
+            others = rw (← same_length) (rw is
+                (new_leads _ n _ _ kept.before within kept.others more));
           }
       | else-value-best w ↦
           let is = w.chosen-is in
-          let best_is : to_z w32 c.if-value-best.best-bits ≡ likelihood soft (encoding (word n (16 * chosen))) = w.best-is ∙ kept.value in
           let most : likelihood soft (encoding (word n (16 * number))) ≤ℤ likelihood soft (encoding (word n (16 * chosen))) =
           most_by_test _ _ _ _ kept.value (to_z-of_z w32 c.path_metric-value.result fits ∙ value) w.if-value-best.false in
           record {
             before = omega arith;
-            value = subst (λ n. Best n c.if-value-best.chosen) same_length (subst (Best n) (sym is) best_is);
-            others = subst (λ n. Leads n c.if-value-best.chosen) same_length (subst (Leads n) (sym is)
-                (old_leads soft n chosen number kept.before within kept.others most));
+            value = rw (← same_length) (rw is (w.best-is ∙ kept.value));
+            others = rw (← same_length) (rw is
+                (old_leads _ n _ _ kept.before within kept.others most));
           }
     ]
 
@@ -55,11 +53,11 @@ returns-clause-best c =
     let soft = c.args.soft.now in
     let n = length c.loop-number.u in
     let same_length : length c.args.u.now ≡ n = omega arith in
-    let all : 16 * c.list_count-lists.result ≡ 2 ^ n = c.list_count-lists.ensures ∙ ap (λ n. 2 ^ n) same_length in
+    let all : 16 * c.count_information_lists-lists.result ≡ 2 ^ n = c.count_information_lists-lists.ensures ∙ ap (λ n. 2 ^ n) same_length in
     let ended = c.loop-number-test.false in
-    subst (IsMostLikely soft) (sym c.write_list-2.ensures.list)
-    (IsMostLikely-chosen soft n c.loop-number.chosen c.list_count-lists.result (omega arith) (omega arith) all
+    subst (IsMostLikely soft) (sym c.write_bits_and_zero_tail-2.ensures.list)
+    (IsMostLikely-chosen soft n c.loop-number.chosen c.count_information_lists-lists.result (omega arith) (omega arith) all
     (λ m lt ne. let earlier : m < c.loop-number.number = omega arith in c.loop-number.invariant.others m earlier ne))
 
 pub returns-clause-only : goal.returns-clause-only
-returns-clause-only c v h = IsMostLikely-only c.args.soft.now c.write_list-2.new.u v (returns-clause-best c) h
+returns-clause-only c v h = IsMostLikely-only c.args.soft.now c.write_bits_and_zero_tail-2.new.u v (returns-clause-best c) h

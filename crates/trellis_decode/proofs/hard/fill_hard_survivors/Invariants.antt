@@ -1,16 +1,14 @@
 use Rattle.std.proofs.Common.{ℕ, ◌*◌, ◌<◌, ◌≤ℤ◌, negsuc, drop}
-use Rattle.trellis_decode.specs.Hard.{AreSmall, hard_metrics}
-use Rattle.trellis_decode.specs.Lanes.{lane}
-use Rattle.trellis_decode.specs.Trellis.{IsBest}
-use Rattle.trellis_decode.specs.AcsLanes.{lane_of}
-use Rattle.trellis_decode.specs.Walks.{read_survivors}
+use Rattle.trellis_decode.specs.{Hard.{AreInt8, hard_metrics}, Lanes.lane, Trellis.IsSurvivor, AcsLanes.lane_of_state}
+use Rattle.trellis_decode.specs.SurvivorPaths.{traceback_of_survivors}
 use Rattle.trellis_decode.proofs.hard.fill_hard_survivors.Given as goal
 
--- the maps filled so far give the best lists from their first position on
+-- traceback through the survivor maps filled so far gives the best lists from the first position of these maps on
 abbrev pub invariant-loop-group : goal.invariant-loop-group
 invariant-loop-group l = record {
   best : (s : ℕ) → s < 16 →
-      IsBest s (read_survivors (drop l.group l.survivors) (lane_of s)) (drop (8 * l.group) l.soft) (lane (hard_metrics l.values.lanes) s);
+      IsSurvivor s (traceback_of_survivors (drop l.group l.survivors) (lane_of_state s)) (drop (8 * l.group) l.soft) (lane
+      (hard_metrics l.values.lanes) s);
   low : (s : ℕ) → s < 16 → negsuc 1023 ≤ℤ lane (hard_metrics l.values.lanes) s;
-  lanes : AreSmall l.values.lanes;
+  lanes : AreInt8 l.values.lanes;
 }

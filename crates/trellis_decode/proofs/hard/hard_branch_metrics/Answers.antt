@@ -1,13 +1,10 @@
-use Rattle.std.proofs.Common.{ℕ, ◌+◌, ◌*◌, ◌<◌, ◌≤◌, ◌∷◌, [], List, ℤ, pos, lit≤, get_or, take, drop, sym}
-use Rattle.std.proofs.Common.{subst, arith}
-use Rattle.trellis_decode.specs.Lanes.{lane}
-use Rattle.trellis_decode.specs.Hard.{HasHardBranchMetrics, IsHard}
-use Rattle.trellis_decode.proofs.BranchMetricLanes.{each}
-use Rattle.trellis_decode.proofs.HardSteps.{hard_octets, pair_lanes}
+use Rattle.std.proofs.Common.{ℕ, ◌+◌, ◌*◌, ◌<◌, ◌≤◌, ◌∷◌, [], List, ℤ, pos, lit≤, get_or, take, drop, sym, subst, arith}
+use Rattle.trellis_decode.{specs.{Lanes.lane, Hard.{HasHardBranchMetrics, IsHard}}, proofs.{BranchMetricLanes.each, HardSteps.hard_octets}}
+use Rattle.trellis_decode.proofs.HardSteps.{pair_lanes}
 use Rattle.trellis_decode.proofs.hard.hard_branch_metrics.Goals as goal
 
 pub signs_of-signs-requires-clause-octets : goal.signs_of-signs-requires-clause-octets
-signs_of-signs-requires-clause-octets c = hard_octets c.args.soft.now c.requires.hard
+signs_of-signs-requires-clause-octets c = hard_octets _ c.requires.hard
 
 pub returns-clause-has : goal.returns-clause-has
 returns-clause-has c k d =

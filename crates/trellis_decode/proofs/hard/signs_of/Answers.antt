@@ -1,9 +1,5 @@
-use Rattle.std.proofs.Common.{◌≡◌, take, subst, length, ap, sym, ◌∙◌, arith}
-use Rattle.std.proofs.lemmas.List.{take_all}
-use Rattle.trellis_decode.specs.Lanes.{lane, IsSignedOctet}
-use Rattle.trellis_decode.specs.Hard.{sign}
-use Rattle.trellis_decode.proofs.FourPairs.{fits_octet}
-use Rattle.trellis_decode.proofs.HardLanes.{bit-signs}
+use Rattle.std.proofs.{Common.{◌≡◌, take, subst, length, ap, sym, ◌∙◌, arith}, lemmas.List.take_all}
+use Rattle.trellis_decode.{specs.{Lanes.{lane, IsSignedOctet}, Hard.sign}, proofs.{FourPairs.fits_octet, HardLanes.bit-signs}}
 use Rattle.trellis_decode.proofs.hard.signs_of.Goals as goal
 
 pub returns : goal.returns

@@ -1,17 +1,13 @@
-use Rattle.std.proofs.Common.{◌≡◌, ℕ, ◌*◌, ◌+◌, ◌-◌, ◌/◌, ◌%◌, drop, take, length, refl, subst, arith}
-use Rattle.std.proofs.lemmas.List.{take_all, length-drop}
-use Rattle.std.proofs.lemmas.List.Elements.{All-take, All-drop}
-use Rattle.trellis_decode.specs.Decisions.{HasDecisions}
-use Rattle.trellis_decode.specs.Lanes.{IsSignedOctet}
-use Rattle.trellis_decode.specs.AcsLanes.{path_metric}
-use Rattle.trellis_decode.proofs.Decisions.{HasDecisions-closing}
-use Rattle.trellis_decode.proofs.Paths.{IsBest-same}
+use Rattle.std.proofs.{Common.{◌≡◌, ℕ, ◌*◌, ◌+◌, ◌-◌, ◌/◌, ◌%◌, drop, take, length, refl, subst, arith}, lemmas.List.take_all}
+use Rattle.std.proofs.lemmas.List.{length-drop, Elements.{All-take, All-drop}}
+use Rattle.trellis_decode.specs.{Decisions.HasDecisionsAndMetrics, Lanes.IsSignedOctet, AcsLanes.path_metric}
+use Rattle.trellis_decode.proofs.{Decisions.HasDecisionsAndMetrics-closing, Paths.IsSurvivor-same}
 use Rattle.trellis_decode.proofs.trellis.fill_decisions.Goals as goal
 
-pub closing_values-values-requires-clause-octets : goal.closing_values-values-requires-clause-octets
-closing_values-values-requires-clause-octets c =
+pub tail_metrics-values-requires-clause-octets : goal.tail_metrics-values-requires-clause-octets
+tail_metrics-values-requires-clause-octets c =
     let last = 2 * (length c.args.rows.now - 4) in
-    All-take IsSignedOctet _ (drop last c.args.soft.now) (All-drop IsSignedOctet last c.args.soft.now c.see_octets.ensures)
+    All-take IsSignedOctet _ _ (All-drop IsSignedOctet _ _ c.prove_octet_range.ensures)
 
 pub loop-group-init : goal.loop-group-init
 loop-group-init c =
@@ -23,17 +19,17 @@ loop-group-init c =
     take_all _ _ (omega (arith, length-drop (2 * last) soft)) in
     let at : last ≡ length rows % 4 + 4 * (length rows / 4 - 1) = omega (arith, c.requires.at_least) in
     let Holds : ℕ →
-    Type 0 = λ k. HasDecisions (drop k rows) (drop k losses) (drop (2 * k) soft)
-    (path_metric c.closing_values-values.result) in
+    Type 0 = λ k. HasDecisionsAndMetrics (drop k rows) (drop k losses) (drop (2 * k) soft)
+    (path_metric c.tail_metrics-values.result) in
     record {
-      decided = subst Holds at (HasDecisions-closing (drop last rows) (drop last losses) (drop (2 * last) soft)
-          (path_metric c.closing_values-values.result)
+      decided = subst Holds at (HasDecisionsAndMetrics-closing (drop last rows) (drop last losses) (drop (2 * last) soft)
+          (path_metric c.tail_metrics-values.result)
           (omega (arith, length-drop last rows, c.requires.at_least))
           (omega (arith, length-drop last losses, c.requires.same, c.requires.at_least))
           (omega (arith, length-drop (2 * last) soft, c.requires.count, c.requires.at_least))
-          (All-drop IsSignedOctet (2 * last) soft c.see_octets.ensures)
+          (All-drop IsSignedOctet (2 * last) soft c.prove_octet_range.ensures)
           (All-drop (λ row. row ≡ 0) last rows c.requires.blank)
-          (λ s lt. IsBest-same s refl whole refl (c.closing_values-values.ensures.best s lt)));
-      even = c.closing_values-values.ensures.even;
-      odd = c.closing_values-values.ensures.odd;
+          (λ s lt. IsSurvivor-same s refl whole refl (c.tail_metrics-values.ensures.best s lt)));
+      even = c.tail_metrics-values.ensures.even;
+      odd = c.tail_metrics-values.ensures.odd;
     }

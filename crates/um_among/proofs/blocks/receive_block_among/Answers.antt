@@ -1,9 +1,10 @@
-use Rattle.um_among.proofs.Once.{one_block_among, block_best, block_none, block_information, block_first, block_alone, block_of_one}
+use Rattle.um_among.proofs.UniqueReports.{one_block_among, block_best, block_none, block_information, block_first, block_alone}
+use Rattle.um_among.proofs.UniqueReports.{block_of_one}
 use Rattle.um_among.proofs.blocks.receive_block_among.Goals as goal
 
 pub returns : goal.returns
 returns c =
-    let is = c.receive_gathered_among.ensures in
+    let is = c.receive_deinterleaved_among.ensures in
     record {
       received = is;
       only = λ other h. one_block_among c.args.bursts.now c.args.most other _ h is;

@@ -1,9 +1,10 @@
-use Rattle.um_among.proofs.Once.{one_access_among, access_best, access_none, access_information, access_first, access_alone, access_of_one}
+use Rattle.um_among.proofs.UniqueReports.{one_access_among, access_best, access_none, access_information, access_first, access_alone}
+use Rattle.um_among.proofs.UniqueReports.{access_of_one}
 use Rattle.um_among.proofs.bursts.receive_access_among.Goals as goal
 
 pub returns : goal.returns
 returns c =
-    let is = c.taken_access.ensures in
+    let is = c.take_access_word.ensures in
     record {
       received = is;
       only = λ other h. one_access_among c.args.burst.now c.args.bsic.now c.args.most other _ h is;

@@ -1,9 +1,9 @@
-use Rattle.um_among.proofs.Once.{one_sync_among, sync_best, sync_none, sync_information, sync_first, sync_alone, sync_of_one}
+use Rattle.um_among.proofs.UniqueReports.{one_sync_among, sync_best, sync_none, sync_information, sync_first, sync_alone, sync_of_one}
 use Rattle.um_among.proofs.bursts.receive_sync_among.Goals as goal
 
 pub returns : goal.returns
 returns c =
-    let is = c.taken_sync.ensures in
+    let is = c.take_sync_word.ensures in
     record {
       received = is;
       only = λ other h. one_sync_among c.args.burst.now c.args.most other _ h is;

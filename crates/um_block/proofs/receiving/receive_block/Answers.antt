@@ -1,10 +1,6 @@
 use Rattle.std.proofs.Common.{◌≡◌, ℕ, ℤ, List, map, subst, rules}
-use Rattle.um_block.specs.Sent.{IsSentBlock}
-use Rattle.um_block.specs.Received.{soft_bits, IsReceivedBlock}
-use Rattle.um_block.specs.Restored.{IsCleanBlock}
-use Rattle.um_block.specs.declared.received.Received.{Received}
-use Rattle.um_block.proofs.ReceivedOnce.{one_received_block}
-use Rattle.um_block.proofs.CleanRestoring.{clean_block}
+use Rattle.um_block.specs.{Sent.IsSentBlock, Received.{soft_bits, IsReceivedBlock}, Restored.IsCleanBlock}
+use Rattle.um_block.{specs.declared.received.Received.Received, proofs.{ReceivedOnce.one_received_block, CleanRestoring.clean_block}}
 use Rattle.um_block.proofs.Restoring.{restored_block}
 use Rattle.um_block.proofs.receiving.receive_block.Goals as goal
 

@@ -1,15 +1,9 @@
-use Rattle.std.proofs.Common.{◌≡◌, ℕ, ℤ, List, length, rules, ◌++◌, ap, ap₂, sym, subst, ◌∙◌}
-use Rattle.std.proofs.lemmas.List.Elements.{All-append}
-use Rattle.bit_blocks.specs.SoftValues.{IsSoft, AllSoft}
+use Rattle.std.proofs.{Common.{◌≡◌, ℕ, ℤ, List, length, rules, ◌++◌, ap, ap₂, sym, subst, ◌∙◌}, lemmas.List.Elements.All-append}
+use Rattle.bit_blocks.specs.SoftValues.{IsSoftBit, AllSoftBits}
 use Rattle.burst_map.specs.SyncBurst.{first_half, second_half}
-use Rattle.um_block.specs.Sent.{IsSentSync}
-use Rattle.um_block.specs.Received.{soft_bits, IsReceivedSync}
-use Rattle.um_block.specs.Restored.{IsCleanSync}
-use Rattle.um_block.specs.declared.received.ReceivedSync.{ReceivedSync}
-use Rattle.um_block.proofs.ReceivedOnce.{one_received_sync}
-use Rattle.um_block.proofs.CleanRestoring.{clean_sync}
-use Rattle.um_block.proofs.Softness.{AllSoft-range}
-use Rattle.um_block.proofs.Restoring.{restored_sync}
+use Rattle.um_block.specs.{Sent.IsSentSync, Received.{soft_bits, IsReceivedSync}, Restored.IsCleanSync}
+use Rattle.um_block.{specs.declared.received.ReceivedSync.ReceivedSync, proofs.{ReceivedOnce.one_received_sync, CleanRestoring.clean_sync}}
+use Rattle.um_block.proofs.{Softness.AllSoftBits-range, Restoring.restored_sync}
 use Rattle.um_block.proofs.receiving.receive_sync.Goals as goal
 
 restored : (burst : List ℤ) (r : ReceivedSync) → IsReceivedSync burst r → (info sent : List ℕ) → IsSentSync info sent →
@@ -19,10 +13,10 @@ restored burst r received info sent s same = clean_sync info sent r s (subst (λ
 pub decode-metric-requires-clause-soft : goal.decode-metric-requires-clause-soft
 decode-metric-requires-clause-soft c =
     let burst = c.new-parts.ensures.value in
-    subst AllSoft
+    subst AllSoftBits
     (sym (c.join_halves-halves.ensures
     ∙ ap₂ (λ x y. x ++ y) (c.first.ensures.value ∙ ap first_half burst) (c.second.ensures.value ∙ ap second_half burst)))
-    (All-append IsSoft _ _ (AllSoft-range c.args.burst.now 3 42 c.requires) (AllSoft-range c.args.burst.now 106 145 c.requires))
+    (All-append IsSoftBit _ _ (AllSoftBits-range c.args.burst.now 3 42 c.requires) (AllSoftBits-range c.args.burst.now 106 145 c.requires))
 
 pub returns-clause-received : goal.returns-clause-received
 returns-clause-received c = search rules

@@ -2,17 +2,15 @@ use Rattle.std.proofs.Common.{◌≡◌, ◌++◌, length, sym, ◌∙◌, ap, a
 use Rattle.bit_blocks.specs.Bits.{AllBits}
 use Rattle.conv_code.proofs.Lemmas.{AllBits-coded}
 use Rattle.fire_code.specs.Words.{IsRachWord}
-use Rattle.um_block.specs.Sent.{with_tail}
-use Rattle.um_block.proofs.SentOnce.{one_access_burst}
-use Rattle.um_block.proofs.Words.{IsInformation-joined}
+use Rattle.um_block.{specs.Sent.with_tail, proofs.{SentOnce.one_access_burst, Words.IsInformation-joined}}
 use Rattle.um_block.proofs.sending.send_access.Goals as goal
 
 pub access-requires-clause-bits : goal.access-requires-clause-bits
-access-requires-clause-bits c = subst AllBits (sym c.encode.ensures) (AllBits-coded c.add_tail.new.word)
+access-requires-clause-bits c = subst AllBits (sym c.encode.ensures) (AllBits-coded c.write_crc_and_tail.new.word)
 
 pub encode-requires-clause-information : goal.encode-requires-clause-information
 encode-requires-clause-information c =
-    IsInformation-joined _ _ _ c.add_tail.ensures (omega (arith, c.as_slice.ensures.count))
+    IsInformation-joined _ _ _ c.write_crc_and_tail.ensures (omega (arith, c.as_slice.ensures.count))
     c.as_slice.ensures.bits c.as_slice-2.ensures.bits
 
 pub returns-clause-sent : goal.returns-clause-sent
@@ -20,13 +18,13 @@ returns-clause-sent c =
     let d = c.args.info.now in
     let p = c.xor-crc.result in
     let b = c.args.bsic.now in
-    let word_is : c.add_tail.new.word ≡ with_tail (d ++ p) =
-    c.add_tail.ensures ∙ ap₂ (λ x y. with_tail (x ++ y)) c.as_slice.ensures.value c.as_slice-2.ensures.value in
-    let under = c.rach_parity.ensures.under_code b c.xor-crc.ensures.counts.1 c.xor-crc.ensures.operands.1 in
+    let word_is : c.write_crc_and_tail.new.word ≡ with_tail (d ++ p) =
+    c.write_crc_and_tail.ensures ∙ ap₂ (λ x y. with_tail (x ++ y)) c.as_slice.ensures.value c.as_slice-2.ensures.value in
+    let under = c.rach_parity.ensures.with_bsic b c.xor-crc.ensures.counts.1 c.xor-crc.ensures.operands.1 in
     record {
       coded_bits = c.encode.new.out;
       code = record {
-        u = c.add_tail.new.word;
+        u = c.write_crc_and_tail.new.word;
         count = sym (ap length c.as_slice.ensures.value) ∙ c.as_slice.ensures.count;
         information = record {
           crc = p;

@@ -1,15 +1,12 @@
 use Rattle.std.proofs.Common.{[], List, ℕ, map, take, drop, sym, ap, ◌∙◌}
 use Rattle.interleave.proofs.Lemmas.{some_spread}
 use Rattle.burst_map.specs.NormalBurst.{normal_burst}
-use Rattle.um_block.proofs.SentOnce.{one_sent_block}
-use Rattle.um_block.proofs.SentShapes.{sent_block_bits}
-use Rattle.um_block.proofs.SpreadParts.{four, same_four}
-use Rattle.um_block.proofs.Words.{coded_block_bits}
+use Rattle.um_block.proofs.{SentOnce.one_sent_block, SentShapes.sent_block_bits, SpreadParts.{four, same_four}, Words.coded_block_bits}
 use Rattle.um_block.proofs.sending.send_block.Goals as goal
 
 pub returns-clause-sent : goal.returns-clause-sent
 returns-clause-sent c =
-    let block = c.code_block-columns.ensures in
+    let block = c.encode_block-columns.ensures in
     let coded = block.0 in
     let burst : List ℕ → List ℕ = λ part. normal_burst (take 57 part) (drop 57 part) c.args.tsc in
     let spread = some_spread coded (coded_block_bits _ _ block.1).many in

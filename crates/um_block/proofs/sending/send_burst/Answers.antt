@@ -1,5 +1,4 @@
-use Rattle.std.proofs.Common.{◌≡◌, [], length, get_or, take, drop, ◌∙◌, arith, rules}
-use Rattle.std.proofs.lemmas.List.{length-drop, length-take, take_all}
+use Rattle.std.proofs.{Common.{◌≡◌, [], length, get_or, take, drop, ◌∙◌, arith, rules}, lemmas.List.{length-drop, length-take, take_all}}
 use Rattle.burst_map.proofs.Lemmas.{both_written}
 use Rattle.um_block.proofs.sending.send_burst.Goals as goal
 

@@ -1,9 +1,6 @@
-use Rattle.std.proofs.Common.{◌<◌, length, [], sym, subst, ◌∙◌, arith}
-use Rattle.std.specs.List.{All}
-use Rattle.std.proofs.lemmas.List.{ext_get_or, get_or-map, length-map}
-use Rattle.bit_blocks.specs.SoftValues.{AllSoft}
-use Rattle.um_block.specs.Received.{soft_bits}
-use Rattle.um_block.proofs.Softness.{AllSoft-all}
+use Rattle.std.{proofs.{Common.{◌<◌, length, [], sym, subst, ◌∙◌, arith}, lemmas.List.{ext_get_or, get_or-map, length-map}}, specs.List.All}
+use Rattle.bit_blocks.specs.SoftValues.{AllSoftBits}
+use Rattle.um_block.{specs.Received.soft_bits, proofs.Softness.AllSoftBits-all}
 use Rattle.um_block.proofs.softening.soften_block.Goals as goal
 
 pub returns-clause-value : goal.returns-clause-value
@@ -17,4 +14,4 @@ returns-clause-value c =
     c.loop-b.invariant.1 k written ∙ sym (get_or-map soft_bits block k [] [] within))
 
 pub returns-clause-soft : goal.returns-clause-soft
-returns-clause-soft c = subst (All AllSoft) (sym (returns-clause-value c)) (AllSoft-all c.args.block.now)
+returns-clause-soft c = subst (All AllSoftBits) (sym (returns-clause-value c)) (AllSoftBits-all c.args.block.now)

@@ -1,9 +1,9 @@
-use Rattle.std.proofs.Common.{◌≡◌, ◌+◌, ◌-◌, ◌≤◌, length, take, drop, ap, sym, subst, ◌∙◌, arith}
-use Rattle.std.proofs.lemmas.List.{length-map, length-take-le, length-drop, take_all}
+use Rattle.std.proofs.{Common.{◌≡◌, ◌+◌, ◌-◌, ◌≤◌, length, take, drop, ap, sym, subst, ◌∙◌, arith}, lemmas.List.length-map}
+use Rattle.std.proofs.lemmas.List.{length-take-le, length-drop, take_all}
 use borrow.Rule.Slice.PartMut.{put_mid}
-use Rattle.bit_blocks.specs.SoftValues.{AllSoft}
-use Rattle.um_block.specs.Received.{soft_value, soft_bits}
-use Rattle.um_block.proofs.Softness.{AllSoft-softened, softened-more, softened-before, length-put}
+use Rattle.bit_blocks.specs.SoftValues.{AllSoftBits}
+use Rattle.um_block.{specs.Received.{soft_bit_of, soft_bits}, proofs.Softness.{AllSoftBits-softened, softened-more, softened-before}}
+use Rattle.um_block.proofs.Softness.{length-put}
 use Rattle.um_block.proofs.softening.soften_into.Goals as goal
 
 pub loop-at-preserved : goal.loop-at-preserved
@@ -12,7 +12,7 @@ loop-at-preserved c =
     let soft = c.loop-at.soft in
     let sixteen = c.copy_from_slice.new.self in
     let more : sixteen ≡ soft_bits (take 16 (drop at c.args.burst.now)) = c.copy_from_slice.ensures.after ∙ c.soften_sixteen.ensures in
-    let few : length sixteen ≡ 16 = ap length more ∙ length-map (take 16 (drop at c.args.burst.now)) soft_value
+    let few : length sixteen ≡ 16 = ap length more ∙ length-map (take 16 (drop at c.args.burst.now)) soft_bit_of
     ∙ length-take-le 16 (drop at c.args.burst.now) (omega (arith, length-drop at c.args.burst.now, c.told-burst)) in
     let width : at + 16 - at ≡ 16 = omega arith in
     let room : at + 16 ≤ length soft = omega (arith, c.loop-at.invariant.0) in
@@ -30,7 +30,7 @@ returns-clause-value c =
     let soft = c.loop-at.soft in
     let sixteen = c.copy_from_slice-2.new.self in
     let more : sixteen ≡ soft_bits (take 16 (drop 132 burst)) = c.copy_from_slice-2.ensures.after ∙ c.soften_sixteen-2.ensures in
-    let few : length sixteen ≡ 16 = ap length more ∙ length-map (take 16 (drop 132 burst)) soft_value
+    let few : length sixteen ≡ 16 = ap length more ∙ length-map (take 16 (drop 132 burst)) soft_bit_of
     ∙ length-take-le 16 (drop 132 burst) (omega (arith, length-drop 132 burst, c.told-burst)) in
     let room : 148 ≤ length soft = omega (arith, c.loop-at.invariant.0) in
     let long : length (put_mid 132 16 soft sixteen) ≤ 148 = omega (arith, length-put 132 soft sixteen room few, c.loop-at.invariant.0) in
@@ -40,4 +40,4 @@ returns-clause-value c =
     ∙ ap soft_bits (take_all 148 burst (omega (arith, c.told-burst)))
 
 pub returns-clause-soft : goal.returns-clause-soft
-returns-clause-soft c = subst AllSoft (sym (returns-clause-value c)) (AllSoft-softened c.args.burst.now)
+returns-clause-soft c = subst AllSoftBits (sym (returns-clause-value c)) (AllSoftBits-softened c.args.burst.now)

@@ -1,9 +1,6 @@
-use Rattle.std.proofs.Common.{◌≡◌, map, refl, ap₂, ◌∙◌}
-use Rattle.std.proofs.lemmas.Int.{to_z-of_z}
-use Rattle.bit_blocks.specs.SoftValues.{wrong_places}
-use Rattle.um_block.specs.conv_code.Code.{encoding}
+use Rattle.std.proofs.{Common.{◌≡◌, map, refl, ap₂, ◌∙◌}, lemmas.Int.to_z-of_z}
+use Rattle.um_block.specs.{bit_blocks.SoftValues.count_wrong_bits, conv_code.Code.encoding, Received.coded_soft_bits}
 use Rattle.um_block.proofs.interleave.Lemmas.{same_coded}
-use Rattle.um_block.specs.Received.{coded_places}
 use Rattle.um_c.proofs.blocks.reported_block.Goals as goal
 
 pub returns : goal.returns
@@ -14,7 +11,7 @@ returns c =
       metric = search (to_z-of_z);
       tsc = refl;
       wrong_training = refl;
-      wrong_coded = λ soft gathered. c.wrong_coded_places.ensures.value ∙ ap₂ (λ values word. wrong_places values (encoding word))
-          (same_coded c.args.soft.now soft (map coded_places c.args.bursts.now) c.requires.gathered gathered) same;
+      wrong_coded = λ soft gathered. c.wrong_coded_bits.ensures.value ∙ ap₂ (λ values word. count_wrong_bits values (encoding word))
+          (same_coded c.args.soft.now soft (map coded_soft_bits c.args.bursts.now) c.requires.gathered gathered) same;
       accepted = c.accepted_octets-accepted.ensures;
     }

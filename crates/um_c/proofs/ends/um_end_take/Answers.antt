@@ -5,18 +5,19 @@ use Rattle.um_c.proofs.ends.um_end_take.Goals as goal
 
 pub returns-clause-given : goal.returns-clause-given
 returns-clause-given c =
-    given_by c.args.octets.now c.channel.result (frame_of c.in-Ok.frame) c.args.end.now c.carry_out.new.end c.args.effects.now
-    c.carry_out.new.effects c.read_end.new.end c.take_into.new.self c.carry_out.result c.take_into.new.effects
+    given_by c.args.octets.now c.channel.result (frame_of c.in-Ok.frame) c.args.end.now c.write_call_result.new.end c.args.effects.now
+    c.write_call_result.new.effects c.read_end.new.end c.take_into.new.self c.write_call_result.result c.take_into.new.effects
     (record {
       represents = c.read_end.ensures.represents c.if-not-read_end.false;
       one = c.read_end.ensures.known.0 c.if-not-read_end.false;
     })
     c.channel.ensures.represents c.in-Ok.ensures.frame c.take_into.ensures.refines
-    (is_done c.take_into.new.effects c.take_into.new.self c.carry_out.result c.carry_out.new.end c.carry_out.new.effects
-    c.carry_out.ensures.done)
+    (is_done c.take_into.new.effects c.take_into.new.self c.write_call_result.result c.write_call_result.new.end
+    c.write_call_result.new.effects
+    c.write_call_result.ensures.done)
 
 pub returns-clause-plain : goal.returns-clause-plain
-returns-clause-plain c = λ zero. (values_of c.take_into.new.self, c.carry_out.ensures.plain zero)
+returns-clause-plain c = λ zero. (values_of c.take_into.new.self, c.write_call_result.ensures.plain zero)
 
 pub returns-in-Err-clause-given : goal.returns-in-Err-clause-given
 returns-in-Err-clause-given c =

@@ -1,15 +1,13 @@
-use Rattle.std.proofs.Common.{◌≡◌, sym, ◌∙◌, ap, subst, ℕ, nat_eq, true, List, length, arith}
-use Rattle.std.proofs.lemmas.Bool.Decides.{nat_tests}
-use Rattle.segmenting.specs.Buffers.{octets_in}
-use Rattle.um_c.specs.EndCalls.{IsGivenAs}
-use Rattle.um_c.proofs.Opened.{opened_run}
-use Rattle.um_c.proofs.Exchanged.{was-asked, asked-one, was-answered, answered-one, was-opened, may-exchange, both-open}
+use Rattle.std.proofs.{Common.{◌≡◌, sym, ◌∙◌, ap, subst, ℕ, nat_eq, true, List, length, arith}, lemmas.Bool.Decides.nat_tests}
+use Rattle.um_air.specs.segmenting.Buffers.{octets_in}
+use Rattle.um_c.{specs.EndCalls.IsBlockTakenAs, proofs.{Opened.opened_run, Exchanged.{was-asked, asked-one, was-answered, answered-one}}}
+use Rattle.um_c.proofs.Exchanged.{was-opened, may-exchange, both-open}
 use Rattle.um_c.proofs.opening.open_link.Goals as goal
 
 is_zero : (n : ℕ) → nat_eq n 0 ≡ true → n ≡ 0
 is_zero n h = grind (arith, nat_tests)
 
--- at each early end a call was refused, or the count of its blocks is not 1
+-- where the function returns early, a call was refused or did not send exactly one block
 pub returns-then-um_end_open-ne0-clause-exchanges : goal.returns-then-um_end_open-ne0-clause-exchanges
 returns-then-um_end_open-ne0-clause-exchanges c = λ e f mobile network may.
     absurd (c.if-um_end_open-ne0.true (was-asked mobile network may c.um_end_open.ensures.called).zero)
@@ -78,7 +76,7 @@ returns-clause-run c =
       size = ap length (sym answered.value) ∙ answered.size;
     })
     (is_zero c.um_end_take-2.result ok) c.um_end_open.ensures.called
-    (subst (λ (o : List ℕ). IsGivenAs o c.um_end_take.result c.args.network.now c.um_end_take.new.end c.args.answered.now
+    (subst (λ (o : List ℕ). IsBlockTakenAs o c.um_end_take.result c.args.network.now c.um_end_take.new.end c.args.answered.now
     c.um_end_take.new.effects) asked.value c.um_end_take.ensures.given)
-    (subst (λ (o : List ℕ). IsGivenAs o c.um_end_take-2.result c.um_end_open.new.end c.um_end_take-2.new.end c.args.opened.now
+    (subst (λ (o : List ℕ). IsBlockTakenAs o c.um_end_take-2.result c.um_end_open.new.end c.um_end_take-2.new.end c.args.opened.now
     c.um_end_take-2.new.effects) answered.value c.um_end_take-2.ensures.given)

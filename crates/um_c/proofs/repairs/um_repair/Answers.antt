@@ -1,10 +1,9 @@
 use Rattle.std.proofs.Common.{ℕ, List, inl, inr, refl, subst, rules}
-use Rattle.fire_repair.specs.fire_code.Words.{IsXcchWord}
-use Rattle.fire_repair.specs.Repairs.{IsRepair}
-use Rattle.um_c.proofs.RepairedOnce.{repaired_once}
+use Rattle.fire_repair.specs.{fire_code.Words.IsXcchWord, Repairs.IsRepair}
+use Rattle.um_c.proofs.UniqueRepairs.{repaired_once}
 use Rattle.um_c.proofs.repairs.um_repair.Goals as goal
 
--- a word that fails its CRC and has no repair
+-- the CRC of the word does not hold, and the word has no repair
 abbrev Lost : List ℕ → Type 0
 Lost w = (IsXcchWord w → ⊥) × ((v : List ℕ) → IsRepair w v → ⊥)
 

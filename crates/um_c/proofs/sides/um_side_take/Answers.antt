@@ -1,7 +1,5 @@
-use Rattle.std.proofs.Common.{refl, sym, ◌∙◌, ap}
-use Rattle.std.proofs.lemmas.Bool.{false≢true}
-use Rattle.um_c.specs.declared.states.PlainEnd.{PlainEnd}
-use Rattle.um_c.specs.declared.sides.PlainSide.{PlainSide}
+use Rattle.std.proofs.{Common.{refl, sym, ◌∙◌, ap}, lemmas.Bool.false≢true}
+use Rattle.um_c.specs.declared.{states.PlainEnd.PlainEnd, sides.PlainSide.PlainSide}
 use Rattle.um_c.proofs.sides.um_side_take.Goals as goal
 
 pub returns-then-is_of_sapi_3-clause-given : goal.returns-then-is_of_sapi_3-clause-given

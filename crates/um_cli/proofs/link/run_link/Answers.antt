@@ -1,6 +1,5 @@
 use Rattle.std.proofs.Common.{◌≡◌, ap, sym, ◌∙◌}
-use Rattle.um_session.specs.Courses.{Tallies}
-use Rattle.um_session.proofs.Laws.{unmade_run, same_run}
+use Rattle.um_session.{specs.Courses.Tallies, proofs.Laws.{run_without_memory, same_run}}
 use Rattle.um_cli.proofs.Arriving.{best_arrivals}
 use Rattle.um_cli.proofs.link.run_link.Goals as goal
 
@@ -16,7 +15,7 @@ returns-in-Ok-clause-session g c =
     (ap (λ r. let t : Tallies = record { sent = g.R.Radio.sent r; heard = g.R.Radio.heard r } in t) (sym left)) c.drive_link.ensures.session
 
 pub returns-in-Err-clause-session : goal.returns-in-Err-clause-session
-returns-in-Err-clause-session g c = unmade_run c.args.tsc c.args.channel _ _ _
+returns-in-Err-clause-session g c = run_without_memory c.args.tsc c.args.channel _ _ _
 
 pub returns-in-Ok-clause-arrivals : goal.returns-in-Ok-clause-arrivals
 returns-in-Ok-clause-arrivals g c = best_arrivals _ _ _ _ _ _ _ _ _ (returns-in-Ok-clause-session g c)

@@ -1,9 +1,8 @@
-use Rattle.um_driver.proofs.Settling.{without_memory}
-use Rattle.um_driver.proofs.TableLemmas.{EndsAsDue-from_run}
+use Rattle.um_driver.proofs.{AfterWrites.without_memory, TableLemmas.EndsAsPrescribed-from_run}
 use Rattle.um_driver.proofs.driver.drive.Goals as goal
 
 pub returns-in-Ok-clause-due : goal.returns-in-Ok-clause-due
-returns-in-Ok-clause-due g c = EndsAsDue-from_run _ _ _ _ _ _ _ _ c.serve.ensures.table
+returns-in-Ok-clause-due g c = EndsAsPrescribed-from_run _ _ _ _ _ _ _ _ c.answer_all_lines.ensures.table
 
 pub returns-in-Err-clause-table : goal.returns-in-Err-clause-table
 returns-in-Err-clause-table g c = without_memory _ _ _ _ _ c.requires

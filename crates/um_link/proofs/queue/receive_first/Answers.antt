@@ -5,7 +5,7 @@ use Rattle.um_link.proofs.queue.receive_first.Goals as goal
 pub returns-clause-received : goal.returns-clause-received
 returns-clause-received g c =
     let gone = c.drop_first.ensures.first in
-    let softened = c.soften_first.ensures.value gone.0 c.drop_first.new.way.items gone.1 in (
+    let softened = c.write_oldest_as_soft_values.ensures.value gone.0 c.drop_first.new.way.items gone.1 in (
       c.receive.result,
       refl,
       record {

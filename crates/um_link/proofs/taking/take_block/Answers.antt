@@ -1,9 +1,7 @@
 use Rattle.std.proofs.Common.{rules, ap, ◌∙◌, None}
 use Rattle.lapdm_frame.specs.Content.{frame_of}
-use Rattle.um_link.specs.Naming.{role_of}
-use Rattle.um_link.specs.BlockTaking.{accepted_in}
-use Rattle.um_air.specs.Air.{Reads}
-use Rattle.um_link.proofs.Reading.{read_taken, none_taken}
+use Rattle.um_link.{specs.{Naming.role_of, BlockTaking.accepted_in}, proofs.Reading.{read_taken, none_taken}}
+use Rattle.um_air.specs.Air.{ReadsFrame}
 use Rattle.um_link.proofs.taking.take_block.Goals as goal
 
 pub returns-in-Ok-clause-takes : goal.returns-in-Ok-clause-takes
@@ -14,11 +12,11 @@ returns-in-Ok-clause-takes c =
 
 pub returns-in_default-clause-takes : goal.returns-in_default-clause-takes
 returns-in_default-clause-takes c =
-    let reads : Reads c.args.channel (accepted_in c.args.received.now) None = search rules in
+    let reads : ReadsFrame c.args.channel (accepted_in c.args.received.now) None = search rules in
     none_taken (role_of c.args.end) c.args.channel _ c.args.ends.now c.clear.new.self reads c.clear.ensures.frames c.clear.ensures.notices
 
 pub returns-clause-takes : goal.returns-clause-takes
 returns-clause-takes c =
-    let reads : Reads c.args.channel (accepted_in c.args.received.now) None = search rules in
+    let reads : ReadsFrame c.args.channel (accepted_in c.args.received.now) None = search rules in
     none_taken (role_of c.args.end) c.args.channel _ c.args.ends.now c.clear-2.new.self reads c.clear-2.ensures.frames
     c.clear-2.ensures.notices

@@ -1,5 +1,4 @@
-use Rattle.std.proofs.Common.{◌+◌, ◌%◌, rules}
-use Rattle.std.proofs.lemmas.List.FromFn.{fill_by_all}
+use Rattle.std.proofs.{Common.{◌+◌, ◌%◌, rules}, lemmas.List.FromFn.fill_by_all}
 use Rattle.um_make.proofs.course.octets.Goals as goal
 
 pub returns : goal.returns

@@ -1,5 +1,4 @@
-use Rattle.std.proofs.Common.{rules, w32, FitsSigned}
-use Rattle.std.proofs.lemmas.Int.{to_z-of_z}
+use Rattle.std.proofs.{Common.{rules, w32, FitsSigned}, lemmas.Int.to_z-of_z}
 use Rattle.um_margin.proofs.Comparing.{is_compared}
 use Rattle.um_margin.proofs.comparison.compare.Goals as goal
 

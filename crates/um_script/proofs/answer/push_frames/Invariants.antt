@@ -1,14 +1,15 @@
 use Rattle.std.proofs.Common.{◌≡◌, ◌+◌, ◌*◌, ◌≤◌, ◌++◌, length, map, drop}
 use Rattle.um_link.specs.Naming.{who_of}
-use Rattle.um_script.specs.AnswerLines.{Sends, lines_text, FitLines}
+use Rattle.um_script.specs.AnswerLines.{Sends, lines_text, LinesAreInRange}
 use Rattle.um_script.proofs.answer.push_frames.Given as goal
 
--- the text so far and the lines of the remaining frames are the whole text
+-- the text written so far, followed by the lines of the remaining frames, is the whole text
 abbrev pub invariant-loop-frame : goal.invariant-loop-frame
 invariant-loop-frame l =
     record {
       text : l.out ++ lines_text (map (Sends (who_of l.who)) (drop l.frame-index l.frames))
           ≡ l.fn.out ++ lines_text (map (Sends (who_of l.who)) l.frames);
       short : length l.out ≤ length l.fn.out + 60 * l.frame-index;
-      fit : FitLines (map (Sends (who_of l.who)) (drop l.frame-index l.frames)) → FitLines (map (Sends (who_of l.who)) l.frames);
+      fit : LinesAreInRange (map (Sends (who_of l.who)) (drop l.frame-index l.frames)) →
+          LinesAreInRange (map (Sends (who_of l.who)) l.frames);
     }

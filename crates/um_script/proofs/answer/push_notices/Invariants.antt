@@ -1,15 +1,15 @@
 use Rattle.std.proofs.Common.{◌≡◌, ◌+◌, ◌*◌, ◌≤◌, ◌++◌, length, map, drop}
 use Rattle.um_link.specs.Naming.{who_of}
-use Rattle.um_script.specs.AnswerLines.{Reports, lines_text, FitLines}
+use Rattle.um_script.specs.AnswerLines.{Reports, lines_text, LinesAreInRange}
 use Rattle.um_script.proofs.answer.push_notices.Given as goal
 
--- the text so far and the lines of the remaining notices are the whole text
+-- the text written so far, followed by the lines of the remaining notices, is the whole text
 abbrev pub invariant-loop-notice : goal.invariant-loop-notice
 invariant-loop-notice l =
     record {
       text : l.out ++ lines_text (map (Reports (who_of l.who) l.sapi) (drop l.notice-index l.notices))
           ≡ l.fn.out ++ lines_text (map (Reports (who_of l.who) l.sapi) l.notices);
       short : length l.out ≤ length l.fn.out + 520 * l.notice-index;
-      fit : FitLines (map (Reports (who_of l.who) l.sapi) (drop l.notice-index l.notices)) →
-          FitLines (map (Reports (who_of l.who) l.sapi) l.notices);
+      fit : LinesAreInRange (map (Reports (who_of l.who) l.sapi) (drop l.notice-index l.notices)) →
+          LinesAreInRange (map (Reports (who_of l.who) l.sapi) l.notices);
     }

@@ -1,7 +1,5 @@
-use Rattle.std.proofs.Common.{arith}
-use Rattle.std.proofs.lemmas.Bool.Decides.{nat_tests}
-use Rattle.weight_bound.specs.Distance.{is_different}
-use Rattle.weight_bound.proofs.Counting.{count_by_more}
+use Rattle.std.proofs.{Common.arith, lemmas.Bool.Decides.nat_tests}
+use Rattle.weight_bound.{specs.Distance.is_different, proofs.Counting.count_by_more}
 use Rattle.weight_bound.proofs.counts.distance.Goals as goal
 
 pub loop-k-preserved : goal.loop-k-preserved

@@ -1,5 +1,4 @@
-use Rattle.std.proofs.Common.{◌≡◌, ◌≤◌}
-use Rattle.std.specs.List.{count_by, range_with_len}
+use Rattle.std.{proofs.Common.{◌≡◌, ◌≤◌}, specs.List.{count_by, range_with_len}}
 use Rattle.weight_bound.specs.Distance.{is_different}
 use Rattle.weight_bound.proofs.counts.distance.Given as goal
 

@@ -1,7 +1,5 @@
-use Rattle.std.proofs.Common.{rules, ◌∙◌, ap, get_or, pos, FitsSigned, w8}
-use Rattle.std.specs.Prelude.{unsigned_abs}
-use Rattle.std.proofs.lemmas.Int.{to_z-of_z}
-use Rattle.weight_bound.proofs.AbsoluteValues.{IsSoFar-none, IsSoFar-more, IsStrengths-whole}
+use Rattle.std.{proofs.{Common.{rules, ◌∙◌, ap, get_or, pos, FitsSigned, w8}, lemmas.Int.to_z-of_z}, specs.Prelude.unsigned_abs}
+use Rattle.weight_bound.proofs.AbsoluteValues.{IsSoFar-none, IsSoFar-more, AreLeastAndGreatestStrength-whole}
 use Rattle.weight_bound.proofs.counts.strengths.Goals as goal
 
 pub loop-value-init : goal.loop-value-init
@@ -19,4 +17,4 @@ loop-value-preserved c =
     rw (c.min-least.ensures, c.max-greatest.ensures) (IsSoFar-more soft k _ _ _ c.loop-value-test.true strength c.loop-value.invariant)
 
 pub returns : goal.returns
-returns c = IsStrengths-whole c.args.soft.now c.loop-value.value-index _ _ c.loop-value-test.false c.loop-value.invariant
+returns c = AreLeastAndGreatestStrength-whole c.args.soft.now c.loop-value.value-index _ _ c.loop-value-test.false c.loop-value.invariant

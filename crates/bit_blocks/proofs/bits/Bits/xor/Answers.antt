@@ -1,8 +1,6 @@
-use Rattle.std.proofs.Common.{arith, ◌≡◌, ◌≤◌, ◌<◌, length, ◌∙◌, sym}
-use Rattle.std.proofs.lemmas.Grind.{same_number_lists}
-use Rattle.std.proofs.lemmas.List.Elements.{All-set}
+use Rattle.std.proofs.{Common.{arith, ◌≡◌, ◌≤◌, ◌<◌, length, ◌∙◌, sym}, lemmas.{Grind.same_number_lists, List.Elements.All-set}}
 use Rattle.std.proofs.lemmas.List.{length-set}
-use Rattle.bit_blocks.proofs.BitLists.{add_bits_more, length-add_bits, bit_xor-at_most_1}
+use Rattle.bit_blocks.proofs.BitLists.{add_bits_more, length-xor_bits, bit_xor-at_most_1}
 use Rattle.bit_blocks.proofs.bits.Bits.xor.Goals as goal
 
 pub loop-i-preserved : goal.loop-i-preserved
@@ -20,5 +18,5 @@ returns-clause-value g c =
     let same : length c.self.inside.places ≡ length c.other.inside.places = omega arith in
     rw (← c.self.view_is, ← c.other.view_is)
     (same_number_lists _ _
-    (c.loop-i.invariant.1 ∙ sym (length-add_bits _ _ same))
+    (c.loop-i.invariant.1 ∙ sym (length-xor_bits _ _ same))
     (λ k lt. let lt' : k < c.loop-i.i = omega arith in c.loop-i.invariant.2 k lt'))

@@ -1,5 +1,4 @@
-use Rattle.std.proofs.Common.{arith}
-use Rattle.std.proofs.lemmas.List.{take_all}
+use Rattle.std.proofs.{Common.arith, lemmas.List.take_all}
 use Rattle.burst_map.proofs.Parts.{take-slice_range}
 use Rattle.burst_map.proofs.sync_burst.SyncView.new.Goals as goal
 

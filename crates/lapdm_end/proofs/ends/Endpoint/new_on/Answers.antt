@@ -1,5 +1,5 @@
 use Rattle.std.proofs.Common.{refl}
-use Rattle.lapdm_window.proofs.Lemmas.{IsEnd-start}
+use Rattle.lapdm_window.proofs.Lemmas.{IsValidEndpoint-start}
 use Rattle.lapdm_end.specs.Addresses.{role_of}
 use Rattle.lapdm_end.proofs.ends.Endpoint.new_on.Goals as goal
 
@@ -7,7 +7,7 @@ pub returns-clause-represents : goal.returns-clause-represents
 returns-clause-represents c =
     let window = c.new_on.ensures.represents (role_of c.args.role) c.args.sapi in
     record {
-      end = IsEnd-start (role_of c.args.role) c.args.sapi c.args.channel;
+      end = IsValidEndpoint-start (role_of c.args.role) c.args.sapi c.args.channel;
       link = record { role = refl; sapi = refl; channel = refl };
       state = refl;
       kept = c.new.ensures;

@@ -1,23 +1,18 @@
--- `restore` succeeds exactly if it restores the window and the values satisfy
--- `AreConsistent`: `in_step` gives one direction, `represents_one` the other.
-use Rattle.std.proofs.Common.{◌≡◌, refl, sym, ◌∙◌, ap, subst}
-use Rattle.std.proofs.lemmas.Bool.{false≢true}
-use Rattle.segmenting.specs.Segments.{Message}
-use Rattle.lapdm_window.specs.Parts.{WindowValues}
-use Rattle.lapdm_window.specs.Parts as W
-use Rattle.lapdm_window.proofs.Lemmas.{Represents-values}
-use Rattle.lapdm_end.specs.declared.ends.Endpoint.{Endpoint}
-use Rattle.lapdm_end.specs.Parts.{EndValues, values_of, said_by, AreOfAnEnd, AreConsistent}
-use Rattle.lapdm_end.proofs.PartsOfEnds.{Represents-same_values, in_step, window_of}
-use Rattle.lapdm_end.proofs.Pasts.{represents_one}
-use Rattle.lapdm_end.proofs.ends.Endpoint.restore.Goals as goal
+-- `restore` succeeds if and only if it restores the window and the values satisfy `AreConsistent`: `in_step` proves one direction,
+-- `represents_one` the other.
+use Rattle.std.proofs.{Common.{◌≡◌, refl, sym, ◌∙◌, ap, subst}, lemmas.Bool.false≢true}
+use Rattle.lapdm_window.{specs.{segmenting.Segments.Message, Parts.WindowValues}, proofs.Lemmas.Represents-values}
+use Rattle.lapdm_end.specs.{declared.ends.Endpoint.Endpoint, Parts.{EndValues, values_of, values_in, AreOfSomeEndpoint, AreConsistent}}
+use Rattle.lapdm_end.proofs.{PartsOfEnds.{Represents-same_values, in_step, window_of}, Represented.represents_one}
 use Rattle.lapdm_end.proofs.ends.Endpoint.restore.Goals.{then-not-are_consistent-via-then-not-are_consistent}
 use Rattle.lapdm_end.proofs.ends.Endpoint.restore.Goals.{then-not-are_consistent-via-else-not-are_consistent+then-not-restore}
+use Rattle.lapdm_window.specs.Parts as W
+use Rattle.lapdm_end.proofs.ends.Endpoint.restore.Goals as goal
 
-stepped : (x : EndValues) → AreOfAnEnd x → AreConsistent x
+stepped : (x : EndValues) → AreOfSomeEndpoint x → AreConsistent x
 stepped x h = subst AreConsistent h.1.values (in_step h.1.end h.0 h.1.represents)
 
-of_a_window : (x : EndValues) → AreOfAnEnd x → W.AreOfAWindow x.window
+of_a_window : (x : EndValues) → AreOfSomeEndpoint x → W.AreOfSomeWindow x.window
 of_a_window x h =
     let f = window_of h.1.end h.0 h.1.represents in
     (f.0, record { window = h.1.end.window; values = ap (λ (y : EndValues). y.window) h.1.values; represents = f.1 })
@@ -27,16 +22,16 @@ returns-then-not-are_consistent-clause-known c = (
   λ s. absurd (false≢true s),
   λ h. elim c.then-not-are_consistent.branch [
     | then-not-are_consistent-via-then-not-are_consistent w ↦
-        absurd (false≢true (sym w.if-not-are_consistent.true ∙ c.are_consistent.ensures.1 (stepped (said_by c.args.parts.now) h)))
+        absurd (false≢true (sym w.if-not-are_consistent.true ∙ c.are_consistent.ensures.1 (stepped (values_in c.args.parts.now) h)))
     | then-not-are_consistent-via-else-not-are_consistent+then-not-restore w ↦
-        absurd (false≢true (sym w.if-not-restore.true ∙ w.restore.ensures.known.1 (of_a_window (said_by c.args.parts.now) h)))
+        absurd (false≢true (sym w.if-not-restore.true ∙ w.restore.ensures.known.1 (of_a_window (values_in c.args.parts.now) h)))
   ],
 )
 
 pub returns-clause-known : goal.returns-clause-known
 returns-clause-known c =
     let p = c.args.parts.now in
-    let x = said_by p in
+    let x = values_in p in
     let step : AreConsistent x = c.are_consistent.ensures.0 c.if-not-are_consistent.false in
     let window : W.values_of c.restore.new.self ≡ x.window = c.restore.ensures.same c.if-not-restore.false in
     let m : Endpoint = record {
@@ -57,7 +52,7 @@ returns-clause-known c =
 pub returns-clause-represents : goal.returns-clause-represents
 returns-clause-represents c = λ _ e h.
     let p = c.args.parts.now in
-    let x = said_by p in
+    let x = values_in p in
     let window : W.values_of c.restore.new.self ≡ x.window = c.restore.ensures.same c.if-not-restore.false in
     let same = ap (λ (k : Message). let y : EndValues = record x { kept = k; window = W.values_of c.restore.new.self } in y) c.write.ensures
     ∙ ap (λ (w : WindowValues). let y : EndValues = record x { window = w } in y) window in

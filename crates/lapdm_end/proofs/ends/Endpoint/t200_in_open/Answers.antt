@@ -1,13 +1,9 @@
 use Rattle.std.proofs.Common.{refl, sym, ◌∙◌, ap, subst, ◌+◌}
-use Rattle.lapdm_window.specs.declared.State.TheVariants.{Open}
-use Rattle.lapdm_window.specs.declared.Timer.{Timer}
-use Rattle.lapdm_window.specs.Ends.{EndState, n200}
-use Rattle.lapdm_window.specs.Answers.{after_t200}
+use Rattle.lapdm_window.specs.{declared.{State.TheVariants.Open, Timer.Timer}, Ends.{EndState, n200}, Answers.after_t200}
+use Rattle.lapdm_end.{specs.Windows.IsOpenWith, proofs.{RulesInSequence.same_rules_in_open, Moves.{as_outcome, in_state, Runs-open}}}
+use Rattle.lapdm_end.proofs.Moves.{Represents-open, Does-open, kept_is_empty_on_sapi3, is_spent, IsAgain, is_again, t200_expiry-closes}
+use Rattle.lapdm_end.proofs.Moves.{t200_expiry-open}
 use Rattle.lapdm_window.specs.Abstraction as W
-use Rattle.lapdm_end.specs.Windows.{IsOpenWith}
-use Rattle.lapdm_end.proofs.Giving.{runs_on}
-use Rattle.lapdm_end.proofs.Moves.{as_outcome, in_state, Runs-open, Represents-open, Does-open, bare_of, is_spent, IsAgain, is_again}
-use Rattle.lapdm_end.proofs.Moves.{t200_expiry-closes, t200_expiry-open}
 use Rattle.lapdm_end.proofs.ends.Endpoint.t200_in_open.Goals as goal
 
 pub returns-in-Spent-clause-refines : goal.returns-in-Spent-clause-refines
@@ -17,7 +13,7 @@ returns-in-Spent-clause-refines c e h =
     let window : W.Represents c.on_timer.new.self e = subst (λ (r : Timer). W.Represents c.on_timer.new.self (after_t200 r e)) c.in-Spent.is
     (c.on_timer.ensures.counted e runs.window) in
     let most = is_spent e (sym c.in-Spent.is ∙ c.on_timer.ensures.answer e runs.window) in
-    as_outcome _ _ e _ _ (t200_expiry-closes _ e (ap (n200 e.channel) runs.state) most) (c.close_with.ensures.refines e (record {
+    as_outcome _ _ e _ _ (t200_expiry-closes _ e (ap (n200 e.channel) runs.state) most) (c.close_and_report_only.ensures.refines e (record {
       end = h.end;
       link = h.link;
       state = h.state;
@@ -34,9 +30,9 @@ returns-in-Again-clause-refines c e h =
     let f : EndState = record e { retries = e.retries + 1 } in
     let window : W.Represents c.on_timer.new.self f = subst (λ (r : Timer). W.Represents c.on_timer.new.self (after_t200 r e)) c.in-Again.is
     (c.on_timer.ensures.counted e runs.window) in
-    let g = c.send_waiting.ensures.refines f (runs_on c.on_timer.new.self f runs refl refl refl refl window) in
+    let g = c.send_outstanding.ensures.refines f (same_rules_in_open c.on_timer.new.self f runs refl refl refl refl window) in
     as_outcome _ _ e _ _ (t200_expiry-open e runs.state again.waiting again.few) (
-      Represents-open _ c.requires.open h.kept (bare_of h) g,
+      Represents-open _ c.requires.open h.kept (kept_is_empty_on_sapi3 h) g,
       Does-open c.clear.ensures.frames
           c.clear.ensures.notices h.link.channel g,
     )

@@ -1,7 +1,6 @@
-use Rattle.std.proofs.Common.{refl, sym, ◌∙◌, arith, inl, inr}
-use Rattle.std.proofs.lemmas.List.{append-nil}
+use Rattle.std.proofs.{Common.{refl, sym, ◌∙◌, arith, inl, inr}, lemmas.List.append-nil}
+use Rattle.lapdm_end.proofs.RulesInSequence.{Gives-counted}
 use Rattle.lapdm_window.specs.declared.Acked.TheVariants as V
-use Rattle.lapdm_end.proofs.Giving.{Gives-counted}
 use Rattle.lapdm_end.proofs.link.Address.count.Goals as goal
 
 pub returns-in-Nothing : goal.returns-in-Nothing

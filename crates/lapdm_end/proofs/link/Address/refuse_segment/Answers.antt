@@ -1,6 +1,6 @@
 use Rattle.lapdm_window.specs.Rules.{sends_next}
-use Rattle.lapdm_end.proofs.Giving.{Gives-then}
+use Rattle.lapdm_end.proofs.RulesInSequence.{Gives-then}
 use Rattle.lapdm_end.proofs.link.Address.refuse_segment.Goals as goal
 
 pub returns-clause-refines : goal.returns-clause-refines
-returns-clause-refines c e h = Gives-then sends_next (c.say_rej.ensures.refines e h) c.send_next.ensures.refines
+returns-clause-refines c e h = Gives-then sends_next (c.send_rej.ensures.refines e h) c.send_next.ensures.refines

@@ -1,11 +1,10 @@
 use Rattle.std.proofs.Common.{◌≡◌, sym, true}
-use Rattle.lapdm_window.specs.Rules.{has_segment}
-use Rattle.lapdm_end.proofs.Rules.{sends_next-yes}
-use Rattle.lapdm_end.proofs.Giving.{Gives-as, Gives-next}
+use Rattle.lapdm_window.specs.Rules.{has_segment_to_send}
+use Rattle.lapdm_end.proofs.{Rules.sends_next-yes, RulesInSequence.{Gives-as, Gives-next}}
 use Rattle.lapdm_end.proofs.link.Address.send_next.Goals as goal
 
 pub returns-clause-refines : goal.returns-clause-refines
 returns-clause-refines c e h =
-    let yes : has_segment e ≡ true = sym (c.if-not-send_next.ensures.answer e h.window) in
+    let yes : has_segment_to_send e ≡ true = sym (c.if-not-send_next.ensures.answer e h.window) in
     Gives-as _ (sends_next-yes e h.state yes) (Gives-next e h yes
-    (c.if-not-send_next.ensures.sent e h.window) c.send_waiting.ensures.refines)
+    (c.if-not-send_next.ensures.sent e h.window) c.send_outstanding.ensures.refines)

@@ -1,7 +1,5 @@
-use Rattle.segmenting.specs.Segments.{Segment}
-use Rattle.lapdm_end.specs.Windows.{takes_segment}
-use Rattle.lapdm_end.proofs.Rules.{takes_i_frame-is}
-use Rattle.lapdm_end.proofs.Giving.{Gives-as, Gives-then}
+use Rattle.lapdm_window.specs.segmenting.Segments.{Segment}
+use Rattle.lapdm_end.{specs.Windows.takes_segment, proofs.{Rules.takes_i_frame-is, RulesInSequence.{Gives-as, Gives-then}}}
 use Rattle.lapdm_end.proofs.link.Address.take_i.Goals as goal
 
 pub returns-clause-refines : goal.returns-clause-refines

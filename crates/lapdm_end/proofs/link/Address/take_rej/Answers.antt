@@ -1,5 +1,5 @@
 use Rattle.lapdm_window.specs.Rules.{answers_poll, sends_again}
-use Rattle.lapdm_end.proofs.Giving.{Gives-then}
+use Rattle.lapdm_end.proofs.RulesInSequence.{Gives-then}
 use Rattle.lapdm_end.proofs.link.Address.take_rej.Goals as goal
 
 pub returns-clause-refines : goal.returns-clause-refines

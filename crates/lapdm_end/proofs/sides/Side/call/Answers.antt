@@ -1,7 +1,5 @@
-use Rattle.std.proofs.Common.{refl}
-use Rattle.std.proofs.lemmas.Result.{on_ok_weaker}
-use Rattle.lapdm_window.specs.declared.Sapi.TheVariants.{Zero, Three}
-use Rattle.lapdm_window.specs.Calls.{call_of, after_call}
+use Rattle.std.proofs.{Common.refl, lemmas.Result.on_ok_weaker}
+use Rattle.lapdm_window.specs.{declared.Sapi.TheVariants.{Zero, Three}, Calls.{call_of, after_call}}
 use Rattle.lapdm_end.proofs.SideSteps.{does_at, asks_at}
 use Rattle.lapdm_end.proofs.sides.Side.call.Goals as goal
 

@@ -1,7 +1,5 @@
 use Rattle.std.proofs.Common.{◌≡◌, sym, ◌∙◌, ap, arith, [], length, slice_index_or, slice_get}
-use Rattle.lapdm_frame.specs.Layout.{n201}
-use Rattle.segmenting.specs.Segments.{segments}
-use Rattle.segmenting.proofs.Lemmas.{length-segments}
+use Rattle.segmenting.{specs.{lapdm_frame.Layout.n201, Segments.segments}, proofs.Lemmas.length-segments}
 use Rattle.lapdm_window.proofs.window.Window.next.Goals as goal
 
 pub piece-requires : goal.piece-requires

@@ -1,23 +1,17 @@
--- Four cases: nothing is outstanding; the N(R) is another; the segment has M = 1; it
--- is the last of its message, which leaves the window.
-use Rattle.std.proofs.Common.{◌≡◌, ◌≢◌, refl, sym, ◌∙◌, ap, subst, arith, ◌+◌, List, [], true, false, length, drop}
-use Rattle.std.proofs.Common.{slice_index_or, Some}
-use Rattle.std.proofs.lemmas.List.{length-drop}
-use Rattle.std.proofs.lemmas.List.Elements.{All-same, All-drop}
-use Rattle.lapdm_frame.specs.Layout.{n201}
-use Rattle.segmenting.specs.Segments.{Message, Segment, IsMessage, segments}
+-- Four cases: no segment is outstanding; the N(R) differs from V(S); the segment has M = 1; the segment is the last of its message, which
+-- the window then removes.
+use Rattle.std.proofs.Common.{◌≡◌, ◌≢◌, refl, sym, ◌∙◌, ap, subst, arith, ◌+◌, List, [], true, false, length, drop, slice_index_or, Some}
+use Rattle.std.proofs.lemmas.List.{length-drop, Elements.{All-same, All-drop}}
+use Rattle.segmenting.specs.{lapdm_frame.Layout.n201, Segments.{Message, Segment, IsMessage, segments}}
+use Rattle.lapdm_window.specs.{Ends.{next_segment, acked_message_count, vs, va, number_capped_at_64_bits}, Rules.{with_acked, acked_number}}
+use Rattle.lapdm_window.{specs.Abstraction.HoldsUnacked, proofs.{Numbers.{one_sent, capped-more}, FirstSegments.{goes_on, ends}}}
+use Rattle.lapdm_window.proofs.{Counting.{acked_message_count-more, acked_message_count-last}, Moves.{IsFirst, IsNext, next_is}}
+use Rattle.lapdm_window.proofs.Moves.{HasWindowOfOne-acked, Holds-more, Holds-last, acknowledges-not_waiting, acknowledges-other}
+use Rattle.lapdm_window.proofs.Moves.{acknowledges-waiting, counts-nothing, counts-something, ack_answer-segment, ack_answer-message}
+use Rattle.lapdm_window.proofs.{Moves.{acked-is_outstanding, Represents-same}, window.Window.on_ack.Goals.then-self-via-then-self}
+use Rattle.lapdm_window.proofs.window.Window.on_ack.Goals.{then-self-via-else-self+then-nr-self}
 use Rattle.lapdm_window.specs.declared.Acked.TheVariants as V
-use Rattle.lapdm_window.specs.Ends.{next_segment, wholly_acked, vs, va, capped_number}
-use Rattle.lapdm_window.specs.Rules.{with_acked, acked_number}
-use Rattle.lapdm_window.specs.Abstraction.{HoldsUnacked}
-use Rattle.lapdm_window.proofs.Numbers.{one_sent, capped-more}
-use Rattle.lapdm_window.proofs.FirstSegments.{goes_on, ends}
-use Rattle.lapdm_window.proofs.Counting.{wholly_acked-more, wholly_acked-last}
-use Rattle.lapdm_window.proofs.Moves.{IsFirst, IsNext, next_is, KeepsWindow-acked, Holds-more, Holds-last, acknowledges-not_waiting}
-use Rattle.lapdm_window.proofs.Moves.{acknowledges-other, acknowledges-waiting, counts-nothing, counts-something, acked_by-segment}
-use Rattle.lapdm_window.proofs.Moves.{acked_by-message, acked-waits, Represents-same}
 use Rattle.lapdm_window.proofs.window.Window.on_ack.Goals as goal
-use Rattle.lapdm_window.proofs.window.Window.on_ack.Goals.{then-self-via-then-self, then-self-via-else-self+then-nr-self}
 
 pub invariant_of-self : goal.invariant_of-self
 invariant_of-self c =
@@ -66,7 +60,7 @@ returns-then-more-clause-answer c e h =
     { some = w.waiting c.if-self.false; within = w.within; piece = c.next-more.ensures } in
     let next : IsNext e x = next_is e w.channel w.held.items w.place x h.tracks.channel h.holds first in
     let acks = acknowledges-waiting e c.args.nr h.end differ (c.if-nr-self.false ∙ h.tracks.vs) in
-    sym (acked_by-segment e c.args.nr acks (ap (λ p. p.1) next.piece ∙ c.if-more.true))
+    sym (ack_answer-segment e c.args.nr acks (ap (λ p. p.1) next.piece ∙ c.if-more.true))
 
 pub returns-then-more-clause-counted : goal.returns-then-more-clause-counted
 returns-then-more-clause-counted c e h =
@@ -80,18 +74,18 @@ returns-then-more-clause-counted c e h =
     let more : (next_segment e).1 ≡ true = ap (λ p. p.1) next.piece ∙ c.if-more.true in
     Represents-same _ (with_acked e) _ (counts-something e c.args.nr
     (acknowledges-waiting e c.args.nr h.end differ (c.if-nr-self.false ∙ h.tracks.vs))) (record {
-      end = KeepsWindow-acked e h.end;
+      end = HasWindowOfOne-acked e h.end;
       tracks = record {
         channel = h.tracks.channel;
         vs = h.tracks.vs;
         va = h.tracks.vs;
         vr = h.tracks.vr;
-        done = h.tracks.done ∙ ap capped_number (sym (wholly_acked-more e one next.within more));
+        done = h.tracks.done ∙ ap number_capped_at_64_bits (sym (acked_message_count-more e one next.within more));
         rejecting = h.tracks.rejecting;
         joined = h.tracks.joined;
       };
       holds = Holds-more e w.held.items w.place one h.holds next.within more;
-      retries = λ t. absurd (acked-waits e t);
+      retries = λ t. absurd (acked-is_outstanding e t);
     })
 
 pub returns-clause-answer : goal.returns-clause-answer
@@ -104,9 +98,9 @@ returns-clause-answer c e h =
     let next : IsNext e x = next_is e w.channel w.held.items w.place x h.tracks.channel h.holds first in
     let last : (next_segment e).1 ≡ false = ap (λ p. p.1) next.piece ∙ c.if-more.false in
     let number : c.saturating_add-self.result ≡ acked_number e = c.saturating_add-self.ensures
-    ∙ capped-more (wholly_acked e) w.done h.tracks.done ∙ ap capped_number
-    (sym (wholly_acked-last e (one_sent e h.end differ) next.within last)) in
-    ap (λ n. V.Message n) number ∙ sym (acked_by-message e c.args.nr
+    ∙ capped-more (acked_message_count e) w.done h.tracks.done ∙ ap number_capped_at_64_bits
+    (sym (acked_message_count-last e (one_sent e h.end differ) next.within last)) in
+    ap (λ n. V.Message n) number ∙ sym (ack_answer-message e c.args.nr
     (acknowledges-waiting e c.args.nr h.end differ (c.if-nr-self.false ∙ h.tracks.vs)) last)
 
 pub returns-clause-counted : goal.returns-clause-counted
@@ -126,18 +120,18 @@ returns-clause-counted c e h =
     let items : c.remove_first.new.self.items ≡ drop 1 w.held.items = c.remove_first.ensures.items in
     Represents-same _ (with_acked e) _ (counts-something e c.args.nr
     (acknowledges-waiting e c.args.nr h.end differ (c.if-nr-self.false ∙ h.tracks.vs))) (record {
-      end = KeepsWindow-acked e h.end;
+      end = HasWindowOfOne-acked e h.end;
       tracks = record {
         channel = h.tracks.channel;
         vs = h.tracks.vs;
         va = h.tracks.vs;
         vr = h.tracks.vr;
-        done = c.saturating_add-self.ensures ∙ capped-more (wholly_acked e) w.done h.tracks.done
-            ∙ ap capped_number (sym (wholly_acked-last e one next.within last));
+        done = c.saturating_add-self.ensures ∙ capped-more (acked_message_count e) w.done h.tracks.done
+            ∙ ap number_capped_at_64_bits (sym (acked_message_count-last e one next.within last));
         rejecting = h.tracks.rejecting;
         joined = h.tracks.joined;
       };
       holds = subst (λ (held : List Message). HoldsUnacked held 0 (with_acked e)) (sym items)
           (Holds-last e w.held.items w.place one h.holds next.within last (w.waiting c.if-self.false) at_the_end);
-      retries = λ t. absurd (acked-waits e t);
+      retries = λ t. absurd (acked-is_outstanding e t);
     })

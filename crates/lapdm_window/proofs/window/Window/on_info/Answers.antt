@@ -1,5 +1,4 @@
-use Rattle.std.proofs.Common.{refl, sym, ◌∙◌, ap, ◌%◌, [], ◌∷◌, length}
-use Rattle.std.proofs.lemmas.List.{length-append}
+use Rattle.std.proofs.{Common.{refl, sym, ◌∙◌, ap, ◌%◌, [], ◌∷◌, length}, lemmas.List.length-append}
 use Rattle.segmenting.specs.Segments.{Segment}
 use Rattle.lapdm_window.proofs.Numbers.{next_number}
 use Rattle.lapdm_window.proofs.window.Window.on_info.Goals as goal

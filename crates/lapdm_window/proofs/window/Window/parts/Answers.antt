@@ -1,11 +1,8 @@
-use Rattle.std.proofs.Common.{refl, arith, ◌≤◌, List, [], ◌∷◌, length, get_or, All}
-use Rattle.std.proofs.lemmas.List.Elements.{All-head}
-use Rattle.lapdm_frame.specs.Layout.{n201}
-use Rattle.segmenting.specs.Segments.{Message, IsMessage, longest}
-use Rattle.segmenting.proofs.Lemmas.{few_segments}
+use Rattle.std.proofs.{Common.{refl, arith, ◌≤◌, List, [], ◌∷◌, length, get_or, All}, lemmas.List.Elements.All-head}
+use Rattle.segmenting.{specs.{lapdm_frame.Layout.n201, Segments.{Message, IsMessage, max_message_octets}}, proofs.Lemmas.few_segments}
 use Rattle.lapdm_window.proofs.window.Window.parts.Goals as goal
 
-first_fits : (held : List Message) → All IsMessage held → length (get_or held 0 []) ≤ longest
+first_fits : (held : List Message) → All IsMessage held → length (get_or held 0 []) ≤ max_message_octets
 first_fits [] h = omega arith
 first_fits (m ∷ ms) h = let first : IsMessage m = All-head IsMessage m ms h in first.most
 

@@ -1,18 +1,14 @@
--- `restore` succeeds exactly if the values satisfy `AreConsistent`: `in_step` gives one
--- direction, `represents_one` the other.
-use Rattle.std.proofs.Common.{◌≡◌, ◌≢◌, refl, sym, ◌∙◌, ap, subst, arith, ℕ, ◌+◌, ◌%◌, ◌≤◌, ◌⊎◌}
-use Rattle.std.proofs.Common.{inl, inr, length, map}
+-- `restore` succeeds if and only if the values satisfy `AreConsistent`: `in_step` proves one direction, `represents_one` the other.
+use Rattle.std.proofs.Common.{◌≡◌, ◌≢◌, refl, sym, ◌∙◌, ap, subst, arith, ℕ, ◌+◌, ◌%◌, ◌≤◌, ◌⊎◌, inl, inr, length, map}
 use Rattle.std.proofs.lemmas.Bool.{false≢true}
-use Rattle.segmenting.specs.Parts.{JoinerValues}
-use Rattle.segmenting.specs.Buffers.{octets_in}
-use Rattle.lapdm_window.specs.declared.window.Window.{Window}
-use Rattle.lapdm_window.specs.Parts.{WindowValues, values_of, said_by, AreOfAWindow, AreConsistent}
+use Rattle.segmenting.specs.{Parts.JoinerValues, Buffers.octets_in}
+use Rattle.lapdm_window.specs.{declared.window.Window.Window, Parts.{WindowValues, values_of, values_in, AreOfSomeWindow, AreConsistent}}
 use Rattle.lapdm_window.proofs.Parts.{in_step, represents_one}
-use Rattle.lapdm_window.proofs.window.Window.restore.Goals as goal
 use Rattle.lapdm_window.proofs.window.Window.restore.Goals.{then-not-are_consistent-via-then-not-are_consistent}
 use Rattle.lapdm_window.proofs.window.Window.restore.Goals.{then-not-are_consistent-via-else-not-are_consistent+then-not-restore}
+use Rattle.lapdm_window.proofs.window.Window.restore.Goals as goal
 
-stepped : (x : WindowValues) → AreOfAWindow x → AreConsistent x
+stepped : (x : WindowValues) → AreOfSomeWindow x → AreConsistent x
 stepped x h = subst AreConsistent h.1.values (in_step h.1.window h.0 h.1.represents)
 
 fits : (vs va : ℕ) (A : Type 0) → va ≤ 7 → (vs ≡ va) ⊎ ((vs ≡ (va + 1) % 8) × A) → vs ≤ 7
@@ -28,7 +24,8 @@ returns-then-not-are_consistent-clause-known c = (
   λ s. absurd (false≢true s),
   λ h. elim c.then-not-are_consistent.branch [
     | then-not-are_consistent-via-then-not-are_consistent w ↦
-        absurd (false≢true (sym w.if-not-are_consistent.true ∙ c.are_consistent.ensures.together.1 (stepped (said_by c.args.parts.now) h)))
+        absurd (false≢true (sym w.if-not-are_consistent.true ∙ c.are_consistent.ensures.together.1 (stepped
+        (values_in c.args.parts.now) h)))
     | then-not-are_consistent-via-else-not-are_consistent+then-not-restore w ↦
         absurd (false≢true (sym w.if-not-restore.true
         ∙ w.restore.ensures.known.1 (h.1.window.joiner, ap (λ (x : WindowValues). x.joiner) h.1.values)))
@@ -38,7 +35,7 @@ returns-then-not-are_consistent-clause-known c = (
 pub returns-clause-known : goal.returns-clause-known
 returns-clause-known c =
     let p = c.args.parts.now in
-    let x = said_by p in
+    let x = values_in p in
     let h : AreConsistent x = c.are_consistent.ensures.together.0 c.if-not-are_consistent.false in
     let w : Window = record {
       channel = p.channel;

@@ -1,14 +1,12 @@
-use Rattle.std.proofs.Common.{refl, sym, ◌∙◌, arith, ◌≤◌, length}
-use Rattle.std.proofs.lemmas.Bool.Decides.{nat_tests}
-use Rattle.lapdm_window.proofs.Numbers.{next_number}
-use Rattle.lapdm_window.proofs.Moves.{is_left, has_segment-left, KeepsWindow-next}
+use Rattle.std.proofs.{Common.{refl, sym, ◌∙◌, arith, ◌≤◌, length}, lemmas.Bool.Decides.nat_tests}
+use Rattle.lapdm_window.proofs.{Numbers.next_number, Moves.{is_left, has_segment_to_send-left, HasWindowOfOne-next}}
 use Rattle.lapdm_window.proofs.window.Window.send_next.Goals as goal
 
 pub returns-clause-answer : goal.returns-clause-answer
 returns-clause-answer c e h =
     let w = c.args.self.now in
     let some_held : 1 ≤ length w.held.items = grind (arith, nat_tests) in
-    sym (has_segment-left e h.end (sym h.tracks.vs ∙ c.if-self.false ∙ h.tracks.va)
+    sym (has_segment_to_send-left e h.end (sym h.tracks.vs ∙ c.if-self.false ∙ h.tracks.va)
     (is_left e w.channel w.held.items w.place h.tracks.channel h.holds some_held w.within))
 
 pub returns-clause-sent : goal.returns-clause-sent
@@ -16,7 +14,7 @@ returns-clause-sent c e h =
     let w = c.args.self.now in
     let some_held : 1 ≤ length w.held.items = grind (arith, nat_tests) in
     record {
-      end = KeepsWindow-next e h.end (sym h.tracks.vs ∙ c.if-self.false ∙ h.tracks.va)
+      end = HasWindowOfOne-next e h.end (sym h.tracks.vs ∙ c.if-self.false ∙ h.tracks.va)
           (is_left e w.channel w.held.items w.place h.tracks.channel h.holds some_held w.within);
       tracks = record {
         channel = h.tracks.channel;

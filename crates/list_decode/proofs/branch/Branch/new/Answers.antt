@@ -1,9 +1,6 @@
 use Rattle.std.proofs.Common.{arith, rules, ◌<◌, ◌-ℤ◌, take, refl, ap, ap₂, sym, ◌∙◌, subst, w32, FitsSigned, to_z, of_z}
 use Rattle.std.proofs.lemmas.Int.{to_z-of_z}
-use Rattle.list_decode.specs.Branches.{between}
-use Rattle.list_decode.specs.FreePlaces.{IsBestFree}
-use Rattle.list_decode.specs.Passes.{losses_of}
-use Rattle.list_decode.proofs.Losses.{reached_small}
+use Rattle.list_decode.{specs.{Branches.between, FreePlaces.IsBestFreePosition, Passes.pass_losses}, proofs.Losses.reached_small}
 use Rattle.list_decode.proofs.Spans.{best_deviation, value_fits}
 use Rattle.list_decode.proofs.branch.Branch.new.Goals as goal
 
@@ -11,7 +8,7 @@ pub overflow_sub-best : goal.overflow_sub-best
 overflow_sub-best c =
     let span = c.args.span in
     let departure = c.in-Some.departure in
-    let found = subst (IsBestFree c.args.u.now (losses_of c.args.pass.now) (between span.from span.to) span.to) c.in-Some.is
+    let found = subst (IsBestFreePosition c.args.u.now (pass_losses c.args.pass.now) (between span.from span.to) span.to) c.in-Some.is
     c.find_best.ensures in
     let a : FitsSigned w32 span.likelihood = search rules in
     let b : FitsSigned w32 departure.loss = search rules in
@@ -22,7 +19,7 @@ pub returns-in-Some-clause-branch : goal.returns-in-Some-clause-branch
 returns-in-Some-clause-branch c =
     let span = c.args.span in
     let departure = c.in-Some.departure in
-    let found = subst (IsBestFree c.args.u.now (losses_of c.args.pass.now) (between span.from span.to) span.to) c.in-Some.is
+    let found = subst (IsBestFreePosition c.args.u.now (pass_losses c.args.pass.now) (between span.from span.to) span.to) c.in-Some.is
     c.find_best.ensures in
     let a : FitsSigned w32 span.likelihood = search rules in
     let b : FitsSigned w32 departure.loss = search rules in
@@ -39,6 +36,6 @@ returns-in-Some-clause-branch c =
 pub new-requires-clause-state : goal.new-requires-clause-state
 new-requires-clause-state c =
     let span = c.args.span in
-    let found = subst (IsBestFree c.args.u.now (losses_of c.args.pass.now) (between span.from span.to) span.to) c.in-Some.is
+    let found = subst (IsBestFreePosition c.args.u.now (pass_losses c.args.pass.now) (between span.from span.to) span.to) c.in-Some.is
     c.find_best.ensures in
     subst (λ s. s < 16) (sym found.0.state) (reached_small 0 (take c.in-Some.departure.place c.args.u.now) (omega arith))

@@ -1,7 +1,5 @@
-use Rattle.std.proofs.Common.{arith, ◌≡◌, ◌+◌, ◌-◌, drop, get_or, set, subst, sym, ◌∙◌}
-use Rattle.std.proofs.lemmas.List.{length-set}
-use Rattle.list_decode.specs.Lists.{Leads, no_deviation}
-use Rattle.list_decode.proofs.Trees.{leads_more}
+use Rattle.std.proofs.{Common.{arith, ◌≡◌, ◌+◌, ◌-◌, drop, get_or, set, subst, sym, ◌∙◌}, lemmas.List.length-set}
+use Rattle.list_decode.{specs.Lists.{IsChainOfDeviations, no_deviation}, proofs.Trees.leads_more}
 use Rattle.list_decode.proofs.lists.Lists.chain_to.Goals as goal
 
 pub loop-at-preserved : goal.loop-at-preserved
@@ -23,9 +21,9 @@ loop-at-preserved c =
       start = omega arith;
       within = omega arith;
       left = omega arith;
-      chain = subst (λ n. Leads lists (drop (start - 1) (set c.loop-at.lists (start - 1) at))
+      chain = subst (λ n. IsChainOfDeviations lists (drop (start - 1) (set c.loop-at.lists (start - 1) at))
           (get_or lists.deviations (n - 1) no_deviation).list
           c.args.list) (sym is)
           (leads_more lists c.loop-at.lists (start - 1) at c.args.list (omega arith) (omega arith) old.within
-          (subst (λ n. Leads lists (drop n c.loop-at.lists) at c.args.list) back old.chain));
+          (subst (λ n. IsChainOfDeviations lists (drop n c.loop-at.lists) at c.args.list) back old.chain));
     }

@@ -1,5 +1,5 @@
 use Rattle.std.proofs.Common.{◌≡◌, ◌<◌, ◌≤◌, drop, length}
-use Rattle.list_decode.specs.Lists.{Leads}
+use Rattle.list_decode.specs.Lists.{IsChainOfDeviations}
 use Rattle.list_decode.proofs.lists.Lists.chain_to.Given as goal
 
 abbrev pub invariant-loop-at : goal.invariant-loop-at
@@ -8,7 +8,7 @@ invariant-loop-at l = record {
   start : l.start ≤ 64;
   within : l.at < l.self.count;
   left : l.at < l.start;
-  chain : Leads l.self (drop l.start l.lists) l.at l.fn.list;
+  chain : IsChainOfDeviations l.self (drop l.start l.lists) l.at l.fn.list;
 }
 
 abbrev pub decreases-loop-at : goal.decreases-loop-at

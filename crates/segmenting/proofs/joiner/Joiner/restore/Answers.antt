@@ -1,13 +1,10 @@
-use Rattle.std.proofs.Common.{◌≡◌, refl, ap, arith, ◌++◌, [], length, List, ℕ}
-use Rattle.std.proofs.lemmas.List.{take_at}
-use Rattle.segmenting.specs.declared.joiner.Part.TheVariants.{Over}
-use Rattle.segmenting.specs.declared.joiner.Joiner.{Joiner}
-use Rattle.segmenting.specs.Parts.{JoinerValues, values_of}
-use Rattle.segmenting.proofs.Pasts.{buffer_past}
+use Rattle.std.proofs.{Common.{◌≡◌, refl, ap, arith, ◌++◌, [], length, List, ℕ}, lemmas.List.take_at}
+use Rattle.segmenting.specs.{declared.joiner.{Part.TheVariants.Over, Joiner.Joiner}, Parts.{JoinerValues, values_of}}
+use Rattle.segmenting.proofs.Histories.{buffer_past}
 use Rattle.segmenting.proofs.joiner.Joiner.restore.Goals as goal
 
 none_over : (c : goal.After-self-1) → c.args.part ≡ Over → length c.args.octets.now ≡ 0
-none_over c over = ap length (c.are_kept.ensures.0 c.if-not-are_kept.false over)
+none_over c over = ap length (c.is_empty_if_oversize.ensures.0 c.if-not-is_empty_if_oversize.false over)
 
 pub returns-clause-known : goal.returns-clause-known
 returns-clause-known c =
@@ -17,7 +14,7 @@ returns-clause-known c =
       octets = octets ++ [];
       len = length octets;
       part = part;
-      within = c.if-octets-gt-LONGEST.false;
+      within = c.if-octets-gt-LONGEST_MESSAGE.false;
       dropped = none_over c;
     } in
     let same : values_of j ≡ record { octets = octets; part = part } = ap
@@ -26,5 +23,5 @@ returns-clause-known c =
 
 pub returns-clause-taken : goal.returns-clause-taken
 returns-clause-taken c =
-    let past = buffer_past c.args.part (length c.args.octets.now) _ 0 c.if-octets-gt-LONGEST.false (none_over c) (omega arith) in
+    let past = buffer_past c.args.part (length c.args.octets.now) _ 0 c.if-octets-gt-LONGEST_MESSAGE.false (none_over c) (omega arith) in
     λ s. (past.taken, past.joined)

@@ -1,27 +1,28 @@
 use Rattle.std.proofs.Common.{refl, sym, arith, true, false, []}
-use Rattle.segmenting.specs.declared.joiner.Part.TheVariants as P
-use Rattle.segmenting.proofs.Taking.{goes_on, completes, goes_over, drops, written, HasJoined-same}
-use Rattle.segmenting.proofs.joiner.Joiner.take.Goals as goal
+use Rattle.segmenting.proofs.Taking.{goes_on, completes, taken_oversize, drops, written, HoldsReassemblyOf-same}
 use Rattle.segmenting.proofs.joiner.Joiner.take.Goals.{then-more, else-more}
+use Rattle.segmenting.specs.declared.joiner.Part.TheVariants as P
+use Rattle.segmenting.proofs.joiner.Joiner.take.Goals as goal
 
 pub returns-in_default-clause-after : goal.returns-in_default-clause-after
 returns-in_default-clause-after c taken h =
     let over = c.in_default.ensures.place taken h in
     elim c.if-more.branch [
-      | then-more w ↦ HasJoined-same _ _ _ taken _ _ _ (sym w.self-is) (sym w.if-more.true) (goes_over taken c.args.piece.now over)
-      | else-more w ↦ HasJoined-same _ _ _ taken _ _ _ (sym w.self-is) (sym w.if-more.false) (drops taken c.args.piece.now over)
+      | then-more w ↦ HoldsReassemblyOf-same _ _ _ taken _ _ _ (sym w.self-is) (sym w.if-more.true)
+          (taken_oversize taken c.args.piece.now over)
+      | else-more w ↦ HoldsReassemblyOf-same _ _ _ taken _ _ _ (sym w.self-is) (sym w.if-more.false) (drops taken c.args.piece.now over)
     ]
 
 pub returns-then-more-2-clause-after : goal.returns-then-more-2-clause-after
 returns-then-more-2-clause-after c taken h =
     let held = written c.in-Some.start c.args.piece.now taken c.args.self.now.octets c.copy_from_slice.new.self
     (omega arith) c.in-Some.ensures.space c.copy_from_slice.ensures.after (c.in-Some.ensures.place taken h) in
-    HasJoined-same P.Open P.Open _ taken _ true c.args.more refl (sym c.if-more-2.true)
+    HoldsReassemblyOf-same P.Open P.Open _ taken _ true c.args.more refl (sym c.if-more-2.true)
     (goes_on taken c.args.piece.now _ held.same held.fits)
 
 pub returns-clause-after : goal.returns-clause-after
 returns-clause-after c taken h =
     let held = written c.in-Some.start c.args.piece.now taken c.args.self.now.octets c.copy_from_slice.new.self
     (omega arith) c.in-Some.ensures.space c.copy_from_slice.ensures.after (c.in-Some.ensures.place taken h) in
-    HasJoined-same P.Whole P.Whole _ taken _ false c.args.more refl (sym c.if-more-2.false)
+    HoldsReassemblyOf-same P.Whole P.Whole _ taken _ false c.args.more refl (sym c.if-more-2.false)
     (completes taken c.args.piece.now _ held.same held.fits)

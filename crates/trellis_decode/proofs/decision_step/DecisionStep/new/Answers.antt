@@ -1,44 +1,41 @@
-use Rattle.std.proofs.Common.{get_or}
-use Rattle.trellis_decode.specs.Lanes.{lane}
-use Rattle.trellis_decode.specs.AcsLanes.{choices, path_metric}
-use Rattle.trellis_decode.proofs.Leads.{AreLeads, choice_is, high_near, leads_are, loss_is, low_near}
+use Rattle.trellis_decode.{specs.{Lanes.lane, AcsLanes.path_metric}, proofs.Leads.{AreLeads, choice_is, high_near, leads_are, loss_is}}
+use Rattle.trellis_decode.proofs.{Leads.low_near, decision_step.DecisionStep.new.Goals.After-to_state_order-leads}
 use Rattle.trellis_decode.proofs.decision_step.DecisionStep.new.Goals as goal
-use Rattle.trellis_decode.proofs.decision_step.DecisionStep.new.Goals.{After-by_state-leads}
 
-pub gaps-low-requires-clause-near : goal.gaps-low-requires-clause-near
-gaps-low-requires-clause-near c =
-    low_near c.args.after.even.lanes c.args.after.odd.lanes c.args.branch_metrics.lanes c.new-step.result.candidates
+pub subtract_lanes-low-requires-clause-near : goal.subtract_lanes-low-requires-clause-near
+subtract_lanes-low-requires-clause-near c =
+    low_near _ _ _ _
     c.new-step.ensures.candidates
     c.requires.close c.requires.branch_metrics
 
-pub gaps-high-requires-clause-near : goal.gaps-high-requires-clause-near
-gaps-high-requires-clause-near c =
-    high_near c.args.after.even.lanes c.args.after.odd.lanes c.args.branch_metrics.lanes c.new-step.result.candidates
+pub subtract_lanes-high-requires-clause-near : goal.subtract_lanes-high-requires-clause-near
+subtract_lanes-high-requires-clause-near c =
+    high_near _ _ _ _
     c.new-step.ensures.candidates
     c.requires.close c.requires.branch_metrics
 
-leads : (c : After-by_state-leads) → AreLeads c.args.after.even.lanes c.args.after.odd.lanes c.args.branch_metrics.lanes
-    c.by_state-leads.result.lanes
+leads : (c : After-to_state_order-leads) → AreLeads c.args.after.even.lanes c.args.after.odd.lanes c.args.branch_metrics.lanes
+    c.to_state_order-leads.result.lanes
 leads c = leads_are c.args.after.even.lanes c.args.after.odd.lanes c.args.branch_metrics.lanes c.new-step.result.candidates
     c.new-step.ensures.candidates
     c.requires.close c.requires.branch_metrics
-    c.gaps-low.result.lanes c.gaps-high.result.lanes c.by_state-leads.result.lanes
-    c.gaps-low.ensures.each c.gaps-high.ensures.each c.by_state-leads.ensures
+    c.subtract_lanes-low.result.lanes c.subtract_lanes-high.result.lanes c.to_state_order-leads.result.lanes
+    c.subtract_lanes-low.ensures.each c.subtract_lanes-high.ensures.each c.to_state_order-leads.ensures
 
 pub signs-requires : goal.signs-requires
-signs-requires c = (leads (goal.at.signs-requires c).After-by_state-leads).gaps
+signs-requires c = (leads (goal.at.signs-requires c).After-to_state_order-leads).subtract_lanes
 
-pub sizes-requires : goal.sizes-requires
-sizes-requires c = (leads (goal.at.sizes-requires c).After-by_state-leads).gaps
+pub absolute_values-requires : goal.absolute_values-requires
+absolute_values-requires c = (leads (goal.at.absolute_values-requires c).After-to_state_order-leads).subtract_lanes
 
 pub returns-clause-each : goal.returns-clause-each
 returns-clause-each c pair has s lt =
-    choice_is (path_metric c.args.after) pair s (get_or (choices c.new-step.result.low.lanes c.new-step.result.high.lanes) s 0) _ _
-    (lane c.by_state-leads.result.lanes s) (c.new-step.ensures.each pair has s lt)
-    ((leads (goal.at.returns-clause-each c).After-by_state-leads).each pair has s lt) (c.signs.ensures s lt)
+    choice_is _ _ s _ _ _
+    _ (c.new-step.ensures.each pair has s lt)
+    ((leads (goal.at.returns-clause-each c).After-to_state_order-leads).each pair has s lt) (c.signs.ensures s lt)
 
 pub returns-clause-losses : goal.returns-clause-losses
 returns-clause-losses c pair has s lt =
-    loss_is (path_metric c.args.after) pair s _ _ (lane c.by_state-leads.result.lanes s) _
-    (returns-clause-each c pair has s lt) ((leads (goal.at.returns-clause-losses c).After-by_state-leads).each pair has s lt)
-    (c.sizes.ensures.each s lt)
+    loss_is (path_metric c.args.after) pair s _ _ (lane c.to_state_order-leads.result.lanes s) _
+    (returns-clause-each c pair has s lt) ((leads (goal.at.returns-clause-losses c).After-to_state_order-leads).each pair has s lt)
+    (c.absolute_values.ensures.each s lt)

@@ -1,15 +1,12 @@
 use Rattle.std.proofs.Common.{refl, ap, Some}
 use Rattle.um_link.specs.Naming.{role_of, step_of}
-use Rattle.um_end.specs.Terminals.{takes_read}
-use Rattle.um_end.specs.Abstraction.{side_of}
-use Rattle.um_end.proofs.SideSteps.{done_step}
-use Rattle.um_end.proofs.Determined.{one_reception}
+use Rattle.um_end.{specs.{Terminals.takes_frame_if_read, Abstraction.side_of}, proofs.{SideSteps.done_step, Determined.one_reception}}
 use Rattle.um_end.proofs.terminal.Terminal.receive_into.Goals as goal
 
 pub returns-clause-refines : goal.returns-clause-refines
 returns-clause-refines c a st =
     let h = c.take_block-sapi.ensures.takes a st in
-    let d = takes_read h.read a in (
+    let d = takes_frame_if_read h.read a in (
       d.after,
       h.done.represents,
       record {
@@ -19,7 +16,7 @@ returns-clause-refines c a st =
         reads = h.reads;
         after = refl;
         step_is = done_step (side_of c.args.self.now) _ (Some c.receive_block-report.result) d _ _ _
-            (step_of c.sign.new.step) c.sign.ensures.step
+            (step_of c.set_side_and_sapi.new.step) c.set_side_and_sapi.ensures.step
             (ap role_of c.take_block-sapi.ensures.same.side) h.done;
       },
     )
@@ -27,4 +24,4 @@ returns-clause-refines c a st =
 pub returns-clause-only : goal.returns-clause-only
 returns-clause-only c a st b step h =
     let f = returns-clause-refines c a st in
-    (one_reception (side_of c.args.self.now) a c.args.bursts.now b f.0 step (step_of c.sign.new.step) h f.2).1
+    (one_reception (side_of c.args.self.now) a c.args.bursts.now b f.0 step (step_of c.set_side_and_sapi.new.step) h f.2).1

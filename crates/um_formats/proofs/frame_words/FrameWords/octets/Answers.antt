@@ -1,9 +1,7 @@
 use Rattle.std.proofs.Common.{◌≡◌, ◌-◌, Some, ap, subst, refl, slice_index, ◌∙◌}
 use Rattle.lapdm_frame.specs.Content.{content_of}
-use Rattle.um_lines.specs.ShowForms.{shape_fields}
-use Rattle.um_lines.specs.Forms.{values_of}
-use Rattle.um_formats.specs.ShowLines.{framed, said_content}
-use Rattle.um_formats.specs.ShowReading.{field_words}
+use Rattle.um_lines.specs.{ShowForms.shape_fields, Forms.values_of_words}
+use Rattle.um_formats.specs.{ShowLines.{frame_with_address, content_from_values}, ShowReading.field_words}
 use Rattle.um_formats.proofs.frame_words.FrameWords.octets.Goals as goal
 
 pub returns : goal.returns
@@ -12,9 +10,10 @@ returns c =
     let sapi = slice_index w.sapi.now 0 - 48 in
     let cr = slice_index w.cr.now 0 - 48 in
     let body = content_of c.body-body.result in
-    let said = subst (λ shape. said_content shape w.kind (values_of (shape_fields shape) (field_words shape w.fields)) ≡ Some body)
+    let said = subst (λ shape. content_from_values shape w.kind (values_of_words (shape_fields shape) (field_words shape w.fields))
+    ≡ Some body)
     c.row.ensures.shape (c.of_kind.ensures.said ∙ rw c.body-body.ensures refl) in (
-      record { sapi = c.digit_of-sapi.result; cr = c.is_one-cr.result; content = body },
-      ap (framed sapi cr) said ∙ rw (c.digit_of-sapi.ensures.value, c.is_one-cr.ensures) refl,
+      record { sapi = c.digit_of-sapi.result; cr = c.is_digit_one-cr.result; content = body },
+      ap (frame_with_address sapi cr) said ∙ rw (c.digit_of-sapi.ensures.value, c.is_digit_one-cr.ensures) refl,
       c.write.ensures.octets,
     )

@@ -1,8 +1,7 @@
-use Rattle.std.proofs.Common.{pos, replicate, arith}
-use Rattle.std.proofs.lemmas.List.Elements.{All-replicate}
-use Rattle.bit_blocks.specs.SoftValues.{AllSoft}
+use Rattle.std.proofs.{Common.{pos, replicate, arith}, lemmas.List.Elements.All-replicate}
+use Rattle.um_block.specs.bit_blocks.SoftValues.{AllSoftBits}
 use Rattle.um_formats.proofs.BurstLaws.{lost}
 use Rattle.um_formats.proofs.held.HeldBursts.new.Goals as goal
 
 pub invariant_of-result : goal.invariant_of-result
-invariant_of-result c = (omega arith, All-replicate AllSoft 4 (replicate 148 (pos 0)) lost.1)
+invariant_of-result c = (omega arith, All-replicate AllSoftBits 4 (replicate 148 (pos 0)) lost.1)

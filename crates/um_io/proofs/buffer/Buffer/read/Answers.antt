@@ -1,16 +1,13 @@
-use Rattle.std.proofs.Common.{◌≤◌, ◌≡◌, ◌++◌, ◌+◌, ℕ, List, take, length, sym, ap, subst, ◌∙◌, arith}
-use Rattle.std.proofs.Common.{slice_range}
+use Rattle.std.proofs.Common.{◌≤◌, ◌≡◌, ◌++◌, ◌+◌, ℕ, List, take, length, sym, ap, subst, ◌∙◌, arith, slice_range}
 use Rattle.std.proofs.lemmas.List.Edits.{length-between}
-use Rattle.um_io.specs.Lines.{IsLine}
-use Rattle.um_io.specs.declared.buffer.Buffer.{Buffer}
-use Rattle.um_io.proofs.FeedLemmas.{slice_range-came, slice_range-kept}
+use Rattle.um_io.{specs.{Lines.IsLine, declared.buffer.Buffer.Buffer}, proofs.FeedLemmas.{slice_range-came, slice_range-kept}}
 use Rattle.um_io.proofs.buffer.Buffer.read.Goals as goal
 
 pub returns-clause-came : goal.returns-clause-came
 returns-clause-came g c =
     let b = c.move_to_front.new.self in
     let known = c.in_ok-count.ensures in
-    let new = c.fill_from.new.octets in
+    let new = c.read_into.new.octets in
     let n = c.in_ok-count.count in
     let came = slice_range new.items b.end (b.end + n) in
     let ordered : b.start ≤ b.end = omega (arith, b.begun, b.seen) in
@@ -19,7 +16,7 @@ returns-clause-came g c =
     let size : length came ≡ n = omega (arith, length-between new.items b.end (b.end + n) bound) in
     (came, grown ∙ ap (λ l. l ++ came) c.move_to_front.ensures.unchanged, size, known.came)
 
--- the scanned octets are unchanged
+-- the scanned octets are unchanged and so still have no line feed
 scanned_stays : (b : Buffer) (octets : List ℕ) → take b.end octets ≡ take b.end b.octets.items
     → IsLine (slice_range octets b.start b.scanned)
 scanned_stays b octets same = subst IsLine (sym (slice_range-kept b.octets.items octets b.start b.scanned b.end b.seen same)) b.plain
@@ -27,11 +24,11 @@ scanned_stays b octets same = subst IsLine (sym (slice_range-kept b.octets.items
 pub invariant_of-self : goal.invariant_of-self
 invariant_of-self g c =
     let b = c.move_to_front.new.self in record {
-      size = c.fill_from.ensures.len ∙ b.size;
+      size = c.read_into.ensures.len ∙ b.size;
       begun = b.begun;
       seen = b.seen;
       within = b.within;
-      plain = scanned_stays b c.fill_from.new.octets.items c.fill_from.ensures.front;
+      plain = scanned_stays b c.read_into.new.octets.items c.read_into.ensures.front;
     }
 
 pub invariant_of-self-2 : goal.invariant_of-self-2
@@ -42,5 +39,5 @@ invariant_of-self-2 g c =
       begun = b.begun;
       seen = omega (arith, b.seen);
       within = omega (arith, known.bound, b.size);
-      plain = scanned_stays b c.fill_from.new.octets.items known.front;
+      plain = scanned_stays b c.read_into.new.octets.items known.front;
     }

@@ -1,7 +1,5 @@
-use Rattle.std.proofs.Common.{◌≤◌, ◌+◌, arith, sym, subst, slice_range}
-use Rattle.std.proofs.lemmas.List.Edits.{length-between}
-use Rattle.um_io.specs.Lines.{IsLine}
-use Rattle.um_io.proofs.FeedLemmas.{IsLine-skipped, slice_range-rest}
+use Rattle.std.proofs.{Common.{◌≤◌, ◌+◌, arith, sym, subst, slice_range}, lemmas.List.Edits.length-between}
+use Rattle.um_io.{specs.Lines.IsLine, proofs.FeedLemmas.{IsLine-skipped, slice_range-rest}}
 use Rattle.um_io.proofs.buffer.Buffer.skip.Goals as goal
 
 pub invariant_of-self-clause-plain : goal.invariant_of-self-clause-plain

@@ -1,8 +1,6 @@
-use Rattle.std.proofs.Common.{rules, ◌<◌, ◌≡◌, sym, ap, subst, arith, refl}
-use Rattle.std.proofs.lemmas.Grind.{common_steps}
-use Rattle.um_io.specs.Reading.{NeedsMore}
-use Rattle.um_io.proofs.AskingLemmas.{so_far-none, asked-once}
-use Rattle.um_io.proofs.ReadingLemmas.{turns_left, turns_left-read}
+use Rattle.std.proofs.{Common.{rules, ◌<◌, ◌≡◌, sym, ap, subst, arith, refl}, lemmas.Grind.common_steps}
+use Rattle.um_io.{specs.Reading.NeedsMoreOctets, proofs.{AskingLemmas.{so_far-none, asked-once}, ReadingLemmas.turns_left}}
+use Rattle.um_io.proofs.ReadingLemmas.{turns_left-read}
 use Rattle.um_io.proofs.lines.Lines.find.Goals as goal
 
 pub loop-found-init : goal.loop-found-init
@@ -22,8 +20,9 @@ loop-found-preserved g c =
 pub loop-found-smaller : goal.loop-found-smaller
 loop-found-smaller g c =
     let known = c.in_ok-read.ensures in
-    let more = subst NeedsMore (sym c.look.ensures.unchanged) c.in_default.ensures.found in
-    let fewer : turns_left c.read.new.self < turns_left c.look.new.self =
+    let more = subst NeedsMoreOctets (sym c.find_in_held_octets.ensures.unchanged) c.in_default.ensures.found in
+    let fewer : turns_left c.read.new.self < turns_left c.find_in_held_octets.new.self =
     turns_left-read _ _ _ _ known.read.0 more known.read.1 known.read.2 known.valid in
-    let same : turns_left c.look.new.self ≡ turns_left c.loop-found.self = ap turns_left c.look.ensures.unchanged in
+    let same : turns_left c.find_in_held_octets.new.self ≡ turns_left c.loop-found.self = ap turns_left
+    c.find_in_held_octets.ensures.unchanged in
     omega arith

@@ -1,20 +1,17 @@
 -- One case for each `Found` and for a failure, by the lemmas of `NextLemmas`.
 use Rattle.std.proofs.Common.{rules, subst, false, true, ◌≡◌, Ok, Err, sym, ap, ◌∙◌, refl}
-use Rattle.um_io.specs.Reading.{Reading, IsReading}
-use Rattle.um_io.specs.Buffer.{octets_of}
-use Rattle.um_io.specs.declared.lines.Found.TheVariants.{Line, Above, Past}
-use Rattle.um_io.specs.declared.lines.Lines.TheInside.{Inside}
-use Rattle.um_io.specs.contracts.lines.Lines.{the_view, the_invariant}
-use Rattle.um_io.proofs.AskingLemmas.{asked-none}
-use Rattle.um_io.proofs.ReadingLemmas.{IsReading-from}
-use Rattle.um_io.proofs.NextLemmas.{Finds-same, counts-after, IsNext-found, IsNext-above, IsNext-past, IsNext-failed, unasked}
+use Rattle.um_io.specs.{Reading.{Reading, IsValidReader}, Buffer.octets_of, declared.lines.Found.TheVariants.{Line, LineTooLong}}
+use Rattle.um_io.specs.{declared.lines.{Found.TheVariants.PastInputLimit, Lines.TheInside.Inside}, contracts.lines.Lines.the_view}
+use Rattle.um_io.{specs.contracts.lines.Lines.the_invariant, proofs.{AskingLemmas.asked-none, ReadingLemmas.IsValidReader-from}}
+use Rattle.um_io.proofs.NextLemmas.{IsFindResult-same, counts-after, IsNextLineCall-found, IsNextLineCall-above, IsNextLineCall-past}
+use Rattle.um_io.proofs.NextLemmas.{IsNextLineCall-failed, unasked}
 use Rattle.um_io.proofs.lines.Lines.next.Goals as goal
 
--- the invariant makes the view a valid reader
-valid : (inside : Inside) → the_invariant inside → IsReading (the_view inside)
-valid inside holds = IsReading-from inside.buffer inside.answered inside.number inside.ended inside.over holds.0 holds.1
+-- the invariant of `Lines` makes the value that contracts see a valid reader
+valid : (inside : Inside) → the_invariant inside → IsValidReader (the_view inside)
+valid inside holds = IsValidReader-from inside.buffer inside.answered inside.number inside.ended inside.over holds.0 holds.1
 
--- the field `over` is that of the view
+-- the field `over` of a `Lines` is that of the value that contracts see
 goes_on : (r : Reading) (inside : Inside) → the_view inside ≡ r → inside.over ≡ false → r.over ≡ false
 goes_on r inside view going = sym (ap (λ (s : Reading). s.over) view) ∙ going
 
@@ -23,7 +20,7 @@ invariant_of-self g c =
     let inside = c.self-2.inside in
     let arm = c.in-Ok-Line in
     let known = rw arm.field-0-is at arm.ensures.found in
-    let found = Finds-same c.args.self.now c.find.new.self (the_view inside) (g.S.Source.left c.args.source.now)
+    let found = IsFindResult-same c.args.self.now c.find.new.self (the_view inside) (g.S.Source.left c.args.source.now)
     (g.S.Source.left c.find.new.source) (Ok (Line arm.length arm.whole)) c.self-2.view_is known in
     counts-after (octets_of inside.buffer) inside.answered inside.number arm.length arm.whole inside.ended inside.over
     c.self-2.invariant.0 c.self-2.invariant.1 found.shows
@@ -33,10 +30,11 @@ returns-in-Ok-Line g c =
     let inside = c.self-2.inside in
     let arm = c.in-Ok-Line in
     let known = rw arm.field-0-is at arm.ensures.found in
-    let found = Finds-same c.args.self.now c.find.new.self (the_view inside) (g.S.Source.left c.args.source.now)
+    let found = IsFindResult-same c.args.self.now c.find.new.self (the_view inside) (g.S.Source.left c.args.source.now)
     (g.S.Source.left c.find.new.source) (Ok (Line arm.length arm.whole)) c.self-2.view_is known in
     let going = goes_on c.args.self.now c.self.inside c.self.view_is c.if-self.false in
-    let answers = IsNext-found c.args.self.now inside.buffer c.skip-from.new.self inside.answered inside.number arm.whole inside.ended
+    let answers = IsNextLineCall-found c.args.self.now inside.buffer c.skip-from.new.self inside.answered inside.number arm.whole
+    inside.ended
     inside.over _ _ found.came c.skip-from.result arm.length c.part.result going found.has found.needed c.self-2.invariant.0
     c.self-2.invariant.1 c.skip-from.ensures.rest c.skip-from.ensures.skipped c.part.ensures found.shows in (
       (refl, λ _. tt, answers),
@@ -49,48 +47,58 @@ returns-in-Ok-Line g c =
       },
     )
 
-pub returns-in-Ok-Above : goal.returns-in-Ok-Above
-returns-in-Ok-Above g c =
-    let known = rw c.in-Ok-Above.field-0-is at c.in-Ok-Above.ensures.found in
-    let found = Finds-same c.args.self.now c.find.new.self (the_view c.self-2.inside) (g.S.Source.left c.args.source.now)
-    (g.S.Source.left c.find.new.source) (Ok Above) c.self-2.view_is known in
+pub returns-in-Ok-LineTooLong : goal.returns-in-Ok-LineTooLong
+returns-in-Ok-LineTooLong g c =
+    let known = rw c.in-Ok-LineTooLong.field-0-is at c.in-Ok-LineTooLong.ensures.found in
+    let found = IsFindResult-same c.args.self.now c.find.new.self (the_view c.self-2.inside) (g.S.Source.left c.args.source.now)
+    (g.S.Source.left c.find.new.source) (Ok LineTooLong) c.self-2.view_is known in
     let going = goes_on c.args.self.now c.self.inside c.self.view_is c.if-self.false in (
-      (refl, λ _. tt, IsNext-above c.args.self.now (the_view c.self-2.inside) _ _ going (valid c.self-2.inside c.self-2.invariant) found),
+      (
+        refl,
+        λ _. tt,
+        IsNextLineCall-above c.args.self.now (the_view c.self-2.inside) _ _ going
+            (valid c.self-2.inside c.self-2.invariant) found,
+      ),
       record {
         ends = tt;
         unasked = unasked c.args.self.now c.args.source.now c.find.new.source going c.find.ensures.unasked;
         asked = c.find.ensures.asked;
         failed =
-            c.in-Ok-Above.ensures.counted;
+            c.in-Ok-LineTooLong.ensures.counted;
       },
     )
 
-pub returns-in-Ok-Past : goal.returns-in-Ok-Past
-returns-in-Ok-Past g c =
-    let known = rw c.in-Ok-Past.field-0-is at c.in-Ok-Past.ensures.found in
-    let found = Finds-same c.args.self.now c.find.new.self (the_view c.self-2.inside) (g.S.Source.left c.args.source.now)
-    (g.S.Source.left c.find.new.source) (Ok Past) c.self-2.view_is known in
+pub returns-in-Ok-PastInputLimit : goal.returns-in-Ok-PastInputLimit
+returns-in-Ok-PastInputLimit g c =
+    let known = rw c.in-Ok-PastInputLimit.field-0-is at c.in-Ok-PastInputLimit.ensures.found in
+    let found = IsFindResult-same c.args.self.now c.find.new.self (the_view c.self-2.inside) (g.S.Source.left c.args.source.now)
+    (g.S.Source.left c.find.new.source) (Ok PastInputLimit) c.self-2.view_is known in
     let going = goes_on c.args.self.now c.self.inside c.self.view_is c.if-self.false in (
-      (refl, λ _. tt, IsNext-past c.args.self.now (the_view c.self-2.inside) _ _ going (valid c.self-2.inside c.self-2.invariant) found),
+      (
+        refl,
+        λ _. tt,
+        IsNextLineCall-past c.args.self.now (the_view c.self-2.inside) _ _ going
+            (valid c.self-2.inside c.self-2.invariant) found,
+      ),
       record {
         ends = tt;
         unasked = unasked c.args.self.now c.args.source.now c.find.new.source going c.find.ensures.unasked;
         asked = c.find.ensures.asked;
         failed =
-            c.in-Ok-Past.ensures.counted;
+            c.in-Ok-PastInputLimit.ensures.counted;
       },
     )
 
 pub returns-in-Err : goal.returns-in-Err
 returns-in-Err g c =
     let known = c.in-Err.ensures in
-    let found = Finds-same c.args.self.now c.find.new.self (the_view c.self-2.inside) (g.S.Source.left c.args.source.now)
+    let found = IsFindResult-same c.args.self.now c.find.new.self (the_view c.self-2.inside) (g.S.Source.left c.args.source.now)
     (g.S.Source.left c.find.new.source) (Err c.in-Err.field-0) c.self-2.view_is known.found in
     let going = goes_on c.args.self.now c.self.inside c.self.view_is c.if-self.false in (
       (
         refl,
         λ _. tt,
-        IsNext-failed c.args.self.now (the_view c.self-2.inside) _ _ c.in-Err.field-0 going
+        IsNextLineCall-failed c.args.self.now (the_view c.self-2.inside) _ _ c.in-Err.field-0 going
             (valid c.self-2.inside c.self-2.invariant) found,
       ),
       record {
@@ -105,7 +113,7 @@ returns-in-Err g c =
 pub returns-then-self : goal.returns-then-self
 returns-then-self g c =
     let over : c.args.self.now.over ≡ true = sym (ap (λ (s : Reading). s.over) c.self.view_is) ∙ c.if-self.true in
-    let reading = subst IsReading c.self.view_is (valid c.self.inside c.self.invariant) in (
+    let reading = subst IsValidReader c.self.view_is (valid c.self.inside c.self.invariant) in (
       (
         refl,
         λ _. tt,

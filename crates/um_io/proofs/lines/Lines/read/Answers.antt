@@ -1,7 +1,5 @@
 use Rattle.std.proofs.Common.{◌≡◌, ◌-◌, length, take, drop, ap, arith}
-use Rattle.um_io.specs.Buffer.{octets_of}
-use Rattle.um_io.specs.Reading.{Reading, input_limit}
-use Rattle.um_io.proofs.ReadingLemmas.{length-cut}
+use Rattle.um_io.{specs.{Buffer.octets_of, Reading.{Reading, input_limit}}, proofs.ReadingLemmas.length-cut}
 use Rattle.um_io.proofs.lines.Lines.read.Goals as goal
 
 pub read-requires : goal.read-requires

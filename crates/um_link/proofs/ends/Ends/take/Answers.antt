@@ -1,10 +1,8 @@
 use Rattle.std.proofs.Common.{◌≡◌, sym, ap, subst, Some}
 use Rattle.lapdm_frame.specs.Content.{frame_of}
-use Rattle.lapdm_window.specs.Sides as D
+use Rattle.um_link.{specs.{Naming.role_of, declared.events.End.End}, proofs.Asking.{by_mobile, by_network}}
+use Rattle.um_air.specs.lapdm_window.Sides as D
 use Rattle.um_air.specs.lapdm_link.Events as E
-use Rattle.um_link.specs.Naming.{role_of}
-use Rattle.um_link.specs.declared.events.End.{End}
-use Rattle.um_link.proofs.Asking.{by_mobile, by_network}
 use Rattle.um_link.proofs.ends.Ends.take.Goals as goal
 
 pub returns-in-Mobile-clause-refines : goal.returns-in-Mobile-clause-refines
@@ -14,7 +12,7 @@ returns-in-Mobile-clause-refines c es st =
 
 pub returns-in-Mobile-clause-sapi : goal.returns-in-Mobile-clause-sapi
 returns-in-Mobile-clause-sapi c es st =
-    subst (λ (x : End). c.take.result ≡ (E.takes_read (role_of x) (Some (frame_of c.args.frame.now)) es).sapi) (sym c.in-Mobile.is)
+    subst (λ (x : End). c.take.result ≡ (E.takes_frame_if_read (role_of x) (Some (frame_of c.args.frame.now)) es).sapi) (sym c.in-Mobile.is)
     (c.take.ensures.refines es.mobile st.mobile).sapi_is
 
 pub returns-in-Network-clause-refines : goal.returns-in-Network-clause-refines
@@ -24,5 +22,5 @@ returns-in-Network-clause-refines c es st =
 
 pub returns-in-Network-clause-sapi : goal.returns-in-Network-clause-sapi
 returns-in-Network-clause-sapi c es st =
-    subst (λ (x : End). c.take-in-Network.result ≡ (E.takes_read (role_of x) (Some (frame_of c.args.frame.now)) es).sapi)
+    subst (λ (x : End). c.take-in-Network.result ≡ (E.takes_frame_if_read (role_of x) (Some (frame_of c.args.frame.now)) es).sapi)
     (sym c.in-Network.is) (c.take-in-Network.ensures.refines es.network st.network).sapi_is

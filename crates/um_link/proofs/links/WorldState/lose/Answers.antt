@@ -1,9 +1,8 @@
 use Rattle.std.proofs.Common.{sym, ◌∙◌}
-use Rattle.um_link.specs.Naming.{role_of}
-use Rattle.um_link.proofs.Stepping.{lost}
+use Rattle.um_link.{specs.Naming.role_of, proofs.Stepping.lost}
 use Rattle.um_link.proofs.links.WorldState.lose.Goals as goal
 
 pub returns-clause-refines : goal.returns-clause-refines
 returns-clause-refines c =
     lost (role_of c.args.sender) c.args.self.now c.drop_first.new.self c.clear.new.self c.drop_first.ensures.loses
-    (sym c.has_none.ensures ∙ c.if-has_none.false) c.clear.ensures.frames c.clear.ensures.notices
+    (sym c.has_no_block.ensures ∙ c.if-has_no_block.false) c.clear.ensures.frames c.clear.ensures.notices

@@ -1,10 +1,9 @@
-use Rattle.std.proofs.Common.{◌≡◌, refl, sym, ◌∙◌, arith, false, nat_lt, length}
-use Rattle.std.proofs.lemmas.Bool.Decides.{nat_tests}
+use Rattle.std.proofs.{Common.{◌≡◌, refl, sym, ◌∙◌, arith, false, nat_lt, length}, lemmas.Bool.Decides.nat_tests}
 use Rattle.lapdm_frame.specs.Layout.{n201}
-use Rattle.lapdm_window.specs.declared.Sapi.TheVariants as S
-use Rattle.lapdm_window.specs.Ends as R
-use Rattle.um_air.specs.lapdm_link.Events as E
 use Rattle.um_link.proofs.Stepping.{called, rival-none}
+use Rattle.um_air.specs.lapdm_window.declared.Sapi.TheVariants as S
+use Rattle.um_air.specs.lapdm_window.Ends as R
+use Rattle.um_air.specs.lapdm_link.Events as E
 use Rattle.um_link.proofs.links.WorldState.rival.Goals as goal
 
 pub returns-clause-refines : goal.returns-clause-refines

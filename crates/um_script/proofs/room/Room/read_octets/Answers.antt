@@ -1,5 +1,4 @@
-use Rattle.std.proofs.Common.{ap, arith}
-use Rattle.std.specs.Prelude.{length}
+use Rattle.std.{proofs.Common.{ap, arith}, specs.Prelude.length}
 use Rattle.um_script.proofs.WordSizes.{sole_word}
 use Rattle.um_script.proofs.room.Room.read_octets.Goals as goal
 

@@ -1,5 +1,0 @@
-use Rattle.bit_blocks.proofs.OctetLists.{octets_of-bits_of, bits_of-octets_of}
-use Rattle.bit_blocks.proofs.octets.law_octets.Goals as goal
-
-pub returns : goal.returns
-returns c = record { octets = octets_of-bits_of; bits = bits_of-octets_of }

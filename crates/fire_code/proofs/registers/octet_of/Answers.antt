@@ -1,6 +1,0 @@
-use Rattle.std.proofs.Common.{◌*◌}
-use Rattle.fire_code.proofs.OctetBits.{octet_of_register}
-use Rattle.fire_code.proofs.registers.octet_of.Goals as goal
-
-pub returns : goal.returns
-returns c = octet_of_register c.args.register (8 * c.args.m)

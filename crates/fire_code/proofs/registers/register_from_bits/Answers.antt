@@ -1,0 +1,11 @@
+use Rattle.std.proofs.Common.{◌+◌, ◌-◌, ◌*◌, arith}
+use Rattle.fire_code.proofs.OctetBits.{no_places, put_together}
+use Rattle.fire_code.proofs.registers.register_from_bits.Goals as goal
+
+pub loop-m-init : goal.loop-m-init
+loop-m-init c = (no_places 0, omega arith)
+
+pub loop-m-preserved : goal.loop-m-preserved
+loop-m-preserved c =
+    put_together c.args.bits.now c.loop-m.m (8 * c.loop-m.m + 8 - 8 * c.loop-m.m) _ _
+    (omega arith) (omega arith) c.pack_eight_bits.ensures.within c.loop-m.invariant.1 c.pack_eight_bits.ensures.value c.loop-m.invariant.0

@@ -1,5 +1,0 @@
-use Rattle.fire_repair.proofs.Flipping.{IsFlipped}
-use Rattle.fire_repair.proofs.bursts.flip_burst.Given as goal
-
-abbrev pub invariant-loop-i : goal.invariant-loop-i
-invariant-loop-i l = IsFlipped l.w l.word l.found.start l.found.shape l.i

@@ -1,0 +1,5 @@
+use Rattle.interleave.proofs.ColumnBits.{interleave_lanes}
+use Rattle.interleave.proofs.columns.interleave_lanes.Goals as goal
+
+pub returns-clause-each : goal.returns-clause-each
+returns-clause-each c = interleave_lanes c.args.first c.args.second

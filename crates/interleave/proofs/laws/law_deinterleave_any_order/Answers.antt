@@ -1,0 +1,5 @@
+use Rattle.interleave.proofs.Orders.{any_order}
+use Rattle.interleave.proofs.laws.law_deinterleave_any_order.Goals as goal
+
+pub returns : goal.returns
+returns c = any_order

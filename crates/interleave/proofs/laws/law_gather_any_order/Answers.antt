@@ -1,5 +1,0 @@
-use Rattle.interleave.proofs.Orders.{any_order}
-use Rattle.interleave.proofs.laws.law_gather_any_order.Goals as goal
-
-pub returns : goal.returns
-returns c = any_order

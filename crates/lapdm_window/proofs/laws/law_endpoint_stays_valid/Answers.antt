@@ -1,0 +1,11 @@
+use Rattle.lapdm_window.proofs.{Keeping.IsValidEndpoint-start, Stepping.{step-end, step-link}}
+use Rattle.lapdm_window.proofs.laws.law_endpoint_stays_valid.Goals as goal
+
+pub returns-clause-start : goal.returns-clause-start
+returns-clause-start c = IsValidEndpoint-start
+
+pub returns-clause-step : goal.returns-clause-step
+returns-clause-step c = step-end
+
+pub returns-clause-link : goal.returns-clause-link
+returns-clause-link c = step-link

@@ -1,5 +1,0 @@
-use Rattle.lapdm_window.proofs.Stepping.{step-few}
-use Rattle.lapdm_window.proofs.laws.law_few.Goals as goal
-
-pub returns : goal.returns
-returns c = step-few

@@ -1,0 +1,25 @@
+use Rattle.std.proofs.{Common.{arith, List, [], ◌∷◌, map, All}, lemmas.{Bool.false≢true, List.{length-map, Elements.{All-map, All-nil}}}}
+use Rattle.std.proofs.lemmas.List.Elements.{All-cons, All-head, All-tail}
+use Rattle.segmenting.specs.{declared.buffers.PlainMessage.PlainMessage, Segments.IsMessage, Buffers.octets_in}
+use Rattle.lapdm_window.proofs.window.parts.are_valid_held_messages.Goals as goal
+
+each : (buffers : List PlainMessage) → All IsMessage (map octets_in buffers) → All (λ room. IsMessage (octets_in room)) buffers
+each [] h = All-nil (λ room. IsMessage (octets_in room))
+each (room ∷ buffers) h =
+    All-cons (λ room. IsMessage (octets_in room)) room buffers (All-head IsMessage (octets_in room) (map octets_in buffers) h)
+    (each buffers (All-tail IsMessage (octets_in room) (map octets_in buffers) h))
+
+pub returns-then-messages-gt8 : goal.returns-then-messages-gt8
+returns-then-messages-gt8 c =
+    let buffers = c.args.messages.now in
+    (λ s. absurd (false≢true s), λ h. absurd (omega (arith, h.few, length-map buffers octets_in, c.if-messages-gt8.true)))
+
+pub returns : goal.returns
+returns c =
+    let buffers = c.args.messages.now in (
+      λ s. record {
+        few = omega (arith, length-map buffers octets_in, c.if-messages-gt8.false);
+        messages = All-map IsMessage octets_in buffers (c.are_messages.ensures.0 s);
+      },
+      λ h. c.are_messages.ensures.1 (each buffers h.messages),
+    )

@@ -1,0 +1,42 @@
+use Rattle.std.proofs.Common.{arith, ◌≡◌, ◌+◌, ◌-◌, ◌<◌, List, [], ◌++◌, ℕ, length, take, drop, ap, ap₂, sym, subst, ◌∙◌}
+use Rattle.std.proofs.lemmas.List.{append-nil, drop_all, length-drop, take-append-drop, take_all}
+use Rattle.trellis_decode.{proofs.Lemmas.length-traceback, specs.Trellis.traceback}
+use Rattle.list_decode.{specs.DeviatingLists.{state_after, IsLeastLossPosition}, proofs.Losses.chosen_from}
+use Rattle.list_decode.proofs.departure.find_least_loss.Goals as goal
+
+pub returns-clause-list : goal.returns-clause-list
+returns-clause-list c =
+    let rows = c.args.rows.now in
+    let written = c.loop-k.u in
+    let free = length c.args.u.now - 4 in
+    let old = c.loop-k.invariant.reading in
+    let same : length written ≡ length c.args.u.now = c.loop-k.auto.u ∙ c.trace_back_groups_of_four-reading.auto.u in
+    let five = c.requires.at_least in
+    let end : c.loop-k.k ≡ free = omega arith in
+    let rest : List ℕ = c.trace_back.new.u in
+    let behind : drop (length written - free) (drop free written) ≡ [] =
+    drop_all (length written - free) (drop free written) (omega (arith, length-drop free written)) in
+    let last : rest ≡ drop free (traceback rows 0) =
+    c.trace_back.ensures
+    ∙ ap₂ traceback (take_all (length rows - free) (drop free rows) (omega (arith, length-drop free rows)))
+    (old.state ∙ ap (λ k. state_after 0 (take k (traceback rows 0))) end)
+    ∙ sym (chosen_from rows 0 free (let count = c.requires.rows in omega arith)) in
+    ap (λ none. take free written ++ (rest ++ none)) behind
+    ∙ ap₂ (λ front rest. front ++ rest) (subst (λ k. take k written ≡ take k (traceback rows 0)) end old.written) (append-nil rest ∙ last)
+    ∙ take-append-drop free (traceback rows 0)
+
+pub returns-clause-least : goal.returns-clause-least
+returns-clause-least c =
+    let u = traceback c.args.rows.now 0 in
+    let best = c.loop-k.reading.best in
+    let end : c.loop-k.k ≡ length u - 4 = omega (arith, length-traceback c.args.rows.now 0, c.requires.rows, c.requires.at_least) in
+    subst (λ u. IsLeastLossPosition u c.args.losses.now (length u - 4) best.place best.loss) (sym (returns-clause-list c))
+    (subst (λ k. IsLeastLossPosition u c.args.losses.now k best.place best.loss) end c.loop-k.invariant.reading.best.least)
+
+pub returns-clause-state : goal.returns-clause-state
+returns-clause-state c =
+    c.loop-k.invariant.reading.best.state ∙ ap (λ u. state_after 0 (take c.loop-k.reading.best.place u)) (sym (returns-clause-list c))
+
+pub returns-clause-within : goal.returns-clause-within
+returns-clause-within c =
+    subst (λ u. c.loop-k.reading.best.place + 4 < length u) (sym (returns-clause-list c)) c.loop-k.invariant.reading.best.within

@@ -1,0 +1,68 @@
+use Rattle.std.proofs.Common.{arith, rules, ◌≡◌, ℕ, ◌/◌, ◌%◌, ◌^◌, ◌+◌, ◌*◌, [], ℤ, pos, ◌+ℤ◌, ◌-ℤ◌, length, get_or, take, refl, ap, ap₂}
+use Rattle.std.proofs.{Common.{sym, subst, ◌∙◌, w16, FitsSigned}, lemmas.{Int.to_z-of_z, Nat.and_mask}}
+use lib.Bits.{bit_and}
+use Rattle.trellis_decode.{proofs.Lemmas.length-traceback, specs.Trellis.traceback}
+use Rattle.list_decode.{specs.{DeviatingLists.{state_after, IsLeastLossPosition}, Readings.IsPartialTraceback}, proofs.Losses.chosen_bit}
+use Rattle.list_decode.proofs.departure.trace_back_groups_of_four.Goals as goal
+
+pub loop-group-init : goal.loop-group-init
+loop-group-init c =
+    let rows = c.args.rows.now in
+    let losses = c.args.losses.now in
+    let u = traceback rows 0 in
+    let long : length u ≡ length c.args.u.now = length-traceback rows 0 ∙ c.requires.rows in
+    let five = c.requires.at_least in
+    let place = c.new.ensures.place in
+    let fits : FitsSigned w16 (get_or (get_or losses 0 []) 0 (pos 0)) = search rules in
+    let lost = c.new.ensures.loss in
+    let first : get_or rows 0 0 % 2 ≡ get_or rows 0 0 / 2 ^ 0 % 2 = omega arith in
+    let bit : bit_and (get_or rows 0 0) 1 ≡ get_or u 0 0 =
+    and_mask (get_or rows 0 0) 1 ∙ first ∙ sym (chosen_bit rows 0 0 (let same = c.requires.rows in omega arith)) in
+    record {
+      reading = record {
+        small = omega arith;
+        state = refl;
+        written = refl;
+        best = record {
+          found = omega arith;
+          within = omega arith;
+          state = c.new.ensures.state ∙ sym (ap (λ p. state_after 0 (take p u)) place);
+          least = subst (λ p. IsLeastLossPosition u losses 0 p c.new.result.loss) (sym place) (record {
+            value = lost ∙ to_z-of_z w16 _ fits;
+            least = λ k lt. absurd (omega arith);
+            before = λ k lt equal. absurd (omega arith);
+            after = λ k late lt equal. absurd (omega arith);
+          });
+          limit = c.new.ensures.limit
+              ∙ ap₂ (λ (loss : ℤ) (bit : ℕ). loss +ℤ pos 1 -ℤ pos bit) (sym lost) (bit ∙ ap (λ p. get_or u p 0) (sym place));
+        };
+      };
+    }
+
+pub more-requires-in-loop-group-2-clause-reading : goal.more-requires-in-loop-group-2-clause-reading
+more-requires-in-loop-group-2-clause-reading c =
+    let second : 4 * c.loop-group.group + 1 + 1 ≡ 4 * c.loop-group.group + 2 = omega arith in
+    subst (λ k. IsPartialTraceback c.args.rows.now c.args.losses.now c.more-in-loop-group.new.u k c.more-in-loop-group.result) second
+    c.more-in-loop-group.ensures.reading
+
+pub more-reading-requires-clause-reading : goal.more-reading-requires-clause-reading
+more-reading-requires-clause-reading c =
+    let third : 4 * c.loop-group.group + 2 + 1 ≡ 4 * c.loop-group.group + 3 = omega arith in
+    subst (λ k. IsPartialTraceback c.args.rows.now c.args.losses.now c.more-in-loop-group-2.new.u k c.more-in-loop-group-2.result) third
+    c.more-in-loop-group-2.ensures.reading
+
+pub loop-group-preserved : goal.loop-group-preserved
+loop-group-preserved c =
+    let fourth : 4 * c.loop-group.group + 3 + 1 ≡ 4 * (c.loop-group.group + 1) = omega arith in
+    record {
+      reading = subst (λ k. IsPartialTraceback c.args.rows.now c.args.losses.now c.more-reading.new.u k c.more-reading.result) fourth
+          c.more-reading.ensures.reading;
+    }
+
+pub returns : goal.returns
+returns c =
+    let end : c.loop-group.group ≡ c.args.groups = omega arith in
+    record {
+      reading = subst (λ group. IsPartialTraceback c.args.rows.now c.args.losses.now c.loop-group.u (4 * group) c.loop-group.reading) end
+          c.loop-group.invariant.reading;
+    }

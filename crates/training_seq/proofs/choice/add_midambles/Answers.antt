@@ -1,0 +1,43 @@
+use Rattle.std.proofs.Common.{◌≡◌, ◌≢◌, ◌<◌, length, pos, refl, arith, below_more, get_or-set_other, get_or-set_same, ◌∙◌, sym, ap, get_or}
+use Rattle.std.proofs.{Common.◌+ℤ◌, lemmas.{Int.ints, List.{ext_get_or, length-set, Elements.{All-replicate, All-set}}}}
+use Rattle.training_seq.{specs.{Ranges.IsMagnitudeWithin, Sums.add_values}, proofs.Correlations.{length-add_values, get_or-add_values}}
+use Rattle.training_seq.proofs.choice.add_midambles.Goals as goal
+
+pub loop-i-init : goal.loop-i-init
+loop-i-init c =
+    (refl, λ k h. absurd (omega arith), All-replicate (IsMagnitudeWithin 512) 26 (pos 0) (omega (arith, ints), omega (arith, ints)))
+
+pub loop-i-preserved : goal.loop-i-preserved
+loop-i-preserved c =
+    let here : c.loop-i.i < length c.loop-i.sums = omega arith in (
+      simp length-set c.loop-i.invariant.0,
+      below_more _ _
+          (λ k h. let ne : k ≢ c.loop-i.i = omega arith in rw get_or-set_other (c.loop-i.invariant.1 k h))
+          (rw get_or-set_same (omega (arith, ints))),
+      All-set (IsMagnitudeWithin 512) _ _ _ (omega (arith, ints), omega (arith, ints)) c.loop-i.invariant.2,
+    )
+
+pub returns-clause-value : goal.returns-clause-value
+returns-clause-value c =
+    let a = c.args.a.now in
+    let b = c.args.b.now in
+    let e = c.args.c.now in
+    let d = c.args.d.now in
+    let ab : length a ≡ length b = omega arith in
+    let abe : length (add_values a b) ≡ length e = omega (arith, length-add_values a b ab) in
+    let abed : length (add_values (add_values a b) e) ≡ length d =
+    omega (arith, length-add_values a b ab, length-add_values (add_values a b) e abe) in
+    ext_get_or (pos 0) _ _
+    (omega (
+      arith,
+      length-add_values a b ab,
+      length-add_values (add_values a b) e abe,
+      length-add_values (add_values (add_values a b) e) d abed,
+    ))
+    (λ k h.
+    let written : k < c.loop-i.i = omega arith in
+    let ab_at = get_or-add_values a b k ab in
+    let abe_at = get_or-add_values (add_values a b) e k abe in
+    let abed_at = get_or-add_values (add_values (add_values a b) e) d k abed in
+    c.loop-i.invariant.1 k written
+    ∙ sym (abed_at ∙ ap (λ x. x +ℤ get_or d k (pos 0)) (abe_at ∙ ap (λ x. x +ℤ get_or e k (pos 0)) ab_at)))

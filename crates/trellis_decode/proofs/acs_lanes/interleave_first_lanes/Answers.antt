@@ -1,0 +1,7 @@
+use Rattle.std.proofs.Common.{arith, refl}
+use Rattle.trellis_decode.proofs.AcsVectors.{four_in_turns}
+use Rattle.trellis_decode.proofs.acs_lanes.interleave_first_lanes.Goals as goal
+
+pub returns-clause-each : goal.returns-clause-each
+returns-clause-each c = four_in_turns _ _ c.requires.a_lanes c.requires.b_lanes 0 1 2 3 8 9 _ _
+    (omega arith) (omega arith) (omega arith) (omega arith) refl refl refl refl

@@ -1,7 +1,0 @@
-use Rattle.std.proofs.Common.{arith, refl}
-use Rattle.trellis_decode.proofs.AcsVectors.{four_in_turns}
-use Rattle.trellis_decode.proofs.acs_lanes.last_in_turns.Goals as goal
-
-pub returns-clause-each : goal.returns-clause-each
-returns-clause-each c = four_in_turns c.args.a.lanes c.args.b.lanes c.requires.a_lanes c.requires.b_lanes 4 5 6 7 12 13 14 15
-    (omega arith) (omega arith) (omega arith) (omega arith) refl refl refl refl

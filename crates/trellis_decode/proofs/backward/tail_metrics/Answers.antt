@@ -1,0 +1,50 @@
+use Rattle.std.proofs.{Common.{◌≡◌, suc, ◌+◌, ◌*◌, ◌-◌, ◌<◌, drop, replicate, refl, ap, sym, ◌∙◌, subst, lit≤, arith}, Math.Seq.drop-length}
+use Rattle.std.proofs.lemmas.List.{length-drop, Elements.All-drop}
+use Rattle.trellis_decode.{specs.{Lanes.{IsSignedOctet, lane}, Trellis.IsSurvivor, AcsLanes.path_metric}, proofs.FourPairs.pair_at}
+use Rattle.trellis_decode.proofs.{FourPairs.pair_and_after, Paths.{IsSurvivor-none, IsSurvivor-same}, SurvivorPaths.HaveHeadroom16-even}
+use Rattle.trellis_decode.proofs.SurvivorPaths.{AreMetricsWithin-best, IsSurvivor-closed}
+use Rattle.trellis_decode.proofs.backward.tail_metrics.Goals as goal
+
+pub loop-k-init : goal.loop-k-init
+loop-k-init c =
+    let soft = c.args.soft.now in
+    record {
+      best = λ s lt. IsSurvivor-same s refl (sym (ap (λ n. drop n soft) (sym c.requires.count) ∙ drop-length soft))
+          (sym (c.new-values.ensures.each s lt)) (IsSurvivor-none s);
+      even = c.new-values.ensures.even;
+      odd = c.new-values.ensures.odd;
+    }
+
+pub tail_step-values-requires-clause-even : goal.tail_step-values-requires-clause-even
+tail_step-values-requires-clause-even c =
+    let soft = c.args.soft.now in
+    let k = c.loop-k.k in
+    HaveHeadroom16-even c.loop-k.values.even.lanes c.loop-k.values.odd.lanes 1024 (lit≤ tt)
+    (AreMetricsWithin-best (path_metric c.loop-k.values) (drop (2 * k) soft) (λ s. replicate (4 - k) 0)
+    (All-drop IsSignedOctet (2 * k) soft c.requires.octets) (omega (arith, length-drop (2 * k) soft, c.requires.count))
+    c.loop-k.invariant.best)
+    c.loop-k.invariant.even.count
+
+pub loop-k-preserved : goal.loop-k-preserved
+loop-k-preserved c =
+    let soft = c.args.soft.now in
+    let k = c.loop-k.k in
+    let before = k - 1 in
+    let within : before < 4 = omega arith in
+    let has = c.four_branch_metrics-branch_metrics.ensures.has before _ within in
+    let one_more : suc (4 - k) ≡ 4 - before = omega arith in
+    let next : 2 * before + 2 ≡ 2 * k = omega arith in
+    record {
+      best = λ s lt. IsSurvivor-same s (ap (λ n. replicate n 0) one_more) (pair_and_after soft (2 * before) (2 * k) next) refl
+          (IsSurvivor-closed (path_metric c.loop-k.values)
+          (path_metric c.tail_step-values.result) (pair_at soft (2 * before)) (drop (2 * k) soft) (4 - k)
+          has.count (omega arith) c.loop-k.invariant.best (c.tail_step-values.ensures.each (pair_at soft (2 * before)) has) s lt);
+      even = c.tail_step-values.ensures.even;
+      odd = c.tail_step-values.ensures.odd;
+    }
+
+pub returns-clause-best : goal.returns-clause-best
+returns-clause-best c s lt =
+    let none : c.loop-k.k ≡ 0 = omega arith in
+    subst (λ k. IsSurvivor s (replicate (4 - k) 0) (drop (2 * k) c.args.soft.now) (lane (path_metric c.loop-k.values) s)) none
+    (c.loop-k.invariant.best s lt)

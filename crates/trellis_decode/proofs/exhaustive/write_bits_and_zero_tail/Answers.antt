@@ -1,0 +1,17 @@
+use Rattle.std.proofs.{Common.{arith, ◌-◌, ◌*◌, ◌<◌, length, sym, subst, ◌∙◌}, lemmas.Grind.same_number_lists}
+use Rattle.conv_code.specs.Code.{IsInformation}
+use Rattle.trellis_decode.{specs.Words.word, proofs.WordLists.{length-word, get_or-word, IsInformation-word}}
+use Rattle.trellis_decode.proofs.exhaustive.write_bits_and_zero_tail.Goals as goal
+
+pub returns-clause-list : goal.returns-clause-list
+returns-clause-list c =
+    let n = length c.args.u.now in
+    let w = 16 * c.args.number in
+    same_number_lists _ _ (c.loop-k.auto.u ∙ sym (length-word n w))
+    (λ k lt.
+    let here : k < c.loop-k.k = omega arith in
+    c.loop-k.invariant k here ∙ sym (get_or-word n w k _ (omega arith)))
+
+pub returns-clause-information : goal.returns-clause-information
+returns-clause-information c =
+    subst IsInformation (sym (returns-clause-list c)) (IsInformation-word (length c.args.u.now) c.args.number c.requires.at_least)

@@ -1,0 +1,78 @@
+use Rattle.std.proofs.{Common.{◌≡◌, ℕ, ◌*◌, ◌+◌, ◌-◌, ◌<◌, ◌∷◌, drop, ap, sym, ◌∙◌, subst, arith}, lemmas.List.{drop-set, length-drop}}
+use Rattle.std.proofs.lemmas.List.Elements.{All-take, All-drop}
+use Rattle.trellis_decode.specs.{Decisions.HasDecisionsAndMetrics, Lanes.{IsSignedOctet, lane}, AcsLanes.{HasBranchMetrics, path_metric}}
+use Rattle.trellis_decode.proofs.FourPairs.{AreSignedOctets-pair, pair_at, pair_of_part, pair_and_after}
+use Rattle.trellis_decode.proofs.Decisions.{HasDecisionsAndMetrics-more, HasDecisionsAndMetrics-same, HasDecisionsAndMetrics-close}
+use Rattle.trellis_decode.proofs.{Decisions.{HasDecisionsAndMetrics-even, HasDecisionsAndMetrics-odd}, AcsVectors.passed}
+use Rattle.trellis_decode.proofs.AcsVectors.{passed-subtract_lanes}
+use Rattle.trellis_decode.proofs.trellis.fill_decision_rows.Goals as goal
+
+pub four_branch_metrics-branch_metrics-requires-clause-octets : goal.four_branch_metrics-branch_metrics-requires-clause-octets
+four_branch_metrics-branch_metrics-requires-clause-octets c = All-take IsSignedOctet _ _
+    (All-drop IsSignedOctet _ _ c.requires.octets)
+
+pub new-step-requires-clause-even : goal.new-step-requires-clause-even
+new-step-requires-clause-even c =
+    let at = c.args.first + c.loop-k.k in
+    HasDecisionsAndMetrics-even (drop at c.loop-k.rows) (drop at c.loop-k.losses) (drop (2 * at) c.args.soft.now) c.loop-k.values.even.lanes
+    c.loop-k.values.odd.lanes
+    c.loop-k.invariant.decided (let same = c.loop-k.auto.rows in omega (arith, length-drop at c.loop-k.rows))
+    c.loop-k.invariant.even.count
+
+pub new-step-requires-clause-odd : goal.new-step-requires-clause-odd
+new-step-requires-clause-odd c =
+    let at = c.args.first + c.loop-k.k in
+    HasDecisionsAndMetrics-odd (drop at c.loop-k.rows) (drop at c.loop-k.losses) (drop (2 * at) c.args.soft.now) c.loop-k.values.even.lanes
+    c.loop-k.values.odd.lanes
+    c.loop-k.invariant.decided (let same = c.loop-k.auto.rows in omega (arith, length-drop at c.loop-k.rows))
+    c.loop-k.invariant.odd.count
+
+pub new-step-requires-clause-close : goal.new-step-requires-clause-close
+new-step-requires-clause-close c =
+    let at = c.args.first + c.loop-k.k in
+    HasDecisionsAndMetrics-close (drop at c.loop-k.rows) (drop at c.loop-k.losses) (drop
+    (2 * at) c.args.soft.now) c.loop-k.values.even.lanes
+    c.loop-k.values.odd.lanes
+    c.loop-k.invariant.decided
+
+pub loop-k-preserved : goal.loop-k-preserved
+loop-k-preserved c =
+    let soft = c.args.soft.now in
+    let rows = c.loop-k.rows in
+    let losses = c.loop-k.losses in
+    let k = c.loop-k.k in
+    let at = c.args.first + k in
+    let j = c.args.first + (k - 1) in
+    let pair = pair_at soft (2 * j) in
+    let next : j + 1 ≡ at = omega arith in
+    let next_pair : 2 * j + 2 ≡ 2 * at = omega arith in
+    let within : k - 1 < 4 = omega arith in
+    let has = subst (HasBranchMetrics _)
+    (pair_of_part soft (2 * c.args.first) (2 * c.args.first + 8 - 2 * c.args.first) (2 * (k - 1)) (2 * j)
+    (omega arith) (omega arith))
+    (c.four_branch_metrics-branch_metrics.ensures.has (k - 1) _ within) in
+    let lost = passed c.new-step.result.losses.lanes in
+    record {
+      decided = HasDecisionsAndMetrics-same
+          (ap (λ k. c.new-step.result.row ∷ drop k rows) (sym next)
+          ∙ sym (drop-set rows j c.new-step.result.row (let same = c.loop-k.auto.rows in omega arith)))
+          (ap (λ k. lost ∷ drop k losses) (sym next)
+          ∙ sym (drop-set losses j lost (let same = c.loop-k.auto.losses in omega (arith, c.requires.same))))
+          (pair_and_after soft (2 * j) (2 * at) next_pair)
+          (HasDecisionsAndMetrics-more (path_metric c.loop-k.values)
+          (path_metric c.new-step.result.values) lost pair (drop (2 * at) soft)
+          (drop at rows) (drop at losses) c.new-step.result.row has.count (AreSignedOctets-pair soft (2 * j) c.requires.octets)
+          (c.new-step.ensures.each pair has)
+          (λ s lt. ap (λ l. lane l s) (passed-subtract_lanes c.new-step.result.losses.lanes c.new-step.ensures.lanes)
+          ∙ c.new-step.ensures.losses pair has s lt)
+          c.loop-k.invariant.decided);
+      even = c.new-step.ensures.even;
+      odd = c.new-step.ensures.odd;
+    }
+
+pub returns-clause-decided : goal.returns-clause-decided
+returns-clause-decided c =
+    let Holds : ℕ →
+    Type 0 = λ k. HasDecisionsAndMetrics (drop k c.loop-k.rows) (drop k c.loop-k.losses) (drop (2 * k) c.args.soft.now)
+    (path_metric c.loop-k.values) in
+    subst Holds (omega arith) c.loop-k.invariant.decided

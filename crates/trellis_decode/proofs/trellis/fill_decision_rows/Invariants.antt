@@ -1,0 +1,12 @@
+use Rattle.std.proofs.Common.{◌+◌, ◌*◌, drop}
+use Rattle.trellis_decode.specs.{Decisions.HasDecisionsAndMetrics, AcsLanes.{AreInt16, path_metric}}
+use Rattle.trellis_decode.proofs.trellis.fill_decision_rows.Given as goal
+
+-- from position k on, the decision rows and losses are those of the best lists
+abbrev pub invariant-loop-k : goal.invariant-loop-k
+invariant-loop-k l = record {
+  decided : HasDecisionsAndMetrics (drop (l.first + l.k) l.rows) (drop (l.first + l.k) l.losses) (drop (2 * (l.first + l.k)) l.soft)
+      (path_metric l.values);
+  even : AreInt16 l.values.even.lanes;
+  odd : AreInt16 l.values.odd.lanes;
+}

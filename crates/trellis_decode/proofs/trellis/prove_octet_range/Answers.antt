@@ -1,0 +1,16 @@
+use Rattle.std.proofs.{Common.{[], pos, sym, subst, arith}, lemmas.{Int.ints, List.{take_all, take_more, Elements.{All-nil, All-cons}}}}
+use Rattle.std.proofs.lemmas.List.Elements.{All-append}
+use Rattle.trellis_decode.specs.Lanes.{AreSignedOctets, IsSignedOctet, lane}
+use Rattle.trellis_decode.proofs.trellis.prove_octet_range.Goals as goal
+
+pub loop-k-preserved : goal.loop-k-preserved
+loop-k-preserved c =
+    let soft = c.args.soft.now in
+    let k = c.loop-k.k in
+    let octet : IsSignedOctet (lane soft k) = (omega (arith, ints), omega (arith, ints)) in
+    subst AreSignedOctets (sym (take_more _ k (pos 0) c.loop-k-test.true))
+    (All-append IsSignedOctet _ _ c.loop-k.invariant
+    (All-cons IsSignedOctet (lane soft k) [] octet (All-nil IsSignedOctet)))
+
+pub returns : goal.returns
+returns c = subst AreSignedOctets (take_all c.loop-k.k c.args.soft.now (omega arith)) c.loop-k.invariant

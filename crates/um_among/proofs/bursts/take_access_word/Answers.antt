@@ -1,0 +1,26 @@
+use Rattle.std.proofs.Common.{rules, ap, sym, subst, ◌∙◌}
+use Rattle.um_block.{specs.{bit_blocks.SoftValues.AllSoftBits, burst_map.AccessBurst.body}, proofs.Lemmas.AllSoftBits-range}
+use Rattle.um_among.proofs.{FirstCrcMatch.never, UniqueReports.{access_at_once, access_lost, access_found}}
+use Rattle.um_among.proofs.bursts.take_access_word.Goals as goal
+
+pub first_crc_match-requires-clause-soft : goal.first_crc_match-requires-clause-soft
+first_crc_match-requires-clause-soft c =
+    subst AllSoftBits (sym (c.body.ensures.value ∙ ap body c.new-parts.ensures.value))
+    (AllSoftBits-range c.args.burst.now 49 85 c.requires.soft)
+
+pub returns-then-is_some : goal.returns-then-is_some
+returns-then-is_some c =
+    access_at_once c.args.burst.now c.args.bsic.now c.args.most _ c.requires.at_least c.receive_access-report.ensures.received
+    (sym c.is_some.ensures ∙ c.if-is_some.true)
+
+pub returns-in_default : goal.returns-in_default
+returns-in_default c =
+    access_lost c.args.burst.now c.args.bsic.now c.args.most _ c.body.result.now (c.body.ensures.value ∙ ap body c.new-parts.ensures.value)
+    c.receive_access-report.ensures.received (λ some. never (sym c.if-is_some.false ∙ c.is_some.ensures ∙ some)) c.in_default.ensures
+
+pub returns : goal.returns
+returns c =
+    access_found c.args.burst.now c.args.bsic.now c.args.most _ c.receive_access-report.result c.body.result.now c.first_crc_match.new.u _
+    _ _
+    (c.body.ensures.value ∙ ap body c.new-parts.ensures.value) c.from_array.ensures.value c.receive_access-report.ensures.received
+    c.in-Some.ensures.0 (search rules) c.access_data.ensures

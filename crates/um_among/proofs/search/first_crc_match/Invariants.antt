@@ -1,0 +1,12 @@
+use Rattle.std.{proofs.Common.{◌≡◌, length}, specs.List.All}
+use Rattle.list_decode.specs.Ranking.{IsRanked}
+use Rattle.um_among.specs.Parities.{CrcHolds}
+use Rattle.um_among.proofs.search.first_crc_match.Given as goal
+
+-- the words tried so far are the first words in the ranking, and none of their CRCs holds
+abbrev pub invariant-loop-tried : goal.invariant-loop-tried
+invariant-loop-tried l =
+    (l.ranked.soft ≡ l.soft)
+    × (length l.ranked.given ≡ l.tried)
+    × IsRanked l.soft l.ranked.given
+    × All (λ v. ¬ CrcHolds l.crc v) l.ranked.given

@@ -1,5 +1,0 @@
-use Rattle.um_formats.proofs.ShowLaws.{one_meaning}
-use Rattle.um_formats.proofs.show.law_show.Goals as goal
-
-pub returns : goal.returns
-returns c = one_meaning

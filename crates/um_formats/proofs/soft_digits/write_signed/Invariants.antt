@@ -1,7 +1,0 @@
-use Rattle.std.proofs.Common.{◌≡◌, take, length}
-use Rattle.um_formats.specs.SoftOctets.{signed_octets}
-use Rattle.um_formats.proofs.soft_digits.write_signed.Given as goal
-
--- the values so far are those of the octets so far
-abbrev pub invariant-loop-i : goal.invariant-loop-i
-invariant-loop-i g l = (take l.i l.values ≡ signed_octets (take l.i l.octets)) × (length l.values ≡ length l.octets)

@@ -1,7 +1,0 @@
-use Rattle.std.proofs.Common.{◌≡◌, take}
-use Rattle.um_lines.specs.Fields.{bit_digits}
-use Rattle.um_lines.proofs.text.write_digits.Given as goal
-
--- the digits so far are those of the bits so far
-abbrev pub invariant-loop-i : goal.invariant-loop-i
-invariant-loop-i l = take l.i l.digits ≡ bit_digits (take l.i l.bits)

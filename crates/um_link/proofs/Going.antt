@@ -1,8 +1,0 @@
--- Equal worlds represent the same states.
-use Rattle.std.proofs.Common.{◌≡◌, sym, subst}
-use Rattle.um_air.specs.Air.{AirState}
-use Rattle.um_link.specs.declared.links.WorldState.{WorldState}
-use Rattle.um_link.specs.Abstraction.{Represents}
-
-pub represents_as : (v w : WorldState) (a : AirState) → v ≡ w → Represents w a → Represents v a
-represents_as v w a same h = subst (λ (u : WorldState). Represents u a) (sym same) h

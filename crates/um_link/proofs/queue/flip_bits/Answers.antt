@@ -1,6 +1,0 @@
-use Rattle.um_link.proofs.Flipping.{one_more}
-use Rattle.um_link.proofs.queue.flip_bits.Goals as goal
-
-pub loop-place-preserved : goal.loop-place-preserved
-loop-place-preserved c =
-    one_more _ _ _ _ _ c.loop-place.invariant c.loop-place-test.true c.flip_at.ensures.flipped c.flip_at.ensures.bits

@@ -1,5 +1,0 @@
-use Rattle.um_link.proofs.Flipping.{AreFlipped}
-use Rattle.um_link.proofs.queue.flip_bits.Given as goal
-
-abbrev pub invariant-loop-place : goal.invariant-loop-place
-invariant-loop-place l = AreFlipped l.places l.place-index l.initial.block l.block

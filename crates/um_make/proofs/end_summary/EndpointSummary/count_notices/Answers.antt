@@ -1,0 +1,24 @@
+use Rattle.std.proofs.{Common.{◌≡◌, ◌∙◌, sym, ap, subst, List, [], ◌+◌, ◌∷◌, ◌++◌, take, arith}, lemmas.List.take_more}
+use Rattle.um_link.specs.lapdm_window.declared.Notice.{Notice}
+use Rattle.um_make.{specs.Counting.CountsNotices, proofs.Counting.counts-more}
+use Rattle.um_make.proofs.end_summary.EndpointSummary.count_notices.Goals as goal
+
+pub loop-notice-preserved : goal.loop-notice-preserved
+loop-notice-preserved c =
+    let i = c.loop-notice.notice-index in
+    let ns = c.args.notices.now in
+    let n = c.notice-item.result in
+    let next : take (i + 1) ns ≡ take i ns ++ n ∷ [] = take_more ns i n (omega arith)
+    ∙ ap (λ (m : Notice). take i ns ++ m ∷ []) (sym c.notice-item.is) in
+    let old = c.loop-notice.invariant in
+    let more = c.count_notice.ensures.most in
+    record {
+      counts = subst (λ (xs : List Notice). CountsNotices xs c.args.self.now c.count_notice.new.self) (sym next)
+          (counts-more (take i ns) (n ∷ []) _ _ _ old.counts c.count_notice.ensures.counts);
+      most = record {
+        got = omega (arith, old.most.got, more.got);
+        octets = omega (arith, old.most.octets, more.octets);
+        sum = omega (arith, old.most.sum, more.sum);
+        acked = omega (arith, old.most.acked, more.acked);
+      };
+    }

@@ -1,0 +1,11 @@
+use Rattle.std.proofs.Common.{◌≡◌, ◌+◌, ◌-◌, ◌*◌, min, get_or, rules, arith, ◌∙◌}
+use Rattle.um_script.proofs.PlaceLaws.{next_place}
+use Rattle.um_script.proofs.places.bit_index_of_word.Goals as goal
+
+pub loop-digit-preserved : goal.loop-digit-preserved
+loop-digit-preserved c =
+    let new : c.min-place.result ≡ min (10 * c.loop-digit.place + (get_or c.args.word.now c.loop-digit.digit-index 0 - 48)) 592 =
+    first_of (omega (arith, c.min-place.ensures, c.from.ensures), grind arith, search rules) in
+    let next = next_place c.args.word.now c.loop-digit.digit-index c.loop-digit.place c.min-place.result c.loop-digit-test.true
+    c.loop-digit.invariant.digits new in
+    record { within = next.within; digits = next.digits; same = next.same ∙ c.loop-digit.invariant.same }
