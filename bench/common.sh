@@ -56,10 +56,9 @@ prepare_calls() {
   local crate
   mkdir -p "$work/copy/crates/radio_cost/src"
   cp "$top/HANDLES" "$work/copy/"
-  for crate in um_block $(sed -n 's/^um_block: //p' "$top/crates.txt"); do
-    [ -d "$top/crates/$crate" ] || continue
+  "$top/tools/below" um_block >"$work/copy/crates.txt"
+  for crate in $(cut -d: -f1 "$work/copy/crates.txt"); do
     cp -r "$top/crates/$crate" "$work/copy/crates/"
-    grep "^$crate:" "$top/crates.txt" >>"$work/copy/crates.txt"
   done
   echo 'radio_cost: um_block anyhow' >>"$work/copy/crates.txt"
   cp "$here/radio/program.txt" "$work/copy/crates/radio_cost/src/main.rt"

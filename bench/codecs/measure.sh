@@ -10,9 +10,9 @@ trap 'rm -rf "$work"' EXIT
 # A copy of the crates with an additional program, which is proved and built like the others.
 mkdir -p "$work/copy/crates/codec_parts/src"
 cp "$top/HANDLES" "$work/copy/"
-for crate in um_block $(sed -n 's/^um_block: //p' "$top/crates.txt"); do
+"$top/tools/below" um_block > "$work/copy/crates.txt"
+for crate in $(cut -d: -f1 "$work/copy/crates.txt"); do
 	cp -r "$top/crates/$crate" "$work/copy/crates/"
-	grep "^$crate:" "$top/crates.txt" >> "$work/copy/crates.txt"
 done
 echo 'codec_parts: bit_blocks fire_code conv_code interleave training_seq um_block anyhow' >> "$work/copy/crates.txt"
 cp "$here/program.txt" "$work/copy/crates/codec_parts/src/main.rt"

@@ -11,10 +11,9 @@ trap 'rm -rf "$work"' EXIT
 # A copy of the crates with an additional program, which is proved and built like the others.
 mkdir -p "$work/copy/crates/link_cost/src"
 cp "$top/HANDLES" "$work/copy/"
-for crate in um_link $(sed -n 's/^um_link: //p' "$top/crates.txt"); do
-	[ -d "$top/crates/$crate" ] || continue
+"$top/tools/below" um_link > "$work/copy/crates.txt"
+for crate in $(cut -d: -f1 "$work/copy/crates.txt"); do
 	cp -r "$top/crates/$crate" "$work/copy/crates/"
-	grep "^$crate:" "$top/crates.txt" >> "$work/copy/crates.txt"
 done
 echo 'link_cost: lapdm_window um_block um_link anyhow' >> "$work/copy/crates.txt"
 cp "$here/program.txt" "$work/copy/crates/link_cost/src/main.rt"
