@@ -1,5 +1,6 @@
 -- A statement holds for every number below a bound if a test, computed for each of these numbers, succeeds.
-use Rattle.std.proofs.{Common.{◌≡◌, ℕ, zero, suc, ◌<◌, Bool, true, false, ◌&&◌, refl, arith, inl, inr}, lemmas.Bool.cases_eq}
+use Rattle.std.proofs.Common.{◌≡◌, ℕ, zero, suc, ◌<◌, Bool, true, false, ◌&&◌, refl, arith, inl, inr}
+use Rattle.std.proofs.lemmas.Bool.{cases_eq}
 
 unfoldable pub passes_below : (ℕ → Bool) → ℕ → Bool
 passes_below test zero = true

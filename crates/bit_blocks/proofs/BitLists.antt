@@ -1,8 +1,8 @@
 -- The bitwise XOR of bit lists, as a loop over the bits builds it.
-use Rattle.std.proofs.Common.{◌≡◌, ◌≢◌, ℕ, zero, suc, ◌+◌, ◌%◌, ◌<◌, ◌≤◌, leb, true, List, [], ◌∷◌, ◌++◌, length, get_or, refl, ap, sym}
-use Rattle.std.proofs.Common.{subst, ◌∙◌, arith, rules, tests, bit_xor, below_more, get_or-set_other, get_or-set_same}
-use Rattle.std.proofs.lemmas.List.{length-append, get_or-append-add, get_or_append_left, Elements.All-append, Sums.AllPass-from_list_all}
-use Rattle.std.{proofs.Math.ListN.set, specs.List.list_all}
+use Rattle.std.proofs.Common.{◌≡◌, ◌≢◌, ℕ, zero, suc, ◌+◌, ◌%◌, ◌<◌, ◌≤◌, leb, true, List, [], ◌∷◌}
+use Rattle.std.proofs.Common.{◌++◌, length, get_or, refl, ap, sym, subst, ◌∙◌, arith, rules, tests, bit_xor, below_more}
+use Rattle.std.proofs.{Common.{get_or-set_other, get_or-set_same}, lemmas.List.{length-append, get_or-append-add, get_or_append_left}}
+use Rattle.std.{proofs.{lemmas.List.{Elements.All-append, Sums.AllPass-from_list_all}, Math.ListN.set}, specs.List.list_all}
 use Rattle.bit_blocks.specs.Bits.{IsBit, AllBits, xor_bits}
 
 -- the XOR of two bits is their sum modulo 2
@@ -48,7 +48,7 @@ add_bits_more sum xs ys i e e' h bx by below =
     (λ k lt. let ne : k ≢ i = omega arith in rw get_or-set_other (below k lt))
     (rw get_or-set_same (bit_xor-bits _ _ x y ∙ sym (get_or-xor_bits xs ys i e' h)))
 
--- a constant table holds only bits if a test that is computed over the table says so
+-- a test by computation that a constant table holds only bits
 pub AllBits-table : (table : List ℕ) → list_all (λ bit. leb bit 1) table ≡ true → AllBits table
 AllBits-table table found k d lt =
     let bit = AllPass-from_list_all (λ bit. leb bit 1) table found k d lt in

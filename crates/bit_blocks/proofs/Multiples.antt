@@ -1,10 +1,10 @@
 -- Sums, shifts and zero-padding of multiples of a polynomial are multiples, and a multiple of lower degree than its generator is 0. So
 -- the remainder of a division is unique, and long division computes it.
-use Rattle.std.proofs.Common.{◌≡◌, ℕ, zero, suc, ◌+◌, ◌-◌, ◌*◌, ◌%◌, ◌≤◌, ◌<◌, List, [], ◌∷◌, ◌++◌, length, replicate, get_or, refl, ap}
-use Rattle.std.proofs.{Common.{sym, ◌∙◌, arith, append_assoc, below_more}, lemmas.List.{length-replicate, get_or-replicate, length-append}}
-use Rattle.std.proofs.lemmas.List.{get_or_past, append-nil, get_or_append_left, get_or-append-add, Elements.{All-replicate, All-append}}
-use Rattle.std.proofs.lemmas.{List.Elements.{All-cons, All-head, All-tail, All-nil}, Nat.mul-mod_first, Grind.same_number_lists}
-use Rattle.std.proofs.Math.Seq.{get_or-append_seam}
+use Rattle.std.proofs.Common.{◌≡◌, ℕ, zero, suc, ◌+◌, ◌-◌, ◌*◌, ◌%◌, ◌≤◌, ◌<◌, List, [], ◌∷◌}
+use Rattle.std.proofs.Common.{◌++◌, length, replicate, get_or, refl, ap, sym, ◌∙◌, arith, append_assoc, below_more}
+use Rattle.std.proofs.lemmas.List.{length-replicate, get_or-replicate, length-append, get_or_past, append-nil, get_or_append_left}
+use Rattle.std.proofs.lemmas.List.{get_or-append-add, Elements.{All-replicate, All-append, All-cons, All-head, All-tail, All-nil}}
+use Rattle.std.proofs.{lemmas.{Nat.mul-mod_first, Grind.same_number_lists}, Math.Seq.get_or-append_seam}
 use Rattle.bit_blocks.specs.{Bits.{IsBit, AllBits, xor_bits}, Polynomials.{product_coefficient, IsProduct, HasQuotient}}
 use Rattle.bit_blocks.proofs.{BitLists.{length-xor_bits, get_or-xor_bits}, Sums.{AllBits-xor_bits, xor_bits-append, add_bits_self}}
 use Rattle.bit_blocks.proofs.Sums.{xor_bits-zeros, same_from_zero_sum}
@@ -57,19 +57,21 @@ product_with_one g (suc m) h = omega arith
 sum_modulo_2 : (a b c d : ℕ) → a ≡ c % 2 → b ≡ d % 2 → (a + b) % 2 ≡ (c + d) % 2
 sum_modulo_2 a b c d e e' = omega arith
 
-product_shifted : (x q g : List ℕ) (m : ℕ) → IsProduct x q g → m < length x + 1 → get_or (x ++ 0 ∷ []) m 0 ≡ product_coefficient q g m % 2
+product_shifted : (x q g : List ℕ) (m : ℕ) → IsProduct x q g → m < length x + 1 →
+    get_or (x ++ 0 ∷ []) m 0 ≡ product_coefficient q g m % 2
 product_shifted x q g m qx lt =
     let past = product_at_past q g (length x) (omega (arith, qx.count)) in
     below_more (λ k. get_or (x ++ 0 ∷ []) k 0 ≡ product_coefficient q g k % 2) (length x)
-    (λ k within. get_or_append_left x (0 ∷ []) 0 k within ∙ qx.each k within)
+    (λ k within. get_or_append_left x (0 ∷ []) 0 k within ∙ qx.each_coefficient k within)
     (get_or-append_seam x 0 [] 0 ∙ rw past refl)
     m lt
 
-lower : (x q g : List ℕ) → IsProduct x q g → (m : ℕ) → m < length (0 ∷ x) → get_or (0 ∷ x) m 0 ≡ product_coefficient (0 ∷ q) g m % 2
+lower : (x q g : List ℕ) → IsProduct x q g → (m : ℕ) → m < length (0 ∷ x) →
+    get_or (0 ∷ x) m 0 ≡ product_coefficient (0 ∷ q) g m % 2
 lower x q g qx zero lt = omega arith
 lower x q g qx (suc m) lt =
     let lt' : m < length x = omega arith in
-    let here = qx.each m lt' in
+    let here = qx.each_coefficient m lt' in
     omega arith
 
 pub HasQuotient-zeros : (n : ℕ) (g : List ℕ) → length g ≤ n + 1 → HasQuotient (replicate n 0) g
@@ -78,7 +80,7 @@ HasQuotient-zeros n g h = (
   record {
     count = simp length-replicate (omega arith);
     bits = All-replicate IsBit (n + 1 - length g) 0 (omega arith);
-    each = λ m lt. rw (product_coefficient-zeros (n + 1 - length g) g m) (get_or-zeros n m);
+    each_coefficient = λ m lt. rw (product_coefficient-zeros (n + 1 - length g) g m) (get_or-zeros n m);
   },
 )
 
@@ -88,22 +90,23 @@ HasQuotient_self g b = (
   record {
     count = omega arith;
     bits = All-cons IsBit 1 [] (omega arith) (All-nil IsBit);
-    each = λ m lt. product_with_one g m (b m 0 lt);
+    each_coefficient = λ m lt. product_with_one g m (b m 0 lt);
   },
 )
 
-pub HasQuotient-xor_bits : (x y g : List ℕ) → length x ≡ length y → HasQuotient x g → HasQuotient y g → HasQuotient (xor_bits x y) g
+pub HasQuotient-xor_bits : (x y g : List ℕ) → length x ≡ length y → HasQuotient x g → HasQuotient y g →
+    HasQuotient (xor_bits x y) g
 HasQuotient-xor_bits x y g same (q, qx) (r, ry) =
     let e : length q ≡ length r = omega (arith, qx.count, ry.count) in (
       xor_bits q r,
       record {
         count = simp (length-xor_bits q r e, length-xor_bits x y same) qx.count;
         bits = AllBits-xor_bits q r;
-        each = λ m lt.
+        each_coefficient = λ m lt.
             let m<x : m < length x = omega (arith, length-xor_bits x y same) in
             let m<y : m < length y = omega arith in
             get_or-xor_bits x y m same m<x
-            ∙ sum_modulo_2 _ _ _ _ (qx.each m m<x) (ry.each m m<y)
+            ∙ sum_modulo_2 _ _ _ _ (qx.each_coefficient m m<x) (ry.each_coefficient m m<y)
             ∙ sym (product_coefficient-xor_bits q r g m e);
       },
     )
@@ -115,7 +118,7 @@ HasQuotient-append_zero x g (q, qx) = (
   record {
     count = simp length-append (omega (arith, qx.count));
     bits = All-append IsBit q (0 ∷ []) qx.bits (All-replicate IsBit 1 0 (omega arith));
-    each = λ m lt. rw (product_coefficient-append_zero q g m) (product_shifted x q g m qx (simp length-append at lt));
+    each_coefficient = λ m lt. rw (product_coefficient-append_zero q g m) (product_shifted x q g m qx (simp length-append at lt));
   },
 )
 
@@ -130,7 +133,7 @@ HasQuotient-cons_zero x g (q, qx) = (
   record {
     count = omega (arith, qx.count);
     bits = All-cons IsBit 0 q (omega arith) qx.bits;
-    each = lower x q g qx;
+    each_coefficient = lower x q g qx;
   },
 )
 
@@ -167,10 +170,10 @@ zeros_of_multiple k r t e (q, qx) =
     let none : q ≡ replicate k 0 = quotient_of_zeros k q t e' qx.bits
     (λ m lt. sym (get_or-replicate k m 0 0 lt)
     ∙ sym (get_or_append_left (replicate k 0) r 0 m (simp length-replicate lt))
-    ∙ qx.each m (omega arith)) in
+    ∙ qx.each_coefficient m (omega arith)) in
     same_number_lists r (replicate (length r) 0) (simp length-replicate)
     (λ j lt. sym (get_or-append-add (replicate k 0) r j 0)
-    ∙ simp length-replicate (qx.each (k + j) (omega arith))
+    ∙ simp length-replicate (qx.each_coefficient (k + j) (omega arith))
     ∙ ap (λ p. product_coefficient p (1 ∷ t) (k + j) % 2) none
     ∙ ap (λ p. p % 2) (product_coefficient-zeros k (1 ∷ t) (k + j))
     ∙ sym (get_or-replicate (length r) j 0 0 lt))

@@ -1,8 +1,8 @@
 -- `bits_of` and `octets_of` undo each other, and loops extend their results by one octet at a time.
-use Rattle.std.proofs.Common.{◌≡◌, ℕ, zero, suc, ◌+◌, ◌-◌, ◌*◌, ◌/◌, ◌%◌, ◌<◌, ◌≤◌, List, [], ◌∷◌, ◌++◌, map, length, get_or, take, drop}
-use Rattle.std.proofs.{Common.{refl, ap, ap₂, subst, sym, ◌∙◌, arith}, Math.{ListN.set, Seq.take-add}, lemmas.List.take_more_set}
-use Rattle.std.proofs.lemmas.List.{append-nil, length-append, length-take, Elements.{All-append, All-cons, All-drop, All-head, All-nil}}
-use Rattle.std.proofs.lemmas.List.Elements.{All-tail}
+use Rattle.std.proofs.Common.{◌≡◌, ℕ, zero, suc, ◌+◌, ◌-◌, ◌*◌, ◌/◌, ◌%◌, ◌<◌, ◌≤◌, List, []}
+use Rattle.std.proofs.Common.{◌∷◌, ◌++◌, map, length, get_or, take, drop, refl, ap, ap₂, subst, sym, ◌∙◌, arith}
+use Rattle.std.proofs.{Math.{ListN.set, Seq.take-add}, lemmas.List.{take_more_set, append-nil, length-append, length-take}}
+use Rattle.std.proofs.lemmas.List.Elements.{All-append, All-cons, All-drop, All-head, All-nil, All-tail}
 use Rattle.bit_blocks.specs.{Bits.{IsBit, AllBits}, Octets.{IsOctet, AllOctets, octet_bits, bits_of, octets_of}}
 
 half_at_most_1 : (n : ℕ) → n % 2 ≤ 1
@@ -76,12 +76,14 @@ AllOctets-octets_of (a ∷ b ∷ c ∷ d ∷ e ∷ f ∷ g ∷ h ∷ bits) all =
     (omega (arith, la, lb, lc, ld, le, lf, lg, lh))
     (AllOctets-octets_of bits (All-drop IsBit 8 (a ∷ b ∷ c ∷ d ∷ e ∷ f ∷ g ∷ h ∷ bits) all))
 
-eight : (a b c d e f g h a' b' c' d' e' f' g' h' : ℕ) (xs ys : List ℕ) → a ≡ a' → b ≡ b' → c ≡ c' → d ≡ d' → e ≡ e' → f ≡ f' → g ≡ g' →
-    h ≡ h' → xs ≡ ys → a ∷ b ∷ c ∷ d ∷ e ∷ f ∷ g ∷ h ∷ xs ≡ a' ∷ b' ∷ c' ∷ d' ∷ e' ∷ f' ∷ g' ∷ h' ∷ ys
+eight : (a b c d e f g h a' b' c' d' e' f' g' h' : ℕ) (xs ys : List ℕ) → a ≡ a' → b ≡ b' → c ≡ c' → d ≡ d' →
+    e ≡ e' → f ≡ f' → g ≡ g' → h ≡ h' → xs ≡ ys → a ∷ b ∷ c ∷ d ∷ e ∷ f ∷ g ∷ h ∷ xs ≡ a' ∷ b'
+    ∷ c' ∷ d' ∷ e' ∷ f' ∷ g' ∷ h' ∷ ys
 eight a b c d e f g h a' b' c' d' e' f' g' h' xs ys ea eb ec ed ee ef eg eh es = cc
 
-bits_of_sum : (a b c d e f g h : ℕ) (xs ys : List ℕ) → a ≤ 1 → b ≤ 1 → c ≤ 1 → d ≤ 1 → e ≤ 1 → f ≤ 1 → g ≤ 1 → h ≤ 1 → xs ≡ ys →
-    octet_bits (a + 2 * b + 4 * c + 8 * d + 16 * e + 32 * f + 64 * g + 128 * h) ++ xs ≡ a ∷ b ∷ c ∷ d ∷ e ∷ f ∷ g ∷ h ∷ ys
+bits_of_sum : (a b c d e f g h : ℕ) (xs ys : List ℕ) → a ≤ 1 → b ≤ 1 → c ≤ 1 → d ≤ 1 → e ≤ 1 → f ≤ 1 →
+    g ≤ 1 → h ≤ 1 → xs ≡ ys → octet_bits (a + 2 * b + 4 * c + 8 * d + 16 * e + 32 * f + 64 * g + 128 * h) ++ xs ≡ a ∷ b
+    ∷ c ∷ d ∷ e ∷ f ∷ g ∷ h ∷ ys
 bits_of_sum a b c d e f g h xs ys ha hb hc hd he hf hg hh same =
     eight _ _ _ _ _ _ _ _ a b c d e f g h xs ys
     (omega arith) (omega arith) (omega arith) (omega arith) (omega arith) (omega arith) (omega arith) (omega arith) same

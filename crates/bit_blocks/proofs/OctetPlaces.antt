@@ -1,6 +1,7 @@
 -- The single bits of a list that `bits_of` unpacks from octets.
-use Rattle.std.proofs.Common.{◌≡◌, ℕ, zero, suc, ◌+◌, ◌-◌, ◌*◌, ◌%◌, ◌^◌, ◌<◌, ◌≤◌, List, [], ◌∷◌, ◌++◌, length, get_or, refl, ap, sym, ◌∙◌}
-use Rattle.std.proofs.{Common.arith, Math.Nat.zero-div, lemmas.List.{get_or_append_left, get_or-append_right}}
+use Rattle.std.proofs.Common.{◌≡◌, ℕ, zero, suc, ◌+◌, ◌-◌, ◌*◌, ◌%◌, ◌^◌, ◌<◌, ◌≤◌, List, []}
+use Rattle.std.proofs.{Common.{◌∷◌, ◌++◌, length, get_or, refl, ap, sym, ◌∙◌, arith}, Math.Nat.zero-div}
+use Rattle.std.proofs.lemmas.List.{get_or_append_left, get_or-append_right}
 use Rattle.bit_blocks.specs.{Octets.{octet_bits, bits_of}, Packed.bit_of}
 
 bit_of_zero : (i : ℕ) → bit_of 0 i ≡ 0

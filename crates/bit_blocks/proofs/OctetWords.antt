@@ -1,8 +1,8 @@
 -- The multiplications that unpack an octet into eight octets of one bit each and pack them again, checked by computation on all 256
 -- octets.
-use Rattle.std.proofs.Common.{◌≡◌, ℕ, ◌+◌, ◌*◌, ◌/◌, ◌%◌, ◌^◌, ◌<◌, List, [], ◌∷◌, length, get_or, refl, ap, sym, ◌∙◌, bit_and, Bool, true}
-use Rattle.std.{proofs.{Common.eqb, lemmas.{Bool.Decides.Decides-eqb, Slice.Eq.bytes_eq-Decides}}, specs.Int.{from_le_bytes, to_le_bytes}}
-use Rattle.std.specs.{Int.w64, Str.bytes_eq}
+use Rattle.std.proofs.Common.{◌≡◌, ℕ, ◌+◌, ◌*◌, ◌/◌, ◌%◌, ◌^◌, ◌<◌, List, [], ◌∷◌, length, get_or}
+use Rattle.std.proofs.{Common.{refl, ap, sym, ◌∙◌, bit_and, Bool, true, eqb}, lemmas.Bool.Decides.Decides-eqb}
+use Rattle.std.{proofs.lemmas.Slice.Eq.bytes_eq-Decides, specs.{Int.{from_le_bytes, to_le_bytes, w64}, Str.bytes_eq}}
 use Rattle.bit_blocks.{specs.{Bits.AllBits, Octets.{octet_bits, octets_of}}, proofs.Below.{passes_below, at_passes_below}}
 use Rattle.bit_blocks.proofs.OctetLists.{octet_of_eight}
 

@@ -1,6 +1,6 @@
 -- The bitwise XOR of a list with zeros, of a list with itself, and of concatenated lists.
-use Rattle.std.proofs.Common.{◌≡◌, ℕ, zero, suc, ◌+◌, ◌%◌, ◌≤◌, List, [], ◌∷◌, ◌++◌, length, replicate, refl, ap, sym, ◌∙◌, arith}
-use Rattle.std.proofs.lemmas.List.Elements.{All-head, All-tail, All-cons, All-nil}
+use Rattle.std.proofs.Common.{◌≡◌, ℕ, zero, suc, ◌+◌, ◌%◌, ◌≤◌, List, [], ◌∷◌, ◌++◌, length, replicate}
+use Rattle.std.proofs.{Common.{refl, ap, sym, ◌∙◌, arith}, lemmas.List.Elements.{All-head, All-tail, All-cons, All-nil}}
 use Rattle.bit_blocks.specs.Bits.{IsBit, AllBits, xor_bits}
 
 same_parts : (x y : ℕ) (xs ys : List ℕ) → x ≡ y → xs ≡ ys → x ∷ xs ≡ y ∷ ys

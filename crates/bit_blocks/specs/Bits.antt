@@ -2,7 +2,7 @@
 use Rattle.std.specs.Prelude.{ℕ, ◌+◌, ◌%◌, ◌≤◌, List, [], ◌∷◌}
 use Rattle.std.specs.List.{All}
 
--- a number that is 0 or 1
+-- the number is a bit, that is, 0 or 1
 abbrev pub IsBit : ℕ → Type 0
 IsBit bit = bit ≤ 1
 
@@ -10,7 +10,7 @@ IsBit bit = bit ≤ 1
 abbrev pub AllBits : List ℕ → Type 0
 AllBits bits = All IsBit bits
 
--- the bitwise XOR of two lists, as long as the shorter one
+-- the bitwise XOR of two bit lists; the result is as long as the shorter one
 abbrev pub xor_bits : List ℕ → List ℕ → List ℕ
 xor_bits [] ys = []
 xor_bits (x ∷ xs) [] = []

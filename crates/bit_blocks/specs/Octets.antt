@@ -1,8 +1,8 @@
--- Octets as bits, least significant bit first, the order of transmission (GSM 04.04 section 6, used by GSM 05.03 section 4.1).
+-- Octets as lists of bits in the order of transmission, least significant bit first (GSM 04.04 section 6, used by GSM 05.03 section 4.1).
 use Rattle.std.specs.Prelude.{ℕ, ◌<◌, ◌+◌, ◌*◌, ◌/◌, ◌%◌, List, [], ◌∷◌}
 use Rattle.std.specs.List.{All, flat_map}
 
--- a number below 256
+-- the number is an octet, that is, below 256
 abbrev pub IsOctet : ℕ → Type 0
 IsOctet octet = octet < 256
 
@@ -22,11 +22,11 @@ octet_bits octet =
     octet / 64 % 2 ∷
     octet / 128 % 2 ∷ []
 
--- the bits of all octets in order, eight for each, least significant bit first
+-- the bits of a list of octets in order, eight per octet, least significant bit first
 abbrev pub bits_of : List ℕ → List ℕ
 bits_of octets = flat_map octet_bits octets
 
--- the bits packed into octets, eight to an octet, least significant bit first; fewer than eight bits at the end are dropped
+-- packs bits into octets, eight to an octet, least significant bit first; fewer than eight bits left at the end are dropped
 abbrev pub octets_of : List ℕ → List ℕ
 octets_of (a ∷ b ∷ c ∷ d ∷ e ∷ f ∷ g ∷ h ∷ rest) =
     (a + 2 * b + 4 * c + 8 * d + 16 * e + 32 * f + 64 * g + 128 * h) ∷ octets_of rest

@@ -1,16 +1,17 @@
 -- Coded bits packed eight to an octet (this project's own layout).
 use Rattle.std.specs.Prelude.{ℕ, ◌≡◌, ◌<◌, ◌+◌, ◌*◌, ◌/◌, ◌%◌, ◌^◌, List, slice_index}
 
--- the bit of an octet that holds coded bit r, 0 to 7, of its eight coded bits, which are four pairs: bits 0 to 3 of the octet hold the
--- first bits of the pairs, bits 4 to 7 the second bits
+-- the position in a packed octet of each of its eight coded bits, which are numbered 0 to 7 in encoder order. They form four pairs: octet
+-- bits 0 to 3 hold the first bits of the pairs, and octet bits 4 to 7 the second bits
 abbrev pub packed_bit_index : ℕ → ℕ
 packed_bit_index r = r / 2 + 4 * (r % 2)
 
--- bit i of a number, bit 0 being the least significant
+-- the bit of a number at a given index; index 0 is the least significant bit
 abbrev pub bit_of : ℕ → ℕ → ℕ
 bit_of number i = number / 2 ^ i % 2
 
--- each octet t, for t < n, holds coded bits 8 t to 8 t + 7 in the order that `packed_bit_index` gives
+-- the second list holds the coded bits of the first list in a given number of octets: eight per octet, at the positions that
+-- `packed_bit_index` gives
 abbrev pub AreCodedBitsPacked : ℕ → List ℕ → List ℕ → Type 0
 AreCodedBitsPacked n coded octets =
     (t r : ℕ) → t < n → r < 8 → bit_of (slice_index octets t) (packed_bit_index r) ≡ slice_index coded (8 * t + r)

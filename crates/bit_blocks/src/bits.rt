@@ -1,25 +1,25 @@
-//! The type `Bits`: a list of bits of fixed length.
+//! The type `Bits`: a bit list of fixed length.
 ghost use Rattle.std.specs.Prelude.{◌≡◌, ℕ, ◌<◌, ◌≤◌, ◌↔◌, List, length, replicate, slice_index, slice_set};
 ghost use Rattle.std.specs.Prelude.{IsSome, IfSome};
 ghost use Rattle.bit_blocks.specs.Bits.{AllBits, xor_bits};
 
 use std::marker::Model;
 
-/// `N` bits, each in an octet of its own as 0 or 1.
+/// A list of `N` bits, each stored as an octet 0 or 1.
 #[derive(Clone, Copy, PartialEq, Eq, Debug)]
 pub struct Bits<const N: usize> {
-    places: [u8; N],
+    values: [u8; N],
 }
 
-// In contracts, a `Bits<N>` is the list of its bits.
+// In contracts, a `Bits<N>` stands for the list of its bits.
 impl<const N: usize> Model for Bits<N> {
     ghost Value = { List ℕ };
 
-    ghost view = { λ b. b.places };
+    ghost view = { λ b. b.values };
 
-    ghost invariant = { λ b. AllBits b.places };
+    ghost invariant = { λ b. AllBits b.values };
 
-    ghost inverse = { λ bits. record { places = bits } };
+    ghost inverse = { λ bits. record { values = bits } };
 }
 
 impl<const N: usize> Bits<N> {
@@ -28,7 +28,7 @@ impl<const N: usize> Bits<N> {
         ensures value { result ≡ replicate N 0 }
         ensures count { length result ≡ N }
     {
-        Bits { places: [0; N] }
+        Bits { values: [0; N] }
     }
 
     /// The bits of a slice, or `None` if its length is not `N` or an octet is neither 0 nor 1.
@@ -39,8 +39,8 @@ impl<const N: usize> Bits<N> {
         if !bits.iter().all(|bit| *bit <= 1) {
             return None;
         }
-        let places: &[u8; N] = bits.try_into().ok()?;
-        Some(Bits { places: *places })
+        let values: &[u8; N] = bits.try_into().ok()?;
+        Some(Bits { values: *values })
     }
 
     /// The bits of an array of zeros and ones.
@@ -49,7 +49,7 @@ impl<const N: usize> Bits<N> {
         ensures value { result ≡ bits.entry }
         ensures count { length result ≡ N }
     {
-        Bits { places: bits }
+        Bits { values: bits }
     }
 
     /// Bit `i`, counted from 0.
@@ -58,7 +58,7 @@ impl<const N: usize> Bits<N> {
         ensures value { result ≡ slice_index self.now i }
         ensures bit { result ≤ 1 }
     {
-        self.places[i]
+        self.values[i]
     }
 
     /// Sets bit `i` to `bit`.
@@ -67,10 +67,10 @@ impl<const N: usize> Bits<N> {
         requires bit { bit ≤ 1 }
         ensures { self.new ≡ slice_set self.old i bit }
     {
-        self.places[i] = bit;
+        self.values[i] = bit;
     }
 
-    /// The bitwise XOR.
+    /// The bitwise XOR of two bit lists.
     pub fn xor(&self, other: &Bits<N>) -> Bits<N>
         ensures value { result ≡ xor_bits self.now other.now }
         ensures count { length result ≡ N }
@@ -82,9 +82,9 @@ impl<const N: usize> Bits<N> {
     {
         let mut sum = [0; N];
         for i in 0..N {
-            sum[i] = self.places[i] ^ other.places[i];
+            sum[i] = self.values[i] ^ other.values[i];
         }
-        Bits { places: sum }
+        Bits { values: sum }
     }
 
     /// The bits, each as an octet 0 or 1.
@@ -93,6 +93,6 @@ impl<const N: usize> Bits<N> {
         ensures count { length result.now ≡ N }
         ensures bits { AllBits result.now }
     {
-        &self.places
+        &self.values
     }
 }

@@ -1,4 +1,4 @@
-//! Bits, octets as bits, soft bits, and multiples of bit polynomials.
+//! Bit lists, the bits of octets, soft bits, and multiples of polynomials over GF(2).
 #![tactic(auto)]
 
 mod bits;
@@ -15,8 +15,8 @@ pub const BLOCK_OCTETS: usize = 23;
 /// The number of bits in a block, before the Fire code and the tail bits are added.
 pub const BLOCK_BITS: usize = 184;
 
-/// The number of bits of a block that are convolutionally coded: 184 bits of the block, 40 Fire code bits and four tail bits.
-pub const INFORMATION_BITS: usize = 228;
+/// The number of input bits of the convolutional encoder for a block: its 184 bits, 40 Fire code bits and four tail bits.
+pub const ENCODER_INPUT_BITS: usize = 228;
 
-/// The number of coded bits of a block, two for each of its 228 information bits.
+/// The number of coded bits of a block: two for each of the 228 input bits of the encoder.
 pub const CODED_BITS: usize = 456;

@@ -1,4 +1,5 @@
-//! Octets as bits in the order of transmission, least significant bit first (GSM 04.04, today 3GPP TS 44.004, section 6).
+//! Converts octets to bits in the order of transmission, least significant bit first, and back (GSM 04.04, today 3GPP TS 44.004, section
+//! 6).
 ghost use Rattle.std.specs.Prelude.{◌≡◌, ℕ, ◌*◌, List, [], ◌∷◌, length};
 ghost use Rattle.bit_blocks.specs.Bits.{AllBits};
 ghost use Rattle.bit_blocks.specs.Octets.{AllOctets, octet_bits, bits_of, octets_of};
@@ -26,7 +27,7 @@ pub fn to_octets(bits: &[u8], out: &mut [u8])
     }
 }
 
-/// Law: packing bits into octets (`octets_of`) and unpacking octets into bits (`bits_of`) undo each other.
+/// Law: packing bits into octets (`octets_of`) and unpacking octets into bits (`bits_of`) are inverses of each other.
 pub fn law_octet_bits_round_trip()
     ensures octets { (octets : List ℕ) → AllOctets octets → octets_of (bits_of octets) ≡ octets }
     ensures bits { (bits : List ℕ) (n : ℕ) → length bits ≡ 8 * n → AllBits bits → bits_of (octets_of bits) ≡ bits }
@@ -36,7 +37,7 @@ pub fn law_octet_bits_round_trip()
 fn bits_of_octet(octet: u8) -> [u8; 8]
     ensures { result ≡ octet_bits octet }
 {
-    // Octet i of `kept` keeps only bit i of `octet`, at its own position; adding 127 carries it into the highest bit of octet i.
+    // Octet `i` of `kept` holds only bit `i` of `octet`. Adding 127 to each octet of `kept` sets its highest bit exactly if that bit is 1.
     let kept = u64::from(octet).wrapping_mul(0x0101_0101_0101_0101) & 0x8040_2010_0804_0201;
     ((kept.wrapping_add(0x7f7f_7f7f_7f7f_7f7f) >> 7) & 0x0101_0101_0101_0101).to_le_bytes()
 }
@@ -50,6 +51,6 @@ fn octet_of_bits(bits: &[u8]) -> u8
     let apart = u64::from_le_bytes([
         bits[0], bits[1], bits[2], bits[3], bits[4], bits[5], bits[6], bits[7],
     ]);
-    // The multiplication moves bit i to position 56 + i and leaves nothing else in the highest octet.
+    // The multiplication moves bit `i` to position `56 + i`, so the highest octet of the product holds exactly the eight bits.
     (apart.wrapping_mul(0x0102_0408_1020_4080) >> 56) as u8
 }

@@ -1,6 +1,7 @@
 -- A burst of zeros is filled from the front to the end.
-use Rattle.std.proofs.{Common.{◌≡◌, ℕ, ◌+◌, ◌-◌, List, ◌++◌, length, take, drop, replicate, ap, ◌∙◌, sym, arith}, lemmas.List.take_at}
-use Rattle.std.proofs.lemmas.List.{drop_at, drop-drop, drop-replicate, length-append, Elements.{All-append, All-replicate, All-same}}
+use Rattle.std.proofs.Common.{◌≡◌, ℕ, ◌+◌, ◌-◌, List, ◌++◌, length, take, drop, replicate, ap, ◌∙◌, sym, arith}
+use Rattle.std.proofs.lemmas.List.{take_at, drop_at, drop-drop, drop-replicate, length-append, Elements.{All-append, All-replicate}}
+use Rattle.std.proofs.lemmas.List.Elements.{All-same}
 use Rattle.training_seq.specs.bit_blocks.Bits.{IsBit, AllBits}
 
 -- the burst begins with the bits `front`, which are `at` bits, and `rest` zeros follow
@@ -9,8 +10,9 @@ pub record IsFilled (burst front : List ℕ) (at rest : ℕ) : Type 0 where
   pub long : length front ≡ at
   pub bits : AllBits front
 
-pub filled_more : {old front : List ℕ} {at rest : ℕ} (new bits : List ℕ) (next left : ℕ) → IsFilled old front at rest → AllBits bits →
-    next ≡ at + length bits → rest ≡ length bits + left → new ≡ take at old ++ bits ++ drop (at + length bits) old →
+pub filled_more : {old front : List ℕ} {at rest : ℕ} (new bits : List ℕ) (next left : ℕ) → IsFilled old front at rest →
+    AllBits bits → next ≡ at + length bits → rest ≡ length bits + left →
+    new ≡ take at old ++ bits ++ drop (at + length bits) old →
     IsFilled new (front ++ bits) next left
 filled_more {old} {front} {at} {rest} new bits next left filled are_bits follows fits written =
     let zeros : List ℕ = replicate rest 0 in

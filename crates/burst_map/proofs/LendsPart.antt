@@ -11,8 +11,8 @@ use mir.Val.{Val}
 use base.Logic.{SProp, ent, sep, ex, guard}
 use base.Fml.{Lft, GName, Share, fsep, feq, flft}
 use types.Logic.{Logic, sem}
-use types.Kit.{Item, ‵, ◌⊛◌, raw, given, ◌$◌, ◌∵◌, !, qed, move, drop, fsplit3, updating, await, later, some, use1, use2, group, pick, now}
-use types.Kit.{show, done, rewrite, split, join, check, fsplit, fjoin, feq_l, feq_i}
+use types.Kit.{Item, ‵, ◌⊛◌, raw, given, ◌$◌, ◌∵◌, !, qed, move, drop, fsplit3, updating, await, later, some, use1, use2}
+use types.Kit.{group, pick, now, show, done, rewrite, split, join, check, fsplit, fjoin, feq_l, feq_i}
 use types.SemTy.{cells}
 use types.Mut.{open_ref}
 use denote.Builtin.{u8}
@@ -72,7 +72,8 @@ module _ {M : Type 1} {𝓤 : Ura M} (𝓛 : Logic 𝓤) (ℓ : Lifetime) (κ : 
       let on : at o s (length front) ≡ p = at_mul o s (length front) ∙ omega arith in
       let outer : length (around ws) ≡ length front + length (ws ++ back) = length-append front (ws ++ back) in
       let inner : length (ws ++ back) ≡ length ws + length back = length-append ws back in
-      qed 𝓛 (‵ (cells (mem u8) ws b p) ∷ ‵ (cells (mem u8) front b o) ∷ ‵ (cells (mem u8) back b (at p s (length mid))) ∷ []) ∵
+      qed 𝓛 (‵ (cells (mem u8) ws b p) ∷ ‵ (cells (mem u8) front b o) ∷ ‵ (cells (mem u8) back b (at p s (length mid))) ∷ [])
+      ∵
       rewrite ! 2 (λ (k : ℕ). ‵ (cells (mem u8) back b (at p s k))) (sym same) refl $ move ! (0 ∷ 2 ∷ []) $
       use2 𝓛 (‵ (cells (mem u8) (ws ++ back) b p)) (join_app 𝓛 (mem u8) ws back b p) $
       rewrite ! 0 (λ (k : ℕ). ‵ (cells (mem u8) (ws ++ back) b k)) (sym on) refl $ move ! (1 ∷ 0 ∷ []) $
@@ -82,7 +83,8 @@ module _ {M : Type 1} {𝓤 : Ura M} (𝓛 : Logic 𝓤) (ℓ : Lifetime) (κ : 
       use1 𝓛 (‵ (part_at (Array u8 n) full_share (around ws) b o)) (Array-whole 𝓛 u8 full_share n (around ws) b o) $ done !
 
   pub lends_part : (vs : List Val)
-      → ent 𝓤 (sep 𝓤 (sem 𝓛 ((MutRef ℓ κ (Array u8 n)).own_val (record { ref_ptr = (b, o); ghost_name = γ; now = xs }) vs)) (A.lft κ q))
+      → ent 𝓤 (sep 𝓤 (sem 𝓛 ((MutRef ℓ κ (Array u8 n)).own_val (record { ref_ptr = (b, o); ghost_name = γ; now = xs }) vs))
+      (A.lft κ q))
       (H.⇛ (ex 𝓤 PartLent))
   lends_part vs =
       let front = take from xs in
@@ -99,7 +101,8 @@ module _ {M : Type 1} {𝓤 : Ura M} (𝓛 : Logic 𝓤) (ℓ : Lifetime) (κ : 
       ∙ ap (λ (k : ℕ). drop_list k xs) (omega arith) in
       let cut : xs ≡ front ++ (mid ++ back) =
       sym (take-append-drop from xs)
-      ∙ ap (λ (l : List ℕ). front ++ l) (sym (take-append-drop (to - from) (drop_list from xs)) ∙ ap (λ (l : List ℕ). mid ++ l) past) in
+      ∙ ap (λ (l : List ℕ). front ++ l) (sym (take-append-drop (to - from) (drop_list from xs))
+      ∙ ap (λ (l : List ℕ). mid ++ l) past) in
       let room : Room u8 (length mid) = (omega arith, omega arith) in
       let code = (Array u8 n).coded.code xs in
       rewrite ! 0 (λ (l : List ℕ). ‵ (cells (mem u8) l b o)) cut refl $
@@ -108,6 +111,7 @@ module _ {M : Type 1} {𝓤 : Ura M} (𝓛 : Logic 𝓤) (ℓ : Lifetime) (κ : 
       split ! $ move ! (1 ∷ []) $ rewrite ! 0 (λ (k : ℕ). ‵ (cells (mem u8) (mid ++ back) b k)) on refl $
       use1 𝓛 (‵ (cells (mem u8) mid b p) ⊛ ‵ (cells (mem u8) back b (at p s (length mid)))) (cut_app 𝓛 (mem u8) mid back b p) $
       split ! $ move ! (2 ∷ 1 ∷ []) $ join ! $ move ! (2 ∷ 3 ∷ 4 ∷ 1 ∷ 0 ∷ []) $ group ! 5 $
-      use1 𝓛 (later (some (λ (δ : GName). raw (Elements 𝓛 (Array u8 n) u8 around ℓ κ q b o b p γ mid room Others (put_back long) δ))))
+      use1 𝓛 (later (some (λ (δ : GName). raw (Elements 𝓛 (Array u8 n) u8 around ℓ κ q b o b p γ mid room Others (put_back long)
+      δ))))
       (lends_Elements 𝓛 (Array u8 n) u8 around ℓ κ q b o b p γ mid room Others (put_back long) code code) $
       await ! tt $ pick ! (λ δ. now ! $ show ! PartLent δ $ check ! lm $ done !))

@@ -1,6 +1,6 @@
 -- A list as the concatenation of its slices.
-use Rattle.std.proofs.{Common.{◌≡◌, ℕ, ◌+◌, ◌-◌, ◌≤◌, List, ◌++◌, take, ap, ◌∙◌, sym, arith}, Math.Seq.take-add}
-use Rattle.std.specs.Prelude.{slice_range}
+use Rattle.std.proofs.Common.{◌≡◌, ℕ, ◌+◌, ◌-◌, ◌≤◌, List, ◌++◌, take, ap, ◌∙◌, sym, arith}
+use Rattle.std.{proofs.Math.Seq.take-add, specs.Prelude.slice_range}
 
 pub take-slice_range : {X : Type 0} → (xs : List X) (i j : ℕ) → i ≤ j → take i xs ++ slice_range xs i j ≡ take j xs
 take-slice_range xs i j h =

@@ -1,12 +1,12 @@
 -- Writing both halves of a normal burst, in either order, gives the burst of these halves.
-use Rattle.std.proofs.Common.{◌≡◌, ℕ, ◌≤◌, List, [], ◌∷◌, ◌++◌, length, replicate, refl, ap, sym, ◌∙◌, arith, take, drop}
-use Rattle.std.proofs.lemmas.List.{append_assoc, take_at, drop_at, length-append}
-use Rattle.training_seq.{specs.Sequences.training_sequence, proofs.Lemmas.length-training_sequence}
+use Rattle.std.proofs.Common.{◌≡◌, ℕ, ◌≤◌, List, [], ◌∷◌, ◌++◌, length, replicate, refl, ap, sym, ◌∙◌, arith}
+use Rattle.std.proofs.{Common.{take, drop}, lemmas.List.{append_assoc, take_at, drop_at, length-append}}
+use Rattle.training_seq.{specs.Sequences.midamble, proofs.Lemmas.length-midamble}
 use Rattle.burst_map.specs.{NormalBurst.normal_burst, Parts.with_part_replaced, Tails.tail_bits}
 
 -- replacing the middle of three parts
-with_part_replaced-middle : (places front old back part : List ℕ) (from to : ℕ) → places ≡ front ++ (old ++ back) → length front ≡ from →
-    length (front ++ old) ≡ to → with_part_replaced places from to part ≡ front ++ (part ++ back)
+with_part_replaced-middle : (places front old back part : List ℕ) (from to : ℕ) → places ≡ front ++ (old ++ back) →
+    length front ≡ from → length (front ++ old) ≡ to → with_part_replaced places from to part ≡ front ++ (part ++ back)
 with_part_replaced-middle places front old back part from to is f t =
     let before : take from places ≡ front = ap (take from) is ∙ take_at front (old ++ back) from f in
     let after : drop to places ≡ back =
@@ -15,10 +15,10 @@ with_part_replaced-middle places front old back part from to is f t =
 
 -- the bits after the first half, and those before the second
 abbrev after_first : List ℕ → ℕ → List ℕ
-after_first second tsc = 1 ∷ [] ++ training_sequence tsc ++ 1 ∷ [] ++ second ++ tail_bits
+after_first second tsc = 1 ∷ [] ++ midamble tsc ++ 1 ∷ [] ++ second ++ tail_bits
 
 abbrev before_second : List ℕ → ℕ → List ℕ
-before_second first tsc = tail_bits ++ first ++ 1 ∷ [] ++ training_sequence tsc ++ 1 ∷ []
+before_second first tsc = tail_bits ++ first ++ 1 ∷ [] ++ midamble tsc ++ 1 ∷ []
 
 around_first : (first second : List ℕ) (tsc : ℕ) → normal_burst first second tsc ≡ tail_bits ++ (first ++ after_first second tsc)
 around_first first second tsc = simp append_assoc
@@ -28,7 +28,7 @@ around_second first second tsc = simp append_assoc
 
 length-before_second : (first : List ℕ) (tsc : ℕ) → length first ≡ 57 → tsc ≤ 7 → length (before_second first tsc) ≡ 88
 length-before_second first tsc f known =
-    let sequence = length-training_sequence tsc known in
+    let sequence = length-midamble tsc known in
     simp length-append (omega arith)
 
 write_first : (old first second : List ℕ) (tsc : ℕ) → length old ≡ 57 →
@@ -65,8 +65,8 @@ write_second-first first second tsc f s known =
     ∙ write_first zeros first second tsc refl
 
 -- the burst after both halves are written
-pub both_written : (left burst half other first second : List ℕ) (tsc : ℕ) → length first ≡ 57 → length second ≡ 57 → tsc ≤ 7 →
-    burst ≡ normal_burst (replicate 57 0) (replicate 57 0) tsc → half ≡ first → other ≡ second →
+pub both_written : (left burst half other first second : List ℕ) (tsc : ℕ) → length first ≡ 57 → length second ≡ 57 →
+    tsc ≤ 7 → burst ≡ normal_burst (replicate 57 0) (replicate 57 0) tsc → half ≡ first → other ≡ second →
     left ≡ with_part_replaced (with_part_replaced burst 3 60 half) 88 145 other → left ≡ normal_burst first second tsc
 both_written left burst half other first second tsc f s known zeros h o is =
     is

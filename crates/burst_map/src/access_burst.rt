@@ -9,7 +9,7 @@ use crate::place::place;
 use std::marker::Model;
 
 // The eight extended tail bits, with which the burst begins.
-const ACCESS_HEAD: [u8; 8] = [0, 0, 1, 1, 1, 0, 1, 0];
+const EXTENDED_TAIL_BITS: [u8; 8] = [0, 0, 1, 1, 1, 0, 1, 0];
 
 static ACCESS_TRAINING: [u8; 41] = [
     0, 1, 0, 0, 1, 0, 1, 1, 0, 1, 1, 1, 1, 1, 1, 1, 1, 0, 0, 1, 1, 0, 0, 1, 1, 0, 1, 0, 1, 0, 1, 0,
@@ -24,7 +24,7 @@ pub fn access_sequence() -> &'static [u8; 41]
     &ACCESS_TRAINING
 }
 
-/// Builds the access burst with these 36 coded bits.
+/// Builds the access burst from its 36 coded bits.
 pub fn access(body: &[u8]) -> [u8; 88]
     requires count { length body.now ≡ 36 }
     requires bits { AllBits body.now }
@@ -32,19 +32,19 @@ pub fn access(body: &[u8]) -> [u8; 88]
     ensures bits { AllBits result }
 {
     let mut burst = [0; 88];
-    place(&mut burst, 0, &ACCESS_HEAD);
+    place(&mut burst, 0, &EXTENDED_TAIL_BITS);
     place(&mut burst, 8, &ACCESS_TRAINING);
     place(&mut burst, 49, body);
     burst
 }
 
-/// The parts of a received access burst.
+/// Gives access to the parts of a received access burst.
 #[derive(Debug, Drop)]
 pub struct AccessView<'a> {
     burst: &'a [i8; 88],
 }
 
-// In contracts, an `AccessView` is the borrowed burst.
+// In contracts, an `AccessView` stands for the burst that it borrows.
 impl<'a> Model for AccessView<'a> {
     ghost use Rattle.std.specs.Prelude.{◌≡◌, List, ℤ, length};
     ghost use Rattle.std.specs.Borrow.{Bor};

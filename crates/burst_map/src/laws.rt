@@ -3,8 +3,8 @@ ghost use Rattle.std.specs.Prelude.{◌≡◌, ◌≤◌, ℕ, List, length, rep
 ghost use Rattle.burst_map.specs.NormalBurst.{normal_burst};
 ghost use Rattle.burst_map.specs.Parts.{with_part_replaced};
 
-/// Law: writing both halves of a normal burst of zeros, in either order, gives the normal burst of these halves.
-pub fn law_halves_in_any_order()
+/// Law: writing two halves into an all-zero normal burst, in either order, gives the normal burst made of those halves.
+pub fn law_fill_halves_any_order()
     ensures first_half_first { (first second : List ℕ) (tsc : ℕ) → length first ≡ 57 → length second ≡ 57 → tsc ≤ 7 →
         with_part_replaced (with_part_replaced (normal_burst (replicate 57 0) (replicate 57 0) tsc) 3 60 first) 88 145 second
         ≡ normal_burst first second tsc }

@@ -10,7 +10,7 @@ use crate::place::place;
 use std::marker::Model;
 use training_seq::sequence;
 
-/// Builds the normal burst with two halves of 57 coded bits and a training sequence code of 0 to 7; both stealing flags are 1.
+/// Builds the normal burst from two halves of 57 coded bits and a training sequence code, 0 to 7; both stealing flags are 1.
 pub fn normal(first: &[u8], second: &[u8], tsc: u8) -> [u8; BURST_BITS]
     requires first { length first.now ≡ 57 }
     requires first_bits { AllBits first.now }
@@ -29,13 +29,13 @@ pub fn normal(first: &[u8], second: &[u8], tsc: u8) -> [u8; BURST_BITS]
     burst
 }
 
-/// The parts of a received normal burst.
+/// Gives access to the parts of a received normal burst.
 #[derive(Debug, Drop)]
 pub struct NormalView<'a> {
     burst: &'a [i8; BURST_BITS],
 }
 
-// In contracts, a `NormalView` is the borrowed burst.
+// In contracts, a `NormalView` stands for the burst that it borrows.
 impl<'a> Model for NormalView<'a> {
     ghost use Rattle.std.specs.Prelude.{◌≡◌, List, ℤ, length};
     ghost use Rattle.std.specs.Borrow.{Bor};
@@ -53,8 +53,9 @@ impl<'a> NormalView<'a> {
         ensures value { result.now ≡ burst.now }
         ensures lent { result.ref_ptr ≡ burst.entry.ref_ptr }
         ensures whole { burst.now ≡
-            parts.head burst.now ++ parts.first_half burst.now ++ parts.flag_before_training burst.now ++ parts.training burst.now
-            ++ parts.flag_after_training burst.now ++ parts.second_half burst.now ++ parts.tail burst.now }
+            parts.head burst.now ++ parts.first_coded_half burst.now ++ parts.stealing_flag_before_training burst.now
+            ++ parts.training burst.now
+            ++ parts.stealing_flag_after_training burst.now ++ parts.second_coded_half burst.now ++ parts.tail burst.now }
     {
         NormalView { burst }
     }
@@ -71,7 +72,7 @@ impl<'a> NormalView<'a> {
 
     /// The 57 coded bits before the training sequence.
     pub fn first(&self) -> &'a [i8]
-        ensures value { result.now ≡ parts.first_half self.now.now }
+        ensures value { result.now ≡ parts.first_coded_half self.now.now }
         ensures count { length result.now ≡ 57 }
         ensures lent { IsSliceAtOffset 3 self.now result }
     {
@@ -81,7 +82,7 @@ impl<'a> NormalView<'a> {
 
     /// The stealing flag before the training sequence, one soft bit.
     pub fn lower(&self) -> &'a [i8]
-        ensures value { result.now ≡ parts.flag_before_training self.now.now }
+        ensures value { result.now ≡ parts.stealing_flag_before_training self.now.now }
         ensures count { length result.now ≡ 1 }
         ensures lent { IsSliceAtOffset 60 self.now result }
     {
@@ -101,7 +102,7 @@ impl<'a> NormalView<'a> {
 
     /// The stealing flag after the training sequence, one soft bit.
     pub fn upper(&self) -> &'a [i8]
-        ensures value { result.now ≡ parts.flag_after_training self.now.now }
+        ensures value { result.now ≡ parts.stealing_flag_after_training self.now.now }
         ensures count { length result.now ≡ 1 }
         ensures lent { IsSliceAtOffset 87 self.now result }
     {
@@ -111,7 +112,7 @@ impl<'a> NormalView<'a> {
 
     /// The 57 coded bits after the training sequence.
     pub fn second(&self) -> &'a [i8]
-        ensures value { result.now ≡ parts.second_half self.now.now }
+        ensures value { result.now ≡ parts.second_coded_half self.now.now }
         ensures count { length result.now ≡ 57 }
         ensures lent { IsSliceAtOffset 88 self.now result }
     {

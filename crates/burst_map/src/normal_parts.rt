@@ -1,8 +1,8 @@
-//! Writes the two halves of a normal burst in place, in an array of the caller.
+//! Writes the two halves of a normal burst directly into an array of the caller.
 ghost use Rattle.std.specs.Prelude.{◌≡◌, ◌≤◌, length, replicate, slice_range};
 ghost use Rattle.std.specs.Borrow.{sem};
 ghost use Rattle.burst_map.specs.NormalBurst.{normal_burst};
-ghost use Rattle.burst_map.specs.NormalParts.{current_burst, burst_ghost_name, LendsPartOfBurst};
+ghost use Rattle.burst_map.specs.NormalParts.{burst_of_parts, burst_ghost_name, LendsPartOfBurst};
 
 use crate::BURST_BITS;
 use crate::lending::part_mut;
@@ -15,11 +15,11 @@ pub struct NormalParts<'a> {
 }
 
 impl<'a> NormalParts<'a> {
-    /// Writes the tail bits, the stealing flags and the training sequence, and zeros to both halves.
+    /// Fills `burst` with the tail bits, the stealing flags and the training sequence, and with zeros in both halves.
     pub fn new(burst: &'a mut [u8; BURST_BITS], tsc: u8) -> NormalParts<'a>
         requires { tsc ≤ 7 }
         ensures same_burst { burst.entry.ghost_name ≡ burst_ghost_name result }
-        ensures value { current_burst result ≡ normal_burst (replicate 57 0) (replicate 57 0) tsc }
+        ensures value { burst_of_parts result ≡ normal_burst (replicate 57 0) (replicate 57 0) tsc }
     {
         *burst = normal(&[0; 57], &[0; 57], tsc);
         NormalParts { burst }
@@ -28,7 +28,7 @@ impl<'a> NormalParts<'a> {
     /// The 57 coded bits before the training sequence, for writing.
     pub fn first_mut(&mut self) -> &mut [u8]
         ensures* writes_back { sem 𝓛 (LendsPartOfBurst self.entry 3 60 result) }
-        ensures value { result.now ≡ slice_range (current_burst self.old) 3 60 }
+        ensures value { result.now ≡ slice_range (burst_of_parts self.old) 3 60 }
         ensures count { length result.now ≡ 57 }
     {
         part_mut(self.burst, 3, 60)
@@ -37,7 +37,7 @@ impl<'a> NormalParts<'a> {
     /// The 57 coded bits after the training sequence, for writing.
     pub fn second_mut(&mut self) -> &mut [u8]
         ensures* writes_back { sem 𝓛 (LendsPartOfBurst self.entry 88 145 result) }
-        ensures value { result.now ≡ slice_range (current_burst self.old) 88 145 }
+        ensures value { result.now ≡ slice_range (burst_of_parts self.old) 88 145 }
         ensures count { length result.now ≡ 57 }
     {
         part_mut(self.burst, 88, 145)

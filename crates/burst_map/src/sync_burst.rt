@@ -22,7 +22,7 @@ pub fn sync_sequence() -> &'static [u8; 64]
     &SYNC_TRAINING
 }
 
-/// Builds the synchronisation burst with two halves of 39 coded bits.
+/// Builds the synchronisation burst from two halves of 39 coded bits.
 pub fn sync(first: &[u8], second: &[u8]) -> [u8; BURST_BITS]
     requires first { length first.now ≡ 39 }
     requires first_bits { AllBits first.now }
@@ -38,13 +38,13 @@ pub fn sync(first: &[u8], second: &[u8]) -> [u8; BURST_BITS]
     burst
 }
 
-/// The parts of a received synchronisation burst.
+/// Gives access to the parts of a received synchronisation burst.
 #[derive(Debug, Drop)]
 pub struct SyncView<'a> {
     burst: &'a [i8; BURST_BITS],
 }
 
-// In contracts, a `SyncView` is the borrowed burst.
+// In contracts, a `SyncView` stands for the burst that it borrows.
 impl<'a> Model for SyncView<'a> {
     ghost use Rattle.std.specs.Prelude.{◌≡◌, List, ℤ, length};
     ghost use Rattle.std.specs.Borrow.{Bor};
@@ -62,8 +62,8 @@ impl<'a> SyncView<'a> {
         ensures value { result.now ≡ burst.now }
         ensures lent { result.ref_ptr ≡ burst.entry.ref_ptr }
         ensures whole { burst.now ≡
-            parts.head burst.now ++ parts.first_half burst.now ++ parts.training burst.now
-            ++ parts.second_half burst.now ++ parts.tail burst.now }
+            parts.head burst.now ++ parts.first_coded_half burst.now ++ parts.training burst.now
+            ++ parts.second_coded_half burst.now ++ parts.tail burst.now }
     {
         SyncView { burst }
     }
@@ -80,7 +80,7 @@ impl<'a> SyncView<'a> {
 
     /// The 39 coded bits before the training sequence.
     pub fn first(&self) -> &'a [i8]
-        ensures value { result.now ≡ parts.first_half self.now.now }
+        ensures value { result.now ≡ parts.first_coded_half self.now.now }
         ensures count { length result.now ≡ 39 }
         ensures lent { IsSliceAtOffset 3 self.now result }
     {
@@ -100,7 +100,7 @@ impl<'a> SyncView<'a> {
 
     /// The 39 coded bits after the training sequence.
     pub fn second(&self) -> &'a [i8]
-        ensures value { result.now ≡ parts.second_half self.now.now }
+        ensures value { result.now ≡ parts.second_coded_half self.now.now }
         ensures count { length result.now ≡ 39 }
         ensures lent { IsSliceAtOffset 106 self.now result }
     {

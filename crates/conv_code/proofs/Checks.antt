@@ -4,7 +4,8 @@ use Rattle.conv_code.specs.{Code.encoding, Likelihood.likelihood}
 
 -- the coded bits of the RACH information list with eight information bits 0 for BSIC 0, whose six CRC bits are ones
 coded-access : encoding (replicate 8 0 ++ replicate 6 1 ++ replicate 4 0) ≡
-    replicate 16 0 ++ (1 ∷ 1 ∷ 1 ∷ 0 ∷ 1 ∷ 0 ∷ 0 ∷ 1 ∷ 1 ∷ 0 ∷ 1 ∷ 0 ∷ 0 ∷ 1 ∷ 0 ∷ 0 ∷ 0 ∷ 0 ∷ 1 ∷ 1 ∷ [])
+    replicate 16 0 ++ (1 ∷ 1 ∷ 1 ∷ 0 ∷ 1 ∷ 0 ∷ 0 ∷ 1 ∷ 1 ∷ 0 ∷ 1 ∷ 0 ∷ 0 ∷ 1 ∷ 0 ∷ 0 ∷ 0 ∷ 0 ∷ 1 ∷ 1
+    ∷ [])
 coded-access = refl
 
 -- the coded bits of the information list of a block of zeros, whose forty Fire code bits are ones

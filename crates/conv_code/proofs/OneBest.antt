@@ -1,6 +1,6 @@
--- The most likely information list is unique, since of two lists at most one falls behind the other.
-use Rattle.std.proofs.Common.{◌≡◌, ◌≢◌, ℕ, ◌⊎◌, inl, inr, ℤ, List, [], ◌∷◌, length, get_or, refl, ap, ap₂, sym, ◌∙◌, arith}
-use Rattle.std.proofs.lemmas.{Bool.cases_lt, Int.ints}
+-- The most likely information list is unique, since two lists cannot each rank after the other.
+use Rattle.std.proofs.Common.{◌≡◌, ◌≢◌, ℕ, ◌⊎◌, inl, inr, ℤ, List, [], ◌∷◌, length, get_or, refl, ap, ap₂}
+use Rattle.std.proofs.{Common.{sym, ◌∙◌, arith}, lemmas.{Bool.cases_lt, Int.ints}}
 use Rattle.conv_code.specs.Likelihood.{IsLexicographicallyBefore, RanksAfter, IsMostLikely}
 
 pub same_number : (x y : ℕ) → (x ≡ y) ⊎ (x ≢ y)
@@ -23,21 +23,19 @@ IsLexicographicallyBefore-one_way : (u v : List ℕ) → IsLexicographicallyBefo
 IsLexicographicallyBefore-one_way u v h g = elim (cases_lt h.place g.place) [
   | inl earlier ↦ let same = g.same h.place earlier in h.differs (same ∙ h.zero)
   | inr not_earlier ↦ elim (cases_lt g.place h.place) [
-    | inl later ↦ let same = h.same g.place later in g.differs (same ∙ g.zero)
-    | inr not_later ↦ let at : h.place ≡ g.place = omega arith in h.differs (ap (λ k. get_or v k 0) at ∙ g.zero)
+    | inl later ↦ g.differs (h.same g.place later ∙ g.zero)
+    | inr not_later ↦ h.differs (ap (λ k. get_or v k 0) (omega arith) ∙ g.zero)
   ]
 ]
 
 pub RanksAfter-one_way : (s : List ℤ) (u v : List ℕ) → RanksAfter s v u → RanksAfter s u v → ⊥
 RanksAfter-one_way s u v (inl less) (inl more) = omega (arith, ints)
-RanksAfter-one_way s u v (inl less) (inr same) = let e = same.0 in omega (arith, ints)
-RanksAfter-one_way s u v (inr same) (inl more) = let e = same.0 in omega (arith, ints)
+RanksAfter-one_way s u v (inl less) (inr same) = omega (arith, ints)
+RanksAfter-one_way s u v (inr same) (inl more) = omega (arith, ints)
 RanksAfter-one_way s u v (inr same) (inr same') = IsLexicographicallyBefore-one_way u v same.1 same'.1
 
 pub IsMostLikely-only : (s : List ℤ) (u v : List ℕ) → IsMostLikely s u → IsMostLikely s v → v ≡ u
 IsMostLikely-only s u v h g =
-    let count = h.count in
-    let count' = g.count in
     let same_length : length v ≡ length u = omega arith in
     elim (same_list v u) [
       | inl same ↦ same

@@ -1,9 +1,9 @@
--- The most likely information list for soft bits (this project's own rule; GSM 05.03 leaves decoding open).
+-- The most likely information list for given soft bits (this project's own rule; GSM 05.03 leaves decoding open).
 use Rattle.std.specs.Prelude.{ℕ, ◌≡◌, ◌≢◌, ◌<◌, ◌*◌, ◌⊎◌, ℤ, ◌<ℤ◌, List, length, slice_index}
-use Rattle.conv_code.specs.Code.{encoding, IsInformation}
-pub use Rattle.bit_blocks.specs.SoftValues.{AllSoftBits, agreement, likelihood}
+use Rattle.conv_code.specs.Code.{encoding, IsEncoderInput}
+pub use Rattle.bit_blocks.specs.SoftValues.{AllSoftBits, bit_metric, likelihood}
 
--- u precedes v in lexicographic order: at the first index where they differ, u has 0
+-- `u` precedes `v` in lexicographic order: at the first index where they differ, `u` has 0
 pub record IsLexicographicallyBefore (u v : List ℕ) : Type 0 where
   pub place : ℕ
   pub within : place < length u
@@ -11,15 +11,16 @@ pub record IsLexicographicallyBefore (u v : List ℕ) : Type 0 where
   pub zero : slice_index u place ≡ 0
   pub differs : slice_index v place ≢ 0
 
--- for the soft bits s, v has a smaller path metric than u, or an equal one and comes later in lexicographic order
+-- for given soft bits, the first information list ranks after the second: its path metric is smaller, or the metrics are equal and it comes
+-- later in lexicographic order
 abbrev pub RanksAfter : List ℤ → List ℕ → List ℕ → Type 0
 RanksAfter s v u =
     (likelihood s (encoding v) <ℤ likelihood s (encoding u)) ⊎
     ((likelihood s (encoding v) ≡ likelihood s (encoding u)) × IsLexicographicallyBefore u v)
 
--- for the soft bits s, u has the greatest path metric of all information lists of its length, and comes first in lexicographic
--- order among equals
+-- `u` is the most likely information list for the soft bits `s`: it has the greatest path metric of all information lists of its length
+-- and, of those with equal metrics, comes first in lexicographic order
 pub record IsMostLikely (s : List ℤ) (u : List ℕ) : Type 0 where
-  pub information : IsInformation u
+  pub information : IsEncoderInput u
   pub count : length s ≡ 2 * length u
-  pub others : (v : List ℕ) → IsInformation v → length v ≡ length u → v ≢ u → RanksAfter s v u
+  pub others : (v : List ℕ) → IsEncoderInput v → length v ≡ length u → v ≢ u → RanksAfter s v u

@@ -1,21 +1,21 @@
-//! The convolutional code of rate 1/2 and constraint length 5 of the signalling channels, RACH and SCH (GSM 05.03, today
-//! 3GPP TS 45.003, section 4.1.3), and the definition of the most likely information list for soft bits.
+//! The convolutional code of rate 1/2 and constraint length 5 for the signalling channels, RACH and SCH (GSM 05.03, today 3GPP TS 45.003,
+//! section 4.1.3), and the definition of the most likely information list for given soft bits.
 #![tactic(auto)]
 
 ghost use Rattle.std.specs.Prelude.{◌≡◌, ◌*◌, ◌<◌, length, take};
 ghost use Rattle.std.specs.List.{flat_map, range_with_len};
-ghost use Rattle.conv_code.specs.Code.{encoding, coded_pair, delayed_bit, IsInformation};
+ghost use Rattle.conv_code.specs.Code.{encoding, coded_pair, delayed_bit, IsEncoderInput};
 
 mod packed;
 
-pub use bit_blocks::{CODED_BITS, INFORMATION_BITS};
-pub use packed::encode_octets;
+pub use bit_blocks::{CODED_BITS, ENCODER_INPUT_BITS};
+pub use packed::encode_packed;
 
 /// Writes the coded bits of the information list `u` to `out`: two for each information bit.
 ///
 /// The last four bits of `u` are the zero tail bits, which return the encoder to state 0.
 pub fn encode(u: &[u8], out: &mut [u8])
-    requires information { IsInformation u.now }
+    requires information { IsEncoderInput u.now }
     requires count { length out.old ≡ 2 * length u.now }
     ensures { out.new ≡ encoding u.now }
 {
@@ -23,31 +23,31 @@ pub fn encode(u: &[u8], out: &mut [u8])
     encode_from_fifth_bit(u, out);
 }
 
-/// Writes the first four pairs of coded bits, which also depend on the zeros that are assumed before the first bit.
+/// Writes the first four pairs of coded bits. Bits before the first information bit count as 0.
 fn encode_first_four_bits(u: &[u8], out: &mut [u8])
-    requires information { IsInformation u.now }
+    requires information { IsEncoderInput u.now }
     requires count { length out.old ≡ 2 * length u.now }
     ensures count { length out.new ≡ length out.old }
     ensures pairs { take 8 out.new ≡ flat_map (coded_pair u.now) (range_with_len 0 4) }
 {
     for k in 0..4 {
-        let first = u[k] ^ delayed(u, k, 3) ^ delayed(u, k, 4);
+        let first = u[k] ^ delayed_bit(u, k, 3) ^ delayed_bit(u, k, 4);
         out[2 * k] = first;
-        out[2 * k + 1] = first ^ delayed(u, k, 1);
+        out[2 * k + 1] = first ^ delayed_bit(u, k, 1);
     }
 }
 
-/// The bit that is `delay` positions before bit `k`, or 0 if that is before the first bit.
-fn delayed(u: &[u8], k: usize, delay: usize) -> u8
+/// The bit of `u` that is `delay` positions before bit `k`, or 0 if that is before the first bit.
+fn delayed_bit(u: &[u8], k: usize, delay: usize) -> u8
     requires { k < length u.now }
     ensures { result ≡ delayed_bit u.now k delay }
 {
     if k < delay { 0 } else { u[k - delay] }
 }
 
-/// Writes the coded pairs from the fifth on. No pair depends on another, so the compiler can compute sixteen at a time.
+/// Writes the pairs of coded bits from the fifth on. No pair depends on another, so the compiler can compute sixteen at a time.
 fn encode_from_fifth_bit(u: &[u8], out: &mut [u8])
-    requires information { IsInformation u.now }
+    requires information { IsEncoderInput u.now }
     requires count { length out.old ≡ 2 * length u.now }
     requires pairs { take 8 out.old ≡ flat_map (coded_pair u.now) (range_with_len 0 4) }
     ensures { out.new ≡ encoding u.now }

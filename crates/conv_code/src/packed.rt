@@ -5,10 +5,9 @@ ghost use Rattle.bit_blocks.specs.Packed.{AreCodedBitsPacked, bit_of};
 ghost use Rattle.conv_code.specs.Code.{encoding};
 ghost use Rattle.conv_code.specs.Windows.{HoldsFourCodedPairs};
 
-/// The coded bits of 256 information bits. `octets` holds the information bits, least significant bit first; `AreCodedBitsPacked` describes
-/// the
-/// layout of the result.
-pub fn encode_octets(octets: &[u8; 32]) -> [u8; 64]
+/// Encodes 256 information bits, which `octets` holds least significant bit first. Each octet of the result holds four pairs of coded bits:
+/// the first bits of the pairs in bits 0 to 3, and the second bits in bits 4 to 7.
+pub fn encode_packed(octets: &[u8; 32]) -> [u8; 64]
     ensures { AreCodedBitsPacked 64 (encoding (bits_of octets.now)) result }
 {
     let mut shifted = [0; 33];
@@ -16,36 +15,39 @@ pub fn encode_octets(octets: &[u8; 32]) -> [u8; 64]
     encode_four_bits_per_octet(&shifted)
 }
 
-/// The coded bits, one octet for every four information bits. The first octet of `shifted` holds the bits before the information list.
+/// Encodes four information bits into each octet of the result. The information bits begin with the second octet of `shifted`; the first
+/// octet holds the bits before them.
 fn encode_four_bits_per_octet(shifted: &[u8; 33]) -> [u8; 64]
     ensures { (t : ℕ) → t < 64 → HoldsFourCodedPairs (bits_of shifted.now) (slice_index result t) t }
 {
     let mut packed = [0; 64];
     for m in 0..32 {
-        packed[2 * m] = encode_last_four_bits(window(shifted[m], shifted[m + 1]));
-        packed[2 * m + 1] = encode_last_four_bits(shifted[m + 1]);
+        packed[2 * m] = encode_upper_four_bits(mid_octet(shifted[m], shifted[m + 1]));
+        packed[2 * m + 1] = encode_upper_four_bits(shifted[m + 1]);
     }
     packed
 }
 
-/// An octet with the last four bits of `before`, followed by the first four bits of `here`.
+/// An octet that consists of the last four bits of `before` and the first four bits of `here`; bit 0 of an octet is its first bit.
 #[inline]
-fn window(before: u8, here: u8) -> u8
+fn mid_octet(before: u8, here: u8) -> u8
     ensures low { (i : ℕ) → i < 4 → bit_of result i ≡ bit_of before (i + 4) }
     ensures high { (i : ℕ) → i < 4 → bit_of result (i + 4) ≡ bit_of here i }
 {
     (before >> 4) | ((here & 15) << 4)
 }
 
-/// The coded bits of the last four of eight information bits, packed: the first bits of the four pairs, then the second bits.
+/// Encodes the upper four of eight information bits. The result holds the first bits of the four coded pairs in bits 0 to 3, and the second
+/// bits in bits 4 to 7.
 #[inline]
-fn encode_last_four_bits(window: u8) -> u8
+fn encode_upper_four_bits(mid_octet: u8) -> u8
     ensures first { (i : ℕ) → i < 4 →
-        bit_of result i ≡ (bit_of window (i + 4) + bit_of window (i + 1) + bit_of window i) % 2 }
+        bit_of result i ≡ (bit_of mid_octet (i + 4) + bit_of mid_octet (i + 1) + bit_of mid_octet i) % 2 }
     ensures second { (i : ℕ) → i < 4 →
-        bit_of result (i + 4) ≡ (bit_of window (i + 4) + bit_of window (i + 3) + bit_of window (i + 1) + bit_of window i) % 2 }
+        bit_of result (i + 4) ≡
+        (bit_of mid_octet (i + 4) + bit_of mid_octet (i + 3) + bit_of mid_octet (i + 1) + bit_of mid_octet i) % 2 }
 {
-    let first = (window >> 4) ^ (window >> 1) ^ window;
-    let second = first ^ (window >> 3);
+    let first = (mid_octet >> 4) ^ (mid_octet >> 1) ^ mid_octet;
+    let second = first ^ (mid_octet >> 3);
     (first & 15) | ((second & 15) << 4)
 }

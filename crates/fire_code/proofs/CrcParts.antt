@@ -1,6 +1,7 @@
 -- A codeword consists of information bits and check bits: with the check bits inverted, it is a multiple of the generator.
-use Rattle.std.proofs.Common.{◌≡◌, ℕ, ◌+◌, ◌≤◌, List, ◌∷◌, ◌++◌, length, get_or, replicate, ap, sym, ◌∙◌, arith, subst, length-append, take}
-use Rattle.std.proofs.{Common.drop, lemmas.List.{length-replicate, take-append-drop, Elements.{All-take, All-drop}}}
+use Rattle.std.proofs.Common.{◌≡◌, ℕ, ◌+◌, ◌≤◌, List, ◌∷◌, ◌++◌, length, get_or, replicate, ap, sym, ◌∙◌}
+use Rattle.std.proofs.{Common.{arith, subst, length-append, take, drop}, lemmas.List.{length-replicate, take-append-drop}}
+use Rattle.std.proofs.lemmas.List.Elements.{All-take, All-drop}
 use Rattle.bit_blocks.{specs.{Bits.{IsBit, AllBits, xor_bits}, Polynomials.{HasQuotient, IsMultiple}}, proofs.Lemmas.AllBits-xor_bits}
 use Rattle.bit_blocks.proofs.Lemmas.{xor_bits-append, xor_bits-zeros, add_bits_twice, length-xor_bits, same_remainder}
 
@@ -15,14 +16,15 @@ add_after n d p added count bits =
     ∙ ap (λ front. front ++ xor_bits p added) (xor_bits-zeros d n bits count)
 
 -- n information bits and k check bits are a multiple of the generator if the check bits are inverted
-pub multiple_of_word : (n k : ℕ) (d p g : List ℕ) → length d ≡ n → length p ≡ k → AllBits d → get_or g 0 0 ≡ 1 → length g ≤ n + k →
-    HasQuotient (d ++ xor_bits p (replicate k 1)) g → IsMultiple (xor_bits (d ++ p) (replicate n 0 ++ replicate k 1)) g
-multiple_of_word n k d p g ed ep bits leading fits quotient =
+pub multiple_of_word : (n k : ℕ) (d p g : List ℕ) → length d ≡ n → length p ≡ k → AllBits d → get_or g 0 0 ≡ 1 →
+    length g ≤ n + k → HasQuotient (d ++ xor_bits p (replicate k 1)) g →
+    IsMultiple (xor_bits (d ++ p) (replicate n 0 ++ replicate k 1)) g
+multiple_of_word n k d p g ed ep bits leading_one fits quotient =
     let ones = replicate k 1 in
     let parts = add_after n d p ones ed bits in
     let long : length (xor_bits p ones) ≡ k = count_of_sum k p ones ep (length-replicate k 1) in
     record {
-      leading = leading;
+      leading_one = leading_one;
       fits = subst (λ w. length g ≤ length w) (sym parts) (omega (arith, length-append d (xor_bits p ones)));
       quotient = subst (λ w. HasQuotient w g) (sym parts) quotient;
     }
@@ -35,15 +37,16 @@ pub same_crc : (k : ℕ) (d p p' t : List ℕ) → length t ≡ k → AllBits p 
     HasQuotient (d ++ xor_bits p (replicate k 1)) (1 ∷ t) → HasQuotient (d ++ xor_bits p' (replicate k 1)) (1 ∷ t) → p ≡ p'
 same_crc k d p p' t et bp bp' ep ep' multiple multiple' =
     let ones = replicate k 1 in
-    let e : length p ≡ length ones = ep ∙ sym (length-replicate k 1) in
-    let e' : length p' ≡ length ones = ep' ∙ sym (length-replicate k 1) in
-    let same : xor_bits p ones ≡ xor_bits p' ones =
+    let e = ep ∙ sym (length-replicate k 1) in
+    let e' = ep' ∙ sym (length-replicate k 1) in
+    let same =
     same_remainder d (xor_bits p ones) (xor_bits p' ones) t (AllBits-xor_bits p ones) (AllBits-xor_bits p' ones)
     (length-xor_bits p ones e ∙ ep ∙ sym et) (length-xor_bits p' ones e' ∙ ep' ∙ sym et) multiple multiple' in
     sym (add_bits_twice p ones bp e) ∙ ap (λ x. xor_bits x ones) same ∙ add_bits_twice p' ones bp' e'
 
 pub cut : (n : ℕ) (w s front back : List ℕ) → s ≡ w → front ≡ take n s → back ≡ drop n s → w ≡ front ++ back
-cut n w s front back same first second = sym (ap (λ x. x ++ back) first ∙ ap (λ x. take n s ++ x) second ∙ take-append-drop n s ∙ same)
+cut n w s front back same first second = sym (ap (λ x. x ++ back) first ∙ ap (λ x. take n s ++ x) second ∙ take-append-drop n s
+    ∙ same)
 
 pub bits_of_front : (n : ℕ) (s front : List ℕ) → AllBits s → front ≡ take n s → AllBits front
 bits_of_front n s front bits first = subst AllBits (sym first) (All-take IsBit n s bits)

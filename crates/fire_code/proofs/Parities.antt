@@ -1,13 +1,13 @@
 -- Information bits have exactly one CRC: division gives one, and the remainder of a division is unique.
-use Rattle.std.proofs.Common.{◌≡◌, ℕ, zero, suc, ◌+◌, ◌*◌, ◌/◌, ◌^◌, ◌<◌, ◌≤◌, List, ◌∷◌, ◌++◌, length, take, get_or, drop, replicate, refl}
-use Rattle.std.proofs.{Common.{ap, sym, ◌∙◌, arith, subst, length-append, bit_xor, bit_and, lit<}, Math.Seq.take-length, lemmas.Nat.pow_pos}
+use Rattle.std.proofs.Common.{◌≡◌, ℕ, zero, suc, ◌+◌, ◌*◌, ◌/◌, ◌^◌, ◌<◌, ◌≤◌, List, ◌∷◌, ◌++◌}
+use Rattle.std.proofs.Common.{length, take, get_or, drop, replicate, refl, ap, sym, ◌∙◌, arith, subst, length-append, bit_xor}
+use Rattle.std.proofs.{Common.{bit_and, lit<}, Math.Seq.take-length, lemmas.Nat.pow_pos}
 use Rattle.bit_blocks.{specs.{Bits.{AllBits, xor_bits}, Polynomials.HasQuotient}, proofs.Lemmas.{AllBits-xor_bits, AllBits-back}}
 use Rattle.bit_blocks.proofs.Lemmas.{AllBits-front, AllBits-table, add_bits_twice, HasQuotient-zeros}
-use Rattle.fire_code.specs.{Registers.register_bits, Words.{rach_generator, sch_generator, fire_generator, IsXcchWord, IsRachWord}}
-use Rattle.fire_code.{specs.Words.IsSchWord, proofs.{OctetSteps.taps_of_g40, CrcParts.{count_of_sum, quotient_of_parts, same_crc}}}
-use Rattle.fire_code.proofs.{RachWords.{code_added, rach_word}, RegisterBits.{length-register_bits, AllBits-register_bits}}
-use Rattle.fire_code.proofs.{RegisterBits.register_bits-zero, SchWords.sch_word, Steps.{remainder_along, remainder_within}}
-use Rattle.fire_code.proofs.XcchWords.{xcch_word}
+use Rattle.fire_code.specs.{Registers.low_bits, Words.{rach_generator, sch_generator, fire_generator, IsXcchWord, IsRachWord, IsSchWord}}
+use Rattle.fire_code.proofs.{OctetSteps.taps_of_g40, CrcParts.{count_of_sum, quotient_of_parts, same_crc}, RachWords.code_added}
+use Rattle.fire_code.proofs.{RachWords.rach_word, RegisterBits.{length-low_bits, AllBits-low_bits, low_bits-zero}, SchWords.sch_word}
+use Rattle.fire_code.proofs.{Steps.{remainder_along, remainder_within}, XcchWords.xcch_word}
 
 -- ---- each CRC exists
 
@@ -15,16 +15,17 @@ use Rattle.fire_code.proofs.XcchWords.{xcch_word}
 record Completed (n taps : ℕ) (front : List ℕ) : Type 0 where
   register : ℕ
   within : register < 2 ^ n
-  quotient : HasQuotient (front ++ register_bits n register) (1 ∷ register_bits n taps)
+  quotient : HasQuotient (front ++ low_bits n register) (1 ∷ low_bits n taps)
 
-completed : (n taps : ℕ) (bits : List ℕ) → 0 < n → taps < 2 ^ n → AllBits bits → (i : ℕ) → i ≤ length bits → Completed n taps (take i bits)
+completed : (n taps : ℕ) (bits : List ℕ) → 0 < n → taps < 2 ^ n → AllBits bits → (i : ℕ) → i ≤ length bits →
+    Completed n taps (take i bits)
 completed n taps bits positive small all zero h =
-    let generator = 1 ∷ register_bits n taps in
-    let room : length generator ≤ n + 1 = omega (arith, length-register_bits n taps) in
+    let generator = 1 ∷ low_bits n taps in
+    let room : length generator ≤ n + 1 = omega (arith, length-low_bits n taps) in
     record {
       register = 0;
       within = pow_pos n;
-      quotient = subst (λ r. HasQuotient r generator) (sym (register_bits-zero n)) (HasQuotient-zeros n generator room);
+      quotient = subst (λ r. HasQuotient r generator) (sym (low_bits-zero n)) (HasQuotient-zeros n generator room);
     }
 completed n taps bits positive small all (suc i) h =
     let here : i < length bits = omega arith in
@@ -41,26 +42,27 @@ record Crc (n taps : ℕ) (d : List ℕ) : Type 0 where
   crc : List ℕ
   count : length crc ≡ n
   bits : AllBits crc
-  quotient : HasQuotient (d ++ xor_bits crc (replicate n 1)) (1 ∷ register_bits n taps)
+  quotient : HasQuotient (d ++ xor_bits crc (replicate n 1)) (1 ∷ low_bits n taps)
 
-crc_of : (n taps : ℕ) (d : List ℕ) → 0 < n → taps < 2 ^ n → AllBits d → AllBits (replicate n 1) → length {A = ℕ} (replicate n 1) ≡ n →
-    Crc n taps d
+crc_of : (n taps : ℕ) (d : List ℕ) → 0 < n → taps < 2 ^ n → AllBits d → AllBits (replicate n 1) →
+    length {A = ℕ} (replicate n 1) ≡ n → Crc n taps d
 crc_of n taps d positive small all ones_bits ones_count =
     let ones : List ℕ = replicate n 1 in
     let whole = completed n taps d positive small all (length d) (omega arith) in
-    let r = register_bits n whole.register in
-    let long : length r ≡ n = length-register_bits n whole.register in
-    let quotient : HasQuotient (d ++ r) (1 ∷ register_bits n taps) =
-    subst (λ front. HasQuotient (front ++ r) (1 ∷ register_bits n taps)) (take-length d) whole.quotient in
+    let r = low_bits n whole.register in
+    let long : length r ≡ n = length-low_bits n whole.register in
+    let quotient : HasQuotient (d ++ r) (1 ∷ low_bits n taps) =
+    subst (λ front. HasQuotient (front ++ r) (1 ∷ low_bits n taps)) (take-length d) whole.quotient in
     record {
       crc = xor_bits r ones;
       count = count_of_sum n r ones long ones_count;
       bits = AllBits-xor_bits r ones;
-      quotient = subst (λ x. HasQuotient (d ++ x) (1 ∷ register_bits n taps))
-          (sym (add_bits_twice r ones (AllBits-register_bits n whole.register) (long ∙ sym ones_count))) quotient;
+      quotient = subst (λ x. HasQuotient (d ++ x) (1 ∷ low_bits n taps))
+          (sym (add_bits_twice r ones (AllBits-low_bits n whole.register) (long ∙ sym ones_count))) quotient;
     }
 
-pub some_rach_crc : (d b : List ℕ) → length d ≡ 8 → AllBits d → length b ≡ 6 → AllBits b → (p : List ℕ) × IsRachWord (d ++ p) b
+pub some_rach_crc : (d b : List ℕ) → length d ≡ 8 → AllBits d → length b ≡ 6 → AllBits b →
+    (p : List ℕ) × IsRachWord (d ++ p) b
 some_rach_crc d b ed bd eb bb =
     let p = crc_of 6 _ d (lit< tt) (lit< tt) bd (AllBits-table (replicate 6 1) refl) refl in
     (xor_bits p.crc b, rach_word d _ b ed bd p.count p.bits eb bb p.quotient)
@@ -75,7 +77,7 @@ some_xcch_crc d ed bd =
     let p = crc_of 40 618479558656 d (lit< tt) (lit< tt) bd (AllBits-table (replicate 40 1) refl) refl in (
       p.crc,
       xcch_word d p.crc ed bd p.count p.bits
-          (subst (λ g. HasQuotient (d ++ xor_bits p.crc (replicate 40 1)) g) taps_of_g40 p.quotient),
+          (subst (HasQuotient (d ++ xor_bits p.crc (replicate 40 1))) taps_of_g40 p.quotient),
     )
 
 -- ---- each CRC is unique

@@ -2,7 +2,7 @@
 use Rattle.std.specs.Prelude.{ℕ, ◌/◌, ◌%◌, List, [], ◌∷◌}
 use Rattle.std.proofs.Common.{zero, suc}
 
--- the n lowest bits of a number, least significant first
-unfoldable pub register_bits : ℕ → ℕ → List ℕ
-register_bits zero number = []
-register_bits (suc n) number = number % 2 ∷ register_bits n (number / 2)
+-- the lowest bits of a number, least significant bit first; the first argument is their count
+unfoldable pub low_bits : ℕ → ℕ → List ℕ
+low_bits zero number = []
+low_bits (suc n) number = number % 2 ∷ low_bits n (number / 2)

@@ -3,9 +3,9 @@
 ghost use Rattle.std.specs.Prelude.{◌≡◌, ◌<◌, ◌≤◌, ◌^◌, ◌++◌, ◌∷◌, length, replicate};
 ghost use Rattle.bit_blocks.specs.Bits.{AllBits, xor_bits};
 ghost use Rattle.bit_blocks.specs.Polynomials.{HasQuotient};
-ghost use Rattle.fire_code.specs.Registers.{register_bits};
+ghost use Rattle.fire_code.specs.Registers.{low_bits};
 
-use crate::registers::places;
+use crate::registers::bits_of_register;
 use bit_blocks::Bits;
 
 /// The `N` check bits of `info`: `info` followed by these bits, inverted, is a multiple of the generator.
@@ -16,19 +16,20 @@ pub(crate) fn crc<const N: usize>(info: &[u8], taps: u64) -> Bits<N>
     requires degree { 0 < N }
     requires fits { N ≤ 64 }
     requires taps { taps < 2 ^ N }
-    ensures multiple { HasQuotient (info.now ++ xor_bits result (replicate N 1)) (1 ∷ register_bits N taps) }
+    ensures multiple { HasQuotient (info.now ++ xor_bits result (replicate N 1)) (1 ∷ low_bits N taps) }
     ensures count { length result ≡ N }
     ensures bits { AllBits result }
 {
-    places(!remainder::<N>(info, taps))
+    bits_of_register(!remainder::<N>(info, taps))
 }
 
-/// The remainder of `bits` as a register: `bits` followed by the register's bits, bit 0 first, is a multiple of the generator.
+/// The remainder of `bits` as a register: `bits`, followed by the `N` lowest bits of the result, bit 0 first, is a multiple of the
+/// generator.
 fn remainder<const N: usize>(bits: &[u8], taps: u64) -> u64
     requires bits { AllBits bits.now }
     requires degree { 0 < N }
     requires taps { taps < 2 ^ N }
-    ensures multiple { HasQuotient (bits.now ++ register_bits N result) (1 ∷ register_bits N taps) }
+    ensures multiple { HasQuotient (bits.now ++ low_bits N result) (1 ∷ low_bits N taps) }
     ensures within { result < 2 ^ N }
 {
     let mut register = 0;

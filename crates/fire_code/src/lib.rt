@@ -1,5 +1,5 @@
-//! The three inverted CRCs of GSM's signalling (GSM 05.03, today 3GPP TS 45.003, sections 4.1.2, 4.6 and 4.7): the Fire code of the
-//! control channels (xCCH), and the CRCs of the access burst (RACH) and the synchronisation burst (SCH).
+//! The three inverted CRCs of GSM signalling (GSM 05.03, today 3GPP TS 45.003, sections 4.1.2, 4.6 and 4.7): the Fire code of the control
+//! channels (xCCH), and the CRCs of the access burst (RACH) and the synchronisation burst (SCH).
 #![tactic(auto)]
 
 mod division;

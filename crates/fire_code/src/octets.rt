@@ -4,7 +4,7 @@ ghost use Rattle.std.specs.Prelude.{◌≡◌, ℕ, ◌*◌, ◌/◌, ◌<◌, �
 ghost use Rattle.bit_blocks.specs.Bits.{AllBits};
 ghost use Rattle.bit_blocks.specs.Octets.{octet_bits, bits_of as octets_to_bits};
 ghost use Rattle.bit_blocks.specs.Polynomials.{HasQuotient, IsMultiple};
-ghost use Rattle.fire_code.specs.Registers.{register_bits};
+ghost use Rattle.fire_code.specs.Registers.{low_bits};
 ghost use Rattle.fire_code.specs.Words.{fire_generator};
 
 use crate::registers::{bits_of, pack_eight_bits};
@@ -271,49 +271,51 @@ static REMAINDERS: [u64; 256] = [
     0xe0_e07e_41c0,
 ];
 
-/// The forty bits that make an octet (least significant bit first) a multiple of the Fire code's generator when they follow it. The
-/// generator is D^40 + D^26 + D^23 + D^17 + D^3 + 1 (GSM 05.03 section 4.1.2).
+/// The Fire code remainder of an octet: the octet, least significant bit first, followed by these forty bits is a multiple of the generator
+/// D^40 + D^26 + D^23 + D^17 + D^3 + 1 (GSM 05.03 section 4.1.2).
 pub fn octet_remainder(octet: u8) -> Bits<40>
     ensures multiple { IsMultiple (octet_bits octet ++ result) fire_generator }
     ensures only { (r : List ℕ) → length r ≡ 40 → AllBits r → IsMultiple (octet_bits octet ++ r) fire_generator → r ≡ result }
     ensures count { length result ≡ 40 }
     ensures bits { AllBits result }
 {
-    bits_of(table_entry(octet))
+    bits_of(table_remainder(octet))
 }
 
-/// The remainder of a list of bits whose length is a multiple of eight: the list followed by the register's bits, bit 0 first, is a
-/// multiple of the Fire code's generator.
+/// The Fire code remainder of a list of bits whose length is a multiple of eight: the list, followed by the 40 bits of the result, bit 0
+/// first, is a multiple of the generator.
 pub(crate) fn remainder(bits: &[u8]) -> u64
     requires bits { AllBits bits.now }
     requires whole { length bits.now ≡ 8 * (length bits.now / 8) }
-    ensures multiple { HasQuotient (bits.now ++ register_bits 40 result) fire_generator }
+    ensures multiple { HasQuotient (bits.now ++ low_bits 40 result) fire_generator }
     ensures within { result < 2 ^ 40 }
 {
     let mut register = 0;
     for m in 0..bits.len() / 8 {
         let octet = pack_eight_bits(&bits[8 * m..8 * m + 8]);
-        register = (register >> 8) ^ table_entry(((register ^ octet) & 0xff) as u8);
+        register = (register >> 8) ^ table_remainder(((register ^ octet) & 0xff) as u8);
     }
     register
 }
 
-/// The remainder, as `remainder` computes it, of bits that are packed into octets, least significant bit first.
+/// The Fire code remainder of the bits of `octets`, least significant bit of each octet first: these bits, followed by the 40 bits of the
+/// result, bit 0 first, are a multiple of the generator.
+#[inline(always)]
 pub(crate) fn remainder_of_octets(octets: &[u8]) -> u64
-    ensures multiple { HasQuotient (octets_to_bits octets.now ++ register_bits 40 result) fire_generator }
+    ensures multiple { HasQuotient (octets_to_bits octets.now ++ low_bits 40 result) fire_generator }
     ensures within { result < 2 ^ 40 }
 {
     let mut register = 0;
     for octet in octets {
-        register = (register >> 8) ^ table_entry(((register ^ u64::from(*octet)) & 0xff) as u8);
+        register = (register >> 8) ^ table_remainder(((register ^ u64::from(*octet)) & 0xff) as u8);
     }
     register
 }
 
-/// The table entry for an octet.
+/// The Fire code remainder of one octet, from the table.
 #[inline]
-fn table_entry(octet: u8) -> u64
-    ensures multiple { HasQuotient (register_bits 8 octet ++ register_bits 40 result) fire_generator }
+fn table_remainder(octet: u8) -> u64
+    ensures multiple { HasQuotient (low_bits 8 octet ++ low_bits 40 result) fire_generator }
     ensures within { result < 2 ^ 40 }
 {
     REMAINDERS[octet as usize]

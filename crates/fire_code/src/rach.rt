@@ -8,7 +8,7 @@ use crate::division::crc;
 use bit_blocks::Bits;
 
 // The generator without D^6: D^5 + D^3 + D^2 + D + 1. The least significant bit is the coefficient of D^5.
-const TAPS: u64 = 0b11_1101;
+const CRC_TAPS: u64 = 0b11_1101;
 
 /// The CRC of the eight bits of an access burst, before the BSIC is added.
 ///
@@ -17,14 +17,14 @@ pub fn rach_parity(d: &Bits<8>) -> Bits<6>
     ensures word { IsRachWord (d.now ++ result) (replicate 6 0) }
     ensures only { (p : List ℕ) → IsRachWord (d.now ++ p) (replicate 6 0) → p ≡ result }
 
-    // For any BSIC, the check bits are the CRC plus the BSIC.
+    // For every BSIC, the check bits sent are the sum modulo 2 of the CRC and the BSIC.
     ensures with_bsic { (b : List ℕ) → length b ≡ 6 → AllBits b → IsRachWord (d.now ++ xor_bits result b) b }
     ensures only_with_bsic { (p b : List ℕ) → IsRachWord (d.now ++ p) b → p ≡ xor_bits result b }
 
     ensures count { length result ≡ 6 }
     ensures bits { AllBits result }
 {
-    crc(d.as_slice(), TAPS)
+    crc(d.as_slice(), CRC_TAPS)
 }
 
 /// Whether `w`, eight information bits and six check bits, is a codeword for this BSIC.
@@ -33,8 +33,8 @@ pub fn rach_holds(w: &Bits<14>, bsic: &Bits<6>) -> bool
 {
     let (info, sum) = w.as_slice().split_at(8);
     let sum = Bits::<6>::from_slice(sum).unwrap();
-    // The only BSIC for which these bits are a codeword.
-    let code = crc::<6>(info, TAPS).xor(&sum);
+    // The only BSIC for which `w` is a codeword: the CRC plus the received check bits, modulo 2.
+    let code = crc::<6>(info, CRC_TAPS).xor(&sum);
     code.as_slice() == bsic.as_slice()
 }
 

@@ -3,14 +3,14 @@
 ghost use Rattle.std.specs.Prelude.{◌≡◌, ◌+◌, ◌*◌, ◌/◌, ◌<◌, ◌≤◌, ◌^◌, ◌++◌, length, take, drop};
 ghost use Rattle.bit_blocks.specs.Bits.{AllBits};
 ghost use Rattle.bit_blocks.specs.Octets.{octet_bits, bits_of as octets_to_bits};
-ghost use Rattle.fire_code.specs.Registers.{register_bits};
+ghost use Rattle.fire_code.specs.Registers.{low_bits};
 
 use bit_blocks::Bits;
 
 /// The `N` lowest bits of a register, least significant bit first.
-pub(crate) fn places<const N: usize>(register: u64) -> Bits<N>
+pub(crate) fn bits_of_register<const N: usize>(register: u64) -> Bits<N>
     requires { N ≤ 64 }
-    ensures value { result ≡ register_bits N register }
+    ensures value { result ≡ low_bits N register }
     ensures count { length result ≡ N }
     ensures bits { AllBits result }
 {
@@ -23,7 +23,7 @@ pub(crate) fn places<const N: usize>(register: u64) -> Bits<N>
 
 /// The forty lowest bits of a register, least significant bit first.
 pub(crate) fn bits_of(register: u64) -> Bits<40>
-    ensures value { result ≡ register_bits 40 register }
+    ensures value { result ≡ low_bits 40 register }
     ensures count { length result ≡ 40 }
     ensures bits { AllBits result }
 {
@@ -32,15 +32,15 @@ pub(crate) fn bits_of(register: u64) -> Bits<40>
         write_octet_bits(
             &mut bits,
             8 * m,
-            &spread_octet_bits((register >> (8 * m)) & 0xff),
+            &unpack_octet((register >> (8 * m)) & 0xff),
         );
     }
     bits
 }
 
 /// The forty lowest bits of a register as five octets, the least significant octet first.
-pub(crate) fn octets_of(register: u64) -> [u8; 5]
-    ensures { octets_to_bits result ≡ register_bits 40 register }
+pub(crate) fn octets_of_register(register: u64) -> [u8; 5]
+    ensures { octets_to_bits result ≡ low_bits 40 register }
 {
     [
         register_octet(register, 0),
@@ -54,7 +54,7 @@ pub(crate) fn octets_of(register: u64) -> [u8; 5]
 /// Octet `m` of a register; octet 0 is the least significant.
 fn register_octet(register: u64, m: usize) -> u8
     requires { m < 5 }
-    ensures { octet_bits result ≡ register_bits 8 (register / 2 ^ (8 * m)) }
+    ensures { octet_bits result ≡ low_bits 8 (register / 2 ^ (8 * m)) }
 {
     ((register >> (8 * m)) & 0xff) as u8
 }
@@ -63,7 +63,7 @@ fn register_octet(register: u64, m: usize) -> u8
 pub(crate) fn register_from_bits(bits: &[u8]) -> u64
     requires count { length bits.now ≡ 40 }
     requires bits { AllBits bits.now }
-    ensures value { register_bits 40 result ≡ bits.now }
+    ensures value { low_bits 40 result ≡ bits.now }
     ensures within { result < 2 ^ 40 }
 {
     let mut register = 0;
@@ -78,29 +78,29 @@ pub(crate) fn register_from_bits(bits: &[u8]) -> u64
 pub(crate) fn pack_eight_bits(bits: &[u8]) -> u64
     requires count { length bits.now ≡ 8 }
     requires bits { AllBits bits.now }
-    ensures value { register_bits 8 result ≡ bits.now }
+    ensures value { low_bits 8 result ≡ bits.now }
     ensures within { result < 256 }
 {
     let apart = u64::from_le_bytes([
         bits[0], bits[1], bits[2], bits[3], bits[4], bits[5], bits[6], bits[7],
     ]);
-    // The multiplication moves bit i to position 56 + i and leaves nothing else in the highest octet.
+    // The multiplication moves bit `i` to position `56 + i`, so the highest octet of the product holds exactly the eight bits.
     apart.wrapping_mul(0x0102_0408_1020_4080) >> 56
 }
 
 /// The eight bits of an octet, least significant bit first.
 #[inline]
-fn spread_octet_bits(octet: u64) -> [u8; 8]
+fn unpack_octet(octet: u64) -> [u8; 8]
     requires { octet < 256 }
-    ensures value { result ≡ register_bits 8 octet }
+    ensures value { result ≡ low_bits 8 octet }
     ensures bits { AllBits result }
 {
-    // Octet i of `kept` keeps only bit i of `octet`, at its own position; adding 127 carries it into the highest bit of octet i.
+    // Octet `i` of `kept` holds only bit `i` of `octet`. Adding 127 to each octet of `kept` sets its highest bit exactly if that bit is 1.
     let kept = octet.wrapping_mul(0x0101_0101_0101_0101) & 0x8040_2010_0804_0201;
     ((kept.wrapping_add(0x7f7f_7f7f_7f7f_7f7f) >> 7) & 0x0101_0101_0101_0101).to_le_bytes()
 }
 
-/// Writes eight bits into `bits` from index `at` on.
+/// Writes the eight bits of `octet` to `bits`, from index `at` on.
 fn write_octet_bits(bits: &mut Bits<40>, at: usize, octet: &[u8; 8])
     requires count { length bits.old ≡ 40 }
     requires within { at + 8 ≤ 40 }

@@ -8,7 +8,7 @@ use crate::division::crc;
 use bit_blocks::Bits;
 
 // The generator without D^10: D^8 + D^6 + D^5 + D^4 + D^2 + 1. The least significant bit is the coefficient of D^9.
-const TAPS: u64 = 0b10_1011_1010;
+const CRC_TAPS: u64 = 0b10_1011_1010;
 
 /// The CRC of the 25 information bits of a synchronisation burst (GSM 05.03 section 4.7).
 pub fn sch_parity(d: &Bits<25>) -> Bits<10>
@@ -17,7 +17,7 @@ pub fn sch_parity(d: &Bits<25>) -> Bits<10>
     ensures count { length result ≡ 10 }
     ensures bits { AllBits result }
 {
-    crc(d.as_slice(), TAPS)
+    crc(d.as_slice(), CRC_TAPS)
 }
 
 /// Whether the last 10 of 35 bits are the CRC of the first 25.
@@ -25,7 +25,7 @@ pub fn sch_holds(w: &Bits<35>) -> bool
     ensures { IsTrue result ↔ IsSchWord w.now }
 {
     let (info, check) = w.as_slice().split_at(25);
-    crc::<10>(info, TAPS).as_slice() == check
+    crc::<10>(info, CRC_TAPS).as_slice() == check
 }
 
 #[cfg(test)]

@@ -3,11 +3,11 @@
 ghost use Rattle.std.specs.Prelude.{◌≡◌, ◌<◌, ◌^◌, ◌↔◌, ◌++◌, List, ℕ, length, replicate, IsTrue};
 ghost use Rattle.bit_blocks.specs.Bits.{AllBits, xor_bits};
 ghost use Rattle.bit_blocks.specs.Octets.{bits_of as octets_to_bits};
-ghost use Rattle.fire_code.specs.Registers.{register_bits};
+ghost use Rattle.fire_code.specs.Registers.{low_bits};
 ghost use Rattle.fire_code.specs.Words.{IsXcchWord};
 
 use crate::octets::{remainder, remainder_of_octets};
-use crate::registers::{bits_of, octets_of, register_from_bits};
+use crate::registers::{bits_of, octets_of_register, register_from_bits};
 use bit_blocks::{BLOCK_BITS, BLOCK_OCTETS, Bits};
 
 const ALL_ONES: u64 = 0xff_ffff_ffff;
@@ -22,12 +22,13 @@ pub fn xcch_parity(d: &Bits<BLOCK_BITS>) -> Bits<40>
     bits_of(!remainder(d.as_slice()))
 }
 
-/// The Fire code bits of a block packed into 23 octets, packed into five octets. Octets are packed least significant bit first.
+/// The 40 Fire code bits of a block of 23 octets, as five octets. Bits are packed least significant bit first.
+#[inline(always)]
 pub fn xcch_parity_of_octets(octets: &[u8; BLOCK_OCTETS]) -> [u8; 5]
     ensures word { IsXcchWord (octets_to_bits octets.now ++ octets_to_bits result) }
     ensures only { (p : List ℕ) → IsXcchWord (octets_to_bits octets.now ++ p) → p ≡ octets_to_bits result }
 {
-    octets_of(!remainder_of_octets(octets))
+    octets_of_register(!remainder_of_octets(octets))
 }
 
 /// Whether the last 40 of 224 bits are the Fire code bits of the first 184.
@@ -38,10 +39,10 @@ pub fn xcch_holds(w: &Bits<224>) -> bool
     remainder(info) ^ register_from_bits(check) == ALL_ONES
 }
 
-/// The syndrome of 224 bits: inverting check bit `184 + i` for each bit `i` that is 1 in the syndrome makes `w` a codeword. The syndrome
-/// is 0 if and only if `w` is a codeword.
+/// The syndrome of the 224 bits `w`. It is 0 if and only if `w` is a codeword. Inverting bit `184 + i` of `w` for each bit `i` of the
+/// syndrome that is 1 makes `w` a codeword.
 pub fn xcch_syndrome(w: &Bits<224>) -> u64
-    ensures word { IsXcchWord (xor_bits w.now (replicate BLOCK_BITS 0 ++ register_bits 40 result)) }
+    ensures word { IsXcchWord (xor_bits w.now (replicate BLOCK_BITS 0 ++ low_bits 40 result)) }
     ensures zero { (result ≡ 0) ↔ IsXcchWord w.now }
     ensures within { result < 2 ^ 40 }
     ensures count { length w.now ≡ 224 }
@@ -60,7 +61,7 @@ mod tests {
     use std::test::Fail;
 
     // The generator without D^40: D^26 + D^23 + D^17 + D^3 + 1. The least significant bit is the coefficient of D^39.
-    const TAPS: u64 = 0x90_0041_2000;
+    const CRC_TAPS: u64 = 0x90_0041_2000;
 
     #[test]
     fn crc_of_a_fill_frame(rt: HostRuntime) -> Result<(), Fail> {
@@ -106,7 +107,7 @@ mod tests {
     }
 
     #[test]
-    fn table_and_plain_division_agree(rt: HostRuntime) -> Result<(), Fail> {
+    fn table_and_bit_division_agree(rt: HostRuntime) -> Result<(), Fail> {
         for step in 1..24 {
             let mut info = Bits::<BLOCK_BITS>::zero();
             for i in 0..BLOCK_BITS {
@@ -114,7 +115,7 @@ mod tests {
             }
             assert_eq!(rt;
                 xcch_parity(&info).as_slice(),
-                crc::<40>(info.as_slice(), TAPS).as_slice()
+                crc::<40>(info.as_slice(), CRC_TAPS).as_slice()
             );
         }
         Ok(())

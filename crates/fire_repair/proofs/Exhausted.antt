@@ -1,25 +1,28 @@
 -- Two different error bursts never have the same syndrome. This is computed for every shape: multiplied by D up to 212 times, it never
 -- becomes another shape (a register whose 28 lowest bits are 0), except that its bits are shifted.
-use Rattle.std.proofs.Common.{◌≡◌, ℕ, zero, suc, ◌+◌, ◌-◌, ◌*◌, ◌/◌, ◌%◌, ◌^◌, ◌<◌, ◌≤◌, Bool, true, false, eqb, ◌&&◌, refl, ap, sym, ◌∙◌}
-use Rattle.std.proofs.{Common.{arith, eq-eqb, mul_assoc, ◌⊎◌, inl, inr}, Math.Nat.{pow-suc, mul_comm}, lemmas.Nat.pow-add}
-use Rattle.std.proofs.lemmas.Bool.Decides.{Decides-eqb}
+use Rattle.std.proofs.Common.{◌≡◌, ℕ, zero, suc, ◌+◌, ◌-◌, ◌*◌, ◌/◌, ◌%◌, ◌^◌, ◌<◌, ◌≤◌, Bool}
+use Rattle.std.proofs.Common.{true, false, eqb, ◌&&◌, refl, ap, sym, ◌∙◌, arith, eq-eqb, mul_assoc, ◌⊎◌, inl, inr}
+use Rattle.std.proofs.{Math.Nat.{pow-suc, mul_comm}, lemmas.{Nat.pow-add, Bool.Decides.Decides-eqb}}
 use Rattle.fire_code.proofs.Lemmas.{tested, passed}
-use Rattle.fire_repair.{specs.Bursts.{shift_once, shift, error_burst_syndrome}, proofs.Moves.{moved-add, moved_within, same_moved}}
+use Rattle.fire_repair.{specs.Bursts.{lfsr_step, lfsr_steps, error_burst_syndrome}, proofs.Moves.{moved-add, moved_within, same_moved}}
 
--- if the 28 lowest bits of the register are 0, the register times `power` is `whole`: the shape is only shifted
+-- if the 28 lowest bits of the register are 0, it holds the shifted shape: the register times `power` is `whole`
 is_plain : ℕ → ℕ → ℕ → Bool
 is_plain power whole register =
-    elim (register % 2) [ zero ↦ elim (eqb (register % 2 ^ 28) 0) [ true ↦ eqb (register * power) whole | false ↦ true ] | suc _ ↦ true ]
+    elim (register % 2) [
+      | zero ↦ elim (eqb (register % 2 ^ 28) 0) [ true ↦ eqb (register * power) whole | false ↦ true ]
+      | suc _ ↦ true
+    ]
 
 -- `is_plain` holds for the register and for its next n - 1 multiples by D
 stays_plain : ℕ → ℕ → ℕ → ℕ → Bool
 stays_plain zero power whole register = true
-stays_plain (suc n) power whole register = is_plain power whole register && stays_plain n (2 * power) whole (shift_once register)
+stays_plain (suc n) power whole register = is_plain power whole register && stays_plain n (2 * power) whole (lfsr_step register)
 
 is_alone : ℕ → Bool
 is_alone shape = stays_plain 213 1 (shape * 2 ^ 28) (shape * 2 ^ 28)
 
--- the test of 1,024 shapes; four such parts cover all shapes
+-- the test of 1,024 of the 4,096 shapes
 are_alone : ℕ → Bool
 are_alone part = tested (λ s. is_alone (1024 * part + s)) 1024
 
@@ -53,7 +56,8 @@ all_alone shape small =
     ap is_alone (sym parts)
     ∙ passed (λ s. is_alone (1024 * (shape / 1024) + s)) 1024 (parts_alone (shape / 1024) (omega arith)) (shape % 1024) (omega arith)
 
-plain_here : (power whole register : ℕ) → is_plain power whole register ≡ true → register % 2 ^ 28 ≡ 0 → register * power ≡ whole
+plain_here : (power whole register : ℕ) → is_plain power whole register ≡ true → register % 2 ^ 28 ≡ 0 →
+    register * power ≡ whole
 unfolding is_plain
 plain_here power whole register plain low =
     let here : eqb (register % 2 ^ 28) 0 ≡ true = eq-eqb (register % 2 ^ 28) 0 low in
@@ -65,33 +69,34 @@ both : (a b : Bool) → (a && b) ≡ true → (a ≡ true) × (b ≡ true)
 both true b h = (refl, h)
 both false b h = (let f : false ≡ true = h in cc, let f : false ≡ true = h in cc)
 
-plain_at : (n d power whole register : ℕ) → stays_plain n power whole register ≡ true → d < n → shift d register % 2 ^ 28 ≡ 0 →
-    shift d register * (2 ^ d * power) ≡ whole
-unfolding stays_plain shift
+plain_at : (n d power whole register : ℕ) → stays_plain n power whole register ≡ true → d < n →
+    lfsr_steps d register % 2 ^ 28 ≡ 0 → lfsr_steps d register * (2 ^ d * power) ≡ whole
+unfolding stays_plain lfsr_steps
 plain_at zero d power whole register stays before low = absurd (omega arith)
 plain_at (suc n) zero power whole register stays before low =
     let one : 1 * power ≡ power = omega arith in
     ap (λ p. register * p) one
     ∙ plain_here power whole register
-    (both (is_plain power whole register) (stays_plain n (2 * power) whole (shift_once register)) stays).0 low
+    (both (is_plain power whole register) (stays_plain n (2 * power) whole (lfsr_step register)) stays).0 low
 plain_at (suc n) (suc d) power whole register stays before low =
-    let next = (both (is_plain power whole register) (stays_plain n (2 * power) whole (shift_once register)) stays).1 in
+    let next = (both (is_plain power whole register) (stays_plain n (2 * power) whole (lfsr_step register)) stays).1 in
     let powers : 2 ^ suc d * power ≡ 2 ^ d * (2 * power) = ap (λ p. p * power) (pow-suc 2 d) ∙ mul_assoc (2 ^ d) 2 power in
-    ap (λ p. shift d (shift_once register) * p) powers
-    ∙ plain_at n d (2 * power) whole (shift_once register) next (omega arith) low
+    ap (λ p. lfsr_steps d (lfsr_step register) * p) powers
+    ∙ plain_at n d (2 * power) whole (lfsr_step register) next (omega arith) low
 
 -- a shape that becomes another shape when it is multiplied by D^d is only shifted
-same_shape : (d shape shape' : ℕ) → d ≤ 212 → shape < 2 ^ 12 → shift d (shape * 2 ^ 28) ≡ shape' * 2 ^ 28 → shape' * 2 ^ d ≡ shape
+same_shape : (d shape shape' : ℕ) → d ≤ 212 → shape < 2 ^ 12 → lfsr_steps d (shape * 2 ^ 28) ≡ shape' * 2 ^ 28 →
+    shape' * 2 ^ d ≡ shape
 unfolding is_alone
 same_shape d shape shape' room small same =
-    let low : shift d (shape * 2 ^ 28) % 2 ^ 28 ≡ 0 = omega arith in
+    let low : lfsr_steps d (shape * 2 ^ 28) % 2 ^ 28 ≡ 0 = omega arith in
     let plain = plain_at 213 d 1 (shape * 2 ^ 28) (shape * 2 ^ 28) (all_alone shape small) (omega arith) low in
     let whole : shape' * 2 ^ d * 2 ^ 28 ≡ shape * 2 ^ 28 =
     mul_assoc shape' (2 ^ d) (2 ^ 28)
     ∙ ap (λ x. shape' * x) (mul_comm (2 ^ d) (2 ^ 28))
     ∙ sym (mul_assoc shape' (2 ^ 28) (2 ^ d))
     ∙ ap (λ x. x * 2 ^ d) (sym same)
-    ∙ ap (λ x. shift d (shape * 2 ^ 28) * x) (let one : 2 ^ d ≡ 2 ^ d * 1 = omega arith in one)
+    ∙ ap (λ x. lfsr_steps d (shape * 2 ^ 28) * x) (let one : 2 ^ d ≡ 2 ^ d * 1 = omega arith in one)
     ∙ plain in
     omega arith
 
@@ -100,10 +105,10 @@ ordered : (start start' shape shape' : ℕ) → start ≤ start' → start' ≤ 
 ordered start start' shape shape' order room small small' same =
     let d = start' - start in
     let parts : 212 - start ≡ d + (212 - start') = omega arith in
-    let moved_there : shift (212 - start') (shift d (shape * 2 ^ 28)) ≡ shift (212 - start') (shape' * 2 ^ 28) =
-    sym (moved-add d (212 - start') (shape * 2 ^ 28)) ∙ ap (λ n. shift n (shape * 2 ^ 28)) (sym parts) ∙ same in
-    let there : shift d (shape * 2 ^ 28) ≡ shape' * 2 ^ 28 =
-    same_moved (212 - start') (shift d (shape * 2 ^ 28)) (shape' * 2 ^ 28)
+    let moved_there : lfsr_steps (212 - start') (lfsr_steps d (shape * 2 ^ 28)) ≡ lfsr_steps (212 - start') (shape' * 2 ^ 28) =
+    sym (moved-add d (212 - start') (shape * 2 ^ 28)) ∙ ap (λ n. lfsr_steps n (shape * 2 ^ 28)) (sym parts) ∙ same in
+    let there : lfsr_steps d (shape * 2 ^ 28) ≡ shape' * 2 ^ 28 =
+    same_moved (212 - start') (lfsr_steps d (shape * 2 ^ 28)) (shape' * 2 ^ 28)
     (moved_within d (shape * 2 ^ 28) (omega arith)) (omega arith) moved_there in
     let places : d + start ≡ start' = omega arith in
     ap (λ x. x * 2 ^ start) (sym (same_shape d shape shape' (omega arith) small there))

@@ -4,21 +4,21 @@ use Rattle.std.specs.Prelude.{ℕ, ◌≡◌, ◌≢◌, ◌+◌, ◌<◌, ◌�
 use Rattle.fire_code.specs.bit_blocks.Bits.{AllBits}
 use Rattle.fire_code.specs.Words.{IsXcchWord}
 
--- v is a repair of w: w is not a codeword, v is one, and they differ only within twelve consecutive bits
+-- `v` is a repair of `w`: `w` is not a codeword, `v` is one, and they differ only within twelve consecutive bits
 pub record IsRepair (w v : List ℕ) : Type 0 where
   pub count : length w ≡ 224
   pub bits : AllBits w
   pub not_codeword : IsXcchWord w → ⊥
   pub word : IsXcchWord v
   pub start : ℕ
-  pub near : (k : ℕ) → slice_index w k ≢ slice_index v k → (start ≤ k) × (k < start + 12)
+  pub changes_within_12 : (k : ℕ) → slice_index w k ≢ slice_index v k → (start ≤ k) × (k < start + 12)
 
--- w and v differ in the first and in the last of the `span` bits from bit `first` on, and in no bit outside these
+-- `w` and `v` differ at bit `first` and at the last of the `span` bits that begin there, and nowhere outside these bits
 pub record IsSpanOfChangedBits (w v : List ℕ) (first span : ℕ) : Type 0 where
-  pub some : 1 ≤ span
+  pub nonzero : 1 ≤ span
   pub first_differs : slice_index w first ≢ slice_index v first
   pub last_differs : (last : ℕ) → last + 1 ≡ first + span → slice_index w last ≢ slice_index v last
-  pub outside : (k : ℕ) → slice_index w k ≢ slice_index v k → (first ≤ k) × (k < first + span)
+  pub none_outside : (k : ℕ) → slice_index w k ≢ slice_index v k → (first ≤ k) × (k < first + span)
 
 -- 224 received bits have at most one repair
 abbrev pub RepairIsUnique : Type 0

@@ -1,4 +1,4 @@
-//! The repair of one received word of 224 bits.
+//! Repairs a received word of 224 bits.
 ghost use Rattle.std.specs.Prelude.{◌≡◌};
 ghost use Rattle.fire_repair.specs.Answers.{IsRepairResult};
 
@@ -21,8 +21,8 @@ pub enum RepairAnswer {
     NoRepair,
 }
 
-/// Repairs 184 information bits and their 40 Fire code bits if the errors lie within twelve consecutive bits. An error burst may not
-/// wrap around from the last bit to the first.
+/// Repairs a word of 184 information bits and 40 Fire code bits if the errors lie within twelve consecutive bits. An error burst that wraps
+/// around from the last bit to the first is not repaired.
 pub fn repair(w: &Bits<224>) -> RepairAnswer
     ensures answer { IsRepairResult w.now result }
     ensures only { (other : RepairAnswer) → IsRepairResult w.now other → other ≡ result }

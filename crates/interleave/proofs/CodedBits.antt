@@ -1,6 +1,6 @@
 -- The entries of the table `HALF_BURST_BITS` are what `coded_index_at` gives, checked by computation.
-use Rattle.std.proofs.Common.{◌≡◌, ℕ, ◌+◌, ◌*◌, ◌/◌, ◌%◌, ◌<◌, ◌≤◌, Bool, true, eqb, [], get_or, refl, ap₂, ◌∙◌, arith}
-use Rattle.std.proofs.lemmas.Bool.Decides.{Decides-eqb}
+use Rattle.std.proofs.Common.{◌≡◌, ℕ, ◌+◌, ◌*◌, ◌/◌, ◌%◌, ◌<◌, ◌≤◌, Bool, true, eqb, [], get_or, refl}
+use Rattle.std.proofs.{Common.{ap₂, ◌∙◌, arith}, lemmas.Bool.Decides.Decides-eqb}
 use Rattle.bit_blocks.proofs.Lemmas.{passes_below, at_passes_below}
 use Rattle.interleave.specs.{ColumnPlaces.{coded_index_at, coded_bit_of_column}, declared.table.TheConstants.HALF_BURST_BITS}
 
@@ -11,7 +11,8 @@ every_entry_is_right : passes_below (λ r. passes_below (is_right r) 57) 8 ≡ t
 unfolding coded_index_at coded_bit_of_column passes_below
 every_entry_is_right = refl
 
-pub entry-is : (b half i : ℕ) → b < 4 → half ≤ 1 → i < 57 → get_or (get_or HALF_BURST_BITS (2 * b + half) []) i 0 ≡ coded_index_at b
+pub entry-is : (b half i : ℕ) → b < 4 → half ≤ 1 → i < 57 → get_or (get_or HALF_BURST_BITS (2 * b + half) []) i 0 ≡
+    coded_index_at b
     (57 * half + i)
 entry-is b half i hb hh hi =
     let r : ℕ = 2 * b + half in

@@ -1,9 +1,9 @@
 -- `Columns` holds the coded bits in columns, and each row of a burst is the same bit of consecutive columns.
-use Rattle.std.proofs.Common.{◌≡◌, ℕ, ◌+◌, ◌-◌, ◌*◌, ◌/◌, ◌%◌, ◌^◌, ◌<◌, ◌≤◌, List, ◌++◌, map, length, length-append, get_or, take, drop}
-use Rattle.std.proofs.{Common.{replicate, bit_and, sym, ap, ap₂, ◌∙◌, arith, inl, inr, zero-add}, lemmas.{Bool.cases_lt, List.get_or-take}}
-use Rattle.std.proofs.lemmas.List.{length-take, get_or-map, get_or_append_left, get_or-append_right, FromFn.get_or-map-range_with_len}
-use Rattle.std.proofs.lemmas.{List.FromFn.length-map-range_with_len, Nat.and_mask, Simd.{length-zip2, get_or-chunk, length-chunk}}
-use Rattle.std.{proofs.lemmas.Simd.put_chunk_is, specs.List.range_with_len}
+use Rattle.std.proofs.Common.{◌≡◌, ℕ, ◌+◌, ◌-◌, ◌*◌, ◌/◌, ◌%◌, ◌^◌, ◌<◌, ◌≤◌, List, ◌++◌, map}
+use Rattle.std.proofs.Common.{length, length-append, get_or, take, drop, replicate, bit_and, sym, ap, ap₂, ◌∙◌, arith, inl, inr}
+use Rattle.std.proofs.{Common.zero-add, lemmas.{Bool.cases_lt, List.{get_or-take, length-take, get_or-map, get_or_append_left}}}
+use Rattle.std.proofs.lemmas.{List.{get_or-append_right, FromFn.{get_or-map-range_with_len, length-map-range_with_len}}, Nat.and_mask}
+use Rattle.std.{proofs.lemmas.Simd.{length-zip2, get_or-chunk, length-chunk, put_chunk_is}, specs.List.range_with_len}
 use borrow.Rule.Slice.PartMut.{put_mid}
 use lib.Lanes.{zip2, chunk, put_chunk, pick_l}
 use Rattle.bit_blocks.specs.Packed.{AreCodedBitsPacked, bit_of, packed_bit_index}
@@ -16,12 +16,12 @@ use Rattle.interleave.proofs.JoinedLanes.{lane_by}
 abbrev order : List ℕ
 order = map (λ q. 8 * q % 57) (range_with_len 0 64)
 
-pub columns_in_order : (packed : List ℕ) → length packed ≡ 64 → (q : ℕ) → q < 64 →
+pub columns_of_packed : (packed : List ℕ) → length packed ≡ 64 → (q : ℕ) → q < 64 →
     get_or (pick_l 0 (packed ++ packed) order) q 0 ≡ get_or packed (8 * q % 57) 0
-columns_in_order packed long q hq =
+columns_of_packed packed long q hq =
     let at : get_or order q 0 ≡ 8 * q % 57 = get_or-map-range_with_len (λ q. 8 * q % 57) 0 64 q q 0 hq (omega arith) in
     let within : 8 * q % 57 < length packed = omega arith in
-    let here : q < length order = omega (arith, length-map-range_with_len (λ q. 8 * q % 57) 0 64) in
+    let here : q < length order = omega (arith, length-map-range_with_len) in
     get_or-map (λ k. get_or (packed ++ packed) k 0) order q 0 0 here
     ∙ ap (λ k. get_or (packed ++ packed) k 0) at
     ∙ get_or_append_left packed packed 0 (8 * q % 57) within
@@ -32,7 +32,7 @@ module _ (n m : ℕ) (first rest second : List ℕ) (within : n ≤ length first
   written_before q hq =
       let front : q < length first = omega arith in
       let taken : q < length (take n (first ++ rest)) = omega (arith, length-take n (first ++ rest), length-append first rest) in
-      get_or_append_left (take n (first ++ rest)) _ 0 q taken
+      get_or_append_left _ _ 0 q taken
       ∙ get_or-take n (first ++ rest) q 0 hq
       ∙ get_or_append_left first rest 0 q front
 
@@ -40,7 +40,7 @@ module _ (n m : ℕ) (first rest second : List ℕ) (within : n ≤ length first
   written_behind q hq =
       let taken : length (take n (first ++ rest)) ≡ n = omega (arith, length-take n (first ++ rest), length-append first rest) in
       let back : n + q - n ≡ q = omega arith in
-      get_or-append_right (take n (first ++ rest)) (second ++ drop m (drop n (first ++ rest))) n (n + q) 0 taken (omega arith)
+      get_or-append_right _ _ n _ 0 taken (omega arith)
       ∙ ap (λ k. get_or (second ++ drop m (drop n (first ++ rest))) k 0) back
       ∙ get_or_append_left second _ 0 q hq
 
@@ -50,7 +50,7 @@ pub AreColumnsOfCodedBits-repeat_columns : (coded packed columns octets : List �
     ((q : ℕ) → q < 64 → get_or octets (57 + q) 0 ≡ get_or columns q 0) → AreColumnsOfCodedBits coded octets
 unfolding coded_bit_of_column
 AreColumnsOfCodedBits-repeat_columns coded packed columns octets are ordered front back = record {
-  each = λ q r hq hr. ap (λ octet. bit_of octet (packed_bit_index r)) (column q hq) ∙ are (8 * q % 57) r (omega arith) hr;
+  each = λ q r hq hr. ap (λ octet. bit_of octet (packed_bit_index r)) (column q hq) ∙ are _ r (omega arith) hr;
 } where
   column : (q : ℕ) → q < 121 → get_or octets q 0 ≡ get_or packed (8 * q % 57) 0
   column q hq =
@@ -60,7 +60,7 @@ AreColumnsOfCodedBits-repeat_columns coded packed columns octets are ordered fro
             let same : 57 + (q - 57) ≡ q = omega arith in
             let turn : 8 * (q - 57) % 57 ≡ 8 * q % 57 = omega arith in
             ap (λ n. get_or octets n 0) (sym same)
-            ∙ back (q - 57) (omega arith)
+            ∙ back _ (omega arith)
             ∙ ordered (q - 57) (omega arith)
             ∙ ap (λ n. get_or packed n 0) turn
       ]
@@ -76,7 +76,7 @@ row_bit coded columns b place p are hb hj hp =
     let row : ℕ = b + 4 * (place % 2) in
     let same : row ≡ b + 4 * ((place + 2 * p) % 2) = omega arith in
     let column : 8 * row + place / 2 + p ≡ 8 * (b + 4 * ((place + 2 * p) % 2)) + (place + 2 * p) / 2 = omega arith in
-    are.each (8 * row + place / 2 + p) row (omega arith) (omega arith) ∙ ap (λ k. get_or coded k 0) (ap₂ coded_bit_of_column column same)
+    are.each _ row (omega arith) (omega arith) ∙ ap (λ k. get_or coded k 0) (ap₂ coded_bit_of_column column same)
 
 -- bit i of each of sixteen octets
 module _ (octets : List ℕ) (i : ℕ) (long : length octets ≡ 16) where
@@ -85,20 +85,20 @@ module _ (octets : List ℕ) (i : ℕ) (long : length octets ≡ 16) where
 
   length-shifted : length (zip2 (λ a b. a / 2 ^ b) (chunk 0 16 octets) (replicate 16 i)) ≡ 16
   length-shifted =
-      let read : length (chunk 0 16 octets) ≡ 16 = length-chunk 0 16 octets (omega arith) in
-      length-zip2 (λ a b. a / 2 ^ b) (chunk 0 16 octets) (replicate 16 i) read ∙ read
+      let read : length (chunk 0 16 octets) ≡ 16 = length-chunk 0 16 _ (omega arith) in
+      length-zip2 _ _ _ read ∙ read
 
   pub length-bit_lanes : length lanes ≡ 16
   length-bit_lanes =
-      length-zip2 bit_and (zip2 (λ a b. a / 2 ^ b) (chunk 0 16 octets) (replicate 16 i)) (replicate 16 1) length-shifted ∙ length-shifted
+      length-zip2 _ _ _ length-shifted ∙ length-shifted
 
   pub bit_lane : (p : ℕ) → p < 16 → get_or lanes p 0 ≡ bit_of (get_or octets p 0) i
   bit_lane p hp =
-      let read : length (chunk 0 16 octets) ≡ 16 = length-chunk 0 16 octets (omega arith) in
-      lane_by bit_and (zip2 (λ a b. a / 2 ^ b) (chunk 0 16 octets) (replicate 16 i)) 16 1 p length-shifted hp
-      ∙ and_mask (get_or (zip2 (λ a b. a / 2 ^ b) (chunk 0 16 octets) (replicate 16 i)) p 0) 1
+      let read : length (chunk 0 16 octets) ≡ 16 = length-chunk 0 16 _ (omega arith) in
+      lane_by _ _ 16 1 p length-shifted hp
+      ∙ and_mask _ 1
       ∙ ap (λ a. a % 2)
-      (lane_by (λ a b. a / 2 ^ b) (chunk 0 16 octets) 16 i p read hp
+      (lane_by _ _ 16 i p read hp
       ∙ ap (λ a. a / 2 ^ i) (get_or-chunk 0 16 octets p 0 hp ∙ ap (λ k. get_or octets k 0) (zero-add p)))
 
 -- two vectors of sixteen lanes, interleaved
@@ -108,15 +108,16 @@ turns = map (λ i. i / 2 + 16 * (i % 2)) (range_with_len 0 32)
 pub interleave_lanes : (first second : List ℕ) (i : ℕ) → i < 32 →
     get_or (pick_l 0 (first ++ second) turns) i 0 ≡ get_or (first ++ second) (i / 2 + 16 * (i % 2)) 0
 interleave_lanes first second i hi =
-    let at : get_or turns i 0 ≡ i / 2 + 16 * (i % 2) = get_or-map-range_with_len (λ i. i / 2 + 16 * (i % 2)) 0 32 i i 0 hi (omega arith) in
-    get_or-map (λ k. get_or (first ++ second) k 0) turns i 0 0 (omega (arith, length-map-range_with_len (λ i. i / 2 + 16 * (i % 2)) 0 32))
+    let at : get_or turns i 0 ≡ i / 2 + 16 * (i % 2) = get_or-map-range_with_len (λ i. i / 2 + 16 * (i % 2)) 0 32 i i 0 hi
+    (omega arith) in
+    get_or-map (λ k. get_or (first ++ second) k 0) turns i 0 0 (omega (arith, length-map-range_with_len))
     ∙ ap (λ k. get_or (first ++ second) k 0) at
 
 -- a list of the same length as the vector is overwritten completely
 pub written_whole : (old lanes : List ℕ) (i : ℕ) → length old ≡ 32 → length lanes ≡ 32 → i < 32 →
     get_or (put_chunk 0 old lanes) i 0 ≡ get_or lanes i 0
 written_whole old lanes i o l hi =
-    ap (λ xs. get_or xs i 0) (put_chunk_is 0 old lanes (omega arith)) ∙ get_or_append_left lanes _ 0 i (omega arith)
+    ap (λ xs. get_or xs i 0) (put_chunk_is 0 old _ (omega arith)) ∙ get_or_append_left _ _ 0 i (omega arith)
 
 -- two rows, interleaved, are consecutive positions of a burst
 pub turned_places : (coded first second : List ℕ) (b from i : ℕ) → length first ≡ 16 → i < 32 →
@@ -130,7 +131,7 @@ turned_places coded first second b from i long hi even odd =
           let here : i / 2 + 16 * (i % 2) ≡ i / 2 = omega arith in
           let place : from + 2 * (i / 2) ≡ from + i = omega arith in
           ap (λ k. get_or (first ++ second) k 0) here
-          ∙ get_or_append_left first second 0 (i / 2) (omega arith)
+          ∙ get_or_append_left _ second 0 (i / 2) (omega arith)
           ∙ even (i / 2) half
           ∙ ap (λ j. get_or coded (coded_index_at b j) 0) place
       | inr upper ↦
@@ -149,7 +150,7 @@ pub half_place : (coded front rest back : List ℕ) (b half m i : ℕ) → lengt
     get_or (put_mid 32 m (front ++ rest) back) i 0 ≡ get_or coded (coded_index_at b (57 * half + i)) 0
 half_place coded front rest back b half m i long long' hi first second =
     elim (cases_lt i 32) [
-      | inl lower ↦ written_before 32 m front rest back (omega arith) i lower ∙ first i (omega arith)
+      | inl lower ↦ written_before 32 m _ _ _ (omega arith) i lower ∙ first i (omega arith)
       | inr upper ↦
           let same : 32 + (i - 32) ≡ i = omega arith in
           let place : 57 * half + 32 + (i - 32) ≡ 57 * half + i = omega arith in

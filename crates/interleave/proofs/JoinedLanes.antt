@@ -1,52 +1,55 @@
 -- Interleaving the lanes of two vectors and reading the result as lanes of twice the width joins lanes in pairs. Three such steps
 -- transpose eight rows of eight octets.
-use Rattle.std.proofs.Common.{◌≡◌, ℕ, zero, suc, ◌+◌, ◌*◌, ◌/◌, ◌%◌, ◌^◌, ◌<◌, List, [], ◌∷◌, ◌++◌, length, get_or, refl, ap, ap₂, sym}
-use Rattle.std.proofs.{Common.{subst, ◌∙◌, arith, bit_and, Fits, ◌-◌, ◌≤◌, replicate, w8, w16, zero-add}, Math.Nat.{mul_comm, pow-suc}}
-use Rattle.std.proofs.{Math.{Nat.pow-zero, Arith.digits_lt}, lemmas.List.{get_or_append_left, get_or-append_right, get_or-map, length-map}}
-use Rattle.std.proofs.lemmas.{Nat.{and_mask, pow_pos, Bits.and_high_mask}, Simd.{get_or_wider, below_from_Fits, get_or-zip2, length-zip2}}
-use Rattle.std.proofs.lemmas.Simd.{get_or-replicate, length-replicate, get_or-chunk, chunk-fits, length-chunk, Each1-chunk}
+use Rattle.std.proofs.Common.{◌≡◌, ℕ, zero, suc, ◌+◌, ◌*◌, ◌/◌, ◌%◌, ◌^◌, ◌<◌, List, [], ◌∷◌}
+use Rattle.std.proofs.Common.{◌++◌, length, get_or, refl, ap, ap₂, sym, ◌∙◌, arith, bit_and, Fits, ◌-◌, ◌≤◌}
+use Rattle.std.proofs.{Common.{replicate, w8, w16, zero-add}, Math.{Nat.{mul_comm, pow-suc, pow-zero}, Arith.digits_lt}}
+use Rattle.std.proofs.lemmas.{List.{get_or_append_left, get_or-append_right, get_or-map, length-map}, Nat.{and_mask, pow_pos}}
+use Rattle.std.proofs.lemmas.{Nat.Bits.and_high_mask, Simd.{get_or_wider, below_from_Fits, get_or-zip2, length-zip2, get_or-replicate}}
+use Rattle.std.proofs.lemmas.Simd.{length-replicate, get_or-chunk, chunk-fits, length-chunk, Each1-chunk}
 use mir.Syntax.{Width}
 use mir.Val.{bits}
 use borrow.Rule.Slice.PartMut.{mid_of}
 use lib.Lanes.{Each1, zip2, chunk, number_l, digits_l, pick_l}
 
-pub number-two : (p : ℕ) (xs : List ℕ) (i : ℕ) → suc i < length xs → number_l p (chunk i 2 xs) ≡ get_or xs i 0 + p * get_or xs (suc i) 0
+-- P holds for each number below n: one tuple of the facts
+abbrev pub EachBelow : (ℕ → Type 0) → ℕ → Type 0
+EachBelow P zero = Unit {0}
+EachBelow P (suc n) = P 0 × EachBelow (λ k. P (suc k)) n
+
+pub below_n : (P : ℕ → Type 0) (n : ℕ) → EachBelow P n → (k : ℕ) → k < n → P k
+below_n P zero h k lt = absurd (omega arith)
+below_n P (suc n) h zero lt = h.0
+below_n P (suc n) h (suc k) lt = below_n _ n h.1 k (omega arith)
+
+pub number-two : (p : ℕ) (xs : List ℕ) (i : ℕ) → suc i < length xs →
+    number_l p (chunk i 2 xs) ≡ get_or xs i 0 + p * get_or xs (suc i) 0
 number-two p [] i h = absurd (omega arith)
 number-two p (x ∷ []) i h = absurd (omega arith)
 number-two p (x ∷ y ∷ xs) zero h = grind arith
-number-two p (x ∷ y ∷ xs) (suc i) h = let h' : suc i < length (y ∷ xs) = omega arith in number-two p (y ∷ xs) i h'
+number-two p (x ∷ y ∷ xs) (suc i) h = let h' : suc i < length (y ∷ xs) = omega arith in number-two p _ i h'
 
 number-digits : (n x : ℕ) → x < 256 ^ n → number_l 256 (digits_l 256 n x) ≡ x
 number-digits zero x h = omega arith
 number-digits (suc n) x h =
     let front : x / 256 < 256 ^ n = omega arith in
-    let rest = number-digits n (x / 256) front in
+    let rest = number-digits n _ front in
     omega arith
 
 number-below : (p : ℕ) (xs : List ℕ) → Each1 (λ x. x < p) xs → number_l p xs < p ^ length xs
-number-below p [] h = omega (arith, pow-zero p)
-number-below p (x ∷ xs) h = omega (arith, digits_lt (number-below p xs h.1) h.0, mul_comm p (number_l p xs), pow-suc p (length xs))
+number-below p [] h = omega (arith, pow-zero)
+number-below p (x ∷ xs) h = omega (arith, digits_lt (number-below p xs h.1) h.0, mul_comm, pow-suc)
 
 pub joined_octet : (e : ℕ → ℕ) → ((r : ℕ) → e r < 256) → (r : ℕ) → r < 8 →
     (e 0 + 256 * e 1 + 65536 * (e 2 + 256 * e 3) + 2 ^ 32 * (e 4 + 256 * e 5 + 65536 * (e 6 + 256 * e 7))) / 256 ^ r % 256 ≡ e r
-joined_octet e h zero lt = omega arith
-joined_octet e h (suc zero) lt = omega arith
-joined_octet e h (suc (suc zero)) lt = omega arith
-joined_octet e h (suc (suc (suc zero))) lt = omega arith
-joined_octet e h (suc (suc (suc (suc zero)))) lt = omega arith
-joined_octet e h (suc (suc (suc (suc (suc zero))))) lt = omega arith
-joined_octet e h (suc (suc (suc (suc (suc (suc zero)))))) lt = omega arith
-joined_octet e h (suc (suc (suc (suc (suc (suc (suc zero))))))) lt = omega arith
-joined_octet e h (suc (suc (suc (suc (suc (suc (suc (suc r)))))))) lt = absurd (omega arith)
+joined_octet e h = below_n _ 8
+    (omega arith, (omega arith, (omega arith, (omega arith, (omega arith, (omega arith, (omega arith, (omega arith, tt))))))))
 
 -- two adjacent lanes, read as one lane of twice the width
 joined_lane : (p q n : ℕ) (lanes : List ℕ) → q ≡ p ^ 2 → p ^ length lanes ≡ 256 ^ 16 → Each1 (λ x. x < p) lanes →
-    (j : ℕ) → j < n → suc (2 * j) < length lanes →
-    get_or (digits_l q n (number_l 256 (digits_l 256 16 (number_l p lanes)))) j 0
+    (j : ℕ) → j < n → suc (2 * j) < length lanes → get_or (digits_l q n (number_l 256 (digits_l 256 16 (number_l p lanes)))) j 0
     ≡ get_or lanes (2 * j) 0 + p * get_or lanes (suc (2 * j)) 0
 joined_lane p q n lanes square whole small j h within =
-    ap (λ x. get_or (digits_l q n x) j 0)
-    (number-digits 16 (number_l p lanes) (subst (λ m. number_l p lanes < m) whole (number-below p lanes small)))
+    ap (λ x. get_or (digits_l q n x) j 0) (number-digits 16 _ (rw (← whole) (number-below p lanes small)))
     ∙ get_or_wider p 2 q n lanes j square small h
     ∙ number-two p lanes (2 * j) within
 
@@ -71,7 +74,7 @@ side_by_side p n x y long s h =
     let here : s < length x = omega arith in
     let after : n + s - n ≡ s = omega arith in
     ap₂ (λ a b. a + p * b) (get_or_append_left x y 0 s here)
-    (get_or-append_right x y n (n + s) 0 long (omega arith) ∙ ap (λ k. get_or y k 0) after)
+    (get_or-append_right x y n _ 0 long (omega arith) ∙ ap (λ k. get_or y k 0) after)
 
 -- lane s of both vectors, moved next to each other and read as one lane of twice the width
 pub turned_lane : (w : Width) (q n m : ℕ) (x y : List ℕ) (order : List ℕ) (j s : ℕ) →
@@ -82,21 +85,21 @@ pub turned_lane : (w : Width) (q n m : ℕ) (x y : List ℕ) (order : List ℕ) 
     ≡ get_or x s 0 + 2 ^ bits w * get_or y s 0
 turned_lane w q n m x y order j s square whole long fits_x fits_y h within hs first second =
     let p : ℕ = 2 ^ bits w in
-    let some : 0 < p = pow_pos (bits w) in
-    let lanes : List ℕ = pick_l 0 (x ++ y) order in
-    let count : length lanes ≡ length order = length-map order (λ k. get_or (x ++ y) k 0) in
-    let small = below-picked p some (x ++ y) (below-append p some x y (below_from_Fits w x fits_x) (below_from_Fits w y fits_y)) order in
+    let some : 0 < p = pow_pos _ in
+    let lanes : List ℕ = pick_l 0 _ _ in
+    let count : length lanes ≡ length order = length-map _ _ in
+    let small = below-picked p some _ (below-append p some x y (below_from_Fits w x fits_x) (below_from_Fits w y fits_y)) _ in
     let at = λ (i : ℕ) (hi : i < length order). get_or-map (λ k. get_or (x ++ y) k 0) order i 0 0 hi in
     joined_lane p q n lanes square (ap (λ k. p ^ k) count ∙ whole) small j h (omega arith)
-    ∙ ap₂ (λ a b. a + p * b)
-    (at (2 * j) (omega arith) ∙ ap (λ k. get_or (x ++ y) k 0) first)
+    ∙ ap₂ (λ a b. a + p * b) (at (2 * j) (omega arith) ∙ ap (λ k. get_or (x ++ y) k 0) first)
     (at (suc (2 * j)) within ∙ ap (λ k. get_or (x ++ y) k 0) second)
     ∙ side_by_side p m x y long s hs
 
 -- the result, in one lane, of an operation whose second vector has the same number in all lanes
-pub lane_by : (f : ℕ → ℕ → ℕ) (x : List ℕ) (m n s : ℕ) → length x ≡ m → s < m → get_or (zip2 f x (replicate m n)) s 0 ≡ f (get_or x s 0) n
+pub lane_by : (f : ℕ → ℕ → ℕ) (x : List ℕ) (m n s : ℕ) → length x ≡ m → s < m →
+    get_or (zip2 f x (replicate m n)) s 0 ≡ f (get_or x s 0) n
 lane_by f x m n s long h =
-    get_or-zip2 f x (replicate m n) s 0 0 0 (omega arith) (omega (arith, length-replicate m n))
+    get_or-zip2 f x _ s 0 0 0 (omega arith) (omega (arith, length-replicate m n))
     ∙ ap (f (get_or x s 0)) (get_or-replicate m s n 0 h)
 
 module _ (x y : List ℕ) (long_x : length x ≡ 8) (long_y : length y ≡ 8) where
@@ -106,23 +109,23 @@ module _ (x y : List ℕ) (long_x : length x ≡ 8) (long_y : length y ≡ 8) wh
   sum_lane f g m n s h =
       let long_f : length (zip2 f x (replicate 8 m)) ≡ 8 = length-zip2 f x (replicate 8 m) long_x ∙ long_x in
       let long_g : length (zip2 g y (replicate 8 n)) ≡ 8 = length-zip2 g y (replicate 8 n) long_y ∙ long_y in
-      get_or-zip2 (λ a b. (a + b) % 2 ^ 16) (zip2 f x (replicate 8 m)) (zip2 g y (replicate 8 n)) s 0 0 0 (omega arith) (omega arith)
+      get_or-zip2 _ _ _ s 0 0 0 (omega arith) (omega arith)
       ∙ ap₂ (λ a b. (a + b) % 2 ^ 16) (lane_by f x 8 m s long_x h) (lane_by g y 8 n s long_y h)
 
   pub lower_lane : (s : ℕ) → s < 8 →
       get_or (zip2 (λ a b. (a + b) % 2 ^ 16) (zip2 bit_and x (replicate 8 255)) (zip2 (λ a b. a * 2 ^ b % 2 ^ 16) y (replicate 8 8))) s 0
       ≡ get_or x s 0 % 256 + 256 * (get_or y s 0 % 256)
   lower_lane s h =
-      sum_lane bit_and (λ a b. a * 2 ^ b % 2 ^ 16) 255 8 s h
-      ∙ ap (λ a. (a + get_or y s 0 * 256 % 65536) % 65536) (and_mask (get_or x s 0) 8)
+      sum_lane _ _ 255 8 s h
+      ∙ ap (λ a. (a + get_or y s 0 * 256 % 65536) % 65536) (and_mask _ 8)
       ∙ omega arith
 
   pub upper_lane : Each1 (Fits w16) x → Each1 (Fits w16) y → (s : ℕ) → s < 8 →
       get_or (zip2 (λ a b. (a + b) % 2 ^ 16) (zip2 (λ a b. a / 2 ^ b) x (replicate 8 8)) (zip2 bit_and y (replicate 8 65280))) s 0
       ≡ get_or x s 0 / 256 % 256 + 256 * (get_or y s 0 / 256 % 256)
   upper_lane fits_x fits_y s h =
-      let small_x = below_at (2 ^ 16) (pow_pos 16) x (below_from_Fits w16 x fits_x) s in
-      let small_y = below_at (2 ^ 16) (pow_pos 16) y (below_from_Fits w16 y fits_y) s in
+      let small_x = below_at _ (pow_pos 16) x (below_from_Fits w16 x fits_x) s in
+      let small_y = below_at _ (pow_pos 16) y (below_from_Fits w16 y fits_y) s in
       sum_lane (λ a b. a / 2 ^ b) bit_and 8 65280 s h
       ∙ ap (λ b. (get_or x s 0 / 256 + b) % 65536) (and_high_mask 16 8 (omega arith) (get_or y s 0) small_y)
       ∙ omega arith
@@ -132,17 +135,17 @@ module _ (x y : List ℕ) (long_x : length x ≡ 8) (long_y : length y ≡ 8) wh
   length-sums f g m n =
       let long_f : length (zip2 f x (replicate 8 m)) ≡ 8 = length-zip2 f x (replicate 8 m) long_x ∙ long_x in
       let long_g : length (zip2 g y (replicate 8 n)) ≡ 8 = length-zip2 g y (replicate 8 n) long_y ∙ long_y in
-      length-zip2 (λ a b. (a + b) % 2 ^ 16) (zip2 f x (replicate 8 m)) (zip2 g y (replicate 8 n)) (long_f ∙ sym long_g) ∙ long_f
+      length-zip2 _ _ _ (long_f ∙ sym long_g) ∙ long_f
 
 -- two adjacent octets, read as one 16-bit lane
-pub pair_lane : (octets : List ℕ) (from s : ℕ) → from + 16 ≤ length octets → ((k : ℕ) → Fits w8 (get_or octets k 0)) → s < 8 →
-    get_or (digits_l 65536 8 (number_l 256 (chunk 0 16 (mid_of from (from + 16 - from) octets)))) s 0
+pub pair_lane : (octets : List ℕ) (from s : ℕ) → from + 16 ≤ length octets → ((k : ℕ) → Fits w8 (get_or octets k 0)) →
+    s < 8 → get_or (digits_l 65536 8 (number_l 256 (chunk 0 16 (mid_of from (from + 16 - from) octets)))) s 0
     ≡ get_or octets (from + 2 * s) 0 + 256 * get_or octets (from + suc (2 * s)) 0
 pair_lane octets from s room fits h =
-    let part : List ℕ = chunk from 16 octets in
-    let lanes : List ℕ = chunk 0 16 part in
+    let part : List ℕ = chunk _ 16 octets in
+    let lanes : List ℕ = chunk 0 16 _ in
     let whole : from + 16 - from ≡ 16 = omega arith in
-    let long : length lanes ≡ 16 = length-chunk 0 16 part (omega (arith, length-chunk from 16 octets room)) in
+    let long : length lanes ≡ 16 = length-chunk 0 16 _ (omega (arith, length-chunk)) in
     let small = Each1-chunk (λ x. x < 256) 0 16 part (below_from_Fits w8 part (chunk-fits w8 from 16 octets fits)) in
     let at = λ (k : ℕ) (hk : k < 16).
     get_or-chunk 0 16 part k 0 hk ∙ ap (λ m. get_or part m 0) (zero-add k) ∙ get_or-chunk from 16 octets k 0 hk in

@@ -1,17 +1,17 @@
--- The coded bits in 57 columns of eight: bit r of column q is coded bit 8 (8 q mod 57) + r. Row r consists of the coded bits k with
--- k mod 8 = r and takes every other position of one burst. In a row, column q + 1 follows column q: positions go by 49 k mod 57, and
--- 49 * 8 * 8 mod 57 = 1.
+-- The 456 coded bits, arranged in 57 columns of eight: bit `r` of column `q` is coded bit `8 * (8 * q mod 57) + r`. Row `r` consists of the
+-- coded bits `k` with `k mod 8 = r` and fills every other position of one burst, column after column, because positions advance by `49 * k
+-- mod 57` and `49 * 8 * 8 mod 57 = 1`.
 use Rattle.std.specs.Prelude.{ℕ, ◌+◌, ◌*◌, ◌/◌, ◌%◌}
 
--- the number of the coded bit that is bit r of column q
+-- the number of the coded bit in a given column and row
 unfoldable pub coded_bit_of_column : ℕ → ℕ → ℕ
 coded_bit_of_column q r = 8 * (8 * q % 57) + r
 
--- the position of bit r of column q in its burst, which is burst r mod 4
+-- the position in its burst of the coded bit in a given column and row; the number of the burst is the row modulo 4
 unfoldable pub column_bit_position : ℕ → ℕ → ℕ
 column_bit_position q r = 2 * ((q + 49 * r) % 57) + r / 4
 
--- the number of the coded bit at position j of burst b: row b takes the even positions and row b + 4 the odd ones; row r begins with
--- column 8 r
+-- the number of the coded bit at a given position of a given burst. In burst `b`, row `b` fills the even positions and row `b + 4` the odd
+-- ones; row `r` begins with column `8 * r`
 unfoldable pub coded_index_at : ℕ → ℕ → ℕ
 coded_index_at b j = let row = b + 4 * (j % 2) in coded_bit_of_column (8 * row + j / 2) row

@@ -3,6 +3,8 @@ use Rattle.std.specs.Prelude.{ℕ, ◌≡◌, ◌<◌, List, slice_index}
 use Rattle.bit_blocks.specs.Packed.{bit_of, packed_bit_index}
 use Rattle.interleave.specs.ColumnPlaces.{coded_bit_of_column}
 
--- octet q holds the eight coded bits of column q, for q < 121: columns 0 to 56, then columns 0 to 63 again
+-- each of the first 121 octets of `columns` holds the eight bits of one column of `coded`: columns 0 to 56, then columns 0 to 63, where
+-- columns 57 to 63 repeat columns 0 to 6
 pub record AreColumnsOfCodedBits (coded columns : List ℕ) : Type 0 where
-  pub each : (q r : ℕ) → q < 121 → r < 8 → bit_of (slice_index columns q) (packed_bit_index r) ≡ slice_index coded (coded_bit_of_column q r)
+  pub each : (q r : ℕ) → q < 121 → r < 8 → bit_of (slice_index columns q) (packed_bit_index r) ≡
+      slice_index coded (coded_bit_of_column q r)

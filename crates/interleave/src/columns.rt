@@ -1,5 +1,5 @@
-//! Interleaving of packed coded bits. The even positions of a burst are the same bit of consecutive octets, and so are the odd positions;
-//! sixteen octets are read at a time.
+//! Interleaves packed coded bits. The even positions of a burst come from one bit position of consecutive octets, and so do the odd
+//! positions, so sixteen octets are processed at a time.
 ghost use Rattle.std.specs.Prelude.{◌≡◌, ℕ, ◌+◌, ◌*◌, ◌/◌, ◌%◌, ◌<◌, ◌≤◌, ◌++◌, List, [], length};
 ghost use Rattle.std.specs.Prelude.{slice_index, slice_index_or, slice_range};
 ghost use Rattle.bit_blocks.specs.Packed.{AreCodedBitsPacked, bit_of};
@@ -15,7 +15,7 @@ pub struct Columns {
     octets: [u8; 128],
 }
 
-// Column q is octet 8 q mod 57 of the packed coded bits.
+// The order of the columns: column `q` is octet `8 * q mod 57` of the packed coded bits.
 const COLUMN_ORDER: [usize; 64] = [
     0, 8, 16, 24, 32, 40, 48, 56, 7, 15, 23, 31, 39, 47, 55, 6, 14, 22, 30, 38, 46, 54, 5, 13, 21,
     29, 37, 45, 53, 4, 12, 20, 28, 36, 44, 52, 3, 11, 19, 27, 35, 43, 51, 2, 10, 18, 26, 34, 42,
@@ -29,26 +29,25 @@ const INTERLEAVED_LANE_ORDER: [usize; 32] = [
 ];
 
 impl Columns {
-    /// The columns of a block's coded bits, which `packed` holds eight to an octet (`AreCodedBitsPacked`). The last seven octets of
-    /// `packed` are not
-    /// used.
+    /// Arranges the coded bits of a block in columns. Each of the first 57 octets of `packed` holds eight coded bits
+    /// (`AreCodedBitsPacked`); the last seven octets are not used.
     pub fn new(packed: &[u8; 64]) -> Columns
         ensures { (coded : List ℕ) → AreCodedBitsPacked 57 coded packed.now → AreColumnsOfCodedBits coded result.octets }
     {
         Columns {
-            octets: repeat_columns(&columns_in_order(packed).to_array()),
+            octets: repeat_columns(&columns_of_packed(packed).to_array()),
         }
     }
 
     /// Writes one half of burst `b`, 57 bits: positions 0 to 56 if `half` is 0, and 57 to 113 if it is 1.
-    pub fn write_half(&self, b: usize, half: usize, out: &mut [u8])
+    pub fn write_half_burst(&self, b: usize, half: usize, out: &mut [u8])
         requires burst { b < 4 }
         requires half { half ≤ 1 }
         requires count { length out.old ≡ 57 }
-        ensures { (coded : List ℕ) (bursts : List (List ℕ)) → AreColumnsOfCodedBits coded self.now.octets → IsInterleaved coded bursts →
-            out.new ≡ slice_range (slice_index_or bursts b []) (57 * half) (57 * half + 57) }
+        ensures { (coded : List ℕ) (bursts : List (List ℕ)) → AreColumnsOfCodedBits coded self.now.octets →
+            IsInterleaved coded bursts → out.new ≡ slice_range (slice_index_or bursts b []) (57 * half) (57 * half + 57) }
     {
-        // Whole vectors are written; the last seven bits are not used.
+        // `bits` has room for whole vectors; its last seven bits are not used.
         let mut bits = [0; 64];
         self.write_32_positions(b, 57 * half, &mut bits[..32]);
         self.write_32_positions(b, 57 * half + 32, &mut bits[32..]);
@@ -70,7 +69,7 @@ impl Columns {
         .copy_to_slice(out);
     }
 
-    /// The bits of burst `b` at every other position from `place` on, sixteen in all: the same bit of each of sixteen columns.
+    /// Returns sixteen bits of burst `b`, at every other position from `place` on: one bit of each of sixteen consecutive columns.
     fn sixteen_row_bits(&self, b: usize, place: usize) -> u8x16
         requires burst { b < 4 }
         requires place { place ≤ 90 }
@@ -81,19 +80,19 @@ impl Columns {
         let row = b + 4 * (place % 2);
         let column = 8 * row + place / 2;
         let bit = row / 2 + 4 * (row % 2);
-        bit_of_each(&self.octets[column..column + 16], bit)
+        bit_of_each_octet(&self.octets[column..column + 16], bit)
     }
 }
 
-/// The columns in order: column q is octet 8q mod 57 of `packed`; columns 57 to 63 repeat columns 0 to 6.
-fn columns_in_order(packed: &[u8; 64]) -> u8x64
+/// Arranges the columns in order: column `q` is octet `8 * q mod 57` of `packed`, and columns 57 to 63 repeat columns 0 to 6.
+fn columns_of_packed(packed: &[u8; 64]) -> u8x64
     ensures each { (q : ℕ) → q < 64 → slice_index result q ≡ slice_index packed.now (8 * q % 57) }
     ensures count { length result ≡ 64 }
 {
     u8x64::from_array(*packed).swizzle::<64>(COLUMN_ORDER)
 }
 
-/// Columns 0 to 56, then columns 0 to 63 again from index 57; the last 7 octets are 0.
+/// Returns columns 0 to 56, followed by all 64 given columns; the last seven octets are 0.
 fn repeat_columns(columns: &[u8; 64]) -> [u8; 128]
     ensures front { (q : ℕ) → q < 57 → slice_index result q ≡ slice_index columns.now q }
     ensures back { (q : ℕ) → q < 64 → slice_index result (57 + q) ≡ slice_index columns.now q }
@@ -105,7 +104,7 @@ fn repeat_columns(columns: &[u8; 64]) -> [u8; 128]
 }
 
 /// Bit `i` of each of sixteen octets.
-fn bit_of_each(octets: &[u8], i: usize) -> u8x16
+fn bit_of_each_octet(octets: &[u8], i: usize) -> u8x16
     requires count { length octets.now ≡ 16 }
     requires bit { i < 8 }
     ensures count { length result ≡ 16 }

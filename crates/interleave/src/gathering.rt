@@ -4,10 +4,10 @@ ghost use Rattle.std.specs.Prelude.{◌++◌, List, [], map, length, slice_index
 ghost use Rattle.std.specs.Int.{cast_signed, w8};
 ghost use Rattle.interleave.specs.Bursts.{IsInterleaved, IsBurstDeinterleaved};
 ghost use Rattle.interleave.specs.ColumnPlaces.{coded_bit_of_column, column_bit_position};
-ghost use Rattle.interleave.specs.Places.{burst_of, position_in_burst};
+ghost use Rattle.interleave.specs.Places.{burst_of_bit, burst_position};
 
 use crate::joining::eight_columns;
-use crate::table::coded_bits;
+use crate::table::coded_bit_numbers;
 use bit_blocks::CODED_BITS;
 
 /// Deinterleaves four bursts of 114 soft bits each.
@@ -16,10 +16,10 @@ pub fn gather(parts: &[[i8; 114]; 4]) -> [i8; CODED_BITS]
     ensures only { (coded : List ℤ) → IsInterleaved coded parts.now → coded ≡ result }
 {
     let octets = [
-        octets_of(&parts[0]),
-        octets_of(&parts[1]),
-        octets_of(&parts[2]),
-        octets_of(&parts[3]),
+        as_octets(&parts[0]),
+        as_octets(&parts[1]),
+        as_octets(&parts[2]),
+        as_octets(&parts[3]),
     ];
     let mut soft = [0; CODED_BITS];
     for group in 0..7 {
@@ -29,8 +29,8 @@ pub fn gather(parts: &[[i8; 114]; 4]) -> [i8; CODED_BITS]
     soft
 }
 
-/// Soft bits reinterpreted as octets, for vector operations.
-fn octets_of(part: &[i8; 114]) -> [u8; 114]
+/// Reinterprets soft bits as octets, for vector operations.
+fn as_octets(part: &[i8; 114]) -> [u8; 114]
     ensures count { length part.now ≡ 114 }
     ensures value { map (cast_signed w8) result ≡ part.now }
 {
@@ -61,10 +61,10 @@ fn last_column(parts: &[[u8; 114]; 4]) -> [u8; 8]
 /// Writes the soft bits of eight columns, from column `8 * group` on.
 fn write_columns(columns: &[u64; 8], group: usize, soft: &mut [i8; CODED_BITS])
     requires { group < 7 }
-    ensures own { (s r : ℕ) → s < 8 → r < 8 →
+    ensures updated_bits { (s r : ℕ) → s < 8 → r < 8 →
         slice_index_or soft.new (coded_bit_of_column (8 * group + s) r) (pos 0)
         ≡ cast_signed w8 (slice_index columns.now s / 256 ^ r % 256) }
-    ensures others { (q r : ℕ) → q < 8 * group → r < 8 →
+    ensures unchanged_bits { (q r : ℕ) → q < 8 * group → r < 8 →
         slice_index_or soft.new (coded_bit_of_column q r) (pos 0) ≡ slice_index_or soft.old (coded_bit_of_column q r) (pos 0) }
 {
     for (s, column) in columns.iter().enumerate() {
@@ -75,9 +75,9 @@ fn write_columns(columns: &[u64; 8], group: usize, soft: &mut [i8; CODED_BITS])
 /// Writes the eight soft bits of column `q`.
 fn write_column(octets: &[u8; 8], q: usize, soft: &mut [i8; CODED_BITS])
     requires { q < 57 }
-    ensures own { (r : ℕ) → r < 8 →
+    ensures updated_bits { (r : ℕ) → r < 8 →
         slice_index_or soft.new (coded_bit_of_column q r) (pos 0) ≡ cast_signed w8 (slice_index octets.now r) }
-    ensures others { (p r : ℕ) → p < 57 → p ≢ q → r < 8 →
+    ensures unchanged_bits { (p r : ℕ) → p < 57 → p ≢ q → r < 8 →
         slice_index_or soft.new (coded_bit_of_column p r) (pos 0) ≡ slice_index_or soft.old (coded_bit_of_column p r) (pos 0) }
 {
     let first = 8 * (8 * q % 57);
@@ -93,20 +93,22 @@ pub fn gather_burst(b: usize, first: &[i8], second: &[i8], soft: &mut [i8; CODED
     requires second { length second.now ≡ 57 }
     ensures { IsBurstDeinterleaved b (first.now ++ second.now) soft.old soft.new }
 {
-    deinterleave_half(b, 0, first, soft);
-    deinterleave_half(b, 1, second, soft);
+    deinterleave_half_burst(b, 0, first, soft);
+    deinterleave_half_burst(b, 1, second, soft);
 }
 
-fn deinterleave_half(b: usize, half: usize, values: &[i8], soft: &mut [i8; CODED_BITS])
+/// Writes one half of burst `b`, 57 soft bits, to the indexes of their coded bits.
+fn deinterleave_half_burst(b: usize, half: usize, values: &[i8], soft: &mut [i8; CODED_BITS])
     requires burst { b < 4 }
     requires half { half ≤ 1 }
     requires count { length values.now ≡ 57 }
-    ensures own { (k i : ℕ) → k < CODED_BITS → burst_of k ≡ b → i < 57 → position_in_burst k ≡ 57 * half + i →
+    ensures updated_bits { (k i : ℕ) → k < CODED_BITS → burst_of_bit k ≡ b → i < 57 → burst_position k ≡ 57 * half + i →
         slice_index_or soft.new k (pos 0) ≡ slice_index_or values.now i (pos 0) }
-    ensures others { (k : ℕ) → k < CODED_BITS → (burst_of k ≡ b → (i : ℕ) → i < 57 → position_in_burst k ≢ 57 * half + i) →
+    ensures unchanged_bits { (k : ℕ) → k < CODED_BITS →
+        (burst_of_bit k ≡ b → (i : ℕ) → i < 57 → burst_position k ≢ 57 * half + i) →
         slice_index_or soft.new k (pos 0) ≡ slice_index_or soft.old k (pos 0) }
 {
-    for (i, k) in coded_bits(b, half).iter().enumerate() {
+    for (i, k) in coded_bit_numbers(b, half).iter().enumerate() {
         soft[usize::from(*k)] = values[i];
     }
 }

@@ -1,45 +1,45 @@
 //! Gathers eight columns at once. A row has one octet of each column, in the order of the columns, so eight columns are the transpose of
-//! eight rows: octets are joined into pairs, pairs into fours, and fours into the eight octets of a column.
+//! eight rows. Octets are joined into pairs, pairs into fours, and fours into the eight octets of a column.
 ghost use Rattle.std.specs.Prelude.{◌≡◌, ℕ, ◌+◌, ◌*◌, ◌/◌, ◌%◌, ◌^◌, ◌<◌, ◌≤◌, [], length};
 ghost use Rattle.std.specs.Prelude.{slice_index, slice_index_or};
 ghost use Rattle.interleave.specs.ColumnPlaces.{column_bit_position};
 
 use std::simd::prelude::*;
 
-/// The eight columns from column `8 * group` on, each as one number whose least significant octet is row 0.
+/// Returns eight columns, from column `8 * group` on. Each is one number whose least significant octet belongs to row 0.
 pub(crate) fn eight_columns(parts: &[[u8; 114]; 4], group: usize) -> [u64; 8]
     requires { group < 7 }
     ensures { (s r : ℕ) → s < 8 → r < 8 →
         slice_index result s / 256 ^ r % 256
         ≡ slice_index (slice_index_or parts.now (r % 4) []) (column_bit_position (8 * group + s) r) }
 {
-    let (a, b) = join_pairs(
+    let (a, b) = join_octet_pairs(
         lower_octets(
-            pairs(&parts[0], start(group, 0)),
-            pairs(&parts[1], start(group, 1)),
+            octet_pairs(&parts[0], column_in_row(group, 0)),
+            octet_pairs(&parts[1], column_in_row(group, 1)),
         ),
         lower_octets(
-            pairs(&parts[2], start(group, 2)),
-            pairs(&parts[3], start(group, 3)),
+            octet_pairs(&parts[2], column_in_row(group, 2)),
+            octet_pairs(&parts[3], column_in_row(group, 3)),
         ),
     );
-    let (c, d) = join_pairs(
+    let (c, d) = join_octet_pairs(
         upper_octets(
-            pairs(&parts[0], start(group, 4)),
-            pairs(&parts[1], start(group, 5)),
+            octet_pairs(&parts[0], column_in_row(group, 4)),
+            octet_pairs(&parts[1], column_in_row(group, 5)),
         ),
         upper_octets(
-            pairs(&parts[2], start(group, 6)),
-            pairs(&parts[3], start(group, 7)),
+            octet_pairs(&parts[2], column_in_row(group, 6)),
+            octet_pairs(&parts[3], column_in_row(group, 7)),
         ),
     );
-    let [first, second, third, fourth] = join_fours(a, c);
-    let [fifth, sixth, seventh, eighth] = join_fours(b, d);
+    let [first, second, third, fourth] = join_octet_fours(a, c);
+    let [fifth, sixth, seventh, eighth] = join_octet_fours(b, d);
     [first, second, third, fourth, fifth, sixth, seventh, eighth]
 }
 
 /// The index of column `8 * group` in a row.
-fn start(group: usize, row: usize) -> usize
+fn column_in_row(group: usize, row: usize) -> usize
     requires group { group < 7 }
     requires row { row < 8 }
     ensures place { result ≡ (8 * group + 49 * row) % 57 }
@@ -52,8 +52,8 @@ fn start(group: usize, row: usize) -> usize
     }
 }
 
-/// Eight pairs of octets of a burst, each in a 16-bit lane: the octet of the even position is the lower half.
-fn pairs(part: &[u8], from: usize) -> u16x8
+/// Reads eight pairs of octets of a burst into 16-bit lanes; in each lane, the octet at the even position is the lower half.
+fn octet_pairs(part: &[u8], from: usize) -> u16x8
     requires { 2 * from + 16 ≤ length part.now }
     ensures count { length result ≡ 8 }
     ensures even { (s : ℕ) → s < 8 → slice_index result s % 256 ≡ slice_index part.now (2 * (from + s)) }
@@ -62,7 +62,7 @@ fn pairs(part: &[u8], from: usize) -> u16x8
     u16x8::from_le_bytes(u8x16::from_slice(&part[2 * from..2 * from + 16]))
 }
 
-/// In each lane, the lower octets of `x` and `y`; the octet of `x` is the lower half.
+/// Joins the lower octets of `x` and `y` in each lane; the octet of `x` becomes the lower half.
 fn lower_octets(x: u16x8, y: u16x8) -> u16x8
     requires x { length x ≡ 8 }
     requires y { length y ≡ 8 }
@@ -72,7 +72,7 @@ fn lower_octets(x: u16x8, y: u16x8) -> u16x8
     (x & u16x8::splat(255)) + (y << u16x8::splat(8))
 }
 
-/// In each lane, the upper octets of `x` and `y`; the octet of `x` is the lower half.
+/// Joins the upper octets of `x` and `y` in each lane; the octet of `x` becomes the lower half.
 fn upper_octets(x: u16x8, y: u16x8) -> u16x8
     requires x { length x ≡ 8 }
     requires y { length y ≡ 8 }
@@ -82,8 +82,9 @@ fn upper_octets(x: u16x8, y: u16x8) -> u16x8
     (x >> u16x8::splat(8)) + (y & u16x8::splat(0xff00))
 }
 
-/// Joins each lane of `x` with the lane of `y` (the upper half): first the first four lanes, then the last four.
-fn join_pairs(x: u16x8, y: u16x8) -> (u32x4, u32x4)
+/// Joins each lane of `x` (the lower half) with the lane of `y` at the same index (the upper half). Returns the first four lanes and the
+/// last four.
+fn join_octet_pairs(x: u16x8, y: u16x8) -> (u32x4, u32x4)
     requires x { length x ≡ 8 }
     requires y { length y ≡ 8 }
     ensures first_count { length result.0 ≡ 4 }
@@ -99,8 +100,8 @@ fn join_pairs(x: u16x8, y: u16x8) -> (u32x4, u32x4)
     )
 }
 
-/// Joins each lane of `x` with the lane of `y` (the upper half).
-fn join_fours(x: u32x4, y: u32x4) -> [u64; 4]
+/// Joins each lane of `x` (the lower half) with the lane of `y` at the same index (the upper half).
+fn join_octet_fours(x: u32x4, y: u32x4) -> [u64; 4]
     requires x { length x ≡ 4 }
     requires y { length y ≡ 4 }
     ensures { (s : ℕ) → s < 4 → slice_index result s ≡ slice_index x s + 2 ^ 32 * slice_index y s }

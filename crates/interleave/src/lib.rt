@@ -1,5 +1,5 @@
-//! The block rectangular interleaving of 456 coded bits over four bursts (GSM 05.03, today 3GPP TS 45.003, section 4.1.4): coded bit k
-//! goes to position 2 (49 k mod 57) + (k mod 8) / 4 of burst k mod 4.
+//! The block rectangular interleaving of 456 coded bits over four bursts (GSM 05.03, today 3GPP TS 45.003, section 4.1.4): coded bit `k`
+//! goes to position `2 * (49 * k mod 57) + (k mod 8) div 4` of burst `k mod 4`.
 #![tactic(auto)]
 
 mod columns;
@@ -20,11 +20,11 @@ mod tests {
     use bit_blocks::CODED_BITS;
 
     // The last 88 coded bits of a block of 23 octets 00; all coded bits before them are 0.
-    const LAST: &[u8; 88] =
+    const LAST_88_BITS: &[u8; 88] =
         b"1110100110101010101010101010101010101010101010101010101010101010101010101010101001000011";
 
     // The positions of the ones in each of the four bursts.
-    const ONES: [&[usize]; 4] = [
+    const ONE_POSITIONS: [&[usize]; 4] = [
         &[
             7, 12, 21, 26, 28, 35, 40, 42, 49, 56, 63, 70, 77, 79, 84, 91, 93, 98, 107, 112,
         ],
@@ -38,14 +38,14 @@ mod tests {
     #[test]
     fn interleaves_a_block_of_zero_octets(rt: HostRuntime) {
         let mut coded = [0; CODED_BITS];
-        for (i, digit) in LAST.iter().enumerate() {
+        for (i, digit) in LAST_88_BITS.iter().enumerate() {
             coded[368 + i] = digit & 1;
         }
         for (b, burst) in spread(&coded).iter().enumerate() {
             for (place, bit) in burst.iter().enumerate() {
                 assert_eq!(rt;
                     *bit == 1,
-                    ONES[b].contains(&place),
+                    ONE_POSITIONS[b].contains(&place),
                     "burst {b}, place {place}"
                 );
             }

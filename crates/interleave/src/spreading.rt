@@ -1,11 +1,11 @@
-//! Interleaving with the table of coded bits by position.
+//! Interleaves coded bits with a table that gives the coded bit at each position.
 ghost use Rattle.std.specs.Prelude.{◌≡◌, ℕ, ◌+◌, ◌*◌, ◌<◌, ◌≤◌, List, [], All, length, slice_index};
 ghost use Rattle.std.specs.Prelude.{slice_index_or, slice_range};
 ghost use Rattle.bit_blocks.specs.Bits.{AllBits};
 ghost use Rattle.interleave.specs.Bursts.{IsInterleaved};
-ghost use Rattle.interleave.specs.Places.{burst_of, position_in_burst};
+ghost use Rattle.interleave.specs.Places.{burst_of_bit, burst_position};
 
-use crate::table::coded_bits;
+use crate::table::coded_bit_numbers;
 use bit_blocks::CODED_BITS;
 
 /// Interleaves 456 coded bits over four bursts of 114.
@@ -21,25 +21,27 @@ pub fn spread(coded: &[u8; CODED_BITS]) -> [[u8; 114]; 4]
     bursts
 }
 
-/// Writes one half of burst `b`, 57 bits: positions 0 to 56 if `half` is 0, and 57 to 113 if it is 1.
+/// Writes the coded bits of one half of burst `b`: positions 0 to 56 if `half` is 0, and 57 to 113 if it is 1.
 pub fn spread_burst(coded: &[u8; CODED_BITS], b: usize, half: usize, out: &mut [u8])
     requires burst { b < 4 }
     requires half { half ≤ 1 }
     requires count { length out.old ≡ 57 }
-    ensures places { (k i : ℕ) → k < CODED_BITS → burst_of k ≡ b → i < 57 → position_in_burst k ≡ 57 * half + i →
+    ensures places { (k i : ℕ) → k < CODED_BITS → burst_of_bit k ≡ b → i < 57 → burst_position k ≡ 57 * half + i →
         slice_index out.new i ≡ slice_index coded.now k }
     ensures part { (bursts : List (List ℕ)) → IsInterleaved coded.now bursts →
         out.new ≡ slice_range (slice_index_or bursts b []) (57 * half) (57 * half + 57) }
     ensures bits { AllBits coded.now → AllBits out.new }
 {
-    for (i, k) in coded_bits(b, half).iter().enumerate() {
+    for (i, k) in coded_bit_numbers(b, half).iter().enumerate() {
         out[i] = coded[usize::from(*k)];
     }
 }
 
+/// The 114 coded bits of burst `b`, in order of position.
 fn burst_of_block(coded: &[u8; CODED_BITS], b: usize) -> [u8; 114]
     requires { b < 4 }
-    ensures places { (k : ℕ) → k < CODED_BITS → burst_of k ≡ b → slice_index result (position_in_burst k) ≡ slice_index coded.now k }
+    ensures places { (k : ℕ) → k < CODED_BITS → burst_of_bit k ≡ b →
+        slice_index result (burst_position k) ≡ slice_index coded.now k }
 {
     let mut burst = [0; 114];
     spread_burst(coded, b, 0, &mut burst[..57]);

@@ -1,11 +1,11 @@
-//! The inverse of the interleaving as a table: the number of the coded bit at each position. Computing it by the formula takes four times
-//! as many instructions.
+//! The inverse of the interleaving, as a table: for each position, the number of its coded bit. Computing it by the formula takes four
+//! times as many instructions.
 ghost use Rattle.std.specs.Prelude.{◌≡◌, ℕ, ◌+◌, ◌*◌, ◌<◌, ◌≤◌, slice_index};
 ghost use Rattle.interleave.specs.ColumnPlaces.{coded_index_at};
 
 use bit_blocks::CODED_BITS;
 
-// The numbers of the coded bits in the eight half bursts, in order of transmission; half h of burst b is at index 2 b + h.
+// The numbers of the coded bits in the eight half bursts, in order of transmission; half `h` of burst `b` is at index `2 * b + h`.
 // `tools/interleaving.py` prints the table.
 static HALF_BURST_BITS: [[u16; 57]; 8] = [
     [
@@ -51,7 +51,7 @@ static HALF_BURST_BITS: [[u16; 57]; 8] = [
 ];
 
 /// The numbers of the coded bits in one half of burst `b`, in order of transmission.
-pub fn coded_bits(b: usize, half: usize) -> &'static [u16; 57]
+pub fn coded_bit_numbers(b: usize, half: usize) -> &'static [u16; 57]
     requires burst { b < 4 }
     requires half { half ≤ 1 }
     ensures value { (i : ℕ) → i < 57 → slice_index result.now i ≡ coded_index_at b (57 * half + i) }

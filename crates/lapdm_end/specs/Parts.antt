@@ -12,11 +12,11 @@ use Rattle.lapdm_window.specs.Parts.{WindowValues}
 use Rattle.lapdm_window.specs.Parts as W
 use Rattle.lapdm_end.specs.declared.Role.{Role}
 use Rattle.lapdm_end.specs.declared.ends.Endpoint.{Endpoint}
-use Rattle.lapdm_end.specs.declared.parts.EndParts.{EndParts}
+use Rattle.lapdm_end.specs.declared.parts.EndpointParts.{EndpointParts}
 use Rattle.lapdm_end.specs.Abstraction.{Represents}
 
--- the state of an `Endpoint`: its fields and the state of its window
-pub record EndValues : Type 0 where
+-- the state of an `Endpoint` as plain data: its own fields and the state of its window
+pub record EndpointValues : Type 0 where
   pub role : Role
   pub sapi : Sapi
   pub state : State
@@ -24,8 +24,8 @@ pub record EndValues : Type 0 where
   pub retries : ℕ
   pub window : WindowValues
 
--- the state of this `Endpoint`
-abbrev pub values_of : Endpoint → EndValues
+-- the state of an endpoint as plain data
+abbrev pub values_of : Endpoint → EndpointValues
 values_of m = record {
   role = m.link.role;
   sapi = m.link.sapi;
@@ -35,8 +35,8 @@ values_of m = record {
   window = W.values_of m.window;
 }
 
--- the state that an `EndParts` of the program describes
-abbrev pub values_in : EndParts → EndValues
+-- the endpoint state that the program's `EndpointParts` describes
+abbrev pub values_in : EndpointParts → EndpointValues
 values_in p = record {
   role = p.role;
   sapi = p.sapi;
@@ -46,17 +46,17 @@ values_in p = record {
   window = W.values_in p.window;
 }
 
--- an `Endpoint` with these values exists and represents the endpoint e
-pub record ValuesRepresent (x : EndValues) (e : EndState) : Type 0 where
+-- some program endpoint has the values `x` and represents the abstract endpoint `e`
+pub record ValuesRepresent (x : EndpointValues) (e : EndState) : Type 0 where
   pub end : Endpoint
   pub values : values_of end ≡ x
   pub represents : Represents end e
 
--- an `Endpoint` with these values exists and represents some endpoint
-abbrev pub AreOfSomeEndpoint : EndValues → Type 0
-AreOfSomeEndpoint x = (e : EndState) × ValuesRepresent x e
+-- some program endpoint has these values and represents some abstract endpoint
+abbrev pub EndpointExists : EndpointValues → Type 0
+EndpointExists x = (e : EndState) × ValuesRepresent x e
 
--- the window is in its initial state; only the check in `restore` uses this
+-- the window is in its initial state: it holds no message, its variables are 0, and nothing has been reassembled
 pub record IsUnusedWindow (x : WindowValues) : Type 0 where
   pub held : x.held ≡ []
   pub vs : x.vs ≡ 0
@@ -65,7 +65,7 @@ pub record IsUnusedWindow (x : WindowValues) : Type 0 where
   pub done : x.done ≡ 0
   pub joined : HoldsReassemblyOf x.joiner.part x.joiner.octets []
 
--- before Open the window is in its initial state; only the check in `restore` uses this
+-- before state Open, the window is in its initial state; from Open on, there is no condition
 abbrev pub IsUnusedBeforeOpen : State → WindowValues → Type 0
 IsUnusedBeforeOpen Idle x = IsUnusedWindow x
 IsUnusedBeforeOpen Opening x = IsUnusedWindow x
@@ -73,8 +73,8 @@ IsUnusedBeforeOpen Open x = Unit {0}
 IsUnusedBeforeOpen Closing x = Unit {0}
 IsUnusedBeforeOpen Closed x = Unit {0}
 
--- besides the conditions on the window, those that are equivalent to `AreOfSomeEndpoint`, in the form in which `restore` checks them
-pub record AreConsistent (x : EndValues) : Type 0 where
+-- the conditions that are checked before an endpoint is restored from this state, in addition to those on its window alone
+pub record AreConsistent (x : EndpointValues) : Type 0 where
   pub kept : length x.kept ≤ n201 x.window.channel
-  pub bare : x.sapi ≡ Three → x.kept ≡ []
+  pub empty_on_sapi3 : x.sapi ≡ Three → x.kept ≡ []
   pub now : IsUnusedBeforeOpen x.state x.window

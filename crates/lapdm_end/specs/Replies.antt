@@ -10,12 +10,12 @@ use Rattle.lapdm_end.specs.Abstraction.{channel_of, sapi_of, state_of}
 use Rattle.lapdm_end.specs.declared.replies.Reply.{Reply}
 use Rattle.lapdm_end.specs.declared.replies.Reply.TheVariants as C
 
--- the reply that a `Reply` of the program represents
+-- translates a program `Reply` into a specification `Reply`
 abbrev pub reply_of : Reply → T.Reply
 reply_of C.Nothing = T.Nothing
 reply_of C.Dm = T.SendsDm
 reply_of (C.Ua info) = T.SendsUa info.now
-reply_of (C.OpenedBy info) = T.AcceptsSabm info.now
+reply_of (C.AcceptSabm info) = T.AcceptsSabm info.now
 reply_of (C.Opened info) = T.ConfirmsEstablishment info.now
 reply_of (C.Closed reason) = T.ClosesLink reason
 reply_of C.Released = T.AcceptsDisc
@@ -24,16 +24,16 @@ reply_of (C.I ns nr p more info) = T.TakesI ns nr p (info.now, more)
 reply_of (C.Rr nr poll) = T.TakesRr nr poll
 reply_of (C.Rej nr poll) = T.TakesRej nr poll
 
--- the endpoint is in Idle, and a SABM with this information can establish its link: it fits in a frame, and is empty on SAPI 3
+-- endpoint `m` is in Idle, and a SABM with this information can establish its link: the information fits in a frame, and is empty on SAPI 3
 pub record MayAcceptSabmWith (m : Endpoint) (info : Message) : Type 0 where
   pub idle : state_of m ≡ S.Idle
   pub fits : length info ≤ n201 (channel_of m)
-  pub bare : sapi_of m ≡ Three → info ≡ []
+  pub empty_on_sapi3 : sapi_of m ≡ Three → info ≡ []
 
--- the endpoint can give this reply in its state, and the numbers and information in the reply fit in a frame
+-- the endpoint can give this reply in its state, and the sequence numbers and information in the reply are within range
 abbrev pub IsPossibleReply : Endpoint → Reply → Type 0
 IsPossibleReply m (C.Ua info) = length info.now ≤ n201 (channel_of m)
-IsPossibleReply m (C.OpenedBy info) = MayAcceptSabmWith m info.now
+IsPossibleReply m (C.AcceptSabm info) = MayAcceptSabmWith m info.now
 IsPossibleReply m (C.Opened info) = (state_of m ≡ S.Opening) × (length info.now ≤ n201 (channel_of m))
 IsPossibleReply m (C.Unit info) = length info.now ≤ largest_n201
 IsPossibleReply m (C.I ns nr p more info) =

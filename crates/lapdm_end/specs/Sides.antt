@@ -1,4 +1,4 @@
--- What a `Side` of the program represents, and what it means that its calls follow the definition.
+-- The abstraction relation of `Side`, and what it means for its calls to implement the specification.
 use Rattle.std.specs.Prelude.{◌≡◌, map}
 use Rattle.lapdm_frame.specs.declared.Channel.{Channel}
 use Rattle.lapdm_frame.specs.Frames.{octets_of}
@@ -10,12 +10,12 @@ use Rattle.lapdm_end.specs.declared.ends.Endpoint.{Endpoint}
 use Rattle.lapdm_end.specs.declared.sides.Side.{Side}
 use Rattle.lapdm_end.specs.Abstraction as L
 
--- the endpoint of this SAPI
-abbrev pub link_of : Sapi → Side → Endpoint
-link_of Zero m = m.link0
-link_of Three m = m.link3
+-- the endpoint of the side with this SAPI
+abbrev pub endpoint_of : Sapi → Side → Endpoint
+endpoint_of Zero m = m.link0
+endpoint_of Three m = m.link3
 
--- the other of the two SAPIs
+-- the other SAPI: 3 for 0, and 0 for 3
 abbrev pub other : Sapi → Sapi
 other Zero = Three
 other Three = Zero
@@ -24,19 +24,20 @@ other Three = Zero
 abbrev pub channel_of : Side → Channel
 channel_of m = L.channel_of m.link0
 
--- the two endpoints of the `Side` represent those of the state a
+-- the two endpoints of the program's side `m` represent those of the abstract side `a`
 pub record Represents (m : Side) (a : SideState) : Type 0 where
   pub link0 : L.Represents m.link0 a.link0
   pub link3 : L.Represents m.link3 a.link3
 
--- the program has carried out the step d of a side: it returns the step's SAPI, frames and notices, and the `Side` represents the state
--- after the step
+-- the program has carried out step `d` of a side: it returned the SAPI, frames and notices of `d`, and side `new` represents the state
+-- after `d`
 pub record CarriesOutStep (channel : Channel) (d : SideStep) (sapi : Sapi) (effects : Effects) (new : Side) : Type 0 where
   pub represents : Represents new d.after
-  pub sapi_is : sapi ≡ d.sapi
+  pub sapi_matches : sapi ≡ d.sapi
   pub frames : effects.frames ≡ map (octets_of channel) d.frames
   pub notices : effects.notices ≡ d.notices
 
--- for every state that the old `Side` represents, the program has carried out this step of the definition
-abbrev pub Refines : (SideState → SideStep) → Side → Sapi → Effects → Side → Type 0
-Refines side_step old sapi effects new = (a : SideState) → Represents old a → CarriesOutStep (channel_of old) (side_step a) sapi effects new
+-- for every state that the old `Side` represents, the SAPI, the effects and the new `Side` are those of this step of the specification
+abbrev pub StepRefines : (SideState → SideStep) → Side → Sapi → Effects → Side → Type 0
+StepRefines side_step old sapi effects new = (a : SideState) → Represents old a →
+    CarriesOutStep (channel_of old) (side_step a) sapi effects new

@@ -1,5 +1,5 @@
--- What the rules of state Open do, in terms of an endpoint's address and window alone, and what a rule appends to the effects. Only the
--- contracts inside this crate use these definitions.
+-- The rules of state Open as operations on an endpoint's address and window that append to the effects. Only the contracts inside this
+-- crate use these definitions.
 use Rattle.std.specs.Prelude.{◌≡◌, ◌++◌, ℕ, Bool, if◌then◌else◌, nat_eq, map}
 use Rattle.lapdm_frame.specs.Frames.{octets_of}
 use Rattle.lapdm_frame.specs.Content.{Rej}
@@ -7,42 +7,44 @@ use Rattle.lapdm_window.specs.segmenting.Segments.{Segment}
 use Rattle.lapdm_window.specs.declared.State.TheVariants.{Open}
 use Rattle.lapdm_window.specs.declared.window.Window.{Window}
 use Rattle.lapdm_window.specs.declared.effects.Effects.{Effects}
-use Rattle.lapdm_window.specs.Ends.{EndState, Outcome, no_effect, sends_frame, ◌then◌, response, is_outstanding, vr}
+use Rattle.lapdm_window.specs.Ends.{EndState, Outcome, no_effect, sends_frame, ◌then◌, response_frame, awaits_ack, vr}
 use Rattle.lapdm_window.specs.Rules.{outstanding_frame, accepts_segment, answers_segment, rejects_segment, sends_next}
 use Rattle.lapdm_window.specs.Abstraction.{Represents}
 use Rattle.lapdm_end.specs.declared.link.Address.{Address}
 use Rattle.lapdm_end.specs.Addresses.{IsAddressOf}
 
--- the endpoint e is in Open and has this address, and the window represents it
+-- endpoint `e` is in Open, has address `l`, and is represented by window `w`
 pub record IsOpenWith (l : Address) (w : Window) (e : EndState) : Type 0 where
   pub link : IsAddressOf l e
   pub state : e.state ≡ Open
   pub window : Represents w e
 
--- the window and the effects after a rule are those that the outcome o of the endpoint e prescribes
+-- after outcome `o` of endpoint `e`, the link is still open, window `w` represents the new state, and `new` is `old` with the frames and
+-- notices of `o` appended
 pub record AppendsInOpen (l : Address) (w : Window) (old new : Effects) (e : EndState) (o : Outcome) : Type 0 where
-  pub runs : IsOpenWith l w o.after
+  pub still_open : IsOpenWith l w o.after
   pub kept : o.after.kept ≡ e.kept
   pub frames : new.frames ≡ old.frames ++ map (octets_of l.channel) o.frames
   pub notices : new.notices ≡ old.notices ++ o.notices
 
--- for every endpoint in Open that the window w represents, the rule turns w into v and `old` into `new`
-abbrev pub RefinesInOpen : (EndState → Outcome) → Address → Window → Window → Effects → Effects → Type 0
-RefinesInOpen rule l w v old new = (e : EndState) → IsOpenWith l w e → AppendsInOpen l v old new e (rule e)
+-- for every endpoint in Open with this address that the old window represents, the new window and the effects appended are those of this
+-- rule
+abbrev pub StepRefinesInOpen : (EndState → Outcome) → Address → Window → Window → Effects → Effects → Type 0
+StepRefinesInOpen rule l w v old new = (e : EndState) → IsOpenWith l w e → AppendsInOpen l v old new e (rule e)
 
--- what the endpoint does: it sends the outstanding segment, if there is one
+-- the endpoint sends the outstanding segment with this P bit, if there is one
 abbrev pub sends_outstanding : Bool → EndState → Outcome
-sends_outstanding p e = if is_outstanding e then sends_frame (outstanding_frame p e) e else no_effect e
+sends_outstanding p e = if awaits_ack e then sends_frame (outstanding_frame p e) e else no_effect e
 
--- what the endpoint does: it sends a REJ, if one is due
+-- the endpoint sends a REJ with this F bit, if one is due
 abbrev pub sends_rej : Bool → Bool → EndState → Outcome
-sends_rej due p e = if due then sends_frame (response e (Rej (vr e) p)) e else no_effect e
+sends_rej due p e = if due then sends_frame (response_frame e (Rej (vr e) p)) e else no_effect e
 
--- what the endpoint does after a segment out of sequence: it sends a REJ if one is due, then the next I frame if it may
+-- the endpoint answers an out-of-sequence segment: with a REJ if one is due, then with its next I frame if it may send one
 abbrev pub refuses_segment : Bool → Bool → EndState → Outcome
 refuses_segment due p e = sends_rej due p e then sends_next
 
--- what the endpoint does with the segment of a received I frame, after the N(R) has been evaluated
+-- the endpoint accepts or discards the segment of a received I frame and answers it, after the N(R) has been evaluated
 abbrev pub takes_segment : ℕ → Bool → Segment → EndState → Outcome
 takes_segment ns p segment e =
     if nat_eq ns (vr e) then (accepts_segment segment e then answers_segment p) else (rejects_segment p e then sends_next)

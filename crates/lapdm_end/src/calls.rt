@@ -1,10 +1,10 @@
-//! One function for all calls of layer 3 to an endpoint, and one for the frames that it receives. A refused call changes nothing.
+//! The entry points of an endpoint: for the calls of layer 3, and for the frames that it receives. A refused call changes nothing.
 
 ghost use Rattle.std.specs.Prelude.{◌≡◌, OnErr, OnOk, IfOk};
 ghost use Rattle.lapdm_frame.specs.Content.{frame_of};
-ghost use Rattle.lapdm_frame.specs.Frames.{Fits};
-ghost use Rattle.lapdm_window.specs.Calls.{call_of, IsCallOfSapi, SendsUiFrame, after_call, SendsFill};
-ghost use Rattle.lapdm_window.specs.Tables.{after_frame};
+ghost use Rattle.lapdm_frame.specs.Frames.{FrameFits};
+ghost use Rattle.lapdm_window.specs.Calls.{call_of, IsCallOfSapi, SendsUiFrame, call_outcome, SendsFill};
+ghost use Rattle.lapdm_window.specs.Tables.{frame_outcome};
 
 use crate::ends::Endpoint;
 use lapdm_frame::FrameView;
@@ -12,16 +12,16 @@ use lapdm_window::{Call, Effects, Refused};
 
 impl Endpoint {
     ghost use Rattle.lapdm_end.specs.Abstraction.{channel_of, sapi_of};
-    ghost use Rattle.lapdm_end.specs.Refinement.{Refines, IsRefusedAs};
+    ghost use Rattle.lapdm_end.specs.Refinement.{StepRefines, RefusesAsDefined};
 
-    /// Carries out a call of layer 3 and replaces the contents of `effects`; if the call is refused, `effects` stays as it is.
+    /// Carries out a layer 3 call and replaces the effects with its frames and notices. A refused call leaves the effects unchanged.
     // Inlined because most callers pass a constant call, so that only one arm of the match remains.
     #[inline(always)]
     pub fn call(&mut self, call: &Call<'_>, effects: &mut Effects) -> Result<(), Refused>
         requires { IsCallOfSapi (sapi_of self.old) (call_of call.now) }
-        ensures refusal { IsRefusedAs (call_of call.now) self.old result }
+        ensures refusal { RefusesAsDefined (call_of call.now) self.old result }
         ensures refines { OnOk result
-            (Refines (after_call (call_of call.now)) self.old effects.new self.new) }
+            (StepRefines (call_outcome (call_of call.now)) self.old effects.new self.new) }
         ensures refused { OnErr result (self.new ≡ self.old) }
         ensures out_unchanged { OnErr result (effects.new ≡ effects.old) }
         ensures unchanged { SendsUiFrame (call_of call.now) → self.new ≡ self.old }
@@ -32,7 +32,7 @@ impl Endpoint {
             Call::Open(info) => self.open_into(info, effects),
             Call::OpenBare => self.open_bare_into(effects),
             Call::Send(message) => self.send_into(message, effects),
-            Call::Unit(message) => self.send_unit_into(message, effects),
+            Call::Unit(message) => self.send_ui_into(message, effects),
             Call::Close => self.close_into(effects),
             Call::Timer => self.t200_expiry_into(effects),
             Call::Idle => {
@@ -42,12 +42,12 @@ impl Endpoint {
         }
     }
 
-    /// Carries out a call of layer 3, and returns its effects.
-    pub fn call_returning(&mut self, call: &Call<'_>) -> Result<Effects, Refused>
+    /// Carries out a layer 3 call and returns its frames and notices.
+    pub fn call_returning_effects(&mut self, call: &Call<'_>) -> Result<Effects, Refused>
         requires { IsCallOfSapi (sapi_of self.old) (call_of call.now) }
-        ensures refusal { IsRefusedAs (call_of call.now) self.old result }
+        ensures refusal { RefusesAsDefined (call_of call.now) self.old result }
         ensures refines { IfOk result
-            (λ effects. Refines (after_call (call_of call.now)) self.old effects self.new) }
+            (λ effects. StepRefines (call_outcome (call_of call.now)) self.old effects self.new) }
         ensures refused { OnErr result (self.new ≡ self.old) }
         ensures unchanged { SendsUiFrame (call_of call.now) → self.new ≡ self.old }
         ensures sapi { sapi_of self.new ≡ sapi_of self.old }
@@ -62,7 +62,7 @@ impl Endpoint {
 
     /// Sends the fill frame, for use when there is nothing else to send in a block.
     pub fn idle(&self) -> Effects
-        ensures { Refines (after_call SendsFill) self.now result self.now }
+        ensures { StepRefines (call_outcome SendsFill) self.now result self.now }
     {
         let mut effects = Effects::new();
         self.send_fill_into(&mut effects);
@@ -71,13 +71,13 @@ impl Endpoint {
 
     /// Processes a received frame.
     pub fn take(&mut self, frame: &FrameView<'_>) -> Effects
-        requires { Fits (channel_of self.old) (frame_of frame.now) }
-        ensures refines { Refines (after_frame (frame_of frame.now)) self.old result self.new }
+        requires { FrameFits (channel_of self.old) (frame_of frame.now) }
+        ensures refines { StepRefines (frame_outcome (frame_of frame.now)) self.old result self.new }
         ensures sapi { sapi_of self.new ≡ sapi_of self.old }
         ensures channel { channel_of self.new ≡ channel_of self.old }
     {
         let mut effects = Effects::new();
-        self.take_into(frame, &mut effects);
+        self.take_frame_into(frame, &mut effects);
         effects
     }
 }

@@ -13,7 +13,7 @@ use lapdm_window::{Effects, Message, Reason, Refused, Sapi, State, Timer, Window
 #[derive(Debug, Drop)]
 pub struct Endpoint {
     pub(crate) window: Window,
-    // The information in the SABM that this endpoint sent, or in the SABM that established its link.
+    // The information of the SABM that this endpoint sent, or of the SABM that established its link.
     pub(crate) kept: Message,
     pub(crate) link: Address,
     pub(crate) state: State,
@@ -28,16 +28,16 @@ impl Endpoint {
     ghost use Rattle.lapdm_frame.specs.Frames.{octets_of};
     ghost use Rattle.lapdm_window.specs.declared.State.TheVariants as S;
     ghost use Rattle.lapdm_window.specs.Ends.{EndState, start};
-    ghost use Rattle.lapdm_window.specs.Calls.{first_refusal, frame_refusals, after_call, sends_sabm, sabm, disc, t200_expiry, Opens};
+    ghost use Rattle.lapdm_window.specs.Calls.{first_refusal, frame_refusals, call_outcome, sends_sabm, sabm, disc, t200_expiry, Opens};
     ghost use Rattle.lapdm_window.specs.Calls.{OpensBare};
     ghost use Rattle.lapdm_window.specs.Calls.{Sends};
     ghost use Rattle.lapdm_window.specs.Calls.{SendsUnit, Closes, T200Expires, SendsFill};
     ghost use Rattle.lapdm_window.specs.Tables.{closes_and_reports};
     ghost use Rattle.lapdm_end.specs.Addresses.{role_of};
     ghost use Rattle.lapdm_end.specs.Abstraction.{Represents, channel_of, sapi_of, state_of};
-    ghost use Rattle.lapdm_end.specs.Refinement.{Refines, IsRefusedAs};
+    ghost use Rattle.lapdm_end.specs.Refinement.{StepRefines, RefusesAsDefined};
 
-    /// An endpoint in Idle, with this role, SAPI and channel.
+    /// Creates an endpoint in Idle, with this role, SAPI and channel.
     pub fn new_on(role: Role, sapi: Sapi, channel: Channel) -> Endpoint
         ensures represents { Represents result (start (role_of role) sapi channel) }
         ensures sapi { sapi_of result ≡ sapi }
@@ -72,9 +72,9 @@ impl Endpoint {
     /// Begins to establish the link: sends a SABM with this information.
     pub(crate) fn open_into(&mut self, info: &[u8], effects: &mut Effects) -> Result<(), Refused>
         requires { sapi_of self.old ≡ Sapi.Zero }
-        ensures refusal { IsRefusedAs (Opens info.now) self.old result }
+        ensures refusal { RefusesAsDefined (Opens info.now) self.old result }
         ensures refines { OnOk result
-            (Refines (after_call (Opens info.now)) self.old effects.new self.new) }
+            (StepRefines (call_outcome (Opens info.now)) self.old effects.new self.new) }
         ensures refused { OnErr result (self.new ≡ self.old) }
         ensures out_unchanged { OnErr result (effects.new ≡ effects.old) }
         ensures sapi { sapi_of self.new ≡ sapi_of self.old }
@@ -86,16 +86,16 @@ impl Endpoint {
         if let Some(refusal) = self.frame_refusal(info) {
             return Err(refusal);
         }
-        self.begin(info, effects);
+        self.begin_establishment(info, effects);
         Ok(())
     }
 
     /// Begins to establish the link: sends a SABM without information.
     pub(crate) fn open_bare_into(&mut self, effects: &mut Effects) -> Result<(), Refused>
         requires { sapi_of self.old ≡ Sapi.Three }
-        ensures refusal { IsRefusedAs OpensBare self.old result }
+        ensures refusal { RefusesAsDefined OpensBare self.old result }
         ensures refines { OnOk result
-            (Refines (after_call OpensBare) self.old effects.new self.new) }
+            (StepRefines (call_outcome OpensBare) self.old effects.new self.new) }
         ensures refused { OnErr result (self.new ≡ self.old) }
         ensures out_unchanged { OnErr result (effects.new ≡ effects.old) }
         ensures sapi { sapi_of self.new ≡ sapi_of self.old }
@@ -104,15 +104,15 @@ impl Endpoint {
         if self.state != State::Idle {
             return Err(Refused::NotIdle);
         }
-        self.begin(&[], effects);
+        self.begin_establishment(&[], effects);
         Ok(())
     }
 
     /// Sends a message in I frames, which the other endpoint acknowledges.
     pub(crate) fn send_into(&mut self, message: &[u8], effects: &mut Effects) -> Result<(), Refused>
-        ensures refusal { IsRefusedAs (Sends message.now) self.old result }
+        ensures refusal { RefusesAsDefined (Sends message.now) self.old result }
         ensures refines { OnOk result
-            (Refines (after_call (Sends message.now)) self.old effects.new self.new) }
+            (StepRefines (call_outcome (Sends message.now)) self.old effects.new self.new) }
         ensures refused { OnErr result (self.new ≡ self.old) }
         ensures out_unchanged { OnErr result (effects.new ≡ effects.old) }
         ensures sapi { sapi_of self.new ≡ sapi_of self.old }
@@ -130,14 +130,14 @@ impl Endpoint {
     }
 
     /// Sends a message in one UI frame, which is not acknowledged.
-    pub(crate) fn send_unit_into(
+    pub(crate) fn send_ui_into(
         &mut self,
         message: &[u8],
         effects: &mut Effects,
     ) -> Result<(), Refused>
-        ensures refusal { IsRefusedAs (SendsUnit message.now) self.old result }
+        ensures refusal { RefusesAsDefined (SendsUnit message.now) self.old result }
         ensures refines { OnOk result
-            (Refines (after_call (SendsUnit message.now)) self.old effects.new self.new) }
+            (StepRefines (call_outcome (SendsUnit message.now)) self.old effects.new self.new) }
         ensures unchanged { self.new ≡ self.old }
         ensures out_unchanged { OnErr result (effects.new ≡ effects.old) }
     {
@@ -152,11 +152,11 @@ impl Endpoint {
         Ok(())
     }
 
-    /// Begins to release the link: sends a DISC. Messages that are not acknowledged are discarded.
+    /// Begins to release the link: sends a DISC. Unacknowledged messages are discarded.
     pub(crate) fn close_into(&mut self, effects: &mut Effects) -> Result<(), Refused>
-        ensures refusal { IsRefusedAs Closes self.old result }
+        ensures refusal { RefusesAsDefined Closes self.old result }
         ensures refines { OnOk result
-            (Refines (after_call Closes) self.old effects.new self.new) }
+            (StepRefines (call_outcome Closes) self.old effects.new self.new) }
         ensures refused { OnErr result (self.new ≡ self.old) }
         ensures out_unchanged { OnErr result (effects.new ≡ effects.old) }
         ensures sapi { sapi_of self.new ≡ sapi_of self.old }
@@ -173,9 +173,9 @@ impl Endpoint {
 
     /// Handles T200 expiry.
     pub(crate) fn t200_expiry_into(&mut self, effects: &mut Effects) -> Result<(), Refused>
-        ensures refusal { IsRefusedAs T200Expires self.old result }
+        ensures refusal { RefusesAsDefined T200Expires self.old result }
         ensures refines { OnOk result
-            (Refines (after_call T200Expires) self.old effects.new self.new) }
+            (StepRefines (call_outcome T200Expires) self.old effects.new self.new) }
         ensures refused { OnErr result (self.new ≡ self.old) }
         ensures out_unchanged { OnErr result (effects.new ≡ effects.old) }
         ensures sapi { sapi_of self.new ≡ sapi_of self.old }
@@ -197,12 +197,12 @@ impl Endpoint {
 
     /// Sends the fill frame, for use when there is nothing else to send in a block. Replaces the contents of `effects`.
     pub fn send_fill_into(&self, effects: &mut Effects)
-        ensures { Refines (after_call SendsFill) self.now effects.new self.now }
+        ensures { StepRefines (call_outcome SendsFill) self.now effects.new self.now }
     {
         self.link.fill(effects);
     }
 
-    // Why this information does not fit in one frame, or `None` if it does.
+    // Why this message cannot be sent in one frame, or `None` if it can: it is empty, or longer than N201.
     fn frame_refusal(&self, message: &[u8]) -> Option<Refused>
         ensures refusal { (e : EndState) → Represents self.now e
             → result ≡ first_refusal (frame_refusals message.now e) }
@@ -217,11 +217,11 @@ impl Endpoint {
         None
     }
 
-    fn begin(&mut self, info: &[u8], effects: &mut Effects)
+    fn begin_establishment(&mut self, info: &[u8], effects: &mut Effects)
         requires idle { state_of self.old ≡ S.Idle }
         requires fits { length info.now ≤ n201 (channel_of self.old) }
-        requires bare { sapi_of self.old ≡ Sapi.Three → info.now ≡ [] }
-        ensures refines { Refines (sends_sabm info.now) self.old effects.new self.new }
+        requires empty_on_sapi3 { sapi_of self.old ≡ Sapi.Three → info.now ≡ [] }
+        ensures refines { StepRefines (sends_sabm info.now) self.old effects.new self.new }
         ensures sapi { sapi_of self.new ≡ sapi_of self.old }
         ensures channel { channel_of self.new ≡ channel_of self.old }
     {
@@ -252,7 +252,7 @@ impl Endpoint {
     }
 
     fn close_and_report_only(&mut self, reason: Reason, effects: &mut Effects)
-        ensures refines { Refines (closes_and_reports reason) self.old effects.new self.new }
+        ensures refines { StepRefines (closes_and_reports reason) self.old effects.new self.new }
         ensures sapi { sapi_of self.new ≡ sapi_of self.old }
         ensures channel { channel_of self.new ≡ channel_of self.old }
     {
@@ -262,7 +262,7 @@ impl Endpoint {
 
     fn t200_in_opening(&mut self, effects: &mut Effects)
         requires opening { state_of self.old ≡ S.Opening }
-        ensures refines { Refines t200_expiry self.old effects.new self.new }
+        ensures refines { StepRefines t200_expiry self.old effects.new self.new }
         ensures sapi { sapi_of self.new ≡ sapi_of self.old }
         ensures channel { channel_of self.new ≡ channel_of self.old }
     {
@@ -276,7 +276,7 @@ impl Endpoint {
 
     fn t200_in_closing(&mut self, effects: &mut Effects)
         requires closing { state_of self.old ≡ S.Closing }
-        ensures refines { Refines t200_expiry self.old effects.new self.new }
+        ensures refines { StepRefines t200_expiry self.old effects.new self.new }
         ensures sapi { sapi_of self.new ≡ sapi_of self.old }
         ensures channel { channel_of self.new ≡ channel_of self.old }
     {
@@ -290,8 +290,8 @@ impl Endpoint {
 
     fn t200_in_open(&mut self, effects: &mut Effects) -> Result<(), Refused>
         requires open { state_of self.old ≡ S.Open }
-        ensures refusal { IsRefusedAs T200Expires self.old result }
-        ensures refines { OnOk result (Refines t200_expiry self.old effects.new self.new) }
+        ensures refusal { RefusesAsDefined T200Expires self.old result }
+        ensures refines { OnOk result (StepRefines t200_expiry self.old effects.new self.new) }
         ensures refused { OnErr result (self.new ≡ self.old) }
         ensures out_unchanged { OnErr result (effects.new ≡ effects.old) }
         ensures sapi { sapi_of self.new ≡ sapi_of self.old }

@@ -1,4 +1,4 @@
-//! One endpoint of a data link (GSM 04.06, section 5), of the mobile or the network. No call allocates.
+//! An endpoint of a data link (GSM 04.06, section 5), in the mobile or the network. No call allocates memory.
 #![tactic(auto)]
 
 mod calls;
@@ -13,10 +13,10 @@ mod taking;
 pub use ends::Endpoint;
 pub use lapdm_frame::{Body, Channel, FrameView, fits, fits_on, read};
 pub use lapdm_window::{
-    Call, Effects, Frames, Message, Notice, Notices, Part, PlainMessage, Reason, Refused, Sapi,
+    Call, Effects, Frames, Message, MessageBuffer, Notice, Notices, Part, Reason, Refused, Sapi,
     State, WindowParts,
 };
-pub use parts::EndParts;
+pub use parts::EndpointParts;
 pub use sides::Side;
 
 /// The side to which an endpoint belongs.

@@ -1,8 +1,8 @@
-//! How an endpoint writes the frames that it sends.
+//! Encodes the frames that an endpoint sends.
 
 ghost use Rattle.std.specs.Prelude.{◌≡◌, ◌<◌, ◌≤◌, [], ◌∷◌, ◌++◌, not, length};
 ghost use Rattle.lapdm_frame.specs.Content.{content_of, fill};
-ghost use Rattle.lapdm_frame.specs.Frames.{NumbersFit, InformationFits, octets_of};
+ghost use Rattle.lapdm_frame.specs.Frames.{NsAndNrFit, InformationFits, octets_of};
 ghost use Rattle.lapdm_window.specs.Ends.{command_cr, sapi_number};
 
 use crate::Role;
@@ -18,7 +18,7 @@ pub(crate) struct Address {
 }
 
 impl Address {
-    ghost use Rattle.lapdm_end.specs.Addresses.{role_of, frame_with_cr, command_by, response_by};
+    ghost use Rattle.lapdm_end.specs.Addresses.{role_of, frame_with_cr, command_frame_by, response_frame_by};
 
     pub(crate) fn command_cr(self) -> bool
         ensures { result ≡ command_cr (role_of self.role) }
@@ -39,9 +39,9 @@ impl Address {
         }
     }
 
-    // Appends a frame with this C/R bit and body to the effects.
+    // Encodes a frame with this C/R bit and body, and appends it to the effects.
     fn send(self, cr: bool, body: Body<'_>, effects: &mut Effects)
-        requires numbers { NumbersFit (content_of body) }
+        requires numbers { NsAndNrFit (content_of body) }
         requires information { InformationFits self.channel (content_of body) }
         requires space { length effects.old.frames < 2 }
         ensures frames { effects.new.frames ≡ effects.old.frames
@@ -54,40 +54,40 @@ impl Address {
     }
 
     pub(crate) fn command(self, body: Body<'_>, effects: &mut Effects)
-        requires numbers { NumbersFit (content_of body) }
+        requires numbers { NsAndNrFit (content_of body) }
         requires information { InformationFits self.channel (content_of body) }
         requires space { length effects.old.frames < 2 }
         ensures frames { effects.new.frames ≡ effects.old.frames
-            ++ octets_of self.channel (command_by self (content_of body.entry)) ∷ [] }
+            ++ octets_of self.channel (command_frame_by self (content_of body.entry)) ∷ [] }
         ensures notices { effects.new.notices ≡ effects.old.notices }
     {
         self.send(self.command_cr(), body, effects);
     }
 
-    pub(crate) fn respond(self, body: Body<'_>, effects: &mut Effects)
-        requires numbers { NumbersFit (content_of body) }
+    pub(crate) fn send_response(self, body: Body<'_>, effects: &mut Effects)
+        requires numbers { NsAndNrFit (content_of body) }
         requires information { InformationFits self.channel (content_of body) }
         requires space { length effects.old.frames < 2 }
         ensures frames { effects.new.frames ≡ effects.old.frames
-            ++ octets_of self.channel (response_by self (content_of body.entry)) ∷ [] }
+            ++ octets_of self.channel (response_frame_by self (content_of body.entry)) ∷ [] }
         ensures notices { effects.new.notices ≡ effects.old.notices }
     {
         self.send(!self.command_cr(), body, effects);
     }
 
-    // Makes one command the only frame in the effects, without notices.
+    // Replaces the effects with one command frame and no notices.
     pub(crate) fn send_only_command(self, body: Body<'_>, effects: &mut Effects)
-        requires numbers { NumbersFit (content_of body) }
+        requires numbers { NsAndNrFit (content_of body) }
         requires information { InformationFits self.channel (content_of body) }
         ensures frames { effects.new.frames
-            ≡ octets_of self.channel (command_by self (content_of body.entry)) ∷ [] }
+            ≡ octets_of self.channel (command_frame_by self (content_of body.entry)) ∷ [] }
         ensures notices { effects.new.notices ≡ [] }
     {
         effects.clear();
         self.command(body, effects);
     }
 
-    // Makes the fill frame the only frame in the effects, without notices.
+    // Replaces the effects with the fill frame and no notices.
     pub(crate) fn fill(self, effects: &mut Effects)
         ensures frames { effects.new.frames
             ≡ octets_of self.channel (fill (command_cr (role_of self.role))) ∷ [] }

@@ -1,10 +1,11 @@
-//! The rules of state Open. They change the window, and append to the effects.
+//! The rules of state Open, which update the window and append frames and notices to the effects.
 
 ghost use Rattle.std.specs.Prelude.{◌≡◌, ◌+◌, ◌≤◌, [], ◌++◌, Bool, length};
 ghost use Rattle.lapdm_frame.specs.Layout.{n201};
 ghost use Rattle.lapdm_window.specs.segmenting.Joining.{latest_message};
 ghost use Rattle.lapdm_window.specs.Ends.{EndState};
-ghost use Rattle.lapdm_window.specs.Rules.{sends_next, counts, segment_notices, sends_rr, answers_segment, answers_poll, sends_again};
+ghost use Rattle.lapdm_window.specs.Rules.{sends_next, counts_acks, segment_notices, sends_rr, answers_segment, answers_poll};
+ghost use Rattle.lapdm_window.specs.Rules.{resends_outstanding};
 ghost use Rattle.lapdm_window.specs.Rules.{takes_i_frame};
 ghost use Rattle.lapdm_window.specs.Rules.{takes_rr, takes_rej};
 ghost use Rattle.lapdm_window.specs.Abstraction.{Represents, channel_of};
@@ -13,8 +14,8 @@ use crate::link::Address;
 use lapdm_frame::Body;
 use lapdm_window::{Acked, Effects, Info, Joined, Message, Notice, Piece, Window};
 
-// Reports the message that the last accepted segment completes, or that the message was oversize.
-fn report(joined: Joined, more: bool, window: &Window, effects: &mut Effects)
+// Reports the message that the last accepted segment completes or, at the end of an oversize message, that it was oversize.
+fn report_message(joined: Joined, more: bool, window: &Window, effects: &mut Effects)
     requires space { length effects.old.notices ≤ 2 }
     ensures frames { effects.new.frames ≡ effects.old.frames }
     ensures notices { (e : EndState) → Represents window.now e
@@ -34,14 +35,14 @@ fn report(joined: Joined, more: bool, window: &Window, effects: &mut Effects)
 }
 
 impl Address {
-    ghost use Rattle.lapdm_end.specs.Windows.{RefinesInOpen, sends_outstanding, sends_rej, refuses_segment, takes_segment};
+    ghost use Rattle.lapdm_end.specs.Windows.{StepRefinesInOpen, sends_outstanding, sends_rej, refuses_segment, takes_segment};
 
-    // Sends the outstanding segment, if there is one.
+    // Sends the outstanding segment with P bit `p`, if there is one.
     pub(crate) fn send_outstanding(self, p: bool, window: &Window, effects: &mut Effects)
         requires channel { channel_of window.now ≡ self.channel }
         requires space { length effects.old.frames ≤ 1 }
         ensures most { length effects.new.frames ≤ length effects.old.frames + 1 }
-        ensures refines { RefinesInOpen (sends_outstanding p) self window.now window.now
+        ensures refines { StepRefinesInOpen (sends_outstanding p) self window.now window.now
             effects.old effects.new }
     {
         let Some(piece) = window.waiting() else {
@@ -62,7 +63,7 @@ impl Address {
         requires space { length effects.old.frames ≤ 1 }
         ensures channel { channel_of window.new ≡ channel_of window.old }
         ensures most { length effects.new.frames ≤ length effects.old.frames + 1 }
-        ensures refines { RefinesInOpen sends_next self window.old window.new
+        ensures refines { StepRefinesInOpen sends_next self window.old window.new
             effects.old effects.new }
     {
         if !window.send_next() {
@@ -71,14 +72,14 @@ impl Address {
         self.send_outstanding(false, window, effects);
     }
 
-    // Evaluates a received N(R).
+    // Evaluates a received N(R), and reports a message that it fully acknowledges.
     fn count(self, nr: u8, window: &mut Window, effects: &mut Effects)
         requires number { nr ≤ 7 }
         requires space { length effects.old.notices ≤ 2 }
         ensures channel { channel_of window.new ≡ channel_of window.old }
         ensures frames { effects.new.frames ≡ effects.old.frames }
         ensures most { length effects.new.notices ≤ length effects.old.notices + 1 }
-        ensures refines { RefinesInOpen (counts nr) self window.old window.new
+        ensures refines { StepRefinesInOpen (counts_acks nr) self window.old window.new
             effects.old effects.new }
     {
         match window.on_ack(nr) {
@@ -90,19 +91,19 @@ impl Address {
     fn send_rr(self, f: bool, window: &Window, effects: &mut Effects)
         requires space { length effects.old.frames ≤ 1 }
         ensures most { length effects.new.frames ≤ length effects.old.frames + 1 }
-        ensures refines { RefinesInOpen (sends_rr f) self window.now window.now
+        ensures refines { StepRefinesInOpen (sends_rr f) self window.now window.now
             effects.old effects.new }
     {
         let nr = window.vr();
-        self.respond(Body::Rr { nr, pf: f }, effects);
+        self.send_response(Body::Rr { nr, pf: f }, effects);
     }
 
-    // Acknowledges an accepted segment.
+    // Acknowledges an accepted segment with an RR, or with the next I frame if P = 0 and one may be sent.
     fn answer_segment(self, p: bool, window: &mut Window, effects: &mut Effects)
         requires channel { channel_of window.old ≡ self.channel }
         requires space { effects.old.frames ≡ [] }
         ensures channel { channel_of window.new ≡ channel_of window.old }
-        ensures refines { RefinesInOpen (answers_segment p) self window.old window.new
+        ensures refines { StepRefinesInOpen (answers_segment p) self window.old window.new
             effects.old effects.new }
     {
         if p {
@@ -120,22 +121,22 @@ impl Address {
     fn send_rej(self, due: bool, p: bool, window: &Window, effects: &mut Effects)
         requires space { length effects.old.frames ≤ 1 }
         ensures most { length effects.new.frames ≤ length effects.old.frames + 1 }
-        ensures refines { RefinesInOpen (sends_rej due p) self window.now window.now
+        ensures refines { StepRefinesInOpen (sends_rej due p) self window.now window.now
             effects.old effects.new }
     {
         if !due {
             return;
         }
         let nr = window.vr();
-        self.respond(Body::Rej { nr, pf: p }, effects);
+        self.send_response(Body::Rej { nr, pf: p }, effects);
     }
 
-    // Answers a segment out of sequence: sends a REJ if one is due, then the next I frame if there is one.
+    // Answers an out-of-sequence segment: sends a REJ if one is due, then the next I frame if there is one.
     fn refuse_segment(self, due: bool, p: bool, window: &mut Window, effects: &mut Effects)
         requires channel { channel_of window.old ≡ self.channel }
         requires space { effects.old.frames ≡ [] }
         ensures channel { channel_of window.new ≡ channel_of window.old }
-        ensures refines { RefinesInOpen (refuses_segment due p) self window.old window.new
+        ensures refines { StepRefinesInOpen (refuses_segment due p) self window.old window.new
             effects.old effects.new }
     {
         self.send_rej(due, p, window, effects);
@@ -145,7 +146,7 @@ impl Address {
     fn answer_poll(self, poll: bool, window: &Window, effects: &mut Effects)
         requires space { length effects.old.frames ≤ 1 }
         ensures most { length effects.new.frames ≤ length effects.old.frames + 1 }
-        ensures refines { RefinesInOpen (answers_poll poll) self window.now window.now
+        ensures refines { StepRefinesInOpen (answers_poll poll) self window.now window.now
             effects.old effects.new }
     {
         if !poll {
@@ -155,11 +156,11 @@ impl Address {
     }
 
     // Sends the outstanding segment again or, if none is outstanding, the next one.
-    fn send_again(self, window: &mut Window, effects: &mut Effects)
+    fn resend_outstanding(self, window: &mut Window, effects: &mut Effects)
         requires channel { channel_of window.old ≡ self.channel }
         requires space { length effects.old.frames ≤ 1 }
         ensures channel { channel_of window.new ≡ channel_of window.old }
-        ensures refines { RefinesInOpen sends_again self window.old window.new
+        ensures refines { StepRefinesInOpen resends_outstanding self window.old window.new
             effects.old effects.new }
     {
         if window.on_reject() {
@@ -175,7 +176,7 @@ impl Address {
         requires no_frames { effects.old.frames ≡ [] }
         requires no_notices { effects.old.notices ≡ [] }
         ensures channel { channel_of window.new ≡ channel_of window.old }
-        ensures refines { RefinesInOpen (takes_rr nr poll) self window.old window.new
+        ensures refines { StepRefinesInOpen (takes_rr nr poll) self window.old window.new
             effects.old effects.new }
     {
         self.count(nr, window, effects);
@@ -189,15 +190,15 @@ impl Address {
         requires no_frames { effects.old.frames ≡ [] }
         requires no_notices { effects.old.notices ≡ [] }
         ensures channel { channel_of window.new ≡ channel_of window.old }
-        ensures refines { RefinesInOpen (takes_rej nr poll) self window.old window.new
+        ensures refines { StepRefinesInOpen (takes_rej nr poll) self window.old window.new
             effects.old effects.new }
     {
         self.count(nr, window, effects);
         self.answer_poll(poll, window, effects);
-        self.send_again(window, effects);
+        self.resend_outstanding(window, effects);
     }
 
-    // Accepts or rejects the segment of an I frame, after the N(R) has been evaluated.
+    // Accepts or discards the segment of a received I frame and answers it, after the N(R) has been evaluated.
     fn take_segment(
         self,
         ns: u8,
@@ -213,12 +214,12 @@ impl Address {
         requires no_frames { effects.old.frames ≡ [] }
         requires space { length effects.old.notices ≤ 1 }
         ensures channel { channel_of window.new ≡ channel_of window.old }
-        ensures refines { RefinesInOpen (takes_segment ns p (piece.entry.octets.now, piece.entry.more))
+        ensures refines { StepRefinesInOpen (takes_segment ns p (piece.entry.octets.now, piece.entry.more))
             self window.old window.new effects.old effects.new }
     {
         match window.on_info(ns, p, piece.octets, piece.more) {
             Info::Accepted(joined) => {
-                report(joined, piece.more, window, effects);
+                report_message(joined, piece.more, window, effects);
                 self.answer_segment(p, window, effects);
             }
             Info::OutOfSequence { reject } => self.refuse_segment(reject, p, window, effects),
@@ -242,7 +243,7 @@ impl Address {
         requires no_frames { effects.old.frames ≡ [] }
         requires no_notices { effects.old.notices ≡ [] }
         ensures channel { channel_of window.new ≡ channel_of window.old }
-        ensures refines { RefinesInOpen (takes_i_frame ns nr p (piece.entry.octets.now, piece.entry.more))
+        ensures refines { StepRefinesInOpen (takes_i_frame ns nr p (piece.entry.octets.now, piece.entry.more))
             self window.old window.new effects.old effects.new }
     {
         self.count(nr, window, effects);

@@ -7,7 +7,7 @@ ghost use Rattle.lapdm_window.specs.segmenting.Segments.{max_message_octets, max
 ghost use Rattle.lapdm_window.specs.Ends.{EndState};
 ghost use Rattle.lapdm_window.specs.Parts.{values_in as window_by};
 ghost use Rattle.lapdm_end.specs.Addresses.{role_of};
-ghost use Rattle.lapdm_end.specs.Parts.{values_of, values_in, ValuesRepresent, AreOfSomeEndpoint, IsUnusedWindow, IsUnusedBeforeOpen};
+ghost use Rattle.lapdm_end.specs.Parts.{values_of, values_in, ValuesRepresent, EndpointExists, IsUnusedWindow, IsUnusedBeforeOpen};
 ghost use Rattle.lapdm_end.specs.Parts.{AreConsistent};
 ghost use Rattle.lapdm_end.specs.Abstraction.{Represents, channel_of};
 
@@ -17,28 +17,28 @@ use crate::link::Address;
 use lapdm_frame::Channel;
 use lapdm_window::{Part, Sapi, State, WindowParts};
 
-/// The state of an endpoint, with borrowed messages and octets. The window's channel is that of the endpoint.
+/// The state of an endpoint as plain data, with borrowed messages and octets. The endpoint's channel is that of its window.
 #[derive(Clone, Copy, Debug)]
-pub struct EndParts<'a> {
+pub struct EndpointParts<'a> {
     pub role: Role,
     pub sapi: Sapi,
     pub state: State,
-    /// The information in the SABM that this endpoint sent, or in the SABM that established its link.
+    /// The information of the SABM that this endpoint sent, or of the SABM that established its link.
     pub kept: &'a [u8],
     /// How often the SABM or DISC that awaits an answer has been repeated.
     pub retries: u8,
     pub window: WindowParts<'a>,
 }
 
-impl EndParts<'_> {
-    // Whether an endpoint with this state is possible, provided that the state of its window is.
+impl EndpointParts<'_> {
+    // Whether an endpoint can have this state, provided that a window can have the state of its window.
     fn are_consistent(&self) -> bool
         ensures { IsTrue result ↔ AreConsistent (values_in self.now) }
     {
-        self.has_valid_kept_information() && is_unused_before_open(self.state, &self.window)
+        self.has_valid_sabm_information() && is_unused_before_open(self.state, &self.window)
     }
 
-    fn has_valid_kept_information(&self) -> bool
+    fn has_valid_sabm_information(&self) -> bool
         ensures { IsTrue result ↔ ((length self.now.kept.now ≤ n201 self.now.window.channel)
             × (self.now.sapi ≡ Sapi.Three → self.now.kept.now ≡ [])) }
     {
@@ -77,7 +77,7 @@ fn has_reassembled_nothing(part: Part, octets: &[u8]) -> bool
 {
     match part {
         Part::Open | Part::Whole => octets.is_empty(),
-        Part::Over => false,
+        Part::Discarding => false,
     }
 }
 
@@ -95,14 +95,14 @@ impl Endpoint {
         self.link.channel
     }
 
-    pub fn parts(&self) -> EndParts<'_>
+    pub fn parts(&self) -> EndpointParts<'_>
         ensures values { values_in result ≡ values_of self.now }
         ensures sabm_info { length result.kept.now ≤ largest_n201 }
         ensures size { length result.window.held.now ≤ 8 }
         ensures place { result.window.place < max_segments_per_message result.window.channel }
         ensures most { length result.window.joined.now ≤ max_message_octets }
     {
-        EndParts {
+        EndpointParts {
             role: self.link.role,
             sapi: self.link.sapi,
             state: self.state,
@@ -112,12 +112,12 @@ impl Endpoint {
         }
     }
 
-    /// Restores an endpoint from its state. Returns false, and changes nothing, if no endpoint can have this state.
-    pub fn restore(&mut self, parts: &EndParts<'_>) -> bool
+    /// Restores an endpoint from its state. Returns false and changes nothing if no endpoint can have this state.
+    pub fn restore(&mut self, parts: &EndpointParts<'_>) -> bool
         ensures same { IsTrue result → values_of self.new ≡ values_in parts.now }
         ensures represents { IsTrue result → (e : EndState) → ValuesRepresent (values_in parts.now) e
             → Represents self.new e }
-        ensures known { IsTrue result ↔ AreOfSomeEndpoint (values_in parts.now) }
+        ensures known { IsTrue result ↔ EndpointExists (values_in parts.now) }
         ensures unknown { result ≡ false → self.new ≡ self.old }
     {
         if !parts.are_consistent() || !self.window.restore(&parts.window) {
@@ -134,12 +134,12 @@ impl Endpoint {
         true
     }
 
-    /// The endpoint with this state, or `None` if no endpoint can have it.
-    pub fn from_parts(parts: &EndParts<'_>) -> Option<Endpoint>
+    /// Returns the endpoint with this state, or `None` if no endpoint can have it.
+    pub fn from_parts(parts: &EndpointParts<'_>) -> Option<Endpoint>
         ensures same { IfSome result (λ end. values_of end ≡ values_in parts.now) }
         ensures represents { IfSome result
             (λ end. (e : EndState) → ValuesRepresent (values_in parts.now) e → Represents end e) }
-        ensures known { IsSome result ↔ AreOfSomeEndpoint (values_in parts.now) }
+        ensures known { IsSome result ↔ EndpointExists (values_in parts.now) }
     {
         let mut end = Endpoint::new_on(parts.role, parts.sapi, parts.window.channel);
         if end.restore(parts) { Some(end) } else { None }

@@ -1,11 +1,11 @@
-//! Chooses the reply of an endpoint to a received frame, by the endpoint's state.
+//! Chooses an endpoint's reply to a received frame, depending on the endpoint's state.
 
 ghost use Rattle.std.specs.Prelude.{◌≡◌, ◌≤◌, length};
 ghost use Rattle.lapdm_frame.specs.Layout.{largest_n201};
 ghost use Rattle.lapdm_frame.specs.Content.{content_of};
 ghost use Rattle.lapdm_frame.specs.Frames.{InformationFits};
 ghost use Rattle.lapdm_window.specs.Ends.{EndState};
-ghost use Rattle.lapdm_window.specs.Tables.{is_accepted_kind, is_poll, dm_to_poll, reply_to_ui};
+ghost use Rattle.lapdm_window.specs.Tables.{is_accepted_kind, is_poll, dm_if_polled, reply_to_ui};
 ghost use Rattle.lapdm_end.specs.declared.ends.Endpoint.{Endpoint as LinkEnd};
 ghost use Rattle.lapdm_end.specs.Replies.{reply_of, IsPossibleReply};
 
@@ -14,18 +14,18 @@ use crate::ends::Endpoint;
 use lapdm_frame::Body;
 use lapdm_window::{Reason, Sapi, State};
 
-/// What an endpoint does in reply to a frame.
+/// The reaction of an endpoint to a received frame.
 #[derive(Clone, Copy, PartialEq, Eq, Debug)]
 pub(crate) enum Reply<'a> {
     Nothing,
     Dm,
     Ua(&'a [u8]),
-    // The other endpoint establishes the link; answer UA.
-    OpenedBy(&'a [u8]),
-    // The establishment that this endpoint started is confirmed.
+    // The peer's SABM establishes the link, and the endpoint answers with a UA.
+    AcceptSabm(&'a [u8]),
+    // A UA confirms the establishment that this endpoint started.
     Opened(&'a [u8]),
     Closed(Reason),
-    // The other endpoint releases the link; answer UA.
+    // The peer's DISC releases the link, and the endpoint answers with a UA.
     Released,
     Unit(&'a [u8]),
     I {
@@ -45,7 +45,7 @@ pub(crate) enum Reply<'a> {
     },
 }
 
-// Whether an endpoint accepts frames of this kind at all, as a command or as a response.
+// Whether an endpoint accepts this kind of frame as a command or as a response; RNR is never accepted.
 pub(crate) fn is_accepted_kind(command: bool, body: &Body<'_>) -> bool
     ensures { result ≡ is_accepted_kind command (content_of body.now) }
 {
@@ -68,14 +68,14 @@ fn is_poll(command: bool, body: &Body<'_>) -> bool
 }
 
 fn dm_if_polled<'a>(poll: bool) -> Reply<'a>
-    ensures reply { reply_of result ≡ dm_to_poll poll }
+    ensures reply { reply_of result ≡ dm_if_polled poll }
     ensures ready { (m : LinkEnd) → IsPossibleReply m result }
 {
     if poll { Reply::Dm } else { Reply::Nothing }
 }
 
-// The reply to a UI frame: its information, if it has any, is reported.
-fn unit<'a>(info: &'a [u8]) -> Reply<'a>
+// The reply to a UI frame, in every state: its information is reported to layer 3 if it is not empty.
+fn reply_to_ui<'a>(info: &'a [u8]) -> Reply<'a>
     requires information { length info.now ≤ largest_n201 }
     ensures reply { reply_of result ≡ reply_to_ui info.now }
     ensures ready { (m : LinkEnd) → IsPossibleReply m result }
@@ -91,14 +91,14 @@ impl Endpoint {
     ghost use Rattle.std.specs.Str.{bytes_eq};
     ghost use Rattle.lapdm_frame.specs.Layout.{n201};
     ghost use Rattle.lapdm_window.specs.declared.State.TheVariants as S;
-    ghost use Rattle.lapdm_frame.specs.Frames.{NumbersFit};
+    ghost use Rattle.lapdm_frame.specs.Frames.{NsAndNrFit};
     ghost use Rattle.lapdm_window.specs.Tables.{reply_to_sabm_in_idle, reply_in_idle, reply_to_sabm_in_opening, reply_to_ua_in_opening};
     ghost use Rattle.lapdm_window.specs.Tables.{reply_in_opening, reply_to_sabm_in_open, reply_in_open};
-    ghost use Rattle.lapdm_window.specs.Tables.{reply_in_closing, reply_in_closed, in_state, reply};
+    ghost use Rattle.lapdm_window.specs.Tables.{reply_in_closing, reply_in_closed, reply_in, reply};
     ghost use Rattle.lapdm_end.specs.Abstraction.{Represents, channel_of, state_of};
 
-    // Whether this information equals the information of the SABM that was sent.
-    fn equals_kept_information(&self, info: &[u8]) -> bool
+    // Whether this information equals that of the SABM that this endpoint sent or that established its link.
+    fn equals_sabm_information(&self, info: &[u8]) -> bool
         ensures { (e : EndState) → Represents self.now e → result ≡ bytes_eq info.now e.kept }
     {
         info == self.kept.octets()
@@ -117,12 +117,12 @@ impl Endpoint {
                 if info.is_empty() {
                     Reply::Nothing
                 } else {
-                    Reply::OpenedBy(info)
+                    Reply::AcceptSabm(info)
                 }
             }
             (Sapi::Three, _) => {
                 if info.is_empty() {
-                    Reply::OpenedBy(info)
+                    Reply::AcceptSabm(info)
                 } else {
                     Reply::Nothing
                 }
@@ -162,7 +162,7 @@ impl Endpoint {
         }
     }
 
-    // The reply to a UA in Opening. On SAPI 0 a UA with other information is meant for another mobile.
+    // The reply to a UA in Opening. On SAPI 0, a UA with information other than that of the SABM sent is meant for another mobile.
     fn reply_to_ua_in_opening<'a>(&self, info: &'a [u8]) -> Reply<'a>
         requires opening { state_of self.now ≡ S.Opening }
         requires information { length info.now ≤ n201 (channel_of self.now) }
@@ -170,7 +170,7 @@ impl Endpoint {
             → reply_of result ≡ reply_to_ua_in_opening info.now e }
         ensures ready { IsPossibleReply self.now result }
     {
-        if self.equals_kept_information(info) {
+        if self.equals_sabm_information(info) {
             return Reply::Opened(info);
         }
         match self.link.sapi {
@@ -204,7 +204,7 @@ impl Endpoint {
         if let (Sapi::Zero, Role::Mobile) = (self.link.sapi, self.link.role) {
             return Reply::Nothing;
         }
-        if self.equals_kept_information(info) {
+        if self.equals_sabm_information(info) {
             Reply::Ua(info)
         } else {
             Reply::Nothing
@@ -213,7 +213,7 @@ impl Endpoint {
 
     fn reply_in_open<'a>(&self, command: bool, body: &Body<'a>) -> Reply<'a>
         requires open { state_of self.now ≡ S.Open }
-        requires numbers { NumbersFit (content_of body.now) }
+        requires numbers { NsAndNrFit (content_of body.now) }
         requires information { InformationFits (channel_of self.now) (content_of body.now) }
         ensures reply { (e : EndState) → Represents self.now e
             → reply_of result ≡ reply_in_open command (content_of body.now) e }
@@ -276,11 +276,11 @@ impl Endpoint {
         }
     }
 
-    fn in_state<'a>(&self, command: bool, body: &Body<'a>) -> Reply<'a>
-        requires numbers { NumbersFit (content_of body.now) }
+    fn reply_in<'a>(&self, command: bool, body: &Body<'a>) -> Reply<'a>
+        requires numbers { NsAndNrFit (content_of body.now) }
         requires information { InformationFits (channel_of self.now) (content_of body.now) }
         ensures reply { (e : EndState) → Represents self.now e
-            → reply_of result ≡ in_state e.state command (content_of body.now) e }
+            → reply_of result ≡ reply_in e.state command (content_of body.now) e }
         ensures ready { IsPossibleReply self.now result }
     {
         match self.state {
@@ -292,17 +292,17 @@ impl Endpoint {
         }
     }
 
-    /// The reply to a frame of the endpoint's SAPI, if frames of its kind are accepted.
+    /// The reply to a frame with the endpoint's SAPI and an accepted kind.
     pub(crate) fn reply<'a>(&self, command: bool, body: &Body<'a>) -> Reply<'a>
-        requires numbers { NumbersFit (content_of body.now) }
+        requires numbers { NsAndNrFit (content_of body.now) }
         requires information { InformationFits (channel_of self.now) (content_of body.now) }
         ensures reply { (e : EndState) → Represents self.now e
             → reply_of result ≡ reply command (content_of body.now) e }
         ensures ready { IsPossibleReply self.now result }
     {
         if let Body::Ui { info, .. } = *body {
-            return unit(info);
+            return reply_to_ui(info);
         }
-        self.in_state(command, body)
+        self.reply_in(command, body)
     }
 }

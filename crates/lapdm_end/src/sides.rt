@@ -2,20 +2,20 @@
 
 ghost use Rattle.std.specs.Prelude.{◌≡◌, ◌≢◌, OnOk, OnErr};
 ghost use Rattle.lapdm_frame.specs.Content.{frame_of};
-ghost use Rattle.lapdm_frame.specs.Frames.{Fits};
+ghost use Rattle.lapdm_frame.specs.Frames.{FrameFits};
 ghost use Rattle.lapdm_window.specs.declared.Sapi.TheVariants as S;
 ghost use Rattle.lapdm_window.specs.Calls.{call_of, IsCallOfSapi};
 ghost use Rattle.lapdm_window.specs.Sides.{idle_side, layer3_calls, takes};
 ghost use Rattle.lapdm_end.specs.Addresses.{role_of};
 ghost use Rattle.lapdm_end.specs.Abstraction.{channel_of as end_channel, sapi_of};
-ghost use Rattle.lapdm_end.specs.Refinement.{IsRefusedAs};
+ghost use Rattle.lapdm_end.specs.Refinement.{RefusesAsDefined};
 
 use crate::Role;
 use crate::ends::Endpoint;
 use lapdm_frame::{Channel, FrameView};
 use lapdm_window::{Call, Effects, Refused, Sapi};
 
-/// Both endpoints of a mobile, or both endpoints of a network.
+/// A side: both endpoints of a mobile or of a network.
 #[derive(Debug, Drop)]
 pub struct Side {
     pub(crate) link0: Endpoint,
@@ -26,9 +26,9 @@ pub struct Side {
 }
 
 impl Side {
-    ghost use Rattle.lapdm_end.specs.Sides.{Represents, Refines, link_of, other, channel_of};
+    ghost use Rattle.lapdm_end.specs.Sides.{Represents, StepRefines, endpoint_of, other, channel_of};
 
-    /// A side with both endpoints in Idle.
+    /// Creates a side with both endpoints in Idle.
     pub fn new_on(role: Role, channel: Channel) -> Side
         ensures represents { Represents result (idle_side (role_of role) channel) }
         ensures channel { channel_of result ≡ channel }
@@ -39,8 +39,8 @@ impl Side {
         }
     }
 
-    /// Carries out a call of layer 3 to the endpoint of this SAPI and replaces the contents of `effects`; if the call is refused, `effects`
-    /// stays as it is.
+    /// Carries out a layer 3 call to the endpoint with this SAPI and replaces the effects with its frames and notices. A refused call
+    /// leaves the effects unchanged.
     #[inline(always)]
     pub fn call(
         &mut self,
@@ -49,10 +49,10 @@ impl Side {
         effects: &mut Effects,
     ) -> Result<(), Refused>
         requires { IsCallOfSapi sapi (call_of call.now) }
-        ensures refusal { IsRefusedAs (call_of call.now) (link_of sapi self.old) result }
+        ensures refusal { RefusesAsDefined (call_of call.now) (endpoint_of sapi self.old) result }
         ensures refines { OnOk result
-            (Refines (layer3_calls sapi (call_of call.now)) self.old sapi effects.new self.new) }
-        ensures others { link_of (other sapi) self.new ≡ link_of (other sapi) self.old }
+            (StepRefines (layer3_calls sapi (call_of call.now)) self.old sapi effects.new self.new) }
+        ensures others { endpoint_of (other sapi) self.new ≡ endpoint_of (other sapi) self.old }
         ensures refused { OnErr result (self.new ≡ self.old) }
         ensures out_unchanged { OnErr result (effects.new ≡ effects.old) }
         ensures channel { channel_of self.new ≡ channel_of self.old }
@@ -63,21 +63,21 @@ impl Side {
         }
     }
 
-    /// Passes a received frame to the endpoint of its SAPI and replaces the contents of `effects`. Returns that SAPI, or 0 if no endpoint
-    /// has the frame's SAPI.
+    /// Passes a received frame to the endpoint with its SAPI, and replaces the contents of `effects`. Returns that SAPI, or 0 if no
+    /// endpoint has it.
     pub fn take(&mut self, frame: &FrameView<'_>, effects: &mut Effects) -> Sapi
-        requires { Fits (channel_of self.old) (frame_of frame.now) }
-        ensures refines { Refines (takes (frame_of frame.now)) self.old result effects.new self.new }
-        ensures others { link_of (other result) self.new ≡ link_of (other result) self.old }
+        requires { FrameFits (channel_of self.old) (frame_of frame.now) }
+        ensures refines { StepRefines (takes (frame_of frame.now)) self.old result effects.new self.new }
+        ensures others { endpoint_of (other result) self.new ≡ endpoint_of (other result) self.old }
         ensures unknown { frame.now.sapi ≢ 0 → frame.now.sapi ≢ 3 → self.new ≡ self.old }
         ensures channel { channel_of self.new ≡ channel_of self.old }
     {
         if frame.sapi == 0 {
-            self.link0.take_into(frame, effects);
+            self.link0.take_frame_into(frame, effects);
             return Sapi::Zero;
         }
         if frame.sapi == 3 {
-            self.link3.take_into(frame, effects);
+            self.link3.take_frame_into(frame, effects);
             return Sapi::Three;
         }
         effects.clear();

@@ -1,12 +1,12 @@
-//! The frames that an endpoint receives.
+//! Processes the frames that an endpoint receives.
 
 ghost use Rattle.std.specs.Prelude.{◌≡◌, ◌≤◌, [], ◌∷◌, ◌++◌, length};
 ghost use Rattle.lapdm_frame.specs.Layout.{n201};
 ghost use Rattle.lapdm_frame.specs.Content.{content_of, frame_of};
-ghost use Rattle.lapdm_frame.specs.Frames.{NumbersFit, InformationFits, Fits, octets_of};
+ghost use Rattle.lapdm_frame.specs.Frames.{NsAndNrFit, InformationFits, FrameFits, octets_of};
 ghost use Rattle.lapdm_window.specs.declared.State.TheVariants as S;
-ghost use Rattle.lapdm_window.specs.Ends.{EndState, response};
-ghost use Rattle.lapdm_window.specs.Tables.{AcceptsDisc, AcceptsSabm, opens_and_reports, closes_and_reports, outcome_of, after_frame};
+ghost use Rattle.lapdm_window.specs.Ends.{EndState, response_frame};
+ghost use Rattle.lapdm_window.specs.Tables.{AcceptsDisc, AcceptsSabm, opens_and_reports, closes_and_reports, outcome_of, frame_outcome};
 
 use crate::ends::Endpoint;
 use crate::replies::{Reply, is_accepted_kind};
@@ -16,12 +16,12 @@ use lapdm_window::{Effects, Message, Notice, Piece, Reason, State};
 impl Endpoint {
     ghost use Rattle.lapdm_end.specs.Replies.{reply_of, IsPossibleReply, MayAcceptSabmWith};
     ghost use Rattle.lapdm_end.specs.Abstraction.{Represents, channel_of, sapi_of, state_of};
-    ghost use Rattle.lapdm_end.specs.Refinement.{Refines, RefinesByAppending};
+    ghost use Rattle.lapdm_end.specs.Refinement.{StepRefines, StepRefinesByAppending};
 
     /// Processes a received frame and replaces the contents of `effects`.
-    pub fn take_into(&mut self, frame: &FrameView<'_>, effects: &mut Effects)
-        requires { Fits (channel_of self.old) (frame_of frame.now) }
-        ensures refines { Refines (after_frame (frame_of frame.now)) self.old effects.new self.new }
+    pub fn take_frame_into(&mut self, frame: &FrameView<'_>, effects: &mut Effects)
+        requires { FrameFits (channel_of self.old) (frame_of frame.now) }
+        ensures refines { StepRefines (frame_outcome (frame_of frame.now)) self.old effects.new self.new }
         ensures sapi { sapi_of self.new ≡ sapi_of self.old }
         ensures channel { channel_of self.new ≡ channel_of self.old }
     {
@@ -38,7 +38,7 @@ impl Endpoint {
         requires ready { IsPossibleReply self.old reply }
         requires no_frames { effects.old.frames ≡ [] }
         requires no_notices { effects.old.notices ≡ [] }
-        ensures refines { RefinesByAppending (outcome_of (reply_of reply.entry)) self.old self.new effects.old effects.new }
+        ensures refines { StepRefinesByAppending (outcome_of (reply_of reply.entry)) self.old self.new effects.old effects.new }
         ensures sapi { sapi_of self.new ≡ sapi_of self.old }
         ensures channel { channel_of self.new ≡ channel_of self.old }
     {
@@ -46,7 +46,7 @@ impl Endpoint {
             Reply::Nothing => {}
             Reply::Dm => self.answer(Body::Dm { f: true }, effects),
             Reply::Ua(info) => self.answer(Body::Ua { f: true, info }, effects),
-            Reply::OpenedBy(info) => self.accept_sabm(info, effects),
+            Reply::AcceptSabm(info) => self.accept_sabm(info, effects),
             Reply::Opened(info) => self.confirm_establishment(info, effects),
             Reply::Closed(reason) => self.close_and_report(reason, effects),
             Reply::Released => self.accept_disc(effects),
@@ -67,25 +67,25 @@ impl Endpoint {
         }
     }
 
-    // Appends a response to the effects.
+    // Encodes a response, and appends it to the effects.
     fn answer(&self, body: Body<'_>, effects: &mut Effects)
-        requires numbers { NumbersFit (content_of body) }
+        requires numbers { NsAndNrFit (content_of body) }
         requires information { InformationFits (channel_of self.now) (content_of body) }
         requires no_frames { effects.old.frames ≡ [] }
         ensures frames { (e : EndState) → Represents self.now e
             → effects.new.frames ≡ effects.old.frames
-            ++ octets_of (channel_of self.now) (response e (content_of body.entry)) ∷ [] }
+            ++ octets_of (channel_of self.now) (response_frame e (content_of body.entry)) ∷ [] }
         ensures notices { effects.new.notices ≡ effects.old.notices }
     {
-        self.link.respond(body, effects);
+        self.link.send_response(body, effects);
     }
 
-    // The other endpoint establishes the link: keeps the information, enters Open and answers UA.
+    // Accepts the peer's SABM: keeps its information, enters Open, reports the establishment and answers with a UA.
     fn accept_sabm(&mut self, info: &[u8], effects: &mut Effects)
         requires may { MayAcceptSabmWith self.old info.now }
         requires no_frames { effects.old.frames ≡ [] }
         requires no_notices { effects.old.notices ≡ [] }
-        ensures refines { RefinesByAppending (outcome_of (AcceptsSabm info.now)) self.old self.new effects.old effects.new }
+        ensures refines { StepRefinesByAppending (outcome_of (AcceptsSabm info.now)) self.old self.new effects.old effects.new }
         ensures sapi { sapi_of self.new ≡ sapi_of self.old }
         ensures channel { channel_of self.new ≡ channel_of self.old }
     {
@@ -95,12 +95,12 @@ impl Endpoint {
         self.answer(Body::Ua { f: true, info }, effects);
     }
 
-    // The establishment that this endpoint started is confirmed: enters Open and reports it.
+    // Completes the establishment that this endpoint started: enters Open and reports it.
     fn confirm_establishment(&mut self, info: &[u8], effects: &mut Effects)
         requires opening { state_of self.old ≡ S.Opening }
         requires information { length info.now ≤ n201 (channel_of self.old) }
         requires no_notices { effects.old.notices ≡ [] }
-        ensures refines { RefinesByAppending (opens_and_reports info.now) self.old self.new effects.old effects.new }
+        ensures refines { StepRefinesByAppending (opens_and_reports info.now) self.old self.new effects.old effects.new }
         ensures sapi { sapi_of self.new ≡ sapi_of self.old }
         ensures channel { channel_of self.new ≡ channel_of self.old }
     {
@@ -111,7 +111,7 @@ impl Endpoint {
     pub(crate) fn close_and_report(&mut self, reason: Reason, effects: &mut Effects)
         requires no_notices { effects.old.notices ≡ [] }
         ensures frames { effects.new.frames ≡ effects.old.frames }
-        ensures refines { RefinesByAppending (closes_and_reports reason) self.old self.new effects.old effects.new }
+        ensures refines { StepRefinesByAppending (closes_and_reports reason) self.old self.new effects.old effects.new }
         ensures sapi { sapi_of self.new ≡ sapi_of self.old }
         ensures channel { channel_of self.new ≡ channel_of self.old }
     {
@@ -119,11 +119,11 @@ impl Endpoint {
         effects.notices.push(Notice::Closed(reason));
     }
 
-    // The other endpoint releases the link: enters Closed, reports it and answers UA.
+    // Accepts the peer's DISC: enters Closed, reports the release and answers with a UA.
     fn accept_disc(&mut self, effects: &mut Effects)
         requires no_frames { effects.old.frames ≡ [] }
         requires no_notices { effects.old.notices ≡ [] }
-        ensures refines { RefinesByAppending (outcome_of AcceptsDisc) self.old self.new effects.old effects.new }
+        ensures refines { StepRefinesByAppending (outcome_of AcceptsDisc) self.old self.new effects.old effects.new }
         ensures sapi { sapi_of self.new ≡ sapi_of self.old }
         ensures channel { channel_of self.new ≡ channel_of self.old }
     {

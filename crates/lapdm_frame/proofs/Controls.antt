@@ -1,13 +1,13 @@
 -- A control octet determines its content, apart from the information and the M bit.
 use Rattle.std.{proofs.Common.{◌≡◌, ℕ, ◌≤◌, Bool, true, false, List, [], Some, refl, subst, arith}, specs.Prelude.slice_get}
-use Rattle.lapdm_frame.specs.{declared.Kind.Kind, Content.{Content, I, Fields, kinds, kind_number, fields_of, content_with, information}}
-use Rattle.lapdm_frame.specs.{Content.more_follows, Frames.bit, Refusals.{IsControlOctetOf, IsInformationFrame, lacks_information}}
-use Rattle.lapdm_frame.specs.Refusals.{HasNoInformation}
+use Rattle.lapdm_frame.specs.{declared.Kind.Kind, Content.{Content, I, Fields, kinds, kind_number, fields_of, content_with_fields}}
+use Rattle.lapdm_frame.specs.{Content.{information, more_follows}, Frames.bit, Refusals.{IsControlOctetOf, IsInformationFrame}}
+use Rattle.lapdm_frame.specs.Refusals.{lacks_information, HasNoInformation}
 use Rattle.lapdm_frame.specs.declared.Kind.TheVariants as K
 
 -- the content with its information replaced, and in an I frame also its M bit
 abbrev pub with_information : Content → Bool → List ℕ → Content
-with_information a goes info = let f = fields_of a in content_with f.kind f.ns f.nr f.pf goes info
+with_information a goes info = let f = fields_of a in content_with_fields f.kind f.ns f.nr f.pf goes info
 
 pub bit_bound : (b : Bool) → bit b ≤ 1
 bit_bound false = omega arith
@@ -25,8 +25,9 @@ record SameFields (f g : Fields) : Type 0 where
   pub received : f.nr ≡ g.nr
   pub final : bit f.pf ≡ bit g.pf
 
--- the first two clauses split both contents into their kinds
-same_fields : (octet : ℕ) (a b : Content) → IsControlOctetOf octet a → IsControlOctetOf octet b → SameFields (fields_of a) (fields_of b)
+-- by cases on the kinds of both contents
+same_fields : (octet : ℕ) (a b : Content) → IsControlOctetOf octet a → IsControlOctetOf octet b →
+    SameFields (fields_of a) (fields_of b)
 same_fields octet (I ns nr p more info) (I ns' nr' p' more' info') h h' = record {
   number = omega (arith, bit_bound);
   sent = omega (arith, bit_bound);
@@ -50,7 +51,8 @@ number_kind : (kind : Kind) → slice_get kinds (kind_number kind) ≡ Some kind
 number_kind K.I = refl
 number_kind other = refl
 
-same_kind : (octet : ℕ) (a b : Content) → IsControlOctetOf octet a → IsControlOctetOf octet b → (fields_of a).kind ≡ (fields_of b).kind
+same_kind : (octet : ℕ) (a b : Content) → IsControlOctetOf octet a → IsControlOctetOf octet b →
+    (fields_of a).kind ≡ (fields_of b).kind
 same_kind octet a b h h' =
     let one = number_kind (fields_of a).kind in
     let other = number_kind (fields_of b).kind in
@@ -58,8 +60,8 @@ same_kind octet a b h h' =
     cc
 
 -- two contents with the same control octet differ only in their information and M bit
-pub same_control : (octet : ℕ) (a b : Content) → IsControlOctetOf octet a → IsControlOctetOf octet b → (goes : Bool) (info : List ℕ) →
-    with_information a goes info ≡ with_information b goes info
+pub same_control : (octet : ℕ) (a b : Content) → IsControlOctetOf octet a → IsControlOctetOf octet b →
+    (goes : Bool) (info : List ℕ) → with_information a goes info ≡ with_information b goes info
 same_control octet a b h h' goes info =
     let same = same_fields octet a b h h' in
     let final = bit_injective (fields_of a).pf (fields_of b).pf same.final in
@@ -70,8 +72,8 @@ with_own_information (I ns nr p more info) = refl
 with_own_information other = refl
 
 -- two contents with the same control octet, information and M bit are equal
-pub same_content : (octet : ℕ) (a b : Content) → IsControlOctetOf octet a → IsControlOctetOf octet b → more_follows a ≡ more_follows b →
-    information a ≡ information b → a ≡ b
+pub same_content : (octet : ℕ) (a b : Content) → IsControlOctetOf octet a → IsControlOctetOf octet b →
+    more_follows a ≡ more_follows b → information a ≡ information b → a ≡ b
 same_content octet a b h h' going informing =
     let own = with_own_information a in
     let other = with_own_information b in

@@ -1,14 +1,14 @@
--- Every list of 23 octets is a frame or is refused: by testing the reasons in their order.
-use Rattle.std.proofs.Common.{◌≡◌, ◌≢◌, ℕ, ◌/◌, ◌%◌, ◌<◌, ◌≤◌, Bool, false, nat_eq, List, [], ◌∷◌, length, refl, rules, ◌⊎◌, inl, inr}
-use Rattle.std.{proofs.{Common.arith, lemmas.Bool.{cases_Bool, cases_lt, cases_eq}}, specs.List.AllByRecursion}
+-- Every list of 23 octets is a frame or is refused. The proof tests the reasons in their order.
+use Rattle.std.proofs.Common.{◌≡◌, ◌≢◌, ℕ, ◌/◌, ◌%◌, ◌<◌, ◌≤◌, Bool, false, nat_eq, List, [], ◌∷◌}
+use Rattle.std.proofs.{Common.{length, refl, rules, ◌⊎◌, inl, inr, arith}, lemmas.Bool.{cases_Bool, cases_lt, cases_eq}}
+use Rattle.std.specs.List.{AllByRecursion}
 use Rattle.lapdm_frame.specs.declared.{Channel.Channel, Refusal.{Refusal, TheVariants.{Lpd, Ea, Control, El, Length, Empty, More}}}
 use Rattle.lapdm_frame.specs.{declared.Kind.Kind, Layout.{n201, address_in, control_in, length_in, information_in}, Content.{Content, I}}
-use Rattle.lapdm_frame.specs.{Content.{kinds, fields_of, content_with, information, more_follows}, Frames.{bit, control}}
+use Rattle.lapdm_frame.specs.{Content.{kinds, fields_of, content_with_fields, information, more_follows}, Frames.{bit, control}}
 use Rattle.lapdm_frame.specs.Refusals.{IsControlOctetOf, IsInformationFrame, lacks_information, HasNoInformation, length_field, m_bit}
-use Rattle.lapdm_frame.specs.{Refusals.el_bit, Lengths.{IsAllowedLengthOctet, IsLengthFault, HasNoLengthFault}}
-use Rattle.lapdm_frame.{specs.Readings.IsOneFrameOrRefusal, proofs.Controls.{with_information, bit_bound, something_informed}}
-use Rattle.lapdm_frame.proofs.{FieldLaws.numbers_fit, Uniqueness.only_frame, Order.{bit_of, kind_known, refused, none_yet, past_lpd}}
-use Rattle.lapdm_frame.proofs.Order.{past_address, fault_refuses, frame_found}
+use Rattle.lapdm_frame.specs.{Refusals.el_bit, Lengths.{IsAllowedLengthOctet, IsLengthFault, HasNoLengthFault}, Readings.HasUniqueReading}
+use Rattle.lapdm_frame.proofs.{Controls.{with_information, bit_bound, something_informed}, FieldLaws.ns_and_nr_fit, Uniqueness.only_frame}
+use Rattle.lapdm_frame.proofs.Order.{bit_of, kind_known, refused, none_yet, past_lpd, past_address, fault_refuses, frame_found}
 use Rattle.lapdm_frame.specs.declared.Kind.TheVariants as K
 
 module _ (k : ℕ) where
@@ -20,7 +20,7 @@ module _ (k : ℕ) where
 
   -- the content of this kind with the numbers and the P or F bit that the control octet k would encode
   abbrev candidate : Kind → Content
-  candidate kind = content_with kind (k / 2 % 8) (k / 32) final false []
+  candidate kind = content_with_fields kind (k / 2 % 8) (k / 32) final false []
 
   -- if k is the control octet of none of the candidates, it is the control octet of no content
   unknown : ((kind : Kind) → k ≢ control (candidate kind)) → (content : Content) → ¬ IsControlOctetOf k content
@@ -42,7 +42,7 @@ module _ (k : ℕ) where
   known_or_not : k < 256 → ((content : Content) × IsControlOctetOf k content) ⊎ ((content : Content) → ¬ IsControlOctetOf k content)
   known_or_not small = elim (candidate_of kinds) [
     | inl (kind, e) ↦
-        inl (candidate kind, (numbers_fit kind (k / 2 % 8) (k / 32) final false [] (omega arith) (omega arith), e))
+        inl (candidate kind, (ns_and_nr_fit kind (k / 2 % 8) (k / 32) final false [] (omega arith) (omega arith), e))
     | inr none ↦ inr (unknown (λ kind. each_kind kind none))
   ]
 
@@ -50,7 +50,8 @@ no_such_octet : (k : ℕ) → 256 ≤ k → (content : Content) → ¬ IsControl
 no_such_octet k large (I ns nr p more info) is_k = omega (arith, bit_bound)
 no_such_octet k large other is_k = omega (arith, bit_bound)
 
-control_known : (k : ℕ) → ((content : Content) × IsControlOctetOf k content) ⊎ ((content : Content) → ¬ IsControlOctetOf k content)
+control_known : (k : ℕ) → ((content : Content) × IsControlOctetOf k content)
+    ⊎ ((content : Content) → ¬ IsControlOctetOf k content)
 control_known k = elim (cases_lt k 256) [ inl small ↦ known_or_not k small | inr large ↦ inr (no_such_octet k large) ]
 
 -- the control octet does not depend on the information
@@ -95,22 +96,22 @@ module _ (most : ℕ) (content : Content) (octet : ℕ) where
   room_known : IsAllowedLengthOctet most content octet ⊎ ((reason : Refusal) × IsLengthFault most content octet reason)
   room_known = elim (cases_eq (el_bit octet) 0) [
     | inl more_follows ↦ inr (El, more_follows)
-    | inr ends ↦ elim (cases_lt most (length_field octet)) [
-      | inl above ↦ inr (Length, (ends, inl above))
-      | inr bound ↦ elim (both_or_not (positive_known (length_field octet)) (silence_known content)) [
-        | inl informed ↦ inr (Length, (ends, inr informed))
-        | inr kind_allows ↦ inl (record { ends = ends; bound = bound; kind_allows = kind_allows })
+    | inr el_bit_value ↦ elim (cases_lt most (length_field octet)) [
+      | inl above ↦ inr (Length, (el_bit_value, inl above))
+      | inr length_bound ↦ elim (both_or_not (positive_known (length_field octet)) (silence_known content)) [
+        | inl informed ↦ inr (Length, (el_bit_value, inr informed))
+        | inr kind_allows ↦ inl (record { el_bit_value = el_bit_value; length_bound = length_bound; kind_allows = kind_allows })
       ]
     ]
   ]
 
   more_known : IsAllowedLengthOctet most content octet → (length_field octet ≡ 0 → ¬ IsInformationFrame content) →
       HasNoLengthFault most content octet ⊎ ((reason : Refusal) × IsLengthFault most content octet reason)
-  more_known room not_empty = elim (kind_known content) [
-    | inl is_i ↦ inl (record { room = room; not_empty = not_empty; more = λ _. is_i })
+  more_known room i_frame_not_empty = elim (kind_known content) [
+    | inl is_i ↦ inl (record { room = room; i_frame_not_empty = i_frame_not_empty; more = λ _. is_i })
     | inr other ↦ elim (cases_eq (m_bit octet) 1) [
-      | inl notice ↦ inr (More, (room, not_empty, notice, other))
-      | inr single ↦ inl (record { room = room; not_empty = not_empty; more = λ notice. absurd (single notice) })
+      | inl notice ↦ inr (More, (room, i_frame_not_empty, notice, other))
+      | inr single ↦ inl (record { room = room; i_frame_not_empty = i_frame_not_empty; more = λ notice. absurd (single notice) })
     ]
   ]
 
@@ -118,14 +119,14 @@ module _ (most : ℕ) (content : Content) (octet : ℕ) where
   fault_known = elim room_known [
     | inl room ↦ elim (both_or_not (cases_eq (length_field octet) 0) (kind_known content)) [
       | inl (none, is_i) ↦ inr (Empty, (room, none, is_i))
-      | inr not_empty ↦ more_known room not_empty
+      | inr i_frame_not_empty ↦ more_known room i_frame_not_empty
     ]
     | inr fault ↦ inr fault
   ]
 
 module _ (channel : Channel) (octets : List ℕ) (count : length octets ≡ 23) where
   of_content : address_in channel octets < 32 → address_in channel octets % 2 ≢ 0 → (found : Content) →
-      IsControlOctetOf (control_in channel octets) found → IsOneFrameOrRefusal channel octets
+      IsControlOctetOf (control_in channel octets) found → HasUniqueReading channel octets
   of_content low odd found is_found =
       let octet = length_in channel octets in
       let goes = nat_eq (m_bit octet) 1 in
@@ -144,10 +145,14 @@ module _ (channel : Channel) (octets : List ℕ) (count : length octets ≡ 23) 
               goes_on = goes_on_with found goes info;
             }) in
             inl (_, only_frame channel _ octets is_frame)
-        | inr (reason, fault) ↦ inr (reason, fault_refuses channel octets content known (past_address channel octets low odd) reason fault)
+        | inr (reason, fault) ↦ inr (
+          reason,
+          fault_refuses channel octets content known (past_address channel octets low odd) reason
+              fault,
+        )
       ]
 
-  pub one_reading : IsOneFrameOrRefusal channel octets
+  pub one_reading : HasUniqueReading channel octets
   one_reading = elim (cases_lt (address_in channel octets) 32) [
     | inl low ↦ elim (cases_eq (address_in channel octets % 2) 0) [
       | inl even ↦ inr (Ea, refused channel octets Ea (past_lpd channel octets low) even)

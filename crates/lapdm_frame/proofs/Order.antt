@@ -1,34 +1,35 @@
 -- At most one reason is the first that applies, and octets to which no reason applies encode a frame.
-use Rattle.std.proofs.Common.{◌≡◌, ◌≢◌, ℕ, zero, suc, ◌+◌, ◌-◌, ◌/◌, ◌%◌, ◌<◌, ◌≤◌, nat_eq, List, length, refl, sym, ap, ◌∙◌, subst, ◌⊎◌}
-use Rattle.std.proofs.{Common.{inl, inr, arith}, lemmas.{Bool.cases_lt, List.{length-take, length-drop}}}
+use Rattle.std.proofs.Common.{◌≡◌, ◌≢◌, ℕ, zero, suc, ◌+◌, ◌-◌, ◌/◌, ◌%◌, ◌<◌, ◌≤◌, nat_eq, List}
+use Rattle.std.proofs.{Common.{length, refl, sym, ap, ◌∙◌, subst, ◌⊎◌, inl, inr, arith}, lemmas.Bool.cases_lt}
+use Rattle.std.proofs.lemmas.List.{length-take, length-drop}
 use Rattle.lapdm_frame.specs.declared.{Channel.{Channel, TheVariants.{Sdcch, Sacch}}, Refusal.{Refusal, TheVariants.{Lpd, Ea, Control, El}}}
 use Rattle.lapdm_frame.specs.{declared.Refusal.TheVariants.{Length, Empty, More}, Layout.{layer1_octets, n201, address_in, control_in}}
 use Rattle.lapdm_frame.specs.{Layout.{length_in, information_in}, Content.{Content, I, information, more_follows}, Frames.bit}
-use Rattle.lapdm_frame.specs.{Frames.{InformationFits, IsFrame}, Refusals.{IsControlOctetOf, IsInformationFrame, HasNoInformation}}
-use Rattle.lapdm_frame.specs.{Refusals.{length_field, m_bit, RefusalAppliesTo, reason_rank}, Lengths.{IsAllowedLengthOctet, IsLengthFault}}
-use Rattle.lapdm_frame.{specs.{Lengths.HasNoLengthFault, Readings.IsOnlyRefusal}, proofs.Controls.{no_information, nothing_informed}}
-use Rattle.lapdm_frame.proofs.{Controls.information_frame, Uniqueness.{same_place, not_on, only_refusal}}
+use Rattle.lapdm_frame.specs.{Frames.{InformationFits, IsFrameCoding}, Refusals.{IsControlOctetOf, IsInformationFrame, HasNoInformation}}
+use Rattle.lapdm_frame.specs.{Refusals.{length_field, m_bit, RefusalAppliesToBlock, refusal_order}, Lengths.IsAllowedLengthOctet}
+use Rattle.lapdm_frame.{specs.{Lengths.{IsLengthFault, HasNoLengthFault}, Readings.IsOnlyRefusal}, proofs.Controls.no_information}
+use Rattle.lapdm_frame.proofs.{Controls.{nothing_informed, information_frame}, Uniqueness.{same_place, not_on, only_refusal}}
 
 -- none of the first n reasons applies
 pub record NoneBefore (channel : Channel) (octets : List ℕ) (n : ℕ) : Type 0 where
-  pub none : (reason : Refusal) → reason_rank reason < n → ¬ RefusalAppliesTo channel octets reason
+  pub none : (reason : Refusal) → refusal_order reason < n → ¬ RefusalAppliesToBlock channel octets reason
 
 module _ (channel : Channel) (octets : List ℕ) where
   pub none_yet : NoneBefore channel octets 0
   none_yet = record { none = λ reason before. absurd (omega arith) }
 
-  one_more : (n : ℕ) (reason : Refusal) → reason_rank reason ≡ n → NoneBefore channel octets n → ¬ RefusalAppliesTo channel octets reason →
-      NoneBefore channel octets (n + 1)
+  one_more : (n : ℕ) (reason : Refusal) → refusal_order reason ≡ n → NoneBefore channel octets n →
+      ¬ RefusalAppliesToBlock channel octets reason → NoneBefore channel octets (n + 1)
   one_more n reason here passed fails = record {
-    none = λ earlier before. elim (cases_lt (reason_rank earlier) n) [
+    none = λ earlier before. elim (cases_lt (refusal_order earlier) n) [
       | inl below ↦ passed.none earlier below
       | inr there ↦
           let same = same_place reason earlier (omega arith) in
-          subst (λ r. ¬ RefusalAppliesTo channel octets r) same fails
+          subst (λ r. ¬ RefusalAppliesToBlock channel octets r) same fails
     ];
   }
 
-  pub refused : (reason : Refusal) → NoneBefore channel octets (reason_rank reason) → RefusalAppliesTo channel octets reason →
+  pub refused : (reason : Refusal) → NoneBefore channel octets (refusal_order reason) → RefusalAppliesToBlock channel octets reason →
       IsOnlyRefusal channel octets reason
   refused reason passed applies = only_refusal channel octets reason (record { applies = applies; first = passed.none })
 
@@ -43,15 +44,15 @@ module _ (channel : Channel) (octets : List ℕ) where
     past_control = one_more 2 Control refl passed (λ unknown. unknown content known)
 
     past_length : IsAllowedLengthOctet (n201 channel) content (length_in channel octets) → NoneBefore channel octets 5
-    past_length room = one_more 4 Length refl (one_more 3 El refl past_control room.ends) (λ applies. elim applies [
-      | inl above ↦ omega (arith, room.bound)
+    past_length room = one_more 4 Length refl (one_more 3 El refl past_control room.el_bit_value) (λ applies. elim applies [
+      | inl above ↦ omega (arith, room.length_bound)
       | inr (some, (other, is_other, kind_allows)) ↦ room.kind_allows some (no_information _ other content is_other known kind_allows)
     ])
 
     -- if the length octet has a fault, that fault is the reason why the octets are refused
     pub fault_refuses : (reason : Refusal) → IsLengthFault (n201 channel) content (length_in channel octets) reason →
         IsOnlyRefusal channel octets reason
-    fault_refuses El ends = refused El past_control ends
+    fault_refuses El el_bit_value = refused El past_control el_bit_value
     fault_refuses Length fault = refused Length (one_more 3 El refl past_control fault.0) (elim fault.1 [
       | inl above ↦ inl above
       | inr (some, kind_allows) ↦ inr (some, (content, known, kind_allows))
@@ -70,12 +71,12 @@ bit_of (suc (suc n)) below = absurd (omega arith)
 
 information_fits : (channel : Channel) (content : Content) → length (information content) ≤ n201 channel →
     (length (information content) ≡ 0 → ¬ IsInformationFrame content) → InformationFits channel content
-information_fits channel (I ns nr p more info) bound not_empty = (
+information_fits channel (I ns nr p more info) length_bound i_frame_not_empty = (
   elim
-      (cases_lt 0 (length info)) [ inl some ↦ some | inr none ↦ absurd (not_empty (omega arith) tt) ],
-  bound,
+      (cases_lt 0 (length info)) [ inl some ↦ some | inr none ↦ absurd (i_frame_not_empty (omega arith) tt) ],
+  length_bound,
 )
-information_fits channel other bound not_empty = bound
+information_fits channel other length_bound i_frame_not_empty = length_bound
 
 pub kind_known : (content : Content) → IsInformationFrame content ⊎ ¬ IsInformationFrame content
 kind_known (I ns nr p more info) = inl tt
@@ -92,7 +93,8 @@ pub record Passes (channel : Channel) (octets : List ℕ) (content : Content) : 
   pub odd : address_in channel octets % 2 ≢ 0
   pub known : IsControlOctetOf (control_in channel octets) content
   pub fault : HasNoLengthFault (n201 channel) content (length_in channel octets)
-  pub carried : HasNoInformation content ⊎ (information content ≡ information_in channel octets (length_field (length_in channel octets)))
+  pub carried : HasNoInformation content ⊎ (information content ≡
+      information_in channel octets (length_field (length_in channel octets)))
   pub goes_on : IsInformationFrame content → more_follows content ≡ nat_eq (m_bit (length_in channel octets)) 1
 
 module _ (channel : Channel) (octets : List ℕ) (content : Content) (passes : Passes channel octets content) where
@@ -104,7 +106,8 @@ module _ (channel : Channel) (octets : List ℕ) (content : Content) (passes : P
           | inl some ↦ absurd (passes.fault.room.kind_allows some kind_allows)
           | inr none ↦ omega arith
         ]
-    | inr e ↦ ap length e ∙ simp (length-take, length-drop) (omega (arith, passes.count, passes.fault.room.bound, room_is_whole channel))
+    | inr e ↦ ap length e ∙ simp (length-take, length-drop)
+        (omega (arith, passes.count, passes.fault.room.length_bound, room_is_whole channel))
   ]
 
   more_found : bit (more_follows content) ≡ m_bit (length_in channel octets)
@@ -130,7 +133,7 @@ module _ (channel : Channel) (octets : List ℕ) (content : Content) (passes : P
     | inr e ↦ ap (information_in channel octets) size_found ∙ sym e
   ]
 
-  pub frame_found : IsFrame channel (record {
+  pub frame_found : IsFrameCoding channel (record {
     sapi = address_in channel octets / 4;
     cr = nat_eq (address_in channel octets / 2 % 2) 1;
     content = content;
@@ -139,12 +142,12 @@ module _ (channel : Channel) (octets : List ℕ) (content : Content) (passes : P
     count = passes.count;
     fits = record {
       sapi = omega (arith, passes.low);
-      numbers = passes.known.0;
-      information = information_fits channel content (omega (arith, size_found, passes.fault.room.bound))
-          (λ e. passes.fault.not_empty (sym size_found ∙ e));
+      ns_nr_fit = passes.known.0;
+      information = information_fits channel content (omega (arith, size_found, passes.fault.room.length_bound))
+          (λ e. passes.fault.i_frame_not_empty (sym size_found ∙ e));
     };
-    at_address = omega (arith, passes.odd, bit_of (address_in channel octets / 2 % 2) (omega arith));
-    at_control = passes.known.1;
-    at_length = omega (arith, passes.fault.room.ends, size_found, more_found);
-    at_information = information_found;
+    address_matches = omega (arith, passes.odd, bit_of (address_in channel octets / 2 % 2) (omega arith));
+    control_matches = passes.known.1;
+    length_matches = omega (arith, passes.fault.room.el_bit_value, size_found, more_found);
+    information_matches = information_found;
   }

@@ -44,12 +44,12 @@ abbrev pub frame_of : FrameView → Frame
 frame_of view = record { sapi = view.sapi; cr = view.cr; content = content_of view.body }
 
 -- the octets of information that a `Body` borrows from its block, or `None` if its kind has no information
-abbrev pub borrowed_octets : Body → Option (Bor (List ℕ))
-borrowed_octets (B.I ns nr p more info) = Some info
-borrowed_octets (B.Sabm p info) = Some info
-borrowed_octets (B.Ui p info) = Some info
-borrowed_octets (B.Ua f info) = Some info
-borrowed_octets other = None
+abbrev pub borrowed_information : Body → Option (Bor (List ℕ))
+borrowed_information (B.I ns nr p more info) = Some info
+borrowed_information (B.Sabm p info) = Some info
+borrowed_information (B.Ui p info) = Some info
+borrowed_information (B.Ua f info) = Some info
+borrowed_information other = None
 
 -- the octets of information of a frame; RR, RNR, REJ, DM and DISC have none
 abbrev pub information : Content → List ℕ
@@ -59,7 +59,7 @@ information (Ui p info) = info
 information (Ua f info) = info
 information other = []
 
--- the M bit of an I frame: the message continues in the next I frame; false for every other kind
+-- the M bit of an I frame, true if the message continues in the next I frame; false for every other kind
 abbrev pub more_follows : Content → Bool
 more_follows (I ns nr p more info) = more
 more_follows other = false
@@ -103,24 +103,24 @@ fields_of (Ui p info) = fields K.Ui 0 0 p false info
 fields_of (Disc p) = fields K.Disc 0 0 p false []
 fields_of (Ua f info) = fields K.Ua 0 0 f false info
 
--- the content of this kind with these fields; a field that the kind does not have is ignored
-abbrev pub content_with : Kind → (ns nr : ℕ) → (pf more : Bool) → (info : List ℕ) → Content
-content_with K.I ns nr pf more info = I ns nr pf more info
-content_with K.Rr ns nr pf more info = Rr nr pf
-content_with K.Rnr ns nr pf more info = Rnr nr pf
-content_with K.Rej ns nr pf more info = Rej nr pf
-content_with K.Sabm ns nr pf more info = Sabm pf info
-content_with K.Dm ns nr pf more info = Dm pf
-content_with K.Ui ns nr pf more info = Ui pf info
-content_with K.Disc ns nr pf more info = Disc pf
-content_with K.Ua ns nr pf more info = Ua pf info
+-- the content of a given kind with the given fields; a field that the kind does not have is ignored
+abbrev pub content_with_fields : Kind → (ns nr : ℕ) → (pf more : Bool) → (info : List ℕ) → Content
+content_with_fields K.I ns nr pf more info = I ns nr pf more info
+content_with_fields K.Rr ns nr pf more info = Rr nr pf
+content_with_fields K.Rnr ns nr pf more info = Rnr nr pf
+content_with_fields K.Rej ns nr pf more info = Rej nr pf
+content_with_fields K.Sabm ns nr pf more info = Sabm pf info
+content_with_fields K.Dm ns nr pf more info = Dm pf
+content_with_fields K.Ui ns nr pf more info = Ui pf info
+content_with_fields K.Disc ns nr pf more info = Disc pf
+content_with_fields K.Ua ns nr pf more info = Ua pf info
 
 -- the fields that a `FrameFields` of the program represents
 abbrev pub fields_in : FrameFields → Fields
 fields_in f = fields f.kind f.ns f.nr f.pf f.more f.info.now
 
-abbrev pub content_from : Fields → Content
-content_from f = content_with f.kind f.ns f.nr f.pf f.more f.info
+abbrev pub content_of_fields : Fields → Content
+content_of_fields f = content_with_fields f.kind f.ns f.nr f.pf f.more f.info
 
 -- the fill frame: a UI frame of SAPI 0 without information, sent when there is nothing else to send
 abbrev pub fill : Bool → Frame

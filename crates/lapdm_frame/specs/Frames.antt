@@ -30,42 +30,42 @@ control (Ua f info) = 16 * bit f + 99
 abbrev pub length_octet : Content → ℕ
 length_octet content = 4 * length (information content) + 2 * bit (more_follows content) + 1
 
--- N(S) and N(R) fit in three bits
-abbrev pub NumbersFit : Content → Type 0
-NumbersFit (I ns nr p more info) = (ns ≤ 7) × (nr ≤ 7)
-NumbersFit (Rr nr pf) = nr ≤ 7
-NumbersFit (Rnr nr pf) = nr ≤ 7
-NumbersFit (Rej nr pf) = nr ≤ 7
-NumbersFit other = Unit {0}
+-- N(S) and N(R), if the frame has them, fit in three bits
+abbrev pub NsAndNrFit : Content → Type 0
+NsAndNrFit (I ns nr p more info) = (ns ≤ 7) × (nr ≤ 7)
+NsAndNrFit (Rr nr pf) = nr ≤ 7
+NsAndNrFit (Rnr nr pf) = nr ≤ 7
+NsAndNrFit (Rej nr pf) = nr ≤ 7
+NsAndNrFit other = Unit {0}
 
--- an I frame has at least one octet of information, and no frame has more than N201
+-- the information fits in a frame on the channel: at most N201 octets, and at least one octet in an I frame
 abbrev pub InformationFits : Channel → Content → Type 0
 InformationFits channel (I ns nr p more info) = (1 ≤ length info) × (length info ≤ n201 channel)
 InformationFits channel other = length (information other) ≤ n201 channel
 
--- a frame can be written on the channel if its SAPI, N(S) and N(R) fit in three bits and its information fits in the block
-pub record Fits (channel : Channel) (f : Frame) : Type 0 where
+-- the frame `f` can be written on the channel: its SAPI, N(S) and N(R) fit in three bits, and its information fits in the block
+pub record FrameFits (channel : Channel) (f : Frame) : Type 0 where
   pub sapi : f.sapi ≤ 7
-  pub numbers : NumbersFit f.content
+  pub ns_nr_fit : NsAndNrFit f.content
   pub information : InformationFits channel f.content
 
--- the 23 octets encode this frame; the layer 1 octets before the address and the octets after the information may have any value
-pub record IsFrame (channel : Channel) (f : Frame) (octets : List ℕ) : Type 0 where
+-- the 23 octets encode the frame `f`; the layer 1 octets before the address and the octets after the information may have any value
+pub record IsFrameCoding (channel : Channel) (f : Frame) (octets : List ℕ) : Type 0 where
   pub count : length octets ≡ 23
-  pub fits : Fits channel f
-  pub at_address : address_in channel octets ≡ address f
-  pub at_control : control_in channel octets ≡ control f.content
-  pub at_length : length_in channel octets ≡ length_octet f.content
-  pub at_information : information_in channel octets (length (information f.content)) ≡ information f.content
+  pub fits : FrameFits channel f
+  pub address_matches : address_in channel octets ≡ address f
+  pub control_matches : control_in channel octets ≡ control f.content
+  pub length_matches : length_in channel octets ≡ length_octet f.content
+  pub information_matches : information_in channel octets (length (information f.content)) ≡ information f.content
 
--- the 23 octets encode this frame, the layer 1 octets before the address are 00 (this project's own rule), and the octets after the
+-- the 23 octets encode the frame `f`, the layer 1 octets before the address are 00 (this project's own rule), and the octets after the
 -- information are fill octets 2b (section 2.2)
-pub record IsCanonical (channel : Channel) (f : Frame) (octets : List ℕ) : Type 0 where
-  pub frame : IsFrame channel f octets
+pub record IsCanonicalCoding (channel : Channel) (f : Frame) (octets : List ℕ) : Type 0 where
+  pub frame : IsFrameCoding channel f octets
   pub before : (k : ℕ) → k < layer1_octets channel → slice_index octets k ≡ 0
   pub after : (k : ℕ) → layer1_octets channel + 3 + length (information f.content) ≤ k → k < 23 → slice_index octets k ≡ 0x2b
 
--- the canonical 23 octets of a frame that fits
+-- the canonical coding, 23 octets, of a frame that fits the channel
 abbrev pub octets_of : Channel → Frame → List ℕ
 octets_of channel f =
     let info = information f.content in

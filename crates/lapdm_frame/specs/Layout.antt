@@ -17,7 +17,7 @@ n201 Sacch = 18
 abbrev pub largest_n201 : ℕ
 largest_n201 = n201 Sdcch
 
--- the address, control and length octet of a block
+-- the address octet of a block; the control octet and the length octet follow it
 abbrev pub address_in : Channel → List ℕ → ℕ
 address_in channel octets = slice_index octets (layer1_octets channel)
 
@@ -27,6 +27,6 @@ control_in channel octets = slice_index octets (layer1_octets channel + 1)
 abbrev pub length_in : Channel → List ℕ → ℕ
 length_in channel octets = slice_index octets (layer1_octets channel + 2)
 
--- the first `size` octets of information in a block
+-- the information octets of a block, given their number
 abbrev pub information_in : Channel → List ℕ → ℕ → List ℕ
 information_in channel octets size = slice_range octets (layer1_octets channel + 3) (layer1_octets channel + 3 + size)

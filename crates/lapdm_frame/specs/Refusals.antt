@@ -7,18 +7,18 @@ use Rattle.lapdm_frame.specs.Layout.{n201, address_in, control_in, length_in}
 use Rattle.lapdm_frame.specs.declared.Kind.{Kind}
 use Rattle.lapdm_frame.specs.declared.Kind.TheVariants as K
 use Rattle.lapdm_frame.specs.Content.{Content, I, fields_of}
-use Rattle.lapdm_frame.specs.Frames.{control, NumbersFit}
+use Rattle.lapdm_frame.specs.Frames.{control, NsAndNrFit}
 
--- the octet is the control octet of a frame with this content
+-- the octet is the control octet of a frame with the given content
 abbrev pub IsControlOctetOf : ℕ → Content → Type 0
-IsControlOctetOf octet content = NumbersFit content × (octet ≡ control content)
+IsControlOctetOf octet content = NsAndNrFit content × (octet ≡ control content)
 
 -- the content is an I frame, the one kind that must have information
 abbrev pub IsInformationFrame : Content → Type 0
 IsInformationFrame (I ns nr p more info) = Unit {0}
 IsInformationFrame other = ⊥
 
--- whether a kind never has information
+-- whether a frame of a given kind never has information
 abbrev pub lacks_information : Kind → Bool
 lacks_information K.I = false
 lacks_information K.Sabm = false
@@ -29,11 +29,11 @@ lacks_information other = true
 abbrev pub HasNoInformation : Content → Type 0
 HasNoInformation content = lacks_information (fields_of content).kind ≡ true
 
--- the octet is the control octet of some content that satisfies `Kind`
+-- the octet is the control octet of some content that meets a given condition
 abbrev pub IsControlOctetOfKind : (Content → Type 0) → ℕ → Type 0
 IsControlOctetOfKind Kind octet = (content : Content) × IsControlOctetOf octet content × Kind content
 
--- the length L, the M bit and the EL bit of a length octet (GSM 04.06, sections 3.7.3, 3.7.2 and 3.7.1)
+-- the length L in a length octet (GSM 04.06, section 3.7.3), which also has the M bit (3.7.2) and the EL bit (3.7.1)
 abbrev pub length_field : ℕ → ℕ
 length_field octet = octet / 4
 
@@ -43,7 +43,7 @@ m_bit octet = octet / 2 % 2
 abbrev pub el_bit : ℕ → ℕ
 el_bit octet = octet % 2
 
--- when each reason applies, given the address, control and length octets (an address below 32 has 0 in bits 8, 7 and 6)
+-- the reason for refusal applies to the given address, control and length octets. An address octet below 32 has 0 in bits 8, 7 and 6
 abbrev pub RefusalApplies : Channel → (address control length : ℕ) → Refusal → Type 0
 RefusalApplies channel address control length Lpd = 32 ≤ address
 RefusalApplies channel address control length Ea = address % 2 ≡ 0
@@ -54,21 +54,22 @@ RefusalApplies channel address control length Length = (n201 channel < length_fi
 RefusalApplies channel address control length Empty = (length_field length ≡ 0) × IsControlOctetOfKind IsInformationFrame control
 RefusalApplies channel address control length More = (m_bit length ≡ 1) × ¬ IsControlOctetOfKind IsInformationFrame control
 
--- the reason applies to the address, control and length octets of the block
-abbrev pub RefusalAppliesTo : Channel → List ℕ → Refusal → Type 0
-RefusalAppliesTo channel octets = RefusalApplies channel (address_in channel octets) (control_in channel octets) (length_in channel octets)
+-- the reason for refusal applies to the address, control and length octets of the block
+abbrev pub RefusalAppliesToBlock : Channel → List ℕ → Refusal → Type 0
+RefusalAppliesToBlock channel octets = RefusalApplies channel (address_in channel octets) (control_in channel octets)
+    (length_in channel octets)
 
--- the position of each reason, from 0, in the order in which the reasons are tested
-abbrev pub reason_rank : Refusal → ℕ
-reason_rank Lpd = 0
-reason_rank Ea = 1
-reason_rank Control = 2
-reason_rank El = 3
-reason_rank Length = 4
-reason_rank Empty = 5
-reason_rank More = 6
+-- the position of a reason for refusal, from 0, in the order in which the reasons are tested
+abbrev pub refusal_order : Refusal → ℕ
+refusal_order Lpd = 0
+refusal_order Ea = 1
+refusal_order Control = 2
+refusal_order El = 3
+refusal_order Length = 4
+refusal_order Empty = 5
+refusal_order More = 6
 
--- this reason applies to the octets, and no reason that is tested earlier does
+-- `reason` applies to the octets, and no reason that is tested earlier does
 pub record IsRefused (channel : Channel) (octets : List ℕ) (reason : Refusal) : Type 0 where
-  pub applies : RefusalAppliesTo channel octets reason
-  pub first : (earlier : Refusal) → reason_rank earlier < reason_rank reason → ¬ RefusalAppliesTo channel octets earlier
+  pub applies : RefusalAppliesToBlock channel octets reason
+  pub first : (earlier : Refusal) → refusal_order earlier < refusal_order reason → ¬ RefusalAppliesToBlock channel octets earlier

@@ -1,5 +1,5 @@
-//! LAPDm frames of formats A and B (GSM 04.06), read from and written to blocks of 23
-//! octets. No call allocates; a frame that is read borrows its information from the block.
+//! LAPDm frames of formats A and B (GSM 04.06), read from and written to blocks of 23 octets. No call allocates memory; a frame that is
+//! read borrows its information from the block.
 #![tactic(auto)]
 
 ghost use Rattle.std.specs.Prelude.{◌≡◌, ◌+◌, false, [], slice_get};
@@ -10,7 +10,7 @@ mod reader;
 mod writer;
 
 pub use bit_blocks::BLOCK_OCTETS;
-pub use laws::{law_one_canonical_coding, law_one_frame_or_refusal};
+pub use laws::{law_canonical_coding_is_unique, law_reading_is_unique};
 pub use reader::{read, read_on};
 use thiserror::Error;
 pub use writer::{fill, fill_on, fits, fits_on, write, write_on};
@@ -37,7 +37,7 @@ impl Channel {
         }
     }
 
-    // The index of the address octet in a block.
+    // The number of layer 1 octets, which is the index of the address octet in a block.
     fn layer1_octets(self) -> usize
         ensures value { result ≡ layer1_octets self }
         ensures space { result + 3 + n201 self ≡ BLOCK_OCTETS }
@@ -116,7 +116,7 @@ pub enum Kind {
     Ua,
 }
 
-/// All kinds; the index of a kind is its number.
+/// All frame kinds, each at the index that is its number.
 const KINDS: [Kind; 9] = [
     Kind::I,
     Kind::Rr,
@@ -132,7 +132,7 @@ const KINDS: [Kind; 9] = [
 impl Kind {
     ghost use Rattle.lapdm_frame.specs.Content.{kinds, kind_number};
 
-    /// The number of the kind, 0 to 8.
+    /// The number of the frame kind, 0 to 8.
     pub fn number(self) -> u8
         ensures { result ≡ kind_number self }
     {
@@ -140,7 +140,7 @@ impl Kind {
     }
 
     /// The kind with this number, or `None` if the number is above 8.
-    pub fn of_number(number: u8) -> Option<Kind>
+    pub fn from_number(number: u8) -> Option<Kind>
         ensures { result ≡ slice_get kinds number }
     {
         KINDS.get(usize::from(number)).copied()
@@ -163,11 +163,11 @@ pub struct FrameFields<'a> {
 }
 
 impl<'a> FrameFields<'a> {
-    ghost use Rattle.lapdm_frame.specs.Content.{content_of, content_from, fields_in};
+    ghost use Rattle.lapdm_frame.specs.Content.{content_of, content_of_fields, fields_in};
 
-    /// The body of this kind with these fields. A field that the kind does not have is ignored.
+    /// Builds the frame body from the kind and the fields. Fields that the kind does not have are ignored.
     pub fn body(&self) -> Body<'a>
-        ensures { content_of result ≡ content_from (fields_in self.now) }
+        ensures { content_of result ≡ content_of_fields (fields_in self.now) }
     {
         let FrameFields {
             kind,
@@ -200,7 +200,7 @@ impl<'a> FrameFields<'a> {
 impl<'a> Body<'a> {
     ghost use Rattle.lapdm_frame.specs.Content.{content_of, fields_of, fields_in};
 
-    /// The kind and all fields of this body.
+    /// The kind and all fields of this frame body. Fields that the kind does not have are 0, false or empty.
     pub fn fields(&self) -> FrameFields<'a>
         ensures { fields_in result ≡ fields_of (content_of self.now) }
     {
@@ -255,7 +255,7 @@ fn i_frame_fields(ns: u8, nr: u8, p: bool, more: bool, info: &[u8]) -> FrameFiel
     }
 }
 
-// The fields of a frame that has no N(S), no N(R) and no information.
+// The fields of a frame that has a P or F bit, but no N(S), no N(R) and no information.
 fn fields_with_only_pf(kind: Kind, pf: bool) -> FrameFields<'static>
     ensures { fields_in result ≡ fields kind 0 0 pf false [] }
 {
@@ -269,7 +269,8 @@ fn fields_with_only_pf(kind: Kind, pf: bool) -> FrameFields<'static>
     }
 }
 
-/// Why 23 octets are refused as a frame. The reasons are tested in this order, and the first that applies is returned.
+/// The reason why 23 octets are refused as a frame. The reasons are tested in the order of the variants, and the first that applies is
+/// returned.
 #[derive(Clone, Copy, PartialEq, Eq, Debug, Error)]
 pub enum Refusal {
     /// One of bits 8 to 6 of the address is 1, so the link protocol discriminator is not 0.

@@ -1,7 +1,7 @@
 //! Reads frames from blocks.
 
 ghost use Rattle.std.specs.Prelude.{◌≡◌, ◌⊎◌, ◌↔◌, IsTrue, IfSome, IfNone, IfOk, IfErr};
-ghost use Rattle.lapdm_frame.specs.Content.{Content, content_of, frame_of, information, more_follows, borrowed_octets};
+ghost use Rattle.lapdm_frame.specs.Content.{Content, content_of, frame_of, information, more_follows, borrowed_information};
 ghost use Rattle.lapdm_frame.specs.Refusals.{IsControlOctetOf, IsInformationFrame, HasNoInformation};
 ghost use Rattle.lapdm_frame.specs.Lengths.{IsLengthFault, HasNoLengthFault};
 ghost use Rattle.lapdm_frame.specs.Readings.{IsOnlyFrame, IsOnlyRefusal, IsBorrowedFrom};
@@ -9,14 +9,15 @@ ghost use Rattle.lapdm_frame.specs.Readings.{IsOnlyFrame, IsOnlyRefusal, IsBorro
 use crate::{Body, Channel, FrameView, Refusal};
 use bit_blocks::BLOCK_OCTETS;
 
-// The body that this control octet encodes, if any; it uses `more` and `info` only if its kind has these fields.
+// Returns the frame body that the control octet encodes, or `None` if it encodes none. Uses `more` and `info` only if the kind has these
+// fields.
 fn body_of<'a>(control: u8, more: bool, info: &'a [u8]) -> Option<Body<'a>>
     ensures known { IfSome result (λ body. IsControlOctetOf control (content_of body)) }
     ensures unknown { IfNone result ((content : Content) → ¬ IsControlOctetOf control content) }
     ensures carried { IfSome result
         (λ body. HasNoInformation (content_of body) ⊎ (information (content_of body) ≡ info.now)) }
     ensures lent { IfSome result
-        (λ body. IfSome (borrowed_octets body) (λ part. part.ref_ptr ≡ info.entry.ref_ptr)) }
+        (λ body. IfSome (borrowed_information body) (λ part. part.ref_ptr ≡ info.entry.ref_ptr)) }
     ensures goes_on { IfSome result
         (λ body. IsInformationFrame (content_of body) → more_follows (content_of body) ≡ more) }
 {
@@ -67,7 +68,7 @@ fn has_no_information(body: &Body<'_>) -> bool
     }
 }
 
-// The first reason why a frame of this kind cannot have this length octet.
+// Returns the first reason why a frame of this kind cannot have the length octet `length`, or `None` if it can.
 fn length_fault(body: &Body<'_>, length: u8, most: usize) -> Option<Refusal>
     ensures fault { IfSome result (IsLengthFault most (content_of body.now) length) }
     ensures none { IfNone result (HasNoLengthFault most (content_of body.now) length) }
@@ -93,7 +94,7 @@ fn length_fault(body: &Body<'_>, length: u8, most: usize) -> Option<Refusal>
 }
 
 /// Reads the frame in a block, or returns the first reason why the block is not a frame. Layer 1 octets and fill octets may have any value.
-/// `info` is borrowed from `octets`.
+/// The information of the frame is borrowed from `octets`.
 pub fn read_on<'a>(
     octets: &'a [u8; BLOCK_OCTETS],
     channel: Channel,
@@ -127,7 +128,7 @@ pub fn read_on<'a>(
     Ok(FrameView { sapi, cr, body })
 }
 
-/// `read_on` for SDCCH.
+/// Reads the frame in an SDCCH block (see `read_on`).
 pub fn read<'a>(octets: &'a [u8; BLOCK_OCTETS]) -> Result<FrameView<'a>, Refusal>
     ensures frame { IfOk result (λ f. IsOnlyFrame Channel.Sdcch (frame_of f) octets.now) }
     ensures lent { IfOk result (λ f. IsBorrowedFrom Channel.Sdcch octets.entry f.body) }

@@ -3,14 +3,14 @@
 ghost use Rattle.std.specs.Prelude.{◌≡◌, ◌≤◌, ◌↔◌, IsTrue, length};
 ghost use Rattle.lapdm_frame.specs.Layout.{n201, largest_n201};
 ghost use Rattle.lapdm_frame.specs.Content.{content_of, frame_of, information, more_follows, fill};
-ghost use Rattle.lapdm_frame.specs.Frames.{address, control, length_octet, NumbersFit, InformationFits, Fits, octets_of};
-ghost use Rattle.lapdm_frame.specs.Readings.{IsOnlyCanonical};
+ghost use Rattle.lapdm_frame.specs.Frames.{address, control, length_octet, NsAndNrFit, InformationFits, FrameFits, octets_of};
+ghost use Rattle.lapdm_frame.specs.Readings.{IsOnlyCanonicalCoding};
 
 use crate::{Body, Channel, FrameView};
 use bit_blocks::BLOCK_OCTETS;
 
 /// The octet that fills a block after the information.
-const FILL: u8 = 0x2b;
+const FILL_OCTET: u8 = 0x2b;
 
 fn information_of<'a>(body: &Body<'a>) -> &'a [u8]
     ensures { result.now ≡ information (content_of body.now) }
@@ -35,8 +35,8 @@ fn address_octet_of(f: &FrameView<'_>) -> u8
     4 * f.sapi + 2 * u8::from(f.cr) + 1
 }
 
-fn numbers_fit(body: &Body<'_>) -> bool
-    ensures { IsTrue result ↔ NumbersFit (content_of body.now) }
+fn ns_and_nr_fit(body: &Body<'_>) -> bool
+    ensures { IsTrue result ↔ NsAndNrFit (content_of body.now) }
 {
     match *body {
         Body::I { ns, nr, .. } => ns <= 7 && nr <= 7,
@@ -46,7 +46,7 @@ fn numbers_fit(body: &Body<'_>) -> bool
 }
 
 fn control_octet_of(body: &Body<'_>) -> u8
-    requires { NumbersFit (content_of body.now) }
+    requires { NsAndNrFit (content_of body.now) }
     ensures { result ≡ control (content_of body.now) }
 {
     match *body {
@@ -73,7 +73,7 @@ fn length_octet_of(body: &Body<'_>) -> u8
 /// Whether the frame can be written on the channel: SAPI, N(S) and N(R) are at most 7,
 /// an I frame has information, and no frame has more than N201 octets of it.
 pub fn fits_on(f: &FrameView<'_>, channel: Channel) -> bool
-    ensures { IsTrue result ↔ Fits channel (frame_of f.now) }
+    ensures { IsTrue result ↔ FrameFits channel (frame_of f.now) }
 {
     let size = information_of(&f.body).len();
     let least = if matches!(f.body, Body::I { .. }) {
@@ -81,16 +81,16 @@ pub fn fits_on(f: &FrameView<'_>, channel: Channel) -> bool
     } else {
         0
     };
-    f.sapi <= 7 && numbers_fit(&f.body) && least <= size && size <= channel.n201()
+    f.sapi <= 7 && ns_and_nr_fit(&f.body) && least <= size && size <= channel.n201()
 }
 
-/// The canonical block of the frame: on SACCH it begins with two layer 1 octets 00; fill octets 2b follow the information.
+/// Writes the canonical block of the frame: on SACCH it begins with two layer 1 octets 00; fill octets 2b follow the information.
 pub fn write_on(f: &FrameView<'_>, channel: Channel) -> [u8; BLOCK_OCTETS]
-    requires { Fits channel (frame_of f.now) }
+    requires { FrameFits channel (frame_of f.now) }
     ensures octets { result ≡ octets_of channel (frame_of f.now) }
-    ensures canonical { IsOnlyCanonical channel (frame_of f.now) result }
+    ensures canonical { IsOnlyCanonicalCoding channel (frame_of f.now) result }
 {
-    let mut octets = [FILL; BLOCK_OCTETS];
+    let mut octets = [FILL_OCTET; BLOCK_OCTETS];
     let start = channel.layer1_octets();
     octets[..start].fill(0);
     octets[start] = address_octet_of(f);
@@ -101,10 +101,11 @@ pub fn write_on(f: &FrameView<'_>, channel: Channel) -> [u8; BLOCK_OCTETS]
     octets
 }
 
-/// The block of the fill frame of GSM 04.06, a UI frame without information: the network's if `cr`, else the mobile's.
+/// Writes the fill frame of GSM 04.06, a UI frame of SAPI 0 without information: that of the network if `cr` is true, else that of the
+/// mobile.
 pub fn fill_on(cr: bool, channel: Channel) -> [u8; BLOCK_OCTETS]
     ensures octets { result ≡ octets_of channel (fill cr) }
-    ensures canonical { IsOnlyCanonical channel (fill cr) result }
+    ensures canonical { IsOnlyCanonicalCoding channel (fill cr) result }
 {
     let body = Body::Ui {
         p: false,
@@ -113,26 +114,26 @@ pub fn fill_on(cr: bool, channel: Channel) -> [u8; BLOCK_OCTETS]
     write_on(&FrameView { sapi: 0, cr, body }, channel)
 }
 
-/// `fits_on` for SDCCH.
+/// Whether the frame can be written on SDCCH (see `fits_on`).
 pub fn fits(f: &FrameView<'_>) -> bool
-    ensures { IsTrue result ↔ Fits Channel.Sdcch (frame_of f.now) }
+    ensures { IsTrue result ↔ FrameFits Channel.Sdcch (frame_of f.now) }
 {
     fits_on(f, Channel::Sdcch)
 }
 
-/// `write_on` for SDCCH.
+/// Writes the canonical SDCCH block of the frame (see `write_on`).
 pub fn write(f: &FrameView<'_>) -> [u8; BLOCK_OCTETS]
-    requires { Fits Channel.Sdcch (frame_of f.now) }
+    requires { FrameFits Channel.Sdcch (frame_of f.now) }
     ensures octets { result ≡ octets_of Channel.Sdcch (frame_of f.now) }
-    ensures canonical { IsOnlyCanonical Channel.Sdcch (frame_of f.now) result }
+    ensures canonical { IsOnlyCanonicalCoding Channel.Sdcch (frame_of f.now) result }
 {
     write_on(f, Channel::Sdcch)
 }
 
-/// `fill_on` for SDCCH.
+/// Writes the fill frame to an SDCCH block (see `fill_on`).
 pub fn fill(cr: bool) -> [u8; BLOCK_OCTETS]
     ensures octets { result ≡ octets_of Channel.Sdcch (fill cr) }
-    ensures canonical { IsOnlyCanonical Channel.Sdcch (fill cr) result }
+    ensures canonical { IsOnlyCanonicalCoding Channel.Sdcch (fill cr) result }
 {
     fill_on(cr, Channel::Sdcch)
 }

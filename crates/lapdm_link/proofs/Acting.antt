@@ -1,13 +1,13 @@
 -- What one step of an endpoint does, at a call or at any received frame: which frames it sends, which notices it reports, how its state
 -- changes, and that the invariant `BothHold` of both directions is preserved.
-use Rattle.lapdm_link.proofs.Words.{HasBegun, MayOpen, ◌≡◌, refl, sym, ◌∙◌, ap, subst, ℕ, ◌≤◌, List, [], ◌∷◌, ◌++◌, length, Option, Some}
-use Rattle.lapdm_link.proofs.Words.{None, inl, ◌⊎◌, filter_map, cons_option, append-nil, Content, I, Rr, Rej, Sabm, Ui, Ua, Frame, Message}
-use Rattle.lapdm_link.proofs.Words.{information, Segment, false, State, Idle, Opening, Closing, Closed, Notice, EndState, Outcome}
-use Rattle.lapdm_link.proofs.Words.{HasWindowOfOne, all_segments, IsSameEndpoint, Call, Opens, OpensBare, SendsUnit, SendsFill}
-use Rattle.lapdm_link.proofs.{Words.{sent_by_call, unit_sent_by_call, unit_in_notice, opened_in_notice}, Queues.{content_of, contents}}
-use Rattle.lapdm_link.proofs.{Queues.{IsPlain, AllFrames, AllOf, of-as, frames-as, frames-say}, Notified.{Known, known, asked, Notifies}}
-use Rattle.lapdm_link.proofs.{Notifying.{CarriesSegmentOf, IsNoUnitOrOpening, InOpen}, Keeping.{Way, BothHold, Both, sends_plain, moved}}
-use Rattle.lapdm_link.proofs.Keeping.{gone}
+use Rattle.lapdm_link.proofs.Words.{arith, HasBegun, MayOpen, ◌≡◌, refl, sym, ◌∙◌, ap, subst, ℕ, ◌≤◌, List, []}
+use Rattle.lapdm_link.proofs.Words.{◌∷◌, ◌++◌, length, Option, Some, None, inl, ◌⊎◌, filter_map, cons_option, append-nil}
+use Rattle.lapdm_link.proofs.Words.{Content, I, Sabm, Ui, Ua, Frame, Message, information, Segment, false, State, Idle, Opening, Closing}
+use Rattle.lapdm_link.proofs.Words.{Closed, Notice, EndState, Outcome, HasWindowOfOne, all_segments, IsSameEndpoint, Call, Opens, OpensBare}
+use Rattle.lapdm_link.proofs.Words.{SendsUnit, SendsFill, message_sent_by_call, ui_message_of_call, ui_message_in_notice}
+use Rattle.lapdm_link.proofs.{Words.opened_info_in_notice, Queues.{content_of, contents, IsPlain, AllFrames, AllOf, of-as, frames-as}}
+use Rattle.lapdm_link.proofs.{Queues.frames-say, Notified.{known, asked, Notifies}, Notifying.{CarriesSegmentOf, IsNoUnitOrOpening, InOpen}}
+use Rattle.lapdm_link.proofs.Keeping.{Way, BothHold, Both, sends_plain, moved, gone}
 use Rattle.lapdm_window.specs.declared.State.TheVariants.{Open}
 use Rattle.lapdm_window.specs.declared.Notice.TheVariants as N
 
@@ -37,12 +37,14 @@ OpensBy other x info = ⊥
 -- the five ways in which a step may change the state of the link: it stays as it is, becomes Closed, becomes Closing, becomes Opening, or
 -- becomes Open
 pub data Goes (call : Option Call) (c : Content) (x : EndState) (o : Outcome) : Type 0 where
-  remains : o.after.state ≡ x.state → o.after.kept ≡ x.kept → filter_map opened_in_notice o.notices ≡ [] → Goes call c x o
-  ends : o.after.state ≡ Closed → o.after.kept ≡ x.kept → filter_map opened_in_notice o.notices ≡ [] → Goes call c x o
-  closes : x.state ≡ Open → o.after.state ≡ Closing → o.after.kept ≡ x.kept → filter_map opened_in_notice o.notices ≡ [] → Goes call c x o
-  begins : o.after.state ≡ Opening → IsOpening call o.after.kept → filter_map opened_in_notice o.notices ≡ [] → Goes call c x o
-  opens : {info : Message} → o.notices ≡ N.Opened info ∷ [] → o.after.state ≡ Open → o.after.kept ≡ info → OpensBy c x info →
+  remains : o.after.state ≡ x.state → o.after.kept ≡ x.kept → filter_map opened_info_in_notice o.notices ≡ [] → Goes call c x o
+  ends : o.after.state ≡ Closed → o.after.kept ≡ x.kept → filter_map opened_info_in_notice o.notices ≡ [] → Goes call c x o
+  closes : x.state ≡ Open → o.after.state ≡ Closing → o.after.kept ≡ x.kept →
+      filter_map opened_info_in_notice o.notices ≡ [] → Goes call c x o
+  begins : o.after.state ≡ Opening → IsOpening call o.after.kept → filter_map opened_info_in_notice o.notices ≡ [] →
       Goes call c x o
+  opens : {info : Message} → o.notices ≡ N.Opened info ∷ [] → o.after.state ≡ Open → o.after.kept ≡ info →
+      OpensBy c x info → Goes call c x o
 
 -- the message that a UI frame carries
 abbrev pub unit_in : Content → Option Message
@@ -51,17 +53,17 @@ unit_in other = None
 
 -- the notices report either no message of a UI frame, or exactly the message of this frame
 abbrev pub ReportsUnit : Content → List Notice → Type 0
-ReportsUnit c ns = (filter_map unit_in_notice ns ≡ [])
-    ⊎ (filter_map unit_in_notice ns ≡ filter_map unit_in (cons_option (content_of c) []))
+ReportsUnit c ns = (filter_map ui_message_in_notice ns ≡ [])
+    ⊎ (filter_map ui_message_in_notice ns ≡ filter_map unit_in (cons_option (content_of c) []))
 
 -- all that holds of one step of an endpoint, caused by a call (then c is a fill frame) or by the received frame c
 pub record IsDone (call : Option Call) (c : Content) (x : EndState) (o : Outcome) : Type 0 where
   pub link : IsSameEndpoint x o.after
   pub end : HasWindowOfOne o.after
-  pub taken : o.after.taken ≡ x.taken ++ filter_map sent_by_call (cons_option call [])
+  pub taken : o.after.taken ≡ x.taken ++ filter_map message_sent_by_call (cons_option call [])
   pub notifies : Notifies (asked call (known x)) o.notices (known o.after)
   pub frames : AllFrames (Says call x o.after) x.sapi o.frames
-  pub units : filter_map unit_in (contents o.frames) ≡ filter_map unit_sent_by_call (cons_option call [])
+  pub ui_in_order : filter_map unit_in (contents o.frames) ≡ filter_map ui_message_of_call (cons_option call [])
   pub reports : ReportsUnit c o.notices
   pub goes : Goes call c x o
   pub arrives : (y : EndState) (out comes : List Content) → BothHold x y out (cons_option (content_of c) comes)
@@ -73,16 +75,12 @@ IsTaken = IsDone None
 abbrev pub IsCalled : EndState → Call → Outcome → Type 0
 IsCalled x call o = IsDone (Some call) (Ui false []) x o
 
-well-said : (call : Option Call) (x z : EndState) (ps : List Segment) → all_segments z ≡ ps → (c : Content) → CarriesSegmentOf ps c →
-    Says call x z c
-well-said call x z ps e (I ns nr p more info) h = subst (λ qs. CarriesSegmentOf qs (I ns nr p more info)) (sym e) h
-well-said call x z ps e (Rr nr pf) h = refl
-well-said call x z ps e (Rej nr pf) h = refl
-well-said call x z ps e other h = absurd h
+well-said : (call : Option Call) (x z : EndState) (ps : List Segment) → all_segments z ≡ ps → (c : Content) →
+    CarriesSegmentOf ps c → Says call x z c
+well-said call x z ps c h g = grind arith
 
 well-no_unit : (ps : List Segment) (c : Content) → CarriesSegmentOf ps c → unit_in c ≡ None
-well-no_unit ps (Ui p m) h = absurd h
-well-no_unit ps other h = refl
+well-no_unit ps c h = grind arith
 
 pub none-of : {A B : Type 0} (f : A → Option B) (xs : List A) → AllOf (λ x. f x ≡ None) xs → filter_map f xs ≡ []
 none-of f [] h = refl
@@ -90,42 +88,45 @@ none-of f (x ∷ xs) h = rw (h.0, none-of f xs h.1) refl
 
 -- a step that follows the window rules of state Open, with `ts` as the messages taken so far, satisfies `IsDone`
 pub step_in_open : {From : Way} (call : Option Call) (c : Content) (x : EndState) (ts : List Message) (o : Outcome) →
-    (let mid : EndState = record x { taken = ts } in InOpen From Both mid o →
-    ((y : EndState) (out comes : List Content) → BothHold x y out (cons_option (content_of c) comes) (cons_option (content_of c) comes) →
-    From mid y out comes) → ts ≡ x.taken ++ filter_map sent_by_call (cons_option call []) → known mid ≡ asked call (known x) →
-    filter_map unit_sent_by_call (cons_option call []) ≡ [] → IsDone call c x o)
+    (let mid = record x { taken = ts } in InOpen From Both mid o →
+    ((y : EndState) (out comes : List Content) → BothHold x y out (cons_option (content_of c) comes)
+    (cons_option (content_of c) comes) →
+    From mid y out comes) → ts ≡ x.taken ++ filter_map message_sent_by_call (cons_option call []) →
+    known mid ≡ asked call (known x) →
+    filter_map ui_message_of_call (cons_option call []) ≡ [] → IsDone call c x o)
 step_in_open call c x ts o h from takes notified none =
-    let ps : List Segment = all_segments (record x { taken = ts }) in
+    let ps = all_segments (record x { taken = ts }) in
     record {
       link = record { role = ap (λ z. z.role) h.same; sapi = ap (λ z. z.sapi) h.same; channel = ap (λ z. z.channel) h.same };
       end = h.end;
       taken = ap (λ z. z.taken) h.same ∙ takes;
-      notifies = subst (λ (k : Known). Notifies k o.notices (known o.after)) notified h.notifies;
-      frames = frames-as (CarriesSegmentOf ps) (Says call x o.after) (well-said call x o.after ps (ap all_segments h.same)) x.sapi o.frames
-          h.frames;
-      units = none-of unit_in _ (frames-say (CarriesSegmentOf ps) (λ c. unit_in c ≡ None) (well-no_unit ps) x.sapi o.frames h.frames)
+      notifies = subst (λ k. Notifies k o.notices (known o.after)) notified h.notifies;
+      frames = frames-as (CarriesSegmentOf ps) _ (well-said call x o.after ps (ap all_segments h.same)) _ _ h.frames;
+      ui_in_order = none-of unit_in _ (frames-say (CarriesSegmentOf ps) (λ c. unit_in c ≡ None) (well-no_unit ps) x.sapi o.frames
+          h.frames)
           ∙ sym none;
-      reports = inl (none-of unit_in_notice _ (of-as IsNoUnitOrOpening _ (λ n m. m.0) o.notices h.of_open));
+      reports = inl (none-of ui_message_in_notice _ (of-as IsNoUnitOrOpening _ (λ n m. m.0) o.notices h.of_open));
       goes = remains (ap (λ z. z.state) h.same) (ap (λ z. z.kept) h.same)
-          (none-of opened_in_notice _ (of-as IsNoUnitOrOpening _ (λ n m. m.1) o.notices h.of_open));
-      arrives = λ y out comes k. h.keeps y out comes (from y out comes k);
+          (none-of opened_info_in_notice _ (of-as IsNoUnitOrOpening _ (λ n m. m.1) o.notices h.of_open));
+      arrives = λ y out comes k. h.keeps y out _ (from y out _ k);
     }
 
 -- a step that sends no I, RR, RNR or REJ frame and takes no message from layer 3 satisfies `IsDone`
 pub moves : (call : Option Call) (c : Content) (x : EndState) (w : HasWindowOfOne x) (s : State) (k : Message) (r : ℕ) (fs : List Frame)
-    (ns : List Notice) → (let z : EndState = record x { state = s; kept = k; retries = r } in
+    (ns : List Notice) → (let z = record x { state = s; kept = k; retries = r } in
     let o : Outcome = record { after = z; frames = fs; notices = ns } in AllFrames (SaysPlain call x z) x.sapi fs →
-    Notifies (asked call (known x)) ns (known z) → Goes call c x o → ReportsUnit c ns → filter_map sent_by_call (cons_option call []) ≡ [] →
-    filter_map unit_in (contents fs) ≡ filter_map unit_sent_by_call (cons_option call []) → IsDone call c x o)
-moves call c x w s k r fs ns says notifies goes reports none units =
-    let z : EndState = record x { state = s; kept = k; retries = r } in
+    Notifies (asked call (known x)) ns (known z) → Goes call c x o → ReportsUnit c ns →
+    filter_map message_sent_by_call (cons_option call []) ≡ [] →
+    filter_map unit_in (contents fs) ≡ filter_map ui_message_of_call (cons_option call []) → IsDone call c x o)
+moves call c x w s k r fs ns says notifies goes reports none ui_in_order =
+    let z = record x { state = s; kept = k; retries = r } in
     record {
       link = record { role = refl; sapi = refl; channel = refl };
       end = record { messages = w.messages; sent = w.sent; behind = w.behind; window = w.window };
       taken = rw (none, append-nil) refl;
       notifies = notifies;
-      frames = frames-as (SaysPlain call x z) (Says call x z) (λ d h. h.1) x.sapi fs says;
-      units = units;
+      frames = frames-as (SaysPlain call x z) (Says call x z) (λ d h. h.1) _ fs says;
+      ui_in_order = ui_in_order;
       reports = reports;
       goes = goes;
       arrives = λ y out comes h. sends_plain _ (frames-say (SaysPlain call x z) IsPlain (λ d m. m.0) x.sapi fs says)

@@ -7,9 +7,9 @@
 -- arriving I frame carries either the last accepted segment or the next one, and N(S) modulo 8 distinguishes the two. An arriving N(R)
 -- stands for one of two counts, and modulo 8 shows whether it acknowledges the outstanding segment. If it does, the count of accepted
 -- segments, which lies between, has the same value.
-use Rattle.lapdm_link.proofs.Words.{arith, ℕ, ◌≤◌, List, [], ◌∷◌, ◌++◌, ◌≡◌, ◌≢◌, refl, sym, ◌∙◌, ap, ◌+◌, ◌%◌, ◌<◌, false, length, take}
-use Rattle.lapdm_link.proofs.Words.{get_or, length-append, take-append-le, take_more, get_or-append, Bool, Content, I, Rr, Rej, Segment}
-use Rattle.lapdm_link.proofs.Queues.{AllOf}
+use Rattle.lapdm_link.proofs.Words.{arith, ℕ, ◌≤◌, List, [], ◌∷◌, ◌++◌, ◌≡◌, ◌≢◌, refl, sym, ◌∙◌, ap}
+use Rattle.lapdm_link.proofs.Words.{◌+◌, ◌%◌, ◌<◌, false, length, take, get_or, length-append, take-append-le, take_more}
+use Rattle.lapdm_link.proofs.{Words.{get_or-append, Bool, Content, I, Rr, Rej, Segment}, Queues.AllOf}
 
 -- ---- non-decreasing counts
 
@@ -29,21 +29,23 @@ module _ {Notifies : ℕ → Content → Type 0} where
   climbs-le (first l t h) = omega (arith, climbs-le h)
 
   -- a sequence remains valid under a weaker `Notifies` and in a wider range
-  climbs-as : (Notifies' : ℕ → Content → Type 0) → ((k : ℕ) (c : Content) → Notifies k c → Notifies' k c) → {low low' high high' : ℕ}
+  climbs-as : (Notifies' : ℕ → Content → Type 0) → ((k : ℕ) (c : Content) → Notifies k c → Notifies' k c) →
+      {low low' high high' : ℕ}
       {cs : List Content} → low' ≤ low → high ≤ high' → Ascending Notifies low cs high → Ascending Notifies' low' cs high'
   climbs-as Notifies' says l h (last m) = last (omega arith)
-  climbs-as Notifies' says l h (first m t g) = first (omega arith) (says _ _ t) (climbs-as Notifies' says (omega arith) h g)
+  climbs-as Notifies' says l h (first m t g) = first (omega arith) (says _ _ t) (climbs-as _ says (omega arith) h g)
 
   climbs-within : {low low' high high' : ℕ} {cs : List Content} → low' ≤ low → high ≤ high' → Ascending Notifies low cs high →
       Ascending Notifies low' cs high'
-  climbs-within l h g = climbs-as Notifies (λ k c t. t) l h g
+  climbs-within l h g = climbs-as _ (λ k c t. t) l h g
 
-  climbs-rest : {low high : ℕ} {c : Content} {cs : List Content} → Ascending Notifies low (c ∷ cs) high → Ascending Notifies low cs high
+  climbs-rest : {low high : ℕ} {c : Content} {cs : List Content} → Ascending Notifies low (c ∷ cs) high →
+      Ascending Notifies low cs high
   climbs-rest (first l t h) = climbs-within l (omega arith) h
 
   -- contents whose count is the highest may be appended to a sequence
-  climbs-append : {low high : ℕ} {cs : List Content} (ds : List Content) → AllOf (Notifies high) ds → Ascending Notifies low cs high →
-      Ascending Notifies low (cs ++ ds) high
+  climbs-append : {low high : ℕ} {cs : List Content} (ds : List Content) → AllOf (Notifies high) ds →
+      Ascending Notifies low cs high → Ascending Notifies low (cs ++ ds) high
   climbs-append [] a (last h) = last h
   climbs-append (d ∷ ds) a (last h) = first h a.0 (climbs-append ds a.1 (last (omega arith)))
   climbs-append ds a (first l t h) = first l t (climbs-append ds a h)
@@ -96,13 +98,14 @@ carries-more ps more n (I ns nr p m info) c = record {
   count = c.count;
   number = c.number;
   within = omega (arith, c.within, length-append ps more);
-  piece = get_or-append ps more ([], false) c.at c.within ∙ c.piece;
+  piece = get_or-append ps _ _ _ c.within ∙ c.piece;
 }
 carries-more ps more n other c = tt
 
 direction : {ps : List Segment} {a s : ℕ} {qs : List Segment} {there back : List Content} → Ascending CountsIn a back (length qs) →
-    Ascending (CarriesIn ps) (length qs) there s → s ≤ a + 1 → s ≤ length ps → qs ≡ take (length qs) ps → IsDirection ps a s qs there back
-direction a c w l o = record { acknowledged = a; carried = c; window = w; within = l; in_order = o }
+    Ascending (CarriesIn ps) (length qs) there s → s ≤ a + 1 → s ≤ length ps → qs ≡ take (length qs) ps →
+    IsDirection ps a s qs there back
+direction a c w l o = grind arith
 
 module _ {ps : List Segment} {a s : ℕ} {qs : List Segment} {there back : List Content} where
   -- the invariant holds after the next segment becomes outstanding
@@ -121,17 +124,17 @@ module _ {ps : List Segment} {a s : ℕ} {qs : List Segment} {there back : List 
   numbers_out cs notify h = direction (climbs-append cs notify h.acknowledged) h.carried h.window h.within h.in_order
 
   -- the invariant holds after the receiver accepts a segment
-  pub segment_in : (c : Content) (ns : ℕ) (p : Segment) → ((k : ℕ) → CarriesIn ps k c → IsSegment ps k ns p) → ns ≡ length qs % 8 →
-      IsDirection ps a s qs (c ∷ there) back → IsDirection ps a s (qs ++ p ∷ []) there back
+  pub segment_in : (c : Content) (ns : ℕ) (p : Segment) → ((k : ℕ) → CarriesIn ps k c → IsSegment ps k ns p) →
+      ns ≡ length qs % 8 → IsDirection ps a s qs (c ∷ there) back → IsDirection ps a s (qs ++ p ∷ []) there back
   segment_in c ns p carries number h =
       let (k, low, t, rest) = climbs-split h.carried in
-      let i : IsSegment ps k ns p = carries k t in
-      let below : a ≤ length qs = climbs-le h.acknowledged in
-      let above : k ≤ s = climbs-le rest in
-      let at_is : i.at ≡ length qs = right_segment a (length qs) s i.at below (omega (arith, i.count)) (omega (arith, i.count)) h.window
+      let i = carries k t in
+      let below = climbs-le h.acknowledged in
+      let above = climbs-le rest in
+      let at_is = right_segment a (length qs) s i.at below (omega (arith, i.count)) (omega (arith, i.count)) h.window
       (sym i.number ∙ number) in
-      let longer : length (qs ++ p ∷ []) ≡ length qs + 1 = length-append qs (p ∷ []) in
-      let segment : get_or ps (length qs) ([], false) ≡ p = ap (λ i. get_or ps i ([], false)) (sym at_is) ∙ i.piece in
+      let longer = length-append qs (p ∷ []) in
+      let segment = ap (λ i. get_or ps i ([], false)) (sym at_is) ∙ i.piece in
       direction (climbs-within (omega arith) (omega arith) h.acknowledged) (climbs-within (omega (arith, i.count)) (omega arith) rest)
       h.window h.within (ap (λ q. qs ++ q ∷ []) (sym segment) ∙ ap (λ xs. xs ++ get_or ps (length qs) ([], false) ∷ []) h.in_order
       ∙ sym (take_more ps (length qs) ([], false) (omega (arith, i.within))) ∙ ap (λ n. take n ps) (sym longer))
@@ -144,24 +147,26 @@ module _ {ps : List Segment} {a s : ℕ} {qs : List Segment} {there back : List 
   number_gone h = direction (climbs-rest h.acknowledged) h.carried h.window h.within h.in_order
 
   -- the invariant holds after a REJ is replaced by an RR with the same N(R)
-  pub number_as_rr : {nr : ℕ} {pf : Bool} → IsDirection ps a s qs there (Rej nr pf ∷ back) → IsDirection ps a s qs there (Rr nr pf ∷ back)
+  pub number_as_rr : {nr : ℕ} {pf : Bool} → IsDirection ps a s qs there (Rej nr pf ∷ back) →
+      IsDirection ps a s qs there (Rr nr pf ∷ back)
   number_as_rr h = direction (climbs-rr (λ k t. t) h.acknowledged) h.carried h.window h.within h.in_order
 
-  pub segment_as_rr : {nr : ℕ} {pf : Bool} → IsDirection ps a s qs (Rej nr pf ∷ there) back → IsDirection ps a s qs (Rr nr pf ∷ there) back
+  pub segment_as_rr : {nr : ℕ} {pf : Bool} → IsDirection ps a s qs (Rej nr pf ∷ there) back →
+      IsDirection ps a s qs (Rr nr pf ∷ there) back
   segment_as_rr h = direction h.acknowledged (climbs-rr (λ k t. t) h.carried) h.window h.within h.in_order
 
   -- the invariant holds after an N(R) acknowledges the outstanding segment
   pub number_in : (c : Content) (nr : ℕ) → ((k : ℕ) → CountsIn k c → nr ≡ k % 8) → s ≢ a → nr ≡ s % 8 →
       IsDirection ps a s qs there (c ∷ back) → IsDirection ps s s qs there back
-  number_in c nr counts is_outstanding number h =
+  number_in c nr counts_acks awaits_ack number h =
       let (k, low, t, rest) = climbs-split h.acknowledged in
-      let k_is : k ≡ s = right_number a (length qs) s k low (climbs-le rest) (climbs-le h.carried) h.window is_outstanding
-      (sym (counts k t) ∙ number) in
+      let k_is : k ≡ s = right_number a (length qs) s k low (climbs-le rest) (climbs-le h.carried) h.window awaits_ack
+      (sym (counts_acks k t) ∙ number) in
       direction (climbs-within (omega arith) (omega arith) rest) h.carried (omega arith) h.within h.in_order
 
   pub more_segments : (more : List Segment) → IsDirection ps a s qs there back → IsDirection (ps ++ more) a s qs there back
   more_segments more h =
-      let high : length qs ≤ s = climbs-le h.carried in
+      let high = climbs-le h.carried in
       direction h.acknowledged (climbs-as (CarriesIn (ps ++ more)) (carries-more ps more) (omega arith) (omega arith) h.carried) h.window
       (omega (arith, h.within, length-append ps more))
       (h.in_order ∙ sym (take-append-le (length qs) ps more (omega (arith, h.within))))

@@ -1,10 +1,11 @@
 -- What the calls and notices of an endpoint reveal about its state, and which notices it can report next, whatever frames arrive.
-use Rattle.lapdm_link.proofs.Words.{Contains, ◌≡◌, refl, sym, ◌∙◌, subst, arith, ℕ, zero, suc, ◌+◌, ◌-◌, ◌≤◌, max, min, false, List, []}
-use Rattle.lapdm_link.proofs.Words.{◌∷◌, ◌++◌, map, length, Option, Some, None, append_assoc, filter_map, cons_option, append-nil, Message}
-use Rattle.lapdm_link.proofs.Words.{ended_messages, Sapi, State, Notice, Role, EndState, acked_message_count, number_capped_at_64_bits}
-use Rattle.lapdm_link.proofs.Words.{Call, Sends, Closes, Line, Notified, OccursAfter, sent_by_call, acked_in_notice, opened_in_notice}
-use Rattle.lapdm_link.proofs.Words.{closed_in_notice, call_in_line, notice_in_line, notices, sent_messages, acked_numbers, establishments}
-use Rattle.lapdm_link.proofs.{Words.closings, Views.{is_end, is_end-self, said}}
+use Rattle.lapdm_link.proofs.Words.{Contains, ◌≡◌, refl, sym, ◌∙◌, subst, arith, ℕ, zero, suc, ◌+◌, ◌-◌, ◌≤◌}
+use Rattle.lapdm_link.proofs.Words.{max, min, false, List, [], ◌∷◌, ◌++◌, map, length, Option, Some, None, append_assoc}
+use Rattle.lapdm_link.proofs.Words.{filter_map, cons_option, append-nil, Message, ended_messages, Sapi, State, Notice, Role, EndState}
+use Rattle.lapdm_link.proofs.Words.{acked_message_count, capped_at_64_bits, Call, Sends, Closes, Line, Notified, OccursAfter}
+use Rattle.lapdm_link.proofs.Words.{message_sent_by_call, acked_number_in_notice, opened_info_in_notice, notice_if_closed, call_in_line}
+use Rattle.lapdm_link.proofs.{Words.{notice_in_line, notices, sent_messages, acked_numbers, establishments, close_notices}, Views.is_end}
+use Rattle.lapdm_link.proofs.Views.{is_end-self, said}
 use Rattle.lapdm_window.specs.declared.State.TheVariants as S
 use Rattle.lapdm_window.specs.declared.Notice.TheVariants as N
 
@@ -41,7 +42,7 @@ MayNotify None m = Unit {0}
 MayNotify (Some (N.Unit t)) m = Unit {0}
 MayNotify (Some (N.Opened info)) m = m.stage ≡ 0
 MayNotify (Some (N.Closed reason)) m = m.stage ≤ 2
-MayNotify (Some (N.Acked n)) m = (m.stage ≡ 1) × (n ≡ number_capped_at_64_bits (m.acked + 1)) × (m.acked + 1 ≤ length m.taken)
+MayNotify (Some (N.Acked n)) m = (m.stage ≡ 1) × (n ≡ capped_at_64_bits (m.acked + 1)) × (m.acked + 1 ≤ length m.taken)
 MayNotify (Some other) m = m.stage ≡ 1
 
 abbrev pub notified : Option Notice → Known → Known
@@ -64,33 +65,48 @@ StagesAllow p o c q = (o + min 1 p ≤ 1) × (c + min 1 (p - 2) ≤ 1) × (q ≡
 
 -- the calls cs and notices ns lead from the knowledge m to the knowledge k
 abbrev LeadsTo : Known → List Call → List Notice → Known → Type 0
-LeadsTo m cs ns k = (m.taken ++ filter_map sent_by_call cs ≡ k.taken) × (m.ended ++ filter_map ending_in ns ≡ k.ended)
-    × (length (filter_map acked_in_notice ns) + m.acked ≡ k.acked)
-    × StagesAllow m.stage (length (filter_map opened_in_notice ns)) (length (filter_map closed_in_notice ns)) k.stage
+LeadsTo m cs ns k = (m.taken ++ filter_map message_sent_by_call cs ≡ k.taken) × (m.ended ++ filter_map ending_in ns ≡ k.ended)
+    × (length (filter_map acked_number_in_notice ns) + m.acked ≡ k.acked)
+    × StagesAllow m.stage (length (filter_map opened_info_in_notice ns)) (length (filter_map notice_if_closed ns)) k.stage
 
 leads-asked : (c : Option Call) (m k : Known) (cs : List Call) (ns : List Notice) → LeadsTo (asked c m) cs ns k →
     LeadsTo m (cons_option c cs) ns k
-leads-asked (Some (Sends t)) m k cs ns h = (sym (append_assoc m.taken (t ∷ []) (filter_map sent_by_call cs)) ∙ h.0, h.1, h.2, h.3)
+leads-asked (Some (Sends t)) m k cs ns h = (
+  sym (append_assoc m.taken (t ∷ []) (filter_map message_sent_by_call cs)) ∙ h.0,
+  h.1,
+  h.2,
+  h.3,
+)
 leads-asked (Some Closes) m k cs ns h = (h.0, h.1, h.2, (omega arith, omega arith, λ e. omega (arith, h.3.2 e)))
 leads-asked call m k cs ns h = h
 
-leads-notified : (n : Option Notice) (m k : Known) (cs : List Call) (ns : List Notice) → MayNotify n m → LeadsTo (notified n m) cs ns k →
-    LeadsTo m cs (cons_option n ns) k
+leads-notified : (n : Option Notice) (m k : Known) (cs : List Call) (ns : List Notice) → MayNotify n m →
+    LeadsTo (notified n m) cs ns k → LeadsTo m cs (cons_option n ns) k
 leads-notified (Some (N.Opened info)) m k cs ns may h = (h.0, h.1, h.2, (omega arith, omega arith, λ e. omega arith))
 leads-notified (Some (N.Closed reason)) m k cs ns may h = (h.0, h.1, h.2, (omega arith, omega arith, λ e. omega arith))
 leads-notified (Some (N.Acked n)) m k cs ns may h = (h.0, h.1, omega arith, h.3)
-leads-notified (Some (N.Got t)) m k cs ns may h = (h.0, sym (append_assoc m.ended (Some t ∷ []) (filter_map ending_in ns)) ∙ h.1, h.2, h.3)
-leads-notified (Some N.Oversize) m k cs ns may h = (h.0, sym (append_assoc m.ended (None ∷ []) (filter_map ending_in ns)) ∙ h.1, h.2, h.3)
+leads-notified (Some (N.Got t)) m k cs ns may h = (
+  h.0,
+  sym (append_assoc m.ended (Some t ∷ []) (filter_map ending_in ns)) ∙ h.1,
+  h.2,
+  h.3,
+)
+leads-notified (Some N.Oversize) m k cs ns may h = (
+  h.0,
+  sym (append_assoc m.ended (None ∷ []) (filter_map ending_in ns)) ∙ h.1,
+  h.2,
+  h.3,
+)
 leads-notified other m k cs ns may h = h
 
 -- below, each element of a list stands for a call, a notice or neither, and the list leads from m to k
 module _ {A : Type 0} (call : A → Option Call) (notice : A → Option Notice) where
   abbrev pub Goes : Known → List A → Known → Type 0
   Goes m [] k = k ≡ m
-  Goes m (x ∷ xs) k = (let j : Known = asked (call x) m in MayNotify (notice x) j × Goes (notified (notice x) j) xs k)
+  Goes m (x ∷ xs) k = (let j = asked (call x) m in MayNotify (notice x) j × Goes (notified (notice x) j) xs k)
 
   pub goes-append : (xs ys : List A) (m j k : Known) → Goes m xs j → Goes j ys k → Goes m (xs ++ ys) k
-  goes-append [] ys m j k h g = subst (λ (i : Known). Goes i ys k) h g
+  goes-append [] ys m j k h g = subst (λ i. Goes i ys k) h g
   goes-append (x ∷ xs) ys m j k h g = (h.0, goes-append xs ys _ j k h.1 g)
 
   goes-split : (xs ys : List A) (m k : Known) → Goes m (xs ++ ys) k → (j : Known) × Goes m xs j × Goes j ys k
@@ -98,16 +114,16 @@ module _ {A : Type 0} (call : A → Option Call) (notice : A → Option Notice) 
   goes-split (x ∷ xs) ys m k h = let g = goes-split xs ys _ k h.1 in (g.0, (h.0, g.1), g.2)
 
   leads : (xs : List A) (m k : Known) → Goes m xs k → LeadsTo m (filter_map call xs) (filter_map notice xs) k
-  leads [] m k h = rw h (append-nil m.taken, append-nil m.ended, omega arith, (omega arith, omega arith, λ e. omega arith))
+  leads [] m k h = rw h (append-nil _, append-nil _, omega arith, (omega arith, omega arith, λ e. omega arith))
   leads (x ∷ xs) m k h = leads-asked (call x) m k (filter_map call xs) (filter_map notice (x ∷ xs))
-      (leads-notified (notice x) (asked (call x) m) k (filter_map call xs) (filter_map notice xs) h.0 (leads xs _ k h.1))
+      (leads-notified _ _ k (filter_map call xs) _ h.0 (leads xs _ k h.1))
 
   -- if the link is open at the end, it was neither closing nor closed at any earlier point
   before_open : (xs : List A) (m k : Known) → Goes m xs k → k.stage ≡ 1 → (y : A) → Contains xs y →
       (j : Known) × ((notified (notice y) (asked (call y) j)).stage ≤ 1)
   before_open [] m k h now y c = absurd (omega (arith, c.1))
   before_open (x ∷ xs) m k h now y (zero, low, is) =
-      (m, subst (λ (z : A). (notified (notice z) (asked (call z) m)).stage ≤ 1) is (omega (arith, (leads xs _ k h.1).3.2 now)))
+      (m, subst (λ z. (notified (notice z) (asked (call z) m)).stage ≤ 1) is (omega (arith, (leads xs _ k h.1).3.2 now)))
   before_open (x ∷ xs) m k h now y (suc i, low, is) = before_open xs _ k h.1 now y (i, omega (arith, low), is)
 
 -- `Goes` over notices, and over the lines of a session
@@ -120,7 +136,7 @@ module _ (r : Role) (s : Sapi) where
 
   pub runs-notified : (ns : List Notice) (m k : Known) → Notifies m ns k → Runs m (map (Notified r s) ns) k
   runs-notified [] m k h = h
-  runs-notified (n ∷ ns) m k h = rw (is_end-self r s) (h.0, runs-notified ns (notified (Some n) m) k h.1)
+  runs-notified (n ∷ ns) m k h = rw (is_end-self r s) (h.0, runs-notified ns _ k h.1)
 
   pub runs-else : (r' : Role) (s' : Sapi) → is_end r s r' s' ≡ false → (cs : List Call) (ns : List Notice) (m : Known) →
       Runs m (said r' s' cs ns) m
@@ -133,20 +149,20 @@ module _ (r : Role) (s : Sapi) where
     pub taken : sent_messages r s ls ≡ m.taken
     pub got : filter_map ending_in (notices r s ls) ≡ m.ended
     pub acked : length (acked_numbers r s ls) ≡ m.acked
-    pub staged : StagesAllow 0 (length (establishments r s ls)) (length (closings r s ls)) m.stage
+    pub staged : StagesAllow 0 (length (establishments r s ls)) (length (close_notices r s ls)) m.stage
 
   module _ (ls : List Line) (m : Known) (run : Runs nothing ls m) where
     pub is_notified : IsNotified ls m
-    is_notified = let g = leads (call_in_line r s) (notice_in_line r s) ls nothing m run in
+    is_notified = let g = leads _ _ ls _ m run in
         record { taken = g.0; got = g.1; acked = omega (arith, g.2); staged = g.3 }
 
     -- each notice in the log can be reported at the point where it stands
     pub at_place : (before : List Line) (n : Notice) → OccursAfter before (Notified r s n) ls →
         (j : Known) × Runs nothing before j × MayNotify (Some n) j
     at_place before n place =
-        let g = goes-split (call_in_line r s) (notice_in_line r s) before (Notified r s n ∷ place.0) nothing m (rw place.1 run) in
+        let g = goes-split _ _ _ (Notified r s n ∷ place.0) nothing m (rw place.1 run) in
         (g.0, g.1, rw (is_end-self r s) at g.2.0)
 
     pub none_beyond : m.stage ≡ 1 → (l : Line) → Contains ls l →
         (j : Known) × ((notified (notice_in_line r s l) (asked (call_in_line r s l) j)).stage ≤ 1)
-    none_beyond = before_open (call_in_line r s) (notice_in_line r s) ls nothing m run
+    none_beyond = before_open _ _ ls _ m run

@@ -1,12 +1,13 @@
 -- Each establishment is reported after its cause. The invariant says why each SABM or UA in transit was sent and how each endpoint reached
 -- its state.
-use Rattle.lapdm_link.proofs.Words.{MayOpen, ◌≡◌, refl, ap, arith, ◌≤◌, List, [], ◌∷◌, ◌++◌, map, length, inl, inr, Option, Some, None, ◌⊎◌}
-use Rattle.lapdm_link.proofs.Words.{Contains, cons_option, filter_map, Contains-append_left, Contains-push, append_assoc, false, Content}
-use Rattle.lapdm_link.proofs.Words.{Sabm, Ua, Ui, Message, Sapi, Zero, Three, State, Notice, Role, Mobile, Network, EndState, Outcome, Call}
-use Rattle.lapdm_link.proofs.Words.{Opens, OpensBare, other, Line, Asked, RivalSabm, Notified, HasEstablishmentCause, opened_in_notice}
-use Rattle.lapdm_link.proofs.{Queues.{content_of, contents, AllOf, of-append, of-as, frames-say}, ByKind.IsPlaced, Order.AllOccur}
-use Rattle.lapdm_link.proofs.{Acting.{Says, OpensBy, IsOpening, Goes, IsDone, remains, ends, closes, begins, opens}, Links.{Side, Act}}
-use Rattle.lapdm_link.proofs.Links.{lines, IsActed, called, took, rival, after, other_after}
+use Rattle.lapdm_link.proofs.Words.{MayOpen, ◌≡◌, refl, arith, ◌≤◌, List, [], ◌∷◌, ◌++◌, map, length, inl, inr}
+use Rattle.lapdm_link.proofs.Words.{Option, Some, None, ◌⊎◌, Contains, cons_option, filter_map, Contains-append_left, Contains-push}
+use Rattle.lapdm_link.proofs.Words.{append_assoc, false, Content, Sabm, Ua, Ui, Message, Sapi, Zero, Three, State, Notice, Role, Mobile}
+use Rattle.lapdm_link.proofs.Words.{EndState, Outcome, Call, Opens, OpensBare, other, Line, Asked, RivalSabm, Notified}
+use Rattle.lapdm_link.proofs.{Words.{HasEstablishmentCause, opened_info_in_notice}, Queues.{content_of, contents, AllOf, of-append, of-as}}
+use Rattle.lapdm_link.proofs.{Queues.frames-say, ByKind.IsPlaced, Order.AllOccur, Acting.{Says, OpensBy, IsOpening, Goes, IsDone, remains}}
+use Rattle.lapdm_link.proofs.{Acting.{ends, closes, begins, opens}, Links.{Side, Act, lines, IsActed, called, took, rival, after}}
+use Rattle.lapdm_link.proofs.Links.{other_after}
 use Rattle.lapdm_window.specs.declared.State.TheVariants as S
 use Rattle.lapdm_window.specs.declared.Notice.TheVariants as N
 
@@ -57,9 +58,9 @@ module _ (r : Role) (s : Sapi) (ls new : List Line) where
   opened-more k h = (Contains-append_left ls new _ h.0, h.1)
 
   caused-more : (c : Content) → IsCaused r s ls c → IsCaused r s (ls ++ new) c
-  caused-more (Sabm p info) (inl h) = inl (asked-more info h)
+  caused-more (Sabm p info) (inl h) = inl (asked-more _ h)
   caused-more (Sabm p info) (inr h) = inr (h.0, Contains-append_left ls new _ h.1)
-  caused-more (Ua f info) (inl h) = inl (opened-more info h)
+  caused-more (Ua f info) (inl h) = inl (opened-more _ h)
   caused-more (Ua f info) (inr (e, (k, inl h))) = inr (e, (k, inl (asked-more k h)))
   caused-more (Ua f info) (inr (e, (k, inr h))) = inr (e, (k, inr (opened-more k h)))
   caused-more c h = tt
@@ -71,27 +72,17 @@ module _ (r : Role) (s : Sapi) (ls new : List Line) where
   reached-more state k h = tt
 
   pub establishments-more : (x : Side) → HasOpenings r s x ls → HasOpenings r s x (ls ++ new)
-  establishments-more x h = (of-as _ _ caused-more x.out h.0, reached-more _ _ h.1)
+  establishments-more x h = (of-as _ _ caused-more _ h.0, reached-more _ _ h.1)
 
 -- a SABM, or (below) a UA, that can establish a link has a cause in the log
 sabm-cause : (r : Role) (s : Sapi) (ls : List Line) (info : Message) → MayOpen s r info →
     WasAsked (other r) s ls info ⊎ ((s ≡ Zero) × Contains ls (RivalSabm info)) → HasEstablishmentCause r s info ls × IsBare s info
-sabm-cause Mobile Zero ls info may c = absurd may
-sabm-cause Network Zero ls info may (inl a) = (inl a.0, tt)
-sabm-cause Network Zero ls info may (inr a) = (inr a.1, tt)
-sabm-cause r Three ls [] may (inl a) = (inl a.0, refl)
-sabm-cause r Three ls [] may (inr a) = cc (a.0)
-sabm-cause r Three ls (i ∷ is) may c = absurd may
+sabm-cause r s ls info h g = grind arith
 
 ua-cause : (r : Role) (s : Sapi) (ls : List Line) (info : Message) → WasAsked r s ls info →
     WasOpened (other r) s ls info ⊎ ((info ≡ []) × ((k : Message) × (WasAsked (other r) s ls k ⊎ WasOpened (other r) s ls k))) →
     HasEstablishmentCause r s info ls × IsBare s info
-ua-cause Mobile Zero ls info own (inl a) = ((a.0, own.0), tt)
-ua-cause Mobile Zero ls info own (inr a) = absurd (omega (arith, ap length a.0, own.1.1))
-ua-cause Network Zero ls info own c = cc (own.1.0)
-ua-cause r Three ls info own (inl a) = (inr (own.0, rw a.1 at a.0), own.1)
-ua-cause r Three ls info own (inr (e, (k, inl a))) = (inl a.0, own.1)
-ua-cause r Three ls info own (inr (e, (k, inr a))) = (inr (own.0, rw a.1 at a.0), own.1)
+ua-cause r s ls info k h = grind arith
 
 -- if the line reports an establishment, its cause is among the lines before it
 abbrev pub IsOpenedAfter : List Line → Line → Type 0
@@ -99,38 +90,29 @@ IsOpenedAfter before (Notified r s (N.Opened info)) = HasEstablishmentCause r s 
 IsOpenedAfter before other = Unit {0}
 
 module _ (r : Role) (s : Sapi) where
-  none-opened : (ns : List Notice) (ls : List Line) → filter_map opened_in_notice ns ≡ [] →
+  none-opened : (ns : List Notice) (ls : List Line) → filter_map opened_info_in_notice ns ≡ [] →
       AllOccur IsOpenedAfter ls (map (Notified r s) ns)
   none-opened [] ls h = tt
   none-opened (N.Opened i ∷ ns) ls h = cc h
-  none-opened (n ∷ ns) ls h = (tt, none-opened ns (ls ++ Notified r s n ∷ []) h)
+  none-opened (n ∷ ns) ls h = (tt, none-opened ns _ h)
 
   abbrev HasAsked : List Line → Option Call → Type 0
   HasAsked ls None = Unit {0}
   HasAsked ls (Some call) = IsPlaced r s call × Contains ls (Asked r s call)
 
   was-asked : (ls : List Line) (call : Option Call) (k : Message) → IsOpening call k → HasAsked ls call → WasAsked r s ls k
-  was-asked ls (Some (Opens info)) k o (p, c) = rw (p.0, p.1, o.0) (rw (p.0, p.1) at c, (refl, rw o.0 at o.1))
-  was-asked ls (Some OpensBare) k o (p, c) = rw p (rw p at c, o)
-  was-asked ls call k o h = absurd o
+  was-asked ls call k h g = grind arith
 
   said-caused : (ls : List Line) (call : Option Call) (x z : EndState) → HasReached r s ls x → HasReached r s ls z → (c : Content) →
       Says call x z c → IsCaused r s ls c
-  said-caused ls call x z h g (Sabm p info) a = inl (rw a.1 at (rw a.0 at g))
-  said-caused ls call x z h g (Ua f info) (inl e) = inl (rw e.1 at (rw e.0 at g))
-  said-caused ls call x z h g (Ua f info) (inr (e, inl b)) = inr (e, (x.kept, inl (rw b at h)))
-  said-caused ls call x z h g (Ua f info) (inr (e, inr (inl b))) = inr (e, (x.kept, inr (rw b at h)))
-  said-caused ls call x z h g (Ua f info) (inr (e, inr (inr b))) = inr (e, (x.kept, inr (rw b at h)))
-  said-caused ls call x z h g c a = tt
+  said-caused ls call x z c h g k = grind arith
 
   module _ (ls : List Line) (x : Side) (role : x.end.role ≡ r) (same : x.end.sapi ≡ s) (h : HasOpenings r s x ls) (left : List Content)
     where
       opening-cause : (c : Content) (info : Message) → OpensBy c x.end info →
           AllOf (IsCaused (other r) s ls) (cons_option (content_of c) left) → HasEstablishmentCause r s info ls × IsBare s info
-      opening-cause (Sabm p i) info o sent = sabm-cause r s ls info (rw (same, role) at o.2)
-          (let g : IsCaused (other r) s ls (Sabm p i) = sent.0 in rw o.0 at g)
-      opening-cause (Ua f i) info o sent = ua-cause r s ls info (rw o.2 (rw o.1 at h.1))
-          (let g : IsCaused (other r) s ls (Ua f i) = sent.0 in rw o.0 at g)
+      opening-cause (Sabm p i) info o sent = sabm-cause r s ls info (rw (same, role) at o.2) (let g = sent.0 in rw o.0 at g)
+      opening-cause (Ua f i) info o sent = ua-cause r s ls info (rw o.2 (rw o.1 at h.1)) (let g = sent.0 in rw o.0 at g)
       opening-cause c info o sent = absurd o
 
       module _ (call : Option Call) (c : Content) (o : Outcome) (asked : HasAsked ls call)
@@ -139,19 +121,19 @@ module _ (r : Role) (s : Sapi) where
         notified = map (Notified r s) o.notices
 
         goes-on : Goes call c x.end o → HasReached r s (ls ++ notified) o.after × AllOccur IsOpenedAfter ls notified
-        goes-on (remains same e n) = (rw (same, e) (reached-more r s ls notified x.end.state x.end.kept h.1), none-opened o.notices ls n)
-        goes-on (ends over e n) = (rw over tt, none-opened o.notices ls n)
+        goes-on (remains same e n) = (rw (same, e) (reached-more r s ls _ _ _ h.1), none-opened _ ls n)
+        goes-on (ends over e n) = (rw over tt, none-opened _ ls n)
         goes-on (closes now closing e n) =
-            (rw (closing, e) (opened-more r s ls notified x.end.kept (rw now at h.1)), none-opened o.notices ls n)
+            (rw (closing, e) (opened-more r s ls _ _ (rw now at h.1)), none-opened _ ls n)
         goes-on (begins opening a n) =
-            (rw opening (asked-more r s ls notified o.after.kept (was-asked ls call o.after.kept a asked)), none-opened o.notices ls n)
+            (rw opening (asked-more r s ls _ _ (was-asked ls _ _ a asked)), none-opened _ ls n)
         goes-on (opens {info} n now e by) =
-            let cause = opening-cause c info by sent in rw (now, e, n) ((Contains-push ls _, cause.1), (cause.0, tt))
+            let cause = opening-cause c _ by sent in rw (now, e, n) ((Contains-push ls _, cause.1), (cause.0, tt))
 
         done : IsDone call c x.end o → (AllOf (IsCaused r s (ls ++ notified)) (x.out ++ contents o.frames) ×
             HasReached r s (ls ++ notified) o.after) × AllOccur IsOpenedAfter ls notified
         done d =
-            let h' : HasOpenings r s x (ls ++ notified) = establishments-more r s ls notified x h in
+            let h' = establishments-more r s ls notified x h in
             let to = goes-on d.goes in
             let says = said-caused (ls ++ notified) call x.end o.after h'.1 to.0 in
             ((of-append _ x.out _ h'.0 (frames-say _ (IsCaused r s (ls ++ notified)) says x.end.sapi o.frames d.frames), to.0), to.1)
@@ -160,14 +142,14 @@ pub establishments-here : {x y : Side} {a : Act} (ls : List Line) → IsActed x 
     HasOpenings a.role a.sapi x ls → HasOpenings (other a.role) a.sapi y ls →
     HasOpenings a.role a.sapi (after a x) (ls ++ lines a) × AllOccur IsOpenedAfter ls (lines a)
 establishments-here {x} {y} {a} ls (called {r} {s} {call} p c) role same h g =
-    let asked : List Line = Asked r s call ∷ [] in
-    let to = done r s (ls ++ asked) x role same (establishments-more r s ls asked x h) y.out (Some call) (Ui false []) a.does
-    (p, Contains-push ls _) (establishments-more (other r) s ls asked y g).0 c in (rw append_assoc at to.0, (tt, to.1))
+    let asked = Asked r s call ∷ [] in
+    let to = done r s (ls ++ asked) x role same (establishments-more r s ls _ x h) y.out (Some call) (Ui false []) a.endpoint_step
+    (p, Contains-push ls _) (establishments-more _ s ls _ y g).0 c in (rw append_assoc at to.0, (tt, to.1))
 establishments-here {x} {y} {a} ls (took {r} {s} {c} {o} {left} e t) role same h g =
     done r s ls x role same h left None c o tt (rw e at g.0) t
 establishments-here {x} {y} {a} ls (rival {info}) role same h g =
-    let h' : HasOpenings Mobile Zero x (ls ++ lines a) = establishments-more Mobile Zero ls (lines a) x h in
-    ((of-append _ x.out _ h'.0 (inr (refl, Contains-push ls (RivalSabm info)), tt), h'.1), (tt, tt))
+    let h' = establishments-more _ _ ls _ x h in
+    ((of-append _ x.out _ h'.0 (inr (refl, Contains-push ls _), tt), h'.1), (tt, tt))
 
 pub of-rest : (P : Content → Type 0) (o : Option Content) (cs : List Content) → AllOf P (cons_option o cs) → AllOf P cs
 of-rest P None cs h = h
@@ -175,7 +157,7 @@ of-rest P (Some c) cs h = h.1
 
 pub establishments-there : {x y : Side} {a : Act} (ls : List Line) → IsActed x y a → HasOpenings (other a.role) a.sapi y ls →
     HasOpenings (other a.role) a.sapi (other_after a y) (ls ++ lines a)
-establishments-there {y = y} {a = a} ls i g = establishments-more (other a.role) a.sapi ls (lines a) (other_after a y) (left _ i g.0, g.1)
+establishments-there {y = y} {a = a} ls i g = establishments-more _ _ ls _ (other_after a y) (left _ i g.0, g.1)
   where
     left : {x y : Side} {a : Act} (P : Content → Type 0) → IsActed x y a → AllOf P y.out → AllOf P a.left
     left P (called p c) g = g

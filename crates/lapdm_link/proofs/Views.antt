@@ -1,10 +1,10 @@
 -- How the parts of a session's state change when one endpoint, one queue or the log changes.
-use Rattle.lapdm_link.proofs.Words.{arith, Some, ◌≡◌, refl, Bool, true, false, ◌&&◌, List, [], ◌∷◌, ◌++◌, map, drop, Option, None}
-use Rattle.lapdm_link.proofs.Words.{append-nil, filter_map, filter_map-append, Channel, Frame, Message, Sapi, Zero, Three, Notice, Role}
+use Rattle.lapdm_link.proofs.Words.{arith, Some, ◌≡◌, refl, Bool, true, false, ◌&&◌, List, [], ◌∷◌, ◌++◌, map, drop}
+use Rattle.lapdm_link.proofs.Words.{Option, None, append-nil, filter_map, filter_map-append, Channel, Frame, Message, Sapi, Notice, Role}
 use Rattle.lapdm_link.proofs.Words.{Mobile, Network, EndState, Outcome, start, Call, other, endpoint_in, with_endpoint_in, World, Line}
-use Rattle.lapdm_link.proofs.Words.{Asked, RivalSabm, Notified, is_same_role, is_same_sapi, call_in_line, notice_in_line, calls, notices}
-use Rattle.lapdm_link.proofs.Words.{Capacity, start_with_capacity}
-use Rattle.lapdm_window.specs.Sides.{SideState, link_in, with_link_in}
+use Rattle.lapdm_link.proofs.Words.{Asked, RivalSabm, Notified, is_same_role, is_same_sapi, call_in_line, notice_in_line, calls_in_log}
+use Rattle.lapdm_link.proofs.Words.{notices, QueueCapacity, initial_world}
+use Rattle.lapdm_window.specs.Sides.{SideState, endpoint_on, with_endpoint_on}
 use Rattle.lapdm_link.specs.Queues as W
 
 -- ---- names for the parts of a session's state
@@ -40,26 +40,24 @@ by_link P s h g s' = grind arith
 pub each_way : (P : Role → Type 0) (r : Role) → P r → P (other r) → (r' : Role) → P r'
 each_way P r h g r' = grind arith
 
-pub each_start : (P : Role → Sapi → EndState → Type 0) (capacity : Capacity) (channel : Channel) →
-    ((r : Role) (s : Sapi) → P r s (start r s channel)) → (r : Role) (s : Sapi) → P r s (end_of r s (start_with_capacity capacity channel))
+pub each_start : (P : Role → Sapi → EndState → Type 0) (capacity : QueueCapacity) (channel : Channel) →
+    ((r : Role) (s : Sapi) → P r s (start r s channel)) → (r : Role) (s : Sapi) → P r s (end_of r s (initial_world capacity channel))
 each_start P capacity channel h r s = grind arith
 
 -- a property of the endpoint that acted and of the other endpoint of its side holds of both endpoints of the side
 side_does : (P : Sapi → EndState → Type 0) (s : Sapi) (e : EndState) (side : SideState) → P s e →
-    ((s' : Sapi) → is_same_sapi s' s ≡ false → P s' (link_in s' side)) → (s' : Sapi) → P s' (link_in s' (with_link_in s e side))
-side_does P Zero e side h g Zero = h
-side_does P Zero e side h g Three = g Three refl
-side_does P Three e side h g Zero = g Zero refl
-side_does P Three e side h g Three = h
+    ((s' : Sapi) → is_same_sapi s' s ≡ false → P s' (endpoint_on s' side)) → (s' : Sapi) →
+    P s' (endpoint_on s' (with_endpoint_on s e side))
+side_does P s e side s' h g = grind arith
 
 -- a property of the endpoint that acted and of all others holds of all four endpoints
 pub ends_do : (P : Role → Sapi → EndState → Type 0) (r : Role) (s : Sapi) (o : Outcome) (w : World) → P r s o.after →
     ((r' : Role) (s' : Sapi) → is_end r' s' r s ≡ false → P r' s' (end_of r' s' w)) → (r' : Role) (s' : Sapi) →
     P r' s' (end_of r' s' (acted r s o w))
-ends_do P Mobile s o w h g Mobile s' = side_does (P Mobile) s o.after w.ends.mobile h (g Mobile) s'
-ends_do P Mobile s o w h g Network s' = g Network s' refl
-ends_do P Network s o w h g Mobile s' = g Mobile s' refl
-ends_do P Network s o w h g Network s' = side_does (P Network) s o.after w.ends.network h (g Network) s'
+ends_do P Mobile s o w h g Mobile s' = side_does (P Mobile) s o.after w.ends.mobile h (g _) s'
+ends_do P Mobile s o w h g Network s' = g _ s' refl
+ends_do P Network s o w h g Mobile s' = g _ s' refl
+ends_do P Network s o w h g Network s' = side_does (P Network) s o.after w.ends.network h (g _) s'
 
 pub way_does : (r : Role) (s : Sapi) (o : Outcome) (w : World) → way r (acted r s o w) ≡ way r w ++ o.frames
 way_does r s o w = grind arith
@@ -68,8 +66,8 @@ pub way_does-other : (r : Role) (s : Sapi) (o : Outcome) (w : World) → way (ot
 way_does-other r s o w = grind arith
 
 -- a property of each queue remains true after the oldest frame of one queue is removed
-pub each_lost : (P : Role → List Frame → Type 0) → ((r : Role) (fs : List Frame) → P r fs → P r (rest fs)) → (sender : Role) (w : World) →
-    ((r : Role) → P r (way r w)) → (r : Role) → P r (way r (without_first sender w))
+pub each_lost : (P : Role → List Frame → Type 0) → ((r : Role) (fs : List Frame) → P r fs → P r (rest fs)) →
+    (sender : Role) (w : World) → ((r : Role) → P r (way r w)) → (r : Role) → P r (way r (without_first sender w))
 each_lost P gone sender w h r = grind arith
 
 -- ---- log lines of one endpoint, and of the others
@@ -80,13 +78,11 @@ pub other_is : (r : Role) (s : Sapi) → is_end (other r) s r s ≡ false
 other_is r s = grind arith
 
 pub end_does : (r : Role) (s : Sapi) (o : Outcome) (w : World) → end_of r s (acted r s o w) ≡ o.after
-end_does r s o w = ends_do (λ r' s' e. is_end r' s' r s ≡ true → e ≡ o.after) r s o w (λ e. refl) (λ r' s' n e. cc (n, e)) r s
-    (is_end-self r s)
+end_does r s o w = grind arith
 
 pub end_does-else : (r : Role) (s : Sapi) (o : Outcome) (w : World) (r' : Role) (s' : Sapi) → is_end r' s' r s ≡ false →
     end_of r' s' (acted r s o w) ≡ end_of r' s' w
-end_does-else r s o w = ends_do (λ r' s' e. is_end r' s' r s ≡ false → e ≡ end_of r' s' w) r s o w (λ n. cc (n, is_end-self r s))
-    (λ r' s' n m. refl)
+end_does-else r s o w = grind arith
 
 pub link_else : (r' r : Role) (s' s : Sapi) → is_same_sapi s' s ≡ false → is_end r' s' r s ≡ false
 link_else r' r s' s h = grind arith
@@ -99,16 +95,16 @@ lines_of_step r s is cs ns = map RivalSabm is ++ said r s cs ns
 all_of : {T : Type 0} (pick : Line → Option T) (line : T → Line) → ((x : T) → pick (line x) ≡ Some x) → (xs : List T) →
     filter_map pick (map line xs) ≡ xs
 all_of pick line h [] = refl
-all_of pick line h (x ∷ xs) = rw (h x, all_of pick line h xs) refl
+all_of pick line h (x ∷ xs) = rw (h x, all_of pick _ h xs) refl
 
 none_of : {T X : Type 0} (pick : Line → Option T) (line : X → Line) → ((x : X) → pick (line x) ≡ None) → (xs : List X) →
     filter_map pick (map line xs) ≡ []
 none_of pick line h [] = refl
-none_of pick line h (x ∷ xs) = rw (h x) (none_of pick line h xs)
+none_of pick line h (x ∷ xs) = rw (h x) (none_of _ _ h xs)
 
 module _ (r : Role) (s : Sapi) (ls : List Line) (is : List Message) (cs : List Call) (ns : List Notice) where
-  pub calls-own : calls r s (ls ++ lines_of_step r s is cs ns) ≡ calls r s ls ++ cs
-  calls-own =
+  pub calls_in_log-own : calls_in_log r s (ls ++ lines_of_step r s is cs ns) ≡ calls_in_log r s ls ++ cs
+  calls_in_log-own =
       let asked = all_of (call_in_line r s) (Asked r s) (λ c. rw (is_end-self r s) refl) cs in
       simp (
         filter_map-append,
@@ -130,8 +126,8 @@ module _ (r : Role) (s : Sapi) (ls : List Line) (is : List Message) (cs : List C
       )
 
   module _ (r' : Role) (s' : Sapi) (e : is_end r' s' r s ≡ false) where
-    pub calls-else : calls r' s' (ls ++ lines_of_step r s is cs ns) ≡ calls r' s' ls
-    calls-else =
+    pub calls_in_log-else : calls_in_log r' s' (ls ++ lines_of_step r s is cs ns) ≡ calls_in_log r' s' ls
+    calls_in_log-else =
         let pick = call_in_line r' s' in let asked = none_of pick (Asked r s) (λ c. rw e refl) cs in
         simp (filter_map-append, append-nil, asked, none_of pick RivalSabm (λ i. refl), none_of pick (Notified r s) (λ n. refl))
 

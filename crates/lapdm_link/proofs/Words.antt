@@ -9,64 +9,113 @@ pub use Rattle.std.proofs.Common.{subst, suc, All, max, not, nat_lt, zero, ◌-�
 pub use Rattle.lapdm_window.specs.lapdm_frame.Content.{Content, I, Rr, Rej, Ui, Frame, Sabm, Ua, Disc, Dm, information}
 pub use Rattle.lapdm_window.specs.declared.Sapi.{Sapi}
 pub use Rattle.lapdm_window.specs.declared.Sapi.TheVariants.{Zero, Three}
-pub use Rattle.lapdm_window.specs.Ends.{sapi_number, EndState, Outcome, no_effect, sends_frame, ◌then◌, response, all_segments}
+pub use Rattle.lapdm_window.specs.Ends.{sapi_number, EndState, Outcome, no_effect, sends_frame, ◌then◌, response_frame, all_segments}
 pub use Rattle.lapdm_window.specs.Ends.{next_segment}
-pub use Rattle.lapdm_window.specs.Ends.{is_outstanding}
-pub use Rattle.lapdm_window.specs.Ends.{vr, Role, Mobile, Network, start, HasWindowOfOne, awaits_answer, awaits_answer_in, n200}
+pub use Rattle.lapdm_window.specs.Ends.{awaits_ack}
+pub use Rattle.lapdm_window.specs.Ends.{vr, Role, Mobile, Network, start, HasWindowOfOne, awaits_answer, awaits_answer_in_state, n200}
 pub use Rattle.lapdm_window.specs.Ends.{acked_message_count}
-pub use Rattle.lapdm_window.specs.Ends.{number_capped_at_64_bits}
+pub use Rattle.lapdm_window.specs.Ends.{capped_at_64_bits}
 pub use Rattle.lapdm_window.specs.Ends.{IsValidEndpoint}
-pub use Rattle.lapdm_link.specs.Claims.{is_same_sapi, Line, Asked, RivalSabm, Notified, is_same_role, call_in_line, notice_in_line, calls}
-pub use Rattle.lapdm_link.specs.Claims.{notices, notice_lines}
-pub use Rattle.lapdm_link.specs.Claims.{answer_lines, IsPrefix, OccursAfter, delivered_in_notice, delivered, acked_numbers, sent_messages}
-pub use Rattle.lapdm_link.specs.Claims.{IsSubsequence, unit_sent_by_call}
-pub use Rattle.lapdm_link.specs.Claims.{unit_in_notice, HasEstablishmentCause, opened_in_notice, OrderClaims, AckedAtMostDelivered, Claims}
-pub use Rattle.lapdm_link.specs.Claims.{sent_by_call}
-pub use Rattle.lapdm_link.specs.Claims.{acked_in_notice}
-pub use Rattle.lapdm_link.specs.Claims.{closed_in_notice}
-pub use Rattle.lapdm_link.specs.Claims.{establishments, closings, lines, NeedsOpenLink, IsOpenEndpoint}
+pub use Rattle.lapdm_link.specs.Claims.{
+  is_same_sapi,
+  Line,
+  Asked,
+  RivalSabm,
+  Notified,
+  is_same_role,
+  call_in_line,
+  notice_in_line,
+  calls_in_log,
+}
+pub use Rattle.lapdm_link.specs.Claims.{notices, notice_log_lines}
+pub use Rattle.lapdm_link.specs.Claims.{
+  answer_log_lines,
+  IsPrefix,
+  OccursAfter,
+  delivered_in_notice,
+  delivered_messages,
+  acked_numbers,
+  sent_messages,
+}
+pub use Rattle.lapdm_link.specs.Claims.{IsSubsequence, ui_message_of_call}
+pub use Rattle.lapdm_link.specs.Claims.{
+  ui_message_in_notice,
+  HasEstablishmentCause,
+  opened_info_in_notice,
+  IsOrderedLog,
+  AckedAtMostDelivered,
+  Claims,
+}
+pub use Rattle.lapdm_link.specs.Claims.{message_sent_by_call}
+pub use Rattle.lapdm_link.specs.Claims.{acked_number_in_notice}
+pub use Rattle.lapdm_link.specs.Claims.{notice_if_closed}
+pub use Rattle.lapdm_link.specs.Claims.{establishments, close_notices, lines, NeedsOpenLink, IsOpenEndpoint}
 pub use Rattle.std.proofs.lemmas.List.{length-append, take-append-le, take_more, append-nil, take-append-drop}
 pub use Rattle.std.proofs.Math.ListN.{get_or-append}
-pub use Rattle.lapdm_window.specs.segmenting.Segments.{Segment, Message, IsMessage, segments, max_message_octets, cut}
+pub use Rattle.lapdm_window.specs.segmenting.Segments.{Segment, Message, IsValidMessage, segments, max_message_octets, cut_segments}
 pub use Rattle.std.proofs.lemmas.Bool.Decides.{nat_tests}
 pub use Rattle.std.proofs.lemmas.List.Elements.{filter_map-append, Contains-append_left, Contains-push, All-nil, All-cons, All-head}
 pub use Rattle.std.proofs.lemmas.List.Elements.{All-tail, All-append, All-drop, All-take, All-push}
 pub use Rattle.lapdm_window.specs.declared.State.{State}
-pub use Rattle.lapdm_window.specs.Rules.{outstanding_frame, may_send_next, with_next_outstanding, sends_segment, sends_next, acknowledges}
-pub use Rattle.lapdm_window.specs.Rules.{with_acked}
-pub use Rattle.lapdm_window.specs.Rules.{reports_acked, counts, accepts_segment, sends_rr, answers_segment, reject_is_due, rejects_segment}
+pub use Rattle.lapdm_window.specs.Rules.{outstanding_frame, may_send_next, with_segment_sent, sends_segment, sends_next, acknowledges}
+pub use Rattle.lapdm_window.specs.Rules.{with_ack}
+pub use Rattle.lapdm_window.specs.Rules.{
+  reports_acked,
+  counts_acks,
+  accepts_segment,
+  sends_rr,
+  answers_segment,
+  reject_is_due,
+  rejects_segment,
+}
 pub use Rattle.lapdm_window.specs.Rules.{takes_i_frame}
-pub use Rattle.lapdm_window.specs.Rules.{answers_poll, takes_rr, sends_again, takes_rej, is_open, acked_number, segment_notices}
+pub use Rattle.lapdm_window.specs.Rules.{
+  answers_poll,
+  takes_rr,
+  resends_outstanding,
+  takes_rej,
+  is_open,
+  acked_message_number,
+  segment_notices,
+}
 pub use Rattle.std.proofs.lemmas.Bool.{false≢true}
 pub use Rattle.lapdm_window.specs.lapdm_frame.declared.Channel.{Channel}
 pub use Rattle.lapdm_window.specs.declared.Notice.{Notice}
-pub use Rattle.lapdm_window.specs.Calls.{Call, Opens, OpensBare, refusal_of, after_call, Sends, SendsUnit, Closes, T200Expires, SendsFill}
+pub use Rattle.lapdm_window.specs.Calls.{Call, Opens, OpensBare, refusal_of, call_outcome, Sends, SendsUnit, Closes, T200Expires, SendsFill}
 pub use Rattle.lapdm_window.specs.Calls.{is_idle}
-pub use Rattle.lapdm_window.specs.Calls.{message_refusals, frame_refusals, with_queued, repeated_frame, IsCallOfItsSapi}
+pub use Rattle.lapdm_window.specs.Calls.{message_refusals, frame_refusals, with_message, repeated_frame, IsCallOfItsSapi}
 pub use Rattle.lapdm_link.specs.Events.{other, side_in, with_side_in, step_of_both_sides, endpoint_in, with_endpoint_in, Request, Send}
 pub use Rattle.lapdm_link.specs.Events.{Event, Open, OpenBare}
-pub use Rattle.lapdm_link.specs.Events.{Ask, Deliver, Lose, Rival, rival_sabm, SideStep, does, does_nothing, side_step, BySide}
+pub use Rattle.lapdm_link.specs.Events.{Ask, Deliver, Lose, Rival, rival_sabm, SideStep, endpoint_step, no_op_step, event_step, BySide}
 pub use Rattle.lapdm_link.specs.Events.{EventRefusal}
-pub use Rattle.lapdm_link.specs.Events.{AirFull, as_refusal}
-pub use Rattle.lapdm_link.specs.Events.{refusal_if, rival_refusal, call_of, Ends, sender_of, without_removed, Close, T200Expiry}
-pub use Rattle.lapdm_link.specs.Worlds.{World, start_on, next_world, refusal, after_unless_refused, answer_unless_refused, answer}
+pub use Rattle.lapdm_link.specs.Events.{AirFull, as_event_refusal}
+pub use Rattle.lapdm_link.specs.Events.{refusal_if, rival_refusal, call_of, Ends, role_of_who, queues_after_removal, Close, T200Expiry}
+pub use Rattle.lapdm_link.specs.Worlds.{
+  World,
+  initial_session,
+  world_after_step,
+  refusal,
+  world_unless_refused,
+  answer_unless_refused,
+  answer,
+}
 pub use Rattle.lapdm_link.specs.Worlds.{world_after, answers}
-pub use Rattle.lapdm_link.specs.Worlds.{IsHarmlessEvent}
-pub use Rattle.lapdm_link.specs.Worlds.{IsHarmless, ArrivingFrameFits, SentFramesFit}
-pub use Rattle.lapdm_link.specs.Events.{Capacity}
-pub use Rattle.lapdm_link.specs.Worlds.{start_with_capacity}
+pub use Rattle.lapdm_link.specs.Worlds.{IsBenignEvent}
+pub use Rattle.lapdm_link.specs.Worlds.{IsBenign, ArrivingFrameFits, SentFramesFit}
+pub use Rattle.lapdm_link.specs.Events.{QueueCapacity}
+pub use Rattle.lapdm_link.specs.Worlds.{initial_world}
 pub use Rattle.lapdm_window.specs.declared.Refused.{Refused}
-pub use Rattle.lapdm_window.specs.Tables.{after_frame, closes_and_reports}
+pub use Rattle.lapdm_window.specs.Tables.{frame_outcome, closes_and_reports}
 pub use Rattle.lapdm_window.specs.lapdm_frame.Layout.{n201}
-pub use Rattle.lapdm_window.specs.segmenting.Joining.{ended_messages, messages, completed_count, unfinished_octets_after, unless_oversize}
-pub use Rattle.lapdm_window.specs.segmenting.Joining.{unfinished_octets}
+pub use Rattle.lapdm_window.specs.segmenting.Joining.{ended_messages, messages, message_count, partial_message_after, message_if_fits}
+pub use Rattle.lapdm_window.specs.segmenting.Joining.{partial_message}
 pub use Rattle.lapdm_window.proofs.segmenting.Lemmas.{ended_messages-all, ended_messages-append, ended-take, ended-ended_messages}
 pub use Rattle.lapdm_window.proofs.segmenting.Lemmas.{messages_of, ended_messages-more}
 pub use Rattle.lapdm_window.proofs.segmenting.Lemmas.{ended_messages-last}
 pub use Rattle.lapdm_link.specs.Queues.{IsOldestSentOrNone, Queues, with_appended, queue_of}
 pub use Rattle.lapdm_window.specs.Steps.{IsSameEndpoint}
 pub use Rattle.lapdm_window.proofs.Lemmas.{HasBegun, MayOpen, IsReplyTo, cause_of, by_sapi, acked_message_count-taken, all_segments-taken}
-pub use Rattle.lapdm_window.proofs.Lemmas.{HasWindowOfOne-taken, is_message, not_false, passes, is_idle-is, is_open-is}
+pub use Rattle.lapdm_window.proofs.Lemmas.{HasWindowOfOne-taken, is_valid_message, not_false, passes, is_idle-is, is_open-is}
 pub use Rattle.lapdm_window.proofs.Lemmas.{acked_message_count-more}
 pub use Rattle.lapdm_window.proofs.Lemmas.{acked_message_count-last, acked_message_count-most, HasWindowOfOne-acked, plain_fits, Keeps}
 pub use Rattle.lapdm_window.proofs.Lemmas.{keeps-frame}
@@ -77,5 +126,5 @@ pub use Rattle.lapdm_window.specs.declared.State.TheVariants.{Idle, Opening, Clo
 pub use Rattle.lapdm_window.specs.declared.Reason.{Reason}
 pub use Rattle.lapdm_window.specs.declared.Notice.TheVariants.{Acked}
 pub use Rattle.std.proofs.Math.Seq.{drop-append_seam}
-pub use Rattle.lapdm_window.specs.lapdm_frame.Frames.{Fits}
+pub use Rattle.lapdm_window.specs.lapdm_frame.Frames.{FrameFits}
 pub use Rattle.lapdm_window.specs.lapdm_frame.declared.Channel.TheVariants.{Sdcch}

@@ -1,10 +1,10 @@
 -- Worked examples of sessions, and for each claim a log that violates it.
-use Rattle.lapdm_link.proofs.Words.{◌≡◌, refl, arith, ℕ, false, List, [], ◌∷◌, ◌++◌, replicate, inl, inr, Option, Some, None, Sdcch, I, Ui}
-use Rattle.lapdm_link.proofs.Words.{Frame, Message, zero, suc, Contains, Zero, Three, Role, Mobile, Network, Opens, OpensBare, Sends}
-use Rattle.lapdm_link.proofs.Words.{SendsUnit, Closes, T200Expires, queue_of, Event, Send, Close, T200Expiry, Open, OpenBare, Ask, Deliver}
-use Rattle.lapdm_link.proofs.Words.{Lose, Rival, World, start_with_capacity, start_on, world_after, answers, IsHarmless, Line, Asked}
-use Rattle.lapdm_link.{proofs.Words.{RivalSabm, Notified, lines, Claims, OrderClaims, IsSubsequence}, specs.Events.SendUnit}
-use Rattle.lapdm_link.specs.Events.{unbounded_queues}
+use Rattle.lapdm_link.proofs.Words.{◌≡◌, refl, arith, ℕ, false, List, [], ◌∷◌, ◌++◌, replicate, inl, inr, Option, Some}
+use Rattle.lapdm_link.proofs.Words.{None, Sdcch, I, Ui, Frame, Message, zero, suc, Contains, Zero, Three, Role, Mobile, Network, Opens}
+use Rattle.lapdm_link.proofs.Words.{OpensBare, Sends, SendsUnit, Closes, T200Expires, queue_of, Event, Send, Close, T200Expiry, Open}
+use Rattle.lapdm_link.proofs.Words.{OpenBare, Ask, Deliver, Lose, Rival, World, initial_world, initial_session, world_after, answers}
+use Rattle.lapdm_link.proofs.Words.{IsBenign, Line, Asked, RivalSabm, Notified, lines, Claims, IsOrderedLog, IsSubsequence}
+use Rattle.lapdm_link.specs.Events.{SendUnit, unbounded_capacity}
 use Rattle.lapdm_window.specs.declared.Notice.TheVariants as N
 use Rattle.lapdm_window.specs.declared.Reason.TheVariants as R
 
@@ -26,15 +26,17 @@ played [] w = []
 played (move ∷ moves) w = event_of move w ∷ played moves (world_after (event_of move w) w)
 
 abbrev lines_of : List Event → List Line
-lines_of events = lines events (answers events (start_on Sdcch))
+lines_of events = lines events (answers events (initial_session Sdcch))
 
 abbrev notified : List Move → List Line
-notified moves = lines_of (played moves (start_on Sdcch))
+notified moves = lines_of (played moves (initial_session Sdcch))
 
 -- ---- contention: another mobile's SABM arrives first, so the UA has other information and this mobile gives up
 
-contention : notified (Happens (Rival (7 ∷ [])) ∷ Happens (Open (1 ∷ [])) ∷ Arrives Mobile ∷ Arrives Mobile ∷ Arrives Network ∷ [])
-    ≡ RivalSabm (7 ∷ []) ∷ Asked Mobile Zero (Opens (1 ∷ [])) ∷ Notified Network Zero (N.Opened (7 ∷ [])) ∷ Notified Mobile Zero
+contention : notified (Happens (Rival (7 ∷ [])) ∷ Happens (Open (1 ∷ [])) ∷ Arrives Mobile ∷ Arrives Mobile ∷ Arrives Network
+    ∷ [])
+    ≡ RivalSabm (7 ∷ []) ∷ Asked Mobile Zero (Opens (1 ∷ [])) ∷ Notified Network Zero (N.Opened (7 ∷ []))
+    ∷ Notified Mobile Zero
     (N.Closed R.Contention) ∷ []
 contention = refl
 
@@ -42,16 +44,19 @@ abbrev opening : List Move
 opening = Happens (Open (1 ∷ [])) ∷ Arrives Mobile ∷ Arrives Network ∷ []
 
 abbrev opened : List Line
-opened = Asked Mobile Zero (Opens (1 ∷ [])) ∷ Notified Network Zero (N.Opened (1 ∷ [])) ∷ Notified Mobile Zero (N.Opened (1 ∷ [])) ∷ []
+opened = Asked Mobile Zero (Opens (1 ∷ [])) ∷ Notified Network Zero (N.Opened (1 ∷ [])) ∷ Notified Mobile Zero (N.Opened (1 ∷ []))
+    ∷ []
 
 -- ---- a message of three segments: the second segment is lost, and is sent again at T200 expiry
 
 abbrev long : Message
 long = replicate 41 9
 
-segments : notified (opening ++ Happens (Ask Mobile Zero (Send long)) ∷ Arrives Mobile ∷ Arrives Network ∷ Happens (Lose Mobile) ∷ Happens
+segments : notified (opening ++ Happens (Ask Mobile Zero (Send long)) ∷ Arrives Mobile ∷ Arrives Network ∷ Happens (Lose Mobile)
+    ∷ Happens
     (Ask Mobile Zero T200Expiry) ∷ Arrives Mobile ∷ Arrives Network ∷ Arrives Mobile ∷ Arrives Network ∷ [])
-    ≡ opened ++ Asked Mobile Zero (Sends long) ∷ Asked Mobile Zero T200Expires ∷ Notified Network Zero (N.Got long) ∷ Notified Mobile Zero
+    ≡ opened ++ Asked Mobile Zero (Sends long) ∷ Asked Mobile Zero T200Expires ∷ Notified Network Zero (N.Got long)
+    ∷ Notified Mobile Zero
     (N.Acked 1) ∷ []
 segments = refl
 
@@ -62,7 +67,8 @@ crossing : notified (opening
     ++ Happens (Ask Mobile Zero (Send (5 ∷ []))) ∷ Happens (Ask Mobile Zero T200Expiry) ∷ Arrives Mobile ∷ Arrives Mobile ∷
     Happens (Ask Mobile Zero (Send (6 ∷ []))) ∷ Arrives Network ∷ Arrives Network
     ∷ Arrives Mobile ∷ Arrives Mobile ∷ Arrives Network ∷ Arrives Network ∷ [])
-    ≡ opened ++ Asked Mobile Zero (Sends (5 ∷ [])) ∷ Asked Mobile Zero T200Expires ∷ Notified Network Zero (N.Got (5 ∷ [])) ∷ Asked Mobile
+    ≡ opened ++ Asked Mobile Zero (Sends (5 ∷ [])) ∷ Asked Mobile Zero T200Expires ∷ Notified Network Zero (N.Got (5 ∷ []))
+    ∷ Asked Mobile
     Zero
     (Sends (6 ∷ [])) ∷ Notified Mobile Zero (N.Acked 1)
     ∷ Notified Network Zero (N.Got (6 ∷ [])) ∷ Notified Mobile Zero (N.Acked 2) ∷ []
@@ -70,7 +76,8 @@ crossing = refl
 
 -- ---- both sides establish SAPI 3 at the same time
 
-collision : notified (Happens (OpenBare Mobile) ∷ Happens (OpenBare Network) ∷ Arrives Mobile ∷ Arrives Network ∷ Arrives Mobile ∷ Arrives
+collision : notified (Happens (OpenBare Mobile) ∷ Happens (OpenBare Network) ∷ Arrives Mobile ∷ Arrives Network ∷ Arrives Mobile
+    ∷ Arrives
     Network ∷ Happens (Ask Mobile Three (Send (5 ∷ []))) ∷ Arrives Mobile ∷ Arrives Network ∷ [])
     ≡ Asked Mobile Three OpensBare ∷ Asked Network Three OpensBare ∷ Notified Network Three (N.Opened []) ∷ Notified Mobile Three
     (N.Opened []) ∷ Asked Mobile Three (Sends (5 ∷ []))
@@ -80,22 +87,24 @@ collision = refl
 -- ---- release
 
 release : notified (opening ++ Happens (Ask Mobile Zero Close) ∷ Arrives Mobile ∷ Arrives Network ∷ [])
-    ≡ opened ++ Asked Mobile Zero Closes ∷ Notified Network Zero (N.Closed R.Released) ∷ Notified Mobile Zero (N.Closed R.Released) ∷ []
+    ≡ opened ++ Asked Mobile Zero Closes ∷ Notified Network Zero (N.Closed R.Released) ∷ Notified Mobile Zero (N.Closed R.Released)
+    ∷ []
 release = refl
 
 -- ---- a session is benign if frames arrive as they were sent; if another message arrives in place of a frame, the claims about delivery
 -- fail
 
 abbrev sending : List Event
-sending = played (opening ++ Happens (Ask Mobile Zero (Send (2 ∷ []))) ∷ []) (start_on Sdcch)
+sending = played (opening ++ Happens (Ask Mobile Zero (Send (2 ∷ []))) ∷ []) (initial_session Sdcch)
 
 abbrev segment : ℕ → Frame
 segment octet = record { sapi = 0; cr = false; content = I 0 0 false false (octet ∷ []) }
 
-is_harmless : IsHarmless (sending ++ Deliver Mobile (Some (segment 2)) ∷ []) (start_on Sdcch)
+is_harmless : IsBenign (sending ++ Deliver Mobile (Some (segment 2)) ∷ []) (initial_session Sdcch)
 is_harmless = (tt, (refl, (refl, (tt, (refl, tt)))))
 
-forged : lines_of (sending ++ Deliver Mobile (Some (segment 3)) ∷ []) ≡ opened ++ Asked Mobile Zero (Sends (2 ∷ [])) ∷ Notified Network Zero
+forged : lines_of (sending ++ Deliver Mobile (Some (segment 3)) ∷ []) ≡ opened ++ Asked Mobile Zero (Sends (2 ∷ []))
+    ∷ Notified Network Zero
     (N.Got (3 ∷ [])) ∷ []
 forged = refl
 
@@ -116,7 +125,7 @@ abbrev notified_from : World → List Move → List Line
 notified_from w moves = let events = played moves w in lines events (answers events w)
 
 abbrev unbounded_world : World
-unbounded_world = start_with_capacity unbounded_queues Sdcch
+unbounded_world = initial_world unbounded_capacity Sdcch
 
 abbrev sends_unit : ℕ → Move
 sends_unit octet = Happens (Ask Mobile Zero (SendUnit (octet ∷ [])))
@@ -130,27 +139,32 @@ given_twice : notified_from unbounded_world (sends_unit 4 ∷ given 4 ∷ given 
 given_twice = refl
 
 given_twice_breaks : Claims (notified_from unbounded_world (sends_unit 4 ∷ given 4 ∷ given 4 ∷ [])) → ⊥
-given_twice_breaks h = none (h.units Mobile Zero)
+given_twice_breaks h = none (h.ui_in_order Mobile Zero)
   where
     none : IsSubsequence ((4 ∷ []) ∷ (4 ∷ []) ∷ []) ((4 ∷ []) ∷ []) → ⊥
-    none (inl same) = let e : (4 ∷ []) ∷ [] ≡ [] = same.1 in cc e
+    none (inl same) = let e = same.1 in cc e
     none (inr e) = cc e
 
-out_of_order : notified_from unbounded_world (sends_unit 4 ∷ sends_unit 5 ∷ given 5 ∷ given 4 ∷ []) ≡ Asked Mobile Zero (SendsUnit (4 ∷ []))
-    ∷ Asked Mobile Zero (SendsUnit (5 ∷ [])) ∷ Notified Network Zero (N.Unit (5 ∷ [])) ∷ Notified Network Zero (N.Unit (4 ∷ [])) ∷ []
+out_of_order : notified_from unbounded_world (sends_unit 4 ∷ sends_unit 5 ∷ given 5 ∷ given 4 ∷ []) ≡
+    Asked Mobile Zero (SendsUnit (4 ∷ []))
+    ∷ Asked Mobile Zero (SendsUnit (5 ∷ [])) ∷ Notified Network Zero (N.Unit (5 ∷ [])) ∷ Notified Network Zero (N.Unit (4 ∷ []))
+    ∷ []
 out_of_order = refl
 
 out_of_order_breaks : Claims (notified_from unbounded_world (sends_unit 4 ∷ sends_unit 5 ∷ given 5 ∷ given 4 ∷ [])) → ⊥
-out_of_order_breaks h = none (h.units Mobile Zero)
+out_of_order_breaks h = none (h.ui_in_order Mobile Zero)
   where
     none : IsSubsequence ((5 ∷ []) ∷ (4 ∷ []) ∷ []) ((4 ∷ []) ∷ (5 ∷ []) ∷ []) → ⊥
-    none (inl same) = let e : 5 ∷ [] ≡ 4 ∷ [] = same.0 in cc e
-    none (inr (inl same)) = let e : (4 ∷ []) ∷ [] ≡ [] = same.1 in cc e
+    none (inl same) = let e = same.0 in cc e
+    none (inr (inl same)) = let e = same.1 in cc e
     none (inr (inr e)) = cc e
 
 -- a state in which the network's UA from an earlier establishment is still in transit
 abbrev with_old_ua : World
-with_old_ua = record (start_on Sdcch) { queues = (moved (Happens (Open (1 ∷ [])) ∷ Arrives Mobile ∷ []) (start_on Sdcch)).queues }
+with_old_ua = record (initial_session Sdcch) {
+  queues = (moved (Happens (Open (1 ∷ [])) ∷ Arrives Mobile ∷ [])
+      (initial_session Sdcch)).queues;
+}
 
 stale_answer : notified_from with_old_ua (Happens (Open (1 ∷ [])) ∷ Arrives Network ∷ []) ≡ Asked Mobile Zero (Opens
     (1 ∷ [])) ∷ Notified Mobile
@@ -168,15 +182,16 @@ stale_answer_breaks h =
 
 -- a state in which both endpoints are open before the session begins
 abbrev restored : World
-restored = record (start_on Sdcch) { ends = (moved opening (start_on Sdcch)).ends }
+restored = record (initial_session Sdcch) { ends = (moved opening (initial_session Sdcch)).ends }
 
-open_before : notified_from restored (Happens (Ask Mobile Zero (Send (2 ∷ []))) ∷ Arrives Mobile ∷ []) ≡ Asked Mobile Zero (Sends (2 ∷ []))
+open_before : notified_from restored (Happens (Ask Mobile Zero (Send (2 ∷ []))) ∷ Arrives Mobile ∷ []) ≡
+    Asked Mobile Zero (Sends (2 ∷ []))
     ∷ Notified Network Zero (N.Got (2 ∷ [])) ∷ []
 open_before = refl
 
-open_before_breaks : OrderClaims (notified_from restored (Happens (Ask Mobile Zero (Send (2 ∷ []))) ∷ Arrives Mobile ∷ [])) → ⊥
+open_before_breaks : IsOrderedLog (notified_from restored (Happens (Ask Mobile Zero (Send (2 ∷ []))) ∷ Arrives Mobile ∷ [])) → ⊥
 open_before_breaks h =
-    omega (arith, (h.inside Network Zero (N.Got (2 ∷ [])) (Asked Mobile Zero (Sends (2 ∷ [])) ∷ []) tt ([], refl)).opened)
+    omega (arith, (h.only_while_open Network Zero (N.Got (2 ∷ [])) (Asked Mobile Zero (Sends (2 ∷ [])) ∷ []) tt ([], refl)).opened)
 
 -- ---- logs that violate the other claims about delivery
 
@@ -184,13 +199,13 @@ early_acknowledgement : Claims (Notified Mobile Zero (N.Acked 1) ∷ []) → ⊥
 early_acknowledgement h = omega (arith, (h.acknowledged Mobile Zero 1 [] ([], refl)).1)
 
 unit_from_nowhere : Claims (Notified Network Zero (N.Unit (3 ∷ [])) ∷ []) → ⊥
-unit_from_nowhere h = no_such ((3 ∷ []) ∷ []) refl (h.units Mobile Zero)
+unit_from_nowhere h = no_such ((3 ∷ []) ∷ []) refl (h.ui_in_order Mobile Zero)
   where
     no_such : (ms : List Message) → ms ≡ (3 ∷ []) ∷ [] → ms ≡ [] → ⊥
     no_such ms e g = cc (e, g)
 
 opened_alone : Claims (Notified Mobile Zero (N.Opened (1 ∷ [])) ∷ []) → ⊥
-opened_alone h = (let cause = h.cause Mobile Zero (1 ∷ []) [] ([], refl) in omega (arith, cause.0.1))
+opened_alone h = (let cause = h.cause _ _ _ [] ([], refl) in omega (arith, cause.0.1))
 
 opened_by_nobody : Claims (Notified Network Zero (N.Opened (1 ∷ [])) ∷ []) → ⊥
 opened_by_nobody h = elim (h.cause Network Zero (1 ∷ []) [] ([], refl)) [
@@ -205,40 +220,41 @@ opened_unasked h = elim (h.cause Mobile Three [] [] ([], refl)) [
 ]
 
 opened_twice : Claims (Notified Mobile Zero (N.Opened []) ∷ Notified Mobile Zero (N.Opened []) ∷ []) → ⊥
-opened_twice h = omega (arith, h.once Mobile Zero)
+opened_twice h = omega (arith, h.established_once Mobile Zero)
 
 too_long : Claims (Notified Mobile Zero N.Oversize ∷ []) → ⊥
 too_long h = h.no_oversize Mobile Zero [] ([], refl)
 
 -- ---- logs that violate the claims about order
 
-acknowledged_unsent : OrderClaims (Notified Mobile Zero (N.Acked 1) ∷ []) → ⊥
+acknowledged_unsent : IsOrderedLog (Notified Mobile Zero (N.Acked 1) ∷ []) → ⊥
 acknowledged_unsent h = omega (arith, (h.acknowledged Mobile Zero 1 [] ([], refl)).1)
 
-wrong_number : OrderClaims (Asked Mobile Zero (Sends []) ∷ Notified Mobile Zero (N.Acked 2) ∷ []) → ⊥
+wrong_number : IsOrderedLog (Asked Mobile Zero (Sends []) ∷ Notified Mobile Zero (N.Acked 2) ∷ []) → ⊥
 wrong_number h = not_one 2 (h.acknowledged Mobile Zero 2 (Asked Mobile Zero (Sends []) ∷ []) ([], refl)).0 refl
   where
     not_one : (n : ℕ) → n ≡ 1 → n ≡ 2 → ⊥
     not_one n h g = omega (arith, h, g)
 
-opened_again : OrderClaims (Notified Mobile Zero (N.Opened []) ∷ Notified Mobile Zero (N.Opened []) ∷ []) → ⊥
+opened_again : IsOrderedLog (Notified Mobile Zero (N.Opened []) ∷ Notified Mobile Zero (N.Opened []) ∷ []) → ⊥
 opened_again h = omega (arith, h.established_once Mobile Zero)
 
-closed_again : OrderClaims (Notified Mobile Zero (N.Closed R.Failed) ∷ Notified Mobile Zero (N.Closed R.Failed) ∷ []) → ⊥
+closed_again : IsOrderedLog (Notified Mobile Zero (N.Closed R.Failed) ∷ Notified Mobile Zero (N.Closed R.Failed) ∷ []) → ⊥
 closed_again h = omega (arith, h.closed_once Mobile Zero)
 
-delivered_unopened : OrderClaims (Notified Mobile Zero (N.Got []) ∷ []) → ⊥
-delivered_unopened h = omega (arith, (h.inside Mobile Zero (N.Got []) [] tt ([], refl)).opened)
+delivered_unopened : IsOrderedLog (Notified Mobile Zero (N.Got []) ∷ []) → ⊥
+delivered_unopened h = omega (arith, (h.only_while_open Mobile Zero (N.Got []) [] tt ([], refl)).opened)
 
 abbrev an_open_end : List Line
 an_open_end = Notified Mobile Zero (N.Opened []) ∷ []
 
-delivered_when_closed : OrderClaims (an_open_end ++ Notified Mobile Zero (N.Closed R.Failed) ∷ Notified Mobile Zero (N.Got []) ∷ []) → ⊥
+delivered_when_closed : IsOrderedLog (an_open_end ++ Notified Mobile Zero (N.Closed R.Failed) ∷ Notified Mobile Zero (N.Got [])
+    ∷ []) → ⊥
 delivered_when_closed h =
     let before = an_open_end ++ Notified Mobile Zero (N.Closed R.Failed) ∷ [] in
-    (h.inside Mobile Zero (N.Got []) before tt ([], refl)).closed R.Failed (1, omega arith, refl)
+    (h.only_while_open _ _ _ before tt ([], refl)).closed R.Failed (1, omega arith, refl)
 
-delivered_when_closing : OrderClaims (an_open_end ++ Asked Mobile Zero Closes ∷ Notified Mobile Zero (N.Got []) ∷ []) → ⊥
+delivered_when_closing : IsOrderedLog (an_open_end ++ Asked Mobile Zero Closes ∷ Notified Mobile Zero (N.Got []) ∷ []) → ⊥
 delivered_when_closing h =
     let before = an_open_end ++ Asked Mobile Zero Closes ∷ [] in
-    (h.inside Mobile Zero (N.Got []) before tt ([], refl)).asked (1, omega arith, refl)
+    (h.only_while_open _ _ _ before tt ([], refl)).asked (1, omega arith, refl)

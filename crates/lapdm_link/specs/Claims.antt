@@ -1,5 +1,5 @@
--- The claims about a session of two sides, stated over its log: the calls made and the notices reported, in order. Each claim covers both
--- endpoints of both links (SAPI 0 and 3).
+-- Claims about a session between a mobile and a network, stated over its log, which lists the calls made and the notices reported in order.
+-- Each claim covers both endpoints of both links (SAPI 0 and 3).
 use Rattle.std.specs.Prelude.{◌≡◌, ℕ, ◌+◌, ◌≤◌, Bool, true, false, ◌&&◌, if◌then◌else◌, nat_eq, List, []}
 use Rattle.std.specs.Prelude.{◌∷◌, ◌++◌, map, length, Option, Some, None, Contains, ◌⊎◌}
 use Rattle.std.specs.List.{filter_map}
@@ -9,10 +9,10 @@ use Rattle.lapdm_window.specs.declared.Sapi.TheVariants.{Zero, Three}
 use Rattle.lapdm_window.specs.declared.Reason.{Reason}
 use Rattle.lapdm_window.specs.declared.Notice.{Notice}
 use Rattle.lapdm_window.specs.declared.Notice.TheVariants as N
-use Rattle.lapdm_window.specs.Ends.{Role, Mobile, Network, sapi_number, number_capped_at_64_bits}
+use Rattle.lapdm_window.specs.Ends.{Role, Mobile, Network, sapi_number, capped_at_64_bits}
 pub use Rattle.lapdm_window.specs.Steps.{delivered_in_notice}
 use Rattle.lapdm_window.specs.Calls.{Call, Opens, OpensBare, Sends, SendsUnit, Closes}
-use Rattle.lapdm_link.specs.Events.{EventBy, Open, OpenBare, Ask, Rival, Answer, Refuses, Does, Who, BySide, call_of, other}
+use Rattle.lapdm_link.specs.Events.{EventWith, Open, OpenBare, Ask, Rival, Answer, Refuses, Does, Who, BySide, call_of, other}
 
 -- a line of the log: a call that was not refused, a SABM sent by another mobile, or a notice that an endpoint reported
 pub data Line : Type 0 where
@@ -20,27 +20,27 @@ pub data Line : Type 0 where
   RivalSabm : Message → Line
   Notified : Role → Sapi → Notice → Line
 
--- the log line of an event: its call, or the SABM of another mobile; other events have none
-abbrev pub event_lines : {Manner : Type 0} → EventBy Manner → List Line
-event_lines (Open info) = Asked Mobile Zero (Opens info) ∷ []
-event_lines (OpenBare role) = Asked role Three OpensBare ∷ []
-event_lines (Ask role sapi request) = Asked role sapi (call_of request) ∷ []
-event_lines (Rival info) = RivalSabm info ∷ []
-event_lines other = []
+-- the log lines of an event: one for a layer 3 call or for the SABM of another mobile, none for any other event
+abbrev pub event_log_lines : {Arrival : Type 0} → EventWith Arrival → List Line
+event_log_lines (Open info) = Asked Mobile Zero (Opens info) ∷ []
+event_log_lines (OpenBare role) = Asked role Three OpensBare ∷ []
+event_log_lines (Ask role sapi request) = Asked role sapi (call_of request) ∷ []
+event_log_lines (Rival info) = RivalSabm info ∷ []
+event_log_lines other = []
 
--- the log lines of the notices that a step reports
-abbrev pub notice_lines : Who → Sapi → List Notice → List Line
-notice_lines (BySide role) sapi ns = map (Notified role sapi) ns
-notice_lines who sapi ns = []
+-- the log lines of the notices that a side reports in a step; if another mobile or nobody acts, there are none
+abbrev pub notice_log_lines : Who → Sapi → List Notice → List Line
+notice_log_lines (BySide role) sapi ns = map (Notified role sapi) ns
+notice_log_lines who sapi ns = []
 
--- the log lines of an event and its answer: the event first, then the notices; a refused event has no lines
-abbrev pub answer_lines : {Manner : Type 0} → EventBy Manner → Answer → List Line
-answer_lines event (Refuses why) = []
-answer_lines event (Does who sapi frames notices) = event_lines event ++ notice_lines who sapi notices
+-- the log lines of an event and its answer: first the event, then the notices; a refused event has no lines
+abbrev pub answer_log_lines : {Arrival : Type 0} → EventWith Arrival → Answer → List Line
+answer_log_lines event (Refuses why) = []
+answer_log_lines event (Does who sapi frames notices) = event_log_lines event ++ notice_log_lines who sapi notices
 
--- the log of a session
-abbrev pub lines : {Manner : Type 0} → List (EventBy Manner) → List Answer → List Line
-lines (event ∷ events) (answer ∷ answers) = answer_lines event answer ++ lines events answers
+-- the log of a session with these events and answers
+abbrev pub lines : {Arrival : Type 0} → List (EventWith Arrival) → List Answer → List Line
+lines (event ∷ events) (answer ∷ answers) = answer_log_lines event answer ++ lines events answers
 lines events answers = []
 
 -- whether the two roles are equal
@@ -53,101 +53,109 @@ is_same_role r r' = false
 abbrev pub is_same_sapi : Sapi → Sapi → Bool
 is_same_sapi s s' = nat_eq (sapi_number s') (sapi_number s)
 
--- the call (below: the notice) in this log line, if it belongs to the endpoint with this role and SAPI
+-- the call in this log line, if it is a call to the endpoint with this role and SAPI
 abbrev pub call_in_line : Role → Sapi → Line → Option Call
 call_in_line r s (Asked role sapi call) = if is_same_role r role && is_same_sapi s sapi then Some call else None
 call_in_line r s other = None
 
+-- the notice in this log line, if the endpoint with this role and SAPI reported it
 abbrev pub notice_in_line : Role → Sapi → Line → Option Notice
 notice_in_line r s (Notified role sapi notice) = if is_same_role r role && is_same_sapi s sapi then Some notice else None
 notice_in_line r s other = None
 
--- all calls (below: all notices) of the endpoint with this role and SAPI, in order
-abbrev pub calls : Role → Sapi → List Line → List Call
-calls r s ls = filter_map (call_in_line r s) ls
+-- all calls in the log to the endpoint with this role and SAPI, in order
+abbrev pub calls_in_log : Role → Sapi → List Line → List Call
+calls_in_log r s ls = filter_map (call_in_line r s) ls
 
+-- all notices in the log from the endpoint with this role and SAPI, in order
 abbrev pub notices : Role → Sapi → List Line → List Notice
 notices r s ls = filter_map (notice_in_line r s) ls
 
--- what a call or a notice carries, or `None` if it is of another kind: in turn a message sent, a UI message sent, a UI message received,
--- the number of an acknowledged message, the information of an establishment, and a closing
-abbrev pub sent_by_call : Call → Option Message
-sent_by_call (Sends m) = Some m
-sent_by_call other = None
+-- the message that a call sends in I frames, or `None` for any other call
+abbrev pub message_sent_by_call : Call → Option Message
+message_sent_by_call (Sends m) = Some m
+message_sent_by_call other = None
 
-abbrev pub unit_sent_by_call : Call → Option Message
-unit_sent_by_call (SendsUnit m) = Some m
-unit_sent_by_call other = None
+-- the message that a call sends in a UI frame, or `None` for any other call
+abbrev pub ui_message_of_call : Call → Option Message
+ui_message_of_call (SendsUnit m) = Some m
+ui_message_of_call other = None
 
-abbrev pub unit_in_notice : Notice → Option Message
-unit_in_notice (N.Unit m) = Some m
-unit_in_notice other = None
+-- the message from a UI frame that a notice delivers, or `None` for any other notice
+abbrev pub ui_message_in_notice : Notice → Option Message
+ui_message_in_notice (N.Unit m) = Some m
+ui_message_in_notice other = None
 
-abbrev pub acked_in_notice : Notice → Option ℕ
-acked_in_notice (N.Acked n) = Some n
-acked_in_notice other = None
+-- the number of the message that a notice reports as acknowledged, or `None` for any other notice
+abbrev pub acked_number_in_notice : Notice → Option ℕ
+acked_number_in_notice (N.Acked n) = Some n
+acked_number_in_notice other = None
 
-abbrev pub opened_in_notice : Notice → Option Message
-opened_in_notice (N.Opened info) = Some info
-opened_in_notice other = None
+-- the information with which a notice reports the establishment of the link, or `None` for any other notice
+abbrev pub opened_info_in_notice : Notice → Option Message
+opened_info_in_notice (N.Opened info) = Some info
+opened_info_in_notice other = None
 
-abbrev pub closed_in_notice : Notice → Option Notice
-closed_in_notice (N.Closed reason) = Some (N.Closed reason)
-closed_in_notice other = None
+-- the notice itself if it reports that the link is closed, otherwise `None`
+abbrev pub notice_if_closed : Notice → Option Notice
+notice_if_closed (N.Closed reason) = Some (N.Closed reason)
+notice_if_closed other = None
 
--- whether the line belongs to the link with this SAPI; a SABM of another mobile belongs to SAPI 0
-abbrev pub is_line_of_link : Sapi → Line → Bool
-is_line_of_link s (Asked role sapi call) = is_same_sapi s sapi
-is_line_of_link s (RivalSabm info) = is_same_sapi s Zero
-is_line_of_link s (Notified role sapi notice) = is_same_sapi s sapi
+-- whether the log line belongs to the link with this SAPI; the SABM of another mobile belongs to SAPI 0
+abbrev pub is_log_line_of_sapi : Sapi → Line → Bool
+is_log_line_of_sapi s (Asked role sapi call) = is_same_sapi s sapi
+is_log_line_of_sapi s (RivalSabm info) = is_same_sapi s Zero
+is_log_line_of_sapi s (Notified role sapi notice) = is_same_sapi s sapi
 
 -- the log lines that belong to the link with this SAPI
-abbrev pub lines_of_link : Sapi → List Line → List Line
-lines_of_link s ls = filter_map (λ l. if is_line_of_link s l then Some l else None) ls
+abbrev pub log_lines_of_sapi : Sapi → List Line → List Line
+log_lines_of_sapi s ls = filter_map (λ l. if is_log_line_of_sapi s l then Some l else None) ls
 
--- the messages that layer 3 sent at an endpoint, in order
+-- the messages that layer 3 sends in I frames at the endpoint with this role and SAPI, in order
 abbrev pub sent_messages : Role → Sapi → List Line → List Message
-sent_messages r s ls = filter_map sent_by_call (calls r s ls)
+sent_messages r s ls = filter_map message_sent_by_call (calls_in_log r s ls)
 
--- the messages that an endpoint delivered to layer 3, in order
-abbrev pub delivered : Role → Sapi → List Line → List Message
-delivered r s ls = filter_map delivered_in_notice (notices r s ls)
+-- the messages from I frames that the endpoint with this role and SAPI delivers to layer 3, in order
+abbrev pub delivered_messages : Role → Sapi → List Line → List Message
+delivered_messages r s ls = filter_map delivered_in_notice (notices r s ls)
 
--- the messages that an endpoint sent in UI frames and those that it received in UI frames, each in order
-abbrev pub units_sent : Role → Sapi → List Line → List Message
-units_sent r s ls = filter_map unit_sent_by_call (calls r s ls)
+-- the messages that layer 3 sends in UI frames at the endpoint with this role and SAPI, in order
+abbrev pub ui_messages_sent : Role → Sapi → List Line → List Message
+ui_messages_sent r s ls = filter_map ui_message_of_call (calls_in_log r s ls)
 
-abbrev pub units_delivered : Role → Sapi → List Line → List Message
-units_delivered r s ls = filter_map unit_in_notice (notices r s ls)
+-- the messages from UI frames that the endpoint with this role and SAPI delivers to layer 3, in order
+abbrev pub ui_messages_delivered : Role → Sapi → List Line → List Message
+ui_messages_delivered r s ls = filter_map ui_message_in_notice (notices r s ls)
 
--- the numbers of the messages that an endpoint reported as acknowledged, in order
+-- the numbers of the messages that the endpoint with this role and SAPI reports as acknowledged, in order
 abbrev pub acked_numbers : Role → Sapi → List Line → List ℕ
-acked_numbers r s ls = filter_map acked_in_notice (notices r s ls)
+acked_numbers r s ls = filter_map acked_number_in_notice (notices r s ls)
 
--- the establishments that an endpoint reported and the closings that it reported, each in order
+-- the information in each establishment that the endpoint with this role and SAPI reports, in order
 abbrev pub establishments : Role → Sapi → List Line → List Message
-establishments r s ls = filter_map opened_in_notice (notices r s ls)
+establishments r s ls = filter_map opened_info_in_notice (notices r s ls)
 
-abbrev pub closings : Role → Sapi → List Line → List Notice
-closings r s ls = filter_map closed_in_notice (notices r s ls)
+-- the notices with which the endpoint with this role and SAPI reports that its link is closed, in order
+abbrev pub close_notices : Role → Sapi → List Line → List Notice
+close_notices r s ls = filter_map notice_if_closed (notices r s ls)
 
--- xs is a prefix of ys
+-- the first list is a prefix of the second
 abbrev pub IsPrefix : {T : Type 0} → List T → List T → Type 0
 IsPrefix {T} xs ys = (more : List T) × (xs ++ more ≡ ys)
 
--- the first list is the second with some elements left out
+-- the first list is a subsequence of the second, that is, the second with some elements possibly left out
 abbrev pub IsSubsequence : List Message → List Message → Type 0
 IsSubsequence xs [] = xs ≡ []
 IsSubsequence [] (y ∷ ys) = Unit {0}
 IsSubsequence (x ∷ xs) (y ∷ ys) = ((x ≡ y) × IsSubsequence xs ys) ⊎ IsSubsequence (x ∷ xs) ys
 
--- the line is in the log ls, and exactly the lines `before` come before it
+-- the line occurs in the log, preceded by exactly the lines given first
 abbrev pub OccursAfter : List Line → Line → List Line → Type 0
 OccursAfter before line ls = (more : List Line) × (before ++ line ∷ more ≡ ls)
 
--- what must come before an endpoint reports an establishment. Mobile, SAPI 0: its own call, and the same establishment reported by the
--- network (section 5.4.1.4). Network, SAPI 0: the mobile's call or a SABM of another mobile. SAPI 3: the other endpoint's call, or its own
--- call and the establishment reported by the other endpoint.
+-- what must precede the report of an establishment in the log. On the mobile, SAPI 0: its own call and the network's report of the same
+-- establishment (section 5.4.1.4). On the network, SAPI 0: the mobile's call or the SABM of another mobile. On SAPI 3: the peer's call, or
+-- the endpoint's own call and the peer's report.
 abbrev pub HasEstablishmentCause : Role → Sapi → Message → List Line → Type 0
 HasEstablishmentCause Mobile Zero info before = Contains before (Notified Network Zero (N.Opened info))
     × Contains before (Asked Mobile Zero (Opens info))
@@ -156,47 +164,49 @@ HasEstablishmentCause r Three info before =
     Contains before (Asked (other r) Three OpensBare) ⊎ (Contains before (Asked r Three OpensBare)
     × Contains before (Notified (other r) Three (N.Opened [])))
 
--- The claims about delivery, for sessions in which each frame arrives in order and as it was sent, or is lost. For each endpoint r of each
--- link s: the other endpoint delivers a prefix of the messages sent at r; r numbers its acknowledgements 1, 2, .. (up to 2^64 - 1), and the
--- other endpoint has delivered at least as many messages before each; the UI messages that arrive are a subsequence of those sent at r; r
--- is established at most once, and only after its cause; and no message is oversize.
+-- The claims about delivery, for sessions in which each frame arrives in order and unchanged, or is lost. For each endpoint, its peer
+-- delivers a prefix of the messages sent; acknowledgements are numbered 1, 2, ... (up to 2^64 - 1), and each message is delivered before it
+-- is acknowledged; the UI messages that arrive are a subsequence of those sent; the link is established at most once, and only with a
+-- cause; and no message is oversize.
 pub record Claims (ls : List Line) : Type 0 where
-  pub in_order : (r : Role) (s : Sapi) → IsPrefix (delivered (other r) s ls) (sent_messages r s ls)
+  pub in_order : (r : Role) (s : Sapi) → IsPrefix (delivered_messages (other r) s ls) (sent_messages r s ls)
   pub acknowledged : (r : Role) (s : Sapi) (n : ℕ) (before : List Line) → OccursAfter before (Notified r s (N.Acked n)) ls →
-      (n ≡ number_capped_at_64_bits (length (acked_numbers r s before) + 1))
-      × (length (acked_numbers r s before) + 1 ≤ length (delivered (other r) s before))
-  pub units : (r : Role) (s : Sapi) → IsSubsequence (units_delivered (other r) s ls) (units_sent r s ls)
+      (n ≡ capped_at_64_bits (length (acked_numbers r s before) + 1))
+      × (length (acked_numbers r s before) + 1 ≤ length (delivered_messages (other r) s before))
+  pub ui_in_order : (r : Role) (s : Sapi) → IsSubsequence (ui_messages_delivered (other r) s ls) (ui_messages_sent r s ls)
   pub cause : (r : Role) (s : Sapi) (info : Message) (before : List Line) → OccursAfter before (Notified r s (N.Opened info)) ls →
       HasEstablishmentCause r s info before
-  pub once : (r : Role) (s : Sapi) → length (establishments r s ls) ≤ 1
+  pub established_once : (r : Role) (s : Sapi) → length (establishments r s ls) ≤ 1
   pub no_oversize : (r : Role) (s : Sapi) (before : List Line) → ¬ OccursAfter before (Notified r s N.Oversize) ls
 
--- only an endpoint in Open can report this notice: a delivered message, an acknowledgement, or an oversize message
+-- the notice can only come from an endpoint in Open: it delivers a message from I frames, reports an acknowledgement, or reports an
+-- oversize message
 abbrev pub NeedsOpenLink : Notice → Type 0
 NeedsOpenLink (N.Got m) = Unit {0}
 NeedsOpenLink (N.Acked n) = Unit {0}
 NeedsOpenLink N.Oversize = Unit {0}
 NeedsOpenLink other = ⊥
 
--- the endpoint was established, and has neither reported a closing nor been asked to release the link
+-- according to the log `before`, the link was established once at this endpoint, which has neither reported it closed nor been asked to
+-- release it
 pub record IsOpenEndpoint (r : Role) (s : Sapi) (before : List Line) : Type 0 where
   pub opened : length (establishments r s before) ≡ 1
   pub closed : (reason : Reason) → ¬ Contains before (Notified r s (N.Closed reason))
   pub asked : ¬ Contains before (Asked r s Closes)
 
--- The claims about order, for all sessions, whatever frames arrive. For each endpoint r of each link s: r numbers its acknowledgements 1,
--- 2, .., and at least as many messages were sent at r before each; r is established at most once and closed at most once; and it reports
--- deliveries, acknowledgements and oversize messages only while its link is open.
-pub record OrderClaims (ls : List Line) : Type 0 where
+-- The claims about order, for all sessions, whatever frames arrive. For each endpoint, acknowledgements are numbered 1, 2, ..., and each
+-- message is sent before it is acknowledged; the link is established at most once and closed at most once; and deliveries, acknowledgements
+-- and oversize messages are reported only while the link is open.
+pub record IsOrderedLog (ls : List Line) : Type 0 where
   pub acknowledged : (r : Role) (s : Sapi) (n : ℕ) (before : List Line) → OccursAfter before (Notified r s (N.Acked n)) ls →
-      (n ≡ number_capped_at_64_bits (length (acked_numbers r s before) + 1))
+      (n ≡ capped_at_64_bits (length (acked_numbers r s before) + 1))
       × (length (acked_numbers r s before) + 1 ≤ length (sent_messages r s before))
   pub established_once : (r : Role) (s : Sapi) → length (establishments r s ls) ≤ 1
-  pub closed_once : (r : Role) (s : Sapi) → length (closings r s ls) ≤ 1
-  pub inside : (r : Role) (s : Sapi) (notice : Notice) (before : List Line) → NeedsOpenLink notice →
+  pub closed_once : (r : Role) (s : Sapi) → length (close_notices r s ls) ≤ 1
+  pub only_while_open : (r : Role) (s : Sapi) (notice : Notice) (before : List Line) → NeedsOpenLink notice →
       OccursAfter before (Notified r s notice) ls →
       IsOpenEndpoint r s before
 
--- no endpoint has more messages acknowledged than the other endpoint of its link has delivered
+-- no endpoint has more messages acknowledged than its peer has delivered
 abbrev pub AckedAtMostDelivered : List Line → Type 0
-AckedAtMostDelivered ls = (r : Role) (s : Sapi) → length (acked_numbers r s ls) ≤ length (delivered (other r) s ls)
+AckedAtMostDelivered ls = (r : Role) (s : Sapi) → length (acked_numbers r s ls) ≤ length (delivered_messages (other r) s ls)

@@ -3,7 +3,7 @@
 use Rattle.std.specs.Prelude.{◌≡◌, ℕ, List, [], ◌∷◌, ◌++◌, length, drop, Option, Some, None}
 use Rattle.lapdm_window.specs.Ends.{Role, Mobile, Network}
 
--- both queues
+-- the queues of both directions
 pub record Queues (T : Type 0) : Type 0 where
   pub up : List T
   pub down : List T
@@ -17,7 +17,7 @@ abbrev pub queue_of : {T : Type 0} → Role → Queues T → List T
 queue_of Mobile ws = ws.up
 queue_of Network ws = ws.down
 
--- the queues with the queue of this side replaced by xs
+-- the queues, with the queue of this side replaced by the given items
 abbrev pub with_queue : {T : Type 0} → Role → List T → Queues T → Queues T
 with_queue Mobile xs ws = record ws { up = xs }
 with_queue Network xs ws = record ws { down = xs }
@@ -26,7 +26,7 @@ with_queue Network xs ws = record ws { down = xs }
 abbrev pub without_first : {T : Type 0} → Role → Queues T → Queues T
 without_first sender ws = with_queue sender (drop 1 (queue_of sender ws)) ws
 
--- the queues with the items xs appended to the queue of this side
+-- the queues, with the given items appended to the queue of this side
 abbrev pub with_appended : {T : Type 0} → Role → List T → Queues T → Queues T
 with_appended sender xs ws = with_queue sender (queue_of sender ws ++ xs) ws
 
@@ -34,7 +34,7 @@ with_appended sender xs ws = with_queue sender (queue_of sender ws ++ xs) ws
 abbrev pub count : {T : Type 0} → Queues T → Role → ℕ
 count ws sender = length (queue_of sender ws)
 
--- the item that arrives is the oldest item that was sent; `None` means that nothing arrives
+-- the arriving item, if there is one, is the first in this list, that is, the oldest item in transit
 abbrev pub IsOldestSentOrNone : {T : Type 0} → Option T → List T → Type 0
 IsOldestSentOrNone None sent = Unit {0}
 IsOldestSentOrNone (Some x) [] = ⊥

@@ -5,56 +5,58 @@
 ghost use Rattle.std.specs.Prelude.{All, List};
 ghost use Rattle.lapdm_window.specs.declared.Sapi.TheVariants.{Zero, Three};
 ghost use Rattle.lapdm_window.specs.lapdm_frame.declared.Channel.{Channel};
-ghost use Rattle.lapdm_link.specs.Events.{Capacity, Event};
-ghost use Rattle.lapdm_link.specs.Worlds.{start_with_capacity, answers, IsHarmless, AllowsRrForRej, ArrivingFrameFits, SentFramesFit};
-ghost use Rattle.lapdm_link.specs.Claims.{Line, lines_of_link, lines, Claims, OrderClaims, AckedAtMostDelivered};
+ghost use Rattle.lapdm_link.specs.Events.{QueueCapacity, Event};
+ghost use Rattle.lapdm_link.specs.Worlds.{initial_world, answers, IsBenign, AllowsRrForRej, ArrivingFrameFits, SentFramesFit};
+ghost use Rattle.lapdm_link.specs.Claims.{Line, log_lines_of_sapi, lines, Claims, IsOrderedLog, AckedAtMostDelivered};
 
-/// Law: if each frame arrives in order and as it was sent, or is lost, then each endpoint delivers a prefix of the messages sent at the
-/// other, each once, and a message is delivered before it is reported as acknowledged. The queues may have any capacity, and other mobiles
-/// may send SABM frames at any time.
+/// Law: if each frame arrives in order and unchanged, or is lost, each endpoint delivers a prefix of the messages that its peer sent, and
+/// each message is delivered before it is reported as acknowledged. The queues may have any capacity, and other mobiles may send SABM
+/// frames at any time.
 #[tactic(auto, using(crate::proofs::Sessions::claims))]
-pub fn law_delivery()
-    ensures { (capacity : Capacity) (channel : Channel) (events : List Event) → IsHarmless events (start_with_capacity capacity channel)
-        → Claims (lines events (answers events (start_with_capacity capacity channel))) }
+pub fn law_delivers_in_order()
+    ensures { (capacity : QueueCapacity) (channel : Channel) (events : List Event) → IsBenign events (initial_world capacity channel)
+        → Claims (lines events (answers events (initial_world capacity channel))) }
 {}
 
-/// Law: `law_delivery` also holds if an RR with the same N(R) arrives in place of a REJ.
-pub fn law_rr_for_rej()
-    ensures delivery { (capacity : Capacity) (channel : Channel) (events : List Event) →
-        AllowsRrForRej events (start_with_capacity capacity channel)
-        → Claims (lines events (answers events (start_with_capacity capacity channel))) }
-    ensures counts { (capacity : Capacity) (channel : Channel) (events : List Event) →
-        AllowsRrForRej events (start_with_capacity capacity channel)
-        → AckedAtMostDelivered (lines events (answers events (start_with_capacity capacity channel))) }
+/// Law: messages are delivered in order, and before they are reported as acknowledged, even if an RR arrives in place of a REJ with the
+/// same N(R); all other frames arrive in order and unchanged, or are lost.
+pub fn law_rr_may_replace_rej()
+    ensures delivery { (capacity : QueueCapacity) (channel : Channel) (events : List Event) →
+        AllowsRrForRej events (initial_world capacity channel)
+        → Claims (lines events (answers events (initial_world capacity channel))) }
+    ensures counts_acks { (capacity : QueueCapacity) (channel : Channel) (events : List Event) →
+        AllowsRrForRej events (initial_world capacity channel)
+        → AckedAtMostDelivered (lines events (answers events (initial_world capacity channel))) }
 {}
 
-/// Law: whatever frames arrive, an endpoint reports only messages as acknowledged that were sent before; it is established at most once,
+/// Law: whatever frames arrive, an endpoint reports as acknowledged only messages that were sent before; it is established at most once,
 /// and it reports deliveries and acknowledgements only while its link is open.
 #[tactic(auto, using(crate::proofs::Order::order_claims))]
-pub fn law_order()
-    ensures { (capacity : Capacity) (channel : Channel) (events : List Event)
-        → OrderClaims (lines events (answers events (start_with_capacity capacity channel))) }
+pub fn law_log_is_ordered()
+    ensures { (capacity : QueueCapacity) (channel : Channel) (events : List Event)
+        → IsOrderedLog (lines events (answers events (initial_world capacity channel))) }
 {}
 
-/// Law: in a benign session, no endpoint has more messages acknowledged than the other endpoint has delivered.
+/// Law: if each frame arrives in order and unchanged, or is lost, no endpoint has more messages acknowledged than its peer has delivered.
 pub fn law_acked_at_most_delivered()
-    ensures { (capacity : Capacity) (channel : Channel) (events : List Event) → IsHarmless events (start_with_capacity capacity channel)
-        → AckedAtMostDelivered (lines events (answers events (start_with_capacity capacity channel))) }
+    ensures { (capacity : QueueCapacity) (channel : Channel) (events : List Event) → IsBenign events (initial_world capacity channel)
+        → AckedAtMostDelivered (lines events (answers events (initial_world capacity channel))) }
 {}
 
-/// Law: if each arriving frame can be read, a step sends at most two frames and reports at most two notices, and every frame sent fits in a
-/// block.
+/// Law: if each arriving frame fits in a block, each step sends at most two frames, which also fit in blocks, and reports at most two
+/// notices.
 #[tactic(auto, using(crate::proofs::Fitting::small_answers))]
 pub fn law_sent_frames_fit_blocks()
-    ensures { (capacity : Capacity) (channel : Channel) (events : List Event) → All (ArrivingFrameFits channel) events
-        → All (SentFramesFit channel) (answers events (start_with_capacity capacity channel)) }
+    ensures { (capacity : QueueCapacity) (channel : Channel) (events : List Event) → All (ArrivingFrameFits channel) events
+        → All (SentFramesFit channel) (answers events (initial_world capacity channel)) }
 {}
 
-/// Law: if claims hold for the log lines of each link, they hold for the whole log; so each link may also have a channel or queue of its
-/// own.
-pub fn law_claims_by_link()
-    ensures delivery { (ls : List Line) → Claims (lines_of_link Zero ls) → Claims (lines_of_link Three ls) → Claims ls }
-    ensures order { (ls : List Line) → OrderClaims (lines_of_link Zero ls) → OrderClaims (lines_of_link Three ls) → OrderClaims ls }
-    ensures counts { (ls : List Line) →
-        AckedAtMostDelivered (lines_of_link Zero ls) → AckedAtMostDelivered (lines_of_link Three ls) → AckedAtMostDelivered ls }
+/// Law: claims that hold for the log lines of SAPI 0 and for those of SAPI 3 hold for the whole log, so each link may have its own channel
+/// or queue.
+pub fn law_claims_combine_by_link()
+    ensures delivery { (ls : List Line) → Claims (log_lines_of_sapi Zero ls) → Claims (log_lines_of_sapi Three ls) → Claims ls }
+    ensures order { (ls : List Line) → IsOrderedLog (log_lines_of_sapi Zero ls) → IsOrderedLog (log_lines_of_sapi Three ls) →
+        IsOrderedLog ls }
+    ensures counts_acks { (ls : List Line) →
+        AckedAtMostDelivered (log_lines_of_sapi Zero ls) → AckedAtMostDelivered (log_lines_of_sapi Three ls) → AckedAtMostDelivered ls }
 {}

@@ -1,7 +1,7 @@
--- The mobile's endpoint as an `Endpoint`, which both sides share.
+-- The `Endpoint` inside a `Mobile`. Mobile and network use the same endpoint type.
 use Rattle.lapdm_end.specs.declared.ends.Endpoint.{Endpoint}
 use Rattle.lapdm_mobile.specs.declared.mobile.Mobile.{Mobile}
 
--- the `Endpoint` that a `Mobile` contains
+-- the `Endpoint` inside the mobile
 abbrev pub endpoint_of : Mobile → Endpoint
 endpoint_of m = m.end

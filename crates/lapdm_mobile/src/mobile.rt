@@ -3,14 +3,14 @@
 ghost use Rattle.std.specs.Prelude.{◌≡◌, IfOk, OnErr};
 ghost use Rattle.lapdm_end.specs.lapdm_frame.declared.Channel.TheVariants as C;
 ghost use Rattle.lapdm_end.specs.lapdm_frame.Content.{frame_of};
-ghost use Rattle.lapdm_end.specs.lapdm_frame.Frames.{Fits};
+ghost use Rattle.lapdm_end.specs.lapdm_frame.Frames.{FrameFits};
 ghost use Rattle.lapdm_end.specs.lapdm_window.declared.Sapi.TheVariants as S;
 ghost use Rattle.lapdm_end.specs.lapdm_window.Ends.{EndState, start};
 ghost use Rattle.lapdm_end.specs.lapdm_window.Ends as E;
-ghost use Rattle.lapdm_end.specs.lapdm_window.Calls.{after_call, Opens, OpensBare, Sends, SendsUnit, Closes, T200Expires, SendsFill};
-ghost use Rattle.lapdm_end.specs.lapdm_window.Tables.{after_frame};
+ghost use Rattle.lapdm_end.specs.lapdm_window.Calls.{call_outcome, Opens, OpensBare, Sends, SendsUnit, Closes, T200Expires, SendsFill};
+ghost use Rattle.lapdm_end.specs.lapdm_window.Tables.{frame_outcome};
 ghost use Rattle.lapdm_end.specs.Abstraction.{Represents, sapi_of, channel_of};
-ghost use Rattle.lapdm_end.specs.Refinement.{Refines, IsRefusedAs};
+ghost use Rattle.lapdm_end.specs.Refinement.{StepRefines, RefusesAsDefined};
 
 use lapdm_end::{Call, Channel, Effects, Endpoint, FrameView, Refused, Role, Sapi, State};
 
@@ -23,7 +23,7 @@ pub struct Mobile {
 impl Mobile {
     ghost use Rattle.lapdm_mobile.specs.Ends.{endpoint_of};
 
-    /// An endpoint in Idle, for SAPI 0 on SDCCH.
+    /// Creates an endpoint in Idle, for SAPI 0 on SDCCH.
     pub fn new() -> Mobile
         ensures represents { Represents (endpoint_of result) (start E.Mobile S.Zero C.Sdcch) }
         ensures sapi { sapi_of (endpoint_of result) ≡ S.Zero }
@@ -32,7 +32,7 @@ impl Mobile {
         Mobile::new_on(Sapi::Zero, Channel::Sdcch)
     }
 
-    /// An endpoint in Idle, for this SAPI on SDCCH.
+    /// Creates an endpoint in Idle, for this SAPI on SDCCH.
     pub fn with_sapi(sapi: Sapi) -> Mobile
         ensures represents { Represents (endpoint_of result) (start E.Mobile sapi C.Sdcch) }
         ensures sapi { sapi_of (endpoint_of result) ≡ sapi }
@@ -41,7 +41,7 @@ impl Mobile {
         Mobile::new_on(sapi, Channel::Sdcch)
     }
 
-    /// An endpoint in Idle, for this SAPI on this channel.
+    /// Creates an endpoint in Idle, for this SAPI on this channel.
     pub fn new_on(sapi: Sapi, channel: Channel) -> Mobile
         ensures represents { Represents (endpoint_of result) (start E.Mobile sapi channel) }
         ensures sapi { sapi_of (endpoint_of result) ≡ sapi }
@@ -68,92 +68,92 @@ impl Mobile {
     /// Begins to establish the link of SAPI 0: sends a SABM with this information, 1 to N201 octets.
     pub fn open(&mut self, info: &[u8]) -> Result<Effects, Refused>
         requires { sapi_of (endpoint_of self.old) ≡ S.Zero }
-        ensures refusal { IsRefusedAs (Opens info.now) (endpoint_of self.old) result }
+        ensures refusal { RefusesAsDefined (Opens info.now) (endpoint_of self.old) result }
         ensures refines { IfOk result
-            (λ effects. Refines (after_call (Opens info.now)) (endpoint_of self.old) effects
+            (λ effects. StepRefines (call_outcome (Opens info.now)) (endpoint_of self.old) effects
             (endpoint_of self.new)) }
         ensures refused { OnErr result (self.new ≡ self.old) }
         ensures sapi { sapi_of (endpoint_of self.new) ≡ sapi_of (endpoint_of self.old) }
         ensures channel { channel_of (endpoint_of self.new) ≡ channel_of (endpoint_of self.old) }
     {
-        self.end.call_returning(&Call::Open(info))
+        self.end.call_returning_effects(&Call::Open(info))
     }
 
     /// Begins to establish the link of SAPI 3: sends a SABM without information.
     pub fn open_bare(&mut self) -> Result<Effects, Refused>
         requires { sapi_of (endpoint_of self.old) ≡ S.Three }
-        ensures refusal { IsRefusedAs OpensBare (endpoint_of self.old) result }
+        ensures refusal { RefusesAsDefined OpensBare (endpoint_of self.old) result }
         ensures refines { IfOk result
-            (λ effects. Refines (after_call OpensBare)
+            (λ effects. StepRefines (call_outcome OpensBare)
             (endpoint_of self.old) effects (endpoint_of self.new)) }
         ensures refused { OnErr result (self.new ≡ self.old) }
         ensures sapi { sapi_of (endpoint_of self.new) ≡ sapi_of (endpoint_of self.old) }
         ensures channel { channel_of (endpoint_of self.new) ≡ channel_of (endpoint_of self.old) }
     {
-        self.end.call_returning(&Call::OpenBare)
+        self.end.call_returning_effects(&Call::OpenBare)
     }
 
     /// Sends a message of 1 to 251 octets in I frames, which the network acknowledges.
     pub fn send(&mut self, message: &[u8]) -> Result<Effects, Refused>
-        ensures refusal { IsRefusedAs (Sends message.now) (endpoint_of self.old) result }
+        ensures refusal { RefusesAsDefined (Sends message.now) (endpoint_of self.old) result }
         ensures refines { IfOk result
-            (λ effects. Refines (after_call (Sends message.now)) (endpoint_of self.old) effects
+            (λ effects. StepRefines (call_outcome (Sends message.now)) (endpoint_of self.old) effects
             (endpoint_of self.new)) }
         ensures refused { OnErr result (self.new ≡ self.old) }
         ensures sapi { sapi_of (endpoint_of self.new) ≡ sapi_of (endpoint_of self.old) }
         ensures channel { channel_of (endpoint_of self.new) ≡ channel_of (endpoint_of self.old) }
     {
-        self.end.call_returning(&Call::Send(message))
+        self.end.call_returning_effects(&Call::Send(message))
     }
 
     /// Sends a message of 1 to N201 octets in one UI frame, which is not acknowledged.
     pub fn unit(&mut self, message: &[u8]) -> Result<Effects, Refused>
-        ensures refusal { IsRefusedAs (SendsUnit message.now) (endpoint_of self.old) result }
+        ensures refusal { RefusesAsDefined (SendsUnit message.now) (endpoint_of self.old) result }
         ensures refines { IfOk result
-            (λ effects. Refines (after_call (SendsUnit message.now)) (endpoint_of self.old) effects
+            (λ effects. StepRefines (call_outcome (SendsUnit message.now)) (endpoint_of self.old) effects
             (endpoint_of self.new)) }
         ensures refused { OnErr result (self.new ≡ self.old) }
         ensures sapi { sapi_of (endpoint_of self.new) ≡ sapi_of (endpoint_of self.old) }
         ensures channel { channel_of (endpoint_of self.new) ≡ channel_of (endpoint_of self.old) }
     {
-        self.end.call_returning(&Call::Unit(message))
+        self.end.call_returning_effects(&Call::Unit(message))
     }
 
-    /// Begins to release the link: sends a DISC. Messages that are not acknowledged are discarded.
+    /// Begins to release the link: sends a DISC. Unacknowledged messages are discarded.
     pub fn close(&mut self) -> Result<Effects, Refused>
-        ensures refusal { IsRefusedAs Closes (endpoint_of self.old) result }
+        ensures refusal { RefusesAsDefined Closes (endpoint_of self.old) result }
         ensures refines { IfOk result
-            (λ effects. Refines (after_call Closes) (endpoint_of self.old) effects (endpoint_of self.new)) }
+            (λ effects. StepRefines (call_outcome Closes) (endpoint_of self.old) effects (endpoint_of self.new)) }
         ensures refused { OnErr result (self.new ≡ self.old) }
         ensures sapi { sapi_of (endpoint_of self.new) ≡ sapi_of (endpoint_of self.old) }
         ensures channel { channel_of (endpoint_of self.new) ≡ channel_of (endpoint_of self.old) }
     {
-        self.end.call_returning(&Call::Close)
+        self.end.call_returning_effects(&Call::Close)
     }
 
     /// Handles T200 expiry.
     pub fn timer(&mut self) -> Result<Effects, Refused>
-        ensures refusal { IsRefusedAs T200Expires (endpoint_of self.old) result }
+        ensures refusal { RefusesAsDefined T200Expires (endpoint_of self.old) result }
         ensures refines { IfOk result
-            (λ effects. Refines (after_call T200Expires) (endpoint_of self.old) effects (endpoint_of self.new)) }
+            (λ effects. StepRefines (call_outcome T200Expires) (endpoint_of self.old) effects (endpoint_of self.new)) }
         ensures refused { OnErr result (self.new ≡ self.old) }
         ensures sapi { sapi_of (endpoint_of self.new) ≡ sapi_of (endpoint_of self.old) }
         ensures channel { channel_of (endpoint_of self.new) ≡ channel_of (endpoint_of self.old) }
     {
-        self.end.call_returning(&Call::Timer)
+        self.end.call_returning_effects(&Call::Timer)
     }
 
     /// Sends the fill frame, for use when there is nothing else to send in a block.
     pub fn idle(&self) -> Effects
-        ensures { Refines (after_call SendsFill) (endpoint_of self.now) result (endpoint_of self.now) }
+        ensures { StepRefines (call_outcome SendsFill) (endpoint_of self.now) result (endpoint_of self.now) }
     {
         self.end.idle()
     }
 
     /// Processes a received frame.
     pub fn take(&mut self, frame: &FrameView<'_>) -> Effects
-        requires { Fits (channel_of (endpoint_of self.old)) (frame_of frame.now) }
-        ensures refines { Refines (after_frame (frame_of frame.now)) (endpoint_of self.old) result
+        requires { FrameFits (channel_of (endpoint_of self.old)) (frame_of frame.now) }
+        ensures refines { StepRefines (frame_outcome (frame_of frame.now)) (endpoint_of self.old) result
             (endpoint_of self.new) }
         ensures sapi { sapi_of (endpoint_of self.new) ≡ sapi_of (endpoint_of self.old) }
         ensures channel { channel_of (endpoint_of self.new) ≡ channel_of (endpoint_of self.old) }

@@ -1,7 +1,7 @@
--- The network's endpoint as an `Endpoint`, which both sides share.
+-- The `Endpoint` inside a `Network`. Mobile and network use the same endpoint type.
 use Rattle.lapdm_end.specs.declared.ends.Endpoint.{Endpoint}
 use Rattle.lapdm_network.specs.declared.network.Network.{Network}
 
--- the `Endpoint` that a `Network` contains
+-- the `Endpoint` inside the network
 abbrev pub endpoint_of : Network → Endpoint
 endpoint_of m = m.end

@@ -1,13 +1,13 @@
 -- What each reply of the tables implies for the endpoint and for the frame received, by cases on the state and the frame kind.
-use Rattle.std.proofs.Common.{◌≡◌, refl, sym, inl, inr, ◌⊎◌, arith, ◌≤◌, length, Bool, true, false, ◌&&◌, if◌then◌else◌, [], ◌∷◌}
-use Rattle.std.{proofs.lemmas.Slice.Eq.bytes_eq-Decides, specs.Str.bytes_eq}
+use Rattle.std.proofs.Common.{◌≡◌, refl, sym, inl, inr, ◌⊎◌, arith, ◌≤◌, length, Bool, true, false, ◌&&◌}
+use Rattle.std.{proofs.{Common.{if◌then◌else◌, [], ◌∷◌}, lemmas.Slice.Eq.bytes_eq-Decides}, specs.Str.bytes_eq}
 use Rattle.segmenting.specs.{lapdm_frame.Content.{Content, I, Rr, Rej, Sabm, Dm, Ui, Disc, Ua, Frame}, Segments.Message}
 use Rattle.lapdm_window.specs.declared.{Sapi.{Sapi, TheVariants.{Zero, Three}}, State.{State, TheVariants.{Idle, Opening, Open, Closing}}}
-use Rattle.lapdm_window.specs.{declared.State.TheVariants.Closed, Ends.{Role, Mobile, Network, EndState}, Tables.{Reply, Nothing, SendsDm}}
-use Rattle.lapdm_window.specs.Tables.{SendsUa, AcceptsSabm, ConfirmsEstablishment, ClosesLink, AcceptsDisc, TakesUnit, TakesI, TakesRr}
-use Rattle.lapdm_window.specs.Tables.{TakesRej, is_command, is_poll, reply_to_sabm_in_idle, dm_to_poll, reply_in_idle, reply_to_other_ua}
-use Rattle.lapdm_window.specs.Tables.{reply_to_sabm_in_opening, reply_in_opening, answers_sabm, reply_in_open, reply_in_closing}
-use Rattle.lapdm_window.specs.Tables.{reply_in_closed, in_state, reply_to_ui, reply, reply_to}
+use Rattle.lapdm_window.specs.{declared.State.TheVariants.Closed, Ends.{Role, Network, EndState}, Tables.{Reply, Nothing, SendsDm, SendsUa}}
+use Rattle.lapdm_window.specs.Tables.{AcceptsSabm, ConfirmsEstablishment, ClosesLink, AcceptsDisc, TakesUnit, TakesI, TakesRr, TakesRej}
+use Rattle.lapdm_window.specs.Tables.{is_command, is_poll, reply_in_idle, reply_to_mismatched_ua, reply_to_sabm_in_opening}
+use Rattle.lapdm_window.specs.Tables.{reply_in_opening, answers_repeated_sabm, reply_in_open, reply_in_closing, reply_in_closed, reply_in}
+use Rattle.lapdm_window.specs.Tables.{reply_to_ui, reply, reply_to_frame}
 
 -- the endpoint has at least started to establish its link: Opening, Open or Closing
 abbrev pub HasBegun : EndState → Type 0
@@ -34,31 +34,15 @@ IsReplyTo c x (TakesRr nr poll) = (pf : Bool) × (c ≡ Rr nr pf) × (x.state �
 IsReplyTo c x (TakesRej nr poll) = (pf : Bool) × (c ≡ Rej nr pf) × (x.state ≡ Open)
 
 module _ (x : EndState) where
-  of_sabm_in_idle : (p : Bool) (s : Sapi) (r : Role) (info : Message) → x.state ≡ Idle → x.sapi ≡ s → x.role ≡ r →
-      IsReplyTo (Sabm p info) x (reply_to_sabm_in_idle s r info)
-  of_sabm_in_idle p Zero Mobile info e a b = tt
-  of_sabm_in_idle p Zero Network [] e a b = tt
-  of_sabm_in_idle p Zero Network (i ∷ is) e a b = (p, refl, e, rw (a, b) tt)
-  of_sabm_in_idle p Three r [] e a b = (p, refl, e, rw a tt)
-  of_sabm_in_idle p Three r (i ∷ is) e a b = tt
-
-  of_dm_to_poll : (poll : Bool) (c : Content) → IsReplyTo c x (dm_to_poll poll)
-  of_dm_to_poll true c = tt
-  of_dm_to_poll false c = tt
-
   of_idle : (poll : Bool) (c : Content) → x.state ≡ Idle → IsReplyTo c x (reply_in_idle poll c x)
-  of_idle poll (Sabm p info) e = of_sabm_in_idle p x.sapi x.role info e refl refl
-  of_idle poll (Disc p) e = tt
-  of_idle poll other e = of_dm_to_poll poll other
+  of_idle poll c h = grind arith
 
   of_sabm_in_opening : (p : Bool) (s : Sapi) (info : Message) → x.state ≡ Opening →
       IsReplyTo (Sabm p info) x (reply_to_sabm_in_opening s info)
-  of_sabm_in_opening p Zero info e = tt
-  of_sabm_in_opening p Three [] e = inr (refl, inl e)
-  of_sabm_in_opening p Three (i ∷ is) e = tt
+  of_sabm_in_opening p s info h = grind arith
 
   of_ua_in_opening : (s : Sapi) (same : Bool) (info : Message) → x.state ≡ Opening → bytes_eq info x.kept ≡ same →
-      IsReplyTo (Ua true info) x (if same then ConfirmsEstablishment info else reply_to_other_ua s)
+      IsReplyTo (Ua true info) x (if same then ConfirmsEstablishment info else reply_to_mismatched_ua s)
   of_ua_in_opening s true info e same = (refl, e, (bytes_eq-Decides info x.kept).0 same)
   of_ua_in_opening Zero false info e same = inl e
   of_ua_in_opening Three false info e same = tt
@@ -78,23 +62,18 @@ module _ (x : EndState) where
   of_open cmd (I ns nr p more info) e = (refl, e)
   of_open cmd (Rr nr pf) e = (pf, refl, e)
   of_open cmd (Rej nr pf) e = (pf, refl, e)
-  of_open cmd (Sabm p info) e = of_sabm_in_open p (answers_sabm x.sapi x.role) (bytes_eq info x.kept) info e refl
+  of_open cmd (Sabm p info) e = of_sabm_in_open p (answers_repeated_sabm x.sapi x.role) (bytes_eq info x.kept) info e refl
   of_open cmd (Disc p) e = e
   of_open cmd (Dm f) e = inr (inl e)
   of_open cmd other e = tt
 
   of_closing : (c : Content) → x.state ≡ Closing → IsReplyTo c x (reply_in_closing c)
-  of_closing (Ua true []) e = inr (inr e)
-  of_closing (Dm true) e = inr (inr e)
-  of_closing (Disc p) e = inr (refl, inr (inr e))
-  of_closing other e = tt
+  of_closing c h = grind arith
 
   of_closed : (poll : Bool) (c : Content) → IsReplyTo c x (reply_in_closed poll c)
-  of_closed poll (Sabm p info) = tt
-  of_closed poll (Disc p) = tt
-  of_closed poll other = of_dm_to_poll poll other
+  of_closed poll c = grind arith
 
-  of_state : (s : State) (cmd : Bool) (c : Content) → x.state ≡ s → IsReplyTo c x (in_state s cmd c x)
+  of_state : (s : State) (cmd : Bool) (c : Content) → x.state ≡ s → IsReplyTo c x (reply_in s cmd c x)
   of_state Idle cmd c e = of_idle (is_poll cmd c) c e
   of_state Opening cmd c e = of_opening c e
   of_state Open cmd c e = of_open cmd c e
@@ -102,8 +81,7 @@ module _ (x : EndState) where
   of_state Closed cmd c e = of_closed (is_poll cmd c) c
 
   of_unit : (p : Bool) (info : Message) → IsReplyTo (Ui p info) x (reply_to_ui info)
-  of_unit p [] = tt
-  of_unit p (i ∷ is) = (p, refl, omega arith)
+  of_unit p info = grind arith
 
   of_reply : (cmd : Bool) (c : Content) → IsReplyTo c x (reply cmd c x)
   of_reply cmd (Ui p info) = of_unit p info
@@ -113,5 +91,5 @@ module _ (x : EndState) where
   of_taken true cmd c = of_reply cmd c
   of_taken false cmd c = tt
 
-  pub cause_of : (f : Frame) → IsReplyTo f.content x (reply_to f x)
+  pub cause_of : (f : Frame) → IsReplyTo f.content x (reply_to_frame f x)
   cause_of f = of_taken _ (is_command x f) f.content

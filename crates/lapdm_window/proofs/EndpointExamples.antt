@@ -3,7 +3,7 @@ use Rattle.std.proofs.Common.{◌≡◌, Bool, ℕ, true, false, List, [], ◌�
 use Rattle.segmenting.specs.lapdm_frame.{declared.Channel.TheVariants.{Sdcch, Sacch}, Content.{Content, I, Sabm, Dm, Ua, Rnr}}
 use Rattle.segmenting.specs.lapdm_frame.Frames.{octets_of}
 use Rattle.lapdm_window.specs.{declared.{Sapi.TheVariants.{Zero, Three}, Notice.Notice, Refused.Refused}, Ends.{EndState, start, Mobile}}
-use Rattle.lapdm_window.specs.{Ends.{Network, Outcome}, Calls.{Opens, OpensBare, Sends, SendsUnit, Closes, T200Expires}, Steps.Input}
+use Rattle.lapdm_window.specs.{Ends.{Network, Outcome}, Calls.{Opens, OpensBare, Sends, SendsUnit, Closes, T200Expires}, Steps.StepInput}
 use Rattle.lapdm_window.specs.Steps.{Asked, Received, step}
 use Rattle.lapdm_window.specs.declared.State.TheVariants as S
 use Rattle.lapdm_window.specs.declared.Notice.TheVariants as N
@@ -22,7 +22,7 @@ abbrev state_after : EndState → Result Outcome Refused → EndState
 state_after e (Ok o) = o.after
 state_after e (Err refusal) = e
 
-abbrev session : EndState → List Input → List Seen
+abbrev session : EndState → List StepInput → List Seen
 session e [] = []
 session e (input ∷ inputs) = let r = step input e in seen_in e r ∷ session (state_after e r) inputs
 
@@ -40,16 +40,17 @@ abbrev reported : Notice → Seen
 reported n = Ok ([], n ∷ [])
 
 -- frames from the mobile and from the network: C/R is 0 in commands of the mobile and responses of the network, and 1 in the others
-abbrev from_mobile : Content → Input
+abbrev from_mobile : Content → StepInput
 from_mobile content = Received (record { sapi = 0; cr = false; content = content })
 
-abbrev from_network : Content → Input
+abbrev from_network : Content → StepInput
 from_network content = Received (record { sapi = 0; cr = false; content = content })
 
 -- a mobile establishes the link at the network, and then repeats its frames
 network_opened_by_mobile : session (start Network Zero Sdcch)
     (from_mobile (Sabm true (0x01 ∷ [])) ∷ from_mobile (I 0 0 false false (0xaa ∷ [])) ∷ from_mobile (Sabm true (0x01 ∷ []))
-    ∷ from_mobile (Sabm true (0x02 ∷ [])) ∷ from_mobile (I 0 0 false false (0xaa ∷ [])) ∷ from_mobile (I 0 0 false false (0xaa ∷ [])) ∷ [])
+    ∷ from_mobile (Sabm true (0x02 ∷ [])) ∷ from_mobile (I 0 0 false false (0xaa ∷ []))
+    ∷ from_mobile (I 0 0 false false (0xaa ∷ [])) ∷ [])
     ≡ Ok (block (0x01 ∷ 0x73 ∷ 0x05 ∷ 0x01 ∷ []) 19 ∷ [], N.Opened (0x01 ∷ []) ∷ [])
     ∷ Ok (block (0x01 ∷ 0x21 ∷ 0x01 ∷ []) 20 ∷ [], N.Got (0xaa ∷ []) ∷ [])
     ∷ sent (0x01 ∷ 0x73 ∷ 0x05 ∷ 0x01 ∷ []) 19 ∷ nothing ∷ sent (0x01 ∷ 0x29 ∷ 0x01 ∷ []) 20 ∷ nothing ∷ []
@@ -57,7 +58,8 @@ network_opened_by_mobile = refl
 
 -- a mobile refuses each call that its state does not allow, then receives the UA for another mobile
 mobile_losing_contention : session (start Mobile Zero Sdcch)
-    (Asked (Sends (0xaa ∷ [])) ∷ Asked Closes ∷ Asked T200Expires ∷ Asked (Opens []) ∷ Asked (Opens (0x01 ∷ [])) ∷ Asked (Opens (0x01 ∷ []))
+    (Asked (Sends (0xaa ∷ [])) ∷ Asked Closes ∷ Asked T200Expires ∷ Asked (Opens []) ∷ Asked (Opens (0x01 ∷ []))
+    ∷ Asked (Opens (0x01 ∷ []))
     ∷ Asked (SendsUnit (replicate 21 0)) ∷ from_network (Ua true (0x02 ∷ [])) ∷ [])
     ≡ Err No.NotOpen ∷ Err No.NotOpen ∷ Err No.NotRunning ∷ Err No.Empty ∷ sent (0x01 ∷ 0x3f ∷ 0x05 ∷ 0x01 ∷ []) 19
     ∷ Err No.NotIdle ∷ Err No.TooLong ∷ reported (N.Closed R.Contention) ∷ []
@@ -71,7 +73,8 @@ refused_mobile = refl
 collision_on_sapi_3 : session (start Mobile Three Sdcch)
     (Asked OpensBare ∷ Asked OpensBare ∷ Received (record { sapi = 3; cr = true; content = Sabm true [] })
     ∷ Received (record { sapi = 3; cr = false; content = Ua true [] }) ∷ [])
-    ≡ sent (0x0d ∷ 0x3f ∷ 0x01 ∷ []) 20 ∷ Err No.NotIdle ∷ sent (0x0f ∷ 0x73 ∷ 0x01 ∷ []) 20 ∷ reported (N.Opened []) ∷ []
+    ≡ sent (0x0d ∷ 0x3f ∷ 0x01 ∷ []) 20 ∷ Err No.NotIdle ∷ sent (0x0f ∷ 0x73 ∷ 0x01 ∷ []) 20 ∷ reported (N.Opened [])
+    ∷ []
 collision_on_sapi_3 = refl
 
 -- a mobile on SACCH sends its SABM once, repeats it five times, then reports failure
@@ -88,7 +91,7 @@ ignored_frames : session (record (start Network Zero Sdcch) { state = S.Open; ke
 ignored_frames = refl
 
 -- an oversize message is reported at its last segment, and the next message is delivered whole
-abbrev segment_of : ℕ → Bool → List ℕ → Input
+abbrev segment_of : ℕ → Bool → List ℕ → StepInput
 segment_of ns more octets = from_mobile (I ns 0 false more octets)
 
 abbrev ready : ℕ → Seen
@@ -97,9 +100,11 @@ ready control = sent (0x01 ∷ control ∷ 0x01 ∷ []) 20
 oversize_message : session (record (start Network Zero Sdcch) { state = S.Open; kept = 0x01 ∷ [] })
     (segment_of 0 true (replicate 20 7) ∷ segment_of 1 true (replicate 20 7) ∷ segment_of 2 true (replicate 20 7) ∷ segment_of 3 true
     (replicate 20 7)
-    ∷ segment_of 4 true (replicate 20 7) ∷ segment_of 5 true (replicate 20 7) ∷ segment_of 6 true (replicate 20 7) ∷ segment_of 7 true
+    ∷ segment_of 4 true (replicate 20 7) ∷ segment_of 5 true (replicate 20 7) ∷ segment_of 6 true (replicate 20 7)
+    ∷ segment_of 7 true
     (replicate 20 7)
-    ∷ segment_of 0 true (replicate 20 7) ∷ segment_of 1 true (replicate 20 7) ∷ segment_of 2 true (replicate 20 7) ∷ segment_of 3 true
+    ∷ segment_of 0 true (replicate 20 7) ∷ segment_of 1 true (replicate 20 7) ∷ segment_of 2 true (replicate 20 7)
+    ∷ segment_of 3 true
     (replicate 20 7)
     ∷ segment_of 4 true (replicate 20 7) ∷ segment_of 5 false (7 ∷ []) ∷ segment_of 6 false (0xaa ∷ []) ∷ [])
     ≡ ready 0x21 ∷ ready 0x41 ∷ ready 0x61 ∷ ready 0x81 ∷ ready 0xa1 ∷ ready 0xc1 ∷ ready 0xe1 ∷ ready 0x01

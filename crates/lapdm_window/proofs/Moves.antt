@@ -1,17 +1,17 @@
 -- After each call a window still holds the unacknowledged segments, and it gives the answer that the rules define.
-use Rattle.std.proofs.Common.{◌≡◌, ◌≢◌, refl, sym, ◌∙◌, ap, subst, arith, ℕ, ◌+◌, ◌/◌, ◌<◌, ◌≤◌, Bool, true, false, not, nat_eq, nat_lt}
-use Rattle.std.proofs.{Common.{◌&&◌, List, [], ◌∷◌, ◌++◌, length, drop, get_or, Some, slice_get, IsTrue}, lemmas.Bool.false≢true}
+use Rattle.std.proofs.Common.{◌≡◌, ◌≢◌, refl, sym, ◌∙◌, ap, subst, arith, ℕ, ◌+◌, ◌/◌, ◌<◌, ◌≤◌, Bool}
+use Rattle.std.proofs.Common.{true, false, List, [], ◌∷◌, ◌++◌, length, drop, get_or, Some, slice_get, IsTrue}
 use Rattle.std.proofs.lemmas.{Bool.Decides.nat_tests, List.{length-append, length-drop, drop-drop, drop-append-le, append-nil}}
 use Rattle.std.{proofs.lemmas.{List.{Concat.flat_map-append, Elements.All-push}, Option.get_or_from_slice_get}, specs.List.flat_map}
-use Rattle.segmenting.specs.{lapdm_frame.{declared.Channel.Channel, Layout.n201}, Segments.{Message, Segment, IsMessage, segments}}
+use Rattle.segmenting.specs.{lapdm_frame.{declared.Channel.Channel, Layout.n201}, Segments.{Message, Segment, IsValidMessage, segments}}
 use Rattle.segmenting.{specs.Segments.count_of, proofs.Lemmas.length-segments}
-use Rattle.lapdm_window.specs.{declared.window.Window.Window, Ends.{EndState, HasWindowOfOne, is_outstanding, all_segments, next_segment}}
-use Rattle.lapdm_window.specs.{Ends.{acked_message_count, vs, va}, Rules.{has_segment_to_send, with_next_outstanding, acknowledges}}
-use Rattle.lapdm_window.specs.{Rules.{with_acked, acked_number, counts, reports_acked}, Calls.with_queued, Answers.ack_answer}
-use Rattle.lapdm_window.{specs.{Answers.outstanding_segment, Abstraction.{HoldsUnacked, Represents}}, proofs.Numbers.nothing_sent}
-use Rattle.lapdm_window.proofs.{Numbers.{one_sent, is_outstanding-nothing, is_outstanding-one}, FirstSegments.{first_segments, within_all}}
-use Rattle.lapdm_window.proofs.{FirstSegments.{other_segments, drop-next, get_or-same, within-same}, Counting.acked_message_count-most}
-use Rattle.lapdm_window.proofs.Counting.{acked_message_count-more, acked_message_count-last, all_segments-taken, acked_message_count-taken}
+use Rattle.lapdm_window.specs.{declared.window.Window.Window, Ends.{EndState, HasWindowOfOne, awaits_ack, all_segments, next_segment}}
+use Rattle.lapdm_window.specs.{Ends.{acked_message_count, vs, va}, Rules.{has_segment_to_send, with_segment_sent, acknowledges, with_ack}}
+use Rattle.lapdm_window.specs.{Rules.{acked_message_number, counts_acks, reports_acked}, Calls.with_message, Answers.acked_by_nr}
+use Rattle.lapdm_window.specs.{Answers.outstanding_segment, Abstraction.{HoldsUnacked, Represents}}
+use Rattle.lapdm_window.proofs.FirstSegments.{first_message_segments, within_all, other_segments, drop-next, get_or-same, within-same}
+use Rattle.lapdm_window.proofs.Counting.{acked_message_count-most, acked_message_count-more, acked_message_count-last, all_segments-taken}
+use Rattle.lapdm_window.proofs.Counting.{acked_message_count-taken}
 use Rattle.lapdm_window.specs.declared.Acked.TheVariants as V
 
 -- x is the segment with index `place` among the segments of the first message held
@@ -39,11 +39,12 @@ next_is e channel held place x same h first =
     record {
       within = within-same (flat_map (segments n) held) (all_segments e) place e.acked h.next (within_all n place held first.some below);
       piece = sym (get_or-same (flat_map (segments n) held) (all_segments e) place e.acked ([], false) h.next)
-          ∙ first_segments n place held ([], false) first.some below ∙ get_or_from_slice_get _ place x ([], false) at;
+          ∙ first_message_segments n place held ([], false) first.some below ∙ get_or_from_slice_get _ place x ([], false) at;
     }
 
-pub is_left : (e : EndState) (channel : Channel) (held : List Message) (place : ℕ) → channel ≡ e.channel → HoldsUnacked held place e →
-    1 ≤ length held → place < count_of (n201 channel) (get_or held 0 []) → e.acked < length (all_segments e)
+pub is_left : (e : EndState) (channel : Channel) (held : List Message) (place : ℕ) → channel ≡ e.channel →
+    HoldsUnacked held place e → 1 ≤ length held → place < count_of (n201 channel) (get_or held 0 []) →
+    e.acked < length (all_segments e)
 is_left e channel held place same h some_held within =
     let n = n201 e.channel in
     let below : place < length (segments n (get_or held 0 [])) = subst
@@ -51,17 +52,9 @@ is_left e channel held place same h some_held within =
     (omega (arith, within, length-segments (n201 channel) (get_or held 0 []))) in
     within-same (flat_map (segments n) held) (all_segments e) place e.acked h.next (within_all n place held some_held below)
 
-pub none_left : (e : EndState) (held : List Message) (place : ℕ) → HoldsUnacked held place e → held ≡ [] → length (all_segments e) ≤ e.acked
-none_left e held place h none =
-    let n = n201 e.channel in
-    omega (
-      arith,
-      length-drop place (flat_map (segments n) held),
-      length-drop e.acked (all_segments e),
-      ap length h.next,
-      ap
-          (λ ms. length (flat_map (segments n) ms)) none,
-    )
+pub none_left : (e : EndState) (held : List Message) (place : ℕ) → HoldsUnacked held place e → held ≡ [] →
+    length (all_segments e) ≤ e.acked
+none_left e held place h none = grind (arith, length-drop e.acked (all_segments e))
 
 -- ---- layer 3 sends a message
 zero-div : (n : ℕ) → 0 < n → 0 / n ≡ 0
@@ -75,16 +68,17 @@ pub within_held : (n place : ℕ) (held : List Message) → 0 < n → place < co
 within_held n place [] room h = omega (arith, no_message n place h, zero-div n room)
 within_held n place (m ∷ ms) room h = omega (arith, within_all n place (m ∷ ms) (omega arith) (omega (arith, h, length-segments n m)))
 
-pub HasWindowOfOne-taken : (e : EndState) (m : Message) → HasWindowOfOne e → IsMessage m → HasWindowOfOne (with_queued m e)
-HasWindowOfOne-taken e m h good = record {
-  messages = All-push IsMessage e.taken m h.messages good;
-  sent = omega (arith, h.sent, ap length (all_segments-taken e m), length-append (all_segments e) (segments (n201 e.channel) m));
-  behind = h.behind;
-  window = h.window;
-}
+pub HasWindowOfOne-taken : (e : EndState) (m : Message) → HasWindowOfOne e → IsValidMessage m → HasWindowOfOne (with_message m e)
+HasWindowOfOne-taken e m h good =
+    grind (
+      arith,
+      All-push IsValidMessage e.taken m h.messages good,
+      all_segments-taken e m,
+      length-append (all_segments e) (segments (n201 e.channel) m),
+    )
 
 pub Holds-taken : (e : EndState) (m : Message) (held : List Message) (place : ℕ) → HasWindowOfOne e → HoldsUnacked held place e →
-    place ≤ length (flat_map (segments (n201 e.channel)) held) → HoldsUnacked (held ++ m ∷ []) place (with_queued m e)
+    place ≤ length (flat_map (segments (n201 e.channel)) held) → HoldsUnacked (held ++ m ∷ []) place (with_message m e)
 Holds-taken e m held place end h within =
     let n = n201 e.channel in
     let parts : flat_map (segments n) (held ++ m ∷ []) ≡ flat_map (segments n) held ++ segments n m =
@@ -101,31 +95,21 @@ Holds-taken e m held place end h within =
     }
 
 -- ---- the next segment becomes outstanding
-pub has_segment_to_send-is_outstanding : (e : EndState) → HasWindowOfOne e → vs e ≢ va e → has_segment_to_send e ≡ false
-has_segment_to_send-is_outstanding e h other = ap (λ b. not b && nat_lt e.sent (length (all_segments e))) (is_outstanding-one e
-    (one_sent e h other))
-
-pub has_segment_to_send-none : (e : EndState) → HasWindowOfOne e → length (all_segments e) ≤ e.acked → has_segment_to_send e ≡ false
-has_segment_to_send-none e h none = grind (arith, nat_tests, h.behind)
 
 pub has_segment_to_send-left : (e : EndState) → HasWindowOfOne e → vs e ≡ va e → e.acked < length (all_segments e) →
     has_segment_to_send e ≡ true
-has_segment_to_send-left e h same left =
-    let none : e.sent ≡ e.acked = nothing_sent e h same in
-    grind (arith, nat_tests)
+has_segment_to_send-left e h same left = grind arith
 
 pub HasWindowOfOne-next : (e : EndState) → HasWindowOfOne e → vs e ≡ va e → e.acked < length (all_segments e) →
-    HasWindowOfOne (with_next_outstanding e)
-HasWindowOfOne-next e h same left =
-    let none : e.sent ≡ e.acked = nothing_sent e h same in
-    record { messages = h.messages; sent = omega arith; behind = omega arith; window = omega arith }
+    HasWindowOfOne (with_segment_sent e)
+HasWindowOfOne-next e h same left = grind arith
 
 -- ---- the outstanding segment is acknowledged
-pub HasWindowOfOne-acked : (e : EndState) → HasWindowOfOne e → HasWindowOfOne (with_acked e)
-HasWindowOfOne-acked e h = record { messages = h.messages; sent = h.sent; behind = omega arith; window = omega arith }
+pub HasWindowOfOne-acked : (e : EndState) → HasWindowOfOne e → HasWindowOfOne (with_ack e)
+HasWindowOfOne-acked e h = grind arith
 
 pub Holds-more : (e : EndState) (held : List Message) (place : ℕ) → e.sent ≡ e.acked + 1 → HoldsUnacked held place e →
-    e.acked < length (all_segments e) → (next_segment e).1 ≡ true → HoldsUnacked held (place + 1) (with_acked e)
+    e.acked < length (all_segments e) → (next_segment e).1 ≡ true → HoldsUnacked held (place + 1) (with_ack e)
 Holds-more e held place one h within more =
     let n = n201 e.channel in
     record {
@@ -135,7 +119,7 @@ Holds-more e held place one h within more =
 
 pub Holds-last : (e : EndState) (held : List Message) (place : ℕ) → e.sent ≡ e.acked + 1 → HoldsUnacked held place e →
     e.acked < length (all_segments e) → (next_segment e).1 ≡ false → 1 ≤ length held →
-    place + 1 ≡ length (segments (n201 e.channel) (get_or held 0 [])) → HoldsUnacked (drop 1 held) 0 (with_acked e)
+    place + 1 ≡ length (segments (n201 e.channel) (get_or held 0 [])) → HoldsUnacked (drop 1 held) 0 (with_ack e)
 Holds-last e held place one h within last some_held ends =
     let n = n201 e.channel in
     record {
@@ -148,41 +132,37 @@ Holds-last e held place one h within last some_held ends =
 
 -- ---- what an N(R) acknowledges
 pub acknowledges-not_waiting : (e : EndState) (nr : ℕ) → HasWindowOfOne e → vs e ≡ va e → acknowledges nr e ≡ false
-acknowledges-not_waiting e nr h same = ap (λ b. b && nat_eq nr (vs e)) (is_outstanding-nothing e (nothing_sent e h same))
+acknowledges-not_waiting e nr h same = grind arith
 
 pub acknowledges-other : (e : EndState) (nr : ℕ) → nr ≢ vs e → acknowledges nr e ≡ false
 acknowledges-other e nr h = grind (arith, nat_tests)
 
 pub acknowledges-waiting : (e : EndState) (nr : ℕ) → HasWindowOfOne e → vs e ≢ va e → nr ≡ vs e → acknowledges nr e ≡ true
-acknowledges-waiting e nr h other same =
-    let waiting : is_outstanding e ≡ true = is_outstanding-one e (one_sent e h other) in
-    grind (arith, nat_tests)
+acknowledges-waiting e nr h other same = grind arith
 
-pub counts-nothing : (e : EndState) (nr : ℕ) → acknowledges nr e ≡ false → (counts nr e).after ≡ e
-counts-nothing e nr h = rw h
+pub counts_acks-nothing : (e : EndState) (nr : ℕ) → acknowledges nr e ≡ false → (counts_acks nr e).after ≡ e
+counts_acks-nothing e nr h = rw h
 
-pub counts-something : (e : EndState) (nr : ℕ) → acknowledges nr e ≡ true → (counts nr e).after ≡ with_acked e
-counts-something e nr h = rw h (after-reports (next_segment e).1 e)
+pub counts_acks-something : (e : EndState) (nr : ℕ) → acknowledges nr e ≡ true → (counts_acks nr e).after ≡ with_ack e
+counts_acks-something e nr h = rw h (after-reports_notice (next_segment e).1 e)
   where
-    after-reports : (more : Bool) (e : EndState) → (reports_acked more e).after ≡ with_acked e
-    after-reports true e = refl
-    after-reports false e = refl
+    after-reports_notice : (more : Bool) (e : EndState) → (reports_acked more e).after ≡ with_ack e
+    after-reports_notice true e = refl
+    after-reports_notice false e = refl
 
-pub ack_answer-nothing : (e : EndState) (nr : ℕ) → acknowledges nr e ≡ false → ack_answer nr e ≡ V.Nothing
-ack_answer-nothing e nr h = rw h
+pub acked_by_nr-segment : (e : EndState) (nr : ℕ) → acknowledges nr e ≡ true → (next_segment e).1 ≡ true →
+    acked_by_nr nr e ≡ V.Piece
+acked_by_nr-segment e nr h more = rw (h, more)
 
-pub ack_answer-segment : (e : EndState) (nr : ℕ) → acknowledges nr e ≡ true → (next_segment e).1 ≡ true → ack_answer nr e ≡ V.Piece
-ack_answer-segment e nr h more = rw (h, more)
+pub acked_by_nr-message : (e : EndState) (nr : ℕ) → acknowledges nr e ≡ true → (next_segment e).1 ≡ false →
+    acked_by_nr nr e ≡ V.Message (acked_message_number e)
+acked_by_nr-message e nr h more = rw (h, more)
 
-pub ack_answer-message : (e : EndState) (nr : ℕ) → acknowledges nr e ≡ true → (next_segment e).1 ≡ false →
-    ack_answer nr e ≡ V.Message (acked_number e)
-ack_answer-message e nr h more = rw (h, more)
+pub waiting_is : (e : EndState) (x : Segment) → awaits_ack e ≡ true → IsNext e x → Some x ≡ outstanding_segment e
+waiting_is e x waiting next = grind arith
 
-pub waiting_is : (e : EndState) (x : Segment) → is_outstanding e ≡ true → IsNext e x → Some x ≡ outstanding_segment e
-waiting_is e x waiting next = rw waiting (ap (λ (p : Segment). Some p) (sym next.piece))
-
-pub acked-is_outstanding : (e : EndState) → IsTrue (is_outstanding (with_acked e)) → ⊥
-acked-is_outstanding e t = absurd (false≢true (sym (is_outstanding-nothing (with_acked e) refl) ∙ t))
+pub acked-awaits_ack : (e : EndState) → IsTrue (awaits_ack (with_ack e)) → ⊥
+acked-awaits_ack e t = grind arith
 
 pub Represents-same : (w : Window) (e f : EndState) → f ≡ e → Represents w e → Represents w f
-Represents-same w e f same h = subst (Represents w) (sym same) h
+Represents-same w e f same h = grind arith

@@ -1,7 +1,6 @@
--- What a call's not being refused implies: none of the conditions of its refusals holds.
-use Rattle.std.proofs.Common.{◌≡◌, refl, sym, arith, Bool, true, false, not, nat_eq, nat_lt, List, ◌∷◌, length, None}
-use Rattle.std.proofs.lemmas.Bool.{false≢true, Decides.nat_tests}
-use Rattle.segmenting.specs.Segments.{Message, IsMessage}
+-- If a call is not refused, none of its refusal conditions holds.
+use Rattle.std.proofs.Common.{◌≡◌, refl, sym, arith, Bool, true, false, not, List, ◌∷◌, None}
+use Rattle.segmenting.specs.Segments.{Message, IsValidMessage}
 use Rattle.lapdm_window.specs.{declared.{State.State, Refused.Refused}, Ends.EndState, Rules.is_open, Calls.first_refusal}
 use Rattle.lapdm_window.specs.Calls.{message_refusals, is_idle}
 use Rattle.lapdm_window.specs.declared.State.TheVariants as S
@@ -12,31 +11,17 @@ pub record Passes (b : Bool) (refusal : Refused) (others : List (Bool × Refused
 
 pub passes : (b : Bool) (refusal : Refused) (others : List (Bool × Refused)) → first_refusal ((b, refusal) ∷ others) ≡ None →
     Passes b refusal others
-passes true refusal others h = cc
-passes false refusal others h = record { no = refl; rest = h }
+passes b refusal others h = grind arith
 
 pub not_false : (b : Bool) → not b ≡ false → b ≡ true
 not_false true h = refl
 not_false false h = sym h
 
-pub is_message : (m : Message) (x : EndState) → first_refusal (message_refusals m x) ≡ None → IsMessage m
-is_message m x h =
-    let some = passes _ _ _ h in
-    let most = passes _ _ _ some.rest in
-    let a : nat_eq (length m) 0 ≡ false = some.no in
-    let b : nat_lt 251 (length m) ≡ false = most.no in
-    record { some = grind (arith, nat_tests); most = grind (arith, nat_tests) }
+pub is_valid_message : (m : Message) (x : EndState) → first_refusal (message_refusals m x) ≡ None → IsValidMessage m
+is_valid_message m x h = grind arith
 
 pub is_idle-is : (s : State) → is_idle s ≡ true → s ≡ S.Idle
-is_idle-is S.Idle h = refl
-is_idle-is S.Opening h = absurd (false≢true h)
-is_idle-is S.Open h = absurd (false≢true h)
-is_idle-is S.Closing h = absurd (false≢true h)
-is_idle-is S.Closed h = absurd (false≢true h)
+is_idle-is s h = grind arith
 
 pub is_open-is : (s : State) → is_open s ≡ true → s ≡ S.Open
-is_open-is S.Open h = refl
-is_open-is S.Idle h = absurd (false≢true h)
-is_open-is S.Opening h = absurd (false≢true h)
-is_open-is S.Closing h = absurd (false≢true h)
-is_open-is S.Closed h = absurd (false≢true h)
+is_open-is s h = grind arith

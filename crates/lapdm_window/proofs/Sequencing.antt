@@ -1,6 +1,6 @@
 -- Properties of `o then rule` that follow from the same properties of `o` and of `rule`.
-use Rattle.std.proofs.{Common.{◌≡◌, sym, ◌∙◌, ap, ◌++◌, All, append_assoc}, lemmas.List.Elements.{All-append, filter_map-append}}
-use Rattle.std.specs.List.{filter_map}
+use Rattle.std.proofs.{Common.{◌≡◌, sym, ◌∙◌, ap, ◌++◌, All, append_assoc}, lemmas.List.Elements.All-append}
+use Rattle.std.{proofs.lemmas.List.Elements.filter_map-append, specs.List.filter_map}
 use Rattle.segmenting.specs.{lapdm_frame.Content.Frame, Joining.messages}
 use Rattle.lapdm_window.specs.{Ends.{EndState, Outcome, ◌then◌}, Steps.delivered_in_notice}
 

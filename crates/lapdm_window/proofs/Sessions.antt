@@ -93,16 +93,19 @@ sent octets fill = Ok ([], block octets fill ∷ [])
 
 -- another mobile establishes the link at the network first
 contention : session (idle_on Sdcch)
-    (Rival (0x02 ∷ []) ∷ Mob (Opens (0x01 ∷ [])) ∷ Up ∷ Net (Sends (0xaa ∷ [])) ∷ Net T200Expires ∷ Up ∷ Down ∷ Down ∷ Down ∷ Up ∷ [])
+    (Rival (0x02 ∷ []) ∷ Mob (Opens (0x01 ∷ [])) ∷ Up ∷ Net (Sends (0xaa ∷ [])) ∷ Net T200Expires ∷ Up ∷ Down ∷ Down
+    ∷ Down ∷ Up ∷ [])
     ≡ sent (0x01 ∷ 0x3f ∷ 0x05 ∷ 0x02 ∷ []) 19 ∷ sent (0x01 ∷ 0x3f ∷ 0x05 ∷ 0x01 ∷ []) 19
     ∷ Ok (N.Opened (0x02 ∷ []) ∷ [], block (0x01 ∷ 0x73 ∷ 0x05 ∷ 0x02 ∷ []) 19 ∷ [])
     ∷ sent (0x03 ∷ 0x00 ∷ 0x05 ∷ 0xaa ∷ []) 19 ∷ sent (0x03 ∷ 0x10 ∷ 0x05 ∷ 0xaa ∷ []) 19 ∷ nothing
-    ∷ Ok (N.Closed R.Contention ∷ [], []) ∷ nothing ∷ sent (0x03 ∷ 0x1f ∷ 0x01 ∷ []) 20 ∷ Ok (N.Closed R.Failed ∷ [], []) ∷ []
+    ∷ Ok (N.Closed R.Contention ∷ [], []) ∷ nothing ∷ sent (0x03 ∷ 0x1f ∷ 0x01 ∷ []) 20 ∷ Ok (N.Closed R.Failed ∷ [], [])
+    ∷ []
 contention = refl
 
 -- messages in both directions, one of which is acknowledged by an I frame
 both_ways : session open_pair
-    (Mob (Sends (0xaa ∷ [])) ∷ Mob (Sends (0xcc ∷ [])) ∷ Up ∷ LoseDown ∷ Net (Sends (0xbb ∷ [])) ∷ Down ∷ Up ∷ Down ∷ [])
+    (Mob (Sends (0xaa ∷ [])) ∷ Mob (Sends (0xcc ∷ [])) ∷ Up ∷ LoseDown ∷ Net (Sends (0xbb ∷ [])) ∷ Down ∷ Up ∷ Down
+    ∷ [])
     ≡ sent (0x01 ∷ 0x00 ∷ 0x05 ∷ 0xaa ∷ []) 19 ∷ nothing
     ∷ Ok (N.Got (0xaa ∷ []) ∷ [], block (0x01 ∷ 0x21 ∷ 0x01 ∷ []) 20 ∷ []) ∷ nothing
     ∷ sent (0x03 ∷ 0x20 ∷ 0x05 ∷ 0xbb ∷ []) 19
@@ -111,9 +114,11 @@ both_ways : session open_pair
 both_ways = refl
 
 crossing_rej : session open_pair
-    (Mob (Sends (0xaa ∷ [])) ∷ Mob T200Expires ∷ Up ∷ Up ∷ Mob (Sends (0xdd ∷ [])) ∷ Down ∷ Down ∷ Up ∷ Up ∷ Down ∷ Down ∷ [])
+    (Mob (Sends (0xaa ∷ [])) ∷ Mob T200Expires ∷ Up ∷ Up ∷ Mob (Sends (0xdd ∷ [])) ∷ Down ∷ Down ∷ Up ∷ Up ∷ Down
+    ∷ Down ∷ [])
     ≡ sent (0x01 ∷ 0x00 ∷ 0x05 ∷ 0xaa ∷ []) 19 ∷ sent (0x01 ∷ 0x10 ∷ 0x05 ∷ 0xaa ∷ []) 19
-    ∷ Ok (N.Got (0xaa ∷ []) ∷ [], block (0x01 ∷ 0x21 ∷ 0x01 ∷ []) 20 ∷ []) ∷ sent (0x01 ∷ 0x39 ∷ 0x01 ∷ []) 20 ∷ nothing
+    ∷ Ok (N.Got (0xaa ∷ []) ∷ [], block (0x01 ∷ 0x21 ∷ 0x01 ∷ []) 20 ∷ []) ∷ sent (0x01 ∷ 0x39 ∷ 0x01 ∷ []) 20
+    ∷ nothing
     ∷ Ok (N.Acked 1 ∷ [], block (0x01 ∷ 0x02 ∷ 0x05 ∷ 0xdd ∷ []) 19 ∷ []) ∷ sent (0x01 ∷ 0x02 ∷ 0x05 ∷ 0xdd ∷ []) 19
     ∷ Ok (N.Got (0xdd ∷ []) ∷ [], block (0x01 ∷ 0x41 ∷ 0x01 ∷ []) 20 ∷ []) ∷ sent (0x01 ∷ 0x49 ∷ 0x01 ∷ []) 20
     ∷ Ok (N.Acked 2 ∷ [], []) ∷ nothing ∷ []
@@ -127,7 +132,8 @@ unanswered_message = refl
 
 -- a release discards the messages that are not acknowledged
 release : session open_pair
-    (Mob (Sends (0xaa ∷ [])) ∷ Mob (Sends (0xbb ∷ [])) ∷ Mob (Sends (0xcc ∷ [])) ∷ Mob Closes ∷ Up ∷ Up ∷ Down ∷ Down ∷ Mob Closes ∷ [])
+    (Mob (Sends (0xaa ∷ [])) ∷ Mob (Sends (0xbb ∷ [])) ∷ Mob (Sends (0xcc ∷ [])) ∷ Mob Closes ∷ Up ∷ Up ∷ Down ∷ Down
+    ∷ Mob Closes ∷ [])
     ≡ sent (0x01 ∷ 0x00 ∷ 0x05 ∷ 0xaa ∷ []) 19 ∷ nothing ∷ nothing ∷ sent (0x01 ∷ 0x53 ∷ 0x01 ∷ []) 20
     ∷ Ok (N.Got (0xaa ∷ []) ∷ [], block (0x01 ∷ 0x21 ∷ 0x01 ∷ []) 20 ∷ [])
     ∷ Ok (N.Closed R.Released ∷ [], block (0x01 ∷ 0x73 ∷ 0x01 ∷ []) 20 ∷ []) ∷ nothing ∷ Ok
@@ -135,7 +141,8 @@ release : session open_pair
 release = refl
 
 release_at_once : session open_pair (Mob Closes ∷ Net Closes ∷ Up ∷ Down ∷ Down ∷ Up ∷ [])
-    ≡ sent (0x01 ∷ 0x53 ∷ 0x01 ∷ []) 20 ∷ sent (0x03 ∷ 0x53 ∷ 0x01 ∷ []) 20 ∷ sent (0x01 ∷ 0x73 ∷ 0x01 ∷ []) 20 ∷ sent
+    ≡ sent (0x01 ∷ 0x53 ∷ 0x01 ∷ []) 20 ∷ sent (0x03 ∷ 0x53 ∷ 0x01 ∷ []) 20 ∷ sent (0x01 ∷ 0x73 ∷ 0x01 ∷ []) 20
+    ∷ sent
     (0x03 ∷ 0x73 ∷ 0x01 ∷ []) 20
     ∷ Ok (N.Closed R.Released ∷ [], []) ∷ Ok (N.Closed R.Released ∷ [], []) ∷ []
 release_at_once = refl
@@ -146,13 +153,18 @@ eight_messages = refl
 
 -- on SACCH a message of 19 octets has two segments
 abbrev message_of_19_octets : Message
-message_of_19_octets = 0 ∷ 1 ∷ 2 ∷ 3 ∷ 4 ∷ 5 ∷ 6 ∷ 7 ∷ 8 ∷ 9 ∷ 10 ∷ 11 ∷ 12 ∷ 13 ∷ 14 ∷ 15 ∷ 16 ∷ 17 ∷ 18 ∷ []
+message_of_19_octets = 0 ∷ 1 ∷ 2 ∷ 3 ∷ 4 ∷ 5 ∷ 6 ∷ 7 ∷ 8 ∷ 9 ∷ 10 ∷ 11 ∷ 12 ∷ 13 ∷ 14 ∷ 15 ∷ 16 ∷ 17
+    ∷ 18 ∷ []
 
 two_segments_on_sacch : session (idle_on Sacch)
-    (Mob (Opens (replicate 19 0)) ∷ Mob (Opens (0x01 ∷ [])) ∷ Up ∷ Down ∷ Mob (Sends message_of_19_octets) ∷ Up ∷ Down ∷ Up ∷ Down ∷ [])
+    (Mob (Opens (replicate 19 0)) ∷ Mob (Opens (0x01 ∷ [])) ∷ Up ∷ Down ∷ Mob (Sends message_of_19_octets) ∷ Up ∷ Down ∷ Up
+    ∷ Down ∷ [])
     ≡ Err No.TooLong ∷ sent (0x00 ∷ 0x00 ∷ 0x01 ∷ 0x3f ∷ 0x05 ∷ 0x01 ∷ []) 17
-    ∷ Ok (N.Opened (0x01 ∷ []) ∷ [], block (0x00 ∷ 0x00 ∷ 0x01 ∷ 0x73 ∷ 0x05 ∷ 0x01 ∷ []) 17 ∷ []) ∷ Ok (N.Opened (0x01 ∷ []) ∷ [], [])
-    ∷ sent (0x00 ∷ 0x00 ∷ 0x01 ∷ 0x00 ∷ 0x4b ∷ 0 ∷ 1 ∷ 2 ∷ 3 ∷ 4 ∷ 5 ∷ 6 ∷ 7 ∷ 8 ∷ 9 ∷ 10 ∷ 11 ∷ 12 ∷ 13 ∷ 14 ∷ 15 ∷ 16 ∷ 17 ∷ []) 0
+    ∷ Ok (N.Opened (0x01 ∷ []) ∷ [], block (0x00 ∷ 0x00 ∷ 0x01 ∷ 0x73 ∷ 0x05 ∷ 0x01 ∷ []) 17 ∷ [])
+    ∷ Ok (N.Opened (0x01 ∷ []) ∷ [], [])
+    ∷ sent (0x00 ∷ 0x00 ∷ 0x01 ∷ 0x00 ∷ 0x4b ∷ 0 ∷ 1 ∷ 2 ∷ 3 ∷ 4 ∷ 5 ∷ 6 ∷ 7 ∷ 8 ∷ 9 ∷ 10 ∷ 11 ∷ 12
+    ∷ 13 ∷ 14 ∷ 15 ∷ 16 ∷ 17 ∷ []) 0
     ∷ sent (0x00 ∷ 0x00 ∷ 0x01 ∷ 0x21 ∷ 0x01 ∷ []) 18 ∷ sent (0x00 ∷ 0x00 ∷ 0x01 ∷ 0x02 ∷ 0x05 ∷ 0x12 ∷ []) 17
-    ∷ Ok (N.Got message_of_19_octets ∷ [], block (0x00 ∷ 0x00 ∷ 0x01 ∷ 0x41 ∷ 0x01 ∷ []) 18 ∷ []) ∷ Ok (N.Acked 1 ∷ [], []) ∷ []
+    ∷ Ok (N.Got message_of_19_octets ∷ [], block (0x00 ∷ 0x00 ∷ 0x01 ∷ 0x41 ∷ 0x01 ∷ []) 18 ∷ [])
+    ∷ Ok (N.Acked 1 ∷ [], []) ∷ []
 two_segments_on_sacch = refl

@@ -1,19 +1,20 @@
 -- A step produces at most two frames and two notices, and delivers the messages that its accepted segments complete. The bounds of two
 -- rules joined by `then` add up.
-use Rattle.std.proofs.Common.{◌≡◌, refl, sym, ◌∙◌, ap, arith, ℕ, ◌+◌, ◌≤◌, Bool, true, false, if◌then◌else◌, nat_eq, nat_lt, [], ◌∷◌, ◌++◌}
-use Rattle.std.{proofs.{Common.length, lemmas.List.{length-append, append-nil}}, specs.List.filter_map}
+use Rattle.std.proofs.Common.{◌≡◌, refl, ◌∙◌, ap, arith, ℕ, ◌+◌, ◌≤◌, Bool, true, false, if◌then◌else◌}
+use Rattle.std.proofs.{Common.{nat_eq, nat_lt, [], ◌∷◌, ◌++◌, length}, lemmas.List.{length-append, append-nil}}
+use Rattle.std.specs.List.{filter_map}
 use Rattle.segmenting.specs.{lapdm_frame.Content.Frame, declared.joiner.Joined.Joined, Segments.{Message, Segment}, Joining.messages}
-use Rattle.segmenting.{specs.Joining.{unfinished_octets, segment_answer, delivered_with_answer}, proofs.Lemmas.messages-push}
-use Rattle.lapdm_window.specs.{declared.Notice.Notice, Ends.{EndState, Outcome, no_effect, sends_frame, reports, ◌then◌, next_segment}}
-use Rattle.lapdm_window.specs.{Ends.{n200, vr}, Rules.{may_send_next, sends_segment, sends_next, acknowledges, reports_acked, counts}}
-use Rattle.lapdm_window.specs.Rules.{segment_notices, accepts_segment, sends_rr, answers_segment, reject_is_due, rejects_segment}
-use Rattle.lapdm_window.specs.{Rules.{takes_i_frame, answers_poll, takes_rr, sends_again, takes_rej}, Calls.{Call, Opens, OpensBare, Sends}}
-use Rattle.lapdm_window.specs.{Calls.{SendsUnit, Closes, T200Expires, SendsFill, after_call, with_queued}, Tables.{Reply, Nothing, SendsDm}}
-use Rattle.lapdm_window.specs.Tables.{SendsUa, AcceptsSabm, ConfirmsEstablishment, ClosesLink, AcceptsDisc, TakesUnit, TakesI, TakesRr}
-use Rattle.lapdm_window.specs.Tables.{TakesRej, sends_ua, opens_and_reports, closes_and_reports, outcome_of, reply_to, after_frame}
-use Rattle.lapdm_window.{specs.Steps.delivered_in_notice, proofs.Sequencing.{Delivers, then-delivers}}
+use Rattle.segmenting.{specs.Joining.{partial_message, segment_answer, message_if_whole}, proofs.Lemmas.messages-push}
+use Rattle.lapdm_window.specs.{declared.Notice.Notice, Ends.{EndState, Outcome, no_effect, sends_frame, reports_notice, ◌then◌}}
+use Rattle.lapdm_window.specs.{Ends.{next_segment, n200, vr}, Rules.{may_send_next, sends_segment, sends_next, acknowledges, reports_acked}}
+use Rattle.lapdm_window.specs.Rules.{counts_acks, segment_notices, accepts_segment, sends_rr, answers_segment, reject_is_due}
+use Rattle.lapdm_window.specs.{Rules.{rejects_segment, takes_i_frame, answers_poll, takes_rr, takes_rej}, Calls.{Call, Opens, OpensBare}}
+use Rattle.lapdm_window.specs.{Calls.{Sends, SendsUnit, Closes, T200Expires, SendsFill, call_outcome, with_message}, Tables.Reply}
+use Rattle.lapdm_window.specs.Tables.{Nothing, SendsDm, SendsUa, AcceptsSabm, ConfirmsEstablishment, ClosesLink, AcceptsDisc, TakesUnit}
+use Rattle.lapdm_window.specs.Tables.{TakesI, TakesRr, TakesRej, sends_ua, opens_and_reports, closes_and_reports, outcome_of}
+use Rattle.lapdm_window.{specs.{Tables.{reply_to_frame, frame_outcome}, Steps.delivered_in_notice}, proofs.Sequencing.Delivers}
+use Rattle.lapdm_window.proofs.Sequencing.{then-delivers}
 use Rattle.segmenting.specs.declared.joiner.Joined.TheVariants as J
-use Rattle.lapdm_window.specs.declared.State.TheVariants as S
 
 pub record AtMost (m n : ℕ) (x : EndState) (o : Outcome) : Type 0 where
   pub frames : length o.frames ≤ m
@@ -21,28 +22,26 @@ pub record AtMost (m n : ℕ) (x : EndState) (o : Outcome) : Type 0 where
   pub delivered : Delivers x o
 
 more : (m n m' n' : ℕ) {x : EndState} (o : Outcome) → m ≤ m' → n ≤ n' → AtMost m n x o → AtMost m' n' x o
-more m n m' n' o a b h = record { frames = omega (arith, h.frames, a); notices = omega (arith, h.notices, b); delivered = h.delivered }
+more m n m' n' o a b h = grind arith
 
 by_test : (m n : ℕ) (b : Bool) {x : EndState} (o p : Outcome) → AtMost m n x o → AtMost m n x p → AtMost m n x (if b then o else p)
 by_test m n true o p h g = h
 by_test m n false o p h g = g
 
-both : (m n k l : ℕ) {x : EndState} (o : Outcome) (rule : EndState → Outcome) → AtMost m n x o → AtMost k l o.after (rule o.after) →
-    AtMost (m + k) (n + l) x (o then rule)
-both m n k l {x} o rule h g = record {
-  frames = omega (arith, h.frames, g.frames, length-append o.frames (rule o.after).frames);
-  notices = omega (arith, h.notices, g.notices, length-append o.notices (rule o.after).notices);
-  delivered = then-delivers x o rule h.delivered g.delivered;
-}
+both : (m n k l : ℕ) {x : EndState} (o : Outcome) (rule : EndState → Outcome) → AtMost m n x o →
+    AtMost k l o.after (rule o.after) → AtMost (m + k) (n + l) x (o then rule)
+both m n k l {x} o rule h g =
+    grind (
+      arith,
+      length-append o.frames (rule o.after).frames,
+      length-append o.notices (rule o.after).notices,
+      then-delivers x o rule h.delivered g.delivered,
+    )
 
 -- an outcome that accepts no segment and delivers no message satisfies `AtMost`
-plain : (m n : ℕ) (x : EndState) (o : Outcome) → length o.frames ≤ m → length o.notices ≤ n → o.after.accepted ≡ x.accepted →
-    filter_map delivered_in_notice o.notices ≡ [] → AtMost m n x o
-plain m n x o frames notices same none = record {
-  frames = frames;
-  notices = notices;
-  delivered = ap messages same ∙ sym (append-nil (messages x.accepted)) ∙ ap (λ ms. messages x.accepted ++ ms) (sym none);
-}
+plain : (m n : ℕ) (x : EndState) (o : Outcome) → length o.frames ≤ m → length o.notices ≤ n →
+    o.after.accepted ≡ x.accepted → filter_map delivered_in_notice o.notices ≡ [] → AtMost m n x o
+plain m n x o frames notices same none = grind (arith, append-nil (messages x.accepted))
 
 nothing : (m n : ℕ) (x : EndState) → AtMost m n x (no_effect x)
 nothing m n x = plain m n x (no_effect x) (omega arith) (omega arith) refl refl
@@ -52,16 +51,16 @@ a_frame n x f e same = plain 1 n x (sends_frame f e) (omega arith) (omega arith)
 
 a_notice : (m : ℕ) (x : EndState) (note : Notice) (e : EndState) → e.accepted ≡ x.accepted →
     filter_map delivered_in_notice (note ∷ []) ≡ [] →
-    AtMost m 1 x (reports note e)
-a_notice m x note e same none = plain m 1 x (reports note e) (omega arith) (omega arith) same none
+    AtMost m 1 x (reports_notice note e)
+a_notice m x note e same none = plain m 1 x (reports_notice note e) (omega arith) (omega arith) same none
 
 -- ---- the rules of the window
 
 few-next : (e : EndState) → AtMost 1 0 e (sends_next e)
 few-next e = by_test 1 0 (may_send_next e) (sends_segment e) (no_effect e) (a_frame 0 e _ _ refl) (nothing 1 0 e)
 
-few-counts : (nr : ℕ) (e : EndState) → AtMost 0 1 e (counts nr e)
-few-counts nr e = by_test 0 1 (acknowledges nr e) (reports_acked (next_segment e).1 e) (no_effect e) (by_more (next_segment e).1 e)
+few-counts_acks : (nr : ℕ) (e : EndState) → AtMost 0 1 e (counts_acks nr e)
+few-counts_acks nr e = by_test 0 1 (acknowledges nr e) (reports_acked (next_segment e).1 e) (no_effect e) (by_more (next_segment e).1 e)
     (nothing 0 1 e)
   where
     by_more : (b : Bool) (x : EndState) → AtMost 0 1 x (reports_acked b x)
@@ -71,7 +70,7 @@ few-counts nr e = by_test 0 1 (acknowledges nr e) (reports_acked (next_segment e
 few-accepts_segment : (segment : Segment) (e : EndState) → AtMost 0 1 e (accepts_segment segment e)
 few-accepts_segment segment e =
     let j : Joined = segment_answer e.accepted segment in
-    let m : Message = unfinished_octets e.accepted ++ segment.0 in
+    let m : Message = partial_message e.accepted ++ segment.0 in
     record {
       frames = omega arith;
       notices = at_most_one j segment.1 m;
@@ -84,15 +83,12 @@ few-accepts_segment segment e =
     at_most_one J.Oversize true m = omega arith
     at_most_one J.More b m = omega arith
 
-    same_messages : (j : Joined) (b : Bool) (m : Message) → delivered_with_answer j m ≡ filter_map delivered_in_notice
+    same_messages : (j : Joined) (b : Bool) (m : Message) → message_if_whole j m ≡ filter_map delivered_in_notice
         (segment_notices j b m)
-    same_messages J.Whole b m = refl
-    same_messages J.Oversize false m = refl
-    same_messages J.Oversize true m = refl
-    same_messages J.More b m = refl
+    same_messages j b m = grind arith
 
 few-answers : (p : Bool) (e : EndState) → AtMost 2 0 e (answers_segment p e)
-few-answers true e = both 1 0 1 0 (sends_rr true e) sends_next (a_frame 0 e _ e refl) (few-next e)
+few-answers true e = grind (arith, few-next e)
 few-answers false e = by_test 2 0 (may_send_next e) (sends_segment e) (sends_rr false e)
     (more 1 0 2 0 _ (omega arith) (omega arith) (a_frame 0 e _ _ refl)) (more 1 0 2 0 _ (omega arith) (omega arith) (a_frame 0 e _ e refl))
 
@@ -103,39 +99,39 @@ few-poll : (b : Bool) (e : EndState) → AtMost 1 0 e (answers_poll b e)
 few-poll b e = by_test 1 0 b (sends_rr true e) (no_effect e) (a_frame 0 e _ e refl) (nothing 1 0 e)
 
 -- the bounds for a rule that evaluates an N(R) and then applies two further rules
-counted : (m n k l : ℕ) (nr : ℕ) (first second : EndState → Outcome) (e : EndState) → ((x : EndState) → AtMost m n x (first x)) →
-    ((x : EndState) → AtMost k l x (second x)) → m + k ≤ 2 → 1 + n + l ≤ 2 →
-    AtMost 2 2 e (counts nr e then first then second)
+counted : (m n k l : ℕ) (nr : ℕ) (first second : EndState → Outcome) (e : EndState) →
+    ((x : EndState) → AtMost m n x (first x)) → ((x : EndState) → AtMost k l x (second x)) → m + k ≤ 2 → 1 + n + l ≤ 2 →
+    AtMost 2 2 e (counts_acks nr e then first then second)
 counted m n k l nr first second e h g frames notices =
-    more (0 + m + k) (1 + n + l) 2 2 (counts nr e then first then second) (omega (arith, frames)) notices
-    (both (0 + m) (1 + n) k l (counts nr e then first) second (both 0 1 m n (counts nr e) first (few-counts nr e) (h (counts nr e).after))
-    (g (counts nr e then first).after))
+    grind (
+      arith,
+      both (0 + m) (1 + n) k l (counts_acks nr e then first) second
+          (both 0 1 m n (counts_acks nr e) first (few-counts_acks nr e) (h (counts_acks nr e).after))
+          (g (counts_acks nr e then first).after),
+    )
 
 few-i : (ns nr : ℕ) (p : Bool) (segment : Segment) (e : EndState) → AtMost 2 2 e (takes_i_frame ns nr p segment e)
 few-i ns nr p segment e =
-    by_test 2 2 (nat_eq ns (vr e)) (counts nr e then accepts_segment segment then answers_segment p)
-    (counts nr e then rejects_segment p then sends_next)
+    by_test 2 2 (nat_eq ns (vr e)) (counts_acks nr e then accepts_segment segment then answers_segment p)
+    (counts_acks nr e then rejects_segment p then sends_next)
     (counted 0 1 2 0 nr (accepts_segment segment) (answers_segment p) e (few-accepts_segment segment) (few-answers p) (omega arith)
     (omega arith))
     (counted 1 0 1 0 nr (rejects_segment p) sends_next e (few-rejects_segment p) few-next (omega arith) (omega arith))
 
 few-rr : (nr : ℕ) (b : Bool) (e : EndState) → AtMost 2 2 e (takes_rr nr b e)
-few-rr nr b e = counted 1 0 1 0 nr (answers_poll b) sends_next e (few-poll b) few-next (omega arith) (omega arith)
-
-few-again : (e : EndState) → AtMost 1 0 e (sends_again e)
-few-again e = by_test 1 0 _ _ (sends_next e) (a_frame 0 e _ e refl) (few-next e)
+few-rr nr b e = grind (arith, few-poll b)
 
 few-rej : (nr : ℕ) (b : Bool) (e : EndState) → AtMost 2 2 e (takes_rej nr b e)
-few-rej nr b e = counted 1 0 1 0 nr (answers_poll b) sends_again e (few-poll b) few-again (omega arith) (omega arith)
+few-rej nr b e = grind (arith, few-poll b)
 
 -- ---- the tables
 
 one_frame : (x : EndState) (f : Frame) (e : EndState) → e.accepted ≡ x.accepted → AtMost 2 2 x (sends_frame f e)
 one_frame x f e same = more 1 0 2 2 _ (omega arith) (omega arith) (a_frame 0 x f e same)
 
-one_notice : (x : EndState) (note : Notice) (e : EndState) → e.accepted ≡ x.accepted → filter_map delivered_in_notice (note ∷ []) ≡ [] →
-    AtMost 2 2 x (reports note e)
-one_notice x note e same none = more 0 1 2 2 _ (omega arith) (omega arith) (a_notice 0 x note e same none)
+one_notice : (x : EndState) (note : Notice) (e : EndState) → e.accepted ≡ x.accepted →
+    filter_map delivered_in_notice (note ∷ []) ≡ [] → AtMost 2 2 x (reports_notice note e)
+one_notice x note e same none = grind (arith, a_notice 0 x note e same none)
 
 few-reply : (r : Reply) (e : EndState) → AtMost 2 2 e (outcome_of r e)
 few-reply Nothing e = nothing 2 2 e
@@ -154,15 +150,13 @@ few-reply (TakesI ns nr p segment) e = few-i ns nr p segment e
 few-reply (TakesRr nr poll) e = few-rr nr poll e
 few-reply (TakesRej nr poll) e = few-rej nr poll e
 
-pub few-frame : (f : Frame) (e : EndState) → AtMost 2 2 e (after_frame f e)
-few-frame f e = few-reply (reply_to f e) e
+pub few-frame : (f : Frame) (e : EndState) → AtMost 2 2 e (frame_outcome f e)
+few-frame f e = few-reply (reply_to_frame f e) e
 
-pub few-call : (call : Call) (e : EndState) → AtMost 2 2 e (after_call call e)
+pub few-call : (call : Call) (e : EndState) → AtMost 2 2 e (call_outcome call e)
 few-call (Opens info) e = one_frame e _ _ refl
 few-call OpensBare e = one_frame e _ _ refl
-few-call (Sends m) e =
-    let h : AtMost 1 0 (with_queued m e) (sends_next (with_queued m e)) = few-next (with_queued m e) in
-    record { frames = omega (arith, h.frames); notices = omega (arith, h.notices); delivered = h.delivered }
+few-call (Sends m) e = grind (arith, few-next (with_message m e))
 few-call (SendsUnit m) e = one_frame e _ e refl
 few-call Closes e = one_frame e _ _ refl
 few-call T200Expires e = by_test 2 2 (nat_lt e.retries (n200 e.channel e.state)) _ (closes_and_reports _ e) (one_frame e _ _ refl)

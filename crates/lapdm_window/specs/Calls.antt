@@ -1,4 +1,4 @@
--- The calls that layer 3 makes to an endpoint, and why each may be refused.
+-- The calls of layer 3 to an endpoint, and the reasons for refusing them.
 use Rattle.std.specs.Prelude.{◌≡◌, ◌+◌, Bool, true, false, not, if◌then◌else◌, nat_eq, nat_lt, nat_le, List, []}
 use Rattle.std.specs.Prelude.{◌∷◌, ◌++◌, length, Option}
 use Rattle.std.specs.Prelude.{Some, None}
@@ -14,12 +14,12 @@ use Rattle.lapdm_window.specs.declared.State.TheVariants.{Idle, Opening, Closing
 use Rattle.lapdm_window.specs.declared.Reason.TheVariants as R
 use Rattle.lapdm_window.specs.declared.Refused.{Refused}
 use Rattle.lapdm_window.specs.declared.Refused.TheVariants as No
-use Rattle.lapdm_window.specs.Ends.{EndState, Outcome, sends_frame, command, command_cr, unacked_message_count, awaits_answer, n200}
+use Rattle.lapdm_window.specs.Ends.{EndState, Outcome, sends_frame, command_frame, command_cr, unacked_message_count, awaits_answer, n200}
 use Rattle.lapdm_window.specs.Rules.{is_open, sends_next, outstanding_frame}
 use Rattle.lapdm_window.specs.Tables.{closes_and_reports}
 
--- a call of layer 3: establish the link with or without information, send an acknowledged message, send a message in a UI frame, release
--- the link, T200 expiry, or send the fill frame
+-- a call to an endpoint: layer 3 establishes the link with or without information, sends a message in I frames or in a UI frame, or
+-- releases the link; T200 expires; or the fill frame is to be sent
 pub data Call : Type 0 where
   Opens : (info : Message) → Call
   OpensBare : Call
@@ -29,7 +29,7 @@ pub data Call : Type 0 where
   T200Expires : Call
   SendsFill : Call
 
--- the call that a `Call` of the program represents
+-- translates a program `Call` into a specification `Call`
 abbrev pub call_of : Asked → Call
 call_of (A.Open info) = Opens info.now
 call_of A.OpenBare = OpensBare
@@ -39,16 +39,17 @@ call_of A.Close = Closes
 call_of A.Timer = T200Expires
 call_of A.Idle = SendsFill
 
--- the calls that an endpoint of this SAPI accepts: SAPI 0 is established with information, SAPI 3 without
+-- an endpoint with this SAPI has this call: `Opens` exists only on SAPI 0, `OpensBare` only on SAPI 3, every other call on both
 abbrev pub IsCallOfSapi : Sapi → Call → Type 0
 IsCallOfSapi sapi (Opens info) = sapi ≡ Zero
 IsCallOfSapi sapi OpensBare = sapi ≡ Three
 IsCallOfSapi sapi other = Unit {0}
 
+-- an endpoint has this call, given its SAPI
 abbrev pub IsCallOfItsSapi : EndState → Call → Type 0
 IsCallOfItsSapi e call = IsCallOfSapi e.sapi call
 
--- the call sends a UI frame and leaves the state of the endpoint unchanged
+-- the call sends a UI frame and leaves the endpoint state unchanged
 abbrev pub SendsUiFrame : Call → Type 0
 SendsUiFrame (SendsUnit m) = Unit {0}
 SendsUiFrame SendsFill = Unit {0}
@@ -59,13 +60,14 @@ abbrev pub is_idle : State → Bool
 is_idle Idle = true
 is_idle other = false
 
--- the refusal of the first pair whose condition holds
+-- the refusal in the first pair whose condition is true, or `None` if no condition is true
 abbrev pub first_refusal : List (Bool × Refused) → Option Refused
 first_refusal [] = None
 first_refusal ((true, refusal) ∷ others) = Some refusal
 first_refusal ((false, refusal) ∷ others) = first_refusal others
 
--- why the window refuses a message, in the order tested: it is empty, it has more than 251 octets, or eight messages are unacknowledged
+-- the conditions for refusing a message to be sent in I frames, in the order tested: it is empty, it has more than 251 octets, or eight
+-- messages are not yet fully acknowledged
 abbrev pub message_refusals : Message → EndState → List (Bool × Refused)
 message_refusals m e =
     (nat_eq (length m) 0, No.Empty) ∷ (nat_lt max_message_octets (length m), No.TooLong) ∷ (
@@ -74,59 +76,62 @@ message_refusals m e =
       No.Full,
     ) ∷ []
 
--- why information or a message does not fit in one frame, in the order tested: it is empty, or it has more than N201 octets
+-- the conditions for refusing information or a message to be sent in one frame, in the order tested: it is empty, or it has more than N201
+-- octets
 abbrev pub frame_refusals : Message → EndState → List (Bool × Refused)
 frame_refusals m e =
     (nat_eq (length m) 0, No.Empty) ∷ (nat_lt (n201 e.channel) (length m), No.TooLong) ∷ []
 
--- the conditions under which a call is refused, in the order in which they are tested
-abbrev pub refusals : Call → EndState → List (Bool × Refused)
-refusals (Opens info) e = (not (is_idle e.state), No.NotIdle) ∷ frame_refusals info e
-refusals OpensBare e = (not (is_idle e.state), No.NotIdle) ∷ []
-refusals (Sends m) e = (not (is_open e.state), No.NotOpen) ∷ message_refusals m e
-refusals (SendsUnit m) e = frame_refusals m e
-refusals Closes e = (not (is_open e.state), No.NotOpen) ∷ []
-refusals T200Expires e = (not (awaits_answer e), No.NotRunning) ∷ []
-refusals SendsFill e = []
+-- the conditions for refusing a call, each with the reason returned, in the order tested
+abbrev pub call_refusals : Call → EndState → List (Bool × Refused)
+call_refusals (Opens info) e = (not (is_idle e.state), No.NotIdle) ∷ frame_refusals info e
+call_refusals OpensBare e = (not (is_idle e.state), No.NotIdle) ∷ []
+call_refusals (Sends m) e = (not (is_open e.state), No.NotOpen) ∷ message_refusals m e
+call_refusals (SendsUnit m) e = frame_refusals m e
+call_refusals Closes e = (not (is_open e.state), No.NotOpen) ∷ []
+call_refusals T200Expires e = (not (awaits_answer e), No.NotRunning) ∷ []
+call_refusals SendsFill e = []
 
--- why a call is refused, or `None` if it is not
+-- the reason why the call is refused, or `None` if it is accepted
 abbrev pub refusal_of : Call → EndState → Option Refused
-refusal_of call e = first_refusal (refusals call e)
+refusal_of call e = first_refusal (call_refusals call e)
 
--- the SABM and the DISC that an endpoint sends, both with P = 1
+-- the SABM that an endpoint sends, with P = 1 and the information kept in its state
 abbrev pub sabm : EndState → Frame
-sabm e = command e (Sabm true e.kept)
+sabm e = command_frame e (Sabm true e.kept)
 
+-- the DISC that an endpoint sends, with P = 1
 abbrev pub disc : EndState → Frame
-disc e = command e (Disc true)
+disc e = command_frame e (Disc true)
 
--- the endpoint sends a SABM with this information and is now in Opening
+-- the endpoint sends a SABM with this information and enters state Opening
 abbrev pub sends_sabm : Message → EndState → Outcome
 sends_sabm info e = let later = record e { state = Opening; kept = info; retries = 0 } in sends_frame (sabm later) later
 
--- the state of the endpoint after layer 3 hands over a message to send
-abbrev pub with_queued : Message → EndState → EndState
-with_queued m e = record e { taken = e.taken ++ m ∷ [] }
+-- the endpoint state after layer 3 has passed it this message to send
+abbrev pub with_message : Message → EndState → EndState
+with_message m e = record e { taken = e.taken ++ m ∷ [] }
 
--- the frame that T200 expiry repeats: SABM, DISC, or the outstanding I frame with P = 1
+-- the frame that is repeated at T200 expiry: the SABM in Opening, the DISC in Closing, otherwise the outstanding I frame with P = 1
 abbrev pub repeated_frame : State → EndState → Frame
 repeated_frame Opening e = sabm e
 repeated_frame Closing e = disc e
 repeated_frame other e = outstanding_frame true e
 
--- what T200 expiry does: the frame is repeated at most N200 times, and then the link fails (section 5.5.7 for state Open)
+-- the outcome of T200 expiry: the frame that awaits an answer is repeated or, after N200 repetitions, the link is closed as failed (section
+-- 5.5.7 for state Open)
 abbrev pub t200_expiry : EndState → Outcome
 t200_expiry e =
     if nat_lt e.retries (n200 e.channel e.state)
     then sends_frame (repeated_frame e.state e) (record e { retries = e.retries + 1 })
     else closes_and_reports R.Failed e
 
--- the outcome of a call that is not refused
-abbrev pub after_call : Call → EndState → Outcome
-after_call (Opens info) e = sends_sabm info e
-after_call OpensBare e = sends_sabm [] e
-after_call (Sends m) e = sends_next (with_queued m e)
-after_call (SendsUnit m) e = sends_frame (command e (Ui false m)) e
-after_call Closes e = sends_frame (disc e) (record e { state = Closing; retries = 0 })
-after_call T200Expires e = t200_expiry e
-after_call SendsFill e = sends_frame (fill (command_cr e.role)) e
+-- the outcome of an accepted call: the new state, the frames sent and the notices reported
+abbrev pub call_outcome : Call → EndState → Outcome
+call_outcome (Opens info) e = sends_sabm info e
+call_outcome OpensBare e = sends_sabm [] e
+call_outcome (Sends m) e = sends_next (with_message m e)
+call_outcome (SendsUnit m) e = sends_frame (command_frame e (Ui false m)) e
+call_outcome Closes e = sends_frame (disc e) (record e { state = Closing; retries = 0 })
+call_outcome T200Expires e = t200_expiry e
+call_outcome SendsFill e = sends_frame (fill (command_cr e.role)) e

@@ -1,5 +1,5 @@
--- One endpoint of a data link (GSM 04.06, section 5). Its state contains its whole history: all messages and segments, with counts that are
--- not taken modulo 8.
+-- One endpoint of a data link (GSM 04.06, section 5). Its state records the whole history: all messages and segments, and counts that do
+-- not wrap around modulo 8.
 use Rattle.std.specs.Prelude.{◌≡◌, ℕ, ◌+◌, ◌-◌, ◌%◌, ◌^◌, ◌≤◌, min, Bool, true, false, not, nat_eq, List}
 use Rattle.std.specs.Prelude.{[], ◌∷◌, ◌++◌, length, take, slice_index_or, All}
 use Rattle.std.specs.List.{flat_map}
@@ -7,8 +7,8 @@ use Rattle.segmenting.specs.lapdm_frame.declared.Channel.{Channel}
 use Rattle.segmenting.specs.lapdm_frame.declared.Channel.TheVariants.{Sdcch}
 use Rattle.segmenting.specs.lapdm_frame.Layout.{n201}
 use Rattle.segmenting.specs.lapdm_frame.Content.{Content, Frame}
-use Rattle.segmenting.specs.Segments.{Message, Segment, IsMessage, segments}
-use Rattle.segmenting.specs.Joining.{completed_count}
+use Rattle.segmenting.specs.Segments.{Message, Segment, IsValidMessage, segments}
+use Rattle.segmenting.specs.Joining.{message_count}
 use Rattle.lapdm_window.specs.declared.Sapi.{Sapi}
 use Rattle.lapdm_window.specs.declared.Sapi.TheVariants.{Zero, Three}
 use Rattle.lapdm_window.specs.declared.State.{State}
@@ -26,14 +26,15 @@ pub record EndState : Type 0 where
   pub sapi : Sapi
   pub channel : Channel
   pub state : State
-  -- the information in the SABM that this endpoint sent, or in the SABM that established its link
+  -- the information of the SABM that this endpoint sent, or of the SABM that established its link
   pub kept : Message
-  -- all messages that layer 3 has handed over to send
+  -- all messages that layer 3 has passed to this endpoint to send in I frames, in order
   pub taken : List Message
-  -- of all segments of these messages, the number acknowledged and the number sent
+  -- the number of segments acknowledged so far, over all messages
   pub acked : ℕ
+  -- the number of segments sent so far, over all messages
   pub sent : ℕ
-  -- all segments that this endpoint has accepted from the other
+  -- all segments that this endpoint has accepted from its peer, in order
   pub accepted : List Segment
   -- the reject condition: a REJ was sent, and no segment has been accepted since
   pub rejecting : Bool
@@ -56,7 +57,7 @@ start role sapi channel = record {
   retries = 0;
 }
 
--- the segments of all messages that layer 3 has handed over
+-- the segments of all messages that layer 3 has passed to this endpoint, in order
 abbrev pub all_segments : EndState → List Segment
 all_segments e = flat_map (segments (n201 e.channel)) e.taken
 
@@ -64,9 +65,9 @@ all_segments e = flat_map (segments (n201 e.channel)) e.taken
 abbrev pub next_segment : EndState → Segment
 next_segment e = slice_index_or (all_segments e) e.acked ([], false)
 
--- the window is one frame (section 5.8.4): at most one segment is sent and not acknowledged
+-- the window size is 1 (section 5.8.4): at most one segment has been sent but not yet acknowledged
 pub record HasWindowOfOne (e : EndState) : Type 0 where
-  pub messages : All IsMessage e.taken
+  pub messages : All IsValidMessage e.taken
   pub sent : e.sent ≤ length (all_segments e)
   pub behind : e.acked ≤ e.sent
   pub window : e.sent ≤ e.acked + 1
@@ -77,55 +78,59 @@ IsBeforeOpen Idle = Unit {0}
 IsBeforeOpen Opening = Unit {0}
 IsBeforeOpen other = ⊥
 
--- the invariant of an endpoint: the window is one frame; the kept information fits in a frame, and is empty on SAPI 3; before state Open,
--- layer 3 has sent no message and no segment has been accepted
+-- the invariant of an endpoint: its window size is 1; its SABM information fits in a frame and is empty on SAPI 3; before state Open, it
+-- has taken no message from layer 3 and accepted no segment
 pub record IsValidEndpoint (e : EndState) : Type 0 where
   pub window : HasWindowOfOne e
   pub kept : length e.kept ≤ n201 e.channel
-  pub bare : e.sapi ≡ Three → e.kept ≡ []
+  pub empty_on_sapi3 : e.sapi ≡ Three → e.kept ≡ []
   pub taken : IsBeforeOpen e.state → e.taken ≡ []
   pub accepted : IsBeforeOpen e.state → e.accepted ≡ []
 
--- an I frame is outstanding: sent and not acknowledged
-abbrev pub is_outstanding : EndState → Bool
-is_outstanding e = not (nat_eq e.sent e.acked)
+-- whether an I frame is outstanding, that is, sent but not yet acknowledged
+abbrev pub awaits_ack : EndState → Bool
+awaits_ack e = not (nat_eq e.sent e.acked)
 
--- V(S), V(A) and V(R), each 0 to 7 (section 3.5.2)
+-- the send state variable V(S), 0 to 7 (section 3.5.2)
 abbrev pub vs : EndState → ℕ
 vs e = e.sent % 8
 
+-- the acknowledge state variable V(A), 0 to 7 (section 3.5.2)
 abbrev pub va : EndState → ℕ
 va e = e.acked % 8
 
+-- the receive state variable V(R), 0 to 7 (section 3.5.2)
 abbrev pub vr : EndState → ℕ
 vr e = length e.accepted % 8
 
--- the number of messages of which all segments are acknowledged
+-- the number of fully acknowledged messages, that is, those all of whose segments are acknowledged
 abbrev pub acked_message_count : EndState → ℕ
-acked_message_count e = completed_count (take e.acked (all_segments e))
+acked_message_count e = message_count (take e.acked (all_segments e))
 
--- the number of messages of which some segment is not acknowledged
+-- the number of messages with at least one unacknowledged segment
 abbrev pub unacked_message_count : EndState → ℕ
 unacked_message_count e = length e.taken - acked_message_count e
 
--- the number of a message as a `Notice` reports it, at most 2^64 - 1 (this project's own rule)
-abbrev pub number_capped_at_64_bits : ℕ → ℕ
-number_capped_at_64_bits n = min n (2 ^ 64 - 1)
+-- a message number limited to 2^64 - 1, as notices report it (this project's own rule)
+abbrev pub capped_at_64_bits : ℕ → ℕ
+capped_at_64_bits n = min n (2 ^ 64 - 1)
 
--- N200 (section 5.8.2): how often a frame is repeated before the link fails
+-- N200 (section 5.8.2): how often a frame is repeated before the link fails, for this channel and link state
 abbrev pub n200 : Channel → State → ℕ
 n200 Sdcch Open = 23
 n200 channel state = 5
 
--- a frame awaits an answer: a SABM, a DISC, or the outstanding I frame
-abbrev pub awaits_answer_in : State → Bool → Bool
-awaits_answer_in Opening waiting = true
-awaits_answer_in Closing waiting = true
-awaits_answer_in Open waiting = waiting
-awaits_answer_in other waiting = false
+-- whether a frame awaits an answer, given the link state and whether an I frame is outstanding: the SABM in Opening, the DISC in Closing,
+-- or the outstanding I frame in Open
+abbrev pub awaits_answer_in_state : State → Bool → Bool
+awaits_answer_in_state Opening waiting = true
+awaits_answer_in_state Closing waiting = true
+awaits_answer_in_state Open waiting = waiting
+awaits_answer_in_state other waiting = false
 
+-- whether an endpoint awaits an answer to a SABM, a DISC or an I frame
 abbrev pub awaits_answer : EndState → Bool
-awaits_answer e = awaits_answer_in e.state (is_outstanding e)
+awaits_answer e = awaits_answer_in_state e.state (awaits_ack e)
 
 -- the result of a step of an endpoint: its state afterwards, the frames that it sends, and the notices that it reports to layer 3
 pub record Outcome : Type 0 where
@@ -142,10 +147,11 @@ abbrev pub sends_frame : Frame → EndState → Outcome
 sends_frame f e = record { after = e; frames = f ∷ []; notices = [] }
 
 -- the endpoint reports one notice to layer 3
-abbrev pub reports : Notice → EndState → Outcome
-reports n e = record { after = e; frames = []; notices = n ∷ [] }
+abbrev pub reports_notice : Notice → EndState → Outcome
+reports_notice n e = record { after = e; frames = []; notices = n ∷ [] }
 
--- sequential composition: `rule` continues from the state after `o`, and its frames and notices follow those of `o`
+-- sequential composition of an outcome and a rule: the rule continues from the state after the outcome, and its frames and notices follow
+-- those of the outcome
 infixl 30 ◌then◌
 abbrev pub ◌then◌ : Outcome → (EndState → Outcome) → Outcome
 o then rule =
@@ -162,9 +168,10 @@ abbrev pub sapi_number : Sapi → ℕ
 sapi_number Zero = 0
 sapi_number Three = 3
 
--- a command, and a response, that this endpoint sends
-abbrev pub command : EndState → Content → Frame
-command e content = record { sapi = sapi_number e.sapi; cr = command_cr e.role; content = content }
+-- a command frame from this endpoint, with this content
+abbrev pub command_frame : EndState → Content → Frame
+command_frame e content = record { sapi = sapi_number e.sapi; cr = command_cr e.role; content = content }
 
-abbrev pub response : EndState → Content → Frame
-response e content = record { sapi = sapi_number e.sapi; cr = not (command_cr e.role); content = content }
+-- a response frame from this endpoint, with this content
+abbrev pub response_frame : EndState → Content → Frame
+response_frame e content = record { sapi = sapi_number e.sapi; cr = not (command_cr e.role); content = content }

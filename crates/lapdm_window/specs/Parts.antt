@@ -3,7 +3,7 @@ use Rattle.std.specs.Prelude.{◌≡◌, ◌⊎◌, ◌+◌, ◌%◌, ◌<◌, �
 use Rattle.std.specs.Prelude.{slice_index_or, All}
 use Rattle.segmenting.specs.lapdm_frame.declared.Channel.{Channel}
 use Rattle.segmenting.specs.lapdm_frame.Layout.{n201}
-use Rattle.segmenting.specs.Segments.{Message, IsMessage, count_of, max_message_octets}
+use Rattle.segmenting.specs.Segments.{Message, IsValidMessage, count_of, max_message_octets}
 use Rattle.segmenting.specs.Buffers.{octets_in}
 use Rattle.segmenting.specs.Parts.{JoinerValues}
 use Rattle.segmenting.specs.Parts as J
@@ -12,7 +12,7 @@ use Rattle.lapdm_window.specs.declared.window.parts.WindowParts.{WindowParts}
 use Rattle.lapdm_window.specs.Ends.{EndState}
 use Rattle.lapdm_window.specs.Abstraction.{Represents}
 
--- the state of a window: its channel, messages, variables and reassembly
+-- the state of a window as plain data: its channel, held messages, state variables and reassembly
 pub record WindowValues : Type 0 where
   pub channel : Channel
   pub held : List Message
@@ -25,7 +25,7 @@ pub record WindowValues : Type 0 where
   pub retries : ℕ
   pub joiner : JoinerValues
 
--- the state of this window
+-- the state of a window as plain data
 abbrev pub values_of : Window → WindowValues
 values_of w = record {
   channel = w.channel;
@@ -40,7 +40,7 @@ values_of w = record {
   joiner = J.values_of w.joiner;
 }
 
--- the window state that a `WindowParts` of the program describes
+-- the window state that the program's `WindowParts` describes
 abbrev pub values_in : WindowParts → WindowValues
 values_in p = record {
   channel = p.channel;
@@ -55,22 +55,22 @@ values_in p = record {
   joiner = record { octets = p.joined.now; part = p.part };
 }
 
--- a window with these values exists and represents the endpoint e
+-- some window has the values `x` and represents endpoint `e`
 pub record ValuesRepresent (x : WindowValues) (e : EndState) : Type 0 where
   pub window : Window
   pub values : values_of window ≡ x
   pub represents : Represents window e
 
--- a window with these values exists and represents some endpoint
-abbrev pub AreOfSomeWindow : WindowValues → Type 0
-AreOfSomeWindow x = (e : EndState) × ValuesRepresent x e
+-- some window has these values and represents some endpoint
+abbrev pub WindowExists : WindowValues → Type 0
+WindowExists x = (e : EndState) × ValuesRepresent x e
 
--- at most eight messages, each of 1 to 251 octets; only the check in `restore` uses this
+-- a window can hold these messages: at most eight, each of 1 to 251 octets
 pub record AreValidHeldMessages (held : List Message) : Type 0 where
   pub few : length held ≤ 8
-  pub messages : All IsMessage held
+  pub messages : All IsValidMessage held
 
--- the conditions that are equivalent to `AreOfSomeWindow`, in the form in which `restore` checks them
+-- the conditions that are checked before a window is restored from this state
 pub record AreConsistent (x : WindowValues) : Type 0 where
   pub held : AreValidHeldMessages x.held
   pub within : x.place < count_of (n201 x.channel) (slice_index_or x.held 0 [])

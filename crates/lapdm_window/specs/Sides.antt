@@ -1,4 +1,4 @@
--- A side (mobile or network): its endpoints for SAPI 0 (signalling) and SAPI 3 (short messages) (GSM 04.06, 3.3.3).
+-- A side, mobile or network, with its endpoints for SAPI 0 (signalling) and SAPI 3 (short messages); see GSM 04.06, section 3.3.3.
 use Rattle.std.specs.Prelude.{nat_eq, if◌then◌else◌, List, [], Option, Some, None}
 use Rattle.segmenting.specs.lapdm_frame.declared.Channel.{Channel}
 use Rattle.segmenting.specs.lapdm_frame.Content.{Frame}
@@ -6,27 +6,27 @@ use Rattle.lapdm_window.specs.declared.Sapi.{Sapi}
 use Rattle.lapdm_window.specs.declared.Sapi.TheVariants.{Zero, Three}
 use Rattle.lapdm_window.specs.declared.Notice.{Notice}
 use Rattle.lapdm_window.specs.Ends.{Role, EndState, Outcome, start}
-use Rattle.lapdm_window.specs.Calls.{Call, after_call}
-use Rattle.lapdm_window.specs.Tables.{after_frame}
+use Rattle.lapdm_window.specs.Calls.{Call, call_outcome}
+use Rattle.lapdm_window.specs.Tables.{frame_outcome}
 
 -- the state of both endpoints of a side
 pub record SideState : Type 0 where
   pub link0 : EndState
   pub link3 : EndState
 
--- the initial state of a side
+-- the initial state of a side: both endpoints in Idle
 abbrev pub idle_side : Role → Channel → SideState
 idle_side role channel = record { link0 = start role Zero channel; link3 = start role Three channel }
 
--- the endpoint of this SAPI
-abbrev pub link_in : Sapi → SideState → EndState
-link_in Zero a = a.link0
-link_in Three a = a.link3
+-- the endpoint of the side with this SAPI
+abbrev pub endpoint_on : Sapi → SideState → EndState
+endpoint_on Zero a = a.link0
+endpoint_on Three a = a.link3
 
--- the side with its endpoint of this SAPI replaced
-abbrev pub with_link_in : Sapi → EndState → SideState → SideState
-with_link_in Zero e a = record a { link0 = e }
-with_link_in Three e a = record a { link3 = e }
+-- the side with its endpoint of this SAPI replaced by the given one
+abbrev pub with_endpoint_on : Sapi → EndState → SideState → SideState
+with_endpoint_on Zero e a = record a { link0 = e }
+with_endpoint_on Three e a = record a { link3 = e }
 
 -- the result of a step of a side: the SAPI of the endpoint that acted, the frames and notices of that endpoint, and the state of the side
 -- afterwards
@@ -36,25 +36,25 @@ pub record SideStep : Type 0 where
   pub notices : List Notice
   pub after : SideState
 
--- the step of a side in which its endpoint of this SAPI has this outcome
-abbrev pub does : Sapi → Outcome → SideState → SideStep
-does sapi o a = record { sapi = sapi; frames = o.frames; notices = o.notices; after = with_link_in sapi o.after a }
+-- the step of a side in which the endpoint with this SAPI acts with this outcome
+abbrev pub endpoint_step : Sapi → Outcome → SideState → SideStep
+endpoint_step sapi o a = record { sapi = sapi; frames = o.frames; notices = o.notices; after = with_endpoint_on sapi o.after a }
 
 -- the step of a side in which neither endpoint acts
-abbrev pub does_nothing : SideState → SideStep
-does_nothing a = record { sapi = Zero; frames = []; notices = []; after = a }
+abbrev pub no_op_step : SideState → SideStep
+no_op_step a = record { sapi = Zero; frames = []; notices = []; after = a }
 
--- the step of a side when layer 3 calls its endpoint of this SAPI
+-- the step of a side in which layer 3 makes this call to the endpoint with this SAPI
 abbrev pub layer3_calls : Sapi → Call → SideState → SideStep
-layer3_calls sapi call a = does sapi (after_call call (link_in sapi a)) a
+layer3_calls sapi call a = endpoint_step sapi (call_outcome call (endpoint_on sapi a)) a
 
--- the step of a side at a received frame: the endpoint of the frame's SAPI receives it; SAPIs other than 0 and 3 are ignored
+-- the step of a side that receives a frame: the frame goes to the endpoint with its SAPI, and is ignored if its SAPI is not 0 or 3
 abbrev pub takes : Frame → SideState → SideStep
 takes f a =
-    if nat_eq f.sapi 0 then does Zero (after_frame f a.link0) a
-    else (if nat_eq f.sapi 3 then does Three (after_frame f a.link3) a else does_nothing a)
+    if nat_eq f.sapi 0 then endpoint_step Zero (frame_outcome f a.link0) a
+    else (if nat_eq f.sapi 3 then endpoint_step Three (frame_outcome f a.link3) a else no_op_step a)
 
--- the step of a side at a received block: it receives the frame read from the block, if the block could be read
-abbrev pub takes_frame_if_read : Option Frame → SideState → SideStep
-takes_frame_if_read (Some f) a = takes f a
-takes_frame_if_read None a = does_nothing a
+-- the step of a side that receives a block: the side receives the frame read from the block, or does nothing if no frame could be read
+abbrev pub step_for_read_frame : Option Frame → SideState → SideStep
+step_for_read_frame (Some f) a = takes f a
+step_for_read_frame None a = no_op_step a

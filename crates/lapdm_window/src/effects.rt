@@ -1,5 +1,5 @@
-//! The frames and notices that an endpoint produces. Both lists have a fixed capacity and are stored in place, so that clearing one only
-//! resets its length.
+//! The frames and notices that an endpoint produces. Both lists have a fixed capacity and are stored inline, so clearing one only resets
+//! its length.
 ghost use Rattle.std.specs.Prelude.{◌≡◌, ◌<◌, ◌≤◌, [], ◌∷◌, ◌++◌, length};
 
 use crate::Notice;
@@ -14,7 +14,7 @@ pub struct Effects {
 }
 
 impl Effects {
-    /// No frames and no notices.
+    /// Creates effects with no frames and no notices.
     pub fn new() -> Effects
         ensures frames { result.frames ≡ [] }
         ensures notices { result.notices ≡ [] }
@@ -35,7 +35,7 @@ impl Effects {
     }
 }
 
-/// At most two blocks, in the order in which they are sent.
+/// A list of at most two blocks, in the order in which they are sent.
 #[derive(Debug, Drop)]
 pub struct Frames {
     blocks: [[u8; BLOCK_OCTETS]; 2],
@@ -88,7 +88,7 @@ impl Frames {
     }
 }
 
-/// At most three notices, in the order in which they are reported.
+/// A list of at most three notices, in the order in which they are reported.
 #[derive(Debug, Drop)]
 pub struct Notices {
     items: [Notice; 3],
@@ -111,7 +111,7 @@ impl Notices {
     pub fn new() -> Notices
         ensures { result ≡ [] }
     {
-        // The fill value is a variant with a field because the compiler would build a variant without one elsewhere and copy it.
+        // Unused slots hold a variant with a field: for a variant without one, the compiler would build a temporary and copy it.
         Notices {
             items: [Notice::Acked(0), Notice::Acked(0), Notice::Acked(0)],
             len: 0,

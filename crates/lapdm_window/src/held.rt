@@ -1,16 +1,16 @@
-//! The messages that a window holds, in buffers of fixed size. A message is written directly into its buffer, and messages are removed by
-//! changing the count.
+//! The messages that a window holds, in a fixed array of buffers. A message is written directly into its buffer; removing the first message
+//! rotates the array.
 
 ghost use Rattle.std.specs.Prelude.{◌≡◌, ◌<◌, ◌≤◌, ◌==◌, [], ◌∷◌, ◌++◌, length, map, drop, slice_index_or};
 ghost use Rattle.segmenting.specs.Buffers.{octets_in};
 
-use segmenting::PlainMessage;
+use segmenting::MessageBuffer;
 use std::marker::Model;
 
-/// At most eight messages, in the order in which layer 3 sent them.
+/// A list of at most eight messages, in the order in which layer 3 sent them.
 #[derive(Debug, Drop)]
 pub(crate) struct Held {
-    buffers: [PlainMessage; 8],
+    buffers: [MessageBuffer; 8],
     len: usize,
 }
 
@@ -18,9 +18,9 @@ pub(crate) struct Held {
 impl Model for Held {
     ghost use Rattle.std.specs.Prelude.{◌≤◌, map, take};
     ghost use Rattle.segmenting.specs.Buffers.{octets_in};
-    ghost use Rattle.lapdm_window.specs.Held.{Messages};
+    ghost use Rattle.lapdm_window.specs.Held.{HeldMessages};
 
-    ghost Value = { Messages };
+    ghost Value = { HeldMessages };
 
     ghost view = { λ h. record { items = map octets_in (take h.len h.buffers) } };
 
@@ -32,7 +32,7 @@ impl Held {
         ensures { result.items ≡ [] }
     {
         Held {
-            buffers: [PlainMessage::empty(); 8],
+            buffers: [MessageBuffer::empty(); 8],
             len: 0,
         }
     }
@@ -83,15 +83,15 @@ impl Held {
         self.buffers[0].octets()
     }
 
-    pub(crate) fn as_slice(&self) -> &[PlainMessage]
+    pub(crate) fn as_slice(&self) -> &[MessageBuffer]
         ensures value { map octets_in result.now ≡ self.now.items }
         ensures most { length result.now ≤ 8 }
     {
         &self.buffers[..self.len]
     }
 
-    /// Replaces the list by these messages.
-    pub(crate) fn restore(&mut self, buffers: &[PlainMessage])
+    /// Replaces the list with these messages.
+    pub(crate) fn restore(&mut self, buffers: &[MessageBuffer])
         requires { length buffers.now ≤ 8 }
         ensures items { self.new.items ≡ map octets_in buffers.now }
     {

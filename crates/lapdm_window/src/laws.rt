@@ -5,44 +5,45 @@ ghost use Rattle.std.specs.List.{flat_map, filter_map};
 ghost use Rattle.segmenting.specs.lapdm_frame.declared.Channel.{Channel};
 ghost use Rattle.segmenting.specs.lapdm_frame.Layout.{n201};
 ghost use Rattle.segmenting.specs.lapdm_frame.Frames.{octets_of};
-ghost use Rattle.segmenting.specs.lapdm_frame.Readings.{IsOnlyCanonical};
+ghost use Rattle.segmenting.specs.lapdm_frame.Readings.{IsOnlyCanonicalCoding};
 ghost use Rattle.segmenting.specs.Segments.{segments};
 ghost use Rattle.segmenting.specs.Joining.{messages};
 ghost use Rattle.lapdm_window.specs.declared.Sapi.{Sapi};
 ghost use Rattle.lapdm_window.specs.Ends.{Role, EndState, IsValidEndpoint, start, acked_message_count};
-ghost use Rattle.lapdm_window.specs.Steps.{Input, IsPossibleInput, step, delivered_in_notice, IsSameEndpoint};
+ghost use Rattle.lapdm_window.specs.Steps.{StepInput, IsPossibleInput, step, delivered_in_notice, IsSameEndpoint};
 
 /// The initial endpoint satisfies the invariant `IsValidEndpoint`, and every step preserves it and the endpoint's role, SAPI and channel.
 pub fn law_endpoint_stays_valid()
     ensures start { (role : Role) (sapi : Sapi) (channel : Channel)
         → IsValidEndpoint (start role sapi channel) }
-    ensures step { (input : Input) (e : EndState) → IsValidEndpoint e → IsPossibleInput e input
+    ensures step { (input : StepInput) (e : EndState) → IsValidEndpoint e → IsPossibleInput e input
         → IfOk (step input e) (λ o. IsValidEndpoint o.after) }
-    ensures link { (input : Input) (e : EndState) → IsValidEndpoint e → IsPossibleInput e input
+    ensures link { (input : StepInput) (e : EndState) → IsValidEndpoint e → IsPossibleInput e input
         → IfOk (step input e) (λ o. IsSameEndpoint e o.after) }
 {}
 
-/// Every frame that an endpoint sends fits its channel, so that its canonical octets read back as the same frame.
+/// Every frame that an endpoint sends fits in a block of its channel, and its canonical octets are read back as that frame only.
 pub fn law_sent_frames_fit()
-    ensures { (input : Input) (e : EndState) → IsValidEndpoint e → IsPossibleInput e input
+    ensures { (input : StepInput) (e : EndState) → IsValidEndpoint e → IsPossibleInput e input
         → IfOk (step input e)
-        (λ o. All (λ f. IsOnlyCanonical e.channel f (octets_of e.channel f)) o.frames) }
+        (λ o. All (λ f. IsOnlyCanonicalCoding e.channel f (octets_of e.channel f)) o.frames) }
 {}
 
 /// A step of an endpoint produces at most two frames and two notices.
 pub fn law_at_most_two_effects()
-    ensures { (input : Input) (e : EndState)
+    ensures { (input : StepInput) (e : EndState)
         → IfOk (step input e) (λ o. (length o.frames ≤ 2) × (length o.notices ≤ 2)) }
 {}
 
-/// The notices of a step deliver exactly the messages that the segments accepted in it complete.
+/// The messages delivered by the notices of a step are exactly those completed by the segments that the step accepts.
 pub fn law_notices_deliver_messages()
-    ensures { (input : Input) (e : EndState) → IfOk (step input e) (λ o.
+    ensures { (input : StepInput) (e : EndState) → IfOk (step input e) (λ o.
         messages o.after.accepted ≡ messages e.accepted ++ filter_map delivered_in_notice o.notices) }
 {}
 
-/// A message counts as wholly acknowledged if and only if all its segments are acknowledged, and no more messages count than were sent.
-pub fn law_acked_message_count()
+/// The first `k` messages sent count as acknowledged if and only if all their segments are acknowledged; no more messages count as
+/// acknowledged than were sent.
+pub fn law_acked_messages_are_whole()
     ensures most { (e : EndState) → acked_message_count e ≤ length e.taken }
     ensures whole { (e : EndState) (k : ℕ) → k ≤ length e.taken
         → (k ≤ acked_message_count e)

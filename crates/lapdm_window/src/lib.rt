@@ -1,5 +1,5 @@
-//! Defines an endpoint of a data link (GSM 04.06, section 5) and implements its window, which sends messages in segments, one outstanding
-//! at a time, and accepts segments. Also defines the types of an endpoint's calls. No call allocates.
+//! Defines an endpoint of a data link (GSM 04.06, section 5) and implements its window, which sends messages in segments, at most one
+//! outstanding, and reassembles received segments. Also defines the calls and notices of an endpoint. No call allocates memory.
 #![tactic(auto)]
 
 ghost use Rattle.std.specs.Prelude.{◌≡◌, ◌≤◌};
@@ -13,16 +13,16 @@ mod window;
 
 pub use effects::{Effects, Frames, Notices};
 pub use laws::{
-    law_acked_message_count, law_at_most_two_effects, law_endpoint_stays_valid,
+    law_acked_messages_are_whole, law_at_most_two_effects, law_endpoint_stays_valid,
     law_notices_deliver_messages, law_sent_frames_fit,
 };
 pub use message::Message;
 use segmenting::Channel;
-pub use segmenting::{Joined, Part, Piece, PlainMessage};
+pub use segmenting::{Joined, MessageBuffer, Part, Piece};
 use thiserror::Error;
 pub use window::{Window, WindowParts};
 
-/// N200 of GSM 04.06: how often a frame is repeated before the link fails, by the state of the link.
+/// N200 of GSM 04.06: how often a frame is repeated before the link fails, for this channel and link state.
 pub fn n200(channel: Channel, state: State) -> u8
     ensures value { result ≡ most_repeats channel state }
     ensures most { result ≤ 23 }
@@ -33,7 +33,7 @@ pub fn n200(channel: Channel, state: State) -> u8
     }
 }
 
-/// The service access point of a link (SAPI).
+/// The service access point identifier (SAPI) of a link.
 #[derive(Clone, Copy, PartialEq, Eq, Debug)]
 pub enum Sapi {
     /// Signalling.
@@ -45,11 +45,11 @@ pub enum Sapi {
 /// The state of an endpoint.
 #[derive(Clone, Copy, PartialEq, Eq, Debug)]
 pub enum State {
-    /// Not established.
+    /// The link is not established.
     Idle,
     /// A SABM was sent, and its answer is awaited.
     Opening,
-    /// Established.
+    /// The link is established.
     Open,
     /// A DISC was sent, and its answer is awaited.
     Closing,
@@ -60,7 +60,7 @@ pub enum State {
 /// Why a link is closed.
 #[derive(Clone, Copy, PartialEq, Eq, Debug)]
 pub enum Reason {
-    /// Another mobile established the link at the network (contention resolution).
+    /// The network established the link with another mobile (contention resolution).
     Contention,
     /// A frame was repeated N200 times without an answer, or a DM was received in state Open.
     Failed,
@@ -70,7 +70,7 @@ pub enum Reason {
     Released,
 }
 
-/// A report to layer 3 (indication or confirm).
+/// A report to layer 3: an indication or confirm primitive.
 #[derive(Debug, Drop)]
 pub enum Notice {
     /// The link is established; the UA or SABM that established it had this information.
@@ -79,14 +79,14 @@ pub enum Notice {
     Got(Message),
     /// A message was received in a UI frame, which is not acknowledged.
     Unit(Message),
-    /// All segments of a message are acknowledged. The field numbers the messages sent, from 1, and saturates at the largest u64.
+    /// All segments of a message are acknowledged. The field is the number of the message, counted from 1 and limited to the largest `u64`.
     Acked(u64),
     /// A received message had more than 251 octets and was discarded.
     Oversize,
     Closed(Reason),
 }
 
-// Needed by lists of other crates to fill their unused elements.
+// The default notice fills the unused elements of lists in other crates.
 impl Default for Notice {
     fn default() -> Notice
         ensures { result ≡ Notice.Oversize }
@@ -95,18 +95,18 @@ impl Default for Notice {
     }
 }
 
-/// A call of layer 3, or T200 expiry.
+/// A layer 3 call to an endpoint, or T200 expiry.
 #[derive(Clone, Copy, Drop)]
 pub enum Call<'a> {
     /// Establish the link of SAPI 0, with this information.
     Open(&'a [u8]),
     /// Establish the link of SAPI 3, without information.
     OpenBare,
-    /// Send a message of 1 to 251 octets, acknowledged.
+    /// Send a message of 1 to 251 octets in acknowledged I frames.
     Send(&'a [u8]),
-    /// Send a message of at most N201 octets in one UI frame, unacknowledged.
+    /// Send a message of 1 to N201 octets in one unacknowledged UI frame.
     Unit(&'a [u8]),
-    /// Release the link. Messages that are not acknowledged are discarded.
+    /// Release the link. Unacknowledged messages are discarded.
     Close,
     /// T200 expiry.
     Timer,
@@ -114,7 +114,7 @@ pub enum Call<'a> {
     Idle,
 }
 
-/// Why a call is refused. If several reasons apply, the call returns the one that it tests first, as its documentation says.
+/// Why a call is refused. If several reasons apply, the call returns the first that it tests.
 #[derive(Clone, Copy, PartialEq, Eq, Debug, Error)]
 pub enum Refused {
     /// The state is not Idle.
@@ -129,10 +129,10 @@ pub enum Refused {
     /// The message has no octets.
     #[error("the message is empty, expected at least one octet")]
     Empty,
-    /// The message has more than 251 octets, or the information has more than N201.
+    /// The message has more than 251 octets, or more than N201 if it must fit in one frame.
     #[error("the message is too long: more than 251 octets, or more than N201 in one frame")]
     TooLong,
-    /// Eight messages that were sent are not wholly acknowledged.
+    /// Eight messages are not yet fully acknowledged.
     #[error("eight messages are not wholly acknowledged, the most that a link holds")]
     Full,
 }
@@ -141,7 +141,7 @@ pub enum Refused {
 #[derive(Clone, Copy, PartialEq, Eq, Debug)]
 pub enum Acked {
     Nothing,
-    /// A segment, but not the last one of its message.
+    /// A segment other than the last one of its message.
     Piece,
     /// The last segment of a message; the field is the number of the message, from 1.
     Message(u64),

@@ -1,11 +1,11 @@
-//! A message of layer 3.
+//! A layer 3 message.
 ghost use Rattle.std.specs.Prelude.{◌≡◌, ◌≤◌, length};
 ghost use Rattle.segmenting.specs.Segments.{max_message_octets};
 
 use segmenting::LONGEST_MESSAGE;
 use std::marker::Model;
 
-/// A message of at most 251 octets, stored in place.
+/// A layer 3 message of at most 251 octets, stored inline.
 #[derive(Debug, Drop)]
 pub struct Message {
     held: [u8; LONGEST_MESSAGE],
@@ -24,7 +24,7 @@ impl Model for Message {
     ghost invariant = { λ m. m.len ≤ max_message_octets };
 }
 
-// Needed by lists of other crates to fill their unused elements.
+// The default message, which is empty, fills the unused elements of lists in other crates.
 impl Default for Message {
     ghost use Rattle.std.specs.Prelude.{[]};
 
@@ -49,7 +49,7 @@ impl Message {
         Message { held, len }
     }
 
-    /// Replaces the message by these octets.
+    /// Replaces the message with these octets.
     pub fn write(&mut self, octets: &[u8])
         requires { length octets.now ≤ max_message_octets }
         ensures { self.new ≡ octets.now }

@@ -3,7 +3,7 @@
 ghost use Rattle.std.specs.Prelude.{◌≡◌, ◌≢◌, ◌+◌, ◌<◌, ◌≤◌, ◌↔◌, length, [], slice_index_or, All};
 ghost use Rattle.std.specs.Prelude.{IsTrue, IsSome, IfSome};
 ghost use Rattle.segmenting.specs.lapdm_frame.Layout.{n201, largest_n201};
-ghost use Rattle.segmenting.specs.Segments.{IsMessage, max_message_octets, count_of};
+ghost use Rattle.segmenting.specs.Segments.{IsValidMessage, max_message_octets, count_of};
 
 use crate::held::Held;
 use crate::{Acked, Info, Refused, State, Timer, n200};
@@ -13,14 +13,14 @@ mod parts;
 
 pub use parts::WindowParts;
 
-/// The messages not wholly acknowledged, the outstanding segment, and the reassembly of received segments.
+/// The window of an endpoint: the messages not yet fully acknowledged, the outstanding segment, and the reassembly of received segments.
 #[derive(Debug, Drop)]
 pub struct Window {
     held: Held,
     joiner: Joiner,
-    // The index of the outstanding segment, or else of the next segment, among the segments of the first message held.
+    // The index, within the first held message, of the outstanding segment or, if none is outstanding, of the next segment.
     place: usize,
-    // The number of messages of which all segments are acknowledged.
+    // The number of fully acknowledged messages.
     done: u64,
     channel: Channel,
     vs: u8,
@@ -29,7 +29,7 @@ pub struct Window {
     rejecting: bool,
     retries: u8,
     ghost few: { length held.items ≤ 8 },
-    ghost messages: { All IsMessage held.items },
+    ghost messages: { All IsValidMessage held.items },
     ghost within: { place < count_of (n201 channel) (slice_index_or held.items 0 []) },
     ghost waiting: { vs ≢ va → 1 ≤ length held.items },
     ghost vs_fits: { vs ≤ 7 },
@@ -44,14 +44,14 @@ impl Window {
     ghost use Rattle.segmenting.specs.Segments.{segments};
     ghost use Rattle.segmenting.specs.Joining.{latest_message};
     ghost use Rattle.lapdm_window.specs.declared.Sapi.{Sapi};
-    ghost use Rattle.lapdm_window.specs.Ends.{EndState, Role, start, is_outstanding, vs, va, vr};
-    ghost use Rattle.lapdm_window.specs.Rules.{has_segment_to_send, with_next_outstanding, counts};
-    ghost use Rattle.lapdm_window.specs.Calls.{with_queued};
-    ghost use Rattle.lapdm_window.specs.Answers.{message_refusal, outstanding_segment, ack_answer, i_frame_answer, after_i_frame};
-    ghost use Rattle.lapdm_window.specs.Answers.{t200_answer, after_t200};
-    ghost use Rattle.lapdm_window.specs.Abstraction.{Represents, HasOutstanding, channel_of};
+    ghost use Rattle.lapdm_window.specs.Ends.{EndState, Role, start, awaits_ack, vs, va, vr};
+    ghost use Rattle.lapdm_window.specs.Rules.{has_segment_to_send, with_segment_sent, counts_acks};
+    ghost use Rattle.lapdm_window.specs.Calls.{with_message};
+    ghost use Rattle.lapdm_window.specs.Answers.{message_refusal, outstanding_segment, acked_by_nr, i_frame_answer, state_after_i_frame};
+    ghost use Rattle.lapdm_window.specs.Answers.{t200_answer, state_after_t200};
+    ghost use Rattle.lapdm_window.specs.Abstraction.{Represents, HasOutstandingSegment, channel_of};
 
-    /// A window for SDCCH in its initial state.
+    /// Creates a window for SDCCH in its initial state.
     pub fn new() -> Window
         ensures represents { (role : Role) (sapi : Sapi)
             → Represents result (start role sapi Channel.Sdcch) }
@@ -60,7 +60,7 @@ impl Window {
         Window::new_on(Channel::Sdcch)
     }
 
-    /// A window for this channel in its initial state.
+    /// Creates a window for this channel in its initial state.
     pub fn new_on(channel: Channel) -> Window
         ensures represents { (role : Role) (sapi : Sapi) → Represents result (start role sapi channel) }
         ensures channel { channel_of result ≡ channel }
@@ -84,7 +84,7 @@ impl Window {
         ensures answer { (e : EndState) → Represents self.old e
             → result_err result ≡ message_refusal message.now e }
         ensures taken { (e : EndState) → Represents self.old e
-            → OnOk result (Represents self.new (with_queued message.now e)) }
+            → OnOk result (Represents self.new (with_message message.now e)) }
         ensures refused { OnErr result (self.new ≡ self.old) }
         ensures channel { channel_of self.new ≡ channel_of self.old }
     {
@@ -105,8 +105,8 @@ impl Window {
     pub fn send_next(&mut self) -> bool
         ensures answer { (e : EndState) → Represents self.old e → result ≡ has_segment_to_send e }
         ensures sent { (e : EndState) → Represents self.old e
-            → Represents self.new (if result then with_next_outstanding e else e) }
-        ensures waiting { IsTrue result → HasOutstanding self.new }
+            → Represents self.new (if result then with_segment_sent e else e) }
+        ensures waiting { IsTrue result → HasOutstandingSegment self.new }
         ensures channel { channel_of self.new ≡ channel_of self.old }
     {
         if self.vs != self.va || self.held.is_empty() {
@@ -121,7 +121,7 @@ impl Window {
     pub fn waiting(&self) -> Option<Piece<'_>>
         ensures piece { (e : EndState) → Represents self.now e
             → option_map (λ p. (p.octets.now, p.more)) result ≡ outstanding_segment e }
-        ensures waiting { IsSome result ↔ HasOutstanding self.now }
+        ensures waiting { IsSome result ↔ HasOutstandingSegment self.now }
         ensures size { IfSome result (λ p. (1 ≤ length p.octets.now)
             × (length p.octets.now ≤ n201 (channel_of self.now))) }
     {
@@ -134,8 +134,8 @@ impl Window {
     /// Evaluates a received N(R), which acknowledges the outstanding segment if it equals V(S), and otherwise nothing.
     pub fn on_ack(&mut self, nr: u8) -> Acked
         requires { nr ≤ 7 }
-        ensures answer { (e : EndState) → Represents self.old e → result ≡ ack_answer nr e }
-        ensures counted { (e : EndState) → Represents self.old e → Represents self.new (counts nr e).after }
+        ensures answer { (e : EndState) → Represents self.old e → result ≡ acked_by_nr nr e }
+        ensures counted { (e : EndState) → Represents self.old e → Represents self.new (counts_acks nr e).after }
         ensures channel { channel_of self.new ≡ channel_of self.old }
     {
         if self.vs == self.va || nr != self.vs {
@@ -153,7 +153,7 @@ impl Window {
         Acked::Message(self.done)
     }
 
-    /// Takes the segment of a received I frame with this N(S) and P bit.
+    /// Accepts the segment of a received I frame if its N(S) equals V(R), and otherwise discards it and says whether a REJ must be sent.
     pub fn on_info(&mut self, ns: u8, p: bool, piece: &[u8], more: bool) -> Info
         requires ns { ns ≤ 7 }
         requires some { 1 ≤ length piece.now }
@@ -161,7 +161,7 @@ impl Window {
         ensures answer { (e : EndState) → Represents self.old e
             → result ≡ i_frame_answer ns p (piece.now, more) e }
         ensures taken { (e : EndState) → Represents self.old e
-            → Represents self.new (after_i_frame result (piece.now, more) e) }
+            → Represents self.new (state_after_i_frame result (piece.now, more) e) }
         ensures channel { channel_of self.new ≡ channel_of self.old }
     {
         if ns != self.vr {
@@ -174,10 +174,10 @@ impl Window {
         Info::Accepted(self.joiner.take(piece, more))
     }
 
-    /// Whether a segment is outstanding, which must be sent again when a REJ is received.
+    /// Returns whether a segment is outstanding, which must then be repeated because a REJ was received.
     pub fn on_reject(&self) -> bool
-        ensures answer { (e : EndState) → Represents self.now e → result ≡ is_outstanding e }
-        ensures waiting { IsTrue result ↔ HasOutstanding self.now }
+        ensures answer { (e : EndState) → Represents self.now e → result ≡ awaits_ack e }
+        ensures waiting { IsTrue result ↔ HasOutstandingSegment self.now }
     {
         self.vs != self.va
     }
@@ -186,8 +186,8 @@ impl Window {
     pub fn on_timer(&mut self) -> Timer
         ensures answer { (e : EndState) → Represents self.old e → result ≡ t200_answer e }
         ensures counted { (e : EndState) → Represents self.old e
-            → Represents self.new (after_t200 result e) }
-        ensures waiting { result ≡ Timer.Again → HasOutstanding self.new }
+            → Represents self.new (state_after_t200 result e) }
+        ensures waiting { result ≡ Timer.Again → HasOutstandingSegment self.new }
         ensures unchanged { result ≢ Timer.Again → self.new ≡ self.old }
         ensures channel { channel_of self.new ≡ channel_of self.old }
     {
@@ -233,7 +233,7 @@ impl Window {
         self.joiner.message()
     }
 
-    // The outstanding segment or, if none is outstanding, the next one; it belongs to the first message held.
+    // The outstanding segment or, if none is outstanding, the next segment, in the first held message.
     fn next(&self) -> Piece<'_>
         requires { 1 ≤ length self.now.held.items }
         ensures { let first = slice_index_or self.now.held.items 0 [] in

@@ -1,41 +1,39 @@
 -- A class can be replaced by parts of it that have the same candidates.
-use Rattle.std.proofs.{Common.{◌⊎◌, ℕ, inl, inr, ℤ, List, [], ◌∷◌, ◌++◌, sym, subst}, lemmas.List.Elements.{All-nil, All-cons, All-head}}
-use Rattle.std.proofs.lemmas.List.Elements.{All-append, Contains-append_left, Contains-append_right, Contains-append_cases}
+use Rattle.std.proofs.{Common.{◌⊎◌, ℕ, inl, inr, ℤ, List, [], ◌∷◌, ◌++◌}, lemmas.List.Elements.{All-nil, All-cons}}
+use Rattle.std.proofs.lemmas.List.Elements.{All-head, All-append, Contains-append_left, Contains-append_right, Contains-append_cases}
 use Rattle.std.specs.List.{Contains}
 use Rattle.list_decode.{specs.{Classes.{DeviationClass, IsInClass, PartitionsUnreturnedWords}, Ranking.IsCandidate}, proofs.ClassSteps.Part}
 use Rattle.list_decode.proofs.ClassSteps.{Disjoint, Listed, New, AreDisjoint-part, AreDisjoint-push, others_apart, All-replace}
 use Rattle.list_decode.proofs.{ClassSteps.{Contains-first, Contains-split, Contains-after}, Rankings.All-after}
 
 module _ (s : List ℤ) (us : List (List ℕ)) (before after : List DeviationClass) (c : DeviationClass)
-    (covers : PartitionsUnreturnedWords s us
-    (before ++ c ∷ after)) where
+    (covers : PartitionsUnreturnedWords s us (before ++ c ∷ after)) where
   new_in : (e : DeviationClass) → Part e c → New us e
-  new_in e part w in_class given = All-head (New us) c after (All-after (New us) before (c ∷ after) covers.new) w (part w in_class) given
+  new_in e part w in_class returned = All-head (New us) c _ (All-after (New us) _ (c ∷ after) covers.new) w (part w in_class) returned
 
   -- a word of one of the classes is still in one of the classes after e replaces c, or was in c
   stood : (e : DeviationClass) (w : List ℕ) (d : DeviationClass) → Contains (before ++ c ∷ after) d → IsInClass d w →
       IsInClass c w ⊎ ((d : DeviationClass) × Contains (before ++ e ∷ after) d × IsInClass d w)
   stood e w d member in_class = elim (Contains-append_cases before (c ∷ after) d member) [
-    | inl early ↦ inr (d, Contains-append_left before (e ∷ after) d early, in_class)
+    | inl early ↦ inr (d, Contains-append_left _ _ d early, in_class)
     | inr late ↦ elim (Contains-split c d after late) [
-      | inl same ↦ inl (subst (λ d. IsInClass d w) (sym same) in_class)
+      | inl same ↦ inl (rw same in_class)
       | inr later ↦ inr (d, Contains-append_right before (e ∷ after) d (Contains-after e d after later), in_class)
     ]
   ]
 
   here : (e : DeviationClass) → Contains (before ++ e ∷ after) e
-  here e = Contains-append_right before (e ∷ after) e (Contains-first e after)
+  here e = Contains-append_right before (e ∷ after) e (Contains-first e _)
 
   -- a class can be replaced by one part of it that has all its candidates
-  pub narrow_covers : (e : DeviationClass) → IsCandidate s e.list → Part e c → ((w : List ℕ) → IsCandidate s w → IsInClass c w →
-      IsInClass e w) →
-      PartitionsUnreturnedWords s us (before ++ e ∷ after)
+  pub narrow_covers : (e : DeviationClass) → IsCandidate s e.list → Part e c →
+      ((w : List ℕ) → IsCandidate s w → IsInClass c w → IsInClass e w) → PartitionsUnreturnedWords s us (before ++ e ∷ after)
   narrow_covers e list part all = record {
-    lists = All-replace (Listed s) before after c e covers.lists list;
-    new = All-replace (New us) before after c e covers.new (new_in e part);
-    apart = AreDisjoint-part before after c e part covers.apart;
+    lists = All-replace (Listed s) _ _ c e covers.lists list;
+    new = All-replace (New us) _ _ c e covers.new (new_in e part);
+    apart = AreDisjoint-part _ _ c e part covers.apart;
     others = (λ w is. elim (covers.others w is) [
-      | inl given ↦ inl given
+      | inl returned ↦ inl returned
       | inr in_class ↦ inr (elim (stood e w in_class.0 in_class.1 in_class.2)
           [ inl in_c ↦ (e, here e, all w is in_c) | inr elsewhere ↦ elsewhere ])
     ]);
@@ -55,7 +53,7 @@ module _ (s : List ℤ) (us : List (List ℕ)) (before after : List DeviationCla
         AreDisjoint-push (before ++ a ∷ after) b (AreDisjoint-part before after c a part_a covers.apart)
         (All-append (λ d. Disjoint d b) before (a ∷ after) others.0 (All-cons (λ d. Disjoint d b) a after disjoint others.1));
     others = (λ w is. elim (covers.others w is) [
-      | inl given ↦ inl given
+      | inl returned ↦ inl returned
       | inr in_class ↦ inr (elim (stood a w in_class.0 in_class.1 in_class.2) [
         | inl in_c ↦ elim (all w is in_c) [
           | inl in_a ↦ (a, Contains-append_left (before ++ a ∷ after) (b ∷ []) a (here a), in_a)

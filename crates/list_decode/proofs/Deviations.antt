@@ -1,13 +1,14 @@
--- The best word that deviates from a returned word at a free position, where the returned word follows the survivors.
-use Rattle.std.proofs.Common.{◌≡◌, ◌≢◌, ◌⊎◌, ℕ, zero, suc, ◌+◌, ◌-◌, ◌*◌, ◌/◌, ◌%◌, ◌^◌, ◌<◌, ◌≤◌, true, inl, inr, ℤ, ◌-ℤ◌, List, [], ◌∷◌}
-use Rattle.std.proofs.{Common.{◌++◌, length, get_or, take, drop, refl, ap, sym, ◌∙◌, subst, arith}, lemmas.{Bool.cases_lt, Int.ints}}
-use Rattle.std.{proofs.lemmas.Int.by_lt_z, specs.Prelude.◌<ℤ◌}
+-- The most likely word that deviates from a returned word at a free position, where the returned word follows the survivors.
+use Rattle.std.proofs.Common.{◌≡◌, ◌≢◌, ◌⊎◌, ℕ, zero, suc, ◌+◌, ◌-◌, ◌*◌, ◌/◌, ◌%◌, ◌^◌}
+use Rattle.std.proofs.Common.{◌<◌, ◌≤◌, true, inl, inr, ℤ, ◌-ℤ◌, List, [], ◌∷◌, ◌++◌, length, get_or, take}
+use Rattle.std.proofs.{Common.{drop, refl, ap, sym, ◌∙◌, subst, arith}, lemmas.{Bool.cases_lt, Int.{ints, by_lt_z}}}
+use Rattle.std.specs.Prelude.{◌<ℤ◌}
 use Rattle.weight_bound.specs.conv_code.{Code.encoding, Likelihood.{likelihood, IsLexicographicallyBefore, RanksAfter}}
 use Rattle.weight_bound.proofs.conv_code.{Coding.bit_at-most_1, Lemmas.same_number}
 use Rattle.trellis_decode.specs.Trellis.{next, metric_from, HasTailBits, IsNotLexicographicallyAfter, traceback, AreDecisions}
-use Rattle.trellis_decode.proofs.Lemmas.{HasTailBits-bits, HasTailBits-from_tail, IsLexicographicallyBefore-not_after, IsInformation-ends}
-use Rattle.trellis_decode.proofs.Lemmas.{metric_from-start, length-traceback}
-use Rattle.list_decode.specs.{Classes.{DeviatesAt, DeviationClass, IsInClass}, DeviatingLists.{state_after, loss_at}}
+use Rattle.trellis_decode.proofs.Lemmas.{HasTailBits-bits, HasTailBits-from_tail, IsLexicographicallyBefore-not_after, metric_from-start}
+use Rattle.trellis_decode.proofs.Lemmas.{length-traceback}
+use Rattle.list_decode.specs.{Classes.{DeviatesAt, DeviationClass, IsInClass}, DeviatingLists.{state_after_bits, deviation_loss}}
 use Rattle.list_decode.specs.DeviatingLists.{survivor_with_deviation, FollowsSurvivors, deviation, IsLeastLossFreePosition}
 use Rattle.list_decode.{specs.Ranking.IsCandidate, proofs.{ClassSteps.departs_once, DeviatingLists.{metric_from-more, is_deviation_from}}}
 use Rattle.list_decode.proofs.DeviatingLists.{agree-cons, left}
@@ -16,7 +17,7 @@ use Rattle.list_decode.proofs.DeviatingLists.{agree-cons, left}
 
 IsLexicographicallyBefore-trans : (u v w : List ℕ) → IsLexicographicallyBefore u v → IsLexicographicallyBefore v w →
     IsLexicographicallyBefore u w
-IsLexicographicallyBefore-trans u v w h g = elim (cases_lt h.place g.place) [
+IsLexicographicallyBefore-trans u v w h g = elim (cases_lt _ _) [
   | inl early ↦ record {
     place = h.place;
     within = h.within;
@@ -27,46 +28,46 @@ IsLexicographicallyBefore-trans u v w h g = elim (cases_lt h.place g.place) [
   | inr not_early ↦ elim (cases_lt g.place h.place) [
     | inl late ↦ record {
       place = g.place;
-      within = (let i = h.within in omega arith);
+      within = (omega arith);
       same = (λ j lt. h.same j (omega arith) ∙ g.same j lt);
       zero = h.same g.place late ∙ g.zero;
       differs = g.differs;
     }
     | inr not_late ↦
         let at : g.place ≡ h.place = omega arith in
-        absurd (h.differs (subst (λ p. get_or v p 0 ≡ 0) at g.zero))
+        absurd (h.differs (rw (← at) g.zero))
   ]
 ]
 
 pub RanksAfter-trans : (s : List ℤ) (w v u : List ℕ) → RanksAfter s w v → RanksAfter s v u → RanksAfter s w u
 RanksAfter-trans s w v u (inl less) (inl less') = inl (omega (arith, ints))
-RanksAfter-trans s w v u (inl less) (inr tie) = let e = tie.0 in inl (omega (arith, ints))
-RanksAfter-trans s w v u (inr tie) (inl less) = let e = tie.0 in inl (omega (arith, ints))
+RanksAfter-trans s w v u (inl less) (inr tie) = inl (omega (arith, ints))
+RanksAfter-trans s w v u (inr tie) (inl less) = inl (omega (arith, ints))
 RanksAfter-trans s w v u (inr tie) (inr tie') = inr (tie.0 ∙ tie'.0, IsLexicographicallyBefore-trans u v w tie'.1 tie.1)
 
 -- ---- the word that deviates from another
 
 pub length-follows : (from : ℕ) (u rows : List ℕ) (state : ℕ) → FollowsSurvivors from u rows state → length u ≡ length rows
-length-follows zero u rows state h = ap length h ∙ length-traceback rows state
-length-follows (suc from) [] rows state h = absurd h
-length-follows (suc from) (x ∷ u) [] state h = absurd h
-length-follows (suc from) (x ∷ u) (row ∷ rows) state h = ap suc (length-follows from u rows (next state x) h)
+length-follows zero u rows state h = ap length h ∙ length-traceback _ _
+length-follows (suc from) (x ∷ u) (row ∷ rows) state h = ap suc (length-follows from u _ _ h)
+length-follows from u rows state h = absurd h
 
 deviation-survivor_with_deviation : (rows : List ℕ) (state place : ℕ) →
     deviation (traceback rows state) rows state place ≡ survivor_with_deviation rows state place
-deviation-survivor_with_deviation [] state place = refl
-deviation-survivor_with_deviation (row ∷ rows) state zero = refl
 deviation-survivor_with_deviation (row ∷ rows) state (suc place) =
-    ap (λ rest. (row / 2 ^ state % 2) ∷ rest) (deviation-survivor_with_deviation rows (next state (row / 2 ^ state % 2)) place)
+    ap (λ rest. (row / 2 ^ state % 2) ∷ rest) (deviation-survivor_with_deviation rows _ _)
+deviation-survivor_with_deviation rows state place = refl
 
 pub record IsDeviation (u rows : List ℕ) (losses : List (List ℤ)) (soft : List ℤ) (state place : ℕ) : Type 0 where
-  pub has_metric : metric_from state (deviation u rows state place) soft ≡ metric_from state u soft -ℤ loss_at state u losses place
+  pub has_metric : metric_from state (deviation u rows state place) soft ≡
+      metric_from state u soft -ℤ deviation_loss state u losses place
   pub ends : HasTailBits (deviation u rows state place)
   pub count : length (deviation u rows state place) ≡ length rows
   pub departs : DeviatesAt u (deviation u rows state place) place
 
-pub is_deviation : (from : ℕ) (u rows : List ℕ) (losses : List (List ℤ)) (soft : List ℤ) (state place : ℕ) → AreDecisions rows losses soft →
-    state < 16 → HasTailBits u → FollowsSurvivors from u rows state → from ≤ place → place + 4 < length rows →
+pub is_deviation : (from : ℕ) (u rows : List ℕ) (losses : List (List ℤ)) (soft : List ℤ) (state place : ℕ) →
+    AreDecisions rows losses soft → state < 16 → HasTailBits u → FollowsSurvivors from u rows state → from ≤ place →
+    place + 4 < length rows →
     IsDeviation u rows losses soft state place
 is_deviation zero u rows losses soft state place kept lt ends follows le within =
     let d = is_deviation_from rows losses soft state place kept lt within in
@@ -74,15 +75,16 @@ is_deviation zero u rows losses soft state place kept lt ends follows le within 
       has_metric = ap (λ w. metric_from state w soft) (deviation-survivor_with_deviation rows state place) ∙ d.has_metric;
       ends = subst HasTailBits (sym (deviation-survivor_with_deviation rows state place)) d.ends;
       count = ap length (deviation-survivor_with_deviation rows state place) ∙ d.count;
-      departs = subst (λ w. DeviatesAt (traceback rows state) w place) (sym (deviation-survivor_with_deviation rows state place)) d.departs;
+      departs = subst (λ w. DeviatesAt (traceback rows state) w place) (sym (deviation-survivor_with_deviation rows state place))
+          d.departs;
     })
 is_deviation (suc from) [] rows losses soft state place kept lt ends follows le within = absurd follows
 is_deviation (suc from) (x ∷ u) [] losses soft state place kept lt ends follows le within = absurd follows
 is_deviation (suc from) (x ∷ u) (row ∷ rows) [] soft state place kept lt ends follows le within = absurd kept
 is_deviation (suc from) (x ∷ u) (row ∷ rows) (lost ∷ losses) soft state zero kept lt ends follows le within = absurd (omega arith)
 is_deviation (suc from) (x ∷ u) (row ∷ rows) (lost ∷ losses) soft state (suc place) kept lt ends follows le within =
-    let there : next state x < 16 = omega arith in
-    let rest = is_deviation from u rows losses (drop 2 soft) (next state x) place kept.2 there ends.2 follows (omega arith) (omega arith) in
+    let rest = is_deviation from u rows losses (drop 2 soft) (next state x) place kept.2 (omega arith) ends.2 follows (omega arith)
+    (omega arith) in
     let gu = metric_from-more state x u soft kept.0 in
     let gv = metric_from-more state x (deviation u rows (next state x) place) soft kept.0 in
     let is = rest.has_metric in
@@ -96,30 +98,27 @@ is_deviation (suc from) (x ∷ u) (row ∷ rows) (lost ∷ losses) soft state (s
 -- a word that deviates from u where u follows the survivors loses at least the loss stored there
 pub record FallsShort (u rows : List ℕ) (losses : List (List ℤ)) (soft : List ℤ) (state place : ℕ) (w : List ℕ) : Type 0 where
   pub within : place + 4 < length rows
-  pub short : (metric_from state w soft <ℤ (metric_from state u soft -ℤ loss_at state u losses place)) ⊎
-      ((metric_from state w soft ≡ (metric_from state u soft -ℤ loss_at state u losses place)) ×
+  pub short : (metric_from state w soft <ℤ (metric_from state u soft -ℤ deviation_loss state u losses place)) ⊎
+      ((metric_from state w soft ≡ (metric_from state u soft -ℤ deviation_loss state u losses place)) ×
       IsNotLexicographicallyAfter (deviation u rows state place) w)
 
 falls_short : (from : ℕ) (u rows : List ℕ) (losses : List (List ℤ)) (soft : List ℤ) (state place : ℕ) (w : List ℕ) →
     AreDecisions rows losses soft → state < 16 → HasTailBits u → HasTailBits w → length w ≡ length rows →
-    FollowsSurvivors from u rows state →
-    from ≤ place →
-    DeviatesAt u w place → FallsShort u rows losses soft state place w
+    FollowsSurvivors from u rows state → from ≤ place → DeviatesAt u w place → FallsShort u rows losses soft state place w
 falls_short zero u rows losses soft state place w kept lt ends wends same follows le departs =
-    subst (λ u. FallsShort u rows losses soft state place w) (sym follows) (chosen (subst (λ u. DeviatesAt u w place) follows departs))
+    rw follows (chosen (rw (← follows) departs))
   where
     chosen : DeviatesAt (traceback rows state) w place → FallsShort (traceback rows state) rows losses soft state place w
     chosen at =
         let l = left rows losses soft state w kept lt wends same (λ e. at.differs (ap (λ v. get_or v place 0) e)) in
-        let here : l.place ≡ place = departs_once (traceback rows state) w l.place place l.departs at in
-        subst (λ place. FallsShort (traceback rows state) rows losses soft state place w) here (record {
+        let here = departs_once (traceback rows state) w l.place place l.departs at in
+        rw (← here) (record {
           within = l.within;
           short = elim l.behind [
             | inl less ↦ inl less
             | inr tie ↦ inr (
               tie.0,
-              subst (λ v. IsNotLexicographicallyAfter v w) (sym
-                  (deviation-survivor_with_deviation rows state l.place)) tie.1,
+              rw (← sym (deviation-survivor_with_deviation rows state l.place)) tie.1,
             )
           ];
         })
@@ -130,14 +129,15 @@ falls_short (suc from) (x ∷ u) (row ∷ rows) (lost ∷ losses) soft state zer
     absurd (omega arith)
 falls_short (suc from) (x ∷ u) (row ∷ rows) (lost ∷ losses) soft state (suc place) [] kept lt ends wends same follows le departs =
     absurd (omega arith)
-falls_short (suc from) (x ∷ u) (row ∷ rows) (lost ∷ losses) soft state (suc place) (y ∷ w) kept lt ends wends same follows le departs =
-    subst (λ y. FallsShort (x ∷ u) (row ∷ rows) (lost ∷ losses) soft state (suc place) (y ∷ w)) (departs.same 0 (omega arith))
+falls_short (suc from) (x ∷ u) (row ∷ rows) (lost ∷ losses) soft state (suc place) (y ∷ w) kept lt ends wends same follows le
+    departs =
+    rw (← departs.same 0 (omega arith))
     (later (falls_short from u rows losses (drop 2 soft) (next state x) place w kept.2 (omega arith) ends.2 wends.2 (omega arith) follows
     (omega arith) behind))
   where
     behind : DeviatesAt u w place
     behind = record {
-      within = (let i = departs.within in omega arith);
+      within = (omega arith);
       same = (λ j lt. departs.same (suc j) (omega arith));
       differs = departs.differs;
     }
@@ -158,28 +158,23 @@ falls_short (suc from) (x ∷ u) (row ∷ rows) (lost ∷ losses) soft state (su
 -- a word follows the survivors after the position of its deviation
 pub follows_behind : (u rows : List ℕ) (state place : ℕ) → length u ≡ length rows → place < length rows →
     FollowsSurvivors (place + 1) (deviation u rows state place) rows state
-follows_behind [] [] state place same within = absurd (omega arith)
-follows_behind [] (row ∷ rows) state place same within = absurd (omega arith)
-follows_behind (x ∷ u) [] state place same within = absurd (omega arith)
 follows_behind (x ∷ u) (row ∷ rows) state zero same within = refl
 follows_behind (x ∷ u) (row ∷ rows) state (suc place) same within =
     let more : suc place + 1 ≡ suc (place + 1) = omega arith in
-    subst (λ from. FollowsSurvivors from (x ∷ deviation u rows (next state x) place) (row ∷ rows) state) (sym more)
-    (follows_behind u rows (next state x) place (omega arith) (omega arith))
+    rw more (follows_behind u _ _ _ (omega arith) (omega arith))
+follows_behind u rows state place same within = absurd (omega arith)
 
 -- the deviating word consists of the word up to the position, the other bit, and then the survivor from the next state
 pub deviation_written : (u rows : List ℕ) (state place : ℕ) → place < length u → length rows ≡ length u →
     take place u ++ (1 - get_or u place 0) ∷ traceback (drop (place + 1) rows)
-    (next (state_after state (take place u)) (1 - get_or u place 0))
-    ≡ deviation u rows state place
-deviation_written [] rows state place within same = absurd (omega arith)
-deviation_written (x ∷ u) [] state place within same = absurd (omega arith)
+    (next (state_after_bits state (take place u)) (1 - get_or u place 0)) ≡ deviation u rows state place
 deviation_written (x ∷ u) (row ∷ rows) state zero within same = refl
 deviation_written (x ∷ u) (row ∷ rows) state (suc place) within same =
     let more : suc place + 1 ≡ suc (place + 1) = omega arith in
-    rw more (ap (λ rest. x ∷ rest) (deviation_written u rows (next state x) place (omega arith) (omega arith)))
+    rw more (ap (λ rest. x ∷ rest) (deviation_written u _ _ _ (omega arith) (omega arith)))
+deviation_written u rows state place within same = absurd (omega arith)
 
--- ---- the best word of a class
+-- ---- the most likely word of a class
 
 -- a class whose word is a candidate that follows the survivors from a position on, before which no position is free
 pub record IsFollowed (soft : List ℤ) (rows : List ℕ) (losses : List (List ℤ)) (c : DeviationClass) (from : ℕ) : Type 0 where
@@ -192,23 +187,17 @@ pub record IsFollowed (soft : List ℤ) (rows : List ℕ) (losses : List (List �
 module _ (soft : List ℤ) (rows : List ℕ) (losses : List (List ℤ)) (c : DeviationClass) (from : ℕ)
     (followed : IsFollowed soft rows losses c from) where
   list_ends : HasTailBits c.list
-  list_ends = HasTailBits-from_tail c.list followed.candidate.information.bits followed.candidate.information.tail
+  list_ends = HasTailBits-from_tail _ followed.candidate.information.bits followed.candidate.information.tail
 
   same_length : length c.list ≡ length rows
-  same_length = length-follows from c.list rows 0 followed.follows
+  same_length = length-follows from _ _ 0 followed.follows
 
   -- a word of the class deviates before the last four positions and loses at least the loss stored there
   pub in_class_short : (w : List ℕ) → IsCandidate soft w → (at : IsInClass c w) → FallsShort c.list rows losses soft 0 at.place w
   in_class_short w candidate at =
-      let count = candidate.count in
-      let pairs = followed.pairs in
-      falls_short from c.list rows losses soft 0 at.place w followed.kept (omega arith) list_ends
+      falls_short from _ _ _ _ 0 _ w followed.kept (omega arith) list_ends
       (HasTailBits-from_tail w candidate.information.bits candidate.information.tail) (omega arith) followed.follows
-      (followed.later at.place at.free) at.departs
-
-  -- if no such position is free, the class has no candidate
-  pub none_in_class : ((k : ℕ) → k + 4 < length rows → c.free k ≡ true → ⊥) → (w : List ℕ) → IsCandidate soft w → IsInClass c w → ⊥
-  none_in_class none w candidate at = none at.place (in_class_short w candidate at).within at.free
+      (followed.later _ at.free) at.departs
 
   module _ (place : ℕ) (least : IsLeastLossFreePosition c.list losses c.free (length c.list - 4) place) where
     abbrev v : List ℕ
@@ -219,18 +208,9 @@ module _ (soft : List ℤ) (rows : List ℕ) (losses : List (List ℤ)) (c : Dev
 
     here : IsDeviation c.list rows losses soft 0 place
     here = is_deviation from c.list rows losses soft 0 place followed.kept (omega arith) list_ends followed.follows
-        (followed.later place least.unlocked) inside
+        (followed.later place least.place_is_free) inside
 
-    pub deviation_candidate : IsCandidate soft v
-    deviation_candidate = record {
-      information = IsInformation-ends v (let n = here.count in let i = inside in omega arith) here.ends;
-      count = followed.pairs ∙ ap (λ n. 2 * n) (sym here.count);
-    }
-
-    pub deviation_departs : DeviatesAt c.list v place
-    deviation_departs = here.departs
-
-    pub deviation_value : likelihood soft (encoding v) ≡ likelihood soft (encoding c.list) -ℤ loss_at 0 c.list losses place
+    pub deviation_value : likelihood soft (encoding v) ≡ likelihood soft (encoding c.list) -ℤ deviation_loss 0 c.list losses place
     deviation_value =
         let gv = metric_from-start soft v (HasTailBits-bits v here.ends) in
         let gu = metric_from-start soft c.list (HasTailBits-bits c.list list_ends) in
@@ -239,7 +219,7 @@ module _ (soft : List ℤ) (rows : List ℕ) (losses : List (List ℤ)) (c : Dev
 
     -- an equally likely word that deviates at another position comes later in lexicographic order
     before_at : (w : List ℕ) (k : ℕ) → k + 4 < length rows → DeviatesAt c.list w k → c.free k ≡ true →
-        loss_at 0 c.list losses k ≡ loss_at 0 c.list losses place → k ≢ place → IsLexicographicallyBefore v w
+        deviation_loss 0 c.list losses k ≡ deviation_loss 0 c.list losses place → k ≢ place → IsLexicographicallyBefore v w
     before_at w k within at free tie other = elim (cases_lt k place) [
       | inl early ↦
           let zero_bit = least.before k early free tie in
@@ -277,10 +257,10 @@ module _ (soft : List ℤ) (rows : List ℕ) (losses : List (List ℤ)) (c : Dev
         let count : length w ≡ length v = let a = candidate.count in let b = followed.pairs in let n = here.count in omega arith in
         elim short.short [
           | inl less ↦ inl (omega (arith, ints))
-          | inr tie ↦ let e = tie.0 in by_lt_z (loss_at 0 c.list losses place) (loss_at 0 c.list losses at.place)
+          | inr tie ↦ let e = tie.0 in by_lt_z (deviation_loss 0 c.list losses place) (deviation_loss 0 c.list losses at.place)
               (λ more. inl (omega (arith, ints)))
               (λ not_more.
-              let equal : loss_at 0 c.list losses at.place ≡ loss_at 0 c.list losses place = omega (arith, ints) in
+              let equal : deviation_loss 0 c.list losses at.place ≡ deviation_loss 0 c.list losses place = omega (arith, ints) in
               inr (
                 omega (arith, ints),
                 elim (same_number at.place place) [

@@ -1,9 +1,10 @@
 -- The free position with the least loss, when one more position is examined.
-use Rattle.std.proofs.Common.{◌≡◌, ◌≢◌, ◌⊎◌, ℕ, zero, suc, ◌+◌, ◌<◌, ◌≤◌, Bool, true, inl, inr, ℤ, pos, ◌+ℤ◌, ◌-ℤ◌, List, get_or, take}
-use Rattle.std.{proofs.{Common.{refl, ap, ap₂, sym, ◌∙◌, subst, arith}, lemmas.{Bool.cases_lt, Int.ints}}, specs.Prelude.{◌<ℤ◌, ◌≤ℤ◌}}
+use Rattle.std.proofs.Common.{◌≡◌, ◌≢◌, ◌⊎◌, ℕ, zero, suc, ◌+◌, ◌<◌, ◌≤◌, Bool, true, inl, inr, ℤ, pos}
+use Rattle.std.proofs.Common.{◌+ℤ◌, ◌-ℤ◌, List, get_or, take, refl, ap, ap₂, sym, ◌∙◌, subst, arith}
+use Rattle.std.{proofs.lemmas.{Bool.cases_lt, Int.ints}, specs.Prelude.{◌<ℤ◌, ◌≤ℤ◌}}
 use Rattle.weight_bound.{specs.bit_blocks.Bits.AllBits, proofs.conv_code.{Coding.bit_at-most_1, Lemmas.same_number}}
-use Rattle.list_decode.specs.{DeviatingLists.{state_after, loss_at, IsLeastLossFreePosition}, FreePlaces.IsPossibleDeviation}
-use Rattle.list_decode.specs.{FreePlaces.IsBestPositionSoFar, declared.branch.BestPositionSoFar.BestPositionSoFar}
+use Rattle.list_decode.specs.{DeviatingLists.{state_after_bits, deviation_loss, IsLeastLossFreePosition}, FreePlaces.IsPossibleDeviation}
+use Rattle.list_decode.specs.{FreePlaces.IsLeastLossSoFar, declared.branch.LeastLossSoFar.LeastLossSoFar}
 use Rattle.list_decode.{specs.declared.departure.PossibleDeviation.PossibleDeviation, proofs.Losses.{below_limit, not_below_limit}}
 
 -- no position before n is free
@@ -12,30 +13,30 @@ NoneFree free n = (k : ℕ) → k < n → free k ≡ true → ⊥
 
 -- the values that are stored for a position that was found
 pub is_departure : (u : List ℕ) (losses : List (List ℤ)) (k state : ℕ) (lost : ℤ) (departure : PossibleDeviation) → AllBits u →
-    state ≡ state_after 0 (take k u) →
-    lost ≡ loss_at 0 u losses k → departure.place ≡ k → departure.state ≡ state → departure.loss ≡ lost →
-    departure.limit ≡ lost +ℤ pos 1 -ℤ pos (get_or u k 0) → IsPossibleDeviation u losses departure
+    state ≡ state_after_bits 0 (take k u) → lost ≡ deviation_loss 0 u losses k → departure.place ≡ k →
+    departure.state ≡ state → departure.loss ≡ lost →
+    departure.loss_limit ≡ lost +ℤ pos 1 -ℤ pos (get_or u k 0) → IsPossibleDeviation u losses departure
 is_departure u losses k state lost departure bits found is_lost at s l m = record {
-  bit = bit_at-most_1 u departure.place bits;
-  state = s ∙ found ∙ ap (λ k. state_after 0 (take k u)) (sym at);
-  loss = l ∙ is_lost ∙ ap (loss_at 0 u losses) (sym at);
-  limit = m ∙ ap₂ (λ lost place. lost +ℤ pos 1 -ℤ pos (get_or u place 0)) (sym l) (sym at);
+  bit = bit_at-most_1 u _ bits;
+  state = s ∙ found ∙ ap (λ k. state_after_bits 0 (take k u)) (sym at);
+  loss = l ∙ is_lost ∙ ap (deviation_loss 0 u losses) (sym at);
+  loss_limit = m ∙ ap₂ (λ lost place. lost +ℤ pos 1 -ℤ pos (get_or u place 0)) (sym l) (sym at);
 }
 
 module _ (u : List ℕ) (losses : List (List ℤ)) (free : ℕ → Bool) (k : ℕ) where
   abbrev loss : ℕ → ℤ
-  loss = loss_at 0 u losses
+  loss = deviation_loss 0 u losses
 
   -- the best position so far stays the best
   pub free_kept : (place : ℕ) → get_or u place 0 ≤ 1 → IsLeastLossFreePosition u losses free k place →
       (free k ≡ true → (loss place <ℤ loss k) ⊎ ((loss k ≡ loss place) × (get_or u place 0 ≢ 0))) →
       IsLeastLossFreePosition u losses free (k + 1) place
   free_kept place bit old more = record {
-    within = let i = old.within in omega arith;
-    unlocked = old.unlocked;
+    within = omega arith;
+    place_is_free = old.place_is_free;
     least = (λ j lt is_free. elim (same_number j k) [
-      | inl here ↦ elim (more (subst (λ j. free j ≡ true) here is_free)) [
-        | inl less ↦ subst (λ j. loss place ≤ℤ loss j) (sym here) (omega (arith, ints))
+      | inl here ↦ elim (more (rw (← here) is_free)) [
+        | inl less ↦ rw here (omega (arith, ints))
         | inr tie ↦ let e = tie.0 in subst (λ j. loss place ≤ℤ loss j) (sym here) (omega (arith, ints))
       ]
       | inr earlier ↦ old.least j (omega arith) is_free
@@ -44,7 +45,7 @@ module _ (u : List ℕ) (losses : List (List ℤ)) (free : ℕ → Bool) (k : �
     after = (λ j late lt is_free equal. elim (same_number j k) [
       | inl here ↦ elim (more (subst (λ j. free j ≡ true) here is_free)) [
         | inl less ↦ absurd (let e = subst (λ j. loss j ≡ loss place) here equal in omega (arith, ints))
-        | inr tie ↦ one (get_or u place 0) bit tie.1
+        | inr tie ↦ one _ bit tie.1
       ]
       | inr earlier ↦ old.after j late (omega arith) is_free equal
     ]);
@@ -57,9 +58,9 @@ module _ (u : List ℕ) (losses : List (List ℤ)) (free : ℕ → Bool) (k : �
   pub free_first : NoneFree free k → free k ≡ true → IsLeastLossFreePosition u losses free (k + 1) k
   free_first none is_free = record {
     within = omega arith;
-    unlocked = is_free;
+    place_is_free = is_free;
     least = (λ j lt free_j. elim (same_number j k) [
-      | inl here ↦ subst (λ j. loss k ≤ℤ loss j) (sym here) (omega (arith, ints))
+      | inl here ↦ rw here (omega (arith, ints))
       | inr earlier ↦ absurd (none j (omega arith) free_j)
     ]);
     before = (λ j lt free_j equal. absurd (none j lt free_j));
@@ -71,7 +72,7 @@ module _ (u : List ℕ) (losses : List (List ℤ)) (free : ℕ → Bool) (k : �
       (loss k <ℤ loss place) ⊎ ((loss k ≡ loss place) × (get_or u place 0 ≡ 0)) → IsLeastLossFreePosition u losses free (k + 1) k
   free_taken place old is_free less = record {
     within = omega arith;
-    unlocked = is_free;
+    place_is_free = is_free;
     least = (λ j lt free_j. elim (same_number j k) [
       | inl here ↦ subst (λ j. loss k ≤ℤ loss j) (sym here) (omega (arith, ints))
       | inr earlier ↦ let low = old.least j (omega arith) free_j in
@@ -79,7 +80,7 @@ module _ (u : List ℕ) (losses : List (List ℤ)) (free : ℕ → Bool) (k : �
     ]);
     before = (λ j lt free_j equal. elim less [
       | inl less ↦ absurd (let low = old.least j lt free_j in omega (arith, ints))
-      | inr tie ↦ elim (cases_lt j place) [
+      | inr tie ↦ elim (cases_lt j _) [
         | inl early ↦ old.before j early free_j (equal ∙ tie.0)
         | inr not_early ↦ elim (cases_lt place j) [
           | inl late ↦ absurd (let one = old.after j late lt free_j (equal ∙ tie.0) in let zero = tie.1 in omega arith)
@@ -91,31 +92,31 @@ module _ (u : List ℕ) (losses : List (List ℤ)) (free : ℕ → Bool) (k : �
   }
 
   -- the best position after position k has been examined too
-  pub spot_first : (new : BestPositionSoFar) → NoneFree free k → free k ≡ true → new.place ≡ k → new.state ≡ state_after 0 (take k u) →
-      new.limit ≡ loss k +ℤ pos 1 -ℤ pos (get_or u k 0) → IsBestPositionSoFar u losses free (k + 1) new
-  spot_first new none is_free at state limit = record {
-    state = state ∙ ap (λ k. state_after 0 (take k u)) (sym at);
-    limit = limit ∙ ap (λ k. loss k +ℤ pos 1 -ℤ pos (get_or u k 0)) (sym at);
-    least = subst (λ place. IsLeastLossFreePosition u losses free (k + 1) place) (sym at) (free_first none is_free);
+  pub spot_first : (new : LeastLossSoFar) → NoneFree free k → free k ≡ true → new.place ≡ k →
+      new.state ≡ state_after_bits 0 (take k u) → new.loss_limit ≡ loss k +ℤ pos 1 -ℤ pos (get_or u k 0) →
+      IsLeastLossSoFar u losses free (k + 1) new
+  spot_first new none is_free at state loss_limit = record {
+    state = state ∙ ap (λ k. state_after_bits 0 (take k u)) (sym at);
+    loss_limit = loss_limit ∙ ap (λ k. loss k +ℤ pos 1 -ℤ pos (get_or u k 0)) (sym at);
+    least = rw at (free_first none is_free);
   }
 
-  pub spot_taken : (best new : BestPositionSoFar) → AllBits u → IsBestPositionSoFar u losses free k best → free k ≡ true → new.place ≡ k →
-      new.state ≡ state_after 0 (take k u) → new.limit ≡ loss k +ℤ pos 1 -ℤ pos (get_or u k 0) → loss k <ℤ best.limit →
-      IsBestPositionSoFar u losses free (k + 1) new
-  spot_taken best new bits old is_free at state limit less = record {
-    state = state ∙ ap (λ k. state_after 0 (take k u)) (sym at);
-    limit = limit ∙ ap (λ k. loss k +ℤ pos 1 -ℤ pos (get_or u k 0)) (sym at);
-    least = subst (λ place. IsLeastLossFreePosition u losses free (k + 1) place) (sym at) (free_taken best.place old.least is_free
-        (below_limit (loss k) (loss best.place) (get_or u best.place 0) (bit_at-most_1 u best.place bits)
-        (subst (λ limit. loss k <ℤ limit) old.limit less)));
+  pub spot_taken : (best new : LeastLossSoFar) → AllBits u → IsLeastLossSoFar u losses free k best → free k ≡ true →
+      new.place ≡ k → new.state ≡ state_after_bits 0 (take k u) → new.loss_limit ≡ loss k +ℤ pos 1 -ℤ pos (get_or u k 0) →
+      loss k <ℤ best.loss_limit →
+      IsLeastLossSoFar u losses free (k + 1) new
+  spot_taken best new bits old is_free at state loss_limit less = record {
+    state = state ∙ ap (λ k. state_after_bits 0 (take k u)) (sym at);
+    loss_limit = loss_limit ∙ ap (λ k. loss k +ℤ pos 1 -ℤ pos (get_or u k 0)) (sym at);
+    least = rw at (free_taken best.place old.least is_free
+        (below_limit _ _ (get_or u best.place 0) (bit_at-most_1 u best.place bits) (rw (← old.loss_limit) less)));
   }
 
-  pub spot_kept : (best : BestPositionSoFar) → AllBits u → IsBestPositionSoFar u losses free k best → best.limit ≤ℤ loss k →
-      IsBestPositionSoFar u losses free (k + 1) best
+  pub spot_kept : (best : LeastLossSoFar) → AllBits u → IsLeastLossSoFar u losses free k best → best.loss_limit ≤ℤ loss k →
+      IsLeastLossSoFar u losses free (k + 1) best
   spot_kept best bits old most = record {
     state = old.state;
-    limit = old.limit;
-    least = free_kept best.place (bit_at-most_1 u best.place bits) old.least (λ is_free.
-        not_below_limit (loss k) (loss best.place) (get_or u best.place 0) (bit_at-most_1 u best.place bits)
-        (subst (λ limit. limit ≤ℤ loss k) old.limit most));
+    loss_limit = old.loss_limit;
+    least = free_kept _ (bit_at-most_1 u _ bits) old.least (λ is_free. not_below_limit _ _ _ (bit_at-most_1 u _ bits)
+        (rw (← old.loss_limit) most));
   }

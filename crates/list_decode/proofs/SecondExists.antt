@@ -1,10 +1,10 @@
 -- For every word, the best of all other words exists: by induction on the number of words.
-use Rattle.std.proofs.Common.{◌≡◌, ◌≢◌, ◌⊎◌, ℕ, zero, suc, ◌+◌, ◌-◌, ◌*◌, ◌^◌, ◌<◌, ◌≤◌, inl, inr, ℤ, ◌<ℤ◌, List, length, get_or, ap, sym}
-use Rattle.std.proofs.{Common.{◌∙◌, subst, arith}, Math.Nat.div-eq_of_lt, lemmas.{Bool.cases_lt, Int.{ints, by_lt_z}, Nat.pow-add}}
-use Rattle.std.proofs.lemmas.Nat.{pow_pos}
+use Rattle.std.proofs.Common.{◌≡◌, ◌≢◌, ◌⊎◌, ℕ, zero, suc, ◌+◌, ◌-◌, ◌*◌, ◌^◌, ◌<◌, ◌≤◌, inl}
+use Rattle.std.proofs.{Common.{inr, ℤ, ◌<ℤ◌, List, length, get_or, ap, sym, ◌∙◌, subst, arith}, Math.Nat.div-eq_of_lt}
+use Rattle.std.proofs.lemmas.{Bool.cases_lt, Int.{ints, by_lt_z}, Nat.{pow-add, pow_pos}}
 use Rattle.weight_bound.specs.conv_code.{Code.encoding, Likelihood.{likelihood, IsLexicographicallyBefore, RanksAfter}}
 use Rattle.weight_bound.proofs.conv_code.Lemmas.{same_number}
-use Rattle.trellis_decode.{specs.Words.word, proofs.Lemmas.{length-word, IsLexicographicallyBefore-word, IsInformation-word}}
+use Rattle.trellis_decode.{specs.Words.word, proofs.Lemmas.{length-word, IsLexicographicallyBefore-word, IsEncoderInput-word}}
 use Rattle.trellis_decode.proofs.Lemmas.{word-information}
 use Rattle.list_decode.specs.Ranking.{IsCandidate, IsSecondMostLikely}
 
@@ -23,43 +23,41 @@ module _ (soft : List ℤ) (n passed : ℕ) where
     other : chosen ≢ passed
     leads : (m : ℕ) → m < number → m ≢ chosen → m ≢ passed → RanksAfter soft (list_of m) (list_of chosen)
 
-  behind_more : (a b : List ℕ) (v : List ℕ) → RanksAfter soft v a → likelihood soft (encoding a) <ℤ likelihood soft (encoding b) →
-      RanksAfter soft v b
+  behind_more : (a b : List ℕ) (v : List ℕ) → RanksAfter soft v a →
+      likelihood soft (encoding a) <ℤ likelihood soft (encoding b) → RanksAfter soft v b
   behind_more a b v (inl less) more = inl (omega (arith, ints))
-  behind_more a b v (inr same) more = let e = same.0 in inl (omega (arith, ints))
+  behind_more a b v (inr same) more = inl (omega (arith, ints))
 
   -- of two words, the one with the higher number either has a greater path metric or ranks after the other
   compared : (a b : ℕ) → a < b → 16 * b < 2 ^ n →
       (likelihood soft (encoding (list_of a)) <ℤ likelihood soft (encoding (list_of b))) ⊎ RanksAfter soft (list_of b) (list_of a)
   compared a b less within =
-      let lower : 16 * a < 2 ^ n = omega arith in
-      let before : IsLexicographicallyBefore (list_of a) (list_of b) =
-      IsLexicographicallyBefore-word n (16 * a) (16 * b) (omega arith) (div-eq_of_lt lower ∙ sym (div-eq_of_lt within)) in
-      by_lt_z (likelihood soft (encoding (list_of a))) (likelihood soft (encoding (list_of b)))
-      (λ more. inl more)
-      (λ most. inr (by_lt_z (likelihood soft (encoding (list_of b))) (likelihood soft (encoding (list_of a)))
-      (λ below. inl below)
+      let before =
+      IsLexicographicallyBefore-word n _ _ (omega arith) (div-eq_of_lt (omega arith) ∙ sym (div-eq_of_lt within)) in
+      by_lt_z (likelihood soft (encoding (list_of a))) (likelihood soft (encoding (list_of b))) inl
+      (λ most. inr (by_lt_z (likelihood soft (encoding (list_of b))) (likelihood soft (encoding (list_of a))) inl
       (λ equal. inr (omega (arith, ints), before))))
 
-  -- one more word becomes the best, or the best word so far stays the best
-  one_more : (number : ℕ) → 16 * number < 2 ^ n → number ≢ passed → IsChainOfDeviations number → IsChainOfDeviations (suc number)
-  one_more number room other before = elim (compared before.chosen number before.within room) [
+  -- one more word becomes the best, or the most likely word so far stays the best
+  one_more : (number : ℕ) → 16 * number < 2 ^ n → number ≢ passed → IsChainOfDeviations number →
+      IsChainOfDeviations (suc number)
+  one_more number room other before = elim (compared _ _ before.within room) [
     | inl more ↦ record {
       chosen = number;
       within = omega arith;
       other = other;
-      leads = (λ m lt ne ne'. elim (same_number m before.chosen) [
-        | inl same ↦ inl (subst (λ m. likelihood soft (encoding (list_of m)) <ℤ likelihood soft (encoding (list_of number))) (sym same)
+      leads = (λ m lt ne ne'. elim (same_number m _) [
+        | inl same ↦ inl (rw same
             more)
-        | inr differs ↦ behind_more (list_of before.chosen) (list_of number) (list_of m) (before.leads m (omega arith) differs ne') more
+        | inr differs ↦ behind_more _ _ (list_of m) (before.leads m (omega arith) differs ne') more
       ]);
     }
     | inr behind ↦ record {
       chosen = before.chosen;
-      within = let h = before.within in omega arith;
+      within = omega arith;
       other = before.other;
       leads = (λ m lt ne ne'. elim (same_number m number) [
-        | inl same ↦ subst (λ m. RanksAfter soft (list_of m) (list_of before.chosen)) (sym same) behind
+        | inl same ↦ rw same behind
         | inr differs ↦ before.leads m (omega arith) ne ne'
       ]);
     }
@@ -69,15 +67,15 @@ module _ (soft : List ℤ) (n passed : ℕ) where
   none_more : (number : ℕ) → number ≡ passed → IsChainOfDeviations number → IsChainOfDeviations (suc number)
   none_more number same before = record {
     chosen = before.chosen;
-    within = let h = before.within in omega arith;
+    within = omega arith;
     other = before.other;
     leads = (λ m lt ne ne'. before.leads m (omega arith) ne ne');
   }
 
   leading : (number : ℕ) → 16 * number ≤ 2 ^ n → IsChainOfDeviations number ⊎ ((m : ℕ) → m < number → m ≡ passed)
   leading zero room = inr (λ m lt. absurd (omega arith))
-  leading (suc number) room = elim (same_number number passed) [
-    | inl same ↦ elim (leading number (omega arith)) [
+  leading (suc number) room = elim (same_number _ _) [
+    | inl same ↦ elim (leading _ (omega arith)) [
       | inl before ↦ inl (none_more number same before)
       | inr none ↦ inr (λ m lt. elim (same_number m number) [ inl e ↦ e ∙ same | inr ne ↦ none m (omega arith) ])
     ]
@@ -94,36 +92,34 @@ module _ (soft : List ℤ) (n passed : ℕ) where
 
   -- the best of all others is the second word after the excluded one
   IsSecondMostLikely-chosen : (lists : ℕ) → 5 ≤ n → length soft ≡ 2 * n → 16 * lists ≡ 2 ^ n → 16 * passed < 2 ^ n →
-      (l : IsChainOfDeviations lists) →
-      IsSecondMostLikely soft (list_of passed) (list_of l.chosen)
+      (l : IsChainOfDeviations lists) → IsSecondMostLikely soft (list_of passed) (list_of l.chosen)
   IsSecondMostLikely-chosen lists long pairs all known l = record {
-    candidate = record { information = IsInformation-word n l.chosen long; count = rw (length-word n (16 * l.chosen)) pairs };
+    candidate = record { information = IsEncoderInput-word n l.chosen long; count = rw length-word pairs };
     differs = apart;
     others = every;
   } where
     -- words with different numbers differ
     ordered : (a b : ℕ) → a < b → 16 * b < 2 ^ n → list_of a ≢ list_of b
     ordered a b less within =
-        let lower : 16 * a < 2 ^ n = omega arith in
-        differs_before (list_of a) (list_of b)
-        (IsLexicographicallyBefore-word n (16 * a) (16 * b) (omega arith) (div-eq_of_lt lower ∙ sym (div-eq_of_lt within)))
+        differs_before _ _ (IsLexicographicallyBefore-word n _ _ (omega arith) (div-eq_of_lt (omega arith) ∙ sym (div-eq_of_lt within)))
 
     apart : list_of l.chosen ≢ list_of passed
     apart same =
         let below = l.within in
-        elim (cases_lt l.chosen passed) [
-          | inl less ↦ ordered l.chosen passed less known same
+        elim (cases_lt _ _) [
+          | inl less ↦ ordered _ passed less known same
           | inr not_less ↦ let ne = l.other in ordered passed l.chosen (omega arith) (omega arith) (sym same)
         ]
 
-    every : (w : List ℕ) → IsCandidate soft w → w ≢ list_of passed → w ≢ list_of l.chosen → RanksAfter soft w (list_of l.chosen)
+    every : (w : List ℕ) → IsCandidate soft w → w ≢ list_of passed → w ≢ list_of l.chosen →
+        RanksAfter soft w (list_of l.chosen)
     every w candidate ne ne' =
         let spelt = word-information w candidate.information in
         let m = spelt.0 in
         let count = candidate.count in
         let long : length w ≡ n = omega arith in
-        let is : list_of m ≡ w = ap (λ n. word n (16 * m)) (sym long) ∙ spelt.2 in
-        let below : 16 * m < 2 ^ n = subst (λ n. 16 * m < 2 ^ n) long spelt.1 in
+        let is = ap (λ n. word n (16 * m)) (sym long) ∙ spelt.2 in
+        let below = subst (λ n. 16 * m < 2 ^ n) long spelt.1 in
         subst (λ w. RanksAfter soft w (list_of l.chosen)) is
         (l.leads m (omega arith) (λ same. ne' (sym is ∙ ap list_of same)) (λ same. ne (sym is ∙ ap list_of same)))
 
@@ -131,9 +127,8 @@ module _ (soft : List ℤ) (n passed : ℕ) where
 pub some_second : (soft : List ℤ) (u : List ℕ) → IsCandidate soft u → (v : List ℕ) × IsSecondMostLikely soft u v
 some_second soft u candidate =
     let n = length u in
-    let long = candidate.information.count in
     let spelt = word-information u candidate.information in
-    let partition : 2 ^ n ≡ 16 * 2 ^ (n - 4) =
+    let partition =
     ap (λ k. 2 ^ k) (let e : n ≡ 4 + (n - 4) = omega arith in e) ∙ pow-add 2 4 (n - 4) in
     let halves : 2 ^ (n - 4) ≡ 2 * 2 ^ (n - 5) =
     ap (λ k. 2 ^ k) (let e : n - 4 ≡ 1 + (n - 5) = omega arith in e) ∙ pow-add 2 1 (n - 5) in
@@ -142,7 +137,7 @@ some_second soft u candidate =
       | inl l ↦ (
         word n (16 * l.chosen),
         subst (λ u. IsSecondMostLikely soft u (word n (16 * l.chosen))) spelt.2
-            (IsSecondMostLikely-chosen soft n spelt.0 (2 ^ (n - 4)) long candidate.count (sym partition) spelt.1 l),
+            (IsSecondMostLikely-chosen soft n spelt.0 (2 ^ (n - 4)) candidate.information.count candidate.count (sym partition) spelt.1 l),
       )
       | inr none ↦
           let first = none 0 (omega arith) in

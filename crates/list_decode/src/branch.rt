@@ -3,19 +3,19 @@
 ghost use Rattle.std.specs.Prelude.{◌≡◌, ◌≤◌, ◌+◌, ℕ, ◌<◌, ℤ, Bool, true, pos, ◌+ℤ◌, ◌-ℤ◌, List};
 ghost use Rattle.std.specs.Prelude.{length, slice_index, take};
 ghost use Rattle.weight_bound.specs.bit_blocks.Bits.{AllBits};
-ghost use Rattle.list_decode.specs.Branches.{IsBranch, IsSpan, IsDeviation, between, word_of_deviation};
-ghost use Rattle.list_decode.specs.DeviatingLists.{loss_at, state_after};
-ghost use Rattle.list_decode.specs.FreePlaces.{IsBestFreePosition, IsBestPositionSoFar};
-ghost use Rattle.list_decode.specs.Passes.{IsCompletePass, pass_soft_bits};
+ghost use Rattle.list_decode.specs.Branches.{IsBranch, IsSpanOfWord, IsDeviation, is_in_range, word_of_deviation};
+ghost use Rattle.list_decode.specs.DeviatingLists.{deviation_loss, state_after_bits};
+ghost use Rattle.list_decode.specs.FreePlaces.{IsLeastLossDeviationOrNone, IsLeastLossSoFar};
+ghost use Rattle.list_decode.specs.Passes.{IsCompletePass, soft_bits_of_pass};
 ghost use Rattle.list_decode.specs.Ranking.{IsCandidate};
 
 use crate::departure::{DeviationPoint, PossibleDeviation, apply_deviation, write_deviation};
-use crate::pass::Pass;
-use trellis_decode::INFORMATION_BITS;
+use crate::pass::ViterbiPass;
+use trellis_decode::ENCODER_INPUT_BITS;
 
 /// The positions `from..to` of a returned word, the path metric of the word (`likelihood`), and the trellis state before `from`.
 #[derive(Clone, Copy)]
-pub(crate) struct Span {
+pub(crate) struct WordSpan {
     pub(crate) likelihood: i32,
     /// The number of the word, counted from 0 in order of rank.
     pub(crate) list: u8,
@@ -33,23 +33,23 @@ pub(crate) struct Deviation {
     pub(crate) list: u8,
 }
 
-/// A span and the best word that deviates in it.
+/// A span of a returned word, and the most likely word that deviates within it (`best`).
 #[derive(Clone, Copy)]
-pub(crate) struct Branch {
-    pub(crate) span: Span,
+pub(crate) struct WordBranch {
+    pub(crate) span: WordSpan,
     pub(crate) best: Option<Deviation>,
 }
 
-impl Branch {
-    /// Finds the best word that deviates from `u` at a position of `span`.
-    pub(crate) fn new(pass: &Pass, u: &[u8], span: Span) -> Branch
+impl WordBranch {
+    /// Finds the most likely word that deviates from `u` at a position of `span`.
+    pub(crate) fn new(pass: &ViterbiPass, u: &[u8], span: WordSpan) -> WordBranch
         requires pass { IsCompletePass pass.now }
-        requires list { IsCandidate (pass_soft_bits pass.now) u.now }
-        requires span { IsSpan pass.now u.now span }
+        requires list { IsCandidate (soft_bits_of_pass pass.now) u.now }
+        requires span { IsSpanOfWord pass.now u.now span }
         ensures span { result.span ≡ span }
         ensures branch { IsBranch pass.now u.now result }
     {
-        let best = match find_best(u, &pass.losses[..pass.bits], &span) {
+        let best = match find_least_loss_in_span(u, &pass.losses[..pass.bits], &span) {
             None => None,
             Some(departure) => Some(Deviation {
                 likelihood: span.likelihood - departure.loss,
@@ -61,15 +61,15 @@ impl Branch {
                 list: span.list,
             }),
         };
-        Branch { span, best }
+        WordBranch { span, best }
     }
 }
 
 impl Deviation {
-    /// Writes to `v` the word that this deviation makes of `u`.
-    pub(crate) fn write(&self, pass: &Pass, u: &[u8], v: &mut [u8])
+    /// Writes to `v` the word that results from applying this deviation to `u`.
+    pub(crate) fn write(&self, pass: &ViterbiPass, u: &[u8], v: &mut [u8])
         requires pass { IsCompletePass pass.now }
-        requires list { IsCandidate (pass_soft_bits pass.now) u.now }
+        requires list { IsCandidate (soft_bits_of_pass pass.now) u.now }
         requires deviation { IsDeviation pass.now u.now self.now }
         requires count { length v.old ≡ length u.now }
         ensures { v.new ≡ word_of_deviation pass.now u.now self.now }
@@ -77,10 +77,10 @@ impl Deviation {
         write_deviation(u, &pass.rows[..pass.bits], self.departure, v);
     }
 
-    /// Replaces `u` by the word that this deviation makes of it.
-    pub(crate) fn take(&self, pass: &Pass, u: &mut [u8])
+    /// Applies this deviation to `u` in place.
+    pub(crate) fn take(&self, pass: &ViterbiPass, u: &mut [u8])
         requires pass { IsCompletePass pass.now }
-        requires list { IsCandidate (pass_soft_bits pass.now) u.old }
+        requires list { IsCandidate (soft_bits_of_pass pass.now) u.old }
         requires deviation { IsDeviation pass.now u.old self.now }
         ensures { u.new ≡ word_of_deviation pass.now u.old self.now }
     {
@@ -88,17 +88,21 @@ impl Deviation {
     }
 }
 
-/// The position of a span with the least loss; of equal losses, the one whose deviating word comes first in lexicographic order. `None`
-/// if the span is empty.
-fn find_best(list: &[u8], losses: &[[i16; 16]], span: &Span) -> Option<PossibleDeviation>
+/// Finds the position in a span at which a deviation loses least. Of positions with equal losses, it takes the one whose deviating word
+/// comes first in lexicographic order. Returns `None` if the span is empty.
+fn find_least_loss_in_span(
+    list: &[u8],
+    losses: &[[i16; 16]],
+    span: &WordSpan,
+) -> Option<PossibleDeviation>
     requires bits { AllBits list.now }
     requires order { span.now.from ≤ span.now.to }
     requires end { span.now.to + 4 ≤ length list.now }
-    requires at_most { length list.now ≤ INFORMATION_BITS }
+    requires at_most { length list.now ≤ ENCODER_INPUT_BITS }
     requires same { length losses.now ≡ length list.now }
     requires small { span.now.state < 16 }
-    requires state { span.now.state ≡ state_after 0 (take span.now.from list.now) }
-    ensures { IsBestFreePosition list.now losses.now (between span.now.from span.now.to) span.now.to result }
+    requires state { span.now.state ≡ state_after_bits 0 (take span.now.from list.now) }
+    ensures { IsLeastLossDeviationOrNone list.now losses.now (is_in_range span.now.from span.now.to) span.now.to result }
 {
     let from = usize::from(span.from);
     let to = usize::from(span.to);
@@ -106,10 +110,10 @@ fn find_best(list: &[u8], losses: &[[i16; 16]], span: &Span) -> Option<PossibleD
         return None;
     }
     let state = usize::from(span.state);
-    let mut best = BestPositionSoFar::new(from, state, losses[from][state], list[from]);
+    let mut best = LeastLossSoFar::new(from, state, losses[from][state], list[from]);
     let mut state = (2 * state + usize::from(list[from])) % 16;
     for k in from + 1..to {
-        best = best.or(k, state, losses[k][state], list[k]);
+        best = best.or_lower_loss(k, state, losses[k][state], list[k]);
         state = (2 * state + usize::from(list[k])) % 16;
     }
     Some(PossibleDeviation::new(
@@ -122,36 +126,37 @@ fn find_best(list: &[u8], losses: &[[i16; 16]], span: &Span) -> Option<PossibleD
 
 /// The best position so far, the trellis state before it, and a limit: a later position is better if its loss is below this limit.
 #[derive(Clone, Copy)]
-struct BestPositionSoFar {
+struct LeastLossSoFar {
     place: usize,
     state: usize,
-    limit: i32,
+    loss_limit: i32,
 }
 
-impl BestPositionSoFar {
-    fn new(place: usize, state: usize, loss: i16, bit: u8) -> BestPositionSoFar
+impl LeastLossSoFar {
+    fn new(place: usize, state: usize, loss: i16, bit: u8) -> LeastLossSoFar
         requires { bit ≤ 1 }
         ensures place { result.place ≡ place }
         ensures state { result.state ≡ state }
-        ensures limit { result.limit ≡ loss +ℤ pos 1 -ℤ pos bit }
+        ensures loss_limit { result.loss_limit ≡ loss +ℤ pos 1 -ℤ pos bit }
     {
-        BestPositionSoFar {
+        LeastLossSoFar {
             place,
             state,
-            limit: i32::from(loss) + 1 - i32::from(bit),
+            loss_limit: i32::from(loss) + 1 - i32::from(bit),
         }
     }
 
-    /// The better of this position and a later one.
-    fn or(self, place: usize, state: usize, loss: i16, bit: u8) -> BestPositionSoFar
+    /// Returns the better of this position and a later one.
+    fn or_lower_loss(self, place: usize, state: usize, loss: i16, bit: u8) -> LeastLossSoFar
         requires { bit ≤ 1 }
-        ensures { (u : List ℕ) (losses : List (List ℤ)) (free : ℕ → Bool) → IsBestPositionSoFar u losses free place self →
+        ensures { (u : List ℕ) (losses : List (List ℤ)) (free : ℕ → Bool) → IsLeastLossSoFar u losses free place self →
             free place ≡ true →
-            state ≡ state_after 0 (take place u) → loss ≡ loss_at 0 u losses place → bit ≡ slice_index u place → AllBits u →
-            IsBestPositionSoFar u losses free (place + 1) result }
+            state ≡ state_after_bits 0 (take place u) → loss ≡ deviation_loss 0 u losses place → bit ≡ slice_index u place →
+            AllBits u →
+            IsLeastLossSoFar u losses free (place + 1) result }
     {
-        if i32::from(loss) < self.limit {
-            BestPositionSoFar::new(place, state, loss, bit)
+        if i32::from(loss) < self.loss_limit {
+            LeastLossSoFar::new(place, state, loss, bit)
         } else {
             self
         }

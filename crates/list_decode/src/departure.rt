@@ -4,13 +4,13 @@ ghost use Rattle.std.specs.Prelude.{◌≡◌, true, false, pos, ◌+ℤ◌, ◌
 ghost use Rattle.std.specs.Prelude.{◌*◌, ◌%◌, ◌<◌, ◌≤◌, length, slice_index, ◌++◌, ◌∷◌};
 ghost use Rattle.std.proofs.Common.{take, drop};
 ghost use Rattle.weight_bound.specs.bit_blocks.Bits.{AllBits};
-ghost use Rattle.list_decode.specs.DeviatingLists.{IsLeastLossPosition, state_after};
+ghost use Rattle.list_decode.specs.DeviatingLists.{IsLeastLossPosition, state_after_bits};
 ghost use Rattle.list_decode.specs.Readings.{IsPartialTraceback};
 ghost use Rattle.trellis_decode.specs.Trellis.{next, traceback};
 
-use trellis_decode::{INFORMATION_BITS, trace_back};
+use trellis_decode::{ENCODER_INPUT_BITS, trace_back};
 
-/// The position at which another word deviates, and the trellis state before this position.
+/// A position at which another word deviates from a given word, and the trellis state before this position.
 #[derive(Clone, Copy)]
 pub(crate) struct DeviationPoint {
     pub(crate) place: u8,
@@ -42,9 +42,9 @@ pub(crate) struct PossibleDeviation {
     pub(crate) place: usize,
     pub(crate) state: usize,
     pub(crate) loss: i32,
-    /// A later position is better if its loss is below this limit: the loss here, plus 1 if the word has a 0 here. In that case the
-    /// deviation here puts a 1, so an equal loss at a later position gives a word that comes earlier in lexicographic order.
-    pub(crate) limit: i32,
+    /// A later position is better if its loss is below this limit: the loss here, plus 1 if the word has a 0 here. Changing a 0 to a 1
+    /// gives a word that comes later in lexicographic order, so at equal losses the later position is then better.
+    pub(crate) loss_limit: i32,
 }
 
 impl PossibleDeviation {
@@ -53,27 +53,27 @@ impl PossibleDeviation {
         ensures place { result.place ≡ place }
         ensures state { result.state ≡ state }
         ensures loss { result.loss ≡ loss }
-        ensures limit { result.limit ≡ loss +ℤ pos 1 -ℤ pos bit }
+        ensures loss_limit { result.loss_limit ≡ loss +ℤ pos 1 -ℤ pos bit }
     {
         let loss = i32::from(loss);
         PossibleDeviation {
             place,
             state,
             loss,
-            limit: loss + 1 - i32::from(bit),
+            loss_limit: loss + 1 - i32::from(bit),
         }
     }
 
     /// Whether a later position with the loss `loss` is better for a deviation than this position.
     pub(crate) fn is_improved_by(&self, loss: i32) -> bool
-        ensures after { result ≡ true → loss <ℤ self.now.limit }
-        ensures not_after { result ≡ false → self.now.limit ≤ℤ loss }
+        ensures after { result ≡ true → loss <ℤ self.now.loss_limit }
+        ensures not_after { result ≡ false → self.now.loss_limit ≤ℤ loss }
     {
-        loss < self.limit
+        loss < self.loss_limit
     }
 }
 
-/// The traceback of a word, up to some position.
+/// The state of a traceback that has reached some position.
 #[derive(Clone, Copy)]
 struct PartialTraceback {
     /// The trellis state before the next position.
@@ -83,11 +83,11 @@ struct PartialTraceback {
 }
 
 impl PartialTraceback {
-    /// Reads out the bit at position `k`, and keeps the better position for a deviation.
+    /// Traces back the bit at position `k`, and keeps the better position for a deviation.
     fn more(self, k: usize, rows: &[u16], losses: &[[i16; 16]], u: &mut [u8]) -> PartialTraceback
         requires rows { length rows.now ≡ length u.old }
         requires same { length losses.now ≡ length u.old }
-        requires at_most { length u.old ≤ INFORMATION_BITS }
+        requires at_most { length u.old ≤ ENCODER_INPUT_BITS }
         requires within { k + 4 < length u.old }
         requires reading { IsPartialTraceback rows.now losses.now u.old k self }
         ensures reading { IsPartialTraceback rows.now losses.now u.new (k + 1) result }
@@ -112,10 +112,10 @@ pub(crate) fn find_least_loss(rows: &[u16], losses: &[[i16; 16]], u: &mut [u8]) 
     requires rows { length rows.now ≡ length u.old }
     requires same { length losses.now ≡ length u.old }
     requires at_least { 5 ≤ length u.old }
-    requires at_most { length u.old ≤ INFORMATION_BITS }
+    requires at_most { length u.old ≤ ENCODER_INPUT_BITS }
     ensures list { u.new ≡ traceback rows.now 0 }
     ensures least { IsLeastLossPosition u.new losses.now (length u.new - 4) result.place result.loss }
-    ensures state { result.state ≡ state_after 0 (take result.place u.new) }
+    ensures state { result.state ≡ state_after_bits 0 (take result.place u.new) }
     ensures within { result.place + 4 < length u.new }
 {
     let free = u.len() - 4;
@@ -128,7 +128,7 @@ pub(crate) fn find_least_loss(rows: &[u16], losses: &[[i16; 16]], u: &mut [u8]) 
     reading.best
 }
 
-/// Reads out the first `4 * groups` positions, four in each iteration to save jumps.
+/// Traces back the first `4 * groups` positions, four in each iteration to save jumps.
 fn trace_back_groups_of_four(
     groups: usize,
     rows: &[u16],
@@ -138,7 +138,7 @@ fn trace_back_groups_of_four(
     requires rows { length rows.now ≡ length u.old }
     requires same { length losses.now ≡ length u.old }
     requires at_least { 5 ≤ length u.old }
-    requires at_most { length u.old ≤ INFORMATION_BITS }
+    requires at_most { length u.old ≤ ENCODER_INPUT_BITS }
     requires within { 4 * groups + 4 ≤ length u.old }
     ensures reading { IsPartialTraceback rows.now losses.now u.new (4 * groups) result }
 {
@@ -157,7 +157,8 @@ fn trace_back_groups_of_four(
     reading
 }
 
-/// Writes to `v` the word that deviates from `u` at a position and then follows the survivors, as `u` does after that position.
+/// Writes to `v` the word that deviates from `u` at the given position and then follows the survivors. After that position, `u` must follow
+/// the survivors too.
 pub(crate) fn write_deviation(u: &[u8], rows: &[u16], departure: DeviationPoint, v: &mut [u8])
     requires bits { AllBits u.now }
     requires rows { length rows.now ≡ length u.now }
@@ -173,7 +174,8 @@ pub(crate) fn write_deviation(u: &[u8], rows: &[u16], departure: DeviationPoint,
     apply_deviation(rows, departure, v);
 }
 
-/// Replaces `u` by the word that deviates from it at a position. Before and after the call, `u` follows the survivors after that position.
+/// Replaces `u` by the word that deviates from it at the given position. After that position, both the old and the new `u` follow the
+/// survivors.
 pub(crate) fn apply_deviation(rows: &[u16], departure: DeviationPoint, u: &mut [u8])
     requires bits { AllBits u.old }
     requires rows { length rows.now ≡ length u.old }
@@ -189,27 +191,27 @@ pub(crate) fn apply_deviation(rows: &[u16], departure: DeviationPoint, u: &mut [
     let bit = 1 - old;
     u[place] = bit;
     let before = u16::from(departure.state);
-    let own = (2 * before + u16::from(old)) % 16;
+    let old_state = (2 * before + u16::from(old)) % 16;
     let state = (2 * before + u16::from(bit)) % 16;
-    replace_until_merged(&rows[place + 1..], own, state, &mut u[place + 1..]);
+    replace_until_merged(&rows[place + 1..], old_state, state, &mut u[place + 1..]);
 }
 
-/// Replaces the survivor of state `own` in `u` by the survivor of `state`. From the position at which both reach the same state, they
-/// agree, so the loop ends there, usually after a few positions.
-fn replace_until_merged(rows: &[u16], own: u16, state: u16, u: &mut [u8])
-    requires chosen { u.old ≡ traceback rows.now own }
-    requires own { own < 16 }
+/// Replaces the survivor of state `old_state` in `u` by the survivor of `state`. Once the two reach the same state, they agree, so the loop
+/// ends there, usually after a few positions.
+fn replace_until_merged(rows: &[u16], old_state: u16, state: u16, u: &mut [u8])
+    requires chosen { u.old ≡ traceback rows.now old_state }
+    requires old_state { old_state < 16 }
     requires state { state < 16 }
     ensures { u.new ≡ traceback rows.now state }
 {
-    let mut own = own;
+    let mut old_state = old_state;
     let mut state = state;
     for (k, row) in rows.iter().enumerate() {
-        if state == own {
+        if state == old_state {
             return;
         }
         let bit = (*row >> state) & 1;
-        own = (2 * own + u16::from(u[k])) % 16;
+        old_state = (2 * old_state + u16::from(u[k])) % 16;
         u[k] = bit as u8;
         state = (2 * state + bit) % 16;
     }

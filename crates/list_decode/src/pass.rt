@@ -2,51 +2,51 @@
 
 ghost use Rattle.std.specs.Prelude.{◌≡◌, ◌≤◌, ◌%◌, length};
 ghost use Rattle.weight_bound.specs.conv_code.Likelihood.{AllSoftBits};
-ghost use Rattle.list_decode.specs.Passes.{IsCompletePass, HasSoftBits, pass_soft_bits};
+ghost use Rattle.list_decode.specs.Passes.{IsCompletePass, HasSoftBits, soft_bits_of_pass};
 
-use trellis_decode::{CODED_BITS, INFORMATION_BITS, fill_decisions};
+use trellis_decode::{CODED_BITS, ENCODER_INPUT_BITS, fill_decisions};
 
 /// The soft bits, two for each information bit, and for each position the decision of every state (`rows`) and how much path metric the
 /// other bit would lose (`losses`).
 #[derive(Drop)]
-pub(crate) struct Pass {
+pub(crate) struct ViterbiPass {
     pub(crate) soft: [i8; CODED_BITS],
     pub(crate) bits: usize,
-    pub(crate) rows: [u16; INFORMATION_BITS],
-    pub(crate) losses: [[i16; 16]; INFORMATION_BITS],
+    pub(crate) rows: [u16; ENCODER_INPUT_BITS],
+    pub(crate) losses: [[i16; 16]; ENCODER_INPUT_BITS],
 }
 
-impl Pass {
+impl ViterbiPass {
     /// Copies the soft bits. The decisions and losses are computed later, by `run`.
-    pub(crate) fn new(soft: &[i8]) -> Pass
+    pub(crate) fn new(soft: &[i8]) -> ViterbiPass
         requires at_least { 10 ≤ length soft.now }
         requires at_most { length soft.now ≤ CODED_BITS }
         requires pairs { length soft.now % 2 ≡ 0 }
         requires soft { AllSoftBits soft.now }
-        ensures soft { pass_soft_bits result ≡ soft.now }
-        ensures ready { HasSoftBits result }
+        ensures soft { soft_bits_of_pass result ≡ soft.now }
+        ensures has_soft_bits { HasSoftBits result }
     {
         let bits = soft.len() / 2;
         let mut copy = [0; CODED_BITS];
         copy[..2 * bits].copy_from_slice(soft);
-        Pass {
+        ViterbiPass {
             soft: copy,
             bits,
-            rows: [0; INFORMATION_BITS],
-            losses: [[0; 16]; INFORMATION_BITS],
+            rows: [0; ENCODER_INPUT_BITS],
+            losses: [[0; 16]; ENCODER_INPUT_BITS],
         }
     }
 
     /// Runs the backward pass: computes the decisions and the losses.
     pub(crate) fn run(&mut self)
-        requires ready { HasSoftBits self.old }
+        requires has_soft_bits { HasSoftBits self.old }
         ensures soft { self.new.soft ≡ self.old.soft }
         ensures bits { self.new.bits ≡ self.old.bits }
         ensures pass { IsCompletePass self.new }
     {
         let bits = self.bits;
         let soft = self.soft;
-        let mut rows = [0; INFORMATION_BITS];
+        let mut rows = [0; ENCODER_INPUT_BITS];
         fill_decisions(
             &soft[..2 * bits],
             &mut rows[..bits],

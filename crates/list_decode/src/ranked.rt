@@ -1,33 +1,33 @@
 //! The information lists (words) in order of rank, the most likely first.
 //!
 //! The algorithm is list Viterbi decoding (Seshadri and Sundberg, 1994) with Lawler's partition (1972). A backward pass stores the
-//! decisions and losses of all states. Every word not returned yet deviates from a returned word at a position in one of its spans; the
-//! best such word follows the survivors afterwards. A walk along a span finds its best deviation, and the best of all spans is the next
-//! word. Its span is then split at the position of the deviation, and the positions of the new word after it make a third span.
+//! decisions and losses of all states. Every word not yet returned deviates from a returned word at a position in one of its spans; the
+//! best such word follows the survivors afterwards. A walk along a span finds its best deviation, and the best deviation of all spans gives
+//! the next word. The span of this deviation is then split at its position, and the positions of the new word after it form a third span.
 
 ghost use Rattle.std.specs.Prelude.{◌≡◌, ◌↔◌, ◌≤◌, ◌+◌, ◌-◌, ◌*◌, ◌%◌, ◌<◌, ◌++◌, ◌∷◌};
 ghost use Rattle.std.specs.Prelude.{[], length, take, None, IfSome, MatchOption};
-ghost use Rattle.weight_bound.specs.conv_code.Code.{encoding, IsInformation};
+ghost use Rattle.weight_bound.specs.conv_code.Code.{encoding, IsEncoderInput};
 ghost use Rattle.weight_bound.specs.conv_code.Likelihood.{AllSoftBits, likelihood};
-ghost use Rattle.list_decode.specs.Ranking.{IsDone, IsRanked};
+ghost use Rattle.list_decode.specs.Ranking.{IsRankingDone, IsRanked};
 
 use crate::MAX_LISTS;
-use crate::branch::{Branch, Deviation, Span};
+use crate::branch::{Deviation, WordBranch, WordSpan};
 use crate::departure::DeviationPoint;
 use crate::lists::Lists;
 use crate::partitioning::find_next_word;
-use crate::pass::Pass;
+use crate::pass::ViterbiPass;
 use std::marker::Model;
-use trellis_decode::{CODED_BITS, INFORMATION_BITS, decode};
+use trellis_decode::{CODED_BITS, ENCODER_INPUT_BITS, decode};
 
-/// Returns the information lists for given soft bits in order of rank, at most 64. A list with a greater path metric comes first; of
-/// lists with equal metrics, the first in lexicographic order does.
+/// A list decoder: returns the information lists for given soft bits in order of rank, at most 64. A list with a greater path metric
+/// ranks first; of lists with equal metrics, the lexicographically first one does.
 #[derive(Drop)]
 pub struct Ranked {
-    pass: Pass,
+    pass: ViterbiPass,
     lists: Lists,
     /// One branch for the first word, and two more for each word after it.
-    branches: [Branch; 127],
+    branches: [WordBranch; 127],
 }
 
 impl Model for Ranked {
@@ -43,16 +43,16 @@ impl Model for Ranked {
 }
 
 impl Ranked {
-    /// A ranking of which no word has been returned yet. `soft` has two soft bits for each of 5 to 228 information bits.
+    /// Starts a ranking, with no word returned yet. `soft` has two soft bits for each of 5 to 228 information bits.
     pub fn new(soft: &[i8]) -> Ranked
         requires at_least { 10 ≤ length soft.now }
         requires at_most { length soft.now ≤ CODED_BITS }
         requires pairs { length soft.now % 2 ≡ 0 }
         requires soft { AllSoftBits soft.now }
         ensures soft { result.soft ≡ soft.now }
-        ensures given { result.given ≡ [] }
+        ensures returned { result.returned ≡ [] }
     {
-        let span = Span {
+        let span = WordSpan {
             likelihood: 0,
             list: 0,
             from: 0,
@@ -65,13 +65,13 @@ impl Ranked {
             list: 0,
         };
         Ranked {
-            pass: Pass::new(soft),
+            pass: ViterbiPass::new(soft),
             lists: Lists {
-                first: [0; INFORMATION_BITS],
+                first: [0; ENCODER_INPUT_BITS],
                 deviations: [deviation; 63],
                 count: 0,
             },
-            branches: [Branch { span, best: None }; 127],
+            branches: [WordBranch { span, best: None }; 127],
         }
     }
 
@@ -79,11 +79,11 @@ impl Ranked {
     pub fn next(&mut self, u: &mut [u8]) -> Option<i32>
         requires count { length self.old.soft ≡ 2 * length u.old }
         ensures soft { self.new.soft ≡ self.old.soft }
-        ensures ranked { IsRanked self.new.soft self.new.given }
-        ensures given { MatchOption result ((self.new.given ≡ self.old.given) × (u.new ≡ u.old)) (λ value.
-            (self.new.given ≡ self.old.given ++ u.new ∷ []) × (value ≡ likelihood self.old.soft (encoding u.new))) }
-        ensures information { IfSome result (λ _. IsInformation u.new) }
-        ensures done { (result ≡ None) ↔ IsDone self.old }
+        ensures ranked { IsRanked self.new.soft self.new.returned }
+        ensures returned { MatchOption result ((self.new.returned ≡ self.old.returned) × (u.new ≡ u.old)) (λ value.
+            (self.new.returned ≡ self.old.returned ++ u.new ∷ []) × (value ≡ likelihood self.old.soft (encoding u.new))) }
+        ensures information { IfSome result (λ _. IsEncoderInput u.new) }
+        ensures done { (result ≡ None) ↔ IsRankingDone self.old }
     {
         if self.lists.count == 0 {
             return Some(self.write_most_likely_word(u));
@@ -97,56 +97,56 @@ impl Ranked {
     /// Writes the most likely word to `u` and returns its path metric.
     fn write_most_likely_word(&mut self, u: &mut [u8]) -> i32
         requires count { length self.old.soft ≡ 2 * length u.old }
-        requires none { self.old.given ≡ [] }
+        requires none { self.old.returned ≡ [] }
         ensures soft { self.new.soft ≡ self.old.soft }
-        ensures ranked { IsRanked self.new.soft self.new.given }
-        ensures given { self.new.given ≡ u.new ∷ [] }
+        ensures ranked { IsRanked self.new.soft self.new.returned }
+        ensures returned { self.new.returned ≡ u.new ∷ [] }
         ensures value { result ≡ likelihood self.old.soft (encoding u.new) }
     {
         self.pass.run();
         let bits = self.pass.bits;
         let likelihood = decode(&self.pass.soft[..2 * bits], u);
-        self.lists.first = padded(u);
-        let span = Span {
+        self.lists.first = pad_with_zeros(u);
+        let span = WordSpan {
             likelihood,
             list: 0,
             from: 0,
             to: (bits - 4) as u8,
             state: 0,
         };
-        self.branches[0] = Branch::new(&self.pass, u, span);
+        self.branches[0] = WordBranch::new(&self.pass, u, span);
         self.lists.count = 1;
         likelihood
     }
 
-    /// Writes the best word not returned yet to `u` and returns its path metric, or `None` if no word is left.
+    /// Writes the most likely word not returned yet to `u` and returns its path metric, or `None` if no word is left.
     fn write_next_best_word(&mut self, u: &mut [u8]) -> Option<i32>
         requires count { length self.old.soft ≡ 2 * length u.old }
-        requires some { 0 < length self.old.given }
-        requires space { length self.old.given < MAX_LISTS }
+        requires some { 0 < length self.old.returned }
+        requires space { length self.old.returned < MAX_LISTS }
         ensures soft { self.new.soft ≡ self.old.soft }
-        ensures ranked { IsRanked self.new.soft self.new.given }
-        ensures given { MatchOption result ((self.new ≡ self.old) × (u.new ≡ u.old) × IsDone self.old) (λ value.
-            (self.new.given ≡ self.old.given ++ u.new ∷ []) × (value ≡ likelihood self.old.soft (encoding u.new))) }
+        ensures ranked { IsRanked self.new.soft self.new.returned }
+        ensures returned { MatchOption result ((self.new ≡ self.old) × (u.new ≡ u.old) × IsRankingDone self.old) (λ value.
+            (self.new.returned ≡ self.old.returned ++ u.new ∷ []) × (value ≡ likelihood self.old.soft (encoding u.new))) }
     {
-        let given = self.lists.count;
-        let count = 2 * given - 1;
+        let returned = self.lists.count;
+        let count = 2 * returned - 1;
         let next = find_next_word(&self.pass, &self.lists, &self.branches[..count], u)?;
         self.branches[next.branch] = next.parts.before;
         self.branches[count] = next.parts.behind;
         self.branches[count + 1] = next.parts.after;
-        self.lists.deviations[given - 1] = next.deviation;
-        self.lists.count = given + 1;
+        self.lists.deviations[returned - 1] = next.deviation;
+        self.lists.count = returned + 1;
         Some(next.deviation.likelihood)
     }
 }
 
-/// Pads a word with zeros.
-fn padded(u: &[u8]) -> [u8; INFORMATION_BITS]
-    requires { length u.now ≤ INFORMATION_BITS }
+/// Pads a word with zeros to 228 bits.
+fn pad_with_zeros(u: &[u8]) -> [u8; ENCODER_INPUT_BITS]
+    requires { length u.now ≤ ENCODER_INPUT_BITS }
     ensures { take (length u.now) result ≡ u.now }
 {
-    let mut list = [0; INFORMATION_BITS];
+    let mut list = [0; ENCODER_INPUT_BITS];
     list[..u.len()].copy_from_slice(u);
     list
 }

@@ -13,10 +13,12 @@ fourteen_on_sacch : segments 18 (replicate 251 7) ≡ replicate 13 (replicate 18
 fourteen_on_sacch = refl
 
 -- 251 octets are delivered as a message, 252 are not; the segment after the oversize message begins a new message
-longest_message : messages (replicate 12 (replicate 20 7, true) ++ (replicate 11 8, false) ∷ []) ≡ (replicate 240 7 ++ replicate 11 8) ∷ []
+longest_message : messages (replicate 12 (replicate 20 7, true) ++ (replicate 11 8, false) ∷ []) ≡ (replicate 240 7 ++ replicate 11 8)
+    ∷ []
 longest_message = refl
 
-one_octet_too_many : messages (replicate 12 (replicate 20 7, true) ++ (replicate 12 8, false) ∷ (9 ∷ [], false) ∷ []) ≡ (9 ∷ []) ∷ []
+one_octet_too_many : messages (replicate 12 (replicate 20 7, true) ++ (replicate 12 8, false) ∷ (9 ∷ [], false) ∷ []) ≡ (9 ∷ [])
+    ∷ []
 one_octet_too_many = refl
 
 twelve_hold : segment_answer (replicate 11 (replicate 20 7, true)) (replicate 20 7, true) ≡ More

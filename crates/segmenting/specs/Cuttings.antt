@@ -6,13 +6,13 @@ use Rattle.lapdm_frame.specs.Layout.{n201}
 use Rattle.segmenting.specs.declared.pieces.Pieces.{Pieces}
 use Rattle.segmenting.specs.Segments.{Segment, segments}
 
--- the segments that a `Pieces` represents, and its channel
+-- the segments that a `Pieces` of the program represents
 abbrev pub segments_of : Pieces → List Segment
 segments_of p = segments (n201 p.channel) p.message.now
 
 abbrev pub channel_of_pieces : Pieces → Channel
 channel_of_pieces p = p.channel
 
--- the octets are a borrowed slice of the message that begins where segment i begins
+-- the octets are a borrowed slice of the message that begins where the segment with a given index begins
 abbrev pub IsBorrowedFrom : Pieces → ℕ → Bor (List ℕ) → Type 0
 IsBorrowedFrom p i octets = (octets.ref_ptr.0 ≡ p.message.ref_ptr.0) × (octets.ref_ptr.1 ≡ p.message.ref_ptr.1 + i * n201 p.channel)

@@ -7,54 +7,57 @@ use Rattle.segmenting.specs.declared.joiner.Joined.{Joined}
 use Rattle.segmenting.specs.declared.joiner.Joined.TheVariants.{More, Whole, Oversize}
 use Rattle.segmenting.specs.Segments.{Message, Segment, max_message_octets}
 
--- the octets, or `None` if there are more than 251
-abbrev pub unless_oversize : List ℕ → Option Message
-unless_oversize octets = if nat_lt max_message_octets (length octets) then None else Some octets
+-- the octets of a message, or `None` if there are more than 251
+abbrev pub message_if_fits : List ℕ → Option Message
+message_if_fits octets = if nat_lt max_message_octets (length octets) then None else Some octets
 
--- what these segments complete, if the octets `begun` of a message came before them: at each segment with M = 0, a message, or `None` if
--- that message is oversize
+-- the messages that end in the given segments, one for each segment with M = 0; `None` stands for an oversize message. The first message
+-- begins with the given octets, which earlier segments carried
 abbrev pub ended_messages : List ℕ → List Segment → List (Option Message)
-ended_messages begun [] = []
-ended_messages begun ((octets, true) ∷ ps) = ended_messages (begun ++ octets) ps
-ended_messages begun ((octets, false) ∷ ps) = unless_oversize (begun ++ octets) ∷ ended_messages [] ps
+ended_messages partial [] = []
+ended_messages partial ((octets, true) ∷ ps) = ended_messages (partial ++ octets) ps
+ended_messages partial ((octets, false) ∷ ps) = message_if_fits (partial ++ octets) ∷ ended_messages [] ps
 
--- the messages that these segments complete; oversize messages are left out
+-- the messages that a list of segments completes, without oversize messages
 abbrev pub messages : List Segment → List Message
 messages ps = filter_map (λ ending. ending) (ended_messages [] ps)
 
--- the number of messages that these segments complete, oversize ones included: the number of segments with M = 0
-abbrev pub completed_count : List Segment → ℕ
-completed_count ps = count_by (λ p. not p.1) ps
+-- the number of messages that a list of segments completes, oversize ones included: the number of segments with M = 0
+abbrev pub message_count : List Segment → ℕ
+message_count ps = count_by (λ p. not p.1) ps
 
--- the octets of the message that is still incomplete after these segments
-abbrev pub unfinished_octets_after : List ℕ → List Segment → List ℕ
-unfinished_octets_after begun [] = begun
-unfinished_octets_after begun ((octets, true) ∷ ps) = unfinished_octets_after (begun ++ octets) ps
-unfinished_octets_after begun ((octets, false) ∷ ps) = unfinished_octets_after [] ps
+-- the octets of the message that is still incomplete after a list of segments. The first message begins with the given octets, which
+-- earlier segments carried
+abbrev pub partial_message_after : List ℕ → List Segment → List ℕ
+partial_message_after partial [] = partial
+partial_message_after partial ((octets, true) ∷ ps) = partial_message_after (partial ++ octets) ps
+partial_message_after partial ((octets, false) ∷ ps) = partial_message_after [] ps
 
-abbrev pub unfinished_octets : List Segment → List ℕ
-unfinished_octets ps = unfinished_octets_after [] ps
+abbrev pub partial_message : List Segment → List ℕ
+partial_message ps = partial_message_after [] ps
 
--- what a segment does after the segments `ps`: `Oversize` if the message is too long, else `More` if M = 1, else `Whole`
+-- the answer of a joiner to a segment that follows the given segments: `Oversize` if the message is too long, else `More` if M = 1 and
+-- `Whole` if M = 0
 abbrev pub segment_answer : List Segment → Segment → Joined
 segment_answer ps p =
-    if nat_lt max_message_octets (length (unfinished_octets ps ++ p.0)) then Oversize else (if p.1 then More else Whole)
+    if nat_lt max_message_octets (length (partial_message ps ++ p.0)) then Oversize else (if p.1 then More else Whole)
 
--- the message that a joiner delivers with this answer: m after `Whole`, none after the others
-abbrev pub delivered_with_answer : Joined → Message → List Message
-delivered_with_answer Whole m = m ∷ []
-delivered_with_answer other m = []
+-- the message that a joiner delivers with a given answer: the given message with `Whole`, and none with any other answer
+abbrev pub message_if_whole : Joined → Message → List Message
+message_if_whole Whole m = m ∷ []
+message_if_whole other m = []
 
--- the message, if any, that the segment p completes when it follows the segments ps
-abbrev pub delivered : List Segment → Segment → List Message
-delivered ps p = delivered_with_answer (segment_answer ps p) (unfinished_octets ps ++ p.0)
+-- the message, if any, that a segment completes when it follows the given segments
+abbrev pub delivered_by_segment : List Segment → Segment → List Message
+delivered_by_segment ps p = message_if_whole (segment_answer ps p) (partial_message ps ++ p.0)
 
--- the message that the last of these segments completes, or no octets if that segment completes no message
+-- the message that the last segment of a list completes, or no octets if it completes no message. The first message begins with the given
+-- octets, which earlier segments carried
 abbrev pub latest_message_after : List ℕ → List Segment → Message
-latest_message_after begun [] = []
-latest_message_after begun ((octets, true) ∷ ps) = latest_message_after (begun ++ octets) ps
-latest_message_after begun ((octets, false) ∷ []) = unwrap_or (unless_oversize (begun ++ octets)) []
-latest_message_after begun ((octets, false) ∷ p ∷ ps) = latest_message_after [] (p ∷ ps)
+latest_message_after partial [] = []
+latest_message_after partial ((octets, true) ∷ ps) = latest_message_after (partial ++ octets) ps
+latest_message_after partial ((octets, false) ∷ []) = unwrap_or (message_if_fits (partial ++ octets)) []
+latest_message_after partial ((octets, false) ∷ p ∷ ps) = latest_message_after [] (p ∷ ps)
 
 abbrev pub latest_message : List Segment → Message
 latest_message ps = latest_message_after [] ps

@@ -3,15 +3,15 @@ use Rattle.std.specs.Prelude.{◌≡◌, ℕ, List, take}
 use Rattle.segmenting.specs.declared.joiner.Part.{Part}
 use Rattle.segmenting.specs.declared.joiner.Joiner.{Joiner}
 
--- what a joiner holds: octets, and which part of a message they are
+-- the data that a joiner holds: octets, and which part of a message they are
 pub record JoinerValues : Type 0 where
   pub octets : List ℕ
   pub part : Part
 
--- the octets that this joiner holds, and which part of a message they are
+-- the octets that a joiner holds, and which part of a message they are
 abbrev pub values_of : Joiner → JoinerValues
 values_of j = record { octets = take j.len j.octets; part = j.part }
 
--- at least one joiner has these values
-abbrev pub AreOfSomeJoiner : JoinerValues → Type 0
-AreOfSomeJoiner x = (j : Joiner) × (values_of j ≡ x)
+-- there is a joiner that holds the given octets and part
+abbrev pub JoinerExists : JoinerValues → Type 0
+JoinerExists x = (j : Joiner) × (values_of j ≡ x)

@@ -17,23 +17,23 @@ Segment = List ℕ × Bool
 abbrev pub max_message_octets : ℕ
 max_message_octets = 251
 
--- the message has 1 to 251 octets
-pub record IsMessage (m : Message) : Type 0 where
+-- the message `m` has 1 to 251 octets
+pub record IsValidMessage (m : Message) : Type 0 where
   pub some : 1 ≤ length m
   pub most : length m ≤ max_message_octets
 
--- the segment has n octets, as many as an I frame can carry, and M = 1
+-- the segment `p` has `n` octets, as many as an I frame can carry, and M = 1
 pub record IsFullSegment (n : ℕ) (p : Segment) : Type 0 where
   pub size : length p.0 ≡ n
   pub more : p.1 ≡ true
 
--- the segment has 1 to n octets, and M = 0
+-- the segment `p` has 1 to `n` octets, and M = 0
 pub record IsLastSegment (n : ℕ) (p : Segment) : Type 0 where
   pub some : 1 ≤ length p.0
   pub most : length p.0 ≤ n
   pub more : p.1 ≡ false
 
--- every segment but the last is full; the last has 1 to n octets and M = 0
+-- every segment but the last has the given full length and M = 1; the last has at least one octet, at most the full length, and M = 0
 abbrev pub AreFullExceptLast : ℕ → List Segment → Type 0
 AreFullExceptLast n [] = ⊥
 AreFullExceptLast n (p ∷ []) = IsLastSegment n p
@@ -43,21 +43,21 @@ AreFullExceptLast n (p ∷ q ∷ ps) = IsFullSegment n p × AreFullExceptLast n 
 abbrev pub reassembled_octets : List Segment → List ℕ
 reassembled_octets ps = flat_map (λ p. p.0) ps
 
--- ps are the segments of the message m if each I frame carries at most n octets
+-- `ps` are the segments of the message `m` if each I frame carries at most `n` octets
 pub record AreSegments (n : ℕ) (m : Message) (ps : List Segment) : Type 0 where
   pub octets : reassembled_octets ps ≡ m
-  pub cut : AreFullExceptLast n ps
+  pub cut_segments : AreFullExceptLast n ps
 
--- the message cut into k full segments of n octets and a last segment with the rest
-abbrev pub cut : ℕ → ℕ → Message → List Segment
-cut n zero m = (m, false) ∷ []
-cut n (suc k) m = (take n m, true) ∷ cut n k (drop n m)
+-- a message cut into a given number of full segments, each of a given length, and a last segment with the rest
+abbrev pub cut_segments : ℕ → ℕ → Message → List Segment
+cut_segments n zero m = (m, false) ∷ []
+cut_segments n (suc k) m = (take n m, true) ∷ cut_segments n k (drop n m)
 
--- the segments of a message if each I frame carries at most n octets
+-- the segments of a message if each I frame carries at most a given number of octets
 abbrev pub segments : ℕ → Message → List Segment
-segments n m = cut n ((length m - 1) / n) m
+segments n m = cut_segments n ((length m - 1) / n) m
 
--- the number of segments of a message if each I frame carries at most n octets
+-- the number of segments of a message if each I frame carries at most a given number of octets
 abbrev pub count_of : ℕ → Message → ℕ
 count_of n m = (length m - 1) / n + 1
 

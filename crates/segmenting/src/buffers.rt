@@ -1,23 +1,23 @@
 //! Messages in buffers of fixed size.
 
 ghost use Rattle.std.specs.Prelude.{◌≡◌, ◌≤◌, [], length};
-ghost use Rattle.segmenting.specs.Buffers.{octets_in, plain_message};
+ghost use Rattle.segmenting.specs.Buffers.{octets_in, message_buffer};
 
 /// A message as plain data, with the memory layout of C. It may be longer than the 251 octets that a link accepts.
 #[repr(C)]
 #[derive(Clone, Copy, PartialEq, Eq, Debug)]
-pub struct PlainMessage {
+pub struct MessageBuffer {
     pub count: u8,
-    /// The octets of the message, followed by octets without meaning from index `count` on.
+    /// The octets of the message; the octets from index `count` on have no meaning.
     pub octets: [u8; 255],
 }
 
-impl PlainMessage {
+impl MessageBuffer {
     /// An empty message; all octets of its buffer are 0.
-    pub fn empty() -> PlainMessage
-        ensures { result ≡ plain_message [] }
+    pub fn empty() -> MessageBuffer
+        ensures { result ≡ message_buffer [] }
     {
-        PlainMessage {
+        MessageBuffer {
             count: 0,
             octets: [0; 255],
         }
@@ -30,10 +30,10 @@ impl PlainMessage {
         &self.octets[..usize::from(self.count)]
     }
 
-    /// Replaces the message by these octets, and fills the rest of the buffer with zeros.
+    /// Replaces the message by `octets`, and fills the rest of the buffer with zeros.
     pub fn write(&mut self, octets: &[u8])
         requires { length octets.now ≤ 255 }
-        ensures { self.new ≡ plain_message octets.now }
+        ensures { self.new ≡ message_buffer octets.now }
     {
         let count = octets.len();
         self.octets[..count].copy_from_slice(octets);

@@ -3,7 +3,7 @@
 ghost use Rattle.std.specs.Prelude.{◌≡◌, ◌≤◌, length};
 ghost use Rattle.lapdm_frame.specs.Layout.{largest_n201};
 ghost use Rattle.segmenting.specs.Segments.{max_message_octets};
-ghost use Rattle.segmenting.specs.declared.joiner.Part.TheVariants.{Over};
+ghost use Rattle.segmenting.specs.declared.joiner.Part.TheVariants.{Discarding};
 
 use crate::LONGEST_MESSAGE;
 
@@ -20,15 +20,15 @@ pub enum Joined {
     Oversize,
 }
 
-/// Which part of a message the octets held by a `Joiner` are.
+/// The part of a message that a `Joiner` holds.
 #[derive(Clone, Copy, PartialEq, Eq, Debug)]
 pub enum Part {
     /// The first octets of an incomplete message.
     Open,
-    /// A message that was delivered.
+    /// A complete message, which has been delivered.
     Whole,
     /// No octets: the rest of an oversize message is being discarded.
-    Over,
+    Discarding,
 }
 
 /// Reassembles messages of at most 251 octets.
@@ -38,13 +38,13 @@ pub struct Joiner {
     len: usize,
     part: Part,
     ghost within: { len ≤ max_message_octets },
-    ghost dropped: { part ≡ Over → len ≡ 0 },
+    ghost empty_if_discarding: { part ≡ Discarding → len ≡ 0 },
 }
 
 impl Joiner {
     ghost use Rattle.std.specs.Prelude.{◌+◌, ◌<◌, List, [], ◌∷◌, ◌++◌, take, IfSome, MatchOption};
     ghost use Rattle.segmenting.specs.Segments.{Segment};
-    ghost use Rattle.segmenting.specs.Joining.{segment_answer, unfinished_octets, latest_message};
+    ghost use Rattle.segmenting.specs.Joining.{segment_answer, partial_message, latest_message};
     ghost use Rattle.segmenting.specs.Joiners.{HasTakenSegments};
 
     /// A joiner that has not yet taken any segments.
@@ -58,8 +58,8 @@ impl Joiner {
         }
     }
 
-    /// Takes the next segment. If the message becomes too long, the answer is `Oversize` for this segment and for all others up to the one
-    /// without `more` that ends the message; all are discarded.
+    /// Takes the next segment of a message. If the message becomes too long, returns `Oversize` for this segment and for each later one up
+    /// to the last of the message (`more` is false), and discards them all.
     pub fn take(&mut self, piece: &[u8], more: bool) -> Joined
         requires some { 1 ≤ length piece.now }
         requires most { length piece.now ≤ largest_n201 }
@@ -70,7 +70,7 @@ impl Joiner {
     {
         let Some(start) = self.write_position_for(piece) else {
             self.len = 0;
-            self.part = if more { Part::Over } else { Part::Open };
+            self.part = if more { Part::Discarding } else { Part::Open };
             return Joined::Oversize;
         };
         let end = start + piece.len();
@@ -92,21 +92,21 @@ impl Joiner {
     {
         match self.part {
             Part::Whole => &self.octets[..self.len],
-            Part::Open | Part::Over => &[],
+            Part::Open | Part::Discarding => &[],
         }
     }
 
-    // The index at which the octets of the segment are written, or `None` if they make the message too long.
+    // Returns the index at which the octets of the segment are written, or `None` if they make the message too long.
     fn write_position_for(&self, piece: &[u8]) -> Option<usize>
         ensures space { IfSome result (λ start. start + length piece.now ≤ max_message_octets) }
         ensures place { (taken : List Segment) → HasTakenSegments self.now taken → MatchOption result
-            (max_message_octets < length (unfinished_octets taken ++ piece.now))
-            (λ start. take start self.now.octets ≡ unfinished_octets taken) }
+            (max_message_octets < length (partial_message taken ++ piece.now))
+            (λ start. take start self.now.octets ≡ partial_message taken) }
     {
         let start = match self.part {
             Part::Open => self.len,
             Part::Whole => 0,
-            Part::Over => return None,
+            Part::Discarding => return None,
         };
         if piece.len() > LONGEST_MESSAGE - start {
             return None;

@@ -1,5 +1,5 @@
-//! Segmentation of messages into I frames, and reassembly (GSM 04.06). A `Piece` is a segment; it borrows its octets from the message. No
-//! call allocates.
+//! Segmentation of messages into I frames, and their reassembly (GSM 04.06). A `Piece` is a segment; it borrows its octets from the
+//! message. No call allocates memory.
 #![tactic(auto)]
 
 mod buffers;
@@ -7,12 +7,12 @@ mod joiner;
 mod laws;
 mod pieces;
 
-pub use buffers::PlainMessage;
+pub use buffers::MessageBuffer;
 pub use joiner::{Joined, Joiner, Part};
 pub use lapdm_frame::{BLOCK_OCTETS, Channel};
 pub use laws::{
-    law_delivered_messages, law_first_segments_complete, law_messages_are_reassembled,
-    law_one_segmentation,
+    law_messages_are_reassembled, law_next_segment_delivers, law_segmentation_is_unique,
+    law_segments_complete_in_order,
 };
 pub use pieces::{Piece, Pieces};
 

@@ -38,7 +38,7 @@ impl<'a> Pieces<'a> {
         Pieces::new_on(message, Channel::Sdcch)
     }
 
-    /// The segments of the message, of at most N201 octets of the channel each.
+    /// The segments of the message for `channel`, of at most N201 octets each: 20 on SDCCH, 18 on SACCH.
     pub fn new_on(message: &'a [u8], channel: Channel) -> Pieces<'a>
         requires some { 1 ≤ length message.now }
         requires most { length message.now ≤ max_message_octets }
@@ -57,7 +57,7 @@ impl<'a> Pieces<'a> {
         (self.message.len() - 1) / self.channel.n201() + 1
     }
 
-    /// The segment with index i, counted from 0.
+    /// The segment with index `i`, counted from 0.
     pub fn piece(&self, i: usize) -> Piece<'a>
         requires { i < length (segments_of self.now) }
         ensures value { slice_get (segments_of self.now) i ≡ Some (result.octets.now, result.more) }

@@ -1,6 +1,6 @@
 -- A loop finds the greatest of several scores, and the first if several are equal.
-use Rattle.std.proofs.{Common.{◌≡◌, ◌≢◌, ◌⊎◌, inl, inr, ℕ, zero, suc, sym, subst, ◌+◌, ◌<◌, ◌≤◌, ℤ, ◌<ℤ◌, ◌≤ℤ◌, arith}, lemmas.Int.ints}
-use Rattle.std.proofs.lemmas.{Int.by_lt_z, Bool.cases_eq}
+use Rattle.std.proofs.Common.{◌≡◌, ◌≢◌, ◌⊎◌, inl, inr, ℕ, zero, suc, sym, subst, ◌+◌, ◌<◌, ◌≤◌, ℤ}
+use Rattle.std.proofs.{Common.{◌<ℤ◌, ◌≤ℤ◌, arith}, lemmas.{Int.{ints, by_lt_z}, Bool.cases_eq}}
 use Rattle.training_seq.specs.Choice.{IsFirstMaximum}
 
 -- every other index below `end` has a smaller score, or an equal one and comes later
@@ -35,7 +35,8 @@ LeadsBelow-kept score end best leads less = record {
   within = let w = leads.within in omega arith;
   others = λ n h ne. behind n h ne (cases_eq n end);
 } where
-  behind : (n : ℕ) → n < end + 1 → n ≢ best → (n ≡ end) ⊎ (n ≢ end) → (score n <ℤ score best) ⊎ ((score n ≡ score best) × (best < n))
+  behind : (n : ℕ) → n < end + 1 → n ≢ best → (n ≡ end) ⊎ (n ≢ end) →
+      (score n <ℤ score best) ⊎ ((score n ≡ score best) × (best < n))
   behind n h ne (inl same) =
       rw same
       (by_lt_z (score end) (score best)
@@ -49,7 +50,7 @@ IsFirstMaximum-from_LeadsBelow score best leads = record {
   others = λ n h ne. leads.others n (omega arith) ne;
 }
 
--- equal scores have the same first greatest index
+-- two equal scores have the same first greatest index
 pub IsFirstMaximum-same : (score total : ℕ → ℤ) (last best : ℕ) → ((n : ℕ) → n ≤ last → score n ≡ total n) →
     IsFirstMaximum score last best → IsFirstMaximum total last best
 IsFirstMaximum-same score total last best same first = record {

@@ -1,4 +1,4 @@
--- Bounds of the numbers that this crate computes with.
+-- Bounds on the intermediate results of the correlation.
 use Rattle.std.specs.Prelude.{ℕ, ℤ, pos, neg_ℤ, ◌≤ℤ◌}
 
 -- the absolute value of a number is at most the bound

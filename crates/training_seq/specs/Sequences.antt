@@ -1,22 +1,22 @@
 -- The training sequences of the normal burst (GSM 05.02 section 5.2.3).
 use Rattle.std.specs.Prelude.{ℕ, ◌-◌, List, [], ◌∷◌, map, codes, slice_index_or}
 
--- the bits of a text of digits 0 and 1, given by its character codes
-abbrev pub bits_of_text : List ℕ → List ℕ
-bits_of_text digits = map (λ digit. digit - 48) digits
+-- converts the character codes of the digits 0 and 1 to bits
+abbrev pub bits_of_digits : List ℕ → List ℕ
+bits_of_digits digits = map (λ digit. digit - 48) digits
 
 -- the 26 bits of the training sequences with codes 0 to 7
 abbrev pub training_sequences : List (List ℕ)
 training_sequences =
-    bits_of_text (codes "00100101110000100010010111") ∷
-    bits_of_text (codes "00101101110111100010110111") ∷
-    bits_of_text (codes "01000011101110100100001110") ∷
-    bits_of_text (codes "01000111101101000100011110") ∷
-    bits_of_text (codes "00011010111001000001101011") ∷
-    bits_of_text (codes "01001110101100000100111010") ∷
-    bits_of_text (codes "10100111110110001010011111") ∷
-    bits_of_text (codes "11101111000100101110111100") ∷ []
+    bits_of_digits (codes "00100101110000100010010111") ∷
+    bits_of_digits (codes "00101101110111100010110111") ∷
+    bits_of_digits (codes "01000011101110100100001110") ∷
+    bits_of_digits (codes "01000111101101000100011110") ∷
+    bits_of_digits (codes "00011010111001000001101011") ∷
+    bits_of_digits (codes "01001110101100000100111010") ∷
+    bits_of_digits (codes "10100111110110001010011111") ∷
+    bits_of_digits (codes "11101111000100101110111100") ∷ []
 
--- the training sequence with a code from 0 to 7
-abbrev pub training_sequence : ℕ → List ℕ
-training_sequence tsc = slice_index_or training_sequences tsc []
+-- the training sequence with a given code, 0 to 7
+abbrev pub midamble : ℕ → List ℕ
+midamble tsc = slice_index_or training_sequences tsc []

@@ -1,36 +1,37 @@
 //! The choice of a training sequence by correlation (this project's own rule): the midambles of four bursts are added element by element,
 //! and the sums are correlated with each of the eight sequences.
 ghost use Rattle.std.specs.Prelude.{◌≡◌, ◌+◌, ◌<◌, ◌≤◌, ◌+ℤ◌, length, All};
-ghost use Rattle.training_seq.specs.Choice.{IsFirstMaximum, IsBestSequence, total_wrong_bits};
+ghost use Rattle.training_seq.specs.Choice.{IsFirstMaximum, CorrelatesBest, wrong_midamble_bits};
 ghost use Rattle.bit_blocks.specs.SoftValues.{likelihood};
 ghost use Rattle.training_seq.specs.Ranges.{IsMagnitudeWithin};
-ghost use Rattle.training_seq.specs.Sequences.{training_sequence};
-ghost use Rattle.training_seq.specs.Sums.{add_values, value_at, count_wrong_at};
+ghost use Rattle.training_seq.specs.Sequences.{midamble};
+ghost use Rattle.training_seq.specs.Sums.{vector_sum, soft_bit_at, wrong_bits_at};
 
 use crate::correlation::{correlate_sums, times_sign};
 use crate::sequences::signs;
 
-/// The training sequence code with the greatest total correlation with the midambles of four bursts, and how many of their 104 soft bits
-/// are wrong for it.
+/// Returns the training sequence code with the greatest total correlation with the midambles of four bursts, and the number of their 104
+/// soft bits that disagree with this sequence.
 pub fn best(a: &[i8], b: &[i8], c: &[i8], d: &[i8]) -> (u8, u32)
     requires a { length a.now ≡ 26 }
     requires b { length b.now ≡ 26 }
     requires c { length c.now ≡ 26 }
     requires d { length d.now ≡ 26 }
-    ensures tsc { IsBestSequence a.now b.now c.now d.now result.0 }
-    ensures wrong { result.1 ≡ total_wrong_bits a.now b.now c.now d.now result.0 }
+    ensures tsc { CorrelatesBest a.now b.now c.now d.now result.0 }
+    ensures wrong { result.1 ≡ wrong_midamble_bits a.now b.now c.now d.now result.0 }
 {
-    let tsc = strongest_sequence(&add_midambles(a, b, c, d));
+    let tsc = most_correlated_tsc(&add_midambles(a, b, c, d));
     (tsc, count_wrong_training_bits(a, b, c, d, tsc))
 }
 
-// Adds the four midambles element by element, so that each sequence is correlated only once.
+// Adds the four midambles element by element, so that each sequence is correlated only once. Inlined, the loop is not vectorized.
+#[inline(never)]
 fn add_midambles(a: &[i8], b: &[i8], c: &[i8], d: &[i8]) -> [i16; 26]
     requires a { length a.now ≡ 26 }
     requires b { length b.now ≡ 26 }
     requires c { length c.now ≡ 26 }
     requires d { length d.now ≡ 26 }
-    ensures value { result ≡ add_values (add_values (add_values a.now b.now) c.now) d.now }
+    ensures value { result ≡ vector_sum (vector_sum (vector_sum a.now b.now) c.now) d.now }
     ensures small { All (IsMagnitudeWithin 512) result }
 {
     let mut sums = [0; 26];
@@ -40,20 +41,22 @@ fn add_midambles(a: &[i8], b: &[i8], c: &[i8], d: &[i8]) -> [i16; 26]
     sums
 }
 
+// The sum of the soft bits at index `i` of the four midambles.
 fn midamble_sum_at(a: &[i8], b: &[i8], c: &[i8], d: &[i8], i: usize) -> i16
     requires a { i < length a.now }
     requires b { i < length b.now }
     requires c { i < length c.now }
     requires d { i < length d.now }
-    ensures value { result ≡ ((value_at a.now i +ℤ value_at b.now i) +ℤ value_at c.now i) +ℤ value_at d.now i }
+    ensures value { result ≡ ((soft_bit_at a.now i +ℤ soft_bit_at b.now i) +ℤ soft_bit_at c.now i) +ℤ soft_bit_at d.now i }
     ensures small { IsMagnitudeWithin 512 result }
 {
     i16::from(a[i]) + i16::from(b[i]) + i16::from(c[i]) + i16::from(d[i])
 }
 
-fn strongest_sequence(sums: &[i16; 26]) -> u8
+// Returns the training sequence code with the greatest correlation with the sums, or the lowest such code if there are several.
+fn most_correlated_tsc(sums: &[i16; 26]) -> u8
     requires small { All (IsMagnitudeWithin 512) sums.now }
-    ensures { IsFirstMaximum (λ tsc. likelihood sums.now (training_sequence tsc)) 7 result }
+    ensures { IsFirstMaximum (λ tsc. likelihood sums.now (midamble tsc)) 7 result }
 {
     let mut best = 0;
     let mut greatest = correlate_sums(sums, 0);
@@ -73,37 +76,39 @@ fn count_wrong_training_bits(a: &[i8], b: &[i8], c: &[i8], d: &[i8], tsc: u8) ->
     requires c { length c.now ≡ 26 }
     requires d { length d.now ≡ 26 }
     requires known { tsc ≤ 7 }
-    ensures { result ≡ total_wrong_bits a.now b.now c.now d.now tsc }
+    ensures { result ≡ wrong_midamble_bits a.now b.now c.now d.now tsc }
 {
     let signs = signs(tsc);
     let mut wrong = 0;
     for (i, sign) in signs.iter().enumerate() {
-        wrong += count_wrong_in_four_bursts(a, b, c, d, i, *sign);
+        wrong += count_wrong_bits_at(a, b, c, d, i, *sign);
     }
     u32::from(wrong)
 }
 
-fn count_wrong_in_four_bursts(a: &[i8], b: &[i8], c: &[i8], d: &[i8], i: usize, sign: i16) -> u16
+// Counts how many of the four soft bits at index `i` disagree with a training bit of this sign.
+fn count_wrong_bits_at(a: &[i8], b: &[i8], c: &[i8], d: &[i8], i: usize, sign: i16) -> u16
     requires a { i < length a.now }
     requires b { i < length b.now }
     requires c { i < length c.now }
     requires d { i < length d.now }
     requires sign { IsMagnitudeWithin 1 sign }
-    ensures value { result ≡ count_wrong_at a.now i sign + count_wrong_at b.now i sign + count_wrong_at c.now i sign
-        + count_wrong_at d.now i sign }
+    ensures value { result ≡ wrong_bits_at a.now i sign + wrong_bits_at b.now i sign + wrong_bits_at c.now i sign
+        + wrong_bits_at d.now i sign }
     ensures within { result ≤ 4 }
 {
-    count_wrong_at(a, i, sign)
-        + count_wrong_at(b, i, sign)
-        + count_wrong_at(c, i, sign)
-        + count_wrong_at(d, i, sign)
+    wrong_bits_at(a, i, sign)
+        + wrong_bits_at(b, i, sign)
+        + wrong_bits_at(c, i, sign)
+        + wrong_bits_at(d, i, sign)
 }
 
-// The result is a 16-bit number, as the signs are, so that a vector holds eight of them.
-fn count_wrong_at(values: &[i8], i: usize, sign: i16) -> u16
+// Returns 1 if the soft bit at index `i` disagrees with a training bit of this sign, else 0. The result has 16 bits, as the signs have, so
+// that a vector holds eight of either.
+fn wrong_bits_at(values: &[i8], i: usize, sign: i16) -> u16
     requires within { i < length values.now }
     requires sign { IsMagnitudeWithin 1 sign }
-    ensures value { result ≡ count_wrong_at values.now i sign }
+    ensures value { result ≡ wrong_bits_at values.now i sign }
     ensures bit { result ≤ 1 }
 {
     u16::from(times_sign(i16::from(values[i]), sign) <= 0)

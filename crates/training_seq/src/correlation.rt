@@ -2,7 +2,7 @@
 ghost use Rattle.std.specs.Prelude.{◌≡◌, ◌≤◌, length, All, neg_ℤ, pos, ◌*ℤ◌, ◌≤ℤ◌};
 ghost use Rattle.bit_blocks.specs.SoftValues.{likelihood};
 ghost use Rattle.training_seq.specs.Ranges.{IsMagnitudeWithin};
-ghost use Rattle.training_seq.specs.Sequences.{training_sequence};
+ghost use Rattle.training_seq.specs.Sequences.{midamble};
 
 use crate::sequences::signs;
 
@@ -10,12 +10,13 @@ use crate::sequences::signs;
 pub fn correlate(soft: &[i8], tsc: u8) -> i32
     requires count { length soft.now ≡ 26 }
     requires known { tsc ≤ 7 }
-    ensures { result ≡ likelihood soft.now (training_sequence tsc) }
+    ensures { result ≡ likelihood soft.now (midamble tsc) }
 {
-    i32::from(correlate_sums(&widened(soft), tsc))
+    i32::from(correlate_sums(&widen_to_i16(soft), tsc))
 }
 
-fn widened(soft: &[i8]) -> [i16; 26]
+/// Widens 26 soft bits to 16-bit numbers.
+fn widen_to_i16(soft: &[i8]) -> [i16; 26]
     requires { length soft.now ≡ 26 }
     ensures value { result ≡ soft.now }
     ensures small { All (IsMagnitudeWithin 512) result }
@@ -27,10 +28,11 @@ fn widened(soft: &[i8]) -> [i16; 26]
     wide
 }
 
+/// The correlation of the sums of four midambles with a training sequence.
 pub(crate) fn correlate_sums(sums: &[i16; 26], tsc: u8) -> i16
     requires small { All (IsMagnitudeWithin 512) sums.now }
     requires known { tsc ≤ 7 }
-    ensures { result ≡ likelihood sums.now (training_sequence tsc) }
+    ensures { result ≡ likelihood sums.now (midamble tsc) }
 {
     let signs = signs(tsc);
     let mut total = 0;

@@ -51,7 +51,7 @@ mod tests {
         assert_eq!(rt; best(&lost, &lost, &lost, &lost), (0, 104));
     }
 
-    // Sequences 5 and 2 differ in 8 bits, so 24 soft bits of three bursts with sequence 2 are wrong for sequence 5.
+    // Sequences 5 and 2 differ in 8 bits, so 24 soft bits of three bursts with sequence 2 disagree with sequence 5.
     #[test]
     fn one_strong_burst_outweighs_three_weak_ones(rt: HostRuntime) {
         let strong = received(SEQUENCE_DIGITS[5]);

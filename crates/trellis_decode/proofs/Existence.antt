@@ -1,6 +1,6 @@
 -- For any soft bits, a most likely information list exists: by induction over all lists in lexicographic order.
-use Rattle.std.proofs.Common.{◌≡◌, ◌≢◌, ℕ, zero, suc, ◌+◌, ◌-◌, ◌*◌, ◌^◌, ◌<◌, ◌≤◌, ℤ, List, length, ap, sym, ◌∙◌, arith}
-use Rattle.std.proofs.lemmas.{Int.by_lt_z, Nat.{pow-add, pow_pos}}
+use Rattle.std.proofs.Common.{◌≡◌, ◌≢◌, ℕ, zero, suc, ◌+◌, ◌-◌, ◌*◌, ◌^◌, ◌<◌, ◌≤◌, ℤ, List}
+use Rattle.std.proofs.{Common.{length, ap, sym, ◌∙◌, arith}, lemmas.{Int.by_lt_z, Nat.{pow-add, pow_pos}}}
 use Rattle.conv_code.specs.{Code.encoding, Likelihood.{RanksAfter, IsMostLikely, likelihood}}
 use Rattle.trellis_decode.{specs.Words.word, proofs.{Searching.{new_leads, old_leads, IsMostLikely-chosen}, WordLists.length-word}}
 
@@ -35,13 +35,13 @@ leading soft n (suc number) headroom =
       others = λ m h ne. old_leads soft n chosen last within inside before.others most m (omega arith) ne;
     })
 
-pub some_most_likely : (soft : List ℤ) (n : ℕ) → length soft ≡ 2 * n → 5 ≤ n → (u : List ℕ) × IsMostLikely soft u × (length u ≡ n)
+pub some_most_likely : (soft : List ℤ) (n : ℕ) → length soft ≡ 2 * n → 5 ≤ n →
+    (u : List ℕ) × IsMostLikely soft u × (length u ≡ n)
 some_most_likely soft n pairs long =
     let parted : 2 ^ n ≡ 16 * 2 ^ (n - 4) =
     ap (λ k. 2 ^ k) (let e : n ≡ 4 + (n - 4) = omega arith in e) ∙ pow-add 2 4 (n - 4) in
     let some : 0 < 2 ^ (n - 4) = pow_pos (n - 4) in
     let lists : ℕ = 2 ^ (n - 4) in
-    let whole : lists - 1 + 1 ≡ lists = omega arith in
     let found = leading soft n (lists - 1) (omega arith) in (
       word n (16 * found.chosen),
       IsMostLikely-chosen soft n found.chosen lists long pairs (sym parted) (λ m h ne. found.others m (omega arith) ne),

@@ -1,9 +1,9 @@
 -- The branch metrics of four positions, computed from eight soft bits in one vector.
-use Rattle.std.proofs.Common.{◌≡◌, ℕ, zero, suc, ◌+◌, ◌-◌, ◌%◌, ◌<◌, ◌≤◌, ℤ, pos, negsuc, ◌+ℤ◌, ◌-ℤ◌, ◌≤ℤ◌, List, [], ◌∷◌, ◌++◌, map}
-use Rattle.std.proofs.Common.{length, get_or, take, drop, refl, ap, ap₂, sym, ◌∙◌, subst, arith, lit≤, w8, w16, FitsSigned}
-use Rattle.std.proofs.lemmas.{Int.{ints, to_z-of_z, of_z-to_z}, List.{get_or-take, get_or-drop, drop-drop, drop-take, take-take}}
-use Rattle.std.proofs.lemmas.List.{take-append-drop, length-take, length-drop, Elements.{All-head, All-tail, All-take, All-drop}}
-use Rattle.std.specs.Int.{cast_signed, cast_unsigned}
+use Rattle.std.proofs.Common.{◌≡◌, ℕ, zero, suc, ◌+◌, ◌-◌, ◌%◌, ◌<◌, ◌≤◌, ℤ, pos, negsuc, ◌+ℤ◌}
+use Rattle.std.proofs.Common.{◌-ℤ◌, ◌≤ℤ◌, List, [], ◌∷◌, ◌++◌, map, length, get_or, take, drop, refl, ap, ap₂}
+use Rattle.std.proofs.{Common.{sym, ◌∙◌, arith, lit≤, w8, w16, FitsSigned}, lemmas.Int.{ints, to_z-of_z, of_z-to_z}}
+use Rattle.std.proofs.lemmas.List.{get_or-take, get_or-drop, drop-drop, drop-take, take-take, take-append-drop, length-take, length-drop}
+use Rattle.std.{proofs.lemmas.List.Elements.{All-head, All-tail, All-take, All-drop}, specs.Int.{cast_signed, cast_unsigned}}
 use lib.Lanes.{Each1}
 use Rattle.trellis_decode.specs.{Lanes.{lane, IsSignedOctet, AreSignedOctets}, Trellis.branch_metric, AcsLanes.AreBranchMetrics}
 use Rattle.trellis_decode.{specs.AcsLanes.{HasBranchMetrics, bit_reversed}, proofs.BranchMetricLanes.{each, zero_branch_metrics}}
@@ -16,13 +16,14 @@ fits_octet (pos n) h = record { sfits = omega (arith, ints, h.0, h.1) }
 fits_octet (negsuc n) h = record { sfits = omega (arith, ints, h.0, h.1) }
 
 fits_wide : (x : ℤ) → IsSignedOctet x → FitsSigned w16 x
-fits_wide x h = let low = h.0 in let high = h.1 in fits_between x (omega (arith, ints)) (omega (arith, ints))
+fits_wide x h = fits_between x (omega (arith, ints)) (omega (arith, ints))
 
-pub widened_fits : (soft : List ℤ) → AreSignedOctets soft → Each1 (λ a. FitsSigned w16 (cast_signed w8 a)) (map (cast_unsigned w8) soft)
+pub widened_fits : (soft : List ℤ) → AreSignedOctets soft →
+    Each1 (λ a. FitsSigned w16 (cast_signed w8 a)) (map (cast_unsigned w8) soft)
 widened_fits [] octets = tt
 widened_fits (x ∷ soft) octets =
     let head = All-head IsSignedOctet x _ octets in (
-      subst (FitsSigned w16) (sym (to_z-of_z w8 x (fits_octet x head))) (fits_wide x head),
+      rw (to_z-of_z w8 x (fits_octet x head)) (fits_wide x head),
       widened_fits soft (All-tail IsSignedOctet x soft octets),
     )
 
@@ -42,7 +43,8 @@ abbrev branch_metric_lanes : ℤ → ℤ → ℤ → ℤ → List ℤ
 branch_metric_lanes a b c d = a ∷ c ∷ a ∷ c ∷ b ∷ d ∷ b ∷ d ∷ []
 
 module _ (pair : List ℤ) (count : length pair ≡ 2) (a b c d : ℤ)
-    (at_a : a ≡ lane pair 0 +ℤ lane pair 1) (at_b : b ≡ lane pair 0 -ℤ lane pair 1) (at_c : c ≡ pos 0 -ℤ a) (at_d : d ≡ pos 0 -ℤ b) where
+    (at_a : a ≡ lane pair 0 +ℤ lane pair 1) (at_b : b ≡ lane pair 0 -ℤ lane pair 1) (at_c : c ≡ pos 0 -ℤ a) (at_d : d ≡
+    pos 0 -ℤ b) where
   counted : (s : ℕ) → s < 16 → lane (zero_lanes pair count a b c d at_a at_b at_c at_d) s ≡ branch_metric s 0 pair
   counted = zero_branch_metrics _ count a b c d at_a at_b at_c at_d
 
@@ -51,7 +53,7 @@ module _ (pair : List ℤ) (count : length pair ≡ 2) (a b c d : ℤ)
   zero_lane = same_below _ _ refl
 
   HasBranchMetrics-pair : HasBranchMetrics (branch_metric_lanes a b c d) pair
-  HasBranchMetrics-pair = record { count = count; each = λ k lt. zero_lane k lt ∙ counted (bit_reversed k) (omega arith) }
+  HasBranchMetrics-pair = record { count = count; each = λ k lt. zero_lane k lt ∙ counted _ (omega arith) }
 
   module _ (lp : negsuc 127 ≤ℤ lane pair 0) (hp : lane pair 0 ≤ℤ pos 127) (lq : negsuc 127 ≤ℤ lane pair 1)
       (hq : lane pair 1 ≤ℤ pos 127) where
@@ -91,30 +93,29 @@ module _ (pair : List ℤ) (count : length pair ≡ 2) (a b c d : ℤ)
 -- ---- the branch metrics of four positions
 
 -- a soft bit as an unsigned lane
-abbrev bits_at : List ℤ → ℕ → ℕ
-bits_at soft k = get_or (map (cast_unsigned w16) soft ++ map (cast_unsigned w16) soft) k 0
+abbrev state_bits : List ℤ → ℕ → ℕ
+state_bits soft k = get_or (map (cast_unsigned w16) soft ++ map (cast_unsigned w16) soft) k 0
 
 abbrev sum_at : List ℤ → ℕ → ℕ → ℕ
-sum_at soft i j = (bits_at soft i + bits_at soft j) % 65536
+sum_at soft i j = (state_bits soft i + state_bits soft j) % 65536
 
 abbrev difference_at : List ℤ → ℕ → ℕ → ℕ
-difference_at soft i j = (bits_at soft i + (65536 - bits_at soft j)) % 65536
+difference_at soft i j = (state_bits soft i + (65536 - state_bits soft j)) % 65536
 
 abbrev bit_reversed_round : ℕ → ℕ
 bit_reversed_round x = (0 + (65536 - x)) % 65536
 
 -- the branch metrics of bit 0 in states 0 to 7 for the pair of soft bits at index i
 abbrev pub branch_metrics_at : List ℤ → ℕ → List ℤ
-branch_metrics_at soft i = branch_metric_lanes
-    (cast_signed w16 (sum_at soft i (i + 1))) (cast_signed w16 (difference_at soft i (i + 1)))
+branch_metrics_at soft i = branch_metric_lanes (cast_signed w16 (sum_at soft i (i + 1))) (cast_signed w16 (difference_at soft i (i + 1)))
     (cast_signed w16 (bit_reversed_round (sum_at soft i (i + 1)))) (cast_signed w16 (bit_reversed_round (difference_at soft i (i + 1))))
 
 module _ (soft : List ℤ) (octets : AreSignedOctets soft) (count : length soft ≡ 8) where
   octet_at : (k : ℕ) → k < 8 → IsSignedOctet (lane soft k)
-  octet_at k lt = octets k (pos 0) (omega arith)
+  octet_at k lt = octets k _ (omega arith)
 
-  bits_are : (k : ℕ) → k < 8 → bits_at soft k ≡ cast_unsigned w16 (lane soft k)
-  bits_are k lt = in_first soft k (omega arith) where
+  bits_are : (k : ℕ) → k < 8 → state_bits soft k ≡ cast_unsigned w16 (lane soft k)
+  bits_are k lt = in_first _ k (omega arith) where
     in_first : (xs : List ℤ) (k : ℕ) → k < length xs → get_or (map (cast_unsigned w16) xs ++ map (cast_unsigned w16) soft) k 0
         ≡ cast_unsigned w16 (lane xs k)
     in_first [] k lt = absurd (omega arith)
@@ -144,9 +145,8 @@ module _ (soft : List ℤ) (octets : AreSignedOctets soft) (count : length soft 
       cast_signed w16 (bit_reversed_round x) ≡ pos 0 -ℤ y
   bit_reversed_is x y small is low high =
       ap (λ x. cast_signed w16 ((0 + (65536 - x)) % 65536)) (sym (of_z-to_z w16 x small) ∙ ap (cast_unsigned w16) is)
-      ∙ difference-lane (pos 0) y (fits_between (pos 0) (omega (arith, ints)) (omega (arith, ints)))
-      (fits_between y (omega (arith, ints)) (omega (arith, ints)))
-      (fits_between _ (omega (arith, ints)) (omega (arith, ints)))
+      ∙ difference-lane (pos 0) y (fits_between _ (omega (arith, ints)) (omega (arith, ints)))
+      (fits_between y (omega (arith, ints)) (omega (arith, ints))) (fits_between _ (omega (arith, ints)) (omega (arith, ints)))
 
   -- the pair of soft bits at index i
   module _ (i : ℕ) (headroom : i + 2 ≤ 8) where
@@ -157,7 +157,7 @@ module _ (soft : List ℤ) (octets : AreSignedOctets soft) (count : length soft 
     length_pair = omega (arith, length-take 2 (drop i soft), length-drop i soft)
 
     lane_pair : (k : ℕ) → k < 2 → lane pair k ≡ lane soft (i + k)
-    lane_pair k lt = get_or-take 2 (drop i soft) k (pos 0) lt ∙ get_or-drop i soft k (pos 0)
+    lane_pair k lt = get_or-take 2 (drop i _) k (pos 0) lt ∙ get_or-drop i soft k (pos 0)
 
     first_there : lane pair 0 ≡ lane soft i
     first_there = lane_pair 0 (lit≤ tt) ∙ (ap (lane soft) (omega arith))
@@ -203,8 +203,7 @@ module _ (soft : List ℤ) (octets : AreSignedOctets soft) (count : length soft 
         let p = octet_at i hi in
         let q = octet_at _ hj in
         let is = difference_is i _ hi hj in
-        bit_reversed_is _ b (omega arith) refl (omega (arith, ints, p.0, p.1, q.0, q.1))
-        (omega (arith, ints, p.0, p.1, q.0, q.1))
+        bit_reversed_is _ b (omega arith) refl (omega (arith, ints, p.0, p.1, q.0, q.1)) (omega (arith, ints, p.0, p.1, q.0, q.1))
 
     pub HasBranchMetrics-at : HasBranchMetrics (branch_metrics_at soft i) pair
     HasBranchMetrics-at = HasBranchMetrics-pair _ length_pair a b c d at_a at_b at_c at_d
@@ -213,8 +212,7 @@ module _ (soft : List ℤ) (octets : AreSignedOctets soft) (count : length soft 
     AreBranchMetrics-at =
         let p = octet_at i hi in
         let q = octet_at _ hj in
-        AreBranchMetrics-pair _ length_pair a b c d at_a at_b at_c at_d
-        (rw first_there p.0) (rw first_there p.1)
+        AreBranchMetrics-pair _ length_pair a b c d at_a at_b at_c at_d (rw first_there p.0) (rw first_there p.1)
         (rw second_there q.0) (rw second_there q.1)
 
 -- ---- the pairs of soft bits of a longer list
@@ -228,11 +226,12 @@ AreSignedOctets-pair soft i octets = All-take IsSignedOctet 2 _ (All-drop IsSign
 
 pub pair_and_after : (soft : List ℤ) (i j : ℕ) → i + 2 ≡ j → pair_at soft i ++ drop j soft ≡ drop i soft
 pair_and_after soft i j e =
-    ap (λ rest. pair_at soft i ++ rest) (ap (λ n. drop n soft) (sym e) ∙ sym (drop-drop 2 i soft)) ∙ take-append-drop 2 (drop i soft)
+    ap (λ rest. pair_at soft i ++ rest) (ap (λ n. drop n soft) (sym e) ∙ sym (drop-drop 2 i _)) ∙ take-append-drop 2 _
 
 -- a pair of soft bits in a slice is a pair in the whole list
-pub pair_of_part : (soft : List ℤ) (from n i j : ℕ) → i + 2 ≤ n → from + i ≡ j → pair_at (take n (drop from soft)) i ≡ pair_at soft j
+pub pair_of_part : (soft : List ℤ) (from n i j : ℕ) → i + 2 ≤ n → from + i ≡ j →
+    pair_at (take n (drop from soft)) i ≡ pair_at soft j
 pair_of_part soft from n i j inside e =
     ap (take 2) (ap (λ n. drop i (take n (drop from soft))) (sym (omega arith)) ∙ drop-take i _ _)
-    ∙ take-take 2 (n - i) (drop i (drop from soft)) (omega arith)
-    ∙ ap (take 2) (drop-drop i from soft ∙ ap (λ n. drop n soft) e)
+    ∙ take-take 2 (n - i) _ (omega arith)
+    ∙ ap (take 2) (drop-drop i _ _ ∙ ap (λ n. drop n soft) e)

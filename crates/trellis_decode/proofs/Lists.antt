@@ -1,8 +1,8 @@
 -- The best list from state 0 is the most likely information list: the encoder starts in state 0.
-use Rattle.std.proofs.Common.{◌≡◌, ◌≢◌, ℕ, zero, suc, ◌-◌, ◌*◌, ◌<◌, ◌≤◌, inl, inr, ℤ, List, [], ◌∷◌, length, get_or, drop, refl, ap, ap₂}
-use Rattle.std.proofs.{Common.{sym, ◌∙◌, arith}, lemmas.{Bool.cases_lt, List.Elements.{All-nil, All-cons, All-head, All-tail}}}
-use Rattle.std.specs.List.{All}
-use Rattle.conv_code.specs.{bit_blocks.Bits.{AllBits, IsBit}, Code.{encoding, IsInformation}, Likelihood.likelihood}
+use Rattle.std.proofs.Common.{◌≡◌, ◌≢◌, ℕ, zero, suc, ◌-◌, ◌*◌, ◌<◌, ◌≤◌, inl, inr, ℤ, List, []}
+use Rattle.std.proofs.{Common.{◌∷◌, length, get_or, drop, refl, ap, ap₂, sym, ◌∙◌, arith}, lemmas.Bool.cases_lt}
+use Rattle.std.{proofs.lemmas.List.Elements.{All-nil, All-cons, All-head, All-tail}, specs.List.All}
+use Rattle.conv_code.specs.{bit_blocks.Bits.{AllBits, IsBit}, Code.{encoding, IsEncoderInput}, Likelihood.likelihood}
 use Rattle.conv_code.{specs.Likelihood.{IsLexicographicallyBefore, RanksAfter, IsMostLikely}, proofs.Lemmas.coded_from_start}
 use Rattle.trellis_decode.specs.Trellis.{metric_from, HasTailBits, IsNotLexicographicallyAfter, LessMetric, EqualMetricButLater, IsSurvivor}
 
@@ -29,7 +29,7 @@ HasTailBits-bits [] ends = All-nil _
 HasTailBits-bits (x ∷ u) ends = All-cons IsBit x u ends.0 (HasTailBits-bits u ends.2)
 
 HasTailBits-tail : (u : List ℕ) → HasTailBits u → All (λ bit. bit ≡ 0) (drop (length u - 4) u)
-HasTailBits-tail [] ends = All-nil (λ bit. bit ≡ 0)
+HasTailBits-tail [] ends = All-nil _
 HasTailBits-tail (x ∷ u) ends =
     let rest = HasTailBits-tail u ends.2 in
     elim (cases_lt (length u) 4) [
@@ -40,11 +40,11 @@ HasTailBits-tail (x ∷ u) ends =
       | inr long ↦ let one_more : suc (length u) - 4 ≡ suc (length u - 4) = omega arith in rw one_more rest
     ]
 
-pub IsInformation-ends : (u : List ℕ) → 5 ≤ length u → HasTailBits u → IsInformation u
-IsInformation-ends u count ends = record { count = count; bits = HasTailBits-bits u ends; tail = HasTailBits-tail u ends }
+pub IsEncoderInput-ends : (u : List ℕ) → 5 ≤ length u → HasTailBits u → IsEncoderInput u
+IsEncoderInput-ends u count ends = record { count = count; bits = HasTailBits-bits u ends; tail = HasTailBits-tail u ends }
 
-pub IsLexicographicallyBefore-not_after : (u v : List ℕ) → AllBits v → length v ≡ length u → IsNotLexicographicallyAfter u v → v ≢ u →
-    IsLexicographicallyBefore u v
+pub IsLexicographicallyBefore-not_after : (u v : List ℕ) → AllBits v → length v ≡ length u → IsNotLexicographicallyAfter u v →
+    v ≢ u → IsLexicographicallyBefore u v
 IsLexicographicallyBefore-not_after [] [] bits count h ne = absurd (ne refl)
 IsLexicographicallyBefore-not_after [] (y ∷ v) bits count h ne = absurd (omega arith)
 IsLexicographicallyBefore-not_after (x ∷ u) [] bits count h ne = absurd h
@@ -64,11 +64,11 @@ IsLexicographicallyBefore-not_after (x ∷ u) (y ∷ v) bits count (inr rest) ne
 pub IsMostLikely-best : (soft : List ℤ) (u : List ℕ) (value : ℤ) → 5 ≤ length u → length soft ≡ 2 * length u →
     IsSurvivor 0 u soft value → IsMostLikely soft u
 IsMostLikely-best soft u value count pairs best = record {
-  information = IsInformation-ends u count best.ends;
+  information = IsEncoderInput-ends u count best.ends;
   count = pairs;
   others = others;
 } where
-  others : (v : List ℕ) → IsInformation v → length v ≡ length u → v ≢ u → RanksAfter soft v u
+  others : (v : List ℕ) → IsEncoderInput v → length v ≡ length u → v ≢ u → RanksAfter soft v u
   others v information count ne =
       let ends = HasTailBits-from_tail v information.bits information.tail in
       let gu = metric_from-start soft u (HasTailBits-bits u best.ends) in
@@ -78,5 +78,6 @@ IsMostLikely-best soft u value count pairs best = record {
         | EqualMetricButLater h after ↦ inr (sym gv ∙ h ∙ gu, IsLexicographicallyBefore-not_after u v information.bits count after ne)
       ]
 
-pub likelihood-best : (soft : List ℤ) (u : List ℕ) (value : ℤ) → IsSurvivor 0 u soft value → value ≡ likelihood soft (encoding u)
+pub likelihood-best : (soft : List ℤ) (u : List ℕ) (value : ℤ) → IsSurvivor 0 u soft value →
+    value ≡ likelihood soft (encoding u)
 likelihood-best soft u value best = best.has_metric ∙ metric_from-start _ u (HasTailBits-bits u best.ends)

@@ -6,7 +6,7 @@ use Rattle.trellis_decode.specs.Lanes.{lane}
 use Rattle.trellis_decode.specs.Trellis.{branch_metric}
 use Rattle.trellis_decode.specs.declared.acs_step.PathMetrics.{PathMetrics}
 
--- eight lanes of signed 16-bit numbers
+-- `lanes` consists of eight signed 16-bit numbers
 pub record AreInt16 (lanes : List ℤ) : Type 0 where
   pub count : length lanes ≡ 8
   pub fits : (k : ℕ) → k < 8 → FitsSigned w16 (lane lanes k)
@@ -15,10 +15,10 @@ pub record AreInt16 (lanes : List ℤ) : Type 0 where
 abbrev pub lane_metric : ℤ → ℤ
 lane_metric value = value +ℤ pos 31000
 
--- the path metrics of states 0 to 15, from a vector of the even states and a vector of the odd states, each in the bit-reversed order
--- of the upper three bits of the state
-abbrev pub path_metrics : List ℤ → List ℤ → List ℤ
-path_metrics even odd =
+-- the path metrics of states 0 to 15, from one vector for the even states and one for the odd states. The lanes of each are in the
+-- bit-reversed order of the upper three bits of the state
+abbrev pub metrics_of_lanes : List ℤ → List ℤ → List ℤ
+metrics_of_lanes even odd =
     lane_metric (lane even 0) ∷ lane_metric (lane odd 0) ∷ lane_metric (lane even 4) ∷ lane_metric (lane odd 4) ∷
     lane_metric (lane even 2) ∷ lane_metric (lane odd 2) ∷ lane_metric (lane even 6) ∷ lane_metric (lane odd 6) ∷
     lane_metric (lane even 1) ∷ lane_metric (lane odd 1) ∷ lane_metric (lane even 5) ∷ lane_metric (lane odd 5) ∷
@@ -26,42 +26,42 @@ path_metrics even odd =
 
 -- the path metrics of states 0 to 15 that a `PathMetrics` holds
 abbrev pub path_metric : PathMetrics → List ℤ
-path_metric values = path_metrics values.even.lanes values.odd.lanes
+path_metric values = metrics_of_lanes values.even.lanes values.odd.lanes
 
--- a branch metric can be added to or subtracted from each of the eight lanes without overflow of 16 bits
+-- there are eight lanes, and adding a branch metric to any of them or subtracting it does not overflow 16 bits
 pub record HaveHeadroom16 (lanes : List ℤ) : Type 0 where
   pub count : length lanes ≡ 8
   pub low : (k : ℕ) → k < 8 → negsuc 32499 ≤ℤ lane lanes k
   pub high : (k : ℕ) → k < 8 → lane lanes k ≤ℤ pos 32500
 
--- lane by lane, two vectors differ by at most 4,096
+-- in each lane, the vectors `a` and `b` differ by at most 4,096
 pub record DifferByAtMost4096 (a b : List ℤ) : Type 0 where
   pub low : (k : ℕ) → k < 8 → negsuc 4095 ≤ℤ (lane a k -ℤ lane b k)
   pub high : (k : ℕ) → k < 8 → (lane a k -ℤ lane b k) ≤ℤ pos 4096
 
--- lane by lane, the difference of two vectors fits in 16 bits
+-- in each lane, the difference of the vectors `a` and `b` fits in 16 bits
 pub record DifferencesFit16Bits (a b : List ℤ) : Type 0 where
   pub fits : (k : ℕ) → k < 8 → FitsSigned w16 (lane a k -ℤ lane b k)
 
--- sixteen lanes from -32,767 to 32,767, whose absolute values fit in 16 bits
-pub record AbsoluteValuesFit (lanes : List ℤ) : Type 0 where
+-- the sixteen lanes are from -32,767 to 32,767, so their absolute values fit in 16 bits
+pub record AbsFit16Bits (lanes : List ℤ) : Type 0 where
   pub count : length lanes ≡ 16
   pub low : (s : ℕ) → s < 16 → negsuc 32766 ≤ℤ lane lanes s
   pub high : (s : ℕ) → s < 16 → lane lanes s ≤ℤ pos 32767
 
--- the lanes of states 0 to 15 in state order, from two vectors (states 0 to 7 and 8 to 15) whose lanes are in bit-reversed order
+-- merges two vectors, for states 0 to 7 and 8 to 15 in bit-reversed order, into sixteen lanes in state order
 abbrev pub lanes_in_state_order : List ℤ → List ℤ → List ℤ
 lanes_in_state_order low high =
     lane low 0 ∷ lane low 4 ∷ lane low 2 ∷ lane low 6 ∷ lane low 1 ∷ lane low 5 ∷ lane low 3 ∷ lane low 7 ∷
     lane high 0 ∷ lane high 4 ∷ lane high 2 ∷ lane high 6 ∷ lane high 1 ∷ lane high 5 ∷ lane high 3 ∷ lane high 7 ∷ []
 
--- eight lanes in the range of branch metrics, -256 to 256
+-- the eight lanes are in the range of branch metrics, -256 to 256
 pub record AreBranchMetrics (lanes : List ℤ) : Type 0 where
   pub count : length lanes ≡ 8
   pub low : (k : ℕ) → k < 8 → negsuc 255 ≤ℤ lane lanes k
   pub high : (k : ℕ) → k < 8 → lane lanes k ≤ℤ pos 256
 
--- lanes i, j, k and l of two vectors, interleaved: lane i of a, lane i of b, lane j of a, and so on
+-- the lanes of two vectors at four given indexes, interleaved: at each index in turn, the lane of the first vector, then that of the second
 abbrev pub interleaved_lanes : List ℤ → List ℤ → ℕ → ℕ → ℕ → ℕ → List ℤ
 interleaved_lanes a b i j k l = lane a i ∷ lane b i ∷ lane a j ∷ lane b j ∷ lane a k ∷ lane b k ∷ lane a l ∷ lane b l ∷ []
 
@@ -70,20 +70,20 @@ abbrev pub lane_decision : ℤ → ℕ
 lane_decision (pos n) = 0
 lane_decision (negsuc n) = 1
 
--- a three-bit number with its bits in reverse order
+-- a number below 8 with its three bits in reverse order
 abbrev pub bit_reversed : ℕ → ℕ
 bit_reversed k = 4 * (k % 2) + 2 * (k / 2 % 2) + k / 4
 
--- the lanes hold the branch metrics of bit 0 in states 0 to 7, in bit-reversed order, for a pair of soft bits
+-- `lanes` holds the branch metrics of bit 0 in states 0 to 7, in bit-reversed order, for the `pair` of soft bits
 pub record HasBranchMetrics (lanes pair : List ℤ) : Type 0 where
   pub count : length pair ≡ 2
   pub each : (k : ℕ) → k < 8 → lane lanes k ≡ branch_metric (bit_reversed k) 0 pair
 
--- the lane of state s in a survivor map: the number s with its lower three bits in reverse order
+-- the lane of a state in a survivor map: the number of the state with its lower three bits in reverse order
 abbrev pub lane_of_state : ℕ → ℕ
 lane_of_state s = 8 * (s / 8) + bit_reversed (s % 8)
 
--- the decisions of states 0 to 15 in state order, from two vectors (states 0 to 7 and 8 to 15) whose lanes are in bit-reversed order
+-- the decisions of states 0 to 15 in state order, read from two vectors (states 0 to 7 and 8 to 15) whose lanes are in bit-reversed order
 abbrev pub lane_decisions : List ℤ → List ℤ → List ℕ
 lane_decisions low high =
     lane_decision (lane low 0) ∷ lane_decision (lane low 4) ∷ lane_decision (lane low 2) ∷ lane_decision (lane low 6) ∷
@@ -91,7 +91,7 @@ lane_decisions low high =
     lane_decision (lane high 0) ∷ lane_decision (lane high 4) ∷ lane_decision (lane high 2) ∷ lane_decision (lane high 6) ∷
     lane_decision (lane high 1) ∷ lane_decision (lane high 5) ∷ lane_decision (lane high 3) ∷ lane_decision (lane high 7) ∷ []
 
--- eight decisions: each lane is -1 (for bit 1) or 0 (for bit 0)
+-- the eight lanes are decisions: each is -1 for bit 1 or 0 for bit 0
 pub record AreDecisionLanes (lanes : List ℤ) : Type 0 where
   pub count : length lanes ≡ 8
   pub each : (k : ℕ) → k < 8 → (lane lanes k ≡ negsuc 0) ⊎ (lane lanes k ≡ pos 0)

@@ -1,9 +1,10 @@
--- The invariant of the backward pass of `fill_decisions`.
+-- The invariant of the backward Viterbi pass that stores all decisions (`fill_decisions`).
 use Rattle.std.specs.Prelude.{ℕ, ◌≡◌, ◌*◌, ◌<◌, ◌≤◌, ◌≤ℤ◌, ℤ, negsuc, List, length}
 use Rattle.trellis_decode.specs.Lanes.{AreSignedOctets, lane}
 use Rattle.trellis_decode.specs.Trellis.{IsSurvivor, AreDecisions, traceback}
 
--- the decisions and their costs for the last positions (at least four), and the path metric of each state before these positions
+-- `rows` and `losses` hold the decisions and their costs at the positions of `soft` (at least four), and `values` holds the path metric of
+-- each state before these positions
 pub record HasDecisionsAndMetrics (rows : List ℕ) (losses : List (List ℤ)) (soft values : List ℤ) : Type 0 where
   pub decisions : AreDecisions rows losses soft
   pub count : length soft ≡ 2 * length rows

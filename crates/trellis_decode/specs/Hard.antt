@@ -1,4 +1,4 @@
--- Hard bits (soft bits that are all 127 or -127), for which one vector of 8-bit lanes holds the path metrics of the sixteen states.
+-- Decoding of hard bits (soft bits that are all 127 or -127): one vector of 8-bit lanes holds the path metrics of all sixteen states.
 use Rattle.std.specs.Prelude.{ℕ, ◌≡◌, ◌+◌, ◌*◌, ◌/◌, ◌%◌, ◌<◌, ◌⊎◌, ◌≤ℤ◌, ℤ, pos, negsuc}
 use Rattle.std.specs.Prelude.{◌+ℤ◌, ◌*ℤ◌, List, [], ◌∷◌, length, if◌then◌else◌}
 use Rattle.std.specs.Prelude.{int_lt, FitsSigned}
@@ -7,26 +7,26 @@ use Rattle.trellis_decode.specs.Lanes.{lane}
 use Rattle.trellis_decode.specs.Trellis.{branch_metric}
 use Rattle.trellis_decode.specs.AcsLanes.{lane_of_state}
 
--- a soft bit that is 127 or -127
-abbrev pub IsHard : ℤ → Type 0
-IsHard p = (p ≡ pos 127) ⊎ (p ≡ negsuc 126)
+-- the soft bit is a hard bit, that is, 127 or -127
+abbrev pub IsHardBit : ℤ → Type 0
+IsHardBit p = (p ≡ pos 127) ⊎ (p ≡ negsuc 126)
 
--- the sign bit: 1 if the number is negative, else 0
-abbrev pub sign : ℤ → ℕ
-sign p = if int_lt p (pos 0) then 1 else 0
+-- the sign bit of a number: 1 if it is negative, else 0
+abbrev pub sign_bit_of : ℤ → ℕ
+sign_bit_of p = if int_lt p (pos 0) then 1 else 0
 
--- sixteen lanes of signed 8-bit numbers
+-- `lanes` consists of sixteen signed 8-bit numbers
 pub record AreInt8 (lanes : List ℤ) : Type 0 where
   pub count : length lanes ≡ 16
   pub fits : (k : ℕ) → k < 16 → FitsSigned w8 (lane lanes k)
 
--- 1 can be added to or subtracted from each of the sixteen lanes without overflow of 8 bits
+-- there are sixteen lanes, and adding 1 to any of them or subtracting it does not overflow 8 bits
 pub record HaveHeadroom8 (lanes : List ℤ) : Type 0 where
   pub count : length lanes ≡ 16
   pub low : (k : ℕ) → k < 16 → negsuc 126 ≤ℤ lane lanes k
   pub high : (k : ℕ) → k < 16 → lane lanes k ≤ℤ pos 126
 
--- sixteen lanes, each -1, 0 or 1
+-- `lanes` consists of sixteen numbers, each -1, 0 or 1
 pub record AreMinusOneToOne (lanes : List ℤ) : Type 0 where
   pub count : length lanes ≡ 16
   pub low : (k : ℕ) → k < 16 → negsuc 0 ≤ℤ lane lanes k
@@ -36,27 +36,29 @@ pub record AreMinusOneToOne (lanes : List ℤ) : Type 0 where
 abbrev pub metric_of_hard_lane : ℤ → ℤ
 metric_of_hard_lane number = pos 254 *ℤ (number +ℤ pos 120)
 
--- the path metrics of states 0 to 15, from a vector with state s in lane `lane_of_state s`
-abbrev pub hard_metrics : List ℤ → List ℤ
-hard_metrics lanes =
+-- the path metrics of states 0 to 15, from a vector of 8-bit lanes with each state in the lane that `lane_of_state` gives
+abbrev pub hard_lane_metrics : List ℤ → List ℤ
+hard_lane_metrics lanes =
     metric_of_hard_lane (lane lanes 0) ∷ metric_of_hard_lane (lane lanes 4) ∷ metric_of_hard_lane (lane lanes 2) ∷ metric_of_hard_lane
     (lane lanes 6) ∷
     metric_of_hard_lane (lane lanes 1) ∷ metric_of_hard_lane (lane lanes 5) ∷ metric_of_hard_lane (lane lanes 3) ∷ metric_of_hard_lane
     (lane lanes 7) ∷
-    metric_of_hard_lane (lane lanes 8) ∷ metric_of_hard_lane (lane lanes 12) ∷ metric_of_hard_lane (lane lanes 10) ∷ metric_of_hard_lane
+    metric_of_hard_lane (lane lanes 8) ∷ metric_of_hard_lane (lane lanes 12) ∷ metric_of_hard_lane (lane lanes 10)
+    ∷ metric_of_hard_lane
     (lane lanes 14) ∷
-    metric_of_hard_lane (lane lanes 9) ∷ metric_of_hard_lane (lane lanes 13) ∷ metric_of_hard_lane (lane lanes 11) ∷ metric_of_hard_lane
+    metric_of_hard_lane (lane lanes 9) ∷ metric_of_hard_lane (lane lanes 13) ∷ metric_of_hard_lane (lane lanes 11)
+    ∷ metric_of_hard_lane
     (lane lanes 15) ∷ []
 
--- the lane of the state that follows after bit 0, if the present state is in lane k
-abbrev pub lane_after_zero : ℕ → ℕ
-lane_after_zero k = 8 * (k % 2) + k % 8 / 2
+-- the lane of the state to which bit 0 leads from the state in a given lane
+abbrev pub lane_of_next_state_0 : ℕ → ℕ
+lane_of_next_state_0 k = 8 * (k % 2) + k % 8 / 2
 
--- the lane of the state that follows after bit 1, if the present state is in lane k
-abbrev pub lane_after_one : ℕ → ℕ
-lane_after_one k = lane_after_zero k + 4
+-- the lane of the state to which bit 1 leads from the state in a given lane
+abbrev pub lane_of_next_state_1 : ℕ → ℕ
+lane_of_next_state_1 k = lane_of_next_state_0 k + 4
 
--- the lanes hold the branch metrics of bit 0 in all sixteen states, divided by 254, for a pair of soft bits
+-- `lanes` holds the branch metrics of bit 0 in all sixteen states, divided by 254, for the `pair` of soft bits
 pub record HasHardBranchMetrics (lanes pair : List ℤ) : Type 0 where
   pub count : length pair ≡ 2
   pub each : (s : ℕ) → s < 16 → branch_metric s 0 pair ≡ pos 254 *ℤ lane lanes (lane_of_state s)

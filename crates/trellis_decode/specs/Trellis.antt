@@ -7,7 +7,7 @@ use Rattle.conv_code.specs.bit_blocks.Bits.{IsBit}
 use Rattle.conv_code.specs.Likelihood.{likelihood}
 pub use Rattle.conv_code.specs.States.{next, first_coded_bit, second_coded_bit, encoding_from_state}
 
--- the path metric of the input bits u if the encoder starts in the given state
+-- the path metric of a list of input bits for given soft bits, if the encoder starts in a given state
 unfoldable pub metric_from : ℕ → List ℕ → List ℤ → ℤ
 metric_from state u soft = likelihood soft (encoding_from_state state u)
 
@@ -15,54 +15,58 @@ metric_from state u soft = likelihood soft (encoding_from_state state u)
 unfoldable pub branch_metric : ℕ → ℕ → List ℤ → ℤ
 branch_metric state bit pair = likelihood pair (first_coded_bit state bit ∷ second_coded_bit state bit ∷ [])
 
--- a list of bits in which each of the last four is 0
+-- the list consists of bits, and each of the last four is 0
 abbrev pub HasTailBits : List ℕ → Type 0
 HasTailBits [] = Unit {0}
 HasTailBits (x ∷ u) = IsBit x × (length u < 4 → x ≡ 0) × HasTailBits u
 
--- u precedes v in lexicographic order, or equals it
+-- the first list precedes the second in lexicographic order, or equals it
 abbrev pub IsNotLexicographicallyAfter : List ℕ → List ℕ → Type 0
 IsNotLexicographicallyAfter [] v = Unit {0}
 IsNotLexicographicallyAfter (x ∷ u) [] = ⊥
 IsNotLexicographicallyAfter (x ∷ u) (y ∷ v) = (x < y) ⊎ ((x ≡ y) × IsNotLexicographicallyAfter u v)
 
--- starting in the given state, v has a smaller path metric than u, or an equal one and does not come before u
+-- for an encoder that starts in `state`, the input bits `v` are no better than `u`: their path metric is smaller, or it is equal and `v`
+-- does not come before `u` in lexicographic order
 pub data IsNoBetterPath (state : ℕ) (soft : List ℤ) (v u : List ℕ) : Type 0 where
   LessMetric : metric_from state v soft <ℤ metric_from state u soft → IsNoBetterPath state soft v u
   EqualMetricButLater : metric_from state v soft ≡ metric_from state u soft → IsNotLexicographicallyAfter u v →
       IsNoBetterPath state soft v u
 
--- traceback: the bits that decision rows give, starting in the given state; bit s of a row is the decision in state s
+-- the bits that traceback reads from decision rows, starting in a given state. Bit `s` of each row is the decision in state `s`
 abbrev pub traceback : List ℕ → ℕ → List ℕ
 traceback [] state = []
 traceback (row ∷ rows) state = (row / 2 ^ state % 2) ∷ traceback rows (next state (row / 2 ^ state % 2))
 
--- u is the survivor of a state, which is the best list of input bits from that state to the end, and `value` is its path metric
+-- `u` is the survivor of `state`, that is, the best list of input bits from this state to the end, and `value` is its path metric
 pub record IsSurvivor (state : ℕ) (u : List ℕ) (soft : List ℤ) (value : ℤ) : Type 0 where
   pub has_metric : value ≡ metric_from state u soft
   pub ends : HasTailBits u
   pub beats_others : (v : List ℕ) → HasTailBits v → length v ≡ length u → IsNoBetterPath state soft v u
 
--- the candidate metric of a bit in a state: its branch metric plus the path metric of the next state, which `after` lists
-unfoldable pub candidate : List ℤ → List ℤ → ℕ → ℕ → ℤ
-candidate after pair state bit = branch_metric state bit pair +ℤ slice_index_or after (next state bit) (pos 0)
+-- the candidate metric of a bit in a state: its branch metric for a pair of soft bits, plus the path metric of the next state
+unfoldable pub candidate_metric : List ℤ → List ℤ → ℕ → ℕ → ℤ
+candidate_metric after pair state bit = branch_metric state bit pair +ℤ slice_index_or after (next state bit) (pos 0)
 
--- in a state, `bit` has the greater candidate metric, and `value` is that metric; bit 0 wins a tie
+-- the decision in a state: the bit with the greater candidate metric (bit 0 on a tie), together with that metric
 abbrev pub IsDecision : List ℤ → List ℤ → ℕ → ℤ → ℕ → Type 0
 IsDecision after pair state value bit =
-    ((bit ≡ 0) × (value ≡ candidate after pair state 0) × (candidate after pair state 1 ≤ℤ candidate after pair state 0)) ⊎
-    ((bit ≡ 1) × (value ≡ candidate after pair state 1) × (candidate after pair state 0 <ℤ candidate after pair state 1))
+    ((bit ≡ 0) × (value ≡ candidate_metric after pair state 0)
+    × (candidate_metric after pair state 1 ≤ℤ candidate_metric after pair state 0)) ⊎
+    ((bit ≡ 1) × (value ≡ candidate_metric after pair state 1)
+    × (candidate_metric after pair state 0 <ℤ candidate_metric after pair state 1))
 
--- `row` holds the decision of each state at the first position, and `losses` its cost: how much path metric the other bit would lose
-pub record AreDecisionsAt (row : ℕ) (rows : List ℕ) (losses : List ℤ) (soft : List ℤ) : Type 0 where
+-- at the first position of `soft`, `row` holds the decision of each state, and `losses` the cost of the decision: how much path metric the
+-- other bit would lose. `rows` holds the decisions at the later positions
+pub record IsDecisionRow (row : ℕ) (rows : List ℕ) (losses : List ℤ) (soft : List ℤ) : Type 0 where
   pub best : (s : ℕ) → s < 16 → IsSurvivor s (traceback (row ∷ rows) s) soft (metric_from s (traceback (row ∷ rows) s) soft)
   pub lost : (s : ℕ) → s < 16 → 4 ≤ length rows → slice_index_or losses s (pos 0) ≡
       metric_from s (traceback (row ∷ rows) s) soft -ℤ metric_from s ((1 - row / 2 ^ s % 2) ∷ traceback rows (next s
       (1 - row / 2 ^ s % 2))) soft
 
--- there is a decision row, with its costs, for each position, which is for each pair of soft bits
+-- the lists hold one decision row and its costs for each position, that is, for each pair of soft bits
 abbrev pub AreDecisions : List ℕ → List (List ℤ) → List ℤ → Type 0
 AreDecisions [] losses soft = length soft ≡ 0
 AreDecisions (row ∷ rows) [] soft = ⊥
-AreDecisions (row ∷ rows) (lost ∷ losses) soft = (2 ≤ length soft) × AreDecisionsAt row rows lost soft
+AreDecisions (row ∷ rows) (lost ∷ losses) soft = (2 ≤ length soft) × IsDecisionRow row rows lost soft
     × AreDecisions rows losses (drop 2 soft)

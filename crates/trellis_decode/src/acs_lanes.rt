@@ -3,30 +3,32 @@
 ghost use Rattle.std.specs.Prelude.{◌≡◌, ℕ, ◌*◌, ◌+◌, ◌/◌, ◌%◌, ◌^◌, ◌<◌, pos, negsuc, ◌+ℤ◌};
 ghost use Rattle.std.specs.Prelude.{◌-ℤ◌, if◌then◌else◌, int_lt, length};
 ghost use Rattle.trellis_decode.specs.Lanes.{lane};
-ghost use Rattle.trellis_decode.specs.AcsLanes.{AreBranchMetrics, AbsoluteValuesFit, AreInt16, DifferencesFit16Bits, HaveHeadroom16};
+ghost use Rattle.trellis_decode.specs.AcsLanes.{AreBranchMetrics, AbsFit16Bits, AreInt16, DifferencesFit16Bits, HaveHeadroom16};
 ghost use Rattle.trellis_decode.specs.AcsLanes.{lanes_in_state_order, interleaved_lanes};
 
 use std::simd::prelude::*;
 
-/// Eight numbers of 16 bits. (It is a struct because proofs handle a struct as a whole, but split a bare vector into its lanes.)
+/// A vector of eight 16-bit numbers. It is wrapped in a struct because proofs handle a struct as a whole, but split a bare vector into its
+/// lanes.
 #[derive(Clone, Copy)]
 pub struct EightLanes {
     pub lanes: i16x8,
 }
 
-/// Eight decisions: -1 for bit 1, 0 for bit 0.
+/// Eight decisions, one per lane: -1 for bit 1, 0 for bit 0.
 #[derive(Clone, Copy)]
 pub struct EightDecisions {
     pub lanes: i8x8,
 }
 
-/// Sixteen numbers of 16 bits.
+/// A vector of sixteen 16-bit numbers.
 #[derive(Clone, Copy)]
 pub struct SixteenLanes {
     pub lanes: i16x16,
 }
 
-pub fn sums(a: EightLanes, branch_metrics: EightLanes) -> EightLanes
+/// Adds to each lane its branch metric.
+pub fn add_branch_metrics(a: EightLanes, branch_metrics: EightLanes) -> EightLanes
     requires modest { HaveHeadroom16 a.lanes }
     requires branch_metrics { AreBranchMetrics branch_metrics.lanes }
     ensures each { (k : ℕ) → k < 8 → lane result.lanes k ≡ lane a.lanes k +ℤ lane branch_metrics.lanes k }
@@ -37,7 +39,8 @@ pub fn sums(a: EightLanes, branch_metrics: EightLanes) -> EightLanes
     }
 }
 
-pub fn differences(a: EightLanes, branch_metrics: EightLanes) -> EightLanes
+/// Subtracts from each lane its branch metric.
+pub fn subtract_branch_metrics(a: EightLanes, branch_metrics: EightLanes) -> EightLanes
     requires modest { HaveHeadroom16 a.lanes }
     requires branch_metrics { AreBranchMetrics branch_metrics.lanes }
     ensures each { (k : ℕ) → k < 8 → lane result.lanes k ≡ lane a.lanes k -ℤ lane branch_metrics.lanes k }
@@ -48,6 +51,7 @@ pub fn differences(a: EightLanes, branch_metrics: EightLanes) -> EightLanes
     }
 }
 
+/// The greater of the two lanes at each index.
 pub fn lane_maxima(a: EightLanes, b: EightLanes) -> EightLanes
     requires a_lanes { AreInt16 a.lanes }
     requires b_lanes { AreInt16 b.lanes }
@@ -96,7 +100,7 @@ pub fn greater_lane_decisions(a: EightLanes, b: EightLanes) -> EightDecisions
     }
 }
 
-/// The difference `a - b` of each lane.
+/// The difference `a - b`, lane by lane.
 pub fn subtract_lanes(a: EightLanes, b: EightLanes) -> EightLanes
     requires a_lanes { AreInt16 a.lanes }
     requires b_lanes { AreInt16 b.lanes }
@@ -125,10 +129,10 @@ pub fn to_state_order(low: EightLanes, high: EightLanes) -> SixteenLanes
 
 /// The absolute value of each lane.
 pub fn absolute_values(a: SixteenLanes) -> SixteenLanes
-    requires { AbsoluteValuesFit a.lanes }
+    requires { AbsFit16Bits a.lanes }
     ensures each { (s : ℕ) → s < 16 → lane result.lanes s ≡
         (if int_lt (lane a.lanes s) (pos 0 -ℤ lane a.lanes s) then pos 0 -ℤ lane a.lanes s else lane a.lanes s) }
-    ensures lanes { AbsoluteValuesFit result.lanes }
+    ensures lanes { AbsFit16Bits result.lanes }
 {
     SixteenLanes {
         lanes: a.lanes.abs(),
@@ -137,7 +141,7 @@ pub fn absolute_values(a: SixteenLanes) -> SixteenLanes
 
 /// Bit `s` of the result is 1 if lane `s` is negative.
 pub fn signs(a: SixteenLanes) -> u16
-    requires { AbsoluteValuesFit a.lanes }
+    requires { AbsFit16Bits a.lanes }
     ensures { (s : ℕ) → s < 16 → result / 2 ^ s % 2 ≡ (if int_lt (lane a.lanes s) (pos 0) then 1 else 0) }
 {
     a.lanes.simd_lt(i16x16::splat(0)).to_bitmask() as u16

@@ -5,16 +5,16 @@
 //! Path metrics are between -1,024 and 58,368. A lane holds the metric minus 31,000, so all of them fit in 16 bits without rescaling.
 
 ghost use Rattle.std.specs.Prelude.{◌≡◌, ℕ, ◌<◌, List, ℤ, pos, slice_index};
-ghost use Rattle.trellis_decode.specs.Trellis.{IsDecision, candidate};
+ghost use Rattle.trellis_decode.specs.Trellis.{IsDecision, candidate_metric};
 ghost use Rattle.trellis_decode.specs.Lanes.{lane};
-ghost use Rattle.trellis_decode.specs.Candidates.{AreCandidates};
+ghost use Rattle.trellis_decode.specs.Candidates.{AreAcsCandidates};
 ghost use Rattle.trellis_decode.specs.AcsLanes.{AreBranchMetrics, AreInt16, AreDecisionLanes, lane_decisions, HasBranchMetrics};
 ghost use Rattle.trellis_decode.specs.AcsLanes.{HaveHeadroom16};
 ghost use Rattle.trellis_decode.specs.AcsLanes.{path_metric};
 
 use crate::acs_lanes::{
-    EightDecisions, EightLanes, differences, greater_lane_decisions, interleave_first_lanes,
-    interleave_last_lanes, lane_maxima, sums,
+    EightDecisions, EightLanes, add_branch_metrics, greater_lane_decisions, interleave_first_lanes,
+    interleave_last_lanes, lane_maxima, subtract_branch_metrics,
 };
 use std::simd::prelude::*;
 
@@ -23,7 +23,7 @@ use std::simd::prelude::*;
 pub struct PathMetrics {
     /// The path metrics of the even states, in the bit-reversed order of their upper three bits.
     pub even: EightLanes,
-    /// The path metrics of the odd states, in the same order.
+    /// The path metrics of the odd states, in the bit-reversed order of their upper three bits.
     pub odd: EightLanes,
 }
 
@@ -52,31 +52,32 @@ impl PathMetrics {
     }
 }
 
-/// The candidate metrics: for each state, the path metric of its best list that begins with bit 0 and of its best list that begins with
-/// bit 1, minus 31,000. `low_` vectors hold the states 0 to 7 and `high_` vectors the states 8 to 15, in bit-reversed order.
+/// The candidate metrics of all states: for each state, the path metric of the best list that begins with bit 0, and of the best list that
+/// begins with bit 1, each minus 31,000. The `low_states` vectors hold states 0 to 7 and the `high_states` vectors states 8 to 15, both in
+/// bit-reversed order.
 #[derive(Clone, Copy)]
 pub struct Candidates {
-    pub low_zero: EightLanes,
-    pub low_one: EightLanes,
-    pub high_zero: EightLanes,
-    pub high_one: EightLanes,
+    pub low_states_bit_0: EightLanes,
+    pub low_states_bit_1: EightLanes,
+    pub high_states_bit_0: EightLanes,
+    pub high_states_bit_1: EightLanes,
 }
 
 /// The result of one trellis step. The steps run backward: from the path metrics after a bit to those before it.
 #[derive(Clone, Copy)]
-pub struct Step {
+pub struct TrellisStep {
     pub candidates: Candidates,
     /// The path metrics before the bit.
     pub values: PathMetrics,
     /// The decisions in the states 0 to 7, in bit-reversed order.
     pub low: EightDecisions,
-    /// The decisions in the states 8 to 15, in the same order.
+    /// The decisions in the states 8 to 15, in bit-reversed order.
     pub high: EightDecisions,
 }
 
-impl Step {
-    /// The step over one bit: `after` holds the path metrics after the bit, and `branch_metrics` its branch metrics.
-    pub fn new(after: PathMetrics, branch_metrics: EightLanes) -> Step
+impl TrellisStep {
+    /// Computes the step over one bit: `after` holds the path metrics after the bit, and `branch_metrics` its branch metrics.
+    pub fn new(after: PathMetrics, branch_metrics: EightLanes) -> TrellisStep
         requires even { HaveHeadroom16 after.even.lanes }
         requires odd { HaveHeadroom16 after.odd.lanes }
         requires branch_metrics { AreBranchMetrics branch_metrics.lanes }
@@ -84,32 +85,32 @@ impl Step {
             IsDecision (path_metric after) pair s
             (lane (path_metric result.values) s)
             (slice_index (lane_decisions result.low.lanes result.high.lanes) s) }
-        ensures candidates { AreCandidates after.even.lanes after.odd.lanes branch_metrics.lanes result.candidates }
+        ensures candidates { AreAcsCandidates after.even.lanes after.odd.lanes branch_metrics.lanes result.candidates }
         ensures low { AreDecisionLanes result.low.lanes }
         ensures high { AreDecisionLanes result.high.lanes }
         ensures even { AreInt16 result.values.even.lanes }
         ensures odd { AreInt16 result.values.odd.lanes }
     {
-        let low_zero = sums(after.even, branch_metrics);
-        let low_one = differences(after.odd, branch_metrics);
-        let high_zero = differences(after.even, branch_metrics);
-        let high_one = sums(after.odd, branch_metrics);
-        let low = lane_maxima(low_zero, low_one);
-        let high = lane_maxima(high_zero, high_one);
+        let low_states_bit_0 = add_branch_metrics(after.even, branch_metrics);
+        let low_states_bit_1 = subtract_branch_metrics(after.odd, branch_metrics);
+        let high_states_bit_0 = subtract_branch_metrics(after.even, branch_metrics);
+        let high_states_bit_1 = add_branch_metrics(after.odd, branch_metrics);
+        let low = lane_maxima(low_states_bit_0, low_states_bit_1);
+        let high = lane_maxima(high_states_bit_0, high_states_bit_1);
         let values = PathMetrics {
             even: interleave_first_lanes(low, high),
             odd: interleave_last_lanes(low, high),
         };
-        Step {
+        TrellisStep {
             candidates: Candidates {
-                low_zero,
-                low_one,
-                high_zero,
-                high_one,
+                low_states_bit_0,
+                low_states_bit_1,
+                high_states_bit_0,
+                high_states_bit_1,
             },
             values,
-            low: greater_lane_decisions(low_zero, low_one),
-            high: greater_lane_decisions(high_zero, high_one),
+            low: greater_lane_decisions(low_states_bit_0, low_states_bit_1),
+            high: greater_lane_decisions(high_states_bit_0, high_states_bit_1),
         }
     }
 }
@@ -119,12 +120,12 @@ pub fn tail_step(after: PathMetrics, branch_metrics: EightLanes) -> PathMetrics
     requires even { HaveHeadroom16 after.even.lanes }
     requires branch_metrics { AreBranchMetrics branch_metrics.lanes }
     ensures each { (pair : List ℤ) → HasBranchMetrics branch_metrics.lanes pair → (s : ℕ) → s < 16 →
-        lane (path_metric result) s ≡ candidate (path_metric after) pair s 0 }
+        lane (path_metric result) s ≡ candidate_metric (path_metric after) pair s 0 }
     ensures even { AreInt16 result.even.lanes }
     ensures odd { AreInt16 result.odd.lanes }
 {
-    let low = sums(after.even, branch_metrics);
-    let high = differences(after.even, branch_metrics);
+    let low = add_branch_metrics(after.even, branch_metrics);
+    let high = subtract_branch_metrics(after.even, branch_metrics);
     PathMetrics {
         even: interleave_first_lanes(low, high),
         odd: interleave_last_lanes(low, high),

@@ -5,7 +5,7 @@ ghost use Rattle.std.specs.Prelude.{◌≡◌, ℕ, ◌*◌, ◌<◌, ◌≤◌,
 ghost use Rattle.trellis_decode.specs.Lanes.{AreSignedOctets, lane};
 ghost use Rattle.trellis_decode.specs.Trellis.{IsSurvivor};
 ghost use Rattle.trellis_decode.specs.AcsLanes.{AreInt16, lane_of_state, path_metric};
-ghost use Rattle.trellis_decode.specs.SurvivorPaths.{AreMetricsWithin, AreSurvivors, traceback_of_survivors};
+ghost use Rattle.trellis_decode.specs.SurvivorPaths.{AreMetricsWithin, AreSurvivors, survivor_traceback};
 
 use crate::acs_step::{PathMetrics, tail_step};
 use crate::branch_metrics::four_branch_metrics;
@@ -20,7 +20,7 @@ pub fn fill_survivors(soft: &[i8], survivors: &mut [[u8; 16]]) -> PathMetrics
     requires at_most { length survivors.old ≤ 57 }
     requires octets { AreSignedOctets soft.now }
     ensures best { (s : ℕ) → s < 16 →
-        IsSurvivor s (traceback_of_survivors survivors.new (lane_of_state s)) soft.now (lane (path_metric result) s) }
+        IsSurvivor s (survivor_traceback survivors.new (lane_of_state s)) soft.now (lane (path_metric result) s) }
     ensures within { AreMetricsWithin 58368 (path_metric result) }
     ensures even { AreInt16 result.even.lanes }
     ensures odd { AreInt16 result.odd.lanes }

@@ -1,20 +1,20 @@
 //! A step of the Viterbi algorithm that keeps the decision of each state and its cost.
 //!
 //! Both come from the difference between the candidate metrics of bit 0 and bit 1 in a state: its sign is the decision, and its absolute
-//! value is the cost. The difference fits in 16 bits, because the path metrics of two states are never far apart: from any two states,
-//! the same four bits lead to the same state.
+//! value is the cost. The difference fits in 16 bits because the path metrics of two states are never far apart: any four bits lead from
+//! both states to one common state.
 
 ghost use Rattle.std.specs.Prelude.{◌≡◌, ℕ, ◌/◌, ◌%◌, ◌^◌, ◌-◌, ◌<◌, List, ℤ, ◌-ℤ◌};
-ghost use Rattle.trellis_decode.specs.Trellis.{IsDecision, candidate};
+ghost use Rattle.trellis_decode.specs.Trellis.{IsDecision, candidate_metric};
 ghost use Rattle.trellis_decode.specs.Lanes.{lane};
-ghost use Rattle.trellis_decode.specs.AcsLanes.{DifferByAtMost4096, AreBranchMetrics, AbsoluteValuesFit, AreInt16, HasBranchMetrics};
+ghost use Rattle.trellis_decode.specs.AcsLanes.{DifferByAtMost4096, AreBranchMetrics, AbsFit16Bits, AreInt16, HasBranchMetrics};
 ghost use Rattle.trellis_decode.specs.AcsLanes.{HaveHeadroom16};
 ghost use Rattle.trellis_decode.specs.AcsLanes.{path_metric};
 
 use crate::acs_lanes::{
     EightLanes, SixteenLanes, absolute_values, signs, subtract_lanes, to_state_order,
 };
-use crate::acs_step::{PathMetrics, Step};
+use crate::acs_step::{PathMetrics, TrellisStep};
 
 /// The result of one trellis step. The steps run backward: from the path metrics after a bit to those before it.
 #[derive(Clone, Copy)]
@@ -28,7 +28,7 @@ pub struct DecisionStep {
 }
 
 impl DecisionStep {
-    /// The step over one bit: `after` holds the path metrics after the bit, and `branch_metrics` its branch metrics.
+    /// Computes the step over one bit: `after` holds the path metrics after the bit, and `branch_metrics` its branch metrics.
     pub fn new(after: PathMetrics, branch_metrics: EightLanes) -> DecisionStep
         requires even { HaveHeadroom16 after.even.lanes }
         requires odd { HaveHeadroom16 after.odd.lanes }
@@ -37,16 +37,23 @@ impl DecisionStep {
         ensures each { (pair : List ℤ) → HasBranchMetrics branch_metrics.lanes pair → (s : ℕ) → s < 16 →
             IsDecision (path_metric after) pair s
             (lane (path_metric result.values) s) (result.row / 2 ^ s % 2) }
-        ensures losses { (pair : List ℤ) → HasBranchMetrics branch_metrics.lanes pair → (s : ℕ) → s < 16 → lane result.losses.lanes s ≡
-            candidate (path_metric after) pair s (result.row / 2 ^ s % 2)
-            -ℤ candidate (path_metric after) pair s (1 - result.row / 2 ^ s % 2) }
-        ensures lanes { AbsoluteValuesFit result.losses.lanes }
+        ensures losses { (pair : List ℤ) → HasBranchMetrics branch_metrics.lanes pair → (s : ℕ) → s < 16 →
+            lane result.losses.lanes s ≡
+            candidate_metric (path_metric after) pair s (result.row / 2 ^ s % 2)
+            -ℤ candidate_metric (path_metric after) pair s (1 - result.row / 2 ^ s % 2) }
+        ensures lanes { AbsFit16Bits result.losses.lanes }
         ensures even { AreInt16 result.values.even.lanes }
         ensures odd { AreInt16 result.values.odd.lanes }
     {
-        let step = Step::new(after, branch_metrics);
-        let low = subtract_lanes(step.candidates.low_zero, step.candidates.low_one);
-        let high = subtract_lanes(step.candidates.high_zero, step.candidates.high_one);
+        let step = TrellisStep::new(after, branch_metrics);
+        let low = subtract_lanes(
+            step.candidates.low_states_bit_0,
+            step.candidates.low_states_bit_1,
+        );
+        let high = subtract_lanes(
+            step.candidates.high_states_bit_0,
+            step.candidates.high_states_bit_1,
+        );
         let leads = to_state_order(low, high);
         DecisionStep {
             values: step.values,

@@ -1,14 +1,15 @@
-//! Decoding by trying every information list: the definition of the most likely list as a program. Tests compare `decode` with it.
+//! Decodes by trying every information list, as the definition of the most likely list says. Tests compare `decode` with this search.
 
 ghost use Rattle.std.specs.Prelude.{◌≡◌, ℕ, ◌*◌, ◌^◌, ◌<◌, ◌≤◌, pos, ◌-ℤ◌, ◌≤ℤ◌, List, length};
 ghost use Rattle.conv_code.specs.bit_blocks.Bits.{AllBits, IsBit};
-ghost use Rattle.conv_code.specs.Code.{encoding, IsInformation};
-ghost use Rattle.conv_code.specs.Likelihood.{agreement, AllSoftBits, IsMostLikely, likelihood};
+ghost use Rattle.conv_code.specs.Code.{encoding, IsEncoderInput};
+ghost use Rattle.conv_code.specs.Likelihood.{bit_metric, AllSoftBits, IsMostLikely, likelihood};
 ghost use Rattle.trellis_decode.specs.Words.{word};
 
 use conv_code::encode;
 
-/// Gives the same results as `decode`, but tries every information list in lexicographic order. It is slow, so it is limited to 20 bits.
+/// Finds the most likely information list by trying all of them in lexicographic order. Gives the same results as `decode`, but is slow and
+/// therefore limited to 20 bits.
 pub fn search(soft: &[i8], u: &mut [u8]) -> i32
     requires count { length soft.now ≡ 2 * length u.old }
     requires at_least { 5 ≤ length u.old }
@@ -34,7 +35,7 @@ pub fn search(soft: &[i8], u: &mut [u8]) -> i32
     best
 }
 
-/// The number of information lists that have `bits` bits, of which the last four are always 0.
+/// The number of information lists of `bits` bits; the last four bits of each are 0.
 fn count_information_lists(bits: usize) -> u32
     requires at_least { 5 ≤ bits }
     requires at_most { bits ≤ 20 }
@@ -49,7 +50,7 @@ fn write_bits_and_zero_tail(number: u32, u: &mut [u8])
     requires at_most { length u.old ≤ 20 }
     requires fits { 16 * number < 2 ^ length u.old }
     ensures list { u.new ≡ word (length u.old) (16 * number) }
-    ensures information { IsInformation u.new }
+    ensures information { IsEncoderInput u.new }
 {
     let spelled = 16 * number;
     let last = u.len() - 1;
@@ -58,21 +59,21 @@ fn write_bits_and_zero_tail(number: u32, u: &mut [u8])
     }
 }
 
-/// The path metric of an information list.
+/// The path metric of the information list `u` for the soft bits.
 fn path_metric(soft: &[i8], u: &[u8]) -> i32
     requires count { length soft.now ≡ 2 * length u.now }
     requires at_most { length u.now ≤ 20 }
-    requires information { IsInformation u.now }
+    requires information { IsEncoderInput u.now }
     ensures { result ≡ likelihood soft.now (encoding u.now) }
 {
     let mut coded = [0; 40];
     let coded = &mut coded[..soft.len()];
     encode(u, coded);
-    sum_of_agreements(soft, coded)
+    sum_of_bit_metrics(soft, coded)
 }
 
-/// The sum of the agreements of all coded bits with their soft bits.
-fn sum_of_agreements(soft: &[i8], coded: &[u8]) -> i32
+/// The path metric of a list of coded bits: the sum of their bit metrics.
+fn sum_of_bit_metrics(soft: &[i8], coded: &[u8]) -> i32
     requires count { length soft.now ≡ length coded.now }
     requires at_most { length soft.now ≤ 40 }
     requires bits { AllBits coded.now }
@@ -80,15 +81,15 @@ fn sum_of_agreements(soft: &[i8], coded: &[u8]) -> i32
 {
     let mut sum = 0;
     for (k, bit) in coded.iter().enumerate() {
-        sum += agreement_of(soft[k], *bit);
+        sum += bit_metric_of(soft[k], *bit);
     }
     sum
 }
 
-/// The agreement of a coded bit with its soft bit: the value of the soft bit for 0, and the negated value for 1.
-fn agreement_of(value: i8, bit: u8) -> i32
+/// What a coded bit adds to the path metric: the value of its soft bit for 0, and the negated value for 1.
+fn bit_metric_of(value: i8, bit: u8) -> i32
     requires { IsBit bit }
-    ensures exact { result ≡ agreement value bit }
+    ensures exact { result ≡ bit_metric value bit }
     ensures low { (pos 0 -ℤ pos 128) ≤ℤ result }
     ensures high { result ≤ℤ pos 128 }
 {

@@ -1,7 +1,7 @@
 //! The Viterbi algorithm for hard bits: soft bits that are all 127 or -127.
 //!
-//! All metrics are multiples of 254, and path metrics are between -4 and 228 times 254. Divided by 254 and lowered by 120, they fit in
-//! signed octets, so one vector holds the path metrics of all sixteen states. A state has the same lane as in a survivor map.
+//! All metrics are multiples of 254, and path metrics are between -4 * 254 and 228 * 254. Divided by 254 and lowered by 120, they fit in
+//! signed octets, so one vector holds the path metrics of all sixteen states. Each state has the same lane as in a survivor map.
 
 ghost use Rattle.std.specs.Prelude.{◌≡◌, ℕ, ◌+◌, ◌*◌, ◌/◌, ◌%◌, ◌^◌, ◌<◌, ◌≤◌, ℤ, List, []};
 ghost use Rattle.std.specs.Prelude.{◌∷◌, ◌+ℤ◌, ◌-ℤ◌, IsTrue, int_lt, if◌then◌else◌};
@@ -9,20 +9,20 @@ ghost use Rattle.std.specs.Prelude.{length, slice_index, slice_index_or, replica
 ghost use Rattle.std.specs.List.{All};
 ghost use Rattle.conv_code.specs.Code.{encoding};
 ghost use Rattle.conv_code.specs.Likelihood.{IsMostLikely, likelihood};
-ghost use Rattle.trellis_decode.specs.Hard.{AreInt8, AreMinusOneToOne, HasHardBranchMetrics, HaveHeadroom8, IsHard, hard_metrics};
-ghost use Rattle.trellis_decode.specs.Hard.{lane_after_one};
-ghost use Rattle.trellis_decode.specs.Hard.{sign};
-ghost use Rattle.trellis_decode.specs.Hard.{lane_after_zero};
+ghost use Rattle.trellis_decode.specs.Hard.{AreInt8, AreMinusOneToOne, HasHardBranchMetrics, HaveHeadroom8, IsHardBit, hard_lane_metrics};
+ghost use Rattle.trellis_decode.specs.Hard.{lane_of_next_state_1};
+ghost use Rattle.trellis_decode.specs.Hard.{sign_bit_of};
+ghost use Rattle.trellis_decode.specs.Hard.{lane_of_next_state_0};
 ghost use Rattle.trellis_decode.specs.Lanes.{AreSignedOctets, lane};
 ghost use Rattle.trellis_decode.specs.Trellis.{IsSurvivor};
 ghost use Rattle.trellis_decode.specs.AcsLanes.{lane_of_state};
-ghost use Rattle.trellis_decode.specs.SurvivorPaths.{AreMetricsWithin, AreSurvivors, traceback_of_survivors};
+ghost use Rattle.trellis_decode.specs.SurvivorPaths.{AreMetricsWithin, AreSurvivors, survivor_traceback};
 
 use crate::survivors::trace_back_survivors;
-use conv_code::INFORMATION_BITS;
+use conv_code::ENCODER_INPUT_BITS;
 use std::simd::prelude::*;
 
-/// A number for each state, in the same lane as in a survivor map.
+/// One number for each state, in the lane that the state has in a survivor map.
 #[derive(Clone, Copy)]
 pub struct StateLanes {
     pub lanes: i8x16,
@@ -45,31 +45,31 @@ static HARD_BRANCH_METRICS: [[i8; 16]; 4] = [
 ];
 
 /// Whether all soft bits are 127 or -127. The loop has no early exit, so that the compiler can vectorize it.
-pub fn are_hard(soft: &[i8]) -> bool
-    ensures { IsTrue result → All IsHard soft.now }
+pub fn are_hard_bits(soft: &[i8]) -> bool
+    ensures { IsTrue result → All IsHardBit soft.now }
 {
     let mut all = true;
     for value in soft {
         let one = *value;
-        all &= is_hard(one);
+        all &= is_hard_bit(one);
     }
     all
 }
 
 #[inline]
-fn is_hard(value: i8) -> bool
-    ensures { IsTrue result → IsHard value }
+fn is_hard_bit(value: i8) -> bool
+    ensures { IsTrue result → IsHardBit value }
 {
     value == 127 || value == -127
 }
 
-/// Writes the most likely information list for hard bits and returns its path metric.
+/// Writes the most likely information list for the hard bits `soft` to `u`, and returns its path metric.
 pub fn decode_hard(soft: &[i8], u: &mut [u8]) -> i32
     requires count { length soft.now ≡ 2 * length u.old }
     requires whole { length u.old % 4 ≡ 0 }
     requires at_least { 5 ≤ length u.old }
-    requires at_most { length u.old ≤ INFORMATION_BITS }
-    requires hard { All IsHard soft.now }
+    requires at_most { length u.old ≤ ENCODER_INPUT_BITS }
+    requires hard { All IsHardBit soft.now }
     ensures best { IsMostLikely soft.now u.new }
     ensures value { result ≡ likelihood soft.now (encoding u.new) }
 {
@@ -81,10 +81,10 @@ pub fn decode_hard(soft: &[i8], u: &mut [u8]) -> i32
 }
 
 impl StateLanes {
-    /// The path metric of state 0, converted back from the lane: plus 120, times 254.
+    /// The path metric of state 0: the number in its lane plus 120, times 254.
     fn metric_of_state_0(self) -> i32
         requires { AreInt8 self.lanes }
-        ensures { result ≡ lane (hard_metrics self.lanes) 0 }
+        ensures { result ≡ lane (hard_lane_metrics self.lanes) 0 }
     {
         254 * (i32::from(self.lanes.to_array()[0]) + 120)
     }
@@ -97,9 +97,9 @@ fn fill_hard_survivors(soft: &[i8], survivors: &mut [[u8; 16]]) -> StateLanes
     requires count { length soft.now ≡ 8 * length survivors.old }
     requires at_least { 1 ≤ length survivors.old }
     requires at_most { length survivors.old ≤ 57 }
-    requires hard { All IsHard soft.now }
-    ensures best { (s : ℕ) → s < 16 → IsSurvivor s (traceback_of_survivors survivors.new (lane_of_state s)) soft.now (lane
-        (hard_metrics result.lanes) s) }
+    requires hard { All IsHardBit soft.now }
+    ensures best { (s : ℕ) → s < 16 → IsSurvivor s (survivor_traceback survivors.new (lane_of_state s)) soft.now (lane
+        (hard_lane_metrics result.lanes) s) }
     ensures lanes { AreInt8 result.lanes }
     ensures at_least { 1 ≤ length survivors.new }
 {
@@ -117,8 +117,8 @@ fn fill_hard_survivors(soft: &[i8], survivors: &mut [[u8; 16]]) -> StateLanes
 /// Returns the path metrics before the four tail bits, from the eight soft bits of the tail.
 fn hard_tail_metrics(soft: &[i8]) -> StateLanes
     requires count { length soft.now ≡ 8 }
-    requires hard { All IsHard soft.now }
-    ensures best { (s : ℕ) → s < 16 → IsSurvivor s (replicate 4 0) soft.now (lane (hard_metrics result.lanes) s) }
+    requires hard { All IsHardBit soft.now }
+    ensures best { (s : ℕ) → s < 16 → IsSurvivor s (replicate 4 0) soft.now (lane (hard_lane_metrics result.lanes) s) }
     ensures lanes { AreInt8 result.lanes }
 {
     let branch_metrics = hard_branch_metrics(soft);
@@ -126,7 +126,7 @@ fn hard_tail_metrics(soft: &[i8]) -> StateLanes
         lanes: i8x16::splat(-120),
     };
     for k in (0..4).rev() {
-        values = zero_candidates(values, branch_metrics[k]);
+        values = bit_0_candidates(values, branch_metrics[k]);
     }
     values
 }
@@ -135,11 +135,11 @@ fn hard_tail_metrics(soft: &[i8]) -> StateLanes
 #[inline]
 fn extend_hard_survivors(after: StateLanes, soft: &[i8]) -> HardSurvivors
     requires count { length soft.now ≡ 8 }
-    requires hard { All IsHard soft.now }
-    requires within { AreMetricsWithin 58368 (hard_metrics after.lanes) }
+    requires hard { All IsHardBit soft.now }
+    requires within { AreMetricsWithin 58368 (hard_lane_metrics after.lanes) }
     requires lanes { AreInt8 after.lanes }
-    ensures walk { AreSurvivors (hard_metrics after.lanes) (hard_metrics result.values.lanes) result.map soft.now }
-    ensures within { AreMetricsWithin 59392 (hard_metrics result.values.lanes) }
+    ensures walk { AreSurvivors (hard_lane_metrics after.lanes) (hard_lane_metrics result.values.lanes) result.map soft.now }
+    ensures within { AreMetricsWithin 59392 (hard_lane_metrics result.values.lanes) }
     ensures lanes { AreInt8 result.values.lanes }
     ensures count { length result.map ≡ 16 }
 {
@@ -155,35 +155,37 @@ fn extend_hard_survivors(after: StateLanes, soft: &[i8]) -> HardSurvivors
 }
 
 impl HardSurvivors {
-    /// Extends each survivor by one bit at its front; `branch_metrics` are the branch metrics of that bit.
+    /// Extends the survivors backward by one bit, whose branch metrics are `branch_metrics`.
     #[inline]
     fn step(self, branch_metrics: StateLanes) -> HardSurvivors
         requires headroom { HaveHeadroom8 self.values.lanes }
         requires count { length self.map ≡ 16 }
         requires branch_metrics { AreMinusOneToOne branch_metrics.lanes }
         ensures walk { (pair : List ℤ) → HasHardBranchMetrics branch_metrics.lanes pair → (after soft : List ℤ) →
-            AreSurvivors after (hard_metrics self.values.lanes) self.map soft →
-            AreSurvivors after (hard_metrics result.values.lanes) result.map (pair ++ soft) }
+            AreSurvivors after (hard_lane_metrics self.values.lanes) self.map soft →
+            AreSurvivors after (hard_lane_metrics result.values.lanes) result.map (pair ++ soft) }
         ensures within { (pair : List ℤ) → HasHardBranchMetrics branch_metrics.lanes pair → AreSignedOctets pair → (most : ℕ) →
-            AreMetricsWithin most (hard_metrics self.values.lanes) → AreMetricsWithin (most + 256) (hard_metrics result.values.lanes) }
+            AreMetricsWithin most (hard_lane_metrics self.values.lanes) →
+            AreMetricsWithin (most + 256) (hard_lane_metrics result.values.lanes) }
         ensures lanes { AreInt8 result.values.lanes }
         ensures count { length result.map ≡ 16 }
     {
-        let zero = zero_candidates(self.values, branch_metrics);
-        let one = one_candidates(self.values, branch_metrics);
+        let zero = bit_0_candidates(self.values, branch_metrics);
+        let one = bit_1_candidates(self.values, branch_metrics);
         HardSurvivors {
             values: larger_lanes(zero, one),
-            map: extend_map_dynamic(self.map, zero, one),
+            map: extend_map_swizzle_dyn(self.map, zero, one),
         }
     }
 }
 
 /// The candidate metrics of bit 0: for each state, the path metric of its best list that begins with bit 0.
 #[inline]
-fn zero_candidates(after: StateLanes, branch_metrics: StateLanes) -> StateLanes
+fn bit_0_candidates(after: StateLanes, branch_metrics: StateLanes) -> StateLanes
     requires headroom { HaveHeadroom8 after.lanes }
     requires branch_metrics { AreMinusOneToOne branch_metrics.lanes }
-    ensures each { (k : ℕ) → k < 16 → lane result.lanes k ≡ lane after.lanes (lane_after_zero k) +ℤ lane branch_metrics.lanes k }
+    ensures each { (k : ℕ) → k < 16 → lane result.lanes k ≡
+        lane after.lanes (lane_of_next_state_0 k) +ℤ lane branch_metrics.lanes k }
     ensures lanes { AreInt8 result.lanes }
 {
     let next = after
@@ -196,10 +198,11 @@ fn zero_candidates(after: StateLanes, branch_metrics: StateLanes) -> StateLanes
 
 /// The candidate metrics of bit 1: for each state, the path metric of its best list that begins with bit 1.
 #[inline]
-fn one_candidates(after: StateLanes, branch_metrics: StateLanes) -> StateLanes
+fn bit_1_candidates(after: StateLanes, branch_metrics: StateLanes) -> StateLanes
     requires headroom { HaveHeadroom8 after.lanes }
     requires branch_metrics { AreMinusOneToOne branch_metrics.lanes }
-    ensures each { (k : ℕ) → k < 16 → lane result.lanes k ≡ lane after.lanes (lane_after_one k) -ℤ lane branch_metrics.lanes k }
+    ensures each { (k : ℕ) → k < 16 → lane result.lanes k ≡
+        lane after.lanes (lane_of_next_state_1 k) -ℤ lane branch_metrics.lanes k }
     ensures lanes { AreInt8 result.lanes }
 {
     let next = after
@@ -210,6 +213,7 @@ fn one_candidates(after: StateLanes, branch_metrics: StateLanes) -> StateLanes
     }
 }
 
+/// The greater of the two candidate metrics of each state.
 #[inline]
 fn larger_lanes(zero: StateLanes, one: StateLanes) -> StateLanes
     requires zero { AreInt8 zero.lanes }
@@ -223,14 +227,14 @@ fn larger_lanes(zero: StateLanes, one: StateLanes) -> StateLanes
     }
 }
 
-/// Extends a survivor map by one bit at the front. In each state, this is the bit with the greater candidate metric, or bit 0 on a tie.
+/// Extends a survivor map backward by one bit: in each state, the bit with the greater candidate metric, or bit 0 on a tie.
 #[inline]
-fn extend_map_dynamic(map: u8x16, zero: StateLanes, one: StateLanes) -> u8x16
+fn extend_map_swizzle_dyn(map: u8x16, zero: StateLanes, one: StateLanes) -> u8x16
     requires map { length map ≡ 16 }
     requires zero { AreInt8 zero.lanes }
     requires one { AreInt8 one.lanes }
     ensures each { (k : ℕ) → k < 16 → slice_index result k ≡
-        slice_index map (if int_lt (lane zero.lanes k) (lane one.lanes k) then lane_after_one k else lane_after_zero k) }
+        slice_index map (if int_lt (lane zero.lanes k) (lane one.lanes k) then lane_of_next_state_1 k else lane_of_next_state_0 k) }
     ensures count { length result ≡ 16 }
 {
     let zeros = u8x16::from_array([0, 8, 1, 9, 2, 10, 3, 11, 0, 8, 1, 9, 2, 10, 3, 11]);
@@ -238,15 +242,15 @@ fn extend_map_dynamic(map: u8x16, zero: StateLanes, one: StateLanes) -> u8x16
     map.swizzle_dyn(one.lanes.simd_gt(zero.lanes).select(ones, zeros))
 }
 
-/// Gives the same result as `extend_map_dynamic`, but by two fixed swizzles: `swizzle_dyn` is one instruction on other targets, but sixteen
-/// loads in WebAssembly.
+/// Computes the result of `extend_map_swizzle_dyn` with two fixed swizzles. In WebAssembly, `swizzle_dyn` takes sixteen loads; on other
+/// targets, it is one instruction.
 #[inline]
-pub fn extend_map_fixed(map: u8x16, zero: StateLanes, one: StateLanes) -> u8x16
+pub fn extend_map_swizzle_fixed(map: u8x16, zero: StateLanes, one: StateLanes) -> u8x16
     requires map { length map ≡ 16 }
     requires zero { AreInt8 zero.lanes }
     requires one { AreInt8 one.lanes }
     ensures each { (k : ℕ) → k < 16 → slice_index result k ≡
-        slice_index map (if int_lt (lane zero.lanes k) (lane one.lanes k) then lane_after_one k else lane_after_zero k) }
+        slice_index map (if int_lt (lane zero.lanes k) (lane one.lanes k) then lane_of_next_state_1 k else lane_of_next_state_0 k) }
     ensures count { length result ≡ 16 }
 {
     let zeros = map.swizzle::<16>([0, 8, 1, 9, 2, 10, 3, 11, 0, 8, 1, 9, 2, 10, 3, 11]);
@@ -254,21 +258,21 @@ pub fn extend_map_fixed(map: u8x16, zero: StateLanes, one: StateLanes) -> u8x16
     one.lanes.simd_gt(zero.lanes).select(ones, zeros)
 }
 
-/// The branch metrics of four bits, each from a pair of hard bits.
+/// The branch metrics of four information bits, each computed from a pair of hard bits.
 #[inline]
 fn hard_branch_metrics(soft: &[i8]) -> [StateLanes; 4]
     requires count { length soft.now ≡ 8 }
-    requires hard { All IsHard soft.now }
+    requires hard { All IsHardBit soft.now }
     ensures has { (k : ℕ) (d : StateLanes) → k < 4 →
         HasHardBranchMetrics (slice_index_or result k d).lanes (take 2 (drop (2 * k) soft.now)) }
     ensures units { (k : ℕ) (d : StateLanes) → k < 4 → AreMinusOneToOne (slice_index_or result k d).lanes }
 {
     let signs = signs_of(soft);
     [
-        branch_metrics_of(signs % 4),
-        branch_metrics_of(signs / 4 % 4),
-        branch_metrics_of(signs / 16 % 4),
-        branch_metrics_of(signs / 64 % 4),
+        branch_metrics_of_signs(signs % 4),
+        branch_metrics_of_signs(signs / 4 % 4),
+        branch_metrics_of_signs(signs / 16 % 4),
+        branch_metrics_of_signs(signs / 64 % 4),
     ]
 }
 
@@ -277,16 +281,18 @@ fn hard_branch_metrics(soft: &[i8]) -> [StateLanes; 4]
 fn signs_of(soft: &[i8]) -> u64
     requires count { length soft.now ≡ 8 }
     requires octets { AreSignedOctets soft.now }
-    ensures { (k : ℕ) → k < 8 → result / 2 ^ k % 2 ≡ sign (lane soft.now k) }
+    ensures { (k : ℕ) → k < 8 → result / 2 ^ k % 2 ≡ sign_bit_of (lane soft.now k) }
 {
     i8x8::from_slice(soft).simd_lt(i8x8::splat(0)).to_bitmask()
 }
 
-/// The branch metrics of a bit, from the signs of its two soft bits: bit 0 or bit 1 of `signs` is 1 if that soft bit is negative.
+/// The branch metrics of an information bit, from the signs of its two soft bits: bit 0 of `signs` is 1 if the first soft bit is negative,
+/// and bit 1 is 1 if the second is.
 #[inline]
-fn branch_metrics_of(signs: u64) -> StateLanes
+fn branch_metrics_of_signs(signs: u64) -> StateLanes
     requires { signs < 4 }
-    ensures has { (p q : ℤ) → IsHard p → IsHard q → signs ≡ sign p + 2 * sign q → HasHardBranchMetrics result.lanes (p ∷ q ∷ []) }
+    ensures has { (p q : ℤ) → IsHardBit p → IsHardBit q → signs ≡ sign_bit_of p + 2 * sign_bit_of q →
+        HasHardBranchMetrics result.lanes (p ∷ q ∷ []) }
     ensures units { AreMinusOneToOne result.lanes }
 {
     StateLanes {

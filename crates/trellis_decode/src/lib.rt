@@ -1,6 +1,6 @@
-//! A Viterbi decoder with soft bits for the convolutional code of GSM 05.03 (today 3GPP TS 45.003), section 4.1.3, in SIMD vectors.
+//! A soft-decision Viterbi decoder for the convolutional code of GSM 05.03 (today 3GPP TS 45.003), section 4.1.3, with SIMD vectors.
 //!
-//! The trellis runs backward: a step extends the survivor of each of the sixteen states by one bit at its front. Traceback then reads the
+//! The trellis is processed backward: each step extends the survivors of the sixteen states by one earlier bit. Traceback then reads the
 //! decisions forward, and taking bit 0 on a tie gives the lexicographically first of equally likely lists.
 #![tactic(auto)]
 
@@ -21,9 +21,9 @@ ghost use Rattle.conv_code.specs.Code.{encoding};
 ghost use Rattle.conv_code.specs.Likelihood.{AllSoftBits, IsMostLikely, likelihood};
 
 use crate::backward::{extend_survivors, fill_survivors};
-use crate::hard::{are_hard, decode_hard};
+use crate::hard::{are_hard_bits, decode_hard};
 use crate::survivors::{trace_back_survivors, write_last_state_bits};
-pub use conv_code::{CODED_BITS, INFORMATION_BITS};
+pub use conv_code::{CODED_BITS, ENCODER_INPUT_BITS};
 pub use exhaustive::search;
 pub use trellis::{fill_decisions, trace_back};
 
@@ -34,14 +34,15 @@ pub use trellis::{fill_decisions, trace_back};
 pub fn decode(soft: &[i8], u: &mut [u8]) -> i32
     requires count { length soft.now ≡ 2 * length u.old }
     requires at_least { 5 ≤ length u.old }
-    requires at_most { length u.old ≤ INFORMATION_BITS }
+    requires at_most { length u.old ≤ ENCODER_INPUT_BITS }
     requires soft { AllSoftBits soft.now }
     ensures best { IsMostLikely soft.now u.new }
     ensures value { result ≡ likelihood soft.now (encoding u.new) }
     ensures only { (v : List ℕ) → IsMostLikely soft.now v → v ≡ u.new }
 {
-    // If not all soft bits are hard bits, the first eight almost always show it.
-    if u.len() % 4 == 0 && are_hard(&soft[..8]) && are_hard(soft) {
+    // Uses the faster decoder if all soft bits are hard bits. Testing the first eight on their own almost always rules out other input
+    // early.
+    if u.len() % 4 == 0 && are_hard_bits(&soft[..8]) && are_hard_bits(soft) {
         return decode_hard(soft, u);
     }
     decode_soft(soft, u)
@@ -51,7 +52,7 @@ pub fn decode(soft: &[i8], u: &mut [u8]) -> i32
 fn decode_soft(soft: &[i8], u: &mut [u8]) -> i32
     requires count { length soft.now ≡ 2 * length u.old }
     requires at_least { 5 ≤ length u.old }
-    requires at_most { length u.old ≤ INFORMATION_BITS }
+    requires at_most { length u.old ≤ ENCODER_INPUT_BITS }
     requires soft { AllSoftBits soft.now }
     ensures best { IsMostLikely soft.now u.new }
     ensures value { result ≡ likelihood soft.now (encoding u.new) }

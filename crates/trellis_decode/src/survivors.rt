@@ -7,18 +7,18 @@ ghost use Rattle.trellis_decode.specs.Trellis.{next};
 ghost use Rattle.trellis_decode.specs.AcsLanes.{AreBranchMetrics, AreInt16, AreDecisionLanes, lane_decisions, HasBranchMetrics};
 ghost use Rattle.trellis_decode.specs.AcsLanes.{HaveHeadroom16, lane_of_state};
 ghost use Rattle.trellis_decode.specs.AcsLanes.{path_metric};
-ghost use Rattle.trellis_decode.specs.SurvivorPaths.{AreMetricsWithin, AreSurvivors, traceback_of_survivors};
+ghost use Rattle.trellis_decode.specs.SurvivorPaths.{AreMetricsWithin, AreSurvivors, survivor_traceback};
 ghost use Rattle.trellis_decode.specs.Words.{word};
 
 use crate::acs_lanes::{EightDecisions, EightLanes};
-use crate::acs_step::{PathMetrics, Step};
-use crate::hard::{StateLanes, extend_map_fixed};
+use crate::acs_step::{PathMetrics, TrellisStep};
+use crate::hard::{StateLanes, extend_map_swizzle_fixed};
 use std::simd::prelude::*;
 
 /// The survivors of all states over a few bits.
 #[derive(Clone, Copy)]
 pub struct Survivors {
-    /// The path metrics before these bits.
+    /// The path metric of each state before the first of the bits.
     pub values: PathMetrics,
     /// The survivor map: the lane of each state holds the lane of the state in which its survivor ends.
     pub map: u8x16,
@@ -40,7 +40,7 @@ impl Survivors {
         }
     }
 
-    /// Extends each survivor by one bit at its front; `branch_metrics` are the branch metrics of that bit.
+    /// Extends the survivors backward by one bit, whose branch metrics are `branch_metrics`.
     pub fn step(self, branch_metrics: EightLanes) -> Survivors
         requires even { HaveHeadroom16 self.values.even.lanes }
         requires odd { HaveHeadroom16 self.values.odd.lanes }
@@ -56,18 +56,18 @@ impl Survivors {
         ensures odd { AreInt16 result.values.odd.lanes }
         ensures count { length result.map ≡ 16 }
     {
-        let step = Step::new(self.values, branch_metrics);
+        let step = TrellisStep::new(self.values, branch_metrics);
         Survivors {
             values: step.values,
-            map: extend_map(self.map, step.low, step.high),
+            map: extend_survivor_map(self.map, step.low, step.high),
         }
     }
 }
 
-/// Extends a survivor map by one bit at the front, which is the decision of each state.
+/// Extends a survivor map backward by one bit: in each state, the decision of that state.
 ///
-/// The lanes of a map are the states 0 to 7 in bit-reversed order, then the states 8 to 15 in the same order.
-fn extend_map(map: u8x16, low: EightDecisions, high: EightDecisions) -> u8x16
+/// The lanes of a map stand for states 0 to 7 in bit-reversed order, then for states 8 to 15 in bit-reversed order.
+fn extend_survivor_map(map: u8x16, low: EightDecisions, high: EightDecisions) -> u8x16
     requires map { length map ≡ 16 }
     requires low { AreDecisionLanes low.lanes }
     requires high { AreDecisionLanes high.lanes }
@@ -85,7 +85,7 @@ fn extend_map(map: u8x16, low: EightDecisions, high: EightDecisions) -> u8x16
     let none = StateLanes {
         lanes: i8x16::splat(0),
     };
-    extend_map_fixed(map, taken, none)
+    extend_map_swizzle_fixed(map, taken, none)
 }
 
 /// The four bits of the state in each lane of a survivor map, the oldest bit first.
@@ -109,7 +109,7 @@ static STATE_BITS: [[u8; 4]; 16] = [
 ];
 
 /// The four bits of the state in lane `at` of a survivor map, the oldest bit first.
-fn bits_at(at: u8) -> [u8; 4]
+fn state_bits(at: u8) -> [u8; 4]
     requires { at < 16 }
     ensures { result ≡ word 4 (lane_of_state at) }
 {
@@ -120,21 +120,21 @@ fn bits_at(at: u8) -> [u8; 4]
 pub fn trace_back_survivors(survivors: &[[u8; 16]], at: u8, u: &mut [u8])
     requires count { length u.old ≡ 4 * length survivors.now }
     requires at { at < 16 }
-    ensures { u.new ≡ traceback_of_survivors survivors.now at }
+    ensures { u.new ≡ survivor_traceback survivors.now at }
 {
     let mut at = at;
     for (group, map) in survivors.iter().enumerate() {
         at = map[usize::from(at)] % 16;
-        u[4 * group..4 * group + 4].copy_from_slice(&bits_at(at));
+        u[4 * group..4 * group + 4].copy_from_slice(&state_bits(at));
     }
 }
 
-/// Writes the last `few` bits of the state in lane `at`, which are the bits that lead from state 0 to this state.
+/// Writes the last `few` bits of the state in lane `at`: the bits that lead to it from state 0.
 pub fn write_last_state_bits(at: u8, few: usize, u: &mut [u8])
     requires count { length u.old ≡ few }
     requires few { few < 4 }
     requires at { at < 16 }
     ensures { u.new ≡ drop (4 - few) (word 4 (lane_of_state at)) }
 {
-    u.copy_from_slice(&bits_at(at)[4 - few..]);
+    u.copy_from_slice(&state_bits(at)[4 - few..]);
 }

@@ -1,10 +1,10 @@
 use super::*;
-use conv_code::{CODED_BITS, INFORMATION_BITS};
+use conv_code::{CODED_BITS, ENCODER_INPUT_BITS};
 use std::test::Fail;
 
 // Calls `decode`, or returns `None` if a precondition of its contract does not hold.
 fn decoded(soft: &[i8], u: &mut [u8]) -> Option<i32> {
-    if soft.len() != 2 * u.len() || u.len() < 5 || u.len() > INFORMATION_BITS {
+    if soft.len() != 2 * u.len() || u.len() < 5 || u.len() > ENCODER_INPUT_BITS {
         return None;
     }
     if !soft.iter().all(|value| *value != -128) {
@@ -26,9 +26,9 @@ fn searched(soft: &[i8], u: &mut [u8]) -> Option<i32> {
 #[test]
 fn decodes_erased_bits_to_zeros(rt: HostRuntime) -> Result<(), Fail> {
     let soft = [0; CODED_BITS];
-    for length in [5, 6, 7, 8, 17, 18, 39, 127, 227, INFORMATION_BITS] {
-        let mut u = [9; INFORMATION_BITS];
-        assert!(rt; length <= INFORMATION_BITS);
+    for length in [5, 6, 7, 8, 17, 18, 39, 127, 227, ENCODER_INPUT_BITS] {
+        let mut u = [9; ENCODER_INPUT_BITS];
+        assert!(rt; length <= ENCODER_INPUT_BITS);
         assert_eq!(rt; decoded(&soft[..2 * length], &mut u[..length]), Some(0));
         assert!(rt; u[..length].iter().all(|bit| *bit == 0));
     }

@@ -1,5 +1,5 @@
-//! The Viterbi algorithm for a list decoder. From the last bit to the first, it keeps every decision and its cost, where `decode` keeps
-//! only survivor maps.
+//! The Viterbi algorithm for the list decoder. It runs from the last bit to the first and stores every decision and its cost, while
+//! `decode` stores only survivor maps.
 
 ghost use Rattle.std.specs.Prelude.{◌≡◌, ◌+◌, ◌*◌, ◌<◌, ◌≤◌, drop, length};
 ghost use Rattle.std.specs.List.{All};
@@ -12,15 +12,15 @@ use crate::acs_step::PathMetrics;
 use crate::backward::tail_metrics;
 use crate::branch_metrics::four_branch_metrics;
 use crate::decision_step::DecisionStep;
-use conv_code::INFORMATION_BITS;
+use conv_code::ENCODER_INPUT_BITS;
 
-/// Writes, for each bit, the decisions of all states to `rows` (bit `s` is the decision of state `s`), and to `losses` how much path
-/// metric the other decision would lose in each state.
+/// For each information bit, writes the decisions of all states to `rows` (bit `s` of a row is the decision in state `s`), and writes to
+/// `losses` how much path metric the other bit would lose in each state.
 pub fn fill_decisions(soft: &[i8], rows: &mut [u16], losses: &mut [[i16; 16]])
     requires count { length soft.now ≡ 2 * length rows.old }
     requires same { length losses.old ≡ length rows.old }
     requires at_least { 4 ≤ length rows.old }
-    requires at_most { length rows.old ≤ INFORMATION_BITS }
+    requires at_most { length rows.old ≤ ENCODER_INPUT_BITS }
     requires blank { All (λ row. row ≡ 0) rows.old }
     ensures decisions { AreDecisions rows.new losses.new soft.now }
     ensures count { length soft.now ≡ 2 * length rows.new }
@@ -35,7 +35,7 @@ pub fn fill_decisions(soft: &[i8], rows: &mut [u16], losses: &mut [[i16; 16]])
     fill_decision_rows(values, soft, 0, few, rows, losses);
 }
 
-/// Shows the prover that every soft bit is between -128 and 127, because each one read is an `i8`. The compiler removes the loop.
+/// Lets the prover conclude that every soft bit is between -128 and 127, since each is read as an `i8`. The compiler removes the loop.
 fn prove_octet_range(soft: &[i8])
     ensures { AreSignedOctets soft.now }
 {
@@ -44,8 +44,8 @@ fn prove_octet_range(soft: &[i8])
     }
 }
 
-/// Does the work of `fill_decisions` for `places` bits from index `first` on. `after` holds the path metrics after these bits; the
-/// result, those before them.
+/// Fills `rows` and `losses` for `places` bits from index `first` on. `after` holds the path metrics after these bits, and the result
+/// those before them.
 #[inline]
 fn fill_decision_rows(
     after: PathMetrics,
@@ -59,7 +59,7 @@ fn fill_decision_rows(
     requires inside { first + 4 ≤ length rows.old }
     requires count { length soft.now ≡ 2 * length rows.old }
     requires same { length losses.old ≡ length rows.old }
-    requires at_most { length rows.old ≤ INFORMATION_BITS }
+    requires at_most { length rows.old ≤ ENCODER_INPUT_BITS }
     requires octets { AreSignedOctets soft.now }
     requires decided { HasDecisionsAndMetrics (drop (first + places) rows.old) (drop (first + places) losses.old)
         (drop (2 * (first + places)) soft.now)

@@ -6,7 +6,8 @@ use std::io::ErrorKind;
 use std::process::ExitCode;
 use um_cli::{PlainRadio, ReadSource, Words, WriteSink, run};
 
-/// The exit status if there is too little memory to read the command-line words; it is `NO_WORDS_STATUS` if reading them fails otherwise.
+/// The exit status if there is too little memory to read the command-line words; after any other failure to read them, it is
+/// `NO_WORDS_STATUS`.
 const NO_MEMORY_STATUS: u8 = 6;
 
 const NO_WORDS_STATUS: u8 = 8;

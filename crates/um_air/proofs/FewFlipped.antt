@@ -1,13 +1,14 @@
 -- A block with at most three inverted bits is accepted with the octets that were sent: at most three of its 456 soft values are wrong, and
 -- the decoder corrects that many.
-use Rattle.um_air.proofs.Words.{◌≡◌, ◌≢◌, refl, sym, ◌∙◌, ap, arith, ℕ, ◌+◌, ◌*◌, ◌/◌, ◌%◌, ◌<◌, ◌≤◌, Bool, true, false, ◌||◌, ◌==◌}
-use Rattle.um_air.proofs.Words.{if◌then◌else◌, nat_eq, ℤ, pos, negsuc, List, [], ◌∷◌, map, length, get_or, take, drop, All, Some, inl, inr}
-use Rattle.um_air.proofs.Words.{unsigned_abs, cases_eq, nat_tests, get_or-set_other, get_or_default, get_or-take, get_or-drop, length-take}
-use Rattle.um_air.proofs.Words.{length-append, get_or-map, map-set_same, count_wrong_bits, burst_of, position_in_burst}
-use Rattle.um_air.proofs.Words.{position_in_four_bursts, IsInterleaved, position_in_four_bursts-lower, position_in_four_bursts-upper}
-use Rattle.um_air.proofs.Words.{burst_of-below, halves-at, IsLightlyDamaged, IsLightlyDamaged-equal, IsSentBlock, soft_bit_of, soft_bits}
-use Rattle.um_air.proofs.Words.{coded_soft_bits, IsReceivedBlock, Received, AreBits, few_listed_positions, clean_gathered, coded_block_bits}
-use Rattle.um_air.proofs.Words.{restored_block, Block, with_bit_inverted, with_bits_inverted}
+use Rattle.um_air.proofs.Words.{◌≡◌, ◌≢◌, refl, sym, ◌∙◌, ap, arith, ℕ, ◌+◌, ◌*◌, ◌/◌, ◌%◌, ◌<◌}
+use Rattle.um_air.proofs.Words.{◌≤◌, Bool, true, false, ◌||◌, ◌==◌, if◌then◌else◌, nat_eq, ℤ, pos, negsuc, List, []}
+use Rattle.um_air.proofs.Words.{◌∷◌, map, length, get_or, take, drop, All, Some, inl, inr, unsigned_abs, cases_eq, nat_tests}
+use Rattle.um_air.proofs.Words.{get_or-set_other, get_or_default, get_or-take, get_or-drop, length-take, length-append, get_or-map}
+use Rattle.um_air.proofs.Words.{map-set_same, count_wrong_bits, burst_of_bit, burst_position, four_burst_position, IsInterleaved}
+use Rattle.um_air.proofs.Words.{four_burst_position-lower, four_burst_position-upper, burst_of_bit-below, halves-at, IsCorrectable}
+use Rattle.um_air.proofs.Words.{IsCorrectable-equal, IsSentBlock, soft_bit_of, soft_bits, coded_soft_bits, IsReceivedBlock, Received}
+use Rattle.um_air.proofs.Words.{AreBits, few_listed_positions, clean_gathered, coded_block_bits, restored_block, Block, with_bit_inverted}
+use Rattle.um_air.proofs.Words.{with_bits_inverted}
 use Rattle.um_block.proofs.Lemmas.{listed}
 use Rattle.um_block.specs.burst_map.NormalBurst as N
 
@@ -53,30 +54,30 @@ part_at block b low i q l within at =
     get_or-take 57 (drop low (soft_bits burst)) i (pos 127) l ∙ get_or-drop low (soft_bits burst) i (pos 127)
     ∙ get_or-map soft_bit_of burst (low + i) 0 ∙ rw (of, place) refl
 
-module _ (block : Block) (soft : List ℤ) (gathered : IsInterleaved soft (map coded_soft_bits (map soft_bits block))) where
-  soft_at : (k : ℕ) → k < 456 → get_or soft k (pos 127) ≡ soft_bit_of (bit_at block (position_in_four_bursts k))
+module _ (block : Block) (soft : List ℤ) (deinterleaved : IsInterleaved soft (map coded_soft_bits (map soft_bits block))) where
+  soft_at : (k : ℕ) → k < 456 → get_or soft k (pos 127) ≡ soft_bit_of (bit_at block (four_burst_position k))
   soft_at k h =
-      let b : ℕ = burst_of k in
+      let b : ℕ = burst_of_bit k in
       let s : List ℤ = soft_bits (get_or block b []) in
       let here : get_or (map coded_soft_bits (map soft_bits block)) b [] ≡ coded_soft_bits s =
       get_or-map coded_soft_bits (map soft_bits block) b [] ∙ ap coded_soft_bits (get_or-map soft_bits block b []) in
       let long : length (coded_soft_bits s) ≡ 114 = ap length (sym here)
-      ∙ gathered.each_count b [] (omega (arith, burst_of-below k, gathered.burst_count)) in
-      let first : length (N.first_half s) ≡ 57 = omega (arith, long, length-append {A = ℤ}, length-take {A = ℤ}) in
-      sym (gathered.places k (pos 127) h) ∙ ap (λ xs. get_or xs (position_in_burst k) (pos 127)) here
-      ∙ halves-at (N.first_half s) (N.second_half s) k (pos 127) (soft_bit_of (bit_at block (position_in_four_bursts k))) first
-      (λ i l e. part_at block b 3 i (position_in_four_bursts k) l (omega arith) (omega (
+      ∙ deinterleaved.burst_lengths b [] (omega (arith, burst_of_bit-below k, deinterleaved.burst_count)) in
+      let first : length (N.first_coded_half s) ≡ 57 = omega (arith, long, length-append {A = ℤ}, length-take {A = ℤ}) in
+      sym (deinterleaved.places k (pos 127) h) ∙ ap (λ xs. get_or xs (burst_position k) (pos 127)) here
+      ∙ halves-at (N.first_coded_half s) (N.second_coded_half s) k (pos 127) (soft_bit_of (bit_at block (four_burst_position k))) first
+      (λ i l e. part_at block b 3 i (four_burst_position k) l (omega arith) (omega (
         arith,
         e,
         l,
-        position_in_four_bursts-lower k
+        four_burst_position-lower k
             (omega (arith, e, l)),
       )))
-      (λ i l e. part_at block b 88 i (position_in_four_bursts k) l (omega arith) (omega (
+      (λ i l e. part_at block b 88 i (four_burst_position k) l (omega arith) (omega (
         arith,
         e,
         l,
-        position_in_four_bursts-upper k
+        four_burst_position-upper k
             (omega (arith, e, l)),
       )))
 
@@ -84,30 +85,30 @@ module _ (block : Block) (soft : List ℤ) (gathered : IsInterleaved soft (map c
 
 module _ (octets : List ℕ) (tsc : ℕ) (block : Block) (places : List ℕ) (r : Received) (s : IsSentBlock octets tsc block)
     (few : length places ≤ 3) (h : IsReceivedBlock (map soft_bits (with_bits_inverted places block)) r) where
-  same_value : (k : ℕ) → k < 456 → listed (position_in_four_bursts k) places ≡ false →
+  same_value : (k : ℕ) → k < 456 → listed (four_burst_position k) places ≡ false →
       get_or h.soft k (pos 0) ≡ soft_bit_of (get_or s.coded_bits k 0)
   same_value k l no_turn =
-      get_or_default h.soft k (pos 0) (pos 127) (omega (arith, l, h.gathered.coded_count))
-      ∙ soft_at (with_bits_inverted places block) h.soft h.gathered k l
-      ∙ ap soft_bit_of (flipped-other places block (position_in_four_bursts k) no_turn)
+      get_or_default h.soft k (pos 0) (pos 127) (omega (arith, l, h.deinterleaved.coded_count))
+      ∙ soft_at (with_bits_inverted places block) h.soft h.deinterleaved k l
+      ∙ ap soft_bit_of (flipped-other places block (four_burst_position k) no_turn)
       ∙ sym (soft_at block (soft_bits s.coded_bits) (clean_gathered octets tsc block s) k l)
       ∙ get_or-map soft_bit_of s.coded_bits k 0
 
   few_wrong : count_wrong_bits h.soft s.coded_bits ≤ 3
   few_wrong =
       let bits : AreBits 456 s.coded_bits = coded_block_bits octets s.coded_bits s.code in
-      omega (arith, few, few_listed_positions h.soft s.coded_bits places h.gathered.coded_count bits.many bits.each same_value)
+      omega (arith, few, few_listed_positions h.soft s.coded_bits places h.deinterleaved.coded_count bits.many bits.each same_value)
 
   strong : All (λ value. unsigned_abs value ≡ 127) h.soft
   strong k d l =
       ap unsigned_abs (get_or_default h.soft k d (pos 127) l
-      ∙ soft_at (with_bits_inverted places block) h.soft h.gathered k (omega (arith, l, h.gathered.coded_count)))
-      ∙ soft_bit_of-strength (bit_at (with_bits_inverted places block) (position_in_four_bursts k))
+      ∙ soft_at (with_bits_inverted places block) h.soft h.deinterleaved k (omega (arith, l, h.deinterleaved.coded_count)))
+      ∙ soft_bit_of-strength (bit_at (with_bits_inverted places block) (four_burst_position k))
 
-  pub lightly_damaged : IsLightlyDamaged h.soft s.coded_bits
+  pub lightly_damaged : IsCorrectable h.soft s.coded_bits
   lightly_damaged =
-      IsLightlyDamaged-equal h.soft s.coded_bits 127 (omega (arith, h.gathered.coded_count)) (omega arith) strong few_wrong
+      IsCorrectable-equal h.soft s.coded_bits 127 (omega (arith, h.deinterleaved.coded_count)) (omega arith) strong few_wrong
 
   pub accepted_as_sent : r.accepted ≡ Some octets
   accepted_as_sent =
-      restored_block (map soft_bits (with_bits_inverted places block)) octets s.coded_bits h.soft r s.code h.gathered lightly_damaged h
+      restored_block (map soft_bits (with_bits_inverted places block)) octets s.coded_bits h.soft r s.code h.deinterleaved lightly_damaged h

@@ -18,12 +18,30 @@ pub use Rattle.lapdm_link.specs.lapdm_frame.declared.Channel.{Channel}
 pub use Rattle.lapdm_link.specs.lapdm_frame.Content.{Frame, information, Content, more_follows}
 pub use Rattle.lapdm_link.specs.lapdm_window.Ends.{Role}
 pub use Rattle.lapdm_link.specs.Queues.{with_appended, Queues, queue_of, IsOldestSentOrNone, empty_queues, count, with_queue}
-pub use Rattle.lapdm_link.specs.Events.{Deliver, sender_of, SideStep, side_step, without_removed, Ends, EventRefusal, BySide, refusal_if}
-pub use Rattle.lapdm_link.specs.Events.{bounded_queues}
+pub use Rattle.lapdm_link.specs.Events.{
+  Deliver,
+  role_of_who,
+  SideStep,
+  event_step,
+  queues_after_removal,
+  Ends,
+  EventRefusal,
+  BySide,
+  refusal_if,
+}
+pub use Rattle.lapdm_link.specs.Events.{bounded_capacity}
 pub use Rattle.lapdm_link.specs.Events.{refusal_with_bounded_queues, Who, Nothing}
-pub use Rattle.lapdm_link.specs.lapdm_frame.Frames.{Fits, IsFrame, octets_of, address, control, length_octet, NumbersFit}
-pub use Rattle.lapdm_link.specs.Worlds.{World, answer_unless_refused, after_unless_refused}
-pub use Rattle.lapdm_link.specs.Claims.{Line, notice_lines, answer_lines, Claims, OrderClaims, AckedAtMostDelivered, event_lines}
+pub use Rattle.lapdm_link.specs.lapdm_frame.Frames.{FrameFits, IsFrameCoding, octets_of, address, control, length_octet, NsAndNrFit}
+pub use Rattle.lapdm_link.specs.Worlds.{World, answer_unless_refused, world_unless_refused}
+pub use Rattle.lapdm_link.specs.Claims.{
+  Line,
+  notice_log_lines,
+  answer_log_lines,
+  Claims,
+  IsOrderedLog,
+  AckedAtMostDelivered,
+  event_log_lines,
+}
 pub use Rattle.lapdm_link.specs.lapdm_frame.Layout.{n201, layer1_octets}
 pub use Rattle.lapdm_link.specs.lapdm_window.declared.Sapi.{Sapi}
 pub use Rattle.lapdm_link.specs.lapdm_window.declared.Notice.{Notice}
@@ -36,22 +54,30 @@ pub use Rattle.um_block.specs.Received.{soft_bits, soft_bit_of, coded_soft_bits,
 pub use Rattle.um_block.proofs.Lemmas.{one_received_block, one_sent_block, AreBits, few_listed_positions, clean_gathered, coded_block_bits}
 pub use Rattle.um_block.proofs.Lemmas.{restored_block, accepted_octets, some_sent_block, sent_block_bits, some_received_block}
 pub use Rattle.um_block.proofs.Lemmas.{accepted_count}
-pub use Rattle.um_air.specs.Air.{Octets, Block, Event, with_read_frame, AirState, ReadsFrame, ReceivesBlock, ArrivesWith, AreCodedFrames}
+pub use Rattle.um_air.specs.Air.{Octets, Block, Event, event_with_frame, AirState, ReadsFrame, ReceivesBlock, EventDelivers, AreCodedFrames}
 pub use Rattle.um_air.specs.Air.{Step, Answer, Refuses}
 pub use Rattle.um_air.specs.Air.{Does}
-pub use Rattle.um_air.specs.Air.{Happens, AirStep, AirRun, with_bits_inverted, with_bit_inverted, refusal, start_on}
+pub use Rattle.um_air.specs.Air.{CarriesOutEvent, IsAirStep, IsAirRun, with_bits_inverted, with_bit_inverted, refusal, initial_session}
 pub use Rattle.um_block.specs.bit_blocks.SoftValues.{count_wrong_bits}
-pub use Rattle.um_block.specs.interleave.Places.{burst_of, position_in_burst, position_in_four_bursts}
+pub use Rattle.um_block.specs.interleave.Places.{burst_of_bit, burst_position, four_burst_position}
 pub use Rattle.um_block.specs.interleave.Bursts.{IsInterleaved}
-pub use Rattle.um_block.proofs.interleave.Lemmas.{position_in_four_bursts-lower, position_in_four_bursts-upper, burst_of-below, halves-at}
-pub use Rattle.um_block.specs.weight_bound.Restoring.{IsLightlyDamaged}
-pub use Rattle.um_block.proofs.weight_bound.Lemmas.{IsLightlyDamaged-equal}
+pub use Rattle.um_block.proofs.interleave.Lemmas.{four_burst_position-lower, four_burst_position-upper, burst_of_bit-below, halves-at}
+pub use Rattle.um_block.specs.weight_bound.Restoring.{IsCorrectable}
+pub use Rattle.um_block.proofs.weight_bound.Lemmas.{IsCorrectable-equal}
 pub use Rattle.um_block.specs.Sent.{IsSentBlock}
 pub use Rattle.lapdm_link.proofs.lapdm_frame.Canonical.{octets_canonical}
 pub use Rattle.lapdm_link.proofs.Lemmas.{KnowsBy, SaysOctets, AllFit, IsFitting, fits-step, AllReported, in_order-step, start-reported}
-pub use Rattle.lapdm_link.proofs.Lemmas.{order_claims, start-fits, claims, counts, LineOctets, AllSay, EndOctets, WorldOctets}
-pub use Rattle.lapdm_link.proofs.Lemmas.{octets-step, start-octets, side_step-fits, side_step-holds}
-pub use Rattle.um_air.specs.Sessions.{frame_session_answer, queues_after, IsHarmlessStep, AreOctets, IsBenignEvent, lines, IsHarmlessAfter}
-pub use Rattle.um_air.specs.Sessions.{IsHarmless, IsBenign}
-pub use Rattle.um_air.specs.Sessions.{IsOctetEvent}
+pub use Rattle.lapdm_link.proofs.Lemmas.{order_claims, start-fits, claims, counts_acks, LineOctets, AllSay, EndOctets, WorldOctets}
+pub use Rattle.lapdm_link.proofs.Lemmas.{octets-step, start-octets, event_step-fits, event_step-holds}
+pub use Rattle.um_air.specs.Sessions.{
+  answer_without_blocks,
+  queues_after_event,
+  IsBenignStep,
+  AreOctets,
+  EventInvertsFewBits,
+  lines,
+  IsBenignFrom,
+}
+pub use Rattle.um_air.specs.Sessions.{IsBenign, InvertFewBits}
+pub use Rattle.um_air.specs.Sessions.{EventMessageIsOctets}
 pub use Rattle.lapdm_link.proofs.lapdm_frame.Controls.{bit_bound}

@@ -11,52 +11,54 @@ use Rattle.um_block.specs.interleave.Bursts.{IsInterleaved}
 use Rattle.um_block.specs.burst_map.AccessBurst as access
 use Rattle.um_block.specs.burst_map.SyncBurst as sync
 use Rattle.list_decode.specs.Ranking.{IsCandidate, IsRanked}
-use Rattle.um_block.specs.Received.{coded_soft_bits, access_soft_bits, sync_soft_bits, IsReceivedSequence, wrong_training_bits}
-use Rattle.um_among.specs.declared.reports.BlockAmong.{BlockAmong}
-use Rattle.um_among.specs.declared.reports.AccessAmong.{AccessAmong}
-use Rattle.um_among.specs.declared.reports.SyncAmong.{SyncAmong}
+use Rattle.um_block.specs.Received.{coded_soft_bits, access_soft_bits, sync_soft_bits, IsReceivedTsc, wrong_training_bits}
+use Rattle.um_among.specs.declared.reports.ListDecodedBlock.{ListDecodedBlock}
+use Rattle.um_among.specs.declared.reports.ListDecodedAccess.{ListDecodedAccess}
+use Rattle.um_among.specs.declared.reports.ListDecodedSync.{ListDecodedSync}
 use Rattle.um_among.specs.Parities.{BlockCrcHolds, AccessCrcHolds, SyncCrcHolds}
 
--- u is the first word in the ranking whose CRC holds, and has the rank `rank`, counted from 1 and at most `most`
+-- `u` is the first word in the ranking whose CRC holds; its `rank`, counted from 1, is at most `most`
 pub record IsFirstCrcMatch (CrcHolds : List ℕ → Type 0) (soft : List ℤ) (most rank : ℕ) (u : List ℕ) : Type 0 where
-  pub before : List (List ℕ)
-  pub ranked : IsRanked soft (before ++ u ∷ [])
-  pub place : rank ≡ length before + 1
+  pub earlier_words : List (List ℕ)
+  pub ranked : IsRanked soft (earlier_words ++ u ∷ [])
+  pub place : rank ≡ length earlier_words + 1
   pub tried : rank ≤ most
-  pub fail : All (λ v. ¬ CrcHolds v) before
+  pub crcs_fail : All (λ v. ¬ CrcHolds v) earlier_words
   pub holds : CrcHolds u
 
--- of the first `most` words in the ranking (or of all words, if there are fewer), none has a CRC that holds
+-- the CRC fails for each of the first `most` words in the ranking, or for all words if there are fewer
 pub record NoCrcHolds (CrcHolds : List ℕ → Type 0) (soft : List ℤ) (most : ℕ) : Type 0 where
   pub tried : List (List ℕ)
   pub ranked : IsRanked soft tried
   pub whole : (length tried ≡ most) ⊎ ((v : List ℕ) → IsCandidate soft v → Contains tried v)
-  pub fail : All (λ v. ¬ CrcHolds v) tried
+  pub crcs_fail : All (λ v. ¬ CrcHolds v) tried
 
--- of the first `most` words, the first whose CRC holds is taken and accepted; if no CRC holds, the most likely word is taken
-abbrev pub IsTakenFromRanking : {X : Type 0} → (List ℕ → Type 0) → (List ℕ → X) → List ℤ → ℕ → ℕ → List ℕ → Option X → Type 0
+-- of the words tried, the first whose CRC holds is taken and accepted; if the CRC of none holds, the most likely word is taken but not
+-- accepted
+abbrev pub IsTakenFromRanking : {X : Type 0} → (List ℕ → Type 0) → (List ℕ → X) → List ℤ → ℕ → ℕ → List ℕ →
+    Option X → Type 0
 IsTakenFromRanking CrcHolds data_of soft most rank u accepted =
     MatchOption accepted
     (NoCrcHolds CrcHolds soft most × IsMostLikely soft u × (rank ≡ 1))
     (λ x. IsFirstCrcMatch CrcHolds soft most rank u × (x ≡ data_of u))
 
--- r is the report of a block if the first `most` words are tried
-pub record IsBlockListReport (bursts : List (List ℤ)) (most : ℕ) (r : BlockAmong) : Type 0 where
+-- `r` is the report of a block for which the `most` most likely words are tried
+pub record IsListDecodedBlock (bursts : List (List ℤ)) (most : ℕ) (r : ListDecodedBlock) : Type 0 where
   pub soft : List ℤ
-  pub gathered : IsInterleaved soft (map coded_soft_bits bursts)
+  pub deinterleaved : IsInterleaved soft (map coded_soft_bits bursts)
   pub taken : IsTakenFromRanking BlockCrcHolds (λ u. octets_of (take 184 u)) soft most r.rank r.report.u r.report.accepted
   pub metric : r.report.metric ≡ likelihood soft (encoding r.report.u)
-  pub tsc : IsReceivedSequence bursts r.report.tsc
+  pub tsc : IsReceivedTsc bursts r.report.tsc
   pub wrong_training : r.report.wrong_training ≡ wrong_training_bits bursts r.report.tsc
 
--- r is the report of an access burst for a BSIC if the first `most` words are tried
-pub record IsAccessListReport (burst : List ℤ) (bsic : List ℕ) (most : ℕ) (r : AccessAmong) : Type 0 where
+-- `r` is the report of an access burst for which the `most` most likely words are tried, checked with the BSIC `bsic`
+pub record IsListDecodedAccess (burst : List ℤ) (bsic : List ℕ) (most : ℕ) (r : ListDecodedAccess) : Type 0 where
   pub taken : IsTakenFromRanking (AccessCrcHolds bsic) (take 8) (access_soft_bits burst) most r.rank r.report.u r.report.accepted
   pub metric : r.report.metric ≡ likelihood (access_soft_bits burst) (encoding r.report.u)
   pub wrong_training : r.report.wrong_training ≡ count_wrong_bits (access.training burst) access.access_sequence
 
--- r is the report of a synchronisation burst if the first `most` words are tried
-pub record IsSyncListReport (burst : List ℤ) (most : ℕ) (r : SyncAmong) : Type 0 where
+-- `r` is the report of a synchronisation burst for which the `most` most likely words are tried
+pub record IsListDecodedSync (burst : List ℤ) (most : ℕ) (r : ListDecodedSync) : Type 0 where
   pub taken : IsTakenFromRanking SyncCrcHolds (take 25) (sync_soft_bits burst) most r.rank r.report.u r.report.accepted
   pub metric : r.report.metric ≡ likelihood (sync_soft_bits burst) (encoding r.report.u)
   pub wrong_training : r.report.wrong_training ≡ count_wrong_bits (sync.training burst) sync.sync_sequence

@@ -1,38 +1,39 @@
-//! Receives blocks: takes the first of the most likely words whose CRC holds.
+//! Receives blocks with a list decoder: takes the first of the most likely words whose CRC holds.
 ghost use Rattle.std.specs.Prelude.{◌≡◌, ◌≢◌, ◌≤◌, ◌↔◌, ℕ, ℤ, All, IsNone, IsSome, List, map};
 ghost use Rattle.um_block.specs.bit_blocks.SoftValues.{AllSoftBits};
-ghost use Rattle.um_block.specs.conv_code.Code.{IsInformation};
+ghost use Rattle.um_block.specs.conv_code.Code.{IsEncoderInput};
 ghost use Rattle.um_block.specs.conv_code.Likelihood.{RanksAfter};
 ghost use Rattle.um_block.specs.interleave.Bursts.{IsInterleaved};
 ghost use Rattle.list_decode.specs.Ranking.{IsCandidate};
 ghost use Rattle.um_block.specs.Received.{IsReceivedBlock, coded_soft_bits};
-ghost use Rattle.um_among.specs.Among.{IsBlockListReport, NoCrcHolds};
+ghost use Rattle.um_among.specs.Among.{IsListDecodedBlock, NoCrcHolds};
 ghost use Rattle.um_among.specs.Parities.{BlockCrcHolds};
 
-use crate::crc::Crc;
-use crate::reports::BlockAmong;
+use crate::crc::ChannelCrc;
+use crate::reports::ListDecodedBlock;
 use crate::search::first_crc_match;
 use list_decode::MAX_LISTS;
 use um_block::{
-    BURST_BITS, Bits, CODED_BITS, INFORMATION_BITS, Received, block_data, deinterleave_block,
-    receive_deinterleaved,
+    BURST_BITS, Bits, CODED_BITS, ENCODER_INPUT_BITS, Received, deinterleave_block,
+    octets_if_crc_holds, receive_deinterleaved,
 };
 
 /// Receives the four bursts of a block: takes the first of the `most` most likely words whose CRC holds; `most` is 1 to 64.
 ///
 /// The CRC of a word that was not sent holds by chance with probability 2^-40 for each word tried: with 64 words, about once in
 /// 1.7 * 10^10 lost blocks.
-pub fn receive_block_among(bursts: &[[i8; BURST_BITS]; 4], most: u32) -> BlockAmong
+pub fn receive_block_among(bursts: &[[i8; BURST_BITS]; 4], most: u32) -> ListDecodedBlock
     requires soft { All AllSoftBits bursts.now }
     requires at_least { 1 ≤ most }
     requires at_most { most ≤ MAX_LISTS }
-    ensures received { IsBlockListReport bursts.now most result }
-    ensures only { (other : BlockAmong) → IsBlockListReport bursts.now most other → other ≡ result }
-    ensures best { IsSome result.report.accepted → (soft : List ℤ) (v : List ℕ) → IsInterleaved soft (map coded_soft_bits bursts.now) →
-        IsCandidate soft v → BlockCrcHolds v → v ≢ result.report.u → RanksAfter soft v result.report.u }
+    ensures received { IsListDecodedBlock bursts.now most result }
+    ensures only { (other : ListDecodedBlock) → IsListDecodedBlock bursts.now most other → other ≡ result }
+    ensures best { IsSome result.report.accepted → (soft : List ℤ) (v : List ℕ) →
+        IsInterleaved soft (map coded_soft_bits bursts.now) → IsCandidate soft v → BlockCrcHolds v → v ≢ result.report.u →
+        RanksAfter soft v result.report.u }
     ensures none { (soft : List ℤ) → IsInterleaved soft (map coded_soft_bits bursts.now) →
         (IsNone result.report.accepted ↔ NoCrcHolds BlockCrcHolds soft most) }
-    ensures information { IsInformation result.report.u }
+    ensures information { IsEncoderInput result.report.u }
     ensures first { (r : Received) → IsReceivedBlock bursts.now r → IsSome r.accepted → result ≡ record { report = r; rank = 1 } }
     ensures alone { result.rank ≡ 1 → IsReceivedBlock bursts.now result.report }
     ensures one { most ≡ 1 → result.rank ≡ 1 }
@@ -41,33 +42,33 @@ pub fn receive_block_among(bursts: &[[i8; BURST_BITS]; 4], most: u32) -> BlockAm
 }
 
 /// Receives a block as `receive_block_among` does, with its coded soft bits already deinterleaved into `soft`. The contract states only
-/// the definition, from which the other clauses of `receive_block_among` follow.
+/// that the report meets its definition, from which the other guarantees of `receive_block_among` follow.
 pub fn receive_deinterleaved_among(
     bursts: &[[i8; BURST_BITS]; 4],
     soft: &[i8; CODED_BITS],
     most: u32,
-) -> BlockAmong
+) -> ListDecodedBlock
     requires soft { AllSoftBits soft.now }
-    requires gathered { IsInterleaved soft.now (map coded_soft_bits bursts.now) }
+    requires deinterleaved { IsInterleaved soft.now (map coded_soft_bits bursts.now) }
     requires at_least { 1 ≤ most }
     requires at_most { most ≤ MAX_LISTS }
-    ensures { IsBlockListReport bursts.now most result }
+    ensures { IsListDecodedBlock bursts.now most result }
 {
     let report = receive_deinterleaved(bursts, soft);
     if report.accepted.is_some() {
-        return BlockAmong { report, rank: 1 };
+        return ListDecodedBlock { report, rank: 1 };
     }
-    let mut u = [0; INFORMATION_BITS];
-    let Some(found) = first_crc_match(&Crc::Block, soft, most, &mut u) else {
-        return BlockAmong { report, rank: 1 };
+    let mut u = [0; ENCODER_INPUT_BITS];
+    let Some(found) = first_crc_match(&ChannelCrc::Block, soft, most, &mut u) else {
+        return ListDecodedBlock { report, rank: 1 };
     };
-    BlockAmong {
+    ListDecodedBlock {
         report: Received {
             u: Bits::from_array(u),
             metric: found.metric,
             tsc: report.tsc,
             wrong_training: report.wrong_training,
-            accepted: block_data(&u),
+            accepted: octets_if_crc_holds(&u),
         },
         rank: found.rank,
     }

@@ -1,30 +1,30 @@
 //! The CRC of each channel, with which the list decoder checks a word.
 ghost use Rattle.std.specs.Prelude.{◌≡◌, ◌↔◌, ◌≤◌, IsTrue, length, take};
 ghost use Rattle.um_block.specs.bit_blocks.Bits.{AllBits};
-ghost use Rattle.um_among.specs.Parities.{CrcHolds, places};
+ghost use Rattle.um_among.specs.Parities.{CrcHolds, word_length};
 
 use um_block::{Bits, rach_holds, sch_holds, xcch_holds};
 
-/// The channel, which determines the CRC that is checked.
+/// The channel of a word, which determines the CRC to check.
 #[derive(Clone, Copy)]
-pub(crate) enum Crc {
+pub(crate) enum ChannelCrc {
     Block,
-    /// With the BSIC of the base station.
+    /// An access burst, with the BSIC of the base station.
     Access(Bits<6>),
     Sync,
 }
 
-impl Crc {
-    /// Whether the CRC of an information word holds.
+impl ChannelCrc {
+    /// Whether the CRC of the information list `u` holds.
     pub(crate) fn holds(&self, u: &[u8]) -> bool
-        requires places { length u.now ≡ places self.now }
+        requires word_length { length u.now ≡ word_length self.now }
         requires bits { AllBits u.now }
         ensures { IsTrue result ↔ CrcHolds self.now u.now }
     {
         match self {
-            Crc::Block => xcch_holds(&Bits::from_array(first_bits::<224>(u))),
-            Crc::Access(bsic) => rach_holds(&Bits::from_array(first_bits::<14>(u)), bsic),
-            Crc::Sync => sch_holds(&Bits::from_array(first_bits::<35>(u))),
+            ChannelCrc::Block => xcch_holds(&Bits::from_array(first_bits::<224>(u))),
+            ChannelCrc::Access(bsic) => rach_holds(&Bits::from_array(first_bits::<14>(u)), bsic),
+            ChannelCrc::Sync => sch_holds(&Bits::from_array(first_bits::<35>(u))),
         }
     }
 }

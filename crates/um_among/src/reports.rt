@@ -4,30 +4,30 @@ use um_block::{Received, ReceivedAccess, ReceivedSync};
 
 /// The report of a block, and the rank of the word (information list) that was taken.
 #[derive(Clone, Copy, PartialEq, Eq, Debug)]
-pub struct BlockAmong {
-    /// The report of `receive_block` for the word that was taken: the first whose CRC holds, or the most likely word if no CRC of the
-    /// words tried holds.
+pub struct ListDecodedBlock {
+    /// The report for the word that was taken, as `receive_block` gives it: the first word whose CRC holds, or the most likely word if the
+    /// CRC of every word tried fails.
     pub report: Received,
-    /// The rank of that word, 1 for the most likely one.
+    /// The rank of the word that was taken, 1 for the most likely word.
     pub rank: u32,
 }
 
 /// The report of an access burst, and the rank of the word (information list) that was taken.
 #[derive(Clone, Copy, PartialEq, Eq, Debug)]
-pub struct AccessAmong {
-    /// The report of `receive_access` for the word that was taken: the first whose CRC holds, or the most likely word if no CRC of the
-    /// words tried holds.
+pub struct ListDecodedAccess {
+    /// The report for the word that was taken, as `receive_access` gives it: the first word whose CRC holds, or the most likely word if the
+    /// CRC of every word tried fails.
     pub report: ReceivedAccess,
-    /// The rank of that word, 1 for the most likely one.
+    /// The rank of the word that was taken, 1 for the most likely word.
     pub rank: u32,
 }
 
 /// The report of a synchronisation burst, and the rank of the word (information list) that was taken.
 #[derive(Clone, Copy, PartialEq, Eq, Debug)]
-pub struct SyncAmong {
-    /// The report of `receive_sync` for the word that was taken: the first whose CRC holds, or the most likely word if no CRC of the
-    /// words tried holds.
+pub struct ListDecodedSync {
+    /// The report for the word that was taken, as `receive_sync` gives it: the first word whose CRC holds, or the most likely word if the
+    /// CRC of every word tried fails.
     pub report: ReceivedSync,
-    /// The rank of that word, 1 for the most likely one.
+    /// The rank of the word that was taken, 1 for the most likely word.
     pub rank: u32,
 }

@@ -1,12 +1,12 @@
 //! The search for the first word whose CRC holds.
 ghost use Rattle.std.specs.Prelude.{◌≡◌, ◌*◌, ◌≤◌, MatchOption, length};
 ghost use Rattle.um_block.specs.bit_blocks.SoftValues.{AllSoftBits};
-ghost use Rattle.um_block.specs.conv_code.Code.{encoding, IsInformation};
+ghost use Rattle.um_block.specs.conv_code.Code.{encoding, IsEncoderInput};
 ghost use Rattle.um_block.specs.conv_code.Likelihood.{likelihood};
-ghost use Rattle.um_among.specs.Parities.{CrcHolds, places};
+ghost use Rattle.um_among.specs.Parities.{CrcHolds, word_length};
 ghost use Rattle.um_among.specs.Among.{IsFirstCrcMatch, NoCrcHolds};
 
-use crate::crc::Crc;
+use crate::crc::ChannelCrc;
 use list_decode::{MAX_LISTS, Ranked};
 
 /// The rank of the word that was found, and its path metric.
@@ -16,16 +16,21 @@ pub(crate) struct CrcMatch {
     pub(crate) metric: i32,
 }
 
-/// Writes to `u` the first of the `most` most likely words whose CRC holds. Returns `None` if no CRC holds.
-pub(crate) fn first_crc_match(crc: &Crc, soft: &[i8], most: u32, u: &mut [u8]) -> Option<CrcMatch>
-    requires places { length u.old ≡ places crc.now }
+/// Writes to `u` the first of the `most` most likely words whose CRC holds. Returns `None` if the CRC of none of them holds.
+pub(crate) fn first_crc_match(
+    crc: &ChannelCrc,
+    soft: &[i8],
+    most: u32,
+    u: &mut [u8],
+) -> Option<CrcMatch>
+    requires word_length { length u.old ≡ word_length crc.now }
     requires pairs { length soft.now ≡ 2 * length u.old }
     requires soft { AllSoftBits soft.now }
     requires at_most { most ≤ MAX_LISTS }
     ensures { MatchOption result
         (NoCrcHolds (CrcHolds crc.now) soft.now most)
         (λ found. IsFirstCrcMatch (CrcHolds crc.now) soft.now most found.rank u.new
-        × (found.metric ≡ likelihood soft.now (encoding u.new)) × IsInformation u.new) }
+        × (found.metric ≡ likelihood soft.now (encoding u.new)) × IsEncoderInput u.new) }
 {
     let mut ranked = Ranked::new(soft);
     for tried in 0..most {

@@ -2,8 +2,8 @@ ghost use Rattle.std.specs.Prelude.{◌↔◌, IsTrue, All};
 ghost use Rattle.um_block.specs.bit_blocks.SoftValues.{AllSoftBits};
 
 use crate::{
-    AccessAmong, BlockAmong, SyncAmong, receive_access_among, receive_block_among,
-    receive_sync_among,
+    ListDecodedAccess, ListDecodedBlock, ListDecodedSync, receive_access_among,
+    receive_block_among, receive_sync_among,
 };
 use std::process::Abort;
 use um_block::{BLOCK_OCTETS, BURST_BITS, Bits, send_block, soften};
@@ -14,7 +14,7 @@ fn are_soft(values: &[i8]) -> bool
     values.iter().all(|value| *value != -128)
 }
 
-fn block(rt: &impl Abort, bursts: &[[i8; BURST_BITS]; 4], most: u32) -> BlockAmong {
+fn block(rt: &impl Abort, bursts: &[[i8; BURST_BITS]; 4], most: u32) -> ListDecodedBlock {
     let all_soft = bursts.iter().all(|burst| are_soft(burst));
     assert!(rt; all_soft);
     assert!(rt; most >= 1);
@@ -22,7 +22,7 @@ fn block(rt: &impl Abort, bursts: &[[i8; BURST_BITS]; 4], most: u32) -> BlockAmo
     receive_block_among(bursts, most)
 }
 
-fn access(rt: &impl Abort, burst: &[i8; 88], bsic: [u8; 6], most: u32) -> AccessAmong {
+fn access(rt: &impl Abort, burst: &[i8; 88], bsic: [u8; 6], most: u32) -> ListDecodedAccess {
     assert!(rt; are_soft(burst));
     let are_bits = bsic.iter().all(|bit| *bit <= 1);
     assert!(rt; are_bits);
@@ -31,7 +31,7 @@ fn access(rt: &impl Abort, burst: &[i8; 88], bsic: [u8; 6], most: u32) -> Access
     receive_access_among(burst, &Bits::from_array(bsic), most)
 }
 
-fn sync(rt: &impl Abort, burst: &[i8; BURST_BITS], most: u32) -> SyncAmong {
+fn sync(rt: &impl Abort, burst: &[i8; BURST_BITS], most: u32) -> ListDecodedSync {
     assert!(rt; are_soft(burst));
     assert!(rt; most >= 1);
     assert!(rt; most <= 64);

@@ -10,20 +10,19 @@ accepted_of : (u : List ℕ) (accepted : Option (List ℕ)) →
     IfSome accepted (λ octets. length octets ≡ 23)
 accepted_of u None h = tt
 accepted_of u (Some octets) h =
-    let many = h.0.count in
     let word = length-take 224 u in
-    let info : length (take 184 u) ≡ 184 = length-take-le 184 u (omega arith) in
-    ap length h.1 ∙ length-octets_of 23 (take 184 u) info
+    ap length h.1 ∙ length-octets_of 23 (take 184 u) (length-take-le 184 u (omega arith))
 
-pub accepted_count : (bursts : List (List ℤ)) (r : Received) → IsReceivedBlock bursts r → IfSome r.accepted (λ octets. length octets ≡ 23)
-accepted_count bursts r h = accepted_of r.u r.accepted h.accepted
+pub accepted_count : (bursts : List (List ℤ)) (r : Received) → IsReceivedBlock bursts r →
+    IfSome r.accepted (λ octets. length octets ≡ 23)
+accepted_count bursts r h = accepted_of r.u _ h.accepted
 
 octets_accepted : (u : List ℕ) (accepted : Option (List ℕ)) → AllBits u →
     MatchOption accepted (¬ IsXcchWord (take 224 u)) (λ octets. IsXcchWord (take 224 u) × (octets ≡ octets_of (take 184 u))) →
     IfSome accepted AllOctets
 octets_accepted u None bits h = tt
 octets_accepted u (Some octets) bits h =
-    subst AllOctets (sym h.1) (AllOctets-octets_of (take 184 u) (All-take IsBit 184 u bits))
+    subst AllOctets (sym h.1) (AllOctets-octets_of _ (All-take IsBit 184 u bits))
 
 pub accepted_octets : (bursts : List (List ℤ)) (r : Received) → IsReceivedBlock bursts r → IfSome r.accepted AllOctets
-accepted_octets bursts r h = octets_accepted r.u r.accepted h.best.information.bits h.accepted
+accepted_octets bursts r h = octets_accepted r.u _ h.best.information.bits h.accepted

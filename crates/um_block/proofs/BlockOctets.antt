@@ -1,6 +1,6 @@
 -- The octets of a block with their Fire code bits, padded with zeros, and their packed coded bits.
-use Rattle.std.proofs.Common.{◌≡◌, ℕ, ◌*◌, ◌≤◌, List, ◌++◌, length, length-append, take, drop, replicate, ap, ap₂, sym, subst, ◌∙◌}
-use Rattle.std.proofs.{Common.{append_assoc, arith}, lemmas.{Grind.flat_map-append, List.{take_at, drop_at}}}
+use Rattle.std.proofs.Common.{◌≡◌, ℕ, ◌*◌, ◌≤◌, List, ◌++◌, length, length-append, drop, replicate, ap, ap₂, sym}
+use Rattle.std.proofs.{Common.{◌∙◌, append_assoc, arith}, lemmas.{Grind.flat_map-append, List.{take_at, drop_at}}}
 use borrow.Rule.Slice.PartMut.{put_mid}
 use Rattle.bit_blocks.specs.{Octets.{octet_bits, bits_of}, Packed.AreCodedBitsPacked}
 use Rattle.fire_code.specs.Words.{IsXcchWord}
@@ -11,10 +11,9 @@ use Rattle.um_block.specs.Sent.{with_tail}
 pub behind_octets : (octets crc front part : List ℕ) → length octets ≡ 23 → front ≡ octets → part ≡ crc →
     put_mid 23 5 (front ++ replicate 9 0) part ≡ octets ++ crc ++ replicate 4 0
 behind_octets octets crc front part long one two =
-    let many : length front ≡ 23 = ap length one ∙ long in
-    let before : take 23 (front ++ replicate 9 0) ≡ front = take_at front (replicate 9 0) 23 many in
-    let after : drop 5 (drop 23 (front ++ replicate 9 0)) ≡ replicate 4 0 = ap (drop 5) (drop_at front (replicate 9 0) 23 many) in
-    ap₂ (λ xs ys. xs ++ (part ++ ys)) before after
+    let many = ap length one ∙ long in
+    let after = ap (drop 5) (drop_at front (replicate 9 0) 23 many) in
+    ap₂ (λ xs ys. xs ++ (part ++ ys)) (take_at _ _ 23 many) after
     ∙ ap₂ (λ xs ys. xs ++ (ys ++ replicate 4 0)) one two
     ∙ sym (append_assoc octets crc (replicate 4 0))
 
@@ -23,15 +22,14 @@ module _ (octets crc word : List ℕ) (is : word ≡ octets ++ crc ++ replicate 
   bits_of_word : bits_of word ≡ with_tail (bits_of octets ++ bits_of crc) ++ replicate 28 0
   bits_of_word =
       ap bits_of is
-      ∙ flat_map-append octet_bits (octets ++ crc) (replicate 4 0)
-      ∙ ap (λ bits. bits ++ replicate 32 0) (flat_map-append octet_bits octets crc)
+      ∙ flat_map-append octet_bits (octets ++ crc) _
+      ∙ ap (λ bits. bits ++ replicate 32 0) (flat_map-append octet_bits _ crc)
       ∙ sym (append_assoc (bits_of octets ++ bits_of crc) (replicate 4 0) (replicate 28 0))
 
   pub AreCodedBitsPacked-block : (packed : List ℕ) → IsXcchWord (bits_of octets ++ bits_of crc) →
       AreCodedBitsPacked 64 (encoding (bits_of word)) packed →
       AreCodedBitsPacked 57 (encoding (with_tail (bits_of octets ++ bits_of crc))) packed
   AreCodedBitsPacked-block packed holds are =
-      let u = with_tail (bits_of octets ++ bits_of crc) in
-      let long : 4 * 57 ≤ length u = omega (arith, holds.count, length-append (bits_of octets ++ bits_of crc) (replicate 4 0)) in
-      AreCodedBitsPacked-front 64 57 u (replicate 28 0) packed (omega arith) long (subst (λ w. AreCodedBitsPacked 64
-      (encoding w) packed) bits_of_word are)
+      let u = with_tail _ in
+      let long : 4 * 57 ≤ length u = omega (arith, length-append (bits_of octets ++ bits_of crc) (replicate 4 0)) in
+      AreCodedBitsPacked-front 64 57 u (replicate 28 0) packed (omega arith) long (rw (← bits_of_word) are)

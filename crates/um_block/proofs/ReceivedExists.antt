@@ -1,8 +1,8 @@
 -- Every burst and every block has a report: a most likely list exists, and its CRC either holds or does not.
-use Rattle.std.proofs.Common.{◌≡◌, ◌⊎◌, inl, inr, ℕ, ◌+◌, ◌-◌, ◌≤◌, ℤ, pos, Option, Some, None, List, ◌++◌, map, take, drop, length, get_or}
-use Rattle.std.proofs.{Common.{subst, ap, ap₂, sym, ◌∙◌, refl, arith, lit≤}, lemmas.List.{length-take, length-drop, length-append}}
-use Rattle.std.{proofs.lemmas.List.{length-map, take-append-drop, Elements.{All-map, All-take}}, specs.Prelude.{MatchOption, slice_range}}
-use Rattle.std.specs.List.{All}
+use Rattle.std.proofs.Common.{◌≡◌, ◌⊎◌, inl, inr, ℕ, ◌+◌, ◌-◌, ◌≤◌, ℤ, pos, Option, Some, None, List}
+use Rattle.std.proofs.Common.{◌++◌, map, take, drop, length, get_or, subst, ap, ap₂, sym, ◌∙◌, refl, arith, lit≤}
+use Rattle.std.proofs.lemmas.List.{length-take, length-drop, length-append, length-map, take-append-drop, Elements.{All-map, All-take}}
+use Rattle.std.specs.{Prelude.{MatchOption, slice_range}, List.All}
 use Rattle.bit_blocks.specs.{Bits.{IsBit, AllBits}, Octets.octets_of, SoftValues.{likelihood, count_wrong_bits}}
 use Rattle.fire_code.{specs.Words.{IsXcchWord, IsRachWord, IsSchWord}, proofs.Lemmas.{some_xcch_crc, some_rach_crc, some_sch_crc}}
 use Rattle.fire_code.proofs.Lemmas.{one_xcch_crc, one_rach_crc, one_sch_crc}
@@ -10,7 +10,7 @@ use Rattle.conv_code.{specs.Code.encoding, proofs.Lemmas.same_list}
 use Rattle.trellis_decode.proofs.Lemmas.{some_most_likely}
 use Rattle.training_seq.{specs.Choice.total_correlation, proofs.Lemmas.some_first_greatest}
 use Rattle.interleave.{specs.Bursts.IsInterleaved, proofs.Lemmas.some_gathered}
-use Rattle.um_block.specs.Received.{coded_soft_bits, access_soft_bits, sync_soft_bits, training_bits_of_burst, wrong_training_bits}
+use Rattle.um_block.specs.Received.{coded_soft_bits, access_soft_bits, sync_soft_bits, midamble_of_burst, wrong_training_bits}
 use Rattle.um_block.specs.{Received.{IsReceivedBlock, IsReceivedAccess, IsReceivedSync}, declared.received.Received.Received}
 use Rattle.um_block.specs.declared.received.{ReceivedAccess.ReceivedAccess, ReceivedSync.ReceivedSync}
 use Rattle.burst_map.specs.AccessBurst as A
@@ -22,7 +22,7 @@ use Rattle.burst_map.specs.SyncBurst as S
 decided : (P : List ℕ → Type 0) (n : ℕ) (w p : List ℕ) → P (take n w ++ p) →
     ((q : List ℕ) → P (take n w ++ p) → P (take n w ++ q) → p ≡ q) → P w ⊎ (¬ P w)
 decided P n w p holds only =
-    let whole : take n w ++ drop n w ≡ w = take-append-drop n w in
+    let whole = take-append-drop n w in
     elim (same_list p (drop n w)) [
       | inl same ↦ inl (subst P (ap (λ x. take n w ++ x) same ∙ whole) holds)
       | inr other ↦ inr (λ h. other (only (drop n w) holds (subst P (sym whole) h)))
@@ -46,7 +46,8 @@ xcch_decided w count bits =
     let p = some_xcch_crc d long (AllBits-front 184 w bits) in
     decided IsXcchWord 184 w p.0 p.1 (λ q h g. one_xcch_crc d p.0 q long h g)
 
-rach_decided : (w b : List ℕ) → length w ≡ 14 → AllBits w → length b ≡ 6 → AllBits b → IsRachWord w b ⊎ (¬ IsRachWord w b)
+rach_decided : (w b : List ℕ) → length w ≡ 14 → AllBits w → length b ≡ 6 → AllBits b →
+    IsRachWord w b ⊎ (¬ IsRachWord w b)
 rach_decided w b count bits code code_bits =
     let d = take 8 w in
     let long = length-front 8 w (omega arith) in
@@ -74,22 +75,21 @@ length-coded_soft_bits burst long =
 some_block_gathered : (bursts : List (List ℤ)) → length bursts ≡ 4 → All (λ burst. length burst ≡ 148) bursts →
     (soft : List ℤ) × IsInterleaved soft (map coded_soft_bits bursts)
 some_block_gathered bursts four each =
-    let parts = map coded_soft_bits bursts in
-    some_gathered (pos 0) parts (length-map bursts coded_soft_bits ∙ four)
+    some_gathered (pos 0) _ (length-map bursts coded_soft_bits ∙ four)
     (All-map (λ part. length part ≡ 114) coded_soft_bits bursts (λ i d h. length-coded_soft_bits (get_or bursts i d) (each i d h)))
 
 pub some_received_block : (bursts : List (List ℤ)) → length bursts ≡ 4 → All (λ burst. length burst ≡ 148) bursts →
     (r : Received) × IsReceivedBlock bursts r
 some_received_block bursts four each =
-    let gathered = some_block_gathered bursts four each in
-    let soft = gathered.0 in
-    let best = some_most_likely soft 228 gathered.1.coded_count (lit≤ tt) in
+    let deinterleaved = some_block_gathered bursts four each in
+    let soft = deinterleaved.0 in
+    let best = some_most_likely soft 228 deinterleaved.1.coded_count (lit≤ tt) in
     let u = best.0 in
     let tsc = some_first_greatest
-    (total_correlation (training_bits_of_burst bursts 0) (training_bits_of_burst bursts 1) (training_bits_of_burst bursts 2)
-    (training_bits_of_burst bursts 3)) in
+    (total_correlation (midamble_of_burst bursts 0) (midamble_of_burst bursts 1) (midamble_of_burst bursts 2)
+    (midamble_of_burst bursts 3)) in
     let answer = answered (IsXcchWord (take 224 u)) (octets_of (take 184 u))
-    (xcch_decided (take 224 u) (length-front 224 u (omega (arith, best.2))) (AllBits-front 224 u best.1.information.bits)) in (
+    (xcch_decided (take 224 u) (length-front 224 u (omega arith)) (AllBits-front 224 u best.1.information.bits)) in (
       record {
         u = u;
         metric = likelihood soft (encoding u);
@@ -99,7 +99,7 @@ some_received_block bursts four each =
       },
       record {
         soft = soft;
-        gathered = gathered.1;
+        deinterleaved = deinterleaved.1;
         best = best.1;
         metric = refl;
         tsc = tsc.1;
@@ -114,11 +114,10 @@ pub some_received_access : (burst : List ℤ) (bsic : List ℕ) → length burst
     (r : ReceivedAccess) × IsReceivedAccess burst bsic r
 some_received_access burst bsic count code code_bits =
     let soft = access_soft_bits burst in
-    let best = some_most_likely soft 18 (length-range burst 49 85 (lit≤ tt) (omega arith)) (lit≤ tt) in
+    let best = some_most_likely _ 18 (length-range burst 49 85 (lit≤ tt) (omega arith)) (lit≤ tt) in
     let u = best.0 in
-    let answer = answered (IsRachWord (take 14 u) bsic) (take 8 u)
-    (rach_decided (take 14 u) bsic (length-front 14 u (omega (arith, best.2)))
-    (AllBits-front 14 u best.1.information.bits) code code_bits) in (
+    let answer = answered _ _
+    (rach_decided _ _ (length-front 14 u (omega arith)) (AllBits-front 14 u best.1.information.bits) code code_bits) in (
       record {
         u = u;
         metric = likelihood soft (encoding u);
@@ -133,12 +132,12 @@ some_received_sync burst count =
     let soft = sync_soft_bits burst in
     let first = length-range burst 3 42 (lit≤ tt) (omega arith) in
     let second = length-range burst 106 145 (lit≤ tt) (omega arith) in
-    let long : length soft ≡ 78 =
-    length-append (S.first_half burst) (S.second_half burst) ∙ ap₂ (λ m n. m + n) first second in
+    let long =
+    length-append (S.first_coded_half burst) (S.second_coded_half burst) ∙ ap₂ (λ m n. m + n) first second in
     let best = some_most_likely soft 39 long (lit≤ tt) in
     let u = best.0 in
     let answer = answered (IsSchWord (take 35 u)) (take 25 u)
-    (sch_decided (take 35 u) (length-front 35 u (omega (arith, best.2))) (AllBits-front 35 u best.1.information.bits)) in (
+    (sch_decided (take 35 u) (length-front 35 u (omega arith)) (AllBits-front 35 u best.1.information.bits)) in (
       record {
         u = u;
         metric = likelihood soft (encoding u);

@@ -1,14 +1,10 @@
 -- A list of four elements consists of its elements 0 to 3.
 use Rattle.std.proofs.Common.{◌≡◌, List, [], ◌∷◌, length, get_or, refl, arith}
 
-pub four : {A : Type 0} (xs : List A) (d : A) → length xs ≡ 4 →
-    xs ≡ get_or xs 0 d ∷ get_or xs 1 d ∷ get_or xs 2 d ∷ get_or xs 3 d ∷ []
-four [] d e = absurd (omega arith)
-four (a ∷ []) d e = absurd (omega arith)
-four (a ∷ b ∷ []) d e = absurd (omega arith)
-four (a ∷ b ∷ c ∷ []) d e = absurd (omega arith)
+pub four : {A : Type 0} (xs : List A) (d : A) → length xs ≡ 4 → xs ≡ get_or xs 0 d ∷ get_or xs 1 d ∷ get_or xs 2 d
+    ∷ get_or xs 3 d ∷ []
 four (a ∷ b ∷ c ∷ x ∷ []) d e = refl
-four (a ∷ b ∷ c ∷ x ∷ y ∷ xs) d e = absurd (omega arith)
+four xs d e = absurd (omega arith)
 
 pub same_four : {A : Type 0} (a a' b b' x x' y y' : A) → a ≡ a' → b ≡ b' → x ≡ x' → y ≡ y' →
     (a ∷ b ∷ x ∷ y ∷ []) ≡ (a' ∷ b' ∷ x' ∷ y' ∷ [])

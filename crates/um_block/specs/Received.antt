@@ -9,7 +9,7 @@ use Rattle.fire_code.specs.Words.{IsXcchWord, IsRachWord, IsSchWord}
 use Rattle.conv_code.specs.Code.{encoding}
 use Rattle.conv_code.specs.Likelihood.{IsMostLikely}
 use Rattle.interleave.specs.Bursts.{IsInterleaved}
-use Rattle.training_seq.specs.Choice.{IsBestSequence, total_wrong_bits}
+use Rattle.training_seq.specs.Choice.{CorrelatesBest, wrong_midamble_bits}
 use Rattle.burst_map.specs.NormalBurst as normal
 use Rattle.burst_map.specs.AccessBurst as access
 use Rattle.burst_map.specs.SyncBurst as sync
@@ -25,13 +25,13 @@ soft_bit_of bit = if bit == 0 then pos 127 else negsuc 126
 abbrev pub soft_bits : List ℕ → List ℤ
 soft_bits bits = map soft_bit_of bits
 
--- the bursts put end to end in one list; the bits of four bursts of 148 bits have the positions 0 to 591
-abbrev pub concatenated : {X : Type 0} → List (List X) → List X
-concatenated bursts = flat_map (λ burst. burst) bursts
+-- the bursts joined into one list; with four bursts of 148 bits, the positions are 0 to 591
+abbrev pub joined_bursts : {X : Type 0} → List (List X) → List X
+joined_bursts bursts = flat_map (λ burst. burst) bursts
 
 -- the 114 coded soft bits of a normal burst
 abbrev pub coded_soft_bits : List ℤ → List ℤ
-coded_soft_bits burst = normal.first_half burst ++ normal.second_half burst
+coded_soft_bits burst = normal.first_coded_half burst ++ normal.second_coded_half burst
 
 -- the 36 coded soft bits of an access burst
 abbrev pub access_soft_bits : List ℤ → List ℤ
@@ -39,37 +39,39 @@ access_soft_bits burst = access.body burst
 
 -- the 78 coded soft bits of a synchronisation burst
 abbrev pub sync_soft_bits : List ℤ → List ℤ
-sync_soft_bits burst = sync.first_half burst ++ sync.second_half burst
+sync_soft_bits burst = sync.first_coded_half burst ++ sync.second_coded_half burst
 
--- the 26 soft bits of the midamble of burst b
-abbrev pub training_bits_of_burst : List (List ℤ) → ℕ → List ℤ
-training_bits_of_burst bursts b = normal.training (slice_index_or bursts b [])
+-- the 26 soft bits of the midamble of the burst with a given number
+abbrev pub midamble_of_burst : List (List ℤ) → ℕ → List ℤ
+midamble_of_burst bursts b = normal.training (slice_index_or bursts b [])
 
--- tsc is the training sequence code with the greatest total correlation with the midambles of four bursts
-abbrev pub IsReceivedSequence : List (List ℤ) → ℕ → Type 0
-IsReceivedSequence bursts tsc =
-    IsBestSequence (training_bits_of_burst bursts 0) (training_bits_of_burst bursts 1) (training_bits_of_burst bursts 2)
-    (training_bits_of_burst bursts 3) tsc
+-- the training sequence code has the greatest total correlation with the midambles of four bursts
+abbrev pub IsReceivedTsc : List (List ℤ) → ℕ → Type 0
+IsReceivedTsc bursts tsc =
+    CorrelatesBest (midamble_of_burst bursts 0) (midamble_of_burst bursts 1) (midamble_of_burst bursts 2)
+    (midamble_of_burst bursts 3) tsc
 
--- how many of the 104 soft bits in the midambles of four bursts are wrong for training sequence tsc
+-- the number of soft bits, of the 104 in the midambles of four bursts, that disagree with the training sequence of a given code
 abbrev pub wrong_training_bits : List (List ℤ) → ℕ → ℕ
 wrong_training_bits bursts tsc =
-    total_wrong_bits (training_bits_of_burst bursts 0) (training_bits_of_burst bursts 1) (training_bits_of_burst bursts 2)
-    (training_bits_of_burst bursts 3) tsc
+    wrong_midamble_bits (midamble_of_burst bursts 0) (midamble_of_burst bursts 1) (midamble_of_burst bursts 2)
+    (midamble_of_burst bursts 3) tsc
 
--- r is the report of four normal bursts of 148 soft bits each; `accepted` has the 23 octets if and only if the Fire code bits match
+-- `r` is the report of a block received in four normal bursts of 148 soft bits each. Its `accepted` holds the 23 octets if the Fire code
+-- bits match, and is `None` otherwise
 pub record IsReceivedBlock (bursts : List (List ℤ)) (r : Received) : Type 0 where
   pub soft : List ℤ
-  pub gathered : IsInterleaved soft (map coded_soft_bits bursts)
+  pub deinterleaved : IsInterleaved soft (map coded_soft_bits bursts)
   pub best : IsMostLikely soft r.u
   pub metric : r.metric ≡ likelihood soft (encoding r.u)
-  pub tsc : IsReceivedSequence bursts r.tsc
+  pub tsc : IsReceivedTsc bursts r.tsc
   pub wrong_training : r.wrong_training ≡ wrong_training_bits bursts r.tsc
   pub accepted : MatchOption r.accepted
       (¬ IsXcchWord (take 224 r.u))
       (λ octets. IsXcchWord (take 224 r.u) × (octets ≡ octets_of (take 184 r.u)))
 
--- r is the report of an access burst of 88 soft bits for a BSIC; `accepted` has the eight information bits if and only if the CRC holds
+-- `r` is the report of an access burst of 88 soft bits, checked with the BSIC `bsic`. Its `accepted` holds the eight information bits if
+-- the CRC holds, and is `None` otherwise
 pub record IsReceivedAccess (burst : List ℤ) (bsic : List ℕ) (r : ReceivedAccess) : Type 0 where
   pub best : IsMostLikely (access_soft_bits burst) r.u
   pub metric : r.metric ≡ likelihood (access_soft_bits burst) (encoding r.u)
@@ -78,7 +80,8 @@ pub record IsReceivedAccess (burst : List ℤ) (bsic : List ℕ) (r : ReceivedAc
       (¬ IsRachWord (take 14 r.u) bsic)
       (λ info. IsRachWord (take 14 r.u) bsic × (info ≡ take 8 r.u))
 
--- r is the report of a synchronisation burst of 148 soft bits; `accepted` has the 25 information bits if and only if the CRC holds
+-- `r` is the report of a synchronisation burst of 148 soft bits. Its `accepted` holds the 25 information bits if the CRC holds, and is
+-- `None` otherwise
 pub record IsReceivedSync (burst : List ℤ) (r : ReceivedSync) : Type 0 where
   pub best : IsMostLikely (sync_soft_bits burst) r.u
   pub metric : r.metric ≡ likelihood (sync_soft_bits burst) (encoding r.u)

@@ -1,11 +1,11 @@
--- The counters of a radio (this project's own rule).
+-- The counters of blocks that a radio has sent and received (this project's own rule).
 use Rattle.std.specs.Prelude.{ℕ, zero, suc, ◌+◌, ◌-◌, ◌^◌, min}
 
--- a counter plus one, saturating at the greatest u64
-abbrev pub next_counter : ℕ → ℕ
-next_counter n = min (n + 1) (2 ^ 64 - 1)
+-- a counter plus one; a counter stays at its greatest value, 2^64 - 1
+abbrev pub counter_plus_one : ℕ → ℕ
+counter_plus_one n = min (n + 1) (2 ^ 64 - 1)
 
--- a counter after it has been raised k times
-abbrev pub counter_after : ℕ → ℕ → ℕ
-counter_after zero n = n
-counter_after (suc k) n = next_counter (counter_after k n)
+-- a counter after a given number of increments
+abbrev pub counter_plus : ℕ → ℕ → ℕ
+counter_plus zero n = n
+counter_plus (suc k) n = counter_plus_one (counter_plus k n)

@@ -1,21 +1,21 @@
-//! Bit errors before decoding: the number of coded soft bits that are wrong for the coded bits of an information list. A soft bit of 0
+//! Counts bit errors before decoding: the received soft bits that disagree with the coded bits of an information list. A soft bit of 0
 //! counts as wrong.
 ghost use Rattle.std.specs.Prelude.{◌≡◌, ◌≤◌, ℤ, List, map, All};
 ghost use Rattle.bit_blocks.specs.SoftValues.{AllSoftBits, count_wrong_bits};
-ghost use Rattle.conv_code.specs.Code.{encoding, IsInformation};
+ghost use Rattle.conv_code.specs.Code.{encoding, IsEncoderInput};
 ghost use Rattle.interleave.specs.Bursts.{IsInterleaved};
 ghost use Rattle.um_block.specs.Received.{coded_soft_bits, access_soft_bits, sync_soft_bits};
 
-use crate::receiving::{deinterleave_block, join_halves};
-use bit_blocks::{CODED_BITS, INFORMATION_BITS, count_wrong_bits};
+use crate::receiving::{deinterleave_block, join_sync_halves};
+use bit_blocks::{CODED_BITS, ENCODER_INPUT_BITS, count_wrong_bits};
 use burst_map::{AccessView, BURST_BITS, SyncView};
 use conv_code::encode;
 
-/// The number of wrong coded bits in a block, 0 to 456, for the information list `u`: 184 information bits, 40 Fire code bits, four tail
-/// bits.
-pub fn wrong_block_bits(bursts: &[[i8; BURST_BITS]; 4], u: &[u8; INFORMATION_BITS]) -> u32
+/// The number of coded soft bits of a block, 0 to 456, that disagree with the coded bits of the information list `u` (184 information bits,
+/// 40 Fire code bits, four tail bits).
+pub fn wrong_block_bits(bursts: &[[i8; BURST_BITS]; 4], u: &[u8; ENCODER_INPUT_BITS]) -> u32
     requires soft { All AllSoftBits bursts.now }
-    requires information { IsInformation u.now }
+    requires information { IsEncoderInput u.now }
     ensures value { (soft : List ℤ) → IsInterleaved soft (map coded_soft_bits bursts.now) →
         result ≡ count_wrong_bits soft (encoding u.now) }
     ensures some { (soft : List ℤ) × IsInterleaved soft (map coded_soft_bits bursts.now) }
@@ -24,9 +24,10 @@ pub fn wrong_block_bits(bursts: &[[i8; BURST_BITS]; 4], u: &[u8; INFORMATION_BIT
     wrong_coded_bits(&deinterleave_block(bursts), u)
 }
 
-/// The number of wrong coded bits in a block whose coded soft bits are already deinterleaved into `soft`.
-pub fn wrong_coded_bits(soft: &[i8; CODED_BITS], u: &[u8; INFORMATION_BITS]) -> u32
-    requires { IsInformation u.now }
+/// The number of coded soft bits of a block, 0 to 456, that disagree with the coded bits of the information list `u`; `soft` holds the
+/// coded soft bits, already deinterleaved.
+pub fn wrong_coded_bits(soft: &[i8; CODED_BITS], u: &[u8; ENCODER_INPUT_BITS]) -> u32
+    requires { IsEncoderInput u.now }
     ensures value { result ≡ count_wrong_bits soft.now (encoding u.now) }
     ensures within { result ≤ CODED_BITS }
 {
@@ -35,10 +36,10 @@ pub fn wrong_coded_bits(soft: &[i8; CODED_BITS], u: &[u8; INFORMATION_BITS]) -> 
     count_wrong_bits(soft, &coded)
 }
 
-/// The number of wrong coded bits in an access burst, 0 to 36, for the information list `u`: eight information bits, six check bits, four
-/// tail bits.
+/// The number of coded soft bits of an access burst, 0 to 36, that disagree with the coded bits of the information list `u` (eight
+/// information bits, six check bits, four tail bits).
 pub fn wrong_access_bits(burst: &[i8; 88], u: &[u8; 18]) -> u32
-    requires { IsInformation u.now }
+    requires { IsEncoderInput u.now }
     ensures value { result ≡ count_wrong_bits (access_soft_bits burst.now) (encoding u.now) }
     ensures within { result ≤ 36 }
 {
@@ -47,15 +48,15 @@ pub fn wrong_access_bits(burst: &[i8; 88], u: &[u8; 18]) -> u32
     count_wrong_bits(AccessView::new(burst).body(), &coded)
 }
 
-/// The number of wrong coded bits in a synchronisation burst, 0 to 78, for the information list `u`: 25 information bits, ten check
-/// bits, four tail bits.
+/// The number of coded soft bits of a synchronisation burst, 0 to 78, that disagree with the coded bits of the information list `u` (25
+/// information bits, ten check bits, four tail bits).
 pub fn wrong_sync_bits(burst: &[i8; BURST_BITS], u: &[u8; 39]) -> u32
-    requires { IsInformation u.now }
+    requires { IsEncoderInput u.now }
     ensures value { result ≡ count_wrong_bits (sync_soft_bits burst.now) (encoding u.now) }
     ensures within { result ≤ 78 }
 {
     let view = SyncView::new(burst);
     let mut coded = [0; 78];
     encode(u, &mut coded);
-    count_wrong_bits(&join_halves(view.first(), view.second()), &coded)
+    count_wrong_bits(&join_sync_halves(view.first(), view.second()), &coded)
 }

@@ -13,17 +13,17 @@ mod softening;
 mod tests;
 
 pub use bit_blocks::{
-    BLOCK_BITS, BLOCK_OCTETS, Bits, CODED_BITS, INFORMATION_BITS, from_octets, to_octets,
+    BLOCK_BITS, BLOCK_OCTETS, Bits, CODED_BITS, ENCODER_INPUT_BITS, from_octets, to_octets,
 };
 pub use burst_map::{AccessView, BURST_BITS, SyncView};
 pub use counting::{wrong_access_bits, wrong_block_bits, wrong_coded_bits, wrong_sync_bits};
 pub use fire_code::{rach_holds, sch_holds, xcch_holds};
-pub use laws::{law_coded_bit_positions, law_wrong_bits_are_bounded};
+pub use laws::{law_coded_bits_are_in_position, law_wrong_bits_are_bounded};
 pub use radio::{PlainRadio, Radio};
 pub use received::{Received, ReceivedAccess, ReceivedSync};
 pub use receiving::{
-    access_data, block_data, deinterleave_block, join_halves, receive_access, receive_block,
-    receive_deinterleaved, receive_sync, sync_data,
+    access_bits_if_crc_holds, deinterleave_block, join_sync_halves, octets_if_crc_holds,
+    receive_access, receive_block, receive_deinterleaved, receive_sync, sync_bits_if_crc_holds,
 };
 pub use sending::{send_access, send_block, send_sync};
 pub use softening::{soften, soften_block};

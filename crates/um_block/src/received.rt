@@ -1,17 +1,17 @@
 //! Reports of received bursts.
 
-use bit_blocks::{BLOCK_OCTETS, Bits, INFORMATION_BITS};
+use bit_blocks::{BLOCK_OCTETS, Bits, ENCODER_INPUT_BITS};
 
-/// The report of the four bursts of a block.
+/// The report of a block received in four bursts.
 #[derive(Clone, Copy, PartialEq, Eq, Debug)]
 pub struct Received {
     /// The most likely information list: 184 information bits, 40 Fire code bits, four zeros.
-    pub u: Bits<INFORMATION_BITS>,
-    /// The path metric of this information list.
+    pub u: Bits<ENCODER_INPUT_BITS>,
+    /// The path metric of the information list `u`.
     pub metric: i32,
     /// The training sequence code with the greatest total correlation, 0 to 7.
     pub tsc: u8,
-    /// The number of wrong training bits for that sequence, 0 to 104.
+    /// The number of soft bits, 0 to 104, that disagree with the training sequence of code `tsc`.
     pub wrong_training: u32,
     /// The 23 octets of the information bits, if the Fire code bits match.
     pub accepted: Option<[u8; BLOCK_OCTETS]>,
@@ -22,9 +22,9 @@ pub struct Received {
 pub struct ReceivedAccess {
     /// The most likely information list: eight information bits, six check bits, four zeros.
     pub u: Bits<18>,
-    /// The path metric of this information list.
+    /// The path metric of the information list `u`.
     pub metric: i32,
-    /// The number of wrong training bits, 0 to 41.
+    /// The number of soft bits, 0 to 41, that disagree with the training sequence.
     pub wrong_training: u32,
     /// The eight information bits, if the CRC holds for the BSIC.
     pub accepted: Option<Bits<8>>,
@@ -35,9 +35,9 @@ pub struct ReceivedAccess {
 pub struct ReceivedSync {
     /// The most likely information list: 25 information bits, ten check bits, four zeros.
     pub u: Bits<39>,
-    /// The path metric of this information list.
+    /// The path metric of the information list `u`.
     pub metric: i32,
-    /// The number of wrong training bits, 0 to 64.
+    /// The number of soft bits, 0 to 64, that disagree with the training sequence.
     pub wrong_training: u32,
     /// The 25 information bits, if the CRC holds.
     pub accepted: Option<Bits<25>>,

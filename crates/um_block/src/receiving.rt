@@ -6,18 +6,18 @@ ghost use Rattle.bit_blocks.specs.Octets.{octets_of};
 ghost use Rattle.bit_blocks.specs.SoftValues.{AllSoftBits};
 ghost use Rattle.fire_code.specs.Words.{IsXcchWord, IsRachWord, IsSchWord};
 ghost use Rattle.interleave.specs.Bursts.{IsInterleaved};
-ghost use Rattle.weight_bound.specs.Restoring.{IsLightlyDamaged};
+ghost use Rattle.weight_bound.specs.Restoring.{IsCorrectable};
 ghost use Rattle.um_block.specs.Sent.{IsCodedBlock, IsCodedAccess, IsCodedSync, IsSentBlock, IsSentAccess, IsSentSync};
-ghost use Rattle.um_block.specs.Restored.{IsCleanBlock, IsCleanAccess, IsCleanSync};
+ghost use Rattle.um_block.specs.Restored.{IsErrorFreeBlock, IsErrorFreeAccess, IsErrorFreeSync};
 ghost use Rattle.um_block.specs.Received.{coded_soft_bits, access_soft_bits, sync_soft_bits, soft_bits};
-ghost use Rattle.um_block.specs.Received.{IsReceivedSequence, wrong_training_bits, IsReceivedBlock, IsReceivedAccess, IsReceivedSync};
+ghost use Rattle.um_block.specs.Received.{IsReceivedTsc, wrong_training_bits, IsReceivedBlock, IsReceivedAccess, IsReceivedSync};
 
 use crate::received::{Received, ReceivedAccess, ReceivedSync};
 use bit_blocks::{
-    BLOCK_BITS, BLOCK_OCTETS, Bits, CODED_BITS, INFORMATION_BITS, count_wrong_bits, to_octets,
+    BLOCK_BITS, BLOCK_OCTETS, Bits, CODED_BITS, ENCODER_INPUT_BITS, count_wrong_bits, to_octets,
 };
 use burst_map::{AccessView, BURST_BITS, NormalView, SyncView, access_sequence, sync_sequence};
-use fire_code::{rach_holds, sch_holds, xcch_holds};
+use fire_code::{rach_holds, sch_holds, xcch_parity_of_octets};
 use interleave::gather;
 use training_seq::best;
 use trellis_decode::decode;
@@ -28,47 +28,48 @@ pub fn receive_block(bursts: &[[i8; BURST_BITS]; 4]) -> Received
     ensures received { IsReceivedBlock bursts.now result }
     ensures only { (other : Received) → IsReceivedBlock bursts.now other → other ≡ result }
     ensures clean { (octets : List ℕ) (tsc : ℕ) (sent : List (List ℕ)) →
-        IsSentBlock octets tsc sent → bursts.now ≡ map soft_bits sent → IsCleanBlock octets tsc result }
+        IsSentBlock octets tsc sent → bursts.now ≡ map soft_bits sent → IsErrorFreeBlock octets tsc result }
     ensures restores { (octets c : List ℕ) (soft : List ℤ) → IsCodedBlock octets c →
-        IsInterleaved soft (map coded_soft_bits bursts.now) → IsLightlyDamaged soft c → result.accepted ≡ Some octets }
+        IsInterleaved soft (map coded_soft_bits bursts.now) → IsCorrectable soft c → result.accepted ≡ Some octets }
 {
     receive_deinterleaved(bursts, &deinterleave_block(bursts))
 }
 
 /// Decodes the four normal bursts of a block whose coded soft bits are already deinterleaved into `soft`.
+#[inline(always)]
 pub fn receive_deinterleaved(bursts: &[[i8; BURST_BITS]; 4], soft: &[i8; CODED_BITS]) -> Received
     requires soft { AllSoftBits soft.now }
-    requires gathered { IsInterleaved soft.now (map coded_soft_bits bursts.now) }
+    requires deinterleaved { IsInterleaved soft.now (map coded_soft_bits bursts.now) }
     ensures { IsReceivedBlock bursts.now result }
 {
-    let mut u = [0; INFORMATION_BITS];
+    let mut u = [0; ENCODER_INPUT_BITS];
     let metric = decode(soft, &mut u);
-    let (tsc, wrong_training) = best_sequence(bursts);
+    let (tsc, wrong_training) = detect_tsc(bursts);
     Received {
         u: Bits::from_array(u),
         metric,
         tsc,
         wrong_training,
-        accepted: block_data(&u),
+        accepted: octets_if_crc_holds(&u),
     }
 }
 
-/// Deinterleaves the coded soft bits of a block.
+/// Deinterleaves the coded soft bits of the four bursts of a block.
 pub fn deinterleave_block(bursts: &[[i8; BURST_BITS]; 4]) -> [i8; CODED_BITS]
     requires { All AllSoftBits bursts.now }
-    ensures gathered { IsInterleaved result (map coded_soft_bits bursts.now) }
+    ensures deinterleaved { IsInterleaved result (map coded_soft_bits bursts.now) }
     ensures soft { AllSoftBits result }
 {
     gather(&[
-        coded_part(&bursts[0]),
-        coded_part(&bursts[1]),
-        coded_part(&bursts[2]),
-        coded_part(&bursts[3]),
+        coded_soft_bits(&bursts[0]),
+        coded_soft_bits(&bursts[1]),
+        coded_soft_bits(&bursts[2]),
+        coded_soft_bits(&bursts[3]),
     ])
 }
 
 /// The 114 coded soft bits of a normal burst.
-fn coded_part(burst: &[i8; BURST_BITS]) -> [i8; 114]
+fn coded_soft_bits(burst: &[i8; BURST_BITS]) -> [i8; 114]
     ensures { result ≡ coded_soft_bits burst.now }
 {
     let parts = NormalView::new(burst);
@@ -78,10 +79,10 @@ fn coded_part(burst: &[i8; BURST_BITS]) -> [i8; 114]
     part
 }
 
-/// The training sequence code with the greatest total correlation with the midambles of four bursts, and the number of wrong training
-/// bits for it.
-fn best_sequence(bursts: &[[i8; BURST_BITS]; 4]) -> (u8, u32)
-    ensures tsc { IsReceivedSequence bursts.now result.0 }
+/// Returns the training sequence code with the greatest total correlation with the midambles of four bursts, and the number of soft bits
+/// that disagree with this sequence.
+fn detect_tsc(bursts: &[[i8; BURST_BITS]; 4]) -> (u8, u32)
+    ensures tsc { IsReceivedTsc bursts.now result.0 }
     ensures wrong { result.1 ≡ wrong_training_bits bursts.now result.0 }
 {
     best(
@@ -93,20 +94,21 @@ fn best_sequence(bursts: &[[i8; BURST_BITS]; 4]) -> (u8, u32)
 }
 
 /// The 23 octets of a block's information list, or `None` if its Fire code bits do not match.
-pub fn block_data(u: &[u8; INFORMATION_BITS]) -> Option<[u8; BLOCK_OCTETS]>
+pub fn octets_if_crc_holds(u: &[u8; ENCODER_INPUT_BITS]) -> Option<[u8; BLOCK_OCTETS]>
     requires { AllBits u.now }
     ensures { MatchOption result
         (¬ IsXcchWord (take 224 u.now))
         (λ octets. IsXcchWord (take 224 u.now) × (octets ≡ octets_of (take BLOCK_BITS u.now))) }
 {
-    let mut word = [0; 224];
-    word.copy_from_slice(&u[..224]);
-    if !xcch_holds(&Bits::from_array(word)) {
-        return None;
-    }
     let mut octets = [0; BLOCK_OCTETS];
     to_octets(&u[..BLOCK_BITS], &mut octets);
-    Some(octets)
+    let mut check = [0; 5];
+    to_octets(&u[BLOCK_BITS..224], &mut check);
+    if check == xcch_parity_of_octets(&octets) {
+        Some(octets)
+    } else {
+        None
+    }
 }
 
 /// Decodes an access burst of 88 soft bits, -127 to 127, for a base station identity code (BSIC).
@@ -115,8 +117,8 @@ pub fn receive_access(burst: &[i8; 88], bsic: &Bits<6>) -> ReceivedAccess
     ensures received { IsReceivedAccess burst.now bsic.now result }
     ensures only { (other : ReceivedAccess) → IsReceivedAccess burst.now bsic.now other → other ≡ result }
     ensures clean { (info sent : List ℕ) → IsSentAccess info bsic.now sent → burst.now ≡ soft_bits sent
-        → IsCleanAccess info bsic.now result }
-    ensures restores { (info c : List ℕ) → IsCodedAccess info bsic.now c → IsLightlyDamaged (access_soft_bits burst.now) c →
+        → IsErrorFreeAccess info bsic.now result }
+    ensures restores { (info c : List ℕ) → IsCodedAccess info bsic.now c → IsCorrectable (access_soft_bits burst.now) c →
         result.accepted ≡ Some info }
 {
     let parts = AccessView::new(burst);
@@ -126,12 +128,12 @@ pub fn receive_access(burst: &[i8; 88], bsic: &Bits<6>) -> ReceivedAccess
         u: Bits::from_array(u),
         metric,
         wrong_training: count_wrong_bits(parts.training(), access_sequence()),
-        accepted: access_data(&u, bsic),
+        accepted: access_bits_if_crc_holds(&u, bsic),
     }
 }
 
 /// The eight information bits of an access burst's information list, or `None` if its CRC does not hold for the BSIC.
-pub fn access_data(u: &[u8; 18], bsic: &Bits<6>) -> Option<Bits<8>>
+pub fn access_bits_if_crc_holds(u: &[u8; 18], bsic: &Bits<6>) -> Option<Bits<8>>
     requires { AllBits u.now }
     ensures { MatchOption result
         (¬ IsRachWord (take 14 u.now) bsic.now)
@@ -152,24 +154,24 @@ pub fn receive_sync(burst: &[i8; BURST_BITS]) -> ReceivedSync
     requires { AllSoftBits burst.now }
     ensures received { IsReceivedSync burst.now result }
     ensures only { (other : ReceivedSync) → IsReceivedSync burst.now other → other ≡ result }
-    ensures clean { (info sent : List ℕ) → IsSentSync info sent → burst.now ≡ soft_bits sent → IsCleanSync info result }
-    ensures restores { (info c : List ℕ) → IsCodedSync info c → IsLightlyDamaged (sync_soft_bits burst.now) c →
+    ensures clean { (info sent : List ℕ) → IsSentSync info sent → burst.now ≡ soft_bits sent → IsErrorFreeSync info result }
+    ensures restores { (info c : List ℕ) → IsCodedSync info c → IsCorrectable (sync_soft_bits burst.now) c →
         result.accepted ≡ Some info }
 {
     let parts = SyncView::new(burst);
-    let halves = join_halves(parts.first(), parts.second());
+    let halves = join_sync_halves(parts.first(), parts.second());
     let mut u = [0; 39];
     let metric = decode(&halves, &mut u);
     ReceivedSync {
         u: Bits::from_array(u),
         metric,
         wrong_training: count_wrong_bits(parts.training(), sync_sequence()),
-        accepted: sync_data(&u),
+        accepted: sync_bits_if_crc_holds(&u),
     }
 }
 
-/// Joins the two halves of a synchronisation burst to its 78 coded soft bits.
-pub fn join_halves(first: &[i8], second: &[i8]) -> [i8; 78]
+/// Joins the two halves of a synchronisation burst into its 78 coded soft bits.
+pub fn join_sync_halves(first: &[i8], second: &[i8]) -> [i8; 78]
     requires first { length first.now ≡ 39 }
     requires second { length second.now ≡ 39 }
     ensures { result ≡ first.now ++ second.now }
@@ -181,7 +183,7 @@ pub fn join_halves(first: &[i8], second: &[i8]) -> [i8; 78]
 }
 
 /// The 25 information bits of a synchronisation burst's information list, or `None` if its CRC does not hold.
-pub fn sync_data(u: &[u8; 39]) -> Option<Bits<25>>
+pub fn sync_bits_if_crc_holds(u: &[u8; 39]) -> Option<Bits<25>>
     requires { AllBits u.now }
     ensures { MatchOption result
         (¬ IsSchWord (take 35 u.now))

@@ -1,4 +1,4 @@
-//! Sending: CRC, tail bits, convolutional code, interleaving and burst layout (GSM 05.03, today 3GPP TS 45.003).
+//! Encodes blocks and bursts: CRC, tail bits, convolutional code, interleaving and burst layout (GSM 05.03, today 3GPP TS 45.003).
 ghost use Rattle.std.specs.Prelude.{◌≡◌, ℕ, ◌+◌, ◌<◌, ◌≤◌, ◌++◌, List, [], length, replicate, take, drop};
 ghost use Rattle.std.specs.Prelude.{slice_index_or, All};
 ghost use Rattle.bit_blocks.specs.Bits.{AllBits};
@@ -11,7 +11,7 @@ ghost use Rattle.um_block.specs.Sent.{with_tail, IsCodedBlock, IsSentBlock, IsSe
 
 use bit_blocks::{BLOCK_OCTETS, Bits};
 use burst_map::{BURST_BITS, NormalParts, access, sync};
-use conv_code::{encode, encode_octets};
+use conv_code::{encode, encode_packed};
 use fire_code::{rach_parity, sch_parity, xcch_parity_of_octets};
 use interleave::Columns;
 
@@ -24,10 +24,10 @@ pub fn send_block(octets: &[u8; BLOCK_OCTETS], tsc: u8) -> [[u8; BURST_BITS]; 4]
 {
     let columns = encode_block(octets);
     [
-        send_burst(&columns, 0, tsc),
-        send_burst(&columns, 1, tsc),
-        send_burst(&columns, 2, tsc),
-        send_burst(&columns, 3, tsc),
+        build_normal_burst(&columns, 0, tsc),
+        build_normal_burst(&columns, 1, tsc),
+        build_normal_burst(&columns, 2, tsc),
+        build_normal_burst(&columns, 3, tsc),
     ]
 }
 
@@ -35,11 +35,11 @@ pub fn send_block(octets: &[u8; BLOCK_OCTETS], tsc: u8) -> [[u8; BURST_BITS]; 4]
 fn encode_block(octets: &[u8; BLOCK_OCTETS]) -> Columns
     ensures { (coded : List ℕ) × IsCodedBlock octets.now coded × AreColumnsOfCodedBits coded result.octets }
 {
-    Columns::new(&encode_octets(&with_crc(octets)))
+    Columns::new(&encode_packed(&octets_with_crc(octets)))
 }
 
 /// The 23 octets of a block, followed by their five Fire code octets and four zero octets.
-fn with_crc(octets: &[u8; BLOCK_OCTETS]) -> [u8; 32]
+fn octets_with_crc(octets: &[u8; BLOCK_OCTETS]) -> [u8; 32]
     ensures { (crc : List ℕ) × IsXcchWord (bits_of octets.now ++ bits_of crc) × (result ≡ octets.now ++ crc ++ replicate 4 0) }
 {
     let mut word = [0; 32];
@@ -48,17 +48,18 @@ fn with_crc(octets: &[u8; BLOCK_OCTETS]) -> [u8; 32]
     word
 }
 
-/// Builds burst `b` of a block, and writes both halves of its coded bits in place.
-fn send_burst(columns: &Columns, b: usize, tsc: u8) -> [u8; BURST_BITS]
+/// Builds normal burst `b` of a block, and writes both halves of its coded bits in place.
+fn build_normal_burst(columns: &Columns, b: usize, tsc: u8) -> [u8; BURST_BITS]
     requires which { b < 4 }
     requires known { tsc ≤ 7 }
-    ensures { (coded : List ℕ) (parts : List (List ℕ)) → AreColumnsOfCodedBits coded columns.now.octets → IsInterleaved coded parts →
-        result ≡ normal_burst (take 57 (slice_index_or parts b [])) (drop 57 (slice_index_or parts b [])) tsc }
+    ensures { (coded : List ℕ) (parts : List (List ℕ)) → AreColumnsOfCodedBits coded columns.now.octets →
+        IsInterleaved coded parts → result ≡ normal_burst (take 57 (slice_index_or parts b [])) (drop 57 (slice_index_or parts b []))
+        tsc }
 {
     let mut burst = [0; BURST_BITS];
     let mut parts = NormalParts::new(&mut burst, tsc);
-    columns.write_half(b, 0, parts.first_mut());
-    columns.write_half(b, 1, parts.second_mut());
+    columns.write_half_burst(b, 0, parts.first_mut());
+    columns.write_half_burst(b, 1, parts.second_mut());
     burst
 }
 

@@ -13,7 +13,7 @@ pub fn soften(burst: &[u8; BURST_BITS]) -> [i8; BURST_BITS]
     ensures soft { AllSoftBits result }
 {
     let mut soft = [0; BURST_BITS];
-    soften_into(burst, &mut soft);
+    soften_burst_into(burst, &mut soft);
     soft
 }
 
@@ -24,25 +24,26 @@ pub fn soften_block(block: &[[u8; BURST_BITS]; 4], soft: &mut [[i8; BURST_BITS];
     ensures soft { All AllSoftBits soft.new }
 {
     for b in 0..4 {
-        soften_into(&block[b], &mut soft[b]);
+        soften_burst_into(&block[b], &mut soft[b]);
     }
 }
 
-// Converts sixteen bits at a time; the last sixteen overlap the sixteen before them by twelve.
-fn soften_into(burst: &[u8; BURST_BITS], soft: &mut [i8; BURST_BITS])
+// Converts the bits of a burst to soft bits, sixteen at a time. As 148 is not a multiple of sixteen, the last group overlaps the one before
+// it by twelve.
+fn soften_burst_into(burst: &[u8; BURST_BITS], soft: &mut [i8; BURST_BITS])
     requires { AllBits burst.now }
     ensures value { soft.new ≡ soft_bits burst.now }
     ensures soft { AllSoftBits soft.new }
 {
     let mut at = 0;
     while at < 132 {
-        soft[at..at + 16].copy_from_slice(&soften_sixteen(burst, at));
+        soft[at..at + 16].copy_from_slice(&soften_sixteen_bits(burst, at));
         at += 16;
     }
-    soft[132..].copy_from_slice(&soften_sixteen(burst, 132));
+    soft[132..].copy_from_slice(&soften_sixteen_bits(burst, 132));
 }
 
-fn soften_sixteen(burst: &[u8; BURST_BITS], at: usize) -> [i8; 16]
+fn soften_sixteen_bits(burst: &[u8; BURST_BITS], at: usize) -> [i8; 16]
     requires { at ≤ 132 }
     ensures { result ≡ soft_bits (take 16 (drop at burst.now)) }
 {

@@ -1,11 +1,12 @@
 -- A command that reads bursts has exactly one output for every input if its answers to bursts are unique and always exist.
-use Rattle.std.proofs.Common.{◌≡◌, ℕ, ℤ, ◌+◌, ◌≤◌, inl, inr, List, [], ◌∷◌, ◌++◌, length, length-append, refl, sym, ◌∙◌, subst, arith}
-use Rattle.std.{proofs.lemmas.{Bool.cases_lt, List.Elements.{All-nil, All-cons, All-append}}, specs.List.All}
+use Rattle.std.proofs.Common.{◌≡◌, ℕ, ℤ, ◌+◌, ◌≤◌, inl, inr, List, [], ◌∷◌, ◌++◌, length, length-append, refl}
+use Rattle.std.proofs.{Common.{sym, ◌∙◌, subst, arith}, lemmas.{Bool.cases_lt, List.Elements.{All-nil, All-cons, All-append}}}
+use Rattle.std.specs.List.{All}
 use Rattle.um_block.specs.bit_blocks.Bits.{AllBits}
 use Rattle.um_driver.proofs.{um_lines.OneMeaning.{same_meaning, good_meaning}, OutputExists.has_one_output, RunLemmas.Runs-keep}
-use Rattle.um_driver.{proofs.Weaker.IsWeaker, specs.{Rules.{IsDetermined, IsTotal}, Laws.HasOneOutput}}
+use Rattle.um_driver.{proofs.Weaker.IsWeaker, specs.{Rules.{IsDeterministic, IsTotal}, Laws.HasOneOutput}}
 use Rattle.um_formats.specs.{declared.burst_lines.BurstLine.{BurstLine, TheVariants.{Skip, Normal, Access, Sync}}, BurstLines.burst_fault}
-use Rattle.um_formats.{specs.BurstLines.BurstMeans, proofs.BurstLaws.{one_meaning, normal_burst, access_burst, sync_burst}}
+use Rattle.um_formats.{specs.BurstLines.BurstLineMeans, proofs.BurstLaws.{one_meaning, normal_burst, access_burst, sync_burst}}
 use Rattle.um_bursts.specs.BurstRules.{Answers, IsBlockAnswer, IsBurstAnswer, burst_rules}
 
 abbrev pub AreWhole : List (List ℤ) → Type 0
@@ -20,7 +21,8 @@ pub record HaveOneAnswer (a : Answers) : Type 0 where
 -- the four bursts of a block, an access burst and a synchronisation burst each have an answer
 pub record HaveSomeAnswer (a : Answers) : Type 0 where
   pub block : (bursts : List (List ℤ)) → length bursts ≡ 4 → AreWhole bursts → (y : List ℕ) × a.block bursts y
-  pub access : (bsic : List ℕ) (burst : List ℤ) → length burst ≡ 88 → length bsic ≡ 6 → AllBits bsic → (y : List ℕ) × a.access bsic burst y
+  pub access : (bsic : List ℕ) (burst : List ℤ) → length burst ≡ 88 → length bsic ≡ 6 → AllBits bsic →
+      (y : List ℕ) × a.access bsic burst y
   pub sync : (burst : List ℤ) → length burst ≡ 148 → (y : List ℕ) × a.sync burst y
 
 -- each answer that `a` allows is an answer that `b` allows
@@ -73,17 +75,18 @@ module _ (a : Answers) where
   same_answer one held (Access bsic soft) y y' b b' (s, answer) (s', answer') = (one.access bsic soft y y' answer answer', s ∙ sym s')
   same_answer one held (Sync soft) y y' b b' (s, answer) (s', answer') = (one.sync soft y y' answer answer', s ∙ sym s')
 
-  pub bursts_are_determined : HaveOneAnswer a → IsDetermined (burst_rules a)
+  pub bursts_are_determined : HaveOneAnswer a → IsDeterministic (burst_rules a)
   bursts_are_determined one held line y y' b b' (m, means, answer) (m', means', answer') =
       let at = length held in
-      let same = same_meaning (BurstMeans at line) (burst_fault at line) (one_meaning at line) m m' means means' in
+      let same = same_meaning (BurstLineMeans at line) (burst_fault at line) (one_meaning at line) m m' means means' in
       same_answer one held m' y y' b b' (subst (λ n. IsBurstAnswer a held n y b) same answer) answer'
 
   block_keeps : (bursts after : List (List ℤ)) (y : List ℕ) → AreWhole bursts → IsBlockAnswer a bursts y after → IsHeld after
   block_keeps bursts after y each (inl (few, _, s)) = subst IsHeld (sym s) (record { few = omega arith; each = each })
   block_keeps bursts after y each (inr (four, s, _)) = subst IsHeld (sym s) held_none
 
-  step_keeps : (held after : List (List ℤ)) (line y : List ℕ) → IsHeld held → (burst_rules a).Step held line y after → IsHeld after
+  step_keeps : (held after : List (List ℤ)) (line y : List ℕ) → IsHeld held → (burst_rules a).Step held line y after →
+      IsHeld after
   step_keeps held after line y h (Skip, means, (_, s)) = subst IsHeld (sym s) h
   step_keeps held after line y h (Normal soft, means, answer) =
       block_keeps (held ++ soft ∷ []) after y (one_more held soft h (normal_burst (length held) line soft means).0) answer
@@ -105,8 +108,8 @@ module _ (a : Answers) where
             (answer.0, [], inr (four, refl, answer.1))
       ]
 
-  some_answer : HaveSomeAnswer a → (held : List (List ℤ)) (line : List ℕ) (m : BurstLine) → IsHeld held → BurstMeans (length held) line m →
-      (y : List ℕ) × (after : List (List ℤ)) × IsBurstAnswer a held m y after
+  some_answer : HaveSomeAnswer a → (held : List (List ℤ)) (line : List ℕ) (m : BurstLine) → IsHeld held →
+      BurstLineMeans (length held) line m → (y : List ℕ) × (after : List (List ℤ)) × IsBurstAnswer a held m y after
   some_answer some held line Skip h means = ([], held, (refl, refl))
   some_answer some held line (Normal soft) h means = some_block_answer some held soft h (normal_burst (length held) line soft means).0
   some_answer some held line (Access bsic soft) h means =
@@ -119,7 +122,7 @@ module _ (a : Answers) where
 
   bursts_are_total : HaveSomeAnswer a → IsTotal (burst_rules a) []
   bursts_are_total some lines answers b runs line plain good =
-      let meant = good_meaning (BurstMeans (length b) line) (burst_fault (length b) line) (one_meaning (length b) line) good.no_fault in
+      let meant = good_meaning (BurstLineMeans (length b) line) (burst_fault (length b) line) (one_meaning (length b) line) good.no_fault in
       let held = Runs-keep (burst_rules a) IsHeld (λ c after line y h step. step_keeps c after line y h step) [] b lines answers
       held_none runs in
       let answer = some_answer some b line meant.0 held meant.1 in

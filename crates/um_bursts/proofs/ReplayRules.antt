@@ -4,7 +4,7 @@ use Rattle.um_block.proofs.Lemmas.{accepted_count, one_received_block, one_recei
 use Rattle.um_block.proofs.Lemmas.{some_received_access, some_received_sync}
 use Rattle.um_formats.{specs.Reports.{IsBlockReport, access_report_text, sync_report_text}, proofs.ReportLaws.one_block_report}
 use Rattle.um_formats.proofs.ReportLaws.{some_block_report}
-use Rattle.um_driver.specs.{Rules.IsDetermined, Laws.HasOneOutput}
+use Rattle.um_driver.specs.{Rules.IsDeterministic, Laws.HasOneOutput}
 use Rattle.um_bursts.proofs.BurstRules.{HaveOneAnswer, HaveSomeAnswer, bursts_are_determined, bursts_have_one_output}
 use Rattle.um_bursts.specs.Replay.{replay_answers, replay_rules}
 
@@ -33,7 +33,7 @@ some_answer = record {
       (sync_report_text received.0, (received.0, received.1, refl));
 }
 
-pub replay_is_determined : IsDetermined replay_rules
+pub replay_is_determined : IsDeterministic replay_rules
 replay_is_determined = bursts_are_determined replay_answers one_answer
 
 pub replay_has_one_output : HasOneOutput replay_rules []

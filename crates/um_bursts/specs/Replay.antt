@@ -1,4 +1,4 @@
--- What the command `replay` answers to a line (this project's own rule).
+-- How the command `replay` answers a line (this project's own rule).
 use Rattle.std.specs.Prelude.{ℤ, ◌≡◌, List}
 use Rattle.um_block.specs.Received.{IsReceivedBlock, IsReceivedAccess, IsReceivedSync}
 use Rattle.um_block.specs.declared.received.Received.{Received}
@@ -8,7 +8,7 @@ use Rattle.um_formats.specs.Reports.{IsBlockReport, access_report_text, sync_rep
 use Rattle.um_driver.specs.Rules.{Rules}
 use Rattle.um_bursts.specs.BurstRules.{Answers, burst_rules}
 
--- the answer to bursts is the report of what was received
+-- the answer of `replay` to bursts is a report on what was received
 abbrev pub replay_answers : Answers
 replay_answers = record {
   block = λ bursts answer. (r : Received) × IsReceivedBlock bursts r × IsBlockReport r answer;

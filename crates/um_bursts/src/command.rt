@@ -1,22 +1,24 @@
-//! A command that reads lines of bursts.
+//! A command that reads bursts as text lines.
 ghost use Rattle.std.specs.Prelude.{◌≡◌, ◌<◌, ℤ, List, [], ◌∷◌, ◌++◌, length};
 ghost use Rattle.um_formats.specs.Held.{HasOnlySoftValues};
-ghost use Rattle.um_bursts.specs.BurstRules.{burst_rules, IsAnswerToNextBurst};
+ghost use Rattle.um_bursts.specs.BurstRules.{burst_rules, IsAnswerToLineResult};
 ghost use Rattle.um_driver.specs.Rules.{Answers};
 
 use crate::reports::Reports;
 use std::marker::Model;
 use um_driver::Command;
-use um_formats::{HeldBursts, LineFault, NextBurst, Text, hold_normal, read_burst_into};
+use um_formats::{
+    BurstLineResult, HeldBursts, LineFault, Text, hold_normal_burst, read_burst_into,
+};
 
-/// Answers bursts as `reports` does, and holds the bursts of an incomplete block.
+/// A command that holds the bursts of an incomplete block, and lets `reports` answer complete blocks and single bursts.
 #[derive(Drop)]
 pub struct BurstCommand<R> {
     held: HeldBursts,
     reports: R,
 }
 
-// In contracts, a `BurstCommand` is the list of the bursts that it holds.
+// In contracts, a `BurstCommand` stands for the list of bursts that it holds.
 impl<R> Model for BurstCommand<R> {
     ghost use Rattle.std.specs.Prelude.{ℤ, List};
 
@@ -34,6 +36,20 @@ impl<R: Reports> BurstCommand<R> {
             held: HeldBursts::new(),
             reports,
         }
+    }
+
+    /// Answers any line that is not a valid line `n DIGITS148` or `N HEX296`. It is a separate function so that the common path needs no
+    /// stack space for the result.
+    #[cold]
+    #[inline(never)]
+    fn answer_other_line(&mut self, line: &[u8], out: &mut Text) -> Result<(), LineFault>
+        requires { out.old ≡ [] }
+        ensures answered { Answers (burst_rules R.answers) self.old line.now result out.new (λ after. self.new ≡ after) }
+        ensures size { length out.new < 2000 }
+    {
+        let next = read_burst_into(line, &mut self.held)?;
+        write_answer(out, &self.reports, &next, &self.held);
+        Ok(())
     }
 }
 
@@ -57,18 +73,14 @@ impl<R: Reports> Command for BurstCommand<R> {
         ensures keeps { tt {0} ≡ tt }
         ensures size { length out.new < 2000 }
     {
-        match hold_normal(line, &mut self.held) {
+        match hold_normal_burst(line, &mut self.held) {
             Some(whole) => {
                 if whole {
                     self.reports.block(out, self.held.block());
                 }
                 Ok(())
             }
-            None => {
-                let next = read_burst_into(line, &mut self.held)?;
-                write_answer(out, &self.reports, &next, &self.held);
-                Ok(())
-            }
+            None => self.answer_other_line(line, out),
         }
     }
 
@@ -81,18 +93,18 @@ impl<R: Reports> Command for BurstCommand<R> {
     }
 }
 
-/// Writes the answer to what a line adds (`next`).
-fn write_answer<R: Reports>(out: &mut Text, reports: &R, next: &NextBurst, held: &HeldBursts)
+/// Writes the answer to `next`, the result of a line.
+fn write_answer<R: Reports>(out: &mut Text, reports: &R, next: &BurstLineResult, held: &HeldBursts)
     requires empty { out.old ≡ [] }
     requires soft { HasOnlySoftValues next.now }
-    ensures answer { IsAnswerToNextBurst R.answers next.now held.now out.new }
+    ensures answer { IsAnswerToLineResult R.answers next.now held.now out.new }
     ensures size { length out.new < 2000 }
 {
     match next {
-        NextBurst::Skip => {}
-        NextBurst::Held => {}
-        NextBurst::Block => reports.block(out, held.block()),
-        NextBurst::Access { bsic, soft } => reports.access(out, bsic, soft),
-        NextBurst::Sync(soft) => reports.sync(out, soft),
+        BurstLineResult::Skip => {}
+        BurstLineResult::Held => {}
+        BurstLineResult::Block => reports.block(out, held.block()),
+        BurstLineResult::Access { bsic, soft } => reports.access(out, bsic, soft),
+        BurstLineResult::Sync(soft) => reports.sync(out, soft),
     }
 }

@@ -1,4 +1,4 @@
-//! Commands that read lines of recorded bursts. Four normal bursts are answered together as a block, any other burst alone; each command
+//! Commands that read recorded bursts. Four normal bursts are answered together as a block, any other burst on its own; each command
 //! defines its own answers.
 #![tactic(auto)]
 

@@ -5,7 +5,7 @@ use crate::reports::Reports;
 use um_block::{BURST_BITS, Bits, receive_access, receive_block, receive_sync};
 use um_formats::{Text, access_report, block_report, sync_report};
 
-/// Answers bursts by the report of what was received.
+/// Decodes each block or single burst, and reports what was received.
 #[derive(Drop)]
 pub struct Replay {}
 

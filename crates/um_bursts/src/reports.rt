@@ -1,4 +1,4 @@
-//! The answers of a command to bursts.
+//! The answers that a command gives to bursts.
 ghost use Rattle.std.specs.Prelude.{◌≡◌, ◌<◌, [], length};
 ghost use Rattle.std.specs.List.{All};
 ghost use Rattle.um_block.specs.bit_blocks.SoftValues.{AllSoftBits};
@@ -7,26 +7,26 @@ ghost use Rattle.um_bursts.specs.BurstRules.{Answers};
 use um_block::{BURST_BITS, Bits};
 use um_formats::Text;
 
-/// Writes the answers to the bursts of a block, to an access burst and to a synchronisation burst.
+/// Writes a command's answers to the four bursts of a block, to an access burst and to a synchronisation burst.
 pub trait Reports {
-    /// The possible answers.
+    /// The answers that the command may give.
     ghost answers: { Answers };
 
-    /// Answers the four bursts of a block.
+    /// Writes the answer to the four bursts of a block.
     fn block(&self, out: &mut Text, bursts: &[[i8; BURST_BITS]; 4])
         requires empty { out.old ≡ [] }
         requires soft { All AllSoftBits bursts.now }
         ensures answer { answers.block bursts.now out.new }
         ensures size { length out.new < 2000 };
 
-    /// Answers an access burst for the cell with this BSIC.
+    /// Writes the answer to an access burst of the cell with this BSIC.
     fn access(&self, out: &mut Text, bsic: &Bits<6>, burst: &[i8; 88])
         requires empty { out.old ≡ [] }
         requires soft { AllSoftBits burst.now }
         ensures answer { answers.access bsic.now burst.now out.new }
         ensures size { length out.new < 2000 };
 
-    /// Answers a synchronisation burst.
+    /// Writes the answer to a synchronisation burst.
     fn sync(&self, out: &mut Text, burst: &[i8; BURST_BITS])
         requires empty { out.old ≡ [] }
         requires soft { AllSoftBits burst.now }

@@ -1,9 +1,10 @@
 -- The accepted octets determine the fields `accepted` and `octets` of a report.
-use Rattle.std.proofs.{Common.{◌≡◌, refl, sym, ◌∙◌, arith, ℕ, ◌↔◌, List, replicate, Option, Some, None}, lemmas.Bool.false≢true}
-use Rattle.std.specs.Prelude.{MatchOption, IsSome, IsNone}
+use Rattle.std.proofs.Common.{◌≡◌, refl, sym, ◌∙◌, arith, ℕ, ◌↔◌, List, replicate, Option, Some, None}
+use Rattle.std.{proofs.lemmas.Bool.false≢true, specs.Prelude.{MatchOption, IsSome, IsNone}}
 
 abbrev pub IsFlagged : ℕ → Option (List ℕ) → ℕ → List ℕ → Type 0
-IsFlagged n accepted flag output = MatchOption accepted ((flag ≡ 0) × (output ≡ replicate n 0)) (λ octets. (flag ≡ 1) × (output ≡ octets))
+IsFlagged n accepted flag output = MatchOption accepted ((flag ≡ 0) × (output ≡ replicate n 0)) (λ octets. (flag ≡ 1)
+    × (output ≡ octets))
 
 pub flagged_once : (n : ℕ) (accepted : Option (List ℕ)) (flag flag' : ℕ) (output output' : List ℕ) →
     IsFlagged n accepted flag output → IsFlagged n accepted flag' output' → (flag ≡ flag') × (output ≡ output')

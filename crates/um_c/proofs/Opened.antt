@@ -3,12 +3,12 @@ use Rattle.std.proofs.Common.{◌≡◌, refl, subst, arith, ℕ, ◌≤◌, Lis
 use Rattle.lapdm_frame.specs.declared.Channel.{Channel}
 use Rattle.um_air.specs.{segmenting.Segments.Message, lapdm_window.{declared.Sapi.TheVariants.Zero, Ends.{Mobile, Network}, Calls.Opens}}
 use Rattle.um_air.specs.lapdm_link.Queues.{without_first}
-use Rattle.um_c.specs.{declared.{states.PlainEnd.PlainEnd, effects.PlainEffects.PlainEffects}, EndCalls.{IsCalledAs, IsBlockTakenAs}}
-use Rattle.um_c.specs.{Joined.{blocks_sent, Joined, FirstSatisfies, IsSameFrame, IsRun, Carries}, Opening.{two_endpoints, first_block}}
-use Rattle.um_c.{specs.Opening.opening, proofs.AsFrameSessions.{left_in, is_left}}
+use Rattle.um_c.specs.{declared.{states.CEndpoint.CEndpoint, effects.CEffects.CEffects}, EndCalls.{AnswersCall, AnswersBlock}}
+use Rattle.um_c.specs.Joined.{blocks_sent, Joined, FirstBlockSatisfies, EncodeSameFrame, IsProgramRun, DeliversOldestBlock}
+use Rattle.um_c.{specs.Opening.{program_of_two_endpoints, first_block, opening}, proofs.AsFrameSessions.{left_in, is_left}}
 
 -- the call succeeded and sent exactly one block
-pub record SentOneBlock (answer : ℕ) (output : PlainEffects) : Type 0 where
+pub record SentOneBlock (answer : ℕ) (output : CEffects) : Type 0 where
   pub done : answer ≡ 0
   pub count : output.frame_count ≡ 1
   pub capacity : length output.frames ≡ 2
@@ -18,18 +18,18 @@ one_block : (blocks : List (List ℕ)) (n : ℕ) → n ≡ 1 → 1 ≤ length bl
 one_block (b ∷ bs) n one some = rw one refl
 one_block [] n one some = absurd (omega (arith, some))
 
-gave : {answer : ℕ} {output : PlainEffects} → SentOneBlock answer output → blocks_sent 0 output ≡ first_block output ∷ []
+gave : {answer : ℕ} {output : CEffects} → SentOneBlock answer output → blocks_sent 0 output ≡ first_block output ∷ []
 gave {answer} {output} h = one_block output.frames output.frame_count h.count (omega (arith, h.capacity))
 
 -- the only block in transit arrives as it was sent
 arrives_unchanged : (channel : Channel) (block : List ℕ) (sent : List (List ℕ)) → sent ≡ block ∷ [] →
-    FirstSatisfies (λ first. IsSameFrame channel first block) sent
+    FirstBlockSatisfies (λ first. EncodeSameFrame channel first block) sent
 arrives_unchanged channel block sent h = rw h (λ f is. inl is)
 
-module _ (channel : Channel) (info : Message) (m m' m'' n n' : PlainEnd) (output_old untold' untold'' asked answered opened : PlainEffects)
+module _ (channel : Channel) (info : Message) (m m' m'' n n' : CEndpoint) (output_old untold' untold'' asked answered opened : CEffects)
     (a b c : ℕ) where
   abbrev start : Joined
-  start = two_endpoints m n
+  start = program_of_two_endpoints m n
 
   abbrev sent : Joined
   sent = left_in start Mobile Zero m m' refl (blocks_sent 0 asked) start.queues
@@ -40,22 +40,23 @@ module _ (channel : Channel) (info : Message) (m m' m'' n n' : PlainEnd) (output
   abbrev done : Joined
   done = left_in taken Mobile Zero m' m'' refl (blocks_sent 0 opened) (without_first Network taken.queues)
 
-  pub opened_run : SentOneBlock a asked → SentOneBlock b answered → c ≡ 0 → IsCalledAs (Opens info) a m m' output_old asked →
-      IsBlockTakenAs (first_block asked) b n n' untold' answered → IsBlockTakenAs (first_block answered) c m' m'' untold'' opened →
-      (z : Joined) × IsRun channel Carries start (opening info asked answered opened) z × (z.state Mobile Zero ≡ Some m'')
+  pub opened_run : SentOneBlock a asked → SentOneBlock b answered → c ≡ 0 → AnswersCall (Opens info) a m m' output_old asked →
+      AnswersBlock (first_block asked) b n n' untold' answered → AnswersBlock (first_block answered) c m' m'' untold'' opened →
+      (z : Joined) × IsProgramRun channel DeliversOldestBlock start (opening info asked answered opened) z
+      × (z.state Mobile Zero ≡ Some m'')
       × (z.state Network Zero ≡ Some n')
-  opened_run h g e called given given' =
-      let called : IsCalledAs (Opens info) 0 m m' output_old asked =
-      subst (λ (k : ℕ). IsCalledAs (Opens info) k m m' output_old asked) h.done called in
-      let given : IsBlockTakenAs (first_block asked) 0 n n' untold' answered =
-      subst (λ (k : ℕ). IsBlockTakenAs (first_block asked) k n n' untold' answered) g.done given in
-      let given' : IsBlockTakenAs (first_block answered) 0 m' m'' untold'' opened =
-      subst (λ (k : ℕ). IsBlockTakenAs (first_block answered) k m' m'' untold'' opened) e given' in (
+  opened_run h g e answers_call answers_block answers_block' =
+      let answers_call : AnswersCall (Opens info) 0 m m' output_old asked =
+      subst (λ (k : ℕ). AnswersCall (Opens info) k m m' output_old asked) h.done answers_call in
+      let answers_block : AnswersBlock (first_block asked) 0 n n' untold' answered =
+      subst (λ (k : ℕ). AnswersBlock (first_block asked) k n n' untold' answered) g.done answers_block in
+      let answers_block' : AnswersBlock (first_block answered) 0 m' m'' untold'' opened =
+      subst (λ (k : ℕ). AnswersBlock (first_block answered) k m' m'' untold'' opened) e answers_block' in (
         done,
         (
           tt,
           sent,
-          (m, m', output_old, called, is_left start Mobile Zero m m' refl (blocks_sent 0 asked) start.queues),
+          (m, m', output_old, answers_call, is_left start Mobile Zero m m' refl (blocks_sent 0 asked) start.queues),
           (
             arrives_unchanged channel (first_block asked) (blocks_sent 0 asked) (gave h),
             taken,
@@ -63,7 +64,7 @@ module _ (channel : Channel) (info : Message) (m m' m'' n n' : PlainEnd) (output
               n,
               n',
               untold',
-              given,
+              answers_block,
               is_left sent Network Zero n n' refl (blocks_sent 0 answered)
                   (without_first Mobile sent.queues),
               h.size,
@@ -75,7 +76,7 @@ module _ (channel : Channel) (info : Message) (m m' m'' n n' : PlainEnd) (output
                 m',
                 m'',
                 untold'',
-                given',
+                answers_block',
                 is_left taken Mobile Zero m' m'' refl (blocks_sent 0 opened) (without_first Network taken.queues),
                 g.size,
               ),

@@ -2,7 +2,7 @@
 use Rattle.std.proofs.Common.{◌≡◌, ℕ, List, inl, inr, refl, ap, sym, ◌∙◌}
 use Rattle.fire_repair.specs.{declared.repairs.RepairAnswer.{RepairAnswer, TheVariants.{Holds, Repaired, NoRepair}}, Answers.IsRepairResult}
 use Rattle.fire_repair.proofs.Lemmas.{one_answer}
-use Rattle.um_c.specs.{declared.repairs.RepairReport.RepairReport, RepairReports.{IsRepairReportAnswer, IsRepairedAs}}
+use Rattle.um_c.specs.{declared.repairs.RepairReport.RepairReport, RepairReports.{AnswersRepairOfBits, AnswersRepair}}
 
 abbrev number : RepairAnswer → ℕ
 number Holds = 0
@@ -21,7 +21,7 @@ record DescribesRepair (w : List ℕ) (answer : ℕ) (before after : RepairRepor
   numbered : answer ≡ number repair
   output : after ≡ reported repair before
 
-answer_describes_repair : (w : List ℕ) (answer : ℕ) (before after : RepairReport) → IsRepairReportAnswer w answer before after →
+answer_describes_repair : (w : List ℕ) (answer : ℕ) (before after : RepairReport) → AnswersRepairOfBits w answer before after →
     DescribesRepair w answer before after
 answer_describes_repair w answer before after h = elim h [
   | inl holds ↦ record { repair = Holds; due = holds.0; numbered = holds.1; output = holds.2 }
@@ -36,8 +36,8 @@ answer_describes_repair w answer before after h = elim h [
   ]
 ]
 
-answered_once : (w : List ℕ) (a b : ℕ) (before r r' : RepairReport) → IsRepairReportAnswer w a before r →
-    IsRepairReportAnswer w b before r' →
+answered_once : (w : List ℕ) (a b : ℕ) (before r r' : RepairReport) → AnswersRepairOfBits w a before r →
+    AnswersRepairOfBits w b before r' →
     (a ≡ b) × (r ≡ r')
 answered_once w a b before r r' h g =
     let x = answer_describes_repair w a before r h in
@@ -47,8 +47,8 @@ answered_once w a b before r r' h g =
       x.output ∙ ap (λ repair. reported repair before) same ∙ sym y.output,
     )
 
-pub repaired_once : (w : List ℕ) (a b : ℕ) (before r r' : RepairReport) → IsRepairedAs w a before r → IsRepairedAs w b before r' →
-    (a ≡ b) × (r ≡ r')
+pub repaired_once : (w : List ℕ) (a b : ℕ) (before r r' : RepairReport) → AnswersRepair w a before r →
+    AnswersRepair w b before r' → (a ≡ b) × (r ≡ r')
 repaired_once w a b before r r' h g = elim h [
   | inl bits ↦ elim g [
     | inl bits' ↦ answered_once w a b before r r' bits.1 bits'.1

@@ -12,13 +12,13 @@ use Rattle.um_c.{specs.MarginReports.IsMarginReport, proofs.Accepting.{IsFlagged
 -- two reports on the same reception are equal
 pub equal_reports : (bursts : List (List ℤ)) (soft : List ℤ) (a b : Received) (r r' : BlockReport) →
     IsInterleaved soft (map coded_soft_bits bursts) → a ≡ b → ReportsBlock bursts a r → ReportsBlock bursts b r' → r ≡ r'
-equal_reports bursts soft a b r r' gathered same h g =
+equal_reports bursts soft a b r r' deinterleaved same h g =
     let h' = subst (λ (x : Received). ReportsBlock bursts x r) same h in
     let flag = flagged_once 23 b.accepted r.accepted r'.accepted r.octets r'.octets h'.accepted g.accepted in
     λ i. record {
       metric = (h'.metric ∙ sym g.metric) i;
       wrong_training = (h'.wrong_training ∙ sym g.wrong_training) i;
-      wrong_coded = (h'.wrong_coded soft gathered ∙ sym (g.wrong_coded soft gathered)) i;
+      wrong_coded = (h'.wrong_coded soft deinterleaved ∙ sym (g.wrong_coded soft deinterleaved)) i;
       tsc = (h'.tsc ∙ sym g.tsc) i;
       accepted = flag.0 i;
       octets = flag.1 i;
@@ -27,7 +27,7 @@ equal_reports bursts soft a b r r' gathered same h g =
 
 pub one_block_report : (bursts : List (List ℤ)) (r r' : BlockReport) → IsBlockReport bursts r → IsBlockReport bursts r' → r ≡ r'
 one_block_report bursts r r' h g =
-    equal_reports bursts h.is.soft h.received g.received r r' h.is.gathered (one_received_block bursts h.received g.received h.is g.is)
+    equal_reports bursts h.is.soft h.received g.received r r' h.is.deinterleaved (one_received_block bursts h.received g.received h.is g.is)
     h.output g.output
 
 pub one_access_report : (burst : List ℤ) (bsic : List ℕ) (r r' : AccessReport) →
@@ -61,9 +61,10 @@ one_sync_report burst r r' h g =
       word = (h.word ∙ ap (λ (x : ReceivedSync). x.u) same ∙ sym g.word) i;
     }
 
-pub one_margin_report : (bursts : List (List ℤ)) (r r' : MarginReport) → IsMarginReport bursts r → IsMarginReport bursts r' → r ≡ r'
+pub one_margin_report : (bursts : List (List ℤ)) (r r' : MarginReport) → IsMarginReport bursts r → IsMarginReport bursts r' →
+    r ≡ r'
 one_margin_report bursts r r' h g =
-    let soft : h.soft ≡ g.soft = same_coded h.soft g.soft (map coded_soft_bits bursts) h.gathered g.gathered in
+    let soft : h.soft ≡ g.soft = same_coded h.soft g.soft (map coded_soft_bits bursts) h.deinterleaved g.deinterleaved in
     let best = subst (λ s. IsMostLikely s r.word) soft h.best in
     let next = subst (λ s. IsSecondMostLikely s r.word r.next) soft h.next in
     let both = both_only g.soft r'.word r'.next r.word r.next g.best g.next best next in

@@ -1,4 +1,4 @@
--- What the calls of an endpoint answer to a C program, in terms of the definition of an endpoint.
+-- What the endpoint calls of the C library return, in terms of the specification of an endpoint.
 use Rattle.std.specs.Prelude.{ℕ, ◌≡◌, ◌≢◌, Bool, true, false, List, map, Option, Some, None}
 use Rattle.lapdm_frame.specs.declared.Channel.{Channel}
 use Rattle.lapdm_frame.specs.declared.Refusal.{Refusal}
@@ -10,17 +10,17 @@ use Rattle.um_air.specs.lapdm_window.declared.Refused.{Refused}
 use Rattle.um_air.specs.lapdm_window.declared.Refused.TheVariants as No
 use Rattle.um_air.specs.lapdm_window.declared.Sapi.TheVariants.{Zero}
 use Rattle.um_air.specs.lapdm_window.Ends.{Mobile, EndState, Outcome, start}
-use Rattle.um_air.specs.lapdm_window.Calls.{Call, Opens, IsCallOfItsSapi, refusal_of, after_call}
-use Rattle.um_air.specs.lapdm_window.Tables.{after_frame}
+use Rattle.um_air.specs.lapdm_window.Calls.{Call, Opens, IsCallOfItsSapi, refusal_of, call_outcome}
+use Rattle.um_air.specs.lapdm_window.Tables.{frame_outcome}
 use Rattle.lapdm_end.specs.Addresses as L
 use Rattle.lapdm_end.specs.declared.Role.{Role}
-use Rattle.um_c.specs.declared.states.PlainEnd.{PlainEnd}
-use Rattle.um_c.specs.declared.effects.PlainEffects.{PlainEffects}
+use Rattle.um_c.specs.declared.states.CEndpoint.{CEndpoint}
+use Rattle.um_c.specs.declared.effects.CEffects.{CEffects}
 use Rattle.um_c.specs.Plain.{channel_of}
-use Rattle.um_c.specs.States.{role_of, sapi_of, StateRepresents}
-use Rattle.um_c.specs.Effects.{plain_effects}
+use Rattle.um_c.specs.States.{role_of, sapi_of, StructRepresents}
+use Rattle.um_c.specs.Effects.{c_effects}
 
--- the number that C programs see for a refusal, 1 to 6; 0 means success
+-- the number that C programs see for the refusal of a call, 1 to 6; 0 means success
 abbrev pub call_refusal_number : Refused → ℕ
 call_refusal_number No.NotIdle = 1
 call_refusal_number No.NotOpen = 2
@@ -29,43 +29,47 @@ call_refusal_number No.Empty = 4
 call_refusal_number No.TooLong = 5
 call_refusal_number No.Full = 6
 
--- the answer is 0, the new state represents the endpoint after this outcome, and the effects are the frames and notices of the outcome
-pub record IsCarriedOut (channel : Channel) (o : Outcome) (answer : ℕ) (after : PlainEnd) (output : PlainEffects) : Type 0 where
+-- the call returns 0, `after` represents the endpoint after outcome `o`, and `output` holds the frames and notices of `o`
+pub record IsCarriedOut (channel : Channel) (o : Outcome) (answer : ℕ) (after : CEndpoint) (output : CEffects) : Type 0 where
   pub zero : answer ≡ 0
-  pub represents : StateRepresents after o.after
-  pub effects : output ≡ plain_effects (map (octets_of channel) o.frames) o.notices
+  pub represents : StructRepresents after o.after
+  pub effects : output ≡ c_effects (map (octets_of channel) o.frames) o.notices
 
--- the calls that this endpoint has: only a mobile establishes SAPI 0, with information; SAPI 3 is established without
-abbrev pub IsCallOfEndpoint : EndState → Call → Type 0
-IsCallOfEndpoint e (Opens info) = (e.sapi ≡ Zero) × (e.role ≡ Mobile)
-IsCallOfEndpoint e call = IsCallOfItsSapi e call
+-- the endpoint has this call: only a mobile establishes SAPI 0, with information; either side establishes SAPI 3, without
+abbrev pub EndpointHasCall : EndState → Call → Type 0
+EndpointHasCall e (Opens info) = (e.sapi ≡ Zero) × (e.role ≡ Mobile)
+EndpointHasCall e call = IsCallOfItsSapi e call
 
--- the call is carried out or refused as the definition says for the endpoint that the state represents; the answer is 8 if this endpoint
--- has no such call, and 7 if the state represents no endpoint; if the answer is not 0, nothing is written
-pub record IsCalledAs (call : Call) (answer : ℕ) (before after : PlainEnd) (output_old output : PlainEffects) : Type 0 where
-  pub done : (e : EndState) → StateRepresents before e → IsCallOfEndpoint e call → refusal_of call e ≡ None →
-      IsCarriedOut e.channel (after_call call e) answer after output
-  pub refused : (e : EndState) → StateRepresents before e → IsCallOfEndpoint e call → (reason : Refused) → refusal_of call e ≡ Some reason →
-      answer ≡ call_refusal_number reason
-  pub other : (e : EndState) → StateRepresents before e → (IsCallOfEndpoint e call → ⊥) → answer ≡ 8
-  pub no_end : ((e : EndState) → StateRepresents before e → ⊥) → answer ≡ 7
+-- the call is carried out or refused as specified for the endpoint that `before` represents; it returns 8 if this endpoint has no such
+-- call, and 7 if `before` represents no endpoint; unless it returns 0, nothing is written
+pub record AnswersCall (call : Call) (answer : ℕ) (before after : CEndpoint) (output_old output : CEffects) : Type 0 where
+  pub done : (e : EndState) → StructRepresents before e → EndpointHasCall e call → refusal_of call e ≡ None →
+      IsCarriedOut e.channel (call_outcome call e) answer after output
+  pub refused : (e : EndState) → StructRepresents before e → EndpointHasCall e call → (reason : Refused) →
+      refusal_of call e ≡ Some reason → answer ≡ call_refusal_number reason
+  pub other : (e : EndState) → StructRepresents before e → (EndpointHasCall e call → ⊥) → answer ≡ 8
+  pub no_endpoint : ((e : EndState) → StructRepresents before e → ⊥) → answer ≡ 7
   pub unchanged : answer ≢ 0 → (after ≡ before) × (output ≡ output_old)
 
--- the endpoint receives the frame that the block encodes; the answer is 9 if it encodes no frame, and 7 if the state represents no
--- endpoint; if the answer is not 0, nothing is written
-pub record IsBlockTakenAs (octets : List ℕ) (answer : ℕ) (before after : PlainEnd) (output_old output : PlainEffects) : Type 0 where
-  pub done : (e : EndState) → StateRepresents before e → (f : Frame) → IsOnlyFrame e.channel f octets →
-      IsCarriedOut e.channel (after_frame f e) answer after output
-  pub no_frame : (e : EndState) → StateRepresents before e → (reason : Refusal) → IsOnlyRefusal e.channel octets reason → answer ≡ 9
-  pub no_end : ((e : EndState) → StateRepresents before e → ⊥) → answer ≡ 7
+-- the endpoint receives the frame that the block encodes; the call returns 9 if the block encodes no frame, and 7 if `before` represents no
+-- endpoint; unless it returns 0, nothing is written
+pub record AnswersBlock (octets : List ℕ) (answer : ℕ) (before after : CEndpoint) (output_old output : CEffects) : Type 0 where
+  pub done : (e : EndState) → StructRepresents before e → (f : Frame) → IsOnlyFrame e.channel f octets →
+      IsCarriedOut e.channel (frame_outcome f e) answer after output
+  pub no_frame : (e : EndState) → StructRepresents before e → (reason : Refusal) → IsOnlyRefusal e.channel octets reason →
+      answer ≡ 9
+  pub no_endpoint : ((e : EndState) → StructRepresents before e → ⊥) → answer ≡ 7
   pub unchanged : answer ≢ 0 → (after ≡ before) × (output ≡ output_old)
 
--- if the three numbers stand for a role, a SAPI and a channel, the answer is true and the state is that of a new endpoint; otherwise the
--- answer is false, and nothing is written
-abbrev pub IsNewEndpoint : Option Role → Option Sapi → Option Channel → Bool → (before after : PlainEnd) → Type 0
-IsNewEndpoint (Some role) (Some sapi) (Some channel) answer before after =
-    (answer ≡ true) × StateRepresents after (start (L.role_of role) sapi channel)
-IsNewEndpoint role sapi channel answer before after = (answer ≡ false) × (after ≡ before)
+-- if role, SAPI and channel are valid, the call returns true, and `after` represents a new endpoint; otherwise it returns false and writes
+-- nothing
+abbrev pub WritesNewEndpoint : Option Role → Option Sapi → Option Channel → Bool → (before after : CEndpoint) → Type 0
+WritesNewEndpoint (Some role) (Some sapi) (Some channel) answer before after =
+    (answer ≡ true) × StructRepresents after (start (L.role_of role) sapi channel)
+WritesNewEndpoint role sapi channel answer before after = (answer ≡ false) × (after ≡ before)
 
-abbrev pub IsNewEndpointAs : (role sapi channel : ℕ) → Bool → (before after : PlainEnd) → Type 0
-IsNewEndpointAs role sapi channel answer before after = IsNewEndpoint (role_of role) (sapi_of sapi) (channel_of channel) answer before after
+-- if the three numbers stand for a role, a SAPI and a channel, the call returns true, and `after` represents a new endpoint; otherwise it
+-- returns false and writes nothing
+abbrev pub AnswersNewEndpoint : (role sapi channel : ℕ) → Bool → (before after : CEndpoint) → Type 0
+AnswersNewEndpoint role sapi channel answer before after = WritesNewEndpoint (role_of role) (sapi_of sapi) (channel_of channel) answer
+    before after

@@ -8,28 +8,29 @@ use Rattle.um_air.specs.lapdm_window.declared.Sapi.TheVariants.{Zero, Three}
 use Rattle.um_air.specs.lapdm_window.declared.State.TheVariants.{Idle, Open}
 use Rattle.um_air.specs.lapdm_window.Ends.{Role, Mobile, Network, EndState, command_cr}
 use Rattle.um_air.specs.lapdm_window.Calls.{Opens, refusal_of}
-use Rattle.um_air.specs.lapdm_window.Tables.{after_frame}
+use Rattle.um_air.specs.lapdm_window.Tables.{frame_outcome}
 use Rattle.um_air.specs.lapdm_link.Queues.{empty_queues}
-use Rattle.um_c.specs.declared.states.PlainEnd.{PlainEnd}
-use Rattle.um_c.specs.declared.effects.PlainEffects.{PlainEffects}
-use Rattle.um_c.specs.EndCalls.{IsCallOfEndpoint}
+use Rattle.um_c.specs.declared.states.CEndpoint.{CEndpoint}
+use Rattle.um_c.specs.declared.effects.CEffects.{CEffects}
+use Rattle.um_c.specs.EndCalls.{EndpointHasCall}
 use Rattle.um_c.specs.Joined.{Joined, ProgramStep, Calls, TakesOldest}
 
-abbrev pub state_of_two : PlainEnd → PlainEnd → Role → Sapi → Option PlainEnd
-state_of_two mobile network Mobile Zero = Some mobile
-state_of_two mobile network Network Zero = Some network
-state_of_two mobile network r Three = None
+-- the endpoint states of a program with these two endpoints, both of SAPI 0
+abbrev pub state_of_two_endpoints : CEndpoint → CEndpoint → Role → Sapi → Option CEndpoint
+state_of_two_endpoints mobile network Mobile Zero = Some mobile
+state_of_two_endpoints mobile network Network Zero = Some network
+state_of_two_endpoints mobile network r Three = None
 
--- a program with two endpoints of SAPI 0 in these states, and no block in transit
-abbrev pub two_endpoints : (mobile network : PlainEnd) → Joined
-two_endpoints mobile network = record { state = state_of_two mobile network; queues = empty_queues }
+-- a program that has these two endpoints of SAPI 0, and no block in transit
+abbrev pub program_of_two_endpoints : (mobile network : CEndpoint) → Joined
+program_of_two_endpoints mobile network = record { state = state_of_two_endpoints mobile network; queues = empty_queues }
 
 -- the first block that a call sends
-abbrev pub first_block : PlainEffects → List ℕ
+abbrev pub first_block : CEffects → List ℕ
 first_block output = slice_index_or output.frames 0 []
 
--- the three steps: the mobile establishes the link, the network gets the SABM, and the mobile gets the UA
-abbrev pub opening : Message → (asked answered opened : PlainEffects) → List ProgramStep
+-- the three steps that establish the link: the mobile's call sends a SABM, the network gets the SABM, and the mobile gets the UA
+abbrev pub opening : Message → (asked answered opened : CEffects) → List ProgramStep
 opening info asked answered opened =
     Calls Mobile Zero (Opens info) 0 asked ∷ TakesOldest Network Zero (first_block asked) 0 answered
     ∷ TakesOldest Mobile Zero (first_block answered) 0 opened ∷ []
@@ -37,15 +38,15 @@ opening info asked answered opened =
 -- ---- when all three calls succeed
 
 -- the SABM of a mobile that establishes SAPI 0 with this information
-abbrev pub sabm_with : Message → Frame
-sabm_with info = record { sapi = 0; cr = command_cr Mobile; content = Sabm true info }
+abbrev pub sabm_with_info : Message → Frame
+sabm_with_info info = record { sapi = 0; cr = command_cr Mobile; content = Sabm true info }
 
--- a mobile in this state can establish the link with this information, and the network answers its SABM with one frame
-pub record CanEstablish (info : Message) (mobile network : EndState) : Type 0 where
+-- the mobile can establish the link with this information, and the network answers its SABM with one frame
+pub record CanEstablishLink (info : Message) (mobile network : EndState) : Type 0 where
   pub channel : mobile.channel ≡ network.channel
-  pub may : IsCallOfEndpoint mobile (Opens info)
-  pub unrefused : refusal_of (Opens info) mobile ≡ None
-  pub answer : length (after_frame (sabm_with info) network).frames ≡ 1
+  pub allowed : EndpointHasCall mobile (Opens info)
+  pub not_refused : refusal_of (Opens info) mobile ≡ None
+  pub answer : length (frame_outcome (sabm_with_info info) network).frames ≡ 1
 
 -- the endpoint of SAPI 0 with this role is in Idle
 pub record IsIdleEndpoint (r : Role) (e : EndState) : Type 0 where
@@ -54,16 +55,17 @@ pub record IsIdleEndpoint (r : Role) (e : EndState) : Type 0 where
   pub state : e.state ≡ Idle
 
 -- both endpoints of the link of SAPI 0 are in Idle, and the information fits in a frame
-pub record AreIdle (info : Message) (mobile network : EndState) : Type 0 where
+pub record BothAreIdle (info : Message) (mobile network : EndState) : Type 0 where
   pub asks : IsIdleEndpoint Mobile mobile
   pub answers : IsIdleEndpoint Network network
   pub channel : mobile.channel ≡ network.channel
   pub some : 1 ≤ length info
   pub fits : length info ≤ n201 mobile.channel
 
--- the mobile's endpoint, and (below) the network's, after the three calls
-abbrev pub mobile_when_open : Message → EndState → EndState
-mobile_when_open info e = record e { state = Open; kept = info; retries = 0 }
+-- the mobile's endpoint after the three calls
+abbrev pub mobile_after_opening : Message → EndState → EndState
+mobile_after_opening info e = record e { state = Open; kept = info; retries = 0 }
 
-abbrev pub network_when_open : Message → EndState → EndState
-network_when_open info e = record e { state = Open; kept = info }
+-- the network's endpoint after the three calls
+abbrev pub network_after_opening : Message → EndState → EndState
+network_after_opening info e = record e { state = Open; kept = info }

@@ -1,23 +1,24 @@
--- A frame as a C struct: the number of its kind, and all fields that a frame may have.
-use Rattle.std.specs.Prelude.{ℕ, ◌≡◌, ◌==◌, ◌⊎◌, ◌-◌, nat_le, not, if◌then◌else◌, Bool, true, false, List, slice_get}
+-- The C struct of a frame: the number of its kind, and every field that a frame of any kind may have.
+use Rattle.std.specs.Prelude.{ℕ, ◌≡◌, ◌==◌, ◌⊎◌, ◌-◌, if◌then◌else◌}
+use Rattle.std.specs.Prelude.{nat_le, not, Bool, true, false, List, slice_get}
 use Rattle.std.specs.Prelude.{◌++◌, length, take, replicate, Option, Some, None}
 use Rattle.lapdm_frame.specs.declared.Channel.{Channel}
 use Rattle.lapdm_frame.specs.declared.Channel.TheVariants.{Sdcch, Sacch}
 use Rattle.lapdm_frame.specs.declared.Refusal.{Refusal}
 use Rattle.lapdm_frame.specs.declared.Refusal.TheVariants.{Lpd, Ea, Control, El, Length, Empty, More}
 use Rattle.lapdm_frame.specs.declared.Kind.{Kind}
-use Rattle.lapdm_frame.specs.Content.{Content, Fields, Frame, kinds, kind_number, fields_of, content_with}
-use Rattle.lapdm_frame.specs.Frames.{bit, Fits, octets_of}
+use Rattle.lapdm_frame.specs.Content.{Content, Fields, Frame, kinds, kind_number, fields_of, content_with_fields}
+use Rattle.lapdm_frame.specs.Frames.{bit, FrameFits, octets_of}
 use Rattle.lapdm_frame.specs.Readings.{IsOnlyFrame, IsOnlyRefusal}
-use Rattle.um_c.specs.declared.frames.PlainFrame.{PlainFrame}
+use Rattle.um_c.specs.declared.frames.CFrame.{CFrame}
 
--- the channel for which this number stands, if any: 0 SDCCH, 1 SACCH
+-- the channel for which this number stands: 0 is SDCCH, 1 is SACCH, any other number is invalid
 abbrev pub channel_of : ℕ → Option Channel
 channel_of number = if number == 0 then Some Sdcch else if number == 1 then Some Sacch else None
 
--- a frame as a C struct: fields that its kind does not have are 0, and zeros follow the information
-abbrev pub plain_fields : ℕ → Bool → Fields → PlainFrame
-plain_fields sapi cr f = record {
+-- the C struct of a frame: fields that its kind does not have are 0, and zeros follow the information
+abbrev pub c_frame_of_fields : ℕ → Bool → Fields → CFrame
+c_frame_of_fields sapi cr f = record {
   kind = kind_number f.kind;
   sapi = sapi;
   cr = bit cr;
@@ -29,10 +30,11 @@ plain_fields sapi cr f = record {
   info = f.info ++ replicate (20 - length f.info) 0;
 }
 
-abbrev pub plain : Frame → PlainFrame
-plain f = plain_fields f.sapi f.cr (fields_of f.content)
+-- converts a frame to a C struct
+abbrev pub c_struct : Frame → CFrame
+c_struct f = c_frame_of_fields f.sapi f.cr (fields_of f.content)
 
--- the number that C programs see for a refusal, 1 to 7; 0 means success
+-- the number that C programs see for the reason why a block is not a valid frame, 1 to 7; 0 means success
 abbrev pub frame_refusal_number : Refusal → ℕ
 frame_refusal_number Lpd = 1
 frame_refusal_number Ea = 2
@@ -42,42 +44,45 @@ frame_refusal_number Length = 5
 frame_refusal_number Empty = 6
 frame_refusal_number More = 7
 
--- either the octets encode exactly one frame, the answer is 0 and the fields of that frame are written; or they are refused, the answer is
--- the number of the reason, and nothing is written
-abbrev pub IsReadAs : Channel → List ℕ → ℕ → (before after : PlainFrame) → Type 0
-IsReadAs channel octets answer before after =
-    ((f : Frame) × IsOnlyFrame channel f octets × (answer ≡ 0) × (after ≡ plain f))
+-- either the octets encode exactly one frame, and the call returns 0 and writes its fields; or they are not a valid frame, and the call
+-- returns the number of the reason and writes nothing
+abbrev pub AnswersFrameRead : Channel → List ℕ → ℕ → (before after : CFrame) → Type 0
+AnswersFrameRead channel octets answer before after =
+    ((f : Frame) × IsOnlyFrame channel f octets × (answer ≡ 0) × (after ≡ c_struct f))
     ⊎ ((reason : Refusal) × IsOnlyRefusal channel octets reason × (answer ≡ frame_refusal_number reason) × (after ≡ before))
 
--- the bit for which a number in a C struct stands: 0 if the number is 0, otherwise 1
+-- whether a number in a C struct stands for the bit 1: any number other than 0 does
 abbrev pub is_nonzero : ℕ → Bool
 is_nonzero field = not (field == 0)
 
--- the content, if its information has this many octets; otherwise `None`
-abbrev pub content_with_count : ℕ → Content → Option Content
-content_with_count count content = if length (fields_of content).info == count then Some content else None
+-- the content, if its information has this number of octets; otherwise `None`
+abbrev pub content_if_info_length : ℕ → Content → Option Content
+content_if_info_length count content = if length (fields_of content).info == count then Some content else None
 
--- the content that the fields describe. There is none if no kind has this number, or if a kind without information has a count other than
--- 0; other fields that the kind does not have are ignored.
-abbrev pub content_of_kind : PlainFrame → Option Kind → Option Content
+-- the content that the fields describe for this kind, or `None` if there is no kind, or if a kind without information has a count other
+-- than 0; fields that the kind does not have are ignored
+abbrev pub content_of_kind : CFrame → Option Kind → Option Content
 content_of_kind f None = None
-content_of_kind f (Some kind) = content_with_count f.count (content_with kind f.ns f.nr (is_nonzero f.pf) (is_nonzero f.more)
+content_of_kind f (Some kind) = content_if_info_length f.count (content_with_fields kind f.ns f.nr (is_nonzero f.pf) (is_nonzero f.more)
     (take f.count f.info))
 
-abbrev pub content_from_fields : PlainFrame → Option Content
+-- the content that the fields describe, or `None` if they describe none
+abbrev pub content_from_fields : CFrame → Option Content
 content_from_fields f = content_of_kind f (slice_get kinds f.kind)
 
+-- the frame with this SAPI, C/R bit and content, or `None` if there is no content
 abbrev pub frame_with_address_fields : ℕ → Bool → Option Content → Option Frame
 frame_with_address_fields sapi cr None = None
 frame_with_address_fields sapi cr (Some content) = Some (record { sapi = sapi; cr = cr; content = content })
 
--- the frame that the fields describe, or `None` if they count more than 20 octets of information
-abbrev pub frame_from_fields : PlainFrame → Option Frame
+-- the frame that the fields describe, or `None` if they describe none, or if they count more than 20 octets of information
+abbrev pub frame_from_fields : CFrame → Option Frame
 frame_from_fields f = if nat_le f.count 20 then frame_with_address_fields f.sapi (is_nonzero f.cr) (content_from_fields f) else None
 
--- if the fields describe a frame that fits in a block of the channel, the answer is true and the canonical octets are written; otherwise
--- the answer is false, and nothing is written
-abbrev pub IsWrittenAs : Channel → Option Frame → Bool → (before after : List ℕ) → Type 0
-IsWrittenAs channel None answer before after = (answer ≡ false) × (after ≡ before)
-IsWrittenAs channel (Some f) answer before after =
-    (Fits channel f × (answer ≡ true) × (after ≡ octets_of channel f)) ⊎ ((¬ Fits channel f) × (answer ≡ false) × (after ≡ before))
+-- if there is a frame and it fits in a block of the channel, the call returns true and writes its canonical octets; otherwise it returns
+-- false and writes nothing
+abbrev pub AnswersFrameWrite : Channel → Option Frame → Bool → (before after : List ℕ) → Type 0
+AnswersFrameWrite channel None answer before after = (answer ≡ false) × (after ≡ before)
+AnswersFrameWrite channel (Some f) answer before after =
+    (FrameFits channel f × (answer ≡ true) × (after ≡ octets_of channel f))
+    ⊎ ((¬ FrameFits channel f) × (answer ≡ false) × (after ≡ before))

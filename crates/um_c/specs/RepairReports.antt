@@ -5,14 +5,16 @@ use Rattle.fire_repair.specs.fire_code.Words.{IsXcchWord}
 use Rattle.fire_repair.specs.Repairs.{IsRepair, IsSpanOfChangedBits}
 use Rattle.um_c.specs.declared.repairs.RepairReport.{RepairReport}
 
--- the answer for a word of bits: 0 if its CRC holds; 1 if it was repaired, and then the report says how; 2 if it cannot be repaired
-abbrev pub IsRepairReportAnswer : List ℕ → ℕ → (before after : RepairReport) → Type 0
-IsRepairReportAnswer w answer before after =
+-- repairing a word of bits returns 0 if its CRC holds; 1 if the word was repaired, and then `after` describes the repair; 2 if it cannot be
+-- repaired; the report stays unchanged unless 1 is returned
+abbrev pub AnswersRepairOfBits : List ℕ → ℕ → (before after : RepairReport) → Type 0
+AnswersRepairOfBits w answer before after =
     (IsXcchWord w × (answer ≡ 0) × (after ≡ before))
     ⊎ (IsRepair w after.word × IsSpanOfChangedBits w after.word after.first after.span × (answer ≡ 1))
     ⊎ ((IsXcchWord w → ⊥) × ((v : List ℕ) → IsRepair w v → ⊥) × (answer ≡ 2) × (after ≡ before))
 
--- the same for any octets; if one of them is neither 0 nor 1, the answer is 3 and nothing is written
-abbrev pub IsRepairedAs : List ℕ → ℕ → (before after : RepairReport) → Type 0
-IsRepairedAs w answer before after =
-    (AllBits w × IsRepairReportAnswer w answer before after) ⊎ ((AllBits w → ⊥) × (answer ≡ 3) × (after ≡ before))
+-- repairing a word of octets returns 3 and leaves the report unchanged if an octet is neither 0 nor 1; otherwise the word is repaired as a
+-- word of bits, which returns 0, 1 or 2
+abbrev pub AnswersRepair : List ℕ → ℕ → (before after : RepairReport) → Type 0
+AnswersRepair w answer before after =
+    (AllBits w × AnswersRepairOfBits w answer before after) ⊎ ((AllBits w → ⊥) × (answer ≡ 3) × (after ≡ before))

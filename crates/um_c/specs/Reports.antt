@@ -7,8 +7,8 @@ use Rattle.um_block.specs.declared.received.Received.{Received}
 use Rattle.um_block.specs.declared.received.ReceivedAccess.{ReceivedAccess}
 use Rattle.um_block.specs.declared.received.ReceivedSync.{ReceivedSync}
 use Rattle.um_block.specs.Received.{IsReceivedBlock, IsReceivedAccess, IsReceivedSync, coded_soft_bits, access_soft_bits, sync_soft_bits}
-use Rattle.um_among.specs.declared.reports.BlockAmong.{BlockAmong}
-use Rattle.um_among.specs.Among.{IsBlockListReport}
+use Rattle.um_among.specs.declared.reports.ListDecodedBlock.{ListDecodedBlock}
+use Rattle.um_among.specs.Among.{IsListDecodedBlock}
 use Rattle.um_c.specs.declared.blocks.BlockReport.{BlockReport}
 use Rattle.um_c.specs.declared.bursts.AccessReport.{AccessReport}
 use Rattle.um_c.specs.declared.bursts.SyncReport.{SyncReport}
@@ -26,21 +26,21 @@ pub record ReportsBlock (bursts : List (List ℤ)) (received : Received) (r : Bl
       ((r.accepted ≡ 0) × (r.octets ≡ replicate 23 0))
       (λ octets. (r.accepted ≡ 1) × (r.octets ≡ octets))
 
--- the report on the block that is received from four bursts
+-- `r` is the report on the block received from four bursts
 pub record IsBlockReport (bursts : List (List ℤ)) (r : BlockReport) : Type 0 where
   pub received : Received
   pub is : IsReceivedBlock bursts received
   pub output : ReportsBlock bursts received r
 
--- the report on the block that is received from four bursts if the `most` most likely words are tried, and the rank of the reported word
--- among all words by likelihood, from 1
-pub record IsBlockReportAmong (bursts : List (List ℤ)) (most rank : ℕ) (r : BlockReport) : Type 0 where
-  pub received : BlockAmong
-  pub is : IsBlockListReport bursts most received
+-- `r` is the report on the block that a list decoder receives from four bursts when it tries the `most` most likely words, and `rank`, from
+-- 1, is the rank of the chosen word among its candidates
+pub record IsListDecodedReport (bursts : List (List ℤ)) (most rank : ℕ) (r : BlockReport) : Type 0 where
+  pub received : ListDecodedBlock
+  pub is : IsListDecodedBlock bursts most received
   pub output : ReportsBlock bursts received.report r
   pub place : rank ≡ received.rank
 
--- the report on an access burst that is received with this BSIC
+-- `r` is the report on an access burst received with this BSIC
 pub record IsAccessReport (burst : List ℤ) (bsic : List ℕ) (r : AccessReport) : Type 0 where
   pub received : ReceivedAccess
   pub is : IsReceivedAccess burst bsic received
@@ -52,7 +52,7 @@ pub record IsAccessReport (burst : List ℤ) (bsic : List ℕ) (r : AccessReport
       ((r.accepted ≡ 0) × (r.info ≡ replicate 8 0))
       (λ info. (r.accepted ≡ 1) × (r.info ≡ info))
 
--- the report on a synchronisation burst
+-- `r` is the report on a received synchronisation burst
 pub record IsSyncReport (burst : List ℤ) (r : SyncReport) : Type 0 where
   pub received : ReceivedSync
   pub is : IsReceivedSync burst received

@@ -1,10 +1,10 @@
-//! Exports for blocks of 23 octets: coding as four normal bursts, and decoding.
+//! C functions for blocks of 23 octets: coding as four normal bursts, and decoding.
 ghost use Rattle.std.specs.Prelude.{◌≡◌, ◌≢◌, ◌≤◌, ◌↔◌, All, IsTrue, IsSome, false, ℕ, ℤ, List, map};
 ghost use Rattle.std.specs.Prelude.{replicate, MatchOption};
 ghost use Rattle.um_block.specs.bit_blocks.Bits.{AllBits};
 ghost use Rattle.um_block.specs.bit_blocks.SoftValues.{AllSoftBits};
 ghost use Rattle.um_block.specs.Sent.{IsSentBlock};
-ghost use Rattle.um_block.specs.conv_code.Code.{IsInformation};
+ghost use Rattle.um_block.specs.conv_code.Code.{IsEncoderInput};
 ghost use Rattle.um_block.specs.conv_code.Likelihood.{RanksAfter};
 ghost use Rattle.um_block.specs.interleave.Bursts.{IsInterleaved};
 ghost use Rattle.um_among.specs.list_decode.Ranking.{IsCandidate};
@@ -12,12 +12,12 @@ ghost use Rattle.um_block.specs.declared.received.Received.{Received as Received
 ghost use Rattle.um_block.specs.Received.{IsReceivedBlock, coded_soft_bits};
 ghost use Rattle.um_among.specs.Among.{NoCrcHolds};
 ghost use Rattle.um_among.specs.Parities.{BlockCrcHolds};
-ghost use Rattle.um_c.specs.Reports.{IsBlockReport, IsBlockReportAmong, ReportsBlock};
+ghost use Rattle.um_c.specs.Reports.{IsBlockReport, IsListDecodedReport, ReportsBlock};
 
 use crate::soft::are_soft_bursts;
 use um_among::{MAX_LISTS, receive_deinterleaved_among};
 use um_block::{
-    BLOCK_OCTETS, BURST_BITS, CODED_BITS, INFORMATION_BITS, Received, deinterleave_block,
+    BLOCK_OCTETS, BURST_BITS, CODED_BITS, ENCODER_INPUT_BITS, Received, deinterleave_block,
     receive_deinterleaved, send_block, wrong_coded_bits,
 };
 
@@ -38,10 +38,10 @@ pub struct BlockReport {
     /// The 23 octets if the CRC holds, otherwise zeros.
     pub octets: [u8; BLOCK_OCTETS],
     /// The reported word, with one bit in each octet: 184 data bits, 40 CRC bits, four zeros.
-    pub word: [u8; INFORMATION_BITS],
+    pub word: [u8; ENCODER_INPUT_BITS],
 }
 
-/// Codes 23 octets as four bursts. Returns false, and writes nothing, if `tsc` is above 7.
+/// Codes 23 octets as four bursts with this training sequence code. Returns false, and writes nothing, if the code is above 7.
 #[unsafe(no_mangle)]
 pub extern "C" fn um_send_block(
     octets: &[u8; BLOCK_OCTETS],
@@ -61,7 +61,7 @@ pub extern "C" fn um_send_block(
     true
 }
 
-/// Decodes the soft values of four bursts. Returns false, and writes nothing, if one of them is -128.
+/// Decodes the soft values of four bursts. Returns false, and writes nothing, if a soft value is -128.
 #[unsafe(no_mangle)]
 pub extern "C" fn um_receive_block(bursts: &[[i8; BURST_BITS]; 4], report: &mut BlockReport) -> bool
     ensures soft { IsTrue result ↔ All AllSoftBits bursts.now }
@@ -74,13 +74,13 @@ pub extern "C" fn um_receive_block(bursts: &[[i8; BURST_BITS]; 4], report: &mut 
         return false;
     }
     let soft = deinterleave_block(bursts);
-    *report = reported_block(bursts, &soft, &receive_deinterleaved(bursts, &soft));
+    *report = block_report_of(bursts, &soft, &receive_deinterleaved(bursts, &soft));
     true
 }
 
-/// Decodes the soft values of four bursts. Tries the `most` (1 to 64) most likely words, and reports the first whose CRC holds, or the most
-/// likely word if none does, and the rank of the reported word, from 1. Returns false, and writes nothing, if a soft value is -128 or
-/// `most` is out of range.
+/// Decodes the soft values of four bursts by trying the `most` (1 to 64) most likely words. Reports the first word whose CRC holds, or the
+/// most likely word if none does, and its rank among the list decoder's candidates, from 1. Returns false, and writes nothing, if a soft
+/// value is -128 or `most` is out of range.
 #[unsafe(no_mangle)]
 pub extern "C" fn um_receive_block_among(
     bursts: &[[i8; BURST_BITS]; 4],
@@ -89,9 +89,9 @@ pub extern "C" fn um_receive_block_among(
     rank: &mut u32,
 ) -> bool
     ensures known { IsTrue result ↔ (All AllSoftBits bursts.now × (1 ≤ most) × (most ≤ MAX_LISTS)) }
-    ensures received { IsTrue result → IsBlockReportAmong bursts.now most rank.new report.new }
+    ensures received { IsTrue result → IsListDecodedReport bursts.now most rank.new report.new }
     ensures only { IsTrue result → (place : ℕ) (other : BlockReport)
-        → IsBlockReportAmong bursts.now most place other → (place ≡ rank.new) × (other ≡ report.new) }
+        → IsListDecodedReport bursts.now most place other → (place ≡ rank.new) × (other ≡ report.new) }
     ensures best { IsTrue result → report.new.accepted ≡ 1 → (soft : List ℤ) (v : List ℕ)
         → IsInterleaved soft (map coded_soft_bits bursts.now) → IsCandidate soft v → BlockCrcHolds v
         → v ≢ report.new.word → RanksAfter soft v report.new.word }
@@ -107,24 +107,25 @@ pub extern "C" fn um_receive_block_among(
     }
     let soft = deinterleave_block(bursts);
     let among = receive_deinterleaved_among(bursts, &soft, most);
-    *report = reported_block(bursts, &soft, &among.report);
+    *report = block_report_of(bursts, &soft, &among.report);
     *rank = among.rank;
     true
 }
 
 /// The report on the block that was received from four bursts.
-fn reported_block(
+#[inline(always)]
+fn block_report_of(
     bursts: &[[i8; BURST_BITS]; 4],
     soft: &[i8; CODED_BITS],
     received: &Received,
 ) -> BlockReport
-    requires gathered { IsInterleaved soft.now (map coded_soft_bits bursts.now) }
-    requires information { IsInformation received.now.u }
+    requires deinterleaved { IsInterleaved soft.now (map coded_soft_bits bursts.now) }
+    requires information { IsEncoderInput received.now.u }
     ensures { ReportsBlock bursts.now received.now result }
 {
-    let mut word = [0; INFORMATION_BITS];
+    let mut word = [0; ENCODER_INPUT_BITS];
     word.copy_from_slice(received.u.as_slice());
-    let (accepted, octets) = accepted_octets(&received.accepted);
+    let (accepted, octets) = accepted_flag_and_octets(&received.accepted);
     BlockReport {
         metric: received.metric,
         wrong_training: received.wrong_training,
@@ -136,8 +137,8 @@ fn reported_block(
     }
 }
 
-/// 1 and the accepted octets, or 0 and zeros if none were accepted.
-fn accepted_octets(accepted: &Option<[u8; BLOCK_OCTETS]>) -> (u8, [u8; BLOCK_OCTETS])
+/// Returns 1 and the accepted octets, or 0 and zeros if none were accepted.
+fn accepted_flag_and_octets(accepted: &Option<[u8; BLOCK_OCTETS]>) -> (u8, [u8; BLOCK_OCTETS])
     ensures { MatchOption accepted.now
         ((result.0 ≡ 0) × (result.1 ≡ replicate BLOCK_OCTETS 0))
         (λ octets. (result.0 ≡ 1) × (result.1 ≡ octets)) }

@@ -1,11 +1,11 @@
-//! Exports for access bursts and synchronisation bursts.
+//! C functions that code and decode access bursts and synchronisation bursts.
 ghost use Rattle.std.specs.Prelude.{◌≡◌, ◌↔◌, ℕ, List, replicate, IsTrue, false, MatchOption};
 ghost use Rattle.um_block.specs.bit_blocks.Bits.{AllBits};
 ghost use Rattle.um_block.specs.bit_blocks.SoftValues.{AllSoftBits};
 ghost use Rattle.um_block.specs.Sent.{IsSentAccess, IsSentSync};
 ghost use Rattle.um_c.specs.Reports.{IsAccessReport, IsSyncReport};
 
-use crate::soft::are_soft;
+use crate::soft::are_soft_bits;
 use um_block::{
     BURST_BITS, Bits, receive_access, receive_sync, send_access, send_sync, wrong_access_bits,
     wrong_sync_bits,
@@ -83,13 +83,13 @@ pub extern "C" fn um_receive_access(
     let Some(bsic) = Bits::<6>::from_slice(bsic) else {
         return false;
     };
-    if !are_soft(burst) {
+    if !are_soft_bits(burst) {
         return false;
     }
     let received = receive_access(burst, &bsic);
     let mut word = [0; 18];
     word.copy_from_slice(received.u.as_slice());
-    let (accepted, info) = accepted_bits(&received.accepted);
+    let (accepted, info) = accepted_flag_and_bits(&received.accepted);
     *report = AccessReport {
         metric: received.metric,
         wrong_training: received.wrong_training,
@@ -116,7 +116,7 @@ pub extern "C" fn um_send_sync(info: &[u8; 25], burst: &mut [u8; BURST_BITS]) ->
     true
 }
 
-/// Decodes the soft values of a synchronisation burst. Returns false, and writes nothing, if one of them is -128.
+/// Decodes the soft values of a synchronisation burst. Returns false, and writes nothing, if a soft value is -128.
 #[unsafe(no_mangle)]
 pub extern "C" fn um_receive_sync(burst: &[i8; BURST_BITS], report: &mut SyncReport) -> bool
     ensures soft { IsTrue result ↔ AllSoftBits burst.now }
@@ -125,13 +125,13 @@ pub extern "C" fn um_receive_sync(burst: &[i8; BURST_BITS], report: &mut SyncRep
         → other ≡ report.new }
     ensures refused { result ≡ false → report.new ≡ report.old }
 {
-    if !are_soft(burst) {
+    if !are_soft_bits(burst) {
         return false;
     }
     let received = receive_sync(burst);
     let mut word = [0; 39];
     word.copy_from_slice(received.u.as_slice());
-    let (accepted, info) = accepted_bits(&received.accepted);
+    let (accepted, info) = accepted_flag_and_bits(&received.accepted);
     *report = SyncReport {
         metric: received.metric,
         wrong_training: received.wrong_training,
@@ -143,8 +143,8 @@ pub extern "C" fn um_receive_sync(burst: &[i8; BURST_BITS], report: &mut SyncRep
     true
 }
 
-/// 1 and the accepted bits, or 0 and zeros if none were accepted.
-fn accepted_bits<const N: usize>(accepted: &Option<Bits<N>>) -> (u8, [u8; N])
+/// Returns 1 and the accepted bits, or 0 and zeros if none were accepted.
+fn accepted_flag_and_bits<const N: usize>(accepted: &Option<Bits<N>>) -> (u8, [u8; N])
     ensures { MatchOption accepted.now
         ((result.0 ≡ 0) × (result.1 ≡ replicate N 0))
         (λ info. (result.0 ≡ 1) × (result.1 ≡ info)) }

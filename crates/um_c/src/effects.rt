@@ -1,38 +1,38 @@
 //! The frames and notices of a call, in arrays of fixed size.
 ghost use Rattle.std.specs.Prelude.{◌≡◌, ◌≤◌, ◌-◌, ◌++◌, map, length, replicate, slice_index_or};
 ghost use Rattle.um_air.specs.segmenting.Segments.{max_message_octets};
-ghost use Rattle.um_c.specs.Effects.{notice_of, plain_notice, plain_effects, nothing, reason_number};
+ghost use Rattle.um_c.specs.Effects.{notice_struct, c_notice, c_effects, blank_notice, reason_number};
 
-use lapdm_end::{Effects, Notice, PlainMessage, Reason};
+use lapdm_end::{Effects, MessageBuffer, Notice, Reason};
 use lapdm_frame::BLOCK_OCTETS;
 
 /// A notice that an endpoint reports to layer 3.
 #[repr(C)]
 #[derive(Clone, Copy, Drop)]
-pub struct PlainNotice {
+pub struct CNotice {
     /// The number of the acknowledged message, from 1; 0 in other notices.
     pub number: u64,
-    /// 0 no notice, 1 opened, 2 got, 3 unit, 4 acked, 5 oversize, 6 closed.
+    /// The kind of the notice: 0 none, 1 opened, 2 got, 3 unit, 4 acked, 5 oversize, 6 closed.
     pub kind: u8,
     /// Why the link was closed: 0 contention, 1 failed, 2 refused, 3 released; 0 in other notices.
     pub reason: u8,
     /// The octets that an opened, got or unit notice carries; empty in other notices.
-    pub message: PlainMessage,
+    pub message: MessageBuffer,
 }
 
 /// The frames that a call sends and the notices that it reports, in order. Unused elements are zero.
 #[repr(C)]
 #[derive(Drop)]
-pub struct PlainEffects {
-    pub notices: [PlainNotice; 3],
+pub struct CEffects {
+    pub notices: [CNotice; 3],
     pub notice_count: u8,
     pub frame_count: u8,
     pub frames: [[u8; BLOCK_OCTETS]; 2],
 }
 
 /// Writes the frames and notices of a call.
-pub(crate) fn write_effects(output: &Effects, effects: &mut PlainEffects)
-    ensures { effects.new ≡ plain_effects output.now.frames output.now.notices }
+pub(crate) fn write_effects(output: &Effects, effects: &mut CEffects)
+    ensures { effects.new ≡ c_effects output.now.frames output.now.notices }
 {
     write_frames(output.frames.as_slice(), &mut effects.frames);
     write_notices(output.notices.as_slice(), &mut effects.notices);
@@ -48,14 +48,14 @@ fn write_frames(sent: &[[u8; BLOCK_OCTETS]], frames: &mut [[u8; BLOCK_OCTETS]; 2
     frames[..sent.len()].copy_from_slice(sent);
 }
 
-fn write_notices(reported: &[Notice], notices: &mut [PlainNotice; 3])
+fn write_notices(reported: &[Notice], notices: &mut [CNotice; 3])
     requires { length reported.now ≤ 3 }
-    ensures { notices.new ≡ map plain_notice reported.now ++ replicate (3 - length reported.now) nothing }
+    ensures { notices.new ≡ map c_notice reported.now ++ replicate (3 - length reported.now) blank_notice }
 {
-    // Most calls report nothing, and then the array is filled at once. Otherwise the notices are written one by one, because with a loop
-    // the compiler would not see that a call that sends a fill frame reports nothing.
+    // An empty list is written at once, since most calls report nothing. Other lists are written one by one: with a loop, the compiler
+    // would not see that a call that sends a fill frame reports nothing.
     if reported.is_empty() {
-        *notices = [nothing(); 3];
+        *notices = [blank_notice(); 3];
         return;
     }
     write_notice(reported, 0, &mut notices[0]);
@@ -63,20 +63,20 @@ fn write_notices(reported: &[Notice], notices: &mut [PlainNotice; 3])
     write_notice(reported, 2, &mut notices[2]);
 }
 
-fn nothing() -> PlainNotice
-    ensures { result ≡ nothing }
+fn blank_notice() -> CNotice
+    ensures { result ≡ blank_notice }
 {
-    PlainNotice {
+    CNotice {
         number: 0,
         kind: 0,
         reason: 0,
-        message: PlainMessage::empty(),
+        message: MessageBuffer::empty(),
     }
 }
 
-/// Writes the notice with index i, or zeros if there is none.
-fn write_notice(reported: &[Notice], i: usize, place: &mut PlainNotice)
-    ensures { place.new ≡ slice_index_or (map plain_notice reported.now) i nothing }
+/// Writes the notice with index `i` to `place`, or zeros if there is none.
+fn write_notice(reported: &[Notice], i: usize, place: &mut CNotice)
+    ensures { place.new ≡ slice_index_or (map c_notice reported.now) i blank_notice }
 {
     match reported.get(i) {
         None => place.write(0, 0, 0, &[]),
@@ -89,10 +89,10 @@ fn write_notice(reported: &[Notice], i: usize, place: &mut PlainNotice)
     }
 }
 
-impl PlainNotice {
+impl CNotice {
     fn write(&mut self, kind: u8, number: u64, reason: u8, octets: &[u8])
         requires { length octets.now ≤ max_message_octets }
-        ensures { self.new ≡ notice_of kind number reason octets.now }
+        ensures { self.new ≡ notice_struct kind number reason octets.now }
     {
         self.number = number;
         self.kind = kind;

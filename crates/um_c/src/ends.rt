@@ -1,7 +1,6 @@
-//! Exports for one endpoint, whose state the caller holds.
+//! C functions for one endpoint, whose state the caller holds.
 //!
-//! Each call makes the buffer for its effects before it makes the endpoint, because the compiler then fills the buffer with zeros only
-//! once.
+//! Each call creates the buffer for its effects before the endpoint, so that the compiler fills the buffer with zeros only once.
 ghost use Rattle.std.specs.Prelude.{◌≡◌, false, OnOk, IfErr, IsTrue};
 ghost use Rattle.um_air.specs.segmenting.Buffers.{octets_in};
 ghost use Rattle.um_air.specs.lapdm_window.Ends.{EndState};
@@ -10,14 +9,14 @@ ghost use Rattle.um_air.specs.lapdm_window.Calls.{call_of, IsCallOfSapi, SendsUi
 ghost use Rattle.um_air.specs.lapdm_window.Calls.{T200Expires};
 ghost use Rattle.um_air.specs.lapdm_window.Calls.{SendsFill};
 ghost use Rattle.lapdm_end.specs.Parts.{values_of};
-ghost use Rattle.um_c.specs.States.{plain_end, IsWrittenStruct};
-ghost use Rattle.um_c.specs.Effects.{plain_effects};
-ghost use Rattle.um_c.specs.EndCalls.{call_refusal_number, IsCallOfEndpoint, IsCalledAs, IsBlockTakenAs, IsNewEndpointAs};
+ghost use Rattle.um_c.specs.States.{c_endpoint, IsCanonicalStruct};
+ghost use Rattle.um_c.specs.Effects.{c_effects};
+ghost use Rattle.um_c.specs.EndCalls.{call_refusal_number, EndpointHasCall, AnswersCall, AnswersBlock, AnswersNewEndpoint};
 
-use crate::effects::{PlainEffects, write_effects};
+use crate::effects::{CEffects, write_effects};
 use crate::frames::channel_of;
-use crate::states::{PlainEnd, read_end, role_of, sapi_of, write_end};
-use lapdm_end::{Call, Effects, Endpoint, PlainMessage, Refused, Role, Sapi};
+use crate::states::{CEndpoint, read_endpoint, role_of, sapi_of, write_endpoint};
+use lapdm_end::{Call, Effects, Endpoint, MessageBuffer, Refused, Role, Sapi};
 use lapdm_frame::{BLOCK_OCTETS, Channel, read_on};
 
 pub(crate) const NOT_AN_ENDPOINT: u8 = 7;
@@ -26,12 +25,12 @@ pub(crate) const NOT_A_CALL: u8 = 8;
 
 const NOT_A_FRAME: u8 = 9;
 
-/// Writes the state of a new endpoint. Returns false, and writes nothing, if one of the numbers stands for no role, SAPI or channel.
+/// Writes the state of a new endpoint. Returns false, and writes nothing, if role, SAPI or channel is invalid.
 #[unsafe(no_mangle)]
-pub extern "C" fn um_end_new(end: &mut PlainEnd, role: u8, sapi: u8, channel: u8) -> bool
-    ensures begun { IsNewEndpointAs role sapi channel result end.old end.new }
+pub extern "C" fn um_end_new(end: &mut CEndpoint, role: u8, sapi: u8, channel: u8) -> bool
+    ensures new_endpoint { AnswersNewEndpoint role sapi channel result end.old end.new }
     ensures numbers { IsTrue result → (end.new.role ≡ role) × (end.new.sapi ≡ sapi) × (end.new.channel ≡ channel) }
-    ensures plain { IsTrue result → IsWrittenStruct end.new }
+    ensures c_struct { IsTrue result → IsCanonicalStruct end.new }
 {
     let Some(role) = role_of(role) else {
         return false;
@@ -42,28 +41,28 @@ pub extern "C" fn um_end_new(end: &mut PlainEnd, role: u8, sapi: u8, channel: u8
     let Some(channel) = channel_of(channel) else {
         return false;
     };
-    write_end(&Endpoint::new_on(role, sapi, channel), end);
+    write_endpoint(&Endpoint::new_on(role, sapi, channel), end);
     true
 }
 
 /// Begins to establish the link of SAPI 0: sends a SABM with this information.
 #[unsafe(no_mangle)]
 pub extern "C" fn um_end_open(
-    end: &mut PlainEnd,
-    info: &PlainMessage,
-    effects: &mut PlainEffects,
+    end: &mut CEndpoint,
+    info: &MessageBuffer,
+    effects: &mut CEffects,
 ) -> u8
-    ensures called { IsCalledAs (Opens (octets_in info.now)) result end.old end.new effects.old effects.new }
-    ensures plain { result ≡ 0 → IsWrittenStruct end.new }
+    ensures answers_call { AnswersCall (Opens (octets_in info.now)) result end.old end.new effects.old effects.new }
+    ensures c_struct { result ≡ 0 → IsCanonicalStruct end.new }
 {
     ask(end, &Call::Open(info.octets()), effects)
 }
 
 /// Begins to establish the link of SAPI 3: sends a SABM without information.
 #[unsafe(no_mangle)]
-pub extern "C" fn um_end_open_bare(end: &mut PlainEnd, effects: &mut PlainEffects) -> u8
-    ensures called { IsCalledAs OpensBare result end.old end.new effects.old effects.new }
-    ensures plain { result ≡ 0 → IsWrittenStruct end.new }
+pub extern "C" fn um_end_open_bare(end: &mut CEndpoint, effects: &mut CEffects) -> u8
+    ensures answers_call { AnswersCall OpensBare result end.old end.new effects.old effects.new }
+    ensures c_struct { result ≡ 0 → IsCanonicalStruct end.new }
 {
     ask(end, &Call::OpenBare, effects)
 }
@@ -71,12 +70,12 @@ pub extern "C" fn um_end_open_bare(end: &mut PlainEnd, effects: &mut PlainEffect
 /// Sends a message in I frames, which the other endpoint acknowledges.
 #[unsafe(no_mangle)]
 pub extern "C" fn um_end_send(
-    end: &mut PlainEnd,
-    message: &PlainMessage,
-    effects: &mut PlainEffects,
+    end: &mut CEndpoint,
+    message: &MessageBuffer,
+    effects: &mut CEffects,
 ) -> u8
-    ensures called { IsCalledAs (Sends (octets_in message.now)) result end.old end.new effects.old effects.new }
-    ensures plain { result ≡ 0 → IsWrittenStruct end.new }
+    ensures answers_call { AnswersCall (Sends (octets_in message.now)) result end.old end.new effects.old effects.new }
+    ensures c_struct { result ≡ 0 → IsCanonicalStruct end.new }
 {
     ask(end, &Call::Send(message.octets()), effects)
 }
@@ -84,41 +83,41 @@ pub extern "C" fn um_end_send(
 /// Sends a message in one UI frame, which is not acknowledged.
 #[unsafe(no_mangle)]
 pub extern "C" fn um_end_unit(
-    end: &PlainEnd,
-    message: &PlainMessage,
-    effects: &mut PlainEffects,
+    end: &CEndpoint,
+    message: &MessageBuffer,
+    effects: &mut CEffects,
 ) -> u8
-    ensures { IsCalledAs (SendsUnit (octets_in message.now)) result end.now end.now effects.old effects.new }
+    ensures { AnswersCall (SendsUnit (octets_in message.now)) result end.now end.now effects.old effects.new }
 {
-    ask_unchanged(end, &Call::Unit(message.octets()), effects)
+    ask_keeping_endpoint(end, &Call::Unit(message.octets()), effects)
 }
 
-/// Begins to release the link: sends a DISC. Messages that are not acknowledged are discarded.
+/// Begins to release the link: sends a DISC. Unacknowledged messages are discarded.
 #[unsafe(no_mangle)]
-pub extern "C" fn um_end_close(end: &mut PlainEnd, effects: &mut PlainEffects) -> u8
-    ensures called { IsCalledAs Closes result end.old end.new effects.old effects.new }
-    ensures plain { result ≡ 0 → IsWrittenStruct end.new }
+pub extern "C" fn um_end_close(end: &mut CEndpoint, effects: &mut CEffects) -> u8
+    ensures answers_call { AnswersCall Closes result end.old end.new effects.old effects.new }
+    ensures c_struct { result ≡ 0 → IsCanonicalStruct end.new }
 {
     ask(end, &Call::Close, effects)
 }
 
 /// Handles T200 expiry.
 #[unsafe(no_mangle)]
-pub extern "C" fn um_end_timer(end: &mut PlainEnd, effects: &mut PlainEffects) -> u8
-    ensures called { IsCalledAs T200Expires result end.old end.new effects.old effects.new }
-    ensures plain { result ≡ 0 → IsWrittenStruct end.new }
+pub extern "C" fn um_end_timer(end: &mut CEndpoint, effects: &mut CEffects) -> u8
+    ensures answers_call { AnswersCall T200Expires result end.old end.new effects.old effects.new }
+    ensures c_struct { result ≡ 0 → IsCanonicalStruct end.new }
 {
     ask(end, &Call::Timer, effects)
 }
 
 /// Sends the fill frame, for use when there is nothing else to send in a block.
 #[unsafe(no_mangle)]
-pub extern "C" fn um_end_idle(end: &PlainEnd, effects: &mut PlainEffects) -> u8
-    ensures { IsCalledAs SendsFill result end.now end.now effects.old effects.new }
+pub extern "C" fn um_end_idle(end: &CEndpoint, effects: &mut CEffects) -> u8
+    ensures { AnswersCall SendsFill result end.now end.now effects.old effects.new }
 {
     let mut output = Effects::new();
     let mut held = endpoint_to_overwrite();
-    if !read_end(end, &mut held) {
+    if !read_endpoint(end, &mut held) {
         return NOT_AN_ENDPOINT;
     }
     held.send_fill_into(&mut output);
@@ -128,65 +127,64 @@ pub extern "C" fn um_end_idle(end: &PlainEnd, effects: &mut PlainEffects) -> u8
 /// Processes a received block.
 #[unsafe(no_mangle)]
 pub extern "C" fn um_end_take(
-    end: &mut PlainEnd,
+    end: &mut CEndpoint,
     octets: &[u8; BLOCK_OCTETS],
-    effects: &mut PlainEffects,
+    effects: &mut CEffects,
 ) -> u8
-    ensures given { IsBlockTakenAs octets.now result end.old end.new effects.old effects.new }
-    ensures plain { result ≡ 0 → IsWrittenStruct end.new }
+    ensures answers_block { AnswersBlock octets.now result end.old end.new effects.old effects.new }
+    ensures c_struct { result ≡ 0 → IsCanonicalStruct end.new }
 {
     let mut output = Effects::new();
     let mut held = endpoint_to_overwrite();
-    if !read_end(end, &mut held) {
+    if !read_endpoint(end, &mut held) {
         return NOT_AN_ENDPOINT;
     }
     match read_on(octets, held.channel()) {
         Err(_) => return NOT_A_FRAME,
-        Ok(frame) => held.take_into(&frame, &mut output),
+        Ok(frame) => held.take_frame_into(&frame, &mut output),
     }
     write_call_result(Ok(()), &output, &held, end, effects)
 }
 
-/// Carries out a call of layer 3 to an endpoint.
+/// Carries out a layer 3 call to an endpoint. Returns 0, or the number of the reason why the call was not carried out.
 #[inline(always)]
-pub(crate) fn ask(end: &mut PlainEnd, call: &Call<'_>, effects: &mut PlainEffects) -> u8
-    ensures called { IsCalledAs (call_of call.now) result end.old end.new effects.old effects.new }
-    ensures plain { result ≡ 0 → IsWrittenStruct end.new }
+pub(crate) fn ask(end: &mut CEndpoint, call: &Call<'_>, effects: &mut CEffects) -> u8
+    ensures answers_call { AnswersCall (call_of call.now) result end.old end.new effects.old effects.new }
+    ensures c_struct { result ≡ 0 → IsCanonicalStruct end.new }
 {
     let mut output = Effects::new();
     let mut held = endpoint_to_overwrite();
-    if !read_end(end, &mut held) {
+    if !read_endpoint(end, &mut held) {
         return NOT_AN_ENDPOINT;
     }
-    if !may_ask(&held, call) {
+    if !endpoint_has_call(&held, call) {
         return NOT_A_CALL;
     }
     let answer = held.call(call, &mut output);
     write_call_result(answer, &output, &held, end, effects)
 }
 
-/// Carries out a call that does not change the endpoint.
+/// Carries out a call that sends a UI frame and leaves the endpoint unchanged.
 #[inline(always)]
-pub(crate) fn ask_unchanged(end: &PlainEnd, call: &Call<'_>, effects: &mut PlainEffects) -> u8
+pub(crate) fn ask_keeping_endpoint(end: &CEndpoint, call: &Call<'_>, effects: &mut CEffects) -> u8
     requires { SendsUiFrame (call_of call.now) }
-    ensures { IsCalledAs (call_of call.now) result end.now end.now effects.old effects.new }
+    ensures { AnswersCall (call_of call.now) result end.now end.now effects.old effects.new }
 {
     let mut output = Effects::new();
     let mut held = endpoint_to_overwrite();
-    if !read_end(end, &mut held) {
+    if !read_endpoint(end, &mut held) {
         return NOT_AN_ENDPOINT;
     }
     let answer = held.call(call, &mut output);
     write_call_effects(answer, &output, effects)
 }
 
-/// Whether an endpoint with this SAPI and role has this call: a mobile establishes SAPI 0 with information, and either side establishes
-/// SAPI 3 without.
-fn may_ask(end: &Endpoint, call: &Call<'_>) -> bool
+/// Whether the endpoint has this call: only a mobile establishes SAPI 0, with information; either side establishes SAPI 3, without.
+fn endpoint_has_call(end: &Endpoint, call: &Call<'_>) -> bool
     ensures sapi { IsTrue result → IsCallOfSapi (link_sapi end.now) (call_of call.now) }
-    ensures may { IsTrue result → (e : EndState) → Represents end.now e → IsCallOfEndpoint e (call_of call.now) }
+    ensures allowed { IsTrue result → (e : EndState) → Represents end.now e → EndpointHasCall e (call_of call.now) }
     ensures never { result ≡ false → (e : EndState) → Represents end.now e
-        → IsCallOfEndpoint e (call_of call.now) → ⊥ }
+        → EndpointHasCall e (call_of call.now) → ⊥ }
 {
     match *call {
         Call::Open(_) => match (end.sapi(), end.role()) {
@@ -206,39 +204,35 @@ fn may_ask(end: &Endpoint, call: &Call<'_>) -> bool
     }
 }
 
-/// An endpoint whose contents do not matter, because `read_end` overwrites it.
+/// Creates an endpoint whose contents do not matter, because the state that the caller holds overwrites it.
 fn endpoint_to_overwrite() -> Endpoint {
     Endpoint::new_on(Role::Mobile, Sapi::Zero, Channel::Sdcch)
 }
 
-/// Writes the effects of a call and the new state, and returns 0; or returns the number of the refusal.
+/// Writes the effects of a call and the new state and returns 0, or returns the number of the refusal and writes nothing.
 fn write_call_result(
     answer: Result<(), Refused>,
     output: &Effects,
     after: &Endpoint,
-    end: &mut PlainEnd,
-    effects: &mut PlainEffects,
+    end: &mut CEndpoint,
+    effects: &mut CEffects,
 ) -> u8
-    ensures done { OnOk answer ((result ≡ 0) × (end.new ≡ plain_end (values_of after.now))
-        × (effects.new ≡ plain_effects output.now.frames output.now.notices)) }
-    ensures plain { result ≡ 0 → end.new ≡ plain_end (values_of after.now) }
+    ensures done { OnOk answer ((result ≡ 0) × (end.new ≡ c_endpoint (values_of after.now))
+        × (effects.new ≡ c_effects output.now.frames output.now.notices)) }
+    ensures c_struct { result ≡ 0 → end.new ≡ c_endpoint (values_of after.now) }
     ensures refused { IfErr answer (λ reason. (result ≡ call_refusal_number reason) × (end.new ≡ end.old)
         × (effects.new ≡ effects.old)) }
 {
     let number = write_call_effects(answer, output, effects);
     if answer.is_ok() {
-        write_end(after, end);
+        write_endpoint(after, end);
     }
     number
 }
 
-/// Writes the effects of a call, and returns 0; or returns the number of the refusal.
-fn write_call_effects(
-    answer: Result<(), Refused>,
-    output: &Effects,
-    effects: &mut PlainEffects,
-) -> u8
-    ensures done { OnOk answer ((result ≡ 0) × (effects.new ≡ plain_effects output.now.frames output.now.notices)) }
+/// Writes the effects of a call and returns 0, or returns the number of the refusal and writes nothing.
+fn write_call_effects(answer: Result<(), Refused>, output: &Effects, effects: &mut CEffects) -> u8
+    ensures done { OnOk answer ((result ≡ 0) × (effects.new ≡ c_effects output.now.frames output.now.notices)) }
     ensures refused { IfErr answer (λ reason. (result ≡ call_refusal_number reason) × (effects.new ≡ effects.old)) }
 {
     match answer {

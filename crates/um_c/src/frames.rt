@@ -1,24 +1,25 @@
-//! Exports that read and write LAPDm frames.
+//! C functions that read and write LAPDm frames.
 ghost use Rattle.std.specs.Prelude.{◌≡◌, ◌≤◌, Some, None, false, length, MatchOption};
 ghost use Rattle.lapdm_frame.specs.declared.Channel.{Channel as ChannelOf};
 ghost use Rattle.lapdm_frame.specs.Content.{content_of, fields_in, frame_of};
-ghost use Rattle.lapdm_frame.specs.Frames.{Fits};
-ghost use Rattle.um_c.specs.Plain.{channel_of, frame_refusal_number, plain, plain_fields, frame_from_fields, content_from_fields, IsReadAs};
-ghost use Rattle.um_c.specs.Plain.{IsWrittenAs};
+ghost use Rattle.lapdm_frame.specs.Frames.{FrameFits};
+ghost use Rattle.um_c.specs.Plain.{channel_of, frame_refusal_number, c_struct, c_frame_of_fields, frame_from_fields, content_from_fields};
+ghost use Rattle.um_c.specs.Plain.{AnswersFrameRead};
+ghost use Rattle.um_c.specs.Plain.{AnswersFrameWrite};
 
 use lapdm_frame::{
     BLOCK_OCTETS, Body, Channel, FrameFields, FrameView, Kind, Refusal, fits_on, read_on, write_on,
 };
 
-/// A frame, with all fields that a frame of any kind may have.
+/// A frame, with every field that a frame of any kind may have.
 #[repr(C)]
 #[derive(Drop)]
-pub struct PlainFrame {
+pub struct CFrame {
     /// The frame kind: 0 I, 1 RR, 2 RNR, 3 REJ, 4 SABM, 5 DM, 6 UI, 7 DISC, 8 UA.
     pub kind: u8,
     /// The SAPI, 0 to 7.
     pub sapi: u8,
-    /// The command/response bit. In this and the other bits, any number other than 0 counts as 1.
+    /// The command/response bit. In all bit fields, any number other than 0 counts as 1.
     pub cr: u8,
     /// The poll or final bit.
     pub pf: u8,
@@ -37,21 +38,17 @@ pub struct PlainFrame {
 /// Reads the frame in a block of 23 octets on SDCCH (`channel` 0) or SACCH (1), and returns 0. If the block is not a frame, writes nothing
 /// and returns the number of the reason, 1 to 7. Returns 8 for any other channel.
 #[unsafe(no_mangle)]
-pub extern "C" fn um_read_frame(
-    octets: &[u8; BLOCK_OCTETS],
-    channel: u8,
-    frame: &mut PlainFrame,
-) -> u8
+pub extern "C" fn um_read_frame(octets: &[u8; BLOCK_OCTETS], channel: u8, frame: &mut CFrame) -> u8
     ensures { MatchOption (channel_of channel)
         ((result ≡ 8) × (frame.new ≡ frame.old))
-        (λ known. IsReadAs known octets.now result frame.old frame.new) }
+        (λ known. AnswersFrameRead known octets.now result frame.old frame.new) }
 {
     let Some(channel) = channel_of(channel) else {
         return 8;
     };
     match read_on(octets, channel) {
         Ok(view) => {
-            *frame = plain(&view);
+            *frame = c_struct(&view);
             0
         }
         Err(refusal) => frame_refusal_number(refusal),
@@ -62,13 +59,13 @@ pub extern "C" fn um_read_frame(
 /// the channel.
 #[unsafe(no_mangle)]
 pub extern "C" fn um_write_frame(
-    frame: &PlainFrame,
+    frame: &CFrame,
     channel: u8,
     octets: &mut [u8; BLOCK_OCTETS],
 ) -> bool
     ensures { MatchOption (channel_of channel)
         ((result ≡ false) × (octets.new ≡ octets.old))
-        (λ known. IsWrittenAs known (frame_from_fields frame.now) result octets.old octets.new) }
+        (λ known. AnswersFrameWrite known (frame_from_fields frame.now) result octets.old octets.new) }
 {
     let Some(channel) = channel_of(channel) else {
         return false;
@@ -108,22 +105,22 @@ fn frame_refusal_number(refusal: Refusal) -> u8
     }
 }
 
-/// The frame, which must fit in a block, as a C struct.
+/// Converts the frame, which must fit in a block, to a C struct.
 #[tactic(auto, using(lapdm_frame::proofs::FieldLaws::few_octets))]
-fn plain(view: &FrameView<'_>) -> PlainFrame
-    requires { (channel : ChannelOf) × Fits channel (frame_of view.now) }
-    ensures { result ≡ plain (frame_of view.now) }
+fn c_struct(view: &FrameView<'_>) -> CFrame
+    requires { (channel : ChannelOf) × FrameFits channel (frame_of view.now) }
+    ensures { result ≡ c_struct (frame_of view.now) }
 {
-    plain_fields(view.sapi, view.cr, &view.body.fields())
+    c_frame_of_fields(view.sapi, view.cr, &view.body.fields())
 }
 
-fn plain_fields(sapi: u8, cr: bool, fields: &FrameFields<'_>) -> PlainFrame
+fn c_frame_of_fields(sapi: u8, cr: bool, fields: &FrameFields<'_>) -> CFrame
     requires { length fields.now.info.now ≤ 20 }
-    ensures { result ≡ plain_fields sapi cr (fields_in fields.now) }
+    ensures { result ≡ c_frame_of_fields sapi cr (fields_in fields.now) }
 {
     let mut info = [0; 20];
     info[..fields.info.len()].copy_from_slice(fields.info);
-    PlainFrame {
+    CFrame {
         kind: fields.kind.number(),
         sapi,
         cr: u8::from(cr),
@@ -137,7 +134,7 @@ fn plain_fields(sapi: u8, cr: bool, fields: &FrameFields<'_>) -> PlainFrame
 }
 
 /// The frame that the fields describe, whether or not it fits in a block.
-fn decoded(frame: &PlainFrame) -> Option<FrameView<'_>>
+fn decoded(frame: &CFrame) -> Option<FrameView<'_>>
     ensures { MatchOption result (frame_from_fields frame.now ≡ None) (λ view. frame_from_fields frame.now ≡ Some (frame_of view)) }
 {
     if frame.count > 20 {
@@ -146,16 +143,17 @@ fn decoded(frame: &PlainFrame) -> Option<FrameView<'_>>
     Some(FrameView {
         sapi: frame.sapi,
         cr: frame.cr != 0,
-        body: body_from_struct(frame)?,
+        body: body_of_c_frame(frame)?,
     })
 }
 
 /// The body of the frame that the fields describe.
-fn body_from_struct(frame: &PlainFrame) -> Option<Body<'_>>
+fn body_of_c_frame(frame: &CFrame) -> Option<Body<'_>>
     requires { frame.now.count ≤ 20 }
-    ensures { MatchOption result (content_from_fields frame.now ≡ None) (λ body. content_from_fields frame.now ≡ Some (content_of body)) }
+    ensures { MatchOption result (content_from_fields frame.now ≡ None) (λ body. content_from_fields frame.now ≡
+        Some (content_of body)) }
 {
-    let kind = Kind::of_number(frame.kind)?;
+    let kind = Kind::from_number(frame.kind)?;
     let fields = FrameFields {
         kind,
         ns: frame.ns,

@@ -3,32 +3,32 @@
 
 use crate::blocks::BlockReport;
 use crate::bursts::{AccessReport, SyncReport};
-use crate::effects::{PlainEffects, PlainNotice};
-use crate::frames::PlainFrame;
+use crate::effects::{CEffects, CNotice};
+use crate::frames::CFrame;
 use crate::margins::MarginReport;
 use crate::repairs::RepairReport;
-use crate::sides::PlainSide;
-use crate::states::PlainEnd;
-use lapdm_end::PlainMessage;
+use crate::sides::CSide;
+use crate::states::CEndpoint;
+use lapdm_end::MessageBuffer;
 
-const UM_BLOCK_REPORT: [u8; 268] = [0; size_of::<BlockReport>()];
+const CHECK_BLOCK_REPORT_SIZE: [u8; 268] = [0; size_of::<BlockReport>()];
 
-const UM_MARGIN_REPORT: [u8; 460] = [0; size_of::<MarginReport>()];
+const CHECK_MARGIN_REPORT_SIZE: [u8; 460] = [0; size_of::<MarginReport>()];
 
-const UM_REPAIR_REPORT: [u8; 226] = [0; size_of::<RepairReport>()];
+const CHECK_REPAIR_REPORT_SIZE: [u8; 226] = [0; size_of::<RepairReport>()];
 
-const UM_ACCESS_REPORT: [u8; 40] = [0; size_of::<AccessReport>()];
+const CHECK_ACCESS_REPORT_SIZE: [u8; 40] = [0; size_of::<AccessReport>()];
 
-const UM_SYNC_REPORT: [u8; 80] = [0; size_of::<SyncReport>()];
+const CHECK_SYNC_REPORT_SIZE: [u8; 80] = [0; size_of::<SyncReport>()];
 
-const UM_FRAME: [u8; 28] = [0; size_of::<PlainFrame>()];
+const CHECK_FRAME_SIZE: [u8; 28] = [0; size_of::<CFrame>()];
 
-const UM_MESSAGE: [u8; 256] = [0; size_of::<PlainMessage>()];
+const CHECK_MESSAGE_SIZE: [u8; 256] = [0; size_of::<MessageBuffer>()];
 
-const UM_END: [u8; 2584] = [0; size_of::<PlainEnd>()];
+const CHECK_ENDPOINT_SIZE: [u8; 2584] = [0; size_of::<CEndpoint>()];
 
-const UM_SIDE: [u8; 5168] = [0; size_of::<PlainSide>()];
+const CHECK_SIDE_SIZE: [u8; 5168] = [0; size_of::<CSide>()];
 
-const UM_NOTICE: [u8; 272] = [0; size_of::<PlainNotice>()];
+const CHECK_NOTICE_SIZE: [u8; 272] = [0; size_of::<CNotice>()];
 
-const UM_EFFECTS: [u8; 864] = [0; size_of::<PlainEffects>()];
+const CHECK_EFFECTS_SIZE: [u8; 864] = [0; size_of::<CEffects>()];

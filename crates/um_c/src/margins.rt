@@ -1,22 +1,22 @@
-//! How certain the decoded word of a block is: by how much its likelihood exceeds that of the next most likely word.
+//! How reliable the decoded word of a block is: by how much its likelihood exceeds that of the second most likely word.
 ghost use Rattle.std.specs.Prelude.{◌≡◌, ◌↔◌, All, IsTrue, false};
 ghost use Rattle.um_block.specs.bit_blocks.SoftValues.{AllSoftBits};
 ghost use Rattle.um_c.specs.MarginReports.{IsMarginReport};
 
 use crate::soft::are_soft_bursts;
 use um_among::margin;
-use um_block::{BURST_BITS, INFORMATION_BITS, deinterleave_block};
+use um_block::{BURST_BITS, ENCODER_INPUT_BITS, deinterleave_block};
 
-/// The two most likely words of a block.
+/// The two most likely words of a block, and the difference of their path metrics.
 #[repr(C)]
 #[derive(Drop)]
 pub struct MarginReport {
-    /// By how much the path metric of the first word exceeds that of the second: 0 if and only if another word is equally likely.
+    /// By how much the path metric of the most likely word exceeds that of the second: 0 if and only if another word is equally likely.
     pub margin: i32,
-    /// The most likely word, as `um_receive_block` reports it: 184 data bits, 40 CRC bits, four zeros.
-    pub word: [u8; INFORMATION_BITS],
-    /// The most likely of all other words; the first one if several are equally likely.
-    pub next: [u8; INFORMATION_BITS],
+    /// The most likely word, with one bit in each octet: 184 data bits, 40 CRC bits, four zeros.
+    pub word: [u8; ENCODER_INPUT_BITS],
+    /// The second most likely word; the first one if several are equally likely.
+    pub next: [u8; ENCODER_INPUT_BITS],
 }
 
 /// Finds the two most likely words of four bursts. Returns false, and writes nothing, if a soft value is -128.
@@ -32,11 +32,11 @@ pub extern "C" fn um_margin_block(bursts: &[[i8; BURST_BITS]; 4], report: &mut M
         return false;
     }
     let soft = deinterleave_block(bursts);
-    let mut word = [0; INFORMATION_BITS];
-    let mut next = [0; INFORMATION_BITS];
-    let ahead = margin(&soft, &mut word, &mut next);
+    let mut word = [0; ENCODER_INPUT_BITS];
+    let mut next = [0; ENCODER_INPUT_BITS];
+    let margin_difference = margin(&soft, &mut word, &mut next);
     *report = MarginReport {
-        margin: ahead,
+        margin: margin_difference,
         word,
         next,
     };

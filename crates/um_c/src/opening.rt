@@ -1,38 +1,40 @@
-//! An example of a caller: it joins two endpoints, and its contract says that the laws of joined endpoints apply.
+//! An example of a caller: it connects two endpoints, and its contract says that the laws of connected endpoints apply.
 ghost use Rattle.std.specs.Prelude.{◌≡◌, length, IsTrue, Some};
 ghost use Rattle.lapdm_frame.specs.declared.Channel.{Channel};
 ghost use Rattle.um_air.specs.segmenting.Buffers.{octets_in};
 ghost use Rattle.um_air.specs.lapdm_window.declared.Sapi.TheVariants.{Zero};
 ghost use Rattle.um_air.specs.lapdm_window.Ends.{Mobile, Network, EndState};
-ghost use Rattle.um_c.specs.Joined.{Joined, IsRun, Carries};
-ghost use Rattle.um_c.specs.States.{StateRepresents};
-ghost use Rattle.um_c.specs.Opening.{two_endpoints, first_block, opening, CanEstablish, AreIdle, mobile_when_open, network_when_open};
+ghost use Rattle.um_c.specs.Joined.{Joined, IsProgramRun, DeliversOldestBlock};
+ghost use Rattle.um_c.specs.States.{StructRepresents};
+ghost use Rattle.um_c.specs.Opening.{program_of_two_endpoints, first_block, opening, CanEstablishLink, BothAreIdle, mobile_after_opening};
+ghost use Rattle.um_c.specs.Opening.{network_after_opening};
 
-use crate::effects::PlainEffects;
+use crate::effects::CEffects;
 use crate::ends::{um_end_open, um_end_take};
-use crate::states::PlainEnd;
-use lapdm_end::PlainMessage;
+use crate::states::CEndpoint;
+use lapdm_end::MessageBuffer;
 use lapdm_frame::BLOCK_OCTETS;
 
 /// Establishes the link of SAPI 0: the mobile sends its SABM, the network receives it, and the mobile receives the UA. Returns true if each
-/// call succeeded and the first two sent one block each. Then the three calls are a run, and all laws of joined endpoints hold for it. If
-/// both endpoints are in Idle on the same channel and `info` has 1 to N201 octets, it returns true, and both endpoints are then in Open.
+/// call succeeds and the first two send one block each; then all laws of connected endpoints hold for the three calls. If both endpoints
+/// are in Idle on the same channel and the information has 1 to N201 octets, it returns true, and both endpoints are then in Open.
 pub fn open_link(
-    mobile: &mut PlainEnd,
-    network: &mut PlainEnd,
-    info: &PlainMessage,
-    asked: &mut PlainEffects,
-    answered: &mut PlainEffects,
-    opened: &mut PlainEffects,
+    mobile: &mut CEndpoint,
+    network: &mut CEndpoint,
+    info: &MessageBuffer,
+    asked: &mut CEffects,
+    answered: &mut CEffects,
+    opened: &mut CEffects,
 ) -> bool
     ensures run { IsTrue result → (channel : Channel) → (z : Joined)
-        × IsRun channel Carries (two_endpoints mobile.old network.old) (opening (octets_in info.now) asked.new answered.new opened.new) z
+        × IsProgramRun channel DeliversOldestBlock (program_of_two_endpoints mobile.old network.old)
+        (opening (octets_in info.now) asked.new answered.new opened.new) z
         × (z.state Mobile Zero ≡ Some mobile.new) × (z.state Network Zero ≡ Some network.new) }
-    ensures exchanges { (e f : EndState) → StateRepresents mobile.old e → StateRepresents network.old f →
-        CanEstablish (octets_in info.now) e f → IsTrue result }
-    ensures opens { (e f : EndState) → StateRepresents mobile.old e → StateRepresents network.old f → AreIdle (octets_in info.now) e f →
-        StateRepresents mobile.new (mobile_when_open (octets_in info.now) e)
-        × StateRepresents network.new (network_when_open (octets_in info.now) f) }
+    ensures exchanges { (e f : EndState) → StructRepresents mobile.old e → StructRepresents network.old f →
+        CanEstablishLink (octets_in info.now) e f → IsTrue result }
+    ensures opens { (e f : EndState) → StructRepresents mobile.old e → StructRepresents network.old f →
+        BothAreIdle (octets_in info.now) e f → StructRepresents mobile.new (mobile_after_opening (octets_in info.now) e)
+        × StructRepresents network.new (network_after_opening (octets_in info.now) f) }
 {
     if um_end_open(mobile, info, asked) != 0 {
         return false;
@@ -49,7 +51,7 @@ pub fn open_link(
     um_end_take(mobile, &first_block(answered), opened) == 0
 }
 
-fn first_block(output: &PlainEffects) -> [u8; BLOCK_OCTETS]
+fn first_block(output: &CEffects) -> [u8; BLOCK_OCTETS]
     ensures value { result ≡ first_block output.now }
     ensures size { length result ≡ BLOCK_OCTETS }
     ensures space { length output.now.frames ≡ 2 }

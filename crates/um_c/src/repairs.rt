@@ -1,6 +1,6 @@
-//! The export that repairs words whose wrong bits lie close together.
+//! The C function that repairs words whose wrong bits lie close together.
 ghost use Rattle.std.specs.Prelude.{◌≡◌, ℕ};
-ghost use Rattle.um_c.specs.RepairReports.{IsRepairedAs};
+ghost use Rattle.um_c.specs.RepairReports.{AnswersRepair};
 
 use fire_repair::{RepairAnswer, repair};
 use um_block::Bits;
@@ -17,13 +17,13 @@ pub struct RepairReport {
     pub word: [u8; 224],
 }
 
-/// Repairs a word of 184 data bits and 40 CRC bits if all its wrong bits lie within twelve consecutive bits. Returns 0 if the CRC holds; 1
-/// if the word was repaired, and then writes the report; 2 if there is no such repair; 3 if an octet is neither 0 nor 1.
+/// Repairs a word of 184 data bits and 40 CRC bits if all its wrong bits lie within twelve consecutive bits. Returns 0 if the CRC holds, 1
+/// if the word was repaired, 2 if there is no such repair, and 3 if an octet is neither 0 nor 1. Writes the report only if it returns 1.
 #[unsafe(no_mangle)]
 pub extern "C" fn um_repair(word: &[u8; 224], report: &mut RepairReport) -> u8
-    ensures answer { IsRepairedAs word.now result report.old report.new }
+    ensures answer { AnswersRepair word.now result report.old report.new }
     ensures only { (answer : ℕ) (other : RepairReport)
-        → IsRepairedAs word.now answer report.old other → (answer ≡ result) × (other ≡ report.new) }
+        → AnswersRepair word.now answer report.old other → (answer ≡ result) × (other ≡ report.new) }
 {
     let Some(bits) = Bits::<224>::from_slice(word) else {
         return 3;

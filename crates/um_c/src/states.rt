@@ -1,5 +1,5 @@
 //! The state of an endpoint as numbers and arrays in the caller's memory. A call reads the state, changes it, and writes it back in place;
-//! of each message only the octets that count are copied.
+//! only the octets in use are copied from each message.
 ghost use Rattle.std.specs.Prelude.{◌≡◌, ◌≤◌, ◌↔◌, Some, None, length, map, IsTrue, MatchOption};
 ghost use Rattle.um_air.specs.segmenting.Buffers.{octets_in};
 ghost use Rattle.um_air.specs.lapdm_window.Ends.{EndState};
@@ -7,20 +7,20 @@ ghost use Rattle.um_air.specs.lapdm_window.Parts.{values_in as window_by};
 ghost use Rattle.lapdm_end.specs.Parts.{values_of, values_in};
 ghost use Rattle.lapdm_end.specs.Abstraction.{Represents};
 ghost use Rattle.um_c.specs.Plain.{channel_of};
-ghost use Rattle.um_c.specs.States.{role_of, sapi_of, state_of, part_from_number, window_values_from, endpoint_values_from};
-ghost use Rattle.um_c.specs.States.{StateRepresents, RepresentsSomeEndpoint};
+ghost use Rattle.um_c.specs.States.{role_of, sapi_of, state_of, reassembly_from_number, window_values_from, endpoint_values_from};
+ghost use Rattle.um_c.specs.States.{StructRepresents, RepresentsSomeEndpoint};
 ghost use Rattle.um_c.specs.States.{role_number};
-ghost use Rattle.um_c.specs.States.{sapi_number, channel_number, state_number, part_number, buffers_of_messages, plain_end};
+ghost use Rattle.um_c.specs.States.{sapi_number, channel_number, state_number, reassembly_number, buffers_of_messages, c_endpoint};
 
 use crate::frames::channel_of;
-use lapdm_end::{EndParts, Endpoint, Part, PlainMessage, Role, Sapi, State, WindowParts};
+use lapdm_end::{Endpoint, EndpointParts, MessageBuffer, Part, Role, Sapi, State, WindowParts};
 use lapdm_frame::Channel;
 
 /// The state of one endpoint.
 #[repr(C)]
 #[derive(Drop)]
-pub struct PlainEnd {
-    /// The number of messages of which all segments are acknowledged.
+pub struct CEndpoint {
+    /// The number of fully acknowledged messages.
     pub done: u64,
     /// The role: 0 mobile, 1 network.
     pub role: u8,
@@ -32,77 +32,79 @@ pub struct PlainEnd {
     pub state: u8,
     /// How often the SABM or DISC that awaits an answer has been repeated.
     pub retries: u8,
-    /// V(S), V(A) and V(R).
+    /// The send state variable V(S), 0 to 7.
     pub vs: u8,
+    /// The acknowledge state variable V(A), 0 to 7.
     pub va: u8,
+    /// The receive state variable V(R), 0 to 7.
     pub vr: u8,
     /// How often the outstanding I frame has been repeated.
     pub repeats: u8,
     /// The reject condition: 1 if a REJ was sent and no segment has been accepted since, otherwise 0.
     pub rejecting: u8,
-    /// The index of the outstanding segment, or else of the next segment, among the segments of the first message held.
+    /// The index, within the first held message, of the outstanding segment or, if none is outstanding, of the next segment.
     pub place: u8,
-    /// The number of messages held, which are those that are not wholly acknowledged.
+    /// The number of messages held, that is, those not yet fully acknowledged.
     pub held_count: u8,
-    /// What `joined` is: 0 the beginning of a message, 1 a message that was delivered, 2 nothing, because the rest of a message that is too
-    /// long is being discarded.
+    /// What the reassembly buffer holds: 0 the beginning of a message; 1 a delivered message; 2 nothing, because the rest of an oversize
+    /// message is being discarded.
     pub part: u8,
-    /// The information in the SABM that this endpoint sent, or in the SABM that established its link.
-    pub kept: PlainMessage,
-    pub joined: PlainMessage,
-    pub held: [PlainMessage; 8],
+    /// The information of the SABM that this endpoint sent, or of the SABM that established its link.
+    pub kept: MessageBuffer,
+    pub joined: MessageBuffer,
+    pub held: [MessageBuffer; 8],
 }
 
-/// Reads the state into `end` if it represents an endpoint, and returns whether it does. Otherwise `end` stays unchanged.
-pub(crate) fn read_end(plain: &PlainEnd, end: &mut Endpoint) -> bool
-    ensures decoded { IsTrue result → endpoint_values_from plain.now ≡ Some (values_of end.new) }
-    ensures represents { IsTrue result → (e : EndState) → StateRepresents plain.now e → Represents end.new e }
-    ensures known { IsTrue result ↔ RepresentsSomeEndpoint plain.now }
+/// Reads the state into `end` and returns true if it represents an endpoint; otherwise returns false and leaves `end` unchanged.
+pub(crate) fn read_endpoint(c_struct: &CEndpoint, end: &mut Endpoint) -> bool
+    ensures decoded { IsTrue result → endpoint_values_from c_struct.now ≡ Some (values_of end.new) }
+    ensures represents { IsTrue result → (e : EndState) → StructRepresents c_struct.now e → Represents end.new e }
+    ensures known { IsTrue result ↔ RepresentsSomeEndpoint c_struct.now }
 {
-    match parts_in(plain) {
+    match endpoint_parts_of(c_struct) {
         Some(parts) => end.restore(&parts),
         None => false,
     }
 }
 
-fn parts_in(plain: &PlainEnd) -> Option<EndParts<'_>>
-    ensures { MatchOption result (endpoint_values_from plain.now ≡ None)
-        (λ parts. endpoint_values_from plain.now ≡ Some (values_in parts)) }
+fn endpoint_parts_of(c_struct: &CEndpoint) -> Option<EndpointParts<'_>>
+    ensures { MatchOption result (endpoint_values_from c_struct.now ≡ None)
+        (λ parts. endpoint_values_from c_struct.now ≡ Some (values_in parts)) }
 {
-    let role = role_of(plain.role)?;
-    let sapi = sapi_of(plain.sapi)?;
-    let state = state_of(plain.state)?;
-    let window = window_in(plain)?;
-    Some(EndParts {
+    let role = role_of(c_struct.role)?;
+    let sapi = sapi_of(c_struct.sapi)?;
+    let state = state_of(c_struct.state)?;
+    let window = window_parts_of(c_struct)?;
+    Some(EndpointParts {
         role,
         sapi,
         state,
-        kept: plain.kept.octets(),
-        retries: plain.retries,
+        kept: c_struct.kept.octets(),
+        retries: c_struct.retries,
         window,
     })
 }
 
-fn window_in(plain: &PlainEnd) -> Option<WindowParts<'_>>
-    ensures { MatchOption result (window_values_from plain.now ≡ None)
-        (λ parts. window_values_from plain.now ≡ Some (window_by parts)) }
+fn window_parts_of(c_struct: &CEndpoint) -> Option<WindowParts<'_>>
+    ensures { MatchOption result (window_values_from c_struct.now ≡ None)
+        (λ parts. window_values_from c_struct.now ≡ Some (window_by parts)) }
 {
-    let channel = channel_of(plain.channel)?;
-    let part = part_from_number(plain.part)?;
-    if plain.held_count > 8 {
+    let channel = channel_of(c_struct.channel)?;
+    let part = reassembly_from_number(c_struct.part)?;
+    if c_struct.held_count > 8 {
         return None;
     }
     Some(WindowParts {
         channel,
-        held: &plain.held[..usize::from(plain.held_count)],
-        place: usize::from(plain.place),
-        vs: plain.vs,
-        va: plain.va,
-        vr: plain.vr,
-        done: plain.done,
-        rejecting: plain.rejecting != 0,
-        retries: plain.repeats,
-        joined: plain.joined.octets(),
+        held: &c_struct.held[..usize::from(c_struct.held_count)],
+        place: usize::from(c_struct.place),
+        vs: c_struct.vs,
+        va: c_struct.va,
+        vr: c_struct.vr,
+        done: c_struct.done,
+        rejecting: c_struct.rejecting != 0,
+        retries: c_struct.repeats,
+        joined: c_struct.joined.octets(),
         part,
     })
 }
@@ -140,48 +142,48 @@ fn state_of(number: u8) -> Option<State>
     }
 }
 
-fn part_from_number(number: u8) -> Option<Part>
-    ensures { result ≡ part_from_number number }
+fn reassembly_from_number(number: u8) -> Option<Part>
+    ensures { result ≡ reassembly_from_number number }
 {
     match number {
         0 => Some(Part::Open),
         1 => Some(Part::Whole),
-        2 => Some(Part::Over),
+        2 => Some(Part::Discarding),
         _ => None,
     }
 }
 
 /// Writes the state of an endpoint.
-pub(crate) fn write_end(end: &Endpoint, plain: &mut PlainEnd)
-    ensures { plain.new ≡ plain_end (values_of end.now) }
+pub(crate) fn write_endpoint(end: &Endpoint, c_struct: &mut CEndpoint)
+    ensures { c_struct.new ≡ c_endpoint (values_of end.now) }
 {
     let parts = end.parts();
     let window = parts.window;
-    plain.done = window.done;
-    plain.role = role_number(parts.role);
-    plain.sapi = sapi_number(parts.sapi);
-    plain.channel = channel_number(window.channel);
-    plain.state = state_number(parts.state);
-    plain.retries = parts.retries;
-    plain.vs = window.vs;
-    plain.va = window.va;
-    plain.vr = window.vr;
-    plain.repeats = window.retries;
-    plain.rejecting = u8::from(window.rejecting);
-    plain.place = window.place as u8;
-    plain.held_count = window.held.len() as u8;
-    plain.part = part_number(window.part);
-    plain.kept.write(parts.kept);
-    plain.joined.write(window.joined);
-    write_buffers(window.held, &mut plain.held);
+    c_struct.done = window.done;
+    c_struct.role = role_number(parts.role);
+    c_struct.sapi = sapi_number(parts.sapi);
+    c_struct.channel = channel_number(window.channel);
+    c_struct.state = state_number(parts.state);
+    c_struct.retries = parts.retries;
+    c_struct.vs = window.vs;
+    c_struct.va = window.va;
+    c_struct.vr = window.vr;
+    c_struct.repeats = window.retries;
+    c_struct.rejecting = u8::from(window.rejecting);
+    c_struct.place = window.place as u8;
+    c_struct.held_count = window.held.len() as u8;
+    c_struct.part = reassembly_number(window.part);
+    c_struct.kept.write(parts.kept);
+    c_struct.joined.write(window.joined);
+    write_buffers(window.held, &mut c_struct.held);
 }
 
-/// Writes these messages, and fills the rest of the array with empty messages.
-fn write_buffers(messages: &[PlainMessage], buffers: &mut [PlainMessage; 8])
+/// Writes these messages to the array, and fills the rest of it with empty messages.
+fn write_buffers(messages: &[MessageBuffer], buffers: &mut [MessageBuffer; 8])
     requires { length messages.now ≤ 8 }
     ensures { buffers.new ≡ buffers_of_messages 8 (map octets_in messages.now) }
 {
-    *buffers = [PlainMessage::empty(); 8];
+    *buffers = [MessageBuffer::empty(); 8];
     for (i, message) in messages.iter().enumerate() {
         buffers[i].write(message.octets());
     }
@@ -226,12 +228,12 @@ fn state_number(state: State) -> u8
     }
 }
 
-fn part_number(part: Part) -> u8
-    ensures { result ≡ part_number part }
+fn reassembly_number(part: Part) -> u8
+    ensures { result ≡ reassembly_number part }
 {
     match part {
         Part::Open => 0,
         Part::Whole => 1,
-        Part::Over => 2,
+        Part::Discarding => 2,
     }
 }

@@ -1,9 +1,9 @@
--- The number of messages of `make`: for words that begin with a digit 1 to 9, the library's `parse` agrees with `message_count_of`.
-use Rattle.std.proofs.Common.{rules, ◌≡◌, ℕ, ◌≤◌, ◌<◌, ◌^◌, Bool, true, false, ◌&&◌, nat_le, List, [], ◌∷◌, length, slice_index, Some, None}
-use Rattle.std.proofs.{Common.{Result, Ok, Err, if◌then◌else◌, ◌⊎◌, refl, ap, subst, inl, inr, arith}, lemmas.Bool.{cases_Bool, cases_lt}}
-use Rattle.std.proofs.lemmas.{Bool.{le-leb, lt-leb}, Str.Parse.{IsNumeralModel, numerals_by_value, parse_plain}}
-use Rattle.std.specs.{Str.{all_ascii_digits, Parse.{digits_value, ParsesUnsigned}}, Result.OkIff}
-use Rattle.um_cli.specs.Shapes.{message_count_of, command_of_words}
+-- The number of messages of `make`: for words that begin with a digit 1 to 9, the library's `parse` agrees with `message_count_of_word`.
+use Rattle.std.proofs.Common.{rules, ◌≡◌, ℕ, ◌≤◌, ◌<◌, ◌^◌, Bool, true, false, ◌&&◌, nat_le, List, [], ◌∷◌}
+use Rattle.std.proofs.Common.{length, slice_index, Some, None, Result, Ok, Err, if◌then◌else◌, ◌⊎◌, refl, ap, subst, inl, inr}
+use Rattle.std.proofs.{Common.arith, lemmas.{Bool.{cases_Bool, cases_lt, le-leb, lt-leb}, Str.Parse.{IsNumeralModel, numerals_by_value}}}
+use Rattle.std.{proofs.lemmas.Str.Parse.parse_plain, specs.{Str.{all_ascii_digits, Parse.{digits_value, ParsesUnsigned}}, Result.OkIff}}
+use Rattle.um_cli.specs.Shapes.{message_count_of_word, command_of_words}
 
 own : IsNumeralModel (λ ds. all_ascii_digits ds ≡ true) (digits_value 10)
 own = numerals_by_value _ (search rules)
@@ -28,8 +28,8 @@ IsRead word r = OkIff r ((all_ascii_digits word ≡ true) × (0 < length word) �
 plainly : {E : Type 0} (word : List ℕ) (r : Result ℕ E) → ParsesUnsigned 32 10 word r → 49 ≤ slice_index word 0 → IsRead word r
 plainly word r parsed first = parse_plain own 32 word r parsed (omega arith)
 
-pub number_read : {E : Type 0} (word : List ℕ) (r : Result ℕ E) (n : ℕ) → ParsesUnsigned 32 10 word r → 49 ≤ slice_index word 0 → r ≡ Ok n →
-    1 ≤ n → n ≤ 1000 → Some n ≡ message_count_of word
+pub number_read : {E : Type 0} (word : List ℕ) (r : Result ℕ E) (n : ℕ) → ParsesUnsigned 32 10 word r →
+    49 ≤ slice_index word 0 → r ≡ Ok n → 1 ≤ n → n ≤ 1000 → Some n ≡ message_count_of_word word
 number_read {E} word r n parsed first is some most =
     let read : IsRead {E = E} word (Ok n) = subst (IsRead {E = E} word) is (plainly word r parsed first) in
     let v : ℕ = digits_value 10 word in
@@ -40,8 +40,8 @@ number_read {E} word r n parsed first is some most =
     let below : nat_le v 1000 ≡ true = le-leb v 1000 (omega arith) in
     rw (begins, all, least, below) (ap (λ k. Some k) value)
 
-pub none_read : {E : Type 0} (word : List ℕ) (r : Result ℕ E) (e : E) → ParsesUnsigned 32 10 word r → 49 ≤ slice_index word 0 → r ≡ Err e →
-    None ≡ message_count_of word
+pub none_read : {E : Type 0} (word : List ℕ) (r : Result ℕ E) (e : E) → ParsesUnsigned 32 10 word r → 49 ≤ slice_index word 0 →
+    r ≡ Err e → None ≡ message_count_of_word word
 none_read {E} word r e parsed first is =
     let read : IsRead {E = E} word (Err e) = subst (IsRead {E = E} word) is (plainly word r parsed first) in
     elim (cases_Bool (all_ascii_digits word)) [

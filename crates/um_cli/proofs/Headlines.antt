@@ -1,24 +1,25 @@
 -- The decoded word is a codeword that is at least as likely as any other, because no list of bits is more likely than a most likely one.
-use Rattle.std.proofs.{Common.{◌≡◌, ◌≢◌, ℕ, ℤ, true, inl, inr, ◌≤ℤ◌, List, ◌++◌, refl, sym, ap, ◌∙◌, arith}, lemmas.Bool.cases_Bool}
-use Rattle.std.{proofs.lemmas.{Int.ints, Slice.Eq.bytes_eq-Decides}, specs.Str.bytes_eq}
+use Rattle.std.proofs.Common.{◌≡◌, ◌≢◌, ℕ, ℤ, true, inl, inr, ◌≤ℤ◌, List, ◌++◌, refl, sym, ap, ◌∙◌, arith}
+use Rattle.std.{proofs.lemmas.{Bool.cases_Bool, Int.ints, Slice.Eq.bytes_eq-Decides}, specs.Str.bytes_eq}
 use Rattle.um_end.specs.um_block.{conv_code.{Code.encoding, Likelihood.{likelihood, IsMostLikely, RanksAfter}}, Received.IsReceivedBlock}
 use Rattle.um_end.{specs.um_block.declared.received.Received.Received, proofs.um_block.conv_code.Lemmas.length-coded}
 use Rattle.um_bursts.{proofs.BurstRules.weaker_bursts, specs.Replay.{replay_answers, replay_rules}}
-use Rattle.um_cli.specs.Headline.{IsMaximumLikelihood, IsBestWord, best_replay_answers, replay_rules_with_best_words}
+use Rattle.um_cli.specs.Headline.{IsMaximumLikelihood, IsMostLikelyWord, replay_answers_with_ml_decoding, replay_rules_with_ml_decoding}
 use Rattle.um_driver.proofs.Weaker.{IsWeaker}
 use Rattle.um_end.specs.um_block.burst_map.AccessBurst as A
 use Rattle.um_end.specs.um_block.burst_map.SyncBurst as S
 
 -- no other list of bits is more likely than a most likely one
-at_least_as_likely : (soft : List ℤ) (u v : List ℕ) → RanksAfter soft v u → likelihood soft (encoding v) ≤ℤ likelihood soft (encoding u)
+at_least_as_likely : (soft : List ℤ) (u v : List ℕ) → RanksAfter soft v u →
+    likelihood soft (encoding v) ≤ℤ likelihood soft (encoding u)
 at_least_as_likely soft u v (inl less) = omega (arith, ints, less)
 at_least_as_likely soft u v (inr (same, _)) = omega (arith, ints, same)
 
-unbeaten : (soft : List ℤ) (u : List ℕ) → IsMostLikely soft u → IsMaximumLikelihood soft u
-unbeaten soft u best = record {
+none_more_likely : (soft : List ℤ) (u : List ℕ) → IsMostLikely soft u → IsMaximumLikelihood soft u
+none_more_likely soft u best = record {
   codeword = record { u = u; information = best.information; count = refl; code = refl };
   places = best.count ∙ sym (length-coded u);
-  unbeaten = λ c word. elim (cases_Bool (bytes_eq word.u u)) [
+  none_more_likely = λ c word. elim (cases_Bool (bytes_eq word.u u)) [
     | inl same ↦
         let e : word.u ≡ u = (bytes_eq-Decides word.u u).0 same in
         let value : likelihood soft c ≡ likelihood soft (encoding u) = ap (likelihood soft) (word.code ∙ ap encoding e) in
@@ -31,26 +32,26 @@ unbeaten soft u best = record {
   ];
 }
 
-pub best_word : (bursts : List (List ℤ)) (r : Received) → IsReceivedBlock bursts r → IsBestWord bursts r
+pub best_word : (bursts : List (List ℤ)) (r : Received) → IsReceivedBlock bursts r → IsMostLikelyWord bursts r
 best_word bursts r received = record {
   soft = received.soft;
-  read = received.gathered;
-  best = unbeaten received.soft r.u received.best;
+  read = received.deinterleaved;
+  best = none_more_likely received.soft r.u received.best;
   accepted = received.accepted;
 }
 
-pub headline_is_weaker : IsWeaker replay_rules replay_rules_with_best_words
-headline_is_weaker = weaker_bursts replay_answers best_replay_answers (record {
+pub headline_is_weaker : IsWeaker replay_rules replay_rules_with_ml_decoding
+headline_is_weaker = weaker_bursts replay_answers replay_answers_with_ml_decoding (record {
   block = λ bursts y (r, received, text). record { r = r; word = best_word bursts r received; text = text };
   access = λ bsic burst y (r, received, text). record {
     r = r;
-    best = unbeaten (A.body burst) r.u received.best;
+    best = none_more_likely (A.body burst) r.u received.best;
     accepted = received.accepted;
     text = text;
   };
   sync = λ burst y (r, received, text). record {
     r = r;
-    best = unbeaten (S.first_half burst ++ S.second_half burst) r.u received.best;
+    best = none_more_likely (S.first_coded_half burst ++ S.second_coded_half burst) r.u received.best;
     accepted = received.accepted;
     text = text;
   };

@@ -1,19 +1,20 @@
 -- `replay` recovers what `code` was given. The proof goes line by line: each line that `code` writes is a line of `replay`, and a block
 -- without damage is decoded correctly.
-use Rattle.std.proofs.Common.{◌≡◌, ℕ, ℤ, ◌≤◌, inl, inr, List, [], ◌∷◌, ◌++◌, length, map, refl, sym, ap, ◌∙◌, subst, append_assoc}
-use Rattle.std.proofs.{Common.{append-nil, arith, lit<}, lemmas.List.{length-map, Elements.{All-nil, All-cons, All-head, All-tail}}}
-use Rattle.std.{proofs.lemmas.List.Elements.All-append, specs.List.All}
+use Rattle.std.proofs.Common.{◌≡◌, ℕ, ℤ, ◌≤◌, inl, inr, List, [], ◌∷◌, ◌++◌, length, map, refl, sym, ap}
+use Rattle.std.proofs.{Common.{◌∙◌, subst, append_assoc, append-nil, arith, lit<}, lemmas.List.{length-map, Elements.All-nil}}
+use Rattle.std.{proofs.lemmas.List.Elements.{All-cons, All-head, All-tail, All-append}, specs.List.All}
 use Rattle.um_end.specs.um_block.{bit_blocks.Bits.AllBits, Sent.{IsSentBlock, IsSentAccess, IsSentSync}, Received.{soft_bits, soft_bit_of}}
 use Rattle.um_end.specs.{um_block.{Received.IsReceivedBlock, declared.received.Received.Received}, um_io.Lines.{IsLine, IsDivided}}
 use Rattle.um_end.{specs.um_io.{Lines.text_of_lines, Reading.input_limit}, proofs.um_block.Lemmas.{AreBits, accepted_count, clean_block}}
 use Rattle.um_end.proofs.um_block.Lemmas.{clean_access, clean_sync, sent_block_bits, sent_access_bits, sent_sync_bits, some_received_block}
 use Rattle.um_end.proofs.{um_block.Lemmas.{some_received_access, some_received_sync}, um_lines.OneMeaning.no_fault}
 use Rattle.um_code.specs.um_formats.declared.{code.CodeLine.CodeLine, burst_lines.BurstLine.{BurstLine, TheVariants.{Normal, Access, Sync}}}
-use Rattle.um_code.specs.um_formats.{BurstLines.{burst_fault, BurstMeans}, BurstTexts.{normal_text, block_text, access_text, sync_text}}
-use Rattle.um_code.specs.um_formats.{CodeLines.CodeMeans, Reports.{IsBlockReport, access_report_text, sync_report_text}}
-use Rattle.um_code.{specs.Code.{IsCodeAnswer, code_rules}, proofs.um_formats.{BurstLaws.{one_meaning, short}, WrittenBursts.normal_line}}
-use Rattle.um_code.proofs.um_formats.WrittenBursts.{access_line, sync_line, normal_restored, access_restored, sync_restored, normal_whole}
-use Rattle.um_code.proofs.um_formats.{WrittenBursts.{access_whole, sync_whole}, ReportLaws.some_block_report, CodeLaws.can_be_sent}
+use Rattle.um_code.specs.um_formats.{BurstLines.{burst_fault, BurstLineMeans}, BurstTexts.{normal_burst_text, bursts_text}}
+use Rattle.um_code.specs.um_formats.{BurstTexts.{access_burst_text, sync_burst_text}, CodeLines.CodeLineMeans, Reports.IsBlockReport}
+use Rattle.um_code.specs.{um_formats.Reports.{access_report_text, sync_report_text}, Code.{IsCodeAnswer, code_rules}}
+use Rattle.um_code.proofs.um_formats.{BurstLaws.{one_meaning, short}, WrittenBursts.{normal_line, access_line, sync_line, normal_restored}}
+use Rattle.um_code.proofs.um_formats.WrittenBursts.{access_restored, sync_restored, normal_whole, access_whole, sync_whole}
+use Rattle.um_code.proofs.um_formats.{ReportLaws.some_block_report, CodeLaws.can_be_sent}
 use Rattle.um_driver.specs.{Rules.{Runs, IsLineAccepted, concatenated_text}, Outputs.IsOutput, declared.status.Status.TheVariants.Done}
 use Rattle.um_driver.proofs.{GoodInputs.{good_from_output, output_from_good}, RunLemmas.{Runs-append, joined-append}}
 use Rattle.um_bursts.specs.{BurstRules.IsBurstAnswer, Replay.{replay_answers, replay_rules}}
@@ -34,7 +35,8 @@ nothing_read = record { lines = []; answers = []; plain = All-nil IsLine; whole 
 
 text-append : (ls ls' : List (List ℕ)) → text_of_lines (ls ++ ls') ≡ text_of_lines ls ++ text_of_lines ls'
 text-append [] ls' = refl
-text-append (l ∷ ls) ls' = ap (λ w. l ++ 10 ∷ w) (text-append ls ls') ∙ sym (append_assoc l (10 ∷ text_of_lines ls) (text_of_lines ls'))
+text-append (l ∷ ls) ls' = ap (λ w. l ++ 10 ∷ w) (text-append ls ls')
+    ∙ sym (append_assoc l (10 ∷ text_of_lines ls) (text_of_lines ls'))
 
 both_read : (x x' y y' : List ℕ) → IsRead x y → IsRead x' y' → IsRead (x ++ x') (y ++ y')
 both_read x x' y y' r r' = record {
@@ -47,22 +49,23 @@ both_read x x' y y' r r' = record {
 }
 
 -- a line of `replay` that has a meaning is not refused
-good_line : (held : List (List ℤ)) (line : List ℕ) (m : BurstLine) → BurstMeans (length held) line m → IsLineAccepted replay_rules held line
+good_line : (held : List (List ℤ)) (line : List ℕ) (m : BurstLine) → BurstLineMeans (length held) line m →
+    IsLineAccepted replay_rules held line
 good_line held line m means =
     let at = length held in
     record {
       short = short at line m means;
-      no_fault = no_fault (BurstMeans at line) (burst_fault at line) (one_meaning at line) m means;
+      no_fault = no_fault (BurstLineMeans at line) (burst_fault at line) (one_meaning at line) m means;
     }
 
 -- a run over one line, followed by a run over other lines, is a run over all of them
 then : (held mid after : List (List ℤ)) (line answer : List ℕ) (lines others : List (List ℕ)) (m : BurstLine) →
-    BurstMeans (length held) line m → IsBurstAnswer replay_answers held m answer mid → Runs replay_rules mid lines others after →
+    BurstLineMeans (length held) line m → IsBurstAnswer replay_answers held m answer mid → Runs replay_rules mid lines others after →
     Runs replay_rules held (line ∷ lines) (answer ∷ others) after
 then held mid after line answer lines others m means answers runs =
     (mid, good_line held line m means, (m, means, answers), runs)
 
-last_line : (held : List (List ℤ)) (line answer : List ℕ) (m : BurstLine) → BurstMeans (length held) line m →
+last_line : (held : List (List ℤ)) (line answer : List ℕ) (m : BurstLine) → BurstLineMeans (length held) line m →
     IsBurstAnswer replay_answers held m answer [] → Runs replay_rules held (line ∷ []) (answer ∷ []) []
 last_line held line answer m means answers =
     ([], good_line held line m means, (m, means, answers), refl)
@@ -79,7 +82,7 @@ pub record IsBroughtBack (meaning : CodeLine) (answer : List ℕ) : Type 0 where
   pub read : IsRead answer report
 
 access_back : (info bsic burst : List ℕ) → length bsic ≡ 6 → AllBits bsic → IsSentAccess info bsic burst →
-    IsBroughtBack (C.Rach info bsic) (access_text bsic burst)
+    IsBroughtBack (C.Rach info bsic) (access_burst_text bsic burst)
 access_back info bsic burst count bits sent =
     let b = sent_access_bits info bsic burst sent in
     let received = some_received_access (soft_bits burst) bsic (length-softened burst 88 b.many) count bits in
@@ -90,7 +93,8 @@ access_back info bsic burst count bits sent =
       read = record {
         lines = access_line bsic burst ∷ [];
         answers = access_report_text bsic received.0 ∷ [];
-        plain = All-cons IsLine (access_line bsic burst) [] (access_whole bsic burst count bits b.many b.each).uncut (All-nil IsLine);
+        plain = All-cons IsLine (access_line bsic burst) [] (access_whole bsic burst count bits b.many b.each).no_line_feed
+            (All-nil IsLine);
         whole = refl;
         runs = last_line [] (access_line bsic burst) (access_report_text bsic received.0) (Access bsic (soft_bits burst)) means
             (refl, (received.0, received.1, refl));
@@ -98,7 +102,7 @@ access_back info bsic burst count bits sent =
       };
     }
 
-sync_back : (info burst : List ℕ) → IsSentSync info burst → IsBroughtBack (C.Sch info) (sync_text burst)
+sync_back : (info burst : List ℕ) → IsSentSync info burst → IsBroughtBack (C.Sch info) (sync_burst_text burst)
 sync_back info burst sent =
     let b = sent_sync_bits info burst sent in
     let received = some_received_sync (soft_bits burst) (length-softened burst 148 b.many) in
@@ -109,7 +113,7 @@ sync_back info burst sent =
       read = record {
         lines = sync_line burst ∷ [];
         answers = sync_report_text received.0 ∷ [];
-        plain = All-cons IsLine (sync_line burst) [] (sync_whole burst b.many b.each).uncut (All-nil IsLine);
+        plain = All-cons IsLine (sync_line burst) [] (sync_whole burst b.many b.each).no_line_feed (All-nil IsLine);
         whole = refl;
         runs = last_line [] (sync_line burst) (sync_report_text received.0) (Sync (soft_bits burst)) means
             (refl, (received.0, received.1, refl));
@@ -119,17 +123,17 @@ sync_back info burst sent =
 
 -- ---- blocks
 
-block_text-lines : (bursts : List (List ℕ)) → block_text bursts ≡ text_of_lines (map normal_line bursts)
-block_text-lines [] = refl
-block_text-lines (burst ∷ bursts) =
-    ap (λ w. normal_text burst ++ w) (block_text-lines bursts)
+bursts_text-lines : (bursts : List (List ℕ)) → bursts_text bursts ≡ text_of_lines (map normal_line bursts)
+bursts_text-lines [] = refl
+bursts_text-lines (burst ∷ bursts) =
+    ap (λ w. normal_burst_text burst ++ w) (bursts_text-lines bursts)
     ∙ append_assoc (normal_line burst) (10 ∷ []) (text_of_lines (map normal_line bursts))
 
 plain_lines : (bursts : List (List ℕ)) → All (AreBits 148) bursts → All IsLine (map normal_line bursts)
 plain_lines [] each = All-nil IsLine
 plain_lines (burst ∷ bursts) each =
     let b = All-head (AreBits 148) burst bursts each in
-    All-cons IsLine (normal_line burst) (map normal_line bursts) (normal_whole burst b.many b.each).uncut
+    All-cons IsLine (normal_line burst) (map normal_line bursts) (normal_whole burst b.many b.each).no_line_feed
     (plain_lines bursts (All-tail (AreBits 148) burst bursts each))
 
 softened_counts : (bursts : List (List ℕ)) → All (AreBits 148) bursts → All (λ soft. length soft ≡ 148) (map soft_bits bursts)
@@ -161,12 +165,15 @@ four_runs a b c d report r each received text =
     let mc = normal_restored 2 c third.many third.each in
     let md = normal_restored 3 d fourth.many fourth.each in
     let at_last = last_line (sa ∷ sb ∷ sc ∷ []) (normal_line d) report (Normal sd) md (inr (refl, refl, (r, received, text))) in
-    let from_third = then (sa ∷ sb ∷ []) (sa ∷ sb ∷ sc ∷ []) [] (normal_line c) [] (normal_line d ∷ []) (report ∷ []) (Normal sc) mc
+    let from_third = then (sa ∷ sb ∷ []) (sa ∷ sb ∷ sc ∷ []) [] (normal_line c) [] (normal_line d ∷ []) (report ∷ [])
+    (Normal sc) mc
     (inl (lit< tt, refl, refl)) at_last in
-    let from_second = then (sa ∷ []) (sa ∷ sb ∷ []) [] (normal_line b) [] (normal_line c ∷ normal_line d ∷ []) ([] ∷ report ∷ [])
+    let from_second = then (sa ∷ []) (sa ∷ sb ∷ []) [] (normal_line b) [] (normal_line c ∷ normal_line d ∷ []) ([] ∷ report
+    ∷ [])
     (Normal sb) mb
     (inl (lit< tt, refl, refl)) from_third in
-    then [] (sa ∷ []) [] (normal_line a) [] (normal_line b ∷ normal_line c ∷ normal_line d ∷ []) ([] ∷ [] ∷ report ∷ []) (Normal sa) ma
+    then [] (sa ∷ []) [] (normal_line a) [] (normal_line b ∷ normal_line c ∷ normal_line d ∷ []) ([] ∷ [] ∷ report ∷ [])
+    (Normal sa) ma
     (inl (lit< tt, refl, refl)) from_second
 
 block_runs : (bursts : List (List ℕ)) (report : List ℕ) (r : Received) → length bursts ≡ 4 → All (AreBits 148) bursts →
@@ -180,7 +187,7 @@ block_runs (a ∷ b ∷ c ∷ d ∷ []) report r count each received text = four
 block_runs (a ∷ b ∷ c ∷ d ∷ e ∷ more) report r count each received text = absurd (omega arith)
 
 block_back : (octets : List ℕ) (tsc : ℕ) (bursts : List (List ℕ)) → IsSentBlock octets tsc bursts →
-    IsBroughtBack (C.Block tsc octets) (block_text bursts)
+    IsBroughtBack (C.Block tsc octets) (bursts_text bursts)
 block_back octets tsc bursts sent =
     let command = sent_block_bits octets tsc bursts sent in
     let counts = softened_counts bursts command.1 in
@@ -193,7 +200,7 @@ block_back octets tsc bursts sent =
         lines = map normal_line bursts;
         answers = [] ∷ [] ∷ [] ∷ text.0 ∷ [];
         plain = plain_lines bursts command.1;
-        whole = block_text-lines bursts;
+        whole = bursts_text-lines bursts;
         runs = block_runs bursts text.0 received.0 command.0 command.1 received.1 text.1;
         reports_are = sym (append-nil text.0);
       };
@@ -201,7 +208,8 @@ block_back octets tsc bursts sent =
 
 -- ---- lines and whole inputs
 
-line_is_restored : (line : List ℕ) (m : CodeLine) (answer : List ℕ) → CodeMeans line m → IsCodeAnswer m answer → IsBroughtBack m answer
+line_is_restored : (line : List ℕ) (m : CodeLine) (answer : List ℕ) → CodeLineMeans line m → IsCodeAnswer m answer →
+    IsBroughtBack m answer
 line_is_restored line C.Skip answer means a = record { report = []; restored = refl; read = subst (λ w. IsRead w []) (sym a) nothing_read }
 line_is_restored line (C.Block tsc octets) answer means (bursts, sent, text) =
     subst (IsBroughtBack (C.Block tsc octets)) (sym text) (block_back octets tsc bursts sent)

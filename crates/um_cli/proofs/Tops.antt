@@ -1,10 +1,10 @@
 -- The clauses of `run` for the command that the words name follow from the clauses of that command.
 use Rattle.std.proofs.Common.{◌≡◌, ℕ, ℤ, List, [], Option, Some, None, subst}
-use Rattle.um_driver.specs.{Table.{IsRun, EndsAsPrescribed}, Rules.{Rules, Machine, IsDetermined}, declared.status.Status.Status}
+use Rattle.um_driver.specs.{Table.{IsRun, EndsAsPrescribed}, Rules.{Rules, Machine, IsDeterministic}, declared.status.Status.Status}
 use Rattle.um_driver.{specs.declared.status.Status.TheVariants.Done, proofs.Weaker.{as_weak, weaker_run}}
-use Rattle.um_cli.specs.{Headline.replay_rules_with_best_words, Machines.{machine, HoldsForMachine, IsRunOfCommand, CommandEndsAsDue}}
-use Rattle.um_cli.specs.{Machines.HasOneOutputPerInput, Restored.ReplayRecoversCode, declared.words.Invocation.Invocation}
-use Rattle.um_cli.specs.declared.words.Invocation.TheVariants.{Code, Replay, Show, Margin, Repair, Link, Make, End}
+use Rattle.um_cli.specs.{Headline.replay_rules_with_ml_decoding, Machines.{machine, HoldsForMachine, IsRunOfCommand}}
+use Rattle.um_cli.specs.{Machines.{CommandEndsAsPrescribed, HasOneOutputPerInput}, Restored.ReplayRecoversCode}
+use Rattle.um_cli.specs.declared.words.Invocation.{Invocation, TheVariants.{Code, Replay, Show, Margin, Repair, Link, Make, End}}
 use Rattle.um_cli.{specs.Shapes.HasValidOperands, proofs.{Headlines.headline_is_weaker, Restoring.restored_whole}}
 use Rattle.um_bursts.{specs.Replay.replay_rules, proofs.ReplayRules.{replay_is_determined, replay_has_one_output}}
 use Rattle.um_margin.proofs.Lemmas.{margin_has_one_output}
@@ -43,11 +43,11 @@ module _ {State : Type 0} (r : Rules State) (begun : State) (s : Invocation) (is
       subst (λ t. IsRunOfCommand t status left left' taken taken') (same t k) (is _
       (subst (λ a. IsRun r a (λ _. Unit {0}) status left left' taken taken') starts weak))
 
-  pub due_of : IsDetermined r → (left taken taken' : Option (List ℕ)) → (IsDetermined r →
+  pub due_of : IsDeterministic r → (left taken taken' : Option (List ℕ)) → (IsDeterministic r →
       EndsAsPrescribed r start status left taken taken') →
-      (t : Invocation) → found ≡ Some t → CommandEndsAsDue t status left taken taken'
+      (t : Invocation) → found ≡ Some t → CommandEndsAsPrescribed t status left taken taken'
   due_of determined left taken taken' due t k =
-      subst (λ t. CommandEndsAsDue t status left taken taken') (same t k) (is _
+      subst (λ t. CommandEndsAsPrescribed t status left taken taken') (same t k) (is _
       (subst (λ a. EndsAsPrescribed r a status left taken taken') starts (due determined)))
 
 -- if a run of `replay` ends as its rules prescribe, it gives back what `code` was given
@@ -59,16 +59,17 @@ due_restores status (Some x) taken taken' due = λ z good limit.
     (back.lines, back.reports, back.divided, back.restored, due Done back.reports back.output)
 
 pub restores : (start : List (List ℤ)) → start ≡ [] → (status : Status) (left taken taken' : Option (List ℕ)) →
-    (IsDetermined replay_rules → EndsAsPrescribed replay_rules start status left taken taken') → ReplayRecoversCode status left taken taken'
+    (IsDeterministic replay_rules → EndsAsPrescribed replay_rules start status left taken taken') →
+    ReplayRecoversCode status left taken taken'
 restores start none status left taken taken' due =
     due_restores status left taken taken'
     (subst (λ a. EndsAsPrescribed replay_rules a status left taken taken') none (due replay_is_determined))
 
 pub replay_headline : (start : List (List ℤ)) → start ≡ [] → (Represents : List (List ℤ) → Type 0) (status : Status)
     (left left' taken taken' : Option (List ℕ)) → IsRun replay_rules start Represents status left left' taken taken' →
-    IsRun replay_rules_with_best_words [] (λ _. Unit {0}) status left left' taken taken'
+    IsRun replay_rules_with_ml_decoding [] (λ _. Unit {0}) status left left' taken taken'
 replay_headline start none Represents status left left' taken taken' run =
-    subst (λ a. IsRun replay_rules_with_best_words a (λ _. Unit {0}) status left left' taken taken') none
-    (weaker_run replay_rules replay_rules_with_best_words headline_is_weaker start Represents (λ _. Unit {0})
+    subst (λ a. IsRun replay_rules_with_ml_decoding a (λ _. Unit {0}) status left left' taken taken') none
+    (weaker_run replay_rules replay_rules_with_ml_decoding headline_is_weaker start Represents (λ _. Unit {0})
     (λ b represents. tt) status left left' taken
     taken' run)

@@ -1,5 +1,5 @@
--- Each block that `replay` reports is a codeword that is at least as likely as any other, given the soft values read, and its data are
--- accepted if and only if its CRC holds (this project's own rule).
+-- For each block, `replay` reports a codeword that is at least as likely as any other, given the soft values read, and accepts its data if
+-- and only if its CRC holds (this project's own rule).
 use Rattle.std.specs.Prelude.{ℕ, ℤ, ◌≡◌, ◌≤ℤ◌, List, ◌++◌, length, map, take, MatchOption}
 use Rattle.um_end.specs.um_block.fire_code.Words.{IsXcchWord, IsRachWord, IsSchWord}
 use Rattle.um_end.specs.um_block.conv_code.Code.{encoding, IsCodeword}
@@ -16,16 +16,15 @@ use Rattle.um_code.specs.um_formats.Reports.{IsBlockReport, access_report_text, 
 use Rattle.um_driver.specs.Rules.{Rules}
 use Rattle.um_bursts.specs.BurstRules.{Answers, burst_rules}
 
--- the coded list of the information list u is a codeword, and no codeword of its length is more likely under these soft values
+-- the encoding of the information list `u` is a codeword, and no codeword of the same length is more likely for the soft values `soft`
 pub record IsMaximumLikelihood (soft : List ℤ) (u : List ℕ) : Type 0 where
   pub codeword : IsCodeword (encoding u) (length u)
   pub places : length soft ≡ length (encoding u)
-  pub unbeaten : (c : List ℕ) → IsCodeword c (length u) → likelihood soft c ≤ℤ likelihood soft (encoding u)
+  pub none_more_likely : (c : List ℕ) → IsCodeword c (length u) → likelihood soft c ≤ℤ likelihood soft (encoding u)
 
--- the word u decoded from the four bursts of a block is unbeaten as `IsMaximumLikelihood` says; its data are its first 184 bits, which are
--- accepted
--- if and only if the CRC in its first 224 bits holds
-pub record IsBestWord (bursts : List (List ℤ)) (r : Received) : Type 0 where
+-- the four `bursts` of a block are decoded to a most likely word; its first 184 bits are accepted as the data if and only if the CRC in its
+-- first 224 bits holds
+pub record IsMostLikelyWord (bursts : List (List ℤ)) (r : Received) : Type 0 where
   pub soft : List ℤ
   pub read : IsInterleaved soft (map coded_soft_bits bursts)
   pub best : IsMaximumLikelihood soft r.u
@@ -33,14 +32,14 @@ pub record IsBestWord (bursts : List (List ℤ)) (r : Received) : Type 0 where
       (¬ IsXcchWord (take 224 r.u))
       (λ octets. IsXcchWord (take 224 r.u) × (octets ≡ octets_of (take 184 r.u)))
 
--- a report on a block that was received from these bursts and decoded as `IsBestWord` says
-pub record IsBestBlock (bursts : List (List ℤ)) (report : List ℕ) : Type 0 where
+-- `report` describes a block that was received from `bursts` and decoded to a most likely word
+pub record IsMostLikelyBlock (bursts : List (List ℤ)) (report : List ℕ) : Type 0 where
   pub r : Received
-  pub word : IsBestWord bursts r
+  pub word : IsMostLikelyWord bursts r
   pub text : IsBlockReport r report
 
--- a report on an access burst whose decoded word is unbeaten, and is accepted if and only if its CRC holds for this BSIC
-pub record IsBestAccess (burst : List ℤ) (bsic report : List ℕ) : Type 0 where
+-- `report` describes an access burst that was decoded to a most likely word, and was accepted if and only if its CRC holds for `bsic`
+pub record IsMostLikelyAccess (burst : List ℤ) (bsic report : List ℕ) : Type 0 where
   pub r : ReceivedAccess
   pub best : IsMaximumLikelihood (A.body burst) r.u
   pub accepted : MatchOption r.accepted
@@ -48,18 +47,23 @@ pub record IsBestAccess (burst : List ℤ) (bsic report : List ℕ) : Type 0 whe
       (λ info. IsRachWord (take 14 r.u) bsic × (info ≡ take 8 r.u))
   pub text : report ≡ access_report_text bsic r
 
--- a report on a synchronisation burst whose decoded word is unbeaten, and is accepted if and only if its CRC holds
-pub record IsBestSync (burst : List ℤ) (report : List ℕ) : Type 0 where
+-- `report` describes a synchronisation burst that was decoded to a most likely word, and was accepted if and only if its CRC holds
+pub record IsMostLikelySync (burst : List ℤ) (report : List ℕ) : Type 0 where
   pub r : ReceivedSync
-  pub best : IsMaximumLikelihood (S.first_half burst ++ S.second_half burst) r.u
+  pub best : IsMaximumLikelihood (S.first_coded_half burst ++ S.second_coded_half burst) r.u
   pub accepted : MatchOption r.accepted
       (¬ IsSchWord (take 35 r.u))
       (λ info. IsSchWord (take 35 r.u) × (info ≡ take 25 r.u))
   pub text : report ≡ sync_report_text r
 
--- the answers of `replay`, as far as this module describes them
-abbrev pub best_replay_answers : Answers
-best_replay_answers = record { block = IsBestBlock; access = λ bsic burst. IsBestAccess burst bsic; sync = IsBestSync }
+-- the answers of `replay`, with the further claim that the bursts are decoded to a most likely word
+abbrev pub replay_answers_with_ml_decoding : Answers
+replay_answers_with_ml_decoding = record {
+  block = IsMostLikelyBlock;
+  access = λ bsic burst. IsMostLikelyAccess burst bsic;
+  sync =
+      IsMostLikelySync;
+}
 
-abbrev pub replay_rules_with_best_words : Rules (List (List ℤ))
-replay_rules_with_best_words = burst_rules best_replay_answers
+abbrev pub replay_rules_with_ml_decoding : Rules (List (List ℤ))
+replay_rules_with_ml_decoding = burst_rules replay_answers_with_ml_decoding

@@ -1,4 +1,4 @@
--- What holds for a run, depending on which command the command-line words name (this project's own rules).
+-- The specification of a run, for the command that the command-line words name (this project's own rules).
 use Rattle.std.specs.Prelude.{ℕ, List, [], Option}
 use Rattle.um_driver.specs.Rules.{Rules, Machine}
 use Rattle.um_driver.specs.Table.{IsRun, EndsAsPrescribed}
@@ -18,11 +18,11 @@ use Rattle.um_session.specs.Sessions.{idle, link_rules}
 use Rattle.um_end.specs.EndRuns as E
 use Rattle.um_end.specs.EndRuns.{end_rules}
 
--- a machine: the rules of a command, and its first state
+-- the state machine of a command, made from its rules and its first state
 abbrev pub machine : {State : Type 0} → Rules State → State → Machine
 machine {State} rules start = record { State = State; rules = rules; start = start }
 
--- P holds for the machine of the command that the words name; for `make`, which reads no lines, it holds trivially
+-- the predicate holds for the state machine of the command; for `make`, which reads no lines, nothing is claimed
 abbrev pub HoldsForMachine : Invocation → (Machine → Type 0) → Type 0
 HoldsForMachine Code P = P (machine code_rules tt)
 HoldsForMachine Replay P = P (machine replay_rules [])
@@ -33,15 +33,16 @@ HoldsForMachine (Link tsc channel) P = P (machine link_rules (idle tsc channel))
 HoldsForMachine (Make n tsc) P = Unit {0}
 HoldsForMachine (End side tsc) P = P (machine end_rules (E.idle (role_of side) tsc))
 
--- for a command that reads lines: what was read and written, for each status
+-- for a command that reads lines, the status tells what the run has read and written
 abbrev pub IsRunOfCommand : Invocation → Status → (left left' taken taken' : Option (List ℕ)) → Type 0
 IsRunOfCommand command status left left' taken taken' =
     HoldsForMachine command (λ m. IsRun m.rules m.start (λ _. Unit {0}) status left left' taken taken')
 
--- for a command that reads lines: a run over a known input ends and writes as the command's rules prescribe, unless the source, the sink or
--- an allocation fails
-abbrev pub CommandEndsAsDue : Invocation → Status → (left taken taken' : Option (List ℕ)) → Type 0
-CommandEndsAsDue command status left taken taken' = HoldsForMachine command (λ m. EndsAsPrescribed m.rules m.start status left taken taken')
+-- a run of a command that reads lines ends and writes as its rules prescribe for the input, unless the source, the sink or an allocation
+-- fails
+abbrev pub CommandEndsAsPrescribed : Invocation → Status → (left taken taken' : Option (List ℕ)) → Type 0
+CommandEndsAsPrescribed command status left taken taken' = HoldsForMachine command
+    (λ m. EndsAsPrescribed m.rules m.start status left taken taken')
 
 -- every input of the command has exactly one output and one status; the session that `make` generates has exactly one summary
 abbrev pub HasOneOutputPerInput : Invocation → Type 0

@@ -1,32 +1,32 @@
 -- What a run of the command `make N T` does (this project's own rule).
 use Rattle.std.specs.Prelude.{ℕ, ◌≡◌, ◌+◌, List, Option}
 use Rattle.std.specs.Io.KnownBytes.{Appends, Keeps}
-use Rattle.um_end.specs.um_block.Tallies.{counter_after}
+use Rattle.um_end.specs.um_block.Tallies.{counter_plus}
 use Rattle.um_driver.specs.Table.{TakesPrefix}
 use Rattle.um_driver.specs.declared.status.Status.{Status}
 use Rattle.um_driver.specs.declared.status.Status.TheVariants.{Done, WriteFault, NoMemory}
 use Rattle.um_make.specs.declared.summary.Summary.{Summary}
 use Rattle.um_make.specs.Generated.{generated_events}
-use Rattle.um_make.specs.Runs.{IsSummaryOfEvents, AcksAreDelivered}
+use Rattle.um_make.specs.Runs.{IsSummaryOfEvents, AckedAtMostGot}
 use Rattle.um_make.specs.Texts.{summary_text}
 use Rattle.um_session.specs.Courses.{Tallies}
 
--- s is the summary of the generated session, the radio coded and received each block of it, and neither side has more messages acknowledged
--- than the other delivered
+-- `s` is the summary of the generated session; the radio encoded and decoded each of its blocks, and neither side has more messages
+-- acknowledged than the other delivered
 pub record IsMakeSummary (n tsc : ℕ) (s : Summary) (before after : Tallies) : Type 0 where
   pub session : IsSummaryOfEvents tsc (generated_events n) s
-  pub delivered : AcksAreDelivered s
-  pub sent : after.sent ≡ counter_after s.sends before.sent
-  pub heard : after.heard ≡ counter_after (s.takes + s.drops) before.heard
+  pub delivered : AckedAtMostGot s
+  pub sent : after.sent ≡ counter_plus s.sends before.sent
+  pub heard : after.heard ≡ counter_plus (s.takes + s.drops) before.heard
 
--- the whole text was written, or a prefix of it before the sink failed
-abbrev pub IsWritten : List ℕ → Status → (taken taken' : Option (List ℕ)) → Type 0
-IsWritten text Done taken taken' = Appends taken taken' text
-IsWritten text WriteFault taken taken' = TakesPrefix taken taken' text
-IsWritten text status taken taken' = ⊥
+-- the whole text was written (`Done`), or a prefix of it before the sink failed (`WriteFault`)
+abbrev pub IsTextWritten : List ℕ → Status → (taken taken' : Option (List ℕ)) → Type 0
+IsTextWritten text Done taken taken' = Appends taken taken' text
+IsTextWritten text WriteFault taken taken' = TakesPrefix taken taken' text
+IsTextWritten text status taken taken' = ⊥
 
--- the summary was written, or there was too little memory and nothing was done
+-- the summary was written, or a prefix of it before the sink failed; or an allocation failed and nothing was done
 abbrev pub IsMakeRun : (n tsc : ℕ) → Status → (taken taken' : Option (List ℕ)) → (before after : Tallies) → Type 0
 IsMakeRun n tsc NoMemory taken taken' before after = Keeps taken taken' × (after ≡ before)
 IsMakeRun n tsc status taken taken' before after =
-    (s : Summary) × IsMakeSummary n tsc s before after × IsWritten (summary_text n tsc s) status taken taken'
+    (s : Summary) × IsMakeSummary n tsc s before after × IsTextWritten (summary_text n tsc s) status taken taken'

@@ -1,14 +1,14 @@
--- `replay` recovers from the bursts that `code` writes what `code` was given (this project's own rule).
+-- `replay` recovers the information given to `code` from the bursts that `code` writes (this project's own rule).
 use Rattle.std.specs.Prelude.{ℕ, ◌≡◌, ◌≤◌, List, [], ◌∷◌, ◌++◌, length, Option, IfSome}
 use Rattle.um_end.specs.um_io.Lines.{IsDivided}
 use Rattle.um_end.specs.um_io.Reading.{input_limit}
-use Rattle.um_end.specs.um_block.Restored.{IsCleanBlock, IsCleanAccess, IsCleanSync}
+use Rattle.um_end.specs.um_block.Restored.{IsErrorFreeBlock, IsErrorFreeAccess, IsErrorFreeSync}
 use Rattle.um_end.specs.um_block.declared.received.Received.{Received}
 use Rattle.um_end.specs.um_block.declared.received.ReceivedAccess.{ReceivedAccess}
 use Rattle.um_end.specs.um_block.declared.received.ReceivedSync.{ReceivedSync}
 use Rattle.um_code.specs.um_formats.declared.code.CodeLine.{CodeLine}
 use Rattle.um_code.specs.um_formats.declared.code.CodeLine.TheVariants.{Skip, Block, Rach, Sch}
-use Rattle.um_code.specs.um_formats.CodeLines.{CodeMeans}
+use Rattle.um_code.specs.um_formats.CodeLines.{CodeLineMeans}
 use Rattle.um_code.specs.um_formats.Reports.{IsBlockReport, access_report_text, sync_report_text}
 use Rattle.um_driver.specs.Outputs.{IsOutput}
 use Rattle.um_driver.specs.Table.{WritesAsPrescribed}
@@ -16,24 +16,25 @@ use Rattle.um_driver.specs.declared.status.Status.{Status}
 use Rattle.um_driver.specs.declared.status.Status.TheVariants.{Done}
 use Rattle.um_code.specs.Code.{code_rules}
 
--- the report that `replay` writes for the undamaged bursts of this line of `code`: the same information, a CRC that holds, no wrong
+-- the report of `replay` on the undamaged bursts that `code` writes for a line: the encoded information, a CRC that holds, no wrong
 -- training bit, and the greatest possible metric
 abbrev pub IsReportOfCodeLine : CodeLine → List ℕ → Type 0
 IsReportOfCodeLine Skip report = report ≡ []
-IsReportOfCodeLine (Block tsc octets) report = (r : Received) × IsCleanBlock octets tsc r × IsBlockReport r report
-IsReportOfCodeLine (Rach info bsic) report = (r : ReceivedAccess) × IsCleanAccess info bsic r × (report ≡ access_report_text bsic r)
-IsReportOfCodeLine (Sch info) report = (r : ReceivedSync) × IsCleanSync info r × (report ≡ sync_report_text r)
+IsReportOfCodeLine (Block tsc octets) report = (r : Received) × IsErrorFreeBlock octets tsc r × IsBlockReport r report
+IsReportOfCodeLine (Rach info bsic) report = (r : ReceivedAccess) × IsErrorFreeAccess info bsic r × (report ≡ access_report_text bsic r)
+IsReportOfCodeLine (Sch info) report = (r : ReceivedSync) × IsErrorFreeSync info r × (report ≡ sync_report_text r)
 
--- the reports for these lines of `code`, one after another
+-- the reports of `replay` on the bursts that `code` writes for these lines, one after another
 abbrev pub AreReportsOfCodeLines : List (List ℕ) → List ℕ → Type 0
 AreReportsOfCodeLines [] reports = reports ≡ []
 AreReportsOfCodeLines (line ∷ lines) reports =
     (meaning : CodeLine) × (report : List ℕ) × (rest : List ℕ) ×
-    CodeMeans line meaning × IsReportOfCodeLine meaning report × AreReportsOfCodeLines lines rest × (reports ≡ report ++ rest)
+    CodeLineMeans line meaning × IsReportOfCodeLine meaning report × AreReportsOfCodeLines lines rest × (reports ≡ report ++ rest)
 
--- if the input of a run is what `code` writes for an input z without refused lines, the output of the run reports what the lines of z mean,
+-- if the input of `replay` is what `code` writes for lines of which none is refused, the output reports the information in those lines,
 -- unless the source, the sink or an allocation fails
 abbrev pub ReplayRecoversCode : Status → Option (List ℕ) → Option (List ℕ) → Option (List ℕ) → Type 0
-ReplayRecoversCode status left taken taken' = IfSome left (λ x. (z : List ℕ) → IsOutput code_rules tt z Done x → length x ≤ input_limit →
-    (lines : List (List ℕ)) × (reports : List ℕ) × IsDivided z lines × AreReportsOfCodeLines lines reports ×
+ReplayRecoversCode status left taken taken' = IfSome left (λ x. (z : List ℕ) → IsOutput code_rules tt z Done x →
+    length x ≤ input_limit → (lines : List (List ℕ)) × (reports : List ℕ) × IsDivided z lines
+    × AreReportsOfCodeLines lines reports ×
     WritesAsPrescribed status Done reports taken taken')

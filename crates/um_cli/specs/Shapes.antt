@@ -1,4 +1,4 @@
--- Which command the command-line words name, and with which operands (this project's own rules).
+-- The command that the command-line words name, and its operands (this project's own rules).
 use Rattle.std.specs.Prelude.{ℕ, ◌≤◌, ◌-◌, ◌&&◌, nat_le, slice_index, List, [], ◌∷◌, Option, Some, None, codes}
 use Rattle.std.specs.Prelude.{if◌then◌else◌}
 use Rattle.std.specs.Str.{bytes_eq, all_ascii_digits}
@@ -10,7 +10,7 @@ use Rattle.um_end.specs.um_link.declared.events.End.TheVariants.{Mobile, Network
 use Rattle.um_cli.specs.declared.words.Invocation.{Invocation}
 use Rattle.um_cli.specs.declared.words.Invocation.TheVariants.{Code, Replay, Show, Margin, Repair, Link, Make, End}
 
--- the command that a single word names
+-- the command that a single word names, or `None`
 abbrev pub one_word_command : List ℕ → Option Invocation
 one_word_command word =
     if bytes_eq word (codes "code") then Some Code
@@ -20,24 +20,24 @@ one_word_command word =
     else if bytes_eq word (codes "repair") then Some Repair
     else None
 
--- the training sequence code that a word stands for: one digit, 0 to 7
-abbrev pub tsc_of : List ℕ → Option ℕ
-tsc_of [] = None
-tsc_of (digit ∷ []) = if nat_le 48 digit && nat_le digit 55 then Some (digit - 48) else None
-tsc_of (digit ∷ other ∷ word) = None
+-- the training sequence code that a word represents: one digit, 0 to 7
+abbrev pub tsc_of_word : List ℕ → Option ℕ
+tsc_of_word [] = None
+tsc_of_word (digit ∷ []) = if nat_le 48 digit && nat_le digit 55 then Some (digit - 48) else None
+tsc_of_word (digit ∷ other ∷ word) = None
 
--- the command `link` on this channel, if its operand is valid
+-- the command `link` on this channel, if the training sequence code is valid
 abbrev pub link_if_valid : Option ℕ → Channel → Option Invocation
 link_if_valid None channel = None
 link_if_valid (Some tsc) channel = Some (Link tsc channel)
 
--- the command that a word and a training sequence code name, on this channel
+-- the command `link` on this channel, if the first word is `link` and the second is a training sequence code
 abbrev pub link_command : List ℕ → List ℕ → Channel → Option Invocation
-link_command word tsc channel = if bytes_eq word (codes "link") then link_if_valid (tsc_of tsc) channel else None
+link_command word tsc channel = if bytes_eq word (codes "link") then link_if_valid (tsc_of_word tsc) channel else None
 
--- the number of messages that a word stands for: 1 to 1000, in decimal without leading zeros
-abbrev pub message_count_of : List ℕ → Option ℕ
-message_count_of word =
+-- the number of messages that a word represents: 1 to 1000, in decimal without leading zeros
+abbrev pub message_count_of_word : List ℕ → Option ℕ
+message_count_of_word word =
     let n = digits_value 10 word in
     if nat_le 49 (slice_index word 0) && all_ascii_digits word && nat_le 1 n && nat_le n 1000 then Some n else None
 
@@ -58,8 +58,8 @@ end_if_valid side tsc = None
 -- the command that three words name: `make N T`, `end mob T`, `end net T` or `link T sacch`
 abbrev pub three_word_command : List ℕ → List ℕ → List ℕ → Option Invocation
 three_word_command word second last =
-    if bytes_eq word (codes "make") then make_if_valid (message_count_of second) (tsc_of last)
-    else if bytes_eq word (codes "end") then end_if_valid (side_of second) (tsc_of last)
+    if bytes_eq word (codes "make") then make_if_valid (message_count_of_word second) (tsc_of_word last)
+    else if bytes_eq word (codes "end") then end_if_valid (side_of second) (tsc_of_word last)
     else if bytes_eq last (codes "sacch") then link_command word second Sacch
     else None
 
@@ -71,14 +71,14 @@ command_of_words (word ∷ tsc ∷ []) = link_command word tsc Sdcch
 command_of_words (word ∷ second ∷ last ∷ []) = three_word_command word second last
 command_of_words (word ∷ second ∷ last ∷ other ∷ words) = None
 
--- the training sequence code is 0 to 7, and the number of messages 1 to 1000
+-- the training sequence code is 0 to 7, and the number of messages is 1 to 1000
 abbrev pub HasValidOperands : Invocation → Type 0
 HasValidOperands (Link tsc channel) = tsc ≤ 7
 HasValidOperands (Make n tsc) = (1 ≤ n) × (n ≤ 1000) × (tsc ≤ 7)
 HasValidOperands (End side tsc) = tsc ≤ 7
 HasValidOperands command = Unit {0}
 
--- the words do not name a command that uses the radio
+-- the command, if there is one, does not use the radio
 abbrev pub UsesNoRadio : Option Invocation → Type 0
 UsesNoRadio (Some (Link tsc channel)) = ⊥
 UsesNoRadio (Some (Make n tsc)) = ⊥

@@ -1,8 +1,8 @@
-//! Runs the command `link`: makes a world, and drives the command over it.
+//! Runs the command `link` in a new session.
 ghost use Rattle.std.specs.Prelude.{◌≡◌, ◌≢◌, ◌≤◌};
-ghost use Rattle.um_cli.specs.Arrivals.{link_rules_with_best_words};
-ghost use Rattle.um_driver.specs.Table.{IsRun, HasFaultCause, EndsAsPrescribed};
-ghost use Rattle.um_end.specs.um_link.um_air.Air.{start_on};
+ghost use Rattle.um_cli.specs.Arrivals.{link_rules_with_ml_decoding};
+ghost use Rattle.um_driver.specs.Table.{IsRun, FaultsAreCounted, EndsAsPrescribed};
+ghost use Rattle.um_end.specs.um_link.um_air.Air.{initial_session};
 ghost use Rattle.um_end.specs.um_link.Abstraction.{Represents};
 ghost use Rattle.um_session.specs.Sessions.{idle, link_rules};
 ghost use Rattle.um_session.specs.Promises.{IsLinkRun};
@@ -11,8 +11,8 @@ use std::alloc::Global;
 use um_driver::{Sink, Source, Status, drive};
 use um_session::{Channel, LinkCommand, Radio, World};
 
-/// Runs a script in a new session, with training sequence `tsc` (0 to 7), on this channel. Allocates all memory before it reads the first
-/// octet.
+/// Runs a script in a new session on `channel`, with training sequence `tsc` (0 to 7). All memory is allocated before the first octet is
+/// read.
 pub(crate) fn run_link<S: Source, K: Sink, R: Radio>(
     alloc: Global,
     tsc: u8,
@@ -28,7 +28,7 @@ pub(crate) fn run_link<S: Source, K: Sink, R: Radio>(
         (record { sent = R.sent radio.old; heard = R.heard radio.old })
         (record { sent = R.sent radio.new; heard = R.heard radio.new }) }
 
-    ensures arrivals { IsRun link_rules_with_best_words (idle tsc channel) (λ _. Unit {0}) result
+    ensures arrivals { IsRun link_rules_with_ml_decoding (idle tsc channel) (λ _. Unit {0}) result
         (S.left input.old) (S.left input.new) (K.taken output.old) (K.taken output.new) }
 
     ensures due { EndsAsPrescribed link_rules (idle tsc channel) result
@@ -37,7 +37,7 @@ pub(crate) fn run_link<S: Source, K: Sink, R: Radio>(
     ensures opening { result ≡ Status.NoMemory → (input.new ≡ input.old) × (output.new ≡ output.old) }
     ensures silent { result ≡ Status.NoMemory → radio.new ≡ radio.old }
 
-    ensures cause { HasFaultCause result (S.faults input.old) (S.faults input.new)
+    ensures cause { FaultsAreCounted result (S.faults input.old) (S.faults input.new)
         (K.faults output.old) (K.faults output.new) }
 
     ensures words { result ≢ Status.BadWords }
@@ -51,14 +51,14 @@ pub(crate) fn run_link<S: Source, K: Sink, R: Radio>(
     }
 }
 
-/// Makes the world of a new session, and runs the script in it.
+/// Runs the script in the session of `link`, which has just begun.
 fn drive_link<S: Source, K: Sink, R: Radio>(
     alloc: Global,
     link: &mut LinkCommand<'_, R>,
     input: &mut S,
     output: &mut K,
 ) -> Status
-    requires { Represents link.old.world.now (start_on link.old.world.now.tsc link.old.world.now.channel) }
+    requires { Represents link.old.world.now (initial_session link.old.world.now.tsc link.old.world.now.channel) }
     ensures same_radio { link.new.radio.ghost_name ≡ link.old.radio.ghost_name }
 
     ensures session { IsLinkRun link.old.world.now.tsc link.old.world.now.channel result
@@ -72,7 +72,7 @@ fn drive_link<S: Source, K: Sink, R: Radio>(
     ensures opening { result ≡ Status.NoMemory → (input.new ≡ input.old) × (output.new ≡ output.old) }
     ensures silent { result ≡ Status.NoMemory → link.new.radio.now ≡ link.old.radio.now }
 
-    ensures cause { HasFaultCause result (S.faults input.old) (S.faults input.new)
+    ensures cause { FaultsAreCounted result (S.faults input.old) (S.faults input.new)
         (K.faults output.old) (K.faults output.new) }
 
     ensures words { result ≢ Status.BadWords }

@@ -1,7 +1,7 @@
 //! Runs the command `make`: carries out the generated session, and writes its summary.
 ghost use Rattle.std.specs.Prelude.{◌≡◌, ◌≤◌, ℕ};
-ghost use Rattle.um_driver.specs.Table.{HasFaultCause};
-ghost use Rattle.um_cli.specs.Make.{IsMakeRun, IsWritten};
+ghost use Rattle.um_driver.specs.Table.{FaultsAreCounted};
+ghost use Rattle.um_cli.specs.Make.{IsMakeRun, IsTextWritten};
 ghost use Rattle.um_make.specs.Texts.{summary_text};
 
 use std::alloc::Global;
@@ -11,7 +11,7 @@ use um_session::Radio;
 
 /// Carries out the generated session of `n` messages (1 to 1000) with training sequence `tsc` (0 to 7), and writes its summary.
 ///
-/// Allocates all memory before the first block is sent.
+/// All memory is allocated before the first block is sent.
 pub(crate) fn run_make<K: Sink, R: Radio>(
     alloc: Global,
     n: u32,
@@ -28,7 +28,7 @@ pub(crate) fn run_make<K: Sink, R: Radio>(
         (record { sent = R.sent radio.new; heard = R.heard radio.new }) }
 
     ensures opening { result ≡ Status.NoMemory → (output.new ≡ output.old) × (radio.new ≡ radio.old) }
-    ensures cause { (read : ℕ) → HasFaultCause result read read (K.faults output.old) (K.faults output.new) }
+    ensures cause { (read : ℕ) → FaultsAreCounted result read read (K.faults output.old) (K.faults output.new) }
 {
     match make(alloc, n, tsc, radio) {
         Ok(summary) => write_summary(n, tsc, &summary, output),
@@ -36,10 +36,10 @@ pub(crate) fn run_make<K: Sink, R: Radio>(
     }
 }
 
-/// Writes the four lines of the summary.
+/// Writes the four lines of the summary of a generated session.
 fn write_summary<K: Sink>(n: u32, tsc: u8, summary: &Summary, output: &mut K) -> Status
-    ensures written { IsWritten (summary_text n tsc summary.now) result (K.taken output.old) (K.taken output.new) }
-    ensures cause { (read : ℕ) → HasFaultCause result read read (K.faults output.old) (K.faults output.new) }
+    ensures written { IsTextWritten (summary_text n tsc summary.now) result (K.taken output.old) (K.taken output.new) }
+    ensures cause { (read : ℕ) → FaultsAreCounted result read read (K.faults output.old) (K.faults output.new) }
 {
     let mut out = Text::new();
     summary_lines(&mut out, n, tsc, summary);

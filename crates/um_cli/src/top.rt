@@ -1,11 +1,11 @@
 //! The function `run`, which the program `um` calls.
 ghost use Rattle.std.specs.Prelude.{◌≡◌, ◌↔◌, ℕ, Some, None, []};
-ghost use Rattle.um_driver.specs.Table.{IsRun, HasFaultCause};
-ghost use Rattle.um_cli.specs.Arrivals.{link_rules_with_best_words};
-ghost use Rattle.um_cli.specs.Brought.{end_rules_with_best_words};
-ghost use Rattle.um_cli.specs.Headline.{replay_rules_with_best_words};
+ghost use Rattle.um_driver.specs.Table.{IsRun, FaultsAreCounted};
+ghost use Rattle.um_cli.specs.Arrivals.{link_rules_with_ml_decoding};
+ghost use Rattle.um_cli.specs.Brought.{end_rules_with_ml_decoding};
+ghost use Rattle.um_cli.specs.Headline.{replay_rules_with_ml_decoding};
 ghost use Rattle.um_cli.specs.Make.{IsMakeRun};
-ghost use Rattle.um_cli.specs.Machines.{IsRunOfCommand, CommandEndsAsDue, HasOneOutputPerInput};
+ghost use Rattle.um_cli.specs.Machines.{IsRunOfCommand, CommandEndsAsPrescribed, HasOneOutputPerInput};
 ghost use Rattle.um_cli.specs.Restored.{ReplayRecoversCode};
 ghost use Rattle.um_cli.specs.Shapes.{command_of_words, HasValidOperands, UsesNoRadio};
 ghost use Rattle.um_session.specs.Promises.{IsLinkRun};
@@ -28,9 +28,9 @@ use um_repair::Repair;
 use um_session::Radio;
 use um_show::Show;
 
-/// Runs the command that the command-line words name. It reads `input`, and writes to `output`.
+/// Runs the command named on the command line, reading from `input` and writing to `output`.
 ///
-/// Allocates all memory before it reads the first octet. The radio codes and receives the blocks of a session.
+/// All memory is allocated before the first octet is read. `radio` encodes and decodes the blocks of a session.
 pub fn run<S: Source, K: Sink, R: Radio>(
     alloc: Global,
     words: &Words,
@@ -45,53 +45,58 @@ pub fn run<S: Source, K: Sink, R: Radio>(
     // If an allocation fails, nothing has been read or written.
     ensures opening { result ≡ Status.NoMemory → (input.new ≡ input.old) × (output.new ≡ output.old) }
 
-    // For a command that reads lines: what it has read and written, for each status.
+    // For a command that reads lines, the status tells what the run has read and written.
     ensures table { (command : Invocation) → command_of_words words.now ≡ Some command → IsRunOfCommand command result
         (S.left input.old) (S.left input.new) (K.taken output.old) (K.taken output.new) }
 
-    // The run ends and writes as the command's rules prescribe for the whole input, unless the source, the sink or an allocation fails.
-    ensures due { (command : Invocation) → command_of_words words.now ≡ Some command → CommandEndsAsDue command result
+    // The run ends and writes as the rules of the command prescribe for the whole input, unless the source, the sink or an allocation
+    // fails.
+    ensures due { (command : Invocation) → command_of_words words.now ≡ Some command → CommandEndsAsPrescribed command result
         (S.left input.old) (K.taken output.old) (K.taken output.new) }
 
-    // Each block that `replay` reports is a codeword that is at least as likely as any other, given the soft values read, and its data are
-    // accepted if and only if its CRC holds.
-    ensures headline { command_of_words words.now ≡ Some Invocation.Replay → IsRun replay_rules_with_best_words [] (λ _. Unit {0}) result
+    // For each block, `replay` reports a codeword that is at least as likely as any other, given the soft values read, and accepts its data
+    // if and only if its CRC holds.
+    ensures headline { command_of_words words.now ≡ Some Invocation.Replay →
+        IsRun replay_rules_with_ml_decoding [] (λ _. Unit {0}) result
         (S.left input.old) (S.left input.new) (K.taken output.old) (K.taken output.new) }
 
-    // The same holds for each block received in a session of `link`, given the soft values received.
+    // Each block received in a session of `link` is decoded to a codeword that is at least as likely as any other, given the soft values
+    // received, and is accepted if and only if its CRC holds.
     ensures arrivals { (tsc : ℕ) (channel : ChannelOf) → command_of_words words.now ≡ Some (Invocation.Link tsc channel) →
-        IsRun link_rules_with_best_words (idle tsc channel) (λ _. Unit {0}) result
+        IsRun link_rules_with_ml_decoding (idle tsc channel) (λ _. Unit {0}) result
         (S.left input.old) (S.left input.new) (K.taken output.old) (K.taken output.new) }
 
-    // The same holds for each block whose bursts `end` reads.
+    // Each block that `end` receives is decoded to a codeword that is at least as likely as any other, given the soft values of its bursts,
+    // and is accepted if and only if its CRC holds.
     ensures brought { (side : SideOf) (tsc : ℕ) → command_of_words words.now ≡ Some (Invocation.End side tsc) →
-        IsRun end_rules_with_best_words (idle_end (role_of side) tsc) (λ _. Unit {0}) result
+        IsRun end_rules_with_ml_decoding (idle_end (role_of side) tsc) (λ _. Unit {0}) result
         (S.left input.old) (S.left input.new) (K.taken output.old) (K.taken output.new) }
 
-    // `replay` recovers from the output of `code` what `code` was given.
+    // `replay` recovers the information given to `code` from the output of `code`.
     ensures restores { command_of_words words.now ≡ Some Invocation.Replay → ReplayRecoversCode result
         (S.left input.old) (K.taken output.old) (K.taken output.new) }
 
-    // The status is `ReadFault` or `WriteFault` if and only if the failure count of the source or the sink has risen.
-    ensures cause { HasFaultCause result (S.faults input.old) (S.faults input.new)
+    // The failure count of the source has risen if the status is `ReadFault`, that of the sink if it is `WriteFault`; otherwise both are
+    // unchanged.
+    ensures cause { FaultsAreCounted result (S.faults input.old) (S.faults input.new)
         (K.faults output.old) (K.faults output.new) }
 
-    // A run of `link` is a session whose blocks the radio codes and receives. The claims about sessions hold for the lines of whose answers
-    // at least one octet was written.
+    // A run of `link` is a session whose blocks the radio encodes and decodes. What is claimed of sessions holds up to the last line of
+    // whose answer at least one octet was written.
     ensures session { (tsc : ℕ) (channel : ChannelOf) → command_of_words words.now ≡ Some (Invocation.Link tsc channel) →
         IsLinkRun tsc channel result
         (S.left input.old) (S.left input.new) (K.taken output.old) (K.taken output.new)
         (record { sent = R.sent radio.old; heard = R.heard radio.old })
         (record { sent = R.sent radio.new; heard = R.heard radio.new }) }
 
-    // `make` reads nothing, and writes the summary of the generated session, whose blocks the radio codes and receives.
+    // `make` reads nothing, and writes the summary of the generated session, whose blocks the radio encodes and decodes.
     ensures unread { (n tsc : ℕ) → command_of_words words.now ≡ Some (Invocation.Make n tsc) → input.new ≡ input.old }
     ensures made { (n tsc : ℕ) → command_of_words words.now ≡ Some (Invocation.Make n tsc)
         → IsMakeRun n tsc result (K.taken output.old) (K.taken output.new)
         (record { sent = R.sent radio.old; heard = R.heard radio.old })
         (record { sent = R.sent radio.new; heard = R.heard radio.new }) }
 
-    // Other commands do not use the radio, nor does a run that has too little memory.
+    // Other commands do not use the radio, nor does a run that ends with `NoMemory`.
     ensures silent { UsesNoRadio (command_of_words words.now) → radio.new ≡ radio.old }
     ensures unused { result ≡ Status.NoMemory → radio.new ≡ radio.old }
 {
@@ -113,7 +118,8 @@ pub fn run<S: Source, K: Sink, R: Radio>(
     }
 }
 
-/// For every command that reads lines, every input has exactly one output and one status; every generated session has exactly one summary.
-pub fn law_one_output()
+/// Law: for every command that reads lines, every input has exactly one output and one status; every generated session has exactly one
+/// summary.
+pub fn law_output_is_unique()
     ensures { (command : Invocation) → HasValidOperands command → HasOneOutputPerInput command }
 {}

@@ -1,29 +1,29 @@
-//! The command-line words.
+//! Stores the command-line words, and finds the command that they name.
 ghost use Rattle.std.specs.Prelude.{◌≡◌, ◌≤◌, ℕ, List, [], map, slice_index, IfSome};
-ghost use Rattle.um_cli.specs.WordLists.{stored_word, words_with};
+ghost use Rattle.um_cli.specs.WordLists.{stored_word, words_with_added};
 ghost use Rattle.um_cli.specs.Shapes.{one_word_command, command_of_words, link_command, three_word_command, make_if_valid, end_if_valid};
 ghost use Rattle.um_cli.specs.Shapes.{side_of};
-ghost use Rattle.um_cli.specs.Shapes.{message_count_of, tsc_of};
+ghost use Rattle.um_cli.specs.Shapes.{message_count_of_word, tsc_of_word};
 ghost use Rattle.um_cli.specs.Shapes.{HasValidOperands};
 
-/// The command that the words name, with its operands.
+/// The command given on the command line, with its operands.
 #[derive(Clone, Copy, Debug, PartialEq, Eq)]
 pub enum Invocation {
-    /// Codes blocks to bursts.
+    /// Encodes blocks as bursts.
     Code,
-    /// Decodes bursts to blocks.
+    /// Decodes bursts.
     Replay,
     /// Converts frames to text and back.
     Show,
-    /// Finds the two most likely words of each block.
+    /// Finds the two most likely words for each block or single burst.
     Margin,
     /// Corrects blocks whose wrong bits lie within twelve consecutive bits.
     Repair,
-    /// Runs a session of both sides, with this training sequence code, on this channel.
+    /// Runs a session of both sides, with the given training sequence code, on the given channel.
     Link(u8, Channel),
-    /// Runs the generated session with this number of messages and this training sequence code.
+    /// Runs a generated session with the given number of messages and the given training sequence code.
     Make(u32, u8),
-    /// Runs one side over recorded bursts, with this training sequence code for its own blocks.
+    /// Runs one side over recorded bursts, with the given training sequence code for its own blocks.
     End(End, u8),
 }
 
@@ -59,7 +59,7 @@ impl Words {
 
     /// Adds a word. A word of more than eight octets is stored as `?`, and a fifth word is dropped.
     pub fn add(&mut self, word: &str)
-        ensures { self.new ≡ words_with self.old word.now }
+        ensures { self.new ≡ words_with_added self.old word.now }
     {
         if !self.held.is_full() {
             self.held.push(store_word(word));
@@ -113,22 +113,22 @@ fn three_word_command(word: &str, second: &str, last: &str) -> Option<Invocation
     }
 }
 
-/// The command `make` with these operands, if they are valid.
+/// The command `make`, if both operands are valid.
 fn make_command(count: &str, tsc: &str) -> Option<Invocation>
-    ensures command { result ≡ make_if_valid (message_count_of count.now) (tsc_of tsc.now) }
+    ensures command { result ≡ make_if_valid (message_count_of_word count.now) (tsc_of_word tsc.now) }
     ensures fits { IfSome result (λ command. HasValidOperands command) }
 {
-    let count = message_count_of(count)?;
-    Some(Invocation::Make(count, tsc_of(tsc)?))
+    let count = message_count_of_word(count)?;
+    Some(Invocation::Make(count, tsc_of_word(tsc)?))
 }
 
-/// The command `end` with these operands, if they are valid.
+/// The command `end`, if both operands are valid.
 fn end_command(side: &str, tsc: &str) -> Option<Invocation>
-    ensures command { result ≡ end_if_valid (side_of side.now) (tsc_of tsc.now) }
+    ensures command { result ≡ end_if_valid (side_of side.now) (tsc_of_word tsc.now) }
     ensures fits { IfSome result (λ command. HasValidOperands command) }
 {
     let side = side_of(side)?;
-    Some(Invocation::End(side, tsc_of(tsc)?))
+    Some(Invocation::End(side, tsc_of_word(tsc)?))
 }
 
 /// The side that a word names: `mob` or `net`.
@@ -142,21 +142,21 @@ fn side_of(word: &str) -> Option<End>
     }
 }
 
-/// The number of messages that a word stands for: 1 to 1000, in decimal without leading zeros.
-fn message_count_of(word: &str) -> Option<u32>
-    ensures value { result ≡ message_count_of word.now }
+/// The number of messages that a word represents: 1 to 1000, in decimal without leading zeros.
+fn message_count_of_word(word: &str) -> Option<u32>
+    ensures value { result ≡ message_count_of_word word.now }
     ensures fits { IfSome result (λ n. (1 ≤ n) × (n ≤ 1000)) }
 {
     match word.as_bytes() {
-        [first, ..] if *first >= b'1' => number_of(word),
+        [first, ..] if *first >= b'1' => number_of_word(word),
         _ => None,
     }
 }
 
-/// The number that a word without a sign stands for, if it is 1 to 1000.
-fn number_of(word: &str) -> Option<u32>
+/// The number that a word represents, if it is 1 to 1000. The word must not begin with a sign or a zero.
+fn number_of_word(word: &str) -> Option<u32>
     requires { 49 ≤ slice_index word.now 0 }
-    ensures value { result ≡ message_count_of word.now }
+    ensures value { result ≡ message_count_of_word word.now }
     ensures fits { IfSome result (λ n. (1 ≤ n) × (n ≤ 1000)) }
 {
     match word.parse::<u32>() {
@@ -165,21 +165,21 @@ fn number_of(word: &str) -> Option<u32>
     }
 }
 
-/// The command `link` with this training sequence code, on this channel, if the words name it.
+/// The command `link` on this channel, if the first word is `link` and the second is a training sequence code.
 fn link_command(word: &str, tsc: &str, channel: Channel) -> Option<Invocation>
     ensures command { result ≡ link_command word.now tsc.now channel }
     ensures fits { IfSome result (λ command. HasValidOperands command) }
 {
     if word == "link" {
-        Some(Invocation::Link(tsc_of(tsc)?, channel))
+        Some(Invocation::Link(tsc_of_word(tsc)?, channel))
     } else {
         None
     }
 }
 
-/// The training sequence code that a word stands for: one digit, 0 to 7.
-fn tsc_of(word: &str) -> Option<u8>
-    ensures value { result ≡ tsc_of word.now }
+/// The training sequence code that a word represents: one digit, 0 to 7.
+fn tsc_of_word(word: &str) -> Option<u8>
+    ensures value { result ≡ tsc_of_word word.now }
     ensures fits { IfSome result (λ tsc. tsc ≤ 7) }
 {
     match word.as_bytes() {

@@ -1,26 +1,26 @@
--- What the command `code` answers to a line (this project's own rule).
+-- How the command `code` answers a line (this project's own rule).
 use Rattle.std.specs.Prelude.{ℕ, ◌≡◌, List, []}
 use Rattle.um_block.specs.Sent.{IsSentBlock, IsSentAccess, IsSentSync}
 use Rattle.um_formats.specs.declared.code.CodeLine.{CodeLine}
 use Rattle.um_formats.specs.declared.code.CodeLine.TheVariants.{Skip, Block, Rach, Sch}
-use Rattle.um_formats.specs.CodeLines.{code_fault, CodeMeans}
-use Rattle.um_formats.specs.BurstTexts.{block_text, access_text, sync_text}
+use Rattle.um_formats.specs.CodeLines.{code_fault, CodeLineMeans}
+use Rattle.um_formats.specs.BurstTexts.{bursts_text, access_burst_text, sync_burst_text}
 use Rattle.um_driver.specs.Rules.{Rules, stateless}
 
--- the answer to a line that means this: the text of the bursts that carry its information
+-- the answer to a line with this meaning: the text lines of the bursts that carry its information
 abbrev pub IsCodeAnswer : CodeLine → List ℕ → Type 0
 IsCodeAnswer Skip answer = answer ≡ []
 IsCodeAnswer (Block tsc octets) answer =
-    (bursts : List (List ℕ)) × IsSentBlock octets tsc bursts × (answer ≡ block_text bursts)
+    (bursts : List (List ℕ)) × IsSentBlock octets tsc bursts × (answer ≡ bursts_text bursts)
 IsCodeAnswer (Rach info bsic) answer =
-    (burst : List ℕ) × IsSentAccess info bsic burst × (answer ≡ access_text bsic burst)
+    (burst : List ℕ) × IsSentAccess info bsic burst × (answer ≡ access_burst_text bsic burst)
 IsCodeAnswer (Sch info) answer =
-    (burst : List ℕ) × IsSentSync info burst × (answer ≡ sync_text burst)
+    (burst : List ℕ) × IsSentSync info burst × (answer ≡ sync_burst_text burst)
 
--- `answer` is the answer of `code` to the line
+-- the command `code` may give this answer to the line
 abbrev pub AnswersCodeLine : List ℕ → List ℕ → Type 0
-AnswersCodeLine line answer = (meaning : CodeLine) × CodeMeans line meaning × IsCodeAnswer meaning answer
+AnswersCodeLine line answer = (meaning : CodeLine) × CodeLineMeans line meaning × IsCodeAnswer meaning answer
 
--- the rules of `code`: it has no state, and an input may end after any line
+-- the rules of `code`, which keeps no state, so that its input may end after any line
 abbrev pub code_rules : Rules (Unit {0})
 code_rules = stateless code_fault AnswersCodeLine

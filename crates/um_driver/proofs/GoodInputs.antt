@@ -1,5 +1,6 @@
 -- If no line of an input is refused and it may end, its output consists of the answers to all its lines.
-use Rattle.std.proofs.Common.{◌≡◌, ℕ, ◌≤◌, ◌+◌, Bool, true, false, List, [], ◌∷◌, ◌++◌, length, None, inl, inr, refl, ap, ◌∙◌, append-nil}
+use Rattle.std.proofs.Common.{◌≡◌, ℕ, ◌≤◌, ◌+◌, Bool, true, false, List, [], ◌∷◌, ◌++◌, length, None, inl, inr}
+use Rattle.std.proofs.Common.{refl, ap, ◌∙◌, append-nil}
 use Rattle.um_io.specs.{Lines.IsDivided, Reading.input_limit}
 use Rattle.um_driver.specs.{Rules.{Rules, Runs, concatenated_text}, Outputs.{AreProcessedLines, IsOutputOfLines, IsOutput}}
 use Rattle.um_driver.{specs.declared.status.Status.TheVariants.Done, proofs.{Judging.judges_whole, OutputExists.plain_judged}}
@@ -18,22 +19,30 @@ pub record IsGoodInput {State : Type 0} (r : Rules State) (a : State) (x y : Lis
 
 -- if the status is `Done`, no processed line is refused
 all_run : {State : Type 0} (r : Rules State) (a : State) (n : ℕ) (judged : List (List ℕ)) (ended : Bool) (z : List ℕ) →
-    IsOutputOfLines r a n judged ended Done z → (answers : List (List ℕ)) × (b : State) × Runs r a judged answers b × (r.end_fault b ≡ None)
+    IsOutputOfLines r a n judged ended Done z → (answers : List (List ℕ)) × (b : State) × Runs r a judged answers b
+    × (r.end_fault b ≡ None)
     × (ended ≡ true) × (z ≡ concatenated_text answers)
 all_run r a n [] true z (inl (good, _, none)) = ([], a, refl, good, refl, none)
-all_run r a n [] true z (inr stop) = let e = stop.status_is in absurd (cc e)
+all_run r a n [] true z (inr stop) = absurd (cc stop.is_bad_input)
 all_run r a n [] false z (e, _) = absurd (cc e)
 all_run r a n (line ∷ judged) ended z (inl g) =
-    let (answers, b, runs, good, e, z_is) = all_run r g.mid (n + 1) judged ended g.rest g.then_ in
+    let (answers, b, runs, good, e, z_is) = all_run r g.mid (n + 1) judged ended g.rest g.rest_follows in
     (g.answer ∷ answers, b, (g.mid, g.good, g.step, runs), good, e, g.output ∙ ap (λ w. g.answer ++ w) z_is)
-all_run r a n (line ∷ judged) ended z (inr stop) = let e = stop.status_is in absurd (cc e)
+all_run r a n (line ∷ judged) ended z (inr stop) = absurd (cc stop.is_bad_input)
 
 divided_judged : (x : List ℕ) (judged : List (List ℕ)) → AreProcessedLines x judged true → IsDivided x judged
 divided_judged x judged j = record {
   plain = plain_judged x judged true j;
   whole = elim j.tail [
     | inl (e, none) ↦ inl (j.counts.0 ∙ j.begins.whole ∙ rw (none, append-nil, e))
-    | inr (e, some) ↦ inr (record { front = j.lines; last = j.last; lines_are = e; octets_are = j.counts.0 ∙ j.begins.whole; some = some })
+    | inr (e, some) ↦ inr (record {
+      front = j.lines;
+      last = j.last;
+      lines_split = e;
+      octets_split = j.counts.0 ∙ j.begins.whole;
+      some =
+          some;
+    })
   ];
 }
 

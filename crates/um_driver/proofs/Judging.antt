@@ -1,20 +1,21 @@
 -- Which lines of an input a run processes: those that end within the limit, and the octets after them if these are too long for a line or
 -- end the input. There is exactly one such list of lines, because octets can be divided into lines in only one way.
-use Rattle.std.proofs.Common.{◌≡◌, ℕ, ◌<◌, ◌≤◌, Bool, true, false, List, [], ◌∷◌, ◌++◌, length, ◌⊎◌, inl, inr, sym, refl, ap, ◌∙◌}
-use Rattle.std.proofs.Common.{append_assoc, append-nil, length-append, take, drop, take-append-drop, length-drop, arith}
-use Rattle.std.proofs.{Math.Seq.take-append_seam, lemmas.{Bool.cases_lt, List.{length-take-le, Elements.{All-nil, All-cons, All-head}}}}
-use Rattle.std.{proofs.lemmas.List.Elements.{All-tail, All-append}, specs.List.All}
+use Rattle.std.proofs.Common.{◌≡◌, ℕ, ◌<◌, ◌≤◌, Bool, true, false, List, [], ◌∷◌, ◌++◌, length, ◌⊎◌, inl}
+use Rattle.std.proofs.Common.{inr, sym, refl, ap, ◌∙◌, append_assoc, append-nil, length-append, take, drop, take-append-drop}
+use Rattle.std.proofs.{Common.{length-drop, arith}, Math.Seq.take-append_seam, lemmas.{Bool.cases_lt, List.length-take-le}}
+use Rattle.std.{proofs.lemmas.List.Elements.{All-nil, All-cons, All-head, All-tail, All-append}, specs.List.All}
 use Rattle.um_io.specs.{Lines.{IsNotLineFeed, IsLine, IsDivided, text_of_lines}, Reading.{input_limit, line_limit}}
 use Rattle.um_io.proofs.{DivisionLemmas.IsDivided-lines_of_octets, LineLists.{one_division, text-cons, text-push, length-text-push}}
 use Rattle.um_io.proofs.LineLists.{All-before, All-behind}
 use Rattle.um_driver.specs.{Divided.BeginsWithLines, Outputs.{ExceedsInputLimit, AreCountedOctets, LastLineIsNotProcessed}}
-use Rattle.um_driver.specs.{Outputs.{LastLineIsProcessed, AreProcessedLines}, Table.{IsWholeInputRead, AreFirstLines, IsNextProcessed}}
+use Rattle.um_driver.specs.{Outputs.{LastLineIsProcessed, AreProcessedLines}, Table.{IsWholeInputRead, AreFirstLines, IsNextLineProcessed}}
 
 -- of two prefixes of the same list, the shorter is a prefix of the longer
-pub front_of : (u v c p : List ℕ) → u ++ v ≡ c ++ p → length u ≤ length c → (part : List ℕ) × (c ≡ u ++ part) × (v ≡ part ++ p)
+pub front_of : (u v c p : List ℕ) → u ++ v ≡ c ++ p → length u ≤ length c →
+    (part : List ℕ) × (c ≡ u ++ part) × (v ≡ part ++ p)
 front_of [] v c p e h = (c, refl, e)
 front_of (o ∷ u) v [] p e h = absurd (omega arith)
-front_of (o ∷ u) v (i ∷ c) p e h = let (part, c_is, v_is) = front_of u v c p (cc e) (omega arith) in (part, cc (e, c_is), v_is)
+front_of (o ∷ u) v (i ∷ c) p e h = let (part, c_is, v_is) = front_of u v c p (cc e) (omega arith) in (part, cc e, v_is)
 
 text-append : (ls ms : List (List ℕ)) (u : List ℕ) → text_of_lines (ls ++ ms) ++ u ≡ text_of_lines ls ++ (text_of_lines ms ++ u)
 text-append [] ms u = refl
@@ -30,7 +31,8 @@ record Division (octets : List ℕ) : Type 0 where
 
 -- the lines of an input are those with a line feed and then the rest, if it is not empty
 division_of : {x : List ℕ} {lines : List (List ℕ)} → IsDivided x lines → (d : Division x)
-    × (((lines ≡ d.lines) × LastLineIsNotProcessed d.last true) ⊎ ((lines ≡ d.lines ++ d.last ∷ []) × LastLineIsProcessed d.last true))
+    × (((lines ≡ d.lines) × LastLineIsNotProcessed d.last true)
+    ⊎ ((lines ≡ d.lines ++ d.last ∷ []) × LastLineIsProcessed d.last true))
 division_of {lines = lines} h = elim h.whole [
   | inl x_is ↦ (
     record {
@@ -42,14 +44,14 @@ division_of {lines = lines} h = elim h.whole [
     inl (refl, refl),
   )
   | inr cut ↦
-      let both : All IsLine (cut.front ++ cut.last ∷ []) = rw (← cut.lines_are) h.plain in (
+      let both : All IsLine (cut.front ++ cut.last ∷ []) = rw (← cut.lines_split) h.plain in (
         record {
           lines = cut.front;
           last = cut.last;
-          begins = record { plain = All-before IsLine cut.front (cut.last ∷ []) both; whole = cut.octets_are };
+          begins = record { plain = All-before IsLine cut.front (cut.last ∷ []) both; whole = cut.octets_split };
           plain = All-head IsLine cut.last [] (All-behind IsLine cut.front (cut.last ∷ []) both);
         },
-        inr (cut.lines_are, cut.some),
+        inr (cut.lines_split, cut.some),
       )
 ]
 
@@ -81,9 +83,9 @@ judges_counted {x} {counted} {ended} {lines} {last} counts b p = elim (judged_or
 counted_front : (x u v : List ℕ) → x ≡ u ++ v → length u ≤ input_limit →
     (part : List ℕ) × (ended : Bool) × AreCountedOctets x (u ++ part) ended
 counted_front x u v e h = elim (cases_lt input_limit (length x)) [
-  | inl over ↦
+  | inl is_over ↦
       let n = input_limit in
-      let count : length (take n x) ≡ n = length-take-le n x (omega (arith, over)) in
+      let count = length-take-le n x (omega (arith, is_over)) in
       let (part, front_is, _) = front_of u v (take n x) (drop n x) (sym e ∙ sym (take-append-drop n x)) (omega (arith, h, count)) in (
         part,
         false,
@@ -92,7 +94,7 @@ counted_front x u v e h = elim (cases_lt input_limit (length x)) [
           record {
             whole = sym (take-append-drop n x) ∙ ap (λ o. o ++ drop n x) front_is;
             count = ap length (sym front_is) ∙ count;
-            some = omega (arith, over, length-drop n x);
+            some = omega (arith, is_over, length-drop n x);
           },
         ),
       )
@@ -124,8 +126,8 @@ judges_long {x} {lines} line more b p h long =
     next part ended counts d.lines d.last d.begins d.plain
   where
     also : (last : List ℕ) (ended : Bool) → LastLineIsProcessed (line ++ last) ended
-    also last true = omega (arith, long, length-append line last)
-    also last false = omega (arith, long, length-append line last)
+    also last true = omega (arith, length-append line last)
+    also last false = omega (arith, length-append line last)
 
     next : (part : List ℕ) (ended : Bool) → AreCountedOctets x ((text_of_lines lines ++ line) ++ part) ended →
         (ls : List (List ℕ)) (last : List ℕ) →
@@ -154,35 +156,36 @@ judges_long {x} {lines} line more b p h long =
               (All-tail IsLine l ls d.plain));
           whole = rw (d.whole, text-append, text-cons, text-cons, append_assoc, append_assoc);
         }) q in
-        (line ++ l, ls ++ judged, ended, rw append_assoc at j, omega (arith, long, length-append line l))
+        (line ++ l, ls ++ judged, ended, rw append_assoc at j, omega (arith, length-append line l))
 
 -- if an input is within the limit, all its lines are processed
-pub judges_whole : {x : List ℕ} {lines : List (List ℕ)} → IsDivided x lines → length x ≤ input_limit → AreProcessedLines x lines true
+pub judges_whole : {x : List ℕ} {lines : List (List ℕ)} → IsDivided x lines → length x ≤ input_limit →
+    AreProcessedLines x lines true
 judges_whole {x} d h = let (v, tail) = division_of d in
     record { octets = x; lines = v.lines; last = v.last; counts = (refl, h); begins = v.begins; plain = v.plain; tail = tail }
 
 -- if an input has been read as a whole, all its lines are processed
 pub judges_read : {q rest : List ℕ} {lines : List (List ℕ)} → IsWholeInputRead q rest lines →
     AreProcessedLines (q ++ rest) (lines ++ []) true
-judges_read w = rw (w.none_left, append-nil, append-nil) (judges_whole w.all w.limit)
+judges_read w = rw (w.nothing_left, append-nil, append-nil) (judges_whole w.all w.limit)
 
 -- the first lines of an input are processed
 pub judges_first : {q rest : List ℕ} {lines : List (List ℕ)} → AreFirstLines q rest lines →
     (judged : List (List ℕ)) × (ended : Bool) × AreProcessedLines (q ++ rest) (lines ++ judged) ended
 judges_first {q} {rest} (inl (more, b, h)) =
-    judges_after {x = q ++ rest} (more ++ rest) (record { plain = b.plain; whole = rw (b.whole, append_assoc) }) h
+    judges_after (more ++ rest) (record { plain = b.plain; whole = rw (b.whole, append_assoc) }) h
 judges_first (inr whole) = ([], true, judges_read whole)
 
 -- the line that is processed after these lines is the line that was read or, if that is too long, a longer line
-pub judges_next : {q rest : List ℕ} {lines : List (List ℕ)} {line : List ℕ} → IsNextProcessed q rest lines line →
+pub judges_next : {q rest : List ℕ} {lines : List (List ℕ)} {line : List ℕ} → IsNextLineProcessed q rest lines line →
     (next : List ℕ) × (judged : List (List ℕ)) × (ended : Bool) × AreProcessedLines (q ++ rest) (lines ++ next ∷ judged) ended
     × ((next ≡ line) ⊎ ((line_limit < length line) × (line_limit < length next)))
 judges_next {q} {rest} {lines} {line} n = elim n.judged [
   | inl (after, feed, under) ↦
-      let (judged, ended, j) = judges_after {x = q ++ rest} {lines = lines ++ line ∷ []} (after ++ rest) (record {
+      let (judged, ended, j) = judges_after {x = q ++ rest} (after ++ rest) (record {
         plain = All-append IsLine lines (line ∷ []) n.begins.plain (All-cons IsLine line [] n.plain (All-nil IsLine));
         whole = rw (n.begins.whole, feed, append_assoc, append_assoc, text-push);
-      }) (omega (arith, under, length-text-push lines line)) in
+      }) (omega (arith, length-text-push lines line)) in
       (line, judged, ended, rw append_assoc at j, inl refl)
   | inr two ↦ elim two [
     | inl long ↦
@@ -193,7 +196,7 @@ judges_next {q} {rest} {lines} {line} n = elim n.judged [
         let q_is : q ≡ text_of_lines lines ++ line = n.begins.whole ∙ rw (none, append-nil) in
         let d : IsDivided q (lines ++ line ∷ []) = record {
           plain = All-append IsLine lines (line ∷ []) n.begins.plain (All-cons IsLine line [] n.plain (All-nil IsLine));
-          whole = inr (record { front = lines; last = line; lines_are = refl; octets_are = q_is; some = some });
+          whole = inr (record { front = lines; last = line; lines_split = refl; octets_split = q_is; some = some });
         } in
         (line, [], true, rw (no_rest, append-nil) (judges_whole d (rw q_is n.limit)), inl refl)
   ]
@@ -202,12 +205,13 @@ judges_next {q} {rest} {lines} {line} n = elim n.judged [
 -- ---- uniqueness
 
 not_both : (last : List ℕ) (ended : Bool) → LastLineIsNotProcessed last ended → LastLineIsProcessed last ended → ⊥
-not_both last true none some = omega (arith, some, ap length none)
-not_both last false short long = omega (arith, short, long)
+not_both last true none some = omega (arith, ap length none)
+not_both last false short long = omega arith
 
 same_tail : (judged judged' lines : List (List ℕ)) (last : List ℕ) (ended : Bool) →
     ((judged ≡ lines) × LastLineIsNotProcessed last ended) ⊎ ((judged ≡ lines ++ last ∷ []) × LastLineIsProcessed last ended) →
-    ((judged' ≡ lines) × LastLineIsNotProcessed last ended) ⊎ ((judged' ≡ lines ++ last ∷ []) × LastLineIsProcessed last ended) →
+    ((judged' ≡ lines) × LastLineIsNotProcessed last ended)
+    ⊎ ((judged' ≡ lines ++ last ∷ []) × LastLineIsProcessed last ended) →
     judged ≡ judged'
 same_tail judged judged' lines last ended (inl (e, _)) (inl (f, _)) = e ∙ sym f
 same_tail judged judged' lines last ended (inr (e, _)) (inr (f, _)) = e ∙ sym f
@@ -224,14 +228,14 @@ same_judged {judged = judged} {judged' = judged'} {ended = ended} j k e =
 
 -- an input that is within the limit has no octets past the limit
 not_over : (x counted past : List ℕ) → ExceedsInputLimit x counted past → length x ≤ input_limit → ⊥
-not_over x counted past over h = omega (arith, ap length over.whole, length-append counted past, over.count, over.some)
+not_over x counted past is_over h = omega (arith, ap length is_over.whole, length-append counted past, is_over.count, is_over.some)
 
 same_front : (c p c' p' : List ℕ) → c ++ p ≡ c' ++ p' → length c ≡ length c' → c ≡ c'
 same_front c p c' p' e h = sym (take-append_seam c p) ∙ ap (take (length c)) e ∙ rw h (take-append_seam c' p')
 
 -- an input has only one list of processed lines
-pub AreProcessedLines-unique : (x : List ℕ) (judged judged' : List (List ℕ)) (ended ended' : Bool) → AreProcessedLines x judged ended →
-    AreProcessedLines x judged' ended' →
+pub AreProcessedLines-unique : (x : List ℕ) (judged judged' : List (List ℕ)) (ended ended' : Bool) →
+    AreProcessedLines x judged ended → AreProcessedLines x judged' ended' →
     (ended ≡ ended') × (judged ≡ judged')
 AreProcessedLines-unique x judged judged' true true j k = (refl, same_judged j k (sym j.counts.0 ∙ k.counts.0))
 AreProcessedLines-unique x judged judged' true false j k = absurd (not_over x k.octets k.counts.0 k.counts.1 j.counts.1)

@@ -1,6 +1,6 @@
 -- The output of an input that ends in a certain way after lines that are not refused.
-use Rattle.std.proofs.Common.{◌≡◌, ℕ, ◌<◌, ◌+◌, Bool, true, false, List, [], ◌∷◌, ◌++◌, length, length-append, ◌⊎◌, inl, inr, refl}
-use Rattle.std.proofs.Common.{append_assoc, append-nil, arith}
+use Rattle.std.proofs.Common.{◌≡◌, ℕ, ◌<◌, ◌+◌, Bool, true, false, List, [], ◌∷◌, ◌++◌, length, length-append}
+use Rattle.std.proofs.Common.{◌⊎◌, inl, inr, refl, append_assoc, append-nil, arith}
 use Rattle.um_io.specs.Reading.{line_limit}
 use Rattle.um_lines.specs.declared.fault.LineFault.{LineFault}
 use Rattle.um_driver.specs.{Rules.{Rules, IsLineRefused, Runs, concatenated_text}, Outputs.{AreProcessedLines, IsOutputOfLines, IsOutput}}
@@ -17,7 +17,8 @@ output_unique r det a x s s' z z' (judged, ended, j, g) (judged', ended', j', g'
 
 -- a line that is too long is refused, however much of it is processed
 IsLineRefused-next : {State : Type 0} (r : Rules State) (b : State) (line next : List ℕ) (fault : LineFault) →
-    (next ≡ line) ⊎ ((line_limit < length line) × (line_limit < length next)) → IsLineRefused r b line fault → IsLineRefused r b next fault
+    (next ≡ line) ⊎ ((line_limit < length line) × (line_limit < length next)) → IsLineRefused r b line fault →
+    IsLineRefused r b next fault
 IsLineRefused-next r b line next fault (inl e) bad = rw e bad
 IsLineRefused-next r b line next fault (inr (long, long')) (inl (_, f)) = inl (long', f)
 IsLineRefused-next r b line next fault (inr (long, long')) (inr (short, _)) = absurd (omega arith)
@@ -31,16 +32,16 @@ module _ {State : Type 0} (r : Rules State) (a b : State) (lines answers : List 
       (lines ++ judged, ended, j, IsOutputOfLines-after r a b 1 (length lines + 1) lines answers judged ended s text refl runs g)
 
   -- if the table says how the input ends, the answers and the text that follows them are the output for the input
-  pub ends_output : (q rest : List ℕ) (s : Status) (text : List ℕ) → (s ≡ ReadFault → ⊥) → InputEnds r s q rest lines b text →
-      IsOutput r a (q ++ rest) s (concatenated_text answers ++ text)
+  pub ends_output : (q rest : List ℕ) (s : Status) (text : List ℕ) → (s ≡ ReadFault → ⊥) →
+      InputEnds r s q rest lines b text → IsOutput r a (q ++ rest) s (concatenated_text answers ++ text)
   ends_output q rest Done text _ (whole, good, none) = output_of [] true Done text (judges_read whole) (inl (good, refl, none))
   ends_output q rest BadInput text _ (fault, inl (line, n, bad), text_is) =
       let (next, judged, ended, j, same) = judges_next n in
       output_of (next ∷ judged) ended BadInput text j
-      (inr (record { fault = fault; bad = IsLineRefused-next r b line next fault same bad; status_is = refl; output = text_is }))
+      (inr (record { fault = fault; bad = IsLineRefused-next r b line next fault same bad; is_bad_input = refl; output = text_is }))
   ends_output q rest BadInput text _ (fault, inr (whole, reason), text_is) = output_of [] true BadInput text (judges_read whole)
-      (inr (record { fault = fault; bad = reason; status_is = refl; output = text_is }))
-  ends_output q rest TooLong text _ ((counted, past, line, over, part), none) = output_of [] false TooLong text
+      (inr (record { fault = fault; bad = reason; is_bad_input = refl; output = text_is }))
+  ends_output q rest TooLong text _ ((counted, past, line, is_over, part), none) = output_of [] false TooLong text
       (record {
         octets = counted;
         lines = lines;
@@ -48,9 +49,9 @@ module _ {State : Type 0} (r : Rules State) (a b : State) (lines answers : List 
         counts = (
           past ++ rest,
           record {
-            whole = rw (over.whole, append_assoc);
-            count = over.count;
-            some = omega (arith, over.some, length-append past rest);
+            whole = rw (is_over.whole, append_assoc);
+            count = is_over.count;
+            some = omega (arith, is_over.some, length-append past rest);
           },
         );
         begins = part.begins;

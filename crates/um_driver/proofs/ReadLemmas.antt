@@ -1,11 +1,12 @@
 -- What has been read, and which of its lines have been answered or are still held by the reader.
-use Rattle.std.proofs.Common.{◌≡◌, ℕ, ◌<◌, ◌≤◌, ◌+◌, Bool, true, false, List, [], ◌∷◌, ◌++◌, length, length-append, Option, Some, None, ◌⊎◌}
-use Rattle.std.proofs.{Common.{inl, inr, sym, refl, ap, ◌∙◌, append_assoc, append-nil, arith}, lemmas.Bool.cases_Bool}
-use Rattle.std.{proofs.lemmas.List.{nil_from_length, Elements.{All-nil, All-cons, All-append}}, specs.Io.KnownBytes.{Consumes, IsAtEnd}}
+use Rattle.std.proofs.Common.{◌≡◌, ℕ, ◌<◌, ◌≤◌, ◌+◌, Bool, true, false, List, [], ◌∷◌, ◌++◌, length}
+use Rattle.std.proofs.Common.{length-append, Option, Some, None, ◌⊎◌, inl, inr, sym, refl, ap, ◌∙◌, append_assoc, append-nil}
+use Rattle.std.proofs.{Common.arith, lemmas.{Bool.cases_Bool, List.{nil_from_length, Elements.{All-nil, All-cons, All-append}}}}
+use Rattle.std.specs.Io.KnownBytes.{Consumes, IsAtEnd}
 use Rattle.um_io.specs.{Lines.{IsLine, text_of_lines}, Reading.{Reading, IsValidReader, NeedsMoreOctets, IsAnswerReady, input_limit}}
 use Rattle.um_io.specs.{Reading.{line_limit, held_limit}, Next.{IsLineAnswered, AreOctetsHeld, IsReaderStep}, declared.lines.Next.Next}
 use Rattle.um_io.proofs.{KnownOctets.Consumes-append, LineLists.{text-push, length-text-push}}
-use Rattle.um_driver.specs.{Outputs.ExceedsInputLimit, Table.{IsReadFromSource, AreFirstLines, IsWholeInputRead, IsNextProcessed}}
+use Rattle.um_driver.specs.{Outputs.ExceedsInputLimit, Table.{IsReadFromSource, AreFirstLines, IsWholeInputRead, IsNextLineProcessed}}
 use Rattle.um_driver.specs.{Table.EndsInUnfinishedLine, Progress.{SourceHasEnded, AreLinesRead}}
 use Rattle.um_io.specs.declared.lines.Next.TheVariants as next
 
@@ -33,8 +34,8 @@ SourceHasEnded-still (Some x) (Some y) None q h k e = absurd k
 SourceHasEnded-still (Some x) (Some y) (Some z) q h k e = sym k ∙ e
 
 -- the state of a read after more octets have arrived
-pub arrive : {q : List ℕ} {lines : List (List ℕ)} {r r' : Reading} {left mid left' : Option (List ℕ)} {next : Next} {came : List ℕ} →
-    AreLinesRead q lines (r.held ++ r.past) r.answered r.ended left mid → IsReaderStep r r' mid left' next came →
+pub arrive : {q : List ℕ} {lines : List (List ℕ)} {r r' : Reading} {left mid left' : Option (List ℕ)} {next : Next}
+    {came : List ℕ} → AreLinesRead q lines (r.held ++ r.past) r.answered r.ended left mid → IsReaderStep r r' mid left' next came →
     AreLinesRead (q ++ came) lines (r.held ++ r.past ++ came) r.answered r'.ended left left'
 arrive {q} {lines} {r} {r'} {left} {mid} {left'} {next} {came} u step = record {
   read = Consumes-append left mid left' q came u.read step.bytes;
@@ -73,12 +74,13 @@ module _ {q : List ℕ} {lines : List (List ℕ)} {held : List ℕ} {answered : 
   ]
 
   pub bound_of : length q ≤ input_limit + held_limit
-  bound_of = omega (arith, size_of, u.within, u.room)
+  bound_of = omega (arith, size_of)
 
   -- if the source has ended and nothing is held, the lines so far are all lines of the input
-  pub whole_of : held ≡ [] → ended ≡ true → (rest : List ℕ) → (SourceHasEnded left left' → rest ≡ []) → IsWholeInputRead q rest lines
+  pub whole_of : held ≡ [] → ended ≡ true → (rest : List ℕ) → (SourceHasEnded left left' → rest ≡ []) →
+      IsWholeInputRead q rest lines
   whole_of none e rest at_end = record {
-    none_left = at_end (u.at_end e);
+    nothing_left = at_end (u.at_end e);
     all = record {
       plain = u.plain;
       whole = elim u.holds [ inl (q_is, _) ↦ inl (q_is ∙ rw (none, append-nil)) | inr (cut, _, _, _) ↦ inr cut ];
@@ -88,7 +90,7 @@ module _ {q : List ℕ} {lines : List (List ℕ)} {held : List ℕ} {answered : 
 
   pub first_of : (rest : List ℕ) → (SourceHasEnded left left' → rest ≡ []) → AreFirstLines q rest lines
   first_of rest at_end = elim u.holds [
-    | inl (q_is, here) ↦ inl (held, record { plain = u.plain; whole = q_is }, omega (arith, here, u.within))
+    | inl (q_is, here) ↦ inl (held, record { plain = u.plain; whole = q_is }, omega arith)
     | inr (_, none, e, _) ↦ inr (whole_of none e rest at_end)
   ]
 
@@ -97,7 +99,8 @@ abbrev pub HasLine : Reading → Reading → (all line : List ℕ) → Type 0
 HasLine r r' all line =
     IsLineAnswered r r' all line (10 ∷ []) ⊎ (IsLineAnswered r r' all line [] × (r'.held ++ r'.past ≡ []) × (r'.ended ≡ true))
 
-pub answered_of : (r r' : Reading) (all line : List ℕ) → HasLine r r' all line → (feed : List ℕ) × IsLineAnswered r r' all line feed
+pub answered_of : (r r' : Reading) (all line : List ℕ) → HasLine r r' all line →
+    (feed : List ℕ) × IsLineAnswered r r' all line feed
 answered_of r r' all line (inl l) = (10 ∷ [], l)
 answered_of r r' all line (inr (l, _, _)) = ([], l)
 
@@ -105,14 +108,15 @@ answered_of r r' all line (inr (l, _, _)) = ([], l)
 abbrev IsNextLineCall : List ℕ → List (List ℕ) → List ℕ → Reading → Type 0
 IsNextLineCall q lines line r' =
     ((q ≡ text_of_lines lines ++ (line ++ 10 ∷ (r'.held ++ r'.past))) × (r'.answered ≡ length (text_of_lines lines ++ line) + 1))
-    ⊎ ((q ≡ text_of_lines lines ++ line) × (0 < length line) × (r'.held ++ r'.past ≡ []) × (r'.ended ≡ true) × (r'.answered ≡ length q))
+    ⊎ ((q ≡ text_of_lines lines ++ line) × (0 < length line) × (r'.held ++ r'.past ≡ []) × (r'.ended ≡ true)
+    × (r'.answered ≡ length q))
 
 module _ {q : List ℕ} {lines : List (List ℕ)} {r r' : Reading} {all : List ℕ} {left left' : Option (List ℕ)}
     (u : AreLinesRead q lines all r.answered r'.ended left left') (valid : IsValidReader r') where
   -- if a line was returned, some octets were held before
   some_held : (line feed : List ℕ) → IsLineAnswered r r' all line feed → all ≡ [] → r'.ended ≡ true → ⊥
   some_held line feed l none e =
-      omega (arith, l.some, ap length none, ap length l.octets, length-append (line ++ feed) (r'.held ++ r'.past))
+      omega (arith, ap length none, ap length l.octets, length-append (line ++ feed) (r'.held ++ r'.past))
 
   stands_next : (line : List ℕ) → HasLine r r' all line → IsNextLineCall q lines line r'
   stands_next line (inl l) =
@@ -134,35 +138,35 @@ module _ {q : List ℕ} {lines : List (List ℕ)} {r r' : Reading} {all : List �
 
   pub next_line : (line : List ℕ) → HasLine r r' all line →
       AreLinesRead q (lines ++ line ∷ []) (r'.held ++ r'.past) r'.answered r'.ended left left'
-  next_line line h = let l = answered_of r r' all line h in record {
+  next_line line h = record {
     read = u.read;
-    plain = All-append IsLine lines (line ∷ []) u.plain (All-cons IsLine line [] l.1.plain (All-nil IsLine));
+    plain = All-append IsLine lines (line ∷ []) u.plain (All-cons IsLine line [] (answered_of r r' all line h).1.plain (All-nil IsLine));
     holds = elim (stands_next line h) [
       | inl (q_is, answered) ↦
           inl (q_is ∙ sym (text-push lines line (r'.held ++ r'.past)), answered ∙ sym (length-text-push lines line))
       | inr (q_is, some, none, e, answered) ↦
-          inr (record { front = lines; last = line; lines_are = refl; octets_are = q_is; some = some }, none, e, answered)
+          inr (record { front = lines; last = line; lines_split = refl; octets_split = q_is; some = some }, none, e, answered)
     ];
-    within = omega (arith, valid.limit);
-    room = omega (arith, valid.room, length-append r'.held r'.past);
+    within = omega arith;
+    room = omega (arith, length-append r'.held r'.past);
     at_end = u.at_end;
   }
 
   pub line_judged : (line : List ℕ) → HasLine r r' all line → (rest : List ℕ) → (SourceHasEnded left left' → rest ≡ []) →
-      IsNextProcessed q rest lines line
+      IsNextLineProcessed q rest lines line
   line_judged line h rest at_end = let l = answered_of r r' all line h in elim (stands_next line h) [
     | inl (q_is, answered) ↦ record {
       more = 10 ∷ (r'.held ++ r'.past);
       begins = record { plain = u.plain; whole = q_is };
       plain = l.1.plain;
-      limit = omega (arith, answered, valid.limit);
-      judged = inl (r'.held ++ r'.past, refl, omega (arith, answered, valid.limit));
+      limit = omega arith;
+      judged = inl (r'.held ++ r'.past, refl, omega arith);
     }
     | inr (q_is, some, none, e, answered) ↦ record {
       more = [];
       begins = record { plain = u.plain; whole = q_is ∙ rw append-nil };
       plain = l.1.plain;
-      limit = omega (arith, answered, valid.limit, ap length q_is);
+      limit = omega (arith, ap length q_is);
       judged = inr (inr (some, refl, at_end (u.at_end e)));
     }
   ]
@@ -177,7 +181,7 @@ module _ {q : List ℕ} {lines : List (List ℕ)} {r r' : Reading} {all : List �
       h.answered ∙ w.1,
     )
 
-    pub long_judged : (rest : List ℕ) → line_limit < length r'.held → IsNextProcessed q rest lines r'.held
+    pub long_judged : (rest : List ℕ) → line_limit < length r'.held → IsNextLineProcessed q rest lines r'.held
     long_judged rest long =
         let w = held_next (λ none _. omega (arith, long, ap length none, length-append r'.held r'.past)) in
         record {
@@ -214,17 +218,17 @@ module _ {q : List ℕ} {lines : List (List ℕ)} {r r' : Reading} {all : List �
 -- if the reader could return its next answer without reading, it read nothing
 pub nothing_read_if_ready : {r r' : Reading} {left left' : Option (List ℕ)} {next : Next} {came : List ℕ} →
     IsReaderStep r r' left left' next came →
-    r.over ≡ false → IsAnswerReady r → came ≡ []
-nothing_read_if_ready step open_ (inl over) = absurd (cc (over, open_))
+    r.is_over ≡ false → IsAnswerReady r → came ≡ []
+nothing_read_if_ready step open_ (inl is_over) = absurd (cc is_over)
 nothing_read_if_ready step open_ (inr answer) = elim step.needed [ inl needs ↦ absurd (answer needs) | inr none ↦ none ]
 
 -- a read can only fail if the reader had to read; afterwards it holds the same octets as before
 pub failed_unready : {r r' : Reading} {left left' : Option (List ℕ)} {came : List ℕ} → IsValidReader r → IsValidReader r' →
-    IsReaderStep r r' left left' next.Failed came → r.over ≡ false → IsAnswerReady r → ⊥
+    IsReaderStep r r' left left' next.Failed came → r.is_over ≡ false → IsAnswerReady r → ⊥
 failed_unready {r} {r'} {came = came} valid valid' step open_ ready =
-    let none = nothing_read_if_ready step open_ ready in
     let (h, needs) = step.gives in
-    let all : r.held ++ r.past ≡ r'.held = sym (rw (none, append-nil)) ∙ h.octets ∙ rw (needs.past, append-nil) in
+    let all : r.held ++ r.past ≡ r'.held =
+    sym (rw (nothing_read_if_ready step open_ ready, append-nil)) ∙ h.octets ∙ rw (needs.past, append-nil) in
     let past : r.past ≡ [] =
     nil_from_length r.past (grind (arith, valid.past, valid'.limit, h.answered, ap length all, length-append r.held r.past)) in
     let held : r.held ≡ r'.held = sym (rw (past, append-nil)) ∙ all in
@@ -233,6 +237,6 @@ failed_unready {r} {r'} {came = came} valid valid' step open_ ready =
       | inr e ↦ e
     ] in
     elim ready [
-      | inl over ↦ cc (over, open_)
+      | inl is_over ↦ cc (is_over, open_)
       | inr answer ↦ answer (record { plain = rw held needs.plain; short = rw held needs.short; past = past; ended = ended })
     ]

@@ -17,9 +17,10 @@ Runs-push r a b c ls ys line answer runs good step =
     Runs-append r a b c ls (line ∷ []) ys (answer ∷ []) runs (c, good, step, refl)
 
 -- a run has as many answers as lines
-pub Runs-length : {State : Type 0} (r : Rules State) (a b : State) (ls ys : List (List ℕ)) → Runs r a ls ys b → length ls ≡ length ys
+pub Runs-length : {State : Type 0} (r : Rules State) (a b : State) (ls ys : List (List ℕ)) → Runs r a ls ys b →
+    length ls ≡ length ys
 Runs-length r a b [] [] runs = refl
-Runs-length r a b (line ∷ ls) (y ∷ ys) (mid, good, step, runs) = let e = Runs-length r mid b ls ys runs in cc e
+Runs-length r a b (line ∷ ls) (y ∷ ys) (mid, good, step, runs) = cc (Runs-length r mid b ls ys runs)
 Runs-length r a b _ _ none = absurd none
 
 -- a run, split in two after some of its answers
@@ -49,12 +50,14 @@ Runs-split r a c (line ∷ ls) (y ∷ ys) ys' (mid, good, step, runs) =
 -- joining the texts of two lists, one after the other
 pub joined-append : (ys ys' : List (List ℕ)) → concatenated_text (ys ++ ys') ≡ concatenated_text ys ++ concatenated_text ys'
 joined-append [] ys' = refl
-joined-append (y ∷ ys) ys' = ap (λ w. y ++ w) (joined-append ys ys') ∙ sym (append_assoc y (concatenated_text ys) (concatenated_text ys'))
+joined-append (y ∷ ys) ys' = ap (λ w. y ++ w) (joined-append ys ys')
+    ∙ sym (append_assoc y (concatenated_text ys) (concatenated_text ys'))
 
 -- what every step preserves, a run preserves
 pub Runs-keep : {State : Type 0} (r : Rules State) (P : State → Type 0)
     → ((a b : State) (line answer : List ℕ) → P a → r.Step a line answer b → P b) →
     (a b : State) (ls ys : List (List ℕ)) → P a → Runs r a ls ys b → P b
 Runs-keep r P keeps a b [] [] h same = rw same h
-Runs-keep r P keeps a b (line ∷ ls) (y ∷ ys) h (mid, good, step, runs) = Runs-keep r P keeps mid b ls ys (keeps a mid line y h step) runs
+Runs-keep r P keeps a b (line ∷ ls) (y ∷ ys) h (mid, good, step, runs) =
+    Runs-keep r P keeps mid b ls ys (keeps a mid line y h step) runs
 Runs-keep r P keeps a b _ _ h none = absurd none

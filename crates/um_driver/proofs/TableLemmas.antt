@@ -1,8 +1,8 @@
 -- The table of a run determines how the run ends for the whole input: the lines that it answered are the first lines of the input, so what
 -- it wrote is the beginning of the output.
-use Rattle.std.proofs.Common.{◌≡◌, ℕ, List, [], ◌++◌, Option, Some, None, inl, inr, sym, ap, ◌∙◌, append_assoc, append-nil}
-use Rattle.std.specs.Io.KnownBytes.{Appends, Keeps}
-use Rattle.um_driver.specs.{Rules.{Rules, Runs, IsDetermined, concatenated_text}, Outputs.IsOutput, Table.{IsPrefixOf, AreFirstLines}}
+use Rattle.std.proofs.Common.{◌≡◌, ℕ, List, [], ◌++◌, Option, Some, None, inl, inr, sym, ap, ◌∙◌, append_assoc}
+use Rattle.std.{proofs.Common.append-nil, specs.Io.KnownBytes.{Appends, Keeps}}
+use Rattle.um_driver.specs.{Rules.{Rules, Runs, IsDeterministic, concatenated_text}, Outputs.IsOutput, Table.{IsPrefixOf, AreFirstLines}}
 use Rattle.um_driver.specs.{Table.{InputEnds, IsTableRow, IsRun, WritesAsPrescribed, EndsAsPrescribed}, declared.status.Status.Status}
 use Rattle.um_driver.specs.declared.status.Status.TheVariants.{BadWords, ReadFault, WriteFault, NoMemory}
 use Rattle.um_driver.proofs.{OutputByLines.IsOutputOfLines-front, Judging.{judges_first, AreProcessedLines-unique}}
@@ -16,7 +16,7 @@ Keeps-nil None b h = tt
 Keeps-nil (Some xs) None h = h
 Keeps-nil (Some xs) (Some ys) h = h ∙ append-nil xs
 
-module _ {State : Type 0} (r : Rules State) (det : IsDetermined r) (a : State) (q rest : List ℕ) (due : Status) (z : List ℕ)
+module _ {State : Type 0} (r : Rules State) (det : IsDeterministic r) (a : State) (q rest : List ℕ) (due : Status) (z : List ℕ)
     (out : IsOutput r a (q ++ rest) due z) where
   -- the output begins with the answers to the first lines
   output_begins_with_answers : (b : State) (lines answers : List (List ℕ)) → Runs r a lines answers b → AreFirstLines q rest lines →
@@ -39,35 +39,42 @@ module _ {State : Type 0} (r : Rules State) (det : IsDetermined r) (a : State) (
     ends_front : (s : Status) (text : List ℕ) → AreFirstLines q rest lines → InputEnds r s q rest lines b text →
         IsPrefixOf (concatenated_text answers ++ text) z
     ends_front ReadFault text first (_, _, none) = rw (none, append-nil) (output_begins_with_answers b lines answers runs first)
-    ends_front s text first ends = ([], sym (append-nil (concatenated_text answers ++ text) ∙ (due_is s text (λ wrong. cc wrong) ends).1))
+    ends_front s text first ends = (
+      [],
+      sym (append-nil (concatenated_text answers ++ text)
+          ∙ (due_is s text (λ wrong. cc wrong) ends).1),
+    )
 
     -- each row of the table agrees with the output that the rules prescribe
-    agrees : (c : State) (s : Status) (y : List ℕ) (further unwritten : List (List ℕ)) (taken taken' : Option (List ℕ)) →
-        Runs r b further unwritten c → AreFirstLines q rest (lines ++ further) → IsTableRow r s q rest y lines answers further b →
+    agrees : (c : State) (s : Status) (y : List ℕ) (further unwritten_answers : List (List ℕ)) (taken taken' : Option (List ℕ)) →
+        Runs r b further unwritten_answers c → AreFirstLines q rest (lines ++ further) →
+        IsTableRow r s q rest y lines answers further b →
         Appends taken taken' y → WritesAsPrescribed s due z taken taken'
-    agrees c ReadFault y further unwritten taken taken' ahead first (text, ends, none, y_is) written =
-        (y, rw y_is (ends_front ReadFault text (rw (none, append-nil) at first) ends), written)
-    agrees c WriteFault y further unwritten taken taken' ahead first (inl front) written =
-        let both = Runs-append r a b c lines further answers unwritten runs ahead in
-        let all = output_begins_with_answers c (lines ++ further) (answers ++ unwritten) both first in
-        let answered : IsPrefixOf (concatenated_text answers) (concatenated_text (answers ++ unwritten)) =
-        (concatenated_text unwritten, joined-append answers unwritten) in
-        let begins = IsPrefixOf-append (concatenated_text answers) (concatenated_text (answers ++ unwritten)) z answered all in
+    agrees c ReadFault y further unwritten_answers taken taken' ahead first (text, ends, none, output_split) written =
+        (y, rw output_split (ends_front ReadFault text (rw (none, append-nil) at first) ends), written)
+    agrees c WriteFault y further unwritten_answers taken taken' ahead first (inl front) written =
+        let both = Runs-append r a b c lines further answers unwritten_answers runs ahead in
+        let all = output_begins_with_answers c (lines ++ further) (answers ++ unwritten_answers) both first in
+        let answered : IsPrefixOf (concatenated_text answers) (concatenated_text (answers ++ unwritten_answers)) =
+        (concatenated_text unwritten_answers, joined-append answers unwritten_answers) in
+        let begins = IsPrefixOf-append (concatenated_text answers) (concatenated_text (answers ++ unwritten_answers)) z answered all in
         (y, IsPrefixOf-append y (concatenated_text answers) z front begins, written)
-    agrees c WriteFault y further unwritten taken taken' ahead first (inr (s, text, part, ends, none, (more, text_is), y_is)) written =
+    agrees c WriteFault y further unwritten_answers taken taken' ahead first
+        (inr (s, text, part, ends, none, (more, text_is), output_split)) written =
         let front = ends_front s text (rw (none, append-nil) at first) ends in
-        let begins : IsPrefixOf y (concatenated_text answers ++ text) = (more, rw (text_is, y_is, append_assoc)) in
+        let begins : IsPrefixOf y (concatenated_text answers ++ text) = (more, rw (text_is, output_split, append_assoc)) in
         (y, IsPrefixOf-append y (concatenated_text answers ++ text) z begins front, written)
-    agrees c NoMemory y further unwritten taken taken' ahead first (_, none, _, _) written = Keeps-nil taken taken' (rw none at written)
-    agrees c BadWords y further unwritten taken taken' ahead first row written = absurd row
-    agrees c s y further unwritten taken taken' ahead first row written =
-        let (due, z_is) = due_is s row.0 (λ wrong. cc wrong) row.1 in (due, rw (row.3, z_is) at written)
+    agrees c NoMemory y further unwritten_answers taken taken' ahead first (_, none, _, _) written =
+        Keeps-nil taken taken' (rw none at written)
+    agrees c BadWords y further unwritten_answers taken taken' ahead first table_row written = absurd table_row
+    agrees c s y further unwritten_answers taken taken' ahead first table_row written =
+        let (due, z_is) = due_is s table_row.0 (λ wrong. cc wrong) table_row.1 in (due, rw (table_row.3, z_is) at written)
 
 -- a run that satisfies the table ends as the rules prescribe for its whole input
 pub EndsAsPrescribed-from_run : {State : Type 0} (r : Rules State) (a : State) (Represents : State → Type 0) (status : Status)
     (left left' taken taken' : Option (List ℕ)) →
-    IsRun r a Represents status left left' taken taken' → IsDetermined r → EndsAsPrescribed r a status left taken taken'
+    IsRun r a Represents status left left' taken taken' → IsDeterministic r → EndsAsPrescribed r a status left taken taken'
 EndsAsPrescribed-from_run r a Represents status None left' taken taken' run det = tt
 EndsAsPrescribed-from_run r a Represents status (Some x) left' taken taken' run det =
     λ due z out. agrees r det a run.q run.rest due z (rw run.read.0 at out) run.state run.lines run.answers run.runs run.last status run.y
-    run.further run.unwritten taken taken' run.ahead run.first run.row run.written
+    run.further run.unwritten_answers taken taken' run.ahead run.first run.table_row run.written

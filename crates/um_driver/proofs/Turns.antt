@@ -1,6 +1,6 @@
 -- How a run processes one line, before it writes the answer. The proof is by cases on what the reader of lines returns.
-use Rattle.std.proofs.Common.{◌≡◌, ℕ, ◌≤◌, ◌+◌, List, [], ◌∷◌, ◌++◌, length-append, Option, Some, None, ◌⊎◌, inl, inr, sym, refl, ap, ◌∙◌}
-use Rattle.std.{proofs.Common.{append_assoc, append-nil, length, arith}, specs.Borrow.Bor}
+use Rattle.std.proofs.Common.{◌≡◌, ℕ, ◌≤◌, ◌+◌, List, [], ◌∷◌, ◌++◌, length-append, Option, Some, None}
+use Rattle.std.{proofs.Common.{◌⊎◌, inl, inr, sym, refl, ap, ◌∙◌, append_assoc, append-nil, length, arith}, specs.Borrow.Bor}
 use Rattle.um_io.specs.{Lines.text_of_lines, Next.{IsNextLineCall, IsReaderStep}, Reading.{Reading, IsAnswerReady, held_limit}}
 use Rattle.um_io.specs.declared.lines.Next.{Next}
 use Rattle.um_lines.specs.{declared.fault.LineFault.{LineFault, TheVariants.Long}, Refusals.refused_text}
@@ -20,12 +20,12 @@ ReadsAtMostABuffer-more {q} {y} {lines} {answers} n w lines' answers' = record {
   written = n.written;
   others = n.others ++ answers';
   rest = n.rest;
-  lines_are = ap (λ l. l ++ lines') n.lines_are ∙ append_assoc n.before n.after lines';
-  answers_are = ap (λ l. l ++ answers') n.answers_are ∙ append_assoc n.written n.others answers';
+  lines_split = ap (λ l. l ++ lines') n.lines_split ∙ append_assoc n.before n.after lines';
+  answers_split = ap (λ l. l ++ answers') n.answers_split ∙ append_assoc n.written n.others answers';
   count = n.count;
   begins = n.begins;
   front = (n.front.0 ++ w, ap (λ o. o ++ w) n.front.1 ∙ append_assoc (concatenated_text n.written) n.front.0 w);
-  near = n.near;
+  reads_little_ahead = n.reads_little_ahead;
 }
 
 -- `ReadsAtMostABuffer` holds if the answers to all lines have been written
@@ -38,12 +38,12 @@ ReadsAtMostABuffer-all {lines = lines} {answers = answers} rest begins room coun
   written = answers;
   others = [];
   rest = rest;
-  lines_are = sym (append-nil lines);
-  answers_are = sym (append-nil answers);
+  lines_split = sym (append-nil lines);
+  answers_split = sym (append-nil answers);
   count = count;
   begins = begins;
   front = ([], sym (append-nil (concatenated_text answers) ∙ written));
-  near = room;
+  reads_little_ahead = room;
 }
 
 module _ {State : Type 0} {r : Rules State} {a : State} {Represents : State → Type 0} {reading reading' : Reading}
@@ -65,7 +65,7 @@ module _ {State : Type 0} {r : Rules State} {a : State} {Represents : State → 
   ]
     where
       stays : came ≡ [] → ReadsAtMostABuffer (u.at.q ++ came) u.at.y u.at.lines u.at.answers
-      stays none = rw (none, append-nil) u.at.near
+      stays none = rw (none, append-nil) u.at.reads_little_ahead
 
   -- the point of the run after octets were read
   abbrev now : {next : Next} {came : List ℕ} → IsReaderStep reading reading' mid left' next came →
@@ -77,10 +77,10 @@ module _ {State : Type 0} {r : Rules State} {a : State} {Represents : State → 
     answers = u.at.answers;
     state = u.at.state;
     reads = arrive u.at.reads step;
-    number_is = u.at.number_is;
+    number_counts_lines = u.at.number_counts_lines;
     written = u.at.written;
     runs = u.at.runs;
-    near = near_now step;
+    reads_little_ahead = near_now step;
   }
 
   -- the point of the run after the command answered the line
@@ -101,22 +101,23 @@ module _ {State : Type 0} {r : Rules State} {a : State} {Represents : State → 
           answers = at.answers ++ text ∷ [];
           state = state;
           reads = next_line at.reads n.valid line.now step.gives;
-          number_is = omega (arith, l.number, at.number_is, length-append at.lines (line.now ∷ []));
+          number_counts_lines = omega (arith, l.number, at.number_counts_lines, length-append at.lines (line.now ∷ []));
           written = at.written;
           runs = Runs-push r a at.state state at.lines at.answers line.now text at.runs
               (record { short = l.short; no_fault = none }) answer;
-          near = rw append-nil at (ReadsAtMostABuffer-more at.near [] (line.now ∷ []) (text ∷ []));
+          reads_little_ahead = rw append-nil at (ReadsAtMostABuffer-more at.reads_little_ahead [] (line.now ∷ []) (text ∷ []));
         };
         represents = represents;
         output = joined-append at.answers (text ∷ []) ∙ rw (u.output, append-nil, append_assoc);
         valid = n.valid;
-        goes_on = l.over;
+        goes_on = l.is_over;
       }
 
   -- the run ends with this status, and then writes this text
   ending : {Stands' : State → Type 0} {next : Next} {came : List ℕ} (status : Status) (text : List ℕ)
       → IsReaderStep reading reading' mid left' next came → Stands' u.at.state →
-      ((rest : List ℕ) → (SourceHasEnded left left' → rest ≡ []) → InputEnds r status (u.at.q ++ came) rest u.at.lines u.at.state text) →
+      ((rest : List ℕ) → (SourceHasEnded left left' → rest ≡ []) →
+      InputEnds r status (u.at.q ++ came) rest u.at.lines u.at.state text) →
       IsRunEnding r a Stands' status left left' taken taken' gathered text
   ending {came = came} status text step represents ends = record {
     held = reading.held ++ reading.past ++ came;
@@ -130,21 +131,22 @@ module _ {State : Type 0} {r : Rules State} {a : State} {Represents : State → 
   }
 
   pub line_refused : {Stands' : State → Type 0} {line : Bor (List ℕ)} {text text' : List ℕ} {number : ℕ} {fault : LineFault}
-      → IsNextLineCall reading mid left' (next.Line line) reading' → number ≡ reading'.number → text ≡ refused_text number fault →
+      → IsNextLineCall reading mid left' (next.Line line) reading' → number ≡ reading'.number →
+      text ≡ refused_text number fault →
       ((b : State) → Represents b → (r.fault b line.now ≡ Some fault) × (text' ≡ []) × Stands' b) →
       IsRunEnding r a Stands' BadInput left left' taken taken' gathered text
-  line_refused {line = line} {text = text} {fault = fault} n number_is text_is answers =
+  line_refused {line = line} {text = text} {fault = fault} n number_counts_lines text_is answers =
       let (came, step) = n.goes_on u.goes_on in
       let l = (answered_of reading reading' (reading.held ++ reading.past ++ came) line.now step.gives).1 in
       let (reason, _, represents) = answers u.at.state u.represents in
       ending BadInput text step represents (λ rest at_end. (
         fault,
         inl (line.now, line_judged (arrive u.at.reads step) n.valid line.now step.gives rest at_end, inr (l.short, reason)),
-        text_is ∙ rw (number_is, l.number, u.at.number_is),
+        text_is ∙ rw (number_counts_lines, l.number, u.at.number_counts_lines),
       ))
 
-  pub end_good : {reason : Option LineFault} {text : List ℕ} → IsNextLineCall reading mid left' next.End reading' → reason ≡ None →
-      text ≡ [] →
+  pub end_good : {reason : Option LineFault} {text : List ℕ} → IsNextLineCall reading mid left' next.End reading' →
+      reason ≡ None → text ≡ [] →
       ((b : State) → Represents b → reason ≡ r.end_fault b) → IsRunEnding r a Represents Done left left' taken taken' gathered text
   end_good {text = text} n none text_is says =
       let (came, step) = n.goes_on u.goes_on in
@@ -156,24 +158,25 @@ module _ {State : Type 0} {r : Rules State} {a : State} {Represents : State → 
       → IsNextLineCall reading mid left' next.End reading' → number ≡ reading'.number → text ≡ refused_text (number + 1) fault →
       reason ≡ Some fault → ((b : State) → Represents b → reason ≡ r.end_fault b) →
       IsRunEnding r a Represents BadInput left left' taken taken' gathered text
-  end_refused {text = text} {fault = fault} n number_is text_is some says =
+  end_refused {text = text} {fault = fault} n number_counts_lines text_is some says =
       let (came, step) = n.goes_on u.goes_on in
       let (h, none_held, ended) = step.gives in
       ending BadInput text step u.represents (λ rest at_end. (
         fault,
         inr (whole_of (arrive u.at.reads step) none_held ended rest at_end, sym (says u.at.state u.represents) ∙ some),
-        text_is ∙ rw (number_is, h.number, u.at.number_is),
+        text_is ∙ rw (number_counts_lines, h.number, u.at.number_counts_lines),
       ))
 
-  pub long_refused : {text : List ℕ} {number : ℕ} → IsNextLineCall reading mid left' next.Long reading' → number ≡ reading'.number →
-      text ≡ refused_text (number + 1) Long → IsRunEnding r a Represents BadInput left left' taken taken' gathered text
-  long_refused {text = text} n number_is text_is =
+  pub long_refused : {text : List ℕ} {number : ℕ} → IsNextLineCall reading mid left' next.Long reading' →
+      number ≡ reading'.number → text ≡ refused_text (number + 1) Long →
+      IsRunEnding r a Represents BadInput left left' taken taken' gathered text
+  long_refused {text = text} n number_counts_lines text_is =
       let (came, step) = n.goes_on u.goes_on in
       let (h, long) = step.gives in
       ending BadInput text step u.represents (λ rest at_end. (
         Long,
         inl (reading'.held, long_judged (arrive u.at.reads step) n.valid h rest long, inl (long, refl)),
-        text_is ∙ rw (number_is, h.number, u.at.number_is),
+        text_is ∙ rw (number_counts_lines, h.number, u.at.number_counts_lines),
       ))
 
   pub ends_too_long : {text : List ℕ} → IsNextLineCall reading mid left' next.TooMany reading' → text ≡ [] →

@@ -28,21 +28,22 @@ module _ {S T : Type 0} (f : S → T) (r : Rules S) (r' : Rules T) (w : IsWeaker
   refused q rest lines b fault (inl (line, judged, reason)) = inl (line, judged, bad b line fault reason)
   refused q rest lines b fault (inr (whole, reason)) = inr (whole, w.end_fault b ∙ reason)
 
-  ends : (status : Status) (q rest : List ℕ) (lines : List (List ℕ)) (b : S) (text : List ℕ) → InputEnds r status q rest lines b text
+  ends : (status : Status) (q rest : List ℕ) (lines : List (List ℕ)) (b : S) (text : List ℕ) →
+      InputEnds r status q rest lines b text
       → InputEnds r' status q rest lines (f b) text
   ends Done q rest lines b text (whole, none, e) = (whole, w.end_fault b ∙ none, e)
   ends BadInput q rest lines b text (fault, reason, e) = (fault, refused q rest lines b fault reason, e)
   ends _ q rest lines b text h = h
 
-  row : (status : Status) (q rest y : List ℕ) (lines answers further : List (List ℕ)) (b : S)
+  table_row : (status : Status) (q rest y : List ℕ) (lines answers further : List (List ℕ)) (b : S)
       → IsTableRow r status q rest y lines answers further b →
       IsTableRow r' status q rest y lines answers further (f b)
-  row WriteFault q rest y lines answers further b (inl front) = inl front
-  row WriteFault q rest y lines answers further b (inr (due, text, part, h, none, front, e)) =
+  table_row WriteFault q rest y lines answers further b (inl front) = inl front
+  table_row WriteFault q rest y lines answers further b (inr (due, text, part, h, none, front, e)) =
       inr (due, text, part, ends due q rest lines b text h, none, front, e)
-  row NoMemory q rest y lines answers further b h = h
-  row BadWords q rest y lines answers further b none = absurd none
-  row s q rest y lines answers further b h = (h.0, ends s q rest lines b h.0 h.1, h.2, h.3)
+  table_row NoMemory q rest y lines answers further b h = h
+  table_row BadWords q rest y lines answers further b none = absurd none
+  table_row s q rest y lines answers further b h = (h.0, ends s q rest lines b h.0 h.1, h.2, h.3)
 
   -- a run by r is a run by the weaker rules r', if `f` maps the states that the command may represent
   pub weaker_run_by : (a : S) (Represents : S → Type 0) (Stands' : T → Type 0) → ((b : S) → Represents b → Stands' (f b))
@@ -56,18 +57,18 @@ module _ {S T : Type 0} (f : S → T) (r : Rules S) (r' : Rules T) (w : IsWeaker
     answers = h.answers;
     state = f h.state;
     further = h.further;
-    unwritten = h.unwritten;
+    unwritten_answers = h.unwritten_answers;
     last = f h.last;
     read = h.read;
     written = h.written;
     bound = h.bound;
     first = h.first;
     runs = runs_by a h.state h.lines h.answers h.runs;
-    ahead = runs_by h.state h.last h.further h.unwritten h.ahead;
+    ahead = runs_by h.state h.last h.further h.unwritten_answers h.ahead;
     represents = then h.last h.represents;
     reached = h.reached;
-    near = h.near;
-    row = row status h.q h.rest h.y h.lines h.answers h.further h.state h.row;
+    reads_little_ahead = h.reads_little_ahead;
+    table_row = table_row status h.q h.rest h.y h.lines h.answers h.further h.state h.table_row;
   }
 
   -- the run by the weaker rules has the same lines and answers, and the state after them is mapped by `f`

@@ -1,8 +1,8 @@
--- What it means that octets begin with some lines.
+-- Octets that begin with complete lines.
 use Rattle.std.specs.Prelude.{ℕ, ◌≡◌, List, ◌++◌, All}
 use Rattle.um_io.specs.Lines.{IsLine, text_of_lines}
 
--- the octets are these lines, each followed by a line feed, and then `rest`
+-- `octets` consists of `lines`, each followed by a line feed, and then `rest`
 pub record BeginsWithLines (octets : List ℕ) (lines : List (List ℕ)) (rest : List ℕ) : Type 0 where
   pub plain : All IsLine lines
   pub whole : octets ≡ text_of_lines lines ++ rest

@@ -1,20 +1,20 @@
 -- Laws that hold for the rules of every command.
 use Rattle.std.specs.Prelude.{ℕ, ◌≡◌, List}
-use Rattle.um_driver.specs.Rules.{Rules, IsDetermined, IsTotal}
+use Rattle.um_driver.specs.Rules.{Rules, IsDeterministic, IsTotal}
 use Rattle.um_driver.specs.Outputs.{IsOutput}
 use Rattle.um_driver.specs.declared.status.Status.{Status}
 
--- if no line can have two answers, no input can have two outputs or two statuses
+-- if the rules are deterministic, no input has two outputs or two statuses
 abbrev pub OutputIsUnique : {State : Type 0} → Rules State → Type 0
-OutputIsUnique {State} r = IsDetermined r →
+OutputIsUnique {State} r = IsDeterministic r →
     (a : State) (x : List ℕ) (status status' : Status) (z z' : List ℕ) →
     IsOutput r a x status z → IsOutput r a x status' z' → (status ≡ status') × (z ≡ z')
 
--- if every line that is not refused has an answer, every input has an output
+-- if the rules give an answer to every line that is not refused, every input has an output
 abbrev pub OutputExists : {State : Type 0} → Rules State → Type 0
 OutputExists {State} r = (a : State) (x : List ℕ) → IsTotal r a → (status : Status) × (z : List ℕ) × IsOutput r a x status z
 
--- from this first state, every input has exactly one output and one status
+-- from the state `start`, every input has exactly one output and one status
 pub record HasOneOutput {State : Type 0} (r : Rules State) (start : State) : Type 0 where
   pub some : (x : List ℕ) → (status : Status) × (z : List ℕ) × IsOutput r start x status z
   pub one : (x : List ℕ) (status status' : Status) (z z' : List ℕ) → IsOutput r start x status z →

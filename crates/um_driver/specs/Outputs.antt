@@ -10,28 +10,28 @@ use Rattle.um_driver.specs.Rules.{Rules, IsLineAccepted, IsLineRefused}
 use Rattle.um_driver.specs.declared.status.Status.{Status}
 use Rattle.um_driver.specs.declared.status.Status.TheVariants.{Done, BadInput, TooLong}
 
--- the input q is longer than the limit: `counted` are its octets up to the limit, `past` are the octets after it
+-- the input `q` exceeds the input limit: `counted` holds its octets up to the limit, `past` those after it
 pub record ExceedsInputLimit (q counted past : List ℕ) : Type 0 where
   pub whole : q ≡ counted ++ past
   pub count : length counted ≡ input_limit
   pub some : 0 < length past
 
--- the octets of an input that count: all of them (`ended`) if the input is within the limit, otherwise those up to the limit
+-- the `octets` of the input `x` that count: all of them if it is within the input limit (`ended`), otherwise those up to the limit
 abbrev pub AreCountedOctets : (x octets : List ℕ) (ended : Bool) → Type 0
 AreCountedOctets x octets true = (x ≡ octets) × (length x ≤ input_limit)
 AreCountedOctets x octets false = (past : List ℕ) × ExceedsInputLimit x octets past
 
--- the octets `last` after the last line feed are processed as a line: they end the input, or are already too long for a line
+-- the octets `last` after the last line feed are processed as a line, because they end the input or already exceed the line limit
 abbrev pub LastLineIsProcessed : (last : List ℕ) (ended : Bool) → Type 0
 LastLineIsProcessed last true = 0 < length last
 LastLineIsProcessed last false = line_limit < length last
 
--- the octets `last` after the last line feed are not processed
+-- the octets `last` after the last line feed are not processed: there are none, or the input limit cuts the line short
 abbrev pub LastLineIsNotProcessed : (last : List ℕ) (ended : Bool) → Type 0
 LastLineIsNotProcessed last true = last ≡ []
 LastLineIsNotProcessed last false = length last ≤ line_limit
 
--- the lines of the input x that a run processes; `ended` says whether x is within the input limit
+-- the lines `judged` of the input `x` that a run processes; `ended` says whether `x` is within the input limit
 pub record AreProcessedLines (x : List ℕ) (judged : List (List ℕ)) (ended : Bool) : Type 0 where
   pub octets : List ℕ
   pub lines : List (List ℕ)
@@ -39,9 +39,10 @@ pub record AreProcessedLines (x : List ℕ) (judged : List (List ℕ)) (ended : 
   pub counts : AreCountedOctets x octets ended
   pub begins : BeginsWithLines octets lines last
   pub plain : IsLine last
-  pub tail : ((judged ≡ lines) × LastLineIsNotProcessed last ended) ⊎ ((judged ≡ lines ++ last ∷ []) × LastLineIsProcessed last ended)
+  pub tail : ((judged ≡ lines) × LastLineIsNotProcessed last ended)
+      ⊎ ((judged ≡ lines ++ last ∷ []) × LastLineIsProcessed last ended)
 
--- the line is not refused, z begins with its answer, and `Then` holds of the state after the line and the rest of z
+-- the line is not refused, the output begins with its answer, and `Then` holds for the next state and the rest of the output
 pub record AnswersLineThen {State : Type 0} (r : Rules State) (a : State) (line : List ℕ) (Then : State → List ℕ →
     Type 0) (z : List ℕ) : Type 0 where
   pub answer : List ℕ
@@ -49,31 +50,34 @@ pub record AnswersLineThen {State : Type 0} (r : Rules State) (a : State) (line 
   pub mid : State
   pub good : IsLineAccepted r a line
   pub step : r.Step a line answer mid
-  pub then_ : Then mid rest
+  pub rest_follows : Then mid rest
   pub output : z ≡ answer ++ rest
 
--- line number n is refused, and z is the text that says why
-pub record RefusesLine {State : Type 0} (r : Rules State) (a : State) (n : ℕ) (line : List ℕ) (status : Status) (z : List ℕ) : Type 0 where
-  pub fault : LineFault
-  pub bad : IsLineRefused r a line fault
-  pub status_is : status ≡ BadInput
-  pub output : z ≡ refused_text n fault
+-- line number `n` is refused, and the output `z` is the line that says why
+pub record RefusesLine {State : Type 0} (r : Rules State) (a : State) (n : ℕ) (line : List ℕ) (status : Status) (z : List ℕ) : Type 0
+  where
+    pub fault : LineFault
+    pub bad : IsLineRefused r a line fault
+    pub is_bad_input : status ≡ BadInput
+    pub output : z ≡ refused_text n fault
 
--- the input may not end in this state, and z is the text that says so; its line number n is one more than that of the last line
+-- the input must not end in state `a`, and the output `z` is the line that says why; `n` is one more than the number of the last line
 pub record RefusesInputEnd {State : Type 0} (r : Rules State) (a : State) (n : ℕ) (status : Status) (z : List ℕ) : Type 0 where
   pub fault : LineFault
   pub bad : r.end_fault a ≡ Some fault
-  pub status_is : status ≡ BadInput
+  pub is_bad_input : status ≡ BadInput
   pub output : z ≡ refused_text n fault
 
--- the status and the output z that the rules give for these processed lines, of which the first has number n
-abbrev pub IsOutputOfLines : {State : Type 0} → Rules State → State → ℕ → List (List ℕ) → Bool → Status → List ℕ → Type 0
+-- the status and the output that the rules prescribe for these lines, from the given state and line number on; the flag says whether the
+-- input is within the input limit
+abbrev pub IsOutputOfLines : {State : Type 0} → Rules State → State → ℕ → List (List ℕ) → Bool → Status → List ℕ →
+    Type 0
 IsOutputOfLines r a n [] true status z = ((r.end_fault a ≡ None) × (status ≡ Done) × (z ≡ [])) ⊎ RefusesInputEnd r a n status z
 IsOutputOfLines r a n [] false status z = (status ≡ TooLong) × (z ≡ [])
 IsOutputOfLines r a n (line ∷ judged) ended status z =
     AnswersLineThen r a line (λ mid rest. IsOutputOfLines r mid (n + 1) judged ended status rest) z ⊎ RefusesLine r a n line status z
 
--- the status and the output z that the rules of a command prescribe for the input x
+-- the status and the output that the rules of a command prescribe for a whole input
 abbrev pub IsOutput : {State : Type 0} → Rules State → State → List ℕ → Status → List ℕ → Type 0
 IsOutput r a x status z = (judged : List (List ℕ)) × (ended : Bool) × AreProcessedLines x judged ended ×
     IsOutputOfLines r a 1 judged ended status z

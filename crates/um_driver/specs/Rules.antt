@@ -6,8 +6,8 @@ use Rattle.um_io.specs.Reading.{line_limit}
 use Rattle.um_lines.specs.declared.fault.LineFault.{LineFault}
 use Rattle.um_lines.specs.declared.fault.LineFault.TheVariants.{Long}
 
--- `fault` is the first reason why a line is refused in a state, if any; `end_fault` is the reason why the input may not end in a state, if
--- any; `Step` relates a state and a line to an answer and to the next state
+-- the rules of a command: `fault` gives the first reason to refuse a line in a state, if any; `end_fault` gives the reason to refuse the
+-- end of the input in a state, if any; `Step` relates a state and a line to an answer and the next state
 pub record Rules (State : Type 0) : Type 1 where
   pub fault : State → List ℕ → Option LineFault
   pub end_fault : State → Option LineFault
@@ -21,23 +21,23 @@ stateless fault Answer = record {
   Step = λ _ line answer _. Answer line answer;
 }
 
--- the rules of a command, together with its states and its first state
+-- a command as a state machine: its states, its rules and its first state
 pub record Machine : Type 1 where
   pub State : Type 0
   pub rules : Rules State
   pub start : State
 
--- the line is not refused in this state
+-- the line is accepted in this state: it is within the line limit, and the rules find no fault
 pub record IsLineAccepted {State : Type 0} (r : Rules State) (a : State) (line : List ℕ) : Type 0 where
   pub short : length line ≤ line_limit
   pub no_fault : r.fault a line ≡ None
 
--- why the line is refused in this state: `Long` if it is above the line limit, otherwise the reason that the rules give
+-- the line is refused in this state with this fault: `Long` if it exceeds the line limit, otherwise the fault that the rules find
 abbrev pub IsLineRefused : {State : Type 0} → Rules State → State → List ℕ → LineFault → Type 0
 IsLineRefused r a line fault =
     ((line_limit < length line) × (fault ≡ Long)) ⊎ ((length line ≤ line_limit) × (r.fault a line ≡ Some fault))
 
--- these lines, one after another, lead from state a to state b without a refusal, and have these answers
+-- `lines`, one after another, lead from the first state to the last without a refusal, and have these `answers`
 abbrev pub Runs : {State : Type 0} → Rules State → State → (lines answers : List (List ℕ)) → State → Type 0
 Runs r a [] [] b = b ≡ a
 Runs {State} r a (line ∷ lines) (answer ∷ answers) b =
@@ -45,21 +45,22 @@ Runs {State} r a (line ∷ lines) (answer ∷ answers) b =
 Runs r a [] (answer ∷ answers) b = ⊥
 Runs r a (line ∷ lines) [] b = ⊥
 
--- texts joined one after another
+-- the concatenation of the texts
 abbrev pub concatenated_text : List (List ℕ) → List ℕ
 concatenated_text [] = []
 concatenated_text (text ∷ texts) = text ++ concatenated_text texts
 
--- what a command does when it is given a line: it writes an answer and then represents the next state, or it returns the reason for the
--- refusal, writes nothing, and represents the same state
-abbrev pub Answers : {State : Type 0} → Rules State → State → List ℕ → Result Unit LineFault → List ℕ → (State → Type 0) → Type 0
+-- how a command answers a line in a state: it writes the answer and goes to the next state, or returns the fault, writes nothing and stays
+-- in the state
+abbrev pub Answers : {State : Type 0} → Rules State → State → List ℕ → Result Unit LineFault → List ℕ →
+    (State → Type 0) → Type 0
 Answers {State} r a line result text Represents = MatchResult result
     (λ _. (b : State) × (r.fault a line ≡ None) × r.Step a line text b × Represents b)
     (λ fault. (r.fault a line ≡ Some fault) × (text ≡ []) × Represents a)
 
--- no line has two different answers or next states in any state
-abbrev pub IsDetermined : {State : Type 0} → Rules State → Type 0
-IsDetermined {State} r =
+-- in every state, a line has at most one answer and one next state
+abbrev pub IsDeterministic : {State : Type 0} → Rules State → Type 0
+IsDeterministic {State} r =
     (a : State) (line y y' : List ℕ) (b b' : State) → r.Step a line y b → r.Step a line y' b' → (y ≡ y') × (b ≡ b')
 
 -- in every state that the command can reach, each line that is not refused has an answer

@@ -3,12 +3,12 @@ use Rattle.std.specs.Prelude.{ℕ}
 use Rattle.um_driver.specs.declared.status.Status.{Status}
 use Rattle.um_driver.specs.declared.status.Status.TheVariants.{Done, BadWords, BadInput, ReadFault, WriteFault, NoMemory, TooLong}
 
--- the exit status of the program
-abbrev pub number_of : Status → ℕ
-number_of Done = 0
-number_of BadWords = 2
-number_of BadInput = 3
-number_of ReadFault = 4
-number_of WriteFault = 5
-number_of NoMemory = 6
-number_of TooLong = 7
+-- the number with which the program exits
+abbrev pub status_number : Status → ℕ
+status_number Done = 0
+status_number BadWords = 2
+status_number BadInput = 3
+status_number ReadFault = 4
+status_number WriteFault = 5
+status_number NoMemory = 6
+status_number TooLong = 7

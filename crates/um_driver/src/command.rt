@@ -11,16 +11,16 @@ pub trait Command {
     /// The type of the command's states.
     ghost State: { Type 0 };
 
-    /// The rules of the command: which lines it refuses, how it answers the others, and the next state.
+    /// The rules of the command: which lines it refuses, how it answers the others, and which state follows.
     ghost rules: { Rules State };
 
-    /// The state in which a run begins if it begins with this value.
+    /// The abstract state of the command at the start of a run.
     ghost start: { Self → State };
 
-    /// Whether the value represents this state.
+    /// Whether the command represents this abstract state.
     ghost represents: { Self → State → Type 0 };
 
-    /// A part of the value that no call changes, such as the identity of a borrow; `Unit {0}` if there is none.
+    /// The type of the part of the command that no call changes, such as the identity of a borrow; `Unit {0}` if there is none.
     ghost Kept: { Type 0 };
 
     ghost kept: { Self → Kept };
@@ -33,7 +33,7 @@ pub trait Command {
         ensures answered { (a : State) → represents self.old a → Answers rules a line.now result out.new (represents self.new) }
         ensures keeps { kept self.new ≡ kept self.old };
 
-    /// The reason why the input may not end here, if it may not.
+    /// The reason to refuse the end of the input in the current state, or `None`.
     fn finish(&self) -> Option<LineFault>
         ensures { (a : State) → represents self.now a → result ≡ rules.end_fault a };
 }

@@ -1,11 +1,11 @@
-//! The driver: runs any command over an input.
+//! The driver, which runs any command over an input.
 ghost use Rattle.std.specs.Prelude.{◌≡◌, ◌≢◌, ℕ, ◌<◌, List, Option, Some, None, [], ◌++◌, ◌⊎◌, OnOk};
 ghost use Rattle.um_io.specs.Reading.{reader_at_start, IsAnswerReady};
 ghost use Rattle.um_lines.specs.Refusals.{refused_text};
-ghost use Rattle.um_driver.specs.Rules.{IsDetermined};
-ghost use Rattle.um_driver.specs.Table.{IsRun, HasFaultCause, EndsAsPrescribed};
+ghost use Rattle.um_driver.specs.Rules.{IsDeterministic};
+ghost use Rattle.um_driver.specs.Table.{IsRun, FaultsAreCounted, EndsAsPrescribed};
 ghost use Rattle.um_driver.specs.Taking.{GathersTextIfOk, CountsFailures};
-ghost use Rattle.um_driver.specs.Progress.{IsRunUnderway, LineOutcome, IsLastWriteResult, HasReadFaultCause};
+ghost use Rattle.um_driver.specs.Progress.{IsRunUnderway, IsLineOutcome, IsLastWriteResult, ReadFaultIsCounted};
 
 use crate::command::Command;
 use crate::gathered::GatheredOutput;
@@ -14,7 +14,7 @@ use std::alloc::Global;
 use um_io::{Failed, Lines, Next, Sink, Source};
 use um_lines::{LineFault, Text, refused_line};
 
-/// Reads the next line of the input and lets the command answer it, or returns the status with which the run ends.
+/// Reads the next line of input and writes the command's answer to `out`, or returns the status with which the run ends.
 fn answer_next_line<C: Command, S: Source>(
     command: &mut C,
     lines: &mut Lines,
@@ -25,9 +25,9 @@ fn answer_next_line<C: Command, S: Source>(
     ensures comes { (a : C.State) (left taken taken' : Option (List ℕ)) (gathered : List ℕ) →
         IsRunUnderway C.rules a (C.represents command.old) lines.old left (S.left input.old) taken taken' gathered →
         IsAnswerReady lines.old ⊎ (gathered ≡ []) →
-        LineOutcome C.rules a (C.represents command.new) lines.new left (S.left input.new) taken taken' gathered out.new result }
+        IsLineOutcome C.rules a (C.represents command.new) lines.new left (S.left input.new) taken taken' gathered out.new result }
     ensures goes_on { result ≡ None → lines.old.answered < lines.new.answered }
-    ensures cause { HasReadFaultCause result (S.faults input.old) (S.faults input.new) }
+    ensures cause { ReadFaultIsCounted result (S.faults input.old) (S.faults input.new) }
     ensures keeps { C.kept command.new ≡ C.kept command.old }
 {
     match lines.next(input) {
@@ -45,7 +45,7 @@ fn answer_next_line<C: Command, S: Source>(
     }
 }
 
-/// Writes the line that refuses line `number` of the input, or the end of the input.
+/// Writes the line that refuses line `number` of the input, or the end of the input, and returns the status `BadInput`.
 #[cold]
 #[inline(never)]
 fn write_refusal(number: u64, fault: LineFault, out: &mut Text) -> Status
@@ -57,8 +57,8 @@ fn write_refusal(number: u64, fault: LineFault, out: &mut Text) -> Status
     Status::BadInput
 }
 
-/// Writes the gathered octets and then `out`, and returns the final status. If the source failed, nothing is written: no octets are
-/// gathered then, because all are written before the source is read.
+/// Writes the gathered octets and then `out`, and returns the final status. After a read failure it writes nothing, because all gathered
+/// octets were written before the source was read.
 #[cold]
 #[inline(never)]
 fn write_last_text<K: Sink>(
@@ -68,8 +68,8 @@ fn write_last_text<K: Sink>(
     output: &mut K,
 ) -> Status
     ensures concludes { IsLastWriteResult status (gathered.old ++ out.now) (K.taken output.old) (K.taken output.new) result }
-    ensures cause { (before now : ℕ) → HasReadFaultCause (Some status) before now →
-        HasFaultCause result before now (K.faults output.old) (K.faults output.new) × (result ≢ Status.NoMemory) }
+    ensures cause { (before now : ℕ) → ReadFaultIsCounted (Some status) before now →
+        FaultsAreCounted result before now (K.faults output.old) (K.faults output.new) × (result ≢ Status.NoMemory) }
 {
     match status {
         Status::ReadFault => status,
@@ -80,7 +80,7 @@ fn write_last_text<K: Sink>(
     }
 }
 
-/// Writes the gathered octets if the reader must read from the source before it can return the next line.
+/// Writes the gathered octets if the next result needs a read from the source.
 #[inline(always)]
 fn flush_before_read<K: Sink>(
     lines: &mut Lines,
@@ -99,7 +99,7 @@ fn flush_before_read<K: Sink>(
     }
 }
 
-/// Answers line after line until the run ends. Writes all answers before it reads from the source again.
+/// Answers line after line until the run ends. All answers are written before each read from the source.
 fn answer_all_lines<C: Command, S: Source, K: Sink>(
     command: &mut C,
     lines: &mut Lines,
@@ -112,7 +112,7 @@ fn answer_all_lines<C: Command, S: Source, K: Sink>(
     ensures table { IsRun C.rules (C.start command.old) (C.represents command.new) result
         (S.left input.old) (S.left input.new) (K.taken output.old) (K.taken output.new) }
 
-    ensures cause { HasFaultCause result (S.faults input.old) (S.faults input.new)
+    ensures cause { FaultsAreCounted result (S.faults input.old) (S.faults input.new)
         (K.faults output.old) (K.faults output.new) }
 
     ensures opened { result ≢ Status.NoMemory }
@@ -136,9 +136,9 @@ fn answer_all_lines<C: Command, S: Source, K: Sink>(
     }
 }
 
-/// Runs a command over the lines of `input`, and writes the command's answers to `output`.
+/// Runs a command over the lines of `input`, and writes its answers to `output`.
 ///
-/// Allocates all memory before it reads the first octet.
+/// All memory is allocated before the first octet is read.
 pub fn drive<C: Command, S: Source, K: Sink>(
     alloc: Global,
     command: &mut C,
@@ -150,11 +150,11 @@ pub fn drive<C: Command, S: Source, K: Sink>(
     ensures table { IsRun C.rules (C.start command.old) (C.represents command.new) result
         (S.left input.old) (S.left input.new) (K.taken output.old) (K.taken output.new) }
 
-    // If no line has two answers, the run ends as the rules prescribe for the whole input.
-    ensures due { IsDetermined C.rules → EndsAsPrescribed C.rules (C.start command.old) result
+    // If the rules are deterministic, the run ends as they prescribe for the whole input.
+    ensures due { IsDeterministic C.rules → EndsAsPrescribed C.rules (C.start command.old) result
         (S.left input.old) (K.taken output.old) (K.taken output.new) }
 
-    ensures cause { HasFaultCause result (S.faults input.old) (S.faults input.new)
+    ensures cause { FaultsAreCounted result (S.faults input.old) (S.faults input.new)
         (K.faults output.old) (K.faults output.new) }
 
     ensures words { result ≢ Status.BadWords }

@@ -1,4 +1,4 @@
-//! Gathers answers, so that several are written in one call.
+//! Gathers output, so that several answers are written in one call.
 ghost use Rattle.std.specs.Prelude.{◌≡◌, ◌≤◌, ◌+◌, [], ◌++◌, length, OnOk, false, IsTrue};
 ghost use Rattle.um_driver.specs.Taking.{TakesWholeText, GathersUnwrittenText, GathersTextIfOk, CountsFailures};
 
@@ -6,17 +6,17 @@ use crate::writing::put_all;
 use std::marker::Model;
 use um_io::{Failed, Sink};
 
-/// How many octets can be gathered.
-const ROOM: usize = 16384;
+/// The maximum number of gathered octets.
+const BUFFER_SIZE: usize = 16384;
 
-/// Octets of answers that wait to be written.
+/// Output that has been gathered but not yet written.
 #[derive(Drop)]
 pub(crate) struct GatheredOutput {
-    room: [u8; ROOM],
+    room: [u8; BUFFER_SIZE],
     length: usize,
 }
 
-// In contracts, a `GatheredOutput` stands for its list of octets.
+// In contracts, a `GatheredOutput` stands for the list of its octets.
 impl Model for GatheredOutput {
     ghost use Rattle.std.specs.Prelude.{ℕ, ◌≤◌, List, take};
 
@@ -32,7 +32,7 @@ impl GatheredOutput {
         ensures { result ≡ [] }
     {
         GatheredOutput {
-            room: [0; ROOM],
+            room: [0; BUFFER_SIZE],
             length: 0,
         }
     }
@@ -41,7 +41,7 @@ impl GatheredOutput {
         requires { count ≤ 4096 }
         ensures { IsTrue result → length self.now + count ≤ 16384 }
     {
-        self.length + count <= ROOM
+        self.length + count <= BUFFER_SIZE
     }
 
     fn push(&mut self, octets: &[u8])
@@ -72,7 +72,7 @@ impl GatheredOutput {
         Ok(())
     }
 
-    /// Writes all gathered octets if `due`.
+    /// Writes all gathered octets if `due` is true.
     pub(crate) fn flush_if<K: Sink>(&mut self, due: bool, output: &mut K) -> Result<(), Failed>
         ensures gathers { GathersTextIfOk result self.old self.new (K.taken output.old) (K.taken output.new) }
         ensures empty { IsTrue due → OnOk result (self.new ≡ []) }
@@ -82,19 +82,22 @@ impl GatheredOutput {
         if due { self.flush(output) } else { Ok(()) }
     }
 
-    /// Gathers these octets. If they do not all fit, writes the octets gathered before first.
+    /// Gathers `octets`. If they do not fit, the octets gathered before are written first.
     pub(crate) fn add<K: Sink>(&mut self, octets: &[u8], output: &mut K) -> Result<(), Failed>
         requires { length octets.now ≤ 4096 }
         ensures gathers { GathersTextIfOk result (self.old ++ octets.now) self.new (K.taken output.old) (K.taken output.new) }
         ensures counted { CountsFailures result (K.faults output.old) (K.faults output.new) }
     {
+        if octets.is_empty() {
+            return Ok(());
+        }
         let full = !self.has_room(octets.len());
         self.flush_if(full, output)?;
         self.push(octets);
         Ok(())
     }
 
-    /// Writes the octets gathered before, and then these octets.
+    /// Writes the octets gathered before, and then `octets`.
     pub(crate) fn write_directly<K: Sink>(
         &mut self,
         octets: &[u8],

@@ -3,12 +3,12 @@ ghost use Rattle.um_driver.specs.Laws.{OutputIsUnique, OutputExists};
 
 use crate::command::Command;
 
-/// An input has at most one output and one status.
-pub fn output_is_unique<C: Command>()
+/// Law: if the rules are deterministic, an input has at most one output and one status.
+pub fn law_output_is_unique<C: Command>()
     ensures { OutputIsUnique C.rules }
 {}
 
-/// Every input has an output, whatever its length and whether or not its lines are refused.
-pub fn output_exists<C: Command>()
+/// Law: if the rules give an answer to every line that is not refused, every input has an output.
+pub fn law_output_exists<C: Command>()
     ensures { OutputExists C.rules }
 {}

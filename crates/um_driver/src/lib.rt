@@ -1,4 +1,4 @@
-//! The driver that runs every command that reads lines.
+//! The driver, which runs every command that reads lines.
 #![tactic(auto)]
 
 mod command;
@@ -11,7 +11,7 @@ mod writing;
 
 pub use command::Command;
 pub use driver::drive;
-pub use laws::{output_exists, output_is_unique};
+pub use laws::{law_output_exists, law_output_is_unique};
 pub use stateless::{Answer, Stateless};
 pub use status::Status;
 pub use um_io::{MemorySink, MemorySource, PlainSource, ReadSource, Sink, Source, WriteSink};

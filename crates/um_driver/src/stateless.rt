@@ -8,10 +8,10 @@ use um_lines::{LineFault, Text};
 
 /// A command whose answer to a line does not depend on other lines.
 pub trait Answer {
-    /// The first reason why a line is refused, if any.
+    /// The first reason to refuse a line, if there is one.
     ghost fault: { List ℕ → Option Fault };
 
-    /// Which answers a line may have.
+    /// The answers that a line may have.
     ghost answers: { List ℕ → List ℕ → Type 0 };
 
     /// Writes the answer to a line, or returns the reason why the line is refused.
@@ -22,7 +22,7 @@ pub trait Answer {
             (λ reason. (fault line.now ≡ Some reason) × (out.new ≡ [])) };
 }
 
-/// Makes a `Command` of an `Answer`.
+/// A command made from an `Answer`, without a state.
 #[derive(Clone, Copy, Debug)]
 pub struct Stateless<A>(pub A);
 

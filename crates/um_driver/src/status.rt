@@ -1,6 +1,6 @@
-//! The ways in which a run ends.
+//! The ways in which a run can end.
 ghost use Rattle.std.specs.Prelude.{◌≡◌};
-ghost use Rattle.um_driver.specs.Statuses.{number_of};
+ghost use Rattle.um_driver.specs.Statuses.{status_number};
 
 /// How a run ended.
 #[derive(Clone, Copy, Debug, PartialEq, Eq)]
@@ -9,7 +9,7 @@ pub enum Status {
     Done,
     /// The command-line words name no command. Nothing was read or written.
     BadWords,
-    /// A line of the input was refused, or the input ended too early. The last line of output says where and why.
+    /// A line of the input was refused, or the input ended too early. The last line of output gives the line number and the reason.
     BadInput,
     /// Reading the input failed.
     ReadFault,
@@ -22,9 +22,9 @@ pub enum Status {
 }
 
 impl Status {
-    /// The exit status of the program.
+    /// The number with which the program exits.
     pub fn number(self) -> u8
-        ensures { result ≡ number_of self }
+        ensures { result ≡ status_number self }
     {
         match self {
             Status::Done => 0,

@@ -1,9 +1,9 @@
-//! Writes to the sink.
+//! Writes octets to a sink.
 ghost use Rattle.um_driver.specs.Taking.{TakesWholeText, CountsFailures};
 
 use um_io::{Failed, Sink};
 
-/// Writes all octets of `piece`, in as many calls as needed. If it fails, the sink has received a prefix of them.
+/// Writes all octets of `piece`, in as many calls as needed. After a failure, the sink has received a prefix of them.
 pub fn put_all<K: Sink>(output: &mut K, piece: &[u8]) -> Result<(), Failed>
     ensures taken { TakesWholeText (K.taken output.old) (K.taken output.new) result piece.now }
     ensures counted { CountsFailures result (K.faults output.old) (K.faults output.new) }

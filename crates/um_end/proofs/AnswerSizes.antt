@@ -1,30 +1,31 @@
 -- The length of an answer: a step reports at most one message and at most one acknowledgement before it, so the lines of an answer fit in
 -- the output buffer.
-use Rattle.std.proofs.Common.{◌≡◌, ℕ, ◌+◌, ◌*◌, ◌<◌, ◌≤◌, ◌^◌, Bool, true, false, if◌then◌else◌, nat_eq, nat_lt, ℤ, pos, negsuc, nat_abs}
-use Rattle.std.proofs.Common.{List, [], ◌∷◌, ◌++◌, length, length-append, append-nil, codes, map, Option, None, Some, refl, sym, ap, ◌∙◌}
-use Rattle.std.proofs.{Common.{subst, arith}, lemmas.{Bool.Decides.nat_tests, Fmt.{length-decimal-le, length_signed_le}, List.length-map}}
-use Rattle.std.specs.{Int.Signed.mag, Fmt.{decimal, signed_decimal}, List.join_with_byte}
-use Rattle.hex.specs.Hex.{encode_lower}
+use Rattle.std.proofs.Common.{◌≡◌, ℕ, ◌+◌, ◌*◌, ◌<◌, ◌≤◌, ◌^◌, Bool, true, false, if◌then◌else◌, nat_eq}
+use Rattle.std.proofs.Common.{nat_lt, ℤ, pos, negsuc, nat_abs, List, [], ◌∷◌, ◌++◌, length, length-append, append-nil, codes}
+use Rattle.std.proofs.{Common.{map, Option, None, Some, refl, sym, ap, ◌∙◌, subst, arith}, lemmas.Bool.Decides.nat_tests}
+use Rattle.std.{proofs.lemmas.{Fmt.{length-decimal-le, length_signed_le}, List.length-map}, specs.{Int.Signed.mag, Fmt.decimal}}
+use Rattle.std.specs.{Fmt.signed_decimal, List.join_with_byte}
+use Rattle.um_lines.{specs.{Hex.encode_lower, Spelled.octets_word}, proofs.SpelledLaws.length-encode_lower}
 use Rattle.um_link.specs.lapdm_frame.{declared.Channel.TheVariants.Sdcch, Content.{Content, I, Frame, information}, Frames.InformationFits}
-use Rattle.um_link.specs.{lapdm_frame.Frames.{IsFrame, octets_of}, lapdm_window.segmenting.declared.joiner.Joined.Joined}
-use Rattle.um_link.specs.lapdm_window.segmenting.{Segments.{Message, Segment, max_message_octets}, Joining.unfinished_octets}
+use Rattle.um_link.specs.{lapdm_frame.Frames.{IsFrameCoding, octets_of}, lapdm_window.segmenting.declared.joiner.Joined.Joined}
+use Rattle.um_link.specs.lapdm_window.segmenting.{Segments.{Message, Segment, max_message_octets}, Joining.partial_message}
 use Rattle.um_link.specs.lapdm_window.{segmenting.Joining.segment_answer, declared.{Sapi.{Sapi, TheVariants.{Zero, Three}}, Notice.Notice}}
 use Rattle.um_link.specs.lapdm_window.Ends.{Role, Mobile, Network, EndState, Outcome, no_effect, ◌then◌, next_segment, n200, vr}
-use Rattle.um_link.specs.lapdm_window.Rules.{may_send_next, sends_segment, sends_next, acknowledges, reports_acked, counts, segment_notices}
-use Rattle.um_link.specs.lapdm_window.Rules.{accepts_segment, sends_rr, answers_segment, reject_is_due, rejects_segment, takes_i_frame}
-use Rattle.um_link.specs.lapdm_window.{Rules.{answers_poll, takes_rr, sends_again, takes_rej}, Calls.{Call, Opens, OpensBare, Sends}}
-use Rattle.um_link.specs.lapdm_window.{Calls.{SendsUnit, Closes, T200Expires, SendsFill, after_call, with_queued}, Tables.{Reply, Nothing}}
-use Rattle.um_link.specs.lapdm_window.Tables.{SendsDm, SendsUa, AcceptsSabm, ConfirmsEstablishment, ClosesLink, AcceptsDisc, TakesUnit}
-use Rattle.um_link.specs.lapdm_window.Tables.{TakesI, TakesRr, TakesRej, closes_and_reports, outcome_of, reply_to, after_frame}
-use Rattle.um_link.specs.{um_block.declared.received.Received.Received, lapdm_link.Events.{Open, OpenBare, Ask, Deliver, Lose, Rival}}
-use Rattle.um_link.specs.{lapdm_link.Events.{BySide, call_of}, um_air.Air.{Octets, Block, ReadsFrame, Event, Step, Answer, Refuses, Does}}
-use Rattle.um_link.{specs.Coded.AreCoded, proofs.lapdm_window.Lemmas.{IsReplyTo, cause_of, by_sapi, few-frame, few-call}}
-use Rattle.um_lines.{proofs.SpelledLaws.length-encode_lower, specs.Spelled.octets_word}
-use Rattle.um_script.specs.{AnswerWords.{actor_word, sapi_suffix}, AnswerLines.{AnswerLine, reception, reception_words, notice_words}}
-use Rattle.um_script.specs.AnswerLines.{received_block_line, received_block_lines, spaced_words, lines_text, answer_text}
+use Rattle.um_link.specs.lapdm_window.Rules.{may_send_next, sends_segment, sends_next, acknowledges, reports_acked, counts_acks}
+use Rattle.um_link.specs.lapdm_window.Rules.{segment_notices, accepts_segment, sends_rr, answers_segment, reject_is_due, rejects_segment}
+use Rattle.um_link.specs.lapdm_window.{Rules.{takes_i_frame, answers_poll, takes_rr, resends_outstanding, takes_rej}, Calls.{Call, Opens}}
+use Rattle.um_link.specs.lapdm_window.Calls.{OpensBare, Sends, SendsUnit, Closes, T200Expires, SendsFill, call_outcome, with_message}
+use Rattle.um_link.specs.lapdm_window.Tables.{Reply, Nothing, SendsDm, SendsUa, AcceptsSabm, ConfirmsEstablishment, ClosesLink, AcceptsDisc}
+use Rattle.um_link.specs.lapdm_window.Tables.{TakesUnit, TakesI, TakesRr, TakesRej, closes_and_reports, outcome_of, reply_to_frame}
+use Rattle.um_link.specs.{lapdm_window.Tables.frame_outcome, um_block.declared.received.Received.Received, lapdm_link.Events.Open}
+use Rattle.um_link.specs.{lapdm_link.Events.{OpenBare, Ask, Deliver, Lose, Rival, BySide, call_of}, um_air.Air.{Octets, Block, ReadsFrame}}
+use Rattle.um_link.{specs.{um_air.Air.{Event, Step, Answer, Refuses, Does}, Coded.AreCodedBlocks}, proofs.lapdm_window.Lemmas.IsReplyTo}
+use Rattle.um_link.proofs.lapdm_window.Lemmas.{cause_of, by_sapi, few-frame, few-call}
+use Rattle.um_script.specs.{AnswerWords.{actor_word, sapi_suffix}, AnswerLines.{AnswerLine, reception_quality, reception_words}}
+use Rattle.um_script.specs.AnswerLines.{notice_words, received_block_line, received_block_lines, spaced_words, lines_text, answer_text}
 use Rattle.um_script.{specs.AnswerLines.ReceptionIsInRange, proofs.AnswerLaws.{lines_text_append, join-spaced, report_line}}
-use Rattle.um_end.specs.Terminals.{SideState, link_in, does, does_nothing, takes, takes_frame_if_read, step_of, IsCallAnswer, AnswersCall}
-use Rattle.um_end.specs.{Terminals.ReceivesBursts, EndRuns.{frames_sent_in, IsAnswerText}}
+use Rattle.um_end.specs.Terminals.{SideState, endpoint_on, endpoint_step, no_op_step, takes, step_for_read_frame, step_of, IsCallAnswer}
+use Rattle.um_end.specs.{Terminals.{AnswersCall, ReceivesBursts}, EndRuns.{frames_in_answer, IsAnswerText}}
 use Rattle.um_link.specs.lapdm_window.segmenting.declared.joiner.Joined.TheVariants as J
 use Rattle.um_link.specs.lapdm_window.declared.State.TheVariants as S
 use Rattle.um_link.specs.lapdm_window.declared.Notice.TheVariants as N
@@ -92,7 +93,7 @@ by_test P false o p h g = g
 next : (e : EndState) → (sends_next e).notices ≡ []
 next e = by_test (λ ns. ns ≡ []) (may_send_next e) (sends_segment e) (no_effect e) refl refl
 
-acked : (nr : ℕ) (e : EndState) → IsAcked (counts nr e).notices
+acked : (nr : ℕ) (e : EndState) → IsAcked (counts_acks nr e).notices
 acked nr e = by_test IsAcked (acknowledges nr e) (reports_acked (next_segment e).1 e) (no_effect e) (by_more (next_segment e).1) tt
   where
     by_more : (b : Bool) → IsAcked (reports_acked b e).notices
@@ -108,7 +109,7 @@ accepted : (segment : Segment) (e : EndState) → IsOne (accepts_segment segment
 accepted segment e = by_answer (segment_answer e.accepted segment) segment.1 refl
   where
     m : Message
-    m = unfinished_octets e.accepted ++ segment.0
+    m = partial_message e.accepted ++ segment.0
 
     by_answer : (j : Joined) (b : Bool) → segment_answer e.accepted segment ≡ j → IsOne (segment_notices j b m)
     by_answer J.Whole b is = whole (nat_lt max_message_octets (length m)) refl
@@ -131,20 +132,20 @@ rejected p e = by_test IsOne (reject_is_due p e) _ (no_effect e) tt tt
 notices_of_poll : (b : Bool) (e : EndState) → IsOne (answers_poll b e).notices
 notices_of_poll b e = by_test IsOne b (sends_rr true e) (no_effect e) tt tt
 
-again : (e : EndState) → (sends_again e).notices ≡ []
+again : (e : EndState) → (resends_outstanding e).notices ≡ []
 again e = by_test (λ ns. ns ≡ []) _ _ (sends_next e) refl (next e)
 
 -- the notices after an N(R) is evaluated and two further rules are applied
 counted : (nr : ℕ) (first second : EndState → Outcome) (e : EndState) → ((x : EndState) → IsOne (first x).notices) →
-    ((x : EndState) → (second x).notices ≡ []) → IsAtMostAckAndOne (counts nr e then first then second).notices
+    ((x : EndState) → (second x).notices ≡ []) → IsAtMostAckAndOne (counts_acks nr e then first then second).notices
 counted nr first second e h g =
-    let o = counts nr e in
+    let o = counts_acks nr e in
     all_three o.notices (first o.after).notices (second (o then first).after).notices (acked nr e) (h o.after) (g (o then first).after)
 
 brief-i : (ns nr : ℕ) (p : Bool) (segment : Segment) (e : EndState) → IsAtMostAckAndOne (takes_i_frame ns nr p segment e).notices
 brief-i ns nr p segment e =
-    by_test IsAtMostAckAndOne (nat_eq ns (vr e)) (counts nr e then accepts_segment segment then answers_segment p)
-    (counts nr e then rejects_segment p then sends_next)
+    by_test IsAtMostAckAndOne (nat_eq ns (vr e)) (counts_acks nr e then accepts_segment segment then answers_segment p)
+    (counts_acks nr e then rejects_segment p then sends_next)
     (counted nr (accepts_segment segment) (answers_segment p) e (accepted segment) (answered p))
     (counted nr (rejects_segment p) sends_next e (rejected p) next)
 
@@ -152,7 +153,7 @@ brief-rr : (nr : ℕ) (b : Bool) (e : EndState) → IsAtMostAckAndOne (takes_rr 
 brief-rr nr b e = counted nr (answers_poll b) sends_next e (notices_of_poll b) next
 
 brief-rej : (nr : ℕ) (b : Bool) (e : EndState) → IsAtMostAckAndOne (takes_rej nr b e).notices
-brief-rej nr b e = counted nr (answers_poll b) sends_again e (notices_of_poll b) again
+brief-rej nr b e = counted nr (answers_poll b) resends_outstanding e (notices_of_poll b) again
 
 -- ---- the tables of replies
 
@@ -175,13 +176,13 @@ brief-reply (TakesRr nr poll) c e cause h = brief-rr nr poll e
 brief-reply (TakesRej nr poll) c e cause h = brief-rej nr poll e
 
 -- a frame, or (below) a call, leads to at most one notice, perhaps after an acknowledgement
-pub brief-frame : (f : Frame) (e : EndState) → length (information f.content) ≤ 251 → IsAtMostAckAndOne (after_frame f e).notices
-brief-frame f e h = brief-reply (reply_to f e) f.content e (cause_of e f) h
+pub brief-frame : (f : Frame) (e : EndState) → length (information f.content) ≤ 251 → IsAtMostAckAndOne (frame_outcome f e).notices
+brief-frame f e h = brief-reply (reply_to_frame f e) f.content e (cause_of e f) h
 
-pub brief-call : (call : Call) (e : EndState) → IsAtMostAckAndOne (after_call call e).notices
+pub brief-call : (call : Call) (e : EndState) → IsAtMostAckAndOne (call_outcome call e).notices
 brief-call (Opens info) e = tt
 brief-call OpensBare e = tt
-brief-call (Sends m) e = subst IsAtMostAckAndOne (sym (next (with_queued m e))) tt
+brief-call (Sends m) e = subst IsAtMostAckAndOne (sym (next (with_message m e))) tt
 brief-call (SendsUnit m) e = tt
 brief-call Closes e = tt
 brief-call T200Expires e = by_test IsAtMostAckAndOne (nat_lt e.retries (n200 e.channel e.state)) _ (closes_and_reports _ e) tt tt
@@ -226,7 +227,8 @@ abbrev notified : Role → Sapi → List Notice → List ℕ
 notified role sapi notices = lines_text (map (L.Reports (BySide role) sapi) notices)
 
 line_short : (role : Role) (sapi : Sapi) (notice : Notice) (notices : List Notice) →
-    length (notified role sapi (notice ∷ notices)) ≤ 5 + length (spaced_words (notice_words notice)) + length (notified role sapi notices)
+    length (notified role sapi (notice ∷ notices)) ≤ 5 + length (spaced_words (notice_words notice)) + length
+    (notified role sapi notices)
 line_short role sapi notice notices =
     let rest = notified role sapi notices in
     let all = append_five (actor_word (BySide role)) (sapi_suffix sapi) (spaced_words (notice_words notice)) (codes "\n") rest in
@@ -244,7 +246,7 @@ notices_short role sapi (N.Unit m ∷ n ∷ ns) h = absurd h
 notices_short role sapi (N.Oversize ∷ n ∷ ns) h = absurd h
 notices_short role sapi (N.Closed reason ∷ n ∷ ns) h = absurd h
 
-frames_short : (role : Role) (tsc : ℕ) (frames : List Octets) (blocks : List Block) → AreCoded tsc frames blocks →
+frames_short : (role : Role) (tsc : ℕ) (frames : List Octets) (blocks : List Block) → AreCodedBlocks tsc frames blocks →
     length (lines_text (map (L.Sends (BySide role)) frames)) ≡ 57 * length frames
 frames_short role tsc [] [] h = refl
 frames_short role tsc [] (b ∷ bs) h = absurd h
@@ -267,10 +269,11 @@ mag_is : (z : ℤ) → mag z ≤ nat_abs z
 mag_is (pos n) = omega arith
 mag_is (negsuc n) = omega arith
 
-reception_short : (r : Received) → r.tsc ≤ 7 → ReceptionIsInRange (reception r) → length (spaced_words (reception_words (reception r))) ≤ 61
+reception_short : (r : Received) → r.tsc ≤ 7 → ReceptionIsInRange (reception_quality r) →
+    length (spaced_words (reception_words (reception_quality r))) ≤ 61
 reception_short r tsc h =
     let t = length-decimal-le 1 r.tsc (omega arith) (omega (arith, tsc)) (omega (arith, tsc)) in
-    let w = length-decimal-le 20 r.wrong_training (omega arith) (omega (arith, h.train)) h.train in
+    let w = length-decimal-le 20 r.wrong_training (omega arith) (omega (arith, h.wrong_training)) h.wrong_training in
     let m = length_signed_le 19 r.metric (omega (arith, h.metric, mag_is r.metric)) (omega (arith, h.metric, mag_is r.metric)) in
     let last = signed_decimal r.metric ++ [] in
     let back = decimal r.wrong_training ++ (codes " metric " ++ last) in
@@ -285,10 +288,10 @@ reception_short r tsc h =
     )
 
 arrival_short : (role : Role) (r : Received) (octets : Octets) → r.accepted ≡ Some octets → length octets ≡ 23 → r.tsc ≤ 7 →
-    ReceptionIsInRange (reception r) → length (lines_text (received_block_lines (BySide role) (Some r))) ≤ 118
+    ReceptionIsInRange (reception_quality r) → length (lines_text (received_block_lines (BySide role) (Some r))) ≤ 118
 arrival_short role r octets is count tsc fits =
     let name = actor_word (BySide role) in
-    let words = codes "takes" ∷ encode_lower octets ∷ reception_words (reception r) in
+    let words = codes "takes" ∷ encode_lower octets ∷ reception_words (reception_quality r) in
     let line = join_with_byte 32 (name ∷ words) in
     omega (
       arith,
@@ -297,7 +300,7 @@ arrival_short role r octets is count tsc fits =
       length-append line (codes "\n"),
       ap length (join-spaced name words),
       length-append name (spaced_words words),
-      length-append (encode_lower octets) (spaced_words (reception_words (reception r))),
+      length-append (encode_lower octets) (spaced_words (reception_words (reception_quality r))),
       who_three role,
       length-encode_lower octets,
       count,
@@ -308,7 +311,7 @@ arrival_short role r octets is count tsc fits =
 
 -- an answer, with the lines of the bursts of each frame sent, has fewer than 2000 octets
 abbrev pub IsShort : Answer → Type 0
-IsShort answer = length (answer_text answer) + 604 * length (frames_sent_in answer) < 2000
+IsShort answer = length (answer_text answer) + 604 * length (frames_in_answer answer) < 2000
 
 lines_four : (a b c d : List AnswerLine) → length (lines_text (a ++ b ++ c ++ d))
     ≡ length (lines_text a) + length (lines_text b) + length (lines_text c) + length (lines_text d)
@@ -319,7 +322,7 @@ lines_four a b c d =
 
 outcome_short : (role : Role) (received : Option Received) (sapi : Sapi) (o : Outcome) (a : SideState) (tsc : ℕ) (blocks : List Block) →
     length o.frames ≤ 2 → IsAtMostAckAndOne o.notices → length (lines_text (received_block_lines (BySide role) received)) ≤ 118 →
-    AreCoded tsc (map (octets_of Sdcch) o.frames) blocks → IsShort (Does (step_of role received (does sapi o a)))
+    AreCodedBlocks tsc (map (octets_of Sdcch) o.frames) blocks → IsShort (Does (step_of role received (endpoint_step sapi o a)))
 outcome_short role received sapi o a tsc blocks few brief arrived coded =
     let frames = map (octets_of Sdcch) o.frames in
     let all = lines_four (received_block_lines (BySide role) received) (map (L.Reports (BySide role) sapi) o.notices)
@@ -335,14 +338,15 @@ outcome_short role received sapi o a tsc blocks few brief arrived coded =
       length-map o.frames (octets_of Sdcch),
     )
 
-asked_short : (role : Role) (a : SideState) (sapi : Sapi) (call : Call) (b : SideState) (answer : Answer) (tsc : ℕ) (blocks : List Block) →
-    IsCallAnswer role a sapi call b answer → AreCoded tsc (frames_sent_in answer) blocks → length (answer_text answer) < 2000 →
+asked_short : (role : Role) (a : SideState) (sapi : Sapi) (call : Call) (b : SideState) (answer : Answer) (tsc : ℕ)
+    (blocks : List Block) → IsCallAnswer role a sapi call b answer → AreCodedBlocks tsc (frames_in_answer answer) blocks →
+    length (answer_text answer) < 2000 →
     IsShort answer
 asked_short role a sapi call b (Refuses why) tsc blocks h coded lines = omega (arith, lines)
 asked_short role a sapi call b (Does step) tsc blocks h coded lines =
-    let o = after_call call (link_in sapi a) in
-    subst (λ (s : Step). AreCoded tsc s.frames blocks → IsShort (Does s)) (sym h.2)
-    (outcome_short role None sapi o a tsc blocks (few-call call (link_in sapi a)).frames (brief-call call (link_in sapi a))
+    let o = call_outcome call (endpoint_on sapi a) in
+    subst (λ (s : Step). AreCodedBlocks tsc s.frames blocks → IsShort (Does s)) (sym h.2)
+    (outcome_short role None sapi o a tsc blocks (few-call call (endpoint_on sapi a)).frames (brief-call call (endpoint_on sapi a))
     (omega arith)) coded
 
 -- the answer to a call has fewer than 2000 octets
@@ -368,32 +372,34 @@ has_room other h = omega (arith, h)
 
 taken_short : (role : Role) (a : SideState) (r : Received) (f : Frame) (octets : Octets) (tsc : ℕ) (blocks : List Block) →
     r.accepted ≡ Some octets →
-    IsFrame Sdcch f octets → r.tsc ≤ 7 → ReceptionIsInRange (reception r) → AreCoded tsc (step_of role (Some r) (takes f a)).frames blocks →
+    IsFrameCoding Sdcch f octets → r.tsc ≤ 7 → ReceptionIsInRange (reception_quality r) →
+    AreCodedBlocks tsc (step_of role (Some r) (takes f a)).frames blocks →
     length (answer_text (Does (step_of role (Some r) (takes f a)))) < 2000 → IsShort (Does (step_of role (Some r) (takes f a)))
 taken_short role a r f octets tsc blocks is frame known fits =
     let arrived = arrival_short role r octets is frame.count known fits in
     let room = has_room f.content frame.fits.information in
-    by_sapi f a (λ d. AreCoded tsc (step_of role (Some r) d).frames blocks → length (answer_text (Does (step_of role (Some r) d))) < 2000 →
+    by_sapi f a (λ d. AreCodedBlocks tsc (step_of role (Some r) d).frames blocks →
+    length (answer_text (Does (step_of role (Some r) d))) < 2000 →
     IsShort (Does (step_of role (Some r) d)))
-    (λ q coded lines. outcome_short role (Some r) Zero (after_frame f a.link0) a tsc blocks (few-frame f a.link0).frames
+    (λ q coded lines. outcome_short role (Some r) Zero (frame_outcome f a.link0) a tsc blocks (few-frame f a.link0).frames
     (brief-frame f a.link0 room) arrived coded)
-    (λ q coded lines. outcome_short role (Some r) Three (after_frame f a.link3) a tsc blocks (few-frame f a.link3).frames
+    (λ q coded lines. outcome_short role (Some r) Three (frame_outcome f a.link3) a tsc blocks (few-frame f a.link3).frames
     (brief-frame f a.link3 room) arrived coded)
-    (λ p q coded lines. unsent (step_of role (Some r) (does_nothing a)) refl lines)
+    (λ p q coded lines. unsent (step_of role (Some r) (no_op_step a)) refl lines)
 
 -- the answer to a block has fewer than 2000 octets
 pub block_short : (role : Role) (a : SideState) (bursts : List (List ℤ)) (b : SideState) (step : Step) (tsc : ℕ) (text : List ℕ) →
-    ReceivesBursts role a bursts b step → ((r : Received) → step.received ≡ Some r → ReceptionIsInRange (reception r)) →
+    ReceivesBursts role a bursts b step → ((r : Received) → step.received ≡ Some r → ReceptionIsInRange (reception_quality r)) →
     IsAnswerText tsc (Does step) text →
     length (answer_text (Does step)) < 2000 → IsShort (Does step)
 block_short role a bursts b step tsc text h fits t lines = by_read h.read h.report.accepted h.reads refl h.step_is
   where
     by_read : (read : Option Frame) (accepted : Option Octets) → ReadsFrame Sdcch accepted read → h.report.accepted ≡ accepted →
-        step ≡ step_of role (Some h.report) (takes_frame_if_read read a) → IsShort (Does step)
+        step ≡ step_of role (Some h.report) (step_for_read_frame read a) → IsShort (Does step)
     by_read None accepted reads is same = unsent step (ap (λ (s : Step). s.frames) same) lines
     by_read (Some f) None reads is same = absurd reads
     by_read (Some f) (Some octets) reads is same =
-        subst (λ (s : Step). AreCoded tsc s.frames t.blocks → length (answer_text (Does s)) < 2000 → IsShort (Does s)) (sym same)
+        subst (λ (s : Step). AreCodedBlocks tsc s.frames t.blocks → length (answer_text (Does s)) < 2000 → IsShort (Does s)) (sym same)
         (taken_short role a h.report f octets tsc t.blocks is reads h.received.tsc.within
         (fits h.report (ap (λ (s : Step). s.received) same)))
         t.coded lines

@@ -1,30 +1,30 @@
 -- The steps of the two processes correspond to a session of frames, so the laws about sessions hold for them. The proof is by induction
 -- over the steps.
-use Rattle.std.proofs.Common.{◌≡◌, refl, sym, ◌∙◌, ap, ap₂, subst, arith, ℤ, List, [], ◌∷◌, ◌++◌, map, Option, Some, None}
-use Rattle.std.{proofs.lemmas.List.append-nil, specs.Prelude.IfSome}
-use Rattle.um_link.specs.lapdm_frame.{declared.Channel.TheVariants.Sdcch, Content.Frame, Frames.{Fits, octets_of}}
+use Rattle.std.proofs.Common.{◌≡◌, refl, sym, ◌∙◌, ap, ap₂, subst, arith, ℤ, List, [], ◌∷◌, ◌++◌, map, Option}
+use Rattle.std.{proofs.{Common.{Some, None}, lemmas.List.append-nil}, specs.Prelude.IfSome}
+use Rattle.um_link.specs.lapdm_frame.{declared.Channel.TheVariants.Sdcch, Content.Frame, Frames.{FrameFits, octets_of}}
 use Rattle.um_link.specs.lapdm_window.{declared.Sapi.{Sapi, TheVariants.{Zero, Three}}, Ends.{Role, Mobile, Network}, Calls.{Call, Opens}}
 use Rattle.um_link.specs.{lapdm_window.Calls.{OpensBare, refusal_of}, lapdm_link.Queues.{Queues, empty_queues, queue_of, with_appended}}
 use Rattle.um_link.specs.lapdm_link.{Queues.{without_first, IsOldestSentOrNone}, Events.{Open, OpenBare, Ask, Deliver, Lose, Rival}}
-use Rattle.um_link.specs.lapdm_link.Events.{Request, BySide, Ends, other, side_in, with_side_in, unbounded_queues, EventRefusal, as_refusal}
-use Rattle.um_link.specs.lapdm_link.{Events.{call_of, side_step}, Worlds.{World, refusal, answer_unless_refused, answer}}
-use Rattle.um_link.specs.lapdm_link.{Worlds.{after_unless_refused, world_after, answers, IsHarmlessEvent, IsHarmless}, Claims.event_lines}
-use Rattle.um_link.specs.lapdm_link.Claims.{answer_lines, notice_lines, Claims, OrderClaims, AckedAtMostDelivered}
+use Rattle.um_link.specs.lapdm_link.Events.{Request, BySide, Ends, other, side_in, with_side_in, unbounded_capacity, EventRefusal}
+use Rattle.um_link.specs.lapdm_link.{Events.{as_event_refusal, call_of, event_step}, Worlds.{World, refusal, answer_unless_refused, answer}}
+use Rattle.um_link.specs.lapdm_link.{Worlds.{world_unless_refused, world_after, answers, IsBenignEvent, IsBenign}, Claims.event_log_lines}
+use Rattle.um_link.specs.lapdm_link.Claims.{answer_log_lines, notice_log_lines, Claims, IsOrderedLog, AckedAtMostDelivered}
 use Rattle.um_link.specs.{um_block.{Received.IsReceivedBlock, declared.received.Received.Received}, um_air.Air.{Octets, Event, Answer}}
 use Rattle.um_link.{specs.um_air.Air.{Refuses, Does, Step, ReadsFrame}, proofs.lapdm_link.Lemmas.{KnowsBy, IsFitting, fits-step}}
-use Rattle.um_link.proofs.{lapdm_link.Lemmas.{start-fits, AreOctets, claims, counts, order_claims}, um_block.Lemmas.accepted_octets}
+use Rattle.um_link.proofs.{lapdm_link.Lemmas.{start-fits, AreOctets, claims, counts_acks, order_claims}, um_block.Lemmas.accepted_octets}
 use Rattle.um_link.proofs.um_air.Laws.{zip-rest, AreAlike, alike-more, read_back, all-written, damaged_received, reads-well}
-use Rattle.um_end.specs.Terminals.{SideState, IsCallOf, AnswersCall, IsCallAnswer, ReceivesBursts, link_in, takes_frame_if_read}
-use Rattle.um_end.specs.{EndRuns.frames_sent_in, TwoTerminals.{TwoTerminals, idle_terminals, TerminalStep, Calls, Brings, Loses}}
+use Rattle.um_end.specs.Terminals.{SideState, IsCallOfRole, AnswersCall, IsCallAnswer, ReceivesBursts, endpoint_on, step_for_read_frame}
+use Rattle.um_end.specs.{EndRuns.frames_in_answer, TwoTerminals.{TwoTerminals, idle_terminals, TerminalStep, Calls, TakesBurst, Loses}}
 use Rattle.um_end.specs.TwoTerminals.{state_after_step, IsTerminalStep, AreStepsFrom, AreBurstsOfFirstBlock, DeliversOldestBlock}
-use Rattle.um_end.specs.TwoTerminals.{NoCondition, step_log_lines, lines}
+use Rattle.um_end.specs.TwoTerminals.{AnyStepAllowed, step_log_lines, lines}
 use Rattle.um_link.specs.lapdm_window.Sides as S
 use Rattle.um_link.specs.lapdm_link.Events as E
 use Rattle.um_link.specs.lapdm_link.Claims as C
 
 -- the corresponding state of a session of frames, with these frames in transit
 abbrev world_of : TwoTerminals → Queues Frame → World
-world_of a fs = record { capacity = unbounded_queues; channel = Sdcch; ends = a.ends; queues = fs }
+world_of a fs = record { capacity = unbounded_capacity; channel = Sdcch; ends = a.ends; queues = fs }
 
 abbrev Written : Queues Frame → Queues Octets → Type 0
 Written fs os = AreAlike (λ f o. o ≡ octets_of Sdcch f) fs os
@@ -36,9 +36,9 @@ record IsSeen (a : TwoTerminals) (fs : Queues Frame) : Type 0 where
 -- a step either has no effect on the session, or corresponds to this event
 data IsPlayed (a b : TwoTerminals) (turn : TerminalStep) (fs : Queues Frame) : Type 0 where
   idle : b ≡ a → step_log_lines turn ≡ [] → IsPlayed a b turn fs
-  does : (event : E.Event) (fs' : Queues Frame) → world_after event (world_of a fs) ≡ world_of b fs' → IsSeen b fs' →
-      (DeliversOldestBlock a turn → IsHarmlessEvent (refusal event (world_of a fs)) event (world_of a fs)) →
-      step_log_lines turn ≡ answer_lines event (answer event (world_of a fs)) → IsPlayed a b turn fs
+  endpoint_step : (event : E.Event) (fs' : Queues Frame) → world_after event (world_of a fs) ≡ world_of b fs' → IsSeen b fs' →
+      (DeliversOldestBlock a turn → IsBenignEvent (refusal event (world_of a fs)) event (world_of a fs)) →
+      step_log_lines turn ≡ answer_log_lines event (answer event (world_of a fs)) → IsPlayed a b turn fs
 
 rest-written : (sender : Role) (fs : Queues Frame) (os : Queues Octets) → Written fs os →
     Written (without_first sender fs) (without_first sender os)
@@ -56,14 +56,14 @@ none_more Mobile ws = ap (λ (up : List Octets). record ws { up = up }) (append-
 none_more Network ws = ap (λ (down : List Octets). record ws { down = down }) (append-nil ws.down)
 
 -- a frame that is read from accepted octets fits in a block
-known_read : (sender : Role) (accepted : Option Octets) (read : Option Frame) → IfSome accepted AreOctets → ReadsFrame Sdcch accepted read →
-    KnowsBy None (λ r f. Fits Sdcch f) (Deliver sender read)
+known_read : (sender : Role) (accepted : Option Octets) (read : Option Frame) → IfSome accepted AreOctets →
+    ReadsFrame Sdcch accepted read → KnowsBy None (λ r f. FrameFits Sdcch f) (Deliver sender read)
 known_read sender accepted None small h = tt
 known_read sender accepted (Some f) small h = (reads-well Sdcch accepted f small h).0
 
 -- lightly damaged bursts are accepted with the octets that were sent
-received_first : (bursts : List (List ℤ)) (os : List Octets) (r : Received) → IsReceivedBlock bursts r → AreBurstsOfFirstBlock bursts os →
-    IsOldestSentOrNone r.accepted os
+received_first : (bursts : List (List ℤ)) (os : List Octets) (r : Received) → IsReceivedBlock bursts r →
+    AreBurstsOfFirstBlock bursts os → IsOldestSentOrNone r.accepted os
 received_first bursts (first ∷ others) r is damage = rw (damaged_received first bursts r damage is) refl
 received_first bursts [] r is damage = absurd damage
 
@@ -73,16 +73,17 @@ module _ {a : TwoTerminals} {fs : Queues Frame} (seen : IsSeen a fs) where
 
   -- if a side does not change and sends nothing, the state is the same
   quiet : (side : Role) → state_after_step side (side_in side a.ends) [] a.queues a ≡ a
-  quiet side = ap₂ (λ (es : Ends) (ws : Queues Octets). record { ends = es; queues = ws }) (same_ends side a.ends) (none_more side a.queues)
+  quiet side = ap₂ (λ (es : Ends) (ws : Queues Octets). record { ends = es; queues = ws }) (same_ends side a.ends)
+      (none_more side a.queues)
 
   -- below, the event is not refused, and side `side` does d in it
   module _ (event : E.Event) (side : Role) (d : S.SideStep) (left : Queues Frame) (from : Queues Octets) (none : refusal event w ≡ None)
-      (later : after_unless_refused None event w ≡ record w {
+      (later : world_unless_refused None event w ≡ record w {
         ends = with_side_in side d.after a.ends;
         queues = with_appended side
             d.frames left;
       })
-      (known : KnowsBy None (λ r f. Fits Sdcch f) event) (behind : Written left from) where
+      (known : KnowsBy None (λ r f. FrameFits Sdcch f) event) (appended : Written left from) where
     abbrev frames_then : Queues Frame
     frames_then = with_appended side d.frames left
 
@@ -90,61 +91,67 @@ module _ {a : TwoTerminals} {fs : Queues Frame} (seen : IsSeen a fs) where
     then_is = state_after_step side d.after (map (octets_of Sdcch) d.frames) from a
 
     now : world_after event w ≡ world_of then_is frames_then
-    now = ap (λ o. after_unless_refused o event w) none ∙ later
+    now = ap (λ o. world_unless_refused o event w) none ∙ later
 
     seen_then : IsSeen then_is frames_then
     seen_then = record {
-      written = alike-more (λ f o. o ≡ octets_of Sdcch f) side d.frames (map (octets_of Sdcch) d.frames) left from behind
+      written = alike-more (λ f o. o ≡ octets_of Sdcch f) side d.frames (map (octets_of Sdcch) d.frames) left from appended
           (all-written Sdcch d.frames);
       fit = subst (λ (z : World). IsFitting Sdcch z) now
-          (fits-step Sdcch w event (subst (λ (o : Option EventRefusal). KnowsBy o (λ r f. Fits Sdcch f) event) (sym none) known) seen.fit);
+          (fits-step Sdcch w event (subst (λ (o : Option EventRefusal). KnowsBy o (λ r f. FrameFits Sdcch f) event) (sym none) known)
+          seen.fit);
     }
 
-    played : (turn : TerminalStep) (b : TwoTerminals) → then_is ≡ b → (DeliversOldestBlock a turn → IsHarmlessEvent None event w) →
-        step_log_lines turn ≡ answer_lines event (answer_unless_refused None (side_step event a.ends)) → IsPlayed a b turn fs
-    played turn b same harmless says =
+    played : (turn : TerminalStep) (b : TwoTerminals) → then_is ≡ b → (DeliversOldestBlock a turn → IsBenignEvent None event w) →
+        step_log_lines turn ≡ answer_log_lines event (answer_unless_refused None (event_step event a.ends)) → IsPlayed a b turn fs
+    played turn b same benign says =
         subst (λ (z : TwoTerminals). IsPlayed a z turn fs) same
-        (does event frames_then now seen_then (λ q. subst (λ (o : Option EventRefusal). IsHarmlessEvent o event w) (sym none) (harmless q))
-        (says ∙ sym (ap (λ o. answer_lines event (answer_unless_refused o (side_step event a.ends))) none)))
+        (endpoint_step event frames_then now seen_then (λ q. subst (λ (o : Option EventRefusal). IsBenignEvent o event w) (sym none)
+        (benign q))
+        (says ∙ sym (ap (λ o. answer_log_lines event (answer_unless_refused o (event_step event a.ends))) none)))
 
   -- a call of a side corresponds to an event of the session
-  asked : (side : Role) (sapi : Sapi) (call : Call) (event : Event) (e : E.Event) (links : SideState) (answer : Answer) →
-      refusal e w ≡ as_refusal (refusal_of call (link_in sapi (side_in side a.ends))) →
+  asked_call : (side : Role) (sapi : Sapi) (call : Call) (event : Event) (e : E.Event) (links : SideState) (answer : Answer) →
+      refusal e w ≡ as_event_refusal (refusal_of call (endpoint_on sapi (side_in side a.ends))) →
       (let d : S.SideStep = S.layer3_calls sapi call (side_in side a.ends) in
-      (after_unless_refused None e w ≡ record w { ends = with_side_in side d.after a.ends; queues = with_appended side d.frames fs })
-      × (answer_lines e (answer_unless_refused None (side_step e a.ends)) ≡ event_lines event ++ notice_lines
+      (world_unless_refused None e w ≡ record w { ends = with_side_in side d.after a.ends; queues = with_appended side d.frames fs })
+      × (answer_log_lines e (answer_unless_refused None (event_step e a.ends)) ≡ event_log_lines event ++ notice_log_lines
       (BySide side) d.sapi d.notices)) →
-      KnowsBy None (λ r f. Fits Sdcch f) e → IsHarmlessEvent None e w → IsCallAnswer side (side_in side a.ends) sapi call links answer →
-      IsPlayed a (state_after_step side links (frames_sent_in answer) a.queues a) (Calls side event answer) fs
-  asked side sapi call event e links (Refuses why) refused done known harmless t =
+      KnowsBy None (λ r f. FrameFits Sdcch f) e → IsBenignEvent None e w →
+      IsCallAnswer side (side_in side a.ends) sapi call links answer →
+      IsPlayed a (state_after_step side links (frames_in_answer answer) a.queues a) (Calls side event answer) fs
+  asked_call side sapi call event e links (Refuses why) refused done known benign t =
       idle (ap (λ (l : SideState). state_after_step side l [] a.queues a) t.1 ∙ quiet side) refl
-  asked side sapi call event e links (Does step) refused done known harmless t =
+  asked_call side sapi call event e links (Does step) refused done known benign t =
       let d : S.SideStep = S.layer3_calls sapi call (side_in side a.ends) in
       played e side d fs a.queues (refused ∙ t.0) done.0 known seen.written (Calls side event (Does step))
       (state_after_step side links step.frames a.queues a)
-      (ap₂ (λ (l : SideState) (x : Step). state_after_step side l x.frames a.queues a) (sym t.1) (sym t.2)) (λ q. harmless)
-      (ap (λ (x : Step). event_lines event ++ notice_lines x.who x.sapi x.notices) t.2 ∙ sym done.1)
+      (ap₂ (λ (l : SideState) (x : Step). state_after_step side l x.frames a.queues a) (sym t.1) (sym t.2)) (λ q. benign)
+      (ap (λ (x : Step). event_log_lines event ++ notice_log_lines x.who x.sapi x.notices) t.2 ∙ sym done.1)
 
-  own : (side r : Role) (sapi : Sapi) (request : Request) → IsCallOf side (Ask r sapi request) → r ≡ side
+  own : (side r : Role) (sapi : Sapi) (request : Request) → IsCallOfRole side (Ask r sapi request) → r ≡ side
   own side r sapi request h = grind arith
 
-  calls : (side : Role) (event : Event) (answer : Answer) (links : SideState) → IsCallOf side event →
+  calls : (side : Role) (event : Event) (answer : Answer) (links : SideState) → IsCallOfRole side event →
       AnswersCall side (side_in side a.ends) event links answer →
-      IsPlayed a (state_after_step side links (frames_sent_in answer) a.queues a) (Calls side event answer) fs
-  calls Mobile (Open info) answer links of t = asked Mobile Zero (Opens info) (Open info) (Open info) links answer refl (refl, refl) tt tt t
+      IsPlayed a (state_after_step side links (frames_in_answer answer) a.queues a) (Calls side event answer) fs
+  calls Mobile (Open info) answer links of t = asked_call Mobile Zero (Opens info) (Open info) (Open info) links answer refl (refl, refl) tt
+      tt t
   calls Network (Open info) answer links of t = absurd (cc of)
   calls Mobile (OpenBare Mobile) answer links of t =
-      asked Mobile Three OpensBare (OpenBare Mobile) (OpenBare Mobile) links answer refl (refl, refl) tt tt t
+      asked_call Mobile Three OpensBare (OpenBare Mobile) (OpenBare Mobile) links answer refl (refl, refl) tt tt t
   calls Network (OpenBare Network) answer links of t =
-      asked Network Three OpensBare (OpenBare Network) (OpenBare Network) links answer refl (refl, refl) tt tt t
+      asked_call Network Three OpensBare (OpenBare Network) (OpenBare Network) links answer refl (refl, refl) tt tt t
   calls Mobile (OpenBare Network) answer links of t = absurd (cc of)
   calls Network (OpenBare Mobile) answer links of t = absurd (cc of)
   calls Mobile (Ask Mobile sapi request) answer links of t =
-      asked Mobile sapi (call_of request) (Ask Mobile sapi request) (Ask Mobile sapi request) links answer refl (refl, refl) tt tt t
+      asked_call Mobile sapi (call_of request) (Ask Mobile sapi request) (Ask Mobile sapi request) links answer refl (refl, refl) tt tt t
   calls Network (Ask Network sapi request) answer links of t =
-      asked Network sapi (call_of request) (Ask Network sapi request) (Ask Network sapi request) links answer refl (refl, refl) tt tt t
-  calls Mobile (Ask Network sapi request) answer links of t = let e : Network ≡ Mobile = own Mobile Network sapi request of in absurd (cc e)
-  calls Network (Ask Mobile sapi request) answer links of t = let e : Mobile ≡ Network = own Network Mobile sapi request of in absurd (cc e)
+      asked_call Network sapi (call_of request) (Ask Network sapi request) (Ask Network sapi request) links answer refl (refl, refl) tt tt t
+  calls Mobile (Ask Network sapi request) answer links of t = let e : Network ≡ Mobile = own Mobile Network sapi request of in
+      absurd (cc e)
+  calls Network (Ask Mobile sapi request) answer links of t = let e : Mobile ≡ Network = own Network Mobile sapi request of in
+      absurd (cc e)
   calls side (Deliver sender places) answer links of t = absurd of
   calls side (Lose sender) answer links of t = absurd of
   calls side (Rival info) answer links of t = absurd of
@@ -156,32 +163,32 @@ module _ {a : TwoTerminals} {fs : Queues Frame} (seen : IsSeen a fs) where
     event = Deliver (other side) h.read
 
     abbrev side_step_is : S.SideStep
-    side_step_is = takes_frame_if_read h.read (side_in side a.ends)
+    side_step_is = step_for_read_frame h.read (side_in side a.ends)
 
-    carried : DeliversOldestBlock a (Brings side bursts step) → IsHarmlessEvent None event w
+    carried : DeliversOldestBlock a (TakesBurst side bursts step) → IsBenignEvent None event w
     carried q =
         read_back Sdcch h.report.accepted h.read (queue_of (other side) fs) (queue_of (other side) a.queues) (seen.written (other side))
         (seen.fit.queues (other side)) h.reads (received_first bursts (queue_of (other side) a.queues) h.report h.received q)
 
-    brings : after_unless_refused None event w ≡ record w {
+    brings : world_unless_refused None event w ≡ record w {
       ends = with_side_in side side_step_is.after a.ends;
       queues = with_appended side side_step_is.frames (without_first (other side) fs);
     } →
-        answer_lines event (answer_unless_refused None (side_step event a.ends)) ≡ notice_lines
+        answer_log_lines event (answer_unless_refused None (event_step event a.ends)) ≡ notice_log_lines
         (BySide side) side_step_is.sapi side_step_is.notices →
-        IsPlayed a (state_after_step side links step.frames (without_first (other side) a.queues) a) (Brings side bursts step) fs
+        IsPlayed a (state_after_step side links step.frames (without_first (other side) a.queues) a) (TakesBurst side bursts step) fs
     brings later says =
         played event side side_step_is (without_first (other side) fs) (without_first (other side) a.queues) refl later
         (known_read (other side) h.report.accepted h.read (accepted_octets bursts h.report h.received) h.reads)
-        (rest-written (other side) fs a.queues seen.written) (Brings side bursts step)
+        (rest-written (other side) fs a.queues seen.written) (TakesBurst side bursts step)
         (state_after_step side links step.frames (without_first (other side) a.queues) a)
         (ap₂ (λ (l : SideState) (x : Step). state_after_step side l x.frames (without_first (other side) a.queues) a) (sym h.after)
         (sym h.step_is))
-        carried (ap (λ (x : Step). notice_lines x.who x.sapi x.notices) h.step_is ∙ sym says)
+        carried (ap (λ (x : Step). notice_log_lines x.who x.sapi x.notices) h.step_is ∙ sym says)
 
   brought : (side : Role) (bursts : List (List ℤ)) (step : Step) (links : SideState) →
       ReceivesBursts side (side_in side a.ends) bursts links step →
-      IsPlayed a (state_after_step side links step.frames (without_first (other side) a.queues) a) (Brings side bursts step) fs
+      IsPlayed a (state_after_step side links step.frames (without_first (other side) a.queues) a) (TakesBurst side bursts step) fs
   brought Mobile bursts step links h = brings Mobile bursts step links h refl refl
   brought Network bursts step links h = brings Network bursts step links h refl refl
 
@@ -190,7 +197,7 @@ module _ {a : TwoTerminals} {fs : Queues Frame} (seen : IsSeen a fs) where
       let later : Queues Frame = without_first sender fs in
       let z : World = world_of (record a { queues = without_first sender a.queues }) later in
       let now : world_after (Lose sender) w ≡ z = ap (λ (queues : Queues Frame). record w { queues = queues }) (no_more later) in
-      does (Lose sender) later now
+      endpoint_step (Lose sender) later now
       (record {
         written = rest-written sender fs a.queues seen.written;
         fit = subst (λ (x : World). IsFitting Sdcch x) now (fits-step Sdcch w (Lose sender) tt seen.fit);
@@ -203,8 +210,8 @@ module _ {a : TwoTerminals} {fs : Queues Frame} (seen : IsSeen a fs) where
   turn-step : (turn : TerminalStep) (b : TwoTerminals) → IsTerminalStep a turn b → IsPlayed a b turn fs
   turn-step (Calls side event answer) b t =
       subst (λ (z : TwoTerminals). IsPlayed a z (Calls side event answer) fs) (sym t.3) (calls side event answer t.0 t.1 t.2)
-  turn-step (Brings side bursts step) b t =
-      subst (λ (z : TwoTerminals). IsPlayed a z (Brings side bursts step) fs) (sym t.2) (brought side bursts step t.0 t.1)
+  turn-step (TakesBurst side bursts step) b t =
+      subst (λ (z : TwoTerminals). IsPlayed a z (TakesBurst side bursts step) fs) (sym t.2) (brought side bursts step t.0 t.1)
   turn-step (Loses sender) b t = subst (λ (z : TwoTerminals). IsPlayed a z (Loses sender) fs) (sym t) (lost sender)
 
 -- ---- several steps
@@ -212,7 +219,7 @@ module _ {a : TwoTerminals} {fs : Queues Frame} (seen : IsSeen a fs) where
 record IsSession (turns : List TerminalStep) (w : World) (Sound : Type 0) : Type 0 where
   events : List E.Event
   same : lines turns ≡ C.lines events (answers events w)
-  harmless : Sound → IsHarmless events w
+  benign : Sound → IsBenign events w
 
 module _ (May : TwoTerminals → TerminalStep → Type 0) where
   abbrev Sound : Type 0
@@ -224,24 +231,24 @@ module _ (May : TwoTerminals → TerminalStep → Type 0) where
   goes a b turn turns fs seen may (idle same none) rest =
       let r : IsSession turns (world_of a fs) Sound = subst (λ (z : TwoTerminals). IsSession turns (world_of z fs) Sound) same
       (rest fs (subst (λ (z : TwoTerminals). IsSeen z fs) (sym same) seen)) in
-      record { events = r.events; same = ap (λ ls. ls ++ lines turns) none ∙ r.same; harmless = r.harmless }
-  goes a b turn turns fs seen may (does event gs now later harmless says) rest =
+      record { events = r.events; same = ap (λ ls. ls ++ lines turns) none ∙ r.same; benign = r.benign }
+  goes a b turn turns fs seen may (endpoint_step event gs now later benign says) rest =
       let r : IsSession turns (world_after event (world_of a fs)) Sound =
       subst (λ (z : World). IsSession turns z Sound) (sym now) (rest gs later) in
       record {
         events = event ∷ r.events;
-        same = ap (λ ls. ls ++ lines turns) says ∙ ap (λ ls. answer_lines event (answer event (world_of a fs)) ++ ls) r.same;
-        harmless = λ q. (harmless (q a turn may), r.harmless q);
+        same = ap (λ ls. ls ++ lines turns) says ∙ ap (λ ls. answer_log_lines event (answer event (world_of a fs)) ++ ls) r.same;
+        benign = λ q. (benign (q a turn may), r.benign q);
       }
 
   session : (turns : List TerminalStep) (a : TwoTerminals) (fs : Queues Frame) → IsSeen a fs → AreStepsFrom May a turns →
       IsSession turns (world_of a fs) Sound
-  session [] a fs seen run = record { events = []; same = refl; harmless = λ q. tt }
+  session [] a fs seen run = record { events = []; same = refl; benign = λ q. tt }
   session (turn ∷ turns) a fs seen run =
       goes a run.1 turn turns fs seen run.0 (turn-step seen turn run.1 run.2) (λ gs later. session turns run.1 gs later run.3)
 
 start_seen : IsSeen idle_terminals empty_queues
-start_seen = record { written = alike; fit = start-fits unbounded_queues Sdcch }
+start_seen = record { written = alike; fit = start-fits unbounded_capacity Sdcch }
   where
     alike : Written empty_queues empty_queues
     alike Mobile = tt
@@ -250,14 +257,15 @@ start_seen = record { written = alike; fit = start-fits unbounded_queues Sdcch }
 pub two_claims : (turns : List TerminalStep) → AreStepsFrom DeliversOldestBlock idle_terminals turns → Claims (lines turns)
 two_claims turns run =
     let x = session DeliversOldestBlock turns idle_terminals empty_queues start_seen run in
-    subst Claims (sym x.same) (claims unbounded_queues Sdcch x.events (x.harmless (λ a turn may. may)))
+    subst Claims (sym x.same) (claims unbounded_capacity Sdcch x.events (x.benign (λ a turn may. may)))
 
-pub two_counts : (turns : List TerminalStep) → AreStepsFrom DeliversOldestBlock idle_terminals turns → AckedAtMostDelivered (lines turns)
+pub two_counts : (turns : List TerminalStep) → AreStepsFrom DeliversOldestBlock idle_terminals turns →
+    AckedAtMostDelivered (lines turns)
 two_counts turns run =
     let x = session DeliversOldestBlock turns idle_terminals empty_queues start_seen run in
-    subst AckedAtMostDelivered (sym x.same) (counts unbounded_queues Sdcch x.events (x.harmless (λ a turn may. may)))
+    subst AckedAtMostDelivered (sym x.same) (counts_acks unbounded_capacity Sdcch x.events (x.benign (λ a turn may. may)))
 
-pub two_in_order : (turns : List TerminalStep) → AreStepsFrom NoCondition idle_terminals turns → OrderClaims (lines turns)
+pub two_in_order : (turns : List TerminalStep) → AreStepsFrom AnyStepAllowed idle_terminals turns → IsOrderedLog (lines turns)
 two_in_order turns run =
-    let x = session NoCondition turns idle_terminals empty_queues start_seen run in
-    subst OrderClaims (sym x.same) (order_claims unbounded_queues Sdcch x.events)
+    let x = session AnyStepAllowed turns idle_terminals empty_queues start_seen run in
+    subst IsOrderedLog (sym x.same) (order_claims unbounded_capacity Sdcch x.events)

@@ -5,7 +5,7 @@ use Rattle.um_link.specs.lapdm_window.{declared.Sapi.TheVariants.{Zero, Three}, 
 use Rattle.um_link.specs.{um_block.declared.received.Received.Received, lapdm_link.Events.{Open, OpenBare, Ask, Deliver, Lose, Rival}}
 use Rattle.um_link.specs.{lapdm_link.Events.{EventRefusal, Nothing, call_of}, um_air.Air.{Event, ReadsFrame, Step, Answer, Refuses, Does}}
 use Rattle.um_link.proofs.{um_block.Lemmas.one_received_block, um_air.Laws.one_read}
-use Rattle.um_end.specs.Terminals.{SideState, takes_frame_if_read, step_of, IsCallAnswer, AnswersCall, ReceivesBursts}
+use Rattle.um_end.specs.Terminals.{SideState, step_for_read_frame, step_of, IsCallAnswer, AnswersCall, ReceivesBursts}
 
 why_or : Option EventRefusal → EventRefusal
 why_or (Some why) = why
@@ -18,8 +18,8 @@ same_why v w e = ap why_or e
 not_both : (o : Option EventRefusal) (why : EventRefusal) → o ≡ Some why → o ≡ None → ⊥
 not_both o why h g = cc (h, g)
 
-one_asked : (role : Role) (a : SideState) (sapi : Sapi) (call : Call) (b c : SideState) (x y : Answer) → IsCallAnswer role a sapi call b x →
-    IsCallAnswer role a sapi call c y → (b ≡ c) × (x ≡ y)
+one_asked : (role : Role) (a : SideState) (sapi : Sapi) (call : Call) (b c : SideState) (x y : Answer) →
+    IsCallAnswer role a sapi call b x → IsCallAnswer role a sapi call c y → (b ≡ c) × (x ≡ y)
 one_asked role a sapi call b c (Refuses v) (Refuses w) h k = (h.1 ∙ sym k.1, ap Refuses (same_why v w (sym h.0 ∙ k.0)))
 one_asked role a sapi call b c (Refuses v) (Does t) h k = absurd (not_both _ v h.0 k.0)
 one_asked role a sapi call b c (Does s) (Refuses w) h k = absurd (not_both _ w k.0 h.0)
@@ -43,6 +43,7 @@ one_reception role a bursts b c s t h k =
     let read : h.read ≡ k.read =
     one_read Sdcch k.report.accepted h.read k.read (subst (λ (q : Received). ReadsFrame Sdcch q.accepted h.read) report h.reads) k.reads
     in (
-      h.after ∙ ap (λ (f : Option Frame). (takes_frame_if_read f a).after) read ∙ sym k.after,
-      h.step_is ∙ ap₂ (λ (r : Received) (f : Option Frame). step_of role (Some r) (takes_frame_if_read f a)) report read ∙ sym k.step_is,
+      h.after ∙ ap (λ (f : Option Frame). (step_for_read_frame f a).after) read ∙ sym k.after,
+      h.step_is ∙ ap₂ (λ (r : Received) (f : Option Frame). step_of role (Some r) (step_for_read_frame f a)) report read
+          ∙ sym k.step_is,
     )

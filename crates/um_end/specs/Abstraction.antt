@@ -1,4 +1,4 @@
--- Which state of the definition a terminal represents, and what it means that its answers follow the definition.
+-- The abstraction relation of a terminal, and what it means for its answers to follow the specification.
 use Rattle.std.specs.Prelude.{◌≡◌, ℤ, List, Result}
 use Rattle.um_link.specs.lapdm_window.Ends.{Role}
 use Rattle.lapdm_end.specs.Sides as L
@@ -14,32 +14,35 @@ use Rattle.um_end.specs.declared.terminal.Terminal.{Terminal}
 abbrev pub side_of : Terminal → Role
 side_of t = role_of t.side
 
--- the terminal represents the two endpoints of the state a
+-- the endpoints of the terminal represent those of this side state
 abbrev pub Represents : Terminal → SideState → Type 0
 Represents t a = L.Represents t.links a
 
--- whenever the terminal represents a state, it answers the call as the definition says, and then represents the state after the call
-abbrev pub RefinesCall : Event → Terminal → Result Step No → Terminal → Type 0
-RefinesCall event old result new = (a : SideState) → Represents old a →
+-- for every state that the old terminal represents, the specification allows this answer to the call, and the new terminal represents the
+-- state after it
+abbrev pub CallRefinesSideStep : Event → Terminal → Result Step No → Terminal → Type 0
+CallRefinesSideStep event old result new = (a : SideState) → Represents old a →
     (b : SideState) × Represents new b × AnswersCall (side_of old) a event b (answer_of result)
 
--- for every state that the terminal represents, the definition allows no other answer
-abbrev pub IsOnlyAnswer : Event → Terminal → Result Step No → Type 0
-IsOnlyAnswer event old result =
+-- for every state that the terminal represents, the specification allows no answer to the call other than this result
+abbrev pub IsOnlyPossibleAnswer : Event → Terminal → Result Step No → Type 0
+IsOnlyPossibleAnswer event old result =
     (a : SideState) → Represents old a → (b : SideState) (answer : Answer) → AnswersCall (side_of old) a event b answer →
     answer ≡ answer_of result
 
--- as `RefinesCall`, for four received bursts in place of a call
-abbrev pub RefinesBursts : List (List ℤ) → Terminal → Step → Terminal → Type 0
-RefinesBursts bursts old result new = (a : SideState) → Represents old a →
+-- for every state that the old terminal represents, the specification allows this step for the four received bursts, and the new terminal
+-- represents the state after it
+abbrev pub BurstsRefineSideStep : List (List ℤ) → Terminal → Step → Terminal → Type 0
+BurstsRefineSideStep bursts old result new = (a : SideState) → Represents old a →
     (b : SideState) × Represents new b × ReceivesBursts (side_of old) a bursts b (step_of result)
 
-abbrev pub IsOnlyStep : List (List ℤ) → Terminal → Step → Type 0
-IsOnlyStep bursts old result =
+-- for every state that the terminal represents, the specification allows no step for the four received bursts other than this one
+abbrev pub IsOnlyStepForBursts : List (List ℤ) → Terminal → Step → Type 0
+IsOnlyStepForBursts bursts old result =
     (a : SideState) → Represents old a → (b : SideState) (step : A.Step) → ReceivesBursts (side_of old) a bursts b step →
     step ≡ step_of result
 
--- the side and the training sequence code have not changed
+-- both terminals have the same side and training sequence code
 pub record KeepsSideAndTsc (old new : Terminal) : Type 0 where
   pub side : new.side ≡ old.side
   pub tsc : new.tsc ≡ old.tsc

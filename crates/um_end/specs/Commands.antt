@@ -1,16 +1,16 @@
--- Which state of a run a value of the command represents.
+-- The abstraction relation of the command `end`.
 use Rattle.std.specs.Prelude.{◌≡◌}
 use Rattle.um_end.specs.declared.command.EndCommand.{EndCommand}
 use Rattle.um_end.specs.Abstraction.{side_of, Represents}
 use Rattle.um_end.specs.EndRuns.{EndRunState, idle}
 
--- the command's value represents this state of a run
+-- the command `c` represents the run state `s`: side, training sequence code, endpoints and held bursts agree
 pub record CommandRepresents (c : EndCommand) (s : EndRunState) : Type 0 where
   pub role : s.role ≡ side_of c.terminal
   pub tsc : s.tsc ≡ c.terminal.tsc
   pub links : Represents c.terminal s.links
   pub held : s.held ≡ c.held.held
 
--- the state in which a run begins if it begins with this value of the command
+-- the abstract state of this command at the start of a run
 abbrev pub start_state_of : EndCommand → EndRunState
 start_state_of c = idle (side_of c.terminal) c.terminal.tsc

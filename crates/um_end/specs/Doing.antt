@@ -1,4 +1,4 @@
--- What an endpoint of a terminal does, the terminal reports as its own step (internal).
+-- What a terminal does with the accepted octets of a block (internal).
 use Rattle.std.specs.Prelude.{Option}
 use Rattle.um_link.specs.lapdm_frame.declared.Channel.TheVariants.{Sdcch}
 use Rattle.um_link.specs.lapdm_frame.Content.{Frame}
@@ -6,15 +6,17 @@ use Rattle.um_link.specs.lapdm_window.declared.Sapi.{Sapi}
 use Rattle.um_link.specs.lapdm_window.declared.effects.Effects.{Effects}
 use Rattle.lapdm_end.specs.Sides.{CarriesOutStep}
 use Rattle.um_link.specs.um_air.Air.{Octets, ReadsFrame}
-use Rattle.um_end.specs.Terminals.{SideState, takes_frame_if_read}
+use Rattle.um_end.specs.Terminals.{SideState, step_for_read_frame}
 use Rattle.um_end.specs.Abstraction.{Represents}
 use Rattle.um_end.specs.declared.terminal.Terminal.{Terminal}
 
--- if the accepted octets encode a frame, the terminal's endpoint receives that frame
-pub record IsBlockTaken (accepted : Option Octets) (a : SideState) (sapi : Sapi) (effects : Effects) (new : Terminal) : Type 0 where
+-- if the accepted octets encode a frame, the endpoint with its SAPI receives it; `sapi`, `effects` and `new` are the result
+pub record TakesAcceptedBlock (accepted : Option Octets) (a : SideState) (sapi : Sapi) (effects : Effects) (new : Terminal) : Type 0 where
   pub read : Option Frame
   pub reads : ReadsFrame Sdcch accepted read
-  pub done : CarriesOutStep Sdcch (takes_frame_if_read read a) sapi effects new.links
+  pub done : CarriesOutStep Sdcch (step_for_read_frame read a) sapi effects new.links
 
-abbrev pub RefinesTakeBlock : Option Octets → Terminal → Sapi → Effects → Terminal → Type 0
-RefinesTakeBlock accepted old sapi effects new = (a : SideState) → Represents old a → IsBlockTaken accepted a sapi effects new
+-- for every state that the old terminal represents, the endpoint with the frame's SAPI receives the frame that the accepted octets encode,
+-- if any
+abbrev pub BlockRefinesSideStep : Option Octets → Terminal → Sapi → Effects → Terminal → Type 0
+BlockRefinesSideStep accepted old sapi effects new = (a : SideState) → Represents old a → TakesAcceptedBlock accepted a sapi effects new

@@ -16,73 +16,77 @@ use Rattle.um_formats.specs.declared.burst_lines.BurstLine.TheVariants.{Normal}
 use Rattle.um_formats.specs.BurstLines.{burst_line_of_values}
 use Rattle.um_script.specs.ScriptLines.{event_of_values}
 use Rattle.um_link.specs.Naming.{event_of}
-use Rattle.um_end.specs.Terminals.{IsCallOf}
+use Rattle.um_end.specs.Terminals.{IsCallOfRole}
 use Rattle.um_end.specs.declared.lines.EndLine.{EndLine}
 use Rattle.um_end.specs.declared.lines.EndLine.TheVariants as V
 
--- what a line means: nothing if it is skipped, a burst of a block, or a call
-pub data Meaning : Type 0 where
-  Nothing : Meaning
-  Brings : List ℤ → Meaning
-  Calls : Event → Meaning
+-- what a line of the command `end` means: nothing if it is skipped, one burst of a block, or a layer 3 call
+pub data LineMeaning : Type 0 where
+  Nothing : LineMeaning
+  TakesBurst : List ℤ → LineMeaning
+  Calls : Event → LineMeaning
 
--- the forms of the calls that this side has
+-- the forms of the call lines that this side accepts
 abbrev pub call_forms_of : Role → FormTable LinkLineKind
 call_forms_of Mobile = mobile_call_forms
 call_forms_of Network = network_call_forms
 
--- what a burst line means; below, what a form and its values mean, and what a whole line means
-abbrev pub meaning_of_burst_line : BurstLine → Meaning
-meaning_of_burst_line (Normal soft) = Brings soft
+-- the meaning of a burst line: a normal burst is received, any other line has no effect
+abbrev pub meaning_of_burst_line : BurstLine → LineMeaning
+meaning_of_burst_line (Normal soft) = TakesBurst soft
 meaning_of_burst_line line = Nothing
 
-abbrev pub meaning_of_values : EndLineKind → List Value → Meaning
+-- the meaning of a line with this form and these values
+abbrev pub meaning_of_values : EndLineKind → List Value → LineMeaning
 meaning_of_values (L.Burst name) values = meaning_of_burst_line (burst_line_of_values name values)
 meaning_of_values (L.Call name) values = Calls (event_of_values name values)
 
-abbrev pub meaning_of_end_line : Option (EndLineKind × List Value) → Meaning
+-- the meaning of a line that was parsed into a form and values; `None` stands for a skipped line
+abbrev pub meaning_of_end_line : Option (EndLineKind × List Value) → LineMeaning
 meaning_of_end_line None = Nothing
 meaning_of_end_line (Some said) = meaning_of_values said.0 said.1
 
--- why a line is refused while `held` bursts of an unfinished block are held: the first reason, or `None`
+-- the first reason for refusing a line that follows `held` bursts of an unfinished block, or `None` if it is accepted
 abbrev pub end_fault : Role → (held : ℕ) → List ℕ → Option LineFault
 end_fault role held line = line_fault (end_forms (call_forms_of role)) (is_end_line_out_of_order held) line
 
--- what a line means while `held` bursts of an unfinished block are held
-abbrev pub EndMeans : Role → (held : ℕ) → List ℕ → Meaning → Type 0
-EndMeans role held line = LineParsesTo (end_forms (call_forms_of role)) (is_end_line_out_of_order held) meaning_of_end_line line
+-- a line that follows `held` bursts of an unfinished block is accepted with this meaning
+abbrev pub EndLineMeans : Role → (held : ℕ) → List ℕ → LineMeaning → Type 0
+EndLineMeans role held line = LineParsesTo (end_forms (call_forms_of role)) (is_end_line_out_of_order held) meaning_of_end_line line
 
--- what a line means that the parser returned as this value
-abbrev pub meaning_of : EndLine → Meaning
+-- the meaning of a line that the parser returned as an `EndLine`
+abbrev pub meaning_of : EndLine → LineMeaning
 meaning_of V.Skip = Nothing
-meaning_of (V.Burst soft) = Brings soft
+meaning_of (V.Burst soft) = TakesBurst soft
 meaning_of (V.Ask event) = Calls (event_of event)
 
--- a terminal of this side can carry out the line: soft values are not -128, and calls are its own
-abbrev pub IsPossible : Role → EndLine → Type 0
-IsPossible role V.Skip = Unit {0}
-IsPossible role (V.Burst soft) = AllSoftBits soft
-IsPossible role (V.Ask event) = IsCallOf role (event_of event)
+-- a terminal of this side can carry out the line: no soft value is -128, and a call is addressed to this side
+abbrev pub IsPossibleLine : Role → EndLine → Type 0
+IsPossibleLine role V.Skip = Unit {0}
+IsPossibleLine role (V.Burst soft) = AllSoftBits soft
+IsPossibleLine role (V.Ask event) = IsCallOfRole role (event_of event)
 
 -- ---- internal
 
--- whether the words begin with an endpoint of this side
-abbrev pub names_own_endpoint : Role → List (List ℕ) → Bool
-names_own_endpoint role [] = false
-names_own_endpoint Mobile (name ∷ words) = bytes_eq name (codes "mob") || bytes_eq name (codes "mob3")
-names_own_endpoint Network (name ∷ words) = bytes_eq name (codes "net") || bytes_eq name (codes "net3")
+-- whether the first word of a line is the name of an endpoint of this side
+abbrev pub names_endpoint_of_side : Role → List (List ℕ) → Bool
+names_endpoint_of_side role [] = false
+names_endpoint_of_side Mobile (name ∷ words) = bytes_eq name (codes "mob") || bytes_eq name (codes "mob3")
+names_endpoint_of_side Network (name ∷ words) = bytes_eq name (codes "net") || bytes_eq name (codes "net3")
 
--- what an event of a script means as a line of `end`
-abbrev pub call_meaning : Option Event → Meaning
-call_meaning None = Nothing
-call_meaning (Some event) = Calls event
+-- the meaning, in the command `end`, of a script line with this event; `None` stands for a skipped line
+abbrev pub meaning_of_call : Option Event → LineMeaning
+meaning_of_call None = Nothing
+meaning_of_call (Some event) = Calls event
 
--- why a call is refused inside a block, given why it is refused as a line of a script
+-- the reason for refusing a call line inside a block, given the reason for refusing it elsewhere, if any: `Word` stays, anything else
+-- becomes `Order`
 abbrev pub fault_inside_block : Option LineFault → Option LineFault
 fault_inside_block (Some F.Word) = Some F.Word
 fault_inside_block fault = Some F.Order
 
--- why any other line is refused, given why it is refused as a line of `replay` inside a block
+-- the reason for refusing a burst line in the command `end`, given the reason for refusing it inside a block in `replay`: `Order` becomes
+-- `Word`
 abbrev pub burst_fault_to_end_fault : Option LineFault → Option LineFault
 burst_fault_to_end_fault (Some F.Order) = Some F.Word
 burst_fault_to_end_fault fault = fault

@@ -1,70 +1,71 @@
--- Two processes of `um end`, a mobile and a network, each of which receives the bursts that the other sends (this project's own rule).
+-- Two processes of `um end`, a mobile and a network, each of which receives the bursts sent by the other (this project's own rule).
 use Rattle.std.specs.Prelude.{◌≡◌, ℤ, List, [], ◌∷◌, ◌++◌}
 use Rattle.um_link.specs.lapdm_frame.declared.Channel.TheVariants.{Sdcch}
 use Rattle.um_link.specs.lapdm_window.Ends.{Role}
 use Rattle.um_link.specs.lapdm_link.Queues.{Queues, empty_queues, queue_of, with_appended, without_first}
 use Rattle.um_link.specs.lapdm_link.Events.{Ends, idle_endpoints, side_in, with_side_in, other}
-use Rattle.um_link.specs.lapdm_link.Claims.{Line, answer_lines, notice_lines}
+use Rattle.um_link.specs.lapdm_link.Claims.{Line, answer_log_lines, notice_log_lines}
 use Rattle.um_link.specs.um_air.Air.{Octets, Event, Answer, Step}
 use Rattle.um_link.specs.um_air.Damage.{AreLightlyDamaged}
-use Rattle.um_link.specs.um_air.Sessions.{frame_session_answer}
-use Rattle.um_end.specs.Terminals.{SideState, IsCallOf, AnswersCall, ReceivesBursts}
-use Rattle.um_end.specs.EndRuns.{frames_sent_in}
+use Rattle.um_link.specs.um_air.Sessions.{answer_without_blocks}
+use Rattle.um_end.specs.Terminals.{SideState, IsCallOfRole, AnswersCall, ReceivesBursts}
+use Rattle.um_end.specs.EndRuns.{frames_in_answer}
 
--- the state of both sides, and the blocks in transit from each, in order
+-- the state of both sides, and the octets of the blocks in transit from each, in order
 pub record TwoTerminals : Type 0 where
   pub ends : Ends
   pub queues : Queues Octets
 
--- the state before anything has happened
+-- the initial state: idle endpoints, and no blocks in transit
 abbrev pub idle_terminals : TwoTerminals
 idle_terminals = record { ends = idle_endpoints Sdcch; queues = empty_queues }
 
--- one step of the two processes: a side gets a call and gives this answer; four bursts reach a side, which gives this result; or the bursts
--- of the oldest block from a side are lost
+-- one step of the two processes: a side gets a call and gives this answer; four bursts reach a side, with this result; or the oldest block
+-- from a side is lost
 pub data TerminalStep : Type 0 where
   Calls : (side : Role) (event : Event) (answer : Answer) → TerminalStep
-  Brings : (side : Role) (bursts : List (List ℤ)) (step : Step) → TerminalStep
+  TakesBurst : (side : Role) (bursts : List (List ℤ)) (step : Step) → TerminalStep
   Loses : (sender : Role) → TerminalStep
 
--- the state after a side has changed to `links` and its frames `sent` are added to the blocks in transit `left`
+-- the state after a side has changed to a new state, and the blocks that it sent have been added to those in transit
 abbrev pub state_after_step : Role → SideState → List Octets → Queues Octets → TwoTerminals → TwoTerminals
 state_after_step side links sent left a = record { ends = with_side_in side links a.ends; queues = with_appended side sent left }
 
--- this step leads from state a to state b
+-- the step leads from the first state to the second
 abbrev pub IsTerminalStep : TwoTerminals → TerminalStep → TwoTerminals → Type 0
-IsTerminalStep a (Calls side event answer) b = (links : SideState) × IsCallOf side event
-    × AnswersCall side (side_in side a.ends) event links answer × (b ≡ state_after_step side links (frames_sent_in answer) a.queues a)
-IsTerminalStep a (Brings side bursts step) b = (links : SideState)
+IsTerminalStep a (Calls side event answer) b = (links : SideState) × IsCallOfRole side event
+    × AnswersCall side (side_in side a.ends) event links answer × (b ≡ state_after_step side links (frames_in_answer answer) a.queues a)
+IsTerminalStep a (TakesBurst side bursts step) b = (links : SideState)
     × ReceivesBursts side (side_in side a.ends) bursts links step
     × (b ≡ state_after_step side links step.frames (without_first (other side) a.queues) a)
 IsTerminalStep a (Loses sender) b = b ≡ record a { queues = without_first sender a.queues }
 
--- these steps can follow one another from state a, and `May` holds of each
+-- the steps can follow one another from this state, and each satisfies the given condition
 abbrev pub AreStepsFrom : (TwoTerminals → TerminalStep → Type 0) → TwoTerminals → List TerminalStep → Type 0
 AreStepsFrom May a [] = Unit {0}
 AreStepsFrom May a (turn ∷ turns) = May a turn × (b : TwoTerminals) × IsTerminalStep a turn b × AreStepsFrom May b turns
 
--- the bursts are those of the first block in the list, lightly damaged
+-- the bursts carry the first block in the list, lightly damaged
 abbrev pub AreBurstsOfFirstBlock : List (List ℤ) → List Octets → Type 0
 AreBurstsOfFirstBlock bursts [] = ⊥
 AreBurstsOfFirstBlock bursts (first ∷ others) = AreLightlyDamaged first bursts
 
--- bursts that reach a side are those of the oldest block in transit to it, lightly damaged
+-- bursts that reach a side carry the oldest block in transit to it, lightly damaged
 abbrev pub DeliversOldestBlock : TwoTerminals → TerminalStep → Type 0
-DeliversOldestBlock a (Brings side bursts step) = AreBurstsOfFirstBlock bursts (queue_of (other side) a.queues)
+DeliversOldestBlock a (TakesBurst side bursts step) = AreBurstsOfFirstBlock bursts (queue_of (other side) a.queues)
 DeliversOldestBlock a turn = Unit {0}
 
--- no condition: any bursts may reach a side
-abbrev pub NoCondition : TwoTerminals → TerminalStep → Type 0
-NoCondition a turn = Unit {0}
+-- any step is allowed: a side may receive any bursts
+abbrev pub AnyStepAllowed : TwoTerminals → TerminalStep → Type 0
+AnyStepAllowed a turn = Unit {0}
 
--- the log lines of a step: its call and its notices
+-- the log lines of a step: its call, if any, and the notices reported
 abbrev pub step_log_lines : TerminalStep → List Line
-step_log_lines (Calls side event answer) = answer_lines event (frame_session_answer answer)
-step_log_lines (Brings side bursts step) = notice_lines step.who step.sapi step.notices
+step_log_lines (Calls side event answer) = answer_log_lines event (answer_without_blocks answer)
+step_log_lines (TakesBurst side bursts step) = notice_log_lines step.who step.sapi step.notices
 step_log_lines (Loses sender) = []
 
+-- the log of these steps, in order
 abbrev pub lines : List TerminalStep → List Line
 lines [] = []
 lines (turn ∷ turns) = step_log_lines turn ++ lines turns

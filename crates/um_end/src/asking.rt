@@ -1,4 +1,4 @@
-//! The calls of an endpoint, as events ask for them.
+//! Converts events into endpoint calls.
 ghost use Rattle.std.specs.Prelude.{◌≡◌};
 ghost use Rattle.um_link.specs.lapdm_window.Calls.{call_of, IsCallOfSapi};
 ghost use Rattle.um_link.specs.Naming.{event_of};
@@ -7,7 +7,7 @@ ghost use Rattle.um_end.specs.Asking.{IsCallEvent, sapi_of_call_event, call_of_c
 use lapdm_end::{Call, Sapi};
 use um_link::Event;
 
-/// The SAPI of the endpoint that the event calls.
+/// The SAPI of the endpoint to which the event is addressed.
 pub(crate) fn sapi_of_event(event: &Event<'_>) -> Sapi
     ensures { result ≡ sapi_of_call_event (event_of event.now) }
 {
@@ -20,16 +20,16 @@ pub(crate) fn sapi_of_event(event: &Event<'_>) -> Sapi
     }
 }
 
-/// The call that the event makes.
+/// The endpoint call that the event requests.
 pub(crate) fn call_of_event<'a>(event: &Event<'a>) -> Call<'a>
     requires call { IsCallEvent (event_of event.now) }
-    ensures asked { call_of result ≡ call_of_call_event (event_of event.now) }
+    ensures asked_call { call_of result ≡ call_of_call_event (event_of event.now) }
     ensures sapi { IsCallOfSapi (sapi_of_call_event (event_of event.now)) (call_of result) }
 {
     match *event {
         Event::Open(info) => Call::Open(info),
         Event::OpenBare(_) => Call::OpenBare,
-        Event::End(_, _, call) => call.whole(),
+        Event::End(_, _, call) => call.as_endpoint_call(),
         Event::Air(_, _) => unreachable!(),
         Event::Rival(_) => unreachable!(),
     }

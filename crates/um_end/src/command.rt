@@ -1,16 +1,16 @@
 //! The command `end`: one side, with recorded bursts and calls as its input.
 ghost use Rattle.std.specs.Prelude.{◌≡◌, ◌+◌, ◌*◌, ◌<◌, ◌≤◌, ℕ, [], ◌∷◌, ◌++◌, length, OnOk};
 ghost use Rattle.um_link.specs.um_block.conv_code.Likelihood.{AllSoftBits};
-ghost use Rattle.um_link.specs.Coded.{AreCoded};
+ghost use Rattle.um_link.specs.Coded.{AreCodedBlocks};
 ghost use Rattle.um_link.specs.Naming.{role_of, step_of, answer_of, step_result};
-ghost use Rattle.um_link.specs.Abstraction.{FitsActor};
+ghost use Rattle.um_link.specs.Abstraction.{StepFitsItsActor};
 ghost use Rattle.um_link.specs.lapdm_window.Ends.{Role};
 ghost use Rattle.um_link.specs.um_io.Lines.{IsLine};
 ghost use Rattle.um_link.specs.um_io.Reading.{line_limit};
 ghost use Rattle.um_driver.specs.Laws.{HasOneOutput};
 ghost use Rattle.um_driver.specs.Rules.{Answers};
 ghost use Rattle.um_script.specs.AnswerLines.{answer_text};
-ghost use Rattle.um_end.specs.EndRuns.{EndRunState, idle, end_rules, frames_sent_in, IsAnswerText, AnswersBursts, AppendsCodedFrames};
+ghost use Rattle.um_end.specs.EndRuns.{EndRunState, idle, end_rules, frames_in_answer, IsAnswerText, AnswersBursts, AppendsCodedFrames};
 ghost use Rattle.um_end.specs.Commands.{CommandRepresents, start_state_of};
 
 use crate::lines::{EndLine, parse_end};
@@ -22,7 +22,7 @@ use um_link::{End, No, Step};
 use um_script::{Room, write_step_lines};
 
 /// For the command `end`, every input has exactly one output and one status.
-pub fn law_one_output()
+pub fn law_output_is_unique()
     ensures { (role : Role) (tsc : ℕ) → tsc ≤ 7 → HasOneOutput end_rules (idle role tsc) }
 {}
 
@@ -37,7 +37,7 @@ pub struct EndCommand {
 }
 
 impl EndCommand {
-    /// A side with idle endpoints, training sequence code `tsc` (0 to 7), and no bursts held.
+    /// Creates the command for a side with idle endpoints, training sequence code `tsc` (0 to 7), and no bursts held.
     pub fn new(side: End, tsc: u8) -> EndCommand
         requires { tsc ≤ 7 }
         ensures represents { CommandRepresents result (start_state_of result) }
@@ -51,8 +51,8 @@ impl EndCommand {
         }
     }
 
-    /// Adds a burst to those held. If it is the fourth, the four are received as a block.
-    fn hold_burst(&mut self, burst: [i8; BURST_BITS], out: &mut Text)
+    /// Adds a burst to the unfinished block. After the fourth burst, receives the block and writes the answer.
+    fn add_burst_to_block(&mut self, burst: [i8; BURST_BITS], out: &mut Text)
         requires soft { AllSoftBits burst }
         requires empty { out.old ≡ [] }
         ensures answers { (s : EndRunState) → CommandRepresents self.old s →
@@ -91,7 +91,7 @@ impl Command for EndCommand {
     {
         match parse_end(line, self.terminal.side, self.held.count(), &mut self.room)? {
             EndLine::Skip => {}
-            EndLine::Burst(burst) => self.hold_burst(burst, out),
+            EndLine::Burst(burst) => self.add_burst_to_block(burst, out),
             EndLine::Ask(event) => {
                 let done = self.terminal.ask_into(&event, &mut self.step);
                 write_answer(out, &self.terminal, &done, &self.step);
@@ -109,24 +109,24 @@ impl Command for EndCommand {
     }
 }
 
-/// Writes an answer: its lines, followed by the lines of the bursts of each frame sent.
+/// Writes the text of an answer, followed by the burst lines of each frame sent.
 fn write_answer(out: &mut Text, terminal: &Terminal, done: &Result<(), No>, step: &Step)
     requires empty { out.old ≡ [] }
-    requires fits { OnOk done.now (FitsActor (step_of step.now)) }
+    requires fits { OnOk done.now (StepFitsItsActor (step_of step.now)) }
     ensures text { IsAnswerText terminal.now.tsc (answer_of (step_result done.now step.now)) out.new }
     ensures lines { length (answer_text (answer_of (step_result done.now step.now))) < 2000 }
     ensures length { length out.new ≡
         length (answer_text (answer_of (step_result done.now step.now))) + 604 * length
-        (frames_sent_in (answer_of (step_result done.now step.now))) }
+        (frames_in_answer (answer_of (step_result done.now step.now))) }
 {
     write_step_lines(out, done, step);
     if done.is_ok() {
-        push_blocks(out, terminal, step.effects.frames.as_slice());
+        push_block_lines(out, terminal, step.effects.frames.as_slice());
     }
 }
 
-/// Appends the lines of the bursts of each frame.
-fn push_blocks(out: &mut Text, terminal: &Terminal, frames: &[[u8; BLOCK_OCTETS]])
+/// Appends the burst lines of each frame.
+fn push_block_lines(out: &mut Text, terminal: &Terminal, frames: &[[u8; BLOCK_OCTETS]])
     requires space { length out.old < 2000 }
     requires size { length frames.now ≤ 2 }
     ensures text { AppendsCodedFrames terminal.now.tsc frames.now out.old out.new }

@@ -1,16 +1,16 @@
 //! Parses the lines of the command `end`.
 //!
-//! A line that begins with an endpoint of this side is read as a line of a script, and any other line as a burst. This module only adds
-//! which of these lines `end` refuses: other forms, and calls inside a block.
+//! A line that begins with the name of an endpoint of this side is parsed as a script line, any other line as a burst line. This module
+//! also refuses lines of other forms, and calls inside a block.
 ghost use Rattle.std.specs.Prelude.{◌≡◌, ◌≤◌, ℕ, List, true, false, Some, length, IfOk};
 ghost use Rattle.std.specs.Result.{result_err};
 ghost use Rattle.um_lines.specs.Words.{words, is_skipped};
-ghost use Rattle.um_lines.specs.Meanings.{HasOneMeaningUnless};
+ghost use Rattle.um_lines.specs.Meanings.{HasOneMeaningOrFault};
 ghost use Rattle.um_link.specs.lapdm_window.Ends.{Role};
 ghost use Rattle.um_link.specs.Naming.{role_of};
 ghost use Rattle.um_script.specs.Naming.{meaning_of as script_meaning};
-ghost use Rattle.um_end.specs.EndLines.{end_fault, EndMeans, meaning_of, IsPossible, names_own_endpoint, meaning_of_burst_line};
-ghost use Rattle.um_end.specs.EndLines.{call_meaning, fault_inside_block};
+ghost use Rattle.um_end.specs.EndLines.{end_fault, EndLineMeans, meaning_of, IsPossibleLine, names_endpoint_of_side, meaning_of_burst_line};
+ghost use Rattle.um_end.specs.EndLines.{meaning_of_call, fault_inside_block};
 ghost use Rattle.um_end.specs.EndLines.{burst_fault_to_end_fault};
 
 use um_formats::{BURST_BITS, BurstLine, parse_burst};
@@ -18,19 +18,19 @@ use um_lines::{LINE_LIMIT, LineFault, first_word, is_skipped};
 use um_link::{End, Event};
 use um_script::{Room, ScriptLine, parse_script};
 
-/// What a line of `end` asks for.
+/// What a line of the command `end` asks for.
 #[derive(Clone, Copy, Drop)]
 pub enum EndLine<'a> {
-    /// Nothing: the line is empty, or begins with `#`.
+    /// The line is skipped: it is empty, or begins with `#`.
     Skip,
     /// One of the four bursts of a block, as soft values, which are positive for 0 and negative for 1.
     Burst([i8; BURST_BITS]),
-    /// A call of layer 3 to an endpoint of this side.
+    /// A layer 3 request to an endpoint of this side.
     Ask(Event<'a>),
 }
 
-/// Parses a line of `end`, without its line feed: `n DIGITS148`, `N HEX296`, `lost`, or a call of this side as in a script. `held` is the
-/// number of bursts of the unfinished block. The octets of a call are stored in `room`.
+/// Parses a line of the command `end`, without its line feed: `n DIGITS148`, `N HEX296`, `lost`, or a call of this side as in a script.
+/// `held` is the number of bursts of the unfinished block. The octets of a call are stored in `room`.
 ///
 /// If several errors apply, the first in this order is returned, whatever its place in the line: `Long`, `Word`, `Order` (a call inside a
 /// block), `Digits`, `Length`, `Soft`.
@@ -41,11 +41,11 @@ pub fn parse_end<'a>(
     room: &'a mut Room,
 ) -> Result<EndLine<'a>, LineFault>
     requires { held ≤ 3 }
-    ensures means { IfOk result (λ read. EndMeans (role_of side) held line.now (meaning_of read)) }
+    ensures means { IfOk result (λ read. EndLineMeans (role_of side) held line.now (meaning_of read)) }
     ensures refused { result_err result ≡ end_fault (role_of side) held line.now }
 
     // A terminal of this side can carry out the line.
-    ensures possible { IfOk result (IsPossible (role_of side)) }
+    ensures possible { IfOk result (IsPossibleLine (role_of side)) }
 {
     if line.len() > LINE_LIMIT {
         return Err(LineFault::Long);
@@ -53,16 +53,16 @@ pub fn parse_end<'a>(
     if is_skipped(line) {
         return Ok(EndLine::Skip);
     }
-    if begins_with_own_endpoint(line, side) {
+    if begins_with_side_endpoint(line, side) {
         parse_call_line(line, side, held, room)
     } else {
         parse_burst_line(line, side, held)
     }
 }
 
-/// Whether a line begins with an endpoint of this side.
-fn begins_with_own_endpoint(line: &[u8], side: End) -> bool
-    ensures { result ≡ names_own_endpoint (role_of side) (words line.now) }
+/// Whether a line begins with the name of an endpoint of this side.
+fn begins_with_side_endpoint(line: &[u8], side: End) -> bool
+    ensures { result ≡ names_endpoint_of_side (role_of side) (words line.now) }
 {
     let name = match first_word(line) {
         Some((name, _)) => name,
@@ -82,8 +82,8 @@ fn parse_call_line<'a>(
 ) -> Result<EndLine<'a>, LineFault>
     requires size { length line.now ≤ 4096 }
     requires not_skipped { is_skipped line.now ≡ false }
-    requires own { names_own_endpoint (role_of side) (words line.now) ≡ true }
-    ensures means { IfOk result (λ read. EndMeans (role_of side) held line.now (meaning_of read)) }
+    requires own { names_endpoint_of_side (role_of side) (words line.now) ≡ true }
+    ensures means { IfOk result (λ read. EndLineMeans (role_of side) held line.now (meaning_of read)) }
     ensures refused { result_err result ≡ end_fault (role_of side) held line.now }
 {
     let read = parse_script(line, room);
@@ -97,7 +97,7 @@ fn parse_call_line<'a>(
 }
 
 fn end_line_of_script_line(script: ScriptLine<'_>) -> EndLine<'_>
-    ensures { meaning_of result ≡ call_meaning (script_meaning script.entry) }
+    ensures { meaning_of result ≡ meaning_of_call (script_meaning script.entry) }
 {
     match script {
         ScriptLine::Skip => EndLine::Skip,
@@ -105,7 +105,7 @@ fn end_line_of_script_line(script: ScriptLine<'_>) -> EndLine<'_>
     }
 }
 
-/// Why a call is refused inside a block, given why it would be refused elsewhere.
+/// The reason for refusing a call inside a block, given the reason for refusing it elsewhere, if any.
 fn call_fault_inside_block(fault: Option<LineFault>) -> LineFault
     ensures { Some result ≡ fault_inside_block fault }
 {
@@ -115,12 +115,12 @@ fn call_fault_inside_block(fault: Option<LineFault>) -> LineFault
     }
 }
 
-/// Parses a line with a burst of a block. Access and synchronisation bursts are not allowed in `end`.
+/// Parses a line with one burst of a block. The command `end` does not allow access and synchronisation bursts.
 fn parse_burst_line<'a>(line: &[u8], side: End, held: u8) -> Result<EndLine<'a>, LineFault>
     requires size { length line.now ≤ 4096 }
     requires not_skipped { is_skipped line.now ≡ false }
-    requires other { names_own_endpoint (role_of side) (words line.now) ≡ false }
-    ensures means { IfOk result (λ read. EndMeans (role_of side) held line.now (meaning_of read)) }
+    requires other { names_endpoint_of_side (role_of side) (words line.now) ≡ false }
+    ensures means { IfOk result (λ read. EndLineMeans (role_of side) held line.now (meaning_of read)) }
     ensures refused { result_err result ≡ end_fault (role_of side) held line.now }
 {
     match parse_burst(line, 3) {
@@ -140,7 +140,7 @@ fn end_line_of_burst_line<'a>(burst: BurstLine) -> EndLine<'a>
     }
 }
 
-/// Why a line is refused, given why it is refused as a line of `replay` inside a block.
+/// The reason for refusing a burst line in the command `end`, given the reason for refusing it inside a block in `replay`.
 fn fault_outside_block(fault: LineFault) -> LineFault
     ensures { Some result ≡ burst_fault_to_end_fault (Some fault) }
 {
@@ -150,7 +150,8 @@ fn fault_outside_block(fault: LineFault) -> LineFault
     }
 }
 
-/// A line either has exactly one meaning, or has none and is refused; the reason given is the first that applies.
-pub fn law_end_lines()
-    ensures { (role : Role) (held : ℕ) (line : List ℕ) → HasOneMeaningUnless (end_fault role held line) (EndMeans role held line) }
+/// A line of the command `end` either has exactly one meaning, or is refused for the first reason that applies.
+pub fn law_end_line_meaning_is_unique()
+    ensures { (role : Role) (held : ℕ) (line : List ℕ) →
+        HasOneMeaningOrFault (end_fault role held line) (EndLineMeans role held line) }
 {}

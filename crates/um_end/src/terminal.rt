@@ -1,4 +1,4 @@
-//! Both endpoints of one side, over bursts.
+//! A terminal: both endpoints of one side, which sends and receives bursts.
 ghost use Rattle.std.specs.Prelude.{◌≡◌, ◌≤◌, ℕ, List, Some, None, IfOk, OnOk, OnErr, IsSome};
 ghost use Rattle.std.specs.List.{All};
 ghost use Rattle.um_link.specs.bit_blocks.Bits.{AllBits};
@@ -7,9 +7,9 @@ ghost use Rattle.um_link.specs.um_block.Sent.{IsSentBlock};
 ghost use Rattle.um_link.specs.lapdm_frame.declared.Channel.TheVariants.{Sdcch};
 ghost use Rattle.lapdm_end.specs.Sides.{channel_of};
 ghost use Rattle.um_link.specs.lapdm_link.Events as E;
-ghost use Rattle.um_link.specs.Naming.{role_of, event_of, who_of, step_of, step_result};
+ghost use Rattle.um_link.specs.Naming.{role_of, event_of, actor_of_who, step_of, step_result};
 ghost use Rattle.um_link.specs.um_block.declared.received.Received.{Received};
-ghost use Rattle.um_script.specs.AnswerLines.{reception, ReceptionIsInRange};
+ghost use Rattle.um_script.specs.AnswerLines.{reception_quality, ReceptionIsInRange};
 
 use crate::asking::{call_of_event, sapi_of_event};
 use lapdm_end::{Channel, Effects, Role, Sapi, Side, read};
@@ -28,11 +28,12 @@ pub struct Terminal {
 }
 
 impl Terminal {
-    ghost use Rattle.um_end.specs.Terminals.{idle_side, IsCallOf};
-    ghost use Rattle.um_end.specs.Abstraction.{Represents, RefinesCall, IsOnlyAnswer, RefinesBursts, IsOnlyStep, KeepsSideAndTsc, side_of};
-    ghost use Rattle.um_end.specs.Doing.{RefinesTakeBlock};
+    ghost use Rattle.um_end.specs.Terminals.{idle_side, IsCallOfRole};
+    ghost use Rattle.um_end.specs.Abstraction.{Represents, CallRefinesSideStep, IsOnlyPossibleAnswer, BurstsRefineSideStep};
+    ghost use Rattle.um_end.specs.Abstraction.{IsOnlyStepForBursts, KeepsSideAndTsc, side_of};
+    ghost use Rattle.um_end.specs.Doing.{BlockRefinesSideStep};
 
-    /// A side with both endpoints in Idle and training sequence code `tsc` (0 to 7).
+    /// Creates a side with both endpoints in Idle and training sequence code `tsc` (0 to 7).
     pub fn new(side: End, tsc: u8) -> Terminal
         requires { tsc ≤ 7 }
         ensures represents { Represents result (idle_side (role_of side) Sdcch) }
@@ -50,14 +51,14 @@ impl Terminal {
         }
     }
 
-    /// Carries out a call of layer 3 to an endpoint of this side: the mobile's `Open`, an `OpenBare`, or an `Event::End`. A refused call
+    /// Carries out a layer 3 call to an endpoint of this side: the mobile's `Open`, an `OpenBare`, or an `Event::End`. A refused call
     /// changes nothing.
     pub fn ask(&mut self, event: &Event<'_>) -> Result<Step, No>
-        requires own { IsCallOf (side_of self.old) (event_of event.now) }
-        ensures refines { RefinesCall (event_of event.now) self.old result self.new }
-        ensures only { IsOnlyAnswer (event_of event.now) self.old result }
+        requires own { IsCallOfRole (side_of self.old) (event_of event.now) }
+        ensures refines { CallRefinesSideStep (event_of event.now) self.old result self.new }
+        ensures only { IsOnlyPossibleAnswer (event_of event.now) self.old result }
         ensures refused { OnErr result (self.new ≡ self.old) }
-        ensures who { IfOk result (λ step. who_of step.who ≡ E.BySide (side_of self.old)) }
+        ensures who { IfOk result (λ step. actor_of_who step.who ≡ E.BySide (side_of self.old)) }
         ensures received { IfOk result (λ step. step.received ≡ None) }
         ensures same { KeepsSideAndTsc self.old self.new }
     {
@@ -68,14 +69,14 @@ impl Terminal {
         }
     }
 
-    /// The same as `ask`, but writes the result into `step`, which stays unchanged if the call is refused.
+    /// Carries out a layer 3 call to an endpoint of this side and writes the result into `step`. A refused call leaves `step` unchanged.
     pub fn ask_into(&mut self, event: &Event<'_>, step: &mut Step) -> Result<(), No>
-        requires own { IsCallOf (side_of self.old) (event_of event.now) }
-        ensures refines { RefinesCall (event_of event.now) self.old (step_result result step.new) self.new }
-        ensures only { IsOnlyAnswer (event_of event.now) self.old (step_result result step.new) }
+        requires own { IsCallOfRole (side_of self.old) (event_of event.now) }
+        ensures refines { CallRefinesSideStep (event_of event.now) self.old (step_result result step.new) self.new }
+        ensures only { IsOnlyPossibleAnswer (event_of event.now) self.old (step_result result step.new) }
         ensures refused { OnErr result (self.new ≡ self.old) }
         ensures out_unchanged { OnErr result (step.new ≡ step.old) }
-        ensures who { OnOk result (who_of step.new.who ≡ E.BySide (side_of self.old)) }
+        ensures who { OnOk result (actor_of_who step.new.who ≡ E.BySide (side_of self.old)) }
         ensures received { OnOk result (step.new.received ≡ None) }
         ensures same { KeepsSideAndTsc self.old self.new }
     {
@@ -91,14 +92,14 @@ impl Terminal {
         }
     }
 
-    /// Receives four bursts as a block. If the accepted octets encode a frame, the endpoint of its SAPI receives it.
+    /// Receives four bursts as a block. If the accepted octets encode a frame, the endpoint with its SAPI receives it.
     pub fn receive(&mut self, bursts: &[[i8; BURST_BITS]; 4]) -> Step
         requires soft { All AllSoftBits bursts.now }
-        ensures refines { RefinesBursts bursts.now self.old result self.new }
-        ensures only { IsOnlyStep bursts.now self.old result }
-        ensures who { who_of result.who ≡ E.BySide (side_of self.old) }
+        ensures refines { BurstsRefineSideStep bursts.now self.old result self.new }
+        ensures only { IsOnlyStepForBursts bursts.now self.old result }
+        ensures who { actor_of_who result.who ≡ E.BySide (side_of self.old) }
         ensures received { IsSome result.received }
-        ensures numbers { (r : Received) → result.received ≡ Some r → ReceptionIsInRange (reception r) }
+        ensures numbers { (r : Received) → result.received ≡ Some r → ReceptionIsInRange (reception_quality r) }
         ensures same { KeepsSideAndTsc self.old self.new }
     {
         let mut step = Step::new();
@@ -106,23 +107,24 @@ impl Terminal {
         step
     }
 
-    /// The same as `receive`, but writes the result into `step`.
+    /// Receives four bursts as a block and writes the result into `step`. If the accepted octets encode a frame, the endpoint with its SAPI
+    /// receives it.
     pub fn receive_into(&mut self, bursts: &[[i8; BURST_BITS]; 4], step: &mut Step)
         requires soft { All AllSoftBits bursts.now }
-        ensures refines { RefinesBursts bursts.now self.old step.new self.new }
-        ensures only { IsOnlyStep bursts.now self.old step.new }
-        ensures who { who_of step.new.who ≡ E.BySide (side_of self.old) }
+        ensures refines { BurstsRefineSideStep bursts.now self.old step.new self.new }
+        ensures only { IsOnlyStepForBursts bursts.now self.old step.new }
+        ensures who { actor_of_who step.new.who ≡ E.BySide (side_of self.old) }
         ensures received { IsSome step.new.received }
-        ensures numbers { (r : Received) → step.new.received ≡ Some r → ReceptionIsInRange (reception r) }
+        ensures numbers { (r : Received) → step.new.received ≡ Some r → ReceptionIsInRange (reception_quality r) }
         ensures same { KeepsSideAndTsc self.old self.new }
     {
         let report = receive_block(bursts);
-        let sapi = self.take_block(&report.accepted, &mut step.effects);
+        let sapi = self.take_received_block(&report.accepted, &mut step.effects);
         step.received = Some(report);
         self.set_side_and_sapi(sapi, step);
     }
 
-    /// The four bursts of a block of these octets, with the terminal's training sequence.
+    /// Codes these octets as the four bursts of a block, with the terminal's training sequence code.
     pub fn bursts(&self, octets: &[u8; BLOCK_OCTETS]) -> [[u8; BURST_BITS]; 4]
         ensures sent { IsSentBlock octets.now self.now.tsc result }
         ensures only { (other : List (List ℕ)) → IsSentBlock octets.now self.now.tsc other → other ≡ result }
@@ -131,9 +133,13 @@ impl Terminal {
         send_block(octets, self.tsc)
     }
 
-    /// If the accepted octets encode a frame, passes the frame to the endpoint of its SAPI.
-    fn take_block(&mut self, accepted: &Option<[u8; BLOCK_OCTETS]>, effects: &mut Effects) -> Sapi
-        ensures takes { RefinesTakeBlock accepted.now self.old result effects.new self.new }
+    /// Passes the frame that the accepted octets encode, if any, to the endpoint with its SAPI.
+    fn take_received_block(
+        &mut self,
+        accepted: &Option<[u8; BLOCK_OCTETS]>,
+        effects: &mut Effects,
+    ) -> Sapi
+        ensures takes { BlockRefinesSideStep accepted.now self.old result effects.new self.new }
         ensures same { KeepsSideAndTsc self.old self.new }
     {
         if let Some(octets) = accepted {
@@ -145,7 +151,7 @@ impl Terminal {
         Sapi::Zero
     }
 
-    /// Records in the step which side and SAPI acted.
+    /// Records in `step` which side acted, and on which SAPI.
     fn set_side_and_sapi(&self, sapi: Sapi, step: &mut Step)
         ensures step { step_of step.new ≡ record {
           who = E.BySide (side_of self.now);

@@ -1,14 +1,14 @@
-//! Laws of two processes of `um end`, each of which receives the bursts that the other sends. The body of a law is empty: call it to use
-//! its contract in a proof.
+//! Laws of two processes of `um end`, each of which receives the bursts sent by the other. The body of a law is empty: call it to use its
+//! contract in a proof.
 ghost use Rattle.std.specs.Prelude.{List};
-ghost use Rattle.um_link.specs.lapdm_link.Claims.{Claims, OrderClaims, AckedAtMostDelivered};
-ghost use Rattle.um_end.specs.TwoTerminals.{TerminalStep, idle_terminals, AreStepsFrom, DeliversOldestBlock, NoCondition, lines};
+ghost use Rattle.um_link.specs.lapdm_link.Claims.{Claims, IsOrderedLog, AckedAtMostDelivered};
+ghost use Rattle.um_end.specs.TwoTerminals.{TerminalStep, idle_terminals, AreStepsFrom, DeliversOldestBlock, AnyStepAllowed, lines};
 
-/// If the bursts of each block reach the other side in order and lightly damaged, or are lost as a whole, the claims about delivery hold
-/// for the outputs of the two processes.
-pub fn law_two_terminals()
+/// If the bursts of each block reach the other side in order and lightly damaged, or are lost as a whole, messages are delivered in order
+/// and before they are acknowledged (`Claims`). Whatever bursts arrive, the log is ordered (`IsOrderedLog`).
+pub fn law_two_terminals_deliver()
     ensures delivery { (turns : List TerminalStep) → AreStepsFrom DeliversOldestBlock idle_terminals turns → Claims (lines turns) }
-    ensures counts { (turns : List TerminalStep) → AreStepsFrom DeliversOldestBlock idle_terminals turns →
+    ensures counts_acks { (turns : List TerminalStep) → AreStepsFrom DeliversOldestBlock idle_terminals turns →
         AckedAtMostDelivered (lines turns) }
-    ensures order { (turns : List TerminalStep) → AreStepsFrom NoCondition idle_terminals turns → OrderClaims (lines turns) }
+    ensures order { (turns : List TerminalStep) → AreStepsFrom AnyStepAllowed idle_terminals turns → IsOrderedLog (lines turns) }
 {}

@@ -1,8 +1,8 @@
 -- A text that consists of digits contains no space, so it is one word.
-use Rattle.std.proofs.{Common.{◌≡◌, ℕ, Bool, true, false, List, [], ◌∷◌, refl, ap, ◌∙◌, arith}, lemmas.List.Elements.{All-nil, All-cons}}
-use Rattle.std.{proofs.lemmas.List.Splits.join_with_byte-slice_split, specs.List.{All, list_all}}
-use Rattle.hex.specs.Hex.{is_hex_digit}
-use Rattle.um_lines.{specs.{Fields.is_bit_digit, Words.{IsNotSpace, words}}, proofs.{SpelledLaws.passing_lack, WordLists.words-join}}
+use Rattle.std.proofs.Common.{◌≡◌, ℕ, Bool, true, false, List, [], ◌∷◌, refl, ap, ◌∙◌, arith}
+use Rattle.std.{proofs.lemmas.List.{Elements.{All-nil, All-cons}, Splits.join_with_byte-slice_split}, specs.List.{All, list_all}}
+use Rattle.um_lines.{specs.{Hex.is_hex_digit, Fields.is_bit_digit, Words.{IsNotSpace, words}}, proofs.SpelledLaws.passing_lack}
+use Rattle.um_lines.proofs.WordLists.{words-join}
 
 one_word_of : (p : ℕ → Bool) → p 32 ≡ false → (text : List ℕ) → list_all p text ≡ true → words text ≡ text ∷ []
 one_word_of p fails text all =

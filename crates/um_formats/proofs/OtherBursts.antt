@@ -1,6 +1,7 @@
 -- Input lines that are not valid burst lines.
-use Rattle.std.proofs.Common.{◌≡◌, ◌≢◌, ℕ, ◌≤◌, true, false, ◌&&◌, eqb, List, [], ◌∷◌, length, Err, codes, refl, ap, arith}
-use Rattle.std.{proofs.lemmas.{Bool.{ne_eqb, and_right}, List.Splits.length-slice_split}, specs.{Cmp.Lexicographic.pointwise, Str.bytes_eq}}
+use Rattle.std.proofs.Common.{◌≡◌, ◌≢◌, ℕ, ◌≤◌, true, false, ◌&&◌, eqb, List, [], ◌∷◌, length, Err, codes}
+use Rattle.std.proofs.{Common.{refl, ap, arith}, lemmas.{Bool.{ne_eqb, and_right}, List.Splits.length-slice_split}}
+use Rattle.std.specs.{Cmp.Lexicographic.pointwise, Str.bytes_eq}
 use Rattle.um_lines.specs.{declared.fault.LineFault.TheVariants.Word, Words.words, Fields.fits_field}
 use Rattle.um_formats.specs.BurstLines.{parsed_burst}
 
@@ -14,7 +15,8 @@ unknown_first_word : (held : ℕ) (kind : List ℕ) (rest : List (List ℕ)) →
 unknown_first_word held kind rest n N lost a A s S = rw (n, N, lost, a, A, s, S) refl
 
 -- the first word is one letter, but begins no form of a burst
-pub other_letter : (held letter : ℕ) (rest : List (List ℕ)) → letter ≢ 110 → letter ≢ 78 → letter ≢ 97 → letter ≢ 65 → letter ≢ 115
+pub other_letter : (held letter : ℕ) (rest : List (List ℕ)) → letter ≢ 110 → letter ≢ 78 → letter ≢ 97 → letter ≢ 65 →
+    letter ≢ 115
     → letter ≢ 83
     → parsed_burst held ((letter ∷ []) ∷ rest) ≡ Err Word
 other_letter held letter rest n N a A s S =
@@ -33,7 +35,8 @@ other_kind held (first ∷ second ∷ kind) text many =
     unknown_first_word held (first ∷ second ∷ kind) (words text) (alone 110) (alone 78) (lost (words text) some)
     (alone 97) (alone 65) (alone 115) (alone 83)
   where
-    lost : (rest : List (List ℕ)) → 1 ≤ length rest → (bytes_eq (first ∷ second ∷ kind) (codes "lost") && pointwise fits_field [] rest)
+    lost : (rest : List (List ℕ)) → 1 ≤ length rest →
+        (bytes_eq (first ∷ second ∷ kind) (codes "lost") && pointwise fits_field [] rest)
         ≡ false
     lost [] some = absurd (omega arith)
     lost (word ∷ rest) some = and_right (bytes_eq (first ∷ second ∷ kind) (codes "lost")) false refl

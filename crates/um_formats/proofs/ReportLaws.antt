@@ -1,6 +1,6 @@
 -- For octets, and for every reception, there is exactly one text that may be written.
-use Rattle.std.{proofs.Common.{◌≡◌, ℕ, List, ◌++◌, length, Option, Some, None, refl, sym, ap, ◌∙◌, inl, inr}, specs.Prelude.IfSome}
-use Rattle.std.specs.Prelude.{MatchOption}
+use Rattle.std.proofs.Common.{◌≡◌, ℕ, List, ◌++◌, length, Option, Some, None, refl, sym, ap, ◌∙◌, inl, inr}
+use Rattle.std.specs.Prelude.{IfSome, MatchOption}
 use Rattle.lapdm_frame.{specs.declared.Channel.TheVariants.Sdcch, proofs.{Existence.one_reading, Uniqueness.{same_frame, same_reason}}}
 use Rattle.lapdm_frame.proofs.Uniqueness.{never_refused}
 use Rattle.um_block.specs.declared.received.Received.{Received}
@@ -33,7 +33,8 @@ abbrev Reported : List ℕ → Option (List ℕ) → List ℕ → Type 0
 Reported line accepted text =
     MatchOption accepted (text ≡ line) (λ octets. (second : List ℕ) × IsTextOfOctets octets second × (text ≡ line ++ second))
 
-one_reported : (line : List ℕ) (accepted : Option (List ℕ)) (a b : List ℕ) → Reported line accepted a → Reported line accepted b → a ≡ b
+one_reported : (line : List ℕ) (accepted : Option (List ℕ)) (a b : List ℕ) → Reported line accepted a →
+    Reported line accepted b → a ≡ b
 one_reported line None a b is_a is_b = is_a ∙ sym is_b
 one_reported line (Some octets) a b (x, is_x, e) (y, is_y, e') =
     e ∙ ap (λ second. line ++ second) (one_frame_text octets x y is_x is_y) ∙ sym e'

@@ -1,21 +1,21 @@
 -- Lines of `show`: each either has one meaning or is refused, and a frame that a line spells fits in a block.
-use Rattle.std.proofs.Common.{append-nil, ◌≡◌, ◌≤◌, ◌∷◌, ℕ, false, List, [], length, map, Option, Some, None, refl, sym, ◌∙◌, subst, arith}
-use Rattle.std.specs.Prelude.{IfSome}
-use Rattle.lapdm_frame.specs.{declared.{Channel.TheVariants.Sdcch, Kind.Kind}, Content.{Fields, Frame, kinds, fields, content_from}}
-use Rattle.lapdm_frame.{specs.Frames.Fits, proofs.FieldLaws.content_fits}
-use Rattle.um_lines.specs.{Fields.{Value, Number}, Forms.{Exactly, LineMeans, no_order_fault}, Meanings.HasOneMeaningUnless}
-use Rattle.um_lines.specs.ShowForms.{ShowLineKind, FrameShape, NumberedInfo, Supervisory, WithInfo, WithoutInfo, row, shape_fields}
+use Rattle.std.proofs.Common.{append-nil, ◌≡◌, ◌≤◌, ◌∷◌, ℕ, false, List, [], length, map, Option, Some, None, refl, sym}
+use Rattle.std.{proofs.Common.{◌∙◌, subst, arith}, specs.Prelude.IfSome}
+use Rattle.lapdm_frame.specs.{declared.{Channel.TheVariants.Sdcch, Kind.Kind}, Content.{Fields, Frame, kinds, fields, content_of_fields}}
+use Rattle.lapdm_frame.{specs.Frames.FrameFits, proofs.FieldLaws.content_fits}
+use Rattle.um_lines.specs.{Fields.{Value, Number}, Forms.{Exactly, LineMeans, no_order_fault}, Meanings.HasOneMeaningOrFault}
+use Rattle.um_lines.specs.ShowForms.{ShowLineKind, FrameShape, NumberedInfo, Supervisory, WithInfo, WithoutInfo, syntax, shape_fields}
 use Rattle.um_lines.{specs.ShowForms.{frame_fields, show_forms}, proofs.KnownValues.{AreOctets, Fitting, Each, line_is}}
-use Rattle.um_formats.specs.{declared.show.ShowLine.ShowLine, ShowLines.{is_set, content_from_values, frame_from_values}}
-use Rattle.um_formats.specs.ShowLines.{show_line_of_frame, show_line_of_values, show_line, show_fault, ShowMeans}
-use Rattle.um_formats.specs.ShowReading.{least_information_octets}
+use Rattle.um_formats.specs.{declared.show.ShowLine.ShowLine, ShowLines.{is_bit_set, content_from_values, frame_from_values}}
+use Rattle.um_formats.specs.ShowLines.{show_line_of_frame, show_line_of_values, show_line_of_meaning, show_fault, ShowLineMeans}
+use Rattle.um_formats.specs.ShowReading.{min_info_octets}
 use Rattle.um_lines.specs.ShowForms as F
 use Rattle.um_lines.proofs.FormLaws as Laws
 use Rattle.um_formats.specs.declared.show.ShowLine.TheVariants as S
 
-pub one_meaning : (line : List ℕ) → HasOneMeaningUnless (show_fault line) (ShowMeans line)
+pub one_meaning : (line : List ℕ) → HasOneMeaningOrFault (show_fault line) (ShowLineMeans line)
 one_meaning line =
-    Laws.one_made show_line (LineMeans show_forms no_order_fault line) (show_fault line)
+    Laws.one_made show_line_of_meaning (LineMeans show_forms no_order_fault line) (show_fault line)
     (Laws.one_meaning show_forms no_order_fault line refl)
 
 -- what a line asks for, together with the frame that it spells, if any
@@ -26,19 +26,20 @@ said (Some meaning) = (show_line_of_values meaning.0 meaning.1, frame_from_value
 -- the line asks for 23 octets, or spells a frame that fits in a block
 abbrev IsKnown : ShowLine × Option Frame → Type 0
 IsKnown (S.Octets octets, f) = AreOctets 23 octets
-IsKnown (other, f) = IfSome f (Fits Sdcch)
+IsKnown (other, f) = IfSome f (FrameFits Sdcch)
 
 -- the fields of a frame, read from the values of a shape
 record SaidFields (shape : FrameShape) (kind : Kind) (values : List Value) : Type 0 where
   pub f : Fields
-  pub says : content_from_values shape kind values ≡ Some (content_from f)
-  pub of_kind : f.kind ≡ kind
+  pub says : content_from_values shape kind values ≡ Some (content_of_fields f)
+  pub frame_fields_of_kind : f.kind ≡ kind
   pub sent : f.ns ≤ 7
   pub received : f.nr ≤ 7
-  pub least : least_information_octets shape ≤ length f.info
+  pub least : min_info_octets shape ≤ length f.info
   pub most : length f.info ≤ 20
 
-said_fields : (shape : FrameShape) (kind : Kind) (values : List Value) → Fitting (shape_fields shape) values → SaidFields shape kind values
+said_fields : (shape : FrameShape) (kind : Kind) (values : List Value) → Fitting (shape_fields shape) values →
+    SaidFields shape kind values
 said_fields NumberedInfo kind values (
   ns,
   r1,
@@ -65,9 +66,9 @@ said_fields NumberedInfo kind values (
   ),
 ) =
     rw (e1, e2, e3, e4, e5, none) (record {
-      f = fields kind ns nr (is_set p) (is_set m) info;
+      f = fields kind ns nr (is_bit_set p) (is_bit_set m) info;
       says = refl;
-      of_kind = refl;
+      frame_fields_of_kind = refl;
       sent = sent;
       received = got;
       least = fits.0;
@@ -75,9 +76,9 @@ said_fields NumberedInfo kind values (
     })
 said_fields Supervisory kind values (nr, r1, e1, got, (pf, r2, e2, set, none)) =
     rw (e1, e2, none) (record {
-      f = fields kind 0 nr (is_set pf) false [];
+      f = fields kind 0 nr (is_bit_set pf) false [];
       says = refl;
-      of_kind = refl;
+      frame_fields_of_kind = refl;
       sent = omega arith;
       received = got;
       least = omega arith;
@@ -85,9 +86,9 @@ said_fields Supervisory kind values (nr, r1, e1, got, (pf, r2, e2, set, none)) =
     })
 said_fields (WithInfo name) kind values (pf, r1, e1, set, (info, r2, e2, fits, none)) =
     rw (e1, e2, none) (record {
-      f = fields kind 0 0 (is_set pf) false info;
+      f = fields kind 0 0 (is_bit_set pf) false info;
       says = refl;
-      of_kind = refl;
+      frame_fields_of_kind = refl;
       sent = omega arith;
       received = omega arith;
       least = omega arith;
@@ -95,9 +96,9 @@ said_fields (WithInfo name) kind values (pf, r1, e1, set, (info, r2, e2, fits, n
     })
 said_fields (WithoutInfo name) kind values (pf, r1, e1, set, none) =
     rw (e1, none) (record {
-      f = fields kind 0 0 (is_set pf) false [];
+      f = fields kind 0 0 (is_bit_set pf) false [];
       says = refl;
-      of_kind = refl;
+      frame_fields_of_kind = refl;
       sent = omega arith;
       received = omega arith;
       least = omega arith;
@@ -105,29 +106,29 @@ said_fields (WithoutInfo name) kind values (pf, r1, e1, set, none) =
     })
 
 -- the frame that these values spell fits in a block
-frame_known : (kind : Kind) (s cr : ℕ) (values : List Value) → s ≤ 7 → Fitting (shape_fields (row kind).shape) values
+frame_known : (kind : Kind) (s cr : ℕ) (values : List Value) → s ≤ 7 → Fitting (shape_fields (syntax kind).shape) values
     → IsKnown (said (Some (F.Frame kind, Number s ∷ Number cr ∷ values)))
 frame_known kind s cr values small fitting =
-    let x = said_fields (row kind).shape kind values fitting in
+    let x = said_fields (syntax kind).shape kind values fitting in
     let fits = content_fits Sdcch x.f (record {
       sent = x.sent;
       received = x.received;
-      some = λ is_i. subst (λ k. least_information_octets (row k).shape ≤ length x.f.info) (sym x.of_kind ∙ is_i) x.least;
+      some = λ is_i. subst (λ k. min_info_octets (syntax k).shape ≤ length x.f.info) (sym x.frame_fields_of_kind ∙ is_i) x.least;
       most = x.most;
     }) in
-    rw x.says (record { sapi = small; numbers = fits.0; information = fits.1 })
+    rw x.says (record { sapi = small; ns_nr_fit = fits.0; information = fits.1 })
 
 each_frame : (ks : List Kind)
     → Each no_order_fault (λ name values. IsKnown (said (Some (name, values)))) (map (λ kind. (
       F.Frame kind,
       Exactly (frame_fields
-          (row kind)),
+          (syntax kind)),
     )) ks)
 each_frame [] = tt
 each_frame (kind ∷ ks) = (
   λ count values here (s, r1, e1, small, (cr, r2, e2, one, rest)).
       rw (e1, e2) (frame_known kind s cr r2 small
-      (subst (λ fs. Fitting fs r2) (append-nil (shape_fields (row kind).shape)) rest)),
+      (subst (λ fs. Fitting fs r2) (append-nil (shape_fields (syntax kind).shape)) rest)),
   each_frame ks,
 )
 
@@ -144,21 +145,21 @@ known line meaning means =
 -- every frame that a line spells fits in a block
 pub said_fits : (line : List ℕ) (name : ShowLineKind) (values : List Value) (f : Frame)
     → LineMeans show_forms no_order_fault line (Some (name, values))
-    → frame_from_values name values ≡ Some f → Fits Sdcch f
+    → frame_from_values name values ≡ Some f → FrameFits Sdcch f
 said_fits line name values f means is = go name values is (known line (Some (name, values)) means)
   where
-    frames : (m : ShowLine) (o : Option Frame) → o ≡ Some f → m ≡ show_line_of_frame o → IsKnown (m, o) → Fits Sdcch f
+    frames : (m : ShowLine) (o : Option Frame) → o ≡ Some f → m ≡ show_line_of_frame o → IsKnown (m, o) → FrameFits Sdcch f
     frames m o is shows k = let pair : IsKnown (show_line_of_frame (Some f), Some f) =
         subst (λ o. IsKnown (show_line_of_frame o, o)) is (subst (λ m. IsKnown (m, o)) shows k) in pair
 
     go : (name : ShowLineKind) (values : List Value) → frame_from_values name values ≡ Some f →
         IsKnown (show_line_of_values name values, frame_from_values name values)
-        → Fits Sdcch f
+        → FrameFits Sdcch f
     go F.Octets values is k = absurd cc
     go name values is k = frames (show_line_of_values name values) (frame_from_values name values) is refl k
 
 -- if a line asks for octets, they are 23
-pub shown_octets : (line octets : List ℕ) → ShowMeans line (S.Octets octets) → length octets ≡ 23
+pub shown_octets : (line octets : List ℕ) → ShowLineMeans line (S.Octets octets) → length octets ≡ 23
 shown_octets line octets (None, means, is) = absurd cc
 shown_octets line octets (Some meaning, means, is) = (go (said (Some meaning)) is (known line (Some meaning) means)).0
   where

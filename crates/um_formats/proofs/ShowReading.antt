@@ -1,17 +1,17 @@
 -- What the words of a line of `show` mean: when they have no form, and which frame they spell.
-use Rattle.std.proofs.Common.{◌≡◌, ◌≢◌, inl, inr, ℕ, false, List, [], ◌∷◌, ◌++◌, codes, Err, refl, sym, subst, true, ◌&&◌, Bool, Option}
-use Rattle.std.proofs.{Common.{Some, None, Ok, ◌∙◌, ap, ◌≤◌, not, ◌||◌, leb, leb-true, arith}, lemmas.Bool.{cases_Bool, and_parts}}
-use Rattle.std.proofs.lemmas.{Bool.{or_parts, not-false}, Slice.Eq.bytes_eq-Decides, List.Splits.join_with_byte-slice_split}
-use Rattle.std.specs.{Str.bytes_eq, List.join_with_byte}
+use Rattle.std.proofs.Common.{◌≡◌, ◌≢◌, inl, inr, ℕ, false, List, [], ◌∷◌, ◌++◌, codes, Err, refl, sym, subst, true}
+use Rattle.std.proofs.Common.{◌&&◌, Bool, Option, Some, None, Ok, ◌∙◌, ap, ◌≤◌, not, ◌||◌, leb, leb-true, arith}
+use Rattle.std.proofs.lemmas.{Bool.{cases_Bool, and_parts, or_parts, not-false}, Slice.Eq.bytes_eq-Decides}
+use Rattle.std.{proofs.lemmas.List.Splits.join_with_byte-slice_split, specs.{Str.bytes_eq, List.join_with_byte}}
 use Rattle.lapdm_frame.specs.{declared.{Channel.TheVariants.Sdcch, Kind.{Kind, TheVariants.I}}, Content.Frame as FrameOf, Frames.octets_of}
 use Rattle.um_lines.specs.{declared.fault.LineFault.{TheVariants.{Word, Digits, Length}, LineFault}, Words.words, Fields.Field}
 use Rattle.um_lines.specs.Fields.{has_wrong_digits, has_wrong_length, has_forbidden_soft_value, has_wrong_bit_index, is_digit_up_to}
-use Rattle.um_lines.specs.{Fields.{is_dash_or_hex, has_octet_count, octet_count}, Forms.{some_word_has, values_of_words, places}}
-use Rattle.um_lines.specs.{Forms.{first_field_fault, fault_or_value}, ShowForms.{Frame, FrameShape, NumberedInfo, WithInfo, row}}
+use Rattle.um_lines.specs.{Fields.{is_dash_or_hex, has_octet_count, octet_count}, Forms.{has_faulty_word, values_of_words, places}}
+use Rattle.um_lines.specs.{Forms.{first_field_fault, fault_or_value}, ShowForms.{Frame, FrameShape, NumberedInfo, WithInfo, syntax}}
 use Rattle.um_lines.specs.ShowForms.{shape_fields, frame_fields}
 use Rattle.um_formats.specs.{ShowLines.{parsed_show, frame_from_values, show_line_of_frame}, declared.frame_words.FieldWords.FieldWords}
 use Rattle.um_formats.specs.{declared.frame_words.FrameWords.FrameWords, ShowReading.{field_words, frame_line_words, info_word}}
-use Rattle.um_formats.specs.ShowReading.{least_information_octets, is_octets_word}
+use Rattle.um_formats.specs.ShowReading.{min_info_octets, is_octets_word}
 use Rattle.um_formats.specs.declared.show.ShowLine.TheVariants as S
 
 -- ---- the first word
@@ -46,30 +46,32 @@ unknown_first_word line (word ∷ more) whole octets frame =
     ]
 
 -- a line that begins with neither `octets ` nor `frame ` has no form
-pub no_name : (line : List ℕ) → ((rest : List ℕ) → line ≢ codes "octets " ++ rest) → ((rest : List ℕ) → line ≢ codes "frame " ++ rest)
+pub no_name : (line : List ℕ) → ((rest : List ℕ) → line ≢ codes "octets " ++ rest) →
+    ((rest : List ℕ) → line ≢ codes "frame " ++ rest)
     → Err Word ≡ parsed_show (words line)
 no_name line octets frame = unknown_first_word line (words line) (join_with_byte-slice_split 32 line) octets frame
 
 -- ---- the words of a frame
 
 abbrev parts_of : (sapi cr : List ℕ) → Kind → FieldWords → List (List ℕ)
-parts_of sapi cr kind fields = codes "frame" ∷ codes "sapi" ∷ sapi ∷ codes "cr" ∷ cr ∷ (row kind).word ∷ field_words (row kind).shape fields
+parts_of sapi cr kind fields = codes "frame" ∷ codes "sapi" ∷ sapi ∷ codes "cr" ∷ cr ∷ (syntax kind).word
+    ∷ field_words (syntax kind).shape fields
 
 -- the words have the form of their frame kind, which contains no soft values and no bit index
 record AreRead (sapi cr : List ℕ) (kind : Kind) (fields : FieldWords) : Type 0 where
   pub read : parsed_show (parts_of sapi cr kind fields)
-      ≡ fault_or_value (first_field_fault (frame_fields (row kind)) (parts_of sapi cr kind fields))
-      (show_line_of_frame (frame_from_values (Frame kind) (values_of_words (frame_fields (row kind)) (parts_of sapi cr kind fields))))
-  pub soft : some_word_has has_forbidden_soft_value (frame_fields (row kind)) (parts_of sapi cr kind fields) ≡ false
-  pub place : some_word_has has_wrong_bit_index (frame_fields (row kind)) (parts_of sapi cr kind fields) ≡ false
-  pub once : places (values_of_words (frame_fields (row kind)) (parts_of sapi cr kind fields)) ≡ []
+      ≡ fault_or_value (first_field_fault (frame_fields (syntax kind)) (parts_of sapi cr kind fields))
+      (show_line_of_frame (frame_from_values (Frame kind) (values_of_words (frame_fields (syntax kind)) (parts_of sapi cr kind fields))))
+  pub soft : has_faulty_word has_forbidden_soft_value (frame_fields (syntax kind)) (parts_of sapi cr kind fields) ≡ false
+  pub place : has_faulty_word has_wrong_bit_index (frame_fields (syntax kind)) (parts_of sapi cr kind fields) ≡ false
+  pub once : places (values_of_words (frame_fields (syntax kind)) (parts_of sapi cr kind fields)) ≡ []
 
 are_read : (sapi cr : List ℕ) (kind : Kind) (fields : FieldWords) → AreRead sapi cr kind fields
 are_read sapi cr I fields = record { read = refl; soft = refl; place = refl; once = refl }
 are_read sapi cr other fields = record { read = refl; soft = refl; place = refl; once = refl }
 
 abbrev fields_in : FrameWords → List Field
-fields_in w = frame_fields (row w.kind)
+fields_in w = frame_fields (syntax w.kind)
 
 abbrev said : FrameWords → Option FrameOf
 said w = frame_from_values (Frame w.kind) (values_of_words (fields_in w) (frame_line_words w))
@@ -78,21 +80,23 @@ module _ (parts : List (List ℕ)) (w : FrameWords) (e : parts ≡ frame_line_wo
   reason : (fault : Option LineFault) → first_field_fault (fields_in w) (frame_line_words w) ≡ fault →
       parsed_show parts ≡ fault_or_value fault (show_line_of_frame (said w))
   reason fault is =
-      ap parsed_show e ∙ (are_read w.sapi.now w.cr.now w.kind w.fields).read ∙ ap (λ f. fault_or_value f (show_line_of_frame (said w))) is
+      ap parsed_show e ∙ (are_read w.sapi.now w.cr.now w.kind w.fields).read
+      ∙ ap (λ f. fault_or_value f (show_line_of_frame (said w))) is
 
-  pub refused_for_digits : some_word_has has_wrong_digits (fields_in w) (frame_line_words w) ≡ true → Err Digits ≡ parsed_show parts
+  pub refused_for_digits : has_faulty_word has_wrong_digits (fields_in w) (frame_line_words w) ≡ true → Err Digits ≡ parsed_show parts
   refused_for_digits wrong = sym (reason (Some Digits) (rw wrong refl))
 
-  pub refused_for_length : some_word_has has_wrong_digits (fields_in w) (frame_line_words w) ≡ false
-      → some_word_has has_wrong_length (fields_in w) (frame_line_words w) ≡ true → Err Length ≡ parsed_show parts
+  pub refused_for_length : has_faulty_word has_wrong_digits (fields_in w) (frame_line_words w) ≡ false
+      → has_faulty_word has_wrong_length (fields_in w) (frame_line_words w) ≡ true → Err Length ≡ parsed_show parts
   refused_for_length right wrong = sym (reason (Some Length) (rw (right, wrong) refl))
 
-  pub read_frame : (f : FrameOf) → some_word_has has_wrong_digits (fields_in w) (frame_line_words w) ≡ false
-      → some_word_has has_wrong_length (fields_in w) (frame_line_words w) ≡ false → said w ≡ Some f
+  pub read_frame : (f : FrameOf) → has_faulty_word has_wrong_digits (fields_in w) (frame_line_words w) ≡ false
+      → has_faulty_word has_wrong_length (fields_in w) (frame_line_words w) ≡ false → said w ≡ Some f
       → Ok (S.Frame (octets_of Sdcch f)) ≡ parsed_show parts
   read_frame f right many is =
       let plain = are_read w.sapi.now w.cr.now w.kind w.fields in
-      let good : first_field_fault (fields_in w) (frame_line_words w) ≡ None = rw (right, many, plain.soft, plain.place, plain.once) refl in
+      let good : first_field_fault (fields_in w) (frame_line_words w) ≡ None =
+      rw (right, many, plain.soft, plain.place, plain.once) refl in
       sym (reason None good ∙ ap (λ o. Ok (show_line_of_frame o)) is)
 
 -- ---- words without wrong digits and of the right length
@@ -101,16 +105,17 @@ right : (a b : Bool) → (not a || b) ≡ false → a ≡ true
 right a b e = not-false a (or_parts (not a) b e).0
 
 -- if no word of a line has wrong digits, the C/R word is a digit 0 or 1, and no further field has wrong digits
-pub address_digits : (w : FrameWords) → some_word_has has_wrong_digits (fields_in w) (frame_line_words w) ≡ false
+pub address_digits : (w : FrameWords) → has_faulty_word has_wrong_digits (fields_in w) (frame_line_words w) ≡ false
     → (is_digit_up_to 1 w.cr.now ≡ true)
-    × (some_word_has has_wrong_digits (shape_fields (row w.kind).shape) (field_words (row w.kind).shape w.fields) ≡ false)
+    × (has_faulty_word has_wrong_digits (shape_fields (syntax w.kind).shape) (field_words (syntax w.kind).shape w.fields) ≡ false)
 address_digits w right =
     let sapi = or_parts (not (is_digit_up_to 7 w.sapi.now)) _ right in
     let cr = or_parts (not (is_digit_up_to 1 w.cr.now)) _ sapi.1 in
     (not-false _ cr.0, cr.1)
 
 -- if no word has wrong digits, the word of the information is `-` or consists of hexadecimal digits
-pub info_digits : (shape : FrameShape) (w : FieldWords) → some_word_has has_wrong_digits (shape_fields shape) (field_words shape w) ≡ false
+pub info_digits : (shape : FrameShape) (w : FieldWords) → has_faulty_word has_wrong_digits (shape_fields shape) (field_words shape w) ≡
+    false
     → is_dash_or_hex (info_word shape w) ≡ true
 info_digits NumberedInfo w e =
     let a = or_parts (not (is_digit_up_to 7 w.ns.now)) _ e in
@@ -134,8 +139,9 @@ has_octets least word e =
     let inner = and_parts (leb least (octet_count word)) (leb (octet_count word) 20) outer.1 in
     record { well = outer.0; least_many = leb-true _ _ inner.0; most_many = leb-true _ _ inner.1 }
 
-pub info_length : (shape : FrameShape) (w : FieldWords) → some_word_has has_wrong_length (shape_fields shape) (field_words shape w) ≡ false
-    → HasOctets (least_information_octets shape) (info_word shape w)
+pub info_length : (shape : FrameShape) (w : FieldWords) → has_faulty_word has_wrong_length (shape_fields shape) (field_words shape w) ≡
+    false
+    → HasOctets (min_info_octets shape) (info_word shape w)
 info_length NumberedInfo w e = has_octets 1 w.info.now e
 info_length (WithInfo name) w e = has_octets 0 w.info.now e
 info_length other w e = record { well = refl; least_many = omega arith; most_many = omega arith }

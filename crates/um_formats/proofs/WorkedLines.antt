@@ -1,11 +1,11 @@
 -- Worked examples of frames, octets and soft values, computed by hand.
-use Rattle.std.proofs.Common.{◌≡◌, ◌<◌, pos, negsuc, true, false, List, [], ◌∷◌, ◌++◌, Some, refl, codes, replicate, take, drop, inl, inr}
-use Rattle.std.proofs.Common.{arith}
-use Rattle.hex.specs.Hex.{encode_with, encode_lower}
+use Rattle.std.proofs.Common.{◌≡◌, ◌<◌, pos, negsuc, true, false, List, [], ◌∷◌, ◌++◌, Some, refl, codes, replicate}
+use Rattle.std.proofs.Common.{take, drop, inl, inr, arith}
+use Rattle.um_lines.specs.{Hex.{encode_with, encode_lower}, Fields.{octets_from_hex, Value, Number, NumberList}, Forms.line_meaning}
+use Rattle.um_lines.specs.ShowForms.{show_forms}
 use Rattle.lapdm_frame.specs.{declared.{Channel.TheVariants.Sdcch, Refusal.{Refusal, TheVariants.{Lpd, Ea}}}, Content.{I, Rnr, Ui, Frame}}
-use Rattle.lapdm_frame.specs.Refusals.{RefusalAppliesTo, reason_rank, IsRefused}
+use Rattle.lapdm_frame.specs.Refusals.{RefusalAppliesToBlock, refusal_order, IsRefused}
 use Rattle.um_block.specs.{bit_blocks.Octets.octets_of, Received.soft_bits}
-use Rattle.um_lines.specs.{Fields.{octets_from_hex, Value, Number, NumberList}, Forms.line_meaning, ShowForms.show_forms}
 use Rattle.um_formats.specs.{FrameTexts.{frame_text, IsTextOfOctets}, ShowLines.frame_from_values, SoftOctets.signed_octets}
 use Rattle.lapdm_frame.specs.declared.Kind.TheVariants as K
 use Rattle.um_lines.specs.ShowForms as N
@@ -37,11 +37,11 @@ other_fill_same_text = inl (
   record { sapi = 0; cr = true; content = Ui false [] },
   record {
     count = refl;
-    fits = record { sapi = omega arith; numbers = tt; information = omega arith };
-    at_address = refl;
-    at_control = refl;
-    at_length = refl;
-    at_information = refl;
+    fits = record { sapi = omega arith; ns_nr_fit = tt; information = omega arith };
+    address_matches = refl;
+    control_matches = refl;
+    length_matches = refl;
+    information_matches = refl;
   },
   refl,
 )
@@ -51,11 +51,11 @@ not_ready = inl (
   record { sapi = 0; cr = true; content = Rnr 3 true },
   record {
     count = refl;
-    fits = record { sapi = omega arith; numbers = omega arith; information = omega arith };
-    at_address = refl;
-    at_control = refl;
-    at_length = refl;
-    at_information = refl;
+    fits = record { sapi = omega arith; ns_nr_fit = omega arith; information = omega arith };
+    address_matches = refl;
+    control_matches = refl;
+    length_matches = refl;
+    information_matches = refl;
   },
   refl,
 )
@@ -64,7 +64,7 @@ not_ready = inl (
 zeros_refused : IsRefused Sdcch (replicate 23 0) Ea
 zeros_refused = record { applies = refl; first = earlier }
   where
-    earlier : (reason : Refusal) → reason_rank reason < 1 → ¬ RefusalAppliesTo Sdcch (replicate 23 0) reason
+    earlier : (reason : Refusal) → refusal_order reason < 1 → ¬ RefusalAppliesToBlock Sdcch (replicate 23 0) reason
     earlier Lpd before applies = omega arith
     earlier reason before applies = omega arith
 

@@ -1,4 +1,4 @@
--- What the lines of the command `code` mean (this project's own rule).
+-- The meaning of the input lines of the `code` command (this project's own rule).
 use Rattle.std.specs.Prelude.{ℕ, List, [], ◌∷◌, Option, Some, None, Result}
 use Rattle.um_lines.specs.declared.fault.LineFault.{LineFault}
 use Rattle.um_lines.specs.Fields.{Value, Number, NumberList}
@@ -8,25 +8,25 @@ use Rattle.um_lines.specs.CodeForms.{CodeLineKind, Block, Rach, Sch, code_forms}
 use Rattle.um_formats.specs.declared.code.CodeLine.{CodeLine}
 use Rattle.um_formats.specs.declared.code.CodeLine.TheVariants as C
 
--- what a form and its values mean
+-- the meaning of a line of this form with these values
 abbrev pub code_line_of_values : CodeLineKind → List Value → CodeLine
 code_line_of_values Block (Number tsc ∷ NumberList octets ∷ []) = C.Block tsc octets
 code_line_of_values Rach (NumberList info ∷ NumberList bsic ∷ []) = C.Rach info bsic
 code_line_of_values Sch (NumberList info ∷ []) = C.Sch info
 code_line_of_values name values = C.Skip
 
-abbrev pub code_line : Option (CodeLineKind × List Value) → CodeLine
-code_line None = C.Skip
-code_line (Some meaning) = code_line_of_values meaning.0 meaning.1
+abbrev pub code_line_of_meaning : Option (CodeLineKind × List Value) → CodeLine
+code_line_of_meaning None = C.Skip
+code_line_of_meaning (Some meaning) = code_line_of_values meaning.0 meaning.1
 
--- why a line of `code` is refused: the first reason, or `None`
+-- why a line of `code` is refused: the first fault, or `None`
 abbrev pub code_fault : List ℕ → Option LineFault
 code_fault line = line_fault code_forms no_order_fault line
 
--- what a line of `code` means
-abbrev pub CodeMeans : List ℕ → CodeLine → Type 0
-CodeMeans line = LineParsesTo code_forms no_order_fault code_line line
+-- the line of `code` has this meaning
+abbrev pub CodeLineMeans : List ℕ → CodeLine → Type 0
+CodeLineMeans line = LineParsesTo code_forms no_order_fault code_line_of_meaning line
 
--- the result of parsing a line from its words; only the contracts inside the parser use this
+-- the result of parsing the words of a line of `code` (used only inside the parser)
 abbrev pub parsed_code : List (List ℕ) → Result CodeLine LineFault
-parsed_code words = parsed_words code_forms no_order_fault code_line words
+parsed_code words = parsed_words code_forms no_order_fault code_line_of_meaning words

@@ -1,67 +1,67 @@
--- The bursts of an unfinished block, which wait for the rest of it (this project's own rule).
-use Rattle.std.specs.Prelude.{ℕ, ℤ, ◌≡◌, ◌==◌, ◌<◌, Bool, true, false, List, [], ◌∷◌, ◌++◌, length, codes}
+-- The buffer for the bursts of an incomplete block (this project's own rule).
+use Rattle.std.specs.Prelude.{ℕ, ℤ, ◌≡◌, ◌==◌, ◌<◌, Bool, true, false, List, [], ◌∷◌, ◌++◌, length, None, codes}
 use Rattle.std.specs.List.{list_all, list_any}
-use Rattle.hex.specs.Hex.{is_hex_digit}
-use Rattle.um_lines.specs.Fields.{octets_from_hex}
+use Rattle.um_lines.specs.Hex.{is_hex_digit}
+use Rattle.um_lines.specs.Fields.{is_bit_digit, octets_from_hex}
 use Rattle.um_block.specs.bit_blocks.SoftValues.{AllSoftBits}
 use Rattle.um_formats.specs.declared.burst_lines.BurstLine.{BurstLine}
 use Rattle.um_formats.specs.declared.burst_lines.BurstLine.TheVariants as B
-use Rattle.um_formats.specs.declared.held.NextBurst.{NextBurst}
-use Rattle.um_formats.specs.declared.held.NextBurst.TheVariants as N
-use Rattle.std.specs.Prelude.{None}
-use Rattle.um_lines.specs.Fields.{is_bit_digit}
-use Rattle.um_formats.specs.BurstLines.{burst_fault, BurstMeans}
+use Rattle.um_formats.specs.declared.held.BurstLineResult.{BurstLineResult}
+use Rattle.um_formats.specs.declared.held.BurstLineResult.TheVariants as N
+use Rattle.um_formats.specs.BurstLines.{burst_fault, BurstLineMeans}
 
--- a buffer for the four bursts of a block: `held` are the bursts of the unfinished block, in order; `places` is the whole buffer, which
+-- a buffer for the four bursts of a block: `held` lists the bursts of the incomplete block, in order; `places` is the whole buffer, which
 -- keeps the last complete block until the next normal burst overwrites it
 pub record Held : Type 0 where
   pub held : List (List ℤ)
   pub places : List (List ℤ)
 
--- a normal burst is added to the held ones; if `whole`, it completes the block, and none is held afterwards
+-- a normal burst is added to those in the buffer; if `whole`, it completes the block, and the buffer holds no burst of an incomplete block
+-- afterwards
 abbrev pub AddsNormalBurst : Held → List ℤ → (whole : Bool) → Held → Type 0
 AddsNormalBurst old burst false new = (new.held ≡ old.held ++ burst ∷ []) × (length new.held < 4)
 AddsNormalBurst old burst true new = (new.places ≡ old.held ++ burst ∷ []) × (length new.places ≡ 4) × (new.held ≡ [])
 
-abbrev pub next_after_normal_burst : (whole : Bool) → NextBurst
-next_after_normal_burst false = N.Held
-next_after_normal_burst true = N.Block
+abbrev pub normal_burst_result : (whole : Bool) → BurstLineResult
+normal_burst_result false = N.Held
+normal_burst_result true = N.Block
 
--- the result of a line with this meaning; only a normal burst changes the buffer
-abbrev pub IsLineResult : Held → BurstLine → NextBurst → Held → Type 0
-IsLineResult old B.Skip next new = (next ≡ N.Skip) × (new ≡ old)
-IsLineResult old (B.Normal soft) next new = (whole : Bool) × (next ≡ next_after_normal_burst whole) × AddsNormalBurst old soft whole new
-IsLineResult old (B.Access bsic soft) next new = (next ≡ N.Access bsic soft) × (new ≡ old)
-IsLineResult old (B.Sync soft) next new = (next ≡ N.Sync soft) × (new ≡ old)
+-- the result of a line with this meaning, and the buffer before and after it; only a normal burst changes the buffer
+abbrev pub IsBurstLineResult : Held → BurstLine → BurstLineResult → Held → Type 0
+IsBurstLineResult old B.Skip next new = (next ≡ N.Skip) × (new ≡ old)
+IsBurstLineResult old (B.Normal soft) next new = (whole : Bool) × (next ≡ normal_burst_result whole)
+    × AddsNormalBurst old soft whole new
+IsBurstLineResult old (B.Access bsic soft) next new = (next ≡ N.Access bsic soft) × (new ≡ old)
+IsBurstLineResult old (B.Sync soft) next new = (next ≡ N.Sync soft) × (new ≡ old)
 
--- if the result is an access or synchronisation burst, it has soft values, -127 to 127
-abbrev pub HasOnlySoftValues : NextBurst → Type 0
+-- the soft values of an access or synchronisation burst are in the range -127 to 127
+abbrev pub HasOnlySoftValues : BurstLineResult → Type 0
 HasOnlySoftValues (N.Access bsic soft) = AllSoftBits soft
 HasOnlySoftValues (N.Sync soft) = AllSoftBits soft
 HasOnlySoftValues next = Unit {0}
 
 -- ---- used only by the contracts of the parser
 
--- a line of 148 bits
-pub record IsHardLine (line digits : List ℕ) : Type 0 where
+-- `line` holds the 148 hard bits of a normal burst: `n ` and 148 `digits`, each `0` or `1`
+pub record IsHardNormalLine (line digits : List ℕ) : Type 0 where
   pub is : line ≡ codes "n " ++ digits
   pub each : list_all is_bit_digit digits ≡ true
   pub many : length digits ≡ 148
 
--- a line of 148 octets
-pub record IsOctetLine (line digits : List ℕ) : Type 0 where
+-- `line` holds 148 octets for a normal burst: `N ` and 296 hexadecimal `digits`
+pub record IsHexNormalLine (line digits : List ℕ) : Type 0 where
   pub is : line ≡ codes "N " ++ digits
   pub each : list_all is_hex_digit digits ≡ true
   pub many : length digits ≡ 296
 
--- a line of 148 soft values: none of its octets is -128
+-- a line that holds the 148 soft values of a normal burst, none of them -128
 pub record IsSoftNormalLine (line digits : List ℕ) : Type 0 where
-  pub octets : IsOctetLine line digits
+  pub octets : IsHexNormalLine line digits
   pub within : list_any (λ octet. octet == 128) (octets_from_hex digits) ≡ false
 
--- the line means a normal burst, which is held or completes a block
-pub record HoldsLine (old : Held) (line : List ℕ) (new : Held) (whole : Bool) : Type 0 where
+-- `line` is a valid normal burst, which is added to the buffer and, if `whole`, completes the block
+pub record HoldsBurstOfLine (old : Held) (line : List ℕ) (new : Held) (whole : Bool) : Type 0 where
   pub soft : List ℤ
-  pub means : BurstMeans (length old.held) line (B.Normal soft)
+  pub means : BurstLineMeans (length old.held) line (B.Normal soft)
   pub refused : None ≡ burst_fault (length old.held) line
   pub holds : AddsNormalBurst old soft whole new

@@ -1,7 +1,7 @@
--- How received blocks and bursts are written as lines (this project's own rule).
+-- How reports on received blocks and bursts are written as lines (this project's own rule).
 use Rattle.std.specs.Prelude.{ℕ, ◌≡◌, Bool, true, false, ℤ, List, ◌++◌, take, drop, codes, MatchOption, is_some}
 use Rattle.std.specs.Fmt.{decimal, signed_decimal}
-use Rattle.hex.specs.Hex.{encode_lower}
+use Rattle.um_lines.specs.Hex.{encode_lower}
 use Rattle.um_block.specs.bit_blocks.Octets.{octets_of}
 use Rattle.um_block.specs.declared.received.Received.{Received}
 use Rattle.um_block.specs.declared.received.ReceivedAccess.{ReceivedAccess}
@@ -9,41 +9,41 @@ use Rattle.um_block.specs.declared.received.ReceivedSync.{ReceivedSync}
 use Rattle.um_lines.specs.Fields.{bit_digits}
 use Rattle.um_formats.specs.FrameTexts.{IsTextOfOctets}
 
--- the word that says whether the CRC holds: `ok` or `bad`
+-- the word for the result of the CRC: `ok` or `bad`
 abbrev pub crc_word : Bool → List ℕ
 crc_word true = codes "ok"
 crc_word false = codes "bad"
 
--- the words for the quality of a reception: wrong training bits, metric, and whether the CRC holds
+-- the words for the quality of a reception: the number of wrong training bits, the metric, and whether the CRC holds
 abbrev pub quality_text : ℕ → ℤ → Bool → List ℕ
 quality_text wrong metric holds =
     codes " train " ++ decimal wrong ++ codes " metric " ++ signed_decimal metric
     ++ codes " parity " ++ crc_word holds
 
--- the words for the data and the CRC of a reception
+-- the words for the received data and CRC, which end the report line
 abbrev pub data_and_check_text : List ℕ → List ℕ → List ℕ
 data_and_check_text data_word check = codes " data " ++ data_word ++ codes " check " ++ check ++ codes "\n"
 
--- `block tsc T train E metric M parity P data HEX46 check HEX10`
+-- the report line of a block: `block tsc T train E metric M parity P data HEX46 check HEX10`
 abbrev pub block_report_line : Received → List ℕ
 block_report_line r =
     codes "block tsc " ++ decimal r.tsc ++ quality_text r.wrong_training r.metric (is_some r.accepted)
     ++ data_and_check_text (encode_lower (octets_of (take 184 r.u))) (encode_lower (octets_of (take 40 (drop 184 r.u))))
 
--- the report on a block: its line and, if the CRC holds, the line of the frame in it
+-- the report on a block: its report line and, if the CRC holds, the line for the frame in the block
 abbrev pub IsBlockReport : Received → List ℕ → Type 0
 IsBlockReport r text =
     MatchOption r.accepted
     (text ≡ block_report_line r)
     (λ octets. (second : List ℕ) × IsTextOfOctets octets second × (text ≡ block_report_line r ++ second))
 
--- `access BSIC6 train E metric M parity P data DIGITS8 check DIGITS6`
+-- the report line of an access burst: `access BSIC6 train E metric M parity P data DIGITS8 check DIGITS6`
 abbrev pub access_report_text : List ℕ → ReceivedAccess → List ℕ
 access_report_text bsic r =
     codes "access " ++ bit_digits bsic ++ quality_text r.wrong_training r.metric (is_some r.accepted)
     ++ data_and_check_text (bit_digits (take 8 r.u)) (bit_digits (take 6 (drop 8 r.u)))
 
--- `sync train E metric M parity P data DIGITS25 check DIGITS10`
+-- the report line of a synchronisation burst: `sync train E metric M parity P data DIGITS25 check DIGITS10`
 abbrev pub sync_report_text : ReceivedSync → List ℕ
 sync_report_text r =
     codes "sync" ++ quality_text r.wrong_training r.metric (is_some r.accepted)

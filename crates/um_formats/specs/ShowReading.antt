@@ -1,79 +1,82 @@
--- Definitions that only the contracts inside the parser and the writer of frames use.
-use Rattle.std.specs.Prelude.{ℕ, ◌+◌, ◌%◌, ◌==◌, ◌&&◌, ◌||◌, Bool, false, not, List, [], ◌∷◌, length, Option, codes}
+-- Definitions that only the parser and the writer of frame lines use.
+use Rattle.std.specs.Prelude.{ℕ, ◌+◌, ◌%◌, ◌==◌, ◌&&◌, ◌||◌, ◌∷◌}
+use Rattle.std.specs.Prelude.{Bool, false, not, List, [], length, Option, codes}
 use Rattle.std.specs.Cmp.Lexicographic.{pointwise}
 use Rattle.std.specs.Str.{bytes_eq}
 use Rattle.um_lines.specs.declared.fault.LineFault.{LineFault}
 use Rattle.um_lines.specs.Fields.{Field, fits_field}
 use Rattle.um_lines.specs.Forms.{no_order_fault, form_of_words, first_word_fault}
-use Rattle.um_lines.specs.ShowForms.{row, show_forms}
+use Rattle.um_lines.specs.ShowForms.{syntax, show_forms}
 use Rattle.um_lines.specs.ShowForms as F
 use Rattle.um_formats.specs.declared.frame_words.FieldWords.{FieldWords}
 use Rattle.um_formats.specs.declared.frame_words.FrameWords.{FrameWords}
 use Rattle.um_formats.specs.declared.frame_words.FrameShape.{FrameShape}
 use Rattle.um_formats.specs.declared.frame_words.FrameShape.TheVariants.{NumberedInfo, Supervisory, WithInfo, WithoutInfo}
 
--- the shape that a `FrameShape` of the program represents
-abbrev pub shape_of : FrameShape → F.FrameShape
-shape_of NumberedInfo = F.NumberedInfo
-shape_of Supervisory = F.Supervisory
-shape_of (WithInfo name) = F.WithInfo name.now
-shape_of (WithoutInfo name) = F.WithoutInfo name.now
+-- the shape that a `FrameShape` of the code represents in the specification
+abbrev pub code_shape_of : FrameShape → F.FrameShape
+code_shape_of NumberedInfo = F.NumberedInfo
+code_shape_of Supervisory = F.Supervisory
+code_shape_of (WithInfo name) = F.WithInfo name.now
+code_shape_of (WithoutInfo name) = F.WithoutInfo name.now
 
--- the name of the poll or final bit in a shape that can have either name
-abbrev pub bit_name : F.FrameShape → List ℕ
-bit_name (F.WithInfo name) = name
-bit_name (F.WithoutInfo name) = name
-bit_name other = []
+-- the name of the poll or final bit, `p` or `f`, in a shape that allows either name
+abbrev pub pf_bit_name : F.FrameShape → List ℕ
+pf_bit_name (F.WithInfo name) = name
+pf_bit_name (F.WithoutInfo name) = name
+pf_bit_name other = []
 
--- a number as its digit
+-- a number from 0 to 9 as its decimal digit
 abbrev pub digit : ℕ → List ℕ
 digit number = (48 + number) ∷ []
 
--- whether the words have these fields: as many words as fields, and each word may stand in its field
+-- whether the words fit these fields: there is one word for each field, and each word may stand in its field
 abbrev pub words_fit_fields : List (List ℕ) → List Field → Bool
 words_fit_fields words fields = pointwise fits_field fields words
 
--- why these words are refused: the first reason, or `None`
+-- why the words of a line of `show` are refused: the first fault, or `None`
 abbrev pub first_show_fault : List (List ℕ) → Option LineFault
 first_show_fault words = first_word_fault no_order_fault (form_of_words show_forms words) words
 
--- whether the words begin with this name and a value, and further words follow
+-- whether the words begin with this name and a value, followed by at least one more word
 abbrev pub begins_with_name_and_value : List ℕ → List (List ℕ) → Bool
 begins_with_name_and_value name [] = false
 begins_with_name_and_value name (word ∷ []) = false
 begins_with_name_and_value name (word ∷ value ∷ []) = false
 begins_with_name_and_value name (word ∷ value ∷ other ∷ rest) = bytes_eq word name
 
--- whether the words are exactly this name and a value
+-- whether the words are exactly this name and one value
 abbrev pub is_name_and_value : List ℕ → List (List ℕ) → Bool
 is_name_and_value name [] = false
 is_name_and_value name (word ∷ []) = false
 is_name_and_value name (word ∷ value ∷ []) = bytes_eq word name
 is_name_and_value name (word ∷ value ∷ other ∷ rest) = false
 
--- the words of all fields of this shape, with their names
+-- the words of all fields of this shape: each name, followed by its value
 abbrev pub field_words : F.FrameShape → FieldWords → List (List ℕ)
 field_words F.NumberedInfo w =
-    codes "ns" ∷ w.ns.now ∷ codes "nr" ∷ w.nr.now ∷ codes "p" ∷ w.pf.now ∷ codes "m" ∷ w.more.now ∷ codes "info" ∷ w.info.now ∷ []
+    codes "ns" ∷ w.ns.now ∷ codes "nr" ∷ w.nr.now ∷ codes "p" ∷ w.pf.now ∷ codes "m" ∷ w.more.now ∷ codes "info"
+    ∷ w.info.now ∷ []
 field_words F.Supervisory w = codes "nr" ∷ w.nr.now ∷ codes "pf" ∷ w.pf.now ∷ []
 field_words (F.WithInfo name) w = name ∷ w.pf.now ∷ codes "info" ∷ w.info.now ∷ []
 field_words (F.WithoutInfo name) w = name ∷ w.pf.now ∷ []
 
--- all words in the line of a frame
+-- all words in the text line of a frame
 abbrev pub frame_line_words : FrameWords → List (List ℕ)
 frame_line_words w =
-    codes "frame" ∷ codes "sapi" ∷ w.sapi.now ∷ codes "cr" ∷ w.cr.now ∷ (row w.kind).word ∷ field_words (row w.kind).shape w.fields
+    codes "frame" ∷ codes "sapi" ∷ w.sapi.now ∷ codes "cr" ∷ w.cr.now ∷ (syntax w.kind).word
+    ∷ field_words (syntax w.kind).shape w.fields
 
--- the word of the information, or `-` if the shape has no information
+-- the word for the information field, or `-` if the shape has no information
 abbrev pub info_word : F.FrameShape → FieldWords → List ℕ
 info_word F.NumberedInfo w = w.info.now
 info_word (F.WithInfo name) w = w.info.now
 info_word other w = codes "-"
 
--- the least number of octets of information that a shape allows
-abbrev pub least_information_octets : F.FrameShape → ℕ
-least_information_octets F.NumberedInfo = 1
-least_information_octets other = 0
+-- the minimum number of octets of information that a shape allows
+abbrev pub min_info_octets : F.FrameShape → ℕ
+min_info_octets F.NumberedInfo = 1
+min_info_octets other = 0
 
 -- whether a word is `-` or has an even number of digits, at least two
 abbrev pub is_octets_word : List ℕ → Bool

@@ -1,9 +1,9 @@
--- Texts that are exactly one line (this project's own rule).
+-- Strings that are exactly one line (this project's own rule).
 use Rattle.std.specs.Prelude.{ℕ, ◌≡◌, ◌≢◌, false, List}
 use Rattle.std.specs.List.{All}
 use Rattle.um_lines.specs.Words.{is_skipped}
 
--- the text contains no line feed, and is not skipped as empty or as a comment
+-- `line` contains no line feed, and is not skipped as empty or as a comment
 pub record IsUnskippedLine (line : List ℕ) : Type 0 where
-  pub uncut : All (λ octet. octet ≢ 10) line
+  pub no_line_feed : All (λ octet. octet ≢ 10) line
   pub stays : is_skipped line ≡ false

@@ -1,13 +1,13 @@
-//! Parses the lines of the command `replay`.
+//! Parses the input lines of the `replay` command.
 ghost use Rattle.std.specs.Prelude.{◌≡◌, ◌≤◌, ℕ, List, [], ◌∷◌, ◌++◌, length, MatchOption, IfOk, codes};
 ghost use Rattle.std.specs.Result.{result_err};
 ghost use Rattle.um_block.specs.bit_blocks.Bits.{AllBits};
 ghost use Rattle.um_block.specs.Received.{soft_bits};
 ghost use Rattle.um_lines.specs.Words.{words};
-ghost use Rattle.um_lines.specs.Meanings.{HasOneMeaningUnless};
-ghost use Rattle.um_formats.specs.BurstLines.{burst_fault, BurstMeans, parsed_burst};
-ghost use Rattle.um_formats.specs.Held.{IsHardLine, IsOctetLine};
-ghost use Rattle.um_formats.specs.BurstTexts.{normal_text, access_text, sync_text};
+ghost use Rattle.um_lines.specs.Meanings.{HasOneMeaningOrFault};
+ghost use Rattle.um_formats.specs.BurstLines.{burst_fault, BurstLineMeans, parsed_burst};
+ghost use Rattle.um_formats.specs.Held.{IsHardNormalLine, IsHexNormalLine};
+ghost use Rattle.um_formats.specs.BurstTexts.{normal_burst_text, access_burst_text, sync_burst_text};
 ghost use Rattle.um_formats.specs.WrittenBursts.{IsUnskippedLine};
 
 use crate::soft_digits::{hard_values, soft_values};
@@ -17,7 +17,7 @@ use um_lines::{
     octets_of, parse_only_word, parse_two_words,
 };
 
-/// What a line of `replay` means. Soft values are positive for 0 and negative for 1.
+/// The meaning of a line of `replay`. Soft values are positive for 0 and negative for 1.
 #[derive(Clone, Copy, PartialEq, Eq, Debug)]
 pub enum BurstLine {
     /// Nothing: an empty line, or one that begins with `#`.
@@ -31,13 +31,13 @@ pub enum BurstLine {
 }
 
 /// Parses a line of `replay`, without its line feed: `n DIGITS148`, `a BSIC6 DIGITS88`, `s DIGITS148`, `N HEX296`, `A BSIC6 HEX176`, `S
-/// HEX296` or `lost`. `held` is the number of bursts of the unfinished block before this line.
+/// HEX296` or `lost`. `held` is the number of bursts of an incomplete block before this line.
 ///
-/// If several errors apply, the first in this order is returned, whatever its place in the line: `Long`, `Word`, `Order`, `Digits`,
+/// If several errors apply, the first in this order is returned, wherever it occurs in the line: `Long`, `Word`, `Order`, `Digits`,
 /// `Length`, `Soft`.
 pub fn parse_burst(line: &[u8], held: u8) -> Result<BurstLine, LineFault>
     requires { held ≤ 3 }
-    ensures means { IfOk result (BurstMeans held line.now) }
+    ensures means { IfOk result (BurstLineMeans held line.now) }
     ensures refused { result_err result ≡ burst_fault held line.now }
 {
     if line.len() > LINE_LIMIT {
@@ -86,7 +86,7 @@ fn parse_lost(word: &[u8]) -> Result<BurstLine, LineFault>
     }
 }
 
-// A text that consists of digits is one word. Only other texts are searched for a space, to choose the right error.
+// Parses the digits of a line `n DIGITS148`. Only a text that is not all digits is searched for a space, to choose the right error.
 #[tactic(auto, using(crate::proofs::DigitWords::bit_word, crate::proofs::DigitWords::whole_word))]
 fn parse_hard_normal(rest: &[u8]) -> Result<BurstLine, LineFault>
     ensures { (held : ℕ) → result ≡ parsed_burst held (codes "n" ∷ words rest.now) }
@@ -185,10 +185,11 @@ fn parse_soft_sync(rest: &[u8], held: u8) -> Result<BurstLine, LineFault>
     Ok(BurstLine::Sync(soft_values(digits)?))
 }
 
-/// The digits, if the line is `n DIGITS148`.
+/// The 148 digits of a line `n DIGITS148`, or `None` for any other line.
 #[inline(always)]
-pub(crate) fn hard_digits(line: &[u8]) -> Option<&[u8]>
-    ensures { MatchOption result ((digits : List ℕ) → ¬ IsHardLine line.now digits) (λ digits. IsHardLine line.now digits.now) }
+pub(crate) fn hard_line_digits(line: &[u8]) -> Option<&[u8]>
+    ensures { MatchOption result ((digits : List ℕ) → ¬ IsHardNormalLine line.now digits)
+        (λ digits. IsHardNormalLine line.now digits.now) }
 {
     let digits = line.strip_prefix(b"n ")?;
     if digits.len() != BURST_BITS {
@@ -200,9 +201,10 @@ pub(crate) fn hard_digits(line: &[u8]) -> Option<&[u8]>
     Some(digits)
 }
 
-/// The digits of a line `N HEX296`.
+/// The 296 digits of a line `N HEX296`, or `None` for any other line.
 pub(crate) fn soft_digits(line: &[u8]) -> Option<&[u8]>
-    ensures { MatchOption result ((digits : List ℕ) → ¬ IsOctetLine line.now digits) (λ digits. IsOctetLine line.now digits.now) }
+    ensures { MatchOption result ((digits : List ℕ) → ¬ IsHexNormalLine line.now digits)
+        (λ digits. IsHexNormalLine line.now digits.now) }
 {
     let digits = line.strip_prefix(b"N ")?;
     if digits.len() != 296 {
@@ -214,20 +216,20 @@ pub(crate) fn soft_digits(line: &[u8]) -> Option<&[u8]>
     Some(digits)
 }
 
-/// A line that is not refused has exactly one meaning; a line that is refused has none.
-pub fn law_one_burst_meaning()
-    ensures { (held : ℕ) (line : List ℕ) → HasOneMeaningUnless (burst_fault held line) (BurstMeans held line) }
+/// Law: a line that is not refused has exactly one meaning; a line that is refused has none.
+pub fn law_burst_meaning_is_unique()
+    ensures { (held : ℕ) (line : List ℕ) → HasOneMeaningOrFault (burst_fault held line) (BurstLineMeans held line) }
 {}
 
-/// Parsing the line that is written for a burst of bits gives these bits back, as the soft values 127 and -127.
+/// Law: written bursts read back: parsing the line of a burst of hard bits gives its soft values, 127 for 0 and -127 for 1.
 pub fn law_written_bursts_read_back()
     ensures normal { (held : ℕ) (burst line : List ℕ) → length burst ≡ BURST_BITS → AllBits burst
-        → normal_text burst ≡ line ++ codes "\n"
-        → IsUnskippedLine line × BurstMeans held line (BurstLine.Normal (soft_bits burst)) }
+        → normal_burst_text burst ≡ line ++ codes "\n"
+        → IsUnskippedLine line × BurstLineMeans held line (BurstLine.Normal (soft_bits burst)) }
     ensures access { (bsic burst line : List ℕ) → length bsic ≡ 6 → AllBits bsic → length burst ≡ 88 → AllBits burst
-        → access_text bsic burst ≡ line ++ codes "\n"
-        → IsUnskippedLine line × BurstMeans 0 line (BurstLine.Access bsic (soft_bits burst)) }
+        → access_burst_text bsic burst ≡ line ++ codes "\n"
+        → IsUnskippedLine line × BurstLineMeans 0 line (BurstLine.Access bsic (soft_bits burst)) }
     ensures sync { (burst line : List ℕ) → length burst ≡ BURST_BITS → AllBits burst
-        → sync_text burst ≡ line ++ codes "\n"
-        → IsUnskippedLine line × BurstMeans 0 line (BurstLine.Sync (soft_bits burst)) }
+        → sync_burst_text burst ≡ line ++ codes "\n"
+        → IsUnskippedLine line × BurstLineMeans 0 line (BurstLine.Sync (soft_bits burst)) }
 {}

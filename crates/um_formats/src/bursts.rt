@@ -1,37 +1,37 @@
-//! Writes the lines of bursts.
+//! Writes bursts as text lines.
 ghost use Rattle.std.specs.Prelude.{◌≡◌, ◌+◌, ◌<◌, ◌≤◌, [], ◌++◌, length};
 ghost use Rattle.std.specs.List.{All};
 ghost use Rattle.um_block.specs.bit_blocks.Bits.{AllBits};
-ghost use Rattle.um_formats.specs.BurstTexts.{normal_text, access_text, sync_text, block_text};
+ghost use Rattle.um_formats.specs.BurstTexts.{normal_burst_text, access_burst_text, sync_burst_text, bursts_text};
 
 use um_block::{BURST_BITS, Bits};
 use um_lines::Text;
 
-/// Writes the line of a normal burst.
+/// Writes the text line of a normal burst.
 pub fn normal_line(out: &mut Text, burst: &[u8; BURST_BITS])
     requires empty { out.old ≡ [] }
     requires bits { AllBits burst.now }
-    ensures line { out.new ≡ normal_text burst.now }
+    ensures line { out.new ≡ normal_burst_text burst.now }
     ensures size { length out.new < 2000 }
 {
     push_normal_burst(out, burst);
 }
 
-/// Writes the lines of the four normal bursts of a block.
+/// Writes the text lines of the four normal bursts of a block.
 pub fn block_lines(out: &mut Text, bursts: &[[u8; BURST_BITS]; 4])
     requires empty { out.old ≡ [] }
     requires bits { All AllBits bursts.now }
-    ensures lines { out.new ≡ block_text bursts.now }
+    ensures lines { out.new ≡ bursts_text bursts.now }
     ensures size { length out.new < 2000 }
 {
     push_block(out, bursts);
 }
 
-/// Appends the lines of the four normal bursts of a block.
+/// Appends the text lines of the four normal bursts of a block.
 pub fn push_block(out: &mut Text, bursts: &[[u8; BURST_BITS]; 4])
     requires space { length out.old + 604 ≤ 4096 }
     requires bits { All AllBits bursts.now }
-    ensures lines { out.new ≡ out.old ++ block_text bursts.now }
+    ensures lines { out.new ≡ out.old ++ bursts_text bursts.now }
     ensures length { length out.new ≡ length out.old + 604 }
 {
     for burst in bursts {
@@ -39,11 +39,11 @@ pub fn push_block(out: &mut Text, bursts: &[[u8; BURST_BITS]; 4])
     }
 }
 
-/// Writes the line of an access burst and of the base station identity code (BSIC) of its cell.
+/// Writes the text line of an access burst, with the base station identity code (BSIC) of its cell.
 pub fn access_line(out: &mut Text, bsic: &Bits<6>, burst: &[u8; 88])
     requires empty { out.old ≡ [] }
     requires bits { AllBits burst.now }
-    ensures line { out.new ≡ access_text bsic.now burst.now }
+    ensures line { out.new ≡ access_burst_text bsic.now burst.now }
     ensures size { length out.new < 2000 }
 {
     out.push(b"a ");
@@ -53,11 +53,11 @@ pub fn access_line(out: &mut Text, bsic: &Bits<6>, burst: &[u8; 88])
     out.push(b"\n");
 }
 
-/// Writes the line of a synchronisation burst.
+/// Writes the text line of a synchronisation burst.
 pub fn sync_line(out: &mut Text, burst: &[u8; BURST_BITS])
     requires empty { out.old ≡ [] }
     requires bits { AllBits burst.now }
-    ensures line { out.new ≡ sync_text burst.now }
+    ensures line { out.new ≡ sync_burst_text burst.now }
     ensures size { length out.new < 2000 }
 {
     out.push(b"s ");
@@ -68,7 +68,7 @@ pub fn sync_line(out: &mut Text, burst: &[u8; BURST_BITS])
 fn push_normal_burst(out: &mut Text, burst: &[u8; BURST_BITS])
     requires space { length out.old + 151 ≤ 4096 }
     requires bits { AllBits burst.now }
-    ensures text { out.new ≡ out.old ++ normal_text burst.now }
+    ensures text { out.new ≡ out.old ++ normal_burst_text burst.now }
     ensures length { length out.new ≡ length out.old + 151 }
 {
     out.push(b"n ");

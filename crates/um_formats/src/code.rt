@@ -1,9 +1,9 @@
-//! Parses the lines of the command `code`.
+//! Parses the input lines of the `code` command.
 ghost use Rattle.std.specs.Prelude.{◌≡◌, ℕ, List, ◌∷◌, IfOk, codes};
 ghost use Rattle.std.specs.Result.{result_err};
 ghost use Rattle.um_lines.specs.Words.{words};
-ghost use Rattle.um_lines.specs.Meanings.{HasOneMeaningUnless};
-ghost use Rattle.um_formats.specs.CodeLines.{code_fault, CodeMeans, parsed_code};
+ghost use Rattle.um_lines.specs.Meanings.{HasOneMeaningOrFault};
+ghost use Rattle.um_formats.specs.CodeLines.{code_fault, CodeLineMeans, parsed_code};
 
 use um_block::{BLOCK_OCTETS, Bits};
 use um_lines::{
@@ -11,24 +11,24 @@ use um_lines::{
     octets_of, parse_digit_up_to, parse_only_word, parse_two_words,
 };
 
-/// What a line of `code` means.
+/// The meaning of a line of `code`.
 #[derive(Clone, Copy, PartialEq, Eq, Debug)]
 pub enum CodeLine {
     /// Nothing: an empty line, or one that begins with `#`.
     Skip,
     /// A block of 23 octets, to be sent in four normal bursts with training sequence `tsc`, 0 to 7.
     Block { tsc: u8, octets: [u8; BLOCK_OCTETS] },
-    /// The 8 bits of an access burst, and the base station identity code (BSIC) of the cell.
+    /// The 8 information bits of an access burst, and the base station identity code (BSIC) of the cell.
     Rach { info: Bits<8>, bsic: Bits<6> },
-    /// The 25 bits of a synchronisation burst.
+    /// The 25 information bits of a synchronisation burst.
     Sch { info: Bits<25> },
 }
 
 /// Parses a line of `code`, without its line feed: `block T HEX46`, `rach DIGITS8 BSIC6` or `sch DIGITS25`.
 ///
-/// If several errors apply, the first in this order is returned, whatever its place in the line: `Long`, `Word`, `Digits`, `Length`.
+/// If several errors apply, the first in this order is returned, wherever it occurs in the line: `Long`, `Word`, `Digits`, `Length`.
 pub fn parse_code(line: &[u8]) -> Result<CodeLine, LineFault>
-    ensures means { IfOk result (CodeMeans line.now) }
+    ensures means { IfOk result (CodeLineMeans line.now) }
     ensures refused { result_err result ≡ code_fault line.now }
 {
     if line.len() > LINE_LIMIT {
@@ -40,11 +40,10 @@ pub fn parse_code(line: &[u8]) -> Result<CodeLine, LineFault>
     parse_words(line)
 }
 
-#[inline(never)]
 fn parse_words(line: &[u8]) -> Result<CodeLine, LineFault>
     ensures { result ≡ parsed_code (words line.now) }
 {
-    // Most lines are blocks, and need no search for a space.
+    // A block, the most frequent line, is recognised without a search for a space.
     if let Some(rest) = line.strip_prefix(b"block ") {
         return parse_block(rest);
     }
@@ -59,7 +58,8 @@ fn parse_words(line: &[u8]) -> Result<CodeLine, LineFault>
     }
 }
 
-// A text of digits is one word, so only other texts are searched for a space.
+// Parses the words after `block`. Only a text that is not all digits is searched for a space, to choose the right error.
+#[inline(always)]
 #[tactic(auto, using(crate::proofs::DigitWords::hex_word, crate::proofs::DigitWords::whole_word))]
 fn parse_block(rest: &[u8]) -> Result<CodeLine, LineFault>
     ensures { result ≡ parsed_code (codes "block" ∷ words rest.now) }
@@ -110,7 +110,7 @@ fn parse_sch(rest: &[u8]) -> Result<CodeLine, LineFault>
     })
 }
 
-/// A line that is not refused has exactly one meaning; a line that is refused has none.
-pub fn law_one_code_meaning()
-    ensures { (line : List ℕ) → HasOneMeaningUnless (code_fault line) (CodeMeans line) }
+/// Law: a line that is not refused has exactly one meaning; a line that is refused has none.
+pub fn law_code_meaning_is_unique()
+    ensures { (line : List ℕ) → HasOneMeaningOrFault (code_fault line) (CodeLineMeans line) }
 {}

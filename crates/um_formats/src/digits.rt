@@ -1,4 +1,4 @@
-//! Reads words that are one decimal digit.
+//! Parses words that are one decimal digit.
 ghost use Rattle.std.specs.Prelude.{◌≡◌, ◌-◌, ◌≤◌, slice_index, IsTrue};
 ghost use Rattle.um_lines.specs.Fields.{is_digit_up_to};
 
@@ -12,8 +12,8 @@ pub(crate) fn is_digit_up_to(most: u8, word: &[u8]) -> bool
     parse_digit_up_to(most, word).is_ok()
 }
 
-/// The number that a word of one digit stands for, 0 to 7.
-pub(crate) fn digit_of(word: &[u8]) -> u8
+/// The number, 0 to 7, that a word of one digit represents.
+pub(crate) fn value_of_digit(word: &[u8]) -> u8
     requires { IsTrue (is_digit_up_to 7 word.now) }
     ensures value { result ≡ slice_index word.now 0 - 48 }
     ensures within { result ≤ 7 }

@@ -1,21 +1,22 @@
-//! Splits the line of a frame into its words, and finds the frame that they spell. A table gives the word and the fields of each kind.
+//! Splits the text line of a frame into its words, and builds the frame that they describe. A table gives the word and the fields of each
+//! frame kind.
 ghost use Rattle.std.specs.Prelude.{◌≡◌, ◌-◌, ◌≤◌, ◌∷◌, ℕ, [], not, false, length, slice_index, codes, Some};
 ghost use Rattle.std.specs.Prelude.{IsTrue, IfSome, IfNone, MatchResult, map};
 ghost use Rattle.std.specs.List.{list_any};
 ghost use Rattle.std.specs.Str.{bytes_eq};
-ghost use Rattle.lapdm_frame.specs.Content.{Frame, kinds, content_from, fields_in};
+ghost use Rattle.lapdm_frame.specs.Content.{Frame, kinds, content_of_fields, fields_in};
 ghost use Rattle.lapdm_frame.specs.Frames.{octets_of};
 ghost use Rattle.um_lines.specs.Words.{words};
 ghost use Rattle.um_lines.specs.Fields.{has_wrong_digits, has_wrong_length, octets_from_hex, is_digit_up_to};
-ghost use Rattle.um_lines.specs.Forms.{some_word_has, values_of_words};
-ghost use Rattle.um_lines.specs.ShowForms.{row, named_digit_then, information, m_bit_and_info, shape_fields, frame_fields};
+ghost use Rattle.um_lines.specs.Forms.{has_faulty_word, values_of_words};
+ghost use Rattle.um_lines.specs.ShowForms.{syntax, prepend_named_digit, information, m_bit_and_info_fields, shape_fields, frame_fields};
 ghost use Rattle.um_lines.specs.ShowForms as F;
-ghost use Rattle.um_formats.specs.ShowLines.{is_set, content_from_values, frame_from_values};
-ghost use Rattle.um_formats.specs.ShowReading.{shape_of, bit_name, words_fit_fields, first_show_fault, begins_with_name_and_value};
+ghost use Rattle.um_formats.specs.ShowLines.{is_bit_set, content_from_values, frame_from_values};
+ghost use Rattle.um_formats.specs.ShowReading.{code_shape_of, pf_bit_name, words_fit_fields, first_show_fault, begins_with_name_and_value};
 ghost use Rattle.um_formats.specs.ShowReading.{is_name_and_value};
-ghost use Rattle.um_formats.specs.ShowReading.{field_words, frame_line_words, info_word, least_information_octets};
+ghost use Rattle.um_formats.specs.ShowReading.{field_words, frame_line_words, info_word, min_info_octets};
 
-use crate::digits::{digit_of, is_digit_up_to};
+use crate::digits::{is_digit_up_to, value_of_digit};
 use crate::hex_digits::octets_of_hex_word;
 use lapdm_frame::{Channel, FrameFields, FrameView, Kind};
 use um_block::BLOCK_OCTETS;
@@ -24,22 +25,22 @@ use um_lines::{LineFault, first_word, has_octet_count, is_dash_or_hex, parse_two
 /// The fields that follow the word of a frame kind. `WithInfo` and `WithoutInfo` hold the name of the poll or final bit, `p` or `f`.
 #[derive(Clone, Copy)]
 pub(crate) enum FrameShape {
-    /// `ns N nr N p P m M info HEX`
+    /// The fields of an I frame: `ns N nr N p P m M info HEX`.
     NumberedInfo,
-    /// `nr N pf P`
+    /// The fields of an RR, RNR or REJ frame: `nr N pf P`.
     Supervisory,
-    /// `p P info HEX`
+    /// The fields of a SABM, UI or UA frame: `p P info HEX`, or `f P info HEX`.
     WithInfo(&'static [u8]),
-    /// `p P`
+    /// The fields of a DISC or DM frame: `p P`, or `f P`.
     WithoutInfo(&'static [u8]),
 }
 
-/// The word for a frame kind, and the shape of its fields.
-pub(crate) fn row(kind: Kind) -> (&'static [u8], FrameShape)
-    ensures word { result.0.now ≡ (row kind).word }
-    ensures shape { shape_of result.1 ≡ (row kind).shape }
+/// The word for a frame kind, and the shape of the fields that follow it.
+pub(crate) fn syntax(kind: Kind) -> (&'static [u8], FrameShape)
+    ensures word { result.0.now ≡ (syntax kind).word }
+    ensures shape { code_shape_of result.1 ≡ (syntax kind).shape }
     ensures size { length result.0.now ≤ 4 }
-    ensures name { length (bit_name (shape_of result.1)) ≤ 1 }
+    ensures name { length (pf_bit_name (code_shape_of result.1)) ≤ 1 }
 {
     match kind {
         Kind::I => (b"i", FrameShape::NumberedInfo),
@@ -54,10 +55,10 @@ pub(crate) fn row(kind: Kind) -> (&'static [u8], FrameShape)
     }
 }
 
-/// The frame kind that the word stands for, or `None`.
+/// The frame kind that the word names, or `None`.
 fn kind_of_word(word: &[u8]) -> Option<Kind>
-    ensures known { IfSome result (λ kind. word.now ≡ (row kind).word) }
-    ensures unknown { IfNone result (list_any (bytes_eq word.now) (map (λ kind. (row kind).word) kinds) ≡ false) }
+    ensures known { IfSome result (λ kind. word.now ≡ (syntax kind).word) }
+    ensures unknown { IfNone result (list_any (bytes_eq word.now) (map (λ kind. (syntax kind).word) kinds) ≡ false) }
 {
     match word {
         b"i" => Some(Kind::I),
@@ -73,7 +74,7 @@ fn kind_of_word(word: &[u8]) -> Option<Kind>
     }
 }
 
-/// The words in the fields of a frame kind, without the names of the fields. A field that the kind does not have is not used.
+/// The words for the values in a frame's line, without the names of the fields. Fields that the frame kind does not have are not used.
 #[derive(Clone, Copy)]
 pub(crate) struct FieldWords<'a> {
     pub(crate) ns: &'a [u8],
@@ -83,7 +84,7 @@ pub(crate) struct FieldWords<'a> {
     pub(crate) info: &'a [u8],
 }
 
-/// The kind of a frame, and the other words in its line, without the names of the fields.
+/// The kind of a frame, and the words for its other values, without the names of the fields.
 #[derive(Clone, Copy)]
 pub(crate) struct FrameWords<'a> {
     pub(crate) sapi: &'a [u8],
@@ -92,7 +93,7 @@ pub(crate) struct FrameWords<'a> {
     pub(crate) fields: FieldWords<'a>,
 }
 
-/// Splits the text after the word `frame` into fields. Returns no other fault than `Word`.
+/// Splits the text after the word `frame` into fields. The only possible fault is `Word`.
 pub(crate) fn frame_words<'a>(text: &'a [u8]) -> Result<FrameWords<'a>, LineFault>
     ensures { MatchResult result
         (λ found. codes "frame" ∷ words text.now ≡ frame_line_words found)
@@ -106,7 +107,7 @@ pub(crate) fn frame_words<'a>(text: &'a [u8]) -> Result<FrameWords<'a>, LineFaul
     let Some(kind) = kind_of_word(word) else {
         return Err(LineFault::Word);
     };
-    let (_, shape) = row(kind);
+    let (_, shape) = syntax(kind);
     let fields = field_words(shape, rest)?;
     Ok(FrameWords {
         sapi,
@@ -118,8 +119,8 @@ pub(crate) fn frame_words<'a>(text: &'a [u8]) -> Result<FrameWords<'a>, LineFaul
 
 fn field_words<'a>(shape: FrameShape, text: &'a [u8]) -> Result<FieldWords<'a>, LineFault>
     ensures { MatchResult result
-        (λ found. words text.now ≡ field_words (shape_of shape) found)
-        (λ fault. (fault ≡ LineFault.Word) × (words_fit_fields (words text.now) (shape_fields (shape_of shape)) ≡ false)) }
+        (λ found. words text.now ≡ field_words (code_shape_of shape) found)
+        (λ fault. (fault ≡ LineFault.Word) × (words_fit_fields (words text.now) (shape_fields (code_shape_of shape)) ≡ false)) }
 {
     let (ns, nr, more, none): (&[u8], &[u8], &[u8], &[u8]) = (b"0", b"0", b"0", b"-");
     match shape {
@@ -180,21 +181,23 @@ fn parse_p_m_and_information<'a>(
 ) -> Result<(&'a [u8], &'a [u8], &'a [u8]), LineFault>
     ensures { MatchResult result
         (λ all. words text.now ≡ codes "p" ∷ all.0.now ∷ codes "m" ∷ all.1.now ∷ codes "info" ∷ all.2.now ∷ [])
-        (λ fault. (fault ≡ LineFault.Word) × (words_fit_fields (words text.now) (named_digit_then (codes "p") 1 m_bit_and_info) ≡ false)) }
+        (λ fault. (fault ≡ LineFault.Word) × (words_fit_fields (words text.now)
+        (prepend_named_digit (codes "p") 1 m_bit_and_info_fields) ≡ false)) }
 {
     let (p, rest) = parse_name_and_value(text, b"p")?;
     let (m, info) = parse_bit_and_information::<1>(rest, b"m")?;
     Ok((p, m, info))
 }
 
-/// The words of a poll or final bit and of the information. `LEAST` only serves the contract.
+/// The words for the value of the named bit and for the information that follows it. Only the contract uses `LEAST`, the minimum number of
+/// information octets.
 fn parse_bit_and_information<'a, const LEAST: usize>(
     text: &'a [u8],
     name: &[u8],
 ) -> Result<(&'a [u8], &'a [u8]), LineFault>
     ensures { MatchResult result
         (λ both. words text.now ≡ name.now ∷ both.0.now ∷ codes "info" ∷ both.1.now ∷ [])
-        (λ fault. (fault ≡ LineFault.Word) × (words_fit_fields (words text.now) (named_digit_then name.now 1 (information LEAST))
+        (λ fault. (fault ≡ LineFault.Word) × (words_fit_fields (words text.now) (prepend_named_digit name.now 1 (information LEAST))
         ≡ false)) }
 {
     let (pf, rest) = parse_name_and_value(text, name)?;
@@ -202,7 +205,7 @@ fn parse_bit_and_information<'a, const LEAST: usize>(
     Ok((pf, info))
 }
 
-/// The value that follows this name, and the text after the value.
+/// The value after this name, and the text after that value. The text must begin with the name.
 fn parse_name_and_value<'a>(text: &'a [u8], name: &[u8]) -> Result<(&'a [u8], &'a [u8]), LineFault>
     ensures { MatchResult result
         (λ both. words text.now ≡ name.now ∷ both.0.now ∷ words both.1.now)
@@ -221,7 +224,7 @@ fn parse_name_and_value<'a>(text: &'a [u8], name: &[u8]) -> Result<(&'a [u8], &'
     }
 }
 
-/// The value that follows this name, if it is the last word.
+/// The value after this name. The text must consist of the name and the value only.
 fn parse_last_name_and_value<'a>(text: &'a [u8], name: &[u8]) -> Result<&'a [u8], LineFault>
     ensures { MatchResult result
         (λ value. words text.now ≡ name.now ∷ value.now ∷ [])
@@ -236,48 +239,51 @@ fn parse_last_name_and_value<'a>(text: &'a [u8], name: &[u8]) -> Result<&'a [u8]
 }
 
 impl FrameWords<'_> {
-    /// Whether every word consists of the digits that its field allows.
+    /// Whether every word has only characters that its field allows and, if it is a number, is in range.
     pub(crate) fn have_valid_digits(&self) -> bool
-        ensures { result ≡ not (some_word_has has_wrong_digits (frame_fields (row self.now.kind)) (frame_line_words self.now)) }
+        ensures { result ≡ not (has_faulty_word has_wrong_digits (frame_fields (syntax self.now.kind)) (frame_line_words self.now)) }
     {
         is_digit_up_to(7, self.sapi)
             & is_digit_up_to(1, self.cr)
-            & self.fields.have_valid_digits(row(self.kind).1)
+            & self.fields.have_valid_digits(syntax(self.kind).1)
     }
 
-    /// Whether the information has as few and as many octets as its field allows.
+    /// Whether the number of information octets is within the limits of its field.
     pub(crate) fn have_valid_length(&self) -> bool
-        ensures { result ≡ not (some_word_has has_wrong_length (frame_fields (row self.now.kind)) (frame_line_words self.now)) }
+        ensures { result ≡ not (has_faulty_word has_wrong_length (frame_fields (syntax self.now.kind)) (frame_line_words self.now)) }
     {
-        let (_, shape) = row(self.kind);
+        let (_, shape) = syntax(self.kind);
         has_octet_count(
-            shape.least_information_octets(),
+            shape.min_info_octets(),
             Some(20),
             self.fields.info_word(shape),
         )
     }
 
-    /// The canonical octets of this frame on SDCCH.
+    /// The canonical octets of the frame on SDCCH.
     pub(crate) fn octets(&self) -> [u8; BLOCK_OCTETS]
-        requires digits { some_word_has has_wrong_digits (frame_fields (row self.now.kind)) (frame_line_words self.now) ≡ false }
-        requires length { some_word_has has_wrong_length (frame_fields (row self.now.kind)) (frame_line_words self.now) ≡ false }
+        requires digits { has_faulty_word has_wrong_digits (frame_fields (syntax self.now.kind)) (frame_line_words self.now) ≡ false }
+        requires length { has_faulty_word has_wrong_length (frame_fields (syntax self.now.kind)) (frame_line_words self.now) ≡ false }
         ensures { (f : Frame)
-            × (frame_from_values (F.Frame self.now.kind) (values_of_words (frame_fields (row self.now.kind))
+            × (frame_from_values (F.Frame self.now.kind) (values_of_words (frame_fields (syntax self.now.kind))
             (frame_line_words self.now)) ≡ Some f)
             × (result ≡ octets_of Channel.Sdcch f) }
     {
-        let (_, shape) = row(self.kind);
+        let (_, shape) = syntax(self.kind);
         let (room, count) = octets_of_hex_word(self.fields.info_word(shape));
-        let sapi = digit_of(self.sapi);
-        let cr = is_digit_one(self.cr);
-        let body = self.fields.of_kind(self.kind, shape, &room[..count]).body();
+        let sapi = value_of_digit(self.sapi);
+        let cr = is_word_one(self.cr);
+        let body = self
+            .fields
+            .frame_fields_of_kind(self.kind, shape, &room[..count])
+            .body();
         lapdm_frame::write(&FrameView { sapi, cr, body })
     }
 }
 
 impl FrameShape {
-    fn least_information_octets(self) -> usize
-        ensures { result ≡ least_information_octets (shape_of self) }
+    fn min_info_octets(self) -> usize
+        ensures { result ≡ min_info_octets (code_shape_of self) }
     {
         match self {
             FrameShape::NumberedInfo => 1,
@@ -288,7 +294,8 @@ impl FrameShape {
 
 impl<'a> FieldWords<'a> {
     fn have_valid_digits(&self, shape: FrameShape) -> bool
-        ensures { result ≡ not (some_word_has has_wrong_digits (shape_fields (shape_of shape)) (field_words (shape_of shape) self.now)) }
+        ensures { result ≡ not (has_faulty_word has_wrong_digits (shape_fields (code_shape_of shape))
+            (field_words (code_shape_of shape) self.now)) }
     {
         match shape {
             FrameShape::NumberedInfo => {
@@ -305,7 +312,7 @@ impl<'a> FieldWords<'a> {
     }
 
     fn info_word(&self, shape: FrameShape) -> &'a [u8]
-        ensures { result.now ≡ info_word (shape_of shape) self.now }
+        ensures { result.now ≡ info_word (code_shape_of shape) self.now }
     {
         match shape {
             FrameShape::NumberedInfo | FrameShape::WithInfo(_) => self.info,
@@ -313,18 +320,24 @@ impl<'a> FieldWords<'a> {
         }
     }
 
-    /// The fields of the frame, given its kind, the shape of that kind, and the octets of its information.
-    fn of_kind<'b>(&self, kind: Kind, shape: FrameShape, info: &'b [u8]) -> FrameFields<'b>
-        requires digits { some_word_has has_wrong_digits (shape_fields (shape_of shape)) (field_words (shape_of shape) self.now) ≡ false }
-        requires octets { info.now ≡ octets_from_hex (info_word (shape_of shape) self.now) }
-        ensures said { content_from_values (shape_of shape) kind
-            (values_of_words (shape_fields (shape_of shape)) (field_words (shape_of shape) self.now))
-            ≡ Some (content_from (fields_in result)) }
+    /// The fields of the frame, from its kind, the shape of that kind, and its information octets.
+    fn frame_fields_of_kind<'b>(
+        &self,
+        kind: Kind,
+        shape: FrameShape,
+        info: &'b [u8],
+    ) -> FrameFields<'b>
+        requires digits { has_faulty_word has_wrong_digits (shape_fields (code_shape_of shape))
+            (field_words (code_shape_of shape) self.now) ≡ false }
+        requires octets { info.now ≡ octets_from_hex (info_word (code_shape_of shape) self.now) }
+        ensures said { content_from_values (code_shape_of shape) kind
+            (values_of_words (shape_fields (code_shape_of shape)) (field_words (code_shape_of shape) self.now))
+            ≡ Some (content_of_fields (fields_in result)) }
         ensures kind { result.kind ≡ kind }
-        ensures numbers { (result.ns ≤ 7) × (result.nr ≤ 7) }
+        ensures ns_nr_fit { (result.ns ≤ 7) × (result.nr ≤ 7) }
         ensures information { result.info.now ≡ info.now }
     {
-        let pf = is_digit_one(self.pf);
+        let pf = is_word_one(self.pf);
         let bare = FrameFields {
             kind,
             ns: 0,
@@ -335,13 +348,13 @@ impl<'a> FieldWords<'a> {
         };
         match shape {
             FrameShape::NumberedInfo => FrameFields {
-                ns: digit_of(self.ns),
-                nr: digit_of(self.nr),
-                more: is_digit_one(self.more),
+                ns: value_of_digit(self.ns),
+                nr: value_of_digit(self.nr),
+                more: is_word_one(self.more),
                 ..bare
             },
             FrameShape::Supervisory => FrameFields {
-                nr: digit_of(self.nr),
+                nr: value_of_digit(self.nr),
                 ..bare
             },
             FrameShape::WithInfo(_) | FrameShape::WithoutInfo(_) => bare,
@@ -349,9 +362,9 @@ impl<'a> FieldWords<'a> {
     }
 }
 
-fn is_digit_one(word: &[u8]) -> bool
+fn is_word_one(word: &[u8]) -> bool
     requires { IsTrue (is_digit_up_to 1 word.now) }
-    ensures { result ≡ is_set (slice_index word.now 0 - 48) }
+    ensures { result ≡ is_bit_set (slice_index word.now 0 - 48) }
 {
     word[0] == b'1'
 }

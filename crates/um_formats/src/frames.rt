@@ -1,19 +1,19 @@
-//! Writes the lines of frames.
+//! Writes frames as text lines.
 ghost use Rattle.std.specs.Prelude.{◌≡◌, ℕ, ◌+◌, ◌<◌, ◌≤◌, List, [], ◌∷◌, ◌++◌, length, codes};
 ghost use Rattle.lapdm_frame.specs.Content.{frame_of, fields_in};
-ghost use Rattle.lapdm_frame.specs.Frames.{bit, Fits};
+ghost use Rattle.lapdm_frame.specs.Frames.{bit, FrameFits};
 ghost use Rattle.um_lines.specs.Fields.{FixedWord};
 ghost use Rattle.um_lines.specs.ShowForms.{shape_fields};
 ghost use Rattle.um_lines.specs.Spelled.{octets_word, line_of_values};
 ghost use Rattle.um_formats.specs.FrameTexts.{shape_values, frame_text, refusal_word, unread_text, octets_text, IsTextOfOctets};
-ghost use Rattle.um_formats.specs.ShowReading.{shape_of, bit_name, digit};
+ghost use Rattle.um_formats.specs.ShowReading.{code_shape_of, pf_bit_name, digit};
 
-use crate::frame_words::{FrameShape, row};
+use crate::frame_words::{FrameShape, syntax};
 use lapdm_frame::{Channel, FrameFields, FrameView, Refusal};
 use um_block::BLOCK_OCTETS;
 use um_lines::Text;
 
-/// Writes the line of the frame in a block on SDCCH, or `unread` and the reason why the block is refused as a frame.
+/// Writes the text line of the frame in an SDCCH block, or `unread` and the reason if the block is not a valid frame.
 pub fn frame_line(out: &mut Text, octets: &[u8; BLOCK_OCTETS])
     requires { out.old ≡ [] }
     ensures line { IsTextOfOctets octets.now out.new }
@@ -22,7 +22,7 @@ pub fn frame_line(out: &mut Text, octets: &[u8; BLOCK_OCTETS])
     push_frame(out, octets);
 }
 
-/// Writes the line `octets HEX46`.
+/// Writes the line `octets HEX46` for 23 octets.
 pub fn octets_line(out: &mut Text, octets: &[u8; BLOCK_OCTETS])
     requires { out.old ≡ [] }
     ensures line { out.new ≡ octets_text octets.now }
@@ -33,7 +33,7 @@ pub fn octets_line(out: &mut Text, octets: &[u8; BLOCK_OCTETS])
     out.push(b"\n");
 }
 
-/// Appends the line that `frame_line` writes.
+/// Appends the text line of the frame in an SDCCH block, or `unread` and the reason if the block is not a valid frame.
 pub(crate) fn push_frame(out: &mut Text, octets: &[u8; BLOCK_OCTETS])
     requires { length out.old + 100 ≤ 4096 }
     ensures text { (text : List ℕ) × IsTextOfOctets octets.now text × (out.new ≡ out.old ++ text) }
@@ -47,12 +47,12 @@ pub(crate) fn push_frame(out: &mut Text, octets: &[u8; BLOCK_OCTETS])
 
 fn push_frame_view(out: &mut Text, f: &FrameView<'_>)
     requires space { length out.old + 100 ≤ 4096 }
-    requires fits { Fits Channel.Sdcch (frame_of f.now) }
+    requires fits { FrameFits Channel.Sdcch (frame_of f.now) }
     ensures text { out.new ≡ out.old ++ frame_text (frame_of f.now) }
     ensures length { length out.new ≤ length out.old + 100 }
 {
     let fields = f.body.fields();
-    let (word, shape) = row(fields.kind);
+    let (word, shape) = syntax(fields.kind);
     push_number(out, b"frame sapi ", f.sapi);
     push_named_bit(out, b" cr ", f.cr);
     push_fields(out, word, shape, &fields);
@@ -62,11 +62,11 @@ fn push_frame_view(out: &mut Text, f: &FrameView<'_>)
 fn push_fields(out: &mut Text, word: &[u8], shape: FrameShape, f: &FrameFields<'_>)
     requires space { length out.old + 75 ≤ 4096 }
     requires size { length word.now ≤ 4 }
-    requires name { length (bit_name (shape_of shape)) ≤ 1 }
-    requires numbers { (f.now.ns ≤ 7) × (f.now.nr ≤ 7) }
+    requires name { length (pf_bit_name (code_shape_of shape)) ≤ 1 }
+    requires ns_nr_fit { (f.now.ns ≤ 7) × (f.now.nr ≤ 7) }
     requires information { length f.now.info.now ≤ 20 }
-    ensures text { out.new ≡ out.old ++ 32 ∷ line_of_values (FixedWord word.now ∷ shape_fields (shape_of shape))
-        (shape_values (shape_of shape) (fields_in f.now)) }
+    ensures text { out.new ≡ out.old ++ 32 ∷ line_of_values (FixedWord word.now ∷ shape_fields (code_shape_of shape))
+        (shape_values (code_shape_of shape) (fields_in f.now)) }
     ensures length { length out.new ≤ length out.old + 75 }
 {
     out.push(b" ");
@@ -90,7 +90,7 @@ fn push_fields(out: &mut Text, word: &[u8], shape: FrameShape, f: &FrameFields<'
 
 fn push_i_frame_fields(out: &mut Text, f: &FrameFields<'_>)
     requires space { length out.old + 18 ≤ 4096 }
-    requires numbers { (f.now.ns ≤ 7) × (f.now.nr ≤ 7) }
+    requires ns_nr_fit { (f.now.ns ≤ 7) × (f.now.nr ≤ 7) }
     ensures text { out.new ≡ out.old ++ (codes " ns " ++ digit f.now.ns ++ codes " nr " ++ digit f.now.nr
         ++ codes " p " ++ digit (bit f.now.pf) ++ codes " m " ++ digit (bit f.now.more)) }
     ensures length { length out.new ≡ length out.old + 18 }

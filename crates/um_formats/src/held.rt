@@ -1,5 +1,6 @@
-//! Holds the bursts of an unfinished block.
-ghost use Rattle.std.specs.Prelude.{◌≡◌, ◌-◌, ◌≤◌, ℕ, List, [], length, map, IsTrue, IfOk, OnErr, MatchOption};
+//! A buffer for the bursts of an incomplete block.
+ghost use Rattle.std.specs.Prelude.{◌≡◌, ◌-◌, ◌≤◌, ℕ, pos, List, [], length, map, replicate, IsTrue, IfOk, OnErr};
+ghost use Rattle.std.specs.Prelude.{MatchOption};
 ghost use Rattle.std.specs.List.{All, list_all};
 ghost use Rattle.std.specs.Result.{result_err};
 ghost use Rattle.um_block.specs.conv_code.Likelihood.{AllSoftBits};
@@ -7,11 +8,12 @@ ghost use Rattle.um_block.specs.Received.{soft_bits};
 ghost use Rattle.um_lines.specs.Fields.{is_bit_digit};
 ghost use Rattle.um_formats.specs.SoftOctets.{signed_octets};
 ghost use Rattle.um_formats.specs.declared.burst_lines.BurstLine.{BurstLine as Meaning};
-ghost use Rattle.um_formats.specs.BurstLines.{burst_fault, BurstMeans};
-ghost use Rattle.um_formats.specs.Held.{AddsNormalBurst, HoldsLine, IsHardLine, IsSoftNormalLine, IsLineResult, HasOnlySoftValues};
-ghost use Rattle.um_formats.specs.Held.{next_after_normal_burst};
+ghost use Rattle.um_formats.specs.BurstLines.{burst_fault, BurstLineMeans};
+ghost use Rattle.um_formats.specs.Held.{AddsNormalBurst, HoldsBurstOfLine, IsHardNormalLine, IsSoftNormalLine, IsBurstLineResult};
+ghost use Rattle.um_formats.specs.Held.{HasOnlySoftValues};
+ghost use Rattle.um_formats.specs.Held.{normal_burst_result};
 
-use crate::burst_lines::{BurstLine, hard_digits, parse_burst, soft_digits};
+use crate::burst_lines::{BurstLine, hard_line_digits, parse_burst, soft_digits};
 use crate::soft_digits::{has_minus_128, write_hard_values, write_signed_values};
 use std::marker::Model;
 use um_block::{BURST_BITS, Bits};
@@ -24,7 +26,7 @@ pub struct HeldBursts {
     count: u8,
 }
 
-// In contracts, a `HeldBursts` stands for the list of held bursts and the whole buffer.
+// In contracts, a `HeldBursts` stands for the bursts of the incomplete block and for the whole buffer.
 impl Model for HeldBursts {
     ghost use Rattle.std.specs.Prelude.{◌≤◌, take};
     ghost use Rattle.std.specs.List.{All};
@@ -38,12 +40,12 @@ impl Model for HeldBursts {
     ghost invariant = { λ h. (h.count ≤ 3) × All AllSoftBits h.bursts };
 }
 
-/// The result of a line. Normal bursts are held until their block is complete.
+/// The result of a line of `replay`: nothing, a burst, or a complete block.
 #[derive(Clone, Copy, Drop)]
-pub enum NextBurst {
+pub enum BurstLineResult {
     /// Nothing: an empty line, or one that begins with `#`.
     Skip,
-    /// A normal burst, which is held until the block is complete.
+    /// A normal burst, which is held until its block is complete.
     Held,
     /// The fourth burst of a block. `HeldBursts::block` returns the whole block.
     Block,
@@ -56,7 +58,8 @@ pub enum NextBurst {
 impl HeldBursts {
     /// An empty buffer.
     pub fn new() -> HeldBursts
-        ensures { result.held ≡ [] }
+        ensures held { result.held ≡ [] }
+        ensures places { result.places ≡ replicate 4 (replicate BURST_BITS (pos 0)) }
     {
         HeldBursts {
             bursts: [[0; BURST_BITS]; 4],
@@ -64,7 +67,7 @@ impl HeldBursts {
         }
     }
 
-    /// The number of bursts held, 0 to 3.
+    /// The number of bursts of the incomplete block, 0 to 3.
     pub fn count(&self) -> u8
         ensures count { result ≡ length self.now.held }
         ensures size { result ≤ 3 }
@@ -72,7 +75,7 @@ impl HeldBursts {
         self.count
     }
 
-    /// The last complete block.
+    /// The four bursts in the buffer, which are the last complete block until another burst is added.
     pub fn block(&self) -> &[[i8; BURST_BITS]; 4]
         ensures bursts { result.now ≡ self.now.places }
         ensures soft { All AllSoftBits result.now }
@@ -80,7 +83,7 @@ impl HeldBursts {
         &self.bursts
     }
 
-    /// Adds a burst. Returns true if it completes a block.
+    /// Adds a normal burst to the buffer, and returns true if it completes a block.
     #[tactic(auto, using(crate::proofs::BurstLaws::fourth_burst_completes))]
     pub fn add(&mut self, burst: [i8; BURST_BITS]) -> bool
         requires { AllSoftBits burst }
@@ -96,7 +99,7 @@ impl HeldBursts {
         }
     }
 
-    /// Adds the burst that these digits `0` and `1` stand for. Returns true if it completes a block.
+    /// Adds the burst whose hard bits are written as these digits, and returns true if it completes a block.
     #[tactic(auto, using(crate::proofs::BurstLaws::fourth_burst_completes))]
     fn add_hard_burst(&mut self, digits: &[u8]) -> bool
         requires each { IsTrue (list_all is_bit_digit digits.now) }
@@ -113,7 +116,7 @@ impl HeldBursts {
         }
     }
 
-    /// Adds the burst whose soft values are these octets. Returns true if it completes a block.
+    /// Adds the burst whose soft values are these octets, and returns true if it completes a block.
     #[tactic(auto, using(crate::proofs::BurstLaws::fourth_burst_completes))]
     fn add_soft_burst(&mut self, octets: &[u8; BURST_BITS]) -> bool
         requires { AllSoftBits (signed_octets octets.now) }
@@ -130,24 +133,25 @@ impl HeldBursts {
     }
 }
 
-/// Parses a line as `parse_burst` does. A normal burst is written directly into `held`; any other line, or an error, leaves `held`
-/// unchanged.
+/// Adds the burst in a valid line `n DIGITS148` or `N HEX296` to `held`, and returns whether it completes a block. For any other line,
+/// returns `None` and leaves `held` unchanged.
 #[inline(always)]
-pub fn hold_normal(line: &[u8], held: &mut HeldBursts) -> Option<bool>
+pub fn hold_normal_burst(line: &[u8], held: &mut HeldBursts) -> Option<bool>
     ensures { MatchOption result
-        ((held.new ≡ held.old) × ((digits : List ℕ) → (¬ IsHardLine line.now digits) × (¬ IsSoftNormalLine line.now digits)))
-        (HoldsLine held.old line.now held.new) }
+        ((held.new ≡ held.old) × ((digits : List ℕ) →
+        (¬ IsHardNormalLine line.now digits) × (¬ IsSoftNormalLine line.now digits)))
+        (HoldsBurstOfLine held.old line.now held.new) }
 {
-    match hard_digits(line) {
+    match hard_line_digits(line) {
         Some(digits) => Some(held.add_hard_burst(digits)),
-        None => hold_soft(line, held),
+        None => hold_soft_burst(line, held),
     }
 }
 
 #[inline(never)]
-fn hold_soft(line: &[u8], held: &mut HeldBursts) -> Option<bool>
+fn hold_soft_burst(line: &[u8], held: &mut HeldBursts) -> Option<bool>
     ensures { MatchOption result ((held.new ≡ held.old) × ((digits : List ℕ) → ¬ IsSoftNormalLine line.now digits))
-        (HoldsLine held.old line.now held.new) }
+        (HoldsBurstOfLine held.old line.now held.new) }
 {
     let digits = soft_digits(line)?;
     let mut octets = [0; BURST_BITS];
@@ -158,29 +162,29 @@ fn hold_soft(line: &[u8], held: &mut HeldBursts) -> Option<bool>
     Some(held.add_soft_burst(&octets))
 }
 
-/// Parses a line as `parse_burst` does, and adds a normal burst to `held`. Any other line, and an error, leave `held` unchanged.
+/// Parses a line as `parse_burst` does, and adds a normal burst to `held`. Any other line, or a fault, leaves `held` unchanged.
 #[inline(never)]
-pub fn read_burst_into(line: &[u8], held: &mut HeldBursts) -> Result<NextBurst, LineFault>
-    ensures means { IfOk result (λ next. (meaning : Meaning) × BurstMeans (length held.old.held) line.now meaning
-        × IsLineResult held.old meaning next held.new) }
+pub fn read_burst_into(line: &[u8], held: &mut HeldBursts) -> Result<BurstLineResult, LineFault>
+    ensures means { IfOk result (λ next. (meaning : Meaning) × BurstLineMeans (length held.old.held) line.now meaning
+        × IsBurstLineResult held.old meaning next held.new) }
     ensures refused { result_err result ≡ burst_fault (length held.old.held) line.now }
     ensures soft { IfOk result HasOnlySoftValues }
     ensures unchanged { OnErr result (held.new ≡ held.old) }
 {
     match parse_burst(line, held.count())? {
-        BurstLine::Skip => Ok(NextBurst::Skip),
-        BurstLine::Normal(burst) => Ok(next_after_normal_burst(held.add(burst))),
-        BurstLine::Access { bsic, soft } => Ok(NextBurst::Access { bsic, soft }),
-        BurstLine::Sync(burst) => Ok(NextBurst::Sync(burst)),
+        BurstLine::Skip => Ok(BurstLineResult::Skip),
+        BurstLine::Normal(burst) => Ok(normal_burst_result(held.add(burst))),
+        BurstLine::Access { bsic, soft } => Ok(BurstLineResult::Access { bsic, soft }),
+        BurstLine::Sync(burst) => Ok(BurstLineResult::Sync(burst)),
     }
 }
 
-fn next_after_normal_burst(whole: bool) -> NextBurst
-    ensures { result ≡ next_after_normal_burst whole }
+fn normal_burst_result(whole: bool) -> BurstLineResult
+    ensures { result ≡ normal_burst_result whole }
 {
     if whole {
-        NextBurst::Block
+        BurstLineResult::Block
     } else {
-        NextBurst::Held
+        BurstLineResult::Held
     }
 }

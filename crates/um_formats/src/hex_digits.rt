@@ -1,11 +1,11 @@
-//! Reads words of at most 20 octets.
+//! Parses words that represent at most 20 octets.
 ghost use Rattle.std.specs.Prelude.{◌≡◌, ◌≤◌, length, take, IsTrue};
 ghost use Rattle.um_lines.specs.Fields.{is_dash_or_hex, octets_from_hex, octet_count};
 ghost use Rattle.um_formats.specs.ShowReading.{is_octets_word};
 
 use um_lines::write_octets_from_hex;
 
-/// The octets that a word stands for, at the beginning of the array, and their number.
+/// The octets that a word represents, at the front of the array, and their number.
 pub(crate) fn octets_of_hex_word(word: &[u8]) -> ([u8; 20], usize)
     requires each { IsTrue (is_dash_or_hex word.now) }
     requires well { IsTrue (is_octets_word word.now) }

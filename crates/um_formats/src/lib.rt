@@ -1,4 +1,4 @@
-//! Parses the lines that `code`, `replay` and `show` read, and writes their answers.
+//! Parses the input lines of `code`, `replay` and `show`, and writes their output lines.
 #![tactic(auto)]
 
 mod burst_lines;
@@ -14,14 +14,14 @@ mod show;
 mod soft_digits;
 
 pub use burst_lines::{
-    BurstLine, law_one_burst_meaning, law_written_bursts_read_back, parse_burst,
+    BurstLine, law_burst_meaning_is_unique, law_written_bursts_read_back, parse_burst,
 };
 pub use bursts::{access_line, block_lines, normal_line, push_block, sync_line};
-pub use code::{CodeLine, law_one_code_meaning, parse_code};
+pub use code::{CodeLine, law_code_meaning_is_unique, parse_code};
 pub use frames::{frame_line, octets_line};
-pub use held::{HeldBursts, NextBurst, hold_normal, read_burst_into};
+pub use held::{BurstLineResult, HeldBursts, hold_normal_burst, read_burst_into};
 pub use reports::{access_report, block_report, sync_report};
-pub use show::{ShowLine, law_one_show_meaning, law_written_frames_read_back, parse_show};
+pub use show::{ShowLine, law_show_meaning_is_unique, law_written_frames_read_back, parse_show};
 pub use um_block::{
     BLOCK_BITS, BLOCK_OCTETS, BURST_BITS, Bits, Received, ReceivedAccess, ReceivedSync,
     from_octets, to_octets,

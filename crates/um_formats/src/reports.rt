@@ -1,8 +1,8 @@
-//! Writes the reports on received blocks and bursts.
+//! Writes the reports on received blocks and bursts as text lines.
 ghost use Rattle.std.specs.Prelude.{◌≡◌, ◌+◌, ◌-◌, ◌<◌, ◌≤◌, [], ◌++◌, length, take, drop};
 ghost use Rattle.um_block.specs.bit_blocks.Bits.{AllBits};
 ghost use Rattle.um_block.specs.bit_blocks.Octets.{bits_of, octets_of};
-ghost use Rattle.hex.specs.Hex.{encode_lower};
+ghost use Rattle.um_lines.specs.Hex.{encode_lower};
 ghost use Rattle.um_lines.specs.Fields.{bit_digits};
 ghost use Rattle.um_formats.specs.Reports.{crc_word, quality_text, data_and_check_text, block_report_line, IsBlockReport};
 ghost use Rattle.um_formats.specs.Reports.{access_report_text};
@@ -12,7 +12,7 @@ use crate::frames::push_frame;
 use um_block::{BLOCK_BITS, BLOCK_OCTETS, Bits, Received, ReceivedAccess, ReceivedSync};
 use um_lines::{Text, octets_from_bits_at};
 
-/// Writes the report of a block and, if its CRC holds, the line of its frame.
+/// Writes the report on a block and, if its CRC holds, the text line of the frame in it.
 pub fn block_report(out: &mut Text, r: &Received)
     requires { out.old ≡ [] }
     ensures report { IsBlockReport r.now out.new }
@@ -24,7 +24,7 @@ pub fn block_report(out: &mut Text, r: &Received)
     }
 }
 
-/// Writes the report on an access burst. `bsic` is the identity code (BSIC) with which its CRC was checked.
+/// Writes the report on an access burst. `bsic` is the base station identity code (BSIC) with which its CRC was checked.
 pub fn access_report(out: &mut Text, bsic: &Bits<6>, r: &ReceivedAccess)
     requires { out.old ≡ [] }
     ensures report { out.new ≡ access_report_text bsic.now r.now }
@@ -36,7 +36,7 @@ pub fn access_report(out: &mut Text, bsic: &Bits<6>, r: &ReceivedAccess)
     push_bits(out, &r.u, 8, 14);
 }
 
-/// Writes the report of a synchronisation burst.
+/// Writes the report on a synchronisation burst.
 pub fn sync_report(out: &mut Text, r: &ReceivedSync)
     requires { out.old ≡ [] }
     ensures report { out.new ≡ sync_report_text r.now }
@@ -72,17 +72,22 @@ fn push_quality(out: &mut Text, wrong: u32, metric: i32, holds: bool)
     out.push(b" metric ");
     out.push(itoa::Buffer::new().format(metric).as_bytes());
     out.push(b" parity ");
-    out.push(parity(holds));
+    push_crc_word(out, holds);
 }
 
-fn parity(holds: bool) -> &'static [u8]
-    ensures word { result.now ≡ crc_word holds }
-    ensures size { length result.now ≤ 3 }
+fn push_crc_word(out: &mut Text, holds: bool)
+    requires { length out.old + 3 ≤ 4096 }
+    ensures text { out.new ≡ out.old ++ crc_word holds }
+    ensures size { length out.new ≤ length out.old + 3 }
 {
-    if holds { b"ok" } else { b"bad" }
+    if holds {
+        out.push(b"ok");
+    } else {
+        out.push(b"bad");
+    }
 }
 
-// Appends the first `place` bits of the word as the data, and the bits from there to `end` as the CRC.
+// Appends the first `place` bits of `word` as the data, and the bits from `place` up to `end` as the CRC.
 fn push_bits<const N: usize>(out: &mut Text, word: &Bits<N>, place: usize, end: usize)
     requires space { length out.old + end + 14 ≤ 4096 }
     requires order { place ≤ end }
@@ -105,7 +110,7 @@ fn push_data_and_check(out: &mut Text, octets: &[u8], check: &[u8])
     ensures text { out.new ≡ out.old ++ data_and_check_text (encode_lower octets.now) (encode_lower check.now) }
     ensures length { length out.new ≡ length out.old + 70 }
 
-    // Octets are unchanged if they are unpacked to bits and packed again.
+    // Unpacking octets to bits and packing the bits again gives the original octets.
     ensures octets { octets_of (bits_of octets.now) ≡ octets.now }
     ensures check { octets_of (bits_of check.now) ≡ check.now }
 {

@@ -1,16 +1,16 @@
-//! Parses the lines of the command `show`.
+//! Parses the input lines of the `show` command.
 ghost use Rattle.std.specs.Prelude.{◌≡◌, ℕ, ◌<◌, List, Some, ◌∷◌, ◌++◌, length, IfOk, codes};
 ghost use Rattle.std.specs.List.{All};
 ghost use Rattle.std.specs.Result.{result_err};
 ghost use Rattle.lapdm_frame.specs.Content.{Frame, information};
-ghost use Rattle.lapdm_frame.specs.Frames.{IsCanonical};
+ghost use Rattle.lapdm_frame.specs.Frames.{IsCanonicalCoding};
 ghost use Rattle.um_lines.specs.Words.{words};
 ghost use Rattle.um_lines.specs.Fields.{Value};
 ghost use Rattle.um_lines.specs.Forms.{LineMeans, no_order_fault};
 ghost use Rattle.um_lines.specs.ShowForms.{ShowLineKind, show_forms};
-ghost use Rattle.um_lines.specs.Meanings.{HasOneMeaningUnless};
+ghost use Rattle.um_lines.specs.Meanings.{HasOneMeaningOrFault};
 ghost use Rattle.um_formats.specs.FrameTexts.{frame_text, octets_text, IsTextOfOctets};
-ghost use Rattle.um_formats.specs.ShowLines.{frame_from_values, show_fault, ShowMeans, parsed_show};
+ghost use Rattle.um_formats.specs.ShowLines.{frame_from_values, show_fault, ShowLineMeans, parsed_show};
 ghost use Rattle.um_formats.specs.WrittenBursts.{IsUnskippedLine};
 
 use crate::frame_words::frame_words;
@@ -18,23 +18,23 @@ use lapdm_frame::Channel;
 use um_block::BLOCK_OCTETS;
 use um_lines::{LINE_LIMIT, LineFault, are_hex_digits, is_skipped, octets_of, parse_only_word};
 
-/// What a line of `show` means.
+/// The meaning of a line of `show`.
 #[derive(Clone, Copy, PartialEq, Eq, Debug)]
 pub enum ShowLine {
     /// Nothing: an empty line, or one that begins with `#`.
     Skip,
-    /// Octets, for which the frame is to be written.
+    /// A line with 23 octets; the output is the text line of the frame in them.
     Octets([u8; BLOCK_OCTETS]),
-    /// The canonical octets on SDCCH of a frame that the line spells; they are to be written.
+    /// A line with a frame; the output is the canonical octets of the frame on SDCCH, which are stored here.
     Frame([u8; BLOCK_OCTETS]),
 }
 
-/// Parses a line of `show`, without its line feed: `octets HEX46`, or a frame in the form in which `frame_line` writes it. Hexadecimal
-/// digits may be in upper or lower case.
+/// Parses a line of `show`, without its line feed: `octets HEX46`, or a frame as `frame_line` writes it. Hexadecimal digits may be in upper
+/// or lower case.
 ///
-/// If several errors apply, the first in this order is returned, whatever its place in the line: `Long`, `Word`, `Digits`, `Length`.
+/// If several errors apply, the first in this order is returned, wherever it occurs in the line: `Long`, `Word`, `Digits`, `Length`.
 pub fn parse_show(line: &[u8]) -> Result<ShowLine, LineFault>
-    ensures means { IfOk result (ShowMeans line.now) }
+    ensures means { IfOk result (ShowLineMeans line.now) }
     ensures refused { result_err result ≡ show_fault line.now }
 {
     if line.len() > LINE_LIMIT {
@@ -46,7 +46,6 @@ pub fn parse_show(line: &[u8]) -> Result<ShowLine, LineFault>
     parse_words(line)
 }
 
-#[inline(never)]
 fn parse_words(line: &[u8]) -> Result<ShowLine, LineFault>
     ensures { result ≡ parsed_show (words line.now) }
 {
@@ -59,7 +58,7 @@ fn parse_words(line: &[u8]) -> Result<ShowLine, LineFault>
     }
 }
 
-// A text that consists of digits is one word. Only other texts are searched for a space, to choose the right error.
+// Parses the word after `octets`. Only a text that is not all digits is searched for a space, to choose the right error.
 #[tactic(auto, using(crate::proofs::DigitWords::hex_word, crate::proofs::DigitWords::whole_word))]
 fn parse_octets(rest: &[u8]) -> Result<ShowLine, LineFault>
     ensures { result ≡ parsed_show (codes "octets" ∷ words rest.now) }
@@ -87,20 +86,20 @@ fn parse_frame(rest: &[u8]) -> Result<ShowLine, LineFault>
     Ok(ShowLine::Frame(found.octets()))
 }
 
-/// A line that is not refused has exactly one meaning; a line that is refused has none.
-pub fn law_one_show_meaning()
-    ensures { (line : List ℕ) → HasOneMeaningUnless (show_fault line) (ShowMeans line) }
+/// Law: a line that is not refused has exactly one meaning; a line that is refused has none.
+pub fn law_show_meaning_is_unique()
+    ensures { (line : List ℕ) → HasOneMeaningOrFault (show_fault line) (ShowLineMeans line) }
 {}
 
-/// Parsing the line written for octets gives these octets. Parsing the line written for the frame in canonical octets on SDCCH gives these
-/// octets. For the octets of a line that spells a frame, that frame is written.
+/// Law: written lines read back: the line written for octets parses to those octets, and the line written for the frame in canonical SDCCH
+/// octets parses to the same octets. Conversely, the octets of a frame's line are written as the line of that frame.
 pub fn law_written_frames_read_back()
     ensures octets { (octets line : List ℕ) → length octets ≡ BLOCK_OCTETS → All (λ octet. octet < 256) octets
-        → octets_text octets ≡ line ++ codes "\n" → IsUnskippedLine line × ShowMeans line (ShowLine.Octets octets) }
-    ensures canonical { (f : Frame) (octets text line : List ℕ) → IsCanonical Channel.Sdcch f octets
+        → octets_text octets ≡ line ++ codes "\n" → IsUnskippedLine line × ShowLineMeans line (ShowLine.Octets octets) }
+    ensures canonical { (f : Frame) (octets text line : List ℕ) → IsCanonicalCoding Channel.Sdcch f octets
         → All (λ octet. octet < 256) (information f.content) → IsTextOfOctets octets text
-        → text ≡ line ++ codes "\n" → IsUnskippedLine line × ShowMeans line (ShowLine.Frame octets) }
-    ensures again { (written octets : List ℕ) → ShowMeans written (ShowLine.Frame octets)
+        → text ≡ line ++ codes "\n" → IsUnskippedLine line × ShowLineMeans line (ShowLine.Frame octets) }
+    ensures again { (written octets : List ℕ) → ShowLineMeans written (ShowLine.Frame octets)
         → (name : ShowLineKind) × (values : List Value) × (f : Frame)
         × LineMeans show_forms no_order_fault written (Some (name, values)) × (frame_from_values name values ≡ Some f)
         × ((text : List ℕ) → IsTextOfOctets octets text → text ≡ frame_text f) }

@@ -1,7 +1,7 @@
-//! Reads words of hard bits and soft values.
+//! Parses text fields that hold hard bits or soft values, written as digits.
 ghost use Rattle.std.specs.Prelude.{◌≡◌, ◌-◌, ◌*◌, ◌==◌, length, map, true, false, IsTrue, MatchResult};
 ghost use Rattle.std.specs.List.{list_all, list_any};
-ghost use Rattle.hex.specs.Hex.{is_hex_digit};
+ghost use Rattle.um_lines.specs.Hex.{is_hex_digit};
 ghost use Rattle.um_block.specs.bit_blocks.SoftValues.{AllSoftBits};
 ghost use Rattle.um_lines.specs.Fields.{octets_from_hex, is_bit_digit};
 ghost use Rattle.um_block.specs.Received.{soft_bit_of, soft_bits};
@@ -9,7 +9,7 @@ ghost use Rattle.um_formats.specs.SoftOctets.{signed_octets};
 
 use um_lines::{LineFault, octets_of};
 
-/// The bits of `N` digits as soft values: 127 for 0, -127 for 1.
+/// The soft values of `N` hard bits, written as digits: 127 for `0`, -127 for `1`.
 pub(crate) fn hard_values<const N: usize>(digits: &[u8]) -> [i8; N]
     requires each { IsTrue (list_all is_bit_digit digits.now) }
     requires size { length digits.now ≡ N }
@@ -20,7 +20,7 @@ pub(crate) fn hard_values<const N: usize>(digits: &[u8]) -> [i8; N]
     values
 }
 
-/// Writes the bits of `N` digits as soft values: 127 for 0, -127 for 1.
+/// Writes the soft values of `N` hard bits, given as digits: 127 for `0`, -127 for `1`.
 pub(crate) fn write_hard_values<const N: usize>(digits: &[u8], values: &mut [i8; N])
     requires each { IsTrue (list_all is_bit_digit digits.now) }
     requires size { length digits.now ≡ N }
@@ -36,10 +36,10 @@ fn hard_value(digit: u8) -> i8
     requires { IsTrue (is_bit_digit digit) }
     ensures { result ≡ soft_bit_of (digit - 48) }
 {
-    if digit == b'0' { 127 } else { -127 }
+    (2 * (digit - b'0') + 127).cast_signed()
 }
 
-/// The soft values that `2 * N` hexadecimal digits stand for, or the error `Soft` if one of them is -128.
+/// The soft values that `2 * N` hexadecimal digits represent, or the fault `Soft` if one of them is -128.
 pub(crate) fn soft_values<const N: usize>(digits: &[u8]) -> Result<[i8; N], LineFault>
     requires each { IsTrue (list_all is_hex_digit digits.now) }
     requires size { length digits.now ≡ 2 * N }
@@ -57,7 +57,7 @@ pub(crate) fn soft_values<const N: usize>(digits: &[u8]) -> Result<[i8; N], Line
     Ok(values)
 }
 
-// Whether one of the octets is 0x80, which stands for -128.
+// Whether one of the octets is 0x80, the soft value -128.
 pub(crate) fn has_minus_128(octets: &[u8]) -> bool
     ensures { result ≡ list_any (λ octet. octet == 128) octets.now }
 {

@@ -1,8 +1,9 @@
 -- The lines that a line reader answers before it ends are the lines of its source: by induction over the calls, each of which takes one
 -- line off the front of the octets.
-use Rattle.std.proofs.Common.{◌≡◌, ◌<◌, ◌+◌, ◌⊎◌, ℕ, Bool, true, false, List, [], ◌∷◌, ◌++◌, length, Option, None, Some, refl, sym, ap}
-use Rattle.std.proofs.{Common.{subst, ◌∙◌, arith, inl, inr, ⊎_elim}, lemmas.List.{append-nil, append_assoc, length-append, nil_from_length}}
-use Rattle.std.{proofs.lemmas.{List.Elements.{All-nil, All-cons}, Bool.{false≢true, cases_Bool}}, specs.List.All}
+use Rattle.std.proofs.Common.{◌≡◌, ◌<◌, ◌+◌, ◌⊎◌, ℕ, Bool, true, false, List, [], ◌∷◌, ◌++◌, length, Option}
+use Rattle.std.proofs.{Common.{None, Some, refl, sym, ap, subst, ◌∙◌, arith, inl, inr, ⊎_elim}, lemmas.List.append-nil}
+use Rattle.std.proofs.lemmas.{List.{append_assoc, length-append, nil_from_length, Elements.{All-nil, All-cons}}, Bool.false≢true}
+use Rattle.std.{proofs.lemmas.Bool.cases_Bool, specs.List.All}
 use Rattle.um_io.specs.{declared.lines.Next.{TheVariants.{Line, End, Long, TooMany, Failed}, Next}, Lines.{IsLine, text_of_lines}}
 use Rattle.um_io.specs.{Lines.{EndsWithoutLineFeed, IsDivided, lines_of_octets}, Reading.{Reading, IsValidReader, reader_at_start}}
 use Rattle.um_io.specs.{Next.{IsLineAnswered, AreOctetsHeld, IsReaderStep}, Answers.{AnswersLines, DividesReadOctets, EndsReaderWith}}
@@ -19,8 +20,9 @@ IsDivided-line line octets lines plain divided =
           (λ (cut : EndsWithoutLineFeed octets lines). inr record {
             front = line ∷ cut.front;
             last = cut.last;
-            lines_are = ap (λ l. line ∷ l) cut.lines_are;
-            octets_are = ap (λ l. line ++ 10 ∷ l) cut.octets_are ∙ sym (append_assoc line (10 ∷ text_of_lines cut.front) cut.last);
+            lines_split = ap (λ l. line ∷ l) cut.lines_split;
+            octets_split = ap (λ l. line ++ 10 ∷ l) cut.octets_split
+                ∙ sym (append_assoc line (10 ∷ text_of_lines cut.front) cut.last);
             some = cut.some;
           })
           divided.whole;
@@ -31,11 +33,12 @@ IsDivided-last : (line : List ℕ) → IsLine line → 0 < length line → IsDiv
 IsDivided-last line plain some =
     record {
       plain = All-cons IsLine line [] plain (All-nil IsLine);
-      whole = inr record { front = []; last = line; lines_are = refl; octets_are = refl; some = some };
+      whole = inr record { front = []; last = line; lines_split = refl; octets_split = refl; some = some };
     }
 
 -- once the source has ended and nothing is held, no further line is answered
-no_more : (r r' : Reading) (left left' : Option (List ℕ)) (lines : List (List ℕ)) (came : List ℕ) → r.held ++ r.past ≡ [] → r.ended ≡ true
+no_more : (r r' : Reading) (left left' : Option (List ℕ)) (lines : List (List ℕ)) (came : List ℕ) → r.held ++ r.past ≡ [] →
+    r.ended ≡ true
     → AnswersLines r left lines came r' left' → (lines ≡ []) × (came ≡ [])
 no_more r r' left left' [] came none ended answers = (refl, answers.0)
 no_more r r' left left' (line ∷ lines) came none ended answers =
@@ -101,7 +104,8 @@ pub record IsLeft (octets came : List ℕ) (left' : Option (List ℕ)) (ended : 
   pub whole : octets ≡ came ++ rest
   pub end : ended ≡ true → rest ≡ []
 
-IsLeft-step : (r r' : Reading) (octets : List ℕ) (left' : Option (List ℕ)) (next : Next) (came : List ℕ) → (r.ended ≡ true → octets ≡ [])
+IsLeft-step : (r r' : Reading) (octets : List ℕ) (left' : Option (List ℕ)) (next : Next) (came : List ℕ) →
+    (r.ended ≡ true → octets ≡ [])
     → IsReaderStep r r' (Some octets) left' next came → IsLeft octets came left' r'.ended
 IsLeft-step r r' octets None next came known step = absurd step.bytes
 IsLeft-step r r' octets (Some rest) next came known step =
@@ -141,8 +145,10 @@ IsLeft-answers (line ∷ lines) r r' octets came left' known answers =
     }
 
 -- the lines answered up to the end are the lines of all the octets of the source
-lines_of_octets-answers : (octets : List ℕ) (lines : List (List ℕ)) (came last : List ℕ) (r r' : Reading) (left left' : Option (List ℕ))
-    → AnswersLines reader_at_start (Some octets) lines came r left → IsReaderStep r r' left left' End last → lines ≡ lines_of_octets octets
+lines_of_octets-answers : (octets : List ℕ) (lines : List (List ℕ)) (came last : List ℕ) (r r' : Reading)
+    (left left' : Option (List ℕ))
+    → AnswersLines reader_at_start (Some octets) lines came r left → IsReaderStep r r' left left' End last →
+    lines ≡ lines_of_octets octets
 lines_of_octets-answers octets lines came last r r' left left' answers step =
     let none : (r.held ++ r.past ≡ []) × (last ≡ []) = nothing_came (r.held ++ r.past) last step.gives.1 in
     let had = IsLeft-answers lines reader_at_start r octets came left (λ yes. absurd (false≢true yes)) answers in
@@ -164,7 +170,8 @@ AreWhole-answers : (lines : List (List ℕ)) (r r' : Reading) (left left' : Opti
     → AreWhole r r' lines came ⊎ ((r'.held ++ r'.past ≡ []) × (r'.ended ≡ true))
 AreWhole-answers [] r r' left left' came (none, same, _) =
     inl record {
-      octets = ap (λ l. r.held ++ r.past ++ l) none ∙ append-nil (r.held ++ r.past) ∙ ap (λ (s : Reading). s.held ++ s.past) (sym same);
+      octets = ap (λ l. r.held ++ r.past ++ l) none ∙ append-nil (r.held ++ r.past)
+          ∙ ap (λ (s : Reading). s.held ++ s.past) (sym same);
       answered = omega (arith, ap (λ (s : Reading). s.answered) same);
       plain = All-nil IsLine;
     }
@@ -176,21 +183,23 @@ AreWhole-answers (line ∷ lines) r r' left left' came (first, rest, mid, betwee
     let text : text_of_lines (line ∷ lines) ≡ (shown.now ++ 10 ∷ []) ++ text_of_lines lines =
     ap (λ l. l ++ 10 ∷ text_of_lines lines) (sym shown_is) ∙ sym (append_assoc shown.now (10 ∷ []) (text_of_lines lines)) in
     inl record {
-      octets = ap (λ l. r.held ++ r.past ++ l) came_is ∙ sym (append_assoc (r.held ++ r.past) first rest) ∙ ap (λ l. l ++ rest) whole.octets
+      octets = ap (λ l. r.held ++ r.past ++ l) came_is ∙ sym (append_assoc (r.held ++ r.past) first rest)
+          ∙ ap (λ l. l ++ rest) whole.octets
           ∙ append_assoc (shown.now ++ 10 ∷ []) behind rest ∙ ap (λ l. (shown.now ++ 10 ∷ []) ++ l) then.octets
           ∙ sym (append_assoc (shown.now ++ 10 ∷ []) (text_of_lines lines) (r'.held ++ r'.past))
           ∙ ap (λ l. l ++ (r'.held ++ r'.past)) (sym text);
       answered = omega (arith, then.answered, whole.answered, count, ap length text);
       plain = All-cons IsLine line lines (subst IsLine shown_is whole.plain) then.plain;
     })
-    (λ (over : (r'.held ++ r'.past ≡ []) × (r'.ended ≡ true)). inr over)
+    (λ (is_over : (r'.held ++ r'.past ≡ []) × (r'.ended ≡ true)). inr is_over)
     (AreWhole-answers lines mid r' between left' rest later))
     (λ (last : IsLineAnswered r mid (r.held ++ r.past ++ first) shown.now [] × (mid.held ++ mid.past ≡ []) × (mid.ended ≡ true)).
     let ends = no_more mid r' between left' lines rest last.1 last.2 later in
     inr (after_end lines mid r' between left' rest last.1 last.2 ends.0 later))
     step.gives
   where
-    after_end : (lines : List (List ℕ)) (mid r' : Reading) (between left' : Option (List ℕ)) (rest : List ℕ) → mid.held ++ mid.past ≡ []
+    after_end : (lines : List (List ℕ)) (mid r' : Reading) (between left' : Option (List ℕ)) (rest : List ℕ) →
+        mid.held ++ mid.past ≡ []
         → mid.ended ≡ true → lines ≡ []
         → AnswersLines mid between lines rest r' left' → (r'.held ++ r'.past ≡ []) × (r'.ended ≡ true)
     after_end [] mid r' between left' rest none ended same (_, is, _) =
@@ -198,11 +207,13 @@ AreWhole-answers (line ∷ lines) r r' left left' came (first, rest, mid, betwee
     after_end (line ∷ lines) mid r' between left' rest none ended same later = absurd (cc same)
 
 -- if a reader stops with octets held or before the end of its source, the octets read are whole lines and what is held
-DividesReadOctets-answers : (octets : List ℕ) (lines : List (List ℕ)) (came last : List ℕ) (r r' : Reading) (left left' : Option (List ℕ))
+DividesReadOctets-answers : (octets : List ℕ) (lines : List (List ℕ)) (came last : List ℕ) (r r' : Reading)
+    (left left' : Option (List ℕ))
     (next : Next)
     → AnswersLines reader_at_start (Some octets) lines came r left → IsReaderStep r r' left left' next last → IsValidReader r'
     → AreOctetsHeld r r' (r.held ++ r.past ++ last) true
-    → ((r.held ++ r.past ++ last ≡ []) → (r'.ended ≡ true) → ⊥) → DividesReadOctets octets (came ++ last) lines r'.held r'.past
+    → ((r.held ++ r.past ++ last ≡ []) → (r'.ended ≡ true) → ⊥) →
+    DividesReadOctets octets (came ++ last) lines r'.held r'.past
 DividesReadOctets-answers octets lines came last r r' left left' next answers step valid held open_ = ⊎_elim
     (λ (whole : AreWhole reader_at_start r lines came).
     let had = IsLeft-answers lines reader_at_start r octets came left (λ yes. absurd (false≢true yes)) answers in
@@ -210,21 +221,23 @@ DividesReadOctets-answers octets lines came last r r' left left' next answers st
     let size = length-append (text_of_lines lines) r'.held in
     record {
       rest = then.rest;
-      octets_are = had.whole ∙ ap (λ l. came ++ l) then.whole ∙ sym (append_assoc came last then.rest);
-      came_are = ap (λ l. l ++ last) whole.octets ∙ append_assoc (text_of_lines lines) (r.held ++ r.past) last
+      octets_split = had.whole ∙ ap (λ l. came ++ l) then.whole ∙ sym (append_assoc came last then.rest);
+      read_split = ap (λ l. l ++ last) whole.octets ∙ append_assoc (text_of_lines lines) (r.held ++ r.past) last
           ∙ ap (λ l. text_of_lines lines ++ l) held.octets;
       plain = whole.plain;
-      line_plain = held.plain;
+      no_feed_in_line = held.plain;
       limit = omega (arith, valid.limit, held.answered, whole.answered, size);
-      past_limit = λ some. omega (arith, valid.past some, held.answered, whole.answered, size);
+      past_only_at_limit = λ some. omega (arith, valid.past some, held.answered, whole.answered, size);
     })
-    (λ (over : (r.held ++ r.past ≡ []) × (r.ended ≡ true)).
-    let none = (step.no_read_after_end over.1).0 in
-    absurd (open_ (ap (λ l. r.held ++ r.past ++ l) none ∙ append-nil (r.held ++ r.past) ∙ over.0) (step.no_read_after_end over.1).1))
+    (λ (is_over : (r.held ++ r.past ≡ []) × (r.ended ≡ true)).
+    let none = (step.no_read_after_end is_over.1).0 in
+    absurd (open_ (ap (λ l. r.held ++ r.past ++ l) none ∙ append-nil (r.held ++ r.past) ∙ is_over.0)
+    (step.no_read_after_end is_over.1).1))
     (AreWhole-answers lines reader_at_start r (Some octets) left came answers)
 
 -- `EndsReaderWith` holds for each way in which a reader ends
-pub ends_with : (octets : List ℕ) (lines : List (List ℕ)) (came last : List ℕ) (r r' : Reading) (left left' : Option (List ℕ)) (next : Next)
+pub ends_with : (octets : List ℕ) (lines : List (List ℕ)) (came last : List ℕ) (r r' : Reading) (left left' : Option (List ℕ))
+    (next : Next)
     → AnswersLines reader_at_start (Some octets) lines came r left → IsReaderStep r r' left left' next last → IsValidReader r'
     → EndsReaderWith next octets (came ++ last) lines
 ends_with octets lines came last r r' left left' (Line line) answers step valid = tt

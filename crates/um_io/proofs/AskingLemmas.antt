@@ -1,30 +1,22 @@
 -- The sequence of calls that a line reader makes to its source.
-use Rattle.std.proofs.Common.{◌≡◌, ◌∙◌, ◌⊎◌, ◌<◌, ℕ, Bool, true, false, refl, sym, inl, inr, ⊎_elim, Option, Some, None}
+use Rattle.std.proofs.Common.{◌≡◌, ◌∙◌, ◌⊎◌, ◌<◌, ℕ, Bool, true, false, refl, sym, inl, inr, ⊎_elim, Option, Some}
 use Rattle.std.proofs.lemmas.Bool.{cases_Bool}
-use Rattle.um_io.specs.Asking.{CallsGaveOctets, none, more, CalledSource}
+use Rattle.um_io.specs.Asking.{CallsGaveOctets, none, more, StopsAtEndOrFailure}
 
 module _ {S : Type 0} (Took : S → Option ℕ → S → Type 0) (first : S) where
-  pub asked-none : CalledSource Took first first
+  pub asked-none : StopsAtEndOrFailure Took first first
   asked-none = record { before = first; gave = none; then = inl refl }
 
   -- each call so far gave octets, or the last call reached the end of the source
   abbrev pub AskedSoFar : S → Bool → Type 0
-  AskedSoFar s ended = CallsGaveOctets Took first s ⊎ ((ended ≡ true) × CalledSource Took first s)
+  AskedSoFar s ended = CallsGaveOctets Took first s ⊎ ((ended ≡ true) × StopsAtEndOrFailure Took first s)
 
   pub so_far-none : (ended : Bool) → AskedSoFar first ended
   so_far-none ended = inl none
 
-  pub asked-so_far : (s : S) (ended : Bool) → AskedSoFar s ended → CalledSource Took first s
-  asked-so_far s ended (inl gave) = record { before = s; gave = gave; then = inl refl }
-  asked-so_far s ended (inr asked) = asked.1
-
   gave-so_far : (s : S) (ended : Bool) → AskedSoFar s ended → ended ≡ false → CallsGaveOctets Took first s
   gave-so_far s ended (inl gave) goes_on = gave
-  gave-so_far s ended (inr asked) goes_on = (let e : true ≡ false = sym asked.0 ∙ goes_on in cc e)
-
-  pub asked-failed : (s t : S) (ended : Bool) → AskedSoFar s ended → ended ≡ false → Took s None t → CalledSource Took first t
-  asked-failed s t ended so_far goes_on took =
-      record { before = s; gave = gave-so_far s ended so_far goes_on; then = inr (None, took) }
+  gave-so_far s ended (inr asked) goes_on = (cc (sym asked.0 ∙ goes_on))
 
   pub asked-once : (s t : S) (ended ended' : Bool) (n : ℕ) → AskedSoFar s ended → ended ≡ false → Took s (Some n) t →
       (ended' ≡ false → 0 < n) → AskedSoFar t ended'

@@ -1,9 +1,8 @@
--- Each list of octets is divided into lines in exactly one way: `lines_of_octets` gives a division, by induction over the octets, and no
--- other
--- is possible.
-use Rattle.std.proofs.Common.{◌≡◌, ◌<◌, ℕ, cond, List, [], ◌∷◌, ◌++◌, length, All, refl, sym, ap, subst, ◌∙◌, arith, inl, inr, ⊎_elim}
-use Rattle.std.proofs.lemmas.{Bool.{cases_eq, ne_eqb}, List.{append-nil, append_assoc, take_at, drop_at, length-append, Elements.All-nil}}
-use Rattle.std.proofs.lemmas.List.Elements.{All-cons, All-head, All-tail, All-take, All-drop}
+-- Each list of octets is divided into lines in exactly one way: `lines_of_octets` gives a division, by induction over the octets, and it
+-- is the only one.
+use Rattle.std.proofs.Common.{◌≡◌, ◌<◌, ℕ, cond, List, [], ◌∷◌, ◌++◌, length, All, refl, sym, ap, subst, ◌∙◌}
+use Rattle.std.proofs.{Common.{arith, inl, inr, ⊎_elim}, lemmas.{Bool.{cases_eq, ne_eqb}, List.{append-nil, append_assoc, take_at}}}
+use Rattle.std.proofs.lemmas.List.{drop_at, length-append, Elements.{All-nil, All-cons, All-head, All-tail, All-take, All-drop}}
 use Rattle.um_io.specs.Lines.{IsNotLineFeed, IsLine, text_of_lines, EndsWithoutLineFeed, IsDivided, push_onto_first_line, lines_of_octets}
 
 -- an octet other than a line feed goes to the front of the first line
@@ -35,10 +34,12 @@ lines_of_octets-last [] plain some = absurd (omega arith)
 lines_of_octets-last (octet ∷ []) plain some = lines_of_octets-plain octet [] (All-head IsNotLineFeed octet [] plain)
 lines_of_octets-last (octet ∷ next ∷ line) plain some =
     lines_of_octets-plain octet (next ∷ line) (All-head IsNotLineFeed octet (next ∷ line) plain)
-    ∙ ap (push_onto_first_line octet) (lines_of_octets-last (next ∷ line) (All-tail IsNotLineFeed octet (next ∷ line) plain) (omega arith))
+    ∙ ap (push_onto_first_line octet) (lines_of_octets-last (next ∷ line) (All-tail IsNotLineFeed octet (next ∷ line) plain)
+    (omega arith))
 
 -- if all lines have no line feed, so do all lines but the last, and the last
-All-front : (lines front : List (List ℕ)) (last : List ℕ) → All IsLine lines → lines ≡ front ++ last ∷ [] → All IsLine front × IsLine last
+All-front : (lines front : List (List ℕ)) (last : List ℕ) → All IsLine lines → lines ≡ front ++ last ∷ [] →
+    All IsLine front × IsLine last
 All-front lines front last plain are =
     let all = subst (All IsLine) are plain in
     let n = length front in
@@ -54,9 +55,9 @@ lines_of_octets-only octets lines divided =
     sym (ap lines_of_octets (whole ∙ sym (append-nil (text_of_lines lines))) ∙ lines_of_octets-text lines [] divided.plain
     ∙ append-nil lines))
     (λ (cut : EndsWithoutLineFeed octets lines).
-    let plain = All-front lines cut.front cut.last divided.plain cut.lines_are in
-    sym (ap lines_of_octets cut.octets_are ∙ lines_of_octets-text cut.front cut.last plain.0
-    ∙ ap (λ l. cut.front ++ l) (lines_of_octets-last cut.last plain.1 cut.some) ∙ sym cut.lines_are))
+    let plain = All-front lines cut.front cut.last divided.plain cut.lines_split in
+    sym (ap lines_of_octets cut.octets_split ∙ lines_of_octets-text cut.front cut.last plain.0
+    ∙ ap (λ l. cut.front ++ l) (lines_of_octets-last cut.last plain.1 cut.some) ∙ sym cut.lines_split))
     divided.whole
 
 -- a line feed before the octets is an empty line before their lines
@@ -69,8 +70,8 @@ IsDivided-feed octets lines divided =
           (λ (cut : EndsWithoutLineFeed octets lines). inr record {
             front = [] ∷ cut.front;
             last = cut.last;
-            lines_are = ap (λ l. [] ∷ l) cut.lines_are;
-            octets_are = ap (λ l. 10 ∷ l) cut.octets_are;
+            lines_split = ap (λ l. [] ∷ l) cut.lines_split;
+            octets_split = ap (λ l. 10 ∷ l) cut.octets_split;
             some = cut.some;
           })
           divided.whole;
@@ -80,7 +81,7 @@ IsDivided-feed octets lines divided =
 no_lines : (octets : List ℕ) → IsDivided octets [] → octets ≡ []
 no_lines octets divided =
     ⊎_elim (λ (whole : octets ≡ text_of_lines []). whole)
-    (λ (cut : EndsWithoutLineFeed octets []). absurd (omega (arith, ap length cut.lines_are, length-append cut.front (cut.last ∷ []))))
+    (λ (cut : EndsWithoutLineFeed octets []). absurd (omega (arith, ap length cut.lines_split, length-append cut.front (cut.last ∷ []))))
     divided.whole
 
 -- an octet other than a line feed, put before octets, becomes the first of their first line
@@ -88,20 +89,20 @@ EndsWithoutLineFeed-plain : (octet : ℕ) (octets line : List ℕ) (lines front 
     line ∷ lines ≡ front ++ last ∷ []
     → octets ≡ text_of_lines front ++ last → 0 < length last
     → EndsWithoutLineFeed (octet ∷ octets) ((octet ∷ line) ∷ lines)
-EndsWithoutLineFeed-plain octet octets line lines [] last are octets_are some =
+EndsWithoutLineFeed-plain octet octets line lines [] last are octets_split some =
     record {
       front = [];
       last = octet ∷ last;
-      lines_are = ap (push_onto_first_line octet) are;
-      octets_are = ap (λ l. octet ∷ l) octets_are;
+      lines_split = ap (push_onto_first_line octet) are;
+      octets_split = ap (λ l. octet ∷ l) octets_split;
       some = omega arith;
     }
-EndsWithoutLineFeed-plain octet octets line lines (first ∷ front) last are octets_are some =
+EndsWithoutLineFeed-plain octet octets line lines (first ∷ front) last are octets_split some =
     record {
       front = (octet ∷ first) ∷ front;
       last = last;
-      lines_are = ap (push_onto_first_line octet) are;
-      octets_are = ap (λ l. octet ∷ l) octets_are;
+      lines_split = ap (push_onto_first_line octet) are;
+      octets_split = ap (λ l. octet ∷ l) octets_split;
       some = some;
     }
 
@@ -113,8 +114,8 @@ IsDivided-plain octet octets [] plain divided =
       whole = inr record {
         front = [];
         last = octet ∷ [];
-        lines_are = refl;
-        octets_are = ap (λ l. octet ∷ l) (no_lines octets divided);
+        lines_split = refl;
+        octets_split = ap (λ l. octet ∷ l) (no_lines octets divided);
         some = omega arith;
       };
     }
@@ -125,8 +126,8 @@ IsDivided-plain octet octets (line ∷ lines) plain divided =
       whole = ⊎_elim
           (λ (whole : octets ≡ text_of_lines (line ∷ lines)). inl (ap (λ l. octet ∷ l) whole))
           (λ (cut : EndsWithoutLineFeed octets (line ∷ lines)). inr
-          (EndsWithoutLineFeed-plain octet octets line lines cut.front cut.last cut.lines_are
-          cut.octets_are cut.some))
+          (EndsWithoutLineFeed-plain octet octets line lines cut.front cut.last cut.lines_split
+          cut.octets_split cut.some))
           divided.whole;
     }
 

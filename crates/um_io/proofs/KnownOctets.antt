@@ -1,6 +1,7 @@
 -- What is known about the octets left in a source and taken by a sink after several calls.
-use Rattle.std.proofs.Common.{◌≡◌, ℕ, ◌+◌, List, [], ◌++◌, length, ◌-◌, take, drop, Option, Some, None, sym, refl, ap, ◌∙◌, append_assoc}
-use Rattle.std.{proofs.{Common.append-nil, Math.Seq.take-add, lemmas.List.take_rest}, specs.Io.KnownBytes.{Appends, Consumes, Keeps}}
+use Rattle.std.proofs.Common.{ℕ, ◌+◌, List, [], ◌++◌, length, ◌-◌, take, drop, Option, Some, None, sym, refl, ap, ◌∙◌}
+use Rattle.std.{proofs.{Common.{append_assoc, append-nil}, Math.Seq.take-add, lemmas.List.take_rest}, specs.Io.KnownBytes.Appends}
+use Rattle.std.specs.Io.KnownBytes.{Consumes, Keeps}
 
 -- a call that takes no octets leaves the sink as it is
 pub Appends-nil : (known : Option (List ℕ)) → Appends known known []
@@ -37,5 +38,4 @@ Appends-keeps (Some xs) (Some ys) (Some zs) x first then = then ∙ first
 pub Appends-front : (a b c : Option (List ℕ)) (w n : ℕ) (piece : List ℕ) → Appends a b (take w piece) →
     Appends b c (take n (take (length piece - w) (drop w piece))) → Appends a c (take (w + n) piece)
 Appends-front a b c w n piece first then =
-    let rest : take (length piece - w) (drop w piece) ≡ drop w piece = take_rest piece w in
-    rw take-add (Appends-append a b c (take w piece) (take n (drop w piece)) first (rw rest at then))
+    rw take-add (Appends-append a b c (take w piece) (take n (drop w piece)) first (rw (take_rest piece w) at then))

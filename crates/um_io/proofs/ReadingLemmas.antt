@@ -1,7 +1,8 @@
 -- What a line reader holds, and how reads from the source change it.
-use Rattle.std.proofs.Common.{◌≡◌, ◌≤◌, ◌<◌, ◌+◌, ◌-◌, ℕ, Bool, true, false, cond, List, [], ◌++◌, length, take, drop, Option, ap, arith}
-use Rattle.std.proofs.{Common.{⊎_elim, ◌⊎◌}, lemmas.{List.{take-append-drop, length-append, length-take}, Bool.cases_Bool}}
-use Rattle.um_io.specs.{declared.buffer.Buffer.Buffer, Buffer.octets_of, Reading.{Reading, IsValidReader, NeedsMoreOctets, reader_of}}
+use Rattle.std.proofs.Common.{◌≡◌, ◌≤◌, ◌<◌, ◌+◌, ◌-◌, ℕ, Bool, true, false, cond, List, [], ◌++◌, length}
+use Rattle.std.proofs.{Common.{take, drop, Option, ap, arith, ⊎_elim, ◌⊎◌}, lemmas.List.{take-append-drop, length-append}}
+use Rattle.std.proofs.lemmas.{List.length-take, Bool.cases_Bool}
+use Rattle.um_io.specs.{declared.buffer.Buffer.Buffer, Buffer.octets_of, Reading.{Reading, IsValidReader, NeedsMoreOctets, reader_holding}}
 use Rattle.um_io.specs.{Reading.{input_limit, line_limit, held_limit}, Found.HasReadOctets}
 
 -- the octets held consist of those within the input limit and those past it
@@ -10,12 +11,12 @@ length-cut octets m = omega (arith, length-append (take m octets) (drop m octets
 
 -- a buffer holds at most a line of greatest length and its line feed
 pub length-octets_of : (b : Buffer) → length (octets_of b) ≤ held_limit
-length-octets_of b = omega (arith, length-take (b.end - b.start) (drop b.start b.octets.items), b.within)
+length-octets_of b = omega (arith, length-take (b.end - b.start) (drop b.start b.octets.items))
 
 -- a buffer and counts within their limits form a valid reader
-pub IsValidReader-from : (b : Buffer) (answered number : ℕ) (ended over : Bool) → answered ≤ input_limit → number ≤ answered
-    → IsValidReader (reader_of (octets_of b) answered number ended over)
-IsValidReader-from b answered number ended over limit numbered =
+pub IsValidReader-from : (b : Buffer) (answered number : ℕ) (ended is_over : Bool) → answered ≤ input_limit → number ≤ answered
+    → IsValidReader (reader_holding (octets_of b) answered number ended is_over)
+IsValidReader-from b answered number ended is_over limit numbered =
     let octets = octets_of b in
     let m = input_limit - answered in
     let whole = length-cut octets m in
@@ -37,7 +38,8 @@ abbrev pub turns_left : Reading → ℕ
 turns_left r = (line_limit + 1 - (length r.held + length r.past)) + cond r.ended 0 1
 
 -- after a successful read, fewer reads can follow
-pub turns_left-read : (r s : Reading) (left left' : Option (List ℕ)) (came : List ℕ) → NeedsMoreOctets r → HasReadOctets r s left left' came
+pub turns_left-read : (r s : Reading) (left left' : Option (List ℕ)) (came : List ℕ) → NeedsMoreOctets r →
+    HasReadOctets r s left left' came
     → (s.ended ≡ false → 0 < length came) → IsValidReader s → turns_left s < turns_left r
 turns_left-read r s left left' came more has some valid =
     let all : length s.held + length s.past ≡ length r.held + length r.past + length came =

@@ -3,15 +3,15 @@
 use Rattle.std.specs.Prelude.{ℕ, ◌≡◌, ◌<◌, List, [], ◌∷◌, ◌++◌, length, take, slice_index, All, nat_eq}
 use Rattle.std.specs.Prelude.{if◌then◌else◌, ◌⊎◌}
 
--- an octet other than a line feed
+-- the octet is not a line feed
 abbrev pub IsNotLineFeed : ℕ → Type 0
 IsNotLineFeed octet = ¬ (octet ≡ 10)
 
--- octets without a line feed
+-- the octets contain no line feed
 abbrev pub IsLine : List ℕ → Type 0
 IsLine line = All IsNotLineFeed line
 
--- the first line feed of the octets has index n
+-- the first line feed of the octets has index `n`
 pub record IsFirstLineFeed (octets : List ℕ) (n : ℕ) : Type 0 where
   pub within : n < length octets
   pub plain : IsLine (take n octets)
@@ -22,20 +22,20 @@ abbrev pub text_of_lines : List (List ℕ) → List ℕ
 text_of_lines [] = []
 text_of_lines (line ∷ lines) = line ++ 10 ∷ text_of_lines lines
 
--- the octets are these lines, the last of which is not empty and has no line feed after it
+-- `octets` consists of `lines`, each followed by a line feed except the last, which is not empty
 pub record EndsWithoutLineFeed (octets : List ℕ) (lines : List (List ℕ)) : Type 0 where
   pub front : List (List ℕ)
   pub last : List ℕ
-  pub lines_are : lines ≡ front ++ last ∷ []
-  pub octets_are : octets ≡ text_of_lines front ++ last
+  pub lines_split : lines ≡ front ++ last ∷ []
+  pub octets_split : octets ≡ text_of_lines front ++ last
   pub some : 0 < length last
 
--- the octets are these lines, the last with or without its line feed
+-- `octets` consists of `lines`; only the last may lack its line feed
 pub record IsDivided (octets : List ℕ) (lines : List (List ℕ)) : Type 0 where
   pub plain : All IsLine lines
   pub whole : (octets ≡ text_of_lines lines) ⊎ EndsWithoutLineFeed octets lines
 
--- a list of lines with one more octet at the front of its first line
+-- prepends an octet to the first line of a list of lines
 abbrev pub push_onto_first_line : ℕ → List (List ℕ) → List (List ℕ)
 push_onto_first_line octet [] = (octet ∷ []) ∷ []
 push_onto_first_line octet (line ∷ lines) = (octet ∷ line) ∷ lines

@@ -1,76 +1,94 @@
 -- Sources and sinks of octets in memory, for tests (this project's own rules).
-use Rattle.std.specs.Prelude.{ℕ, ◌≡◌, ◌<◌, ◌+◌, min, List, [], ◌++◌, length, take, drop, Contains, ◌⊎◌, Option, Some, None}
+use Rattle.std.specs.Prelude.{ℕ, ◌≡◌, ◌<◌, ◌+◌, ◌++◌, ◌⊎◌}
+use Rattle.std.specs.Prelude.{min, List, [], length, take, drop, Contains, Option, Some, None}
 use Rattle.um_io.specs.Streams.{next_failure_count}
 
--- a source that never fails: the octets left, and the most octets that one call gives
+-- a source that never fails: the octets still to come, and the maximum number of octets that one call returns
 pub record PlainSourceState : Type 0 where
   pub left : List ℕ
-  pub most : ℕ
+  pub max_per_call : ℕ
 
--- a source in memory: the octets left, the most octets that one call gives, the numbers of the calls that fail, how many calls were made,
--- and how many of them failed
+-- a source in memory: the octets still to come, the maximum number of octets per call, the numbers of the calls that fail, how many calls
+-- were made, and how many of them failed
 pub record MemorySourceState : Type 0 where
   pub left : List ℕ
-  pub most : ℕ
-  pub failing : List ℕ
-  pub calls : ℕ
+  pub max_per_call : ℕ
+  pub failing_calls : List ℕ
+  pub call_count : ℕ
   pub faults : ℕ
 
--- a sink in memory: the octets taken, its capacity, the most octets that one call takes, the numbers of the calls that fail, how many
+-- a sink in memory: the octets taken, its capacity, the maximum number of octets per call, the numbers of the calls that fail, how many
 -- calls were made, and how many of them failed
-pub record SinkState : Type 0 where
+pub record MemorySinkState : Type 0 where
   pub taken : List ℕ
   pub room : ℕ
-  pub most : ℕ
-  pub failing : List ℕ
-  pub calls : ℕ
+  pub max_per_call : ℕ
+  pub failing_calls : List ℕ
+  pub call_count : ℕ
   pub faults : ℕ
 
--- a new source of these octets, whose calls with these numbers fail
+-- a new source with these octets, this maximum number of octets per call, and these numbers of the calls that fail
 abbrev pub new_source_state : List ℕ → ℕ → List ℕ → MemorySourceState
-new_source_state octets most failing = record { left = octets; most = most; failing = failing; calls = 0; faults = 0 }
+new_source_state octets max_per_call failing_calls = record {
+  left = octets;
+  max_per_call = max_per_call;
+  failing_calls =
+      failing_calls;
+  call_count = 0;
+  faults = 0;
+}
 
--- a new, empty sink, whose calls with these numbers fail
-abbrev pub new_sink_state : ℕ → ℕ → List ℕ → SinkState
-new_sink_state room most failing = record { taken = []; room = room; most = most; failing = failing; calls = 0; faults = 0 }
+-- a new, empty sink with this capacity, this maximum number of octets per call, and these numbers of the calls that fail
+abbrev pub new_sink_state : ℕ → ℕ → List ℕ → MemorySinkState
+new_sink_state room max_per_call failing_calls = record {
+  taken = [];
+  room = room;
+  max_per_call = max_per_call;
+  failing_calls =
+      failing_calls;
+  call_count = 0;
+  faults = 0;
+}
 
--- how many octets a successful call gives
+-- the number of octets that a successful read returns
 abbrev pub given_octet_count : ℕ → List ℕ → List ℕ → ℕ
-given_octet_count most left into = min most (min (length into) (length left))
+given_octet_count max_per_call left into = min max_per_call (min (length into) (length left))
 
--- how many octets a successful call takes
+-- the number of octets that a successful write takes
 abbrev pub taken_octet_count : ℕ → List ℕ → ℕ
-taken_octet_count most piece = min most (length piece)
+taken_octet_count max_per_call piece = min max_per_call (length piece)
 
--- the destination buffer after a call: its front is overwritten by the next n octets, and the rest is unchanged
-abbrev pub with_front : List ℕ → ℕ → List ℕ → List ℕ
-with_front left n into = take n left ++ drop n into
+-- the destination buffer after a read of the given number of octets: they overwrite its front, and the rest is unchanged
+abbrev pub buffer_after_read : List ℕ → ℕ → List ℕ → List ℕ
+buffer_after_read left n into = take n left ++ drop n into
 
--- the next call fails, because its number is in the list of failing calls
+-- the next call fails, because the list of failing calls contains its number
 abbrev pub NextCallFails : List ℕ → ℕ → Type 0
-NextCallFails failing calls = Contains failing (next_failure_count calls)
+NextCallFails failing_calls call_count = Contains failing_calls (next_failure_count call_count)
 
--- the next call fails, because its number is in the list of failing calls or because the sink is full
-abbrev pub SinkRefuses : SinkState → List ℕ → Type 0
-SinkRefuses s piece = NextCallFails s.failing s.calls ⊎ (s.room < length s.taken + taken_octet_count s.most piece)
+-- the sink refuses the next write: the number of the call is in the list of failing calls, or the octets do not fit in the remaining
+-- capacity
+abbrev pub SinkRefuses : MemorySinkState → List ℕ → Type 0
+SinkRefuses s piece = NextCallFails s.failing_calls s.call_count ⊎ (s.room < length s.taken + taken_octet_count s.max_per_call piece)
 
--- a source after a call that gave n octets
-abbrev pub after_giving : MemorySourceState → ℕ → MemorySourceState
-after_giving s n = record s { left = drop n s.left; calls = next_failure_count s.calls }
+-- a source after a call that returned the given number of octets
+abbrev pub source_after_read : MemorySourceState → ℕ → MemorySourceState
+source_after_read s n = record s { left = drop n s.left; call_count = next_failure_count s.call_count }
 
--- a source after a call that failed
-abbrev pub after_failing : MemorySourceState → MemorySourceState
-after_failing s = record s { calls = next_failure_count s.calls; faults = next_failure_count s.faults }
+-- a source after a failed call
+abbrev pub source_after_failure : MemorySourceState → MemorySourceState
+source_after_failure s = record s { call_count = next_failure_count s.call_count; faults = next_failure_count s.faults }
 
--- t is the source s after a call that gave n octets (`Some n`) or failed (`None`)
-abbrev pub TookFromMemory : MemorySourceState → Option ℕ → MemorySourceState → Type 0
-TookFromMemory s (Some n) t = t ≡ after_giving s n
-TookFromMemory s None t = t ≡ after_failing s
+-- one call turns the first state of the source into the second: `Some` gives the number of octets returned, `None` means that the call
+-- failed
+abbrev pub IsMemorySourceCall : MemorySourceState → Option ℕ → MemorySourceState → Type 0
+IsMemorySourceCall s (Some n) t = t ≡ source_after_read s n
+IsMemorySourceCall s None t = t ≡ source_after_failure s
 
--- a sink after a call that took the first n of these octets
-abbrev pub after_taking : SinkState → List ℕ → ℕ → SinkState
-after_taking s piece n = record s { taken = s.taken ++ take n piece; calls = next_failure_count s.calls }
+-- a sink after a call that took the given number of octets from the front of this list
+abbrev pub sink_after_write : MemorySinkState → List ℕ → ℕ → MemorySinkState
+sink_after_write s piece n = record s { taken = s.taken ++ take n piece; call_count = next_failure_count s.call_count }
 
--- a sink after a call that failed
-abbrev pub after_refusing : SinkState → SinkState
-after_refusing s = record s { calls = next_failure_count s.calls; faults = next_failure_count s.faults }
+-- a sink after a failed call
+abbrev pub sink_after_failure : MemorySinkState → MemorySinkState
+sink_after_failure s = record s { call_count = next_failure_count s.call_count; faults = next_failure_count s.faults }

@@ -1,14 +1,14 @@
 -- How sources and sinks count failures, and how many octets a sink takes (this project's own rules).
 use Rattle.std.specs.Prelude.{ℕ, ◌≤◌, ◌<◌, ◌+◌, ◌-◌, ◌^◌, min, List, length, IfOk, Result}
 
--- one more, but at most the greatest `u64`
+-- a failure count increased by one, but at most the greatest `u64`
 abbrev pub next_failure_count : ℕ → ℕ
 next_failure_count n = min (n + 1) (2 ^ 64 - 1)
 
--- a count has risen, unless it was the greatest `u64` already
+-- a failure count has risen, unless it was already the greatest `u64`
 abbrev pub FailureCountRose : ℕ → ℕ → Type 0
 FailureCountRose before now = next_failure_count before ≤ now
 
--- a successful call takes at least one octet, unless it was given none
+-- a successful write takes at least one octet, unless the piece is empty
 abbrev pub TakesAtLeastOneOctet : {E : Type 0} → Result ℕ E → List ℕ → Type 0
 TakesAtLeastOneOctet r piece = IfOk r (λ n. 0 < length piece → 0 < n)

@@ -1,15 +1,15 @@
-//! Makes any `Read` a source, and any `Write` a sink.
+//! Adapters that turn any `Read` into a source and any `Write` into a sink.
 ghost use Rattle.std.specs.Prelude.{◌≡◌, ◌≤◌, OnOk, OnErr};
 ghost use Rattle.std.specs.Io.{ReadsAtMost, WritesAtMost};
 ghost use Rattle.std.specs.Io.KnownBytes.{ReadConsumes, WriteAppends};
 ghost use Rattle.um_io.specs.Streams.{next_failure_count, FailureCountRose, TakesAtLeastOneOctet};
 
-use crate::streams::{Failed, Sink, Source, fault};
+use crate::streams::{Failed, Sink, Source, count_failure};
 use std::io::{Read, Write};
 
-/// A source that reads from a `Read`; each error of the reader is a fault.
+/// A source that reads from a `Read` and counts each error of the reader as a failure.
 ///
-/// The source knows which octets are left if the reader knows it.
+/// The source knows which octets remain if the reader knows it.
 #[derive(Debug, Drop)]
 pub struct ReadSource<R> {
     reader: R,
@@ -44,13 +44,13 @@ impl<R: Read> Source for ReadSource<R> {
     {
         match self.reader.read(into) {
             Ok(count) => Ok(count),
-            Err(_) => Err(fault(&mut self.faults)),
+            Err(_) => Err(count_failure(&mut self.faults)),
         }
     }
 }
 
-/// A sink that writes to a `Write`. An error of the writer is a fault; so is a call in which the writer takes no octet although it was
-/// given some.
+/// A sink that writes to a `Write`. It counts each error of the writer as a failure, and also each call in which the writer takes none of
+/// the octets that it is given.
 ///
 /// The sink knows which octets were taken if the writer knows it.
 #[derive(Debug, Drop)]
@@ -88,7 +88,7 @@ impl<W: Write> Sink for WriteSink<W> {
     {
         match self.writer.write(piece) {
             Ok(count) if count > 0 || piece.is_empty() => Ok(count),
-            _ => Err(fault(&mut self.faults)),
+            _ => Err(count_failure(&mut self.faults)),
         }
     }
 }
@@ -99,7 +99,7 @@ mod tests {
     use std::io;
     use std::io::ErrorKind;
 
-    /// Reads two octets, then fails, then is at its end.
+    /// A reader that returns two octets, then fails, then is at the end of its input.
     #[derive(Drop)]
     struct FailingReader(u8);
 
@@ -129,7 +129,7 @@ mod tests {
         assert_eq!(rt; source.take(&mut room), Ok(0));
     }
 
-    /// Takes one octet, then nothing, then fails.
+    /// A writer that takes one octet, then none, then fails.
     #[derive(Drop)]
     struct FailingWriter(u8);
 

@@ -14,10 +14,10 @@ use std::alloc::Global;
 /// The maximum number of octets in a line, without its line feed.
 pub(crate) const LINE_LIMIT: usize = 4096;
 
-/// The capacity of the buffer in octets: a line of greatest length and its line feed.
-const ROOM: usize = LINE_LIMIT + 1;
+/// The capacity of the buffer in octets: the longest line and its line feed.
+const BUFFER_SIZE: usize = LINE_LIMIT + 1;
 
-/// Holds the octets from index `start` up to `end`; those before index `scanned` have no line feed.
+/// A buffer that holds the octets from index `start` up to `end`; those before index `scanned` contain no line feed.
 #[derive(Debug, Drop)]
 pub(crate) struct Buffer {
     octets: Vec<u8>,
@@ -37,7 +37,7 @@ impl Buffer {
     pub(crate) fn new(alloc: Global) -> Result<Self, NoMemory>
         ensures { IfOk result (λ b. octets_of b ≡ []) }
     {
-        let octets = vec![in alloc; 0; ROOM]?;
+        let octets = vec![in alloc; 0; BUFFER_SIZE]?;
         Ok(Buffer {
             octets,
             start: 0,
@@ -46,7 +46,7 @@ impl Buffer {
         })
     }
 
-    /// The number of octets held.
+    /// The number of buffered octets.
     pub(crate) fn len(&self) -> usize
         ensures held { result ≡ length (octets_of self.now) }
         ensures space { result ≤ held_limit }
@@ -54,7 +54,8 @@ impl Buffer {
         self.end - self.start
     }
 
-    /// The index of the first line feed in the octets held. Scans each octet only once, except a line feed found by an earlier call.
+    /// The index of the first line feed in the buffered octets. No octet is scanned twice, except a line feed that an earlier call has
+    /// found.
     pub(crate) fn first_line_feed(&mut self) -> Option<usize>
         ensures unchanged { octets_of self.new ≡ octets_of self.old }
         ensures found { MatchOption result (IsLine (octets_of self.old)) (IsFirstLineFeed (octets_of self.old)) }
@@ -71,7 +72,7 @@ impl Buffer {
         }
     }
 
-    /// Calls the source once, for as many octets as fit, and returns how many it gave.
+    /// Calls the source once, asking for as many octets as fit, and returns the number of octets that it gave.
     pub(crate) fn read<S: Source>(&mut self, source: &mut S) -> Result<usize, Failed>
         requires space { length (octets_of self.old) < held_limit }
         ensures came { IfOk result (λ n. (came : List ℕ) × (octets_of self.new ≡ octets_of self.old ++ came) × (length came ≡ n)
@@ -101,7 +102,7 @@ impl Buffer {
         }
     }
 
-    /// Drops the first `count` of the octets held, and returns their index in the buffer, where they can still be read.
+    /// Drops the first `count` buffered octets and returns their index in the buffer, where they can still be read.
     pub(crate) fn skip(&mut self, count: usize) -> usize
         requires { count ≤ length (octets_of self.old) }
         ensures rest { octets_of self.new ≡ drop count (octets_of self.old) }
@@ -114,7 +115,7 @@ impl Buffer {
         from
     }
 
-    pub(crate) fn part(&self, from: usize, to: usize) -> &[u8]
+    pub(crate) fn slice(&self, from: usize, to: usize) -> &[u8]
         requires ordered { from ≤ to }
         requires within { to ≤ held_limit }
         ensures { result.now ≡ slice_range self.now.octets.items from to }
@@ -123,7 +124,7 @@ impl Buffer {
     }
 }
 
-/// Calls the source once, lets it write to `octets` from index `end` on, and returns how many octets it gave.
+/// Calls the source once to write into `octets` from index `end` on, and returns the number of octets written.
 fn read_into<S: Source>(source: &mut S, octets: &mut Vec<u8>, end: usize) -> Result<usize, Failed>
     requires { end < vec_len octets.old }
     ensures len { vec_len octets.new ≡ vec_len octets.old }
@@ -140,7 +141,7 @@ fn read_into<S: Source>(source: &mut S, octets: &mut Vec<u8>, end: usize) -> Res
     source.take(&mut octets[end..])
 }
 
-/// The index of the first line feed. A line feed at the front needs no search.
+/// The index of the first line feed, if there is one; a line feed in front is found without a search.
 fn find_line_feed(octets: &[u8]) -> Option<usize>
     ensures { MatchOption result (IsLine octets.now) (IsFirstLineFeed octets.now) }
 {

@@ -1,10 +1,10 @@
-//! A line reader: divides an input into lines, with one buffer of fixed size.
+//! A line reader, which divides an input into lines with one buffer of fixed size.
 ghost use Rattle.std.specs.Prelude.{◌≡◌, ◌≤◌, ◌<◌, ◌+◌, ◌-◌, ◌↔◌, ℕ, List, Bool, true, false, None, []};
 ghost use Rattle.std.specs.Prelude.{◌++◌, length, MatchBool, MatchOption, IfOk, IfSome, OnOk, OnErr, IsTrue, ◌⊎◌};
 ghost use Rattle.std.specs.Borrow.{sem};
-ghost use Rattle.um_io.specs.Asking.{CalledSource, CalledSourceOnce};
+ghost use Rattle.um_io.specs.Asking.{StopsAtEndOrFailure, IsOneSourceCall};
 ghost use Rattle.um_io.specs.Streams.{FailureCountRose};
-ghost use Rattle.um_io.specs.Found.{IsFoundWithoutLineFeed, LacksAnswer};
+ghost use Rattle.um_io.specs.Found.{IsFoundWithoutLineFeed, HasNoAnswerYet};
 
 use crate::buffer::{Buffer, LINE_LIMIT};
 use crate::streams::{Failed, NoMemory, Source};
@@ -14,7 +14,7 @@ use std::marker::Model;
 /// The maximum number of octets in an input.
 const INPUT_LIMIT: u64 = 67_108_864;
 
-/// The answer of a line reader.
+/// The result of one call of a line reader.
 #[derive(Clone, Copy, Debug, PartialEq, Eq)]
 pub enum Next<'a> {
     /// The next line, without its line feed.
@@ -25,18 +25,18 @@ pub enum Next<'a> {
     Long,
     /// The input has more than 67,108,864 octets.
     TooMany,
-    /// The source failed.
+    /// A read from the source failed.
     Failed,
 }
 
-/// What a line reader finds in the octets that it holds.
+/// What a line reader finds in its buffered octets.
 #[derive(Clone, Copy, Debug, PartialEq, Eq)]
 enum Found {
-    /// A line: its length, and its length with its line feed, if it has one.
+    /// A line: its length in octets (`length`), and the length including its line feed, if it has one (`whole`).
     Line { length: usize, whole: usize },
-    /// The end of the input.
-    Nothing,
-    /// More octets than a line may have.
+    /// The end of the input, with no octets left.
+    NoOctets,
+    /// A line that exceeds the line limit.
     LineTooLong,
     /// An octet past the input limit.
     PastInputLimit,
@@ -46,59 +46,64 @@ enum Found {
 #[derive(Debug, Drop)]
 pub struct Lines {
     buffer: Buffer,
+    line_feed: Option<usize>,
     answered: u64,
     number: u64,
     ended: bool,
-    over: bool,
+    is_over: bool,
 }
 
+// `line_feed` is the index of the first line feed if it is known, so that `next` does not search again after `is_ready`.
 impl Model for Lines {
-    ghost use Rattle.std.specs.Prelude.{◌≤◌};
+    ghost use Rattle.std.specs.Prelude.{◌≤◌, ◌-◌, take, IfSome};
     ghost use Rattle.um_io.specs.Buffer.{octets_of};
-    ghost use Rattle.um_io.specs.Reading.{Reading, reader_of, input_limit};
+    ghost use Rattle.um_io.specs.Lines.{IsFirstLineFeed};
+    ghost use Rattle.um_io.specs.Reading.{Reading, reader_holding, input_limit};
 
     ghost Value = { Reading };
 
-    ghost view = { λ s. reader_of (octets_of s.buffer) s.answered s.number s.ended s.over };
+    ghost view = { λ s. reader_holding (octets_of s.buffer) s.answered s.number s.ended s.is_over };
 
-    ghost invariant = { λ s. (s.answered ≤ input_limit) × (s.number ≤ s.answered) };
+    ghost invariant = { λ s. (s.answered ≤ input_limit) × (s.number ≤ s.answered)
+        × IfSome s.line_feed (IsFirstLineFeed (take (input_limit - s.answered) (octets_of s.buffer))) };
 }
 
 impl Lines {
     ghost use Rattle.um_io.specs.Lines.{IsLine, IsFirstLineFeed};
     ghost use Rattle.um_io.specs.Reading.{reader_at_start, IsValidReader, NeedsMoreOctets, IsAnswerReady, NeedsReading, held_limit};
-    ghost use Rattle.um_io.specs.Found.{IsFoundInHeldOctets, IsReadResult, IsFindResult};
+    ghost use Rattle.um_io.specs.Found.{IsFoundInHeldOctets, IsReadResult, IsSearchResult};
     ghost use Rattle.um_io.specs.Next.{EndsLineBorrow, CountsFailure};
 
-    /// A reader that has read nothing. Allocates all its memory.
+    /// Creates a reader that has read nothing, and allocates all its memory.
     pub fn new(alloc: Global) -> Result<Lines, NoMemory>
         ensures { IfOk result (λ lines. lines ≡ reader_at_start) }
     {
         Ok(Lines {
             buffer: Buffer::new(alloc)?,
+            line_feed: None,
             answered: 0,
             number: 0,
             ended: false,
-            over: false,
+            is_over: false,
         })
     }
 
-    /// The number of the last line answered, from 1; 0 before the first line.
+    /// The number of the last line returned, counted from 1; 0 before the first line.
     pub fn number(&self) -> u64
         ensures { result ≡ self.now.number }
     {
         self.number
     }
 
-    /// Whether the octets held already give the next answer, so that `next` reads nothing.
+    /// Whether `next` can return its result without a read from the source.
     pub fn is_ready(&mut self) -> bool
         ensures unchanged { self.new ≡ self.old }
         ensures ready { MatchBool result (IsAnswerReady self.old) (NeedsReading self.old) }
     {
-        self.over || self.find_in_held_octets().is_some()
+        self.is_over || self.find_in_held_octets().is_some()
     }
 
-    /// How many of the octets held are within the input limit.
+    /// The number of buffered octets within the input limit.
     fn within(&self) -> usize
         ensures within { result ≡ length self.now.held }
         ensures space { result ≤ held_limit }
@@ -107,20 +112,34 @@ impl Lines {
         left.min(self.buffer.len() as u64) as usize
     }
 
-    /// The index of the first line feed within the input limit.
+    /// The index of the first line feed among the buffered octets within the input limit.
     fn first_line_feed(&mut self) -> Option<usize>
         ensures unchanged { self.new ≡ self.old }
         ensures found { MatchOption result (IsLine self.old.held) (IsFirstLineFeed self.old.held) }
         ensures space { IfSome result (λ at. at < held_limit) }
     {
-        let within = self.within();
+        match self.line_feed {
+            None => self.find_line_feed(),
+            known => known,
+        }
+    }
+
+    fn find_line_feed(&mut self) -> Option<usize>
+        ensures unchanged { self.new ≡ self.old }
+        ensures found { MatchOption result (IsLine self.old.held) (IsFirstLineFeed self.old.held) }
+        ensures space { IfSome result (λ at. at < held_limit) }
+    {
+        let left = INPUT_LIMIT - self.answered;
         match self.buffer.first_line_feed() {
-            Some(at) if at < within => Some(at),
+            Some(at) if (at as u64) < left => {
+                self.line_feed = Some(at);
+                Some(at)
+            }
             _ => None,
         }
     }
 
-    /// What the reader finds in the octets that it holds, or `None` if they give no answer yet.
+    /// What the reader finds in its buffered octets, or `None` if it must read more octets first.
     fn find_in_held_octets(&mut self) -> Option<Found>
         ensures unchanged { self.new ≡ self.old }
         ensures found { MatchOption result (NeedsMoreOctets self.old) (IsFoundInHeldOctets self.old) }
@@ -135,28 +154,30 @@ impl Lines {
         find_without_line_feed(within, self.buffer.len() - within, self.ended)
     }
 
-    /// Calls the source once.
+    /// Reads from the source once; a read that gives no octet marks the end of the input.
     #[cold]
     #[inline(never)]
     fn read<S: Source>(&mut self, source: &mut S) -> Result<(), Failed>
         requires { NeedsMoreOctets self.old }
         ensures read { IsReadResult self.old self.new (S.left source.old) (S.left source.new) result }
-        ensures asked { CalledSourceOnce S.took source.old source.new self.new.ended result }
+        ensures asked { IsOneSourceCall S.took source.old source.new self.new.ended result }
         ensures valid { IsValidReader self.new }
         ensures counted { OnOk result (S.faults source.new ≡ S.faults source.old) }
         ensures later { S.faults source.old ≤ S.faults source.new }
         ensures cause { OnErr result (FailureCountRose (S.faults source.old) (S.faults source.new)) }
     {
+        self.line_feed = None;
         let count = self.buffer.read(source)?;
         self.ended = count == 0;
         Ok(())
     }
 
-    /// Calls the source until the octets held give an answer.
-    fn find<S: Source>(&mut self, source: &mut S) -> Result<Found, Failed>
-        ensures found { IsFindResult self.old self.new (S.left source.old) (S.left source.new) result }
+    /// Reads from the source until the buffered octets give a result, and returns it.
+    #[inline(always)]
+    fn find_line<S: Source>(&mut self, source: &mut S) -> Result<Found, Failed>
+        ensures found { IsSearchResult self.old self.new (S.left source.old) (S.left source.new) result }
         ensures unasked { NeedsMoreOctets self.old ⊎ (source.new ≡ source.old) }
-        ensures asked { CalledSource S.took source.old source.new }
+        ensures asked { StopsAtEndOrFailure S.took source.old source.new }
         ensures counted { OnOk result (S.faults source.new ≡ S.faults source.old) }
         ensures later { S.faults source.old ≤ S.faults source.new }
         ensures cause { OnErr result (FailureCountRose (S.faults source.old) (S.faults source.new)) }
@@ -169,46 +190,48 @@ impl Lines {
         }
     }
 
-    /// Returns the next line; reads only if the octets held give no answer.
+    /// Returns the next line, and reads from the source only if necessary.
     ///
-    /// After `Long`, `TooMany` or `Failed`, every further answer is `End`. A source that has reached its end is not called again.
+    /// After `Long`, `TooMany` or `Failed`, every further result is `End`. A source that has reached its end is not called again.
     #[inline(always)]
     pub fn next<S: Source>(&mut self, source: &mut S) -> Next<'_>
         ensures* ends { sem 𝓛 (EndsLineBorrow self.entry (S.left source.old) (S.left source.new) result) }
         ensures unasked { IsAnswerReady self.old → source.new ≡ source.old }
-        ensures asked { CalledSource S.took source.old source.new }
+        ensures asked { StopsAtEndOrFailure S.took source.old source.new }
         ensures failed { CountsFailure (S.faults source.old) (S.faults source.new) result }
     {
-        if self.over {
+        if self.is_over {
             return Next::End;
         }
-        match self.find(source) {
+        match self.find_line(source) {
             Ok(Found::Line { length, whole }) => {
                 let from = self.buffer.skip(whole);
+                self.line_feed = None;
                 self.answered += whole as u64;
                 self.number += 1;
-                Next::Line(self.buffer.part(from, from + length))
+                Next::Line(self.buffer.slice(from, from + length))
             }
-            Ok(Found::Nothing) => Next::End,
+            Ok(Found::NoOctets) => Next::End,
             Ok(Found::LineTooLong) => {
-                self.over = true;
+                self.is_over = true;
                 Next::Long
             }
             Ok(Found::PastInputLimit) => {
-                self.over = true;
+                self.is_over = true;
                 Next::TooMany
             }
             Err(_) => {
-                self.over = true;
+                self.is_over = true;
                 Next::Failed
             }
         }
     }
 }
 
-/// What the reader finds if it holds `within` octets without a line feed and `past` octets past the input limit.
+/// What a reader finds if it buffers `within` octets without a line feed and `past` octets past the input limit; `None` if it must read
+/// more octets first.
 fn find_without_line_feed(within: usize, past: usize, ended: bool) -> Option<Found>
-    ensures { MatchOption result (LacksAnswer within past ended) (IsFoundWithoutLineFeed within past ended) }
+    ensures { MatchOption result (HasNoAnswerYet within past ended) (IsFoundWithoutLineFeed within past ended) }
 {
     if within > LINE_LIMIT {
         Some(Found::LineTooLong)
@@ -222,7 +245,7 @@ fn find_without_line_feed(within: usize, past: usize, ended: bool) -> Option<Fou
             whole: within,
         })
     } else {
-        Some(Found::Nothing)
+        Some(Found::NoOctets)
     }
 }
 
@@ -305,7 +328,7 @@ mod tests {
         Ok(())
     }
 
-    /// A source that gives this number of line feeds.
+    /// A source that gives the stored number of line feeds.
     #[derive(Drop)]
     struct LineFeedSource(usize);
 
@@ -323,7 +346,7 @@ mod tests {
     }
 
     #[test]
-    fn an_octet_past_the_input_limit_ends_the_lines(rt: HostRuntime) -> Result<(), Fail> {
+    fn reading_stops_at_the_input_limit(rt: HostRuntime) -> Result<(), Fail> {
         for past in 0..2 {
             let mut source = LineFeedSource(67_108_864 + past);
             let mut lines = Lines::new(rt.alloc())?;

@@ -1,36 +1,38 @@
-//! Sources and sinks in memory, for tests: their content is known, and they fail at chosen calls.
+//! Sources and sinks in memory, for tests: their contents are known, and chosen calls fail.
 ghost use Rattle.std.specs.Prelude.{◌≡◌, ◌≤◌, ◌+◌, ◌↔◌, ℕ, Some, Ok, Err, [], ◌++◌, length, take, drop};
 ghost use Rattle.std.specs.Prelude.{vec_len, vec_capacity, IfOk, OnOk, OnErr, IsErr};
 ghost use Rattle.std.specs.Io.{ReadsAtMost, WritesAtMost};
 ghost use Rattle.std.specs.Io.KnownBytes.{ReadConsumes, WriteAppends};
 ghost use Rattle.um_io.specs.Streams.{next_failure_count, FailureCountRose, TakesAtLeastOneOctet};
-ghost use Rattle.um_io.specs.Memory.{PlainSourceState, MemorySourceState, SinkState, new_source_state, new_sink_state, given_octet_count};
-ghost use Rattle.um_io.specs.Memory.{taken_octet_count, with_front, NextCallFails, SinkRefuses};
-ghost use Rattle.um_io.specs.Memory.{after_giving, after_failing, after_taking, after_refusing, TookFromMemory};
+ghost use Rattle.um_io.specs.Memory.{PlainSourceState, MemorySourceState, MemorySinkState, new_source_state, new_sink_state};
+ghost use Rattle.um_io.specs.Memory.{given_octet_count};
+ghost use Rattle.um_io.specs.Memory.{taken_octet_count, buffer_after_read, NextCallFails, SinkRefuses};
+ghost use Rattle.um_io.specs.Memory.{source_after_read, source_after_failure, sink_after_write, sink_after_failure, IsMemorySourceCall};
 ghost use Rattle.std.specs.Result.{result_ok};
 
-use crate::streams::{Failed, NoMemory, Sink, Source, fault};
+use crate::streams::{Failed, NoMemory, Sink, Source, count_failure};
 use std::alloc::Global;
 use std::marker::Model;
 
-/// Moves at most `most` octets from the front of `left` to the front of `into`.
-fn move_octets(left: &mut &[u8], most: usize, into: &mut [u8]) -> usize
-    ensures exact { result ≡ given_octet_count most left.old.now into.old }
-    ensures copied { into.new ≡ with_front left.old.now result into.old }
+/// Copies at most `max_per_call` octets from the front of `left` to the front of `into`, removes them from `left`, and returns their
+/// number.
+fn move_octets(left: &mut &[u8], max_per_call: usize, into: &mut [u8]) -> usize
+    ensures exact { result ≡ given_octet_count max_per_call left.old.now into.old }
+    ensures copied { into.new ≡ buffer_after_read left.old.now result into.old }
     ensures rest { left.new.now ≡ drop result left.old.now }
 {
     let octets = *left;
-    let count = most.min(into.len()).min(octets.len());
+    let count = max_per_call.min(into.len()).min(octets.len());
     into[..count].copy_from_slice(&octets[..count]);
     *left = &octets[count..];
     count
 }
 
-/// A source over octets in memory that never fails.
+/// A source in memory that never fails.
 #[derive(Debug, Drop)]
 pub struct PlainSource<'a> {
     octets: &'a [u8],
-    most: usize,
+    max_per_call: usize,
 }
 
 impl<'a> Model for PlainSource<'a> {
@@ -39,18 +41,21 @@ impl<'a> Model for PlainSource<'a> {
 
     ghost Value = { PlainSourceState };
 
-    ghost view = { λ s. record { left = s.octets.now; most = s.most } };
+    ghost view = { λ s. record { left = s.octets.now; max_per_call = s.max_per_call } };
 
-    ghost invariant = { λ s. 1 ≤ s.most };
+    ghost invariant = { λ s. 1 ≤ s.max_per_call };
 }
 
 impl<'a> PlainSource<'a> {
-    /// A source of `octets`, which gives at most `most` of them in each call.
-    pub fn new(octets: &'a [u8], most: usize) -> Self
-        requires { 1 ≤ most }
-        ensures { result ≡ record { left = octets.now; most = most } }
+    /// A source of `octets` that gives at most `max_per_call` of them per call.
+    pub fn new(octets: &'a [u8], max_per_call: usize) -> Self
+        requires { 1 ≤ max_per_call }
+        ensures { result ≡ record { left = octets.now; max_per_call = max_per_call } }
     {
-        PlainSource { octets, most }
+        PlainSource {
+            octets,
+            max_per_call,
+        }
     }
 }
 
@@ -69,23 +74,23 @@ impl<'a> Source for PlainSource<'a> {
         ensures cause { let count = ⟦<PlainSource<'a> as Source>⟧.faults in
             OnErr result (FailureCountRose (count self.old) (count self.new)) }
 
-        ensures exact { result ≡ Ok (given_octet_count self.old.most self.old.left into.old) }
-        ensures copied { IfOk result (λ n. into.new ≡ with_front self.old.left n into.old) }
+        ensures exact { result ≡ Ok (given_octet_count self.old.max_per_call self.old.left into.old) }
+        ensures copied { IfOk result (λ n. into.new ≡ buffer_after_read self.old.left n into.old) }
         ensures rest { IfOk result (λ n. self.new ≡ record self.old { left = drop n self.old.left }) }
     {
-        Ok(move_octets(&mut self.octets, self.most, into))
+        Ok(move_octets(&mut self.octets, self.max_per_call, into))
     }
 }
 
-/// A source over octets in memory, some of whose calls fail.
+/// A source in memory, some of whose calls fail.
 ///
-/// Calls are numbered from 1; every call after the greatest `u64` has that number.
+/// Calls are numbered from 1; the numbers stop at the greatest `u64`.
 #[derive(Debug, Drop)]
 pub struct MemorySource<'a> {
     octets: &'a [u8],
-    most: usize,
-    failing: &'a [u64],
-    calls: u64,
+    max_per_call: usize,
+    failing_calls: &'a [u64],
+    call_count: u64,
     faults: u64,
 }
 
@@ -97,26 +102,26 @@ impl<'a> Model for MemorySource<'a> {
 
     ghost view = { λ s. record {
       left = s.octets.now;
-      most = s.most;
-      failing = s.failing.now;
-      calls = s.calls;
+      max_per_call = s.max_per_call;
+      failing_calls = s.failing_calls.now;
+      call_count = s.call_count;
       faults = s.faults;
     } };
 
-    ghost invariant = { λ s. 1 ≤ s.most };
+    ghost invariant = { λ s. 1 ≤ s.max_per_call };
 }
 
 impl<'a> MemorySource<'a> {
-    /// A source of `octets`, which gives at most `most` of them in each call and fails at the calls numbered in `fails`.
-    pub fn new(octets: &'a [u8], most: usize, fails: &'a [u64]) -> Self
-        requires { 1 ≤ most }
-        ensures { result ≡ new_source_state octets.now most fails.now }
+    /// A source of `octets` that gives at most `max_per_call` of them per call and fails the calls whose numbers are in `fails`.
+    pub fn new(octets: &'a [u8], max_per_call: usize, fails: &'a [u64]) -> Self
+        requires { 1 ≤ max_per_call }
+        ensures { result ≡ new_source_state octets.now max_per_call fails.now }
     {
         MemorySource {
             octets,
-            most,
-            failing: fails,
-            calls: 0,
+            max_per_call,
+            failing_calls: fails,
+            call_count: 0,
             faults: 0,
         }
     }
@@ -127,77 +132,82 @@ impl<'a> Source for MemorySource<'a> {
 
     ghost faults = { λ s. s.faults };
 
-    ghost took = { TookFromMemory };
+    ghost took = { IsMemorySourceCall };
 
     fn take(&mut self, into: &mut [u8]) -> Result<usize, Failed>
         ensures bound { ReadsAtMost result into.new }
         ensures octets { ReadConsumes (Some self.old.left) (Some self.new.left) result into.new }
-        ensures step { TookFromMemory self.old (result_ok result) self.new }
+        ensures step { IsMemorySourceCall self.old (result_ok result) self.new }
         ensures unchanged { OnOk result (self.new.faults ≡ self.old.faults) }
         ensures later { self.old.faults ≤ self.new.faults }
         ensures cause { OnErr result (FailureCountRose self.old.faults self.new.faults) }
 
-        ensures fails { IsErr result ↔ NextCallFails self.old.failing self.old.calls }
-        ensures exact { IfOk result (λ n. n ≡ given_octet_count self.old.most self.old.left into.old) }
-        ensures copied { IfOk result (λ n. into.new ≡ with_front self.old.left n into.old) }
-        ensures given { IfOk result (λ n. self.new ≡ after_giving self.old n) }
-        ensures failed { OnErr result (self.new ≡ after_failing self.old) }
+        ensures fails { IsErr result ↔ NextCallFails self.old.failing_calls self.old.call_count }
+        ensures exact { IfOk result (λ n. n ≡ given_octet_count self.old.max_per_call self.old.left into.old) }
+        ensures copied { IfOk result (λ n. into.new ≡ buffer_after_read self.old.left n into.old) }
+        ensures given { IfOk result (λ n. self.new ≡ source_after_read self.old n) }
+        ensures failed { OnErr result (self.new ≡ source_after_failure self.old) }
         ensures untouched { OnErr result (into.new ≡ into.old) }
     {
-        self.calls = self.calls.saturating_add(1);
-        if self.failing.contains(&self.calls) {
-            return Err(fault(&mut self.faults));
+        self.call_count = self.call_count.saturating_add(1);
+        if self.failing_calls.contains(&self.call_count) {
+            return Err(count_failure(&mut self.faults));
         }
-        Ok(move_octets(&mut self.octets, self.most, into))
+        Ok(move_octets(&mut self.octets, self.max_per_call, into))
     }
 }
 
 /// A sink in memory, some of whose calls fail.
 ///
-/// Calls are numbered from 1; every call after the greatest `u64` has that number.
+/// Calls are numbered from 1; the numbers stop at the greatest `u64`.
 #[derive(Debug, Drop)]
 pub struct MemorySink<'a> {
     octets: Vec<u8>,
     room: usize,
-    most: usize,
-    failing: &'a [u64],
-    calls: u64,
+    max_per_call: usize,
+    failing_calls: &'a [u64],
+    call_count: u64,
     faults: u64,
 }
 
 impl<'a> Model for MemorySink<'a> {
     ghost use Rattle.std.specs.Prelude.{◌≤◌, vec_len, vec_capacity};
-    ghost use Rattle.um_io.specs.Memory.{SinkState};
+    ghost use Rattle.um_io.specs.Memory.{MemorySinkState};
 
-    ghost Value = { SinkState };
+    ghost Value = { MemorySinkState };
 
     ghost view = { λ s. record {
       taken = s.octets.items;
       room = s.room;
-      most = s.most;
-      failing = s.failing.now;
-      calls = s.calls;
+      max_per_call = s.max_per_call;
+      failing_calls = s.failing_calls.now;
+      call_count = s.call_count;
       faults = s.faults;
     } };
 
-    // All memory is allocated in `new`.
-    ghost invariant = { λ s. (1 ≤ s.most) × (vec_len s.octets ≤ s.room) × (s.room ≤ vec_capacity s.octets) };
+    // The sink holds at most `room` octets, for which `new` has allocated the memory.
+    ghost invariant = { λ s. (1 ≤ s.max_per_call) × (vec_len s.octets ≤ s.room) × (s.room ≤ vec_capacity s.octets) };
 }
 
 impl<'a> MemorySink<'a> {
-    /// A sink that takes at most `most` octets in each call and `room` octets in all, and fails at the calls numbered in `fails`. It
-    /// allocates all its memory here.
-    pub fn new(alloc: Global, room: usize, most: usize, fails: &'a [u64]) -> Result<Self, NoMemory>
-        requires { 1 ≤ most }
-        ensures { IfOk result (λ sink. sink ≡ new_sink_state room most fails.now) }
+    /// A sink that takes at most `max_per_call` octets per call and `room` octets in all, and fails the calls whose numbers are in `fails`.
+    /// All its memory is allocated here.
+    pub fn new(
+        alloc: Global,
+        room: usize,
+        max_per_call: usize,
+        fails: &'a [u64],
+    ) -> Result<Self, NoMemory>
+        requires { 1 ≤ max_per_call }
+        ensures { IfOk result (λ sink. sink ≡ new_sink_state room max_per_call fails.now) }
     {
         let octets = Vec::with_capacity(alloc, room)?;
         Ok(MemorySink {
             octets,
             room,
-            most,
-            failing: fails,
-            calls: 0,
+            max_per_call,
+            failing_calls: fails,
+            call_count: 0,
             faults: 0,
         })
     }
@@ -224,14 +234,14 @@ impl<'a> Sink for MemorySink<'a> {
         ensures cause { OnErr result (FailureCountRose self.old.faults self.new.faults) }
 
         ensures fails { IsErr result ↔ SinkRefuses self.old piece.now }
-        ensures exact { IfOk result (λ n. n ≡ taken_octet_count self.old.most piece.now) }
-        ensures taken { IfOk result (λ n. self.new ≡ after_taking self.old piece.now n) }
-        ensures failed { OnErr result (self.new ≡ after_refusing self.old) }
+        ensures exact { IfOk result (λ n. n ≡ taken_octet_count self.old.max_per_call piece.now) }
+        ensures taken { IfOk result (λ n. self.new ≡ sink_after_write self.old piece.now n) }
+        ensures failed { OnErr result (self.new ≡ sink_after_failure self.old) }
     {
-        self.calls = self.calls.saturating_add(1);
-        let count = self.most.min(piece.len());
-        if self.failing.contains(&self.calls) || count > self.room - self.octets.len() {
-            return Err(fault(&mut self.faults));
+        self.call_count = self.call_count.saturating_add(1);
+        let count = self.max_per_call.min(piece.len());
+        if self.failing_calls.contains(&self.call_count) || count > self.room - self.octets.len() {
+            return Err(count_failure(&mut self.faults));
         }
         self.octets.extend_from_slice(&piece[..count]).unwrap();
         Ok(count)

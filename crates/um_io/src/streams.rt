@@ -1,4 +1,4 @@
-//! The contracts of sources and sinks of octets.
+//! Sources and sinks of octets, with their contracts.
 ghost use Rattle.std.specs.Prelude.{◌≡◌, ℕ, ◌≤◌, List, Option, OnOk, OnErr};
 ghost use Rattle.std.specs.Io.{ReadsAtMost, WritesAtMost};
 ghost use Rattle.std.specs.Result.{result_ok};
@@ -26,7 +26,7 @@ impl From<AllocError> for NoMemory {
 
 /// A source of octets.
 ///
-/// `left` are the octets still to come, if the source knows them. `faults` counts failures, up to the greatest `u64`.
+/// `left` holds the octets still to come, if the source knows them. `faults` counts failures, up to the greatest `u64`.
 pub trait Source {
     ghost left: { Self → Option (List ℕ) };
 
@@ -34,15 +34,15 @@ pub trait Source {
 
     ghost took: { Self → Option ℕ → Self → Type 0 } = { λ _ _ _. Unit {0} };
 
-    /// Writes the next octets to the front of `into`, and returns how many. The rest of `into` may hold anything afterwards.
+    /// Writes the next octets to the front of `into` and returns their number. The rest of `into` is unspecified afterwards.
     fn take(&mut self, into: &mut [u8]) -> Result<usize, Failed>
         ensures bound { ReadsAtMost result into.new }
 
-        // The octets given are the front of those left. A result of 0 means the end of the input, and a failed call takes no octets.
+        // A call returns the first of the remaining octets. A result of 0 means the end of the input; a failed call consumes no octets.
         ensures octets { ReadConsumes (left self.old) (left self.new) result into.new }
         ensures step { took self.old (result_ok result) self.new }
 
-        // A successful call leaves the count of failures unchanged; a failed call raises it.
+        // A successful call leaves the failure count unchanged; a failed call raises it.
         ensures unchanged { OnOk result (faults self.new ≡ faults self.old) }
         ensures later { faults self.old ≤ faults self.new }
         ensures cause { OnErr result (FailureCountRose (faults self.old) (faults self.new)) };
@@ -50,30 +50,30 @@ pub trait Source {
 
 /// A sink of octets.
 ///
-/// `taken` are the octets taken so far, if the sink knows them. `faults` counts failures, up to the greatest `u64`.
+/// `taken` holds the octets taken so far, if the sink knows them. `faults` counts failures, up to the greatest `u64`.
 pub trait Sink {
     ghost taken: { Self → Option (List ℕ) };
 
     ghost faults: { Self → ℕ };
 
-    /// Takes octets from the front of `piece`, and returns how many.
+    /// Takes octets from the front of `piece` and returns their number.
     fn put(&mut self, piece: &[u8]) -> Result<usize, Failed>
         ensures bound { WritesAtMost result piece.now }
 
         // If `piece` is not empty, at least one octet is taken.
         ensures some { TakesAtLeastOneOctet result piece.now }
 
-        // The octets are appended to those taken before; a failed call takes no octets.
+        // The octets are appended to those taken so far; a failed call takes no octets.
         ensures octets { WriteAppends (taken self.old) (taken self.new) result piece.now }
 
-        // A successful call leaves the count of failures unchanged; a failed call raises it.
+        // A successful call leaves the failure count unchanged; a failed call raises it.
         ensures unchanged { OnOk result (faults self.new ≡ faults self.old) }
         ensures later { faults self.old ≤ faults self.new }
         ensures cause { OnErr result (FailureCountRose (faults self.old) (faults self.new)) };
 }
 
-/// Counts a fault, and returns the error.
-pub(crate) fn fault(count: &mut u64) -> Failed
+/// Counts a failure and returns the error.
+pub(crate) fn count_failure(count: &mut u64) -> Failed
     ensures raised { count.new ≡ next_failure_count count.old }
     ensures later { count.old ≤ count.new }
 {

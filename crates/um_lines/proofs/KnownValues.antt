@@ -1,6 +1,7 @@
 -- The types and ranges of the values in a line that has a form.
-use Rattle.std.proofs.Common.{◌≡◌, ◌≢◌, ℕ, ◌<◌, ◌≤◌, Bool, true, false, List, [], ◌∷◌, length, Option, Some, None, sym, subst, inl, inr}
-use Rattle.std.{proofs.{Common.arith, lemmas.{Bool.{and_parts, leb-true}, List.Elements.All-from_recursion}}, specs.List.All}
+use Rattle.std.proofs.Common.{◌≡◌, ◌≢◌, ℕ, ◌<◌, ◌≤◌, Bool, true, false, List, [], ◌∷◌, length, Option, Some}
+use Rattle.std.proofs.{Common.{None, sym, subst, inl, inr, arith}, lemmas.{Bool.{and_parts, leb-true}, List.Elements.All-from_recursion}}
+use Rattle.std.specs.List.{All}
 use Rattle.bit_blocks.specs.Bits.{AllBits}
 use Rattle.um_lines.specs.Fields.{Field, FixedWord, DigitUpTo, BitDigits, HexOctets, SoftOctets, OctetsBetween, BlockBitIndex, Value}
 use Rattle.um_lines.specs.Fields.{Number, NumberList, Place, octets_from_hex, is_within_limit, octet_count, has_octet_count}
@@ -20,9 +21,11 @@ AreOctets count octets = (length octets ≡ count) × All (λ octet. octet < 256
 abbrev pub Fitting : List Field → List Value → Type 0
 Fitting [] values = values ≡ []
 Fitting (FixedWord text ∷ fields) values = Fitting fields values
-Fitting (DigitUpTo most ∷ fields) values = (n : ℕ) × (rest : List Value) × (values ≡ Number n ∷ rest) × (n ≤ most) × Fitting fields rest
+Fitting (DigitUpTo most ∷ fields) values = (n : ℕ) × (rest : List Value) × (values ≡ Number n ∷ rest) × (n ≤ most)
+    × Fitting fields rest
 Fitting (BitDigits count ∷ fields) values =
-    (bits : List ℕ) × (rest : List Value) × (values ≡ NumberList bits ∷ rest) × ((length bits ≡ count) × AllBits bits) × Fitting fields rest
+    (bits : List ℕ) × (rest : List Value) × (values ≡ NumberList bits ∷ rest) × ((length bits ≡ count) × AllBits bits)
+    × Fitting fields rest
 Fitting (HexOctets count ∷ fields) values =
     (octets : List ℕ) × (rest : List Value) × (values ≡ NumberList octets ∷ rest) × AreOctets count octets × Fitting fields rest
 Fitting (SoftOctets count ∷ fields) values =
@@ -31,14 +34,17 @@ Fitting (SoftOctets count ∷ fields) values =
 Fitting (OctetsBetween least most ∷ fields) values =
     (octets : List ℕ) × (rest : List Value) × (values ≡ NumberList octets ∷ rest)
     × ((least ≤ length octets) × AreWithin most octets × All (λ octet. octet < 256) octets) × Fitting fields rest
-Fitting (BlockBitIndex ∷ fields) values = (n : ℕ) × (rest : List Value) × (values ≡ Place n ∷ rest) × (n ≤ 591) × Fitting fields rest
+Fitting (BlockBitIndex ∷ fields) values = (n : ℕ) × (rest : List Value) × (values ≡ Place n ∷ rest) × (n ≤ 591)
+    × Fitting fields rest
 
-within : (most : Option ℕ) (word : List ℕ) → is_within_limit most (octet_count word) ≡ true → AreWithin most (octets_from_hex word)
+within : (most : Option ℕ) (word : List ℕ) → is_within_limit most (octet_count word) ≡ true →
+    AreWithin most (octets_from_hex word)
 within None word e = tt
 within (Some most) word e = let few = leb-true (octet_count word) most e in omega (arith, length-octets_from_hex word)
 
 counted : (least : ℕ) (most : Option ℕ) (word : List ℕ) → has_octet_count least most word ≡ true
-    → (least ≤ length (octets_from_hex word)) × AreWithin most (octets_from_hex word) × All (λ octet. octet < 256) (octets_from_hex word)
+    → (least ≤ length (octets_from_hex word)) × AreWithin most (octets_from_hex word)
+    × All (λ octet. octet < 256) (octets_from_hex word)
 counted least most word e =
     let outer = and_parts _ _ e in
     let inner = and_parts _ _ outer.1 in
@@ -77,47 +83,49 @@ fill_fitting (OctetsBetween least most ∷ fields) (word ∷ words) values f =
 fill_fitting (BlockBitIndex ∷ fields) (word ∷ words) values f =
     let s = f.2 in (s.0, f.1, rw s.3 at f.4, s.1, fill_fitting fields words f.1 f.3)
 
-module _ {Name : Type 0} (elsewhere : Name → Bool) (P : Name → List Value → Type 0) where
+module _ {Name : Type 0} (misplaced : Name → Bool) (P : Name → List Value → Type 0) where
   -- the property holds for all values that fit a form of the table, for each form that is allowed at this point
   abbrev pub Each : FormTable Name → Type 0
   Each [] = Unit {0}
   Each (entry ∷ table) =
-      ((count : ℕ) (values : List Value) → elsewhere entry.0 ≡ false → Fitting (fields_for_word_count entry.1 count) values →
+      ((count : ℕ) (values : List Value) → misplaced entry.0 ≡ false → Fitting (fields_for_word_count entry.1 count) values →
       P entry.0 values)
       × Each table
 
-  each_of : (table : FormTable Name) → Each table → (entry : Name × LineForm) → IsTableEntry table entry → elsewhere entry.0 ≡ false
+  each_of : (table : FormTable Name) → Each table → (entry : Name × LineForm) → IsTableEntry table entry →
+      misplaced entry.0 ≡ false
       → (count : ℕ) (values : List Value) → Fitting (fields_for_word_count entry.1 count) values → P entry.0 values
   each_of [] each entry is here count values fits = absurd is
   each_of (first ∷ table) each entry is here count values fits =
       elim is [
         | inl same ↦
             subst (λ e. P e.0 values) (sym same)
-            (each.0 count values (subst (λ e. elsewhere e.0 ≡ false) same here)
+            (each.0 count values (subst (λ e. misplaced e.0 ≡ false) same here)
             (subst (λ e. Fitting (fields_for_word_count e.1 count) values) same fits))
         | inr later ↦ each_of table each.1 entry later here count values fits
       ]
 
 -- a property of the values of every form holds for every line
-pub line_is : {Name A : Type 0} (table : FormTable Name) (elsewhere : Name → Bool) (make : Option (Name × List Value) → A) (Q : A → Type 0)
-    → Q (make None) → Each elsewhere (λ name values. Q (make (Some (name, values)))) table
-    → (line : List ℕ) (a : A) → LineParsesTo table elsewhere make line a → Q a
-line_is {Name} table elsewhere make Q none each line a m = subst Q (sym m.2) (go m.0 m.1)
+pub line_is : {Name A : Type 0} (table : FormTable Name) (misplaced : Name → Bool) (make : Option (Name × List Value) → A) (Q : A →
+    Type 0)
+    → Q (make None) → Each misplaced (λ name values. Q (make (Some (name, values)))) table
+    → (line : List ℕ) (a : A) → LineParsesTo table misplaced make line a → Q a
+line_is {Name} table misplaced make Q none each line a m = subst Q (sym m.2) (go m.0 m.1)
   where
-    go : (meaning : Option (Name × List Value)) → LineMeans table elsewhere line meaning → Q (make meaning)
+    go : (meaning : Option (Name × List Value)) → LineMeans table misplaced line meaning → Q (make meaning)
     go None means = none
     go (Some meaning) means =
         let w = means.2 in
-        each_of elsewhere (λ name values. Q (make (Some (name, values)))) table each (meaning.0, w.form) w.of_table w.here _ meaning.1
+        each_of misplaced (λ name values. Q (make (Some (name, values)))) table each (meaning.0, w.form) w.form_of_table w.here _ meaning.1
         (fill_fitting _ _ meaning.1 w.filled)
 
 -- a line that has a meaning has at most 4096 octets
-pub line_short : {Name A : Type 0} (table : FormTable Name) (elsewhere : Name → Bool) (make : Option (Name × List Value) →
+pub line_short : {Name A : Type 0} (table : FormTable Name) (misplaced : Name → Bool) (make : Option (Name × List Value) →
     A) (line : List ℕ)
     (a : A)
-    → LineParsesTo table elsewhere make line a → length line ≤ 4096
-line_short {Name} table elsewhere make line a m = go m.0 m.1
+    → LineParsesTo table misplaced make line a → length line ≤ 4096
+line_short {Name} table misplaced make line a m = go m.0 m.1
   where
-    go : (meaning : Option (Name × List Value)) → LineMeans table elsewhere line meaning → length line ≤ 4096
+    go : (meaning : Option (Name × List Value)) → LineMeans table misplaced line meaning → length line ≤ 4096
     go None means = means.0
     go (Some meaning) means = means.0

@@ -1,6 +1,7 @@
 -- Writing octets as hexadecimal digits, several octets at a time.
-use Rattle.std.proofs.Common.{◌≡◌, ℕ, true, ◌==◌, ◌+◌, ◌*◌, ◌<◌, ◌≤◌, ◌-◌, ◌/◌, ◌%◌, List, [], ◌∷◌, length, set, get_or, suc, refl, ap, ap₂}
-use Rattle.std.proofs.{Common.{◌∙◌, sym, arith, inl, inr}, lemmas.{Grind.common_steps, Bool.{cases_eq, eqb-true}}}
+use Rattle.std.proofs.Common.{◌≡◌, ℕ, true, ◌==◌, ◌+◌, ◌*◌, ◌<◌, ◌≤◌, ◌-◌, ◌/◌, ◌%◌, List, []}
+use Rattle.std.proofs.Common.{◌∷◌, length, set, get_or, suc, refl, ap, ap₂, ◌∙◌, sym, arith, inl, inr}
+use Rattle.std.proofs.lemmas.{Grind.common_steps, Bool.{cases_eq, eqb-true}}
 use Rattle.bit_blocks.proofs.Lemmas.{passes_below, at_passes_below}
 use Rattle.hex.specs.Hex.{encode_with, encode_lower, lower_digits}
 use Rattle.um_lines.specs.HexPlaces.{HasDigitsOfOctet}
@@ -30,7 +31,7 @@ pub digits_set : (octets digits : List ℕ) (n high low : ℕ) → 2 * n + 1 < l
     → high ≡ get_or lower_digits (get_or octets n 0 / 16) 0 → low ≡ get_or lower_digits (get_or octets n 0 % 16) 0
     → ((k : ℕ) → k < n → HasDigitsOfOctet octets digits k)
     → (k : ℕ) → k < n + 1 → HasDigitsOfOctet octets (set (set digits (2 * n) high) (2 * n + 1) low) k
-digits_set octets digits n high low room is-high is-low before k within =
+digits_set octets digits n high low buffer is-high is-low before k within =
     elim (cases_eq k n) [
       | inl same ↦ (grind (arith, common_steps), grind (arith, common_steps))
       | inr other ↦

@@ -1,7 +1,8 @@
 -- Lists handled sixteen elements at a time, where the last sixteen may overlap those before them.
-use Rattle.std.proofs.Common.{◌≡◌, ℕ, Bool, true, false, ◌+◌, ◌-◌, ◌≤◌, ◌&&◌, List, ◌++◌, length, take, drop, refl, ap, ap₂, sym, ◌∙◌}
-use Rattle.std.proofs.{Common.arith, Math.Seq.take-add, lemmas.List.{take-append-drop, take-take, take_at, take_all, length-append}}
-use Rattle.std.{proofs.lemmas.{List.{length-take-le, length-drop, Folds.list_all-append}, Slice.take-put_mid}, specs.List.list_all}
+use Rattle.std.proofs.Common.{◌≡◌, ℕ, Bool, true, false, ◌+◌, ◌-◌, ◌≤◌, ◌&&◌, List, ◌++◌, length, take, drop}
+use Rattle.std.proofs.{Common.{refl, ap, ap₂, sym, ◌∙◌, arith}, Math.Seq.take-add, lemmas.List.{take-append-drop, take-take}}
+use Rattle.std.proofs.lemmas.List.{take_at, take_all, length-append, length-take-le, length-drop, Folds.list_all-append}
+use Rattle.std.{proofs.lemmas.Slice.take-put_mid, specs.List.list_all}
 use borrow.Rule.Slice.PartMut.{put_mid}
 
 -- ---- whether all elements pass
@@ -29,8 +30,9 @@ all_overlapping p xs last n =
 
 -- ---- a list written from another, element by element
 
-length-put : {Y : Type 0} (at : ℕ) (old new : List Y) → at + 16 ≤ length old → length new ≡ 16 → length (put_mid at 16 old new) ≡ length old
-length-put at old new room few =
+length-put : {Y : Type 0} (at : ℕ) (old new : List Y) → at + 16 ≤ length old → length new ≡ 16 →
+    length (put_mid at 16 old new) ≡ length old
+length-put at old new buffer few =
     let rest : length (drop 16 (drop at old)) ≡ length old - at - 16 = length-drop 16 (drop at old)
     ∙ ap (λ n. n - 16) (length-drop at old) in
     length-append (take at old) (new ++ drop 16 (drop at old))
@@ -67,7 +69,8 @@ module _ {X : Type 0} {Y : Type 0} (F : List X → List Y) (joins : (xs ys : Lis
       )
 
   -- the last sixteen elements may overlap those written before
-  pub written_all : (xs : List X) (last at n : ℕ) (old new : List Y) → n ≡ 16 → last + 16 ≡ length xs → last ≤ at → AreWritten F xs at old
+  pub written_all : (xs : List X) (last at n : ℕ) (old new : List Y) → n ≡ 16 → last + 16 ≡ length xs → last ≤ at →
+      AreWritten F xs at old
       → new ≡ F (take n (drop last xs)) → put_mid last n old new ≡ F xs
   written_all xs last at n old new width whole past before is =
       let h = written_more xs last n old new width (omega (arith, whole))

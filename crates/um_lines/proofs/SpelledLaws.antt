@@ -1,9 +1,9 @@
 -- A line that is written for values means these values again: in each field, reading inverts writing.
-use Rattle.std.proofs.Common.{append-nil, ◌≡◌, ◌≢◌, ℕ, ◌+◌, ◌*◌, ◌/◌, ◌%◌, ◌<◌, ◌≤◌, ◌==◌, Bool, true, false, ◌&&◌, ◌||◌, not, List, []}
-use Rattle.std.proofs.Common.{◌∷◌, length, slice_index, Option, Some, None, codes, refl, sym, ap, ◌∙◌, subst, arith}
-use Rattle.std.proofs.lemmas.{Bool.{and_parts, or_right, eq-eqb, le-leb, Decides.nat_tests}, List.Elements.{All-nil, All-cons, All-head}}
-use Rattle.std.{proofs.lemmas.List.Elements.{All-tail, All-append, recursion_from_All}, specs.{Fmt.decimal, List.{All, list_all}}}
-use Rattle.std.specs.{List.{AllByRecursion, join_with_byte}, Str.{bytes_eq, all_ascii_digits}}
+use Rattle.std.proofs.Common.{append-nil, ◌≡◌, ◌≢◌, ℕ, ◌+◌, ◌*◌, ◌/◌, ◌%◌, ◌<◌, ◌≤◌, ◌==◌, Bool}
+use Rattle.std.proofs.Common.{true, false, ◌&&◌, ◌||◌, not, List, [], ◌∷◌, length, slice_index, Option, Some, None, codes}
+use Rattle.std.proofs.{Common.{refl, sym, ap, ◌∙◌, subst, arith}, lemmas.Bool.{and_parts, or_right, eq-eqb, le-leb}}
+use Rattle.std.proofs.lemmas.{Bool.Decides.nat_tests, List.Elements.{All-nil, All-cons, All-head, All-tail, All-append, recursion_from_All}}
+use Rattle.std.specs.{Fmt.decimal, List.{All, list_all, AllByRecursion, join_with_byte}, Str.{bytes_eq, all_ascii_digits}}
 use Rattle.hex.{specs.Hex.{encode_with, encode_lower, lower_digits, hex_digit_value, is_hex_digit}, proofs.HexLemmas.IsDigits-lower_digits}
 use Rattle.hex.proofs.HexLemmas.{length-encode_with}
 use Rattle.um_lines.specs.{Words.{is_skipped, words}, Fields.{Field, FixedWord, DigitUpTo, BitDigits, HexOctets, SoftOctets, OctetsBetween}}
@@ -89,7 +89,11 @@ spelled_fill (OctetsBetween least most ∷ fields) values (octets, rest, is, kno
     rw is (
       NumberList octets ∷ [],
       rest,
-      (any_digits octets known.2, any_many least most octets known.0 known.1, ap (λ o. NumberList o ∷ []) (sym (any_value octets known.2))),
+      (
+        any_digits octets known.2,
+        any_many least most octets known.0 known.1,
+        ap (λ o. NumberList o ∷ []) (sym (any_value octets known.2)),
+      ),
       spelled_fill fields rest f,
       refl,
     )
@@ -172,18 +176,20 @@ module _ (other : ℕ) (below : other < 45) where
 -- ---- lines
 
 -- the line that is written for the values of a form means them, unless the line is too long or is skipped
-pub spelled_means : {Name : Type 0} (table : FormTable Name) (elsewhere : Name → Bool) (name : Name) (text : List ℕ) (fields : List Field)
-    (values : List Value) → IsTableEntry table (name, Exactly (FixedWord text ∷ fields)) → elsewhere name ≡ false
+pub spelled_means : {Name : Type 0} (table : FormTable Name) (misplaced : Name →
+    Bool) (name : Name) (text : List ℕ) (fields : List Field)
+    (values : List Value) → IsTableEntry table (name, Exactly (FixedWord text ∷ fields)) → misplaced name ≡ false
     → fixed_words_lack 32 (omega arith) (FixedWord text ∷ fields) ≡ true
     → Fitting (FixedWord text ∷ fields) values → AreDistinct (places values)
-    → length (line_of_values (FixedWord text ∷ fields) values) ≤ 4096 → is_skipped (line_of_values (FixedWord text ∷ fields) values) ≡ false
-    → LineMeans table elsewhere (line_of_values (FixedWord text ∷ fields) values) (Some (name, values))
-spelled_means table elsewhere name text fields values is here lacks fits once short stays = (
+    → length (line_of_values (FixedWord text ∷ fields) values) ≤ 4096 →
+    is_skipped (line_of_values (FixedWord text ∷ fields) values) ≡ false
+    → LineMeans table misplaced (line_of_values (FixedWord text ∷ fields) values) (Some (name, values))
+spelled_means table misplaced name text fields values is here lacks fits once short stays = (
   short,
   stays,
   record {
     form = Exactly (FixedWord text ∷ fields);
-    of_table = is;
+    form_of_table = is;
     here = here;
     filled = subst (λ all. WordsGiveValues all (words (line_of_values (FixedWord text ∷ fields) values)) values) (sym (append-nil
         (FixedWord text ∷ fields)))
@@ -196,7 +202,8 @@ spelled_means table elsewhere name text fields values is here lacks fits once sh
 )
 
 -- the line that is written contains no line feed
-pub spelled_uncut : (fields : List Field) (values : List Value) → fixed_words_lack 10 (omega arith) fields ≡ true → Fitting fields values
+pub spelled_uncut : (fields : List Field) (values : List Value) → fixed_words_lack 10 (omega arith) fields ≡ true →
+    Fitting fields values
     → All (λ octet. octet ≢ 10) (line_of_values fields values)
 spelled_uncut fields values lacks fits =
     join_lack 10 (omega arith) (λ same. omega arith) (words_of_values fields values) (spelled_lack 10

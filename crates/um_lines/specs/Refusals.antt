@@ -1,10 +1,10 @@
--- The last line of output if a line of the input is refused (this project's own rule).
+-- The last line of output when a line of input is refused (this project's own rule).
 use Rattle.std.specs.Prelude.{ℕ, List, ◌++◌, codes}
 use Rattle.std.specs.Fmt.{decimal}
 use Rattle.um_lines.specs.declared.fault.LineFault.{LineFault}
 use Rattle.um_lines.specs.declared.fault.LineFault.TheVariants.{Long, Word, Order, Digits, Length, Soft, Place, Twice}
 
--- the word that stands for a fault in the output
+-- the word that reports a fault in the output
 abbrev pub reason_word : LineFault → List ℕ
 reason_word Long = codes "long"
 reason_word Word = codes "word"
@@ -15,6 +15,6 @@ reason_word Soft = codes "soft"
 reason_word Place = codes "place"
 reason_word Twice = codes "twice"
 
--- `refused LINE REASON`, with the line number in decimal
+-- the line `refused LINE REASON`, with the line number in decimal
 abbrev pub refused_text : ℕ → LineFault → List ℕ
 refused_text number fault = codes "refused " ++ decimal number ++ codes " " ++ reason_word fault ++ codes "\n"

@@ -1,11 +1,11 @@
--- How values are written in lines: in the way in which they are read, with hexadecimal digits in lower case (this project's own rule).
+-- How values are written in lines: in the notation in which they are read, with lowercase hexadecimal digits (this project's own rule).
 use Rattle.std.specs.Prelude.{ℕ, ◌+◌, List, [], ◌∷◌, codes}
 use Rattle.std.specs.Fmt.{decimal}
 use Rattle.std.specs.List.{join_with_byte}
 use Rattle.hex.specs.Hex.{encode_lower}
 use Rattle.um_lines.specs.Fields.{Field, FixedWord, BitDigits, OctetsBetween, Value, Number, NumberList, Place, bit_digits}
 
--- octets as a word: `-` if there are none, otherwise two hexadecimal digits for each octet, in lower case
+-- octets as a word: `-` if there are none, otherwise two lowercase hexadecimal digits for each octet
 abbrev pub octets_word : List ℕ → List ℕ
 octets_word [] = codes "-"
 octets_word (octet ∷ rest) = encode_lower (octet ∷ rest)
@@ -25,6 +25,6 @@ words_of_values (FixedWord text ∷ fields) values = text ∷ words_of_values fi
 words_of_values (field ∷ fields) [] = []
 words_of_values (field ∷ fields) (value ∷ values) = value_word field value ∷ words_of_values fields values
 
--- the line of these words, with single spaces between them
+-- the line that consists of the words for these values, separated by single spaces
 abbrev pub line_of_values : List Field → List Value → List ℕ
 line_of_values fields values = join_with_byte 32 (words_of_values fields values)

@@ -1,9 +1,9 @@
-//! Writes octets as hexadecimal digits in lower case, two digits for each octet.
+//! Writes octets as lowercase hexadecimal digits, two digits for each octet.
 ghost use Rattle.std.specs.Prelude.{◌≡◌, ◌+◌, ◌*◌, ◌<◌, ◌≤◌, ◌/◌, ◌%◌, ℕ, length, slice_index};
 ghost use Rattle.hex.specs.Hex.{encode_lower, lower_digits};
 ghost use Rattle.um_lines.specs.HexPlaces.{HasDigitsOfOctet};
 
-/// Writes the digits of the octets, for each octet the high digit first.
+/// Writes the octets as lowercase hexadecimal digits, high digit first.
 #[tactic(auto, using(crate::proofs::LowerDigits::digits_from_places))]
 pub(crate) fn write_lower_hex(octets: &[u8], digits: &mut [u8])
     requires size { length digits.old ≡ 2 * length octets.now }
@@ -26,7 +26,8 @@ fn write_one_by_one(octets: &[u8], digits: &mut [u8])
     }
 }
 
-// Converts sixteen octets at a time. If the length is not a multiple of sixteen, the last sixteen overlap those before them.
+// Encodes octets as hexadecimal digits, sixteen octets at a time. If their number is not a multiple of sixteen, the last sixteen overlap
+// those before them.
 fn write_by_sixteens(octets: &[u8], digits: &mut [u8])
     requires size { length digits.old ≡ 2 * length octets.now }
     requires some { 16 ≤ length octets.now }
@@ -49,16 +50,17 @@ fn write_sixteen_octets(octets: &[u8], digits: &mut [u8], at: usize)
     ensures length { length digits.new ≡ length digits.old }
     ensures written { (k : ℕ) → k < at + 16 → HasDigitsOfOctet octets.now digits.new k }
 {
-    let (high, low) = high_and_low_digits(octets, at);
+    let (high, low) = digits_of_sixteen(octets, at);
     for i in 0..16 {
         digits[2 * (at + i)] = high[i];
         digits[2 * (at + i) + 1] = low[i];
     }
 }
 
-/// The high digits and the low digits of sixteen octets, from octet `at` on. With two separate arrays the compiler knows that writing a
-/// digit changes no octet.
-fn high_and_low_digits(octets: &[u8], at: usize) -> ([u8; 16], [u8; 16])
+/// The high and the low hexadecimal digits of the sixteen octets from index `at` on. Two separate arrays show the compiler that writing a
+/// digit changes no octet; if this function were inlined, its loop would merge with the caller's into a slower one.
+#[inline(never)]
+fn digits_of_sixteen(octets: &[u8], at: usize) -> ([u8; 16], [u8; 16])
     requires { at + 16 ≤ length octets.now }
     ensures high { (i : ℕ) → i < 16 → slice_index result.0 i ≡ slice_index lower_digits (slice_index octets.now (at + i) / 16) }
     ensures low { (i : ℕ) → i < 16 → slice_index result.1 i ≡ slice_index lower_digits (slice_index octets.now (at + i) % 16) }

@@ -1,5 +1,5 @@
-//! Whether all octets of a word belong to a set.
-ghost use Rattle.std.specs.Prelude.{◌≡◌, ◌≤◌, ℕ, Bool, length};
+//! Tests whether all octets of a word belong to a set.
+ghost use Rattle.std.specs.Prelude.{◌≡◌, ◌<◌, ◌≤◌, ℕ, Bool, length};
 ghost use Rattle.std.specs.List.{list_all};
 
 /// A set of octets.
@@ -10,18 +10,21 @@ pub(crate) trait OctetSet {
         ensures { result ≡ has octet };
 }
 
-/// Whether the set has all octets of a word. In a long word of a known length the plain loop is faster.
-pub(crate) fn are_all<S: OctetSet>(word: &[u8]) -> bool
+/// Whether the set contains all octets of a word. Long words are tested 64 or 16 octets at a time, so that the compiler uses vector
+/// instructions.
+pub(crate) fn has_all_octets<S: OctetSet>(word: &[u8]) -> bool
     ensures { result ≡ list_all S.has word.now }
 {
-    if word.len() >= 16 && word.len() < 256 {
-        are_all_of_many::<S>(word)
+    if word.len() >= 64 {
+        has_all_in_steps::<S, 64>(word)
+    } else if word.len() >= 16 {
+        has_all_in_steps::<S, 16>(word)
     } else {
-        are_all_of_few::<S>(word)
+        has_all_one_by_one::<S>(word)
     }
 }
 
-fn are_all_of_few<S: OctetSet>(word: &[u8]) -> bool
+fn has_all_one_by_one<S: OctetSet>(word: &[u8]) -> bool
     ensures { result ≡ list_all S.has word.now }
 {
     let mut all = true;
@@ -31,17 +34,18 @@ fn are_all_of_few<S: OctetSet>(word: &[u8]) -> bool
     all
 }
 
-// Tests sixteen octets at a time; the last sixteen may overlap those before them.
-fn are_all_of_many<S: OctetSet>(word: &[u8]) -> bool
-    requires { 16 ≤ length word.now }
+// Whether the set contains all octets of a word, tested `N` at a time; the last `N` may overlap those before them.
+fn has_all_in_steps<S: OctetSet, const N: usize>(word: &[u8]) -> bool
+    requires some { 0 < N }
+    requires enough { N ≤ length word.now }
     ensures { result ≡ list_all S.has word.now }
 {
-    let last = word.len() - 16;
+    let last = word.len() - N;
     let mut all = true;
     let mut at = 0;
     while at < last {
-        all &= are_all_of_few::<S>(&word[at..at + 16]);
-        at += 16;
+        all &= has_all_one_by_one::<S>(&word[at..at + N]);
+        at += N;
     }
-    all & are_all_of_few::<S>(&word[last..last + 16])
+    all & has_all_one_by_one::<S>(&word[last..last + N])
 }

@@ -1,11 +1,11 @@
-//! Writes the last line of output if a line of the input is refused.
+//! Writes the last line of output when a line of input is refused.
 ghost use Rattle.std.specs.Prelude.{◌≡◌, ◌<◌, ◌≤◌, [], length};
 ghost use Rattle.um_lines.specs.Refusals.{reason_word, refused_text};
 
 use crate::fault::LineFault;
 use crate::text::Text;
 
-/// Writes `refused LINE REASON`, with the line number in decimal.
+/// Writes the line `refused LINE REASON`, with the line number in decimal.
 pub fn refused_line(out: &mut Text, number: u64, fault: LineFault)
     requires { out.old ≡ [] }
     ensures line { out.new ≡ refused_text number fault }
@@ -14,11 +14,11 @@ pub fn refused_line(out: &mut Text, number: u64, fault: LineFault)
     out.push(b"refused ");
     out.push_decimal(number);
     out.push(b" ");
-    out.push(reason(fault));
+    out.push(reason_word(fault));
     out.push(b"\n");
 }
 
-fn reason(fault: LineFault) -> &'static [u8]
+fn reason_word(fault: LineFault) -> &'static [u8]
     ensures word { result.now ≡ reason_word fault }
     ensures size { length result.now ≤ 6 }
 {

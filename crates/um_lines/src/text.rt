@@ -8,10 +8,10 @@ ghost use Rattle.um_lines.specs.Fields.{bit_digits};
 use crate::lower_digits::write_lower_hex;
 use std::marker::Model;
 
-/// At most 4,096 octets of output lines, stored in place.
+/// A buffer for output lines, at most 4,096 octets, stored in place.
 #[derive(Drop)]
 pub struct Text {
-    room: [u8; 4096],
+    buffer: [u8; 4096],
     length: usize,
 }
 
@@ -21,18 +21,18 @@ impl Model for Text {
 
     ghost Value = { List ℕ };
 
-    ghost view = { λ text. take text.length text.room };
+    ghost view = { λ text. take text.length text.buffer };
 
     ghost invariant = { λ text. text.length ≤ 4096 };
 }
 
 impl Text {
-    /// An empty text.
+    /// An empty buffer.
     pub fn new() -> Text
         ensures { result ≡ [] }
     {
         Text {
-            room: [0; 4096],
+            buffer: [0; 4096],
             length: 0,
         }
     }
@@ -42,10 +42,10 @@ impl Text {
         ensures value { result.now ≡ self.now }
         ensures space { length result.now ≤ 4096 }
     {
-        &self.room[..self.length]
+        &self.buffer[..self.length]
     }
 
-    /// Empties the text.
+    /// Empties the buffer.
     pub fn clear(&mut self)
         ensures { self.new ≡ [] }
     {
@@ -58,7 +58,7 @@ impl Text {
         ensures { self.new ≡ self.old ++ octets.now }
     {
         let end = self.length + octets.len();
-        self.room[self.length..end].copy_from_slice(octets);
+        self.buffer[self.length..end].copy_from_slice(octets);
         self.length = end;
     }
 
@@ -77,28 +77,30 @@ impl Text {
     }
 
     /// Appends a digit `0` or `1` for each bit.
+    #[inline(always)]
     pub fn push_digits(&mut self, bits: &[u8])
         requires space { length self.old + length bits.now ≤ 4096 }
         requires bits { AllBits bits.now }
         ensures { self.new ≡ self.old ++ bit_digits bits.now }
     {
         let end = self.length + bits.len();
-        write_digits(&mut self.room[self.length..end], bits);
+        write_digits(&mut self.buffer[self.length..end], bits);
         self.length = end;
     }
 
-    /// Appends two hexadecimal digits for each octet, in lower case.
+    /// Appends two lowercase hexadecimal digits for each octet.
     pub fn push_hex(&mut self, octets: &[u8])
         requires { length self.old + 2 * length octets.now ≤ 4096 }
         ensures text { self.new ≡ self.old ++ encode_lower octets.now }
         ensures length { length self.new ≡ length self.old + 2 * length octets.now }
     {
         let end = self.length + 2 * octets.len();
-        write_lower_hex(octets, &mut self.room[self.length..end]);
+        write_lower_hex(octets, &mut self.buffer[self.length..end]);
         self.length = end;
     }
 }
 
+#[inline(always)]
 fn write_digits(digits: &mut [u8], bits: &[u8])
     requires count { length digits.old ≡ length bits.now }
     requires bits { AllBits bits.now }
@@ -122,6 +124,7 @@ fn write_one_by_one(digits: &mut [u8], bits: &[u8])
 }
 
 // Writes sixteen digits at a time; the last sixteen may overlap those before them.
+#[inline(always)]
 fn write_by_sixteens(digits: &mut [u8], bits: &[u8])
     requires count { length digits.old ≡ length bits.now }
     requires some { 16 ≤ length bits.now }
@@ -131,13 +134,13 @@ fn write_by_sixteens(digits: &mut [u8], bits: &[u8])
     let last = bits.len() - 16;
     let mut at = 0;
     while at < last {
-        digits[at..at + 16].copy_from_slice(&high_and_low_digits(&bits[at..at + 16]));
+        digits[at..at + 16].copy_from_slice(&digits_of_sixteen(&bits[at..at + 16]));
         at += 16;
     }
-    digits[last..last + 16].copy_from_slice(&high_and_low_digits(&bits[last..last + 16]));
+    digits[last..last + 16].copy_from_slice(&digits_of_sixteen(&bits[last..last + 16]));
 }
 
-fn high_and_low_digits(bits: &[u8]) -> [u8; 16]
+fn digits_of_sixteen(bits: &[u8]) -> [u8; 16]
     requires count { length bits.now ≡ 16 }
     requires bits { AllBits bits.now }
     ensures { result ≡ bit_digits bits.now }

@@ -1,6 +1,6 @@
 -- The loop of `invert_bits`: each round inverts one more bit.
-use Rattle.std.proofs.{Common.{◌≡◌, refl, sym, ◌∙◌, ap, ℕ, ◌+◌, ◌<◌, List, [], ◌∷◌, ◌++◌, length, take, get_or}, lemmas.List.take_more}
-use Rattle.std.specs.List.{All}
+use Rattle.std.proofs.Common.{◌≡◌, refl, sym, ◌∙◌, ap, ℕ, ◌+◌, ◌<◌, List, [], ◌∷◌, ◌++◌, length, take}
+use Rattle.std.{proofs.{Common.get_or, lemmas.List.take_more}, specs.List.All}
 use Rattle.um_block.specs.bit_blocks.Bits.{AllBits}
 use Rattle.um_air.specs.Air.{Block, with_bit_inverted, with_bits_inverted}
 

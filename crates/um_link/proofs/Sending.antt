@@ -1,7 +1,8 @@
 -- What sending one frame, and removing one block, does to a queue.
-use Rattle.std.proofs.Common.{◌≡◌, sym, ◌∙◌, ap, subst, arith, ℕ, suc, ◌+◌, ◌-◌, ◌<◌, ◌≤◌, List, [], ◌∷◌, ◌++◌, length, drop, get_or}
-use Rattle.std.{proofs.lemmas.List.Elements.{All-nil, All-cons, All-append, All-drop}, specs.List.All}
-use Rattle.um_block.specs.{bit_blocks.Bits.AllBits, Sent.IsSentBlock, Tallies.{next_counter, counter_after}}
+use Rattle.std.proofs.Common.{◌≡◌, sym, ◌∙◌, ap, subst, arith, ℕ, suc, ◌+◌, ◌-◌, ◌<◌, ◌≤◌, List, []}
+use Rattle.std.proofs.{Common.{◌∷◌, ◌++◌, length, drop, get_or}, lemmas.List.Elements.{All-nil, All-cons, All-append, All-drop}}
+use Rattle.std.specs.List.{All}
+use Rattle.um_block.specs.{bit_blocks.Bits.AllBits, Sent.IsSentBlock, Tallies.{counter_plus_one, counter_plus}}
 use Rattle.circular_buffer.specs.Buffer.{Buffer, buffer}
 use Rattle.um_air.specs.Air.{Octets, Block}
 use Rattle.um_link.{proofs.SendingLoop.AreCodedSoFar, specs.Queues.IsValidQueue}
@@ -10,7 +11,7 @@ use Rattle.um_link.proofs.SendingLoop as Q
 pub record AreSentSoFar (tsc : ℕ) (octets : List Octets) (i : ℕ) (old new : Buffer Block) (sent sent' heard heard' : ℕ) : Type 0 where
   pub on_way : AreCodedSoFar tsc octets i old.items new.items old.capacity new.capacity
   pub bits : All (All AllBits) new.items
-  pub tally : sent' ≡ counter_after i sent
+  pub tally : sent' ≡ counter_plus i sent
   pub other : heard' ≡ heard
 
 pub one_more : (tsc : ℕ) (octets : List Octets) (i : ℕ) (old mid new : Buffer Block) (sent sent' sent'' heard heard' heard'' : ℕ)
@@ -18,7 +19,7 @@ pub one_more : (tsc : ℕ) (octets : List Octets) (i : ℕ) (old mid new : Buffe
     IsSentBlock (get_or octets i []) tsc b → All AllBits b →
     length old.items + length octets ≤ old.capacity →
     new.items ≡ drop (length (mid.items ++ b ∷ []) - mid.capacity) (mid.items ++ b ∷ []) → new.capacity ≡ mid.capacity →
-    sent'' ≡ next_counter sent' → heard'' ≡ heard' →
+    sent'' ≡ counter_plus_one sent' → heard'' ≡ heard' →
     AreSentSoFar tsc octets (i + 1) old new sent sent'' heard heard''
 one_more tsc octets i old mid new sent sent' sent'' heard heard' heard'' b h within is_sent bits room is capacity tally other =
     let next : i + 1 ≡ suc i = omega arith in
@@ -28,7 +29,7 @@ one_more tsc octets i old mid new sent sent' sent'' heard heard' heard'' b h wit
       bits = subst (All (All AllBits)) (sym is) (All-drop (All AllBits) (length (mid.items ++ b ∷ []) - mid.capacity)
           (mid.items ++ b ∷ []) (All-append (All AllBits) mid.items (b ∷ []) h.bits
           (All-cons (All AllBits) b [] bits (All-nil (All AllBits)))));
-      tally = tally ∙ ap next_counter h.tally ∙ sym (ap (λ k. counter_after k sent) next);
+      tally = tally ∙ ap counter_plus_one h.tally ∙ sym (ap (λ k. counter_plus k sent) next);
       other = other ∙ h.other;
     }
 

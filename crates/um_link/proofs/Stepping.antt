@@ -1,14 +1,17 @@
 -- The contracts of the calls of a world, taken together, give one step of the definition, for each kind of event.
-use Rattle.std.proofs.Common.{◌≡◌, refl, sym, ◌∙◌, ap, subst, ℕ, Bool, true, false, List, [], ◌∷◌, ◌++◌, length, drop, map, Option, Some}
-use Rattle.std.proofs.{Common.{None, arith, ◌≤◌, nat_eq, nat_lt, Result}, lemmas.Bool.{false≢true, Decides.nat_tests}}
+use Rattle.std.proofs.Common.{◌≡◌, refl, sym, ◌∙◌, ap, subst, ℕ, Bool, true, false, List, [], ◌∷◌, ◌++◌, length}
+use Rattle.std.proofs.{Common.{drop, map, Option, Some, None, arith, ◌≤◌, nat_eq, nat_lt, Result}, lemmas.Bool.false≢true}
+use Rattle.std.proofs.lemmas.Bool.Decides.{nat_tests}
 use Rattle.um_link.{proofs.SendingLoop.adds-none, specs.declared.{events.{No.No, Step.Step}, ends.Ends.Ends, links.WorldState.WorldState}}
-use Rattle.um_link.specs.{Abstraction.{Refines, IsLayer3CallTo, IsValidWorld, Represents, blocks_from}, Coded.{AreCoded, AppendsCoded}}
-use Rattle.um_link.specs.{BlockTaking.RefinesTakingFrame, Moves.{Sends, DiffersOnlyInQueue, ReceivesFrom, LosesFrom}, Queues.Receives}
+use Rattle.um_link.specs.{Abstraction.{StepRefines, IsLayer3CallTo, IsValidWorld, Represents, queued_blocks}, Coded.AreCodedBlocks}
+use Rattle.um_link.specs.{Coded.AppendsBlocks, BlockTaking.TakingFrameRefines, Moves.{AppendsToQueue, DiffersOnlyInQueue}}
+use Rattle.um_link.specs.{Moves.{ReceivesOldestFrom, LosesOldestFrom}, Queues.ReceivesOldestBlock}
 use Rattle.lapdm_frame.specs.{Layout.n201, declared.Channel.Channel, Content.Frame, Frames.octets_of}
 use Rattle.um_air.specs.lapdm_window.declared.{Sapi.{TheVariants.Zero, Sapi}, Refused.Refused, effects.Effects.Effects}
 use Rattle.um_air.specs.{lapdm_window.{Calls.{first_refusal, Call, refusal_of}, Ends.{Role, Mobile, Network}}, segmenting.Segments.Message}
-use Rattle.um_air.specs.Air.{ReadsFrame, Octets, Block, AirState, with_read_frame, AreCodedFrames, ArrivesWith, Happens, AirStep, refusal}
-use Rattle.um_air.specs.lapdm_link.{Events.{sender_of, without_removed}, Queues.{Queues, queue_of, with_appended, without_first, count}}
+use Rattle.um_air.specs.Air.{ReadsFrame, Octets, Block, AirState, event_with_frame, AreCodedFrames, EventDelivers, CarriesOutEvent}
+use Rattle.um_air.specs.{Air.{IsAirStep, refusal}, lapdm_link.{Events.{role_of_who, queues_after_removal}, Queues.{Queues, queue_of}}}
+use Rattle.um_air.specs.lapdm_link.Queues.{with_appended, without_first, count}
 use Rattle.um_block.specs.declared.received.Received.{Received}
 use Rattle.um_air.specs.lapdm_window.declared.Refused.TheVariants as Q
 use Rattle.um_air.specs.lapdm_link.Events as E
@@ -16,7 +19,7 @@ use Rattle.um_air.specs.Air as A
 use Rattle.um_link.specs.FourEndpoints as F
 use Rattle.um_link.specs.BlockTaking as H
 
-coded-sent : (channel : Channel) (tsc : ℕ) (fs : List Frame) (bs : List Block) → AreCoded tsc (map (octets_of channel) fs) bs →
+coded-sent : (channel : Channel) (tsc : ℕ) (fs : List Frame) (bs : List Block) → AreCodedBlocks tsc (map (octets_of channel) fs) bs →
     AreCodedFrames channel tsc fs bs
 coded-sent channel tsc [] [] h = tt
 coded-sent channel tsc [] (b ∷ bs) h = absurd h
@@ -28,7 +31,7 @@ pub record IsReady (a : AirState) (queues : Queues Block) (m : WorldState) (effe
   pub tsc : m.tsc ≡ a.tsc
   pub channel : m.channel ≡ a.channel
   pub ends : F.Represents m.ends d.after
-  pub does : F.HasEffects effects a.channel d
+  pub has_effects : F.HasEffects effects a.channel d
   pub up : m.up.items ≡ queues.up
   pub down : m.down.items ≡ queues.down
 
@@ -38,33 +41,33 @@ record IsSent (role : Role) (a : AirState) (queues : Queues Block) (w : WorldSta
   represents : Represents w (record a { ends = d.after; queues = with_appended role blocks queues })
 
 sent-frames : (a : AirState) (queues : Queues Block) (m : WorldState) (effects : Effects) (d : E.SideStep) (blocks : List Block) →
-    IsReady a queues m effects d → AreCoded m.tsc effects.frames blocks → AreCodedFrames a.channel a.tsc d.frames blocks
+    IsReady a queues m effects d → AreCodedBlocks m.tsc effects.frames blocks → AreCodedFrames a.channel a.tsc d.frames blocks
 sent-frames a queues m effects d blocks r h =
-    coded-sent a.channel a.tsc d.frames blocks (subst (λ (t : ℕ). AreCoded t (map (octets_of a.channel) d.frames) blocks) r.tsc
-    (subst (λ (os : List Octets). AreCoded m.tsc os blocks) r.does.frames h))
+    coded-sent a.channel a.tsc d.frames blocks (subst (λ (t : ℕ). AreCodedBlocks t (map (octets_of a.channel) d.frames) blocks) r.tsc
+    (subst (λ (os : List Octets). AreCodedBlocks m.tsc os blocks) r.has_effects.frames h))
 
 sent-state : (role : Role) (a : AirState) (queues : Queues Block) (m w : WorldState) (effects : Effects) (d : E.SideStep) →
-    IsReady a queues m effects d → Sends role effects.frames m w → IsSent role a queues w d
+    IsReady a queues m effects d → AppendsToQueue role effects.frames m w → IsSent role a queues w d
 sent-state Mobile a queues m w effects d r h = record {
-  blocks = h.added.blocks;
-  sent = sent-frames a queues m effects d h.added.blocks r h.added.coded;
+  blocks = h.appends.blocks;
+  sent = sent-frames a queues m effects d h.appends.blocks r h.appends.coded;
   represents = record {
     tsc = h.same.tsc ∙ r.tsc;
     channel = h.same.channel ∙ r.channel;
     ends = subst (λ (p : Ends). F.Represents p d.after) (sym h.same.ends) r.ends;
-    up = h.added.behind ∙ ap (λ bs. bs ++ h.added.blocks) r.up;
-    down = h.same.kept ∙ r.down;
+    up = h.appends.appended ∙ ap (λ bs. bs ++ h.appends.blocks) r.up;
+    down = h.same.other_queue_same ∙ r.down;
   };
 }
 sent-state Network a queues m w effects d r h = record {
-  blocks = h.added.blocks;
-  sent = sent-frames a queues m effects d h.added.blocks r h.added.coded;
+  blocks = h.appends.blocks;
+  sent = sent-frames a queues m effects d h.appends.blocks r h.appends.coded;
   represents = record {
     tsc = h.same.tsc ∙ r.tsc;
     channel = h.same.channel ∙ r.channel;
     ends = subst (λ (p : Ends). F.Represents p d.after) (sym h.same.ends) r.ends;
-    up = h.same.kept ∙ r.up;
-    down = h.added.behind ∙ ap (λ bs. bs ++ h.added.blocks) r.down;
+    up = h.same.other_queue_same ∙ r.up;
+    down = h.appends.appended ∙ ap (λ bs. bs ++ h.appends.blocks) r.down;
   };
 }
 
@@ -75,16 +78,18 @@ step_by who sapi received effects =
 
 pub finish : (event : A.Event) (a : AirState) (m w : WorldState) (read : Option Frame) (effects : Effects) (who : E.Who) (sapi : Sapi)
     (received : Option Received) (role : Role) →
-    IsReady a (without_removed event a.queues) m effects (E.side_step (with_read_frame read event) a.ends) → Sends role effects.frames m w →
-    ArrivesWith a event received read → sender_of who ≡ role →
-    who ≡ (E.side_step (with_read_frame read event) a.ends).who → sapi ≡ (E.side_step (with_read_frame read event) a.ends).sapi →
-    (b : AirState) × Represents w b × Happens a event b (step_by who sapi received effects)
+    IsReady a (queues_after_removal event a.queues) m effects (E.event_step (event_with_frame read event) a.ends) →
+    AppendsToQueue role effects.frames m w →
+    EventDelivers a event received read → role_of_who who ≡ role →
+    who ≡ (E.event_step (event_with_frame read event) a.ends).who →
+    sapi ≡ (E.event_step (event_with_frame read event) a.ends).sapi →
+    (b : AirState) × Represents w b × CarriesOutEvent a event b (step_by who sapi received effects)
 finish event a m w read effects who sapi received role r h arrives sender same_who same_sapi =
-    let d = E.side_step (with_read_frame read event) a.ends in
-    let s : IsSent (sender_of d.who) a (without_removed event a.queues) w d =
-    sent-state (sender_of d.who) a (without_removed event a.queues) m w effects d r
-    (subst (λ (x : Role). Sends x effects.frames m w) (sym sender ∙ ap sender_of same_who) h) in (
-      record a { ends = d.after; queues = with_appended (sender_of d.who) s.blocks (without_removed event a.queues) },
+    let d = E.event_step (event_with_frame read event) a.ends in
+    let s : IsSent (role_of_who d.who) a (queues_after_removal event a.queues) w d =
+    sent-state (role_of_who d.who) a (queues_after_removal event a.queues) m w effects d r
+    (subst (λ (x : Role). AppendsToQueue x effects.frames m w) (sym sender ∙ ap role_of_who same_who) h) in (
+      record a { ends = d.after; queues = with_appended (role_of_who d.who) s.blocks (queues_after_removal event a.queues) },
       s.represents,
       record {
         read = read;
@@ -92,12 +97,12 @@ finish event a m w read effects who sapi received role r h arrives sender same_w
         arrives = arrives;
         sent = s.sent;
         after = refl;
-        step_is = λ i. record {
+        step_matches = λ i. record {
           who = same_who i;
           sapi = same_sapi i;
           received = received;
-          frames = r.does.frames i;
-          notices = r.does.notices i;
+          frames = r.has_effects.frames i;
+          notices = r.has_effects.notices i;
         };
       },
     )
@@ -105,23 +110,24 @@ finish event a m w read effects who sapi received role r h arrives sender same_w
 -- an event that is a call of an endpoint and is not refused is carried out as the definition says
 pub called : (event : A.Event) (role : Role) (w w' : WorldState) (ends' : Ends) (effects : Effects) (who : E.Who) (sapi : Sapi)
     (step : A.Step) → step ≡ step_by who sapi None effects →
-    F.Refines w.channel (E.side_step (with_read_frame None event)) w.ends effects ends' →
+    F.StepRefines w.channel (E.event_step (event_with_frame None event)) w.ends effects ends' →
     ((a : AirState) → Represents w a → refusal event a ≡ None) →
-    ((a : AirState) → ArrivesWith a event None None × (without_removed event a.queues ≡ a.queues)) →
-    sender_of who ≡ role → ((es : E.Ends) → who ≡ (E.side_step (with_read_frame None event) es).who) →
-    ((es : E.Ends) → sapi ≡ (E.side_step (with_read_frame None event) es).sapi) → Sends role effects.frames (record w { ends = ends' }) w' →
-    (a : AirState) → Represents w a → (b : AirState) × Represents w' b × AirStep a event b (A.Does step)
+    ((a : AirState) → EventDelivers a event None None × (queues_after_removal event a.queues ≡ a.queues)) →
+    role_of_who who ≡ role → ((es : E.Ends) → who ≡ (E.event_step (event_with_frame None event) es).who) →
+    ((es : E.Ends) → sapi ≡ (E.event_step (event_with_frame None event) es).sapi) →
+    AppendsToQueue role effects.frames (record w { ends = ends' }) w' →
+    (a : AirState) → Represents w a → (b : AirState) × Represents w' b × IsAirStep a event b (A.Does step)
 called event role w w' ends' effects who sapi step is follows unrefused plain sender same_who same_sapi sends a st =
     let g = follows a.ends st.ends in
-    let p : ArrivesWith a event None None × (without_removed event a.queues ≡ a.queues) = plain a in
-    let d : E.SideStep = E.side_step (with_read_frame None event) a.ends in
+    let p : EventDelivers a event None None × (queues_after_removal event a.queues ≡ a.queues) = plain a in
+    let d : E.SideStep = E.event_step (event_with_frame None event) a.ends in
     let m : WorldState = record w { ends = ends' } in
     let r : IsReady a a.queues m effects d =
     record {
       tsc = st.tsc;
       channel = st.channel;
       ends = g.0;
-      does = subst
+      has_effects = subst
           (λ (c : Channel). F.HasEffects effects c d) st.channel g.1;
       up = st.up;
       down = st.down;
@@ -129,52 +135,55 @@ called event role w w' ends' effects who sapi step is follows unrefused plain se
     let f = finish event a m w' None effects who sapi None role
     (subst (λ (queues : Queues Block). IsReady a queues m effects d) (sym p.1) r)
     sends p.0 sender (same_who a.ends) (same_sapi a.ends) in
-    (f.0, f.1, (unrefused a st, subst (λ (s : A.Step). Happens a event f.0 s) (sym is) f.2))
+    (f.0, f.1, (unrefused a st, subst (λ (s : A.Step). CarriesOutEvent a event f.0 s) (sym is) f.2))
 
 -- ---- refusals
-same-way : (role : Role) (w : WorldState) (a : AirState) → Represents w a → blocks_from role w ≡ queue_of role a.queues
+same-way : (role : Role) (w : WorldState) (a : AirState) → Represents w a → queued_blocks role w ≡ queue_of role a.queues
 same-way Mobile w a st = st.up
 same-way Network w a st = st.down
 
-refusal_if-false : (b : Bool) (why : E.EventRefusal) (others : Option E.EventRefusal) → b ≡ false → E.refusal_if b why others ≡ others
+refusal_if-false : (b : Bool) (why : E.EventRefusal) (others : Option E.EventRefusal) → b ≡ false →
+    E.refusal_if b why others ≡ others
 refusal_if-false false why others h = refl
 refusal_if-false true why others h = absurd (false≢true (sym h))
 
-refusal_if-true : (b : Bool) (why : E.EventRefusal) (others : Option E.EventRefusal) → b ≡ true → E.refusal_if b why others ≡ Some why
+refusal_if-true : (b : Bool) (why : E.EventRefusal) (others : Option E.EventRefusal) → b ≡ true →
+    E.refusal_if b why others ≡ Some why
 refusal_if-true true why others h = refl
 refusal_if-true false why others h = absurd (false≢true h)
 
 on-way : (test : ℕ → Bool) (b : Bool) (role : Role) (w : WorldState) (a : AirState) → Represents w a →
-    test (length (blocks_from role w)) ≡ b →
+    test (length (queued_blocks role w)) ≡ b →
     test (count a.queues role) ≡ b
 on-way test b role w a st h = sym (ap (λ bs. test (length bs)) (same-way role w a st)) ∙ h
 
-pub asked-full : (role : Role) (sapi : Sapi) (call : Call) (w : WorldState) → E.is_full (length (blocks_from role w)) ≡ true →
+pub asked-full : (role : Role) (sapi : Sapi) (call : Call) (w : WorldState) → E.is_queue_full (length (queued_blocks role w)) ≡ true →
     (a : AirState) → Represents w a → E.call_refusal (count a.queues) role sapi call a.ends ≡ Some E.AirFull
-asked-full role sapi call w h a st = refusal_if-true _ E.AirFull _ (on-way E.is_full true role w a st h)
+asked-full role sapi call w h a st = refusal_if-true _ E.AirFull _ (on-way E.is_queue_full true role w a st h)
 
-pub asked-none : (role : Role) (sapi : Sapi) (call : Call) (w : WorldState) → E.is_full (length (blocks_from role w)) ≡ false →
-    ((es : E.Ends) → F.Represents w.ends es → None ≡ refusal_of call (E.endpoint_in role sapi es)) → (a : AirState) → Represents w a →
+pub asked-none : (role : Role) (sapi : Sapi) (call : Call) (w : WorldState) → E.is_queue_full (length (queued_blocks role w)) ≡
+    false → ((es : E.Ends) → F.Represents w.ends es → None ≡ refusal_of call (E.endpoint_in role sapi es)) → (a : AirState) →
+    Represents w a →
     E.call_refusal (count a.queues) role sapi call a.ends ≡ None
 asked-none role sapi call w h n a st =
-    refusal_if-false _ E.AirFull _ (on-way E.is_full false role w a st h) ∙ ap E.as_refusal (sym (n a.ends st.ends))
+    refusal_if-false _ E.AirFull _ (on-way E.is_queue_full false role w a st h) ∙ ap E.as_event_refusal (sym (n a.ends st.ends))
 
-pub asked-as_refusal : (role : Role) (sapi : Sapi) (call : Call) (w : WorldState) (refused : Refused) →
-    E.is_full (length (blocks_from role w)) ≡ false →
+pub asked-as_event_refusal : (role : Role) (sapi : Sapi) (call : Call) (w : WorldState) (refused : Refused) →
+    E.is_queue_full (length (queued_blocks role w)) ≡ false →
     ((es : E.Ends) → F.Represents w.ends es → Some refused ≡ refusal_of call (E.endpoint_in role sapi es)) → (a : AirState) →
     Represents w a →
     E.call_refusal (count a.queues) role sapi call a.ends ≡ Some (E.ByEndpoint refused)
-asked-as_refusal role sapi call w refused h n a st =
-    refusal_if-false _ E.AirFull _ (on-way E.is_full false role w a st h) ∙ ap E.as_refusal (sym (n a.ends st.ends))
+asked-as_event_refusal role sapi call w refused h n a st =
+    refusal_if-false _ E.AirFull _ (on-way E.is_queue_full false role w a st h) ∙ ap E.as_event_refusal (sym (n a.ends st.ends))
 
 -- below, the event is this call of the endpoint with this role and SAPI
 module _ (role : Role) (sapi : Sapi) (call : Call) where
-  pub asked-side_step : (event : A.Event) → IsLayer3CallTo event role sapi call → (es : E.Ends) →
-      E.side_step (with_read_frame None event) es ≡ E.layer3_calls role sapi call es
-  asked-side_step (E.Open info) (a, b, c) es = rw (a, b, c) refl
-  asked-side_step (E.OpenBare end) (a, b, c) es = rw (a, b, c) refl
-  asked-side_step (E.Ask end link request) (a, b, c) es = rw (a, b, c) refl
-  asked-side_step other h es = absurd h
+  pub asked-event_step : (event : A.Event) → IsLayer3CallTo event role sapi call → (es : E.Ends) →
+      E.event_step (event_with_frame None event) es ≡ E.layer3_calls role sapi call es
+  asked-event_step (E.Open info) (a, b, c) es = rw (a, b, c) refl
+  asked-event_step (E.OpenBare end) (a, b, c) es = rw (a, b, c) refl
+  asked-event_step (E.Ask end link request) (a, b, c) es = rw (a, b, c) refl
+  asked-event_step other h es = absurd h
 
   pub asked-refusal : (event : A.Event) → IsLayer3CallTo event role sapi call → (a : AirState) →
       refusal event a ≡ E.call_refusal (count a.queues) role sapi call a.ends
@@ -184,20 +193,20 @@ module _ (role : Role) (sapi : Sapi) (call : Call) where
   asked-refusal other h a = absurd h
 
   pub asked-plain : (event : A.Event) → IsLayer3CallTo event role sapi call → (a : AirState) →
-      ArrivesWith a event None None × (without_removed event a.queues ≡ a.queues)
+      EventDelivers a event None None × (queues_after_removal event a.queues ≡ a.queues)
   asked-plain (E.Open info) h a = (tt, refl)
   asked-plain (E.OpenBare end) h a = (tt, refl)
   asked-plain (E.Ask end link request) h a = (tt, refl)
   asked-plain other h a = absurd h
 
-pub stays : (event : A.Event) (why : E.EventRefusal) (w : WorldState) → ((a : AirState) → Represents w a → refusal event a ≡ Some why) →
-    (a : AirState) →
-    Represents w a → (b : AirState) × Represents w b × AirStep a event b (A.Refuses why)
+pub stays : (event : A.Event) (why : E.EventRefusal) (w : WorldState) →
+    ((a : AirState) → Represents w a → refusal event a ≡ Some why) → (a : AirState) →
+    Represents w a → (b : AirState) × Represents w b × IsAirStep a event b (A.Refuses why)
 stays event why w h a st = (a, st, (h a st, refl))
 
 pub stays-ends : (event : A.Event) (why : E.EventRefusal) (w : WorldState) (ends' : Ends) → ends' ≡ w.ends →
     ((a : AirState) → Represents w a → refusal event a ≡ Some why) → (a : AirState) → Represents w a →
-    (b : AirState) × Represents (record w { ends = ends' }) b × AirStep a event b (A.Refuses why)
+    (b : AirState) × Represents (record w { ends = ends' }) b × IsAirStep a event b (A.Refuses why)
 stays-ends event why w ends' e h a st = (
   a,
   record {
@@ -223,9 +232,9 @@ sound-ends w ends' s on = record {
   down = s.down;
 }
 
-pub on-channel : (w : WorldState) (ends' : Ends) (effects : Effects) (side_step : E.Ends → E.SideStep) → IsValidWorld w →
-    F.Refines (F.channel_of_ends w.ends) side_step w.ends effects ends' → F.Refines w.channel side_step w.ends effects ends'
-on-channel w ends' effects side_step s h = subst (λ (c : Channel). F.Refines c side_step w.ends effects ends') (sym s.channel) h
+pub on-channel : (w : WorldState) (ends' : Ends) (effects : Effects) (event_step : E.Ends → E.SideStep) → IsValidWorld w →
+    F.StepRefines (F.channel_of_ends w.ends) event_step w.ends effects ends' → F.StepRefines w.channel event_step w.ends effects ends'
+on-channel w ends' effects event_step s h = subst (λ (c : Channel). F.StepRefines c event_step w.ends effects ends') (sym s.channel) h
 
 -- between the removal of the oldest block and the step: the world represents the state a, but with these queues
 record IsBetween (a : AirState) (queues : Queues Block) (m : WorldState) : Type 0 where
@@ -235,33 +244,34 @@ record IsBetween (a : AirState) (queues : Queues Block) (m : WorldState) : Type 
   up : m.up.items ≡ queues.up
   down : m.down.items ≡ queues.down
 
-is-between : (sender : Role) (w m : WorldState) (a : AirState) (b : Block) → blocks_from sender w ≡ b ∷ blocks_from sender m →
+is-between : (sender : Role) (w m : WorldState) (a : AirState) (b : Block) → queued_blocks sender w ≡ b ∷ queued_blocks sender m →
     DiffersOnlyInQueue sender w m → Represents w a → IsBetween a (without_first sender a.queues) m
 is-between Mobile w m a b first s st = record {
   tsc = s.tsc ∙ st.tsc;
   channel = s.channel ∙ st.channel;
   ends = subst (λ (p : Ends). F.Represents p a.ends) (sym s.ends) st.ends;
   up = sym (ap (drop 1) (sym st.up ∙ first));
-  down = s.kept ∙ st.down;
+  down = s.other_queue_same ∙ st.down;
 }
 is-between Network w m a b first s st = record {
   tsc = s.tsc ∙ st.tsc;
   channel = s.channel ∙ st.channel;
   ends = subst (λ (p : Ends). F.Represents p a.ends) (sym s.ends) st.ends;
-  up = s.kept ∙ st.up;
+  up = s.other_queue_same ∙ st.up;
   down = sym (ap (drop 1) (sym st.down ∙ first));
 }
 
-sends-none : (w : WorldState) (effects : Effects) → effects.frames ≡ [] → Sends Mobile effects.frames w w
+sends-none : (w : WorldState) (effects : Effects) → effects.frames ≡ [] → AppendsToQueue Mobile effects.frames w w
 sends-none w effects none = record {
-  added = subst (λ (os : List Octets). AppendsCoded w.tsc os (blocks_from Mobile w) (blocks_from Mobile w))
-      (sym none) (adds-none w.tsc (blocks_from Mobile w));
-  same = record { kept = refl; tsc = refl; channel = refl; ends = refl };
+  appends = subst (λ (os : List Octets). AppendsBlocks w.tsc os (queued_blocks Mobile w) (queued_blocks Mobile w))
+      (sym none) (adds-none w.tsc (queued_blocks Mobile w));
+  same = record { other_queue_same = refl; tsc = refl; channel = refl; ends = refl };
 }
 
-pub lost : (sender : Role) (w m : WorldState) (effects : Effects) → LosesFrom sender w m →
-    E.is_empty (length (blocks_from sender w)) ≡ false → effects.frames ≡ [] → effects.notices ≡ [] → (a : AirState) → Represents w a →
-    (b : AirState) × Represents m b × AirStep a (E.Lose sender) b (A.Does (step_by E.Nobody Zero None effects))
+pub lost : (sender : Role) (w m : WorldState) (effects : Effects) → LosesOldestFrom sender w m →
+    E.is_empty (length (queued_blocks sender w)) ≡ false → effects.frames ≡ [] → effects.notices ≡ [] → (a : AirState) →
+    Represents w a →
+    (b : AirState) × Represents m b × IsAirStep a (E.Lose sender) b (A.Does (step_by E.Nobody Zero None effects))
 lost sender w m effects h some no_frames no_notices a st =
     let i : IsBetween a (without_first sender a.queues) m = is-between sender w m a h.block h.first h.same st in
     let f = finish (E.Lose sender) a m m None effects E.Nobody Zero None Mobile
@@ -269,7 +279,7 @@ lost sender w m effects h some no_frames no_notices a st =
       tsc = i.tsc;
       channel = i.channel;
       ends = i.ends;
-      does = record { frames = no_frames; notices = no_notices };
+      has_effects = record { frames = no_frames; notices = no_notices };
       up =
           i.up;
       down = i.down;
@@ -278,13 +288,14 @@ lost sender w m effects h some no_frames no_notices a st =
     (f.0, f.1, (refusal_if-false _ E.Nothing None (on-way E.is_empty false sender w a st some), f.2))
 
 arrived-at : (sender : Role) (places : List ℕ) (w m w' : WorldState) (ends' : Ends) (report : Received) (sapi : Sapi) (effects : Effects)
-    (step : A.Step) → Receives places (blocks_from sender w) report (blocks_from sender m) → DiffersOnlyInQueue sender w m →
-    RefinesTakingFrame (E.other sender) m.channel report.accepted m.ends sapi effects ends' →
-    E.is_empty (length (blocks_from sender w)) ≡ false →
-    E.is_full (length (blocks_from (E.other sender) w)) ≡ false →
-    Sends (E.other sender) effects.frames (record m { ends = ends' }) w' → step ≡ step_by (E.BySide (E.other sender)) sapi
+    (step : A.Step) → ReceivesOldestBlock places (queued_blocks sender w) report (queued_blocks sender m) →
+    DiffersOnlyInQueue sender w m →
+    TakingFrameRefines (E.other sender) m.channel report.accepted m.ends sapi effects ends' →
+    E.is_empty (length (queued_blocks sender w)) ≡ false →
+    E.is_queue_full (length (queued_blocks (E.other sender) w)) ≡ false →
+    AppendsToQueue (E.other sender) effects.frames (record m { ends = ends' }) w' → step ≡ step_by (E.BySide (E.other sender)) sapi
     (Some report) effects → (a : AirState) → Represents w a →
-    (b : AirState) × Represents w' b × AirStep a (E.Deliver sender places) b (A.Does step)
+    (b : AirState) × Represents w' b × IsAirStep a (E.Deliver sender places) b (A.Does step)
 arrived-at sender places w m w' ends' report sapi effects step h same hears some room sends is a st =
     let i : IsBetween a (without_first sender a.queues) m = is-between sender w m a h.block h.first same st in
     let t : H.TakesAcceptedFrame (E.other sender) m.channel report.accepted a.ends sapi effects ends' = hears a.ends i.ends in
@@ -294,15 +305,15 @@ arrived-at sender places w m w' ends' report sapi effects step h same hears some
       tsc = i.tsc;
       channel = i.channel;
       ends = t.represents;
-      does = subst
-          (λ (c : Channel). F.HasEffects effects c (E.takes_frame_if_read (E.other sender) t.read a.ends)) i.channel t.does;
+      has_effects = subst
+          (λ (c : Channel). F.HasEffects effects c (E.step_for_read_frame (E.other sender) t.read a.ends)) i.channel t.has_effects;
       up = i.up;
       down = i.down;
     })
     sends
     (record {
       block = h.block;
-      others = blocks_from sender m;
+      others = queued_blocks sender m;
       first = sym (same-way sender w a st)
           ∙ h.first;
       received = h.received;
@@ -314,64 +325,68 @@ arrived-at sender places w m w' ends' report sapi effects step h same hears some
       f.1,
       (
         refusal_if-false _ E.Nothing _ (on-way E.is_empty false sender w a st some) ∙ refusal_if-false _ E.AirFull None
-            (on-way E.is_full false (E.other sender) w a st room),
-        subst (λ (s : A.Step). Happens a (E.Deliver sender places) f.0 s)
+            (on-way E.is_queue_full false (E.other sender) w a st room),
+        subst (λ (s : A.Step). CarriesOutEvent a (E.Deliver sender places) f.0 s)
             (sym is) f.2,
       ),
     )
 
 pub arrived : (sender end : Role) (places : List ℕ) (w m w' : WorldState) (ends' : Ends) (received : Option Received) (sapi : Sapi)
-    (effects : Effects) (step : A.Step) → end ≡ E.other sender → ReceivesFrom sender places w received m →
-    RefinesTakingFrame end m.channel (H.accepted_in received) m.ends sapi effects ends' →
-    E.is_empty (length (blocks_from sender w)) ≡ false →
-    E.is_full (length (blocks_from end w)) ≡ false →
-    Sends end effects.frames (record m { ends = ends' }) w' → step ≡ step_by (E.BySide end) sapi received effects →
-    (a : AirState) → Represents w a → (b : AirState) × Represents w' b × AirStep a (E.Deliver sender places) b (A.Does step)
+    (effects : Effects) (step : A.Step) → end ≡ E.other sender → ReceivesOldestFrom sender places w received m →
+    TakingFrameRefines end m.channel (H.accepted_octets received) m.ends sapi effects ends' →
+    E.is_empty (length (queued_blocks sender w)) ≡ false →
+    E.is_queue_full (length (queued_blocks end w)) ≡ false →
+    AppendsToQueue end effects.frames (record m { ends = ends' }) w' → step ≡ step_by (E.BySide end) sapi received effects →
+    (a : AirState) → Represents w a → (b : AirState) × Represents w' b × IsAirStep a (E.Deliver sender places) b (A.Does step)
 arrived sender end places w m w' ends' received sapi effects step e h hears some room sends is =
-    let heard : RefinesTakingFrame end m.channel h.report.accepted m.ends sapi effects ends' =
-    subst (λ (o : Option Received). RefinesTakingFrame end m.channel (H.accepted_in o) m.ends sapi effects ends') h.is hears in
+    let heard : TakingFrameRefines end m.channel h.report.accepted m.ends sapi effects ends' =
+    subst (λ (o : Option Received). TakingFrameRefines end m.channel (H.accepted_octets o) m.ends sapi effects ends') h.is hears in
     let stepped : step ≡ step_by (E.BySide end) sapi (Some h.report) effects =
     subst (λ (o : Option Received). step ≡ step_by (E.BySide end) sapi o effects) h.is is in
     arrived-at sender places w m w' ends' h.report sapi effects step h.received h.same (subst
-    (λ (r : Role). RefinesTakingFrame r m.channel h.report.accepted m.ends sapi effects ends') e heard) some
-    (subst (λ (r : Role). E.is_full (length (blocks_from r w)) ≡ false) e room)
-    (subst (λ (r : Role). Sends r effects.frames (record m { ends = ends' }) w') e sends)
+    (λ (r : Role). TakingFrameRefines r m.channel h.report.accepted m.ends sapi effects ends') e heard) some
+    (subst (λ (r : Role). E.is_queue_full (length (queued_blocks r w)) ≡ false) e room)
+    (subst (λ (r : Role). AppendsToQueue r effects.frames (record m { ends = ends' }) w') e sends)
     (subst (λ (r : Role). step ≡ step_by (E.BySide r) sapi (Some h.report) effects) e stepped)
 
 -- an arrival is refused if the queue of the receiving side has no space for the frames that it may send in answer
 pub arrives-full : (sender end : Role) (places : List ℕ) (w : WorldState) → end ≡ E.other sender →
-    E.is_empty (length (blocks_from sender w)) ≡ false → E.is_full (length (blocks_from end w)) ≡ true → (a : AirState) → Represents w a →
-    (b : AirState) × Represents w b × AirStep a (E.Deliver sender places) b (A.Refuses E.AirFull)
+    E.is_empty (length (queued_blocks sender w)) ≡ false → E.is_queue_full (length (queued_blocks end w)) ≡ true →
+    (a : AirState) → Represents w a →
+    (b : AirState) × Represents w b × IsAirStep a (E.Deliver sender places) b (A.Refuses E.AirFull)
 arrives-full sender end places w e some full =
     stays (E.Deliver sender places) E.AirFull w
     (λ a st. refusal_if-false _ E.Nothing _ (on-way E.is_empty false sender w a st some) ∙ refusal_if-true _ E.AirFull None
-    (on-way E.is_full true (E.other sender) w a st (subst (λ (r : Role). E.is_full (length (blocks_from r w)) ≡ true) e full)))
+    (on-way E.is_queue_full true (E.other sender) w a st (subst (λ (r : Role). E.is_queue_full (length (queued_blocks r w)) ≡ true) e
+    full)))
 
 room-bound : (n m : ℕ) → nat_lt 62 n ≡ false → m ≡ n → m ≤ 62
 room-bound n m h e = grind (arith, nat_tests)
 
 room-at : (sender : Role) (w m : WorldState) (ends' : Ends) → DiffersOnlyInQueue sender w m →
-    E.is_full (length (blocks_from (E.other sender) w)) ≡ false → length (blocks_from (E.other sender) (record m { ends = ends' })) ≤ 62
-room-at Mobile w m ends' s h = room-bound (length w.down.items) (length m.down.items) h (ap length s.kept)
-room-at Network w m ends' s h = room-bound (length w.up.items) (length m.up.items) h (ap length s.kept)
+    E.is_queue_full (length (queued_blocks (E.other sender) w)) ≡ false →
+    length (queued_blocks (E.other sender) (record m { ends = ends' })) ≤ 62
+room-at Mobile w m ends' s h = room-bound (length w.down.items) (length m.down.items) h (ap length s.other_queue_same)
+room-at Network w m ends' s h = room-bound (length w.up.items) (length m.up.items) h (ap length s.other_queue_same)
 
 pub room-other : (sender end : Role) (w m : WorldState) (ends' : Ends) → end ≡ E.other sender → DiffersOnlyInQueue sender w m →
-    E.is_full (length (blocks_from end w)) ≡ false → length (blocks_from end (record m { ends = ends' })) ≤ 62
+    E.is_queue_full (length (queued_blocks end w)) ≡ false → length (queued_blocks end (record m { ends = ends' })) ≤ 62
 room-other sender end w m ends' e s h =
-    subst (λ (r : Role). length (blocks_from r (record m { ends = ends' })) ≤ 62) (sym e)
-    (room-at sender w m ends' s (subst (λ (r : Role). E.is_full (length (blocks_from r w)) ≡ false) e h))
+    subst (λ (r : Role). length (queued_blocks r (record m { ends = ends' })) ≤ 62) (sym e)
+    (room-at sender w m ends' s (subst (λ (r : Role). E.is_queue_full (length (queued_blocks r w)) ≡ false) e h))
 
 rival-by : (b c : Bool) → b ≡ false → c ≡ false → first_refusal ((b, Q.Empty) ∷ (c, Q.TooLong) ∷ []) ≡ None
 rival-by false false h g = refl
 rival-by true c h g = absurd (false≢true (sym h))
 rival-by false true h g = absurd (false≢true (sym g))
 
-pub rival-none : (info : Message) (w : WorldState) → E.is_full (length (blocks_from Mobile w)) ≡ false → nat_eq (length info) 0 ≡ false →
-    nat_lt (n201 w.channel) (length info) ≡ false → (a : AirState) → Represents w a → refusal (E.Rival info) a ≡ None
+pub rival-none : (info : Message) (w : WorldState) → E.is_queue_full (length (queued_blocks Mobile w)) ≡ false →
+    nat_eq (length info) 0 ≡ false → nat_lt (n201 w.channel) (length info) ≡ false → (a : AirState) → Represents w a →
+    refusal (E.Rival info) a ≡ None
 rival-none info w full some short a st =
-    refusal_if-false _ E.AirFull _ (on-way E.is_full false Mobile w a st full) ∙ ap E.as_refusal
+    refusal_if-false _ E.AirFull _ (on-way E.is_queue_full false Mobile w a st full) ∙ ap E.as_event_refusal
     (rival-by _ _ some (subst (λ (c : Channel). nat_lt (n201 c) (length info) ≡ false) st.channel short))
 
-pub at-event : (e e' : A.Event) (old new : WorldState) (result : Result Step No) → e ≡ e' → Refines e' old result new →
-    Refines e old result new
-at-event e e' old new result same h = subst (λ (x : A.Event). Refines x old result new) (sym same) h
+pub at-event : (e e' : A.Event) (old new : WorldState) (result : Result Step No) → e ≡ e' → StepRefines e' old result new →
+    StepRefines e old result new
+at-event e e' old new result same h = subst (λ (x : A.Event). StepRefines x old result new) (sym same) h

@@ -12,20 +12,22 @@ use Rattle.um_link.specs.declared.ends.Ends.{Ends}
 use Rattle.um_link.specs.FourEndpoints as F
 
 -- the octets of the received block, if one arrived and its CRC holds
-abbrev pub accepted_in : Option Received → Option Octets
-accepted_in None = None
-accepted_in (Some report) = report.accepted
+abbrev pub accepted_octets : Option Received → Option Octets
+accepted_octets None = None
+accepted_octets (Some report) = report.accepted
 
--- the side receives the frame that is read from the accepted octets, if one is read, as the definition says
+-- the side with this role receives the frame that the accepted octets encode, or does nothing if there is none; the new endpoints and the
+-- effects are the result
 pub record TakesAcceptedFrame (role : Role) (channel : Channel) (accepted : Option Octets) (es : E.Ends) (link : Sapi) (effects : Effects)
     (new : Ends) : Type 0 where
   pub read : Option Frame
   pub reads : ReadsFrame channel accepted read
-  pub represents : F.Represents new (E.takes_frame_if_read role read es).after
-  pub does : F.HasEffects effects channel (E.takes_frame_if_read role read es)
-  pub sapi : link ≡ (E.takes_frame_if_read role read es).sapi
+  pub represents : F.Represents new (E.step_for_read_frame role read es).after
+  pub has_effects : F.HasEffects effects channel (E.step_for_read_frame role read es)
+  pub sapi : link ≡ (E.step_for_read_frame role read es).sapi
 
--- whenever the old endpoints represent a state, the side receives the frame that is read, as the definition says
-abbrev pub RefinesTakingFrame : Role → Channel → Option Octets → Ends → Sapi → Effects → Ends → Type 0
-RefinesTakingFrame role channel accepted old sapi effects new = (es : E.Ends) → F.Represents old es →
+-- for every state that the old endpoints represent, the side with this role receives the frame that the accepted octets encode, or does
+-- nothing if there is none
+abbrev pub TakingFrameRefines : Role → Channel → Option Octets → Ends → Sapi → Effects → Ends → Type 0
+TakingFrameRefines role channel accepted old sapi effects new = (es : E.Ends) → F.Represents old es →
     TakesAcceptedFrame role channel accepted es sapi effects new

@@ -1,4 +1,4 @@
--- Which events and answers of the definition the values of the program represent.
+-- Translates the events and answers of the program into those of the specification.
 use Rattle.std.specs.Prelude.{[], Result, Ok, Err}
 use Rattle.um_air.specs.lapdm_window.Ends as R
 use Rattle.um_air.specs.lapdm_window.Calls as K
@@ -21,7 +21,7 @@ use Rattle.um_link.specs.declared.events.No.{No}
 use Rattle.um_link.specs.declared.events.No.TheVariants as N
 use Rattle.um_link.specs.declared.events.Step.{Step}
 
--- the side that an `End` of the program represents
+-- translates a program `End` into a specification `Role`
 abbrev pub role_of : End → R.Role
 role_of D.Mobile = R.Mobile
 role_of D.Network = R.Network
@@ -31,7 +31,7 @@ abbrev pub sender_of : Way → R.Role
 sender_of Up = R.Mobile
 sender_of Down = R.Network
 
--- the request, and (below) the call, that a `Call` of the program represents
+-- translates a program `Call` into a specification `Layer3Request`
 abbrev pub request_of : Call → E.Request
 request_of (C.Send m) = E.Send m.now
 request_of (C.Unit m) = E.SendUnit m.now
@@ -39,16 +39,17 @@ request_of C.Close = E.Close
 request_of C.Timer = E.T200Expiry
 request_of C.Idle = E.Idle
 
+-- translates a program `Call` into a call of the endpoint specification
 abbrev pub call_of : Call → K.Call
 call_of call = E.call_of (request_of call)
 
--- the event that an `Air` of the program represents: the oldest block of a side arrives, perhaps with inverted bits, or is lost
+-- translates a program `Air` into an event: the oldest block from this side arrives, perhaps with inverted bits, or is lost
 abbrev pub air_event : R.Role → Air → A.Event
 air_event sender V.Deliver = E.Deliver sender []
 air_event sender V.Lose = E.Lose sender
 air_event sender (V.Flip places) = E.Deliver sender places.now
 
--- the event that an `Event` of the program represents
+-- translates a program `Event` into a specification `Event`
 abbrev pub event_of : Event → A.Event
 event_of (T.Open info) = E.Open info.now
 event_of (T.OpenBare end) = E.OpenBare (role_of end)
@@ -56,14 +57,14 @@ event_of (T.End end sapi call) = E.Ask (role_of end) sapi (request_of call)
 event_of (T.Air way air) = air_event (sender_of way) air
 event_of (T.Rival info) = E.Rival info.now
 
--- the actor that a `Who` of the program represents
-abbrev pub who_of : Who → E.Who
-who_of W.Mobile = E.BySide R.Mobile
-who_of W.Network = E.BySide R.Network
-who_of W.Rival = E.Other
-who_of W.Nobody = E.Nobody
+-- translates a program `Who` into a specification `Who`
+abbrev pub actor_of_who : Who → E.Who
+actor_of_who W.Mobile = E.BySide R.Mobile
+actor_of_who W.Network = E.BySide R.Network
+actor_of_who W.Rival = E.OtherMobile
+actor_of_who W.Nobody = E.Nobody
 
--- the refusal that a `No` of the program represents
+-- translates a program `No` into a specification `EventRefusal`
 abbrev pub event_refusal_of : No → E.EventRefusal
 event_refusal_of N.NotIdle = E.ByEndpoint Q.NotIdle
 event_refusal_of N.NotOpen = E.ByEndpoint Q.NotOpen
@@ -74,22 +75,22 @@ event_refusal_of N.Full = E.ByEndpoint Q.Full
 event_refusal_of N.Nothing = E.Nothing
 event_refusal_of N.AirFull = E.AirFull
 
--- the step that a `Step` of the program represents
+-- translates a program `Step` into a specification `Step`
 abbrev pub step_of : Step → A.Step
 step_of s = record {
-  who = who_of s.who;
+  who = actor_of_who s.who;
   sapi = s.sapi;
   received = s.received;
   frames = s.effects.frames;
   notices = s.effects.notices;
 }
 
--- the answer that a result of the program represents
+-- translates the result of a program step into a specification `Answer`
 abbrev pub answer_of : Result Step No → A.Answer
 answer_of (Ok s) = A.Does (step_of s)
 answer_of (Err reason) = A.Refuses (event_refusal_of reason)
 
--- the result of a call that writes its step into a buffer of the caller: the error, or the contents of the buffer
+-- the result of a call that writes its step into the caller's buffer: the contents of the buffer, or the error
 abbrev pub step_result : {A : Type 0} → Result A No → Step → Result Step No
 step_result (Ok done) step = Ok step
 step_result (Err reason) step = Err reason

@@ -6,11 +6,11 @@ use Rattle.um_link.specs.declared.events.Air.TheVariants as V
 use Rattle.um_link.specs.Queues.{AreBitIndices}
 
 -- all bits to invert are bits of a block, 0 to 591
-abbrev pub IsPossibleAir : Air → Type 0
-IsPossibleAir (V.Flip places) = AreBitIndices places.now
-IsPossibleAir air = Unit {0}
+abbrev pub IsPossibleAirEvent : Air → Type 0
+IsPossibleAirEvent (V.Flip places) = AreBitIndices places.now
+IsPossibleAirEvent air = Unit {0}
 
 -- if the event inverts bits, all of them are bits of a block, 0 to 591
-abbrev pub IsPossible : Event → Type 0
-IsPossible (T.Air way air) = IsPossibleAir air
-IsPossible event = Unit {0}
+abbrev pub IsPossibleEvent : Event → Type 0
+IsPossibleEvent (T.Air way air) = IsPossibleAirEvent air
+IsPossibleEvent event = Unit {0}

@@ -15,8 +15,9 @@ pub record IsValidQueue (way : Buffer Block) : Type 0 where
   pub capacity : way.capacity ≡ 64
   pub bits : All (All AllBits) way.items
 
--- the oldest block is removed, and is received with the bits at these indices inverted, which gives this report
-pub record Receives (places : List ℕ) (old : List Block) (report : Received) (new : List Block) : Type 0 where
+-- the oldest block is removed from the queue `old`, which leaves `new`; it is received with the bits at `places` inverted, and `report`
+-- describes the result
+pub record ReceivesOldestBlock (places : List ℕ) (old : List Block) (report : Received) (new : List Block) : Type 0 where
   pub block : Block
   pub first : old ≡ block ∷ new
   pub received : IsReceivedBlock (map soft_bits (with_bits_inverted places block)) report

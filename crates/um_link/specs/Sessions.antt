@@ -1,48 +1,51 @@
--- A world as the result of a session: the events since its initial state, and their answers.
+-- Worlds reached by a session, that is, by a list of events with their answers from the initial state.
 use Rattle.std.specs.Prelude.{ℕ, List, [], ◌∷◌, ◌++◌, Result}
 use Rattle.lapdm_frame.specs.declared.Channel.{Channel}
-use Rattle.um_air.specs.lapdm_link.Claims.{Claims, OrderClaims}
-use Rattle.um_air.specs.Air.{Event, Answer, AirState, start_on, AirRun, AirStep}
-use Rattle.um_air.specs.Sessions.{IsHarmless, IsBenign, lines}
+use Rattle.um_air.specs.lapdm_link.Claims.{Claims, IsOrderedLog}
+use Rattle.um_air.specs.Air.{Event, Answer, AirState, initial_session, IsAirRun, IsAirStep}
+use Rattle.um_air.specs.Sessions.{IsBenign, InvertFewBits, lines}
 use Rattle.um_link.specs.declared.events.No.{No}
 use Rattle.um_link.specs.declared.events.Step.{Step}
 use Rattle.um_link.specs.declared.links.WorldState.{WorldState}
 use Rattle.um_link.specs.Naming.{answer_of}
 use Rattle.um_link.specs.Abstraction.{Represents}
 
--- these events had these answers, and the world represents the state a after them
-pub record IsWorldAfter (tsc : ℕ) (channel : Channel) (events : List Event) (answers : List Answer) (a : AirState)
+-- a session with these events and answers leads to state `a`, which the world represents
+pub record IsWorldAfterEvents (tsc : ℕ) (channel : Channel) (events : List Event) (answers : List Answer) (a : AirState)
     (world : WorldState) : Type 0
   where
-    pub run : AirRun (start_on tsc channel) events answers a
+    pub run : IsAirRun (initial_session tsc channel) events answers a
     pub represents : Represents world a
 
--- if `old` is the world after some events, then `new` is the world after one more event, with this answer
+-- if a session leads to the old world, the session extended by this event and its answer leads to the new world
 abbrev pub ExtendsSession : Event → WorldState → Result Step No → WorldState → Type 0
 ExtendsSession event old result new =
     (tsc : ℕ) (channel : Channel) (events : List Event) (answers : List Answer) (a : AirState) →
-    IsWorldAfter tsc channel events answers a old →
-    (b : AirState) × IsWorldAfter tsc channel (events ++ event ∷ []) (answers ++ answer_of result ∷ []) b new × AirStep a event b
+    IsWorldAfterEvents tsc channel events answers a old →
+    (b : AirState) × IsWorldAfterEvents tsc channel (events ++ event ∷ []) (answers ++ answer_of result ∷ []) b new
+    × IsAirStep a event b
     (answer_of result)
 
--- the claims about order hold of the session that is extended by this event
-abbrev pub KeepsOrder : Event → WorldState → Result Step No → Type 0
-KeepsOrder event old result =
+-- if a session leads to the old world, the log of the session extended by this event is ordered (`IsOrderedLog`)
+abbrev pub KeepsOrderLaws : Event → WorldState → Result Step No → Type 0
+KeepsOrderLaws event old result =
     (tsc : ℕ) (channel : Channel) (events : List Event) (answers : List Answer) (a : AirState) →
-    IsWorldAfter tsc channel events answers a old →
-    OrderClaims (lines (events ++ event ∷ []) (answers ++ answer_of result ∷ []))
+    IsWorldAfterEvents tsc channel events answers a old →
+    IsOrderedLog (lines (events ++ event ∷ []) (answers ++ answer_of result ∷ []))
 
--- the claims about delivery hold of the session that is extended by this event, if that session is benign
-abbrev pub KeepsDelivery : Event → WorldState → Result Step No → Type 0
-KeepsDelivery event old result =
+-- if a session leads to the old world, and the session extended by this event is benign, the claims about delivery (`Claims`) hold for the
+-- extended session
+abbrev pub KeepsDeliveryLaws : Event → WorldState → Result Step No → Type 0
+KeepsDeliveryLaws event old result =
     (tsc : ℕ) (channel : Channel) (events : List Event) (answers : List Answer) (a : AirState) →
-    IsWorldAfter tsc channel events answers a old →
-    IsHarmless (events ++ event ∷ []) (answers ++ answer_of result ∷ []) →
+    IsWorldAfterEvents tsc channel events answers a old →
+    IsBenign (events ++ event ∷ []) (answers ++ answer_of result ∷ []) →
     Claims (lines (events ++ event ∷ []) (answers ++ answer_of result ∷ []))
 
--- if at most three bits of each block are inverted in every event, this one included, the session is benign
-abbrev pub StaysHarmless : Event → WorldState → Result Step No → Type 0
-StaysHarmless event old result =
+-- if a session leads to the old world, the session extended by this event is benign, provided that at most three bits of each block are
+-- inverted and messages consist of octets
+abbrev pub SessionStaysBenign : Event → WorldState → Result Step No → Type 0
+SessionStaysBenign event old result =
     (tsc : ℕ) (channel : Channel) (events : List Event) (answers : List Answer) (a : AirState) →
-    IsWorldAfter tsc channel events answers a old →
-    IsBenign (events ++ event ∷ []) → IsHarmless (events ++ event ∷ []) (answers ++ answer_of result ∷ [])
+    IsWorldAfterEvents tsc channel events answers a old →
+    InvertFewBits (events ++ event ∷ []) → IsBenign (events ++ event ∷ []) (answers ++ answer_of result ∷ [])

@@ -3,7 +3,7 @@
 ghost use Rattle.std.specs.Prelude.{◌≡◌, OnOk, OnErr, Some};
 ghost use Rattle.std.specs.Result.{result_err};
 ghost use Rattle.lapdm_frame.specs.Content.{frame_of};
-ghost use Rattle.lapdm_frame.specs.Frames.{Fits};
+ghost use Rattle.lapdm_frame.specs.Frames.{FrameFits};
 ghost use Rattle.um_air.specs.lapdm_window.Calls.{call_of, IsCallOfSapi, refusal_of};
 ghost use Rattle.um_air.specs.lapdm_link.Events as E;
 ghost use Rattle.um_link.specs.Naming.{role_of};
@@ -20,9 +20,9 @@ pub(crate) struct Ends {
 }
 
 impl Ends {
-    ghost use Rattle.um_link.specs.FourEndpoints.{IsOnChannel, Represents, Refines, channel_of_ends};
+    ghost use Rattle.um_link.specs.FourEndpoints.{IsOnChannel, Represents, StepRefines, channel_of_ends};
 
-    /// All endpoints in Idle.
+    /// Creates the four endpoints, all in Idle.
     pub(crate) fn new_on(channel: Channel) -> Ends
         ensures represents { Represents result (E.idle_endpoints channel) }
         ensures channel { IsOnChannel channel result }
@@ -33,7 +33,7 @@ impl Ends {
         }
     }
 
-    /// Carries out a call of layer 3 to the endpoint with this side and SAPI.
+    /// Carries out a layer 3 call to the endpoint with this side and SAPI.
     pub(crate) fn ask(
         &mut self,
         end: End,
@@ -46,7 +46,7 @@ impl Ends {
         ensures refusal { (es : E.Ends) → Represents self.old es
             → result_err result ≡ refusal_of (call_of call.now) (E.endpoint_in (role_of end) sapi es) }
         ensures refines { OnOk result
-            (Refines (channel_of_ends self.old) (E.layer3_calls (role_of end) sapi (call_of call.now)) self.old effects.new self.new) }
+            (StepRefines (channel_of_ends self.old) (E.layer3_calls (role_of end) sapi (call_of call.now)) self.old effects.new self.new) }
         ensures on { IsOnChannel (channel_of_ends self.old) self.new }
         ensures refused { OnErr result (self.new ≡ self.old) }
         ensures out_unchanged { OnErr result (effects.new ≡ effects.old) }
@@ -57,16 +57,15 @@ impl Ends {
         }
     }
 
-    /// Passes a frame to a side, where the endpoint of the frame's SAPI receives it. Returns that SAPI, or 0 if no endpoint has the frame's
-    /// SAPI.
+    /// Passes a frame to a side, whose endpoint with the frame's SAPI receives it. Returns that SAPI, or 0 if no endpoint has it.
     pub(crate) fn take(&mut self, end: End, frame: &FrameView<'_>, effects: &mut Effects) -> Sapi
         requires on { IsOnChannel (channel_of_ends self.old) self.old }
-        requires fits { Fits (channel_of_ends self.old) (frame_of frame.now) }
-        ensures refines { Refines (channel_of_ends self.old) (E.takes_frame_if_read (role_of end) (Some
+        requires fits { FrameFits (channel_of_ends self.old) (frame_of frame.now) }
+        ensures refines { StepRefines (channel_of_ends self.old) (E.step_for_read_frame (role_of end) (Some
             (frame_of frame.now))) self.old effects.new
             self.new }
         ensures sapi { (es : E.Ends) → Represents self.old es →
-            result ≡ (E.takes_frame_if_read (role_of end) (Some (frame_of frame.now)) es).sapi }
+            result ≡ (E.step_for_read_frame (role_of end) (Some (frame_of frame.now)) es).sapi }
         ensures on { IsOnChannel (channel_of_ends self.old) self.new }
     {
         match end {

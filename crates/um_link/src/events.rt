@@ -1,4 +1,4 @@
-//! The events of a session between a mobile and a network, and the results of these events.
+//! The events of a session between a mobile and a network, and their results.
 
 ghost use Rattle.std.specs.Prelude.{◌≡◌, None, []};
 ghost use Rattle.um_air.specs.lapdm_window.declared.Sapi.TheVariants as S;
@@ -25,7 +25,7 @@ pub enum End {
     Network,
 }
 
-/// A call of layer 3 to an endpoint of either side and SAPI, or T200 expiry.
+/// A layer 3 call that every endpoint has, on either side and with either SAPI, or T200 expiry.
 #[derive(Clone, Copy, Drop)]
 pub enum Call<'a> {
     /// Send a message of 1 to 251 octets in I frames, which the other side acknowledges.
@@ -40,8 +40,8 @@ pub enum Call<'a> {
 }
 
 impl<'a> Call<'a> {
-    /// This call as a call of a single endpoint (`lapdm_end::Call`).
-    pub fn whole(self) -> EndCall<'a>
+    /// Converts this call to a call of a single endpoint (`lapdm_end::Call`).
+    pub fn as_endpoint_call(self) -> EndCall<'a>
         ensures same { call_of result ≡ E.call_of (request_of self.entry) }
         ensures any { (sapi : AnySapi) → IsCallOfSapi sapi (call_of result) }
     {
@@ -60,14 +60,15 @@ impl<'a> Call<'a> {
 pub enum Air<'a> {
     Deliver,
     Lose,
-    /// It arrives with the bits at these indices inverted, one after another. Index `p`, 0 to 591, is bit `p % 148` of burst `p / 148`.
+    /// The block arrives with the bits at these indices inverted, one after another. Index `p`, 0 to 591, is bit `p % 148` of burst `p /
+    /// 148`.
     Flip(&'a [u16]),
 }
 
 /// An event of a session.
 #[derive(Clone, Copy, Drop)]
 pub enum Event<'a> {
-    /// The mobile establishes SAPI 0; the information serves contention resolution.
+    /// The mobile establishes SAPI 0, with this information for contention resolution.
     Open(&'a [u8]),
     /// A side establishes SAPI 3, without information.
     OpenBare(End),
@@ -82,9 +83,9 @@ pub enum Event<'a> {
 pub enum Who {
     Mobile,
     Network,
-    /// The other mobile.
+    /// Another mobile on the same channel.
     Rival,
-    /// Nobody, because a block was lost.
+    /// Nobody acted, because a block was lost.
     Nobody,
 }
 
@@ -131,10 +132,10 @@ pub enum No {
     TooLong,
     #[error("eight messages are not wholly acknowledged, the most that a link holds")]
     Full,
-    /// No block is in transit in that direction.
+    /// No block is in transit in the direction of the event.
     #[error("no block is in transit in that direction")]
     Nothing,
-    /// More than 62 blocks are in the queue into which this event may send.
+    /// More than 62 blocks are in the queue into which the event may send.
     #[error("more than 62 blocks are in transit in the direction in which the event sends")]
     AirFull,
 }

@@ -6,17 +6,17 @@ ghost use Rattle.lapdm_frame.specs.Layout.{n201};
 ghost use Rattle.lapdm_frame.specs.Frames.{octets_of};
 ghost use Rattle.um_air.specs.lapdm_link.Events as E;
 ghost use Rattle.um_air.specs.Air as A;
-ghost use Rattle.um_air.specs.Air.{start_on};
+ghost use Rattle.um_air.specs.Air.{initial_session};
 ghost use Rattle.um_link.specs.Naming.{role_of, air_event, event_of, step_of, step_result};
 ghost use Rattle.um_air.specs.lapdm_window.Calls.{call_of, IsCallOfSapi};
-ghost use Rattle.um_link.specs.Possible.{IsPossible, IsPossibleAir};
-ghost use Rattle.um_block.specs.Tallies.{next_counter, counter_after};
+ghost use Rattle.um_link.specs.Possible.{IsPossibleEvent, IsPossibleAirEvent};
+ghost use Rattle.um_block.specs.Tallies.{counter_plus_one, counter_plus};
 ghost use Rattle.um_link.specs.Queues.{AreBitIndices};
 
 use crate::ends::Ends;
 use crate::events::{Air, End, Event, No, Step, Way, Who};
-use crate::queue::{QUEUE_BLOCKS, drop_first, receive_first, send_frames};
-use crate::taking::take_block;
+use crate::queue::{QUEUE_CAPACITY, drop_oldest_block, receive_oldest_block, send_frames};
+use crate::taking::take_received_block;
 use circular_buffer::HeapCircularBuffer;
 use lapdm_end::{Call, Effects, Refused, Sapi};
 use lapdm_frame::{Body, Channel, FrameView, write_on};
@@ -37,18 +37,18 @@ pub(crate) struct WorldState {
 }
 
 impl WorldState {
-    ghost use Rattle.um_link.specs.Abstraction.{IsLayer3CallTo, Represents, IsValidWorld, Refines, FitsActor, sent_frame_count};
-    ghost use Rattle.um_link.specs.Abstraction.{arrived_block_count, blocks_from};
-    ghost use Rattle.um_link.specs.Moves.{Sends, ReceivesFrom, LosesFrom};
+    ghost use Rattle.um_link.specs.Abstraction.{IsLayer3CallTo, Represents, IsValidWorld, StepRefines, StepFitsItsActor, sent_frame_count};
+    ghost use Rattle.um_link.specs.Abstraction.{arrived_block_count, queued_blocks};
+    ghost use Rattle.um_link.specs.Moves.{AppendsToQueue, ReceivesOldestFrom, LosesOldestFrom};
 
-    /// Idle endpoints on this channel, and empty queues. Allocates all memory that the session needs.
+    /// Creates idle endpoints on this channel, and empty queues. Allocates all memory that the session needs.
     pub(crate) fn new_on(alloc: Global, tsc: u8, channel: Channel) -> Result<WorldState, NoMemory>
         requires { tsc ≤ 7 }
-        ensures represents { IfOk result (λ w. Represents w (start_on tsc channel)) }
+        ensures represents { IfOk result (λ w. Represents w (initial_session tsc channel)) }
         ensures sound { IfOk result (λ w. IsValidWorld w) }
     {
-        let up = HeapCircularBuffer::with_capacity(alloc, QUEUE_BLOCKS)?;
-        let down = HeapCircularBuffer::with_capacity(alloc, QUEUE_BLOCKS)?;
+        let up = HeapCircularBuffer::with_capacity(alloc, QUEUE_CAPACITY)?;
+        let down = HeapCircularBuffer::with_capacity(alloc, QUEUE_CAPACITY)?;
         Ok(WorldState {
             tsc,
             channel,
@@ -59,8 +59,8 @@ impl WorldState {
         })
     }
 
-    fn has_no_block(&self, sender: End) -> bool
-        ensures { result ≡ E.is_empty (length (blocks_from (role_of sender) self.now)) }
+    fn has_no_queued_block(&self, sender: End) -> bool
+        ensures { result ≡ E.is_empty (length (queued_blocks (role_of sender) self.now)) }
     {
         match sender {
             End::Mobile => self.up.len() == 0,
@@ -68,9 +68,9 @@ impl WorldState {
         }
     }
 
-    /// Whether the queue of this side has too little space for the frames of one more step, which are at most two.
-    fn is_full(&self, sender: End) -> bool
-        ensures { result ≡ E.is_full (length (blocks_from (role_of sender) self.now)) }
+    /// Whether the queue of this side has too little room for the frames of one more step, of which there are at most two.
+    fn is_queue_full(&self, sender: End) -> bool
+        ensures { result ≡ E.is_queue_full (length (queued_blocks (role_of sender) self.now)) }
     {
         match sender {
             End::Mobile => self.up.len() > 62,
@@ -78,13 +78,13 @@ impl WorldState {
         }
     }
 
-    /// Codes the frames that a side sends, and appends their blocks to its queue.
+    /// Codes the frames that a side sends, and appends the blocks to its queue.
     fn send<R: Radio>(&mut self, radio: &mut R, sender: End, effects: &Effects)
         requires sound { IsValidWorld self.old }
-        requires space { length (blocks_from (role_of sender) self.old) ≤ 62 }
-        ensures sends { Sends (role_of sender) effects.now.frames self.old self.new }
+        requires space { length (queued_blocks (role_of sender) self.old) ≤ 62 }
+        ensures sends { AppendsToQueue (role_of sender) effects.now.frames self.old self.new }
         ensures sound { IsValidWorld self.new }
-        ensures sent { R.sent radio.new ≡ counter_after (length effects.now.frames) (R.sent radio.old) }
+        ensures sent { R.sent radio.new ≡ counter_plus (length effects.now.frames) (R.sent radio.old) }
         ensures heard { R.heard radio.new ≡ R.heard radio.old }
     {
         let frames = effects.frames.as_slice();
@@ -94,7 +94,7 @@ impl WorldState {
         }
     }
 
-    /// Receives the oldest block that this side sent, with the bits at `places` inverted.
+    /// Receives the oldest block from this side, with the given bits inverted.
     fn receive<R: Radio>(
         &mut self,
         radio: &mut R,
@@ -103,24 +103,36 @@ impl WorldState {
         received: &mut Option<Received>,
     )
         requires sound { IsValidWorld self.old }
-        requires some { 0 < length (blocks_from (role_of sender) self.old) }
+        requires some { 0 < length (queued_blocks (role_of sender) self.old) }
         requires places { AreBitIndices places.now }
-        ensures receives { ReceivesFrom (role_of sender) places.now self.old received.new self.new }
+        ensures receives { ReceivesOldestFrom (role_of sender) places.now self.old received.new self.new }
         ensures sound { IsValidWorld self.new }
-        ensures heard { R.heard radio.new ≡ next_counter (R.heard radio.old) }
+        ensures heard { R.heard radio.new ≡ counter_plus_one (R.heard radio.old) }
         ensures sent { R.sent radio.new ≡ R.sent radio.old }
     {
         match sender {
-            End::Mobile => receive_first(radio, &mut self.up, places, &mut self.soft, received),
-            End::Network => receive_first(radio, &mut self.down, places, &mut self.soft, received),
+            End::Mobile => receive_oldest_block(
+                radio,
+                &mut self.up,
+                places,
+                &mut self.soft,
+                received,
+            ),
+            End::Network => receive_oldest_block(
+                radio,
+                &mut self.down,
+                places,
+                &mut self.soft,
+                received,
+            ),
         }
     }
 
     /// Sends the frames of a step, and records in the step who acted.
     fn send_step_frames<R: Radio>(&mut self, radio: &mut R, end: End, step: &mut Step)
         requires sound { IsValidWorld self.old }
-        requires space { length (blocks_from (role_of end) self.old) ≤ 62 }
-        ensures sends { Sends (role_of end) step.old.effects.frames self.old self.new }
+        requires space { length (queued_blocks (role_of end) self.old) ≤ 62 }
+        ensures sends { AppendsToQueue (role_of end) step.old.effects.frames self.old self.new }
         ensures sound { IsValidWorld self.new }
         ensures step { step_of step.new ≡ record {
           who = E.BySide (role_of end);
@@ -129,10 +141,10 @@ impl WorldState {
           frames = step.old.effects.frames;
           notices = step.old.effects.notices;
         } }
-        ensures who { FitsActor (step_of step.new) }
+        ensures who { StepFitsItsActor (step_of step.new) }
         ensures effects { step.new.effects ≡ step.old.effects }
         ensures received { step.new.received ≡ step.old.received }
-        ensures sent { R.sent radio.new ≡ counter_after (length step.old.effects.frames) (R.sent radio.old) }
+        ensures sent { R.sent radio.new ≡ counter_plus (length step.old.effects.frames) (R.sent radio.old) }
         ensures heard { R.heard radio.new ≡ R.heard radio.old }
     {
         self.send(radio, end, &step.effects);
@@ -142,7 +154,7 @@ impl WorldState {
         };
     }
 
-    /// Carries out a call of layer 3 to the endpoint with this side and SAPI.
+    /// Carries out a layer 3 call to the endpoint with this side and SAPI.
     fn ask<R: Radio>(
         &mut self,
         radio: &mut R,
@@ -154,16 +166,16 @@ impl WorldState {
         requires sound { IsValidWorld self.old }
         requires call { IsCallOfSapi sapi (call_of call.now) }
         ensures refines { (event : A.Event) → IsLayer3CallTo event (role_of end) sapi (call_of call.now)
-            → Refines event self.old (step_result result step.new) self.new }
+            → StepRefines event self.old (step_result result step.new) self.new }
         ensures sound { IsValidWorld self.new }
         ensures refused { OnErr result (self.new ≡ self.old) }
         ensures out_unchanged { OnErr result (step.new ≡ step.old) }
         ensures silent { OnErr result (radio.new ≡ radio.old) }
-        ensures sent { R.sent radio.new ≡ counter_after (sent_frame_count (step_result result step.new)) (R.sent radio.old) }
-        ensures heard { R.heard radio.new ≡ counter_after (arrived_block_count (step_result result step.new)) (R.heard radio.old) }
-        ensures who { OnOk result (FitsActor (step_of step.new)) }
+        ensures sent { R.sent radio.new ≡ counter_plus (sent_frame_count (step_result result step.new)) (R.sent radio.old) }
+        ensures heard { R.heard radio.new ≡ counter_plus (arrived_block_count (step_result result step.new)) (R.heard radio.old) }
+        ensures who { OnOk result (StepFitsItsActor (step_of step.new)) }
     {
-        if self.is_full(end) {
+        if self.is_queue_full(end) {
             return Err(No::AirFull);
         }
         match self.ends.ask(end, sapi, call, &mut step.effects) {
@@ -177,7 +189,7 @@ impl WorldState {
         }
     }
 
-    /// The oldest block that a side sent arrives at the other side, with the bits at these indices inverted.
+    /// Delivers the oldest block from one side to the other, with the given bits inverted.
     fn deliver<R: Radio>(
         &mut self,
         radio: &mut R,
@@ -187,24 +199,24 @@ impl WorldState {
     ) -> Result<(), No>
         requires sound { IsValidWorld self.old }
         requires places { AreBitIndices places.now }
-        ensures refines { Refines (E.Deliver (role_of sender) places.now) self.old (step_result result step.new) self.new }
+        ensures refines { StepRefines (E.Deliver (role_of sender) places.now) self.old (step_result result step.new) self.new }
         ensures sound { IsValidWorld self.new }
         ensures refused { OnErr result (self.new ≡ self.old) }
         ensures out_unchanged { OnErr result (step.new ≡ step.old) }
         ensures silent { OnErr result (radio.new ≡ radio.old) }
-        ensures sent { R.sent radio.new ≡ counter_after (sent_frame_count (step_result result step.new)) (R.sent radio.old) }
-        ensures heard { R.heard radio.new ≡ counter_after (arrived_block_count (step_result result step.new)) (R.heard radio.old) }
-        ensures who { OnOk result (FitsActor (step_of step.new)) }
+        ensures sent { R.sent radio.new ≡ counter_plus (sent_frame_count (step_result result step.new)) (R.sent radio.old) }
+        ensures heard { R.heard radio.new ≡ counter_plus (arrived_block_count (step_result result step.new)) (R.heard radio.old) }
+        ensures who { OnOk result (StepFitsItsActor (step_of step.new)) }
     {
         let end = other_end(sender);
-        if self.has_no_block(sender) {
+        if self.has_no_queued_block(sender) {
             return Err(No::Nothing);
         }
-        if self.is_full(end) {
+        if self.is_queue_full(end) {
             return Err(No::AirFull);
         }
         self.receive(radio, sender, places, &mut step.received);
-        step.sapi = take_block(
+        step.sapi = take_received_block(
             &mut self.ends,
             self.channel,
             end,
@@ -215,33 +227,34 @@ impl WorldState {
         Ok(())
     }
 
-    /// Removes the oldest block that a side sent from its queue.
-    fn drop_first(&mut self, sender: End)
+    /// Removes the oldest block from the queue of this side.
+    fn drop_oldest_block(&mut self, sender: End)
         requires sound { IsValidWorld self.old }
-        requires some { 0 < length (blocks_from (role_of sender) self.old) }
-        ensures loses { LosesFrom (role_of sender) self.old self.new }
+        requires some { 0 < length (queued_blocks (role_of sender) self.old) }
+        ensures loses { LosesOldestFrom (role_of sender) self.old self.new }
         ensures sound { IsValidWorld self.new }
     {
         match sender {
-            End::Mobile => drop_first(&mut self.up),
-            End::Network => drop_first(&mut self.down),
+            End::Mobile => drop_oldest_block(&mut self.up),
+            End::Network => drop_oldest_block(&mut self.down),
         }
     }
 
-    /// Loses the oldest block that a side sent.
+    /// Carries out the loss of the oldest block from this side.
     fn lose(&mut self, sender: End, step: &mut Step) -> Result<(), No>
         requires sound { IsValidWorld self.old }
-        ensures refines { Refines (E.Lose (role_of sender)) self.old (step_result result step.new) self.new }
+        ensures refines { StepRefines (E.Lose (role_of sender)) self.old (step_result result step.new) self.new }
         ensures sound { IsValidWorld self.new }
         ensures refused { OnErr result (self.new ≡ self.old) }
         ensures out_unchanged { OnErr result (step.new ≡ step.old) }
-        ensures silent { (sent_frame_count (step_result result step.new) ≡ 0) × (arrived_block_count (step_result result step.new) ≡ 0) }
-        ensures who { OnOk result (FitsActor (step_of step.new)) }
+        ensures silent { (sent_frame_count (step_result result step.new) ≡ 0)
+            × (arrived_block_count (step_result result step.new) ≡ 0) }
+        ensures who { OnOk result (StepFitsItsActor (step_of step.new)) }
     {
-        if self.has_no_block(sender) {
+        if self.has_no_queued_block(sender) {
             return Err(No::Nothing);
         }
-        self.drop_first(sender);
+        self.drop_oldest_block(sender);
         step.who = Who::Nobody;
         step.sapi = Sapi::Zero;
         step.received = None;
@@ -249,19 +262,19 @@ impl WorldState {
         Ok(())
     }
 
-    /// Lets another mobile send a SABM for SAPI 0.
+    /// Carries out the event in which another mobile sends a SABM for SAPI 0.
     fn rival<R: Radio>(&mut self, radio: &mut R, info: &[u8], step: &mut Step) -> Result<(), No>
         requires sound { IsValidWorld self.old }
-        ensures refines { Refines (E.Rival info.now) self.old (step_result result step.new) self.new }
+        ensures refines { StepRefines (E.Rival info.now) self.old (step_result result step.new) self.new }
         ensures sound { IsValidWorld self.new }
         ensures refused { OnErr result (self.new ≡ self.old) }
         ensures out_unchanged { OnErr result (step.new ≡ step.old) }
         ensures silent { OnErr result (radio.new ≡ radio.old) }
-        ensures sent { R.sent radio.new ≡ counter_after (sent_frame_count (step_result result step.new)) (R.sent radio.old) }
-        ensures heard { R.heard radio.new ≡ counter_after (arrived_block_count (step_result result step.new)) (R.heard radio.old) }
-        ensures who { OnOk result (FitsActor (step_of step.new)) }
+        ensures sent { R.sent radio.new ≡ counter_plus (sent_frame_count (step_result result step.new)) (R.sent radio.old) }
+        ensures heard { R.heard radio.new ≡ counter_plus (arrived_block_count (step_result result step.new)) (R.heard radio.old) }
+        ensures who { OnOk result (StepFitsItsActor (step_of step.new)) }
     {
-        if self.is_full(End::Mobile) {
+        if self.is_queue_full(End::Mobile) {
             return Err(No::AirFull);
         }
         if info.is_empty() {
@@ -270,7 +283,7 @@ impl WorldState {
         if info.len() > self.channel.n201() {
             return Err(No::TooLong);
         }
-        rival_effects(info, self.channel, &mut step.effects);
+        write_rival_sabm(info, self.channel, &mut step.effects);
         self.send(radio, End::Mobile, &step.effects);
         step.who = Who::Rival;
         step.sapi = Sapi::Zero;
@@ -278,7 +291,7 @@ impl WorldState {
         Ok(())
     }
 
-    /// Lets the oldest block that a side sent arrive or be lost.
+    /// Delivers or loses the oldest block from this side.
     fn deliver_or_lose<R: Radio>(
         &mut self,
         radio: &mut R,
@@ -287,15 +300,15 @@ impl WorldState {
         step: &mut Step,
     ) -> Result<(), No>
         requires sound { IsValidWorld self.old }
-        requires possible { IsPossibleAir air.now }
-        ensures refines { Refines (air_event (role_of sender) air.now) self.old (step_result result step.new) self.new }
+        requires possible { IsPossibleAirEvent air.now }
+        ensures refines { StepRefines (air_event (role_of sender) air.now) self.old (step_result result step.new) self.new }
         ensures sound { IsValidWorld self.new }
         ensures refused { OnErr result (self.new ≡ self.old) }
         ensures out_unchanged { OnErr result (step.new ≡ step.old) }
         ensures silent { OnErr result (radio.new ≡ radio.old) }
-        ensures sent { R.sent radio.new ≡ counter_after (sent_frame_count (step_result result step.new)) (R.sent radio.old) }
-        ensures heard { R.heard radio.new ≡ counter_after (arrived_block_count (step_result result step.new)) (R.heard radio.old) }
-        ensures who { OnOk result (FitsActor (step_of step.new)) }
+        ensures sent { R.sent radio.new ≡ counter_plus (sent_frame_count (step_result result step.new)) (R.sent radio.old) }
+        ensures heard { R.heard radio.new ≡ counter_plus (arrived_block_count (step_result result step.new)) (R.heard radio.old) }
+        ensures who { OnOk result (StepFitsItsActor (step_of step.new)) }
     {
         match air {
             Air::Deliver => self.deliver(radio, sender, &[], step),
@@ -311,20 +324,26 @@ impl WorldState {
         step: &mut Step,
     ) -> Result<(), No>
         requires sound { IsValidWorld self.old }
-        requires possible { IsPossible event.now }
-        ensures refines { Refines (event_of event.now) self.old (step_result result step.new) self.new }
+        requires possible { IsPossibleEvent event.now }
+        ensures refines { StepRefines (event_of event.now) self.old (step_result result step.new) self.new }
         ensures sound { IsValidWorld self.new }
         ensures refused { OnErr result (self.new ≡ self.old) }
         ensures out_unchanged { OnErr result (step.new ≡ step.old) }
         ensures silent { OnErr result (radio.new ≡ radio.old) }
-        ensures sent { R.sent radio.new ≡ counter_after (sent_frame_count (step_result result step.new)) (R.sent radio.old) }
-        ensures heard { R.heard radio.new ≡ counter_after (arrived_block_count (step_result result step.new)) (R.heard radio.old) }
-        ensures who { OnOk result (FitsActor (step_of step.new)) }
+        ensures sent { R.sent radio.new ≡ counter_plus (sent_frame_count (step_result result step.new)) (R.sent radio.old) }
+        ensures heard { R.heard radio.new ≡ counter_plus (arrived_block_count (step_result result step.new)) (R.heard radio.old) }
+        ensures who { OnOk result (StepFitsItsActor (step_of step.new)) }
     {
         match event {
             Event::Open(info) => self.ask(radio, End::Mobile, Sapi::Zero, &Call::Open(info), step),
             Event::OpenBare(end) => self.ask(radio, *end, Sapi::Three, &Call::OpenBare, step),
-            Event::End(end, sapi, call) => self.ask(radio, *end, *sapi, &call.whole(), step),
+            Event::End(end, sapi, call) => self.ask(
+                radio,
+                *end,
+                *sapi,
+                &call.as_endpoint_call(),
+                step,
+            ),
             Event::Air(way, air) => self.deliver_or_lose(radio, way.sender(), air, step),
             Event::Rival(info) => self.rival(radio, info, step),
         }
@@ -340,8 +359,8 @@ fn other_end(end: End) -> End
     }
 }
 
-/// Replaces the effects by the SABM of another mobile with this information.
-fn rival_effects(info: &[u8], channel: Channel, effects: &mut Effects)
+/// Replaces the contents of `effects` with the SABM that another mobile sends with this information.
+fn write_rival_sabm(info: &[u8], channel: Channel, effects: &mut Effects)
     requires { length info.now ≤ n201 channel }
     ensures frames { effects.new.frames ≡ octets_of channel (E.rival_sabm info.now) ∷ [] }
     ensures notices { effects.new.notices ≡ [] }

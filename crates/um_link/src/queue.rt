@@ -4,17 +4,17 @@ ghost use Rattle.um_block.specs.bit_blocks.Bits.{AllBits};
 ghost use Rattle.um_block.specs.conv_code.Likelihood.{AllSoftBits};
 ghost use Rattle.um_block.specs.Received.{soft_bits};
 ghost use Rattle.um_air.specs.Air.{Block, with_bit_inverted, with_bits_inverted};
-ghost use Rattle.um_link.specs.Coded.{AppendsCoded};
-ghost use Rattle.um_block.specs.Tallies.{next_counter, counter_after};
-ghost use Rattle.um_link.specs.Queues.{AreBitIndices, IsValidQueue, Receives};
+ghost use Rattle.um_link.specs.Coded.{AppendsBlocks};
+ghost use Rattle.um_block.specs.Tallies.{counter_plus_one, counter_plus};
+ghost use Rattle.um_link.specs.Queues.{AreBitIndices, IsValidQueue, ReceivesOldestBlock};
 
 use circular_buffer::HeapCircularBuffer;
 use um_block::{BLOCK_OCTETS, BURST_BITS, Radio, Received, soften_block};
 
-/// How many blocks a queue holds.
-pub(crate) const QUEUE_BLOCKS: usize = 64;
+/// The capacity of a queue, in blocks.
+pub(crate) const QUEUE_CAPACITY: usize = 64;
 
-/// Codes each frame as a block, and appends the block to the queue.
+/// Codes each frame as a block and appends it to the queue.
 pub(crate) fn send_frames<R: Radio>(
     radio: &mut R,
     way: &mut HeapCircularBuffer<[[u8; BURST_BITS]; 4]>,
@@ -23,10 +23,10 @@ pub(crate) fn send_frames<R: Radio>(
 )
     requires tsc { tsc ≤ 7 }
     requires way { IsValidQueue way.old }
-    requires space { length way.old.items + length frames.now ≤ QUEUE_BLOCKS }
-    ensures added { AppendsCoded tsc frames.now way.old.items way.new.items }
+    requires space { length way.old.items + length frames.now ≤ QUEUE_CAPACITY }
+    ensures appends { AppendsBlocks tsc frames.now way.old.items way.new.items }
     ensures way { IsValidQueue way.new }
-    ensures sent { R.sent radio.new ≡ counter_after (length frames.now) (R.sent radio.old) }
+    ensures sent { R.sent radio.new ≡ counter_plus (length frames.now) (R.sent radio.old) }
     ensures heard { R.heard radio.new ≡ R.heard radio.old }
 {
     for octets in frames {
@@ -34,9 +34,8 @@ pub(crate) fn send_frames<R: Radio>(
     }
 }
 
-/// Receives the oldest block, with the bits at these indices inverted. Uses a buffer of the caller for the soft values; its old contents do
-/// not matter.
-pub(crate) fn receive_first<R: Radio>(
+/// Receives the oldest block in the queue, with the given bits inverted. Overwrites the buffer for soft values.
+pub(crate) fn receive_oldest_block<R: Radio>(
     radio: &mut R,
     way: &mut HeapCircularBuffer<[[u8; BURST_BITS]; 4]>,
     places: &[u16],
@@ -46,17 +45,18 @@ pub(crate) fn receive_first<R: Radio>(
     requires way { IsValidQueue way.old }
     requires some { 0 < length way.old.items }
     requires places { AreBitIndices places.now }
-    ensures received { (report : Received) × (received.new ≡ Some report) × Receives places.now way.old.items report way.new.items }
+    ensures received { (report : Received) × (received.new ≡ Some report)
+        × ReceivesOldestBlock places.now way.old.items report way.new.items }
     ensures way { IsValidQueue way.new }
-    ensures heard { R.heard radio.new ≡ next_counter (R.heard radio.old) }
+    ensures heard { R.heard radio.new ≡ counter_plus_one (R.heard radio.old) }
     ensures sent { R.sent radio.new ≡ R.sent radio.old }
 {
     write_oldest_as_soft_values(way, places, soft);
-    drop_first(way);
+    drop_oldest_block(way);
     *received = Some(radio.receive(soft));
 }
 
-/// Writes the oldest block as soft values 127 and -127, with the bits at these indices inverted.
+/// Writes the oldest block of the queue as soft values 127 and -127, with the given bits inverted.
 fn write_oldest_as_soft_values(
     way: &HeapCircularBuffer<[[u8; BURST_BITS]; 4]>,
     places: &[u16],
@@ -79,9 +79,9 @@ fn write_oldest_as_soft_values(
     }
 }
 
-/// Removes the oldest block.
-// If the queue becomes empty, `clear` makes it start at its first element again, so the next block reuses memory that was just used.
-pub(crate) fn drop_first(way: &mut HeapCircularBuffer<[[u8; BURST_BITS]; 4]>)
+/// Removes the oldest block from the queue `way`.
+// If the queue becomes empty, `clear` makes it start at its first slot again, so that the next block reuses recently used memory.
+pub(crate) fn drop_oldest_block(way: &mut HeapCircularBuffer<[[u8; BURST_BITS]; 4]>)
     requires way { IsValidQueue way.old }
     requires some { 0 < length way.old.items }
     ensures first { (block : Block) × (way.old.items ≡ block ∷ way.new.items) }
@@ -94,7 +94,7 @@ pub(crate) fn drop_first(way: &mut HeapCircularBuffer<[[u8; BURST_BITS]; 4]>)
     }
 }
 
-/// Inverts the bits at these indices, one after another.
+/// Inverts the bits of the block at these indices, one after another.
 fn invert_bits(block: &mut [[u8; BURST_BITS]; 4], places: &[u16])
     requires bits { All AllBits block.old }
     requires places { AreBitIndices places.now }

@@ -2,7 +2,7 @@
 ghost use Rattle.std.specs.Prelude.{◌≡◌};
 ghost use Rattle.um_link.specs.FourEndpoints.{IsOnChannel, channel_of_ends};
 ghost use Rattle.um_link.specs.Naming.{role_of};
-ghost use Rattle.um_link.specs.BlockTaking.{RefinesTakingFrame, accepted_in};
+ghost use Rattle.um_link.specs.BlockTaking.{TakingFrameRefines, accepted_octets};
 
 use crate::ends::Ends;
 use crate::events::End;
@@ -10,8 +10,8 @@ use lapdm_end::{Effects, Sapi};
 use lapdm_frame::{Channel, read_on};
 use um_block::Received;
 
-/// Reads the frame from the accepted octets, if there are any, and passes it to the side. Replaces the contents of `effects`.
-pub(crate) fn take_block(
+/// Reads the frame from the accepted octets, if there are any, and passes it to the receiving side. Replaces the effects.
+pub(crate) fn take_received_block(
     ends: &mut Ends,
     channel: Channel,
     end: End,
@@ -20,7 +20,7 @@ pub(crate) fn take_block(
 ) -> Sapi
     requires on { IsOnChannel (channel_of_ends ends.old) ends.old }
     requires channel { channel ≡ channel_of_ends ends.old }
-    ensures takes { RefinesTakingFrame (role_of end) channel (accepted_in received.now) ends.old result effects.new ends.new }
+    ensures takes { TakingFrameRefines (role_of end) channel (accepted_octets received.now) ends.old result effects.new ends.new }
     ensures on { IsOnChannel (channel_of_ends ends.old) ends.new }
 {
     let Some(report) = received else {

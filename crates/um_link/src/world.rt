@@ -1,13 +1,14 @@
 //! A session between a mobile and a network, in which each call of `step` carries out one event.
 ghost use Rattle.std.specs.Prelude.{◌≡◌, ◌≤◌, IfOk, OnOk, OnErr};
 ghost use Rattle.lapdm_frame.specs.declared.Channel.TheVariants as C;
-ghost use Rattle.um_air.specs.Air.{start_on};
-ghost use Rattle.um_block.specs.Tallies.{counter_after};
+ghost use Rattle.um_air.specs.Air.{initial_session};
+ghost use Rattle.um_block.specs.Tallies.{counter_plus};
 ghost use Rattle.um_link.specs.Naming.{event_of, step_of, step_result};
-ghost use Rattle.um_link.specs.Abstraction.{Represents, Refines, IsOnlyAnswer, FitsActor, sent_frame_count, arrived_block_count};
-ghost use Rattle.um_link.specs.Sessions.{ExtendsSession, KeepsOrder, KeepsDelivery, StaysHarmless};
-ghost use Rattle.um_link.specs.Possible.{IsPossible};
-ghost use Rattle.um_air.specs.Sessions.{AreOctets, IsOctetEvent};
+ghost use Rattle.um_link.specs.Abstraction.{Represents, StepRefines, IsOnlyPossibleAnswer, StepFitsItsActor, sent_frame_count};
+ghost use Rattle.um_link.specs.Abstraction.{arrived_block_count};
+ghost use Rattle.um_link.specs.Sessions.{ExtendsSession, KeepsOrderLaws, KeepsDeliveryLaws, SessionStaysBenign};
+ghost use Rattle.um_link.specs.Possible.{IsPossibleEvent};
+ghost use Rattle.um_air.specs.Sessions.{AreOctets, EventMessageIsOctets};
 ghost use Rattle.um_link.specs.Naming.{request_of, role_of};
 ghost use Rattle.um_air.specs.lapdm_link.Events.{Ask};
 
@@ -17,7 +18,10 @@ use lapdm_end::Sapi;
 use lapdm_frame::Channel;
 use std::alloc::Global;
 use std::marker::Model;
-use um_air::{law_answer_is_unique, law_delivery, law_order, law_three_inverted_bits_are_benign};
+use um_air::{
+    law_answer_is_unique, law_delivers_in_order, law_log_is_ordered,
+    law_three_inverted_bits_are_benign,
+};
 use um_block::Radio;
 use um_io::NoMemory;
 
@@ -28,7 +32,7 @@ pub struct World {
     links: WorldState,
 }
 
-// In contracts, a `World` stands for its private state, which represents a state of the definition.
+// In contracts, a `World` stands for its private `WorldState`.
 impl Model for World {
     ghost use Rattle.um_link.specs.declared.links.WorldState.{WorldState};
 
@@ -42,41 +46,42 @@ impl Model for World {
 }
 
 impl World {
-    /// A world for SDCCH with idle endpoints and empty queues. The training sequence code is 0 to 7. Allocates all memory that the world
-    /// ever needs.
+    /// Creates a world for SDCCH, with idle endpoints and empty queues. The training sequence code is 0 to 7. Allocates all memory that the
+    /// world ever needs.
     pub fn new(alloc: Global, tsc: u8) -> Result<World, NoMemory>
         requires { tsc ≤ 7 }
-        ensures { IfOk result (λ world. Represents world (start_on tsc C.Sdcch)) }
+        ensures { IfOk result (λ world. Represents world (initial_session tsc C.Sdcch)) }
     {
         World::new_on(alloc, tsc, Channel::Sdcch)
     }
 
-    /// The same as `new`, for either channel.
+    /// Creates a world for either channel, with idle endpoints and empty queues. The training sequence code is 0 to 7. Allocates all memory
+    /// that the world ever needs.
     pub fn new_on(alloc: Global, tsc: u8, channel: Channel) -> Result<World, NoMemory>
         requires { tsc ≤ 7 }
-        ensures { IfOk result (λ world. Represents world (start_on tsc channel)) }
+        ensures { IfOk result (λ world. Represents world (initial_session tsc channel)) }
     {
         let links = WorldState::new_on(alloc, tsc, channel)?;
         Ok(World { links })
     }
 
-    /// Carries out an event, or refuses it for the first of these reasons: no block is in transit in that direction (`Nothing`); more than
-    /// 62 blocks are in the queue into which the event may send (`AirFull`); the endpoint refuses the call; the SABM of another mobile has
-    /// no information (`Empty`) or more than N201 octets (`TooLong`).
+    /// Carries out an event, or refuses it for the first of these reasons: no block is in transit in its direction (`Nothing`); more than
+    /// 62 blocks are in the queue into which it may send (`AirFull`); the endpoint refuses the call; the SABM of another mobile has no
+    /// information (`Empty`) or more than N201 octets (`TooLong`).
     pub fn step<R: Radio>(&mut self, radio: &mut R, event: &Event<'_>) -> Result<Step, No>
-        requires { IsPossible event.now }
-        ensures refines { Refines (event_of event.now) self.old result self.new }
-        ensures only { IsOnlyAnswer (event_of event.now) self.old result }
+        requires { IsPossibleEvent event.now }
+        ensures refines { StepRefines (event_of event.now) self.old result self.new }
+        ensures only { IsOnlyPossibleAnswer (event_of event.now) self.old result }
         ensures session { ExtendsSession (event_of event.now) self.old result self.new }
         ensures refused { OnErr result (self.new ≡ self.old) }
         ensures silent { OnErr result (radio.new ≡ radio.old) }
-        ensures sent { R.sent radio.new ≡ counter_after (sent_frame_count result) (R.sent radio.old) }
-        ensures heard { R.heard radio.new ≡ counter_after (arrived_block_count result) (R.heard radio.old) }
-        ensures who { IfOk result (λ step. FitsActor (step_of step)) }
-        ensures order { KeepsOrder (event_of event.now) self.old result }
-        ensures delivery { KeepsDelivery (event_of event.now) self.old result }
-        ensures harmless { StaysHarmless (event_of event.now) self.old result }
-        ensures octets { IsOctetEvent (event_of event.now) }
+        ensures sent { R.sent radio.new ≡ counter_plus (sent_frame_count result) (R.sent radio.old) }
+        ensures heard { R.heard radio.new ≡ counter_plus (arrived_block_count result) (R.heard radio.old) }
+        ensures who { IfOk result (λ step. StepFitsItsActor (step_of step)) }
+        ensures order { KeepsOrderLaws (event_of event.now) self.old result }
+        ensures delivery { KeepsDeliveryLaws (event_of event.now) self.old result }
+        ensures benign { SessionStaysBenign (event_of event.now) self.old result }
+        ensures octets { EventMessageIsOctets (event_of event.now) }
     {
         let mut step = Step::new();
         match self.step_into(radio, event, &mut step) {
@@ -85,44 +90,45 @@ impl World {
         }
     }
 
-    /// The same as `step`, but writes the result into `step`, which stays unchanged if the event is refused.
+    /// Carries out an event and writes the result into the caller's `Step`, which stays unchanged if the event is refused. The reasons for
+    /// a refusal are those of `World::step`.
     pub fn step_into<R: Radio>(
         &mut self,
         radio: &mut R,
         event: &Event<'_>,
         step: &mut Step,
     ) -> Result<(), No>
-        requires { IsPossible event.now }
-        ensures refines { Refines (event_of event.now) self.old (step_result result step.new) self.new }
-        ensures only { IsOnlyAnswer (event_of event.now) self.old (step_result result step.new) }
+        requires { IsPossibleEvent event.now }
+        ensures refines { StepRefines (event_of event.now) self.old (step_result result step.new) self.new }
+        ensures only { IsOnlyPossibleAnswer (event_of event.now) self.old (step_result result step.new) }
         ensures session { ExtendsSession (event_of event.now) self.old (step_result result step.new) self.new }
         ensures refused { OnErr result (self.new ≡ self.old) }
         ensures out_unchanged { OnErr result (step.new ≡ step.old) }
         ensures silent { OnErr result (radio.new ≡ radio.old) }
-        ensures sent { R.sent radio.new ≡ counter_after (sent_frame_count (step_result result step.new)) (R.sent radio.old) }
-        ensures heard { R.heard radio.new ≡ counter_after (arrived_block_count (step_result result step.new)) (R.heard radio.old) }
-        ensures who { OnOk result (FitsActor (step_of step.new)) }
-        ensures order { KeepsOrder (event_of event.now) self.old (step_result result step.new) }
-        ensures delivery { KeepsDelivery (event_of event.now) self.old (step_result result step.new) }
-        ensures harmless { StaysHarmless (event_of event.now) self.old (step_result result step.new) }
-        ensures octets { IsOctetEvent (event_of event.now) }
+        ensures sent { R.sent radio.new ≡ counter_plus (sent_frame_count (step_result result step.new)) (R.sent radio.old) }
+        ensures heard { R.heard radio.new ≡ counter_plus (arrived_block_count (step_result result step.new)) (R.heard radio.old) }
+        ensures who { OnOk result (StepFitsItsActor (step_of step.new)) }
+        ensures order { KeepsOrderLaws (event_of event.now) self.old (step_result result step.new) }
+        ensures delivery { KeepsDeliveryLaws (event_of event.now) self.old (step_result result step.new) }
+        ensures benign { SessionStaysBenign (event_of event.now) self.old (step_result result step.new) }
+        ensures octets { EventMessageIsOctets (event_of event.now) }
     {
         law_answer_is_unique();
-        law_order();
-        law_delivery();
+        law_log_is_ordered();
+        law_delivers_in_order();
         law_three_inverted_bits_are_benign();
         law_event_messages_are_octets(event);
         self.links.carry_out_event(radio, event, step)
     }
 }
 
-/// Law: the messages in every event of the program consist of octets.
+/// Law: the messages in every `Event` consist of octets.
 fn law_event_messages_are_octets(event: &Event<'_>)
-    ensures { IsOctetEvent (event_of event.now) }
+    ensures { EventMessageIsOctets (event_of event.now) }
 {
     match event {
-        Event::Open(info) => law_slice_is_octets(info),
-        Event::Rival(info) => law_slice_is_octets(info),
+        Event::Open(info) => law_u8_slice_is_octets(info),
+        Event::Rival(info) => law_u8_slice_is_octets(info),
         Event::End(end, sapi, call) => law_call_message_is_octets(*end, *sapi, call),
         Event::OpenBare(_) => {}
         Event::Air(_, _) => {}
@@ -130,17 +136,17 @@ fn law_event_messages_are_octets(event: &Event<'_>)
 }
 
 fn law_call_message_is_octets(end: End, sapi: Sapi, call: &Call<'_>)
-    ensures { IsOctetEvent (Ask (role_of end) sapi (request_of call.now)) }
+    ensures { EventMessageIsOctets (Ask (role_of end) sapi (request_of call.now)) }
 {
     match call {
-        Call::Send(message) => law_slice_is_octets(message),
-        Call::Unit(message) => law_slice_is_octets(message),
+        Call::Send(message) => law_u8_slice_is_octets(message),
+        Call::Unit(message) => law_u8_slice_is_octets(message),
         Call::Close => {}
         Call::Timer => {}
         Call::Idle => {}
     }
 }
 
-fn law_slice_is_octets(octets: &[u8])
+fn law_u8_slice_is_octets(octets: &[u8])
     ensures { AreOctets octets.now }
 {}

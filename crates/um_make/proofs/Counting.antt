@@ -1,7 +1,7 @@
 -- Counting two lists of notices one after another gives the same as counting both lists together.
-use Rattle.std.proofs.{Common.{◌≡◌, ◌∙◌, ap, ℕ, ◌+◌, List, ◌++◌, length, sum, length-append, arith}, lemmas.List.Elements.filter_map-append}
-use Rattle.std.{proofs.lemmas.List.Sums.sum_by-append, specs.List.{sum_by, filter_map}}
-use Rattle.um_link.specs.{lapdm_window.declared.Notice.Notice, lapdm_link.Claims.{delivered_in_notice, acked_in_notice}}
+use Rattle.std.proofs.Common.{◌≡◌, ◌∙◌, ap, ℕ, ◌+◌, List, ◌++◌, length, sum, length-append, arith}
+use Rattle.std.{proofs.lemmas.List.{Elements.filter_map-append, Sums.sum_by-append}, specs.List.{sum_by, filter_map}}
+use Rattle.um_link.specs.{lapdm_window.declared.Notice.Notice, lapdm_link.Claims.{delivered_in_notice, acked_number_in_notice}}
 use Rattle.um_make.specs.{declared.end_summary.EndpointSummary.EndpointSummary, Counting.CountsNotices}
 
 got-sum : (f : List ℕ → ℕ) (xs ys : List Notice) →
@@ -26,7 +26,7 @@ counts-more xs ys a b c h k = record {
     arith,
     h.acked,
     k.acked,
-    ap length (filter_map-append acked_in_notice xs ys),
-    length-append (filter_map acked_in_notice xs) (filter_map acked_in_notice ys),
+    ap length (filter_map-append acked_number_in_notice xs ys),
+    length-append (filter_map acked_number_in_notice xs) (filter_map acked_number_in_notice ys),
   );
 }

@@ -4,26 +4,27 @@ use Rattle.um_link.specs.lapdm_window.declared.Sapi.TheVariants.{Zero}
 use Rattle.um_link.specs.lapdm_window.Ends.{Role, Mobile, Network}
 use Rattle.um_link.specs.lapdm_link.Events.{Ask, Deliver, T200Expiry, other}
 use Rattle.um_link.specs.um_air.Air.{Event}
-use Rattle.um_make.specs.declared.course.Stage.{Stage}
-use Rattle.um_make.specs.declared.course.Stage.TheVariants.{Opening, Request, Answer, Turn, AnswerInTransit, Timer}
+use Rattle.um_make.specs.declared.course.SessionStage.{SessionStage}
+use Rattle.um_make.specs.declared.course.SessionStage.TheVariants.{Opening, Request, Answer, SendNext, AnswerInTransit, Timer}
 use Rattle.um_make.specs.declared.course.SessionProgress.{SessionProgress}
-use Rattle.um_make.specs.Generated.{sender, establishment_events, events_left_after}
+use Rattle.um_make.specs.Generated.{sender, establishment_events, events_after_turn}
 
--- the events that remain of the opening or of the current turn
-abbrev pub events_due : Stage → Role → List Event
-events_due Opening r = establishment_events
-events_due Request r = Deliver Mobile [] ∷ Deliver Network [] ∷ []
-events_due Answer r = Deliver Network [] ∷ []
-events_due Turn r = []
-events_due AnswerInTransit r = Deliver (other r) [] ∷ []
-events_due Timer r = Ask r Zero T200Expiry ∷ []
+-- the events that remain of the link establishment or of the current turn, in which this side sends
+abbrev pub pending_events : SessionStage → Role → List Event
+pending_events Opening r = establishment_events
+pending_events Request r = Deliver Mobile [] ∷ Deliver Network [] ∷ []
+pending_events Answer r = Deliver Network [] ∷ []
+pending_events SendNext r = []
+pending_events AnswerInTransit r = Deliver (other r) [] ∷ []
+pending_events Timer r = Ask r Zero T200Expiry ∷ []
 
--- all events that remain
+-- all events that remain of a generated session
 abbrev pub remaining_events : SessionProgress → List Event
-remaining_events s = events_due s.stage (sender s.number) ++ events_left_after s.left s.number s.pieces s.turns
+remaining_events s = pending_events s.stage (sender s.number) ++ events_after_turn s.messages_left s.number s.segments_left s.segment_turns
 
--- bounds that keep the counters small: a message has at most 13 segments, and a segment takes two turns if its first turn is lost
+-- bounds on the messages and turns of a session: it has at most 1000 messages, a message has at most 13 segments, and a segment takes at
+-- most two turns
 pub record HasBoundedTurns (s : SessionProgress) : Type 0 where
-  pub messages : s.number + s.left ≤ 1000
-  pub turns : s.turns + 2 * s.pieces + 26 * s.left ≤ 26001
-  pub kept : s.turns % 8 ≢ 0 → s.turns + 2 * s.pieces + 26 * s.left ≤ 26000
+  pub messages : s.number + s.messages_left ≤ 1000
+  pub segment_turns : s.segment_turns + 2 * s.segments_left + 26 * s.messages_left ≤ 26001
+  pub not_lost : s.segment_turns % 8 ≢ 0 → s.segment_turns + 2 * s.segments_left + 26 * s.messages_left ≤ 26000

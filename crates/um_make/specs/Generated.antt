@@ -1,5 +1,5 @@
--- The events of the generated session (this project's own rule). Both sides send messages in turn. A turn carries one segment; every eighth
--- turn is lost, and in every eighth turn three bits of the segment's block are inverted.
+-- The events of the generated session (this project's own rule). The two sides send messages alternately. Each turn carries one segment;
+-- every eighth turn is lost, and in the turns halfway between, three bits of the segment's block are inverted.
 use Rattle.std.specs.Prelude.{ℕ, zero, suc, ◌+◌, ◌*◌, ◌%◌, Bool, if◌then◌else◌, nat_eq, List, [], ◌∷◌, ◌++◌}
 use Rattle.std.specs.Prelude.{map}
 use Rattle.std.specs.List.{range_with_len}
@@ -11,67 +11,70 @@ use Rattle.um_link.specs.lapdm_window.Ends.{Role, Mobile, Network}
 use Rattle.um_link.specs.lapdm_link.Events.{Open, Ask, Deliver, Lose, Send, T200Expiry, other}
 use Rattle.um_link.specs.um_air.Air.{Event}
 
--- the number of octets of message i
+-- the number of octets, 1 to 251, of the message with this number
 abbrev pub message_length : ℕ → ℕ
 message_length i = 1 + 37 * i % 251
 
--- message i: its octet with index j is i + j modulo 256
+-- the message with this number, whose octets are successive numbers modulo 256, starting with the number of the message
 abbrev pub message : ℕ → Message
 message i = map (λ j. (i + j) % 256) (range_with_len 0 (message_length i))
 
--- the sender of message i: the mobile if i is odd, the network if it is even
+-- the sender of the message with this number: the mobile if the number is odd, the network if it is even
 abbrev pub sender : ℕ → Role
 sender i = if nat_eq (i % 2) 1 then Mobile else Network
 
--- whether turn c is lost
+-- whether the turn with this number is lost, as every eighth turn is
 abbrev pub is_lost_turn : ℕ → Bool
 is_lost_turn c = nat_eq (c % 8) 0
 
--- the indices of the bits that are inverted in turn c
-abbrev pub places : ℕ → List ℕ
-places c = if nat_eq (c % 8) 4 then 7 * c % 592 ∷ (7 * c + 1) % 592 ∷ (7 * c + 50) % 592 ∷ [] else []
+-- the indices of the bits that are inverted in the block of this turn: three in turns 4, 12, 20, ..., otherwise none
+abbrev pub inverted_bits : ℕ → List ℕ
+inverted_bits c = if nat_eq (c % 8) 4 then 7 * c % 592 ∷ (7 * c + 1) % 592 ∷ (7 * c + 50) % 592 ∷ [] else []
 
--- the events of turn c, in which side r sends a segment: its block arrives, and then the block that answers it; or the first is lost, and
--- T200 of r expires
-abbrev pub turn : Role → ℕ → List Event
-turn r c = if is_lost_turn c then Lose r ∷ Ask r Zero T200Expiry ∷ [] else Deliver r (places c) ∷ Deliver (other r) [] ∷ []
+-- the events of one turn, in which this side sends a segment: its block arrives, and then the answer; in a lost turn, its block is lost,
+-- and its T200 expires
+abbrev pub segment_turn : Role → ℕ → List Event
+segment_turn r c =
+    if is_lost_turn c then Lose r ∷ Ask r Zero T200Expiry ∷ [] else Deliver r (inverted_bits c) ∷ Deliver (other r) [] ∷ []
 
--- the turns of one segment, beginning with turn c: one turn, or two if the first is lost
-abbrev pub segment_turns : Role → ℕ → List Event
-segment_turns r c = turn r c ++ (if is_lost_turn c then turn r (c + 1) else [])
+-- the events of one segment from this side, starting with the given turn: one turn, or two if the first is lost
+abbrev pub segment_events : Role → ℕ → List Event
+segment_events r c = segment_turn r c ++ (if is_lost_turn c then segment_turn r (c + 1) else [])
 
--- the last turn of a segment whose first turn is c
-abbrev pub last_turn : ℕ → ℕ
-last_turn c = if is_lost_turn c then c + 1 else c
+-- the number of the last turn of a segment, given that of its first turn
+abbrev pub last_turn_of_segment : ℕ → ℕ
+last_turn_of_segment c = if is_lost_turn c then c + 1 else c
 
--- the turns of this number of segments, beginning after turn c
-abbrev pub turns : Role → ℕ → ℕ → List Event
-turns r zero c = []
-turns r (suc segments) c = segment_turns r (c + 1) ++ turns r segments (last_turn (c + 1))
+-- the events of this number of segments from this side, starting after the given turn
+abbrev pub segment_turns : Role → ℕ → ℕ → List Event
+segment_turns r zero c = []
+segment_turns r (suc segments) c = segment_events r (c + 1) ++ segment_turns r segments (last_turn_of_segment (c + 1))
 
--- the number of the last turn of this number of segments, beginning after turn c
-abbrev pub turn_after : ℕ → ℕ → ℕ
-turn_after zero c = c
-turn_after (suc segments) c = turn_after segments (last_turn (c + 1))
+-- the number of the last turn of this number of segments, which start after the given turn
+abbrev pub last_turn_number : ℕ → ℕ → ℕ
+last_turn_number zero c = c
+last_turn_number (suc segments) c = last_turn_number segments (last_turn_of_segment (c + 1))
 
--- the number of segments of message i on SDCCH
+-- the number of segments on SDCCH of the message with this number
 abbrev pub segment_count_of : ℕ → ℕ
 segment_count_of i = count_of (n201 Sdcch) (message i)
 
--- the events of this number of messages, beginning with message i and after turn c: each message is sent, and its segments take their turns
+-- the events of this number of messages, given the number of the first message and of the last turn before it: each message is sent, and
+-- then its segments take their turns
 abbrev pub messages : ℕ → ℕ → ℕ → List Event
 messages zero i c = []
-messages (suc more) i c = Ask (sender i) Zero (Send (message i)) ∷ turns (sender i) (segment_count_of i) c ++ messages more (i + 1)
-    (turn_after (segment_count_of i) c)
+messages (suc more) i c = Ask (sender i) Zero (Send (message i)) ∷ segment_turns (sender i) (segment_count_of i) c
+    ++ messages more (i + 1) (last_turn_number (segment_count_of i) c)
 
--- the events that remain after turn c: the turns of the remaining segments of one message, then `left` further messages
-abbrev pub events_left_after : ℕ → ℕ → ℕ → ℕ → List Event
-events_left_after left number segments c = turns (sender number) segments c ++ messages left (number + 1) (turn_after segments c)
+-- the events that remain after a turn: the turns of the remaining segments of the current message, then all further messages
+abbrev pub events_after_turn : ℕ → ℕ → ℕ → ℕ → List Event
+events_after_turn messages_left number segments c = segment_turns (sender number) segments c
+    ++ messages messages_left (number + 1) (last_turn_number segments c)
 
 -- the mobile establishes the link: its SABM arrives, and then the UA of the network
 abbrev pub establishment_events : List Event
 establishment_events = Open (1 ∷ []) ∷ Deliver Mobile [] ∷ Deliver Network [] ∷ []
 
--- all events of the generated session with n messages: the opening, then messages 1 to n
+-- all events of the generated session with this number of messages: the establishment of the link, then the messages in order
 abbrev pub generated_events : ℕ → List Event
 generated_events n = establishment_events ++ messages n 1 0

@@ -4,49 +4,52 @@ use Rattle.std.specs.List.{sum_by}
 use Rattle.um_link.specs.lapdm_window.declared.Sapi.TheVariants.{Zero}
 use Rattle.um_link.specs.lapdm_window.Ends.{Role, Mobile, Network}
 use Rattle.um_link.specs.um_block.declared.received.Received.{Received}
-use Rattle.um_link.specs.lapdm_link.Claims.{Line, delivered, acked_numbers}
+use Rattle.um_link.specs.lapdm_link.Claims.{Line, delivered_messages, acked_numbers}
 use Rattle.um_link.specs.lapdm_link.Events.{Lose}
 use Rattle.um_link.specs.um_air.Air.{Event, Answer, Refuses, Does}
 use Rattle.um_link.specs.um_air.Sessions.{lines}
 use Rattle.um_make.specs.declared.end_summary.EndpointSummary.{EndpointSummary}
 use Rattle.um_make.specs.declared.summary.Summary.{Summary}
 
--- the number of blocks that a step sends
+-- the number of blocks that an answer reports as sent
 abbrev pub sends : Answer → ℕ
 sends (Refuses why) = 0
 sends (Does step) = length step.frames
 
--- whether a block was received with a good CRC, or (below) with a bad one
+-- whether a block was received with a good CRC
 abbrev pub crc_holds : Option Received → Bool
 crc_holds None = false
 crc_holds (Some r) = is_some r.accepted
 
+-- whether a block was received with a bad CRC
 abbrev pub crc_fails : Option Received → Bool
 crc_fails None = false
 crc_fails (Some r) = not (is_some r.accepted)
 
--- whether an answer reports a block received with a good CRC (`reports_good_crc`) or with a bad one (`reports_bad_crc`)
+-- whether an answer reports a block received with a good CRC
 abbrev pub reports_good_crc : Answer → Bool
 reports_good_crc (Refuses why) = false
 reports_good_crc (Does step) = crc_holds step.received
 
+-- whether an answer reports a block received with a bad CRC
 abbrev pub reports_bad_crc : Answer → Bool
 reports_bad_crc (Refuses why) = false
 reports_bad_crc (Does step) = crc_fails step.received
 
--- whether the event asks for the loss of a block
+-- whether the event is the loss of a block
 abbrev pub is_loss_event : Event → Bool
 is_loss_event (Lose sender) = true
 is_loss_event event = false
 
--- the counters of side r on SAPI 0: messages delivered, octets in these messages, the sum of these octets, and messages acknowledged
+-- `e` holds the counters of side `r` on SAPI 0: messages delivered, octets in these messages, the sum of these octets, and messages
+-- acknowledged
 pub record IsEndpointSummary (r : Role) (ls : List Line) (e : EndpointSummary) : Type 0 where
-  pub messages : e.got ≡ length (delivered r Zero ls)
-  pub octets : e.octets ≡ sum_by (λ m. length m) (delivered r Zero ls)
-  pub sum : e.sum ≡ sum_by (λ m. sum m) (delivered r Zero ls)
+  pub messages : e.got ≡ length (delivered_messages r Zero ls)
+  pub octets : e.octets ≡ sum_by (λ m. length m) (delivered_messages r Zero ls)
+  pub sum : e.sum ≡ sum_by (λ m. sum m) (delivered_messages r Zero ls)
   pub acknowledged : e.acked ≡ length (acked_numbers r Zero ls)
 
--- the counters of a session
+-- `s` holds the counters of a session with these events and answers
 pub record IsSummary (events : List Event) (answers : List Answer) (s : Summary) : Type 0 where
   pub steps : s.steps ≡ length events
   pub sent : s.sends ≡ sum_by sends answers

@@ -4,21 +4,24 @@ use Rattle.std.specs.Fmt.{decimal}
 use Rattle.um_make.specs.declared.end_summary.EndpointSummary.{EndpointSummary}
 use Rattle.um_make.specs.declared.summary.Summary.{Summary}
 
--- `make N T`
-abbrev pub make_line : ℕ → ℕ → List ℕ
-make_line n tsc = codes "make " ++ decimal n ++ codes " " ++ decimal tsc ++ codes "\n"
+-- the line `make N T`, for `N` messages and training sequence code `T`
+abbrev pub header_line : ℕ → ℕ → List ℕ
+header_line n tsc = codes "make " ++ decimal n ++ codes " " ++ decimal tsc ++ codes "\n"
 
--- `steps A sends B takes C drops D lost E`
+-- the line `steps A sends B takes C drops D lost E`, which counts the events and the blocks sent, received with a good CRC, received with a
+-- bad CRC, and lost
 abbrev pub steps_line : Summary → List ℕ
 steps_line s =
     codes "steps " ++ decimal s.steps ++ codes " sends " ++ decimal s.sends ++ codes " takes " ++ decimal s.takes
     ++ codes " drops " ++ decimal s.drops ++ codes " lost " ++ decimal s.lost ++ codes "\n"
 
--- `X got G octets O sum S acked K`, with `mob` or `net` for X
+-- the line `X got G octets O sum S acked K` of side `X`, `mob` or `net`: the messages delivered, the number and the sum of their octets,
+-- and the messages acknowledged
 abbrev pub endpoint_line : List ℕ → EndpointSummary → List ℕ
 endpoint_line name e =
     name ++ codes " got " ++ decimal e.got ++ codes " octets " ++ decimal e.octets
     ++ codes " sum " ++ decimal e.sum ++ codes " acked " ++ decimal e.acked ++ codes "\n"
 
+-- the four lines that report on a generated session
 abbrev pub summary_text : ℕ → ℕ → Summary → List ℕ
-summary_text n tsc s = make_line n tsc ++ steps_line s ++ endpoint_line (codes "mob") s.mobile ++ endpoint_line (codes "net") s.network
+summary_text n tsc s = header_line n tsc ++ steps_line s ++ endpoint_line (codes "mob") s.mobile ++ endpoint_line (codes "net") s.network

@@ -4,43 +4,43 @@ ghost use Rattle.std.specs.Prelude.{IfSome, All};
 ghost use Rattle.std.specs.List.{range_with_len};
 ghost use Rattle.um_link.specs.lapdm_link.Events.{other};
 ghost use Rattle.um_link.specs.Naming.{event_of, role_of, sender_of};
-ghost use Rattle.um_link.specs.Possible.{IsPossible};
+ghost use Rattle.um_link.specs.Possible.{IsPossibleEvent};
 ghost use Rattle.um_link.specs.Queues.{AreBitIndices};
-ghost use Rattle.um_make.specs.declared.course.Stage.TheVariants as S;
-ghost use Rattle.um_make.specs.Generated.{generated_events, message_length, message, segment_count_of, places, sender};
+ghost use Rattle.um_make.specs.declared.course.SessionStage.TheVariants as S;
+ghost use Rattle.um_make.specs.Generated.{generated_events, message_length, message, segment_count_of, inverted_bits, sender};
 
 use um_link::{Air, Call, End, Event, Sapi, Way};
 use um_script::Room;
 
-/// What happens next in the session.
+/// The stage of a generated session: what happens next.
 #[derive(Clone, Copy, Debug, PartialEq, Eq)]
-pub(crate) enum Stage {
-    /// The mobile calls for the link.
+pub(crate) enum SessionStage {
+    /// The mobile asks to establish the link.
     Opening,
     /// The mobile's SABM arrives at the network.
     Request,
     /// The network's UA arrives at the mobile.
     Answer,
-    /// The next segment has its turn, or the next message is sent.
-    Turn,
+    /// The next segment or, if none is left, the next message is sent.
+    SendNext,
     /// The answer to a segment arrives.
     AnswerInTransit,
     /// A segment was lost, so T200 of its sender expires.
     Timer,
 }
 
-/// How far the session has proceeded.
+/// The progress of a generated session.
 #[derive(Drop)]
 pub(crate) struct SessionProgress {
-    stage: Stage,
+    stage: SessionStage,
     /// How many messages have not been sent yet.
-    left: u32,
+    messages_left: u32,
     /// The number of the message that was sent last; 0 before the first.
     number: u32,
-    /// How many segments of that message have not arrived yet.
-    pieces: u32,
+    /// How many segments of the current message have not arrived yet.
+    segments_left: u32,
     /// How many turns have begun.
-    turns: u32,
+    segment_turns: u32,
 }
 
 impl SessionProgress {
@@ -52,103 +52,106 @@ impl SessionProgress {
         ensures sound { HasBoundedTurns result }
     {
         SessionProgress {
-            stage: Stage::Opening,
-            left: n,
+            stage: SessionStage::Opening,
+            messages_left: n,
             number: 0,
-            pieces: 0,
-            turns: 0,
+            segments_left: 0,
+            segment_turns: 0,
         }
     }
 
-    /// The next event; `None` after the last.
+    /// Returns the next event, or `None` after the last.
     pub(crate) fn next<'a>(&mut self, room: &'a mut Room) -> Option<Event<'a>>
         requires { HasBoundedTurns self.old }
         ensures event { MatchOption result ((remaining_events self.old ≡ []) × (remaining_events self.new ≡ []))
             (λ e. remaining_events self.old ≡ event_of e ∷ remaining_events self.new) }
-        ensures possible { IfSome result (λ e. IsPossible e) }
+        ensures possible { IfSome result (λ e. IsPossibleEvent e) }
         ensures sound { HasBoundedTurns self.new }
     {
         match self.stage {
-            Stage::Opening => {
-                self.stage = Stage::Request;
+            SessionStage::Opening => {
+                self.stage = SessionStage::Request;
                 Some(Event::Open(&[1]))
             }
-            Stage::Request => {
-                self.stage = Stage::Answer;
+            SessionStage::Request => {
+                self.stage = SessionStage::Answer;
                 Some(Event::Air(Way::Up, Air::Deliver))
             }
-            Stage::Answer => {
-                self.stage = Stage::Turn;
+            SessionStage::Answer => {
+                self.stage = SessionStage::SendNext;
                 Some(Event::Air(Way::Down, Air::Deliver))
             }
-            Stage::AnswerInTransit => {
-                self.stage = Stage::Turn;
-                Some(Event::Air(self.answer_direction(), Air::Deliver))
+            SessionStage::AnswerInTransit => {
+                self.stage = SessionStage::SendNext;
+                Some(Event::Air(self.reply_direction(), Air::Deliver))
             }
-            Stage::Timer => {
-                self.stage = Stage::Turn;
+            SessionStage::Timer => {
+                self.stage = SessionStage::SendNext;
                 Some(Event::End(self.sender(), Sapi::Zero, Call::Timer))
             }
-            Stage::Turn => self.next_turn_event(room),
+            SessionStage::SendNext => self.next_turn_event(room),
         }
     }
 
-    /// The next turn or, if no segment is left, the sending of the next message.
+    /// Returns the first event of the next turn or, if no segment is left, the event that sends the next message.
     fn next_turn_event<'a>(&mut self, room: &'a mut Room) -> Option<Event<'a>>
         requires sound { HasBoundedTurns self.old }
-        requires stage { self.old.stage ≡ S.Turn }
+        requires stage { self.old.stage ≡ S.SendNext }
         ensures event { MatchOption result ((remaining_events self.old ≡ []) × (remaining_events self.new ≡ []))
             (λ e. remaining_events self.old ≡ event_of e ∷ remaining_events self.new) }
-        ensures possible { IfSome result (λ e. IsPossible e) }
+        ensures possible { IfSome result (λ e. IsPossibleEvent e) }
         ensures sound { HasBoundedTurns self.new }
     {
-        if self.pieces > 0 {
-            Some(self.turn(room))
-        } else if self.left > 0 {
+        if self.segments_left > 0 {
+            Some(self.segment_turn(room))
+        } else if self.messages_left > 0 {
             Some(self.send(room))
         } else {
             None
         }
     }
 
-    /// The first event of a turn: the block of a segment arrives or is lost.
-    fn turn<'a>(&mut self, room: &'a mut Room) -> Event<'a>
+    /// Returns the first event of a turn: the block of a segment arrives or is lost.
+    fn segment_turn<'a>(&mut self, room: &'a mut Room) -> Event<'a>
         requires sound { HasBoundedTurns self.old }
-        requires stage { self.old.stage ≡ S.Turn }
-        requires some { 0 < self.old.pieces }
+        requires stage { self.old.stage ≡ S.SendNext }
+        requires some { 0 < self.old.segments_left }
         ensures event { remaining_events self.old ≡ event_of result ∷ remaining_events self.new }
-        ensures possible { IsPossible result }
+        ensures possible { IsPossibleEvent result }
         ensures sound { HasBoundedTurns self.new }
     {
-        self.turns += 1;
-        let way = self.way();
-        if self.turns % 8 == 0 {
-            self.stage = Stage::Timer;
-            return Event::Air(way, Air::Lose);
+        self.segment_turns += 1;
+        let segment_direction = self.segment_direction();
+        if self.segment_turns % 8 == 0 {
+            self.stage = SessionStage::Timer;
+            return Event::Air(segment_direction, Air::Lose);
         }
-        self.pieces -= 1;
-        self.stage = Stage::AnswerInTransit;
-        if self.turns % 8 == 4 {
-            let places = places(self.turns);
-            return Event::Air(way, Air::Flip(room.hold_places(&places)));
+        self.segments_left -= 1;
+        self.stage = SessionStage::AnswerInTransit;
+        if self.segment_turns % 8 == 4 {
+            let inverted_bits = inverted_bits(self.segment_turns);
+            return Event::Air(
+                segment_direction,
+                Air::Flip(room.hold_places(&inverted_bits)),
+            );
         }
-        Event::Air(way, Air::Deliver)
+        Event::Air(segment_direction, Air::Deliver)
     }
 
-    /// Sends the next message.
+    /// Returns the event that sends the next message.
     fn send<'a>(&mut self, room: &'a mut Room) -> Event<'a>
         requires sound { HasBoundedTurns self.old }
-        requires stage { self.old.stage ≡ S.Turn }
-        requires none { self.old.pieces ≡ 0 }
-        requires some { 0 < self.old.left }
+        requires stage { self.old.stage ≡ S.SendNext }
+        requires none { self.old.segments_left ≡ 0 }
+        requires some { 0 < self.old.messages_left }
         ensures event { remaining_events self.old ≡ event_of result ∷ remaining_events self.new }
-        ensures possible { IsPossible result }
+        ensures possible { IsPossibleEvent result }
         ensures sound { HasBoundedTurns self.new }
     {
-        self.left -= 1;
+        self.messages_left -= 1;
         self.number += 1;
         let size = size(self.number);
-        self.pieces = (size - 1) / 20 + 1;
+        self.segments_left = (size - 1) / 20 + 1;
         let octets = octets(self.number);
         let message = room.hold_octets(&octets[..size as usize]);
         Event::End(self.sender(), Sapi::Zero, Call::Send(message))
@@ -166,7 +169,7 @@ impl SessionProgress {
     }
 
     /// The direction in which the segments of the current message travel.
-    fn way(&self) -> Way
+    fn segment_direction(&self) -> Way
         ensures { sender_of result ≡ sender self.now.number }
     {
         match self.sender() {
@@ -175,8 +178,8 @@ impl SessionProgress {
         }
     }
 
-    /// The direction in which the answers to these segments travel.
-    fn answer_direction(&self) -> Way
+    /// The direction in which the answers to the segments of the current message travel.
+    fn reply_direction(&self) -> Way
         ensures { sender_of result ≡ other (sender self.now.number) }
     {
         match self.sender() {
@@ -186,7 +189,7 @@ impl SessionProgress {
     }
 }
 
-/// The number of octets of this message.
+/// The number of octets of message `number`.
 fn size(number: u32) -> u32
     requires { number ≤ 1000 }
     ensures size { result ≡ message_length number }
@@ -196,7 +199,7 @@ fn size(number: u32) -> u32
     1 + 37 * number % 251
 }
 
-/// The octets of this message, followed by others up to 251.
+/// The octets of message `number`, continued by the same rule up to 251 octets.
 fn octets(number: u32) -> [u8; 251]
     requires { number ≤ 1000 }
     ensures { result ≡ map (λ j. (number + j) % 256) (range_with_len 0 251) }
@@ -208,14 +211,14 @@ fn octets(number: u32) -> [u8; 251]
     octets
 }
 
-/// The indices of the bits that are inverted in this turn.
-fn places(turn: u32) -> [u16; 3]
-    requires size { turn ≤ 30000 }
-    requires fourth { turn % 8 ≡ 4 }
-    ensures places { result ≡ places turn }
+/// The indices of the three bits that are inverted in this turn.
+fn inverted_bits(segment_turn: u32) -> [u16; 3]
+    requires size { segment_turn ≤ 30000 }
+    requires fourth { segment_turn % 8 ≡ 4 }
+    ensures inverted_bits { result ≡ inverted_bits segment_turn }
     ensures within { AreBitIndices result }
 {
-    let first = 7 * turn;
+    let first = 7 * segment_turn;
     [
         (first % 592) as u16,
         ((first + 1) % 592) as u16,

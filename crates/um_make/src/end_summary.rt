@@ -3,16 +3,16 @@ ghost use Rattle.std.specs.Prelude.{◌≡◌, ◌^◌, ◌≤◌, [], ◌∷◌
 
 use um_link::Notice;
 
-/// The counters of one side, on SAPI 0.
+/// The counters of one side of a session, on SAPI 0.
 #[derive(Clone, Copy, Debug, PartialEq, Eq)]
 pub struct EndpointSummary {
     /// How many messages this side delivered.
     pub got: u64,
-    /// How many octets these messages have.
+    /// The total number of octets in the messages that this side delivered.
     pub octets: u64,
-    /// The sum of these octets.
+    /// The sum of all octets, as numbers 0 to 255, in the messages that this side delivered.
     pub sum: u64,
-    /// How many messages of this side were acknowledged.
+    /// How many messages that this side sent were acknowledged.
     pub acked: u64,
 }
 
@@ -41,7 +41,7 @@ impl EndpointSummary {
                 let octets = message.octets();
                 self.got += 1;
                 self.octets += octets.len() as u64;
-                self.sum += sum_of(octets);
+                self.sum += octet_sum(octets);
             }
             Notice::Acked(_) => self.acked += 1,
             _ => {}
@@ -50,7 +50,7 @@ impl EndpointSummary {
 
     /// Adds notices to the counters.
     pub(crate) fn count_notices(&mut self, notices: &[Notice])
-        requires small { EndpointCountersAreAtMost (2 ^ 59) self.old }
+        requires counters_bounded { EndpointCountersAreAtMost (2 ^ 59) self.old }
         requires size { length notices.now ≤ 3 }
         ensures counts { CountsNotices notices.now self.old self.new }
         ensures most { EndpointCountersGrowAtMost 192015 self.old self.new }
@@ -61,7 +61,7 @@ impl EndpointSummary {
     }
 }
 
-fn sum_of(octets: &[u8]) -> u64
+fn octet_sum(octets: &[u8]) -> u64
     requires { length octets.now ≤ 251 }
     ensures value { result ≡ sum octets.now }
     ensures most { result ≤ 64005 }

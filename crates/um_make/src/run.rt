@@ -1,8 +1,8 @@
-//! Carries out the generated events one after another.
+//! Carries out all events of a generated session.
 ghost use Rattle.std.specs.Prelude.{◌≡◌, ◌≤◌, ◌+◌, IfOk, OnErr};
-ghost use Rattle.um_link.specs.um_block.Tallies.{counter_after};
+ghost use Rattle.um_link.specs.um_block.Tallies.{counter_plus};
 ghost use Rattle.um_make.specs.Generated.{generated_events};
-ghost use Rattle.um_make.specs.Runs.{IsSummaryOfEvents, AcksAreDelivered};
+ghost use Rattle.um_make.specs.Runs.{IsSummaryOfEvents, AckedAtMostGot};
 
 use crate::script::Script;
 use crate::summary::Summary;
@@ -17,9 +17,9 @@ pub fn make<R: Radio>(alloc: Global, n: u32, tsc: u8, radio: &mut R) -> Result<S
     requires most { n ≤ 1000 }
     requires tsc { tsc ≤ 7 }
     ensures run { IfOk result (λ s. IsSummaryOfEvents tsc (generated_events n) s) }
-    ensures delivered { IfOk result (λ s. AcksAreDelivered s) }
-    ensures sent { IfOk result (λ s. R.sent radio.new ≡ counter_after s.sends (R.sent radio.old)) }
-    ensures heard { IfOk result (λ s. R.heard radio.new ≡ counter_after (s.takes + s.drops) (R.heard radio.old)) }
+    ensures delivered_messages { IfOk result (λ s. AckedAtMostGot s) }
+    ensures sent { IfOk result (λ s. R.sent radio.new ≡ counter_plus s.sends (R.sent radio.old)) }
+    ensures heard { IfOk result (λ s. R.heard radio.new ≡ counter_plus (s.takes + s.drops) (R.heard radio.old)) }
     ensures silent { OnErr result (radio.new ≡ radio.old) }
 {
     let mut world = World::new(alloc, tsc)?;

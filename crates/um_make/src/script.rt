@@ -1,7 +1,7 @@
-//! The generated events, one after another.
+//! The events of a generated session, one after another.
 ghost use Rattle.std.specs.Prelude.{◌≡◌, ◌≤◌, [], ◌∷◌, MatchOption, IfSome};
 ghost use Rattle.um_link.specs.Naming.{event_of};
-ghost use Rattle.um_link.specs.Possible.{IsPossible};
+ghost use Rattle.um_link.specs.Possible.{IsPossibleEvent};
 ghost use Rattle.um_make.specs.Generated.{generated_events};
 
 use crate::course::SessionProgress;
@@ -9,13 +9,13 @@ use std::marker::Model;
 use um_link::Event;
 use um_script::Room;
 
-/// The events of a generated session that remain. They are kept as a position, not as a list.
+/// The remaining events of a generated session, stored as a position rather than as a list.
 #[derive(Drop)]
 pub struct Script {
     course: SessionProgress,
 }
 
-// In contracts, a `Script` stands for the list of events that remain.
+// In contracts, a `Script` stands for the list of remaining events.
 impl Model for Script {
     ghost use Rattle.std.specs.Prelude.{List};
     ghost use Rattle.um_link.specs.um_air.Air.{Event};
@@ -40,10 +40,10 @@ impl Script {
         }
     }
 
-    /// The next event, whose octets and bit indices are stored in `room`; `None` after the last.
+    /// Returns the next event, whose octets and bit indices are stored in `room`, or `None` after the last.
     pub fn next<'a>(&mut self, room: &'a mut Room) -> Option<Event<'a>>
         ensures event { MatchOption result ((self.old ≡ []) × (self.new ≡ [])) (λ e. self.old ≡ event_of e ∷ self.new) }
-        ensures possible { IfSome result (λ e. IsPossible e) }
+        ensures possible { IfSome result (λ e. IsPossibleEvent e) }
     {
         self.course.next(room)
     }

@@ -21,7 +21,7 @@ pub struct Summary {
     pub takes: u64,
     /// How many blocks were received with a bad CRC.
     pub drops: u64,
-    /// How many events ask for the loss of a block, refused or not.
+    /// How many events were losses of a block, including refused ones.
     pub lost: u64,
     pub mobile: EndpointSummary,
     pub network: EndpointSummary,
@@ -31,12 +31,12 @@ impl Summary {
     ghost use Rattle.um_make.specs.Summaries.{IsSummary, crc_holds, crc_fails};
     ghost use Rattle.um_make.specs.Counting.{CountsAnswer, CountsStep, CountersGrowAtMost, CountersAreAtMost, EndpointCountersAreAtMost};
     ghost use Rattle.um_make.specs.Counting.{CountsNotices, EndpointCountersGrowAtMost};
-    ghost use Rattle.um_make.specs.Counting.{sapi0_notices_in, one_if};
+    ghost use Rattle.um_make.specs.Counting.{sapi0_notices_in, one_if_true};
 
-    /// All counters are 0.
+    /// Creates a summary in which all counters are 0.
     pub(crate) fn new() -> Summary
         ensures counts { IsSummary [] [] result }
-        ensures small { CountersAreAtMost 0 result }
+        ensures counters_bounded { CountersAreAtMost 0 result }
     {
         Summary {
             steps: 0,
@@ -75,12 +75,12 @@ impl Summary {
         self.count_notice(step);
     }
 
-    /// Adds the block that was received, if any, to the counters.
+    /// Counts the received block, if there is one, by whether its CRC holds.
     fn count_received_block(&mut self, received: &Option<Received>)
         requires { CountersAreAtMost (2 ^ 60) self.old }
         ensures { self.new ≡ record self.old {
-          takes = self.old.takes + one_if (crc_holds received.now);
-          drops = self.old.drops + one_if (crc_fails received.now);
+          takes = self.old.takes + one_if_true (crc_holds received.now);
+          drops = self.old.drops + one_if_true (crc_fails received.now);
         } }
     {
         if let Some(report) = received {
@@ -102,7 +102,7 @@ impl Summary {
         ensures mobile_most { EndpointCountersGrowAtMost 192015 self.old.mobile self.new.mobile }
         ensures network_most { EndpointCountersGrowAtMost 192015 self.old.network self.new.network }
     {
-        let notices = signalling_notices(step);
+        let notices = sapi0_notices(step);
         match step.who {
             Who::Mobile => self.mobile.count_notices(notices),
             Who::Network => self.network.count_notices(notices),
@@ -111,8 +111,8 @@ impl Summary {
     }
 }
 
-/// The notices of the step, if they are of SAPI 0; otherwise none.
-fn signalling_notices(step: &Step) -> &[Notice]
+/// The notices of a step if they come from an endpoint with SAPI 0, otherwise none.
+fn sapi0_notices(step: &Step) -> &[Notice]
     ensures zero { result.now ≡ (if is_same_sapi S.Zero step.now.sapi then step.now.effects.notices else []) }
     ensures size { length result.now ≤ 3 }
 {
@@ -122,7 +122,7 @@ fn signalling_notices(step: &Step) -> &[Notice]
     }
 }
 
-/// Whether the event asks for the loss of a block.
+/// Whether the event is the loss of a block.
 fn is_loss_event(event: &Event<'_>) -> bool
     ensures { result ≡ is_loss_event (event_of event.now) }
 {

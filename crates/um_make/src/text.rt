@@ -1,27 +1,27 @@
 //! Writes the lines that report on a generated session.
 ghost use Rattle.std.specs.Prelude.{◌≡◌, ◌+◌, ◌≤◌, ◌<◌, [], ◌++◌, codes, length};
 ghost use Rattle.std.specs.Fmt.{decimal};
-ghost use Rattle.um_make.specs.Texts.{make_line, steps_line, endpoint_line, summary_text};
+ghost use Rattle.um_make.specs.Texts.{header_line, steps_line, endpoint_line, summary_text};
 
 use crate::end_summary::EndpointSummary;
 use crate::summary::Summary;
 use um_script::Text;
 
-/// Writes the four lines for a session of `n` messages with training sequence `tsc`.
+/// Writes the four lines that report on a session of `n` messages with training sequence code `tsc`.
 pub fn summary_lines(out: &mut Text, n: u32, tsc: u8, summary: &Summary)
     requires { out.old ≡ [] }
     ensures text { out.new ≡ summary_text n tsc summary.now }
     ensures size { length out.new < 2000 }
 {
-    push_make_line(out, n, tsc);
+    push_header_line(out, n, tsc);
     push_steps_line(out, summary);
     push_endpoint_line(out, b"mob", &summary.mobile);
     push_endpoint_line(out, b"net", &summary.network);
 }
 
-fn push_make_line(out: &mut Text, n: u32, tsc: u8)
+fn push_header_line(out: &mut Text, n: u32, tsc: u8)
     requires { out.old ≡ [] }
-    ensures text { out.new ≡ make_line n tsc }
+    ensures text { out.new ≡ header_line n tsc }
     ensures length { length out.new ≤ 100 }
 {
     out.push(b"make ");

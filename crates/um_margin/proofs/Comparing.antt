@@ -22,9 +22,10 @@ one_compared soft c d h g =
     same_four c d same.0 same.1 (one_margin soft d.best c.margin d.margin there g.margin)
     (h.metric ∙ ap (λ u. likelihood soft (encoding u)) same.0 ∙ sym g.metric)
 
-pub one_compared_block : (bursts : List (List ℤ)) (c d : Compared) → AreComparedBlockWords bursts c → AreComparedBlockWords bursts d → c ≡ d
+pub one_compared_block : (bursts : List (List ℤ)) (c d : Compared) → AreComparedBlockWords bursts c →
+    AreComparedBlockWords bursts d → c ≡ d
 one_compared_block bursts c d h g =
-    let same : h.soft ≡ g.soft = same_coded h.soft g.soft (map coded_soft_bits bursts) h.gathered g.gathered in
+    let same : h.soft ≡ g.soft = same_coded h.soft g.soft (map coded_soft_bits bursts) h.deinterleaved g.deinterleaved in
     one_compared g.soft c d (subst (λ s. AreComparedWords s c) same h.compared) g.compared
 
 -- the comparison, put together from the results of `decode` and of `margin`, which find the same most likely word
@@ -44,16 +45,17 @@ is_compared soft a u v best next m n margin metric likely value best_is next_is 
 
 -- ---- `margin` finds the same most likely word as `replay`
 
-same_word : (soft : List ℤ) (u : List ℕ) (metric : ℤ) (c : Compared) → IsMostLikely soft u → metric ≡ likelihood soft (encoding u) →
-    AreComparedWords soft c → (c.best ≡ u) × (c.metric ≡ metric)
+same_word : (soft : List ℤ) (u : List ℕ) (metric : ℤ) (c : Compared) → IsMostLikely soft u →
+    metric ≡ likelihood soft (encoding u) → AreComparedWords soft c → (c.best ≡ u) × (c.metric ≡ metric)
 same_word soft u metric c best is h =
     let same = IsMostLikely-only soft u c.best best h.best in
     (same, h.metric ∙ ap (λ v. likelihood soft (encoding v)) same ∙ sym is)
 
-pub same_block_word : (bursts : List (List ℤ)) (r : Received) (c : Compared) → IsReceivedBlock bursts r → AreComparedBlockWords bursts c →
-    (c.best ≡ r.u) × (c.metric ≡ r.metric)
+pub same_block_word : (bursts : List (List ℤ)) (r : Received) (c : Compared) → IsReceivedBlock bursts r →
+    AreComparedBlockWords bursts c → (c.best ≡ r.u) × (c.metric ≡ r.metric)
 same_block_word bursts r c received h =
-    let same : h.soft ≡ received.soft = same_coded h.soft received.soft (map coded_soft_bits bursts) h.gathered received.gathered in
+    let same : h.soft ≡ received.soft = same_coded h.soft received.soft (map coded_soft_bits bursts) h.deinterleaved
+    received.deinterleaved in
     same_word received.soft r.u r.metric c received.best received.metric (subst (λ s. AreComparedWords s c) same h.compared)
 
 pub same_access_word : (burst : List ℤ) (bsic : List ℕ) (r : ReceivedAccess) (c : Compared) → IsReceivedAccess burst bsic r →
@@ -90,7 +92,7 @@ some_compared_block bursts four each =
     let received = some_received_block bursts four each in
     let soft = received.1.soft in
     let found = some_compared soft received.0.u received.1.best in
-    (found.0, record { soft = soft; gathered = received.1.gathered; compared = found.1 })
+    (found.0, record { soft = soft; deinterleaved = received.1.deinterleaved; compared = found.1 })
 
 pub some_compared_access : (burst : List ℤ) (bsic : List ℕ) → length burst ≡ 88 → length bsic ≡ 6 → AllBits bsic →
     (c : Compared) × AreComparedWords (access_soft_bits burst) c

@@ -15,7 +15,7 @@ pub record Compared : Type 0 where
   pub margin : ℤ
   pub metric : ℤ
 
--- c is the comparison of the two most likely words for these soft bits
+-- `c` compares the two most likely words for the soft bits `soft`
 pub record AreComparedWords (soft : List ℤ) (c : Compared) : Type 0 where
   pub best : IsMostLikely soft c.best
   pub next : IsSecondMostLikely soft c.best c.next
@@ -23,8 +23,8 @@ pub record AreComparedWords (soft : List ℤ) (c : Compared) : Type 0 where
   pub ahead : c.margin ≡ likelihood soft (encoding c.best) -ℤ likelihood soft (encoding c.next)
   pub metric : c.metric ≡ likelihood soft (encoding c.best)
 
--- c is the comparison of the two most likely words for the four bursts of a block
+-- `c` compares the two most likely words for the four `bursts` of a block
 pub record AreComparedBlockWords (bursts : List (List ℤ)) (c : Compared) : Type 0 where
   pub soft : List ℤ
-  pub gathered : IsInterleaved soft (map coded_soft_bits bursts)
+  pub deinterleaved : IsInterleaved soft (map coded_soft_bits bursts)
   pub compared : AreComparedWords soft c

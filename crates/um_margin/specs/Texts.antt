@@ -1,38 +1,38 @@
--- The answer lines of `margin`, which write a comparison (this project's own rule).
+-- The output lines of `margin` (this project's own rule).
 use Rattle.std.specs.Prelude.{ℕ, ℤ, List, ◌++◌, take, drop, codes}
 use Rattle.std.specs.Fmt.{signed_decimal}
-use Rattle.hex.specs.Hex.{encode_lower}
+use Rattle.um_bursts.specs.um_lines.Hex.{encode_lower}
 use Rattle.um_block.specs.bit_blocks.Octets.{octets_of}
 use Rattle.um_bursts.specs.um_lines.Fields.{bit_digits}
 use Rattle.um_margin.specs.Compared.{Compared}
 
--- the part ` margin G metric M` of a line: the margin and the metric in decimal
+-- the part ` margin G metric M` of an output line, with the margin and the metric in decimal
 abbrev pub margin_and_metric_text : ℤ → ℤ → List ℕ
 margin_and_metric_text margin metric = codes " margin " ++ signed_decimal margin ++ codes " metric " ++ signed_decimal metric
 
--- the 184 data bits and the 40 CRC bits of a block's word as hexadecimal octets, with the text `between` between them
+-- a block's word in hexadecimal: its 184 data bits, a separator, and its 40 CRC bits
 abbrev pub hex_word_text : List ℕ → List ℕ → List ℕ
 hex_word_text u between = encode_lower (octets_of (take 184 u)) ++ between ++ encode_lower (octets_of (take 40 (drop 184 u)))
 
--- the first `many` bits of a word (its data) and the next `checks` bits (its CRC) as digits 0 and 1, with the text `between` between them
+-- a word as digits `0` and `1`: its data bits, a separator, and its CRC bits, with the given numbers of data and CRC bits
 abbrev pub digit_word_text : List ℕ → ℕ → ℕ → List ℕ → List ℕ
 digit_word_text u many checks between = bit_digits (take many u) ++ between ++ bit_digits (take checks (drop many u))
 
 -- the line `block margin G metric M data HEX46 check HEX10 next HEX46 HEX10`
-abbrev pub block_text : Compared → List ℕ
-block_text c =
+abbrev pub block_margin_text : Compared → List ℕ
+block_margin_text c =
     codes "block" ++ margin_and_metric_text c.margin c.metric ++ codes " data " ++ hex_word_text c.best (codes " check ")
     ++ codes " next " ++ hex_word_text c.next (codes " ") ++ codes "\n"
 
 -- the line `access BSIC6 margin G metric M data DIGITS8 check DIGITS6 next DIGITS8 DIGITS6`
-abbrev pub access_text : List ℕ → Compared → List ℕ
-access_text bsic c =
+abbrev pub access_margin_text : List ℕ → Compared → List ℕ
+access_margin_text bsic c =
     codes "access " ++ bit_digits bsic ++ margin_and_metric_text c.margin c.metric ++ codes " data " ++ digit_word_text c.best 8 6
     (codes " check ")
     ++ codes " next " ++ digit_word_text c.next 8 6 (codes " ") ++ codes "\n"
 
 -- the line `sync margin G metric M data DIGITS25 check DIGITS10 next DIGITS25 DIGITS10`
-abbrev pub sync_text : Compared → List ℕ
-sync_text c =
+abbrev pub sync_margin_text : Compared → List ℕ
+sync_margin_text c =
     codes "sync" ++ margin_and_metric_text c.margin c.metric ++ codes " data " ++ digit_word_text c.best 25 10 (codes " check ")
     ++ codes " next " ++ digit_word_text c.next 25 10 (codes " ") ++ codes "\n"

@@ -1,4 +1,4 @@
-//! The command `margin`, which reads the same lines as the command `replay`.
+//! The command `margin`, which reads the same lines as `replay`.
 ghost use Rattle.std.specs.Prelude.{◌≡◌, ◌++◌, ◌<◌, length};
 ghost use Rattle.std.specs.List.{All};
 ghost use Rattle.um_block.specs.bit_blocks.SoftValues.{AllSoftBits};
@@ -6,14 +6,15 @@ ghost use Rattle.um_block.specs.Received.{access_soft_bits, sync_soft_bits};
 ghost use Rattle.um_margin.specs.Compared.{AreComparedWords, AreComparedBlockWords};
 ghost use Rattle.um_margin.specs.Margins.{margin_answers};
 
-use crate::comparison::{Comparison, compare};
+use crate::comparison::{Comparison, compare_words};
 use crate::lines::{access_line, block_line, sync_line};
 use um_block::{
-    AccessView, BURST_BITS, Bits, INFORMATION_BITS, SyncView, deinterleave_block, join_halves,
+    AccessView, BURST_BITS, Bits, ENCODER_INPUT_BITS, SyncView, deinterleave_block,
+    join_sync_halves,
 };
 use um_bursts::{Reports, Text};
 
-/// Answers bursts by a line that compares their two most likely words.
+/// Writes, for each block or single burst, a line that compares its two most likely words.
 #[derive(Drop)]
 pub struct Margins {}
 
@@ -33,18 +34,18 @@ impl Reports for Margins {
     }
 }
 
-fn compare_block(bursts: &[[i8; BURST_BITS]; 4]) -> Comparison<INFORMATION_BITS>
+fn compare_block(bursts: &[[i8; BURST_BITS]; 4]) -> Comparison<ENCODER_INPUT_BITS>
     requires { All AllSoftBits bursts.now }
     ensures { AreComparedBlockWords bursts.now result }
 {
-    compare(&deinterleave_block(bursts))
+    compare_words(&deinterleave_block(bursts))
 }
 
 fn compare_access(burst: &[i8; 88]) -> Comparison<18>
     requires { AllSoftBits burst.now }
     ensures { AreComparedWords (access_soft_bits burst.now) result }
 {
-    compare(AccessView::new(burst).body())
+    compare_words(AccessView::new(burst).body())
 }
 
 fn compare_sync(burst: &[i8; BURST_BITS]) -> Comparison<39>
@@ -52,5 +53,5 @@ fn compare_sync(burst: &[i8; BURST_BITS]) -> Comparison<39>
     ensures { AreComparedWords (sync_soft_bits burst.now) result }
 {
     let parts = SyncView::new(burst);
-    compare(&join_halves(parts.first(), parts.second()))
+    compare_words(&join_sync_halves(parts.first(), parts.second()))
 }

@@ -5,9 +5,9 @@ ghost use Rattle.um_margin.specs.Compared.{AreComparedWords};
 
 use list_decode::{decode, margin};
 use std::marker::Model;
-use um_block::{Bits, INFORMATION_BITS};
+use um_block::{Bits, ENCODER_INPUT_BITS};
 
-/// The two most likely words, the difference of their path metrics, and the path metric of the first.
+/// The two most likely words, the difference of their path metrics, and the path metric of the most likely word.
 #[derive(Drop, Debug)]
 pub(crate) struct Comparison<const N: usize> {
     pub(crate) best: Bits<N>,
@@ -16,7 +16,7 @@ pub(crate) struct Comparison<const N: usize> {
     pub(crate) metric: i32,
 }
 
-// In contracts, a `Comparison` is a `Compared` record, whatever `N` is.
+// In contracts, a `Comparison` stands for a `Compared` record, for every `N`.
 impl<const N: usize> Model for Comparison<N> {
     ghost use Rattle.um_margin.specs.Compared.{Compared};
 
@@ -25,11 +25,11 @@ impl<const N: usize> Model for Comparison<N> {
     ghost view = { λ c. record { best = c.best; next = c.next; margin = c.margin; metric = c.metric } };
 }
 
-/// Finds the two most likely words of `N` bits. `soft` has two soft bits for each of them.
-pub(crate) fn compare<const N: usize>(soft: &[i8]) -> Comparison<N>
+/// Finds the two most likely words of `N` bits; `soft` holds two soft bits for each bit of a word.
+pub(crate) fn compare_words<const N: usize>(soft: &[i8]) -> Comparison<N>
     requires count { length soft.now ≡ 2 * N }
     requires at_least { 5 ≤ N }
-    requires at_most { N ≤ INFORMATION_BITS }
+    requires at_most { N ≤ ENCODER_INPUT_BITS }
     requires soft { AllSoftBits soft.now }
     ensures { AreComparedWords soft.now result }
 {

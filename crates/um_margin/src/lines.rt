@@ -1,15 +1,16 @@
-//! The answer lines of `margin`, which write a comparison.
+//! Writes the output lines of `margin`.
 ghost use Rattle.std.specs.Prelude.{◌≡◌, ◌+◌, ◌-◌, ◌<◌, ◌≤◌, [], ◌++◌, length};
-ghost use Rattle.um_margin.specs.Texts.{margin_and_metric_text, hex_word_text, digit_word_text, block_text, access_text, sync_text};
+ghost use Rattle.um_margin.specs.Texts.{margin_and_metric_text, hex_word_text, digit_word_text, block_margin_text, access_margin_text};
+ghost use Rattle.um_margin.specs.Texts.{sync_margin_text};
 
 use crate::comparison::Comparison;
-use um_block::{BLOCK_BITS, BLOCK_OCTETS, Bits, INFORMATION_BITS};
+use um_block::{BLOCK_BITS, BLOCK_OCTETS, Bits, ENCODER_INPUT_BITS};
 use um_bursts::{Text, octets_from_bits_at};
 
-/// Writes `block margin G metric M data HEX46 check HEX10 next HEX46 HEX10`.
-pub(crate) fn block_line(out: &mut Text, c: &Comparison<INFORMATION_BITS>)
+/// Writes the line `block margin G metric M data HEX46 check HEX10 next HEX46 HEX10`.
+pub(crate) fn block_line(out: &mut Text, c: &Comparison<ENCODER_INPUT_BITS>)
     requires { out.old ≡ [] }
-    ensures line { out.new ≡ block_text c.now }
+    ensures line { out.new ≡ block_margin_text c.now }
     ensures size { length out.new < 2000 }
 {
     out.push(b"block");
@@ -21,10 +22,10 @@ pub(crate) fn block_line(out: &mut Text, c: &Comparison<INFORMATION_BITS>)
     out.push(b"\n");
 }
 
-/// Writes `access BSIC6 margin G metric M data DIGITS8 check DIGITS6 next DIGITS8 DIGITS6`.
+/// Writes the line `access BSIC6 margin G metric M data DIGITS8 check DIGITS6 next DIGITS8 DIGITS6`.
 pub(crate) fn access_line(out: &mut Text, bsic: &Bits<6>, c: &Comparison<18>)
     requires { out.old ≡ [] }
-    ensures line { out.new ≡ access_text bsic.now c.now }
+    ensures line { out.new ≡ access_margin_text bsic.now c.now }
     ensures size { length out.new < 2000 }
 {
     out.push(b"access ");
@@ -37,10 +38,10 @@ pub(crate) fn access_line(out: &mut Text, bsic: &Bits<6>, c: &Comparison<18>)
     out.push(b"\n");
 }
 
-/// Writes `sync margin G metric M data DIGITS25 check DIGITS10 next DIGITS25 DIGITS10`.
+/// Writes the line `sync margin G metric M data DIGITS25 check DIGITS10 next DIGITS25 DIGITS10`.
 pub(crate) fn sync_line(out: &mut Text, c: &Comparison<39>)
     requires { out.old ≡ [] }
-    ensures line { out.new ≡ sync_text c.now }
+    ensures line { out.new ≡ sync_margin_text c.now }
     ensures size { length out.new < 2000 }
 {
     out.push(b"sync");
@@ -63,8 +64,8 @@ fn push_margin_and_metric(out: &mut Text, margin: i32, metric: i32)
     out.push(itoa::Buffer::new().format(metric).as_bytes());
 }
 
-// Writes the data and the CRC of a block's word as hexadecimal octets, with the text `between` between them.
-fn push_hex_word(out: &mut Text, word: &Bits<INFORMATION_BITS>, between: &[u8])
+// Writes the data and the CRC of a block's word as hexadecimal octets, separated by `between`.
+fn push_hex_word(out: &mut Text, word: &Bits<ENCODER_INPUT_BITS>, between: &[u8])
     requires space { length out.old + 100 ≤ 4096 }
     requires size { length between.now ≤ 10 }
     ensures text { out.new ≡ out.old ++ hex_word_text word.now between.now }
@@ -75,7 +76,7 @@ fn push_hex_word(out: &mut Text, word: &Bits<INFORMATION_BITS>, between: &[u8])
     out.push_hex(&octets_from_bits_at::<5, _>(word, BLOCK_BITS));
 }
 
-// Writes the bits of `word` as digits: the data before index `place`, the text `between`, and the CRC from there to index `end`.
+// Writes the bits of `word` as digits: the data up to index `place`, the separator `between`, and the CRC from `place` up to index `end`.
 fn push_digit_word<const N: usize>(
     out: &mut Text,
     word: &Bits<N>,

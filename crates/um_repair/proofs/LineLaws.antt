@@ -1,17 +1,17 @@
--- A line of `repair` has exactly one meaning or one reason to refuse it; a meaning that is not to skip the line has 224 bits.
-use Rattle.std.proofs.{Common.{◌≡◌, ℕ, List, [], ◌++◌, length, length-append, drop, refl, ap, ◌∙◌, arith}, lemmas.List.append-nil}
-use Rattle.std.proofs.lemmas.List.{drop_all, drop_at, take_at}
+-- A line of `repair` has exactly one meaning or one reason to refuse it; a line that is not skipped means 224 bits.
+use Rattle.std.proofs.Common.{◌≡◌, ℕ, List, [], ◌++◌, length, length-append, drop, refl, ap, ◌∙◌, arith}
+use Rattle.std.proofs.lemmas.List.{append-nil, drop_all, drop_at, take_at}
 use borrow.Rule.Slice.PartMut.{put_mid}
 use Rattle.um_lines.specs.{bit_blocks.{Bits.AllBits, Octets.bits_of}, RepairForms.repair_forms, Forms.{LineMeans, no_order_fault}}
-use Rattle.um_lines.{specs.Meanings.HasOneMeaningUnless, proofs.bit_blocks.Lemmas.{AllBits-append, AllBits-bits_of, length-bits_of}}
+use Rattle.um_lines.{specs.Meanings.HasOneMeaningOrFault, proofs.bit_blocks.Lemmas.{AllBits-append, AllBits-bits_of, length-bits_of}}
 use Rattle.um_lines.proofs.KnownValues.{line_is}
-use Rattle.um_repair.specs.{declared.parsing.RepairLine.{RepairLine, TheVariants.{Skip, Word}}, RepairLines.{repair_line, repair_fault}}
-use Rattle.um_repair.specs.RepairLines.{RepairLineMeans, bits_of_word_and_check}
+use Rattle.um_repair.specs.{declared.parsing.RepairLine.{RepairLine, TheVariants.{Skip, Word}}, RepairLines.repair_line_of_meaning}
+use Rattle.um_repair.specs.RepairLines.{repair_fault, RepairLineMeans, bits_of_data_and_crc}
 use Rattle.um_lines.proofs.FormLaws as Laws
 
-pub one_meaning : (line : List ℕ) → HasOneMeaningUnless (repair_fault line) (RepairLineMeans line)
+pub one_meaning : (line : List ℕ) → HasOneMeaningOrFault (repair_fault line) (RepairLineMeans line)
 one_meaning line =
-    Laws.one_made repair_line (LineMeans repair_forms no_order_fault line) (repair_fault line)
+    Laws.one_made repair_line_of_meaning (LineMeans repair_forms no_order_fault line) (repair_fault line)
     (Laws.one_meaning repair_forms no_order_fault line refl)
 
 -- the line means 224 bits, or nothing
@@ -19,7 +19,8 @@ abbrev pub AreWordBits : RepairLine → Type 0
 AreWordBits Skip = Unit {0}
 AreWordBits (Word w) = (length w ≡ 224) × AllBits w
 
-bits_of_octets : (octets check : List ℕ) → length octets ≡ 23 → length check ≡ 5 → AreWordBits (Word (bits_of_word_and_check octets check))
+bits_of_octets : (octets check : List ℕ) → length octets ≡ 23 → length check ≡ 5 →
+    AreWordBits (Word (bits_of_data_and_crc octets check))
 bits_of_octets octets check many few = (
   omega (arith, length-append (bits_of octets) (bits_of check), length-bits_of octets, length-bits_of check),
   AllBits-append (bits_of octets) (bits_of check) (AllBits-bits_of octets) (AllBits-bits_of check),
@@ -27,7 +28,7 @@ bits_of_octets octets check many few = (
 
 pub are_word_bits : (line : List ℕ) (meaning : RepairLine) → RepairLineMeans line meaning → AreWordBits meaning
 are_word_bits line meaning means =
-    line_is repair_forms no_order_fault repair_line AreWordBits tt (
+    line_is repair_forms no_order_fault repair_line_of_meaning AreWordBits tt (
       λ count values here (octets, rest, is, known, (check, rest', is', known', none)).
           rw (is, is', none) (bits_of_octets octets check known.0 known'.0),
       tt,

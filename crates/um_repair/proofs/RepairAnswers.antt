@@ -1,7 +1,7 @@
 -- The command `repair` has exactly one output for every input, since 224 received bits have exactly one answer.
 use Rattle.std.proofs.Common.{◌≡◌, ℕ, List, [], refl, sym, ap, ◌∙◌}
 use Rattle.fire_repair.proofs.Lemmas.{one_answer, some_answer}
-use Rattle.um_driver.{specs.{Rules.IsDetermined, Laws.HasOneOutput}, proofs.StatelessRules.stateless_is_determined}
+use Rattle.um_driver.{specs.{Rules.IsDeterministic, Laws.HasOneOutput}, proofs.StatelessRules.stateless_is_determined}
 use Rattle.um_driver.proofs.StatelessRules.{stateless_has_one_output}
 use Rattle.um_repair.specs.{declared.parsing.RepairLine.{RepairLine, TheVariants.{Skip, Word}}, RepairLines.{repair_fault, RepairLineMeans}}
 use Rattle.um_repair.{specs.{RepairRules.{IsRepairAnswer, repair_rules}, Texts.answer_text}, proofs.LineLaws.{one_meaning, are_word_bits}}
@@ -11,7 +11,7 @@ same_answer : (m : RepairLine) (y y' : List ℕ) → IsRepairAnswer m y → IsRe
 same_answer Skip y y' a a' = a ∙ sym a'
 same_answer (Word w) y y' a a' = a.2 ∙ ap answer_text (one_answer w a.0 a'.0 a.1 a'.1) ∙ sym a'.2
 
-pub repair_is_determined : IsDetermined repair_rules
+pub repair_is_determined : IsDeterministic repair_rules
 repair_is_determined = stateless_is_determined repair_fault RepairLineMeans IsRepairAnswer one_meaning same_answer
 
 -- every line that has a meaning has an answer

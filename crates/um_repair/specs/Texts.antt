@@ -1,7 +1,7 @@
--- The answer lines of `repair` (this project's own rule).
+-- The output lines of `repair` (this project's own rule).
 use Rattle.std.specs.Prelude.{ℕ, List, ◌++◌, take, drop, codes}
 use Rattle.std.specs.Fmt.{decimal}
-use Rattle.hex.specs.Hex.{encode_lower}
+use Rattle.um_lines.specs.Hex.{encode_lower}
 use Rattle.um_lines.specs.bit_blocks.Octets.{octets_of}
 use Rattle.fire_repair.specs.declared.repairs.RepairAnswer.{RepairAnswer}
 use Rattle.fire_repair.specs.declared.repairs.RepairAnswer.TheVariants.{Holds, Repaired, NoRepair}

@@ -1,4 +1,4 @@
-//! The command `repair`, as the driver of all commands calls it.
+//! The command `repair`, as an `Answer` that the driver calls.
 ghost use Rattle.std.specs.Prelude.{◌≡◌, ◌<◌, [], Some, None, length, MatchResult};
 ghost use Rattle.um_repair.specs.RepairLines.{repair_fault};
 ghost use Rattle.um_repair.specs.RepairRules.{AnswersRepairLine};
@@ -9,7 +9,7 @@ use fire_repair::repair;
 use um_driver::Answer;
 use um_lines::{LineFault, Text};
 
-/// Answers a line of `repair`.
+/// The command `repair`, which answers each line on its own.
 #[derive(Clone, Copy, Debug)]
 pub struct Repair;
 

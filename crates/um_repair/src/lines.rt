@@ -1,11 +1,11 @@
-//! The answer lines of `repair`.
+//! Writes the output lines of `repair`.
 ghost use Rattle.std.specs.Prelude.{◌≡◌, ◌*◌, ◌<◌, [], length};
 ghost use Rattle.um_repair.specs.Texts.{answer_text, repaired_text};
 
 use fire_repair::RepairAnswer;
 use um_lines::{BLOCK_BITS, BLOCK_OCTETS, Bits, Text, octets_from_bits_at};
 
-/// Writes `holds`, `none`, or `repaired first P span S data HEX46 check HEX10`.
+/// Writes the line `holds`, `none`, or `repaired first P span S data HEX46 check HEX10`.
 pub(crate) fn answer_line(out: &mut Text, answer: &RepairAnswer)
     requires { out.old ≡ [] }
     ensures line { out.new ≡ answer_text answer.now }

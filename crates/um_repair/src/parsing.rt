@@ -4,19 +4,19 @@ ghost use Rattle.std.specs.Result.{result_err};
 ghost use Rattle.um_lines.specs.bit_blocks.Bits.{AllBits};
 ghost use Rattle.um_lines.specs.bit_blocks.Octets.{bits_of};
 ghost use Rattle.um_lines.specs.Words.{words};
-ghost use Rattle.um_repair.specs.RepairLines.{repair_fault, RepairLineMeans, read_repair, bits_of_word_and_check};
+ghost use Rattle.um_repair.specs.RepairLines.{repair_fault, RepairLineMeans, parsed_repair, bits_of_data_and_crc};
 
 use um_lines::{
     BLOCK_BITS, BLOCK_OCTETS, Bits, LINE_LIMIT, LineFault, are_hex_digits, first_word, from_octets,
     is_skipped, octets_of, parse_two_words,
 };
 
-/// What a line of `repair` asks for.
+/// What a line of `repair` requests.
 #[derive(Clone, Copy)]
 pub enum RepairLine {
     /// Nothing: the line is empty, or begins with `#`.
     Skip,
-    /// The repair of 184 data bits and 40 CRC bits.
+    /// A word of 184 data bits and 40 CRC bits, to be repaired.
     Word(Bits<224>),
 }
 
@@ -37,7 +37,7 @@ pub fn parse_repair(line: &[u8]) -> Result<RepairLine, LineFault>
 }
 
 fn parse_words(line: &[u8]) -> Result<RepairLine, LineFault>
-    ensures { result ≡ read_repair (words line.now) }
+    ensures { result ≡ parsed_repair (words line.now) }
 {
     let Some((command, rest)) = first_word(line) else {
         return Err(LineFault::Word);
@@ -49,7 +49,7 @@ fn parse_words(line: &[u8]) -> Result<RepairLine, LineFault>
 }
 
 fn parse_word(rest: &[u8]) -> Result<RepairLine, LineFault>
-    ensures { result ≡ read_repair (codes "word" ∷ words rest.now) }
+    ensures { result ≡ parsed_repair (codes "word" ∷ words rest.now) }
 {
     let (octets, check) = parse_two_words(rest)?;
     if !are_hex_digits(octets) || !are_hex_digits(check) {
@@ -61,9 +61,9 @@ fn parse_word(rest: &[u8]) -> Result<RepairLine, LineFault>
     Ok(RepairLine::Word(word_of_octets(&octets_of(octets), &octets_of(check))))
 }
 
-/// The bits of the data octets, then those of the CRC octets.
+/// The bits of the data octets, followed by those of the CRC octets.
 fn word_of_octets(octets: &[u8; BLOCK_OCTETS], check: &[u8; 5]) -> Bits<224>
-    ensures { result ≡ bits_of_word_and_check octets.now check.now }
+    ensures { result ≡ bits_of_data_and_crc octets.now check.now }
 {
     let mut bits = [0; 224];
     from_octets(octets, &mut bits[..BLOCK_BITS]);

@@ -1,19 +1,18 @@
 -- Different answer lines have different texts. No word contains a line feed or a space, so a text can be split into its lines and words,
 -- and each line can be read back from its words.
-use Rattle.std.proofs.Common.{◌≡◌, ◌≢◌, ℕ, suc, ◌-◌, ◌<◌, ◌≤◌, ◌^◌, ◌==◌, ℤ, pos, negsuc, nat_abs, nat_le, Bool, true, false, List, [], ◌∷◌}
-use Rattle.std.proofs.Common.{◌++◌, length, length-append, take, codes, if◌then◌else◌, refl, sym, ap, ◌∙◌, inl, inr, append_assoc}
-use Rattle.std.proofs.{Common.{append-nil, arith}, lemmas.{Bool.{and_parts, cases_lt, le-leb, leb-true, ne_eqb}, Fmt.digits_decimal}}
-use Rattle.std.proofs.lemmas.{Fmt.digits_value-decimal, List.{Elements.{All-nil, All-cons, All-append}, Splits.slice_split_at}}
-use Rattle.std.proofs.lemmas.{List.Splits.join_with_byte-slice_split, Str.Parse.{IsNumeralModel, numerals_by_value, tells_all_ascii_digits}}
-use Rattle.std.specs.{Fmt.{decimal, signed_decimal}, List.{list_all, list_any, join_with_byte, slice_split}, Str.bytes_eq}
-use Rattle.std.specs.Str.{all_ascii_digits, Parse.digits_value}
-use Rattle.hex.specs.Hex.{encode_lower, is_hex_digit}
+use Rattle.std.proofs.Common.{◌≡◌, ◌≢◌, ℕ, suc, ◌-◌, ◌<◌, ◌≤◌, ◌^◌, ◌==◌, ℤ, pos, negsuc, nat_abs}
+use Rattle.std.proofs.Common.{nat_le, Bool, true, false, List, [], ◌∷◌, ◌++◌, length, length-append, take, codes}
+use Rattle.std.proofs.Common.{if◌then◌else◌, refl, sym, ap, ◌∙◌, inl, inr, append_assoc, append-nil, arith}
+use Rattle.std.proofs.lemmas.{Bool.{and_parts, cases_lt, le-leb, leb-true, ne_eqb}, Fmt.{digits_decimal, digits_value-decimal}}
+use Rattle.std.proofs.lemmas.List.{Elements.{All-nil, All-cons, All-append}, Splits.{slice_split_at, join_with_byte-slice_split}}
+use Rattle.std.{proofs.lemmas.Str.Parse.{IsNumeralModel, numerals_by_value, tells_all_ascii_digits}, specs.Fmt.{decimal, signed_decimal}}
+use Rattle.std.specs.{List.{list_all, list_any, join_with_byte, slice_split}, Str.{bytes_eq, all_ascii_digits, Parse.digits_value}}
+use Rattle.um_lines.specs.{Hex.{encode_lower, is_hex_digit}, Fields.octets_from_hex, Words.{IsNotSpace, words}, Spelled.octets_word}
+use Rattle.um_lines.proofs.{SpelledLaws.hex_digits_decode, WordLists.words-join}
 use Rattle.um_link.specs.lapdm_window.declared.{Sapi.{Sapi, TheVariants.{Zero, Three}}, Reason.{Reason, TheVariants.{Contention, Failed}}}
 use Rattle.um_link.specs.lapdm_window.{declared.{Reason.TheVariants.{Refused, Released}, Notice.Notice}, Ends.{Mobile, Network}}
 use Rattle.um_link.specs.um_air.Sessions.{AreOctets}
-use Rattle.um_lines.{specs.{Fields.octets_from_hex, Words.{IsNotSpace, words}, Spelled.octets_word}, proofs.SpelledLaws.hex_digits_decode}
-use Rattle.um_lines.proofs.WordLists.{words-join}
-use Rattle.um_script.specs.{AnswerWords.{actor_word, sapi_suffix, call_refusal_word, closing_reason_word}, AnswerLines.Reception}
+use Rattle.um_script.specs.{AnswerWords.{actor_word, sapi_suffix, call_refusal_word, closing_reason_word}, AnswerLines.ReceptionQuality}
 use Rattle.um_script.specs.AnswerLines.{AnswerLine, No, Takes, Drops, Reports, Sends, All, answer_lines, notice_words, reception_words}
 use Rattle.um_script.specs.AnswerLines.{spaced_words, answer_words, answer_line_text, lines_text, answer_text, ReceptionIsInRange}
 use Rattle.um_script.specs.AnswerLines.{NoticeIsInRange, LineIsInRange, LinesAreInRange}
@@ -37,9 +36,11 @@ join-spaced w (v ∷ ws) = ap (λ t. w ++ 32 ∷ t) (join-spaced v ws)
 
 spaced-append : (ws vs : List (List ℕ)) → spaced_words (ws ++ vs) ≡ spaced_words ws ++ spaced_words vs
 spaced-append [] vs = refl
-spaced-append (w ∷ ws) vs = ap (λ t. 32 ∷ w ++ t) (spaced-append ws vs) ∙ sym (append_assoc (32 ∷ w) (spaced_words ws) (spaced_words vs))
+spaced-append (w ∷ ws) vs = ap (λ t. 32 ∷ w ++ t) (spaced-append ws vs)
+    ∙ sym (append_assoc (32 ∷ w) (spaced_words ws) (spaced_words vs))
 
-pub line_spaced : (w : List ℕ) (ws vs : List (List ℕ)) → (w ++ spaced_words ws) ++ spaced_words vs ≡ join_with_byte 32 (w ∷ ws ++ vs)
+pub line_spaced : (w : List ℕ) (ws vs : List (List ℕ)) →
+    (w ++ spaced_words ws) ++ spaced_words vs ≡ join_with_byte 32 (w ∷ ws ++ vs)
 line_spaced w ws vs =
     append_assoc w (spaced_words ws) (spaced_words vs) ∙ ap (λ t. w ++ t) (sym (spaced-append ws vs)) ∙ sym (join-spaced w (ws ++ vs))
 
@@ -97,7 +98,7 @@ signed_plain (negsuc n) fits = number_plain (suc n) (omega arith)
 who_plain : (who : E.Who) → is_plain (actor_word who) ≡ true
 who_plain (E.BySide Mobile) = refl
 who_plain (E.BySide Network) = refl
-who_plain E.Other = refl
+who_plain E.OtherMobile = refl
 who_plain E.Nobody = refl
 
 name_plain : (who : E.Who) (sapi : Sapi) → is_plain (actor_word who ++ sapi_suffix sapi) ≡ true
@@ -105,8 +106,8 @@ name_plain (E.BySide Mobile) Zero = refl
 name_plain (E.BySide Mobile) Three = refl
 name_plain (E.BySide Network) Zero = refl
 name_plain (E.BySide Network) Three = refl
-name_plain E.Other Zero = refl
-name_plain E.Other Three = refl
+name_plain E.OtherMobile Zero = refl
+name_plain E.OtherMobile Three = refl
 name_plain E.Nobody Zero = refl
 name_plain E.Nobody Three = refl
 
@@ -138,11 +139,11 @@ notice_plain (N.Acked n) fits = rw (number_plain n fits) refl
 notice_plain N.Oversize fits = refl
 notice_plain (N.Closed reason) fits = rw (closing_plain reason) refl
 
-reception_plain : (h : Reception) (rest : List (List ℕ)) → ReceptionIsInRange h → are_plain rest ≡ true →
+reception_plain : (h : ReceptionQuality) (rest : List (List ℕ)) → ReceptionIsInRange h → are_plain rest ≡ true →
     are_plain (reception_words h ++ rest) ≡ true
 unfolding are_plain
 reception_plain h rest fits plain =
-    rw (number_plain h.tsc fits.tsc, number_plain h.train fits.train, signed_plain h.metric fits.metric, plain) refl
+    rw (number_plain h.tsc fits.tsc, number_plain h.wrong_training fits.wrong_training, signed_plain h.metric fits.metric, plain) refl
 
 line_plain : (line : AnswerLine) → LineIsInRange line → are_plain (answer_words line) ≡ true
 unfolding are_plain
@@ -196,9 +197,10 @@ uncut_join (w ∷ v ∷ ws) plain =
     (All-cons (λ octet. (octet == 10) ≡ false) 32 (join_with_byte 32 (v ∷ ws)) refl (uncut_join (v ∷ ws) parts.1))
 
 -- splitting a text at its line feeds gives its first line
-cut : (text rest : List ℕ) → Uncut text → slice_split (λ o. o == 10) ((text ++ 10 ∷ []) ++ rest) ≡ text ∷ slice_split (λ o. o == 10) rest
-cut text rest uncut =
-    ap (slice_split (λ o. o == 10)) (append_assoc text (10 ∷ []) rest) ∙ slice_split_at (λ o. o == 10) text 10 rest uncut refl
+cut : (text rest : List ℕ) → Uncut text → slice_split (λ o. o == 10) ((text ++ 10 ∷ []) ++ rest) ≡ text
+    ∷ slice_split (λ o. o == 10) rest
+cut text rest no_line_feed =
+    ap (slice_split (λ o. o == 10)) (append_assoc text (10 ∷ []) rest) ∙ slice_split_at (λ o. o == 10) text 10 rest no_line_feed refl
 
 first_line : (t u r s : List ℕ) → Uncut t → Uncut u → (t ++ 10 ∷ []) ++ r ≡ (u ++ 10 ∷ []) ++ s → (t ≡ u) × (r ≡ s)
 first_line t u r s h k e =
@@ -228,7 +230,7 @@ who_read : List ℕ → E.Who
 who_read word =
     if bytes_eq (take 3 word) (codes "mob") then E.BySide Mobile
     else if bytes_eq (take 3 word) (codes "net") then E.BySide Network
-    else if bytes_eq (take 3 word) (codes "riv") then E.Other
+    else if bytes_eq (take 3 word) (codes "riv") then E.OtherMobile
     else E.Nobody
 
 sapi_read : List ℕ → Sapi
@@ -238,8 +240,13 @@ signed_read : List ℕ → ℤ
 signed_read [] = pos 0
 signed_read (octet ∷ word) = if octet == 45 then negsuc (digits_value 10 word - 1) else pos (digits_value 10 (octet ∷ word))
 
-reception_read : List ℕ → List ℕ → List ℕ → Reception
-reception_read tsc train metric = record { tsc = digits_value 10 tsc; train = digits_value 10 train; metric = signed_read metric }
+reception_read : List ℕ → List ℕ → List ℕ → ReceptionQuality
+reception_read tsc wrong_training metric = record {
+  tsc = digits_value 10 tsc;
+  wrong_training = digits_value 10 wrong_training;
+  metric =
+      signed_read metric;
+}
 
 why_read : List ℕ → E.EventRefusal
 why_read word =
@@ -279,7 +286,8 @@ abbrev line_read : List (List ℕ) → AnswerLine
 line_read (a ∷ b ∷ []) = two_read a b
 line_read (a ∷ b ∷ c ∷ []) = three_read a b c
 line_read (a ∷ b ∷ c ∷ d ∷ e ∷ f ∷ g ∷ h ∷ i ∷ []) = Takes (who_read a) (octets_from_hex c) (reception_read e g i)
-line_read (a ∷ b ∷ c ∷ d ∷ e ∷ f ∷ g ∷ h ∷ i ∷ j ∷ k ∷ l ∷ []) = Drops (who_read a) (reception_read d f h) (octets_from_hex j)
+line_read (a ∷ b ∷ c ∷ d ∷ e ∷ f ∷ g ∷ h ∷ i ∷ j ∷ k ∷ l ∷ []) =
+    Drops (who_read a) (reception_read d f h) (octets_from_hex j)
     (octets_from_hex l)
 line_read ws = All
 
@@ -287,7 +295,7 @@ who_back : (who : E.Who) → who_read (actor_word who) ≡ who
 unfolding who_read
 who_back (E.BySide Mobile) = refl
 who_back (E.BySide Network) = refl
-who_back E.Other = refl
+who_back E.OtherMobile = refl
 who_back E.Nobody = refl
 
 name_back : (who : E.Who) (sapi : Sapi) →
@@ -297,19 +305,20 @@ name_back (E.BySide Mobile) Zero = (refl, refl)
 name_back (E.BySide Mobile) Three = (refl, refl)
 name_back (E.BySide Network) Zero = (refl, refl)
 name_back (E.BySide Network) Three = (refl, refl)
-name_back E.Other Zero = (refl, refl)
-name_back E.Other Three = (refl, refl)
+name_back E.OtherMobile Zero = (refl, refl)
+name_back E.OtherMobile Three = (refl, refl)
 name_back E.Nobody Zero = (refl, refl)
 name_back E.Nobody Three = (refl, refl)
 
-oversize_back : (who : E.Who) (sapi : Sapi) → two_read (actor_word who ++ sapi_suffix sapi) (codes "oversize") ≡ Reports who sapi N.Oversize
+oversize_back : (who : E.Who) (sapi : Sapi) → two_read (actor_word who ++ sapi_suffix sapi) (codes "oversize") ≡
+    Reports who sapi N.Oversize
 unfolding two_read who_read sapi_read
 oversize_back (E.BySide Mobile) Zero = refl
 oversize_back (E.BySide Mobile) Three = refl
 oversize_back (E.BySide Network) Zero = refl
 oversize_back (E.BySide Network) Three = refl
-oversize_back E.Other Zero = refl
-oversize_back E.Other Three = refl
+oversize_back E.OtherMobile Zero = refl
+oversize_back E.OtherMobile Three = refl
 oversize_back E.Nobody Zero = refl
 oversize_back E.Nobody Three = refl
 
@@ -353,13 +362,15 @@ signed_back (pos n) fits =
 signed_back (negsuc n) fits =
     let one : suc n - 1 ≡ n = omega arith in ap (λ k. negsuc (k - 1)) (digits_value-decimal own (suc n) (omega arith)) ∙ ap negsuc one
 
-reception_back : (h : Reception) → ReceptionIsInRange h → reception_read (decimal h.tsc) (decimal h.train) (signed_decimal h.metric) ≡ h
+reception_back : (h : ReceptionQuality) → ReceptionIsInRange h →
+    reception_read (decimal h.tsc) (decimal h.wrong_training) (signed_decimal h.metric) ≡ h
 unfolding reception_read
 reception_back h fits =
     let tsc : digits_value 10 (decimal h.tsc) ≡ h.tsc = digits_value-decimal own h.tsc fits.tsc in
-    let train : digits_value 10 (decimal h.train) ≡ h.train = digits_value-decimal own h.train fits.train in
+    let wrong_training : digits_value 10 (decimal h.wrong_training) ≡ h.wrong_training =
+    digits_value-decimal own h.wrong_training fits.wrong_training in
     let metric : signed_read (signed_decimal h.metric) ≡ h.metric = signed_back h.metric fits.metric in
-    rw (tsc, train, metric) refl
+    rw (tsc, wrong_training, metric) refl
 
 notice_back : (who : E.Who) (sapi : Sapi) (notice : Notice) → NoticeIsInRange notice →
     line_read (answer_words (Reports who sapi notice)) ≡ Reports who sapi notice

@@ -1,5 +1,6 @@
 -- Octets are unchanged if they are unpacked to bits and packed again.
-use Rattle.std.proofs.Common.{◌≡◌, ℕ, suc, ◌+◌, ◌*◌, ◌/◌, ◌%◌, ◌<◌, List, [], ◌∷◌, get_or, Fits, w8, refl, arith}
+use Rattle.std.proofs.Common.{◌≡◌, ℕ, suc, ◌+◌, ◌*◌, ◌/◌, ◌%◌, ◌<◌, List, [], ◌∷◌, get_or, Fits, w8, refl}
+use Rattle.std.proofs.Common.{arith}
 use Rattle.um_link.specs.bit_blocks.Octets.{bits_of, octets_of}
 
 -- an octet is the sum of its eight bits, each multiplied by its power of two

@@ -1,6 +1,6 @@
 -- There are at most n different numbers below n (the pigeonhole principle, adapted from the standard library's proof).
-use Rattle.std.proofs.Common.{◌≡◌, ℕ, zero, suc, ◌<◌, ◌≤◌, Bool, true, false, cond, eqb, inl, inr, ◌⊎◌, refl, sym, ◌∙◌, arith}
-use Rattle.std.proofs.lemmas.Bool.{eqb-true, eqb-false}
+use Rattle.std.proofs.Common.{◌≡◌, ℕ, zero, suc, ◌<◌, ◌≤◌, Bool, true, false, cond, eqb, inl, inr, ◌⊎◌, refl, sym}
+use Rattle.std.proofs.{Common.{◌∙◌, arith}, lemmas.Bool.{eqb-true, eqb-false}}
 
 abbrev avoiding : (ℕ → ℕ) → ℕ → ℕ → ℕ → ℕ
 avoiding f m last i = cond (eqb (f i) m) (f last) (f i)

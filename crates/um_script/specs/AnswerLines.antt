@@ -1,9 +1,9 @@
--- The lines with which `link` and `end` answer one line of input (this project's own rule).
+-- The output lines of `link` and `end` for one line of input (this project's own rule).
 use Rattle.std.specs.Prelude.{ℕ, ℤ, nat_abs, ◌<◌, ◌^◌, List, [], ◌∷◌, ◌++◌, map, take, drop, codes, Option, Some}
 use Rattle.std.specs.Prelude.{None}
 use Rattle.std.specs.Fmt.{decimal, signed_decimal}
 use Rattle.std.specs.List.{join_with_byte}
-use Rattle.hex.specs.Hex.{encode_lower}
+use Rattle.um_lines.specs.Hex.{encode_lower}
 use Rattle.um_link.specs.bit_blocks.Octets.{octets_of}
 use Rattle.um_link.specs.lapdm_window.declared.Sapi.{Sapi}
 use Rattle.um_link.specs.lapdm_window.declared.Notice.{Notice}
@@ -15,28 +15,28 @@ use Rattle.um_link.specs.um_air.Sessions.{AreOctets}
 use Rattle.um_lines.specs.Spelled.{octets_word}
 use Rattle.um_script.specs.AnswerWords.{actor_word, sapi_suffix, call_refusal_word, closing_reason_word}
 
--- what a `takes` or `drops` line says about a received block
-pub record Reception : Type 0 where
+-- the quality of a received block, as a `takes` or `drops` line reports it
+pub record ReceptionQuality : Type 0 where
   pub tsc : ℕ
-  pub train : ℕ
+  pub wrong_training : ℕ
   pub metric : ℤ
 
--- an answer line: `no` with the reason; `takes` or `drops` for a block received with a good or a bad CRC; a notice of a link; `sends` for a
--- block; or the final `ok`
+-- a line of an answer: `no` with the reason; `takes` or `drops` for a block received with a good or a bad CRC; a notice to layer 3; `sends`
+-- for a block that is sent; or the final `ok`
 pub data AnswerLine : Type 0 where
   No : E.EventRefusal → AnswerLine
-  Takes : E.Who → List ℕ → Reception → AnswerLine
-  Drops : E.Who → Reception → List ℕ → List ℕ → AnswerLine
+  Takes : E.Who → List ℕ → ReceptionQuality → AnswerLine
+  Drops : E.Who → ReceptionQuality → List ℕ → List ℕ → AnswerLine
   Reports : E.Who → Sapi → Notice → AnswerLine
   Sends : E.Who → List ℕ → AnswerLine
   All : AnswerLine
 
-abbrev pub reception : Received → Reception
-reception r = record { tsc = r.tsc; train = r.wrong_training; metric = r.metric }
+abbrev pub reception_quality : Received → ReceptionQuality
+reception_quality r = record { tsc = r.tsc; wrong_training = r.wrong_training; metric = r.metric }
 
 abbrev pub received_block_line : E.Who → Option (List ℕ) → Received → AnswerLine
-received_block_line who (Some octets) r = Takes who octets (reception r)
-received_block_line who None r = Drops who (reception r) (octets_of (take 184 r.u)) (octets_of (take 40 (drop 184 r.u)))
+received_block_line who (Some octets) r = Takes who octets (reception_quality r)
+received_block_line who None r = Drops who (reception_quality r) (octets_of (take 184 r.u)) (octets_of (take 40 (drop 184 r.u)))
 
 abbrev pub received_block_lines : E.Who → Option Received → List AnswerLine
 received_block_lines who None = []
@@ -50,16 +50,17 @@ answer_lines (A.Does s) =
 
 -- ---- the text of lines
 
--- the words, each with a space before it (internal)
+-- the words, each with a space before it (used inside this crate)
 abbrev pub spaced_words : List (List ℕ) → List ℕ
 spaced_words [] = []
 spaced_words (word ∷ words) = 32 ∷ word ++ spaced_words words
 
--- the words that report on a received block
-abbrev pub reception_words : Reception → List (List ℕ)
-reception_words h = codes "tsc" ∷ decimal h.tsc ∷ codes "train" ∷ decimal h.train ∷ codes "metric" ∷ signed_decimal h.metric ∷ []
+-- the words for the quality of a received block
+abbrev pub reception_words : ReceptionQuality → List (List ℕ)
+reception_words h = codes "tsc" ∷ decimal h.tsc ∷ codes "train" ∷ decimal h.wrong_training ∷ codes "metric"
+    ∷ signed_decimal h.metric ∷ []
 
--- the words for a notice
+-- the words for a notice to layer 3
 abbrev pub notice_words : Notice → List (List ℕ)
 notice_words (N.Opened m) = codes "opened" ∷ octets_word m ∷ []
 notice_words (N.Got m) = codes "got" ∷ octets_word m ∷ []
@@ -68,38 +69,39 @@ notice_words (N.Acked n) = codes "acked" ∷ decimal n ∷ []
 notice_words N.Oversize = codes "oversize" ∷ []
 notice_words (N.Closed reason) = codes "closed" ∷ closing_reason_word reason ∷ []
 
--- the words of an answer line
+-- the words of a line of an answer
 abbrev pub answer_words : AnswerLine → List (List ℕ)
 answer_words (No why) = codes "no" ∷ call_refusal_word why ∷ []
 answer_words (Takes who octets h) = actor_word who ∷ codes "takes" ∷ encode_lower octets ∷ reception_words h
 answer_words (Drops who h octets check) =
-    actor_word who ∷ codes "drops" ∷ reception_words h ++ (codes "data" ∷ encode_lower octets ∷ codes "check" ∷ encode_lower check ∷ [])
+    actor_word who ∷ codes "drops" ∷ reception_words h ++ (codes "data" ∷ encode_lower octets ∷ codes "check" ∷ encode_lower check
+    ∷ [])
 answer_words (Reports who sapi notice) = (actor_word who ++ sapi_suffix sapi) ∷ notice_words notice
 answer_words (Sends who octets) = actor_word who ∷ codes "sends" ∷ encode_lower octets ∷ []
 answer_words All = codes "ok" ∷ []
 
--- an answer line as text: its words, separated by spaces, and a line feed
+-- the text of a line of an answer: its words, separated by spaces, and a line feed
 abbrev pub answer_line_text : AnswerLine → List ℕ
 answer_line_text line = join_with_byte 32 (answer_words line) ++ codes "\n"
 
--- the lines as text, one after another
+-- the text of the lines, one after another
 abbrev pub lines_text : List AnswerLine → List ℕ
 lines_text [] = []
 lines_text (line ∷ lines) = answer_line_text line ++ lines_text lines
 
--- an answer as text: either `no REASON`, or lines for what was received, the notices, the frames sent, and `ok`
+-- the text of an answer: either `no REASON`, or lines for the received block, the notices and the frames sent, and then `ok`
 abbrev pub answer_text : A.Answer → List ℕ
 answer_text answer = lines_text (answer_lines answer)
 
 -- ---- ranges of octets and numbers
 
 -- the training sequence code and the number of wrong training bits are below 2^64, and the metric is between -2^63 and 2^63
-pub record ReceptionIsInRange (h : Reception) : Type 0 where
+pub record ReceptionIsInRange (h : ReceptionQuality) : Type 0 where
   pub tsc : h.tsc < 2 ^ 64
-  pub train : h.train < 2 ^ 64
+  pub wrong_training : h.wrong_training < 2 ^ 64
   pub metric : nat_abs h.metric < 2 ^ 63
 
--- if the notice carries octets or a number, they are in range
+-- the octets or the number in the notice, if it has any, are in range
 abbrev pub NoticeIsInRange : Notice → Type 0
 NoticeIsInRange (N.Opened m) = AreOctets m
 NoticeIsInRange (N.Got m) = AreOctets m

@@ -1,4 +1,4 @@
--- The words that occur in answer lines (this project's own rule).
+-- The words in the output lines of `link` and `end` (this project's own rule).
 use Rattle.std.specs.Prelude.{ℕ, List, [], codes}
 use Rattle.um_link.specs.lapdm_window.declared.Sapi.{Sapi}
 use Rattle.um_link.specs.lapdm_window.declared.Sapi.TheVariants.{Zero, Three}
@@ -8,11 +8,11 @@ use Rattle.um_link.specs.lapdm_window.declared.Refused.TheVariants as Q
 use Rattle.um_link.specs.lapdm_window.Ends.{Mobile, Network}
 use Rattle.um_link.specs.lapdm_link.Events as E
 
--- the word for who acts: `mob`, `net`, `rival` for another mobile, or none if nobody acts
+-- the word for the party that acts: `mob`, `net`, `rival` for another mobile, or no word if nobody acts
 abbrev pub actor_word : E.Who → List ℕ
 actor_word (E.BySide Mobile) = codes "mob"
 actor_word (E.BySide Network) = codes "net"
-actor_word E.Other = codes "rival"
+actor_word E.OtherMobile = codes "rival"
 actor_word E.Nobody = []
 
 -- the suffix of an endpoint's word: `3` for SAPI 3, nothing for SAPI 0
@@ -20,7 +20,7 @@ abbrev pub sapi_suffix : Sapi → List ℕ
 sapi_suffix Zero = []
 sapi_suffix Three = codes "3"
 
--- the word for the reason after `no`
+-- the word after `no`, for the reason why an event is refused
 abbrev pub call_refusal_word : E.EventRefusal → List ℕ
 call_refusal_word E.Nothing = codes "nothing"
 call_refusal_word E.AirFull = codes "airfull"

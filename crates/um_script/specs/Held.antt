@@ -1,4 +1,4 @@
--- What the parser of script lines stores in its buffers (internal).
+-- The contents of the buffers that the parser of script lines fills (used inside this crate).
 use Rattle.std.specs.Prelude.{ℕ, ◌≡◌, Bool, true, false, not, ◌||◌, List, [], ◌∷◌, Option, Some, None, Result, Ok, Err}
 use Rattle.std.specs.Prelude.{map, slice_index_or, slice_set}
 use Rattle.std.specs.Borrow.{Bor}
@@ -9,32 +9,34 @@ use Rattle.um_lines.specs.Words.{words}
 use Rattle.um_lines.specs.Fields.{is_decimal}
 use Rattle.um_script.specs.ScriptReading.{is_above_591}
 
-abbrev pub octets_in_buffer : Result (Bor (List ℕ)) LineFault → Result (List ℕ) LineFault
-octets_in_buffer (Ok octets) = Ok octets.now
-octets_in_buffer (Err fault) = Err fault
+-- the octets that the parser returns, or the fault
+abbrev pub octets_or_fault : Result (Bor (List ℕ)) LineFault → Result (List ℕ) LineFault
+octets_or_fault (Ok octets) = Ok octets.now
+octets_or_fault (Err fault) = Err fault
 
-abbrev pub bit_indices_in_buffer : Result (Bor (List ℕ)) LineFault → Result (List ℕ) LineFault
-bit_indices_in_buffer (Ok places) = Ok places.now
-bit_indices_in_buffer (Err fault) = Err fault
+-- the bit indices that the parser returns, or the fault
+abbrev pub bit_indices_or_fault : Result (Bor (List ℕ)) LineFault → Result (List ℕ) LineFault
+bit_indices_or_fault (Ok places) = Ok places.now
+bit_indices_or_fault (Err fault) = Err fault
 
--- whether a number in the list is marked already or occurs twice
-abbrev pub is_marked_or_repeated : List Bool → List ℕ → Bool
-is_marked_or_repeated marks [] = false
-is_marked_or_repeated marks (n ∷ ns) = slice_index_or marks n false || is_marked_or_repeated (slice_set marks n true) ns
+-- whether a number in the list is already marked, or occurs more than once
+abbrev pub has_marked_or_repeated_index : List Bool → List ℕ → Bool
+has_marked_or_repeated_index marks [] = false
+has_marked_or_repeated_index marks (n ∷ ns) = slice_index_or marks n false || has_marked_or_repeated_index (slice_set marks n true) ns
 
 abbrev pub numbers_of_words : List (List ℕ) → List ℕ
 numbers_of_words ws = map (digits_value 10) ws
 
--- the words of the text that remains, if any remains
-abbrev pub words_of_rest : Option (Bor (List ℕ)) → List (List ℕ)
-words_of_rest None = []
-words_of_rest (Some text) = words text.now
+-- the words of the remaining text, if there is any
+abbrev pub remaining_words : Option (Bor (List ℕ)) → List (List ℕ)
+remaining_words None = []
+remaining_words (Some text) = words text.now
 
 -- every word is a decimal number
-abbrev pub AreDecimals : List (List ℕ) → Type 0
-AreDecimals ws = list_any (λ w. not (is_decimal w)) ws ≡ false
+abbrev pub AreDecimalWords : List (List ℕ) → Type 0
+AreDecimalWords ws = list_any (λ w. not (is_decimal w)) ws ≡ false
 
 -- every word is the index of a bit in a block, 0 to 591, in decimal
 pub record AreBitIndexWords (ws : List (List ℕ)) : Type 0 where
-  pub decimal : AreDecimals ws
-  pub within : list_any is_above_591 ws ≡ false
+  pub decimal : AreDecimalWords ws
+  pub in_range : list_any is_above_591 ws ≡ false

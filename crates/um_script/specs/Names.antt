@@ -1,4 +1,4 @@
--- The first two words of a script line: who acts, and what happens (internal).
+-- The first two words of a script line: who acts, and what happens (used inside this crate).
 use Rattle.std.specs.Prelude.{ℕ, List, Option, Some, None, codes, if◌then◌else◌}
 use Rattle.std.specs.Str.{bytes_eq}
 use Rattle.um_link.specs.lapdm_window.declared.Sapi.{Sapi}
@@ -12,18 +12,18 @@ use Rattle.um_script.specs.declared.names.Actor.{Actor}
 use Rattle.um_script.specs.declared.names.Actor.TheVariants as W
 use Rattle.um_script.specs.declared.names.Request.{Request}
 use Rattle.um_script.specs.declared.names.Request.TheVariants as Q
-use Rattle.um_script.specs.declared.names.RadioPathAct.{RadioPathAct}
-use Rattle.um_script.specs.declared.names.RadioPathAct.TheVariants as A
+use Rattle.um_script.specs.declared.names.RadioAction.{RadioAction}
+use Rattle.um_script.specs.declared.names.RadioAction.TheVariants as A
 
-abbrev pub endpoint_named : End → Sapi → L.LinkEndpoint
-endpoint_named Mobile Zero = L.Mob
-endpoint_named Mobile Three = L.Mob3
-endpoint_named Network Zero = L.Net
-endpoint_named Network Three = L.Net3
+abbrev pub link_endpoint_of : End → Sapi → L.LinkEndpoint
+link_endpoint_of Mobile Zero = L.Mob
+link_endpoint_of Mobile Three = L.Mob3
+link_endpoint_of Network Zero = L.Net
+link_endpoint_of Network Three = L.Net3
 
-abbrev pub direction_named : Way → L.Way
-direction_named Up = L.Up
-direction_named Down = L.Down
+abbrev pub link_direction_of : Way → L.Way
+link_direction_of Up = L.Up
+link_direction_of Down = L.Down
 
 abbrev pub actor_of_name : List ℕ → Option Actor
 actor_of_name word =
@@ -46,8 +46,8 @@ request_of_name word =
     else if bytes_eq word (codes "idle") then Some Q.Idle
     else None
 
-abbrev pub act_of_name : List ℕ → Option RadioPathAct
-act_of_name word =
+abbrev pub action_of_name : List ℕ → Option RadioAction
+action_of_name word =
     if bytes_eq word (codes "deliver") then Some A.Deliver
     else if bytes_eq word (codes "lose") then Some A.Lose
     else if bytes_eq word (codes "flip") then Some A.Flip

@@ -1,10 +1,10 @@
--- What the values that the parser returns represent.
+-- What the results of the script parser represent.
 use Rattle.std.specs.Prelude.{Option, Some, None, Result, Ok, Err}
 use Rattle.um_link.specs.um_air.Air as A
 use Rattle.um_lines.specs.declared.fault.LineFault.{LineFault}
 use Rattle.um_link.specs.declared.events.Event.{Event}
 use Rattle.um_link.specs.Naming.{event_of}
-use Rattle.um_link.specs.Possible.{IsPossible}
+use Rattle.um_link.specs.Possible.{IsPossibleEvent}
 use Rattle.um_script.specs.declared.script.ScriptLine.{ScriptLine}
 use Rattle.um_script.specs.declared.script.ScriptLine.TheVariants.{Skip, Step}
 use Rattle.um_script.specs.ScriptReading.{EventOrFault}
@@ -18,7 +18,7 @@ abbrev pub event_or_fault : Result Event LineFault → EventOrFault
 event_or_fault (Ok event) = Ok (Some (event_of event))
 event_or_fault (Err fault) = Err fault
 
--- the world can carry out the event: indices of bits to invert are in range
+-- the bits that the event inverts, if any, have indices of a block, 0 to 591
 abbrev pub HasPossibleEvent : ScriptLine → Type 0
 HasPossibleEvent Skip = Unit {0}
-HasPossibleEvent (Step event) = IsPossible event
+HasPossibleEvent (Step event) = IsPossibleEvent event

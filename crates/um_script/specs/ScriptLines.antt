@@ -1,4 +1,4 @@
--- What the lines of a script for `link` mean (this project's own rule).
+-- The meaning of the script lines of `link` (this project's own rule).
 use Rattle.std.specs.Prelude.{ℕ, List, [], ◌∷◌, Option, option_map}
 use Rattle.um_link.specs.lapdm_window.declared.Sapi.{Sapi}
 use Rattle.um_link.specs.lapdm_window.declared.Sapi.TheVariants.{Zero, Three}
@@ -9,55 +9,56 @@ use Rattle.um_lines.specs.Fields.{Value, Number, NumberList, Place}
 use Rattle.um_lines.specs.Forms.{LineMeans, no_order_fault, places}
 use Rattle.um_lines.specs.LinkForms as L
 use Rattle.um_lines.specs.LinkForms.{link_forms}
-use Rattle.um_lines.specs.Meanings.{IsMadeFromSome}
+use Rattle.um_lines.specs.Meanings.{IsMadeFromMeaning}
 
--- the side, and (below) the SAPI, of an endpoint; `mob3` and `net3` have SAPI 3
+-- the side of an endpoint, mobile or network
 abbrev pub role_of : L.LinkEndpoint → Role
 role_of L.Mob = Mobile
 role_of L.Net = Network
 role_of L.Mob3 = Mobile
 role_of L.Net3 = Network
 
+-- the SAPI of an endpoint
 abbrev pub sapi_of : L.LinkEndpoint → Sapi
 sapi_of L.Mob = Zero
 sapi_of L.Net = Zero
 sapi_of L.Mob3 = Three
 sapi_of L.Net3 = Three
 
--- the side whose blocks travel in this direction: the mobile's go up, the network's go down
+-- the side whose blocks travel in this direction: the mobile sends up, the network sends down
 abbrev pub sender_of : L.Way → Role
 sender_of L.Up = Mobile
 sender_of L.Down = Network
 
--- the octets in a line
-abbrev pub octets_in : List Value → List ℕ
-octets_in [] = []
-octets_in (Number n ∷ values) = octets_in values
-octets_in (NumberList octets ∷ values) = octets
-octets_in (Place n ∷ values) = octets_in values
+-- the octets among the values of a line
+abbrev pub octets_of_values : List Value → List ℕ
+octets_of_values [] = []
+octets_of_values (Number n ∷ values) = octets_of_values values
+octets_of_values (NumberList octets ∷ values) = octets
+octets_of_values (Place n ∷ values) = octets_of_values values
 
--- the event in which this endpoint gets this call
+-- the event in which this endpoint receives this call
 abbrev pub call_event : L.LinkEndpoint → E.Request → A.Event
 call_event end request = E.Ask (role_of end) (sapi_of end) request
 
--- the event that a form's name and its values mean
+-- the event for a line of this kind with these values
 abbrev pub event_of_values : L.LinkLineKind → List Value → A.Event
-event_of_values L.Open values = E.Open (octets_in values)
+event_of_values L.Open values = E.Open (octets_of_values values)
 event_of_values (L.OpenBare end) values = E.OpenBare (role_of end)
-event_of_values (L.Send end) values = call_event end (E.Send (octets_in values))
-event_of_values (L.UnitData end) values = call_event end (E.SendUnit (octets_in values))
+event_of_values (L.Send end) values = call_event end (E.Send (octets_of_values values))
+event_of_values (L.UnitData end) values = call_event end (E.SendUnit (octets_of_values values))
 event_of_values (L.Close end) values = call_event end E.Close
 event_of_values (L.Tick end) values = call_event end E.T200Expiry
 event_of_values (L.Idle end) values = call_event end E.Idle
 event_of_values (L.Deliver way) values = E.Deliver (sender_of way) []
 event_of_values (L.Lose way) values = E.Lose (sender_of way)
 event_of_values (L.Flip way) values = E.Deliver (sender_of way) (places values)
-event_of_values L.Rival values = E.Rival (octets_in values)
+event_of_values L.Rival values = E.Rival (octets_of_values values)
 
--- the event that a line means, or `None` if the line is skipped
+-- the event that the meaning of a line describes, or `None` if the line is skipped
 abbrev pub event_of_meaning : Option (L.LinkLineKind × List Value) → Option A.Event
 event_of_meaning said = option_map (λ meaning. event_of_values meaning.0 meaning.1) said
 
--- what a script line means: an event, or `None` if the line is skipped
-abbrev pub ScriptMeans : List ℕ → Option A.Event → Type 0
-ScriptMeans line = IsMadeFromSome event_of_meaning (LineMeans link_forms no_order_fault line)
+-- the script line means this event, or is skipped (`None`)
+abbrev pub ScriptLineMeans : List ℕ → Option A.Event → Type 0
+ScriptLineMeans line = IsMadeFromMeaning event_of_meaning (LineMeans link_forms no_order_fault line)

@@ -1,4 +1,4 @@
--- What the parser reads from the words of a script line, part by part (internal).
+-- The results of parsing the parts of a script line (used inside this crate).
 use Rattle.std.specs.Prelude.{ℕ, nat_lt, Bool, true, false, not, List, [], ◌∷◌, map, Option, Some, None, Result, Ok, Err}
 use Rattle.std.specs.Prelude.{if◌then◌else◌}
 use Rattle.std.specs.List.{list_any}
@@ -17,21 +17,21 @@ use Rattle.um_script.specs.declared.names.Actor.{Actor}
 use Rattle.um_script.specs.declared.names.Actor.TheVariants as W
 use Rattle.um_script.specs.declared.names.Request.{Request}
 use Rattle.um_script.specs.declared.names.Request.TheVariants as Q
-use Rattle.um_script.specs.declared.names.RadioPathAct.{RadioPathAct}
-use Rattle.um_script.specs.declared.names.RadioPathAct.TheVariants as T
-use Rattle.um_script.specs.Names.{endpoint_named, direction_named, actor_of_name, request_of_name, act_of_name}
+use Rattle.um_script.specs.declared.names.RadioAction.{RadioAction}
+use Rattle.um_script.specs.declared.names.RadioAction.TheVariants as T
+use Rattle.um_script.specs.Names.{link_endpoint_of, link_direction_of, actor_of_name, request_of_name, action_of_name}
 use Rattle.um_script.specs.ScriptLines.{role_of, sapi_of, sender_of, call_event, event_of_meaning}
 
--- the result of reading a line: an event, `None` for a skipped line, or the reason why it is refused
+-- the result of parsing a line: an event, `None` for a skipped line, or the fault
 abbrev pub EventOrFault : Type 0
 EventOrFault = Result (Option A.Event) LineFault
 
--- the event that words mean, or the first reason why they are refused
-abbrev pub parsed_words : List (List ℕ) → EventOrFault
-parsed_words ws = fault_or_value (first_word_fault no_order_fault (form_of_words link_forms ws) ws) (event_of_meaning (meaning_of_words
+-- the event that the words describe, or their first fault
+abbrev pub parsed_by_forms : List (List ℕ) → EventOrFault
+parsed_by_forms ws = fault_or_value (first_word_fault no_order_fault (form_of_words link_forms ws) ws) (event_of_meaning (meaning_of_words
     (form_of_words link_forms ws) ws))
 
--- the octets in the words, of which there must be exactly one
+-- the octets that a single word represents, or its first fault; no word, or more than one, is the fault `Word`
 abbrev pub parsed_octets_word : List (List ℕ) → Result (List ℕ) LineFault
 parsed_octets_word [] = Err Word
 parsed_octets_word (w ∷ []) = if not (is_dash_or_hex w) then Err Digits else if not (has_octet_count 0 None w) then Err Length else Ok
@@ -41,7 +41,7 @@ parsed_octets_word (w ∷ other ∷ ws) = Err Word
 abbrev pub is_above_591 : List ℕ → Bool
 is_above_591 w = nat_lt 591 (digits_value 10 w)
 
--- the bit indices in the words
+-- the bit indices that the words represent, or the first fault
 abbrev pub parsed_bit_indices : List (List ℕ) → Result (List ℕ) LineFault
 parsed_bit_indices ws =
     if list_any (λ w. not (is_decimal w)) ws then Err Digits
@@ -53,63 +53,63 @@ abbrev pub event_from_result : (List ℕ → A.Event) → Result (List ℕ) Line
 event_from_result make (Ok ns) = Ok (Some (make ns))
 event_from_result make (Err fault) = Err fault
 
-abbrev pub reads : A.Event → EventOrFault
-reads event = Ok (Some event)
+abbrev pub accepted_event : A.Event → EventOrFault
+accepted_event event = Ok (Some event)
 
--- ---- calls of an endpoint
+-- ---- calls to an endpoint
 
 abbrev pub is_sapi_3 : Sapi → Bool
 is_sapi_3 Zero = false
 is_sapi_3 Three = true
 
--- a call without octets, such as `close`
-abbrev pub parsed_call_verb : L.LinkEndpoint → Option Request → EventOrFault
-parsed_call_verb end (Some Q.Open) = if is_sapi_3 (sapi_of end) then reads (E.OpenBare (role_of end)) else Err Word
-parsed_call_verb end (Some Q.Close) = reads (call_event end E.Close)
-parsed_call_verb end (Some Q.Tick) = reads (call_event end E.T200Expiry)
-parsed_call_verb end (Some Q.Idle) = if is_sapi_3 (sapi_of end) then Err Word else reads (call_event end E.Idle)
-parsed_call_verb end request = Err Word
+-- the event for a call without octets, such as `close`, or the fault `Word`
+abbrev pub parsed_one_word_call : L.LinkEndpoint → Option Request → EventOrFault
+parsed_one_word_call end (Some Q.Open) = if is_sapi_3 (sapi_of end) then accepted_event (E.OpenBare (role_of end)) else Err Word
+parsed_one_word_call end (Some Q.Close) = accepted_event (call_event end E.Close)
+parsed_one_word_call end (Some Q.Tick) = accepted_event (call_event end E.T200Expiry)
+parsed_one_word_call end (Some Q.Idle) = if is_sapi_3 (sapi_of end) then Err Word else accepted_event (call_event end E.Idle)
+parsed_one_word_call end request = Err Word
 
 abbrev pub is_mobile_sapi_0 : L.LinkEndpoint → Bool
 is_mobile_sapi_0 L.Mob = true
 is_mobile_sapi_0 end = false
 
--- a call that is followed by further words, such as `send`
+-- the event for a call with octets, such as `send`, or the fault
 abbrev pub parsed_octets_call : L.LinkEndpoint → Option Request → List (List ℕ) → EventOrFault
 parsed_octets_call end (Some Q.Open) ws = if is_mobile_sapi_0 end then event_from_result E.Open (parsed_octets_word ws) else Err Word
 parsed_octets_call end (Some Q.Send) ws = event_from_result (λ m. call_event end (E.Send m)) (parsed_octets_word ws)
 parsed_octets_call end (Some Q.Unit) ws = event_from_result (λ m. call_event end (E.SendUnit m)) (parsed_octets_word ws)
 parsed_octets_call end request ws = Err Word
 
-abbrev pub parsed_call : L.LinkEndpoint → List (List ℕ) → EventOrFault
-parsed_call end [] = Err Word
-parsed_call end (verb ∷ []) = parsed_call_verb end (request_of_name verb)
-parsed_call end (verb ∷ w ∷ ws) = parsed_octets_call end (request_of_name verb) (w ∷ ws)
+abbrev pub parsed_layer3_call : L.LinkEndpoint → List (List ℕ) → EventOrFault
+parsed_layer3_call end [] = Err Word
+parsed_layer3_call end (verb ∷ []) = parsed_one_word_call end (request_of_name verb)
+parsed_layer3_call end (verb ∷ w ∷ ws) = parsed_octets_call end (request_of_name verb) (w ∷ ws)
 
 -- ---- what happens to a block on the radio path
 
-abbrev pub parsed_deliver_or_lose : L.Way → Option RadioPathAct → EventOrFault
-parsed_deliver_or_lose way (Some T.Deliver) = reads (E.Deliver (sender_of way) [])
-parsed_deliver_or_lose way (Some T.Lose) = reads (E.Lose (sender_of way))
+abbrev pub parsed_deliver_or_lose : L.Way → Option RadioAction → EventOrFault
+parsed_deliver_or_lose way (Some T.Deliver) = accepted_event (E.Deliver (sender_of way) [])
+parsed_deliver_or_lose way (Some T.Lose) = accepted_event (E.Lose (sender_of way))
 parsed_deliver_or_lose way act = Err Word
 
-abbrev pub parsed_flip : L.Way → Option RadioPathAct → List (List ℕ) → EventOrFault
+abbrev pub parsed_flip : L.Way → Option RadioAction → List (List ℕ) → EventOrFault
 parsed_flip way (Some T.Flip) ws = event_from_result (E.Deliver (sender_of way)) (parsed_bit_indices ws)
 parsed_flip way act ws = Err Word
 
 abbrev pub parsed_radio_event : L.Way → List (List ℕ) → EventOrFault
 parsed_radio_event way [] = Err Word
-parsed_radio_event way (verb ∷ []) = parsed_deliver_or_lose way (act_of_name verb)
-parsed_radio_event way (verb ∷ w ∷ ws) = parsed_flip way (act_of_name verb) (w ∷ ws)
+parsed_radio_event way (verb ∷ []) = parsed_deliver_or_lose way (action_of_name verb)
+parsed_radio_event way (verb ∷ w ∷ ws) = parsed_flip way (action_of_name verb) (w ∷ ws)
 
 -- ---- whole lines
 
-abbrev pub parsed_for_actor : Option Actor → List (List ℕ) → EventOrFault
-parsed_for_actor None ws = Err Word
-parsed_for_actor (Some (W.End end sapi)) ws = parsed_call (endpoint_named end sapi) ws
-parsed_for_actor (Some (W.Way way)) ws = parsed_radio_event (direction_named way) ws
-parsed_for_actor (Some W.Rival) ws = event_from_result E.Rival (parsed_octets_word ws)
+abbrev pub parsed_actor_words : Option Actor → List (List ℕ) → EventOrFault
+parsed_actor_words None ws = Err Word
+parsed_actor_words (Some (W.End end sapi)) ws = parsed_layer3_call (link_endpoint_of end sapi) ws
+parsed_actor_words (Some (W.Way way)) ws = parsed_radio_event (link_direction_of way) ws
+parsed_actor_words (Some W.Rival) ws = event_from_result E.Rival (parsed_octets_word ws)
 
 abbrev pub parsed_script_words : List (List ℕ) → EventOrFault
 parsed_script_words [] = Err Word
-parsed_script_words (name ∷ ws) = parsed_for_actor (actor_of_name name) ws
+parsed_script_words (name ∷ ws) = parsed_actor_words (actor_of_name name) ws

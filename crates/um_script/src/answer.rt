@@ -1,30 +1,31 @@
-//! Writes the lines that answer a script line.
+//! Writes the output lines for a script line.
 ghost use Rattle.std.specs.Prelude.{◌≡◌, ◌+◌, ◌*◌, ◌-◌, ◌<◌, ◌≤◌, [], ◌∷◌, ◌++◌, length, map, take};
 ghost use Rattle.std.specs.Prelude.{drop, codes, IfOk, OnOk};
-ghost use Rattle.hex.specs.Hex.{encode_lower};
+ghost use Rattle.um_lines.specs.Hex.{encode_lower};
 ghost use Rattle.um_link.specs.bit_blocks.Octets.{bits_of, octets_of};
 ghost use Rattle.um_link.specs.um_air.Air as A;
 ghost use Rattle.um_link.specs.um_air.Sessions.{AreOctets};
 ghost use Rattle.um_lines.specs.Spelled.{octets_word};
-ghost use Rattle.um_script.specs.AnswerLines.{No as Refusal, Reports, Sends, reception, reception_words, notice_words, received_block_line};
+ghost use Rattle.um_script.specs.AnswerLines.{No as Refusal, Reports, Sends, reception_quality, reception_words, notice_words};
+ghost use Rattle.um_script.specs.AnswerLines.{received_block_line};
 ghost use Rattle.um_script.specs.AnswerLines.{received_block_lines};
 ghost use Rattle.um_script.specs.AnswerLines.{spaced_words, answer_line_text, lines_text, answer_lines, answer_text};
 ghost use Rattle.um_script.specs.AnswerLines.{ReceptionIsInRange, NoticeIsInRange, LineIsInRange, LinesAreInRange};
-ghost use Rattle.um_link.specs.Naming.{answer_of, step_of, who_of, event_refusal_of, step_result};
-ghost use Rattle.um_link.specs.Abstraction.{FitsActor};
+ghost use Rattle.um_link.specs.Naming.{answer_of, step_of, actor_of_who, event_refusal_of, step_result};
+ghost use Rattle.um_link.specs.Abstraction.{StepFitsItsActor};
 ghost use Rattle.um_script.specs.AnswerWords.{actor_word, sapi_suffix, call_refusal_word, closing_reason_word};
 
 use um_lines::{BLOCK_BITS, BLOCK_OCTETS, Text, octets_from_bits_at};
 use um_link::{No, Notice, Reason, Received, Sapi, Step, Who};
 
-/// Writes the lines of an answer: what was received, the notices, what is sent and `ok`, or `no` and the reason.
+/// Writes the lines of an answer: the received block, the notices, the frames sent, and `ok`; or `no` and the reason.
 pub fn step_lines(out: &mut Text, answer: &Result<Step, No>)
     requires empty { out.old ≡ [] }
-    requires fits { IfOk answer.now (λ step. FitsActor (step_of step)) }
+    requires fits { IfOk answer.now (λ step. StepFitsItsActor (step_of step)) }
     ensures text { out.new ≡ answer_text (answer_of answer.now) }
     ensures size { length out.new < 2000 }
 
-    // All octets and numbers are in range, as `law_text_determines_lines` requires.
+    // All octets and numbers in the lines are in range, as `law_text_determines_lines` requires.
     ensures fit { LinesAreInRange (answer_lines (answer_of answer.now)) }
 {
     match answer {
@@ -33,10 +34,10 @@ pub fn step_lines(out: &mut Text, answer: &Result<Step, No>)
     }
 }
 
-/// `step_lines` for a step that is stored in a buffer of the caller.
+/// Writes the lines of an answer whose step is stored in a buffer of the caller.
 pub fn write_step_lines(out: &mut Text, done: &Result<(), No>, step: &Step)
     requires empty { out.old ≡ [] }
-    requires fits { OnOk done.now (FitsActor (step_of step.now)) }
+    requires fits { OnOk done.now (StepFitsItsActor (step_of step.now)) }
     ensures text { out.new ≡ answer_text (answer_of (step_result done.now step.now)) }
     ensures size { length out.new < 2000 }
     ensures fit { LinesAreInRange (answer_lines (answer_of (step_result done.now step.now))) }
@@ -53,11 +54,11 @@ fn push_refusal(out: &mut Text, reason: No)
     ensures size { length out.new ≤ 20 }
 {
     out.push(b"no ");
-    out.push(refusal(reason));
+    out.push(call_refusal_word(reason));
     out.push(b"\n");
 }
 
-fn refusal(reason: No) -> &'static [u8]
+fn call_refusal_word(reason: No) -> &'static [u8]
     ensures word { result.now ≡ call_refusal_word (event_refusal_of reason) }
     ensures size { length result.now ≤ 10 }
 {
@@ -88,18 +89,18 @@ fn push_step(out: &mut Text, step: &Step)
 
 fn push_arrival(out: &mut Text, who: Who, received: &Option<Received>)
     requires { out.old ≡ [] }
-    ensures text { out.new ≡ lines_text (received_block_lines (who_of who) received.now) }
+    ensures text { out.new ≡ lines_text (received_block_lines (actor_of_who who) received.now) }
     ensures size { length out.new ≤ 300 }
-    ensures fit { LinesAreInRange (received_block_lines (who_of who) received.now) }
+    ensures fit { LinesAreInRange (received_block_lines (actor_of_who who) received.now) }
 {
     match received {
-        Some(r) => push_block(out, who, r),
+        Some(r) => push_received_block(out, who, r),
         None => {}
     }
 }
 
 fn name(who: Who) -> &'static [u8]
-    ensures word { result.now ≡ actor_word (who_of who) }
+    ensures word { result.now ≡ actor_word (actor_of_who who) }
     ensures size { length result.now ≤ 5 }
 {
     match who {
@@ -111,21 +112,21 @@ fn name(who: Who) -> &'static [u8]
 }
 
 #[tactic(auto, using(crate::proofs::AnswerLaws::line_spaced))]
-fn push_block(out: &mut Text, who: Who, r: &Received)
+fn push_received_block(out: &mut Text, who: Who, r: &Received)
     requires { out.old ≡ [] }
-    ensures text { out.new ≡ answer_line_text (received_block_line (who_of who) r.now.accepted r.now) }
+    ensures text { out.new ≡ answer_line_text (received_block_line (actor_of_who who) r.now.accepted r.now) }
     ensures size { length out.new ≤ 300 }
-    ensures fit { LineIsInRange (received_block_line (who_of who) r.now.accepted r.now) }
+    ensures fit { LineIsInRange (received_block_line (actor_of_who who) r.now.accepted r.now) }
 {
     out.push(name(who));
     match &r.accepted {
         Some(octets) => {
             push_accepted_block(out, octets);
-            push_reception(out, r);
+            push_reception_quality(out, r);
         }
         None => {
             out.push(b" drops");
-            push_reception(out, r);
+            push_reception_quality(out, r);
             push_dropped_block(out, r);
         }
     }
@@ -143,11 +144,11 @@ fn push_accepted_block(out: &mut Text, octets: &[u8])
     out.push_hex(octets);
 }
 
-fn push_reception(out: &mut Text, r: &Received)
+fn push_reception_quality(out: &mut Text, r: &Received)
     requires { length out.old ≤ 60 }
-    ensures text { out.new ≡ out.old ++ spaced_words (reception_words (reception r.now)) }
+    ensures text { out.new ≡ out.old ++ spaced_words (reception_words (reception_quality r.now)) }
     ensures size { length out.new ≤ length out.old + 120 }
-    ensures fit { ReceptionIsInRange (reception r.now) }
+    ensures fit { ReceptionIsInRange (reception_quality r.now) }
 {
     out.push(b" tsc ");
     out.push_decimal(u64::from(r.tsc));
@@ -179,7 +180,7 @@ fn push_data_and_check_words(out: &mut Text, octets: &[u8], check: &[u8])
         ++ spaced_words (codes "data" ∷ encode_lower octets.now ∷ codes "check" ∷ encode_lower check.now ∷ []) }
     ensures size { length out.new ≡ length out.old + 69 }
 
-    // Octets are unchanged if they are unpacked to bits and packed again.
+    // The octets are in range, and unpacking them to bits and packing the bits again gives the original octets.
     ensures fit { AreOctets octets.now × AreOctets check.now }
     ensures octets { octets_of (bits_of octets.now) ≡ octets.now }
     ensures check { octets_of (bits_of check.now) ≡ check.now }
@@ -194,19 +195,19 @@ fn push_data_and_check_words(out: &mut Text, octets: &[u8], check: &[u8])
 fn push_notices(out: &mut Text, who: Who, sapi: Sapi, notices: &[Notice])
     requires space { length out.old ≤ 300 }
     requires size { length notices.now ≤ 3 }
-    ensures text { out.new ≡ out.old ++ lines_text (map (Reports (who_of who) sapi) notices.now) }
+    ensures text { out.new ≡ out.old ++ lines_text (map (Reports (actor_of_who who) sapi) notices.now) }
     ensures size { length out.new ≤ length out.old + 520 * length notices.now }
-    ensures fit { LinesAreInRange (map (Reports (who_of who) sapi) notices.now) }
+    ensures fit { LinesAreInRange (map (Reports (actor_of_who who) sapi) notices.now) }
 {
     for notice in notices {
         out.push(name(who));
-        out.push(link(sapi));
+        out.push(sapi_suffix(sapi));
         push_notice(out, notice);
         out.push(b"\n");
     }
 }
 
-fn link(sapi: Sapi) -> &'static [u8]
+fn sapi_suffix(sapi: Sapi) -> &'static [u8]
     ensures word { result.now ≡ sapi_suffix sapi }
     ensures size { length result.now ≤ 1 }
 {
@@ -233,7 +234,7 @@ fn push_notice(out: &mut Text, notice: &Notice)
         Notice::Oversize => out.push(b" oversize"),
         Notice::Closed(reason) => {
             out.push(b" closed ");
-            out.push(closing_reason_octets(*reason));
+            out.push(closing_reason_word(*reason));
         }
     }
 }
@@ -254,7 +255,7 @@ fn push_word_and_octets(out: &mut Text, word: &[u8], octets: &[u8])
     }
 }
 
-fn closing_reason_octets(reason: Reason) -> &'static [u8]
+fn closing_reason_word(reason: Reason) -> &'static [u8]
     ensures word { result.now ≡ closing_reason_word reason }
     ensures size { length result.now ≤ 10 }
 {
@@ -269,9 +270,9 @@ fn closing_reason_octets(reason: Reason) -> &'static [u8]
 fn push_frames(out: &mut Text, who: Who, frames: &[[u8; BLOCK_OCTETS]])
     requires space { length out.old ≤ 1870 }
     requires size { length frames.now ≤ 2 }
-    ensures text { out.new ≡ out.old ++ lines_text (map (Sends (who_of who)) frames.now) }
+    ensures text { out.new ≡ out.old ++ lines_text (map (Sends (actor_of_who who)) frames.now) }
     ensures size { length out.new ≤ length out.old + 60 * length frames.now }
-    ensures fit { LinesAreInRange (map (Sends (who_of who)) frames.now) }
+    ensures fit { LinesAreInRange (map (Sends (actor_of_who who)) frames.now) }
 {
     for frame in frames {
         out.push(name(who));
@@ -291,8 +292,8 @@ fn push_sent_frame(out: &mut Text, frame: &[u8])
     out.push(b"\n");
 }
 
-/// Two lists of answer lines have the same text if and only if they are equal, provided that their octets and numbers are in range (see the
-/// clause `fit` of `step_lines`).
+/// Law: the text of an answer determines its lines: if all octets and numbers are in range, two answers have the same text exactly if they
+/// have the same lines.
 pub fn law_text_determines_lines()
     ensures same { (x y : A.Answer) → answer_lines x ≡ answer_lines y → answer_text x ≡ answer_text y }
     ensures different { (x y : A.Answer) → LinesAreInRange (answer_lines x) → LinesAreInRange (answer_lines y) →

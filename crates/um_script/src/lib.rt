@@ -1,5 +1,5 @@
-//! Parses the lines of a script for `link`, each of which says what happens at a side or on the radio path, and writes the lines that
-//! answer them.
+//! Parses the script lines of `link`, each of which describes an event at a side or on the radio path, and writes the output lines for
+//! them.
 #![tactic(auto)]
 
 mod answer;
@@ -12,5 +12,5 @@ mod tests;
 
 pub use answer::{law_text_determines_lines, step_lines, write_step_lines};
 pub use room::Room;
-pub use script::{ScriptLine, law_messages_are_octets, law_one_script_meaning, parse_script};
+pub use script::{ScriptLine, law_messages_are_octets, law_script_meaning_is_unique, parse_script};
 pub use um_lines::{LineFault, Text};

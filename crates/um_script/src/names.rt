@@ -1,11 +1,11 @@
 //! The first two words of a script line: who acts, and what happens.
 ghost use Rattle.std.specs.Prelude.{◌≡◌};
 ghost use Rattle.std.specs.Str.{bytes_eq};
-ghost use Rattle.um_script.specs.Names.{actor_of_name, request_of_name, act_of_name};
+ghost use Rattle.um_script.specs.Names.{actor_of_name, request_of_name, action_of_name};
 
 use um_link::{End, Sapi, Way};
 
-/// What a line is about: an endpoint, a direction, or another mobile.
+/// The subject of a script line: an endpoint, a direction, or another mobile.
 #[derive(Clone, Copy, PartialEq, Eq, Debug)]
 pub(crate) enum Actor {
     End(End, Sapi),
@@ -26,7 +26,7 @@ pub(crate) enum Request {
 
 /// What happens to a block on the radio path.
 #[derive(Clone, Copy, PartialEq, Eq, Debug)]
-pub(crate) enum RadioPathAct {
+pub(crate) enum RadioAction {
     Deliver,
     Lose,
     Flip,
@@ -38,7 +38,7 @@ fn is(word: &[u8], name: &[u8]) -> bool
     word == name
 }
 
-pub(crate) fn actor_of(word: &[u8]) -> Option<Actor>
+pub(crate) fn actor_of_word(word: &[u8]) -> Option<Actor>
     ensures { result ≡ actor_of_name word.now }
 {
     if is(word, b"mob") {
@@ -60,7 +60,7 @@ pub(crate) fn actor_of(word: &[u8]) -> Option<Actor>
     }
 }
 
-pub(crate) fn request_of(word: &[u8]) -> Option<Request>
+pub(crate) fn request_of_word(word: &[u8]) -> Option<Request>
     ensures { result ≡ request_of_name word.now }
 {
     if is(word, b"open") {
@@ -80,15 +80,15 @@ pub(crate) fn request_of(word: &[u8]) -> Option<Request>
     }
 }
 
-pub(crate) fn act_of(word: &[u8]) -> Option<RadioPathAct>
-    ensures { result ≡ act_of_name word.now }
+pub(crate) fn action_of_word(word: &[u8]) -> Option<RadioAction>
+    ensures { result ≡ action_of_name word.now }
 {
     if is(word, b"deliver") {
-        Some(RadioPathAct::Deliver)
+        Some(RadioAction::Deliver)
     } else if is(word, b"lose") {
-        Some(RadioPathAct::Lose)
+        Some(RadioAction::Lose)
     } else if is(word, b"flip") {
-        Some(RadioPathAct::Flip)
+        Some(RadioAction::Flip)
     } else {
         None
     }

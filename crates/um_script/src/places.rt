@@ -1,4 +1,4 @@
-//! Reads the words that give the indices of bits in a block.
+//! Parses words that are indices of bits in a block.
 ghost use Rattle.std.specs.Prelude.{◌≡◌, ◌≤◌, ◌∷◌, ℕ, not, length, min, take, IsTrue};
 ghost use Rattle.std.specs.List.{list_any};
 ghost use Rattle.std.specs.Str.{all_ascii_digits};
@@ -7,16 +7,16 @@ ghost use Rattle.um_lines.specs.Words.{words};
 ghost use Rattle.um_lines.specs.Fields.{is_decimal};
 ghost use Rattle.um_lines.specs.Forms.{has_repeated_number};
 ghost use Rattle.um_script.specs.ScriptReading.{is_above_591};
-ghost use Rattle.um_script.specs.Held.{words_of_rest, numbers_of_words, AreDecimals, AreBitIndexWords};
+ghost use Rattle.um_script.specs.Held.{remaining_words, numbers_of_words, AreDecimalWords, AreBitIndexWords};
 
 use um_lines::first_word;
 
 /// The number of bits in a block.
 const BLOCK_BIT_COUNT: u16 = 592;
 
-/// The first word of a text, and the text after it if more words follow.
+/// Splits a text into its first word and, if more words follow, the text after it.
 fn split_first_word(text: &[u8]) -> (&[u8], Option<&[u8]>)
-    ensures { words text.now ≡ result.0.now ∷ words_of_rest result.1 }
+    ensures { words text.now ≡ result.0.now ∷ remaining_words result.1 }
 {
     match first_word(text) {
         None => (text, None),
@@ -61,7 +61,7 @@ pub(crate) fn are_decimals(text: &[u8]) -> bool
     true
 }
 
-/// The number that a word of digits stands for, or 592 if the number is greater; the word may have any length.
+/// The number that a word of digits represents, or 592 if the number is greater. The word may have any length.
 fn bit_index_of_word(word: &[u8]) -> u16
     requires { IsTrue (all_ascii_digits word.now) }
     ensures { result ≡ min (digits_value 10 word.now) 592 }
@@ -73,9 +73,9 @@ fn bit_index_of_word(word: &[u8]) -> u16
     place
 }
 
-/// Whether some word of a text is a number above 591.
+/// Whether any word of the text is a number above 591.
 pub(crate) fn has_index_above_591(text: &[u8]) -> bool
-    requires { AreDecimals (words text.now) }
+    requires { AreDecimalWords (words text.now) }
     ensures { result ≡ list_any is_above_591 (words text.now) }
 {
     let mut rest = Some(text);
@@ -89,7 +89,7 @@ pub(crate) fn has_index_above_591(text: &[u8]) -> bool
     false
 }
 
-/// Whether two words of a text are the same index.
+/// Whether any two words of the text are the same index.
 pub(crate) fn has_repeated_index(text: &[u8]) -> bool
     requires { AreBitIndexWords (words text.now) }
     ensures { result ≡ has_repeated_number (numbers_of_words (words text.now)) }
@@ -108,7 +108,7 @@ pub(crate) fn has_repeated_index(text: &[u8]) -> bool
     false
 }
 
-/// Writes the indices that the words of a text stand for, and returns how many there are.
+/// Writes the bit indices in the words of the text to the front of `places`, and returns their number.
 pub(crate) fn hold_places(places: &mut [u16; 592], text: &[u8]) -> usize
     requires words { AreBitIndexWords (words text.now) }
     requires space { length (words text.now) ≤ 592 }

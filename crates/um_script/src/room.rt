@@ -1,12 +1,12 @@
 //! A buffer for the data of one script line.
 ghost use Rattle.std.specs.Prelude.{◌≡◌, ◌≤◌, ◌*◌, ◌%◌, length, IsTrue, IfOk};
 ghost use Rattle.std.specs.List.{list_all};
-ghost use Rattle.hex.specs.Hex.{is_hex_digit};
+ghost use Rattle.um_lines.specs.Hex.{is_hex_digit};
 ghost use Rattle.um_lines.specs.Words.{words};
 ghost use Rattle.um_lines.specs.Fields.{octets_from_hex};
 ghost use Rattle.um_script.specs.ScriptReading.{parsed_octets_word, parsed_bit_indices};
 ghost use Rattle.um_link.specs.Queues.{AreBitIndices};
-ghost use Rattle.um_script.specs.Held.{octets_in_buffer, bit_indices_in_buffer};
+ghost use Rattle.um_script.specs.Held.{octets_or_fault, bit_indices_or_fault};
 
 use crate::places::{are_decimals, has_index_above_591, has_repeated_index, hold_places};
 use um_lines::{
@@ -22,7 +22,7 @@ pub struct Room {
 }
 
 impl Room {
-    /// Empty buffers.
+    /// A buffer that holds nothing yet.
     pub fn new() -> Room {
         Room {
             octets: [0; 2048],
@@ -50,10 +50,10 @@ impl Room {
         held
     }
 
-    /// Reads the octets from a text that must be one word, or returns the first reason why it is refused.
-    pub(crate) fn read_octets(&mut self, text: &[u8]) -> Result<&[u8], LineFault>
+    /// Parses the octets in a text that must be a single word, and stores them in the buffer, or returns the first fault.
+    pub(crate) fn parse_octets_word(&mut self, text: &[u8]) -> Result<&[u8], LineFault>
         requires { length text.now ≤ 4096 }
-        ensures { octets_in_buffer result ≡ parsed_octets_word (words text.now) }
+        ensures { octets_or_fault result ≡ parsed_octets_word (words text.now) }
     {
         let word = parse_only_word(text)?;
         if !is_dash_or_hex(word) {
@@ -65,11 +65,11 @@ impl Room {
         if matches!(word, b"-") {
             return Ok(&[]);
         }
-        Ok(self.hold_digits(word))
+        Ok(self.decode_hex_octets(word))
     }
 
     /// Decodes hexadecimal digits, two for each octet, into the buffer.
-    fn hold_digits(&mut self, digits: &[u8]) -> &[u8]
+    fn decode_hex_octets(&mut self, digits: &[u8]) -> &[u8]
         requires each { IsTrue (list_all is_hex_digit digits.now) }
         requires even { length digits.now % 2 ≡ 0 }
         requires space { length digits.now ≤ 4096 }
@@ -80,9 +80,9 @@ impl Room {
         held
     }
 
-    /// Reads the bit indices from the words of a text, or returns the first reason why they are refused.
-    pub(crate) fn read_bit_indices(&mut self, text: &[u8]) -> Result<&[u16], LineFault>
-        ensures read { bit_indices_in_buffer result ≡ parsed_bit_indices (words text.now) }
+    /// Parses the bit indices in the words of a text, and stores them in the buffer, or returns the first fault.
+    pub(crate) fn parse_bit_indices(&mut self, text: &[u8]) -> Result<&[u16], LineFault>
+        ensures read { bit_indices_or_fault result ≡ parsed_bit_indices (words text.now) }
         ensures possible { IfOk result (λ places. AreBitIndices places.now) }
     {
         if !are_decimals(text) {

@@ -1,6 +1,6 @@
 use super::*;
 use std::test::Fail;
-use um_lines::{BLOCK_OCTETS, Bits, INFORMATION_BITS, LineFault, Text, from_octets};
+use um_lines::{BLOCK_OCTETS, Bits, ENCODER_INPUT_BITS, LineFault, Text, from_octets};
 use um_link::{
     Air, Call, Effects, End, Event, Frames, Message, No, Notice, Notices, Reason, Received, Sapi,
     Step, Way, Who,
@@ -104,8 +104,8 @@ fn block(front: [u8; 4]) -> [u8; BLOCK_OCTETS] {
 }
 
 /// A received block. Its CRC is good if `accepted` has octets, otherwise bad.
-fn reception(
-    u: Bits<INFORMATION_BITS>,
+fn reception_quality(
+    u: Bits<ENCODER_INPUT_BITS>,
     tsc: u8,
     accepted: Option<[u8; BLOCK_OCTETS]>,
 ) -> Option<Received> {
@@ -163,7 +163,7 @@ fn reception_notice_and_sent_frame_are_written_in_order(rt: HostRuntime) -> Resu
         &Ok(Step {
             who: Who::Network,
             sapi: Sapi::Three,
-            received: reception(Bits::zero(), 0, Some(block([0x0d, 0, 5, 0xaa]))),
+            received: reception_quality(Bits::zero(), 0, Some(block([0x0d, 0, 5, 0xaa]))),
             effects,
         }),
     );
@@ -186,7 +186,7 @@ fn a_closing_by_contention_is_written(rt: HostRuntime) -> Result<(), Fail> {
         &Ok(Step {
             who: Who::Mobile,
             sapi: Sapi::Zero,
-            received: reception(Bits::zero(), 0, Some(block([1, 0x73, 5, 2]))),
+            received: reception_quality(Bits::zero(), 0, Some(block([1, 0x73, 5, 2]))),
             effects,
         }),
     );
@@ -202,7 +202,7 @@ fn a_block_with_a_bad_crc_is_written_as_dropped(rt: HostRuntime) -> Result<(), F
     let mut octets = [0x2b; 28];
     octets[..3].copy_from_slice(&[2, 3, 1]);
     octets[BLOCK_OCTETS..].copy_from_slice(&[0x2c, 0x4e, 0x54, 0x02, 0x33]);
-    let mut bits = [0; INFORMATION_BITS];
+    let mut bits = [0; ENCODER_INPUT_BITS];
     from_octets(&octets, &mut bits[..224]);
     let Some(u) = Bits::from_slice(&bits) else {
         return Err("no bits".into());
@@ -217,7 +217,7 @@ fn a_block_with_a_bad_crc_is_written_as_dropped(rt: HostRuntime) -> Result<(), F
         &Ok(Step {
             who: Who::Mobile,
             sapi: Sapi::Zero,
-            received: reception(u, 7, None),
+            received: reception_quality(u, 7, None),
             effects,
         }),
     );

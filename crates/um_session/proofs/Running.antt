@@ -1,16 +1,16 @@
 -- A run by the rules that include the radio is also a run by the rules of `link`, and the claims about sessions hold for it.
-use Rattle.std.proofs.Common.{◌≡◌, ℕ, ◌+◌, inl, inr, Bool, true, false, List, [], ◌∷◌, ◌++◌, Option, None, Some, refl, sym, ap, ◌∙◌, subst}
-use Rattle.std.proofs.Common.{arith, append_assoc, append-nil}
-use Rattle.um_link.specs.{lapdm_frame.declared.Channel.Channel, um_block.Tallies.counter_after, um_air.Air.Answer}
-use Rattle.um_link.proofs.um_air.Laws.{air_claims, air_order, benign_is_harmless}
+use Rattle.std.proofs.Common.{◌≡◌, ℕ, ◌+◌, inl, inr, Bool, true, false, List, [], ◌∷◌, ◌++◌, Option, None, Some, refl}
+use Rattle.std.proofs.Common.{sym, ap, ◌∙◌, subst, arith, append_assoc, append-nil}
+use Rattle.um_link.specs.{lapdm_frame.declared.Channel.Channel, um_block.Tallies.counter_plus, um_air.Air.Answer}
+use Rattle.um_link.proofs.um_air.Laws.{air_claims, air_order, few_inverted_is_benign}
 use Rattle.um_script.specs.um_lines.declared.fault.LineFault.{LineFault}
-use Rattle.um_driver.specs.{Rules.{Runs, IsLineRefused, IsDetermined}, Outputs.{IsOutputOfLines, IsOutput}, Table.{IsRun, EndsAsPrescribed}}
-use Rattle.um_driver.{specs.declared.status.Status.{Status, TheVariants.NoMemory}, proofs.{AfterWrites.without_memory, RunLemmas.Runs-keep}}
-use Rattle.um_driver.proofs.Weaker.{IsWeakerBy, weaker_run_by, weaker_run_state, runs_by}
+use Rattle.um_driver.specs.{Rules.{Runs, IsLineRefused, IsDeterministic}, Outputs.{IsOutputOfLines, IsOutput}, Table.IsRun}
+use Rattle.um_driver.specs.{Table.EndsAsPrescribed, declared.status.Status.{Status, TheVariants.NoMemory}}
+use Rattle.um_driver.proofs.{AfterWrites.without_memory, RunLemmas.Runs-keep, Weaker.{IsWeakerBy, weaker_run_by, weaker_run_state, runs_by}}
 use Rattle.um_session.specs.{Sessions.{Session, idle, AnswersScriptLine, link_rules}, Courses.{SessionWithRadio, Tallies, rules_with_radio}}
-use Rattle.um_session.specs.{Courses.{frames_sent, blocks_received}, Promises.{DeliveryClaimsHold, RadioCountersRose, IsLinkRun}}
-use Rattle.um_session.proofs.{Octets.{HasOctets, octets_of_session, benign_events}, Answering.{IsSessionOn, session_of, link_is_determined}}
-use Rattle.um_session.proofs.Tallying.{frames_sent-append, blocks_received-append}
+use Rattle.um_session.specs.{Courses.{total_frames_sent, total_blocks_received}, Promises.{DeliveryLawsHold, RadioCountersRose, IsLinkRun}}
+use Rattle.um_session.proofs.{Octets.{HasOctets, octets_of_session, events_invert_few}, Answering.{IsSessionOn, session_of}}
+use Rattle.um_session.proofs.{Answering.link_is_determined, Tallying.{total_frames_sent-append, total_blocks_received-append}}
 
 abbrev session_in : SessionWithRadio → Session
 session_in c = c.session
@@ -18,15 +18,16 @@ session_in c = c.session
 without_radio : IsWeakerBy session_in rules_with_radio link_rules
 without_radio = record { fault = λ c line. refl; end_fault = λ c. refl; step = λ c b line y step. step.0 }
 
-pub delivered : (tsc : ℕ) (channel : Channel) (s : Session) → IsSessionOn tsc channel s → HasOctets s → DeliveryClaimsHold s
-delivered tsc channel s run octets = record {
+pub delivery_laws_hold : (tsc : ℕ) (channel : Channel) (s : Session) → IsSessionOn tsc channel s → HasOctets s → DeliveryLawsHold s
+delivery_laws_hold tsc channel s run octets = record {
   order = air_order tsc channel s.events s.answers s.air run;
   delivery = air_claims tsc channel s.events s.answers s.air run;
-  harmless = λ few. benign_is_harmless tsc channel s.events s.answers s.air run (benign_events s.events few octets);
+  benign = λ few. few_inverted_is_benign tsc channel s.events s.answers s.air run (events_invert_few s.events few octets);
 }
 
 -- a run does not change the record of the counters before the first line
-same_before : (c b : SessionWithRadio) (lines answers : List (List ℕ)) → Runs rules_with_radio c lines answers b → b.before ≡ c.before
+same_before : (c b : SessionWithRadio) (lines answers : List (List ℕ)) → Runs rules_with_radio c lines answers b →
+    b.before ≡ c.before
 same_before c b lines answers runs =
     Runs-keep rules_with_radio (λ x. x.before ≡ c.before) (λ x y line answer e step. step.1 ∙ e) c b lines answers refl runs
 
@@ -53,18 +54,18 @@ has_all c b lines answers runs =
 
 -- the radio's counters after the last line, computed from those before the first line and the answers
 abbrev pub Reports : Tallies → SessionWithRadio → Type 0
-Reports after c = (after.sent ≡ counter_after (frames_sent c.session.answers) c.before.sent)
-    × (after.heard ≡ counter_after (blocks_received c.session.answers) c.before.heard)
+Reports after c = (after.sent ≡ counter_plus (total_frames_sent c.session.answers) c.before.sent)
+    × (after.heard ≡ counter_plus (total_blocks_received c.session.answers) c.before.heard)
 
-by_radio : (before after : Tallies) (s : Session) (last : SessionWithRadio) → HasAll s.answers last.session → last.before ≡ before →
-    Reports after last → RadioCountersRose s.answers before after
-by_radio before after s last h same tells = record {
-  sends = frames_sent last.session.answers;
-  receives = blocks_received last.session.answers;
-  enough_sent = let e = ap frames_sent h.all ∙ frames_sent-append s.answers h.more in omega (arith, e);
-  enough_received = let e = ap blocks_received h.all ∙ blocks_received-append s.answers h.more in omega (arith, e);
-  sent = tells.0 ∙ ap (λ (b : Tallies). counter_after (frames_sent last.session.answers) b.sent) same;
-  heard = tells.1 ∙ ap (λ (b : Tallies). counter_after (blocks_received last.session.answers) b.heard) same;
+counters_rose : (before after : Tallies) (s : Session) (last : SessionWithRadio) → HasAll s.answers last.session →
+    last.before ≡ before → Reports after last → RadioCountersRose s.answers before after
+counters_rose before after s last h same tells = record {
+  sends = total_frames_sent last.session.answers;
+  receive_count = total_blocks_received last.session.answers;
+  enough_sent = let e = ap total_frames_sent h.all ∙ total_frames_sent-append s.answers h.more in omega (arith, e);
+  enough_received = let e = ap total_blocks_received h.all ∙ total_blocks_received-append s.answers h.more in omega (arith, e);
+  sent = tells.0 ∙ ap (λ (b : Tallies). counter_plus (total_frames_sent last.session.answers) b.sent) same;
+  heard = tells.1 ∙ ap (λ (b : Tallies). counter_plus (total_blocks_received last.session.answers) b.heard) same;
 }
 
 pub link_run : (tsc : ℕ) (channel : Channel) (before after : Tallies) (Represents : SessionWithRadio → Type 0) →
@@ -80,16 +81,16 @@ link_run tsc channel before after Represents tells status left left' taken taken
     record {
       run = weaker_run_by session_in rules_with_radio link_rules without_radio start Represents (λ last. Unit {0})
           (λ b represents. tt) status left left' taken taken' h;
-      by_radio =
+      counters_rose =
           subst (λ (s : Session). RadioCountersRose s.answers before after) (sym same)
-          (by_radio before after h.state.session h.last (has_all h.state h.last h.further h.unwritten h.ahead)
-          (same_before h.state h.last h.further h.unwritten h.ahead ∙ same_before start h.state h.lines h.answers h.runs)
+          (counters_rose before after h.state.session h.last (has_all h.state h.last h.further h.unwritten_answers h.ahead)
+          (same_before h.state h.last h.further h.unwritten_answers h.ahead ∙ same_before start h.state h.lines h.answers h.runs)
           (tells h.last h.represents));
-      delivered =
-          subst DeliveryClaimsHold (sym same)
+      delivery_laws_hold =
+          subst DeliveryLawsHold (sym same)
           (let runs : Runs link_rules (idle tsc channel) h.lines h.answers h.state.session =
           runs_by session_in rules_with_radio link_rules without_radio start h.state h.lines h.answers h.runs in
-          delivered tsc channel h.state.session (session_of tsc channel h.lines h.answers h.state.session runs)
+          delivery_laws_hold tsc channel h.state.session (session_of tsc channel h.lines h.answers h.state.session runs)
           (octets_of_session tsc channel h.lines h.answers h.state.session runs));
     }
 
@@ -108,7 +109,7 @@ output_by_both s before n [] true status z (inl h) = inl h
 output_by_both s before n [] true status z (inr h) = inr (record {
   fault = h.fault;
   bad = h.bad;
-  status_is = h.status_is;
+  is_bad_input = h.is_bad_input;
   output =
       h.output;
 })
@@ -119,11 +120,11 @@ output_by_both s before n (line ∷ judged) ended status z (inl h) = inl (record
   mid = record { session = h.mid; before = before };
   good = record { short = h.good.short; no_fault = h.good.no_fault };
   step = (h.step, refl);
-  then_ = output_by_both h.mid before (n + 1) judged ended status h.rest h.then_;
+  rest_follows = output_by_both h.mid before (n + 1) judged ended status h.rest h.rest_follows;
   output = h.output;
 })
 output_by_both s before n (line ∷ judged) ended status z (inr h) =
-    inr (record { fault = h.fault; bad = refused_by_both s before line h.fault h.bad; status_is = h.status_is; output = h.output })
+    inr (record { fault = h.fault; bad = refused_by_both s before line h.fault h.bad; is_bad_input = h.is_bad_input; output = h.output })
 
 output_too : (s : Session) (before : Tallies) (x : List ℕ) (status : Status) (z : List ℕ) → IsOutput link_rules s x status z →
     IsOutput rules_with_radio (record { session = s; before = before }) x status z
@@ -135,18 +136,19 @@ same_course b c s t =
     ap (λ (x : Session). let y : SessionWithRadio = record { session = x; before = b.before } in y) s
     ∙ ap (λ (x : Tallies). let y : SessionWithRadio = record { session = c.session; before = x } in y) t
 
-pub course_is_determined : IsDetermined rules_with_radio
+pub course_is_determined : IsDeterministic rules_with_radio
 course_is_determined a line y y' b b' (step, kept) (step', kept') =
     let same = link_is_determined a.session line y y' b.session b'.session step step' in
     (same.0, same_course b b' same.1 (kept ∙ sym kept'))
 
 pub link_due : (s : Session) (before : Tallies) (status : Status) (left taken taken' : Option (List ℕ)) →
-    (IsDetermined rules_with_radio → EndsAsPrescribed rules_with_radio (record { session = s; before = before }) status left taken taken') →
+    (IsDeterministic rules_with_radio → EndsAsPrescribed rules_with_radio (record { session = s; before = before }) status left taken
+    taken') →
     EndsAsPrescribed link_rules s status left taken taken'
 link_due s before status left taken taken' due = go left (due course_is_determined)
   where
-    go : (left : Option (List ℕ)) → EndsAsPrescribed rules_with_radio (record { session = s; before = before }) status left taken taken' →
-        EndsAsPrescribed link_rules s status left taken taken'
+    go : (left : Option (List ℕ)) → EndsAsPrescribed rules_with_radio (record { session = s; before = before }) status left taken
+        taken' → EndsAsPrescribed link_rules s status left taken taken'
     go None h = tt
     go (Some x) h = λ end z out. h end z (output_too s before x end z out)
 

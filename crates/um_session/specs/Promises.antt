@@ -1,40 +1,40 @@
 -- What is guaranteed for a run of the command `link` (this project's own rule).
 use Rattle.std.specs.Prelude.{ℕ, ◌≡◌, ◌≤◌, List, Option, All}
 use Rattle.um_link.specs.lapdm_frame.declared.Channel.{Channel}
-use Rattle.um_link.specs.lapdm_link.Claims.{Claims, OrderClaims}
-use Rattle.um_link.specs.um_block.Tallies.{counter_after}
+use Rattle.um_link.specs.lapdm_link.Claims.{Claims, IsOrderedLog}
+use Rattle.um_link.specs.um_block.Tallies.{counter_plus}
 use Rattle.um_link.specs.um_air.Air.{Event, Answer}
-use Rattle.um_link.specs.um_air.Sessions.{lines, IsHarmless, IsBenignEvent}
+use Rattle.um_link.specs.um_air.Sessions.{lines, IsBenign, EventInvertsFewBits}
 use Rattle.um_driver.specs.Table.{IsRun}
 use Rattle.um_driver.specs.declared.status.Status.{Status}
 use Rattle.um_session.specs.Sessions.{Session, idle, link_rules}
-use Rattle.um_session.specs.Courses.{frames_sent, blocks_received, Tallies}
+use Rattle.um_session.specs.Courses.{total_frames_sent, total_blocks_received, Tallies}
 
--- every event inverts at most three bits of a block
-abbrev pub EventsAreBenign : List Event → Type 0
-EventsAreBenign events = All IsBenignEvent events
+-- each event inverts at most three bits of a block
+abbrev pub EventsInvertFewBits : List Event → Type 0
+EventsInvertFewBits events = All EventInvertsFewBits events
 
--- the claims about order hold for the session. The claims about delivery hold if each block is accepted with the octets that were sent or
--- is not accepted, and that is the case if at most three bits of each block are inverted.
-pub record DeliveryClaimsHold (s : Session) : Type 0 where
-  pub order : OrderClaims (lines s.events s.answers)
-  pub delivery : IsHarmless s.events s.answers → Claims (lines s.events s.answers)
-  pub harmless : EventsAreBenign s.events → IsHarmless s.events s.answers
+-- the session's log is ordered (`IsOrderedLog`); if the session is benign, the claims about delivery hold (`Claims`); and the session is
+-- benign if at most three bits of each block are inverted
+pub record DeliveryLawsHold (s : Session) : Type 0 where
+  pub order : IsOrderedLog (lines s.events s.answers)
+  pub delivery : IsBenign s.events s.answers → Claims (lines s.events s.answers)
+  pub benign : EventsInvertFewBits s.events → IsBenign s.events s.answers
 
--- the radio sent at least as many blocks as these answers report sent, and received at least as many as they report received; its counters
--- rose by one for each block, and stop at the greatest `u64`
+-- the radio sent at least as many blocks as these answers report as sent, and received at least as many as they report as received; each
+-- block raised a counter by one, up to the largest `u64`
 pub record RadioCountersRose (answers : List Answer) (before after : Tallies) : Type 0 where
   pub sends : ℕ
-  pub receives : ℕ
-  pub enough_sent : frames_sent answers ≤ sends
-  pub enough_received : blocks_received answers ≤ receives
-  pub sent : after.sent ≡ counter_after sends before.sent
-  pub heard : after.heard ≡ counter_after receives before.heard
+  pub receive_count : ℕ
+  pub enough_sent : total_frames_sent answers ≤ sends
+  pub enough_received : total_blocks_received answers ≤ receive_count
+  pub sent : after.sent ≡ counter_plus sends before.sent
+  pub heard : after.heard ≡ counter_plus receive_count before.heard
 
--- a run of `link`: what was read and what was written. For the lines of whose answers at least one octet was written: the radio coded and
--- received their blocks, and the claims hold for their events and answers.
+-- a run of the command `link` by its rules: the radio counted the blocks of all lines whose answers were written at least in part, and the
+-- claims about order and delivery hold for these lines
 pub record IsLinkRun (tsc : ℕ) (channel : Channel) (status : Status) (left left' taken taken' : Option (List ℕ))
     (before after : Tallies) : Type 0 where
   pub run : IsRun link_rules (idle tsc channel) (λ last. Unit {0}) status left left' taken taken'
-  pub by_radio : RadioCountersRose run.state.answers before after
-  pub delivered : DeliveryClaimsHold run.state
+  pub counters_rose : RadioCountersRose run.state.answers before after
+  pub delivery_laws_hold : DeliveryLawsHold run.state

@@ -3,9 +3,9 @@ use Rattle.std.specs.Prelude.{ℕ, ◌≡◌, List, [], ◌∷◌, ◌++◌, Opt
 use Rattle.um_link.specs.lapdm_frame.declared.Channel.{Channel}
 use Rattle.um_script.specs.um_lines.Forms.{line_fault, no_order_fault}
 use Rattle.um_script.specs.um_lines.LinkForms.{link_forms}
-use Rattle.um_script.specs.ScriptLines.{ScriptMeans}
+use Rattle.um_script.specs.ScriptLines.{ScriptLineMeans}
 use Rattle.um_script.specs.AnswerLines.{answer_text}
-use Rattle.um_link.specs.um_air.Air.{Event, Answer, AirState, AirStep, start_on}
+use Rattle.um_link.specs.um_air.Air.{Event, Answer, AirState, IsAirStep, initial_session}
 use Rattle.um_driver.specs.Rules.{Rules}
 
 -- a session so far: its events, their answers, and the state of both sides and the radio path after them
@@ -16,30 +16,30 @@ pub record Session : Type 0 where
 
 -- a session in which nothing has happened yet
 abbrev pub idle : ℕ → Channel → Session
-idle tsc channel = record { events = []; answers = []; air = start_on tsc channel }
+idle tsc channel = record { events = []; answers = []; air = initial_session tsc channel }
 
 -- the session extended by one event, its answer, and the state after it
 abbrev pub session_with_step : Session → Event → Answer → AirState → Session
 session_with_step s event answer air = record { events = s.events ++ event ∷ []; answers = s.answers ++ answer ∷ []; air = air }
 
--- the event changes the state of the session as the definition says, and the text is its answer
+-- the event leads from session `s` to session `after`, and `text` is the text of its answer
 pub record IsEventStep (s : Session) (event : Event) (text : List ℕ) (after : Session) : Type 0 where
   pub answer : Answer
   pub air : AirState
-  pub step : AirStep s.air event air answer
+  pub step : IsAirStep s.air event air answer
   pub text_is : text ≡ answer_text answer
   pub after_is : after ≡ session_with_step s event answer air
 
--- how a line with this meaning is answered; a skipped line has no answer
-abbrev pub AnswersMeaning : Session → Option Event → List ℕ → Session → Type 0
-AnswersMeaning s None text after = (text ≡ []) × (after ≡ s)
-AnswersMeaning s (Some event) text after = IsEventStep s event text after
+-- the text answers a line with this meaning, and leads from the first session to the second; a skipped line has no answer
+abbrev pub AnswersLineMeaning : Session → Option Event → List ℕ → Session → Type 0
+AnswersLineMeaning s None text after = (text ≡ []) × (after ≡ s)
+AnswersLineMeaning s (Some event) text after = IsEventStep s event text after
 
--- how a line is answered, with the session before it and the session after it
+-- the text answers a line of the script, and leads from the first session to the second
 abbrev pub AnswersScriptLine : Session → List ℕ → List ℕ → Session → Type 0
-AnswersScriptLine s line text after = (meaning : Option Event) × ScriptMeans line meaning × AnswersMeaning s meaning text after
+AnswersScriptLine s line text after = (meaning : Option Event) × ScriptLineMeans line meaning × AnswersLineMeaning s meaning text after
 
--- the rules of `link`; the script may end after any line
+-- the rules of the command `link`; the script may end after any line
 abbrev pub link_rules : Rules Session
 link_rules = record {
   fault = λ s line. line_fault link_forms no_order_fault line;

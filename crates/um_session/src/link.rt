@@ -1,16 +1,16 @@
-//! The command `link`, in the form that the driver of all commands runs.
+//! The command `link`, as a `Command` that the driver runs.
 ghost use base.Fml.{GName};
 ghost use Rattle.std.specs.Prelude.{◌≡◌, None};
-ghost use Rattle.um_link.specs.um_block.Tallies.{counter_after};
+ghost use Rattle.um_link.specs.um_block.Tallies.{counter_plus};
 ghost use Rattle.um_link.specs.Abstraction.{Represents};
 ghost use Rattle.um_session.specs.Sessions.{idle};
-ghost use Rattle.um_session.specs.Courses.{SessionWithRadio, rules_with_radio, frames_sent, blocks_received};
+ghost use Rattle.um_session.specs.Courses.{SessionWithRadio, rules_with_radio, total_frames_sent, total_blocks_received};
 
 use um_driver::Command;
 use um_link::{Radio, Step, World};
 use um_script::{LineFault, Room, ScriptLine, Text, parse_script, write_step_lines};
 
-/// The command `link`: a world, and the radio that codes and receives its blocks.
+/// The command `link`: `world` holds both sides and the blocks in transit, and `radio` encodes and decodes the blocks.
 #[derive(Drop)]
 pub struct LinkCommand<'a, R> {
     pub world: &'a mut World,
@@ -21,7 +21,7 @@ pub struct LinkCommand<'a, R> {
 }
 
 impl<'a, R: Radio> LinkCommand<'a, R> {
-    /// The command `link`, which continues from the present state of this world.
+    /// Creates the command `link`, which continues from the current state of `world`.
     pub fn new(world: &'a mut World, radio: &'a mut R) -> LinkCommand<'a, R>
         ensures world { result.world.now ≡ world.old }
         ensures radio { result.radio.now ≡ radio.old }
@@ -47,8 +47,8 @@ impl<'a, R: Radio> Command for LinkCommand<'a, R> {
     } };
 
     ghost represents = { λ link course. Represents link.world.now course.session.air
-        × (R.sent link.radio.now ≡ counter_after (frames_sent course.session.answers) course.before.sent)
-        × (R.heard link.radio.now ≡ counter_after (blocks_received course.session.answers) course.before.heard) };
+        × (R.sent link.radio.now ≡ counter_plus (total_frames_sent course.session.answers) course.before.sent)
+        × (R.heard link.radio.now ≡ counter_plus (total_blocks_received course.session.answers) course.before.heard) };
 
     ghost Kept = { GName };
 

@@ -1,4 +1,4 @@
-//! The command `show`: converts LAPDm frames from octets to text, and back.
+//! The command `show`: converts LAPDm frames between octets and text.
 ghost use Rattle.std.specs.Prelude.{◌≡◌, Some, None, [], MatchResult};
 ghost use Rattle.um_formats.specs.ShowLines.{show_fault};
 ghost use Rattle.um_show.specs.Show.{AnswersShowLine};
@@ -6,7 +6,7 @@ ghost use Rattle.um_show.specs.Show.{AnswersShowLine};
 use um_driver::Answer;
 use um_formats::{LineFault, ShowLine, Text, frame_line, octets_line, parse_show};
 
-/// Answers a line of `show`.
+/// The command `show`, which answers each line on its own.
 #[derive(Clone, Copy, Debug)]
 pub struct Show;
 

@@ -1,4 +1,4 @@
-//! The command `show`: converts LAPDm frames from octets to text, and back.
+//! The command `show`: converts LAPDm frames between octets and text.
 #![tactic(auto)]
 
 mod command;

@@ -1,7 +1,7 @@
 //! Runs of the command `code` on values computed by hand, and lines that it refuses.
 use crate::outside::{
-    StreamLimits, compare, compare_in_pieces, compare_line_feeds, compare_longest_lines,
-    compare_refused,
+    StreamLimits, check_line_feeds, check_longest_lines, check_refusal, check_run,
+    check_run_in_pieces,
 };
 use std::test::Fail;
 use um_cli::Status;
@@ -32,14 +32,14 @@ pub const SYNC_BURST: &[u8] =
 
 #[test]
 fn eight_zeros_with_bsic_000000_have_this_access_burst(rt: HostRuntime) {
-    compare_in_pieces(
+    check_run_in_pieces(
         &rt,
         &["code"],
         b"rach 00000000 000000",
         Status::Done,
         ACCESS_BURST,
     );
-    compare_in_pieces(
+    check_run_in_pieces(
         &rt,
         &["code"],
         b"rach 00000000 000000\n",
@@ -50,7 +50,7 @@ fn eight_zeros_with_bsic_000000_have_this_access_burst(rt: HostRuntime) {
 
 #[test]
 fn eight_zeros_with_bsic_111111_have_this_access_burst(rt: HostRuntime) {
-    compare_in_pieces(
+    check_run_in_pieces(
         &rt,
         &["code"],
         b"rach 00000000 111111\n",
@@ -62,12 +62,12 @@ fn eight_zeros_with_bsic_111111_have_this_access_burst(rt: HostRuntime) {
 #[test]
 fn a_block_of_zeros_has_these_four_normal_bursts(rt: HostRuntime) {
     let line = b"block 0 0000000000000000000000000000000000000000000000\n";
-    compare_in_pieces(&rt, &["code"], line, Status::Done, BLOCK_OF_ZEROS);
+    check_run_in_pieces(&rt, &["code"], line, Status::Done, BLOCK_OF_ZEROS);
 }
 
 #[test]
 fn twenty_five_zeros_have_this_synchronisation_burst(rt: HostRuntime) {
-    compare_in_pieces(
+    check_run_in_pieces(
         &rt,
         &["code"],
         b"sch 0000000000000000000000000\n",
@@ -78,7 +78,7 @@ fn twenty_five_zeros_have_this_synchronisation_burst(rt: HostRuntime) {
 
 #[test]
 fn an_empty_input_has_an_empty_output(rt: HostRuntime) {
-    compare_in_pieces(&rt, &["code"], b"", Status::Done, b"");
+    check_run_in_pieces(&rt, &["code"], b"", Status::Done, b"");
 }
 
 #[test]
@@ -91,7 +91,7 @@ fn unknown_command_words_write_nothing(rt: HostRuntime) {
         &["codecodecode"],
         &["code", "", "", "", ""],
     ] {
-        compare(
+        check_run(
             &rt,
             words,
             b"rach 00000000 000000",
@@ -104,28 +104,28 @@ fn unknown_command_words_write_nothing(rt: HostRuntime) {
 
 #[test]
 fn a_bad_line_ends_the_run_with_its_number_and_reason(rt: HostRuntime) -> Result<(), Fail> {
-    compare_refused(&rt, &["code"], b"rach 0000000 000000", 1, "length")?;
-    compare_refused(&rt, &["code"], b"rach 0000000x 000000", 1, "digits")?;
+    check_refusal(&rt, &["code"], b"rach 0000000 000000", 1, "length")?;
+    check_refusal(&rt, &["code"], b"rach 0000000x 000000", 1, "digits")?;
     let block = b"block 8 0000000000000000000000000000000000000000000000";
-    compare_refused(&rt, &["code"], block, 1, "digits")?;
-    compare_refused(&rt, &["code"], b"\n# a\nfoo\n", 3, "word")
+    check_refusal(&rt, &["code"], block, 1, "digits")?;
+    check_refusal(&rt, &["code"], b"\n# a\nfoo\n", 3, "word")
 }
 
 #[test]
 fn carriage_returns_and_zero_octets_belong_to_the_line(rt: HostRuntime) -> Result<(), Fail> {
-    compare_refused(&rt, &["code"], b"\r\n", 1, "word")?;
-    compare_refused(&rt, &["code"], b"\n\0", 2, "word")?;
-    compare_in_pieces(&rt, &["code"], b"#\xff\x80\0\r\n", Status::Done, b"");
-    compare_refused(&rt, &["code"], b" #", 1, "word")?;
-    compare_refused(&rt, &["code"], b"rach 00000000 000000\r\n", 1, "digits")
+    check_refusal(&rt, &["code"], b"\r\n", 1, "word")?;
+    check_refusal(&rt, &["code"], b"\n\0", 2, "word")?;
+    check_run_in_pieces(&rt, &["code"], b"#\xff\x80\0\r\n", Status::Done, b"");
+    check_refusal(&rt, &["code"], b" #", 1, "word")?;
+    check_refusal(&rt, &["code"], b"rach 00000000 000000\r\n", 1, "digits")
 }
 
 #[test]
 fn a_line_may_have_4096_octets_and_no_more(rt: HostRuntime) -> Result<(), Fail> {
-    compare_longest_lines(&rt, &["code"])
+    check_longest_lines(&rt, &["code"])
 }
 
 #[test]
 fn an_input_above_67108864_octets_is_too_long(rt: HostRuntime) -> Result<(), Fail> {
-    compare_line_feeds(&rt, &["code"])
+    check_line_feeds(&rt, &["code"])
 }

@@ -1,6 +1,6 @@
 //! Runs of the command `end` on values computed by hand, and lines that it refuses. A separate script coded the bursts in the same way as
 //! the blocks in `vectors/`.
-use crate::outside::{StreamLimits, compare, compare_in_pieces, output_of_code};
+use crate::outside::{StreamLimits, check_run, check_run_in_pieces, output_of_code};
 use std::test::Fail;
 use um_cli::Status;
 
@@ -48,7 +48,7 @@ const FOUR_LOST_BURSTS_ANSWER: &[u8] =
 
 #[test]
 fn a_network_answers_the_bursts_of_a_sabm(rt: HostRuntime) {
-    compare_in_pieces(
+    check_run_in_pieces(
         &rt,
         &["end", "net", "3"],
         SABM_BURSTS,
@@ -75,7 +75,7 @@ fn the_bursts_of_end_equal_those_of_code(rt: HostRuntime) -> Result<(), Fail> {
 
 #[test]
 fn a_call_of_idle_sends_a_fill_frame(rt: HostRuntime) {
-    compare_in_pieces(
+    check_run_in_pieces(
         &rt,
         &["end", "mob", "0"],
         b"mob idle",
@@ -86,7 +86,7 @@ fn a_call_of_idle_sends_a_fill_frame(rt: HostRuntime) {
 
 #[test]
 fn four_lost_bursts_are_received_as_a_dropped_block(rt: HostRuntime) {
-    compare_in_pieces(
+    check_run_in_pieces(
         &rt,
         &["end", "net", "0"],
         b"lost\nlost\n# comment\n\nlost\nlost",
@@ -111,7 +111,7 @@ const REFUSED_LINES: [(&str, &[u8], &[u8]); 9] = [
 #[test]
 fn lines_that_end_does_not_have_are_refused(rt: HostRuntime) {
     for (side, input, output) in REFUSED_LINES {
-        compare(
+        check_run(
             &rt,
             &["end", side, "0"],
             input,
@@ -125,7 +125,7 @@ fn lines_that_end_does_not_have_are_refused(rt: HostRuntime) {
 // A refused call is answered by one line, and does not change the endpoint.
 #[test]
 fn a_refused_call_is_answered_by_one_line(rt: HostRuntime) {
-    compare(
+    check_run(
         &rt,
         &["end", "mob", "0"],
         b"mob send aa\nmob3 tick\nmob open -\nmob unit -\n",
@@ -145,7 +145,7 @@ fn other_words_do_not_name_the_command_end(rt: HostRuntime) {
         &["end", "mob", "sacch"],
         &["mob", "end", "0"],
     ] {
-        compare(
+        check_run(
             &rt,
             words,
             b"mob idle",

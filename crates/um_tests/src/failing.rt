@@ -1,6 +1,6 @@
 //! Runs in which the source or the sink fails.
 use crate::code::ACCESS_BURST;
-use crate::outside::{StreamLimits, compare};
+use crate::outside::{StreamLimits, check_run};
 use std::test::Fail;
 use um_cli::{MemorySink, PlainRadio, PlainSource, Source, Status, Words, run};
 
@@ -25,20 +25,20 @@ fn answers(count: usize) -> Option<[u8; 294]> {
 /// A source that gives one line for each read, and a sink to which each answer is written alone, first 50 octets and then 48.
 fn one_line_per_read(failing_puts: &[u64]) -> StreamLimits<'_> {
     StreamLimits {
-        take_most: 21,
+        max_per_take: 21,
         failing_takes: &[],
-        put_most: 50,
+        max_per_put: 50,
         failing_puts,
-        room: 100_000,
+        sink_capacity: 100_000,
     }
 }
 
 #[test]
 fn a_failed_read_leaves_the_answers_to_the_lines_before(rt: HostRuntime) {
     let third = StreamLimits::failing(8, &[3], &[]);
-    compare(&rt, &["code"], ONE_LINE, third, Status::ReadFault, b"");
+    check_run(&rt, &["code"], ONE_LINE, third, Status::ReadFault, b"");
     let second = StreamLimits::failing(21, &[2], &[]);
-    compare(
+    check_run(
         &rt,
         &["code"],
         TWO_LINES,
@@ -54,7 +54,7 @@ fn a_bad_line_is_refused_although_a_later_read_or_write_fails(rt: HostRuntime) -
     output.extend_from_slice(b"refused 2 word\n")?;
     let second = StreamLimits::failing(25, &[2], &[]);
     let input = b"rach 00000000 000000\nfoo\n";
-    compare(
+    check_run(
         &rt,
         &["code"],
         input,
@@ -74,7 +74,7 @@ fn a_long_line_is_refused_with_its_line_number(rt: HostRuntime) -> Result<(), Fa
         input.push(b'#')?;
     }
     let ample = StreamLimits::moving_at_most(10_000);
-    compare(
+    check_run(
         &rt,
         &["code"],
         input.as_slice(),
@@ -88,20 +88,20 @@ fn a_long_line_is_refused_with_its_line_number(rt: HostRuntime) -> Result<(), Fa
 #[test]
 fn a_failed_write_ends_the_run(rt: HostRuntime) {
     let first = StreamLimits::failing(100, &[], &[1]);
-    compare(&rt, &["code"], ONE_LINE, first, Status::WriteFault, b"");
-    compare(
+    check_run(&rt, &["code"], ONE_LINE, first, Status::WriteFault, b"");
+    check_run(
         &rt,
         &["code"],
         ONE_LINE,
-        StreamLimits::with_sink_room(0),
+        StreamLimits::with_sink_capacity(0),
         Status::WriteFault,
         b"",
     );
-    compare(
+    check_run(
         &rt,
         &["code"],
         b"foo",
-        StreamLimits::with_sink_room(0),
+        StreamLimits::with_sink_capacity(0),
         Status::WriteFault,
         b"",
     );
@@ -114,7 +114,7 @@ fn any_read_may_fail(rt: HostRuntime) -> Result<(), Fail> {
     for (call, taken) in cases {
         let calls = [call];
         let outside = StreamLimits::failing(21, &calls, &[]);
-        compare(
+        check_run(
             &rt,
             &["code"],
             THREE_LINES,
@@ -124,7 +124,7 @@ fn any_read_may_fail(rt: HostRuntime) -> Result<(), Fail> {
         );
     }
     let fifth = StreamLimits::failing(21, &[5], &[]);
-    compare(&rt, &["code"], THREE_LINES, fifth, Status::Done, &all);
+    check_run(&rt, &["code"], THREE_LINES, fifth, Status::Done, &all);
     Ok(())
 }
 
@@ -135,7 +135,7 @@ fn any_write_may_fail(rt: HostRuntime) -> Result<(), Fail> {
     for (call, taken) in cases {
         let calls = [call];
         let outside = one_line_per_read(&calls);
-        compare(
+        check_run(
             &rt,
             &["code"],
             THREE_LINES,
@@ -145,7 +145,7 @@ fn any_write_may_fail(rt: HostRuntime) -> Result<(), Fail> {
         );
     }
     let seventh = one_line_per_read(&[7]);
-    compare(&rt, &["code"], THREE_LINES, seventh, Status::Done, &all);
+    check_run(&rt, &["code"], THREE_LINES, seventh, Status::Done, &all);
     Ok(())
 }
 

@@ -1,5 +1,5 @@
 //! Scripts of `link` that invert many bits, the longest lines that are allowed, and lines that are refused.
-use crate::outside::{StreamLimits, compare, compare_in_pieces, compare_refused, output_of};
+use crate::outside::{StreamLimits, check_refusal, check_run, check_run_in_pieces, output_of_run};
 use std::alloc::Global;
 use std::test::Fail;
 use um_cli::Status;
@@ -25,7 +25,7 @@ ok
 
 #[test]
 fn seven_inverted_bits_give_another_codeword(rt: HostRuntime) {
-    compare_in_pieces(
+    check_run_in_pieces(
         &rt,
         &["link", "7"],
         INVERTED_BITS_SCRIPT,
@@ -35,7 +35,7 @@ fn seven_inverted_bits_give_another_codeword(rt: HostRuntime) {
 }
 
 /// Ranges of bits of a block to invert: the first index, and the index after the last.
-const INVERTED_RANGES: [(u32, u32); 8] = [
+const INVERTED_BIT_RANGES: [(u32, u32); 8] = [
     (0, 10),
     (61, 87),
     (3, 60),
@@ -96,10 +96,10 @@ const IDLE_ANSWER: &[u8] = b"net sends 0303012b2b2b2b2b2b2b2b2b2b2b2b2b2b2b2b2b2
 #[test]
 fn link_receives_inverted_bits_as_replay_does(rt: HostRuntime) -> Result<(), Fail> {
     let block = b"block 0 0303012b2b2b2b2b2b2b2b2b2b2b2b2b2b2b2b2b2b2b2b\n";
-    let bursts = output_of(&rt, &["code"], block)?;
-    for (from, until) in INVERTED_RANGES {
+    let bursts = output_of_run(&rt, &["code"], block)?;
+    for (from, until) in INVERTED_BIT_RANGES {
         let recorded = inverted_bursts(bursts.as_slice(), from, until, rt.alloc())?;
-        let report = output_of(&rt, &["replay"], recorded.as_slice())?;
+        let report = output_of_run(&rt, &["replay"], recorded.as_slice())?;
         let mut output = IDLE_ANSWER.to_vec(rt.alloc())?;
         output.extend_from_slice(link_answer_for(report.as_slice(), rt.alloc())?.as_slice())?;
         let mut input = b"net idle\ndown flip".to_vec(rt.alloc())?;
@@ -107,7 +107,7 @@ fn link_receives_inverted_bits_as_replay_does(rt: HostRuntime) -> Result<(), Fai
             input.extend_from_slice(format!(in rt.alloc(); " {place}")?.as_bytes())?;
         }
         let ample = StreamLimits::moving_at_most(10_000);
-        compare(
+        check_run(
             &rt,
             &LINK_SDCCH_WORDS,
             input.as_slice(),
@@ -123,11 +123,11 @@ fn link_receives_inverted_bits_as_replay_does(rt: HostRuntime) -> Result<(), Fai
 fn the_longest_lines_are_answered(rt: HostRuntime) -> Result<(), Fail> {
     let ample = StreamLimits::moving_at_most(10_000);
     for words in [&["code"][..], &["replay"], &["show"], &LINK_SDCCH_WORDS] {
-        compare(&rt, words, &[b'#'; 4096], ample, Status::Done, b"");
+        check_run(&rt, words, &[b'#'; 4096], ample, Status::Done, b"");
     }
     let mut send = [b'0'; 4095];
     send[..9].copy_from_slice(b"mob send ");
-    compare(
+    check_run(
         &rt,
         &LINK_SDCCH_WORDS,
         &send,
@@ -139,7 +139,7 @@ fn the_longest_lines_are_answered(rt: HostRuntime) -> Result<(), Fail> {
     for place in 0..592 {
         flip.extend_from_slice(format!(in rt.alloc(); " {place}")?.as_bytes())?;
     }
-    compare(
+    check_run(
         &rt,
         &LINK_SDCCH_WORDS,
         flip.as_slice(),
@@ -162,7 +162,7 @@ const REFUSED_LINES: [(&str, &str); 5] = [
 #[test]
 fn malformed_script_lines_are_refused(rt: HostRuntime) -> Result<(), Fail> {
     for (line, reason) in REFUSED_LINES {
-        compare_refused(&rt, &LINK_SDCCH_WORDS, line.as_bytes(), 1, reason)?;
+        check_refusal(&rt, &LINK_SDCCH_WORDS, line.as_bytes(), 1, reason)?;
     }
     for words in [
         &["link", "8"][..],
@@ -170,7 +170,7 @@ fn malformed_script_lines_are_refused(rt: HostRuntime) -> Result<(), Fail> {
         &["link", "sacch", "0"],
         &["link", "0", "sdcch"],
     ] {
-        compare(
+        check_run(
             &rt,
             words,
             b"",
@@ -179,7 +179,7 @@ fn malformed_script_lines_are_refused(rt: HostRuntime) -> Result<(), Fail> {
             b"",
         );
     }
-    compare(
+    check_run(
         &rt,
         &LINK_SDCCH_WORDS,
         b"",

@@ -403,7 +403,7 @@ fn a_long_message_is_delivered_once(rt: HostRuntime) -> Result<(), Fail> {
 }
 
 /// The sender's block and all its repetitions are lost, until the sender gives up.
-fn fails_after(
+fn check_failure_after(
     rt: &(impl Abort + AllocGlobal),
     script: &mut Script,
     words: &[&str],
@@ -421,7 +421,7 @@ fn fails_after(
 fn a_side_reports_failure_after_n200_repetitions(rt: HostRuntime) -> Result<(), Fail> {
     let mut opening = Script::new(rt.alloc());
     opening.add("mob open 01", "mob sends 013f0501, ok")?;
-    fails_after(
+    check_failure_after(
         &rt,
         &mut opening,
         &LINK_SDCCH_WORDS,
@@ -431,7 +431,7 @@ fn a_side_reports_failure_after_n200_repetitions(rt: HostRuntime) -> Result<(), 
     let mut open = Script::new(rt.alloc());
     open.add_all(&ESTABLISHMENT)?;
     open.add("mob send aa", "mob sends 010005aa, ok")?;
-    fails_after(
+    check_failure_after(
         &rt,
         &mut open,
         &LINK_SDCCH_WORDS,
@@ -440,7 +440,7 @@ fn a_side_reports_failure_after_n200_repetitions(rt: HostRuntime) -> Result<(), 
     )?;
     let mut other = Script::new(rt.alloc());
     other.add("mob open 01", "mob sends 0000013f0501, ok")?;
-    fails_after(
+    check_failure_after(
         &rt,
         &mut other,
         &LINK_SACCH_WORDS,

@@ -1,5 +1,5 @@
 //! Runs of the command `make`. A separate script computed the numbers from the definition of the generated session.
-use crate::outside::{StreamLimits, compare, compare_in_pieces};
+use crate::outside::{StreamLimits, check_run, check_run_in_pieces};
 use std::test::Fail;
 use um_cli::{MemorySink, PlainRadio, PlainSource, Source, Status, Words, run};
 
@@ -35,9 +35,9 @@ const INVALID_WORDS: [&[&str]; 11] = [
 #[test]
 fn a_generated_session_is_summed_up_and_nothing_is_read(rt: HostRuntime) {
     let words = ["make", "3", "5"];
-    compare_in_pieces(&rt, &words, b"foo\n", Status::Done, THREE_MESSAGES_SUMMARY);
+    check_run_in_pieces(&rt, &words, b"foo\n", Status::Done, THREE_MESSAGES_SUMMARY);
     let failing = StreamLimits::failing(7, &[1], &[]);
-    compare(
+    check_run(
         &rt,
         &words,
         b"foo\n",
@@ -51,7 +51,7 @@ fn a_generated_session_is_summed_up_and_nothing_is_read(rt: HostRuntime) {
 fn the_longest_generated_session_gives_the_same_summary_twice(rt: HostRuntime) {
     let words = ["make", "1000", "7"];
     let ample = StreamLimits::moving_at_most(100);
-    compare(
+    check_run(
         &rt,
         &words,
         b"",
@@ -59,7 +59,7 @@ fn the_longest_generated_session_gives_the_same_summary_twice(rt: HostRuntime) {
         Status::Done,
         THOUSAND_MESSAGES_SUMMARY,
     );
-    compare(
+    check_run(
         &rt,
         &words,
         b"",
@@ -73,9 +73,9 @@ fn the_longest_generated_session_gives_the_same_summary_twice(rt: HostRuntime) {
 fn a_failed_write_leaves_a_prefix_of_the_summary(rt: HostRuntime) {
     let words = ["make", "3", "5"];
     let first = StreamLimits::failing(50, &[], &[1]);
-    compare(&rt, &words, b"", first, Status::WriteFault, b"");
+    check_run(&rt, &words, b"", first, Status::WriteFault, b"");
     let third = StreamLimits::failing(50, &[], &[3]);
-    compare(
+    check_run(
         &rt,
         &words,
         b"",
@@ -83,11 +83,11 @@ fn a_failed_write_leaves_a_prefix_of_the_summary(rt: HostRuntime) {
         Status::WriteFault,
         &THREE_MESSAGES_SUMMARY[..100],
     );
-    compare(
+    check_run(
         &rt,
         &words,
         b"",
-        StreamLimits::with_sink_room(0),
+        StreamLimits::with_sink_capacity(0),
         Status::WriteFault,
         b"",
     );
@@ -116,6 +116,6 @@ fn the_radio_is_called_for_each_generated_block(rt: HostRuntime) -> Result<(), F
 fn other_words_name_no_generated_session(rt: HostRuntime) {
     for words in INVALID_WORDS {
         let ample = StreamLimits::moving_at_most(100);
-        compare(&rt, words, b"", ample, Status::BadWords, b"");
+        check_run(&rt, words, b"", ample, Status::BadWords, b"");
     }
 }

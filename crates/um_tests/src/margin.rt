@@ -1,6 +1,6 @@
 //! Runs of the command `margin` on values computed by hand, and lines that it refuses.
 use crate::code::{ACCESS_BURST_OF_ZEROS, SYNC_BURST};
-use crate::outside::{StreamLimits, compare, compare_in_pieces, compare_refused};
+use crate::outside::{StreamLimits, check_refusal, check_run, check_run_in_pieces};
 use crate::replay::BURSTS_WITH_THREE_WRONG_BITS;
 use std::test::Fail;
 use um_cli::Status;
@@ -12,7 +12,7 @@ next 0000000000000000000000000000000000000000000000 0000000080\n";
 
 #[test]
 fn all_words_tie_for_four_lost_bursts(rt: HostRuntime) {
-    compare_in_pieces(
+    check_run_in_pieces(
         &rt,
         &["margin"],
         b"lost\nlost\n# comment\n\nlost\nlost",
@@ -24,7 +24,7 @@ fn all_words_tie_for_four_lost_bursts(rt: HostRuntime) {
 // The word that begins with 111 also has seven ones among its coded bits, the first of them at index 0.
 #[test]
 fn the_lexicographically_later_of_two_tied_words_is_the_second(rt: HostRuntime) {
-    compare(
+    check_run(
         &rt,
         &["margin"],
         b"A 111111 000000000000000000000000000000000000000000000000000000000000000000000000000000000000000000000\
@@ -37,7 +37,7 @@ fn the_lexicographically_later_of_two_tied_words_is_the_second(rt: HostRuntime) 
 
 #[test]
 fn undamaged_words_lead_by_seven_bits(rt: HostRuntime) {
-    compare(
+    check_run(
         &rt,
         &["margin"],
         ACCESS_BURST_OF_ZEROS,
@@ -45,7 +45,7 @@ fn undamaged_words_lead_by_seven_bits(rt: HostRuntime) {
         Status::Done,
         b"access 111111 margin 1778 metric 4572 data 00000000 check 000000 next 00000000 000001\n",
     );
-    compare(
+    check_run(
         &rt,
         &["margin"],
         SYNC_BURST,
@@ -58,7 +58,7 @@ fn undamaged_words_lead_by_seven_bits(rt: HostRuntime) {
 // Here the second most likely word comes before the most likely one in lexicographic order.
 #[test]
 fn each_wrong_bit_towards_the_second_word_lowers_the_margin_by_508(rt: HostRuntime) {
-    compare(
+    check_run(
         &rt,
         &["margin"],
         BURSTS_WITH_THREE_WRONG_BITS,
@@ -71,8 +71,8 @@ next 0301012b2b2b2b2b2b2b2b2b2b2b2b2b2b2b2b2b2b2b2b 2c4e540233\n",
 
 #[test]
 fn margin_refuses_an_unfinished_block(rt: HostRuntime) -> Result<(), Fail> {
-    compare_refused(&rt, &["margin"], b"lost\n\n#\n", 4, "order")?;
-    compare(
+    check_refusal(&rt, &["margin"], b"lost\n\n#\n", 4, "order")?;
+    check_run(
         &rt,
         &["margin"],
         b"lost\nlost\nlost\nlost\nlost\na xx yy\n",

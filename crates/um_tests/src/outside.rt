@@ -8,13 +8,13 @@ use um_cli::{MemorySink, MemorySource, PlainRadio, PlainSource, Status, Words, r
 /// How many octets a read or a write moves at most, and which reads and writes fail.
 #[derive(Clone, Copy)]
 pub struct StreamLimits<'a> {
-    pub take_most: usize,
+    pub max_per_take: usize,
     pub failing_takes: &'a [u64],
-    pub put_most: usize,
+    pub max_per_put: usize,
     pub failing_puts: &'a [u64],
-    pub room: usize,
-    ghost takes_some: { 1 ≤ take_most },
-    ghost puts_some: { 1 ≤ put_most },
+    pub sink_capacity: usize,
+    ghost takes_some: { 1 ≤ max_per_take },
+    ghost puts_some: { 1 ≤ max_per_put },
 }
 
 impl<'a> StreamLimits<'a> {
@@ -34,28 +34,28 @@ impl<'a> StreamLimits<'a> {
         requires { 1 ≤ most }
     {
         StreamLimits {
-            take_most: most,
+            max_per_take: most,
             failing_takes,
-            put_most: most,
+            max_per_put: most,
             failing_puts,
-            room: 100_000,
+            sink_capacity: 100_000,
         }
     }
 
     /// A source and a sink that never fail; the sink has room for this many octets.
-    pub fn with_sink_room(room: usize) -> StreamLimits<'a> {
+    pub fn with_sink_capacity(sink_capacity: usize) -> StreamLimits<'a> {
         StreamLimits {
-            take_most: 100_000,
+            max_per_take: 100_000,
             failing_takes: &[],
-            put_most: 100_000,
+            max_per_put: 100_000,
             failing_puts: &[],
-            room,
+            sink_capacity,
         }
     }
 }
 
 /// Runs the command over the input, and checks the status and the output.
-pub fn compare(
+pub fn check_run(
     rt: &(impl Abort + AllocGlobal),
     words: &[&str],
     input: &[u8],
@@ -67,11 +67,11 @@ pub fn compare(
     for word in words {
         held.add(word);
     }
-    let mut source = MemorySource::new(input, outside.take_most, outside.failing_takes);
+    let mut source = MemorySource::new(input, outside.max_per_take, outside.failing_takes);
     let mut sink = MemorySink::new(
         rt.alloc(),
-        outside.room,
-        outside.put_most,
+        outside.sink_capacity,
+        outside.max_per_put,
         outside.failing_puts,
     )
     .expect(rt, "the sink finds its memory");
@@ -88,15 +88,15 @@ pub fn compare(
     assert_eq!(rt; sink.octets(), output);
 }
 
-/// Runs `compare` with one, two, seven and many octets in each call.
-pub fn compare_in_pieces(
+/// Runs `check_run` with one, two, seven and many octets in each call.
+pub fn check_run_in_pieces(
     rt: &(impl Abort + AllocGlobal),
     words: &[&str],
     input: &[u8],
     status: Status,
     output: &[u8],
 ) {
-    compare(
+    check_run(
         rt,
         words,
         input,
@@ -104,7 +104,7 @@ pub fn compare_in_pieces(
         status,
         output,
     );
-    compare(
+    check_run(
         rt,
         words,
         input,
@@ -112,7 +112,7 @@ pub fn compare_in_pieces(
         status,
         output,
     );
-    compare(
+    check_run(
         rt,
         words,
         input,
@@ -120,7 +120,7 @@ pub fn compare_in_pieces(
         status,
         output,
     );
-    compare(
+    check_run(
         rt,
         words,
         input,
@@ -130,8 +130,8 @@ pub fn compare_in_pieces(
     );
 }
 
-/// `compare_in_pieces` where a line is refused, with its number, and nothing else is written.
-pub fn compare_refused(
+/// `check_run_in_pieces` where a line is refused, with its number, and nothing else is written.
+pub fn check_refusal(
     rt: &(impl Abort + AllocGlobal),
     words: &[&str],
     input: &[u8],
@@ -139,35 +139,35 @@ pub fn compare_refused(
     reason: &str,
 ) -> Result<(), Fail> {
     let output = format!(in rt.alloc(); "refused {line} {reason}\n")?;
-    compare_in_pieces(rt, words, input, Status::BadInput, output.as_bytes());
+    check_run_in_pieces(rt, words, input, Status::BadInput, output.as_bytes());
     Ok(())
 }
 
 /// A line of 4096 octets is read, and one of 4097 is refused.
-pub fn compare_longest_lines(rt: &(impl Abort + AllocGlobal), words: &[&str]) -> Result<(), Fail> {
+pub fn check_longest_lines(rt: &(impl Abort + AllocGlobal), words: &[&str]) -> Result<(), Fail> {
     let mut line = vec![in rt.alloc(); b'#'; 4096]?;
-    compare_in_pieces(rt, words, line.as_slice(), Status::Done, b"");
+    check_run_in_pieces(rt, words, line.as_slice(), Status::Done, b"");
     line.push(b'#')?;
-    compare_refused(rt, words, line.as_slice(), 1, "long")
+    check_refusal(rt, words, line.as_slice(), 1, "long")
 }
 
 /// Line feeds up to the limit of an input are read, and one more is too many.
-pub fn compare_line_feeds(rt: &(impl Abort + AllocGlobal), words: &[&str]) -> Result<(), Fail> {
+pub fn check_line_feeds(rt: &(impl Abort + AllocGlobal), words: &[&str]) -> Result<(), Fail> {
     let most = StreamLimits::moving_at_most(5000);
     let mut feeds = vec![in rt.alloc(); b'\n'; 67_108_864]?;
-    compare(rt, words, feeds.as_slice(), most, Status::Done, b"");
+    check_run(rt, words, feeds.as_slice(), most, Status::Done, b"");
     feeds.push(b'\n')?;
-    compare(rt, words, feeds.as_slice(), most, Status::TooLong, b"");
+    check_run(rt, words, feeds.as_slice(), most, Status::TooLong, b"");
     Ok(())
 }
 
 /// What the command `code` writes for this input.
 pub fn output_of_code(rt: &(impl Abort + AllocGlobal), input: &[u8]) -> Result<Vec<u8>, Fail> {
-    output_of(rt, &["code"], input)
+    output_of_run(rt, &["code"], input)
 }
 
 /// What a run that succeeds writes for this input.
-pub fn output_of(
+pub fn output_of_run(
     rt: &(impl Abort + AllocGlobal),
     words: &[&str],
     input: &[u8],

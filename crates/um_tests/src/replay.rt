@@ -3,7 +3,7 @@ ghost use Rattle.std.specs.Prelude.{◌≤◌};
 
 use crate::code::{ACCESS_BURST, ACCESS_BURST_OF_ZEROS, BLOCK_OF_ZEROS, SYNC_BURST};
 use crate::outside::{
-    StreamLimits, compare, compare_in_pieces, compare_longest_lines, compare_refused,
+    StreamLimits, check_longest_lines, check_refusal, check_run, check_run_in_pieces,
     output_of_code,
 };
 use std::process::Abort;
@@ -54,21 +54,21 @@ const BURST_WITH_OTHER_BSIC: &[u8] =
 
 #[test]
 fn the_crc_of_an_access_burst_holds_only_for_its_bsic(rt: HostRuntime) {
-    compare_in_pieces(
+    check_run_in_pieces(
         &rt,
         &["replay"],
         ACCESS_BURST_OF_ZEROS,
         Status::Done,
         b"access 111111 train 0 metric 4572 parity ok data 00000000 check 000000\n",
     );
-    compare_in_pieces(
+    check_run_in_pieces(
         &rt,
         &["replay"],
         BURST_WITH_OTHER_BSIC,
         Status::Done,
         b"access 000000 train 0 metric 4572 parity bad data 00000000 check 000000\n",
     );
-    compare_in_pieces(
+    check_run_in_pieces(
         &rt,
         &["replay"],
         ACCESS_BURST,
@@ -79,7 +79,7 @@ fn the_crc_of_an_access_burst_holds_only_for_its_bsic(rt: HostRuntime) {
 
 #[test]
 fn a_synchronisation_burst_is_reported_with_its_check(rt: HostRuntime) {
-    compare_in_pieces(
+    check_run_in_pieces(
         &rt,
         &["replay"],
         SYNC_BURST,
@@ -90,7 +90,7 @@ fn a_synchronisation_burst_is_reported_with_its_check(rt: HostRuntime) {
 
 #[test]
 fn a_block_of_zeros_is_reported_as_unread(rt: HostRuntime) {
-    compare_in_pieces(
+    check_run_in_pieces(
         &rt,
         &["replay"],
         BLOCK_OF_ZEROS,
@@ -105,7 +105,7 @@ fn a_block_with_only_its_last_bit_set_has_this_crc(rt: HostRuntime) -> Result<()
         &rt,
         b"block 3 0000000000000000000000000000000000000000000080\n",
     )?;
-    compare(
+    check_run(
         &rt,
         &["replay"],
         bursts.as_slice(),
@@ -118,7 +118,7 @@ fn a_block_with_only_its_last_bit_set_has_this_crc(rt: HostRuntime) -> Result<()
 
 #[test]
 fn a_fill_frame_is_reported_as_a_frame(rt: HostRuntime) {
-    compare_in_pieces(
+    check_run_in_pieces(
         &rt,
         &["replay"],
         FILL_FRAME,
@@ -129,7 +129,7 @@ fn a_fill_frame_is_reported_as_a_frame(rt: HostRuntime) {
 
 #[test]
 fn four_lost_bursts_are_reported_as_the_first_codeword(rt: HostRuntime) {
-    compare_in_pieces(
+    check_run_in_pieces(
         &rt,
         &["replay"],
         b"lost\nlost\n# comment\n\nlost\nlost",
@@ -143,7 +143,7 @@ fn a_block_with_a_lost_burst_is_restored(rt: HostRuntime) -> Result<(), Fail> {
     let mut input = BLOCK_OF_ZEROS[..151].to_vec(rt.alloc())?;
     input.extend_from_slice(b"lost\n")?;
     input.extend_from_slice(&BLOCK_OF_ZEROS[302..])?;
-    compare_in_pieces(
+    check_run_in_pieces(
         &rt,
         &["replay"],
         input.as_slice(),
@@ -155,7 +155,7 @@ fn a_block_with_a_lost_burst_is_restored(rt: HostRuntime) -> Result<(), Fail> {
 
 #[test]
 fn three_wrong_bits_are_corrected_but_seven_give_another_codeword(rt: HostRuntime) {
-    compare(
+    check_run(
         &rt,
         &["replay"],
         BURSTS_WITH_THREE_WRONG_BITS,
@@ -164,7 +164,7 @@ fn three_wrong_bits_are_corrected_but_seven_give_another_codeword(rt: HostRuntim
         b"block tsc 7 train 0 metric 57150 parity ok data 0303012b2b2b2b2b2b2b2b2b2b2b2b2b2b2b2b2b2b2b2b check 2c4e540233\n\
 frame sapi 0 cr 1 ui p 0 info -\n",
     );
-    compare(
+    check_run(
         &rt,
         &["replay"],
         BURSTS_WITH_SEVEN_WRONG_BITS,
@@ -213,7 +213,7 @@ fn soft_values_are_weighted_and_the_first_of_tied_words_is_reported(
     for (code, values, report) in SOFT_BURSTS {
         let line = format!(in rt.alloc(); "A {code} {zeros}{values}000000\n")?;
         let output = format!(in rt.alloc(); "access {code} {report}\n")?;
-        compare(
+        check_run(
             &rt,
             &["replay"],
             line.as_bytes(),
@@ -227,11 +227,11 @@ fn soft_values_are_weighted_and_the_first_of_tied_words_is_reported(
 
 #[test]
 fn an_input_that_ends_inside_a_block_is_refused_at_its_end(rt: HostRuntime) -> Result<(), Fail> {
-    compare_refused(&rt, &["replay"], &BLOCK_OF_ZEROS[..453], 4, "order")?;
-    compare_refused(&rt, &["replay"], b"lost\n\n#", 4, "order")?;
+    check_refusal(&rt, &["replay"], &BLOCK_OF_ZEROS[..453], 4, "order")?;
+    check_refusal(&rt, &["replay"], b"lost\n\n#", 4, "order")?;
     let mut input = b"lost\nlost\n".to_vec(rt.alloc())?;
     input.extend_from_slice(ACCESS_BURST)?;
-    compare_refused(&rt, &["replay"], input.as_slice(), 3, "order")
+    check_refusal(&rt, &["replay"], input.as_slice(), 3, "order")
 }
 
 #[test]
@@ -240,20 +240,20 @@ fn a_soft_value_of_minus_128_is_refused(rt: HostRuntime) -> Result<(), Fail> {
     for _ in 0..147 {
         line.extend_from_slice(b"00")?;
     }
-    compare_refused(&rt, &["replay"], line.as_slice(), 1, "soft")
+    check_refusal(&rt, &["replay"], line.as_slice(), 1, "soft")
 }
 
 #[test]
 fn replay_skips_empty_lines_and_comments_only(rt: HostRuntime) -> Result<(), Fail> {
-    compare_in_pieces(&rt, &["replay"], b"", Status::Done, b"");
-    compare_refused(&rt, &["replay"], b"foo", 1, "word")?;
-    compare_refused(&rt, &["replay"], b"\nlost\r\n", 2, "word")?;
-    compare_longest_lines(&rt, &["replay"])
+    check_run_in_pieces(&rt, &["replay"], b"", Status::Done, b"");
+    check_refusal(&rt, &["replay"], b"foo", 1, "word")?;
+    check_refusal(&rt, &["replay"], b"\nlost\r\n", 2, "word")?;
+    check_longest_lines(&rt, &["replay"])
 }
 
 /// The line number and the reason of the refusal if the fill frame's bursts are cut off after this many lines and this many octets of the
 /// next line.
-fn refusal_of_cut(lines: usize, octets: usize) -> (usize, &'static str)
+fn refusal_of_cut_input(lines: usize, octets: usize) -> (usize, &'static str)
     requires { lines ≤ 4 }
 {
     match octets {
@@ -278,9 +278,9 @@ fn check_cut_replay(
     let input = FILL_FRAME.get(..count).ok_or("604 octets")?;
     let ample = StreamLimits::moving_at_most(100);
     if count == 0 {
-        compare(rt, &["replay"], input, ample, Status::Done, b"");
+        check_run(rt, &["replay"], input, ample, Status::Done, b"");
     } else if count == 603 {
-        compare(
+        check_run(
             rt,
             &["replay"],
             input,
@@ -289,9 +289,9 @@ fn check_cut_replay(
             FILL_FRAME_REPORT,
         );
     } else {
-        let (line, reason) = refusal_of_cut(lines, octets);
+        let (line, reason) = refusal_of_cut_input(lines, octets);
         let output = format!(in rt.alloc(); "refused {line} {reason}\n")?;
-        compare(
+        check_run(
             rt,
             &["replay"],
             input,
@@ -319,7 +319,7 @@ fn failing_reads_and_writes_leave_a_prefix_of_the_report(rt: HostRuntime) {
     for call in 1..8 {
         let calls = [call];
         let outside = StreamLimits::failing(100, &calls, &[]);
-        compare(
+        check_run(
             &rt,
             &["replay"],
             FILL_FRAME,
@@ -329,21 +329,21 @@ fn failing_reads_and_writes_leave_a_prefix_of_the_report(rt: HostRuntime) {
         );
     }
     let eighth = StreamLimits::failing(100, &[8], &[]);
-    compare(&rt, &["replay"], FILL_FRAME, eighth, Status::ReadFault, all);
+    check_run(&rt, &["replay"], FILL_FRAME, eighth, Status::ReadFault, all);
     let ninth = StreamLimits::failing(100, &[9], &[]);
-    compare(&rt, &["replay"], FILL_FRAME, ninth, Status::Done, all);
-    let full = StreamLimits::with_sink_room(0);
-    compare(&rt, &["replay"], FILL_FRAME, full, Status::WriteFault, b"");
+    check_run(&rt, &["replay"], FILL_FRAME, ninth, Status::Done, all);
+    let full = StreamLimits::with_sink_capacity(0);
+    check_run(&rt, &["replay"], FILL_FRAME, full, Status::WriteFault, b"");
 }
 
 /// A sink that takes at most 50 octets in each call, and fails in the calls with these numbers.
 fn sink_of_fifty_octets(failing_puts: &[u64]) -> StreamLimits<'_> {
     StreamLimits {
-        take_most: 100,
+        max_per_take: 100,
         failing_takes: &[],
-        put_most: 50,
+        max_per_put: 50,
         failing_puts,
-        room: 1000,
+        sink_capacity: 1000,
     }
 }
 
@@ -353,7 +353,7 @@ fn any_write_of_a_report_may_fail(rt: HostRuntime) -> Result<(), Fail> {
         let calls = [call];
         let front = FILL_FRAME_REPORT.get(..taken).ok_or("144 octets")?;
         let outside = sink_of_fifty_octets(&calls);
-        compare(
+        check_run(
             &rt,
             &["replay"],
             FILL_FRAME,
@@ -364,6 +364,6 @@ fn any_write_of_a_report_may_fail(rt: HostRuntime) -> Result<(), Fail> {
     }
     let fourth = sink_of_fifty_octets(&[4]);
     let all = FILL_FRAME_REPORT;
-    compare(&rt, &["replay"], FILL_FRAME, fourth, Status::Done, all);
+    check_run(&rt, &["replay"], FILL_FRAME, fourth, Status::Done, all);
     Ok(())
 }

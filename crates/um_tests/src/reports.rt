@@ -6,7 +6,7 @@ use um_text::{
 };
 
 // The first octets of a block, the octet that fills the rest, and the text.
-const FRAMES: [([u8; 5], u8, &str); 24] = [
+const FRAME_CASES: [([u8; 5], u8, &str); 24] = [
     (
         [0x01, 0x03, 0x01, 0x2b, 0x2b],
         0x2b,
@@ -101,7 +101,7 @@ fn block_filled_with(first: &[u8; 5], fill: u8) -> [u8; BLOCK_OCTETS] {
 
 #[test]
 fn octets_are_written_as_their_frame_or_as_unread(rt: HostRuntime) {
-    for (first, fill, text) in FRAMES {
+    for (first, fill, text) in FRAME_CASES {
         let octets = block_filled_with(&first, fill);
         let mut out = Text::new();
         frame_line(&mut out, &octets);
@@ -116,7 +116,7 @@ fn octets_are_written_as_their_frame_or_as_unread(rt: HostRuntime) {
 }
 
 // Lines of frames, each with the first octets of its block; the rest is filled with 2b.
-const LINES: [(&str, [u8; 5]); 7] = [
+const LINE_CASES: [(&str, [u8; 5]); 7] = [
     (
         "frame sapi 0 cr 0 i ns 5 nr 2 p 1 m 0 info 0601",
         [0x01, 0x5a, 0x09, 0x06, 0x01],
@@ -143,7 +143,7 @@ const LINES: [(&str, [u8; 5]); 7] = [
 
 #[test]
 fn the_line_of_a_frame_gives_its_canonical_octets(rt: HostRuntime) {
-    for (line, first) in LINES {
+    for (line, first) in LINE_CASES {
         let octets = block_filled_with(&first, 0x2b);
         assert_eq!(rt;
             parse_show(line.as_bytes()),

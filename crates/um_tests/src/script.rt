@@ -1,6 +1,6 @@
 //! Scripts of `link` and their answers in short form: a line, and its answer lines separated by commas. Octets in `takes` and `sends` lines
 //! are given without fill octets, and every block is received undamaged.
-use crate::outside::compare_in_pieces;
+use crate::outside::check_run_in_pieces;
 use std::alloc::{AllocError, Global};
 use std::process::Abort;
 use um_cli::Status;
@@ -66,7 +66,7 @@ impl Script {
 
     /// Checks that `link` gives these answers, whatever number of octets each read and write moves.
     pub fn check(&self, rt: &(impl Abort + AllocGlobal), words: &[&str]) {
-        compare_in_pieces(
+        check_run_in_pieces(
             rt,
             words,
             self.input.as_bytes(),

@@ -1,7 +1,7 @@
 //! Runs of the command `show` on values computed by hand, and lines that it refuses.
 use crate::outside::{
-    StreamLimits, compare, compare_in_pieces, compare_line_feeds, compare_longest_lines,
-    compare_refused,
+    StreamLimits, check_line_feeds, check_longest_lines, check_refusal, check_run,
+    check_run_in_pieces,
 };
 use std::test::Fail;
 use um_cli::Status;
@@ -23,7 +23,7 @@ const OCTETS_AND_LINES: [(&str, &str, &str); 12] = [
 ];
 
 /// The line of a frame, and the octets that `show` writes for it.
-const FRAMES: [(&str, &str); 2] = [
+const FRAME_CASES: [(&str, &str); 2] = [
     (
         "frame sapi 0 cr 0 i ns 5 nr 2 p 1 m 0 info 0601",
         "octets 015a0906012b2b2b2b2b2b2b2b2b2b2b2b2b2b2b2b2b2b",
@@ -55,7 +55,7 @@ fn octets_are_shown_as_a_frame_or_as_unread(rt: HostRuntime) -> Result<(), Fail>
         }
         line.push('\n')?;
         let output = format!(in rt.alloc(); "{shown}\n")?;
-        compare(
+        check_run(
             &rt,
             &["show"],
             line.as_bytes(),
@@ -69,9 +69,9 @@ fn octets_are_shown_as_a_frame_or_as_unread(rt: HostRuntime) -> Result<(), Fail>
 
 #[test]
 fn a_frame_is_shown_as_its_octets(rt: HostRuntime) -> Result<(), Fail> {
-    for (line, shown) in FRAMES {
+    for (line, shown) in FRAME_CASES {
         let output = format!(in rt.alloc(); "{shown}\n")?;
-        compare_in_pieces(
+        check_run_in_pieces(
             &rt,
             &["show"],
             line.as_bytes(),
@@ -85,18 +85,18 @@ fn a_frame_is_shown_as_its_octets(rt: HostRuntime) -> Result<(), Fail> {
 #[test]
 fn malformed_lines_are_refused(rt: HostRuntime) -> Result<(), Fail> {
     for (line, reason) in REFUSED_LINES {
-        compare_refused(&rt, &["show"], line.as_bytes(), 1, reason)?;
+        check_refusal(&rt, &["show"], line.as_bytes(), 1, reason)?;
     }
-    compare_in_pieces(&rt, &["show"], b"", Status::Done, b"");
+    check_run_in_pieces(&rt, &["show"], b"", Status::Done, b"");
     Ok(())
 }
 
 #[test]
 fn show_accepts_line_feeds_up_to_the_input_limit(rt: HostRuntime) -> Result<(), Fail> {
-    compare_line_feeds(&rt, &["show"])
+    check_line_feeds(&rt, &["show"])
 }
 
 #[test]
 fn a_line_of_show_may_have_4096_octets_and_no_more(rt: HostRuntime) -> Result<(), Fail> {
-    compare_longest_lines(&rt, &["show"])
+    check_longest_lines(&rt, &["show"])
 }

@@ -1,6 +1,6 @@
 -- The definitions, computed for worked examples.
-use Rattle.std.proofs.{Common.{◌≡◌, pos, negsuc, [], ◌∷◌, replicate, refl, true, nat_le, arith}, lemmas.List.Sums.AllPass-from_list_all}
-use Rattle.std.{proofs.lemmas.Bool.leb-true, specs.{Prelude.unsigned_abs, List.list_all}}
+use Rattle.std.proofs.Common.{◌≡◌, pos, negsuc, [], ◌∷◌, replicate, refl, true, nat_le, arith}
+use Rattle.std.{proofs.lemmas.{List.Sums.AllPass-from_list_all, Bool.leb-true}, specs.{Prelude.unsigned_abs, List.list_all}}
 use Rattle.bit_blocks.specs.SoftValues.{count_wrong_bits}
 use Rattle.conv_code.specs.Code.{encoding}
 use Rattle.weight_bound.specs.{Distance.distance, Restoring.AreLeastAndGreatestStrength}

@@ -1,9 +1,9 @@
 -- The number of indexes in a range that pass a test, when the range grows at its end or at its front.
-use Rattle.std.proofs.Common.{◌≡◌, ℕ, zero, suc, ◌+◌, ◌≤◌, Bool, not, ◌==◌, cond, List, ◌∷◌, length, refl, ap, ap₂, ◌∙◌, sym, arith}
-use Rattle.std.{proofs.lemmas.List.{FromFn.length-range_with_len, Sums.{count_by-le-length, sum_by-cons, sum_by_push}}, specs.List.count_by}
-use Rattle.std.specs.List.{range_with_len}
+use Rattle.std.proofs.Common.{◌≡◌, ℕ, zero, suc, ◌+◌, ◌≤◌, Bool, not, ◌==◌, cond, List, ◌∷◌, length, refl, ap}
+use Rattle.std.proofs.{Common.{ap₂, ◌∙◌, sym, arith}, lemmas.List.{FromFn.length-range_with_len, Sums.count_by-le-length}}
+use Rattle.std.{proofs.lemmas.List.Sums.{sum_by-cons, sum_by_push}, specs.List.{count_by, range_with_len}}
 use Rattle.conv_code.proofs.Coding.{range_more}
-use Rattle.weight_bound.specs.Distance.{is_different, distance}
+use Rattle.weight_bound.specs.Distance.{differ_at, distance}
 
 pub count_by_more : (p : ℕ → Bool) (n : ℕ) →
     count_by p (range_with_len 0 (n + 1)) ≡ count_by p (range_with_len 0 n) + cond (p n) 1 0
@@ -31,4 +31,4 @@ count_by-first p q n h =
     ∙ ap (λ rest. cond (p 0) 1 0 + rest) (count_by-rest p q 0 n h)
 
 pub distance-cons : (x y : ℕ) (a b : List ℕ) → distance (x ∷ a) (y ∷ b) ≡ cond (not (x == y)) 1 0 + distance a b
-distance-cons x y a b = count_by-first (is_different (x ∷ a) (y ∷ b)) (is_different a b) (length a) (λ k. refl)
+distance-cons x y a b = count_by-first (differ_at (x ∷ a) (y ∷ b)) (differ_at a b) (length a) (λ k. refl)

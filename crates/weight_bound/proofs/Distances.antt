@@ -1,14 +1,14 @@
 -- The free distance is seven. The code is linear, so the distance of two codewords is the weight of the codeword of the XOR of their
 -- lists. The first one in this XOR gives two coded ones and leads to state 1, whose potential is five. A list with a single one has a
 -- codeword of weight seven.
-use Rattle.std.proofs.Common.{◌≡◌, ◌≢◌, ℕ, zero, suc, ◌+◌, ◌-◌, ◌*◌, ◌%◌, ◌≤◌, List, [], ◌∷◌, ◌++◌, length, take, drop, replicate, not}
-use Rattle.std.proofs.{Common.{◌==◌, cond, refl, ap, ap₂, sym, ◌∙◌, arith, length-drop}, lemmas.List.{take-append-drop, length-replicate}}
-use Rattle.std.proofs.lemmas.List.{length-take, Elements.{All-cons, All-head, All-tail, All-take, All-drop, All-replicate}}
-use Rattle.std.specs.List.{All}
+use Rattle.std.proofs.Common.{◌≡◌, ◌≢◌, ℕ, zero, suc, ◌+◌, ◌-◌, ◌*◌, ◌%◌, ◌≤◌, List, [], ◌∷◌}
+use Rattle.std.proofs.Common.{◌++◌, length, take, drop, replicate, not, ◌==◌, cond, refl, ap, ap₂, sym, ◌∙◌, arith}
+use Rattle.std.proofs.{Common.length-drop, lemmas.List.{take-append-drop, length-replicate, length-take, Elements.{All-cons, All-head}}}
+use Rattle.std.{proofs.lemmas.List.Elements.{All-tail, All-take, All-drop, All-replicate}, specs.List.All}
 use Rattle.bit_blocks.{specs.Bits.{IsBit, AllBits, xor_bits}, proofs.Lemmas.{AllBits-xor_bits, xor_bits-append}}
-use Rattle.conv_code.{specs.{Code.{encoding, IsInformation}, States.encoding_from_state}, proofs.Lemmas.{AllBits-coded, coded_from_start}}
+use Rattle.conv_code.{specs.{Code.{encoding, IsEncoderInput}, States.encoding_from_state}, proofs.Lemmas.{AllBits-coded, coded_from_start}}
 use Rattle.conv_code.proofs.Lemmas.{length-coded}
-use Rattle.weight_bound.{specs.Distance.{distance, DistanceAtLeastSeven, SomeDistanceIsSeven}, proofs.Counting.distance-cons}
+use Rattle.weight_bound.{specs.Distance.{distance, FreeDistanceAtLeastSeven, SomeDistanceIsSeven}, proofs.Counting.distance-cons}
 use Rattle.weight_bound.proofs.{Linear.coded-xor_bits, Weights.{ones, tail_bits, ones_bound}}
 
 -- the distance of two bit lists is the number of ones in their XOR
@@ -74,7 +74,7 @@ tail_bits-from_zeros (a ∷ b ∷ c ∷ d ∷ []) e zeros =
 abbrev front : List ℕ → List ℕ
 front u = take (length u - 4) u
 
-front-tail_bits : (u : List ℕ) → IsInformation u → front u ++ tail_bits ≡ u
+front-tail_bits : (u : List ℕ) → IsEncoderInput u → front u ++ tail_bits ≡ u
 front-tail_bits u information =
     let count = information.count in
     let four : length (drop (length u - 4) u) ≡ 4 = rw length-drop (omega arith) in
@@ -89,7 +89,7 @@ distance-coded u v same bits_u bits_v =
     distance-xor_bits (encoding u) (encoding v) count (AllBits-coded u) (AllBits-coded v)
     ∙ ap ones (sym (coded-xor_bits u v same) ∙ coded_from_start (xor_bits u v) (AllBits-xor_bits u v))
 
-pub at_least_seven : DistanceAtLeastSeven
+pub at_least_seven : FreeDistanceAtLeastSeven
 at_least_seven u v information_u information_v same ne =
     let bits_u = information_u.bits in
     let bits_v = information_v.bits in
@@ -113,8 +113,8 @@ ones-zeros : (n : ℕ) → ones (encoding_from_state 0 (replicate n 0)) ≡ 0
 ones-zeros zero = refl
 ones-zeros (suc n) = let later = ones-zeros n in omega (arith, later)
 
-IsInformation-zeros : (n : ℕ) → 5 ≤ n → IsInformation (replicate n 0)
-IsInformation-zeros n count = record {
+IsEncoderInput-zeros : (n : ℕ) → 5 ≤ n → IsEncoderInput (replicate n 0)
+IsEncoderInput-zeros n count = record {
   count = rw length-replicate count;
   bits = All-replicate IsBit n 0 (omega arith);
   tail = All-drop (λ bit. bit ≡ 0) (length (replicate n 0) - 4) (replicate n 0) (All-replicate (λ bit. bit ≡ 0) n 0 (refl {a = 0}));
@@ -123,8 +123,8 @@ IsInformation-zeros n count = record {
 abbrev one_first : ℕ → List ℕ
 one_first n = 1 ∷ replicate n 0
 
-IsInformation-one_first : (n : ℕ) → 4 ≤ n → IsInformation (one_first n)
-IsInformation-one_first n four =
+IsEncoderInput-one_first : (n : ℕ) → 4 ≤ n → IsEncoderInput (one_first n)
+IsEncoderInput-one_first n four =
     let zeros : length (replicate {A = ℕ} n 0) ≡ n = length-replicate n 0 in
     let after : length (one_first n) - 4 ≡ suc (n - 4) = omega arith in
     record {
@@ -140,8 +140,8 @@ distance-one_first m =
     let v = replicate {A = ℕ} (suc (suc (suc (suc (suc m))))) 0 in
     let same : length u ≡ length v = ap suc refl in
     let later = ones-zeros m in
-    distance-coded u v same (IsInformation-one_first (suc (suc (suc (suc m)))) (omega arith)).bits
-    (IsInformation-zeros (suc (suc (suc (suc (suc m))))) (omega arith)).bits
+    distance-coded u v same (IsEncoderInput-one_first (suc (suc (suc (suc m)))) (omega arith)).bits
+    (IsEncoderInput-zeros (suc (suc (suc (suc (suc m))))) (omega arith)).bits
     ∙ ap (λ w. ones (encoding_from_state 0 (1 ∷ 0 ∷ 0 ∷ 0 ∷ 0 ∷ w))) (xor_bits-zeros m)
     ∙ omega (arith, later)
 
@@ -155,8 +155,8 @@ reaches_seven (suc (suc (suc (suc zero)))) h = absurd (omega arith)
 reaches_seven (suc (suc (suc (suc (suc m))))) h = record {
   u = one_first (suc (suc (suc (suc m))));
   v = replicate (suc (suc (suc (suc (suc m))))) 0;
-  first = IsInformation-one_first (suc (suc (suc (suc m)))) (omega arith);
-  second = IsInformation-zeros (suc (suc (suc (suc (suc m))))) h;
+  first = IsEncoderInput-one_first (suc (suc (suc (suc m)))) (omega arith);
+  second = IsEncoderInput-zeros (suc (suc (suc (suc (suc m))))) h;
   first_count = ap suc (length-replicate (suc (suc (suc (suc m)))) 0);
   second_count = length-replicate (suc (suc (suc (suc (suc m))))) 0;
   seven = distance-one_first m;

@@ -1,8 +1,9 @@
 -- The code is linear: the coded bits of the XOR of two lists are the XOR of their coded bits.
-use Rattle.std.proofs.Common.{◌≡◌, ℕ, zero, suc, ◌+◌, ◌-◌, ◌%◌, ◌<◌, ◌≤◌, true, false, nat_lt, if◌then◌else◌, List, ◌∷◌, length, get_or}
-use Rattle.std.{proofs.Common.{refl, ap, ap₂, ◌∙◌, arith}, specs.List.{flat_map, range_with_len}}
+use Rattle.std.proofs.Common.{◌≡◌, ℕ, zero, suc, ◌+◌, ◌-◌, ◌%◌, ◌<◌, ◌≤◌, true, false, nat_lt}
+use Rattle.std.proofs.Common.{if◌then◌else◌, List, ◌∷◌, length, get_or, refl, ap, ap₂, ◌∙◌, arith}
+use Rattle.std.specs.List.{flat_map, range_with_len}
 use Rattle.bit_blocks.{specs.Bits.xor_bits, proofs.Lemmas.{length-xor_bits, get_or-xor_bits}}
-use Rattle.conv_code.specs.Code.{delayed_bit, g0_sum, g1_sum, coded_pair, encoding}
+use Rattle.conv_code.specs.Code.{delayed_bit, g0_bit, g1_bit, coded_pair, encoding}
 
 module _ (u v : List ℕ) (same : length u ≡ length v) where
   delayed-xor_bits : (k d : ℕ) → k < length u → delayed_bit (xor_bits u v) k d ≡ (delayed_bit u k d + delayed_bit v k d) % 2
@@ -15,12 +16,12 @@ module _ (u v : List ℕ) (same : length u ≡ length v) where
         | false ↦ get_or-xor_bits u v (k - d) same before
       ]
 
-  g0_sum-xor_bits : (k : ℕ) → k < length u → g0_sum (xor_bits u v) k ≡ (g0_sum u k + g0_sum v k) % 2
-  g0_sum-xor_bits k within =
+  g0_bit-xor_bits : (k : ℕ) → k < length u → g0_bit (xor_bits u v) k ≡ (g0_bit u k + g0_bit v k) % 2
+  g0_bit-xor_bits k within =
       rw (get_or-xor_bits u v k same within, delayed-xor_bits k 3 within, delayed-xor_bits k 4 within) (omega arith)
 
-  g1_sum-xor_bits : (k : ℕ) → k < length u → g1_sum (xor_bits u v) k ≡ (g1_sum u k + g1_sum v k) % 2
-  g1_sum-xor_bits k within =
+  g1_bit-xor_bits : (k : ℕ) → k < length u → g1_bit (xor_bits u v) k ≡ (g1_bit u k + g1_bit v k) % 2
+  g1_bit-xor_bits k within =
       rw (get_or-xor_bits u v k same within, delayed-xor_bits k 1 within, delayed-xor_bits k 3 within, delayed-xor_bits k 4 within)
       (omega arith)
 
@@ -30,8 +31,8 @@ module _ (u v : List ℕ) (same : length u ≡ length v) where
   coded_places-xor_bits a zero within = refl
   coded_places-xor_bits a (suc n) within =
       let here : a < length u = omega arith in
-      ap₂ (λ x rest. x ∷ rest) (g0_sum-xor_bits a here)
-      (ap₂ (λ x rest. x ∷ rest) (g1_sum-xor_bits a here) (coded_places-xor_bits (a + 1) n (omega arith)))
+      ap₂ (λ x rest. x ∷ rest) (g0_bit-xor_bits a here)
+      (ap₂ (λ x rest. x ∷ rest) (g1_bit-xor_bits a here) (coded_places-xor_bits (a + 1) n (omega arith)))
 
   pub coded-xor_bits : encoding (xor_bits u v) ≡ xor_bits (encoding u) (encoding v)
   coded-xor_bits =

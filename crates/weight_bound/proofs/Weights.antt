@@ -1,8 +1,9 @@
 -- A lower bound for the weight of coded bits. Each state of the encoder has a number, its potential, such that no transition lowers the
 -- potential by more than the weight of the two coded bits. This is checked by computation for all sixteen states.
-use Rattle.std.proofs.Common.{◌≡◌, ℕ, zero, suc, ◌+◌, ◌<◌, ◌≤◌, Bool, ◌&&◌, true, nat_le, List, [], ◌∷◌, ◌++◌, get_or, refl, subst, ◌∙◌}
-use Rattle.std.proofs.{Common.{zero-add, arith}, lemmas.{Bool.{and_parts, leb-true}, List.Elements.{All-head, All-tail}}}
-use Rattle.std.{proofs.lemmas.List.{FromFn.get_or-range_with_len, Sums.AllPass-from_list_all}, specs.List.{list_all, range_with_len}}
+use Rattle.std.proofs.Common.{◌≡◌, ℕ, zero, suc, ◌+◌, ◌<◌, ◌≤◌, Bool, ◌&&◌, true, nat_le, List, [], ◌∷◌}
+use Rattle.std.proofs.{Common.{◌++◌, get_or, refl, subst, ◌∙◌, zero-add, arith}, lemmas.Bool.{and_parts, leb-true}}
+use Rattle.std.proofs.lemmas.List.{Elements.{All-head, All-tail}, FromFn.get_or-range_with_len, Sums.AllPass-from_list_all}
+use Rattle.std.specs.List.{list_all, range_with_len}
 use Rattle.bit_blocks.specs.Bits.{IsBit, AllBits}
 use Rattle.conv_code.specs.States.{next, first_coded_bit, second_coded_bit, encoding_from_state}
 
@@ -48,7 +49,8 @@ paid_rest : (state : ℕ) → state < 16 → potential state ≤ ones (encoding_
 paid_rest state h = leb-true _ _ (and_parts (is_paid state 0 && is_paid state 1) _ (paid_at state h)).1
 
 -- a path from a state to the end of the tail has at least the weight of the state's potential
-pub ones_bound : (state : ℕ) (u : List ℕ) → state < 16 → AllBits u → potential state ≤ ones (encoding_from_state state (u ++ tail_bits))
+pub ones_bound : (state : ℕ) (u : List ℕ) → state < 16 → AllBits u →
+    potential state ≤ ones (encoding_from_state state (u ++ tail_bits))
 ones_bound state [] h bits = paid_rest state h
 ones_bound state (x ∷ u) h bits =
     let step = paid_step state x h (All-head IsBit x u bits) in

@@ -1,4 +1,4 @@
-//! Hamming distances, numbers of wrong soft bits, and strengths (absolute values) of soft bits.
+//! Computes Hamming distances, the number of wrong soft bits, and the least and greatest strength (absolute value) of soft bits.
 
 ghost use Rattle.std.specs.Prelude.{◌≡◌, ◌<◌, ◌≤◌, length};
 ghost use Rattle.bit_blocks.specs.Bits.{AllBits};
@@ -25,7 +25,7 @@ pub fn distance(a: &[u8], b: &[u8]) -> u32
     places
 }
 
-/// The number of soft bits that are wrong for the coded bit at the same position: they are 0 or have the sign of the opposite bit.
+/// The number of soft bits that disagree with the coded bit at the same position: they are 0 or have the sign of the opposite bit.
 pub fn wrong_bits(soft: &[i8], coded: &[u8]) -> u32
     requires count { length soft.now ≡ length coded.now }
     requires at_most { length soft.now ≤ CODED_BITS }

@@ -1,18 +1,18 @@
-//! Distances of the convolutional code, whose free distance is seven, and the damage that decoding is certain to undo.
+//! The free distance of the convolutional code, which is seven, and the errors that decoding certainly corrects.
 #![tactic(auto)]
 
 mod counts;
 mod laws;
 
 pub use counts::{distance, strengths, wrong_bits};
-pub use laws::{law_distance, law_least_distance, law_restores};
+pub use laws::{law_distance, law_free_distance_is_seven, law_restores};
 
 #[cfg(test)]
 mod tests {
     use super::{distance, strengths, wrong_bits};
 
     #[test]
-    fn counts_small_examples(rt: HostRuntime) {
+    fn strengths_errors_and_distance(rt: HostRuntime) {
         assert_eq!(rt; strengths(&[-5, 4, 0]), (0, 5));
         assert_eq!(rt; wrong_bits(&[0, 3, -3], &[0, 0, 0]), 2);
         assert_eq!(rt; distance(&[0, 1, 1], &[1, 1, 0]), 2);

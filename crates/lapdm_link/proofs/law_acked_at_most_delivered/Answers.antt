@@ -1,5 +1,5 @@
-use Rattle.lapdm_link.proofs.Sessions.{counts}
+use Rattle.lapdm_link.proofs.Sessions.{counts_acks}
 use Rattle.lapdm_link.proofs.law_acked_at_most_delivered.Goals as goal
 
 pub returns : goal.returns
-returns c = counts
+returns c = counts_acks

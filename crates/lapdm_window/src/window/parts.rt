@@ -3,39 +3,40 @@
 ghost use Rattle.std.specs.Prelude.{◌≡◌, ◌↔◌, ◌⊎◌, ◌+◌, ◌%◌, ◌^◌, ◌<◌, ◌≤◌, false, length, map};
 ghost use Rattle.std.specs.Prelude.{slice_index_or, [], All, IsTrue};
 ghost use Rattle.segmenting.specs.lapdm_frame.Layout.{n201};
-ghost use Rattle.segmenting.specs.Segments.{IsMessage, count_of, max_message_octets, max_segments_per_message};
+ghost use Rattle.segmenting.specs.Segments.{IsValidMessage, count_of, max_message_octets, max_segments_per_message};
 ghost use Rattle.segmenting.specs.Buffers.{octets_in};
 ghost use Rattle.lapdm_window.specs.Ends.{EndState};
-ghost use Rattle.lapdm_window.specs.Parts.{values_of, values_in, ValuesRepresent, AreOfSomeWindow, AreValidHeldMessages, AreConsistent};
+ghost use Rattle.lapdm_window.specs.Parts.{values_of, values_in, ValuesRepresent, WindowExists, AreValidHeldMessages, AreConsistent};
 ghost use Rattle.lapdm_window.specs.Abstraction.{Represents};
 
 use super::Window;
-use segmenting::{Channel, LONGEST_MESSAGE, Part, PlainMessage};
+use segmenting::{Channel, LONGEST_MESSAGE, MessageBuffer, Part};
 
-/// The state of a window, with borrowed messages and octets.
+/// The state of a window as plain data, with borrowed messages and octets.
 #[derive(Clone, Copy, Debug)]
 pub struct WindowParts<'a> {
     pub channel: Channel,
-    /// The messages that are not wholly acknowledged, in the order in which layer 3 sent them.
-    pub held: &'a [PlainMessage],
-    /// The index of the outstanding segment, or else of the next segment, among the segments of the first message held.
+    /// The messages that are not fully acknowledged, in the order in which layer 3 sent them.
+    pub held: &'a [MessageBuffer],
+    /// The index, within the first held message, of the outstanding segment or, if none is outstanding, of the next segment.
     pub place: usize,
     pub vs: u8,
     pub va: u8,
     pub vr: u8,
-    /// The number of messages of which all segments are acknowledged.
+    /// The number of fully acknowledged messages.
     pub done: u64,
     /// The reject condition: a REJ was sent, and no segment has been accepted since.
     pub rejecting: bool,
     /// How often the outstanding segment has been repeated.
     pub retries: u8,
-    /// The octets that the reassembly holds, and which part of a message they are.
+    /// The octets that the reassembly holds.
     pub joined: &'a [u8],
+    /// Which part of a message the reassembly holds.
     pub part: Part,
 }
 
 impl WindowParts<'_> {
-    // Whether a window with this state exists and represents some endpoint.
+    // Whether the state meets the conditions of a window that represents some endpoint.
     fn are_consistent(&self) -> bool
         ensures together { IsTrue result ↔ AreConsistent (values_in self.now) }
         ensures counted { self.now.done < 2 ^ 64 }
@@ -43,7 +44,7 @@ impl WindowParts<'_> {
         // This binding tells the prover the range of `done`.
         let done = self.done;
         if !are_valid_held_messages(self.held)
-            || self.place >= first_segments(self.held, self.channel)
+            || self.place >= first_message_segments(self.held, self.channel)
         {
             return false;
         }
@@ -57,46 +58,46 @@ impl WindowParts<'_> {
     }
 }
 
-fn is_window_of_one(vs: u8, va: u8, held: &[PlainMessage]) -> bool
+fn is_window_of_one(vs: u8, va: u8, held: &[MessageBuffer]) -> bool
     ensures { IsTrue result ↔ ((vs ≡ va)
         ⊎ ((vs ≡ (va + 1) % 8) × (1 ≤ length (map octets_in held.now)))) }
 {
     vs == va || (vs == (va % 8 + 1) % 8 && !held.is_empty())
 }
 
-fn are_valid_held_messages(messages: &[PlainMessage]) -> bool
+fn are_valid_held_messages(messages: &[MessageBuffer]) -> bool
     ensures { IsTrue result ↔ AreValidHeldMessages (map octets_in messages.now) }
 {
     if messages.len() > 8 {
         return false;
     }
-    are_messages(messages)
+    are_valid_messages(messages)
 }
 
-fn are_messages(messages: &[PlainMessage]) -> bool
-    ensures { IsTrue result ↔ All (λ message. IsMessage (octets_in message)) messages.now }
+fn are_valid_messages(messages: &[MessageBuffer]) -> bool
+    ensures { IsTrue result ↔ All (λ message. IsValidMessage (octets_in message)) messages.now }
 {
-    messages.iter().all(|message| is_message(message))
+    messages.iter().all(|message| is_valid_message(message))
 }
 
-fn is_message(message: &PlainMessage) -> bool
-    ensures { IsTrue result ↔ IsMessage (octets_in message.now) }
+fn is_valid_message(message: &MessageBuffer) -> bool
+    ensures { IsTrue result ↔ IsValidMessage (octets_in message.now) }
 {
     let octets = message.octets();
     !octets.is_empty() && octets.len() <= LONGEST_MESSAGE
 }
 
 // The number of segments of the first message, or 1 if there is none.
-fn first_segments(held: &[PlainMessage], channel: Channel) -> usize
+fn first_message_segments(held: &[MessageBuffer], channel: Channel) -> usize
     ensures { result ≡ count_of (n201 channel) (slice_index_or (map octets_in held.now) 0 []) }
 {
     match held.first() {
-        Some(message) => segments_in(message.octets(), channel),
+        Some(message) => segment_count(message.octets(), channel),
         None => 1,
     }
 }
 
-fn segments_in(message: &[u8], channel: Channel) -> usize
+fn segment_count(message: &[u8], channel: Channel) -> usize
     ensures { result ≡ count_of (n201 channel) message.now }
 {
     if message.is_empty() {
@@ -127,12 +128,12 @@ impl Window {
         }
     }
 
-    /// Restores a window from its state. Returns false, and changes nothing, if the state belongs to no possible endpoint.
+    /// Restores a window from its state. Returns false and changes nothing if no window can have this state.
     pub fn restore(&mut self, parts: &WindowParts<'_>) -> bool
         ensures same { IsTrue result → values_of self.new ≡ values_in parts.now }
         ensures represents { IsTrue result → (e : EndState) → ValuesRepresent (values_in parts.now) e
             → Represents self.new e }
-        ensures known { IsTrue result ↔ AreOfSomeWindow (values_in parts.now) }
+        ensures known { IsTrue result ↔ WindowExists (values_in parts.now) }
         ensures unknown { result ≡ false → self.new ≡ self.old }
     {
         if !parts.are_consistent() || !self.joiner.restore(parts.joined, parts.part) {

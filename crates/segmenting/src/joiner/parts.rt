@@ -3,7 +3,7 @@
 ghost use Rattle.std.specs.Prelude.{◌≡◌, ◌↔◌, ◌≤◌, false, List, [], length, IsTrue};
 ghost use Rattle.segmenting.specs.Joiners.{HasTakenSegments};
 ghost use Rattle.segmenting.specs.Segments.{Segment, max_message_octets};
-ghost use Rattle.segmenting.specs.Parts.{values_of, AreOfSomeJoiner};
+ghost use Rattle.segmenting.specs.Parts.{values_of, JoinerExists};
 
 use super::{Joiner, Part};
 use crate::LONGEST_MESSAGE;
@@ -17,18 +17,18 @@ impl Joiner {
         &self.octets[..self.len]
     }
 
-    /// Which part of a message these octets are.
+    /// The part of a message that the joiner holds.
     pub fn part(&self) -> Part
         ensures { result ≡ (values_of self.now).part }
     {
         self.part
     }
 
-    /// Restores a joiner from octets and their part. Returns false, and changes nothing, if no joiner can hold them.
+    /// Sets the joiner to the state given by octets and their part. Returns false, and changes nothing, if no joiner can be in this state.
     pub fn restore(&mut self, octets: &[u8], part: Part) -> bool
         ensures same { IsTrue result
             → values_of self.new ≡ record { octets = octets.now; part = part } }
-        ensures known { IsTrue result ↔ AreOfSomeJoiner (record { octets = octets.now; part = part }) }
+        ensures known { IsTrue result ↔ JoinerExists (record { octets = octets.now; part = part }) }
         ensures unknown { result ≡ false → self.new ≡ self.old }
 
         // At least one list of segments leads a joiner to this state.
@@ -48,10 +48,10 @@ impl Joiner {
 
 // A joiner that discards an oversize message holds no octets.
 fn is_empty_if_oversize(octets: &[u8], part: Part) -> bool
-    ensures { IsTrue result ↔ (part ≡ Part.Over → octets.now ≡ []) }
+    ensures { IsTrue result ↔ (part ≡ Part.Discarding → octets.now ≡ []) }
 {
     match part {
-        Part::Over => octets.is_empty(),
+        Part::Discarding => octets.is_empty(),
         Part::Open | Part::Whole => true,
     }
 }

@@ -1,7 +1,7 @@
 -- The survivor maps of four positions give the best lists from position `length mod 4` on; one more map extends these to the front.
-use Rattle.std.proofs.Common.{arith, rules, lit≤, ◌≡◌, ◌*◌, ◌-◌, ◌%◌, ◌++◌, ℕ, ℤ, List, length, take, drop, refl, ap₂, sym, ◌∙◌, w32}
-use Rattle.std.proofs.{Common.FitsSigned, lemmas.{Int.{ints, to_z-of_z}, List.{length-append, length-take, length-drop, take_all}}}
-use Rattle.std.proofs.lemmas.List.{take-take, take-append-drop, Elements.{All-take, All-drop}}
+use Rattle.std.proofs.Common.{arith, rules, lit≤, ◌≡◌, ◌*◌, ◌-◌, ◌%◌, ◌++◌, ℕ, ℤ, List, length, take, drop}
+use Rattle.std.proofs.{Common.{refl, ap₂, sym, ◌∙◌, w32, FitsSigned}, lemmas.{Int.{ints, to_z-of_z}, List.length-append}}
+use Rattle.std.proofs.lemmas.List.{length-take, length-drop, take_all, take-take, take-append-drop, Elements.{All-take, All-drop}}
 use Rattle.conv_code.specs.Likelihood.{AllSoftBits}
 use Rattle.trellis_decode.specs.{Lanes.{lane, AreSignedOctets, IsSignedOctet}, Trellis.IsSurvivor, AcsLanes.path_metric, Words.word}
 use Rattle.trellis_decode.proofs.{Lists.{IsMostLikely-best, likelihood-best}, MapLists.{walked, walked_bits, walked_state, list_of_few}}
@@ -12,15 +12,14 @@ octets : (soft : List ℤ) → AllSoftBits soft → AreSignedOctets soft
 octets soft h k d lt = let is = h k d lt in (omega (arith, ints, is.0), is.1)
 
 -- the list that is written is the best list from state 0
-best : (c : After-metric_of_state_0) →
-    IsSurvivor 0 (c.write_last_state_bits.new.u ++ c.trace_back_survivors.new.u) c.args.soft.now
+best : (c : After-metric_of_state_0) → IsSurvivor 0 (c.write_last_state_bits.new.u ++ c.trace_back_survivors.new.u) c.args.soft.now
     (lane (path_metric c.extend_survivors-walk.result.values) 0)
 best c =
     let soft = c.args.soft.now in
-    let n = length c.args.u.now in
+    let n = length _ in
     let few = n % 4 in
-    let front : List ℤ = take (2 * few) (take 8 soft) in
-    let rest : List ℤ = take (length soft - 2 * few) (drop (2 * few) soft) in
+    let front : List ℤ = take _ _ in
+    let rest : List ℤ = take _ (drop (2 * few) soft) in
     let whole : front ++ rest ≡ soft =
     ap₂ (λ front rest. front ++ rest) (take-take (2 * few) 8 soft (omega arith))
     (take_all _ _ (omega (arith, length-drop (2 * few) soft))) ∙ take-append-drop (2 * few) soft in
@@ -56,21 +55,18 @@ long c = omega (
 
 pub fill_survivors-values-requires-clause-octets : goal.fill_survivors-values-requires-clause-octets
 fill_survivors-values-requires-clause-octets c =
-    All-take IsSignedOctet _ _
-    (All-drop IsSignedOctet _ _ (octets _ c.requires.soft))
+    All-take IsSignedOctet _ _ (All-drop IsSignedOctet _ _ (octets _ c.requires.soft))
 
 pub extend_survivors-walk-requires-clause-octets : goal.extend_survivors-walk-requires-clause-octets
-extend_survivors-walk-requires-clause-octets c = All-take IsSignedOctet 8 _
-    (octets _ c.requires.soft)
+extend_survivors-walk-requires-clause-octets c = All-take IsSignedOctet 8 _ (octets _ c.requires.soft)
 
 pub returns-clause-best : goal.returns-clause-best
 returns-clause-best c =
     IsMostLikely-best c.args.soft.now (c.write_last_state_bits.new.u ++ c.trace_back_survivors.new.u) _ (omega
-    (arith, long c, c.requires.at_least))
-    (omega (arith, long c, c.requires.count)) (best c)
+    (arith, long, c.requires.at_least)) (omega (arith, long, c.requires.count)) (best c)
 
 pub returns-clause-value : goal.returns-clause-value
 returns-clause-value c =
     let fits : FitsSigned w32 c.metric_of_state_0.result = search rules in
-    to_z-of_z w32 c.metric_of_state_0.result fits ∙ c.metric_of_state_0.ensures
+    to_z-of_z w32 _ fits ∙ c.metric_of_state_0.ensures
     ∙ likelihood-best _ _ _ (best c)

@@ -19,8 +19,8 @@ use contract.Lifetimes.{AllOutlive}
 use contract.Monad.{Fun}
 use contract.Running.{tables, tables_of}
 use sound.WpLaws.{WpFn-mono}
-use types.Kit.{‵, ◌⊛◌, raw, given, some, later, ◌$◌, ◌∵◌, !, qed, by, move, keep, drop, split, split3, join, learn, fsplit, fjoin, use2}
-use types.Kit.{await, pick, suffices, frame, done, rewrite}
+use types.Kit.{‵, ◌⊛◌, raw, given, some, later, ◌$◌, ◌∵◌, !, qed, by, move, keep, drop, split, split3, join, learn}
+use types.Kit.{fsplit, fjoin, use2, await, pick, suffices, frame, done, rewrite}
 use types.Part.{agg}
 use types.Run.{stop, addr, bin, and_then, no_more, returns, enter}
 use types.ByLocal.{alloc_all, pass_all, free_all, look_at, get, through, sets, env}
@@ -68,7 +68,8 @@ module _ (n : ℕ) {M : Type 1} {𝓤 : Ura M} (𝓛 : Logic 𝓤) (at_mem : Mem
   abbrev clauses : Clauses 𝓤 (ended n)
   clauses = F.clauses (number n) 𝓛 at_mem run
 
-  module _ (C : Calls 𝓤 H) (Λ : Loops 𝓤 H) (κ κN : Lft) (q qN : Share) (bd : AllOutlive 2 (ended n).signature.outlives (κ, (κN, tt)))
+  module _ (C : Calls 𝓤 H) (Λ : Loops 𝓤 H) (κ κN : Lft) (q qN : Share)
+      (bd : AllOutlive 2 (ended n).signature.outlives (κ, (κN, tt)))
       (b o : ℕ) (γ : GName) (xs : List ℕ) (from to : ℕ) where
     abbrev self : MutBor (List ℕ)
     self = record { ref_ptr = (b, o); ghost_name = γ; now = xs }
@@ -102,7 +103,8 @@ module _ (n : ℕ) {M : Type 1} {𝓤 : Ura M} (𝓛 : Logic 𝓤) (at_mem : Mem
         sets ! (agg ! (and_then ! (get ! refl) (and_then ! (get ! refl) (no_more !)))) refl (tt, (tt, (record { fits = fits }, tt))) $
         split ! $ move ! (2 ∷ []) $ fsplit ! $ move ! (0 ∷ 2 ∷ []) $
         use2 𝓛 (later (some (part_lent 𝓛 (named 0) κ q b o γ n from to xs order within small)))
-        (lends_part 𝓛 (named 0) κ q b o γ n from to xs order within small (vptr b o ∷ [])) $ await ! tt $ pick ! (λ δ. learn ! (λ long.
+        (lends_part 𝓛 (named 0) κ q b o γ n from to xs order within small (vptr b o ∷ [])) $ await ! tt $
+        pick ! (λ δ. learn ! (λ long.
         returns ! (look_at ! 0 refl) $ free_all ! refl $ keep ! (0 ∷ 2 ∷ []) $ split3 ! $
         let lent : MutBor (List ℕ) = record { ref_ptr = (b, from + o); ghost_name = δ; now = part } in
         rewrite ! 0 (λ (k : ℕ). ‵ ((MutSlice (named 0) κ u8).own_val lent (slice_val (b, from + o) k ∷ []))) long refl $
@@ -111,18 +113,24 @@ module _ (n : ℕ) {M : Type 1} {𝓤 : Ura M} (𝓛 : Logic 𝓤) (at_mem : Mem
         nothing ! $ nothing ! $ fjoin ! $ nothing ! $ fjoin ! $ nothing ! $ fjoin ! $ join ! $ move !
         (1 ∷ 3 ∷ []) $ join ! $ join ! $ frame ! $ says ! (refl, long) $ done !)))
 
-  meets : (𝓣 : Tables 𝓤 H) → Meets 𝓛 (ended n).signature (WpFn 𝓤 H 𝓣.C 𝓣.Λ (function n)) (closing 𝓛 (ended n) clauses)
+  meets : (𝓣 : Tables 𝓤 H) → Meets 𝓛 (ended n).signature (WpFn 𝓤 H 𝓣.C 𝓣.Λ (function n))
+      (closing 𝓛 (ended n) clauses)
   meets 𝓣 =
       walk_Meets 𝓛 (ended n) (stayed n) (
         Goes-spent_ref 𝓛 2 (0 ∷ []) tt (plain (λ _. S n)),
-        (Goes-dropped 𝓛 2 (plain (λ _. usize)) yes (λ κs x f. refl), (Goes-dropped 𝓛 2 (plain (λ _. usize)) yes (λ κs x f. refl), tt)),
+        (
+          Goes-dropped 𝓛 2 (plain (λ _. usize)) yes (λ κs x f. refl),
+          (Goes-dropped 𝓛 2 (plain (λ _. usize)) yes (λ κs x f. refl), tt),
+        ),
       )
       clauses (WpFn 𝓤 H 𝓣.C 𝓣.Λ (function n)) (WpFn-mono 𝓤 H 𝓛.laws 𝓣 (function n))
-      (walked 𝓛 (ended n) (stayed n) clauses (WpFn 𝓤 H 𝓣.C 𝓣.Λ (function n)) (λ κs. (mut_vals, (uint_vals w64, (uint_vals w64, tt))))
+      (walked 𝓛 (ended n) (stayed n) clauses (WpFn 𝓤 H 𝓣.C 𝓣.Λ (function n))
+      (λ κs. (mut_vals, (uint_vals w64, (uint_vals w64, tt))))
       (λ κs. (mut_Tells (named 0) κs.0 (S n), (uint_Tells w64, (uint_Tells w64, tt))))
       (λ κs qs bounds a g are.
       qed 𝓛 (raw (on_entry 𝓛 (ended n).signature κs qs a (mut_vals a.0, (vint w64 a.1.0 ∷ [], (vint w64 a.1.1.0 ∷ [], tt))))
-      ∷ (given (κs.1.0 ⊑ (number n).lives) (‵ ftrue) ⊛ given (size (layout (S n)) < 2 ^ 63) (‵ ftrue) ⊛ given (a.1.0 ≤ a.1.1.0)
+      ∷ (given (κs.1.0 ⊑ (number n).lives) (‵ ftrue) ⊛ given (size (layout (S n)) < 2 ^ 63) (‵ ftrue) ⊛ given
+      (a.1.0 ≤ a.1.1.0)
       (‵ ftrue) ⊛ given (a.1.1.0 ≤ n) (‵ ftrue)) ∷ []) ∵
       move ! (1 ∷ []) $ split3 ! $ drop ! $ learn ! (λ small. drop ! $ split ! $ learn ! (λ order. drop ! $ learn ! (λ within. drop ! $
       by ! (walk 𝓣.C 𝓣.Λ κs.0 κs.1.0 qs.0 qs.1.0 bounds a.0.ref_ptr.0 a.0.ref_ptr.1 a.0.ghost_name a.0.now a.1.0 a.1.1.0 are.1.0.1
@@ -133,6 +141,7 @@ unfolding tables_of
 part_mut_spec 𝓤 𝓛 𝓜 𝓡 wired n fits =
     let A = 𝓛.A in
     let 𝓣 : Tables 𝓤 𝓛.H = tables_of 𝓤 𝓛.H 𝓜 (tables 𝓤 𝓛.H 𝓜 𝓡 𝓡.env) in
-    entered 𝓤 𝓛.H (triple_of 𝓛 (ended n).signature (F.spec (number n) 𝓛 𝓜.mem 𝓡.returns)) 𝓣.C 𝓣.Λ (#self (args n)) (function n)
+    entered 𝓤 𝓛.H (triple_of 𝓛 (ended n).signature (F.spec (number n) 𝓛 𝓜.mem 𝓡.returns)) 𝓣.C 𝓣.Λ (#self (args n))
+    (function n)
     (code.unfolded 𝓤 𝓛.H 𝓜 𝓡 wired (number n, tt))
     (meets n 𝓛 𝓜.mem 𝓡.returns 𝓣)

@@ -3,7 +3,8 @@ use Rattle.fire_code.proofs.OctetSteps.{remainder_of_octet, same_remainder_of_g4
 use Rattle.fire_code.proofs.octets.octet_remainder.Goals as goal
 
 pub returns-clause-multiple : goal.returns-clause-multiple
-returns-clause-multiple c = remainder_of_octet c.args.octet c.table_entry.result _ c.bits_of.ensures.value c.table_entry.ensures.multiple
+returns-clause-multiple c = remainder_of_octet c.args.octet c.table_remainder.result _ c.bits_of.ensures.value
+    c.table_remainder.ensures.multiple
 
 pub returns-clause-only : goal.returns-clause-only
 returns-clause-only c r count bits multiple =

@@ -6,13 +6,12 @@ pub loop-octet-init : goal.loop-octet-init
 loop-octet-init c = (empty_register, omega arith)
 
 pub loop-octet-preserved : goal.loop-octet-preserved
-loop-octet-preserved c =
-    let register = c.loop-octet.register in (
-      octets_along c.args.octets.now c.loop-octet.octet-index _ c.table_entry.result (omega arith)
-          c.loop-octet.invariant.1 c.loop-octet.invariant.0
-          (rw (← c.from.ensures) c.table_entry.ensures.multiple),
-      octet_within _ _ c.loop-octet.invariant.1 c.table_entry.ensures.within,
-    )
+loop-octet-preserved c = (
+  octets_along c.args.octets.now c.loop-octet.octet-index _ c.table_remainder.result (omega arith)
+      c.loop-octet.invariant.1 c.loop-octet.invariant.0
+      (rw (← c.from.ensures) c.table_remainder.ensures.multiple),
+  octet_within _ _ c.loop-octet.invariant.1 c.table_remainder.ensures.within,
+)
 
 pub returns-clause-multiple : goal.returns-clause-multiple
 returns-clause-multiple c = rw (← take_all c.loop-octet.octet-index c.args.octets.now (omega arith)) c.loop-octet.invariant.0

@@ -6,20 +6,19 @@ use Rattle.fire_code.proofs.rach.rach_holds.Goals as goal
 
 pub returns : goal.returns
 returns c =
-    let whole = c.as_slice.result.now in
     let d = c.split_at.result.0.now in
     let x = c.split_at.result.1.now in
     let code = c.as_slice-2.result.now in
     let given = c.as_slice-3.result.now in
     let split = cut 8 _ _ d x c.as_slice.ensures.value c.split_at.ensures.front c.split_at.ensures.back in
-    let is_code : code ≡ xor_bits c.crc.result x =
-    c.as_slice-2.ensures.value ∙ c.xor-code.ensures.value ∙ ap (λ s. xor_bits c.crc.result s) (rw c.unwrap-sum.ensures at
+    let is_code =
+    c.as_slice-2.ensures.value ∙ c.xor-code.ensures.value ∙ ap (xor_bits c.crc.result) (rw c.unwrap-sum.ensures at
     c.from_slice.ensures.value) in
     let bsic = c.as_slice-3.ensures in
     Decides-like _
     (λ (same : code ≡ given). rach_word_of_code _ d x _ _ split
     c.split_at.ensures.front_len (bits_of_front 8 _ d c.as_slice.ensures.bits c.split_at.ensures.front)
-    (omega (arith, c.split_at.ensures.back_len, c.as_slice.ensures.count)) (bits_of_back 8 _ x c.as_slice.ensures.bits
+    (omega arith) (bits_of_back 8 _ x c.as_slice.ensures.bits
     c.split_at.ensures.back)
     c.crc.ensures.count c.crc.ensures.bits
     (ap length (sym bsic.value) ∙ bsic.count) (subst AllBits bsic.value bsic.bits)

@@ -5,9 +5,8 @@ use Rattle.fire_code.proofs.xcch.xcch_parity.Goals as goal
 pub returns-clause-word : goal.returns-clause-word
 returns-clause-word c =
     let inverted = inverted_register 40 _ _ (omega arith) c.remainder.type_inv c.bits_of.ensures.value in
-    let d = c.as_slice.result.now in
     rw (← c.as_slice.ensures.value)
-    (xcch_word d _ c.as_slice.ensures.count c.as_slice.ensures.bits c.bits_of.ensures.count c.bits_of.ensures.bits
+    (xcch_word c.as_slice.result.now _ c.as_slice.ensures.count c.as_slice.ensures.bits c.bits_of.ensures.count c.bits_of.ensures.bits
     (rw inverted c.remainder.ensures.multiple))
 
 pub returns-clause-only : goal.returns-clause-only

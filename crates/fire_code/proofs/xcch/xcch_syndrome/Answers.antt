@@ -8,7 +8,6 @@ pub returns : goal.returns
 unfolding syndrome_of
 returns c =
     let w = c.args.w.now in
-    let whole = c.as_slice.result.now in
     let d = c.split_at.result.0.now in
     let p = c.split_at.result.1.now in
     let register = c.remainder.result in

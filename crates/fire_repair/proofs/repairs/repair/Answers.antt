@@ -6,12 +6,11 @@ use Rattle.fire_repair.proofs.repairs.repair.Goals as goal
 
 pub returns-then-syndrome-eq0 : goal.returns-then-syndrome-eq0
 returns-then-syndrome-eq0 c =
-    let s = c.xcch_syndrome-syndrome in
-    let holds = s.ensures.zero.0 c.if-syndrome-eq0.true in
+    let holds = c.xcch_syndrome-syndrome.ensures.zero.0 c.if-syndrome-eq0.true in
     record { answer = holds; only = λ other due. one_answer c.args.w.now other Holds due holds }
 
-pub first_and_last_bit-first-requires-clause-some : goal.first_and_last_bit-first-requires-clause-some
-first_and_last_bit-first-requires-clause-some c =
+pub first_and_last_bit-first-requires-clause-nonzero : goal.first_and_last_bit-first-requires-clause-nonzero
+first_and_last_bit-first-requires-clause-nonzero c =
     let w = c.args.w.now in
     let s = c.xcch_syndrome-syndrome in
     let found = c.in-Some.found in
@@ -44,10 +43,10 @@ returns-in-Some c =
       last_bit = e.last;
       order = e.within.0;
       within = e.within.1;
-      outside = e.outside;
+      none_outside = e.none_outside;
     } in
     let due : IsRepairResult w (Repaired c.flip_error_burst.result (found.start + first) (last - first + 1)) = (
-      subst (λ v. IsRepair w v) (sym c.flip_error_burst.ensures)
+      subst (IsRepair w) (sym c.flip_error_burst.ensures)
           (repair_of w s.ensures.count s.ensures.bits found.start found.shape says.start says.shape s.result
           (λ holds. c.if-syndrome-eq0.false (s.ensures.zero.1 holds)) says.leaves s.ensures.word),
       subst (λ v. IsSpanOfChangedBits w v (found.start + first) (last - first + 1)) (sym c.flip_error_burst.ensures)

@@ -1,18 +1,15 @@
-use Rattle.std.proofs.Common.{◌≡◌, length, get_or, ap, ◌∙◌, arith}
+use Rattle.std.proofs.Common.{get_or, ap, ◌∙◌, arith}
 use Rattle.interleave.proofs.ColumnBits.{written_before, written_behind}
 use Rattle.interleave.proofs.columns.repeat_columns.Goals as goal
 
 pub returns-clause-front : goal.returns-clause-front
 returns-clause-front c q hq =
     let first = c.copy_from_slice.ensures.after in
-    let many : length c.copy_from_slice.new.self ≡ 64 = ap length first ∙ c.told-columns in
-    written_before 57 64 c.copy_from_slice.new.self _ c.copy_from_slice-2.new.self (omega arith) q hq ∙ ap (λ xs. get_or xs q 0) first
+    written_before 57 64 _ _ _ (omega arith) q hq ∙ ap (λ xs. get_or xs q 0) first
 
 pub returns-clause-back : goal.returns-clause-back
 returns-clause-back c q hq =
     let first = c.copy_from_slice.ensures.after in
     let second = c.copy_from_slice-2.ensures.after in
-    let many : length c.copy_from_slice.new.self ≡ 64 = ap length first ∙ c.told-columns in
-    let more : length c.copy_from_slice-2.new.self ≡ 64 = ap length second ∙ c.told-columns in
-    written_behind 57 64 c.copy_from_slice.new.self _ c.copy_from_slice-2.new.self (omega arith) q (omega arith)
+    written_behind 57 64 c.copy_from_slice.new.self _ _ (omega arith) q (omega arith)
     ∙ ap (λ xs. get_or xs q 0) second

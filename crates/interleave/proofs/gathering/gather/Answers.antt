@@ -1,48 +1,42 @@
 -- The 57 columns cover all coded bits: seven groups of eight, and column 56.
-use Rattle.std.proofs.Common.{◌≡◌, inl, inr, ℕ, zero, suc, ◌+◌, ◌-◌, ◌*◌, ◌/◌, ◌%◌, ◌<◌, List, [], ◌∷◌, map, length, get_or, pos, ap, ap₂}
-use Rattle.std.proofs.{Common.{sym, ◌∙◌, arith, w8}, Math.ListN.get_or-map, lemmas.{Bool.cases_lt, List.get_or_default}}
-use Rattle.std.specs.Int.{cast_signed}
-use Rattle.interleave.specs.{ColumnPlaces.{coded_bit_of_column, column_bit_position}, Places.{burst_of, position_in_burst}}
-use Rattle.interleave.proofs.{Bijection.same_coded, InColumns.in_column, WholeBursts.{burst_of-below, position_in_burst-below}}
-use Rattle.interleave.proofs.gathering.gather.Goals.{After-write_column}
+use Rattle.std.proofs.Common.{◌≡◌, inl, inr, ℕ, ◌+◌, ◌-◌, ◌*◌, ◌/◌, ◌%◌, ◌<◌, List, [], ◌∷◌, map}
+use Rattle.std.proofs.{Common.{length, get_or, pos, ap, ap₂, sym, ◌∙◌, arith, w8}, Math.ListN.get_or-map, lemmas.Bool.cases_lt}
+use Rattle.std.{proofs.lemmas.List.get_or_default, specs.Int.cast_signed}
+use Rattle.interleave.specs.{ColumnPlaces.{coded_bit_of_column, column_bit_position}, Places.{burst_of_bit, burst_position}}
+use Rattle.interleave.proofs.{JoinedLanes.below_n, Bijection.same_coded, InColumns.in_column, WholeBursts.burst_of_bit-below}
+use Rattle.interleave.proofs.{WholeBursts.burst_position-below, gathering.gather.Goals.After-write_column}
 use Rattle.interleave.proofs.gathering.gather.Goals as goal
 
 pub loop-group-preserved : goal.loop-group-preserved
 loop-group-preserved c =
     let group = c.loop-group.group in
-    let octets : List (List ℕ) = c.octets_of.result ∷ c.octets_of-2.result ∷ c.octets_of-3.result ∷ c.octets_of-4.result ∷ [] in (
+    let octets : List (List ℕ) = c.as_octets.result ∷ c.as_octets-2.result ∷ c.as_octets-3.result ∷ c.as_octets-4.result ∷ [] in (
       c.write_columns.array_long,
       λ q r hq hr.
-          elim (cases_lt q (8 * group)) [
-            | inl before ↦ c.write_columns.ensures.others q r before hr ∙ c.loop-group.invariant.1 q r before hr
+          elim (cases_lt q _) [
+            | inl before ↦ c.write_columns.ensures.unchanged_bits q r before hr ∙ c.loop-group.invariant.1 q r before hr
             | inr after ↦
                 let s : ℕ = q - 8 * group in
                 let same : 8 * group + s ≡ q = omega arith in
                 let small : s < 8 = omega arith in
                 ap (λ q. get_or c.write_columns.new.soft (coded_bit_of_column q r) (pos 0)) (sym same)
-                ∙ c.write_columns.ensures.own s r small hr
+                ∙ c.write_columns.ensures.updated_bits s r small hr
                 ∙ ap (cast_signed w8) (c.eight_columns.ensures s r small hr)
                 ∙ ap (λ q. cast_signed w8 (get_or (get_or octets (r % 4) []) (column_bit_position q r) 0)) same
           ],
     )
 
 octets : After-write_column → List (List ℕ)
-octets c = c.octets_of.result ∷ c.octets_of-2.result ∷ c.octets_of-3.result ∷ c.octets_of-4.result ∷ []
+octets c = c.as_octets.result ∷ c.as_octets-2.result ∷ c.as_octets-3.result ∷ c.as_octets-4.result ∷ []
 
 long : (c : After-write_column) (b : ℕ) → b < 4 → length (get_or c.args.parts.now b []) ≡ 114
-long c zero h = c.octets_of.ensures.count
-long c (suc zero) h = c.octets_of-2.ensures.count
-long c (suc (suc zero)) h = c.octets_of-3.ensures.count
-long c (suc (suc (suc zero))) h = c.octets_of-4.ensures.count
-long c (suc (suc (suc (suc b)))) h = absurd (omega arith)
+long c =
+    below_n _ 4 (c.as_octets.ensures.count, (c.as_octets-2.ensures.count, (c.as_octets-3.ensures.count, (c.as_octets-4.ensures.count, tt))))
 
 signed : (c : After-write_column) (b : ℕ) → b < 4 → map (cast_signed w8) (get_or (octets c) b []) ≡ get_or c.args.parts.now b []
 unfolding octets
-signed c zero h = c.octets_of.ensures.value
-signed c (suc zero) h = c.octets_of-2.ensures.value
-signed c (suc (suc zero)) h = c.octets_of-3.ensures.value
-signed c (suc (suc (suc zero))) h = c.octets_of-4.ensures.value
-signed c (suc (suc (suc (suc b)))) h = absurd (omega arith)
+signed c =
+    below_n _ 4 (c.as_octets.ensures.value, (c.as_octets-2.ensures.value, (c.as_octets-3.ensures.value, (c.as_octets-4.ensures.value, tt))))
 
 written : (c : After-write_column) (q r : ℕ) → q < 57 → r < 8 →
     get_or c.write_column.new.soft (coded_bit_of_column q r) (pos 0) ≡ get_or (get_or c.args.parts.now (r % 4) [])
@@ -54,11 +48,11 @@ written c q r hq hr =
     let octet = get_or (octets c) (r % 4) [] in
     elim (cases_lt q 56) [
       | inl before ↦
-          c.write_column.ensures.others q r hq (omega arith) hr ∙ c.loop-group.invariant.1 q r (omega arith) hr
+          c.write_column.ensures.unchanged_bits q r hq (omega arith) hr ∙ c.loop-group.invariant.1 q r (omega arith) hr
       | inr after ↦
           let last : 56 ≡ q = omega arith in
           ap (λ q. get_or soft (coded_bit_of_column q r) (pos 0)) (sym last)
-          ∙ c.write_column.ensures.own r hr
+          ∙ c.write_column.ensures.updated_bits r hr
           ∙ ap (cast_signed w8) (c.last_column.ensures r hr)
           ∙ ap (λ q. cast_signed w8 (get_or octet (column_bit_position q r) 0)) last
     ]
@@ -72,14 +66,13 @@ returns-clause-interleaved c =
     record {
       coded_count = c.write_column.array_long;
       burst_count = omega arith;
-      each_count = λ b d lt.
-          ap length (get_or_default parts b d [] lt) ∙ long c b (omega arith);
+      burst_lengths = λ b d lt. ap length (get_or_default parts b d [] lt) ∙ long c b (omega arith);
       places = λ k d hk.
-          let burst = burst_of-below k in
-          let place = position_in_burst-below k in
-          let count = long c (burst_of k) burst in
+          let burst = burst_of_bit-below k in
+          let place = burst_position-below k in
+          let count = long c (burst_of_bit k) burst in
           let at = in_column k hk in
-          get_or_default (get_or parts (burst_of k) []) (position_in_burst k) d (pos 0) (omega arith)
+          get_or_default (get_or parts (burst_of_bit k) []) (burst_position k) d (pos 0) (omega arith)
           ∙ ap₂ (λ b j. get_or (get_or parts b []) j (pos 0)) at.burst at.place
           ∙ sym (written c (50 * (k / 8) % 57) (k % 8) at.column at.bit)
           ∙ ap (λ k. get_or soft k (pos 0)) at.same
@@ -87,4 +80,4 @@ returns-clause-interleaved c =
     }
 
 pub returns-clause-only : goal.returns-clause-only
-returns-clause-only c coded whole = same_coded coded c.write_column.new.soft c.args.parts.now whole (returns-clause-interleaved c)
+returns-clause-only c coded whole = same_coded _ _ c.args.parts.now whole (returns-clause-interleaved c)

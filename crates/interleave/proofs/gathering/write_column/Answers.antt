@@ -2,13 +2,13 @@ use Rattle.std.proofs.{Common.{inl, inr, ◌+◌, ◌*◌, ◌%◌, arith}, lemm
 use Rattle.interleave.specs.ColumnPlaces.{coded_bit_of_column}
 use Rattle.interleave.proofs.gathering.write_column.Goals as goal
 
-pub returns-clause-own : goal.returns-clause-own
+pub returns-clause-updated_bits : goal.returns-clause-updated_bits
 unfolding coded_bit_of_column
-returns-clause-own c r h = c.loop-r.invariant.1 r (omega arith)
+returns-clause-updated_bits c r h = c.loop-r.invariant.1 r (omega arith)
 
-pub returns-clause-others : goal.returns-clause-others
+pub returns-clause-unchanged_bits : goal.returns-clause-unchanged_bits
 unfolding coded_bit_of_column
-returns-clause-others c p r hp other hr =
+returns-clause-unchanged_bits c p r hp other hr =
     let q = c.args.q in
     elim (cases_lt (8 * p % 57) (8 * q % 57)) [
       | inl before ↦ c.loop-r.invariant.2 (8 * (8 * p % 57) + r) (inl (omega arith))

@@ -4,6 +4,5 @@ use Rattle.interleave.proofs.gathering.write_column.Given as goal
 -- the soft bits of the column so far are written; all outside the column are unchanged
 abbrev pub invariant-loop-r : goal.invariant-loop-r
 invariant-loop-r l =
-    (length l.soft ≡ 456)
-    × ((i : ℕ) → i < l.r → get_or l.soft (l.first + i) (pos 0) ≡ cast_signed w8 (get_or l.octets i 0))
+    (length l.soft ≡ 456) × ((i : ℕ) → i < l.r → get_or l.soft (l.first + i) (pos 0) ≡ cast_signed w8 (get_or l.octets i 0))
     × ((k : ℕ) → (k < l.first) ⊎ (l.first + 8 ≤ k) → get_or l.soft k (pos 0) ≡ get_or l.initial.soft k (pos 0))

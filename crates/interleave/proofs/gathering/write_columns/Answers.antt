@@ -1,18 +1,10 @@
-use Rattle.std.proofs.Common.{◌≡◌, ℕ, zero, suc, ◌+◌, ◌*◌, ◌/◌, ◌%◌, ◌^◌, ◌<◌, get_or, pos, refl, ap, ◌∙◌, arith, below_more, w8, w64}
-use Rattle.std.specs.Int.{cast_signed, to_le_bytes}
-use Rattle.interleave.specs.ColumnPlaces.{coded_bit_of_column}
+use Rattle.std.proofs.Common.{◌≡◌, ℕ, ◌+◌, ◌*◌, ◌/◌, ◌%◌, ◌^◌, ◌<◌, get_or, refl, ap, ◌∙◌, arith}
+use Rattle.std.{proofs.Common.{below_more, w8, w64}, specs.Int.{cast_signed, to_le_bytes}}
+use Rattle.interleave.{specs.ColumnPlaces.coded_bit_of_column, proofs.JoinedLanes.below_n}
 use Rattle.interleave.proofs.gathering.write_columns.Goals as goal
 
 octet_at : (n r : ℕ) → r < 8 → get_or (to_le_bytes w64 n) r 0 ≡ n / 256 ^ r % 256
-octet_at n zero h = omega arith
-octet_at n (suc zero) h = refl
-octet_at n (suc (suc zero)) h = refl
-octet_at n (suc (suc (suc zero))) h = refl
-octet_at n (suc (suc (suc (suc zero)))) h = refl
-octet_at n (suc (suc (suc (suc (suc zero))))) h = refl
-octet_at n (suc (suc (suc (suc (suc (suc zero)))))) h = refl
-octet_at n (suc (suc (suc (suc (suc (suc (suc zero))))))) h = refl
-octet_at n (suc (suc (suc (suc (suc (suc (suc (suc r)))))))) h = absurd (omega arith)
+octet_at n = below_n _ 8 (omega arith, (refl, (refl, (refl, (refl, (refl, (refl, (refl, tt))))))))
 
 pub loop-s-preserved : goal.loop-s-preserved
 loop-s-preserved c =
@@ -20,16 +12,14 @@ loop-s-preserved c =
     let group = c.args.group in
     let columns = c.args.columns.now in
     let soft = c.write_column.new.soft in
-    let others = c.write_column.ensures.others in
-    let Represents : ℕ → Type 0 = λ i. (r : ℕ) → r < 8 →
-    get_or soft (coded_bit_of_column (8 * group + i) r) (pos 0) ≡ cast_signed w8 (get_or columns i 0 / 256 ^ r % 256) in
+    let unchanged_bits = c.write_column.ensures.unchanged_bits in
+    let Represents : ℕ → Type 0 = λ i. (r : ℕ) → r < 8 → get_or soft (coded_bit_of_column _ r) _ ≡ cast_signed w8 _ in
     let all = below_more Represents s
-    (λ i hi r hr. others (8 * group + i) r (omega arith) (omega arith) hr ∙ c.loop-s.invariant.1 i r hi hr)
-    (λ r hr.
-    c.write_column.ensures.own r hr
+    (λ i hi r hr. unchanged_bits (8 * group + i) r (omega arith) (omega arith) hr ∙ c.loop-s.invariant.1 i r hi hr)
+    (λ r hr. c.write_column.ensures.updated_bits r hr
     ∙ ap (λ octets. cast_signed w8 (get_or octets r 0)) c.to_le_bytes.ensures
     ∙ ap (cast_signed w8) (octet_at (get_or columns s 0) r hr)) in (
       c.write_column.array_long,
       λ i r hi hr. all i hi r hr,
-      λ q r hq hr. others q r (omega arith) (omega arith) hr ∙ c.loop-s.invariant.2 q r hq hr,
+      λ q r hq hr. unchanged_bits q r (omega arith) (omega arith) hr ∙ c.loop-s.invariant.2 q r hq hr,
     )

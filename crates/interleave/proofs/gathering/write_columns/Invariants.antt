@@ -1,4 +1,5 @@
-use Rattle.std.{proofs.Common.{◌≡◌, ℕ, ◌+◌, ◌*◌, ◌/◌, ◌%◌, ◌^◌, ◌<◌, length, get_or, pos, w8}, specs.Int.cast_signed}
+use Rattle.std.proofs.Common.{◌≡◌, ℕ, ◌+◌, ◌*◌, ◌/◌, ◌%◌, ◌^◌, ◌<◌, length, get_or, pos, w8}
+use Rattle.std.specs.Int.{cast_signed}
 use Rattle.interleave.specs.ColumnPlaces.{coded_bit_of_column}
 use Rattle.interleave.proofs.gathering.write_columns.Given as goal
 

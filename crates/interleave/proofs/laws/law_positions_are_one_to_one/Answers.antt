@@ -1,4 +1,4 @@
-use Rattle.interleave.proofs.{Bijection.coded_bit_at, BurstPlaces.{position_in_four_bursts-below, position_in_four_bursts-differs}}
+use Rattle.interleave.proofs.{Bijection.coded_bit_at, BurstPlaces.{four_burst_position-below, four_burst_position-differs}}
 use Rattle.interleave.proofs.Rows.{same_coded_bit}
 use Rattle.interleave.proofs.laws.law_positions_are_one_to_one.Goals as goal
 
@@ -6,6 +6,6 @@ pub returns : goal.returns
 returns c = record {
   onto = coded_bit_at;
   one_to_one = same_coded_bit;
-  within = λ k _. position_in_four_bursts-below k;
-  distinct = position_in_four_bursts-differs;
+  within = λ k _. four_burst_position-below k;
+  distinct = four_burst_position-differs;
 }

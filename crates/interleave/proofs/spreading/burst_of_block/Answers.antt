@@ -1,5 +1,5 @@
-use Rattle.std.proofs.Common.{◌≡◌, replicate, length, get_or, ap, refl, ◌∙◌, arith}
-use Rattle.interleave.{specs.Places.position_in_burst, proofs.WholeBursts.{halves-at, put_mid-halves}}
+use Rattle.std.proofs.Common.{◌≡◌, length, get_or, ap, refl, ◌∙◌, arith}
+use Rattle.interleave.{specs.Places.burst_position, proofs.WholeBursts.{halves-at, put_mid-halves}}
 use Rattle.interleave.proofs.spreading.burst_of_block.Goals as goal
 
 pub returns : goal.returns
@@ -8,9 +8,8 @@ returns c = record {
       let first = c.spread_burst.new.out in
       let second = c.spread_burst-2.new.out in
       let long : length first ≡ 57 = omega arith in
-      let whole = put_mid-halves first (replicate 57 0) second long refl (omega arith) in
-      ap (λ xs. get_or xs (position_in_burst k) 0) whole
-      ∙ halves-at first second k 0 (get_or c.args.coded.now k 0) long
-      (λ i hi place. c.spread_burst.ensures.places k i hk burst hi place)
+      let whole = put_mid-halves _ _ _ long refl (omega arith) in
+      ap (λ xs. get_or xs (burst_position k) 0) whole
+      ∙ halves-at first second k 0 (get_or c.args.coded.now k 0) long (λ i hi place. c.spread_burst.ensures.places k i hk burst hi place)
       (λ i hi place. c.spread_burst-2.ensures.places k i hk burst hi place);
 }

@@ -1,14 +1,13 @@
-use Rattle.std.proofs.Common.{◌+◌, ◌*◌, get_or, ap, ◌∙◌, arith}
+use Rattle.std.proofs.Common.{get_or, ap, ◌∙◌, arith}
 use Rattle.interleave.proofs.{HalfBursts.half_of_bursts, Rows.coded_index_at-is}
 use Rattle.interleave.proofs.spreading.spread_burst.Goals as goal
 
 pub returns-clause-places : goal.returns-clause-places
 returns-clause-places c k i hk burst hi place =
     c.loop-i.invariant i (omega arith)
-    ∙ ap (λ k. get_or c.args.coded.now k 0)
-    (c.coded_bits-k-items.ensures.value i hi ∙ coded_index_at-is k c.args.b (57 * c.args.half + i) hk burst place)
+    ∙ ap (λ k. get_or c.args.coded.now k 0) (c.coded_bit_numbers-k-items.ensures.value i hi ∙ coded_index_at-is k _ _ hk burst place)
 
 pub returns-clause-part : goal.returns-clause-part
 returns-clause-part c bursts whole =
-    half_of_bursts c.args.b c.args.half c.requires.burst c.requires.half c.args.coded.now bursts c.loop-i.out whole (omega arith)
-    (λ i h. c.loop-i.invariant i (omega arith) ∙ ap (λ k. get_or c.args.coded.now k 0) (c.coded_bits-k-items.ensures.value i h))
+    half_of_bursts c.args.b c.args.half c.requires.burst c.requires.half c.args.coded.now bursts _ whole (omega arith)
+    (λ i h. c.loop-i.invariant i (omega arith) ∙ ap (λ k. get_or c.args.coded.now k 0) (c.coded_bit_numbers-k-items.ensures.value i h))

@@ -27,7 +27,7 @@ pub returns-clause-frame : goal.returns-clause-frame
 returns-clause-frame c =
     let at = c.layer1_octets-start.ensures.value in
     let no_fault = c.in_default-length_fault.ensures.none in
-    let within : c.min.result ≡ c.from-size.result = omega (arith, no_fault.room.bound) in
+    let within : c.min.result ≡ c.from-size.result = omega (arith, no_fault.room.length_bound) in
     let passes : Passes c.args.channel c.args.octets.now (content_of c.in-Some.body) = record {
       count = omega arith;
       low = rw at at c.if-address-ge32.false;

@@ -1,5 +1,5 @@
 use Rattle.std.proofs.{Common.{◌≡◌, ◌∙◌, sym, ap, subst, ℕ, List, arith, replicate}, lemmas.List.length-take}
-use Rattle.lapdm_frame.specs.{Content.{frame_of, information}, Frames.{address, control, length_octet}, Readings.IsOnlyCanonical}
+use Rattle.lapdm_frame.specs.{Content.{frame_of, information}, Frames.{address, control, length_octet}, Readings.IsOnlyCanonicalCoding}
 use Rattle.lapdm_frame.proofs.Canonical.{written, only_canonical}
 use Rattle.lapdm_frame.proofs.writer.write_on.Goals as goal
 
@@ -14,5 +14,5 @@ returns-clause-octets c =
 pub returns-clause-canonical : goal.returns-clause-canonical
 returns-clause-canonical c =
     let f = frame_of c.args.f.now in
-    subst (λ (octets : List ℕ). IsOnlyCanonical c.args.channel f octets) (sym (returns-clause-octets c))
+    subst (λ (octets : List ℕ). IsOnlyCanonicalCoding c.args.channel f octets) (sym (returns-clause-octets c))
     (only_canonical c.args.channel f c.requires)

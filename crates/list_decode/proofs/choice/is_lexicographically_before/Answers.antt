@@ -1,5 +1,5 @@
 use Rattle.std.proofs.Common.{arith, rules, ◌≡◌, length, ap, ap₂, ◌∙◌}
-use Rattle.list_decode.{specs.{Branches.word_of_deviation, Choices.deviating_word, Lists.words_of_lists}, proofs.Choices.order_tested}
+use Rattle.list_decode.{specs.{Branches.word_of_deviation, Choices.deviating_word, Lists.stored_words}, proofs.Choices.order_tested}
 use Rattle.list_decode.proofs.{Choices.deviation_list_is, Trees.length-lists, WordOrder.{test, tested}}
 use Rattle.list_decode.proofs.choice.is_lexicographically_before.Goals as goal
 
@@ -20,7 +20,7 @@ write-requires-2-clause-within c =
 pub returns : goal.returns
 returns c =
     let pass = c.args.pass.now in
-    let us = words_of_lists pass c.args.lists.now in
+    let us = stored_words pass c.args.lists.now in
     let x = c.args.first.now in
     let y = c.args.second.now in
     let is_x = deviation_list_is pass us x c.requires.pass c.requires.lists c.requires.first in

@@ -1,4 +1,5 @@
-use Rattle.std.proofs.{Common.{arith, ◌+◌, ◌-◌, ◌%◌, ◌*◌, drop, get_or, set, ap, ap₂, sym, ◌∙◌}, lemmas.List.{drop-set-lt, take_rest}}
+use Rattle.std.proofs.Common.{arith, ◌+◌, ◌-◌, ◌%◌, ◌*◌, drop, get_or, set, ap, ap₂, sym, ◌∙◌}
+use Rattle.std.proofs.lemmas.List.{drop-set-lt, take_rest}
 use Rattle.trellis_decode.specs.Trellis.{traceback}
 use Rattle.list_decode.proofs.departure.apply_deviation.Goals as goal
 
@@ -10,7 +11,7 @@ replace_until_merged-requires-clause-chosen c =
     let is = c.from-place.ensures in
     let bit = 1 - get_or u at 0 in
     take_rest (set u at bit) (at + 1)
-    ∙ drop-set-lt (at + 1) u at bit (omega arith)
+    ∙ drop-set-lt _ u at bit (omega arith)
     ∙ ap (λ p. drop (p + 1) u) is
     ∙ c.requires.chosen
     ∙ ap₂ (λ state bit. traceback (drop (c.args.departure.place + 1) rows) ((2 * state + bit) % 16)) (sym c.from-before.ensures)

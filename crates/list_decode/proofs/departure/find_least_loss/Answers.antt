@@ -1,7 +1,7 @@
-use Rattle.std.proofs.Common.{arith, ◌≡◌, ◌+◌, ◌-◌, ◌<◌, List, [], ◌++◌, ℕ, length, take, drop, ap, ap₂, sym, subst, ◌∙◌}
-use Rattle.std.proofs.lemmas.List.{append-nil, drop_all, length-drop, take-append-drop, take_all}
+use Rattle.std.proofs.Common.{arith, ◌≡◌, ◌+◌, ◌-◌, ◌<◌, List, [], ◌++◌, ℕ, length, take, drop, ap, ap₂, sym}
+use Rattle.std.proofs.{Common.{subst, ◌∙◌}, lemmas.List.{append-nil, drop_all, length-drop, take-append-drop, take_all}}
 use Rattle.trellis_decode.{proofs.Lemmas.length-traceback, specs.Trellis.traceback}
-use Rattle.list_decode.{specs.DeviatingLists.{state_after, IsLeastLossPosition}, proofs.Losses.chosen_from}
+use Rattle.list_decode.{specs.DeviatingLists.{state_after_bits, IsLeastLossPosition}, proofs.Losses.chosen_from}
 use Rattle.list_decode.proofs.departure.find_least_loss.Goals as goal
 
 pub returns-clause-list : goal.returns-clause-list
@@ -19,10 +19,11 @@ returns-clause-list c =
     let last : rest ≡ drop free (traceback rows 0) =
     c.trace_back.ensures
     ∙ ap₂ traceback (take_all (length rows - free) (drop free rows) (omega (arith, length-drop free rows)))
-    (old.state ∙ ap (λ k. state_after 0 (take k (traceback rows 0))) end)
+    (old.state ∙ ap (λ k. state_after_bits 0 (take k (traceback rows 0))) end)
     ∙ sym (chosen_from rows 0 free (let count = c.requires.rows in omega arith)) in
     ap (λ none. take free written ++ (rest ++ none)) behind
-    ∙ ap₂ (λ front rest. front ++ rest) (subst (λ k. take k written ≡ take k (traceback rows 0)) end old.written) (append-nil rest ∙ last)
+    ∙ ap₂ (λ front rest. front ++ rest) (subst (λ k. take k written ≡ take k (traceback rows 0)) end old.written) (append-nil rest
+    ∙ last)
     ∙ take-append-drop free (traceback rows 0)
 
 pub returns-clause-least : goal.returns-clause-least
@@ -35,7 +36,8 @@ returns-clause-least c =
 
 pub returns-clause-state : goal.returns-clause-state
 returns-clause-state c =
-    c.loop-k.invariant.reading.best.state ∙ ap (λ u. state_after 0 (take c.loop-k.reading.best.place u)) (sym (returns-clause-list c))
+    c.loop-k.invariant.reading.best.state ∙ ap (λ u. state_after_bits 0 (take c.loop-k.reading.best.place u))
+    (sym (returns-clause-list c))
 
 pub returns-clause-within : goal.returns-clause-within
 returns-clause-within c =

@@ -1,8 +1,10 @@
-use Rattle.std.proofs.Common.{arith, rules, ◌≡◌, ℕ, ◌/◌, ◌%◌, ◌^◌, ◌+◌, ◌*◌, [], ℤ, pos, ◌+ℤ◌, ◌-ℤ◌, length, get_or, take, refl, ap, ap₂}
-use Rattle.std.proofs.{Common.{sym, subst, ◌∙◌, w16, FitsSigned}, lemmas.{Int.to_z-of_z, Nat.and_mask}}
+use Rattle.std.proofs.Common.{arith, rules, ◌≡◌, ℕ, ◌/◌, ◌%◌, ◌^◌, ◌+◌, ◌*◌, [], ℤ, pos, ◌+ℤ◌}
+use Rattle.std.proofs.Common.{◌-ℤ◌, length, get_or, take, refl, ap, ap₂, sym, subst, ◌∙◌, w16, FitsSigned}
+use Rattle.std.proofs.lemmas.{Int.to_z-of_z, Nat.and_mask}
 use lib.Bits.{bit_and}
 use Rattle.trellis_decode.{proofs.Lemmas.length-traceback, specs.Trellis.traceback}
-use Rattle.list_decode.{specs.{DeviatingLists.{state_after, IsLeastLossPosition}, Readings.IsPartialTraceback}, proofs.Losses.chosen_bit}
+use Rattle.list_decode.specs.{DeviatingLists.{state_after_bits, IsLeastLossPosition}, Readings.IsPartialTraceback}
+use Rattle.list_decode.proofs.Losses.{chosen_bit}
 use Rattle.list_decode.proofs.departure.trace_back_groups_of_four.Goals as goal
 
 pub loop-group-init : goal.loop-group-init
@@ -26,29 +28,30 @@ loop-group-init c =
         best = record {
           found = omega arith;
           within = omega arith;
-          state = c.new.ensures.state ∙ sym (ap (λ p. state_after 0 (take p u)) place);
+          state = c.new.ensures.state ∙ sym (ap (λ p. state_after_bits 0 (take p u)) place);
           least = subst (λ p. IsLeastLossPosition u losses 0 p c.new.result.loss) (sym place) (record {
             value = lost ∙ to_z-of_z w16 _ fits;
             least = λ k lt. absurd (omega arith);
             before = λ k lt equal. absurd (omega arith);
             after = λ k late lt equal. absurd (omega arith);
           });
-          limit = c.new.ensures.limit
-              ∙ ap₂ (λ (loss : ℤ) (bit : ℕ). loss +ℤ pos 1 -ℤ pos bit) (sym lost) (bit ∙ ap (λ p. get_or u p 0) (sym place));
+          loss_limit = c.new.ensures.loss_limit
+              ∙ ap₂ (λ (loss : ℤ) (bit : ℕ). loss +ℤ pos 1 -ℤ pos bit) (sym lost) (bit
+              ∙ ap (λ p. get_or u p 0) (sym place));
         };
       };
     }
 
 pub more-requires-in-loop-group-2-clause-reading : goal.more-requires-in-loop-group-2-clause-reading
 more-requires-in-loop-group-2-clause-reading c =
-    let second : 4 * c.loop-group.group + 1 + 1 ≡ 4 * c.loop-group.group + 2 = omega arith in
-    subst (λ k. IsPartialTraceback c.args.rows.now c.args.losses.now c.more-in-loop-group.new.u k c.more-in-loop-group.result) second
+    subst (λ k. IsPartialTraceback c.args.rows.now c.args.losses.now c.more-in-loop-group.new.u k c.more-in-loop-group.result)
+    (omega arith)
     c.more-in-loop-group.ensures.reading
 
 pub more-reading-requires-clause-reading : goal.more-reading-requires-clause-reading
 more-reading-requires-clause-reading c =
-    let third : 4 * c.loop-group.group + 2 + 1 ≡ 4 * c.loop-group.group + 3 = omega arith in
-    subst (λ k. IsPartialTraceback c.args.rows.now c.args.losses.now c.more-in-loop-group-2.new.u k c.more-in-loop-group-2.result) third
+    subst (λ k. IsPartialTraceback c.args.rows.now c.args.losses.now c.more-in-loop-group-2.new.u k c.more-in-loop-group-2.result)
+    (omega arith)
     c.more-in-loop-group-2.ensures.reading
 
 pub loop-group-preserved : goal.loop-group-preserved

@@ -1,21 +1,21 @@
 use Rattle.std.proofs.Common.{arith, rules, ◌≡◌, [], length, get_or, refl, ap, sym, ◌∙◌, subst}
-use Rattle.list_decode.specs.{Branches.{IsBranch, IsSpan, IsDeviation, word_of_deviation}, Lists.words_of_lists, Passes.pass_soft_bits}
-use Rattle.list_decode.{specs.Ranking.IsCandidate, proofs.{Choices.{blank, deviation_is}, Chosen.{IsChosen, chosen, chosen_branch}}}
-use Rattle.list_decode.proofs.{Chosen.is_next, Trees.length-lists, partitioning.find_next_word.Goals.In_ok-choice}
+use Rattle.list_decode.specs.{Branches.{IsBranch, IsSpanOfWord, IsDeviation, word_of_deviation}, Lists.stored_words}
+use Rattle.list_decode.{specs.{Passes.soft_bits_of_pass, Ranking.IsCandidate}, proofs.{Choices.{blank, deviation_is}, Chosen.IsChosen}}
+use Rattle.list_decode.proofs.{Chosen.{chosen, chosen_branch, is_next}, Trees.length-lists, partitioning.find_next_word.Goals.In_ok-choice}
 use Rattle.list_decode.proofs.partitioning.find_next_word.Goals as goal
 
 -- the word from which the next word deviates, and the span in which it does
 chosen_here : (c : In_ok-choice) → IsChosen c.args.pass.now
-    (get_or (words_of_lists c.args.pass.now c.args.lists.now) (get_or c.args.branches.now c.in_ok-choice.choice.branch blank).span.list [])
+    (get_or (stored_words c.args.pass.now c.args.lists.now) (get_or c.args.branches.now c.in_ok-choice.choice.branch blank).span.list [])
     (get_or c.args.branches.now c.in_ok-choice.choice.branch blank).span c.in_ok-choice.choice.deviation
-chosen_here c = chosen c.args.pass.now (words_of_lists c.args.pass.now c.args.lists.now) c.args.branches.now c.in_ok-choice.choice
+chosen_here c = chosen c.args.pass.now (stored_words c.args.pass.now c.args.lists.now) c.args.branches.now c.in_ok-choice.choice
     c.requires.lists c.requires.branches c.in_ok-choice.ensures.first
 
 pub write-requires-clause-within : goal.write-requires-clause-within
 write-requires-clause-within c =
     let many : length c.args.lists.now.deviations ≡ 63 = search rules in
     let n = length-lists c.args.pass.now c.args.lists.now many c.requires.tree.most in
-    let i = (chosen_branch c.args.pass.now (words_of_lists c.args.pass.now c.args.lists.now) c.args.branches.now c.in_ok-choice.choice
+    let i = (chosen_branch c.args.pass.now (stored_words c.args.pass.now c.args.lists.now) c.args.branches.now c.in_ok-choice.choice
     c.requires.lists c.requires.branches c.in_ok-choice.ensures.first).within in
     omega arith
 
@@ -27,13 +27,13 @@ write-requires-2-clause-deviation c =
 pub partition-parts-requires-clause-deviating_word : goal.partition-parts-requires-clause-deviating_word
 partition-parts-requires-clause-deviating_word c =
     let is = chosen_here (goal.at.partition-parts-requires-clause-deviating_word c).In_ok-choice in
-    subst (IsCandidate (pass_soft_bits c.args.pass.now))
+    subst (IsCandidate (soft_bits_of_pass c.args.pass.now))
     (sym (c.write-2.ensures ∙ ap (λ u. word_of_deviation c.args.pass.now u c.in_ok-choice.choice.deviation) c.write.ensures))
     (deviation_is c.args.pass.now _ c.in_ok-choice.choice.deviation c.requires.pass is.candidate is.deviation)
 
 pub partition-parts-requires-clause-span : goal.partition-parts-requires-clause-span
 partition-parts-requires-clause-span c =
-    subst (λ u. IsSpan c.args.pass.now u (get_or c.args.branches.now c.in_ok-choice.choice.branch blank).span) (sym c.write.ensures)
+    subst (λ u. IsSpanOfWord c.args.pass.now u (get_or c.args.branches.now c.in_ok-choice.choice.branch blank).span) (sym c.write.ensures)
     (chosen_here (goal.at.partition-parts-requires-clause-span c).In_ok-choice).is_span
 
 pub partition-parts-requires-clause-deviation : goal.partition-parts-requires-clause-deviation
@@ -52,7 +52,7 @@ returns c =
     let pass = c.args.pass.now in
     let branches = c.args.branches.now in
     let choice = c.in_ok-choice.choice in
-    let us = words_of_lists pass c.args.lists.now in
+    let us = stored_words pass c.args.lists.now in
     let r = c.requires in
     let p = c.partition-parts.ensures in
     let many : length c.args.lists.now.deviations ≡ 63 = search rules in
@@ -63,8 +63,6 @@ returns c =
       next = is_next pass us branches choice r.pass r.lists r.branches c.in_ok-choice.ensures.first _ refl refl
           (subst (λ u. IsBranch pass u c.partition-parts.result.before) read p.before)
           (subst (λ v. IsBranch pass v c.partition-parts.result.behind) written p.behind)
-          (subst (λ u. IsBranch pass u c.partition-parts.result.after) read p.after)
-          p.before_span
-          (p.behind_span.0 ∙ sym count, p.behind_span.1, p.behind_span.2)
-          p.after_span c.write-2.new.v written;
+          (subst (λ u. IsBranch pass u c.partition-parts.result.after) read p.after) p.before_span
+          (p.behind_span.0 ∙ sym count, p.behind_span.1, p.behind_span.2) p.after_span c.write-2.new.v written;
     }

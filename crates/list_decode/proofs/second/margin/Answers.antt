@@ -1,8 +1,8 @@
-use Rattle.std.proofs.Common.{arith, rules, ◌+◌, ◌-◌, ◌*◌, ◌++◌, ◌∷◌, pos, take, drop, get_or, ap, ap₂, sym, subst, ◌∙◌, w32, FitsSigned}
-use Rattle.std.{proofs.lemmas.Int.to_z-of_z, specs.Prelude.◌≤ℤ◌}
+use Rattle.std.proofs.Common.{arith, rules, ◌+◌, ◌-◌, ◌*◌, ◌++◌, ◌∷◌, pos, take, drop, get_or, ap, ap₂, sym, subst}
+use Rattle.std.{proofs.{Common.{◌∙◌, w32}, lemmas.Int.to_z-of_z}, specs.Prelude.◌≤ℤ◌}
 use Rattle.weight_bound.specs.bit_blocks.Bits.{AllBits}
 use Rattle.trellis_decode.specs.Trellis.{next, traceback}
-use Rattle.list_decode.{specs.DeviatingLists.state_after, proofs.DeviatingLists.{AllBits-kept, AreFirstTwo, first_two}}
+use Rattle.list_decode.{specs.DeviatingLists.state_after_bits, proofs.DeviatingLists.{AllBits-kept, AreFirstTwo, first_two}}
 use Rattle.list_decode.proofs.{Losses.{chosen_behind, reached_small}, Margins.{IsMargin-second, tie_by_margin, hard_margin, both_only}}
 use Rattle.list_decode.proofs.second.margin.Goals.{After-write_deviation}
 use Rattle.list_decode.proofs.second.margin.Goals as goal
@@ -11,8 +11,7 @@ pub write_deviation-requires-clause-bits : goal.write_deviation-requires-clause-
 write_deviation-requires-clause-bits c =
     let pairs = c.fill_decisions.ensures.count in
     subst AllBits (sym c.find_least_loss-departure.ensures.list)
-    (AllBits-kept c.fill_decisions.new.rows c.fill_decisions.new.losses c.args.soft.now c.fill_decisions.ensures.decisions
-    (omega arith))
+    (AllBits-kept _ c.fill_decisions.new.losses c.args.soft.now c.fill_decisions.ensures.decisions (omega arith))
 
 pub write_deviation-requires-clause-chosen : goal.write_deviation-requires-clause-chosen
 write_deviation-requires-clause-chosen c =
@@ -22,7 +21,7 @@ write_deviation-requires-clause-chosen c =
     chosen_behind c.fill_decisions.new.rows departure.new.u c.new-deviation.result.place c.new-deviation.result.state departure.ensures.list
     (let i = departure.ensures.within in let n = c.fill_decisions.auto.rows in let m = departure.auto.u in omega arith)
     (let n = c.fill_decisions.auto.rows in let m = departure.auto.u in omega arith)
-    (is.state ∙ departure.ensures.state ∙ ap (λ place. state_after 0 (take place departure.new.u)) (sym is.place))
+    (is.state ∙ departure.ensures.state ∙ ap (λ place. state_after_bits 0 (take place departure.new.u)) (sym is.place))
 
 pub new-deviation-requires-clause-state : goal.new-deviation-requires-clause-state
 new-deviation-requires-clause-state c =
@@ -35,8 +34,7 @@ both : (c : After-write_deviation) →
 both c =
     let departure = c.find_least_loss-departure in
     first_two c.args.soft.now c.fill_decisions.new.rows c.fill_decisions.new.losses departure.new.u c.write_deviation.new.v
-    departure.result.place departure.result.state _
-    c.fill_decisions.ensures.decisions c.fill_decisions.ensures.count (omega arith)
+    departure.result.place departure.result.state _ c.fill_decisions.ensures.decisions c.fill_decisions.ensures.count (omega arith)
     departure.ensures.list departure.ensures.least departure.ensures.within departure.ensures.state
     (c.write_deviation.ensures
     ∙ ap₂ (λ place state. take place departure.new.u
@@ -51,8 +49,8 @@ returns-clause-second c = (both (goal.at.returns-clause-second c).After-write_de
 
 pub returns-clause-value : goal.returns-clause-value
 returns-clause-value c =
-    let fits : FitsSigned w32 c.find_least_loss-departure.result.loss = search rules in
-    to_z-of_z w32 c.find_least_loss-departure.result.loss fits ∙ (both (goal.at.returns-clause-value c).After-write_deviation).value
+    to_z-of_z w32 c.find_least_loss-departure.result.loss (search rules)
+    ∙ (both (goal.at.returns-clause-value c).After-write_deviation).value
 
 pub returns-clause-only : goal.returns-clause-only
 returns-clause-only c a b best next_best =
@@ -70,6 +68,5 @@ returns-clause-tie c = tie_by_margin c.args.soft.now c.find_least_loss-departure
 pub returns-clause-hard : goal.returns-clause-hard
 returns-clause-hard c e hard wrong few =
     let bound = hard_margin c.args.soft.now c.find_least_loss-departure.new.u c.write_deviation.new.v e (returns-clause-best c).information
-    (returns-clause-second c).candidate
-    (returns-clause-best c).count (returns-clause-second c).differs hard wrong few in
+    (returns-clause-second c).candidate (returns-clause-best c).count (returns-clause-second c).differs hard wrong few in
     subst (λ m. pos (254 * (7 - 2 * e)) ≤ℤ m) (sym (returns-clause-value c)) bound

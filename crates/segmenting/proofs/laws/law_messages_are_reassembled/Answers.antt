@@ -1,6 +1,5 @@
-use Rattle.lapdm_frame.specs.Layout.{n201}
 use Rattle.segmenting.proofs.Joins.{messages_come_back}
 use Rattle.segmenting.proofs.laws.law_messages_are_reassembled.Goals as goal
 
 pub returns : goal.returns
-returns c = λ channel. messages_come_back (n201 channel)
+returns c = λ channel. messages_come_back _

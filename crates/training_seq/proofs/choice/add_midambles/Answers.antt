@@ -1,6 +1,7 @@
-use Rattle.std.proofs.Common.{◌≡◌, ◌≢◌, ◌<◌, length, pos, refl, arith, below_more, get_or-set_other, get_or-set_same, ◌∙◌, sym, ap, get_or}
-use Rattle.std.proofs.{Common.◌+ℤ◌, lemmas.{Int.ints, List.{ext_get_or, length-set, Elements.{All-replicate, All-set}}}}
-use Rattle.training_seq.{specs.{Ranges.IsMagnitudeWithin, Sums.add_values}, proofs.Correlations.{length-add_values, get_or-add_values}}
+use Rattle.std.proofs.Common.{◌≡◌, ◌≢◌, ◌<◌, length, pos, refl, arith, below_more, get_or-set_other, get_or-set_same}
+use Rattle.std.proofs.{Common.{◌∙◌, sym, ap, get_or, ◌+ℤ◌}, lemmas.{Int.ints, List.{ext_get_or, length-set}}}
+use Rattle.std.proofs.lemmas.List.Elements.{All-replicate, All-set}
+use Rattle.training_seq.{specs.{Ranges.IsMagnitudeWithin, Sums.vector_sum}, proofs.Correlations.{length-vector_sum, get_or-vector_sum}}
 use Rattle.training_seq.proofs.choice.add_midambles.Goals as goal
 
 pub loop-i-init : goal.loop-i-init
@@ -24,20 +25,20 @@ returns-clause-value c =
     let e = c.args.c.now in
     let d = c.args.d.now in
     let ab : length a ≡ length b = omega arith in
-    let abe : length (add_values a b) ≡ length e = omega (arith, length-add_values a b ab) in
-    let abed : length (add_values (add_values a b) e) ≡ length d =
-    omega (arith, length-add_values a b ab, length-add_values (add_values a b) e abe) in
+    let abe : length (vector_sum a b) ≡ length e = omega (arith, length-vector_sum a b ab) in
+    let abed : length (vector_sum (vector_sum a b) e) ≡ length d =
+    omega (arith, length-vector_sum a b ab, length-vector_sum (vector_sum a b) e abe) in
     ext_get_or (pos 0) _ _
     (omega (
       arith,
-      length-add_values a b ab,
-      length-add_values (add_values a b) e abe,
-      length-add_values (add_values (add_values a b) e) d abed,
+      length-vector_sum a b ab,
+      length-vector_sum (vector_sum a b) e abe,
+      length-vector_sum (vector_sum (vector_sum a b) e) d abed,
     ))
     (λ k h.
     let written : k < c.loop-i.i = omega arith in
-    let ab_at = get_or-add_values a b k ab in
-    let abe_at = get_or-add_values (add_values a b) e k abe in
-    let abed_at = get_or-add_values (add_values (add_values a b) e) d k abed in
+    let ab_at = get_or-vector_sum a b k ab in
+    let abe_at = get_or-vector_sum (vector_sum a b) e k abe in
+    let abed_at = get_or-vector_sum (vector_sum (vector_sum a b) e) d k abed in
     c.loop-i.invariant.1 k written
     ∙ sym (abed_at ∙ ap (λ x. x +ℤ get_or d k (pos 0)) (abe_at ∙ ap (λ x. x +ℤ get_or e k (pos 0)) ab_at)))

@@ -1,12 +1,12 @@
 use Rattle.std.proofs.Common.{◌≡◌, ◌+◌, ◌*◌, ◌≤◌, drop}
 use Rattle.bit_blocks.specs.SoftValues.{count_wrong_bits}
-use Rattle.training_seq.specs.{Choice.total_wrong_bits, Sequences.training_sequence}
+use Rattle.training_seq.specs.{Choice.wrong_midamble_bits, Sequences.midamble}
 use Rattle.training_seq.proofs.choice.count_wrong_training_bits.Given as goal
 
 -- the number of wrong soft bits so far plus the number in the rest is the number in all
 abbrev pub invariant-loop-i : goal.invariant-loop-i
 invariant-loop-i l =
-    let bits = drop l.i (training_sequence l.tsc) in
+    let bits = drop l.i (midamble l.tsc) in
     (l.wrong + (count_wrong_bits (drop l.i l.a) bits + count_wrong_bits (drop l.i l.b) bits + count_wrong_bits (drop l.i l.c) bits
-    + count_wrong_bits (drop l.i l.d) bits) ≡ total_wrong_bits l.a l.b l.c l.d l.tsc)
+    + count_wrong_bits (drop l.i l.d) bits) ≡ wrong_midamble_bits l.a l.b l.c l.d l.tsc)
     × (l.wrong ≤ 4 * l.i)

@@ -1,19 +1,17 @@
-use Rattle.std.proofs.{Common.{◌≡◌, ℕ, ◌+◌, ◌*◌, ◌-◌, ◌<◌, ◌++◌, drop, take, ap, ap₂, sym, ◌∙◌, subst, arith}, Math.Seq.take-add}
-use Rattle.std.proofs.lemmas.{Int.ints, List.drop-drop}
-use Rattle.trellis_decode.specs.{AcsLanes.{AreInt16, path_metric, path_metrics}, SurvivorPaths.{AreMetricsWithin, AreSurvivors}}
+use Rattle.std.proofs.Common.{◌≡◌, ℕ, ◌+◌, ◌*◌, ◌-◌, ◌<◌, ◌++◌, drop, take, ap, ap₂, sym, ◌∙◌, subst}
+use Rattle.std.proofs.{Common.arith, Math.Seq.take-add, lemmas.{Int.ints, List.drop-drop}}
+use Rattle.trellis_decode.specs.{AcsLanes.{AreInt16, path_metric, metrics_of_lanes}, SurvivorPaths.{AreMetricsWithin, AreSurvivors}}
 use Rattle.trellis_decode.proofs.{FourPairs.{AreSignedOctets-pair, pair_at}, SurvivorPaths.{HaveHeadroom16-even, HaveHeadroom16-odd}}
 use Rattle.trellis_decode.proofs.backward.extend_survivors.Goals as goal
 
 pub loop-k-init : goal.loop-k-init
 loop-k-init c =
     let none : 0 ≡ 2 * (c.args.places - c.args.places) = omega arith in
-    let same = ap₂ path_metrics c.new-walk.ensures.even c.new-walk.ensures.odd in
+    let same = ap₂ metrics_of_lanes c.new-walk.ensures.even c.new-walk.ensures.odd in
     record {
-      walk = subst (λ n. AreSurvivors (path_metric c.args.after)
-          (path_metric c.new-walk.result.values)
+      walk = subst (λ n. AreSurvivors (path_metric c.args.after) (path_metric c.new-walk.result.values)
           c.new-walk.result.map (take n (drop (2 * c.args.places) c.args.soft.now))) none
-          (rw same
-          c.new-walk.ensures.walk);
+          (rw same c.new-walk.ensures.walk);
       within = subst (λ most. AreMetricsWithin most (path_metric c.new-walk.result.values)) (omega arith)
           (subst (AreMetricsWithin 58368) (sym same) c.requires.within);
       even = subst AreInt16 (sym c.new-walk.ensures.even) c.requires.even;
@@ -33,19 +31,18 @@ pub loop-k-preserved : goal.loop-k-preserved
 loop-k-preserved c =
     let soft = c.args.soft.now in
     let k = c.loop-k.k in
-    let pair = pair_at soft (2 * (k - 1)) in
+    let pair = pair_at _ (2 * (k - 1)) in
     let within : k - 1 < 4 = omega arith in
-    let has = c.four_branch_metrics-branch_metrics.ensures.has (k - 1) _ within in
-    let rest = take (2 * (c.args.places - k)) (drop (2 * k) soft) in
+    let has = c.four_branch_metrics-branch_metrics.ensures.has _ _ within in
+    let rest = take _ _ in
     let whole : pair ++ rest ≡ take (2 * (c.args.places - (k - 1))) (drop (2 * (k - 1)) soft) =
     ap (λ l. pair ++ take (2 * (c.args.places - k)) l) (sym (drop-drop 2 (2 * (k - 1)) soft ∙ ap (λ n. drop n soft) (omega arith)))
-    ∙ sym (take-add 2 (2 * (c.args.places - k)) (drop (2 * (k - 1)) soft)) ∙ ap (λ n. take n (drop (2 * (k - 1)) soft)) (omega arith) in
+    ∙ sym (take-add 2 (2 * (c.args.places - k)) (drop (2 * (k - 1)) soft))
+    ∙ ap (λ n. take n (drop (2 * (k - 1)) soft)) (omega arith) in
     record {
-      walk = rw (← whole)
-          (c.step-walk.ensures.walk pair has (path_metric c.args.after) rest c.loop-k.invariant.walk);
+      walk = rw (← whole) (c.step-walk.ensures.walk pair has (path_metric c.args.after) rest c.loop-k.invariant.walk);
       within = subst (λ most. AreMetricsWithin most (path_metric c.step-walk.result.values)) (omega arith)
-          (c.step-walk.ensures.within pair has (AreSignedOctets-pair _ _ c.requires.octets)
-          (58368 + 256 * (c.args.places - k))
+          (c.step-walk.ensures.within pair has (AreSignedOctets-pair _ _ c.requires.octets) (58368 + 256 * (c.args.places - k))
           c.loop-k.invariant.within);
       even = c.step-walk.ensures.even;
       odd = c.step-walk.ensures.odd;

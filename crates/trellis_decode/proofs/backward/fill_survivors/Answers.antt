@@ -1,9 +1,9 @@
 -- Induction from the tail to the front: each map extends the best lists by four positions, and the path metrics stay in bounds.
-use Rattle.std.proofs.{Common.{◌≡◌, ℕ, ◌*◌, ◌+◌, ◌-◌, ◌<◌, [], ◌∷◌, drop, take, length, refl, ◌∙◌, subst, arith}, lemmas.List.length-set}
-use Rattle.std.proofs.lemmas.List.{take_all, length-take, length-drop, Elements.All-drop}
+use Rattle.std.proofs.Common.{◌≡◌, ℕ, ◌*◌, ◌+◌, ◌-◌, ◌<◌, [], ◌∷◌, drop, take, length, ◌∙◌, subst}
+use Rattle.std.proofs.{Common.arith, lemmas.List.{length-set, take_all, length-take, length-drop, Elements.All-drop}}
 use Rattle.trellis_decode.specs.{Lanes.{lane, IsSignedOctet}, Trellis.IsSurvivor, AcsLanes.{lane_of_state, path_metric}}
-use Rattle.trellis_decode.{specs.SurvivorPaths.{AreSurvivors, traceback_of_survivors}, proofs.MapLists.{last_map, more_survivors}}
-use Rattle.trellis_decode.proofs.{Paths.IsSurvivor-same, SurvivorPaths.{AreMetricsWithin-best, AreMetricsWithin-most}}
+use Rattle.trellis_decode.{specs.SurvivorPaths.{AreSurvivors, survivor_traceback}, proofs.MapLists.{last_map, more_survivors}}
+use Rattle.trellis_decode.proofs.{Paths.IsSurvivor-to_end, SurvivorPaths.{AreMetricsWithin-best, AreMetricsWithin-most}}
 use Rattle.trellis_decode.proofs.backward.fill_survivors.Goals.{After-tail_metrics-values}
 use Rattle.trellis_decode.proofs.backward.fill_survivors.Goals as goal
 
@@ -11,11 +11,7 @@ closing : (c : After-tail_metrics-values) (s : ℕ) → s < 16 →
     IsSurvivor s (0 ∷ 0 ∷ 0 ∷ 0 ∷ []) (drop (8 * (length c.args.survivors.now - 1)) c.args.soft.now)
     (lane (path_metric c.tail_metrics-values.result) s)
 closing c s lt =
-    let soft = c.args.soft.now in
-    let last = length c.args.survivors.now - 1 in
-    let whole : take (length soft - 8 * last) (drop (8 * last) soft) ≡ drop (8 * last) soft =
-    take_all _ _ (omega (arith, length-drop (8 * last) soft)) in
-    IsSurvivor-same s refl whole refl (c.tail_metrics-values.ensures.best s lt)
+    IsSurvivor-to_end s (8 * (length c.args.survivors.now - 1)) _ c.args.soft.now _ (c.tail_metrics-values.ensures.best s lt)
 
 pub loop-group-init : goal.loop-group-init
 loop-group-init c =
@@ -34,7 +30,7 @@ loop-group-init c =
 pub extend_survivors-walk-requires-clause-within : goal.extend_survivors-walk-requires-clause-within
 extend_survivors-walk-requires-clause-within c =
     AreMetricsWithin-most (path_metric c.loop-group.values) (drop (8 * c.loop-group.group) c.args.soft.now)
-    (λ s. traceback_of_survivors (drop c.loop-group.group c.loop-group.survivors) (lane_of_state s))
+    (λ s. survivor_traceback (drop c.loop-group.group c.loop-group.survivors) (lane_of_state s))
     (All-drop IsSignedOctet (8 * c.loop-group.group) c.args.soft.now c.requires.octets)
     (omega (arith, length-drop (8 * c.loop-group.group) c.args.soft.now, c.requires.count, c.requires.at_most))
     c.loop-group.invariant.low c.loop-group.invariant.best
@@ -53,7 +49,7 @@ loop-group-preserved c =
     ∙ length-set c.args.survivors.now (length c.args.survivors.now - 1) _ in
     let within = c.loop-group.auto.group in
     let walk = subst (λ n. AreSurvivors after values map (take n (drop (8 * before) soft))) eight
-    (subst (AreSurvivors after values map) (take_all 8 (take (8 * before + 8 - 8 * before) (drop (8 * before) soft))
+    (rw (← take_all 8 (take (8 * before + 8 - 8 * before) (drop (8 * before) soft))
     (omega (arith, length-take (8 * before + 8 - 8 * before) (drop (8 * before) soft)))) c.extend_survivors-walk.ensures.walk) in
     record {
       best = more_survivors after values soft map survivors before group (omega arith) (omega (arith, same, within, c.requires.at_least))
@@ -67,13 +63,12 @@ pub returns-clause-best : goal.returns-clause-best
 returns-clause-best c =
     let none : c.loop-group.group ≡ 0 = omega arith in
     let Holds : ℕ → Type 0 = λ k. (s : ℕ) → s < 16 →
-    IsSurvivor s (traceback_of_survivors (drop k c.loop-group.survivors) (lane_of_state s)) (drop (8 * k) c.args.soft.now)
+    IsSurvivor s (survivor_traceback (drop k c.loop-group.survivors) (lane_of_state s)) (drop (8 * k) c.args.soft.now)
     (lane (path_metric c.loop-group.values) s) in
     subst Holds none c.loop-group.invariant.best
 
 pub returns-clause-within : goal.returns-clause-within
 returns-clause-within c =
     AreMetricsWithin-most _ _
-    (λ s. traceback_of_survivors c.loop-group.survivors (lane_of_state s)) c.requires.octets (omega
-    (arith, c.requires.count, c.requires.at_most))
-    c.loop-group.invariant.low (returns-clause-best c)
+    (λ s. survivor_traceback c.loop-group.survivors (lane_of_state s)) c.requires.octets (omega
+    (arith, c.requires.count, c.requires.at_most)) c.loop-group.invariant.low (returns-clause-best c)

@@ -1,5 +1,5 @@
-use Rattle.std.proofs.{Common.{◌≡◌, suc, ◌+◌, ◌*◌, ◌-◌, ◌<◌, drop, replicate, refl, ap, sym, ◌∙◌, subst, lit≤, arith}, Math.Seq.drop-length}
-use Rattle.std.proofs.lemmas.List.{length-drop, Elements.All-drop}
+use Rattle.std.proofs.Common.{◌≡◌, suc, ◌+◌, ◌*◌, ◌-◌, ◌<◌, drop, replicate, refl, ap, sym, ◌∙◌, subst, lit≤}
+use Rattle.std.proofs.{Common.arith, Math.Seq.drop-length, lemmas.List.{length-drop, Elements.All-drop}}
 use Rattle.trellis_decode.{specs.{Lanes.{IsSignedOctet, lane}, Trellis.IsSurvivor, AcsLanes.path_metric}, proofs.FourPairs.pair_at}
 use Rattle.trellis_decode.proofs.{FourPairs.pair_and_after, Paths.{IsSurvivor-none, IsSurvivor-same}, SurvivorPaths.HaveHeadroom16-even}
 use Rattle.trellis_decode.proofs.SurvivorPaths.{AreMetricsWithin-best, IsSurvivor-closed}
@@ -22,8 +22,7 @@ tail_step-values-requires-clause-even c =
     HaveHeadroom16-even c.loop-k.values.even.lanes c.loop-k.values.odd.lanes 1024 (lit≤ tt)
     (AreMetricsWithin-best (path_metric c.loop-k.values) (drop (2 * k) soft) (λ s. replicate (4 - k) 0)
     (All-drop IsSignedOctet (2 * k) soft c.requires.octets) (omega (arith, length-drop (2 * k) soft, c.requires.count))
-    c.loop-k.invariant.best)
-    c.loop-k.invariant.even.count
+    c.loop-k.invariant.best) c.loop-k.invariant.even.count
 
 pub loop-k-preserved : goal.loop-k-preserved
 loop-k-preserved c =

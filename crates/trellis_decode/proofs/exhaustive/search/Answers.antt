@@ -1,6 +1,6 @@
-use Rattle.std.proofs.Common.{arith, rules, ◌≡◌, ◌≢◌, ◌*◌, ◌+◌, ◌^◌, ◌<◌, length, ap, sym, subst, ◌∙◌, ℕ, ◌<ℤ◌, ◌≤ℤ◌, FitsSigned, to_z, w32}
-use Rattle.std.proofs.lemmas.Int.{to_z-of_z}
-use Rattle.conv_code.{specs.{Code.encoding, Likelihood.{likelihood, RanksAfter, IsMostLikely}}, proofs.Lemmas.IsMostLikely-only}
+use Rattle.std.proofs.Common.{arith, rules, ◌≡◌, ◌*◌, ◌^◌, ◌<◌, length, ap, ◌∙◌, ◌<ℤ◌, ◌≤ℤ◌}
+use Rattle.std.proofs.{Common.{FitsSigned, w32}, lemmas.Int.to_z-of_z}
+use Rattle.conv_code.{specs.{Code.encoding, Likelihood.likelihood}, proofs.Lemmas.IsMostLikely-only}
 use Rattle.trellis_decode.{specs.Words.word, proofs.Searching.{less_by_test, most_by_test, new_leads, old_leads, IsMostLikely-chosen}}
 use Rattle.trellis_decode.proofs.exhaustive.search.Goals.{then-value-best, else-value-best}
 use Rattle.trellis_decode.proofs.exhaustive.search.Goals as goal
@@ -8,7 +8,7 @@ use Rattle.trellis_decode.proofs.exhaustive.search.Goals as goal
 pub loop-number-preserved : goal.loop-number-preserved
 loop-number-preserved c =
     let soft = c.args.soft.now in
-    let n = length c.loop-number.u in
+    let n = length _ in
     let chosen = c.loop-number.chosen in
     let number = c.loop-number.number in
     let kept = c.loop-number.invariant in
@@ -16,15 +16,11 @@ loop-number-preserved c =
     let within : 16 * number < 2 ^ n = omega (
       arith,
       ap (λ n. 2 ^ n) c.loop-number.auto.u,
-      ap
-          (λ n. 2 ^ n) c.write_bits_and_zero_tail.auto.u,
+      ap (λ n. 2 ^ n) c.write_bits_and_zero_tail.auto.u,
     ) in
     let fits : FitsSigned w32 c.path_metric-value.result = search rules in
     let value : c.path_metric-value.result ≡ likelihood soft (encoding (word n (16 * number))) =
     c.path_metric-value.ensures ∙ ap (λ u. likelihood soft (encoding u)) c.write_bits_and_zero_tail-in-loop-number.ensures.list in
-    let Best : ℕ → ℕ → Type 0 = λ n m. to_z w32 c.if-value-best.best-bits ≡ likelihood soft (encoding (word n (16 * m))) in
-    let Leads : ℕ → ℕ → Type 0 = λ n leader. (m : ℕ) → m < number + 1 → m ≢ leader →
-    RanksAfter soft (word n (16 * m)) (word n (16 * leader)) in
     elim c.if-value-best.branch [
       | then-value-best w ↦
           let is = w.chosen-is in
@@ -33,8 +29,7 @@ loop-number-preserved c =
           record {
             before = omega arith;
             value = rw (← same_length) (rw is (w.best-is ∙ to_z-of_z w32 c.path_metric-value.result fits ∙ value));
-            others = rw (← same_length) (rw is
-                (new_leads _ n _ _ kept.before within kept.others more));
+            others = rw (← same_length) (rw is (new_leads _ n _ _ kept.before within kept.others more));
           }
       | else-value-best w ↦
           let is = w.chosen-is in
@@ -43,8 +38,7 @@ loop-number-preserved c =
           record {
             before = omega arith;
             value = rw (← same_length) (rw is (w.best-is ∙ kept.value));
-            others = rw (← same_length) (rw is
-                (old_leads _ n _ _ kept.before within kept.others most));
+            others = rw (← same_length) (rw is (old_leads _ n _ _ kept.before within kept.others most));
           }
     ]
 
@@ -53,11 +47,11 @@ returns-clause-best c =
     let soft = c.args.soft.now in
     let n = length c.loop-number.u in
     let same_length : length c.args.u.now ≡ n = omega arith in
-    let all : 16 * c.count_information_lists-lists.result ≡ 2 ^ n = c.count_information_lists-lists.ensures ∙ ap (λ n. 2 ^ n) same_length in
-    let ended = c.loop-number-test.false in
-    subst (IsMostLikely soft) (sym c.write_bits_and_zero_tail-2.ensures.list)
-    (IsMostLikely-chosen soft n c.loop-number.chosen c.count_information_lists-lists.result (omega arith) (omega arith) all
+    let all : 16 * c.count_information_lists-lists.result ≡ 2 ^ n = c.count_information_lists-lists.ensures
+    ∙ ap (λ n. 2 ^ n) same_length in
+    rw c.write_bits_and_zero_tail-2.ensures.list
+    (IsMostLikely-chosen _ n c.loop-number.chosen c.count_information_lists-lists.result (omega arith) (omega arith) all
     (λ m lt ne. let earlier : m < c.loop-number.number = omega arith in c.loop-number.invariant.others m earlier ne))
 
 pub returns-clause-only : goal.returns-clause-only
-returns-clause-only c v h = IsMostLikely-only c.args.soft.now c.write_bits_and_zero_tail-2.new.u v (returns-clause-best c) h
+returns-clause-only c v h = IsMostLikely-only _ _ v (returns-clause-best c) h

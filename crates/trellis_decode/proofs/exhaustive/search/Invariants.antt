@@ -8,5 +8,6 @@ abbrev pub invariant-loop-number : goal.invariant-loop-number
 invariant-loop-number l = record {
   before : l.chosen < l.number;
   value : l.best ≡ likelihood l.soft (encoding (word (length l.u) (16 * l.chosen)));
-  others : (m : ℕ) → m < l.number → m ≢ l.chosen → RanksAfter l.soft (word (length l.u) (16 * m)) (word (length l.u) (16 * l.chosen));
+  others : (m : ℕ) → m < l.number → m ≢ l.chosen →
+      RanksAfter l.soft (word (length l.u) (16 * m)) (word (length l.u) (16 * l.chosen));
 }

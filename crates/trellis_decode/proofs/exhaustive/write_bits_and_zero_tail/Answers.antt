@@ -1,6 +1,6 @@
 use Rattle.std.proofs.{Common.{arith, ◌-◌, ◌*◌, ◌<◌, length, sym, subst, ◌∙◌}, lemmas.Grind.same_number_lists}
-use Rattle.conv_code.specs.Code.{IsInformation}
-use Rattle.trellis_decode.{specs.Words.word, proofs.WordLists.{length-word, get_or-word, IsInformation-word}}
+use Rattle.conv_code.specs.Code.{IsEncoderInput}
+use Rattle.trellis_decode.proofs.WordLists.{length-word, get_or-word, IsEncoderInput-word}
 use Rattle.trellis_decode.proofs.exhaustive.write_bits_and_zero_tail.Goals as goal
 
 pub returns-clause-list : goal.returns-clause-list
@@ -14,4 +14,4 @@ returns-clause-list c =
 
 pub returns-clause-information : goal.returns-clause-information
 returns-clause-information c =
-    subst IsInformation (sym (returns-clause-list c)) (IsInformation-word (length c.args.u.now) c.args.number c.requires.at_least)
+    subst IsEncoderInput (sym (returns-clause-list c)) (IsEncoderInput-word (length _) c.args.number c.requires.at_least)

@@ -1,17 +1,15 @@
 use Rattle.std.proofs.{Common.{arith, rules, ◌∙◌, w32, FitsSigned}, lemmas.Int.to_z-of_z}
-use Rattle.trellis_decode.{specs.{Hard.hard_metrics, Lanes.lane, Trellis.IsSurvivor}, proofs.Lists.{IsMostLikely-best, likelihood-best}}
-use Rattle.trellis_decode.proofs.hard.decode_hard.Goals.{After-metric_of_state_0}
+use Rattle.trellis_decode.{specs.{Hard.hard_lane_metrics, Lanes.lane, Trellis.IsSurvivor}, proofs.Lists.IsMostLikely-best}
+use Rattle.trellis_decode.proofs.{Lists.likelihood-best, hard.decode_hard.Goals.After-metric_of_state_0}
 use Rattle.trellis_decode.proofs.hard.decode_hard.Goals as goal
 
 -- the list that is written is the best list from state 0
 best : (c : After-metric_of_state_0) →
-    IsSurvivor 0 c.trace_back_survivors.new.u c.args.soft.now (lane (hard_metrics c.fill_hard_survivors-values.result.lanes) 0)
-best c = rw c.trace_back_survivors.ensures
-    (c.fill_hard_survivors-values.ensures.best 0 (omega arith))
+    IsSurvivor 0 c.trace_back_survivors.new.u c.args.soft.now (lane (hard_lane_metrics c.fill_hard_survivors-values.result.lanes) 0)
+best c = rw c.trace_back_survivors.ensures (c.fill_hard_survivors-values.ensures.best 0 (omega arith))
 
 pub returns-clause-best : goal.returns-clause-best
 returns-clause-best c =
-    let same = c.trace_back_survivors.auto.u in
     IsMostLikely-best c.args.soft.now c.trace_back_survivors.new.u _ (omega (arith, c.requires.at_least)) (omega (arith, c.requires.count))
     (best c)
 

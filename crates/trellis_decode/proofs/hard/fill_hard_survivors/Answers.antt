@@ -1,36 +1,32 @@
 -- The same induction as for `fill_survivors`, in 8-bit lanes.
-use Rattle.std.proofs.{Common.{◌≡◌, ℕ, ◌*◌, ◌+◌, ◌-◌, ◌<◌, [], ◌∷◌, drop, take, length, refl, ◌∙◌, subst, arith}, lemmas.List.length-set}
-use Rattle.std.proofs.lemmas.List.{take_all, length-drop, Elements.{All-drop, All-take}}
-use Rattle.trellis_decode.specs.{Hard.{IsHard, hard_metrics}, Lanes.{lane, IsSignedOctet}, Trellis.IsSurvivor, AcsLanes.lane_of_state}
-use Rattle.trellis_decode.{specs.SurvivorPaths.{AreSurvivors, traceback_of_survivors}, proofs.{HardSteps.hard_octets, MapLists.last_map}}
-use Rattle.trellis_decode.proofs.{MapLists.more_survivors, Paths.IsSurvivor-same, SurvivorPaths.AreMetricsWithin-best}
+use Rattle.std.proofs.Common.{◌≡◌, ℕ, ◌*◌, ◌+◌, ◌-◌, ◌<◌, [], ◌∷◌, drop, take, length, ◌∙◌, subst}
+use Rattle.std.proofs.{Common.arith, lemmas.List.{length-set, length-drop, Elements.{All-drop, All-take}}}
+use Rattle.trellis_decode.specs.{Hard.{IsHardBit, hard_lane_metrics}, Lanes.{lane, IsSignedOctet}, Trellis.IsSurvivor}
+use Rattle.trellis_decode.{specs.{AcsLanes.lane_of_state, SurvivorPaths.{AreSurvivors, survivor_traceback}}, proofs.HardSteps.hard_octets}
+use Rattle.trellis_decode.proofs.{MapLists.{last_map, more_survivors}, Paths.IsSurvivor-to_end, SurvivorPaths.AreMetricsWithin-best}
 use Rattle.trellis_decode.proofs.{SurvivorPaths.AreMetricsWithin-most, hard.fill_hard_survivors.Goals.After-hard_tail_metrics-values}
 use Rattle.trellis_decode.proofs.hard.fill_hard_survivors.Goals as goal
 
 closing : (c : After-hard_tail_metrics-values) (s : ℕ) → s < 16 →
     IsSurvivor s (0 ∷ 0 ∷ 0 ∷ 0 ∷ []) (drop (8 * (length c.args.survivors.now - 1)) c.args.soft.now)
-    (lane (hard_metrics c.hard_tail_metrics-values.result.lanes) s)
+    (lane (hard_lane_metrics c.hard_tail_metrics-values.result.lanes) s)
 closing c s lt =
-    let soft = c.args.soft.now in
-    let last = length c.args.survivors.now - 1 in
-    let whole : take (length soft - 8 * last) (drop (8 * last) soft) ≡ drop (8 * last) soft =
-    take_all _ _ (omega (arith, length-drop (8 * last) soft)) in
-    IsSurvivor-same s refl whole refl (c.hard_tail_metrics-values.ensures.best s lt)
+    IsSurvivor-to_end s (8 * (length c.args.survivors.now - 1)) _ c.args.soft.now _ (c.hard_tail_metrics-values.ensures.best s lt)
 
 pub hard_tail_metrics-values-requires-clause-hard : goal.hard_tail_metrics-values-requires-clause-hard
 hard_tail_metrics-values-requires-clause-hard c =
-    let last = 8 * (length c.args.survivors.now - 1) in
-    All-take IsHard _ _ (All-drop IsHard _ _ c.requires.hard)
+    All-take IsHardBit _ _ (All-drop IsHardBit _ _ c.requires.hard)
 
 pub loop-group-init : goal.loop-group-init
 loop-group-init c =
     let soft = c.args.soft.now in
     let survivors = c.args.survivors.now in
-    let last = length survivors - 1 in
+    let last = length _ - 1 in
     record {
-      best = last_map survivors (drop (8 * last) soft) (hard_metrics c.hard_tail_metrics-values.result.lanes) last
+      best = last_map survivors (drop (8 * last) soft) (hard_lane_metrics c.hard_tail_metrics-values.result.lanes) last
           (omega (arith, c.requires.at_least)) (closing c);
-      low = (AreMetricsWithin-best (hard_metrics c.hard_tail_metrics-values.result.lanes) (drop (8 * last) soft) (λ s. 0 ∷ 0 ∷ 0 ∷ 0 ∷ [])
+      low = (AreMetricsWithin-best (hard_lane_metrics c.hard_tail_metrics-values.result.lanes) (drop (8 * last) soft) (λ s. 0 ∷ 0 ∷ 0
+          ∷ 0 ∷ [])
           (All-drop IsSignedOctet (8 * last) soft (hard_octets soft c.requires.hard))
           (omega (arith, length-drop (8 * last) soft, c.requires.count, c.requires.at_least)) (closing c)).low;
       lanes = c.hard_tail_metrics-values.ensures.lanes;
@@ -38,8 +34,7 @@ loop-group-init c =
 
 pub extend_hard_survivors-walk-requires-clause-hard : goal.extend_hard_survivors-walk-requires-clause-hard
 extend_hard_survivors-walk-requires-clause-hard c =
-    let at = 8 * (c.loop-group.group - 1) in
-    All-take IsHard _ _ (All-drop IsHard _ _ c.requires.hard)
+    All-take IsHardBit _ _ (All-drop IsHardBit _ _ c.requires.hard)
 
 pub extend_hard_survivors-walk-requires-clause-lanes : goal.extend_hard_survivors-walk-requires-clause-lanes
 extend_hard_survivors-walk-requires-clause-lanes c = c.loop-group.invariant.lanes
@@ -48,8 +43,8 @@ pub extend_hard_survivors-walk-requires-clause-within : goal.extend_hard_survivo
 extend_hard_survivors-walk-requires-clause-within c =
     let soft = c.args.soft.now in
     let group = c.loop-group.group in
-    AreMetricsWithin-most (hard_metrics c.loop-group.values.lanes) (drop (8 * group) soft)
-    (λ s. traceback_of_survivors (drop group c.loop-group.survivors) (lane_of_state s))
+    AreMetricsWithin-most (hard_lane_metrics c.loop-group.values.lanes) (drop (8 * group) soft)
+    (λ s. survivor_traceback (drop group c.loop-group.survivors) (lane_of_state s))
     (All-drop IsSignedOctet (8 * group) soft (hard_octets soft c.requires.hard))
     (omega (arith, length-drop (8 * group) soft, c.requires.count, c.requires.at_most))
     c.loop-group.invariant.low c.loop-group.invariant.best
@@ -64,11 +59,12 @@ loop-group-preserved c =
     let same : length survivors ≡ length c.args.survivors.now = c.loop-group.auto.survivors
     ∙ length-set c.args.survivors.now (length c.args.survivors.now - 1) _ in
     let within = c.loop-group.auto.group in
-    let walk = subst (λ n. AreSurvivors (hard_metrics c.loop-group.values.lanes)
-    (hard_metrics c.extend_hard_survivors-walk.result.values.lanes)
+    let walk = subst (λ n. AreSurvivors (hard_lane_metrics c.loop-group.values.lanes)
+    (hard_lane_metrics c.extend_hard_survivors-walk.result.values.lanes)
     c.extend_hard_survivors-walk.result.map (take n (drop (8 * before) soft))) eight c.extend_hard_survivors-walk.ensures.walk in
     record {
-      best = more_survivors (hard_metrics c.loop-group.values.lanes) (hard_metrics c.extend_hard_survivors-walk.result.values.lanes) soft
+      best = more_survivors (hard_lane_metrics c.loop-group.values.lanes)
+          (hard_lane_metrics c.extend_hard_survivors-walk.result.values.lanes) soft
           c.extend_hard_survivors-walk.result.map survivors before group (omega arith) (omega (arith, same, within, c.requires.at_least))
           (omega (arith, same, within, c.requires.at_least, c.requires.count)) walk c.loop-group.invariant.best;
       low = c.extend_hard_survivors-walk.ensures.within.low;
@@ -79,6 +75,6 @@ pub returns-clause-best : goal.returns-clause-best
 returns-clause-best c =
     let none : c.loop-group.group ≡ 0 = omega arith in
     let Holds : ℕ → Type 0 = λ k. (s : ℕ) → s < 16 →
-    IsSurvivor s (traceback_of_survivors (drop k c.loop-group.survivors) (lane_of_state s)) (drop (8 * k) c.args.soft.now)
-    (lane (hard_metrics c.loop-group.values.lanes) s) in
+    IsSurvivor s (survivor_traceback (drop k c.loop-group.survivors) (lane_of_state s)) (drop (8 * k) c.args.soft.now)
+    (lane (hard_lane_metrics c.loop-group.values.lanes) s) in
     subst Holds none c.loop-group.invariant.best

@@ -1,5 +1,5 @@
-use Rattle.std.proofs.{Common.{◌≡◌, ℕ, ◌*◌, ◌+◌, ◌-◌, ◌<◌, ◌∷◌, drop, ap, sym, ◌∙◌, subst, arith}, lemmas.List.{drop-set, length-drop}}
-use Rattle.std.proofs.lemmas.List.Elements.{All-take, All-drop}
+use Rattle.std.proofs.Common.{◌≡◌, ℕ, ◌*◌, ◌+◌, ◌-◌, ◌<◌, ◌∷◌, drop, ap, sym, ◌∙◌, subst, arith}
+use Rattle.std.proofs.lemmas.List.{drop-set, length-drop, Elements.{All-take, All-drop}}
 use Rattle.trellis_decode.specs.{Decisions.HasDecisionsAndMetrics, Lanes.{IsSignedOctet, lane}, AcsLanes.{HasBranchMetrics, path_metric}}
 use Rattle.trellis_decode.proofs.FourPairs.{AreSignedOctets-pair, pair_at, pair_of_part, pair_and_after}
 use Rattle.trellis_decode.proofs.Decisions.{HasDecisionsAndMetrics-more, HasDecisionsAndMetrics-same, HasDecisionsAndMetrics-close}
@@ -8,32 +8,20 @@ use Rattle.trellis_decode.proofs.AcsVectors.{passed-subtract_lanes}
 use Rattle.trellis_decode.proofs.trellis.fill_decision_rows.Goals as goal
 
 pub four_branch_metrics-branch_metrics-requires-clause-octets : goal.four_branch_metrics-branch_metrics-requires-clause-octets
-four_branch_metrics-branch_metrics-requires-clause-octets c = All-take IsSignedOctet _ _
-    (All-drop IsSignedOctet _ _ c.requires.octets)
+four_branch_metrics-branch_metrics-requires-clause-octets c = All-take IsSignedOctet _ _ (All-drop IsSignedOctet _ _ c.requires.octets)
 
 pub new-step-requires-clause-even : goal.new-step-requires-clause-even
 new-step-requires-clause-even c =
-    let at = c.args.first + c.loop-k.k in
-    HasDecisionsAndMetrics-even (drop at c.loop-k.rows) (drop at c.loop-k.losses) (drop (2 * at) c.args.soft.now) c.loop-k.values.even.lanes
-    c.loop-k.values.odd.lanes
-    c.loop-k.invariant.decided (let same = c.loop-k.auto.rows in omega (arith, length-drop at c.loop-k.rows))
-    c.loop-k.invariant.even.count
+    HasDecisionsAndMetrics-even _ _ _ _ c.loop-k.values.odd.lanes c.loop-k.invariant.decided
+    (omega (arith, length-drop (c.args.first + c.loop-k.k) c.loop-k.rows)) c.loop-k.invariant.even.count
 
 pub new-step-requires-clause-odd : goal.new-step-requires-clause-odd
 new-step-requires-clause-odd c =
-    let at = c.args.first + c.loop-k.k in
-    HasDecisionsAndMetrics-odd (drop at c.loop-k.rows) (drop at c.loop-k.losses) (drop (2 * at) c.args.soft.now) c.loop-k.values.even.lanes
-    c.loop-k.values.odd.lanes
-    c.loop-k.invariant.decided (let same = c.loop-k.auto.rows in omega (arith, length-drop at c.loop-k.rows))
-    c.loop-k.invariant.odd.count
+    HasDecisionsAndMetrics-odd _ _ _ c.loop-k.values.even.lanes _ c.loop-k.invariant.decided
+    (omega (arith, length-drop (c.args.first + c.loop-k.k) c.loop-k.rows)) c.loop-k.invariant.odd.count
 
 pub new-step-requires-clause-close : goal.new-step-requires-clause-close
-new-step-requires-clause-close c =
-    let at = c.args.first + c.loop-k.k in
-    HasDecisionsAndMetrics-close (drop at c.loop-k.rows) (drop at c.loop-k.losses) (drop
-    (2 * at) c.args.soft.now) c.loop-k.values.even.lanes
-    c.loop-k.values.odd.lanes
-    c.loop-k.invariant.decided
+new-step-requires-clause-close c = HasDecisionsAndMetrics-close _ _ _ _ _ c.loop-k.invariant.decided
 
 pub loop-k-preserved : goal.loop-k-preserved
 loop-k-preserved c =
@@ -48,8 +36,7 @@ loop-k-preserved c =
     let next_pair : 2 * j + 2 ≡ 2 * at = omega arith in
     let within : k - 1 < 4 = omega arith in
     let has = subst (HasBranchMetrics _)
-    (pair_of_part soft (2 * c.args.first) (2 * c.args.first + 8 - 2 * c.args.first) (2 * (k - 1)) (2 * j)
-    (omega arith) (omega arith))
+    (pair_of_part soft (2 * c.args.first) (2 * c.args.first + 8 - 2 * c.args.first) (2 * (k - 1)) (2 * j) (omega arith) (omega arith))
     (c.four_branch_metrics-branch_metrics.ensures.has (k - 1) _ within) in
     let lost = passed c.new-step.result.losses.lanes in
     record {
@@ -59,13 +46,11 @@ loop-k-preserved c =
           (ap (λ k. lost ∷ drop k losses) (sym next)
           ∙ sym (drop-set losses j lost (let same = c.loop-k.auto.losses in omega (arith, c.requires.same))))
           (pair_and_after soft (2 * j) (2 * at) next_pair)
-          (HasDecisionsAndMetrics-more (path_metric c.loop-k.values)
-          (path_metric c.new-step.result.values) lost pair (drop (2 * at) soft)
+          (HasDecisionsAndMetrics-more (path_metric c.loop-k.values) (path_metric c.new-step.result.values) lost pair (drop (2 * at) soft)
           (drop at rows) (drop at losses) c.new-step.result.row has.count (AreSignedOctets-pair soft (2 * j) c.requires.octets)
           (c.new-step.ensures.each pair has)
           (λ s lt. ap (λ l. lane l s) (passed-subtract_lanes c.new-step.result.losses.lanes c.new-step.ensures.lanes)
-          ∙ c.new-step.ensures.losses pair has s lt)
-          c.loop-k.invariant.decided);
+          ∙ c.new-step.ensures.losses pair has s lt) c.loop-k.invariant.decided);
       even = c.new-step.ensures.even;
       odd = c.new-step.ensures.odd;
     }

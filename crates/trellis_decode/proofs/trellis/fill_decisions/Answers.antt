@@ -1,12 +1,11 @@
-use Rattle.std.proofs.{Common.{◌≡◌, ℕ, ◌*◌, ◌+◌, ◌-◌, ◌/◌, ◌%◌, drop, take, length, refl, subst, arith}, lemmas.List.take_all}
+use Rattle.std.proofs.Common.{◌≡◌, ℕ, ◌*◌, ◌+◌, ◌-◌, ◌/◌, ◌%◌, drop, length, subst, arith}
 use Rattle.std.proofs.lemmas.List.{length-drop, Elements.{All-take, All-drop}}
 use Rattle.trellis_decode.specs.{Decisions.HasDecisionsAndMetrics, Lanes.IsSignedOctet, AcsLanes.path_metric}
-use Rattle.trellis_decode.proofs.{Decisions.HasDecisionsAndMetrics-closing, Paths.IsSurvivor-same}
+use Rattle.trellis_decode.proofs.{Decisions.HasDecisionsAndMetrics-closing, Paths.IsSurvivor-to_end}
 use Rattle.trellis_decode.proofs.trellis.fill_decisions.Goals as goal
 
 pub tail_metrics-values-requires-clause-octets : goal.tail_metrics-values-requires-clause-octets
 tail_metrics-values-requires-clause-octets c =
-    let last = 2 * (length c.args.rows.now - 4) in
     All-take IsSignedOctet _ _ (All-drop IsSignedOctet _ _ c.prove_octet_range.ensures)
 
 pub loop-group-init : goal.loop-group-init
@@ -15,21 +14,16 @@ loop-group-init c =
     let rows = c.args.rows.now in
     let losses = c.args.losses.now in
     let last = length rows - 4 in
-    let whole : take (length soft - 2 * last) (drop (2 * last) soft) ≡ drop (2 * last) soft =
-    take_all _ _ (omega (arith, length-drop (2 * last) soft)) in
     let at : last ≡ length rows % 4 + 4 * (length rows / 4 - 1) = omega (arith, c.requires.at_least) in
     let Holds : ℕ →
-    Type 0 = λ k. HasDecisionsAndMetrics (drop k rows) (drop k losses) (drop (2 * k) soft)
-    (path_metric c.tail_metrics-values.result) in
+    Type 0 = λ k. HasDecisionsAndMetrics (drop k rows) (drop k losses) (drop (2 * k) soft) (path_metric c.tail_metrics-values.result) in
     record {
       decided = subst Holds at (HasDecisionsAndMetrics-closing (drop last rows) (drop last losses) (drop (2 * last) soft)
-          (path_metric c.tail_metrics-values.result)
-          (omega (arith, length-drop last rows, c.requires.at_least))
+          (path_metric c.tail_metrics-values.result) (omega (arith, length-drop last rows, c.requires.at_least))
           (omega (arith, length-drop last losses, c.requires.same, c.requires.at_least))
           (omega (arith, length-drop (2 * last) soft, c.requires.count, c.requires.at_least))
-          (All-drop IsSignedOctet (2 * last) soft c.prove_octet_range.ensures)
-          (All-drop (λ row. row ≡ 0) last rows c.requires.blank)
-          (λ s lt. IsSurvivor-same s refl whole refl (c.tail_metrics-values.ensures.best s lt)));
+          (All-drop IsSignedOctet (2 * last) soft c.prove_octet_range.ensures) (All-drop (λ row. row ≡ 0) last rows c.requires.blank)
+          (λ s lt. IsSurvivor-to_end s (2 * last) _ soft _ (c.tail_metrics-values.ensures.best s lt)));
       even = c.tail_metrics-values.ensures.even;
       odd = c.tail_metrics-values.ensures.odd;
     }

@@ -6,8 +6,7 @@ use Rattle.trellis_decode.proofs.trellis.fill_decisions.Given as goal
 abbrev pub invariant-loop-group : goal.invariant-loop-group
 invariant-loop-group l = record {
   decided : HasDecisionsAndMetrics (drop (l.few + 4 * l.group) l.rows) (drop (l.few + 4 * l.group) l.losses) (drop (2 *
-      (l.few + 4 * l.group)) l.soft)
-      (path_metric l.values);
+      (l.few + 4 * l.group)) l.soft) (path_metric l.values);
   even : AreInt16 l.values.even.lanes;
   odd : AreInt16 l.values.odd.lanes;
 }

@@ -9,8 +9,7 @@ loop-k-preserved c =
     let k = c.loop-k.k in
     let octet : IsSignedOctet (lane soft k) = (omega (arith, ints), omega (arith, ints)) in
     subst AreSignedOctets (sym (take_more _ k (pos 0) c.loop-k-test.true))
-    (All-append IsSignedOctet _ _ c.loop-k.invariant
-    (All-cons IsSignedOctet (lane soft k) [] octet (All-nil IsSignedOctet)))
+    (All-append IsSignedOctet _ _ c.loop-k.invariant (All-cons IsSignedOctet (lane _ k) [] octet (All-nil _)))
 
 pub returns : goal.returns
-returns c = subst AreSignedOctets (take_all c.loop-k.k c.args.soft.now (omega arith)) c.loop-k.invariant
+returns c = subst AreSignedOctets (take_all _ _ (omega arith)) c.loop-k.invariant

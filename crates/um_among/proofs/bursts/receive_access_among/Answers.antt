@@ -4,7 +4,7 @@ use Rattle.um_among.proofs.bursts.receive_access_among.Goals as goal
 
 pub returns : goal.returns
 returns c =
-    let is = c.take_access_word.ensures in
+    let is = c.list_decode_access.ensures in
     record {
       received = is;
       only = λ other h. one_access_among c.args.burst.now c.args.bsic.now c.args.most other _ h is;

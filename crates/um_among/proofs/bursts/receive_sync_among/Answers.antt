@@ -3,7 +3,7 @@ use Rattle.um_among.proofs.bursts.receive_sync_among.Goals as goal
 
 pub returns : goal.returns
 returns c =
-    let is = c.take_sync_word.ensures in
+    let is = c.list_decode_sync.ensures in
     record {
       received = is;
       only = λ other h. one_sync_among c.args.burst.now c.args.most other _ h is;

@@ -6,7 +6,5 @@ use Rattle.um_among.proofs.search.first_crc_match.Given as goal
 -- the words tried so far are the first words in the ranking, and none of their CRCs holds
 abbrev pub invariant-loop-tried : goal.invariant-loop-tried
 invariant-loop-tried l =
-    (l.ranked.soft ≡ l.soft)
-    × (length l.ranked.given ≡ l.tried)
-    × IsRanked l.soft l.ranked.given
-    × All (λ v. ¬ CrcHolds l.crc v) l.ranked.given
+    (l.ranked.soft ≡ l.soft) × (length l.ranked.returned ≡ l.tried) × IsRanked l.soft l.ranked.returned
+    × All (λ v. ¬ CrcHolds l.crc v) l.ranked.returned

@@ -1,18 +1,19 @@
 use Rattle.std.proofs.Common.{◌≡◌, ℕ, ℤ, List, length, rules, ap, sym, subst, ◌∙◌}
 use Rattle.bit_blocks.specs.SoftValues.{AllSoftBits}
 use Rattle.burst_map.specs.AccessBurst.{body}
-use Rattle.um_block.specs.{Sent.IsSentAccess, Received.{soft_bits, IsReceivedAccess}, Restored.IsCleanAccess}
+use Rattle.um_block.specs.{Sent.IsSentAccess, Received.{soft_bits, IsReceivedAccess}, Restored.IsErrorFreeAccess}
 use Rattle.um_block.{specs.declared.received.ReceivedAccess.ReceivedAccess, proofs.ReceivedOnce.one_received_access}
 use Rattle.um_block.proofs.{CleanRestoring.clean_access, Softness.AllSoftBits-range, Restoring.restored_access}
 use Rattle.um_block.proofs.receiving.receive_access.Goals as goal
 
 restored : (burst : List ℤ) (bsic : List ℕ) (r : ReceivedAccess) → IsReceivedAccess burst bsic r → (info sent : List ℕ) →
-    IsSentAccess info bsic sent → burst ≡ soft_bits sent → IsCleanAccess info bsic r
+    IsSentAccess info bsic sent → burst ≡ soft_bits sent → IsErrorFreeAccess info bsic r
 restored burst bsic r received info sent s same = clean_access info bsic sent r s (subst (λ x. IsReceivedAccess x bsic r) same received)
 
 pub decode-metric-requires-clause-soft : goal.decode-metric-requires-clause-soft
 decode-metric-requires-clause-soft c =
-    subst AllSoftBits (sym (c.body.ensures.value ∙ ap body c.new-parts.ensures.value)) (AllSoftBits-range c.args.burst.now 49 85 c.requires)
+    subst AllSoftBits (sym (c.body.ensures.value ∙ ap body c.new-parts.ensures.value))
+    (AllSoftBits-range c.args.burst.now 49 85 c.requires)
 
 pub returns-clause-received : goal.returns-clause-received
 returns-clause-received c = search rules

@@ -2,7 +2,7 @@ use Rattle.std.proofs.Common.{◌≡◌, ◌++◌, length, sym, ◌∙◌, ap, a
 use Rattle.bit_blocks.specs.Bits.{AllBits}
 use Rattle.conv_code.proofs.Lemmas.{AllBits-coded}
 use Rattle.fire_code.specs.Words.{IsRachWord}
-use Rattle.um_block.{specs.Sent.with_tail, proofs.{SentOnce.one_access_burst, Words.IsInformation-joined}}
+use Rattle.um_block.{specs.Sent.with_tail, proofs.{SentOnce.one_access_burst, Words.IsEncoderInput-joined}}
 use Rattle.um_block.proofs.sending.send_access.Goals as goal
 
 pub access-requires-clause-bits : goal.access-requires-clause-bits
@@ -10,8 +10,7 @@ access-requires-clause-bits c = subst AllBits (sym c.encode.ensures) (AllBits-co
 
 pub encode-requires-clause-information : goal.encode-requires-clause-information
 encode-requires-clause-information c =
-    IsInformation-joined _ _ _ c.write_crc_and_tail.ensures (omega (arith, c.as_slice.ensures.count))
-    c.as_slice.ensures.bits c.as_slice-2.ensures.bits
+    IsEncoderInput-joined _ _ _ c.write_crc_and_tail.ensures (omega arith) c.as_slice.ensures.bits c.as_slice-2.ensures.bits
 
 pub returns-clause-sent : goal.returns-clause-sent
 returns-clause-sent c =
@@ -29,7 +28,7 @@ returns-clause-sent c =
         information = record {
           crc = p;
           word = subst (λ crc. IsRachWord (d ++ crc) b) (sym c.xor-crc.ensures.value) under;
-          list = word_is;
+          is_with_tail = word_is;
         };
         code = c.encode.ensures;
       };

@@ -18,8 +18,8 @@ returns-clause-sent c =
       code = block.1;
       spread = spread.1;
       layout = same_four _ _ _ _ _ _ _ _
-          (c.send_burst.ensures coded parts block.2 spread.1) (c.send_burst-2.ensures coded parts block.2 spread.1)
-          (c.send_burst-3.ensures coded parts block.2 spread.1) (c.send_burst-4.ensures coded parts block.2 spread.1)
+          (c.build_normal_burst.ensures coded parts block.2 spread.1) (c.build_normal_burst-2.ensures coded parts block.2 spread.1)
+          (c.build_normal_burst-3.ensures coded parts block.2 spread.1) (c.build_normal_burst-4.ensures coded parts block.2 spread.1)
           ∙ sym (ap (map burst) (four parts [] spread.1.burst_count));
     }
 

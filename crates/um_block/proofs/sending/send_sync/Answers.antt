@@ -1,14 +1,14 @@
-use Rattle.std.proofs.{Common.{◌≡◌, ◌++◌, length, sym, ◌∙◌, ap, ap₂, subst, arith}, lemmas.List.Elements.{All-take, All-drop}}
+use Rattle.std.proofs.{Common.{◌≡◌, ◌++◌, length, sym, ◌∙◌, ap, ap₂, subst, arith}, lemmas.List.Elements.All-take}
+use Rattle.std.proofs.lemmas.List.Elements.{All-drop}
 use Rattle.bit_blocks.specs.Bits.{IsBit, AllBits}
 use Rattle.conv_code.proofs.Lemmas.{AllBits-coded}
 use Rattle.burst_map.specs.SyncBurst.{sync_burst}
-use Rattle.um_block.{specs.Sent.with_tail, proofs.{SentOnce.one_sync_burst, Words.IsInformation-joined}}
+use Rattle.um_block.{specs.Sent.with_tail, proofs.{SentOnce.one_sync_burst, Words.IsEncoderInput-joined}}
 use Rattle.um_block.proofs.sending.send_sync.Goals as goal
 
 pub encode-requires-clause-information : goal.encode-requires-clause-information
 encode-requires-clause-information c =
-    IsInformation-joined _ _ _ c.write_crc_and_tail.ensures (omega (arith, c.as_slice.ensures.count))
-    c.as_slice.ensures.bits c.as_slice-2.ensures.bits
+    IsEncoderInput-joined _ _ _ c.write_crc_and_tail.ensures (omega arith) c.as_slice.ensures.bits c.as_slice-2.ensures.bits
 
 pub sync-requires : goal.sync-requires
 sync-requires c =
@@ -22,16 +22,15 @@ sync-requires c =
 
 pub returns-clause-sent : goal.returns-clause-sent
 returns-clause-sent c =
-    let d = c.args.info.now in
     let p = c.sch_parity.result in
-    let word_is : c.write_crc_and_tail.new.word ≡ with_tail (d ++ p) =
+    let word_is : c.write_crc_and_tail.new.word ≡ with_tail (c.args.info.now ++ p) =
     c.write_crc_and_tail.ensures ∙ ap₂ (λ x y. with_tail (x ++ y)) c.as_slice.ensures.value c.as_slice-2.ensures.value in
     record {
       coded_bits = c.encode.new.out;
       code = record {
         u = c.write_crc_and_tail.new.word;
         count = sym (ap length c.as_slice.ensures.value) ∙ c.as_slice.ensures.count;
-        information = record { crc = p; word = c.sch_parity.ensures.word; list = word_is };
+        information = record { crc = p; word = c.sch_parity.ensures.word; is_with_tail = word_is };
         code = c.encode.ensures;
       };
       burst = c.sync.ensures.value ∙ ap₂ sync_burst c.split_at.ensures.front c.split_at.ensures.back;

@@ -6,12 +6,12 @@ use Rattle.um_c.proofs.ends.um_end_idle.Goals as goal
 pub returns : goal.returns
 returns c =
     let r : Result (Unit {0}) Refused = Ok tt in
-    output_by SendsFill c.args.end.now c.args.effects.now c.write_call_effects.new.effects c.read_end.new.end c.read_end.new.end
+    output_by SendsFill c.args.end.now c.args.effects.now c.write_call_effects.new.effects c.read_endpoint.new.end c.read_endpoint.new.end
     c.send_fill_into.new.effects
     c.write_call_effects.result r
     (record {
-      represents = c.read_end.ensures.represents c.if-not-read_end.false;
-      one = c.read_end.ensures.known.0 c.if-not-read_end.false;
+      represents = c.read_endpoint.ensures.represents c.if-not-read_endpoint.false;
+      one = c.read_endpoint.ensures.known.0 c.if-not-read_endpoint.false;
     })
-    (c.read_end.ensures.decoded c.if-not-read_end.false) (λ e h. tt)
+    (c.read_endpoint.ensures.decoded c.if-not-read_endpoint.false) (λ e h. tt)
     (λ e h. refl) c.send_fill_into.ensures c.write_call_effects.ensures.done tt

@@ -12,7 +12,8 @@ returns-in-Ok-clause-session g c =
     same_run _ c.args.tsc _ c.args.channel _ _ _ _ c.drive_link.result _ _ _ _ (ap (λ w. w.tsc) world_is ∙ represents.tsc)
     (ap (λ w. w.channel) world_is ∙ represents.channel)
     (ap (λ r. let t : Tallies = record { sent = g.R.Radio.sent r; heard = g.R.Radio.heard r } in t) c.new-link.ensures.radio)
-    (ap (λ r. let t : Tallies = record { sent = g.R.Radio.sent r; heard = g.R.Radio.heard r } in t) (sym left)) c.drive_link.ensures.session
+    (ap (λ r. let t : Tallies = record { sent = g.R.Radio.sent r; heard = g.R.Radio.heard r } in t) (sym left))
+    c.drive_link.ensures.session
 
 pub returns-in-Err-clause-session : goal.returns-in-Err-clause-session
 returns-in-Err-clause-session g c = run_without_memory c.args.tsc c.args.channel _ _ _

@@ -1,7 +1,7 @@
 -- In each branch of `run`, the clauses follow from the clauses of the command that the branch runs (`Tops`).
 use Rattle.std.proofs.Common.{[], refl, ℕ, List, Option}
 use Rattle.um_driver.specs.{Table.IsRun, declared.status.Status.Status}
-use Rattle.um_cli.specs.{Brought.end_rules_with_best_words, declared.words.Invocation.{Invocation, TheVariants.{Code, Replay, Show}}}
+use Rattle.um_cli.specs.{Brought.end_rules_with_ml_decoding, declared.words.Invocation.{Invocation, TheVariants.{Code, Replay, Show}}}
 use Rattle.um_cli.{specs.{declared.words.Invocation.TheVariants.{Margin, Repair, End}, Shapes.command_of_words}, proofs.Tops.table_of}
 use Rattle.um_cli.proofs.{Tops.{due_of, at_shape, restores, replay_headline}, Arriving.best_brought}
 use Rattle.um_bursts.{specs.Replay.replay_rules, proofs.ReplayRules.replay_is_determined}
@@ -14,7 +14,7 @@ use Rattle.um_cli.proofs.top.run.Goals as goal
 
 abbrev IsBrought : Invocation → Status → (left left' taken taken' : Option (List ℕ)) → Type 0
 IsBrought (End side tsc) status left left' taken taken' =
-    IsRun end_rules_with_best_words (idle (role_of side) tsc) (λ last. Unit {0}) status left left' taken taken'
+    IsRun end_rules_with_ml_decoding (idle (role_of side) tsc) (λ last. Unit {0}) status left left' taken taken'
 IsBrought command status left left' taken taken' = Unit {0}
 
 pub returns-in-Some-Code-clause-due : goal.returns-in-Some-Code-clause-due

@@ -1,6 +1,5 @@
 -- Each round of the loop preserves `IsRunUnderway` or ends the run. The loop ends because each round answers at least one octet of the
--- input,
--- and at most `input_limit` octets are answered.
+-- input, and at most `input_limit` octets are answered.
 use Rattle.std.proofs.Common.{arith, refl, ◌<◌, ◌∙◌}
 use Rattle.um_driver.proofs.AfterWrites.{at_first, underway_gathers, underway_cut, run_ends}
 use Rattle.um_driver.proofs.driver.answer_all_lines.Goals as goal
@@ -50,6 +49,6 @@ pub loop-command-smaller : goal.loop-command-smaller
 loop-command-smaller g c =
     let way = underway_gathers c.loop-command.invariant.underway c.in-Ok.ensures.gathers c.flush_before_read.ensures.unchanged in
     let limit = (c.in-None.ensures.comes _ _ _ _ _ way c.in-Ok.ensures.ready).valid.limit in
-    let kept = c.flush_before_read.ensures.unchanged in
-    let rises : c.loop-command.lines.answered < c.answer_next_line.new.lines.answered = rw kept at (c.in-None.ensures.goes_on refl) in
+    let rises : c.loop-command.lines.answered < c.answer_next_line.new.lines.answered =
+    rw c.flush_before_read.ensures.unchanged at (c.in-None.ensures.goes_on refl) in
     omega (arith, rises, limit)

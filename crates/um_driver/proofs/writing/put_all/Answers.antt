@@ -19,7 +19,7 @@ returns-in_err-written-clause-taken g c =
 
 pub loop-written-preserved : goal.loop-written-preserved
 loop-written-preserved g c = record {
-  bound = let n = c.in_ok-written.ensures.bound in omega (arith, simp (length-take, length-drop) at n);
+  bound = omega (arith, simp (length-take, length-drop) at c.in_ok-written.ensures.bound);
   front = Appends-front _ _ _ _ _ _ c.loop-written.invariant.front c.in_ok-written.ensures.octets;
   kept = c.in_ok-written.ensures.unchanged ∙ c.loop-written.invariant.kept;
 }

@@ -1,11 +1,11 @@
 use Rattle.std.proofs.Common.{ap, sym, ◌∙◌, subst}
 use Rattle.um_link.specs.Naming.{role_of}
-use Rattle.um_end.{specs.EndLines.{EndMeans, burst_fault_to_end_fault}, proofs.EndLineLaws.{other_fault, other_means}}
+use Rattle.um_end.{specs.EndLines.{EndLineMeans, burst_fault_to_end_fault}, proofs.EndLineLaws.{other_fault, other_means}}
 use Rattle.um_end.proofs.lines.parse_burst_line.Goals as goal
 
 pub returns-in-Ok-clause-means : goal.returns-in-Ok-clause-means
 returns-in-Ok-clause-means c =
-    subst (EndMeans (role_of c.args.side) c.args.held c.args.line.now) (sym c.end_line_of_burst_line.ensures)
+    subst (EndLineMeans (role_of c.args.side) c.args.held c.args.line.now) (sym c.end_line_of_burst_line.ensures)
     (other_means (role_of c.args.side) c.args.held c.args.line.now c.requires.size c.requires.not_skipped c.requires.other c.in-Ok.burst
     c.in-Ok.ensures.means)
 

@@ -1,7 +1,8 @@
-use Rattle.std.proofs.{Common.{◌≡◌, ◌==◌, ◌<◌, ◌≤◌, true, false, not, ℕ, ap, sym, ◌∙◌, subst, arith}, lemmas.Bool.Decides.nat_tests}
+use Rattle.std.proofs.Common.{◌≡◌, ◌==◌, ◌<◌, ◌≤◌, true, false, not, ℕ, ap, sym, ◌∙◌, subst, arith}
+use Rattle.std.proofs.lemmas.Bool.Decides.{nat_tests}
 use Rattle.um_link.specs.Naming.{role_of}
 use Rattle.um_script.specs.Naming.{meaning_of}
-use Rattle.um_end.{specs.EndLines.{EndMeans, fault_inside_block}, proofs.EndLineLaws.{inside_fault, call_fault, call_means}}
+use Rattle.um_end.{specs.EndLines.{EndLineMeans, fault_inside_block}, proofs.EndLineLaws.{inside_fault, call_fault, call_means}}
 use Rattle.um_end.proofs.lines.parse_call_line.Goals as goal
 
 some : (held : ℕ) → 0 < held → not (held == 0) ≡ true
@@ -19,7 +20,7 @@ returns-then-held-gt0-clause-refused c =
 
 pub returns-in-Ok-clause-means : goal.returns-in-Ok-clause-means
 returns-in-Ok-clause-means c =
-    subst (EndMeans (role_of c.args.side) c.args.held c.args.line.now) (sym c.end_line_of_script_line.ensures)
+    subst (EndLineMeans (role_of c.args.side) c.args.held c.args.line.now) (sym c.end_line_of_script_line.ensures)
     (call_means (role_of c.args.side) c.args.held c.args.line.now c.requires.size c.requires.not_skipped c.requires.own
     (none c.args.held c.if-held-gt0.false) (meaning_of c.in-Ok.script) c.in-Ok.ensures.means)
 

@@ -1,4 +1,5 @@
-use Rattle.std.proofs.{Common.{◌≡◌, Some, ◌++◌, codes, sym, ap, ◌∙◌}, lemmas.{Bool.Decides.Decides-eqb, Slice.Eq.strip_prefix_is}}
+use Rattle.std.proofs.{Common.{◌≡◌, Some, ◌++◌, codes, sym, ap, ◌∙◌}, lemmas.Bool.Decides.Decides-eqb}
+use Rattle.std.proofs.lemmas.Slice.Eq.{strip_prefix_is}
 use Rattle.um_lines.specs.Words.{words}
 use Rattle.um_formats.specs.CodeLines.{parsed_code}
 use Rattle.um_formats.proofs.code.parse_words.Goals as goal

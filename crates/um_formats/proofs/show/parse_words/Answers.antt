@@ -1,4 +1,5 @@
-use Rattle.std.proofs.{Common.{◌≡◌, Some, None, ◌++◌, codes, sym, ap, ◌∙◌}, lemmas.{Bool.Decides.Decides-eqb, Slice.Eq.strip_prefix_is}}
+use Rattle.std.proofs.{Common.{◌≡◌, Some, None, ◌++◌, codes, sym, ap, ◌∙◌}, lemmas.Bool.Decides.Decides-eqb}
+use Rattle.std.proofs.lemmas.Slice.Eq.{strip_prefix_is}
 use Rattle.um_lines.specs.Words.{words}
 use Rattle.um_formats.{specs.ShowLines.parsed_show, proofs.ShowReading.no_name}
 use Rattle.um_formats.proofs.show.parse_words.Goals as goal

@@ -1,4 +1,5 @@
-use Rattle.std.proofs.{Common.{◌≡◌, ℕ, List, ◌+◌, ◌-◌, ◌≤◌, length, ◌∙◌, arith}, lemmas.List.{length-map, map-append}}
+use Rattle.std.proofs.{Common.{◌≡◌, ℕ, List, ◌+◌, ◌-◌, ◌≤◌, length, ◌∙◌, arith}, lemmas.List.length-map}
+use Rattle.std.proofs.lemmas.List.{map-append}
 use Rattle.um_lines.{specs.Fields.bit_digits, proofs.Sixteens.{written_more, written_all}}
 use Rattle.um_lines.proofs.text.write_by_sixteens.Goals as goal
 
@@ -12,7 +13,7 @@ loop-at-preserved c =
     let within : at + 16 ≤ length c.args.bits.now = omega (arith, h.2) in (
       written_more bit_digits (map-append (λ bit. 48 + bit)) long c.args.bits.now at (at + 16 - at)
           c.loop-at.digits c.copy_from_slice.new.self
-          (omega arith) within h.0 (c.copy_from_slice.ensures.after ∙ c.high_and_low_digits.ensures),
+          (omega arith) within h.0 (c.copy_from_slice.ensures.after ∙ c.digits_of_sixteen.ensures),
       within,
       h.2,
     )
@@ -23,4 +24,4 @@ returns c =
     let h = c.loop-at.invariant in
     written_all bit_digits (map-append (λ bit. 48 + bit)) long c.args.bits.now last c.loop-at.at (last + 16 - last)
     c.loop-at.digits c.copy_from_slice-2.new.self
-    (omega arith) h.2 (omega arith) h.0 (c.copy_from_slice-2.ensures.after ∙ c.high_and_low_digits-2.ensures)
+    (omega arith) h.2 (omega arith) h.0 (c.copy_from_slice-2.ensures.after ∙ c.digits_of_sixteen-2.ensures)

@@ -1,7 +1,7 @@
 -- Each round of the loop counts one more event and its answer, and the radio counts the same blocks.
 use Rattle.std.proofs.Common.{◌≡◌, ◌∙◌, ap, ℕ, ◌+◌, arith}
-use Rattle.um_link.specs.{um_block.Tallies.counter_after, Naming.step_result, Abstraction.{sent_frame_count, arrived_block_count}}
-use Rattle.um_make.{specs.Generated.generated_events, proofs.CountedEvents.{goes_on, small_enough, sums_up, is_delivered}}
+use Rattle.um_link.specs.{um_block.Tallies.counter_plus, Naming.step_result, Abstraction.{sent_frame_count, arrived_block_count}}
+use Rattle.um_make.{specs.Generated.generated_events, proofs.CountedEvents.{goes_on, small_enough, is_summary_of_events, is_delivered}}
 use Rattle.um_make.proofs.Tallying.{raised_by-more, frames_are, arrivals_are}
 use Rattle.um_make.proofs.run.make.Goals as goal
 
@@ -23,19 +23,21 @@ loop-event-preserved g c =
       underway = goes_on c.args.tsc (generated_events c.args.n) c.loop-event.script c.next.new.self c.loop-event.world
           c.step_into-done.new.self old new _ answer c.loop-event.invariant.underway c.in-Some.ensures.event
           c.step_into-done.ensures.session counts c.count.ensures.rises;
-      sent = c.step_into-done.ensures.sent ∙ ap (counter_after (sent_frame_count answer)) c.loop-event.invariant.sent
+      sent = c.step_into-done.ensures.sent ∙ ap (counter_plus (sent_frame_count answer)) c.loop-event.invariant.sent
           ∙ raised_by-more (sent_frame_count answer) old.sends _ new.sends sent;
-      heard = c.step_into-done.ensures.heard ∙ ap (counter_after (arrived_block_count answer)) c.loop-event.invariant.heard
+      heard = c.step_into-done.ensures.heard ∙ ap (counter_plus (arrived_block_count answer)) c.loop-event.invariant.heard
           ∙ raised_by-more (arrived_block_count answer) (old.takes + old.drops) _ (new.takes + new.drops) heard;
     }
 
 pub returns-clause-run : goal.returns-clause-run
 returns-clause-run g c =
-    sums_up c.args.tsc (generated_events c.args.n) c.loop-event.script c.loop-event.world c.loop-event.summary c.in_default.ensures.event.0
+    is_summary_of_events c.args.tsc (generated_events c.args.n) c.loop-event.script c.loop-event.world c.loop-event.summary
+    c.in_default.ensures.event.0
     c.loop-event.invariant.underway
 
-pub returns-clause-delivered : goal.returns-clause-delivered
-returns-clause-delivered g c =
+pub returns-clause-delivered_messages : goal.returns-clause-delivered_messages
+returns-clause-delivered_messages g c =
     is_delivered c.args.tsc c.args.n c.loop-event.summary
-    (sums_up c.args.tsc (generated_events c.args.n) c.loop-event.script c.loop-event.world c.loop-event.summary c.in_default.ensures.event.0
+    (is_summary_of_events c.args.tsc (generated_events c.args.n) c.loop-event.script c.loop-event.world c.loop-event.summary
+    c.in_default.ensures.event.0
     c.loop-event.invariant.underway)

@@ -1,13 +1,13 @@
 use Rattle.std.proofs.Common.{◌≡◌, ◌+◌, length}
-use Rattle.um_link.specs.um_block.Tallies.{counter_after}
-use Rattle.um_make.specs.{Generated.generated_events, Underway.IsInProgress}
+use Rattle.um_link.specs.um_block.Tallies.{counter_plus}
+use Rattle.um_make.specs.{Generated.generated_events, Underway.IsRunInProgress}
 use Rattle.um_make.proofs.run.make.Given as goal
 
 abbrev pub invariant-loop-event : goal.invariant-loop-event
 invariant-loop-event g l = record {
-  underway : IsInProgress l.fn.tsc (generated_events l.fn.n) l.script l.world l.summary;
-  sent : g.R.Radio.sent l.radio ≡ counter_after l.summary.sends (g.R.Radio.sent l.fn.radio);
-  heard : g.R.Radio.heard l.radio ≡ counter_after (l.summary.takes + l.summary.drops) (g.R.Radio.heard l.fn.radio);
+  underway : IsRunInProgress l.fn.tsc (generated_events l.fn.n) l.script l.world l.summary;
+  sent : g.R.Radio.sent l.radio ≡ counter_plus l.summary.sends (g.R.Radio.sent l.fn.radio);
+  heard : g.R.Radio.heard l.radio ≡ counter_plus (l.summary.takes + l.summary.drops) (g.R.Radio.heard l.fn.radio);
 }
 
 abbrev pub decreases-loop-event : goal.decreases-loop-event

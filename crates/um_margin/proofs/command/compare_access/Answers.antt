@@ -2,8 +2,8 @@ use Rattle.std.proofs.Common.{rules, lit≤, ap, sym, subst, ◌∙◌}
 use Rattle.um_block.{specs.{bit_blocks.SoftValues.AllSoftBits, burst_map.AccessBurst.body}, proofs.Lemmas.AllSoftBits-range}
 use Rattle.um_margin.proofs.command.compare_access.Goals as goal
 
-pub compare-requires : goal.compare-requires
-compare-requires c = (
+pub compare_words-requires : goal.compare_words-requires
+compare_words-requires c = (
   lit≤ tt,
   (
     search rules,
@@ -11,7 +11,8 @@ compare-requires c = (
       lit≤ tt,
       (
         lit≤ tt,
-        subst AllSoftBits (sym (c.body.ensures.value ∙ ap body c.new.ensures.value)) (AllSoftBits-range c.args.burst.now 49 85 c.requires),
+        subst AllSoftBits (sym (c.body.ensures.value ∙ ap body c.new.ensures.value))
+            (AllSoftBits-range c.args.burst.now 49 85 c.requires),
       ),
     ),
   ),

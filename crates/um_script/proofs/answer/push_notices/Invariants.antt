@@ -1,5 +1,5 @@
 use Rattle.std.proofs.Common.{◌≡◌, ◌+◌, ◌*◌, ◌≤◌, ◌++◌, length, map, drop}
-use Rattle.um_link.specs.Naming.{who_of}
+use Rattle.um_link.specs.Naming.{actor_of_who}
 use Rattle.um_script.specs.AnswerLines.{Reports, lines_text, LinesAreInRange}
 use Rattle.um_script.proofs.answer.push_notices.Given as goal
 
@@ -7,9 +7,9 @@ use Rattle.um_script.proofs.answer.push_notices.Given as goal
 abbrev pub invariant-loop-notice : goal.invariant-loop-notice
 invariant-loop-notice l =
     record {
-      text : l.out ++ lines_text (map (Reports (who_of l.who) l.sapi) (drop l.notice-index l.notices))
-          ≡ l.fn.out ++ lines_text (map (Reports (who_of l.who) l.sapi) l.notices);
+      text : l.out ++ lines_text (map (Reports (actor_of_who l.who) l.sapi) (drop l.notice-index l.notices))
+          ≡ l.fn.out ++ lines_text (map (Reports (actor_of_who l.who) l.sapi) l.notices);
       short : length l.out ≤ length l.fn.out + 520 * l.notice-index;
-      fit : LinesAreInRange (map (Reports (who_of l.who) l.sapi) (drop l.notice-index l.notices)) →
-          LinesAreInRange (map (Reports (who_of l.who) l.sapi) l.notices);
+      fit : LinesAreInRange (map (Reports (actor_of_who l.who) l.sapi) (drop l.notice-index l.notices)) →
+          LinesAreInRange (map (Reports (actor_of_who l.who) l.sapi) l.notices);
     }

@@ -1,12 +1,12 @@
 use Rattle.std.{proofs.Common.{◌≡◌, not, length}, specs.List.list_any}
 use Rattle.um_lines.specs.{Words.words, Fields.is_decimal}
-use Rattle.um_script.specs.Held.{words_of_rest}
+use Rattle.um_script.specs.Held.{remaining_words}
 use Rattle.um_script.proofs.places.are_decimals.Given as goal
 
 -- the words include one that is no decimal number if and only if the remaining words do
 abbrev pub invariant-loop-rest : goal.invariant-loop-rest
 invariant-loop-rest l =
-    list_any (λ w. not (is_decimal w)) (words l.fn.text) ≡ list_any (λ w. not (is_decimal w)) (words_of_rest l.rest)
+    list_any (λ w. not (is_decimal w)) (words l.fn.text) ≡ list_any (λ w. not (is_decimal w)) (remaining_words l.rest)
 
 abbrev pub decreases-loop-rest : goal.decreases-loop-rest
-decreases-loop-rest l = length (words_of_rest l.rest)
+decreases-loop-rest l = length (remaining_words l.rest)

@@ -8,4 +8,4 @@ loop-digit-preserved c =
     first_of (omega (arith, c.min-place.ensures, c.from.ensures), grind arith, search rules) in
     let next = next_place c.args.word.now c.loop-digit.digit-index c.loop-digit.place c.min-place.result c.loop-digit-test.true
     c.loop-digit.invariant.digits new in
-    record { within = next.within; digits = next.digits; same = next.same ∙ c.loop-digit.invariant.same }
+    record { in_range = next.in_range; digits = next.digits; same = next.same ∙ c.loop-digit.invariant.same }

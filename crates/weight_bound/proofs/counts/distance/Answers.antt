@@ -1,8 +1,8 @@
 use Rattle.std.proofs.{Common.arith, lemmas.Bool.Decides.nat_tests}
-use Rattle.weight_bound.{specs.Distance.is_different, proofs.Counting.count_by_more}
+use Rattle.weight_bound.{specs.Distance.differ_at, proofs.Counting.count_by_more}
 use Rattle.weight_bound.proofs.counts.distance.Goals as goal
 
 pub loop-k-preserved : goal.loop-k-preserved
 loop-k-preserved c =
-    let more = count_by_more (is_different c.args.a.now c.args.b.now) c.loop-k.k in
+    let more = count_by_more (differ_at c.args.a.now c.args.b.now) c.loop-k.k in
     grind (arith, nat_tests, more)

@@ -11,6 +11,6 @@ returns-clause-represents c =
       link = record { role = refl; sapi = refl; channel = refl };
       state = refl;
       kept = c.new.ensures;
-      tracks = window.tracks;
+      variables = window.variables;
       now = window;
     }

@@ -2,20 +2,20 @@
 -- `represents_one` the other.
 use Rattle.std.proofs.{Common.{◌≡◌, refl, sym, ◌∙◌, ap, subst}, lemmas.Bool.false≢true}
 use Rattle.lapdm_window.{specs.{segmenting.Segments.Message, Parts.WindowValues}, proofs.Lemmas.Represents-values}
-use Rattle.lapdm_end.specs.{declared.ends.Endpoint.Endpoint, Parts.{EndValues, values_of, values_in, AreOfSomeEndpoint, AreConsistent}}
+use Rattle.lapdm_end.specs.{declared.ends.Endpoint.Endpoint, Parts.{EndpointValues, values_of, values_in, EndpointExists, AreConsistent}}
 use Rattle.lapdm_end.proofs.{PartsOfEnds.{Represents-same_values, in_step, window_of}, Represented.represents_one}
 use Rattle.lapdm_end.proofs.ends.Endpoint.restore.Goals.{then-not-are_consistent-via-then-not-are_consistent}
 use Rattle.lapdm_end.proofs.ends.Endpoint.restore.Goals.{then-not-are_consistent-via-else-not-are_consistent+then-not-restore}
 use Rattle.lapdm_window.specs.Parts as W
 use Rattle.lapdm_end.proofs.ends.Endpoint.restore.Goals as goal
 
-stepped : (x : EndValues) → AreOfSomeEndpoint x → AreConsistent x
+stepped : (x : EndpointValues) → EndpointExists x → AreConsistent x
 stepped x h = subst AreConsistent h.1.values (in_step h.1.end h.0 h.1.represents)
 
-of_a_window : (x : EndValues) → AreOfSomeEndpoint x → W.AreOfSomeWindow x.window
+of_a_window : (x : EndpointValues) → EndpointExists x → W.WindowExists x.window
 of_a_window x h =
     let f = window_of h.1.end h.0 h.1.represents in
-    (f.0, record { window = h.1.end.window; values = ap (λ (y : EndValues). y.window) h.1.values; represents = f.1 })
+    (f.0, record { window = h.1.end.window; values = ap (λ (y : EndpointValues). y.window) h.1.values; represents = f.1 })
 
 pub returns-then-not-are_consistent-clause-known : goal.returns-then-not-are_consistent-clause-known
 returns-then-not-are_consistent-clause-known c = (
@@ -43,7 +43,7 @@ returns-clause-known c =
       one_channel = ap (λ (w : WindowValues). w.channel) window;
       kept_fits = step.kept;
     } in
-    let same : values_of m ≡ x = ap (λ (w : WindowValues). let y : EndValues = record x { window = w } in y) window in
+    let same : values_of m ≡ x = ap (λ (w : WindowValues). let y : EndpointValues = record x { window = w } in y) window in
     let known = c.restore.ensures.known.0 c.if-not-restore.false in
     let found = represents_one m known.0 (subst AreConsistent (sym same) step)
     (Represents-values (known.1.values ∙ sym window) known.1.represents) in
@@ -54,6 +54,7 @@ returns-clause-represents c = λ _ e h.
     let p = c.args.parts.now in
     let x = values_in p in
     let window : W.values_of c.restore.new.self ≡ x.window = c.restore.ensures.same c.if-not-restore.false in
-    let same = ap (λ (k : Message). let y : EndValues = record x { kept = k; window = W.values_of c.restore.new.self } in y) c.write.ensures
-    ∙ ap (λ (w : WindowValues). let y : EndValues = record x { window = w } in y) window in
+    let same = ap (λ (k : Message). let y : EndpointValues = record x { kept = k; window = W.values_of c.restore.new.self } in y)
+    c.write.ensures
+    ∙ ap (λ (w : WindowValues). let y : EndpointValues = record x { window = w } in y) window in
     Represents-same_values h.end _ e (h.values ∙ sym same) h.represents

@@ -1,5 +1,5 @@
 use Rattle.std.proofs.Common.{rules, ◌≡◌, refl}
-use Rattle.lapdm_window.specs.{declared.State.TheVariants.Open, Ends.EndState, Calls.with_queued}
+use Rattle.lapdm_window.specs.{declared.State.TheVariants.Open, Ends.EndState, Calls.with_message}
 use Rattle.lapdm_end.{specs.Windows.IsOpenWith, proofs.{RulesInSequence.same_rules_in_open, Moves.{Runs-open, Represents-open, Does-open}}}
 use Rattle.lapdm_end.proofs.Moves.{kept_is_empty_on_sapi3}
 use Rattle.lapdm_end.proofs.ends.Endpoint.send_into.Goals as goal
@@ -7,10 +7,10 @@ use Rattle.lapdm_end.proofs.ends.Endpoint.send_into.Goals as goal
 pub returns-clause-refines : goal.returns-clause-refines
 returns-clause-refines c e h =
     let open_now : c.args.self.now.state ≡ Open = search rules in
-    let runs : IsOpenWith c.args.self.now.link c.args.self.now.window e = Runs-open open_now h in
-    let f : EndState = with_queued c.args.message.now e in
-    let g = c.send_next.ensures.refines f (same_rules_in_open c.put.new.self f runs refl refl refl refl
-    (c.in_default.ensures.taken e runs.window))
+    let still_open : IsOpenWith c.args.self.now.link c.args.self.now.window e = Runs-open open_now h in
+    let f : EndState = with_message c.args.message.now e in
+    let g = c.send_next.ensures.refines f (same_rules_in_open c.put.new.self f still_open refl refl refl refl
+    (c.in_default.ensures.taken e still_open.window))
     in (
       Represents-open _ open_now h.kept (kept_is_empty_on_sapi3 h) g,
       Does-open c.clear.ensures.frames c.clear.ensures.notices

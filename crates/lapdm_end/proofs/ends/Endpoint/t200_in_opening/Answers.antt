@@ -1,26 +1,19 @@
 use Rattle.std.proofs.Common.{◌≡◌, sym, ◌∙◌, ap, arith, ◌+◌}
-use Rattle.lapdm_window.{specs.{declared.State.TheVariants.Opening, Ends.{EndState, n200}}, proofs.Lemmas.IsValidEndpoint-moved}
-use Rattle.lapdm_end.{specs.Abstraction.RepresentsOpening, proofs.Moves.{as_outcome, both, moved, link_moved, in_state}}
-use Rattle.lapdm_end.proofs.Moves.{HasSameVariables-moved, unopened-moved, unopened, t200_expiry-sabm}
+use Rattle.lapdm_window.specs.{declared.State.TheVariants.Opening, Ends.{EndState, n200}}
+use Rattle.lapdm_end.{specs.Abstraction.RepresentsOpening, proofs.Moves.{as_outcome, both, moved, reply_in, unopened-moved, unopened}}
+use Rattle.lapdm_end.proofs.Moves.{t200_expiry-again, Represents-moved}
 use Rattle.lapdm_end.proofs.ends.Endpoint.t200_in_opening.Goals as goal
 
 pub returns-clause-refines : goal.returns-clause-refines
 returns-clause-refines c e h =
     let m = c.args.self.now in
     let is : e.state ≡ Opening = sym h.state ∙ c.requires.opening in
-    let opening : RepresentsOpening m.window m.retries e = in_state m.window m.retries e m.state Opening c.requires.opening h.now in
+    let opening : RepresentsOpening m.window m.retries e = reply_in m.window m.retries e m.state Opening c.requires.opening h.now in
     let most : c.n200.result ≡ n200 e.channel Opening = c.n200.ensures.value ∙ ap (λ ch. n200 ch Opening) h.link.channel in
     let count : m.retries ≡ e.retries = opening.count in
     let f : EndState = moved e.state e.kept (e.retries + 1) e in
-    as_outcome _ _ e _ _ (t200_expiry-sabm c.n200.result e is most (omega (arith, c.if-self-n200.false, count))) (both (record {
-      end = IsValidEndpoint-moved e e.state e.kept (e.retries + 1) h.end h.end.kept h.end.bare (λ u. u);
-      link = link_moved e.state e.kept (e.retries + 1) e h.link;
-      state = h.state;
-      kept = h.kept;
-      tracks = HasSameVariables-moved e.state e.kept (e.retries + 1) e h.tracks;
-      now = in_state m.window (m.retries + 1) f Opening m.state (sym c.requires.opening)
-          (record {
-            window = unopened-moved e.state e.kept (e.retries + 1) e (h.end.taken (unopened e Opening is tt)) opening.window;
-            count = ap (λ n. n + 1) count;
-          });
-    }) (λ s. record { frames = c.sabm.ensures.frames f s; notices = c.sabm.ensures.notices }))
+    as_outcome _ _ e _ _ (t200_expiry-again _ e _ is most (omega (arith, c.if-self-n200.false, count))) (both
+    (Represents-moved h.end h.link h.variables h.state h.kept h.end.kept h.end.empty_on_sapi3 (λ u. u)
+    (reply_in m.window (m.retries + 1) f Opening m.state (sym c.requires.opening)
+    (record { window = unopened-moved (h.end.taken (unopened e Opening is tt)) opening.window; count = ap (λ n. n + 1) count })))
+    (λ s. record { frames = c.sabm.ensures.frames f s; notices = c.sabm.ensures.notices }))

@@ -9,9 +9,11 @@ returns-in-Nothing c = record {
   frames = refl;
   most = omega arith;
   refines = λ e h. elim c.in-Nothing.is [
-    | inl is ↦ Gives-counted c.args.nr V.Nothing h (sym is ∙ c.on_ack.ensures.answer e h.window) (c.on_ack.ensures.counted e h.window) refl
+    | inl is ↦ Gives-counted c.args.nr V.Nothing h (sym is ∙ c.on_ack.ensures.answer e h.window) (c.on_ack.ensures.counted e h.window)
+        refl
         (sym (append-nil c.args.effects.now.notices))
-    | inr is ↦ Gives-counted c.args.nr V.Piece h (sym is ∙ c.on_ack.ensures.answer e h.window) (c.on_ack.ensures.counted e h.window) refl
+    | inr is ↦ Gives-counted c.args.nr V.Piece h (sym is ∙ c.on_ack.ensures.answer e h.window) (c.on_ack.ensures.counted e h.window)
+        refl
         (sym (append-nil c.args.effects.now.notices))
   ];
 }

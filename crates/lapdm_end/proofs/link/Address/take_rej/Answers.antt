@@ -1,8 +1,8 @@
-use Rattle.lapdm_window.specs.Rules.{answers_poll, sends_again}
+use Rattle.lapdm_window.specs.Rules.{answers_poll, resends_outstanding}
 use Rattle.lapdm_end.proofs.RulesInSequence.{Gives-then}
 use Rattle.lapdm_end.proofs.link.Address.take_rej.Goals as goal
 
 pub returns-clause-refines : goal.returns-clause-refines
 returns-clause-refines c e h =
-    Gives-then sends_again (Gives-then (answers_poll c.args.poll) (c.count.ensures.refines e h) c.answer_poll.ensures.refines)
-    c.send_again.ensures.refines
+    Gives-then resends_outstanding (Gives-then (answers_poll c.args.poll) (c.count.ensures.refines e h) c.answer_poll.ensures.refines)
+    c.resend_outstanding.ensures.refines

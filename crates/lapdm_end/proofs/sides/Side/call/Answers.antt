@@ -1,5 +1,5 @@
 use Rattle.std.proofs.{Common.refl, lemmas.Result.on_ok_weaker}
-use Rattle.lapdm_window.specs.{declared.Sapi.TheVariants.{Zero, Three}, Calls.{call_of, after_call}}
+use Rattle.lapdm_window.specs.{declared.Sapi.TheVariants.{Zero, Three}, Calls.{call_of, call_outcome}}
 use Rattle.lapdm_end.proofs.SideSteps.{does_at, asks_at}
 use Rattle.lapdm_end.proofs.sides.Side.call.Goals as goal
 
@@ -8,7 +8,7 @@ returns-in-Zero-clause-refines c =
     let call = call_of c.args.call.now in
     on_ok_weaker c.call.result
     (λ f. asks_at c.args.sapi Zero call c.args.self.now _ c.call.new.effects c.in-Zero.is
-    (does_at Zero c.args.self.now _ c.call.new.effects (after_call call) f refl refl))
+    (does_at Zero c.args.self.now _ c.call.new.effects (call_outcome call) f refl refl))
     c.call.ensures.refines
 
 pub returns-in-Three-clause-refines : goal.returns-in-Three-clause-refines
@@ -16,5 +16,5 @@ returns-in-Three-clause-refines c =
     let call = call_of c.args.call.now in
     on_ok_weaker c.call-in-Three.result
     (λ f. asks_at c.args.sapi Three call c.args.self.now _ c.call-in-Three.new.effects c.in-Three.is
-    (does_at Three c.args.self.now _ c.call-in-Three.new.effects (after_call call) f c.args.self.now.one_channel refl))
+    (does_at Three c.args.self.now _ c.call-in-Three.new.effects (call_outcome call) f c.args.self.now.one_channel refl))
     c.call-in-Three.ensures.refines

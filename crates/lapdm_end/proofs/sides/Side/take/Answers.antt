@@ -1,20 +1,21 @@
 use Rattle.std.proofs.Common.{refl}
 use Rattle.lapdm_frame.specs.Content.{frame_of}
-use Rattle.lapdm_window.specs.{declared.Sapi.TheVariants.{Zero, Three}, Tables.after_frame}
+use Rattle.lapdm_window.specs.{declared.Sapi.TheVariants.{Zero, Three}, Tables.frame_outcome}
 use Rattle.lapdm_end.proofs.SideSteps.{does_at, zero_takes, three_takes, none_takes}
 use Rattle.lapdm_end.proofs.sides.Side.take.Goals as goal
 
 pub returns-then-frame-eq0-clause-refines : goal.returns-then-frame-eq0-clause-refines
 returns-then-frame-eq0-clause-refines c =
     let f = frame_of c.args.frame.now in
-    zero_takes f c.args.self.now _ c.take_into.new.effects c.if-frame-eq0.true
-    (does_at Zero c.args.self.now _ c.take_into.new.effects (after_frame f) c.take_into.ensures.refines refl refl)
+    zero_takes f c.args.self.now _ c.take_frame_into.new.effects c.if-frame-eq0.true
+    (does_at Zero c.args.self.now _ c.take_frame_into.new.effects (frame_outcome f) c.take_frame_into.ensures.refines refl refl)
 
 pub returns-then-frame-eq3-clause-refines : goal.returns-then-frame-eq3-clause-refines
 returns-then-frame-eq3-clause-refines c =
     let f = frame_of c.args.frame.now in
-    three_takes f c.args.self.now _ c.take_into-then-frame-eq3.new.effects c.if-frame-eq3.true
-    (does_at Three c.args.self.now _ c.take_into-then-frame-eq3.new.effects (after_frame f) c.take_into-then-frame-eq3.ensures.refines
+    three_takes f c.args.self.now _ c.take_frame_into-then-frame-eq3.new.effects c.if-frame-eq3.true
+    (does_at Three c.args.self.now _ c.take_frame_into-then-frame-eq3.new.effects (frame_outcome f)
+    c.take_frame_into-then-frame-eq3.ensures.refines
     c.args.self.now.one_channel refl)
 
 pub returns-clause-refines : goal.returns-clause-refines

@@ -1,4 +1,4 @@
-use Rattle.std.proofs.Common.{◌≡◌, sym, ◌∙◌, ap, arith, [], length, slice_index_or, slice_get}
+use Rattle.std.proofs.Common.{◌≡◌, ap, arith, [], length, slice_index_or}
 use Rattle.segmenting.{specs.{lapdm_frame.Layout.n201, Segments.segments}, proofs.Lemmas.length-segments}
 use Rattle.lapdm_window.proofs.window.Window.next.Goals as goal
 
@@ -16,8 +16,4 @@ piece-requires c =
     )
 
 pub returns : goal.returns
-returns c =
-    let w = c.args.self.now in
-    let n = n201 w.channel in
-    let same : c.first.result.now ≡ slice_index_or w.held.items 0 [] = c.first.ensures in
-    ap (λ ps. slice_get ps w.place) (sym (c.new_on.ensures.pieces ∙ ap (segments n) same)) ∙ c.piece.ensures.value
+returns c = grind arith

@@ -8,14 +8,15 @@ returns-clause-taken c e h =
     let p : Segment = (c.args.piece.now, c.args.more) in
     record {
       end = record { messages = h.end.messages; sent = h.end.sent; behind = h.end.behind; window = h.end.window };
-      tracks = record {
-        channel = h.tracks.channel;
-        vs = h.tracks.vs;
-        va = h.tracks.va;
-        vr = next_number (length e.accepted) c.args.self.now.vr h.tracks.vr ∙ ap (λ n. n % 8) (sym (length-append e.accepted (p ∷ [])));
-        done = h.tracks.done;
+      variables = record {
+        channel = h.variables.channel;
+        vs = h.variables.vs;
+        va = h.variables.va;
+        vr = next_number (length e.accepted) c.args.self.now.vr h.variables.vr
+            ∙ ap (λ n. n % 8) (sym (length-append e.accepted (p ∷ [])));
+        done = h.variables.done;
         rejecting = refl;
-        joined = c.take.ensures.after e.accepted h.tracks.joined;
+        joined = c.take.ensures.after e.accepted h.variables.joined;
       };
       holds = record { messages = h.holds.messages; next = h.holds.next };
       retries = h.retries;

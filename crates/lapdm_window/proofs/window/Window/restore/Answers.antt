@@ -1,23 +1,22 @@
 -- `restore` succeeds if and only if the values satisfy `AreConsistent`: `in_step` proves one direction, `represents_one` the other.
-use Rattle.std.proofs.Common.{◌≡◌, ◌≢◌, refl, sym, ◌∙◌, ap, subst, arith, ℕ, ◌+◌, ◌%◌, ◌≤◌, ◌⊎◌, inl, inr, length, map}
-use Rattle.std.proofs.lemmas.Bool.{false≢true}
+use Rattle.std.proofs.Common.{◌≡◌, ◌≢◌, refl, sym, ◌∙◌, ap, subst, arith, ℕ, ◌+◌, ◌%◌, ◌≤◌, ◌⊎◌}
+use Rattle.std.proofs.{Common.{inl, inr, length, map}, lemmas.Bool.false≢true}
 use Rattle.segmenting.specs.{Parts.JoinerValues, Buffers.octets_in}
-use Rattle.lapdm_window.specs.{declared.window.Window.Window, Parts.{WindowValues, values_of, values_in, AreOfSomeWindow, AreConsistent}}
+use Rattle.lapdm_window.specs.{declared.window.Window.Window, Parts.{WindowValues, values_of, values_in, WindowExists, AreConsistent}}
 use Rattle.lapdm_window.proofs.Parts.{in_step, represents_one}
 use Rattle.lapdm_window.proofs.window.Window.restore.Goals.{then-not-are_consistent-via-then-not-are_consistent}
 use Rattle.lapdm_window.proofs.window.Window.restore.Goals.{then-not-are_consistent-via-else-not-are_consistent+then-not-restore}
 use Rattle.lapdm_window.proofs.window.Window.restore.Goals as goal
 
-stepped : (x : WindowValues) → AreOfSomeWindow x → AreConsistent x
-stepped x h = subst AreConsistent h.1.values (in_step h.1.window h.0 h.1.represents)
+stepped : (x : WindowValues) → WindowExists x → AreConsistent x
+stepped x h = grind (arith, in_step h.1.window h.0 h.1.represents)
 
 fits : (vs va : ℕ) (A : Type 0) → va ≤ 7 → (vs ≡ va) ⊎ ((vs ≡ (va + 1) % 8) × A) → vs ≤ 7
 fits vs va A few (inl same) = omega (arith, few, same)
 fits vs va A few (inr more) = let number : vs ≡ (va + 1) % 8 = more.0 in grind arith
 
 some_held : (vs va : ℕ) (A : Type 0) → (vs ≡ va) ⊎ ((vs ≡ (va + 1) % 8) × A) → vs ≢ va → A
-some_held vs va A (inl same) other = absurd (other same)
-some_held vs va A (inr more) other = more.1
+some_held vs va A h g = grind arith
 
 pub returns-then-not-are_consistent-clause-known : goal.returns-then-not-are_consistent-clause-known
 returns-then-not-are_consistent-clause-known c = (

@@ -1,7 +1,6 @@
 use Rattle.std.proofs.Common.{arith, sym, ◌∙◌, [], slice_index_or}
 use Rattle.segmenting.{specs.{lapdm_frame.Layout.n201, Segments.Segment}, proofs.Lemmas.{length-segments, room_of}}
-use Rattle.lapdm_window.proofs.{Numbers.{one_sent, is_outstanding-one}, FirstSegments.{HasSize, size_of}, Moves.{IsFirst, next_is}}
-use Rattle.lapdm_window.proofs.Moves.{waiting_is}
+use Rattle.lapdm_window.proofs.{Numbers.{one_sent, awaits_ack-one}, FirstSegments.{HasSize, size_of}, Moves.{IsFirst, next_is, waiting_is}}
 use Rattle.lapdm_window.proofs.window.Window.waiting.Goals as goal
 
 pub returns-clause-piece : goal.returns-clause-piece
@@ -10,8 +9,8 @@ returns-clause-piece c e h =
     let x : Segment = (c.next.result.octets.now, c.next.result.more) in
     let first : IsFirst w.channel w.held.items w.place x = record
     { some = w.waiting c.if-self.false; within = w.within; piece = c.next.ensures } in
-    let one = one_sent e h.end (λ same. c.if-self.false (h.tracks.vs ∙ same ∙ sym h.tracks.va)) in
-    waiting_is e x (is_outstanding-one e one) (next_is e w.channel w.held.items w.place x h.tracks.channel h.holds first)
+    let one = one_sent e h.end (λ same. c.if-self.false (h.variables.vs ∙ same ∙ sym h.variables.va)) in
+    waiting_is e x (awaits_ack-one e one) (next_is e w.channel w.held.items w.place x h.variables.channel h.holds first)
 
 pub returns-clause-size : goal.returns-clause-size
 returns-clause-size c =

@@ -1,13 +1,14 @@
-use Rattle.std.proofs.{Common.{arith, List, [], ◌∷◌, map, All}, lemmas.{Bool.false≢true, List.{length-map, Elements.{All-map, All-nil}}}}
-use Rattle.std.proofs.lemmas.List.Elements.{All-cons, All-head, All-tail}
-use Rattle.segmenting.specs.{declared.buffers.PlainMessage.PlainMessage, Segments.IsMessage, Buffers.octets_in}
+use Rattle.std.proofs.{Common.{arith, List, [], ◌∷◌, map, All}, lemmas.{Bool.false≢true, List.{length-map, Elements.All-map}}}
+use Rattle.std.proofs.lemmas.List.Elements.{All-nil, All-cons, All-head, All-tail}
+use Rattle.segmenting.specs.{declared.buffers.MessageBuffer.MessageBuffer, Segments.IsValidMessage, Buffers.octets_in}
 use Rattle.lapdm_window.proofs.window.parts.are_valid_held_messages.Goals as goal
 
-each : (buffers : List PlainMessage) → All IsMessage (map octets_in buffers) → All (λ room. IsMessage (octets_in room)) buffers
-each [] h = All-nil (λ room. IsMessage (octets_in room))
+each : (buffers : List MessageBuffer) → All IsValidMessage (map octets_in buffers) →
+    All (λ room. IsValidMessage (octets_in room)) buffers
+each [] h = All-nil (λ room. IsValidMessage (octets_in room))
 each (room ∷ buffers) h =
-    All-cons (λ room. IsMessage (octets_in room)) room buffers (All-head IsMessage (octets_in room) (map octets_in buffers) h)
-    (each buffers (All-tail IsMessage (octets_in room) (map octets_in buffers) h))
+    All-cons (λ room. IsValidMessage (octets_in room)) room buffers (All-head IsValidMessage (octets_in room) (map octets_in buffers) h)
+    (each buffers (All-tail IsValidMessage (octets_in room) (map octets_in buffers) h))
 
 pub returns-then-messages-gt8 : goal.returns-then-messages-gt8
 returns-then-messages-gt8 c =
@@ -19,7 +20,7 @@ returns c =
     let buffers = c.args.messages.now in (
       λ s. record {
         few = omega (arith, length-map buffers octets_in, c.if-messages-gt8.false);
-        messages = All-map IsMessage octets_in buffers (c.are_messages.ensures.0 s);
+        messages = All-map IsValidMessage octets_in buffers (c.are_valid_messages.ensures.0 s);
       },
-      λ h. c.are_messages.ensures.1 (each buffers h.messages),
+      λ h. c.are_valid_messages.ensures.1 (each buffers h.messages),
     )

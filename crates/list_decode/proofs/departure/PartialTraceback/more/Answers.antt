@@ -1,5 +1,5 @@
-use Rattle.std.proofs.Common.{arith, rules, ◌≡◌, ◌/◌, ◌%◌, ◌^◌, ◌+◌, ◌*◌, ◌<◌, ℤ, [], pos, length, get_or, ap, ◌∙◌, to_z, of_z, w16, w32}
-use Rattle.std.proofs.{Common.FitsSigned, lemmas.{Int.{ints, to_z-of_z}, Nat.and_mask}}
+use Rattle.std.proofs.Common.{arith, rules, ◌≡◌, ◌/◌, ◌%◌, ◌^◌, ◌+◌, ◌*◌, ◌<◌, ℤ, [], pos, length, get_or}
+use Rattle.std.proofs.{Common.{ap, ◌∙◌, to_z, of_z, w16, w32}, lemmas.{Int.{ints, to_z-of_z}, Nat.and_mask}}
 use Rattle.list_decode.proofs.{Losses.{best_kept, best_taken, read_more}, departure.PartialTraceback.more.Goals.After-is_improved_by}
 use Rattle.list_decode.proofs.departure.PartialTraceback.more.Goals as goal
 
@@ -10,10 +10,10 @@ inside : (c : After-is_improved_by) → c.args.k + 4 < length c.args.rows.now
 inside c = let same = c.requires.rows in let within = c.requires.within in omega arith
 
 is_lost : (c : After-is_improved_by) → to_z w16 (of_z w16 (lost c)) ≡ lost c
-is_lost c = let fits : FitsSigned w16 (lost c) = search rules in to_z-of_z w16 _ fits
+is_lost c = to_z-of_z w16 _ (search rules)
 
 compared : (c : After-is_improved_by) → to_z w32 (of_z w32 c.from-2.result) ≡ lost c
-compared c = let wide : FitsSigned w32 c.from-2.result = search rules in to_z-of_z w32 _ wide ∙ c.from-2.ensures ∙ is_lost c
+compared c = to_z-of_z w32 _ (search rules) ∙ c.from-2.ensures ∙ is_lost c
 
 pub returns-then-is_improved_by : goal.returns-then-is_improved_by
 returns-then-is_improved_by c =
@@ -28,7 +28,7 @@ returns-then-is_improved_by c =
           (let within = c.requires.within in omega arith) bit (ap (λ bit. (2 * c.args.self.state + bit) % 16) c.from.ensures)
           (best_taken rows c.args.losses.now c.args.u.now k c.args.self c.requires.reading (inside at) c.new.result
           (let h = c.is_improved_by.ensures.after c.if-is_improved_by.true in omega (arith, ints))
-          new.place new.state (new.loss ∙ is_lost at) (let l = new.limit in omega (arith, ints)));
+          new.place new.state (new.loss ∙ is_lost at) (let l = new.loss_limit in omega (arith, ints)));
     }
 
 pub returns-else-is_improved_by : goal.returns-else-is_improved_by

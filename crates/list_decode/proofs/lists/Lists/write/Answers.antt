@@ -11,6 +11,6 @@ loop-k-init c =
         0,
         c.copy_from_slice.ensures.after ∙ sym (first-list c.args.pass.now c.args.self.now many c.requires.tree.most (omega arith)),
         omega arith,
-        c.chain_to-chain.ensures.chain,
+        c.chain_to_list-chain.ensures.chain,
       );
     }

@@ -1,5 +1,5 @@
 use Rattle.std.proofs.{Common.{arith, rules, ◌≡◌, ◌+◌, length, refl, ap, sym, ◌∙◌, w32, FitsSigned}, lemmas.Int.to_z-of_z}
-use Rattle.list_decode.{specs.declared.branch.Span.Span, proofs.Given.{bits_is, first_given, first_span, reads_as, sound_first}}
+use Rattle.list_decode.{specs.declared.branch.WordSpan.WordSpan, proofs.Given.{bits_is, first_given, first_span, reads_as, sound_first}}
 use Rattle.list_decode.proofs.ranked.Ranked.write_most_likely_word.Goals as goal
 
 pub new-requires-clause-span : goal.new-requires-clause-span
@@ -7,29 +7,32 @@ new-requires-clause-span c =
     let pass = c.run.ensures.pass in
     let fits : FitsSigned w32 c.decode-likelihood.result = search rules in
     first_span c.run.new.self c.decode-likelihood.new.u _ pass c.decode-likelihood.ensures.best
-    (to_z-of_z w32 c.decode-likelihood.result fits ∙ c.decode-likelihood.ensures.value) refl (let five = pass.at_least in omega arith) refl
+    (to_z-of_z w32 c.decode-likelihood.result fits ∙ c.decode-likelihood.ensures.value) refl (let five = pass.at_least in omega arith)
+    refl
 
 pub invariant_of-self : goal.invariant_of-self
 invariant_of-self c =
     let room : length c.self.inside.branches ≡ 127 = search rules in
     let span = c.new.ensures.span in
     let five = c.run.ensures.pass.at_least in
-    let bits = bits_is c.self.inside c.args.self.now c.self.view_is c.self.invariant.ready (length c.args.u.now) c.requires.count in
-    let reads = reads_as c.run.new.self.bits c.padded-self-inside.result c.decode-likelihood.new.u c.padded-self-inside.ensures
+    let bits = bits_is c.self.inside c.args.self.now c.self.view_is c.self.invariant.has_soft_bits (length c.args.u.now) c.requires.count in
+    let reads = reads_as c.run.new.self.bits c.pad_with_zeros-self-inside.result c.decode-likelihood.new.u
+    c.pad_with_zeros-self-inside.ensures
     (c.decode-likelihood.auto.u ∙ bits ∙ sym c.run.ensures.bits) in
     sound_first c.run.new.self c.run.ensures.pass c.self.inside.lists.deviations c.self.inside.branches room
-    c.decode-likelihood.new.u c.padded-self-inside.result reads c.new.result
-    c.decode-likelihood.ensures.best c.new.ensures.branch (ap (λ (s : Span). s.list) span) (ap (λ (s : Span). s.from) span)
-    (ap (λ (s : Span). s.to + 4) span ∙ omega arith)
+    c.decode-likelihood.new.u c.pad_with_zeros-self-inside.result reads c.new.result
+    c.decode-likelihood.ensures.best c.new.ensures.branch (ap (λ (s : WordSpan). s.list) span) (ap (λ (s : WordSpan). s.from) span)
+    (ap (λ (s : WordSpan). s.to + 4) span ∙ omega arith)
 
 pub returns-clause-ranked : goal.returns-clause-ranked
 returns-clause-ranked c = (invariant_of-self c).ranked
 
-pub returns-clause-given : goal.returns-clause-given
-returns-clause-given c =
+pub returns-clause-returned : goal.returns-clause-returned
+returns-clause-returned c =
     let room : length c.self.inside.branches ≡ 127 = search rules in
-    let bits = bits_is c.self.inside c.args.self.now c.self.view_is c.self.invariant.ready (length c.args.u.now) c.requires.count in
-    let reads = reads_as c.run.new.self.bits c.padded-self-inside.result c.decode-likelihood.new.u c.padded-self-inside.ensures
+    let bits = bits_is c.self.inside c.args.self.now c.self.view_is c.self.invariant.has_soft_bits (length c.args.u.now) c.requires.count in
+    let reads = reads_as c.run.new.self.bits c.pad_with_zeros-self-inside.result c.decode-likelihood.new.u
+    c.pad_with_zeros-self-inside.ensures
     (c.decode-likelihood.auto.u ∙ bits ∙ sym c.run.ensures.bits) in
     first_given c.run.new.self c.run.ensures.pass c.self.inside.lists.deviations c.self.inside.branches room
-    c.decode-likelihood.new.u c.padded-self-inside.result reads c.new.result
+    c.decode-likelihood.new.u c.pad_with_zeros-self-inside.result reads c.new.result

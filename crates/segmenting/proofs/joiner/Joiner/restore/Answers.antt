@@ -1,9 +1,9 @@
-use Rattle.std.proofs.{Common.{◌≡◌, refl, ap, arith, ◌++◌, [], length, List, ℕ}, lemmas.List.take_at}
-use Rattle.segmenting.specs.{declared.joiner.{Part.TheVariants.Over, Joiner.Joiner}, Parts.{JoinerValues, values_of}}
+use Rattle.std.proofs.{Common.{◌≡◌, refl, ap, arith, ◌++◌, [], length}, lemmas.List.take_at}
+use Rattle.segmenting.specs.{declared.joiner.{Part.TheVariants.Discarding, Joiner.Joiner}, Parts.JoinerValues}
 use Rattle.segmenting.proofs.Histories.{buffer_past}
 use Rattle.segmenting.proofs.joiner.Joiner.restore.Goals as goal
 
-none_over : (c : goal.After-self-1) → c.args.part ≡ Over → length c.args.octets.now ≡ 0
+none_over : (c : goal.After-self-1) → c.args.part ≡ Discarding → length c.args.octets.now ≡ 0
 none_over c over = ap length (c.is_empty_if_oversize.ensures.0 c.if-not-is_empty_if_oversize.false over)
 
 pub returns-clause-known : goal.returns-clause-known
@@ -15,13 +15,13 @@ returns-clause-known c =
       len = length octets;
       part = part;
       within = c.if-octets-gt-LONGEST_MESSAGE.false;
-      dropped = none_over c;
+      empty_if_discarding = none_over c;
     } in
-    let same : values_of j ≡ record { octets = octets; part = part } = ap
-    (λ (o : List ℕ). let x : JoinerValues = record { octets = o; part = part } in x) (take_at octets [] (length octets) refl) in
+    let same = ap
+    (λ o. let x : JoinerValues = record { octets = o; part = part } in x) (take_at _ [] _ refl) in
     (λ s. (j, same), λ h. refl)
 
 pub returns-clause-taken : goal.returns-clause-taken
 returns-clause-taken c =
-    let past = buffer_past c.args.part (length c.args.octets.now) _ 0 c.if-octets-gt-LONGEST_MESSAGE.false (none_over c) (omega arith) in
+    let past = buffer_past _ _ _ 0 c.if-octets-gt-LONGEST_MESSAGE.false (none_over c) (omega arith) in
     λ s. (past.taken, past.joined)

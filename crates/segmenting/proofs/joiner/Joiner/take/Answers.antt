@@ -1,4 +1,4 @@
-use Rattle.std.proofs.Common.{refl, sym, arith, true, false, []}
+use Rattle.std.proofs.Common.{refl, sym, arith, true, false}
 use Rattle.segmenting.proofs.Taking.{goes_on, completes, taken_oversize, drops, written, HoldsReassemblyOf-same}
 use Rattle.segmenting.proofs.joiner.Joiner.take.Goals.{then-more, else-more}
 use Rattle.segmenting.specs.declared.joiner.Part.TheVariants as P
@@ -8,21 +8,20 @@ pub returns-in_default-clause-after : goal.returns-in_default-clause-after
 returns-in_default-clause-after c taken h =
     let over = c.in_default.ensures.place taken h in
     elim c.if-more.branch [
-      | then-more w ↦ HoldsReassemblyOf-same _ _ _ taken _ _ _ (sym w.self-is) (sym w.if-more.true)
-          (taken_oversize taken c.args.piece.now over)
-      | else-more w ↦ HoldsReassemblyOf-same _ _ _ taken _ _ _ (sym w.self-is) (sym w.if-more.false) (drops taken c.args.piece.now over)
+      | then-more w ↦ HoldsReassemblyOf-same _ _ _ taken _ _ _ (sym w.self-is) (sym w.if-more.true) (taken_oversize taken _ over)
+      | else-more w ↦ HoldsReassemblyOf-same _ _ _ taken _ _ _ (sym w.self-is) (sym w.if-more.false) (drops taken _ over)
     ]
 
 pub returns-then-more-2-clause-after : goal.returns-then-more-2-clause-after
 returns-then-more-2-clause-after c taken h =
     let held = written c.in-Some.start c.args.piece.now taken c.args.self.now.octets c.copy_from_slice.new.self
     (omega arith) c.in-Some.ensures.space c.copy_from_slice.ensures.after (c.in-Some.ensures.place taken h) in
-    HoldsReassemblyOf-same P.Open P.Open _ taken _ true c.args.more refl (sym c.if-more-2.true)
-    (goes_on taken c.args.piece.now _ held.same held.fits)
+    HoldsReassemblyOf-same _ P.Open _ taken _ true _ refl (sym c.if-more-2.true)
+    (goes_on taken _ _ held.same held.fits)
 
 pub returns-clause-after : goal.returns-clause-after
 returns-clause-after c taken h =
     let held = written c.in-Some.start c.args.piece.now taken c.args.self.now.octets c.copy_from_slice.new.self
     (omega arith) c.in-Some.ensures.space c.copy_from_slice.ensures.after (c.in-Some.ensures.place taken h) in
-    HoldsReassemblyOf-same P.Whole P.Whole _ taken _ false c.args.more refl (sym c.if-more-2.false)
-    (completes taken c.args.piece.now _ held.same held.fits)
+    HoldsReassemblyOf-same _ P.Whole _ taken _ false _ refl (sym c.if-more-2.false)
+    (completes taken _ _ held.same held.fits)

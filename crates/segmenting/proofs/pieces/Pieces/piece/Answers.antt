@@ -5,24 +5,24 @@ use Rattle.segmenting.proofs.pieces.Pieces.piece.Goals as goal
 pub overflow_mul-start : goal.overflow_mul-start
 overflow_mul-start c =
     let p = c.args.self.now in
-    omega (arith, begins_at p.channel _ c.args.i p.message.now c.n201-most.ensures p.some c.requires, p.most)
+    omega (arith, begins_at _ _ _ _ c.n201-most.ensures p.some c.requires, p.most)
 
 pub overflow_sub-left : goal.overflow_sub-left
 overflow_sub-left c =
     let p = c.args.self.now in
-    omega (arith, begins_at p.channel _ c.args.i p.message.now c.n201-most.ensures p.some c.requires)
+    omega (arith, begins_at _ _ _ _ c.n201-most.ensures p.some c.requires)
 
 pub overflow_add-result : goal.overflow_add-result
 overflow_add-result c =
     let p = c.args.self.now in
-    omega (arith, begins_at p.channel _ c.args.i p.message.now c.n201-most.ensures p.some c.requires, p.most)
+    omega (arith, begins_at _ _ _ _ c.n201-most.ensures p.some c.requires, p.most)
 
 pub slice_bounds-result-end : goal.slice_bounds-result-end
 slice_bounds-result-end c =
     let p = c.args.self.now in
-    omega (arith, begins_at p.channel _ c.args.i p.message.now c.n201-most.ensures p.some c.requires)
+    omega (arith, begins_at _ _ _ _ c.n201-most.ensures p.some c.requires)
 
 pub returns-clause-value : goal.returns-clause-value
 returns-clause-value c =
     let p = c.args.self.now in
-    segment_at p.channel _ c.args.i _ p.message.now c.n201-most.ensures c.min.ensures (record { some = p.some; most = p.most }) c.requires
+    segment_at _ _ _ _ _ c.n201-most.ensures c.min.ensures (record { some = p.some; most = p.most }) c.requires

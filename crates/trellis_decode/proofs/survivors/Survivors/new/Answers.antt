@@ -1,5 +1,5 @@
-use Rattle.trellis_decode.{specs.AcsLanes.path_metric, proofs.SurvivorPaths.AreSurvivors-none}
+use Rattle.trellis_decode.proofs.SurvivorPaths.{AreSurvivors-none}
 use Rattle.trellis_decode.proofs.survivors.Survivors.new.Goals as goal
 
 pub returns-clause-walk : goal.returns-clause-walk
-returns-clause-walk c = AreSurvivors-none (path_metric c.args.values)
+returns-clause-walk c = AreSurvivors-none _

@@ -1,31 +1,26 @@
 use Rattle.std.proofs.Common.{◌≡◌, ℕ, ◌<◌, ℤ, List, get_or}
 use Rattle.trellis_decode.specs.{Lanes.lane, Trellis.{next, IsDecision}, AcsLanes.{lane_decisions, HasBranchMetrics, lane_of_state}}
 use Rattle.trellis_decode.{specs.AcsLanes.path_metric, proofs.SurvivorPaths.{AreSurvivors-more, AreMetricsWithin-more}}
-use Rattle.trellis_decode.proofs.survivors.Survivors.step.Goals.{After-extend_map}
+use Rattle.trellis_decode.proofs.survivors.Survivors.step.Goals.{After-extend_survivor_map}
 use Rattle.trellis_decode.proofs.survivors.Survivors.step.Goals as goal
 
-bit : After-extend_map → ℕ → ℕ
+bit : After-extend_survivor_map → ℕ → ℕ
 bit c s = get_or (lane_decisions c.new-step.result.low.lanes c.new-step.result.high.lanes) s 0
 
-chosen : (c : After-extend_map) (pair : List ℤ) → HasBranchMetrics c.args.branch_metrics.lanes pair → (s : ℕ) → s < 16 →
-    IsDecision (path_metric c.args.self.values) pair s
-    (lane (path_metric c.new-step.result.values) s) (bit c s)
+chosen : (c : After-extend_survivor_map) (pair : List ℤ) → HasBranchMetrics c.args.branch_metrics.lanes pair → (s : ℕ) →
+    s < 16 → IsDecision (path_metric c.args.self.values) pair s (lane (path_metric c.new-step.result.values) s) (bit c s)
 unfolding bit
-chosen c pair has = c.new-step.ensures.each pair has
+chosen c pair has = c.new-step.ensures.each _ has
 
-map_is_right : (c : After-extend_map) (s : ℕ) → s < 16 →
-    get_or c.extend_map.result (lane_of_state s) 0 ≡ get_or c.args.self.map (lane_of_state (next s (bit c s))) 0
+maps_to_end_state : (c : After-extend_survivor_map) (s : ℕ) → s < 16 →
+    get_or c.extend_survivor_map.result (lane_of_state s) 0 ≡ get_or c.args.self.map (lane_of_state (next s (bit c s))) 0
 unfolding bit
-map_is_right c = c.extend_map.ensures.each
+maps_to_end_state c = c.extend_survivor_map.ensures.each
 
 pub returns-clause-walk : goal.returns-clause-walk
 returns-clause-walk c pair has after soft =
-    AreSurvivors-more after (path_metric c.args.self.values)
-    (path_metric c.new-step.result.values)
-    pair soft c.args.self.map c.extend_map.result (bit c) has.count (chosen c pair has) (map_is_right c)
+    AreSurvivors-more _ _ _ _ _ _ _ (bit c) has.count (chosen c _ has) (maps_to_end_state c)
 
 pub returns-clause-within : goal.returns-clause-within
 returns-clause-within c pair has octets most =
-    AreMetricsWithin-more _
-    _
-    _ most _ has.count octets (chosen c _ has)
+    AreMetricsWithin-more _ _ _ _ _ has.count octets (chosen c _ has)

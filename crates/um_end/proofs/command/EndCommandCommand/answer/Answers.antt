@@ -1,6 +1,6 @@
 use Rattle.std.proofs.Common.{arith, ◌≡◌, ℕ, None, refl, sym, ap, ◌∙◌, subst}
 use Rattle.um_link.specs.{lapdm_window.Ends.Role, Naming.{role_of, event_of, answer_of, step_result}, um_air.Air.Answer}
-use Rattle.um_end.specs.{Terminals.AnswersCall, Abstraction.side_of, EndLines.{Brings, Calls, meaning_of, end_fault, EndMeans}}
+use Rattle.um_end.specs.{Terminals.AnswersCall, Abstraction.side_of, EndLines.{TakesBurst, Calls, meaning_of, end_fault, EndLineMeans}}
 use Rattle.um_end.{specs.{EndRuns.IsAnswerText, declared.lines.EndLine.EndLine}, proofs.{Answering.at_run, AnswerSizes.call_short}}
 use Rattle.um_end.proofs.command.EndCommandCommand.answer.Goals as goal
 
@@ -8,13 +8,13 @@ pub returns-in-Burst-clause-answered : goal.returns-in-Burst-clause-answered
 returns-in-Burst-clause-answered c s st =
     let line = c.args.line.now in
     let old = c.args.self.now in
-    let f = c.hold_burst.ensures.answers s (record { role = st.role; tsc = st.tsc; links = st.links; held = st.held }) in (
+    let f = c.add_burst_to_block.ensures.answers s (record { role = st.role; tsc = st.tsc; links = st.links; held = st.held }) in (
       f.0,
       at_run (λ r n. end_fault r n line ≡ None) old s c.count.result st c.count.ensures.count (sym c.in_ok-parse_end.ensures.refused),
       (
-        Brings c.in-Burst.burst,
-        at_run (λ r n. EndMeans r n line (Brings c.in-Burst.burst)) old s c.count.result st c.count.ensures.count
-            (subst (λ (read : EndLine). EndMeans (side_of old.terminal) c.count.result line (meaning_of read)) c.in-Burst.is
+        TakesBurst c.in-Burst.burst,
+        at_run (λ r n. EndLineMeans r n line (TakesBurst c.in-Burst.burst)) old s c.count.result st c.count.ensures.count
+            (subst (λ (read : EndLine). EndLineMeans (side_of old.terminal) c.count.result line (meaning_of read)) c.in-Burst.is
             c.in_ok-parse_end.ensures.means),
         f.1,
       ),
@@ -33,13 +33,13 @@ returns-in-Ask-clause-answered c s st =
       at_run (λ r n. end_fault r n line ≡ None) old s c.count.result st c.count.ensures.count (sym c.in_ok-parse_end.ensures.refused),
       (
         Calls event,
-        at_run (λ r n. EndMeans r n line (Calls event)) old s c.count.result st c.count.ensures.count
-            (subst (λ (read : EndLine). EndMeans (side_of old.terminal) c.count.result line (meaning_of read)) c.in-Ask.is
+        at_run (λ r n. EndLineMeans r n line (Calls event)) old s c.count.result st c.count.ensures.count
+            (subst (λ (read : EndLine). EndLineMeans (side_of old.terminal) c.count.result line (meaning_of read)) c.in-Ask.is
             c.in_ok-parse_end.ensures.means),
         record {
           links = f.0;
           answer = answer;
-          asked = subst (λ (r : Role). AnswersCall r s.links event f.0 answer) (sym st.role) f.2;
+          asked_call = subst (λ (r : Role). AnswersCall r s.links event f.0 answer) (sym st.role) f.2;
           text_is = subst (λ (n : ℕ). IsAnswerText n answer c.write_answer.new.out) tsc
               c.write_answer.ensures.text;
           after_is = refl;

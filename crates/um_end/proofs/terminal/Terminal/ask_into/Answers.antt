@@ -1,6 +1,6 @@
 use Rattle.std.proofs.Common.{◌≡◌, refl, sym, ap, ◌∙◌, subst, None, Some}
-use Rattle.um_link.specs.{lapdm_window.{declared.Sapi.Sapi, Calls.{Call, call_of}, Ends.Role}, lapdm_link.Events.as_refusal, Naming.step_of}
-use Rattle.um_link.specs.{Naming.{event_of, event_refusal_of}, um_air.Air.{Event, Answer, Refuses, Does}}
+use Rattle.um_link.specs.{lapdm_window.{declared.Sapi.Sapi, Calls.{Call, call_of}, Ends.Role}, lapdm_link.Events.as_event_refusal}
+use Rattle.um_link.specs.{Naming.{step_of, event_of, event_refusal_of}, um_air.Air.{Event, Answer, Refuses, Does}}
 use Rattle.um_link.specs.lapdm_frame.declared.Channel.{Channel}
 use Rattle.um_end.specs.{Terminals.{SideState, layer3_calls, IsCallAnswer}, Abstraction.side_of, Asking.sapi_of_call_event}
 use Rattle.um_end.{specs.Asking.call_of_call_event, proofs.{SideSteps.{done_step, asks_event, is_call}, Determined.one_asking}}
@@ -29,8 +29,8 @@ returns-in-Ok-clause-refines c a st =
       d.after,
       done.represents,
       asks_event role a event d.after answer (is_call role event c.requires.own)
-          (asked_by role a event d.after answer sapi _ c.sapi_of_event-sapi.ensures c.call_of_event-call.ensures.asked (
-            ap as_refusal (sym (c.in-Ok.ensures.refusal _ (represents_at sapi c.args.self.now.links a st))),
+          (asked_by role a event d.after answer sapi _ c.sapi_of_event-sapi.ensures c.call_of_event-call.ensures.asked_call (
+            ap as_event_refusal (sym (c.in-Ok.ensures.refusal _ (represents_at sapi c.args.self.now.links a st))),
             refl,
             done_step role _ None d _ _ _ (step_of c.set_side_and_sapi.new.step) c.set_side_and_sapi.ensures.step refl done,
           )),
@@ -50,8 +50,9 @@ returns-in-Err-clause-refines c a st =
       a,
       subst (λ (m : Side). L.Represents m a) (sym c.in-Err.ensures.refused) st,
       asks_event role a event a answer (is_call role event c.requires.own)
-          (asked_by role a event a answer sapi _ c.sapi_of_event-sapi.ensures c.call_of_event-call.ensures.asked (
-            ap as_refusal (sym (c.in-Err.ensures.refusal _ (represents_at sapi c.args.self.now.links a st))) ∙ ap Some (sym c.from.ensures),
+          (asked_by role a event a answer sapi _ c.sapi_of_event-sapi.ensures c.call_of_event-call.ensures.asked_call (
+            ap as_event_refusal (sym (c.in-Err.ensures.refusal _ (represents_at sapi c.args.self.now.links a st)))
+                ∙ ap Some (sym c.from.ensures),
             refl,
           )),
     )

@@ -1,12 +1,12 @@
 use Rattle.std.proofs.Common.{refl, ap, Some}
 use Rattle.um_link.specs.Naming.{role_of, step_of}
-use Rattle.um_end.{specs.{Terminals.takes_frame_if_read, Abstraction.side_of}, proofs.{SideSteps.done_step, Determined.one_reception}}
+use Rattle.um_end.{specs.{Terminals.step_for_read_frame, Abstraction.side_of}, proofs.{SideSteps.done_step, Determined.one_reception}}
 use Rattle.um_end.proofs.terminal.Terminal.receive_into.Goals as goal
 
 pub returns-clause-refines : goal.returns-clause-refines
 returns-clause-refines c a st =
-    let h = c.take_block-sapi.ensures.takes a st in
-    let d = takes_frame_if_read h.read a in (
+    let h = c.take_received_block-sapi.ensures.takes a st in
+    let d = step_for_read_frame h.read a in (
       d.after,
       h.done.represents,
       record {
@@ -17,7 +17,7 @@ returns-clause-refines c a st =
         after = refl;
         step_is = done_step (side_of c.args.self.now) _ (Some c.receive_block-report.result) d _ _ _
             (step_of c.set_side_and_sapi.new.step) c.set_side_and_sapi.ensures.step
-            (ap role_of c.take_block-sapi.ensures.same.side) h.done;
+            (ap role_of c.take_received_block-sapi.ensures.same.side) h.done;
       },
     )
 

@@ -12,8 +12,8 @@ returns c =
     let body = content_of c.body-body.result in
     let said = subst (λ shape. content_from_values shape w.kind (values_of_words (shape_fields shape) (field_words shape w.fields))
     ≡ Some body)
-    c.row.ensures.shape (c.of_kind.ensures.said ∙ rw c.body-body.ensures refl) in (
-      record { sapi = c.digit_of-sapi.result; cr = c.is_digit_one-cr.result; content = body },
-      ap (frame_with_address sapi cr) said ∙ rw (c.digit_of-sapi.ensures.value, c.is_digit_one-cr.ensures) refl,
+    c.syntax.ensures.shape (c.frame_fields_of_kind.ensures.said ∙ rw c.body-body.ensures refl) in (
+      record { sapi = c.value_of_digit-sapi.result; cr = c.is_word_one-cr.result; content = body },
+      ap (frame_with_address sapi cr) said ∙ rw (c.value_of_digit-sapi.ensures.value, c.is_word_one-cr.ensures) refl,
       c.write.ensures.octets,
     )

@@ -1,4 +1,4 @@
-use Rattle.std.proofs.Common.{◌≤◌, ◌≡◌, ◌++◌, ◌+◌, ℕ, List, take, length, sym, ap, subst, ◌∙◌, arith, slice_range}
+use Rattle.std.proofs.Common.{◌≡◌, ◌++◌, ◌+◌, ℕ, List, take, length, sym, ap, subst, ◌∙◌, arith, slice_range}
 use Rattle.std.proofs.lemmas.List.Edits.{length-between}
 use Rattle.um_io.{specs.{Lines.IsLine, declared.buffer.Buffer.Buffer}, proofs.FeedLemmas.{slice_range-came, slice_range-kept}}
 use Rattle.um_io.proofs.buffer.Buffer.read.Goals as goal
@@ -10,10 +10,9 @@ returns-clause-came g c =
     let new = c.read_into.new.octets in
     let n = c.in_ok-count.count in
     let came = slice_range new.items b.end (b.end + n) in
-    let ordered : b.start ≤ b.end = omega (arith, b.begun, b.seen) in
-    let grown = slice_range-came b.octets.items new.items b.start b.end n ordered known.front in
-    let bound : b.end + n ≤ length new.items = omega (arith, known.bound, known.len, new.ok.0) in
-    let size : length came ≡ n = omega (arith, length-between new.items b.end (b.end + n) bound) in
+    let grown = slice_range-came b.octets.items new.items b.start b.end n (omega (arith, b.begun, b.seen)) known.front in
+    let size : length came ≡ n =
+    omega (arith, length-between new.items b.end (b.end + n) (omega (arith, known.bound, known.len, new.ok.0))) in
     (came, grown ∙ ap (λ l. l ++ came) c.move_to_front.ensures.unchanged, size, known.came)
 
 -- the scanned octets are unchanged and so still have no line feed
@@ -37,7 +36,7 @@ invariant_of-self-2 g c =
     let known = c.in_ok-count.ensures in record {
       size = known.len ∙ b.size;
       begun = b.begun;
-      seen = omega (arith, b.seen);
-      within = omega (arith, known.bound, b.size);
+      seen = omega arith;
+      within = omega arith;
       plain = scanned_stays b c.read_into.new.octets.items known.front;
     }

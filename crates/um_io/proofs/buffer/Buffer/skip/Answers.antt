@@ -1,4 +1,4 @@
-use Rattle.std.proofs.{Common.{◌≤◌, ◌+◌, arith, sym, subst, slice_range}, lemmas.List.Edits.length-between}
+use Rattle.std.proofs.Common.{◌+◌, arith, sym, subst, slice_range}
 use Rattle.um_io.{specs.Lines.IsLine, proofs.FeedLemmas.{IsLine-skipped, slice_range-rest}}
 use Rattle.um_io.proofs.buffer.Buffer.skip.Goals as goal
 
@@ -11,6 +11,4 @@ invariant_of-self-clause-plain c =
 pub returns-clause-rest : goal.returns-clause-rest
 returns-clause-rest c =
     let b = c.args.self.now in
-    let size = length-between b.octets.items b.start b.end (omega (arith, b.octets.ok.0)) in
-    let fits : b.start + c.args.count ≤ b.end = omega (arith, c.requires, b.begun, b.seen) in
-    sym (slice_range-rest b.octets.items b.start b.end c.args.count fits)
+    sym (slice_range-rest b.octets.items b.start b.end c.args.count (omega (arith, c.requires, b.begun, b.seen)))

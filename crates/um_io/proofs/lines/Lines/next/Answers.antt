@@ -3,46 +3,45 @@ use Rattle.std.proofs.Common.{rules, subst, false, true, ◌≡◌, Ok, Err, sym
 use Rattle.um_io.specs.{Reading.{Reading, IsValidReader}, Buffer.octets_of, declared.lines.Found.TheVariants.{Line, LineTooLong}}
 use Rattle.um_io.specs.{declared.lines.{Found.TheVariants.PastInputLimit, Lines.TheInside.Inside}, contracts.lines.Lines.the_view}
 use Rattle.um_io.{specs.contracts.lines.Lines.the_invariant, proofs.{AskingLemmas.asked-none, ReadingLemmas.IsValidReader-from}}
-use Rattle.um_io.proofs.NextLemmas.{IsFindResult-same, counts-after, IsNextLineCall-found, IsNextLineCall-above, IsNextLineCall-past}
+use Rattle.um_io.proofs.NextLemmas.{IsSearchResult-same, counts-after, IsNextLineCall-found, IsNextLineCall-above, IsNextLineCall-past}
 use Rattle.um_io.proofs.NextLemmas.{IsNextLineCall-failed, unasked}
 use Rattle.um_io.proofs.lines.Lines.next.Goals as goal
 
 -- the invariant of `Lines` makes the value that contracts see a valid reader
 valid : (inside : Inside) → the_invariant inside → IsValidReader (the_view inside)
-valid inside holds = IsValidReader-from inside.buffer inside.answered inside.number inside.ended inside.over holds.0 holds.1
+valid inside holds = IsValidReader-from inside.buffer inside.answered inside.number inside.ended inside.is_over holds.0 holds.1
 
--- the field `over` of a `Lines` is that of the value that contracts see
-goes_on : (r : Reading) (inside : Inside) → the_view inside ≡ r → inside.over ≡ false → r.over ≡ false
-goes_on r inside view going = sym (ap (λ (s : Reading). s.over) view) ∙ going
+-- the field `is_over` of a `Lines` is that of the value that contracts see
+goes_on : (r : Reading) (inside : Inside) → the_view inside ≡ r → inside.is_over ≡ false → r.is_over ≡ false
+goes_on r inside view going = sym (ap (λ (s : Reading). s.is_over) view) ∙ going
 
 pub invariant_of-self : goal.invariant_of-self
 invariant_of-self g c =
     let inside = c.self-2.inside in
     let arm = c.in-Ok-Line in
-    let known = rw arm.field-0-is at arm.ensures.found in
-    let found = IsFindResult-same c.args.self.now c.find.new.self (the_view inside) (g.S.Source.left c.args.source.now)
-    (g.S.Source.left c.find.new.source) (Ok (Line arm.length arm.whole)) c.self-2.view_is known in
-    counts-after (octets_of inside.buffer) inside.answered inside.number arm.length arm.whole inside.ended inside.over
-    c.self-2.invariant.0 c.self-2.invariant.1 found.shows
+    let found = IsSearchResult-same c.args.self.now c.find_line.new.self (the_view inside) (g.S.Source.left c.args.source.now)
+    (g.S.Source.left c.find_line.new.source) (Ok (Line arm.length arm.whole)) c.self-2.view_is (rw arm.field-0-is at arm.ensures.found) in
+    let counts = counts-after (octets_of inside.buffer) inside.answered inside.number arm.length arm.whole inside.ended inside.is_over
+    c.self-2.invariant.0 c.self-2.invariant.1 found.shows in
+    (counts.0, counts.1, tt)
 
 pub returns-in-Ok-Line : goal.returns-in-Ok-Line
 returns-in-Ok-Line g c =
     let inside = c.self-2.inside in
     let arm = c.in-Ok-Line in
-    let known = rw arm.field-0-is at arm.ensures.found in
-    let found = IsFindResult-same c.args.self.now c.find.new.self (the_view inside) (g.S.Source.left c.args.source.now)
-    (g.S.Source.left c.find.new.source) (Ok (Line arm.length arm.whole)) c.self-2.view_is known in
+    let found = IsSearchResult-same c.args.self.now c.find_line.new.self (the_view inside) (g.S.Source.left c.args.source.now)
+    (g.S.Source.left c.find_line.new.source) (Ok (Line arm.length arm.whole)) c.self-2.view_is (rw arm.field-0-is at arm.ensures.found) in
     let going = goes_on c.args.self.now c.self.inside c.self.view_is c.if-self.false in
     let answers = IsNextLineCall-found c.args.self.now inside.buffer c.skip-from.new.self inside.answered inside.number arm.whole
     inside.ended
-    inside.over _ _ found.came c.skip-from.result arm.length c.part.result going found.has found.needed c.self-2.invariant.0
-    c.self-2.invariant.1 c.skip-from.ensures.rest c.skip-from.ensures.skipped c.part.ensures found.shows in (
+    inside.is_over _ _ found.came c.skip-from.result arm.length c.slice.result going found.has found.needed c.self-2.invariant.0
+    c.self-2.invariant.1 c.skip-from.ensures.rest c.skip-from.ensures.skipped c.slice.ensures found.shows in (
       (refl, λ _. tt, answers),
       record {
         ends = tt;
-        unasked = unasked c.args.self.now c.args.source.now c.find.new.source going
-            c.find.ensures.unasked;
-        asked = c.find.ensures.asked;
+        unasked = unasked c.args.self.now c.args.source.now c.find_line.new.source going
+            c.find_line.ensures.unasked;
+        asked = c.find_line.ensures.asked;
         failed = arm.ensures.counted;
       },
     )
@@ -50,8 +49,8 @@ returns-in-Ok-Line g c =
 pub returns-in-Ok-LineTooLong : goal.returns-in-Ok-LineTooLong
 returns-in-Ok-LineTooLong g c =
     let known = rw c.in-Ok-LineTooLong.field-0-is at c.in-Ok-LineTooLong.ensures.found in
-    let found = IsFindResult-same c.args.self.now c.find.new.self (the_view c.self-2.inside) (g.S.Source.left c.args.source.now)
-    (g.S.Source.left c.find.new.source) (Ok LineTooLong) c.self-2.view_is known in
+    let found = IsSearchResult-same c.args.self.now c.find_line.new.self (the_view c.self-2.inside) (g.S.Source.left c.args.source.now)
+    (g.S.Source.left c.find_line.new.source) (Ok LineTooLong) c.self-2.view_is known in
     let going = goes_on c.args.self.now c.self.inside c.self.view_is c.if-self.false in (
       (
         refl,
@@ -61,8 +60,8 @@ returns-in-Ok-LineTooLong g c =
       ),
       record {
         ends = tt;
-        unasked = unasked c.args.self.now c.args.source.now c.find.new.source going c.find.ensures.unasked;
-        asked = c.find.ensures.asked;
+        unasked = unasked c.args.self.now c.args.source.now c.find_line.new.source going c.find_line.ensures.unasked;
+        asked = c.find_line.ensures.asked;
         failed =
             c.in-Ok-LineTooLong.ensures.counted;
       },
@@ -71,8 +70,8 @@ returns-in-Ok-LineTooLong g c =
 pub returns-in-Ok-PastInputLimit : goal.returns-in-Ok-PastInputLimit
 returns-in-Ok-PastInputLimit g c =
     let known = rw c.in-Ok-PastInputLimit.field-0-is at c.in-Ok-PastInputLimit.ensures.found in
-    let found = IsFindResult-same c.args.self.now c.find.new.self (the_view c.self-2.inside) (g.S.Source.left c.args.source.now)
-    (g.S.Source.left c.find.new.source) (Ok PastInputLimit) c.self-2.view_is known in
+    let found = IsSearchResult-same c.args.self.now c.find_line.new.self (the_view c.self-2.inside) (g.S.Source.left c.args.source.now)
+    (g.S.Source.left c.find_line.new.source) (Ok PastInputLimit) c.self-2.view_is known in
     let going = goes_on c.args.self.now c.self.inside c.self.view_is c.if-self.false in (
       (
         refl,
@@ -82,8 +81,8 @@ returns-in-Ok-PastInputLimit g c =
       ),
       record {
         ends = tt;
-        unasked = unasked c.args.self.now c.args.source.now c.find.new.source going c.find.ensures.unasked;
-        asked = c.find.ensures.asked;
+        unasked = unasked c.args.self.now c.args.source.now c.find_line.new.source going c.find_line.ensures.unasked;
+        asked = c.find_line.ensures.asked;
         failed =
             c.in-Ok-PastInputLimit.ensures.counted;
       },
@@ -92,8 +91,8 @@ returns-in-Ok-PastInputLimit g c =
 pub returns-in-Err : goal.returns-in-Err
 returns-in-Err g c =
     let known = c.in-Err.ensures in
-    let found = IsFindResult-same c.args.self.now c.find.new.self (the_view c.self-2.inside) (g.S.Source.left c.args.source.now)
-    (g.S.Source.left c.find.new.source) (Err c.in-Err.field-0) c.self-2.view_is known.found in
+    let found = IsSearchResult-same c.args.self.now c.find_line.new.self (the_view c.self-2.inside) (g.S.Source.left c.args.source.now)
+    (g.S.Source.left c.find_line.new.source) (Err c.in-Err.field-0) c.self-2.view_is known.found in
     let going = goes_on c.args.self.now c.self.inside c.self.view_is c.if-self.false in (
       (
         refl,
@@ -104,15 +103,15 @@ returns-in-Err g c =
       record {
         ends = tt;
         unasked =
-            unasked c.args.self.now c.args.source.now c.find.new.source going c.find.ensures.unasked;
-        asked = c.find.ensures.asked;
+            unasked c.args.self.now c.args.source.now c.find_line.new.source going c.find_line.ensures.unasked;
+        asked = c.find_line.ensures.asked;
         failed = (known.cause, known.later);
       },
     )
 
 pub returns-then-self : goal.returns-then-self
 returns-then-self g c =
-    let over : c.args.self.now.over ≡ true = sym (ap (λ (s : Reading). s.over) c.self.view_is) ∙ c.if-self.true in
+    let is_over = sym (ap (λ (s : Reading). s.is_over) c.self.view_is) ∙ c.if-self.true in
     let reading = subst IsValidReader c.self.view_is (valid c.self.inside c.self.invariant) in (
       (
         refl,
@@ -120,7 +119,7 @@ returns-then-self g c =
         record {
           valid = reading;
           done = λ _. (refl, tt, search rules);
-          goes_on = λ going. absurd (let e : true ≡ false = sym over ∙ going in cc e);
+          goes_on = λ going. absurd (let e : true ≡ false = sym is_over ∙ going in cc e);
         },
       ),
       record {

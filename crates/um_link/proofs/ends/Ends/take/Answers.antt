@@ -12,8 +12,9 @@ returns-in-Mobile-clause-refines c es st =
 
 pub returns-in-Mobile-clause-sapi : goal.returns-in-Mobile-clause-sapi
 returns-in-Mobile-clause-sapi c es st =
-    subst (λ (x : End). c.take.result ≡ (E.takes_frame_if_read (role_of x) (Some (frame_of c.args.frame.now)) es).sapi) (sym c.in-Mobile.is)
-    (c.take.ensures.refines es.mobile st.mobile).sapi_is
+    subst (λ (x : End). c.take.result ≡ (E.step_for_read_frame (role_of x) (Some (frame_of c.args.frame.now)) es).sapi)
+    (sym c.in-Mobile.is)
+    (c.take.ensures.refines es.mobile st.mobile).sapi_matches
 
 pub returns-in-Network-clause-refines : goal.returns-in-Network-clause-refines
 returns-in-Network-clause-refines c es st =
@@ -22,5 +23,5 @@ returns-in-Network-clause-refines c es st =
 
 pub returns-in-Network-clause-sapi : goal.returns-in-Network-clause-sapi
 returns-in-Network-clause-sapi c es st =
-    subst (λ (x : End). c.take-in-Network.result ≡ (E.takes_frame_if_read (role_of x) (Some (frame_of c.args.frame.now)) es).sapi)
-    (sym c.in-Network.is) (c.take-in-Network.ensures.refines es.network st.network).sapi_is
+    subst (λ (x : End). c.take-in-Network.result ≡ (E.step_for_read_frame (role_of x) (Some (frame_of c.args.frame.now)) es).sapi)
+    (sym c.in-Network.is) (c.take-in-Network.ensures.refines es.network st.network).sapi_matches

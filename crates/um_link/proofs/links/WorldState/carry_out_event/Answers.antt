@@ -19,7 +19,7 @@ pub returns-in-End-clause-refines : goal.returns-in-End-clause-refines
 returns-in-End-clause-refines g c =
     let event = E.Ask (role_of c.in-End.end) c.in-End.sapi (request_of c.in-End.call) in
     at-event (event_of c.args.event.now) event c.args.self.now c.ask-in-End.new.self (step_result c.ask-in-End.result c.ask-in-End.new.step)
-    (ap event_of c.in-End.is) (c.ask-in-End.ensures.refines event (refl, refl, c.whole.ensures.same))
+    (ap event_of c.in-End.is) (c.ask-in-End.ensures.refines event (refl, refl, c.as_endpoint_call.ensures.same))
 
 pub returns-in-Air-clause-refines : goal.returns-in-Air-clause-refines
 returns-in-Air-clause-refines g c =

@@ -4,5 +4,5 @@ use Rattle.um_link.proofs.links.WorldState.lose.Goals as goal
 
 pub returns-clause-refines : goal.returns-clause-refines
 returns-clause-refines c =
-    lost (role_of c.args.sender) c.args.self.now c.drop_first.new.self c.clear.new.self c.drop_first.ensures.loses
-    (sym c.has_no_block.ensures ∙ c.if-has_no_block.false) c.clear.ensures.frames c.clear.ensures.notices
+    lost (role_of c.args.sender) c.args.self.now c.drop_oldest_block.new.self c.clear.new.self c.drop_oldest_block.ensures.loses
+    (sym c.has_no_queued_block.ensures ∙ c.if-has_no_queued_block.false) c.clear.ensures.frames c.clear.ensures.notices

@@ -9,8 +9,10 @@ use Rattle.um_link.proofs.links.WorldState.rival.Goals as goal
 pub returns-clause-refines : goal.returns-clause-refines
 returns-clause-refines g c =
     let w = c.args.self.now in
-    let short : nat_lt (n201 w.channel) (length c.args.info.now) ≡ false = grind (arith, nat_tests, c.if-info-n201.false, c.n201.ensures) in
-    called (E.Rival c.args.info.now) R.Mobile w c.send.new.self w.ends c.rival_effects.new.effects E.Other S.Zero _ refl
-    (λ es st. (st, record { frames = c.rival_effects.ensures.frames; notices = c.rival_effects.ensures.notices }))
-    (rival-none c.args.info.now w (sym c.is_full.ensures ∙ c.if-is_full.false) (sym c.is_empty.ensures ∙ c.if-is_empty.false) short)
+    let short : nat_lt (n201 w.channel) (length c.args.info.now) ≡ false =
+    grind (arith, nat_tests, c.if-info-n201.false, c.n201.ensures) in
+    called (E.Rival c.args.info.now) R.Mobile w c.send.new.self w.ends c.write_rival_sabm.new.effects E.OtherMobile S.Zero _ refl
+    (λ es st. (st, record { frames = c.write_rival_sabm.ensures.frames; notices = c.write_rival_sabm.ensures.notices }))
+    (rival-none c.args.info.now w (sym c.is_queue_full.ensures ∙ c.if-is_queue_full.false) (sym c.is_empty.ensures
+    ∙ c.if-is_empty.false) short)
     (λ a. (tt, refl)) refl (λ es. refl) (λ es. refl) c.send.ensures.sends

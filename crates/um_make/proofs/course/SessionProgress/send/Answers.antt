@@ -1,5 +1,5 @@
-use Rattle.std.proofs.{Common.{◌≡◌, ◌∙◌, sym, ap, ℕ, ◌+◌, ◌-◌, ◌/◌, ◌%◌, map, take}, lemmas.List.FromFn.take-map-range_with_len}
-use Rattle.std.{proofs.lemmas.List.FromFn.length-map-range_with_len, specs.List.range_with_len}
+use Rattle.std.proofs.Common.{◌≡◌, ◌∙◌, sym, ap, ℕ, ◌+◌, ◌-◌, ◌/◌, ◌%◌, map, take}
+use Rattle.std.{proofs.lemmas.List.FromFn.{take-map-range_with_len, length-map-range_with_len}, specs.List.range_with_len}
 use Rattle.um_make.{specs.Generated.{message_length, message, segment_count_of}, proofs.Courses.sent}
 use Rattle.um_make.proofs.course.SessionProgress.send.Goals as goal
 
@@ -15,4 +15,5 @@ returns-clause-event c =
     ∙ ap (λ (k : ℕ). map octet (range_with_len 0 k)) size in
     let count : (n - 1) / 20 + 1 ≡ segment_count_of i =
     ap (λ (k : ℕ). (k - 1) / 20 + 1) (size ∙ sym (length-map-range_with_len octet 0 (message_length i))) in
-    sent s.stage s.left s.number s.pieces s.turns _ _ _ c.requires.stage c.requires.none c.requires.some c.sender.ensures octets count
+    sent s.stage s.messages_left s.number s.segments_left s.segment_turns _ _ _ c.requires.stage c.requires.none c.requires.some
+    c.sender.ensures octets count

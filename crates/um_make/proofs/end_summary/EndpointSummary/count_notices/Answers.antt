@@ -1,4 +1,5 @@
-use Rattle.std.proofs.{Common.{◌≡◌, ◌∙◌, sym, ap, subst, List, [], ◌+◌, ◌∷◌, ◌++◌, take, arith}, lemmas.List.take_more}
+use Rattle.std.proofs.Common.{◌≡◌, ◌∙◌, sym, ap, subst, List, [], ◌+◌, ◌∷◌, ◌++◌, take, arith}
+use Rattle.std.proofs.lemmas.List.{take_more}
 use Rattle.um_link.specs.lapdm_window.declared.Notice.{Notice}
 use Rattle.um_make.{specs.Counting.CountsNotices, proofs.Counting.counts-more}
 use Rattle.um_make.proofs.end_summary.EndpointSummary.count_notices.Goals as goal

@@ -1,0 +1,9 @@
+use Rattle.std.proofs.Common.{arith}
+use Rattle.fire_code.proofs.OctetSteps.{entry_multiple}
+use Rattle.fire_code.proofs.octets.table_remainder.Goals as goal
+
+pub returns-clause-multiple : goal.returns-clause-multiple
+returns-clause-multiple c = (entry_multiple c.args.octet (omega arith)).0
+
+pub returns-clause-within : goal.returns-clause-within
+returns-clause-within c = (entry_multiple c.args.octet (omega arith)).1

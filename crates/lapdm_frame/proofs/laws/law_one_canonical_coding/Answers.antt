@@ -1,5 +1,0 @@
-use Rattle.lapdm_frame.proofs.Canonical.{only_canonical}
-use Rattle.lapdm_frame.proofs.laws.law_one_canonical_coding.Goals as goal
-
-pub returns : goal.returns
-returns c = only_canonical

@@ -1,0 +1,86 @@
+use Rattle.std.proofs.Common.{arith, rules, ◌≡◌, ◌+◌, ◌<◌, ◌≤◌, [], pos, ◌+ℤ◌, ◌-ℤ◌, get_or, take, refl, ap}
+use Rattle.std.proofs.{Common.{ap₂, sym, subst, ◌∙◌, to_z, of_z, w16, FitsSigned, ℕ, List}, lemmas.Int.to_z-of_z}
+use Rattle.trellis_decode.specs.Trellis.{next}
+use Rattle.list_decode.specs.{Branches.is_in_range, DeviatingLists.{IsLeastLossFreePosition, deviation_loss, state_after_bits}}
+use Rattle.list_decode.proofs.{FreePlaces.{is_departure, spot_first}, Losses.{reached_more, reached_small}, Spans.between_from}
+use Rattle.list_decode.proofs.Spans.{is_between}
+use Rattle.list_decode.proofs.branch.find_least_loss_in_span.Goals as goal
+
+pub loop-k-init : goal.loop-k-init
+loop-k-init c =
+    let u = c.args.list.now in
+    let losses = c.args.losses.now in
+    let span = c.args.span.now in
+    let from = c.from-from.result in
+    let is_from = c.from-from.ensures in
+    let is_to = c.from-to.ensures in
+    let order = c.if-from-to.false in
+    let end = c.requires.end in
+    let fits : FitsSigned w16 (get_or (get_or losses from []) c.from-state.result (pos 0)) = search rules in
+    let state : c.from-state.result ≡ state_after_bits 0 (take from u) =
+    c.from-state.ensures ∙ c.requires.state ∙ ap (λ from. state_after_bits 0 (take from u)) (sym is_from) in
+    let lost : to_z w16 (of_z w16 (get_or (get_or losses from []) c.from-state.result (pos 0))) ≡ deviation_loss 0 u losses from =
+    to_z-of_z w16 _ fits ∙ ap (λ s. get_or (get_or losses from []) s (pos 0)) state in
+    let is = c.new-best.ensures in
+    record {
+      small = omega arith;
+      state = ap₂ next state c.from.ensures ∙ sym (reached_more u from 0 (omega arith));
+      best = spot_first u losses (is_in_range span.from span.to) from c.new-best.result
+          (λ k lt free. let low = between_from span.from span.to k free in absurd (omega arith))
+          (is_between span.from span.to from (omega arith) (omega arith)) is.place (is.state ∙ state)
+          (is.loss_limit ∙ ap (λ loss. loss +ℤ pos 1 -ℤ pos (get_or u from 0)) lost);
+    }
+
+pub loop-k-preserved : goal.loop-k-preserved
+loop-k-preserved c =
+    let k = c.loop-k.k in
+    let u = c.args.list.now in
+    let losses = c.args.losses.now in
+    let span = c.args.span.now in
+    let old = c.loop-k.invariant in
+    let is_from = c.from-from.ensures in
+    let is_to = c.from-to.ensures in
+    let end = c.requires.end in
+    let fits : FitsSigned w16 (get_or (get_or losses k []) c.loop-k.state (pos 0)) = search rules in
+    let lost : to_z w16 (of_z w16 (get_or (get_or losses k []) c.loop-k.state (pos 0))) ≡ deviation_loss 0 u losses k =
+    to_z-of_z w16 _ fits ∙ ap (λ s. get_or (get_or losses k []) s (pos 0)) old.state in
+    record {
+      small = omega arith;
+      state = ap₂ next old.state c.from-in-loop-k.ensures ∙ sym (reached_more u k 0 (omega arith));
+      best = c.or_lower_loss-best.ensures u losses (is_in_range span.from span.to) old.best
+          (is_between span.from span.to k (omega arith) (omega arith)) old.state lost refl c.requires.bits;
+    }
+
+small_state : (u : List ℕ) (place state : ℕ) → state ≡ state_after_bits 0 (take place u) → state < 16
+small_state u place state is = subst (λ s. s < 16) (sym is) (reached_small 0 (take place u) (omega arith))
+
+pub offset_bounds-losses-best-2 : goal.offset_bounds-losses-best-2
+offset_bounds-losses-best-2 c =
+    let small = small_state c.args.list.now c.loop-k.best.place c.loop-k.best.state c.loop-k.invariant.best.state in
+    search rules
+
+pub bounds-losses-best-after-loop-k : goal.bounds-losses-best-after-loop-k
+bounds-losses-best-after-loop-k c =
+    small_state c.args.list.now c.loop-k.best.place c.loop-k.best.state c.loop-k.invariant.best.state
+
+pub returns : goal.returns
+returns c =
+    let u = c.args.list.now in
+    let losses = c.args.losses.now in
+    let span = c.args.span.now in
+    let best = c.loop-k.best in
+    let old = c.loop-k.invariant.best in
+    let fits : FitsSigned w16 (get_or (get_or losses best.place []) best.state (pos 0)) = search rules in
+    let lost : to_z w16 (of_z w16 (get_or (get_or losses best.place []) best.state (pos 0))) ≡ deviation_loss 0 u losses best.place =
+    to_z-of_z w16 _ fits ∙ ap (λ s. get_or (get_or losses best.place []) s (pos 0)) old.state in
+    let is = c.new.ensures in
+    let is_from = c.from-from.ensures in
+    let is_to = c.from-to.ensures in
+    let order = c.if-from-to.false in
+    let some : c.from-from.result + 1 ≤ c.from-to.result = omega arith in
+    let high = c.loop-k.auto.k-end some in
+    let end : c.loop-k.k ≡ span.to = omega arith in (
+      is_departure u _ best.place best.state _ _ c.requires.bits old.state lost is.place is.state is.loss is.loss_limit,
+      subst (λ place. IsLeastLossFreePosition u losses (is_in_range span.from span.to) span.to place) (sym is.place)
+          (subst (λ n. IsLeastLossFreePosition u losses (is_in_range span.from span.to) n best.place) end old.least),
+    )

@@ -1,5 +1,0 @@
-use Rattle.segmenting.proofs.Cutting.{one_cutting}
-use Rattle.segmenting.proofs.laws.law_one_segmentation.Goals as goal
-
-pub returns : goal.returns
-returns c = one_cutting

@@ -1,0 +1,5 @@
+use Rattle.segmenting.proofs.Cutting.{one_cutting}
+use Rattle.segmenting.proofs.laws.law_segmentation_is_unique.Goals as goal
+
+pub returns : goal.returns
+returns c = one_cutting

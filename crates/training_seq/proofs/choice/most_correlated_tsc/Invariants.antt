@@ -1,0 +1,10 @@
+use Rattle.std.proofs.Common.{◌≡◌}
+use Rattle.bit_blocks.specs.SoftValues.{likelihood}
+use Rattle.training_seq.{specs.Sequences.midamble, proofs.Greatest.LeadsBelow}
+use Rattle.training_seq.proofs.choice.most_correlated_tsc.Given as goal
+
+-- `best` is the sequence with the greatest correlation so far, and `greatest` is that correlation
+abbrev pub invariant-loop-tsc : goal.invariant-loop-tsc
+invariant-loop-tsc l =
+    (l.greatest ≡ likelihood l.sums (midamble l.best))
+    × LeadsBelow (λ tsc. likelihood l.sums (midamble tsc)) l.tsc l.best

@@ -1,7 +1,0 @@
-use Rattle.std.{proofs.Common.{take, IsTrue}, specs.List.All}
-use Rattle.trellis_decode.specs.Hard.{IsHard}
-use Rattle.trellis_decode.proofs.hard.are_hard.Given as goal
-
--- the soft bits read so far are hard, or `all` is false
-abbrev pub invariant-loop-value : goal.invariant-loop-value
-invariant-loop-value l = IsTrue l.all → All IsHard (take l.value-index l.soft)

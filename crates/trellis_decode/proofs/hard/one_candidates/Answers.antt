@@ -1,8 +1,0 @@
-use Rattle.trellis_decode.proofs.HardLanes.{lane-ones, AreInt8-ones}
-use Rattle.trellis_decode.proofs.hard.one_candidates.Goals as goal
-
-pub returns-clause-each : goal.returns-clause-each
-returns-clause-each c = lane-ones c.args.after.lanes c.args.branch_metrics.lanes c.requires.headroom c.requires.branch_metrics
-
-pub returns-clause-lanes : goal.returns-clause-lanes
-returns-clause-lanes c = AreInt8-ones c.args.after.lanes c.args.branch_metrics.lanes c.requires.headroom c.requires.branch_metrics

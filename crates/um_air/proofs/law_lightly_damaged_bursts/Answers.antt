@@ -1,5 +1,0 @@
-use Rattle.um_air.proofs.Damaged.{damaged_received, flipped_damaged}
-use Rattle.um_air.proofs.law_lightly_damaged_bursts.Goals as goal
-
-pub returns : goal.returns
-returns c = record { received = damaged_received; flipped = flipped_damaged }

@@ -1,5 +1,0 @@
-use Rattle.um_air.proofs.FewFlipped.{accepted_as_sent}
-use Rattle.um_air.proofs.law_three_inverted_bits.Goals as goal
-
-pub returns : goal.returns
-returns c = accepted_as_sent

@@ -1,5 +1,0 @@
-use Rattle.um_c.proofs.AsFrameSessions.{joined_counts}
-use Rattle.um_c.proofs.joined.law_joined_endpoints_acked.Goals as goal
-
-pub returns : goal.returns
-returns c = joined_counts

@@ -1,0 +1,25 @@
+-- All values of the joined bursts are soft values if and only if those of each burst are.
+use Rattle.std.proofs.{Common.{ℤ, List, [], ◌∷◌, ◌++◌, length, refl, sym, subst}, lemmas.List.{take_at, drop_at}}
+use Rattle.std.{proofs.lemmas.List.Elements.{All-nil, All-cons, All-head, All-tail, All-append, All-take, All-drop}, specs.List.All}
+use Rattle.std.specs.{List.flat_map, Prelude.◌↔◌}
+use Rattle.um_block.specs.bit_blocks.SoftValues.{AllSoftBits, IsSoftBit}
+use Rattle.um_c.proofs.soft.are_soft_bursts.Goals as goal
+
+all_joined : (bursts : List (List ℤ)) → AllSoftBits (flat_map (λ burst. burst) bursts) ↔ All AllSoftBits bursts
+all_joined [] = (λ _. All-nil AllSoftBits, λ _. All-nil IsSoftBit)
+all_joined (burst ∷ bursts) =
+    let rest = flat_map (λ burst. burst) bursts in
+    let both = all_joined bursts in (
+      λ soft. All-cons AllSoftBits burst bursts
+          (subst AllSoftBits (take_at burst rest (length burst) refl) (All-take IsSoftBit (length burst) (burst ++ rest) soft))
+          (both.0 (subst AllSoftBits (drop_at burst rest (length burst) refl) (All-drop IsSoftBit (length burst) (burst ++ rest) soft))),
+      λ all. All-append IsSoftBit burst rest (All-head AllSoftBits burst bursts all) (both.1 (All-tail AllSoftBits burst bursts all)),
+    )
+
+pub returns : goal.returns
+returns c =
+    let all = all_joined c.args.bursts.now in
+    let same = c.as_flattened.ensures.value in (
+      λ yes. all.0 (subst AllSoftBits same (c.are_soft_bits.ensures.0 yes)),
+      λ soft. c.are_soft_bits.ensures.1 (subst AllSoftBits (sym same) (all.1 soft)),
+    )

@@ -1,5 +1,0 @@
-use Rattle.um_end.proofs.EndLineLaws.{end_one_meaning}
-use Rattle.um_end.proofs.lines.law_end_lines.Goals as goal
-
-pub returns : goal.returns
-returns c = end_one_meaning

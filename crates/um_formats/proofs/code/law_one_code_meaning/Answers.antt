@@ -1,5 +1,0 @@
-use Rattle.um_formats.proofs.CodeLaws.{one_meaning}
-use Rattle.um_formats.proofs.code.law_one_code_meaning.Goals as goal
-
-pub returns : goal.returns
-returns c = one_meaning

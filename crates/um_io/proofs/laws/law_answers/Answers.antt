@@ -1,5 +1,0 @@
-use Rattle.um_io.proofs.AnswersLemmas.{ends_with}
-use Rattle.um_io.proofs.laws.law_answers.Goals as goal
-
-pub returns : goal.returns
-returns c = ends_with

@@ -1,0 +1,5 @@
+use Rattle.um_io.proofs.AnswersLemmas.{ends_with}
+use Rattle.um_io.proofs.laws.law_answers_are_source_lines.Goals as goal
+
+pub returns : goal.returns
+returns c = ends_with

@@ -1,0 +1,16 @@
+use Rattle.std.proofs.Common.{refl, subst}
+use Rattle.um_block.specs.Received.{IsReceivedBlock}
+use Rattle.um_link.proofs.queue.receive_oldest_block.Goals as goal
+
+pub returns-clause-received : goal.returns-clause-received
+returns-clause-received g c =
+    let gone = c.drop_oldest_block.ensures.first in
+    let softened = c.write_oldest_as_soft_values.ensures.value gone.0 c.drop_oldest_block.new.way.items gone.1 in (
+      c.receive.result,
+      refl,
+      record {
+        block = gone.0;
+        first = gone.1;
+        received = subst (λ bursts. IsReceivedBlock bursts c.receive.result) softened c.receive.ensures.received;
+      },
+    )

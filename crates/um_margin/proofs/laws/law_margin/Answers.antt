@@ -1,5 +1,0 @@
-use Rattle.um_margin.proofs.Ahead.{zero_margin_is_tie, hard_margin_law}
-use Rattle.um_margin.proofs.laws.law_margin.Goals as goal
-
-pub returns : goal.returns
-returns c = record { tie = zero_margin_is_tie; hard = hard_margin_law }

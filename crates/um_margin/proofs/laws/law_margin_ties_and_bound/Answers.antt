@@ -1,0 +1,5 @@
+use Rattle.um_margin.proofs.Ahead.{zero_margin_is_tie, hard_margin_law}
+use Rattle.um_margin.proofs.laws.law_margin_ties_and_bound.Goals as goal
+
+pub returns : goal.returns
+returns c = record { tie = zero_margin_is_tie; hard = hard_margin_law }

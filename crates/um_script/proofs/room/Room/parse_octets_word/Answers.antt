@@ -1,0 +1,7 @@
+use Rattle.std.{proofs.Common.{ap, arith}, specs.Prelude.length}
+use Rattle.um_script.proofs.WordSizes.{sole_word}
+use Rattle.um_script.proofs.room.Room.parse_octets_word.Goals as goal
+
+pub decode_hex_octets-requires-clause-space : goal.decode_hex_octets-requires-clause-space
+decode_hex_octets-requires-clause-space c =
+    omega (arith, c.requires, ap length (sole_word c.args.text.now c.in_ok-word.word.now c.in_ok-word.ensures))

@@ -1,5 +1,0 @@
-use Rattle.weight_bound.proofs.Distances.{reaches_seven}
-use Rattle.weight_bound.proofs.laws.law_least_distance.Goals as goal
-
-pub returns : goal.returns
-returns c = reaches_seven
