@@ -27,6 +27,7 @@ check:
 
 ## make prove      proves everything and runs every check; needs the Rattle toolchain; about an hour from scratch
 prove:
+	@command -v rt >/dev/null || { echo "make prove: no rt on the PATH; it is part of the Rattle toolchain, which is not public" >&2; exit 1; }
 	.ci/run
 
 ## make dist       builds dist/ from the proved sources; needs the Rattle toolchain and wasm-opt 131
@@ -36,7 +37,7 @@ dist:
 ## make crate      packs the Rust crate um-gsm with the libraries of dist/, below bindings/rust/target/package
 crate:
 	@for arch in x86_64 aarch64; do install -D -m 644 dist/$$arch-linux/libum.a bindings/rust/lib/$$arch-linux/libum.a || exit 1; done
-	cd bindings/rust && cargo package --allow-dirty
+	@trap 'rm -rf bindings/rust/lib' EXIT; echo "cargo package --allow-dirty"; (cd bindings/rust && cargo package --allow-dirty)
 
 ## make install    installs below PREFIX (/usr/local), LIBDIR (PREFIX/lib) and DESTDIR: program, manual page, libraries, headers,
 ##                 pkg-config, CMake, Python module, completion. FROM is the directory of the built files (dist/ARCH-linux)

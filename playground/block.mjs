@@ -1,7 +1,7 @@
 // The view Block: 23 octets, their encoding into four bursts, the radio path, and the receiver's result.
 import { soften } from "../bindings/js/um.mjs";
 import { BLOCK, differs, drawnAsSent, encode, noisy } from "./coding.mjs";
-import { $, h, hex, octetsOf, plural, same, save, spaced, valueOf, write } from "./dom.mjs";
+import { $, complain, h, hex, octetsOf, onWhole, plural, same, save, spaced, valueOf, wholeOf, write } from "./dom.mjs";
 import { frameForm } from "./frameform.mjs";
 import { blockLines, burstLine, frameLabel, marginLine, repairLine, softOfHex, wordLine } from "./lines.mjs";
 import { radioPath, rows } from "./path.mjs";
@@ -9,14 +9,13 @@ import { Trace } from "./trace.mjs";
 
 const EXAMPLE = "0100150601020304052b2b2b2b2b2b2b2b2b2b2b2b2b2b";
 const BURSTS = [0, 1, 2, 3];
-const words = (value) => Math.max(1, Math.min(64, Math.round(Number(value)) || 1));
 
 export class BlockView {
   constructor(um, changed) {
     Object.assign(this, { um, changed, octets: octetsOf(EXAMPLE), tsc: 7, channel: "sdcch", lost: new Set(), most: 64, recorded: null });
     this.path = radioPath($("b-path"), "b", 592, () => this.draw());
     this.trace = new Trace("b", BLOCK, this.path);
-    this.showFrame = frameForm($("b-frame"), "b", (frame) => {
+    this.showFrame = frameForm($("b-frame"), "b", () => this.channel, (frame) => {
       this.octets = um.writeFrame(frame, this.channel);
       this.#showOctets();
       this.draw();
@@ -38,7 +37,10 @@ export class BlockView {
     on("b-octets", "input", (input) => (this.octets = valueOf(input, (text) => octetsOf(text, 23)) ?? this.octets));
     on("b-tsc", "change", ({ value }) => (this.tsc = Number(value)));
     on("b-channel", "change", ({ value }) => (this.channel = value));
-    on("b-most", "input", ({ value }) => (this.most = words(value)));
+    onWhole($("b-most"), 1, 64, (value) => {
+      this.most = value;
+      this.draw();
+    });
     on("b-sender-again", "click", () => (this.recorded = null));
     on("b-program", "toggle", () => 0);
     for (const burst of BURSTS) {
@@ -178,11 +180,12 @@ export class BlockView {
     this.tsc = Number(params.get("tsc") ?? 7) & 7;
     this.channel = params.get("channel") === "sacch" ? "sacch" : "sdcch";
     this.lost = new Set(BURSTS.filter((burst) => (params.get("lost") ?? "").includes(burst)));
-    this.most = words(params.get("most") ?? 64);
+    this.most = wholeOf(params.get("most") ?? "64", 1, 64);
     this.recorded = params.has("recorded") ? softOfHex(params.get("recorded"), 592) : null;
     this.path.set(params);
     this.#showOctets();
     for (const name of ["tsc", "channel", "most"]) $(`b-${name}`).value = this[name];
+    complain($("b-most"));
     for (const burst of BURSTS) $(`b-lost-${burst}`).checked = this.lost.has(burst);
     this.draw();
   }

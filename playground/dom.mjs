@@ -42,9 +42,16 @@ export const octetsOf = (text, count) => {
 export const bitsOf = (text, count) => {
   const digits = text.replace(/\s/g, "");
   const bad = digits.match(/[^01]/);
-  if (bad) throw new Error(`"${bad[0]}" is not a bit, 0 or 1`);
+  if (bad) throw new Error(`"${bad[0]}" is not a bit; expected ${count} bits, each 0 or 1`);
   if (digits.length !== count) throw new Error(`${digits.length} bits; expected ${count}`);
   return Uint8Array.from(digits, Number);
+};
+
+/** A whole number from least to most; an Error says what is wrong. */
+export const wholeOf = (text, least, most) => {
+  const value = Number(text);
+  if (text !== "" && Number.isInteger(value) && value >= least && value <= most) return value;
+  throw new Error(`${text || "no number"}; expected ${least} to ${most}`);
 };
 
 export const octetsOfBits = (bits) => {
@@ -56,11 +63,13 @@ export const octetsOfBits = (bits) => {
 export const same = (a, b) => a.length === b.length && a.every((value, i) => value === b[i]);
 export const plural = (count, word) => `${count} ${word}${count === 1 ? "" : "s"}`;
 
-/** Shows an error beside its input, and marks the input; no message clears both. */
+/** Shows an error beside its input, and marks the input and the results of its view as outdated; no message clears all. */
 export const complain = (input, message = "") => {
   const place = $(`${input.id}-error`);
   write(place, message);
   input.setAttribute("aria-invalid", message !== "");
+  const view = input.closest(".view");
+  view?.classList.toggle("outdated", view.querySelector("[aria-invalid=true]") !== null);
 };
 
 /** The value of an input by `read`, or undefined with what is wrong shown. */
@@ -74,6 +83,13 @@ export const valueOf = (input, read) => {
     return undefined;
   }
 };
+
+/** A number input with its error: its value by `changed` whenever it is a whole number from least to most. */
+export const onWhole = (input, least, most, changed) =>
+  input.addEventListener("input", () => {
+    const value = valueOf(input, (text) => wholeOf(text, least, most));
+    if (value !== undefined) changed(value);
+  });
 
 export const announce = (text) => write($("announcer"), text);
 

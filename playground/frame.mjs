@@ -82,7 +82,7 @@ const meanings = (octets, channel, frame) => {
 export class FrameView {
   constructor(um, changed) {
     Object.assign(this, { um, changed, channel: "sdcch" });
-    this.showFrame = frameForm($("f-frame"), "f", (frame) => {
+    this.showFrame = frameForm($("f-frame"), "f", () => this.channel, (frame) => {
       this.octets = um.writeFrame(frame, this.channel);
       this.#showOctets();
       this.draw();
@@ -117,7 +117,7 @@ export class FrameView {
     const frame = um.readFrame(octets, channel);
     this.showFrame(frame);
     write($("f-verdict"), frame.unread ? `Not a frame: ${frame.unread}. ${WHY[frame.unread]}` : `A frame: ${NAMES[frame.kind]}.`);
-    $("f-verdict").className = frame.unread ? "bad" : "good";
+    $("f-verdict").className = `result ${frame.unread ? "bad" : "good"}`;
     write($("f-lines"), `${channel === "sdcch" ? `$ um show <<< 'octets ${hex(octets)}'\n` : ""}${frameLine(frame)}`);
     this.#drawOctets(frame);
     this.changed();

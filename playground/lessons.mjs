@@ -96,8 +96,8 @@ export const LESSONS = [
         At this noise the most likely word is not the one that was sent. Its CRC fails, and an ordinary receiver loses the block. The red
         bars above the decoded word mark its wrong bits.`),
       block(NOISY, `
-        This receiver uses list decoding: it tries up to 64 words, the most likely first, and accepts the first whose CRC holds. Here that is the
-        second. It is proved that no word with a valid CRC fits better.
+        This receiver uses list decoding: it tries up to 64 words, the most likely first, and accepts the first whose CRC holds. Here that
+        is the second. It is proved that no word with a valid CRC fits better.
 
         The margin shows how close the decision was: the first word fits only a little better than the second.`),
       block({ ...NOISY, noise: -1 }, `
@@ -149,8 +149,8 @@ export const LESSONS = [
         The link of SAPI 0 is open. Short messages use another link, SAPI 3, and either end may open it. Here both sent a SABM at once,
         and the two cross on the air. Deliver both.`),
       link([...OPEN, ...SAPI3], {}, `
-        Each end received a SABM while it was waiting for the answer to its own, and answers UA. Deliver both UA frames: the link opens, once at
-        each end.`),
+        Each end received a SABM while it was waiting for the answer to its own, and answers UA. Deliver both UA frames: the link opens,
+        once at each end.`),
       link([...OPEN, ...SAPI3, "up deliver", "down deliver", "net3 send 736d73"], {}, `
         The link of SAPI 3 is open, and a message is on the air. Each link has its own V(S), V(R) and V(A), its own T200, and its own
         claims; SAPI 0 is not affected.`),

@@ -1,7 +1,7 @@
 // The view Link: a mobile and a network, the radio path between them, a clock that runs T200, the chart, and the claims about the session.
 import { Chart } from "./chart.mjs";
 import { randomOf } from "./coding.mjs";
-import { $, announce, complain, copyText, h, hex, octetsOf, plural, save, valueOf, write } from "./dom.mjs";
+import { $, announce, complain, copyText, h, hex, octetsOf, onWhole, plural, save, write } from "./dom.mjs";
 import { Session } from "./session.mjs";
 
 const NAMES = { mob: "the mobile", net: "the network", mob3: "the mobile (SAPI 3)", net3: "the network (SAPI 3)", rival: "another mobile" };
@@ -78,7 +78,9 @@ export class LinkView {
       rest.push(...this.#input("rival-info", "information", "02", 6),
         this.#button("rival", "Another mobile sends SABM", () => `rival ${this.#digits("rival-info")}`, "l-rival-info"));
     }
-    $(`l-${side}`).append(this.#buildLink(side), this.#buildLink(`${side}3`), h("div", { class: "fields" }, ...rest));
+    $(`l-${side}`).append(this.#buildLink(side), this.#buildLink(`${side}3`),
+      h("section", { class: "link-end", "aria-label": `${capital(NAMES[side])}, the channel` },
+        h("h4", {}, "The channel"), h("div", { class: "fields" }, ...rest)));
   }
 
   #buildWay(way) {
@@ -121,8 +123,8 @@ export class LinkView {
       });
     }
     for (const name of ["t200", "delay"]) {
-      $(`l-${name}`).addEventListener("input", ({ target: { value } }) => {
-        this[name] = Math.max(1, Math.round(Number(value)) || 1);
+      onWhole($(`l-${name}`), 1, 999, (value) => {
+        this[name] = value;
         this.#draw();
       });
     }
@@ -326,6 +328,7 @@ export class LinkView {
     this.t200 = Math.max(1, Number(params.get("t200") ?? 10) || 10);
     this.delay = Math.max(1, Number(params.get("delay") ?? 3) || 3);
     for (const name of ["tsc", "channel", "t200", "delay"]) $(`l-${name}`).value = this[name];
+    for (const name of ["t200", "delay"]) complain($(`l-${name}`));
     this.play((params.get("lines") ?? "").split(".").map((line) => line.replaceAll("_", " ")));
   }
 

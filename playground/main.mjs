@@ -28,6 +28,8 @@ class Page {
     LESSONS.forEach((lesson, i) => $("lessons-list").append(
       h("li", {}, h("a", { href: this.#stepAddress(i, 0), id: `lesson-${i + 1}` }, lesson.title), h("br"), lesson.about)));
     addEventListener("hashchange", () => this.show());
+    // a replaceState while the browser follows a link would cancel that, so a pending one is made before
+    addEventListener("click", ({ target }) => target.closest?.("a") && this.#write(), true);
     $("skip").addEventListener("click", (event) => {
       event.preventDefault();
       $("main").focus();

@@ -1,26 +1,28 @@
 // The radio path of the views Block and Bursts: noise by Es/N0 with a seed, and bits that are flipped; and the table of a report.
-import { $, h, plural, write } from "./dom.mjs";
+import { $, complain, h, onWhole, plural, write } from "./dom.mjs";
 
 const NONE = 13; // the slider's position for no noise
 
 export const radioPath = (host, prefix, length, changed) => {
   const path = { db: null, seed: 1, flips: new Set() };
   const noise = h("input", { type: "range", id: `${prefix}-noise`, min: -6, max: NONE, step: 0.5 });
-  const seed = h("input", { type: "number", id: `${prefix}-seed`, min: 1, max: 999999, value: 1 });
+  const error = `${prefix}-seed-error`;
+  const seed = h("input", { type: "number", id: `${prefix}-seed`, min: 1, max: 999999, value: 1, "aria-describedby": error });
   const says = h("span", { id: `${prefix}-noise-says`, class: "mono" });
   const again = h("button", { type: "button", id: `${prefix}-again` }, "New noise");
   const undo = h("button", { type: "button", id: `${prefix}-undo` }, "Undo flips");
   const flipped = h("span", { id: `${prefix}-flipped`, class: "dim" });
   host.prepend(
-    h("div", { class: "fields" }, h("label", {}, "Es/N0 ", noise), says, h("label", {}, "seed ", seed), again),
+    h("div", { class: "fields" }, h("label", {}, "Es/N0 ", noise), says, h("label", {}, "seed ", seed),
+      h("span", { id: error, class: "error", role: "alert" }), again),
     h("div", { class: "fields" }, undo, flipped),
   );
   noise.addEventListener("input", () => {
     path.db = Number(noise.value) === NONE ? null : Number(noise.value);
     changed();
   });
-  seed.addEventListener("input", () => {
-    path.seed = Math.max(1, Math.round(Number(seed.value)) || 1);
+  onWhole(seed, 1, 999999, (value) => {
+    path.seed = value;
     changed();
   });
   again.addEventListener("click", () => {
@@ -43,7 +45,10 @@ export const radioPath = (host, prefix, length, changed) => {
     noise.value = path.db ?? NONE;
     noise.setAttribute("aria-valuetext", path.db === null ? "no noise" : `${path.db} dB`);
     write(says, path.db === null ? "no noise" : `${path.db.toFixed(1)} dB`);
-    if (document.activeElement !== seed) seed.value = path.seed;
+    if (document.activeElement !== seed) {
+      seed.value = path.seed;
+      complain(seed);
+    }
     const places = [...path.flips].sort((a, b) => a - b);
     const list = places.length > 12 ? "" : `: ${places.join(", ")}`;
     write(flipped, places.length ? `${plural(places.length, "bit")} flipped${list}` : "no bit flipped");

@@ -47,7 +47,9 @@ class SingleBurst {
   }
 
   #build() {
-    const card = (heading, ...content) => h("section", { class: "card" }, h("h3", {}, heading), ...content);
+    const section = (kind, heading, ...content) => h("section", { class: kind }, h("h3", {}, heading), ...content);
+    const card = (...content) => section("card", ...content);
+    const result = (...content) => section("card result", ...content);
     const part = (heading, name) => [h("h4", {}, heading), h("div", { id: this.#id(name) })];
     const again = h("button", { type: "button", click: () => {
       this.recorded = null;
@@ -61,11 +63,12 @@ class SingleBurst {
           h("p", { id: this.#id("recorded"), hidden: true }, "A recording replaces the sender. ", again)),
         card("Radio path", h("div", { id: this.#id("path") }),
           ...(this.access ? [h("div", { class: "fields" }, ...this.#input("heard", "BSIC of the receiver", 6))] : []))),
-      card("Bits",
+      h("p", { class: "last-valid fair", role: "status" }, "Shown for the last valid input:"),
+      result("Bits",
         h("div", { class: "about" }, h("p", { id: this.#id("sum"), role: "status" }), h("p", { id: this.#id("about") }, ABOUT)),
         ...part("The decoded word", "word"), ...part("Its coded bits", "coded"), ...part("The burst as received", "burst")),
-      card("Result", h("table", { id: this.#id("report"), class: "report" })),
-      h("details", { class: "card" }, h("summary", {}, "The program's lines"), this.program,
+      result("Result", h("table", { id: this.#id("report"), class: "report" })),
+      h("details", { class: "card result" }, h("summary", {}, "The program's lines"), this.program,
         h("button", { type: "button", click: () => save("recording.txt", "text/plain", `${this.recording()}\n`) }, "Save as a recording")),
     );
   }

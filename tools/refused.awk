@@ -82,8 +82,18 @@ function reader_of(   part, form, i, n) {
   return ""
 }
 
+# the first words of n forms, each once; the forms with the most alternatives come first
+function first_words(part, n,   choice, is_listed, list, most, i, k) {
+  for (most = 9; most; most--) for (i = 1; i <= n; i++) {
+    fields(part[i])
+    if (split(wanted[1], choice, "|") != most) continue
+    for (k = 1; k <= most; k++) if (!is_listed[choice[k]]++) list = list (list ? ", " : "") choice[k]
+  }
+  return list
+}
+
 # the reason `word`: the line matches no form of the command
-function tell_of_words(   part, i, n, most, best, list, other) {
+function tell_of_words(   part, i, n, most, best, other) {
   tell_of_spaces()
   n = split(ENVIRON["own"], part, "\n")
   for (i = 1; i <= n; i++) {
@@ -91,15 +101,14 @@ function tell_of_words(   part, i, n, most, best, list, other) {
       most = fit(part[i])
       best = part[i]
     }
-    fields(part[i])
-    if (index(" " list ",", " " wanted[1] ",") == 0) list = list (list ? ", " : "") wanted[1]
   }
   if (!best) {
     other = reader_of()
     if (other) tell("um " other " reads such lines, but " called " does not", 1)
-    gsub(/\|/, ", ", list)
-    tell(quoted(word[1]) " does not start a line of " called "; lines start with " list, 1)
+    tell(quoted(word[1]) " does not start a line of " called "; lines start with " first_words(part, n), 1)
   }
+  if (word[1] == "net" && word[2] == "open")
+    tell("the mobile opens SAPI 0" (called == "um link" ? ": mob open HEX" : "") "; either end opens SAPI 3: net3 open", column_of(2))
   n = fields(best)
   if (most < count && most < n) tell(quoted(word[most + 1]) " does not belong here; the form is " best, column_of(most + 1))
   tell("the line has " count " words, but the form " best " has " n, 1)

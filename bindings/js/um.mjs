@@ -25,7 +25,7 @@ const REFUSALS = [
   ["notopen", "the link is not open"],
   ["notrunning", "T200 does not run: no frame awaits an answer"],
   ["empty", "the message is empty; expected at least one octet"],
-  ["toolong", "the message is too long"],
+  ["toolong", "the message is too long; send takes at most 251 octets, open and unit 20 (18 on SACCH)"],
   ["full", "eight messages are not completely acknowledged yet"],
   ["noend", "the state is not valid"],
   ["nocall", "the mobile opens the link of SAPI 0, with information; either end opens the link of SAPI 3, without"],
@@ -524,7 +524,11 @@ export class Side extends State {
 const beside = async () => {
   const url = new URL("./um.wasm", import.meta.url);
   if (url.protocol !== "file:" || !globalThis.process?.versions?.node) return fetch(url);
-  return (await import("node:fs/promises")).readFile(url);
+  const { readFile } = await import("node:fs/promises");
+  return readFile(url).catch((cause) => {
+    if (cause.code !== "ENOENT") throw cause;
+    throw new Error("um.wasm is not beside um.mjs; in a checkout: cp dist/wasm/um.wasm bindings/js/", { cause });
+  });
 };
 
 /** Loads um.wasm from the directory of this module, or from `source`: its octets, a Response, or a compiled WebAssembly.Module. */

@@ -1,4 +1,4 @@
-//! Links libum.a from the directory UM_LIB, from lib/ARCH-linux of a packed crate, or from dist/ARCH-linux of the repository.
+//! Links libum.a from the directory UM_LIB, from dist/ARCH-linux of the repository, or from lib/ARCH-linux of a packed crate.
 use std::{env, path::Path, process::exit};
 
 fn main() {
@@ -11,7 +11,9 @@ fn main() {
     let folder = env::var("UM_LIB").unwrap_or_else(|_| {
         let packed = format!("{here}/lib/{arch}-{system}");
         let released = format!("{here}/../../dist/{arch}-{system}");
-        if Path::new(&packed).exists() { packed } else { released }
+        // `make crate` copies the libraries of dist/ to lib/; in the repository such a copy can be older than dist/
+        let is_packed = !Path::new(&released).join("libum.a").exists() && Path::new(&packed).exists();
+        if is_packed { packed } else { released }
     });
     let library = |name: &str| format!("{folder}/lib{name}.a");
     let Some(name) = ["um", "um_c"].into_iter().find(|name| Path::new(&library(name)).exists()) else {

@@ -1,7 +1,7 @@
 #!/usr/bin/env python3
 """An event loop for both links of a channel, SAPI 0 and SAPI 3, at one end: the transmit queues and T200.
 
-    UM_SO=/path/to/libum.so PYTHONPATH=bindings/python python3 examples/python/event_loop.py
+    PYTHONPATH=bindings/python python3 examples/python/event_loop.py
 
 An endpoint has no timer, and a channel carries one block each way every 51 TDMA frames on SDCCH, every 102 on its SACCH. So the caller
 keeps, for each link, a transmit queue and the time at which T200 expires:
@@ -12,7 +12,7 @@ keeps, for each link, a transmit queue and the time at which T200 expires:
   the other link took the slot of the answer, so it extends T200 by one block.
 - The window is one frame. So a SABM, DISC or I frame replaces the one still queued, which is a copy or already acknowledged.
 - A REJ is passed to the endpoint as an RR with the same N(R). With a window of one frame, a REJ asks for a frame that T200 retransmits
-  anyway, or for the frame after a duplicate, which need not be repeated. Delivery is still guaranteed (law_rr_for_rej of lapdm_link).
+  anyway, or for the frame after a duplicate, which need not be repeated. Delivery is still guaranteed (law_rr_may_replace_rej of lapdm_link).
 - A later N(R) supersedes an earlier one. So a queued RR or REJ is dropped when a later one is queued, and a queued RR also when an I frame
   is. A frame with F = 1 answers a poll and stays.
 

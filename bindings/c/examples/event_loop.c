@@ -12,7 +12,7 @@
  *   - The window is one frame. So a SABM, DISC or I frame replaces the one still queued, which is a copy or already acknowledged.
  *   - A REJ is passed to the endpoint as an RR with the same N(R). With a window of one frame, a REJ asks for a frame that T200
  *     retransmits anyway, or for the frame after a duplicate, which need not be repeated. Delivery is still guaranteed
- *     (law_rr_for_rej of lapdm_link).
+ *     (law_rr_may_replace_rej of lapdm_link).
  *   - A later N(R) supersedes an earlier one. So a queued RR or REJ is dropped when a later one is queued, and a queued RR also when an
  *     I frame is. A frame with F = 1 answers a poll and stays.
  *

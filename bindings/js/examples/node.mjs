@@ -1,4 +1,6 @@
-// node examples/node.mjs: sends a block over a noisy channel, and a message over a link that loses a frame
+// Sends a block over a noisy channel, and a message over a link that loses a frame.
+//
+//   cp dist/wasm/um.wasm bindings/js/ && node bindings/js/examples/node.mjs
 import { load, soften } from "um-gsm";
 
 const um = await load();

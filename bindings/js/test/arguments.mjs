@@ -69,8 +69,8 @@ const WRONG = (um) => [
 const REFUSED = (um) => [
   ["notopen", () => um.end("mobile").send([1])],
   ["notrunning", () => um.end("network").timer()],
-  ["empty", () => um.end("mobile").open([])],
-  ["toolong", () => um.end("mobile").open(zeros(21))],
+  ["empty", () => um.end("mobile").open([]), "; expected at least one octet"],
+  ["toolong", () => um.end("mobile").open(zeros(21)), "; send takes at most 251 octets, open and unit 20 (18 on SACCH)"],
   ["toolong", () => um.end("mobile").unit(new Uint8Array(1000))],
   ["nocall", () => um.end("network").open([1])],
   ["nocall", () => um.end("mobile").open()],
@@ -125,7 +125,9 @@ export const tryArguments = (um) => {
   for (const [call, type, words] of WRONG(um)) {
     assert.throws(call, (error) => error.constructor === type && error.message.startsWith(words) || assert.fail(`${error}, not ${words}`));
   }
-  for (const [reason, call] of REFUSED(um)) assert.throws(call, (error) => error instanceof Refused && error.reason === reason);
+  for (const [reason, call, words = ""] of REFUSED(um)) {
+    assert.throws(call, (error) => error instanceof Refused && error.reason === reason && error.message.includes(words));
+  }
   states(um);
   sides(um);
   trap(um);

@@ -216,7 +216,12 @@ class Refusals(unittest.TestCase):
         self.refused(ValueError, ["most: 0; expected 1 to 64"], um.receive_block_among, bytes(592), 0)
         self.refused(ValueError, ["info: 7 bits; expected 8"], um.send_access, bytes(7), bytes(6))
         self.refused(ValueError, ["bsic[5]: 2; expected a bit"], um.send_access, bytes(8), bytes(5) + b"\2")
-        self.refused(TypeError, ["bsic"], um.receive_access, bytes(88), 7)
+        for wrong in (63, "111111", None, 1.5):
+            words = f"bsic: {type(wrong).__name__} {wrong!r}; expected 6 bits, each 0 or 1"
+            self.refused(TypeError, [words], um.send_access, [1] * 8, wrong)
+            self.refused(TypeError, ["bsic", "expected 6 bits, each 0 or 1"], um.receive_access, bytes(88), wrong)
+        self.refused(ValueError, ["info[1]: 256; expected 25 bits, each 0 or 1"], um.send_sync, [0, 256])
+        self.refused(TypeError, ["info", "expected 8 bits, each 0 or 1"], um.send_access, memoryview(bytes(16)).cast("H"), bytes(6))
         self.refused(ValueError, ["burst[87]: -128"], um.receive_access, bytes(87) + b"\x80", bytes(6))
         self.refused(ValueError, ["burst: 87 soft bits; expected 88"], um.receive_access, bytes(87), bytes(6))
         self.refused(ValueError, ["info[0]: 3"], um.send_sync, b"\3" * 25)
@@ -234,6 +239,8 @@ class Refusals(unittest.TestCase):
         self.refused(ValueError, ["frame.info: 0 octets; expected at least 1"], um.write_frame, um.Frame("i"))
         self.refused(ValueError, ["frame.info: 1 octets; expected none"], um.write_frame, um.Frame("rr", info=b"a"))
         self.refused(TypeError, ["frame.info: int 5"], um.write_frame, um.Frame("i", info=5))
+        self.refused(TypeError, ["frame: dict {'kind': 'i'}; expected a um.Frame"], um.write_frame, {"kind": "i"})
+        self.refused(TypeError, ["frame: str 'i'; expected a um.Frame"], um.write_frame, "i")
 
     @unittest.skipUnless(numpy, "numpy is not here")
     def test_small_integers_do_not_wrap(self):
@@ -246,6 +253,8 @@ class Refusals(unittest.TestCase):
         self.refused(TypeError, ["values[0][0]: str '1'"], um.soft_from_llr, ["1"])
         self.refused(TypeError, ["values[0]: NoneType None"], um.soft_from_llr, [None])
         self.refused(TypeError, ["values: float 1.5"], um.soft_from_llr, 1.5)
+        self.refused(TypeError, ["values: bytes b'\\x81'", "array.array('b'"], um.soft_from_llr, b"\x81")
+        self.refused(TypeError, ["values[1]: bytearray", "array.array('b'"], um.soft_from_llr, [[0.5], bytearray(1)])
         self.refused(ValueError, ["scale: 0"], um.soft_from_llr, [1.0], 0)
         self.refused(ValueError, ["positive: 2; expected 0 to 1"], um.soft_from_llr, [1.0], 1, 2)
         self.refused(ValueError, ["bits[1]: 2"], um.soft_from_bits, [0, 2])
@@ -358,6 +367,7 @@ class Ends(unittest.TestCase):
 
     def test_refusals(self):
         mobile, network = self.opened()
+        self.assertRaisesRegex(um.Refused, "^send: empty: the message is empty; expected at least one octet$", mobile.send, b"")
         for reason, call, *arguments in (
             ("not idle", mobile.open, b"a"), ("not open", um.End("mobile").send, b"a"), ("not running", mobile.timer),
             ("empty", mobile.send, b""), ("too long", mobile.send, bytes(252)), ("too long", mobile.unit, bytes(300)),

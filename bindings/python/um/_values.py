@@ -57,16 +57,7 @@ def choice(name: str, value: Any, names: Iterable[str]) -> int:
 def octets(name: str, values: Any, count: Optional[int] = None) -> bytes:
     """Octets, `count` of them if given, from bytes, a buffer of unsigned octets, or a list of ints."""
     wanted = "octets" if count is None else f"{count} octets"
-    if isinstance(values, bytes):
-        data = values
-    else:
-        view = view_of(values)
-        if view is not None:
-            if view.format != "B" or view.ndim != 1:
-                raise TypeError(f"{name}: {name_of(values)}; expected {wanted}, one-dimensional uint8")
-            data = view.tobytes()
-        else:
-            data = _numbers(name, values, "B", f"{wanted}: bytes, or ints from 0 to 255").tobytes()
+    data = _octets(name, values, f"{wanted}, one-dimensional uint8", f"{wanted}: bytes, or ints from 0 to 255")
     if count is not None and len(data) != count:
         raise ValueError(f"{name}: {len(data)} octets; expected {count}")
     return data
@@ -77,7 +68,8 @@ def bits(name: str, values: Any, count: int) -> bytes:
     view = view_of(values)
     if view is not None and view.format in ("?", "b") and view.ndim == 1:
         values = view.tobytes()
-    data = octets(name, values)
+    wanted = f"{count} bits, each 0 or 1"
+    data = _octets(name, values, f"{wanted}, in a one-dimensional array of uint8, int8 or bool", wanted)
     if len(data) != count:
         raise ValueError(f"{name}: {len(data)} bits; expected {count}")
     if data.translate(None, b"\0\1"):
@@ -165,6 +157,18 @@ def _soft_row(name: str, row: Any, places: int) -> bytes:
     if len(data) != places:
         raise ValueError(f"{name}: {len(data)} soft bits; expected {places}")
     return data
+
+
+def _octets(name: str, values: Any, wanted_buffer: str, wanted_list: str) -> bytes:
+    """Octets from bytes, a buffer of unsigned octets, or a list of ints."""
+    if isinstance(values, bytes):
+        return values
+    view = view_of(values)
+    if view is None:
+        return _numbers(name, values, "B", wanted_list).tobytes()
+    if view.format != "B" or view.ndim != 1:
+        raise TypeError(f"{name}: {name_of(values)}; expected {wanted_buffer}")
+    return view.tobytes()
 
 
 def _numbers(name: str, values: Any, code: str, wanted: str) -> "array.array[int]":

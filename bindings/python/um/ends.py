@@ -17,7 +17,7 @@ _WHY = {
     "not idle": "the link was opened already",
     "not open": "the link is not open",
     "not running": "no frame awaits an answer",
-    "empty": "the message is empty",
+    "empty": "the message is empty; expected at least one octet",
     "too long": "send takes at most 251 octets; open and unit take 20, or 18 on SACCH",
     "full": "eight messages are not completely acknowledged yet",
     "no end": "the state is not valid",

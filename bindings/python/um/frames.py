@@ -5,7 +5,7 @@ import struct
 from typing import Any, NamedTuple
 
 from ._library import lib
-from ._values import choice, number, octets as octets_of
+from ._values import choice, name_of, number, octets as octets_of
 
 KINDS = ("i", "rr", "rnr", "rej", "sabm", "dm", "ui", "disc", "ua")
 REFUSALS = ("lpd", "ea", "control", "el", "length", "empty", "more")
@@ -79,6 +79,8 @@ def read_frame(octets: Any, channel: int = SDCCH) -> Frame:
 
 def write_frame(frame: Frame, channel: int = SDCCH) -> bytes:
     """Encodes a frame into its canonical block: layer 1 octets 00, fill octets 2b."""
+    if not isinstance(frame, Frame):
+        raise TypeError(f"frame: {name_of(frame)}; expected a um.Frame")
     kind, room = choice("frame.kind", frame.kind, KINDS), 18 if channel_number(channel) else 20
     limits = {"sapi": 7, "cr": 1, "pf": 1, "ns": 7, "nr": 7, "more": 1}
     fields = [number(f"frame.{name}", getattr(frame, name), 0, most) for name, most in limits.items()]

@@ -23,7 +23,8 @@ def soft_from_llr(values: Any, scale: float = 16.0, positive: int = 0) -> Any:
     rounds, and clips to -127 to 127. `positive` is the bit that a positive number represents. For numbers from -1 to 1 use a scale of
     127.
 
-    A numpy array yields an int8 array of its shape; a row yields array('b'), a list of rows a list of them. NaN raises ValueError."""
+    A numpy array yields an int8 array of its shape; a row yields array('b'), a list of rows a list of them. NaN raises ValueError;
+    bytes raise TypeError, since they may be signed or unsigned."""
     if not scale > 0:
         raise ValueError(f"scale: {scale!r}; expected a number above 0")
     factor = -scale if number("positive", positive, 0, 1) else scale
@@ -63,6 +64,8 @@ def _soft_row(name: str, row: Any, sure: int) -> "array.array[int]":
 
 
 def _scaled_row(name: str, row: Any, factor: float) -> "array.array[int]":
+    if isinstance(row, (bytes, bytearray)):
+        raise TypeError(f"{name}: {name_of(row)}; expected numbers: array.array('b', octets) reads octets as signed")
     scaled = array.array("b")
     for at, value in enumerate(row):
         if not isinstance(value, numbers.Real):

@@ -90,10 +90,12 @@ impl fmt::Display for Refused {
             Refused::NotIdle => "the link was opened already",
             Refused::NotOpen => "the link is not open",
             Refused::NotRunning => "no frame awaits an answer",
-            Refused::Empty => "the message is empty",
-            Refused::TooLong => "the message is too long: more than 251 octets, or more than N201 in one frame",
+            Refused::Empty => "the message is empty; expected at least one octet",
+            Refused::TooLong => "the message is too long; send takes at most 251 octets, open and unit 20 (18 on SACCH)",
             Refused::Full => "eight messages are not completely acknowledged yet",
-            Refused::NoCall => "this call cannot open the link of this endpoint",
+            Refused::NoCall => {
+                "the mobile opens the link of SAPI 0 with open; either end opens the link of SAPI 3 with open_bare"
+            }
             Refused::NoFrame => "the octets are not an LAPDm frame",
         })
     }

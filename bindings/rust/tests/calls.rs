@@ -164,8 +164,12 @@ fn both_links() -> Result<(), Box<dyn Error>> {
 
 #[test]
 fn errors_say_what_was_wrong() {
-    let errors: [Box<dyn Error>; 3] = [Box::new(Invalid::SoftValue), Box::new(NoFrame::Ea), Box::new(Refused::TooLong)];
-    for (error, word) in errors.iter().zip(["-128", "address", "octets"]) {
-        assert!(error.to_string().contains(word));
+    let errors: [(Box<dyn Error>, &str); 5] = [
+        (Box::new(Invalid::SoftValue), "-128"), (Box::new(NoFrame::Ea), "address"), (Box::new(Refused::Empty), "at least one octet"),
+        (Box::new(Refused::TooLong), "at most 251 octets, open and unit 20 (18 on SACCH)"),
+        (Box::new(Refused::NoCall), "the mobile opens the link of SAPI 0 with open; either end opens the link of SAPI 3 with open_bare"),
+    ];
+    for (error, words) in errors {
+        assert!(error.to_string().contains(words), "{error}");
     }
 }

@@ -1,6 +1,6 @@
 //! Decodes LAPDm frames from blocks of SDCCH and SACCH. On SACCH two layer 1 octets come first: power level and timing advance.
 //!
-//!     cargo run --bin frames
+//!     cargo run --manifest-path examples/rust/Cargo.toml --bin frames
 use um::{Body, Channel, NoFrame};
 
 /// The first octets of each block; fill octets 2b follow.

@@ -1,6 +1,6 @@
 //! Encodes blocks, adds noise and decodes them, once by maximum likelihood and once by list decoding with 64 words.
 //!
-//!     cargo run --bin noise
+//!     cargo run --manifest-path examples/rust/Cargo.toml --bin noise
 use um_examples::Air;
 
 fn run(air: &mut Air, strength: i32) -> Result<(), um::Invalid> {

@@ -4,7 +4,7 @@
 //! Time advances in slots of 235 ms, in which each endpoint sends one SDCCH block. T200 counts from the time at which a block that awaits
 //! an answer goes on the air, and exceeds the round trip with the blocks queued before it.
 //!
-//!     cargo run --bin session
+//!     cargo run --manifest-path examples/rust/Cargo.toml --bin session
 use std::{collections::VecDeque, error::Error};
 use um::{Body, Channel, Effects, End, Notice, Reason, Sapi};
 use um_examples::Air;
