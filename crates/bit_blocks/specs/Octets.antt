@@ -26,7 +26,7 @@ octet_bits octet =
 abbrev pub bits_of : List ℕ → List ℕ
 bits_of octets = flat_map octet_bits octets
 
--- packs bits into octets, eight to an octet, least significant bit first; fewer than eight bits left at the end are dropped
+-- packs bits into octets, eight to an octet, least significant bit first; leftover bits (fewer than eight) are dropped
 abbrev pub octets_of : List ℕ → List ℕ
 octets_of (a ∷ b ∷ c ∷ d ∷ e ∷ f ∷ g ∷ h ∷ rest) =
     (a + 2 * b + 4 * c + 8 * d + 16 * e + 32 * f + 64 * g + 128 * h) ∷ octets_of rest

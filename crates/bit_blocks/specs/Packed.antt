@@ -1,8 +1,8 @@
 -- Coded bits packed eight to an octet (this project's own layout).
 use Rattle.std.specs.Prelude.{ℕ, ◌≡◌, ◌<◌, ◌+◌, ◌*◌, ◌/◌, ◌%◌, ◌^◌, List, slice_index}
 
--- the position in a packed octet of each of its eight coded bits, which are numbered 0 to 7 in encoder order. They form four pairs: octet
--- bits 0 to 3 hold the first bits of the pairs, and octet bits 4 to 7 the second bits
+-- the position of a coded bit in its packed octet. The coded bits are numbered 0 to 7 in encoder order and form four pairs: octet bits 0 to
+-- 3 hold the first bits of the pairs, and octet bits 4 to 7 the second bits
 abbrev pub packed_bit_index : ℕ → ℕ
 packed_bit_index r = r / 2 + 4 * (r % 2)
 
@@ -10,8 +10,7 @@ packed_bit_index r = r / 2 + 4 * (r % 2)
 abbrev pub bit_of : ℕ → ℕ → ℕ
 bit_of number i = number / 2 ^ i % 2
 
--- the second list holds the coded bits of the first list in a given number of octets: eight per octet, at the positions that
--- `packed_bit_index` gives
+-- the second list packs the coded bits of the first into a given number of octets: eight per octet, at the positions of `packed_bit_index`
 abbrev pub AreCodedBitsPacked : ℕ → List ℕ → List ℕ → Type 0
 AreCodedBitsPacked n coded octets =
     (t r : ℕ) → t < n → r < 8 → bit_of (slice_index octets t) (packed_bit_index r) ≡ slice_index coded (8 * t + r)

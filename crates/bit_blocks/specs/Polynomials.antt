@@ -16,12 +16,12 @@ pub record IsProduct (x q g : List ℕ) : Type 0 where
   pub bits : AllBits q
   pub each_coefficient : (m : ℕ) → m < length x → slice_index x m ≡ product_coefficient q g m % 2
 
--- the first polynomial is the product of the second and some quotient
-abbrev pub HasQuotient : List ℕ → List ℕ → Type 0
-HasQuotient x g = (q : List ℕ) × IsProduct x q g
+-- the first polynomial is divisible by the second: it is the product of the second and some quotient
+abbrev pub IsDivisibleBy : List ℕ → List ℕ → Type 0
+IsDivisibleBy x g = (q : List ℕ) × IsProduct x q g
 
 -- `x` is a multiple of `g`, where `g` has the leading coefficient 1 and is no longer than `x`
 pub record IsMultiple (x g : List ℕ) : Type 0 where
   pub leading_one : slice_index g 0 ≡ 1
   pub fits : length g ≤ length x
-  pub quotient : HasQuotient x g
+  pub quotient : IsDivisibleBy x g

@@ -16,13 +16,13 @@ AllSoftBits s = All IsSoftBit s
 abbrev pub bit_metric : ℤ → ℕ → ℤ
 bit_metric soft bit = soft *ℤ (pos 1 -ℤ pos (2 * bit))
 
--- the path metric of a list of coded bits for a list of soft bits: the sum of the bit metrics (`bit_metric`) at all positions
+-- the path metric of a list of coded bits for a list of soft bits: the sum of their bit metrics (`bit_metric`)
 abbrev pub likelihood : List ℤ → List ℕ → ℤ
 likelihood [] c = pos 0
 likelihood (p ∷ s) [] = pos 0
 likelihood (p ∷ s) (x ∷ c) = bit_metric p x +ℤ likelihood s c
 
--- whether a soft bit disagrees with a bit: it is 0 or has the sign of the opposite bit
+-- whether a soft bit disagrees with a bit, that is, is 0 or has the sign of the opposite bit
 abbrev pub is_wrong_bit : ℤ → ℕ → Bool
 is_wrong_bit soft bit = int_le (bit_metric soft bit) (pos 0)
 

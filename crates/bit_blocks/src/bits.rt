@@ -11,7 +11,7 @@ pub struct Bits<const N: usize> {
     values: [u8; N],
 }
 
-// In contracts, a `Bits<N>` stands for the list of its bits.
+// In contracts, a `Bits<N>` is the list of its bits.
 impl<const N: usize> Model for Bits<N> {
     ghost Value = { List ℕ };
 
@@ -23,7 +23,7 @@ impl<const N: usize> Model for Bits<N> {
 }
 
 impl<const N: usize> Bits<N> {
-    /// `N` zeros.
+    /// Returns `N` zeros.
     pub fn zero() -> Bits<N>
         ensures value { result ≡ replicate N 0 }
         ensures count { length result ≡ N }
@@ -31,7 +31,7 @@ impl<const N: usize> Bits<N> {
         Bits { values: [0; N] }
     }
 
-    /// The bits of a slice, or `None` if its length is not `N` or an octet is neither 0 nor 1.
+    /// Converts a slice to bits. Returns `None` if its length is not `N` or an octet is neither 0 nor 1.
     pub fn from_slice(bits: &[u8]) -> Option<Bits<N>>
         ensures found { IsSome result ↔ ((length bits.now ≡ N) × AllBits bits.now) }
         ensures value { IfSome result (λ found. found ≡ bits.now) }
@@ -43,7 +43,7 @@ impl<const N: usize> Bits<N> {
         Some(Bits { values: *values })
     }
 
-    /// The bits of an array of zeros and ones.
+    /// Converts an array of zeros and ones to bits.
     pub fn from_array(bits: [u8; N]) -> Bits<N>
         requires { AllBits bits }
         ensures value { result ≡ bits.entry }
@@ -52,7 +52,7 @@ impl<const N: usize> Bits<N> {
         Bits { values: bits }
     }
 
-    /// Bit `i`, counted from 0.
+    /// Returns bit `i`, counted from 0.
     pub fn get(&self, i: usize) -> u8
         requires { i < N }
         ensures value { result ≡ slice_index self.now i }
@@ -70,7 +70,7 @@ impl<const N: usize> Bits<N> {
         self.values[i] = bit;
     }
 
-    /// The bitwise XOR of two bit lists.
+    /// Returns the bitwise XOR of two bit lists.
     pub fn xor(&self, other: &Bits<N>) -> Bits<N>
         ensures value { result ≡ xor_bits self.now other.now }
         ensures count { length result ≡ N }

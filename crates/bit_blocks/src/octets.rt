@@ -4,7 +4,7 @@ ghost use Rattle.std.specs.Prelude.{◌≡◌, ℕ, ◌*◌, List, [], ◌∷◌
 ghost use Rattle.bit_blocks.specs.Bits.{AllBits};
 ghost use Rattle.bit_blocks.specs.Octets.{AllOctets, octet_bits, bits_of, octets_of};
 
-/// Writes the bits of `octets` to `out`, least significant bit of each octet first.
+/// Writes the bits of `octets` to `out`, the least significant bit of each octet first.
 pub fn from_octets(octets: &[u8], out: &mut [u8])
     requires { length out.old ≡ 8 * length octets.now }
     ensures value { out.new ≡ bits_of octets.now }
@@ -20,7 +20,7 @@ pub fn to_octets(bits: &[u8], out: &mut [u8])
     requires count { length bits.now ≡ 8 * length out.old }
     requires bits { AllBits bits.now }
     ensures value { out.new ≡ octets_of bits.now }
-    ensures undone { bits_of out.new ≡ bits.now }
+    ensures round_trip { bits_of out.new ≡ bits.now }
 {
     for m in 0..out.len() {
         out[m] = octet_of_bits(&bits[8 * m..8 * m + 8]);
@@ -37,7 +37,8 @@ pub fn law_octet_bits_round_trip()
 fn bits_of_octet(octet: u8) -> [u8; 8]
     ensures { result ≡ octet_bits octet }
 {
-    // Octet `i` of `kept` holds only bit `i` of `octet`. Adding 127 to each octet of `kept` sets its highest bit exactly if that bit is 1.
+    // Octet `i` of `kept` holds only bit `i` of `octet`. Adding 127 to each octet of `kept` sets its highest bit if and only if that bit is
+    // 1.
     let kept = u64::from(octet).wrapping_mul(0x0101_0101_0101_0101) & 0x8040_2010_0804_0201;
     ((kept.wrapping_add(0x7f7f_7f7f_7f7f_7f7f) >> 7) & 0x0101_0101_0101_0101).to_le_bytes()
 }

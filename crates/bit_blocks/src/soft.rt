@@ -5,7 +5,7 @@ ghost use Rattle.bit_blocks.specs.SoftValues.{is_wrong_bit, count_wrong_bits};
 
 use crate::CODED_BITS;
 
-/// The number of soft bits that disagree with the bit at the same position: they are 0 or have the sign of the opposite bit.
+/// Returns the number of soft bits that disagree with the bit at the same position, that is, are 0 or have the sign of the opposite bit.
 pub fn count_wrong_bits(soft: &[i8], bits: &[u8]) -> u32
     requires count { length soft.now ≡ length bits.now }
     requires size { length soft.now ≤ CODED_BITS }
@@ -15,12 +15,13 @@ pub fn count_wrong_bits(soft: &[i8], bits: &[u8]) -> u32
 {
     let (first, second) = soft.split_at(soft.len() / 2);
     let (first_bits, second_bits) = bits.split_at(soft.len() / 2);
-    u32::from(count_wrong_bits_in_half(first, first_bits))
-        + u32::from(count_wrong_bits_in_half(second, second_bits))
+    u32::from(count_wrong_bits_u8(first, first_bits))
+        + u32::from(count_wrong_bits_u8(second, second_bits))
 }
 
-// Counts the wrong soft bits in a list of at most 255. A `u8` counter lets the compiler vectorize the loop, sixteen elements at a time.
-fn count_wrong_bits_in_half(soft: &[i8], bits: &[u8]) -> u8
+// Counts the wrong soft bits in a list of at most 255 soft bits. A `u8` counter lets the compiler vectorize the loop, sixteen elements at a
+// time.
+fn count_wrong_bits_u8(soft: &[i8], bits: &[u8]) -> u8
     requires count { length soft.now ≡ length bits.now }
     requires size { length soft.now ≤ 255 }
     requires bits { AllBits bits.now }
@@ -41,8 +42,8 @@ fn is_wrong_bit(value: i8, bit: u8) -> bool
     requires { bit ≤ 1 }
     ensures { result ≡ is_wrong_bit value bit }
 {
-    // `turned` is `value` if the bit is 0, and `-1 - value` if it is 1. The code has no branches, so that sixteen soft bits need few
-    // instructions.
+    // `turned` is `value` if the bit is 0, and `-1 - value` if it is 1. Without branches, the compiler can process sixteen soft bits with
+    // few instructions.
     let turned = value ^ -bit.cast_signed();
     turned < 1 - bit.cast_signed()
 }

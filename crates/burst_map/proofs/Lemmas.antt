@@ -1,2 +1,120 @@
--- Lemmas that other crates cite.
-pub use Rattle.burst_map.proofs.WrittenHalves.{both_written}
+-- The parts of a burst.
+use Rattle.burst_map.specs.{NormalBurst.normal_burst, Parts.with_part_replaced, Tails.tail_bits}
+use Rattle.std.proofs.Common.{List, [], ap, arith, drop, length, refl, replicate, sym, take, ℕ, ◌++◌, ◌+◌, ◌-◌, ◌∙◌}
+use Rattle.std.proofs.{Common.{◌∷◌, ◌≡◌, ◌≤◌}, Math.Seq.take-add, lemmas.List.Elements.{All-append, All-replicate}}
+use Rattle.std.proofs.lemmas.List.{Elements.All-same, append_assoc, drop-drop, drop-replicate, drop_at, length-append, take_at}
+use Rattle.std.specs.Prelude.{slice_range}
+use Rattle.training_seq.{proofs.Lemmas.length-midamble, specs.{Sequences.midamble, bit_blocks.Bits.{AllBits, IsBit}}}
+
+-- ## Parts: A list as the concatenation of its slices.
+
+pub take-slice_range : {X : Type 0} → (xs : List X) (i j : ℕ) → i ≤ j → take i xs ++ slice_range xs i j ≡ take j xs
+take-slice_range xs i j h =
+    let e : i + (j - i) ≡ j = omega arith in
+    sym (take-add i (j - i) xs) ∙ ap (λ n. take n xs) e
+
+-- ## Filling: A burst of zeros is filled from the front to the end.
+
+-- the burst begins with the bits `front`, which are `at` bits, and `rest` zeros follow
+pub record IsFilled (burst front : List ℕ) (at rest : ℕ) : Type 0 where
+  pub content : burst ≡ front ++ replicate rest 0
+  pub right_length : length front ≡ at
+  pub bits : AllBits front
+
+pub filled_more : {old front : List ℕ} {at rest : ℕ} (new bits : List ℕ) (next left : ℕ) → IsFilled old front at rest →
+    AllBits bits → next ≡ at + length bits → rest ≡ length bits + left →
+    new ≡ take at old ++ bits ++ drop (at + length bits) old →
+    IsFilled new (front ++ bits) next left
+filled_more {old} {front} {at} {rest} new bits next left filled are_bits follows fits written =
+    let zeros : List ℕ = replicate rest 0 in
+    let before : take at old ≡ front = ap (take at) filled.content ∙ take_at front zeros at filled.right_length in
+    let less : rest - length bits ≡ left = omega arith in
+    let after : drop (at + length bits) old ≡ replicate left 0 =
+    sym (drop-drop (length bits) at old)
+    ∙ ap (drop (length bits)) (ap (drop at) filled.content ∙ drop_at front zeros at filled.right_length)
+    ∙ drop-replicate (length bits) rest 0
+    ∙ ap (λ n. replicate n 0) less in
+    record {
+      content = cc;
+      right_length = let l = filled.right_length in omega (arith, length-append front bits);
+      bits = All-append IsBit front bits filled.bits are_bits;
+    }
+
+pub AllBits-filled : {burst front : List ℕ} {at rest : ℕ} → IsFilled burst front at rest → AllBits burst
+AllBits-filled {burst} {front} {at} {rest} filled =
+    let zeros = All-replicate IsBit rest 0 (omega arith) in
+    All-same IsBit burst (front ++ replicate rest 0) filled.content
+    (All-append IsBit front (replicate rest 0) filled.bits zeros)
+
+-- ## WrittenHalves: Writing both halves of a normal burst, in either order, gives the burst of these halves.
+
+-- replacing the middle of three parts
+with_part_replaced-middle : (places front old back part : List ℕ) (from to : ℕ) → places ≡ front ++ (old ++ back) →
+    length front ≡ from → length (front ++ old) ≡ to → with_part_replaced places from to part ≡ front ++ (part ++ back)
+with_part_replaced-middle places front old back part from to is f t =
+    let before : take from places ≡ front = ap (take from) is ∙ take_at front (old ++ back) from f in
+    let after : drop to places ≡ back =
+    ap (drop to) (is ∙ sym (append_assoc front old back)) ∙ drop_at (front ++ old) back to t in
+    ap (λ xs. xs ++ (part ++ drop to places)) before ∙ ap (λ xs. front ++ (part ++ xs)) after
+
+-- the bits after the first half, and those before the second
+abbrev after_first : List ℕ → ℕ → List ℕ
+after_first second tsc = 1 ∷ [] ++ midamble tsc ++ 1 ∷ [] ++ second ++ tail_bits
+
+abbrev before_second : List ℕ → ℕ → List ℕ
+before_second first tsc = tail_bits ++ first ++ 1 ∷ [] ++ midamble tsc ++ 1 ∷ []
+
+around_first : (first second : List ℕ) (tsc : ℕ) → normal_burst first second tsc ≡ tail_bits ++ (first ++ after_first second tsc)
+around_first first second tsc = simp append_assoc
+
+around_second : (first second : List ℕ) (tsc : ℕ) → normal_burst first second tsc ≡ before_second first tsc ++ (second ++ tail_bits)
+around_second first second tsc = simp append_assoc
+
+length-before_second : (first : List ℕ) (tsc : ℕ) → length first ≡ 57 → tsc ≤ 7 → length (before_second first tsc) ≡ 88
+length-before_second first tsc f known =
+    let sequence = length-midamble tsc known in
+    simp length-append (omega arith)
+
+write_first : (old first second : List ℕ) (tsc : ℕ) → length old ≡ 57 →
+    with_part_replaced (normal_burst old second tsc) 3 60 first ≡ normal_burst first second tsc
+write_first old first second tsc o =
+    with_part_replaced-middle (normal_burst old second tsc) tail_bits old (after_first second tsc) first 3 60
+    (around_first old second tsc) refl
+    (omega (arith, length-append tail_bits old))
+    ∙ sym (around_first first second tsc)
+
+write_second : (first old second : List ℕ) (tsc : ℕ) → length first ≡ 57 → length old ≡ 57 → tsc ≤ 7 →
+    with_part_replaced (normal_burst first old tsc) 88 145 second ≡ normal_burst first second tsc
+write_second first old second tsc f o known =
+    let long = length-before_second first tsc f known in
+    with_part_replaced-middle (normal_burst first old tsc) (before_second first tsc) old tail_bits second 88 145
+    (around_second first old tsc) long
+    (omega (arith, length-append (before_second first tsc) old))
+    ∙ sym (around_second first second tsc)
+
+pub write_first-second : (first second : List ℕ) (tsc : ℕ) → length first ≡ 57 → length second ≡ 57 → tsc ≤ 7 →
+    with_part_replaced (with_part_replaced (normal_burst (replicate 57 0) (replicate 57 0) tsc) 3 60 first) 88 145 second
+    ≡ normal_burst first second tsc
+write_first-second first second tsc f s known =
+    let zeros : List ℕ = replicate 57 0 in
+    ap (λ burst. with_part_replaced burst 88 145 second) (write_first zeros first zeros tsc refl)
+    ∙ write_second first zeros second tsc f refl known
+
+pub write_second-first : (first second : List ℕ) (tsc : ℕ) → length first ≡ 57 → length second ≡ 57 → tsc ≤ 7 →
+    with_part_replaced (with_part_replaced (normal_burst (replicate 57 0) (replicate 57 0) tsc) 88 145 second) 3 60 first
+    ≡ normal_burst first second tsc
+write_second-first first second tsc f s known =
+    let zeros : List ℕ = replicate 57 0 in
+    ap (λ burst. with_part_replaced burst 3 60 first) (write_second zeros zeros second tsc refl refl known)
+    ∙ write_first zeros first second tsc refl
+
+-- the burst after both halves are written
+pub both_written : (left burst half other first second : List ℕ) (tsc : ℕ) → length first ≡ 57 → length second ≡ 57 →
+    tsc ≤ 7 → burst ≡ normal_burst (replicate 57 0) (replicate 57 0) tsc → half ≡ first → other ≡ second →
+    left ≡ with_part_replaced (with_part_replaced burst 3 60 half) 88 145 other → left ≡ normal_burst first second tsc
+both_written left burst half other first second tsc f s known zeros h o is =
+    is
+    ∙ ap (λ places. with_part_replaced (with_part_replaced places 3 60 half) 88 145 other) zeros
+    ∙ ap (λ bits. with_part_replaced (with_part_replaced (normal_burst (replicate 57 0) (replicate 57 0) tsc) 3 60 bits) 88 145 other) h
+    ∙ ap (with_part_replaced (with_part_replaced (normal_burst (replicate 57 0) (replicate 57 0) tsc) 3 60 first) 88 145) o
+    ∙ write_first-second first second tsc f s known

@@ -1,4 +1,4 @@
--- A normal burst whose halves are written in place (GSM 05.02 section 5.2.3).
+-- A normal burst whose two halves are borrowed mutably (GSM 05.02 section 5.2.3).
 use Rattle.std.specs.Prelude.{ℕ, List, []}
 use Rattle.std.specs.Borrow.{Lends, MutBor, Fml, GName, Array, u8}
 use mir.Syntax.{named}
@@ -6,7 +6,7 @@ use Rattle.burst_map.specs.declared.normal_parts.NormalParts.{NormalParts}
 use Rattle.burst_map.specs.contracts.normal_parts.NormalParts.{the_row}
 use Rattle.burst_map.specs.Parts.{with_part_replaced}
 
--- the current bits of the burst to which a `NormalParts` refers
+-- the current bits of the burst that a `NormalParts` borrows
 abbrev pub burst_of_parts : NormalParts → List ℕ
 burst_of_parts parts = parts.burst.now
 

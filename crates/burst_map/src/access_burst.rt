@@ -1,4 +1,4 @@
-//! The access burst of 88 bits with which a mobile requests a channel (RACH). Its training sequence precedes the coded bits.
+//! The access burst of 88 bits (RACH), the mobile's request for a channel. Its training sequence precedes the coded bits.
 ghost use Rattle.std.specs.Prelude.{◌≡◌, ◌++◌, length};
 ghost use Rattle.training_seq.specs.bit_blocks.Bits.{AllBits};
 ghost use Rattle.burst_map.specs.AccessBurst.{access_burst, access_sequence};
@@ -8,7 +8,7 @@ ghost use Rattle.burst_map.specs.Parts.{IsSliceAtOffset};
 use crate::place::place;
 use std::marker::Model;
 
-// The eight extended tail bits, with which the burst begins.
+// The eight extended tail bits at the start of the burst.
 const EXTENDED_TAIL_BITS: [u8; 8] = [0, 0, 1, 1, 1, 0, 1, 0];
 
 static ACCESS_TRAINING: [u8; 41] = [
@@ -38,13 +38,13 @@ pub fn access(body: &[u8]) -> [u8; 88]
     burst
 }
 
-/// Gives access to the parts of a received access burst.
+/// Provides access to the parts of a received access burst.
 #[derive(Debug, Drop)]
 pub struct AccessView<'a> {
     burst: &'a [i8; 88],
 }
 
-// In contracts, an `AccessView` stands for the burst that it borrows.
+// In contracts, an `AccessView` is the burst that it borrows.
 impl<'a> Model for AccessView<'a> {
     ghost use Rattle.std.specs.Prelude.{◌≡◌, List, ℤ, length};
     ghost use Rattle.std.specs.Borrow.{Bor};
@@ -59,7 +59,7 @@ impl<'a> Model for AccessView<'a> {
 impl<'a> AccessView<'a> {
     pub fn new(burst: &'a [i8; 88]) -> AccessView<'a>
         ensures value { result.now ≡ burst.now }
-        ensures lent { result.ref_ptr ≡ burst.entry.ref_ptr }
+        ensures borrowed { result.ref_ptr ≡ burst.entry.ref_ptr }
         ensures whole { burst.now ≡ parts.head burst.now ++ parts.training burst.now ++ parts.body burst.now ++ parts.tail burst.now }
     {
         AccessView { burst }
@@ -69,7 +69,7 @@ impl<'a> AccessView<'a> {
     pub fn head(&self) -> &'a [i8]
         ensures value { result.now ≡ parts.head self.now.now }
         ensures count { length result.now ≡ 8 }
-        ensures lent { IsSliceAtOffset 0 self.now result }
+        ensures borrowed { IsSliceAtOffset 0 self.now result }
     {
         let burst = self.burst;
         &burst[..8]
@@ -79,7 +79,7 @@ impl<'a> AccessView<'a> {
     pub fn training(&self) -> &'a [i8]
         ensures value { result.now ≡ parts.training self.now.now }
         ensures count { length result.now ≡ 41 }
-        ensures lent { IsSliceAtOffset 8 self.now result }
+        ensures borrowed { IsSliceAtOffset 8 self.now result }
     {
         let burst = self.burst;
         &burst[8..49]
@@ -89,7 +89,7 @@ impl<'a> AccessView<'a> {
     pub fn body(&self) -> &'a [i8]
         ensures value { result.now ≡ parts.body self.now.now }
         ensures count { length result.now ≡ 36 }
-        ensures lent { IsSliceAtOffset 49 self.now result }
+        ensures borrowed { IsSliceAtOffset 49 self.now result }
     {
         let burst = self.burst;
         &burst[49..85]
@@ -99,7 +99,7 @@ impl<'a> AccessView<'a> {
     pub fn tail(&self) -> &'a [i8]
         ensures value { result.now ≡ parts.tail self.now.now }
         ensures count { length result.now ≡ 3 }
-        ensures lent { IsSliceAtOffset 85 self.now result }
+        ensures borrowed { IsSliceAtOffset 85 self.now result }
     {
         let burst = self.burst;
         &burst[85..88]

@@ -3,7 +3,7 @@ ghost use Rattle.std.specs.Prelude.{◌≡◌, ◌≤◌, ℕ, List, length, rep
 ghost use Rattle.burst_map.specs.NormalBurst.{normal_burst};
 ghost use Rattle.burst_map.specs.Parts.{with_part_replaced};
 
-/// Law: writing two halves into an all-zero normal burst, in either order, gives the normal burst made of those halves.
+/// Law: writing two halves, in either order, into a normal burst whose coded bits are 0 produces the normal burst with those halves.
 pub fn law_fill_halves_any_order()
     ensures first_half_first { (first second : List ℕ) (tsc : ℕ) → length first ≡ 57 → length second ≡ 57 → tsc ≤ 7 →
         with_part_replaced (with_part_replaced (normal_burst (replicate 57 0) (replicate 57 0) tsc) 3 60 first) 88 145 second

@@ -1,9 +1,9 @@
-//! Lends out a mutable slice of a burst.
+//! Borrows a slice of a burst mutably.
 ghost use Rattle.std.specs.Prelude.{◌≡◌, ◌≤◌, ◌-◌, length, slice_range};
 ghost use Rattle.std.specs.Borrow.{sem, Lends, Array, u8};
 ghost use Rattle.burst_map.specs.Parts.{with_part_replaced};
 
-// Lends `places[from..to]` for writing; the other bits are unchanged.
+// Borrows `places[from..to]` mutably. The other bits stay unchanged.
 pub fn part_mut<const N: usize>(places: &mut [u8; N], from: usize, to: usize) -> &mut [u8]
     requires order { from ≤ to }
     requires within { to ≤ N }

@@ -10,7 +10,7 @@ use crate::place::place;
 use std::marker::Model;
 use training_seq::sequence;
 
-/// Builds the normal burst from two halves of 57 coded bits and a training sequence code, 0 to 7; both stealing flags are 1.
+/// Builds the normal burst from two halves of 57 coded bits and a training sequence code, which must be 0 to 7. Both stealing flags are 1.
 pub fn normal(first: &[u8], second: &[u8], tsc: u8) -> [u8; BURST_BITS]
     requires first { length first.now ≡ 57 }
     requires first_bits { AllBits first.now }
@@ -29,13 +29,13 @@ pub fn normal(first: &[u8], second: &[u8], tsc: u8) -> [u8; BURST_BITS]
     burst
 }
 
-/// Gives access to the parts of a received normal burst.
+/// Provides access to the parts of a received normal burst.
 #[derive(Debug, Drop)]
 pub struct NormalView<'a> {
     burst: &'a [i8; BURST_BITS],
 }
 
-// In contracts, a `NormalView` stands for the burst that it borrows.
+// In contracts, a `NormalView` is the burst that it borrows.
 impl<'a> Model for NormalView<'a> {
     ghost use Rattle.std.specs.Prelude.{◌≡◌, List, ℤ, length};
     ghost use Rattle.std.specs.Borrow.{Bor};
@@ -51,7 +51,7 @@ impl<'a> Model for NormalView<'a> {
 impl<'a> NormalView<'a> {
     pub fn new(burst: &'a [i8; BURST_BITS]) -> NormalView<'a>
         ensures value { result.now ≡ burst.now }
-        ensures lent { result.ref_ptr ≡ burst.entry.ref_ptr }
+        ensures borrowed { result.ref_ptr ≡ burst.entry.ref_ptr }
         ensures whole { burst.now ≡
             parts.head burst.now ++ parts.first_coded_half burst.now ++ parts.stealing_flag_before_training burst.now
             ++ parts.training burst.now
@@ -64,7 +64,7 @@ impl<'a> NormalView<'a> {
     pub fn head(&self) -> &'a [i8]
         ensures value { result.now ≡ parts.head self.now.now }
         ensures count { length result.now ≡ 3 }
-        ensures lent { IsSliceAtOffset 0 self.now result }
+        ensures borrowed { IsSliceAtOffset 0 self.now result }
     {
         let burst = self.burst;
         &burst[..3]
@@ -74,7 +74,7 @@ impl<'a> NormalView<'a> {
     pub fn first(&self) -> &'a [i8]
         ensures value { result.now ≡ parts.first_coded_half self.now.now }
         ensures count { length result.now ≡ 57 }
-        ensures lent { IsSliceAtOffset 3 self.now result }
+        ensures borrowed { IsSliceAtOffset 3 self.now result }
     {
         let burst = self.burst;
         &burst[3..60]
@@ -84,7 +84,7 @@ impl<'a> NormalView<'a> {
     pub fn lower(&self) -> &'a [i8]
         ensures value { result.now ≡ parts.stealing_flag_before_training self.now.now }
         ensures count { length result.now ≡ 1 }
-        ensures lent { IsSliceAtOffset 60 self.now result }
+        ensures borrowed { IsSliceAtOffset 60 self.now result }
     {
         let burst = self.burst;
         &burst[60..61]
@@ -94,7 +94,7 @@ impl<'a> NormalView<'a> {
     pub fn training(&self) -> &'a [i8]
         ensures value { result.now ≡ parts.training self.now.now }
         ensures count { length result.now ≡ 26 }
-        ensures lent { IsSliceAtOffset 61 self.now result }
+        ensures borrowed { IsSliceAtOffset 61 self.now result }
     {
         let burst = self.burst;
         &burst[61..87]
@@ -104,7 +104,7 @@ impl<'a> NormalView<'a> {
     pub fn upper(&self) -> &'a [i8]
         ensures value { result.now ≡ parts.stealing_flag_after_training self.now.now }
         ensures count { length result.now ≡ 1 }
-        ensures lent { IsSliceAtOffset 87 self.now result }
+        ensures borrowed { IsSliceAtOffset 87 self.now result }
     {
         let burst = self.burst;
         &burst[87..88]
@@ -114,7 +114,7 @@ impl<'a> NormalView<'a> {
     pub fn second(&self) -> &'a [i8]
         ensures value { result.now ≡ parts.second_coded_half self.now.now }
         ensures count { length result.now ≡ 57 }
-        ensures lent { IsSliceAtOffset 88 self.now result }
+        ensures borrowed { IsSliceAtOffset 88 self.now result }
     {
         let burst = self.burst;
         &burst[88..145]
@@ -124,7 +124,7 @@ impl<'a> NormalView<'a> {
     pub fn tail(&self) -> &'a [i8]
         ensures value { result.now ≡ parts.tail self.now.now }
         ensures count { length result.now ≡ 3 }
-        ensures lent { IsSliceAtOffset 145 self.now result }
+        ensures borrowed { IsSliceAtOffset 145 self.now result }
     {
         let burst = self.burst;
         &burst[145..BURST_BITS]

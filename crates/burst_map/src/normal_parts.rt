@@ -1,4 +1,4 @@
-//! Writes the two halves of a normal burst directly into an array of the caller.
+//! Writes the two halves of a normal burst directly into the caller's array.
 ghost use Rattle.std.specs.Prelude.{◌≡◌, ◌≤◌, length, replicate, slice_range};
 ghost use Rattle.std.specs.Borrow.{sem};
 ghost use Rattle.burst_map.specs.NormalBurst.{normal_burst};
@@ -8,7 +8,7 @@ use crate::BURST_BITS;
 use crate::lending::part_mut;
 use crate::normal_burst::normal;
 
-/// A normal burst whose halves are written in place.
+/// Borrows a normal burst, so that the caller can write its two halves of 57 coded bits.
 #[derive(Debug, Drop)]
 pub struct NormalParts<'a> {
     burst: &'a mut [u8; BURST_BITS],
@@ -25,7 +25,7 @@ impl<'a> NormalParts<'a> {
         NormalParts { burst }
     }
 
-    /// The 57 coded bits before the training sequence, for writing.
+    /// Borrows the 57 coded bits before the training sequence mutably.
     pub fn first_mut(&mut self) -> &mut [u8]
         ensures* writes_back { sem 𝓛 (LendsPartOfBurst self.entry 3 60 result) }
         ensures value { result.now ≡ slice_range (burst_of_parts self.old) 3 60 }
@@ -34,7 +34,7 @@ impl<'a> NormalParts<'a> {
         part_mut(self.burst, 3, 60)
     }
 
-    /// The 57 coded bits after the training sequence, for writing.
+    /// Borrows the 57 coded bits after the training sequence mutably.
     pub fn second_mut(&mut self) -> &mut [u8]
         ensures* writes_back { sem 𝓛 (LendsPartOfBurst self.entry 88 145 result) }
         ensures value { result.now ≡ slice_range (burst_of_parts self.old) 88 145 }

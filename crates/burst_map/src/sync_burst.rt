@@ -38,13 +38,13 @@ pub fn sync(first: &[u8], second: &[u8]) -> [u8; BURST_BITS]
     burst
 }
 
-/// Gives access to the parts of a received synchronisation burst.
+/// Provides access to the parts of a received synchronisation burst.
 #[derive(Debug, Drop)]
 pub struct SyncView<'a> {
     burst: &'a [i8; BURST_BITS],
 }
 
-// In contracts, a `SyncView` stands for the burst that it borrows.
+// In contracts, a `SyncView` is the burst that it borrows.
 impl<'a> Model for SyncView<'a> {
     ghost use Rattle.std.specs.Prelude.{◌≡◌, List, ℤ, length};
     ghost use Rattle.std.specs.Borrow.{Bor};
@@ -60,7 +60,7 @@ impl<'a> Model for SyncView<'a> {
 impl<'a> SyncView<'a> {
     pub fn new(burst: &'a [i8; BURST_BITS]) -> SyncView<'a>
         ensures value { result.now ≡ burst.now }
-        ensures lent { result.ref_ptr ≡ burst.entry.ref_ptr }
+        ensures borrowed { result.ref_ptr ≡ burst.entry.ref_ptr }
         ensures whole { burst.now ≡
             parts.head burst.now ++ parts.first_coded_half burst.now ++ parts.training burst.now
             ++ parts.second_coded_half burst.now ++ parts.tail burst.now }
@@ -72,7 +72,7 @@ impl<'a> SyncView<'a> {
     pub fn head(&self) -> &'a [i8]
         ensures value { result.now ≡ parts.head self.now.now }
         ensures count { length result.now ≡ 3 }
-        ensures lent { IsSliceAtOffset 0 self.now result }
+        ensures borrowed { IsSliceAtOffset 0 self.now result }
     {
         let burst = self.burst;
         &burst[..3]
@@ -82,7 +82,7 @@ impl<'a> SyncView<'a> {
     pub fn first(&self) -> &'a [i8]
         ensures value { result.now ≡ parts.first_coded_half self.now.now }
         ensures count { length result.now ≡ 39 }
-        ensures lent { IsSliceAtOffset 3 self.now result }
+        ensures borrowed { IsSliceAtOffset 3 self.now result }
     {
         let burst = self.burst;
         &burst[3..42]
@@ -92,7 +92,7 @@ impl<'a> SyncView<'a> {
     pub fn training(&self) -> &'a [i8]
         ensures value { result.now ≡ parts.training self.now.now }
         ensures count { length result.now ≡ 64 }
-        ensures lent { IsSliceAtOffset 42 self.now result }
+        ensures borrowed { IsSliceAtOffset 42 self.now result }
     {
         let burst = self.burst;
         &burst[42..106]
@@ -102,7 +102,7 @@ impl<'a> SyncView<'a> {
     pub fn second(&self) -> &'a [i8]
         ensures value { result.now ≡ parts.second_coded_half self.now.now }
         ensures count { length result.now ≡ 39 }
-        ensures lent { IsSliceAtOffset 106 self.now result }
+        ensures borrowed { IsSliceAtOffset 106 self.now result }
     {
         let burst = self.burst;
         &burst[106..145]
@@ -112,7 +112,7 @@ impl<'a> SyncView<'a> {
     pub fn tail(&self) -> &'a [i8]
         ensures value { result.now ≡ parts.tail self.now.now }
         ensures count { length result.now ≡ 3 }
-        ensures lent { IsSliceAtOffset 145 self.now result }
+        ensures borrowed { IsSliceAtOffset 145 self.now result }
     {
         let burst = self.burst;
         &burst[145..BURST_BITS]

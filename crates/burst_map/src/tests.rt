@@ -6,7 +6,7 @@ use super::{BURST_BITS, NormalParts, access, normal, sync};
 use std::alloc::{AllocError, Global};
 use std::process::Abort;
 
-// The bits of a text of digits 0 and 1; blanks are skipped.
+// Converts a string of the digits 0 and 1 to bits. Spaces are skipped.
 fn bits(alloc: Global, digits: &str) -> Result<Vec<u8>, AllocError> {
     digits
         .bytes()
@@ -24,8 +24,8 @@ fn assert_bits(rt: &impl Abort, bits: &[u8], count: usize)
     assert!(rt; are_bits);
 }
 
-// Builds the same burst as `normal`, but writes its two halves in place.
-fn filled(first: &[u8], second: &[u8], tsc: u8) -> [u8; BURST_BITS]
+// Builds the burst of `normal` with `NormalParts`.
+fn normal_from_parts(first: &[u8], second: &[u8], tsc: u8) -> [u8; BURST_BITS]
     requires first { length first.now ≡ 57 }
     requires second { length second.now ≡ 57 }
     requires known { tsc ≤ 7 }
@@ -59,7 +59,10 @@ fn builds_a_normal_burst(rt: HostRuntime) -> Result<(), AllocError> {
     assert_bits(&rt, first, 57);
     assert_bits(&rt, second, 57);
     assert_eq!(rt; normal(first, second, 0).as_slice(), expected.as_slice());
-    assert_eq!(rt; filled(first, second, 0).as_slice(), expected.as_slice());
+    assert_eq!(rt;
+        normal_from_parts(first, second, 0).as_slice(),
+        expected.as_slice()
+    );
     Ok(())
 }
 

@@ -24,7 +24,7 @@ coded_pair u k = g0_bit u k ∷ g1_bit u k ∷ []
 abbrev pub encoding : List ℕ → List ℕ
 encoding u = flat_map (coded_pair u) (range_with_len 0 (length u))
 
--- `u` is an information list, that is, a valid input of the encoder: at least five bits, of which the last four (the tail) are 0
+-- `u` is an information list, that is, a valid input of the encoder: at least five bits, the last four of them (the tail) 0
 pub record IsEncoderInput (u : List ℕ) : Type 0 where
   pub count : 5 ≤ length u
   pub bits : AllBits u

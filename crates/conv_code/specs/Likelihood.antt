@@ -6,8 +6,8 @@ pub use Rattle.bit_blocks.specs.SoftValues.{AllSoftBits, bit_metric, likelihood}
 -- `u` precedes `v` in lexicographic order: at the first index where they differ, `u` has 0
 pub record IsLexicographicallyBefore (u v : List ℕ) : Type 0 where
   pub place : ℕ
-  pub within : place < length u
-  pub same : (j : ℕ) → j < place → slice_index u j ≡ slice_index v j
+  pub in_range : place < length u
+  pub equal_before : (j : ℕ) → j < place → slice_index u j ≡ slice_index v j
   pub zero : slice_index u place ≡ 0
   pub differs : slice_index v place ≢ 0
 
@@ -18,8 +18,8 @@ RanksAfter s v u =
     (likelihood s (encoding v) <ℤ likelihood s (encoding u)) ⊎
     ((likelihood s (encoding v) ≡ likelihood s (encoding u)) × IsLexicographicallyBefore u v)
 
--- `u` is the most likely information list for the soft bits `s`: it has the greatest path metric of all information lists of its length
--- and, of those with equal metrics, comes first in lexicographic order
+-- `u` is the most likely information list for the soft bits `s`: it has the greatest path metric of all information lists of its length;
+-- among lists with equal metrics, it comes first in lexicographic order
 pub record IsMostLikely (s : List ℤ) (u : List ℕ) : Type 0 where
   pub information : IsEncoderInput u
   pub count : length s ≡ 2 * length u

@@ -13,7 +13,7 @@ pub use packed::encode_packed;
 
 /// Writes the coded bits of the information list `u` to `out`: two for each information bit.
 ///
-/// The last four bits of `u` are the zero tail bits, which return the encoder to state 0.
+/// The last four bits of `u` must be the zero tail bits, which return the encoder to state 0.
 pub fn encode(u: &[u8], out: &mut [u8])
     requires information { IsEncoderInput u.now }
     requires count { length out.old ≡ 2 * length u.now }
@@ -45,7 +45,7 @@ fn delayed_bit(u: &[u8], k: usize, delay: usize) -> u8
     if k < delay { 0 } else { u[k - delay] }
 }
 
-/// Writes the pairs of coded bits from the fifth on. No pair depends on another, so the compiler can compute sixteen at a time.
+/// Writes the pairs of coded bits, starting with the fifth. No pair depends on another, so the compiler can compute sixteen at a time.
 fn encode_from_fifth_bit(u: &[u8], out: &mut [u8])
     requires information { IsEncoderInput u.now }
     requires count { length out.old ≡ 2 * length u.now }

@@ -3,7 +3,7 @@ ghost use Rattle.std.specs.Prelude.{◌≡◌, ℕ, ◌+◌, ◌*◌, ◌%◌, �
 ghost use Rattle.bit_blocks.specs.Octets.{bits_of};
 ghost use Rattle.bit_blocks.specs.Packed.{AreCodedBitsPacked, bit_of};
 ghost use Rattle.conv_code.specs.Code.{encoding};
-ghost use Rattle.conv_code.specs.Windows.{HoldsFourCodedPairs};
+ghost use Rattle.conv_code.specs.CodedPairs.{HoldsFourCodedPairs};
 
 /// Encodes 256 information bits, which `octets` holds least significant bit first. Each octet of the result holds four pairs of coded bits:
 /// the first bits of the pairs in bits 0 to 3, and the second bits in bits 4 to 7.
@@ -22,7 +22,7 @@ fn encode_four_bits_per_octet(shifted: &[u8; 33]) -> [u8; 64]
 {
     let mut packed = [0; 64];
     for m in 0..32 {
-        packed[2 * m] = encode_upper_four_bits(mid_octet(shifted[m], shifted[m + 1]));
+        packed[2 * m] = encode_upper_four_bits(straddling_octet(shifted[m], shifted[m + 1]));
         packed[2 * m + 1] = encode_upper_four_bits(shifted[m + 1]);
     }
     packed
@@ -30,7 +30,7 @@ fn encode_four_bits_per_octet(shifted: &[u8; 33]) -> [u8; 64]
 
 /// An octet that consists of the last four bits of `before` and the first four bits of `here`; bit 0 of an octet is its first bit.
 #[inline]
-fn mid_octet(before: u8, here: u8) -> u8
+fn straddling_octet(before: u8, here: u8) -> u8
     ensures low { (i : ℕ) → i < 4 → bit_of result i ≡ bit_of before (i + 4) }
     ensures high { (i : ℕ) → i < 4 → bit_of result (i + 4) ≡ bit_of here i }
 {
@@ -40,14 +40,15 @@ fn mid_octet(before: u8, here: u8) -> u8
 /// Encodes the upper four of eight information bits. The result holds the first bits of the four coded pairs in bits 0 to 3, and the second
 /// bits in bits 4 to 7.
 #[inline]
-fn encode_upper_four_bits(mid_octet: u8) -> u8
+fn encode_upper_four_bits(straddling_octet: u8) -> u8
     ensures first { (i : ℕ) → i < 4 →
-        bit_of result i ≡ (bit_of mid_octet (i + 4) + bit_of mid_octet (i + 1) + bit_of mid_octet i) % 2 }
+        bit_of result i ≡ (bit_of straddling_octet (i + 4) + bit_of straddling_octet (i + 1) + bit_of straddling_octet i) % 2 }
     ensures second { (i : ℕ) → i < 4 →
         bit_of result (i + 4) ≡
-        (bit_of mid_octet (i + 4) + bit_of mid_octet (i + 3) + bit_of mid_octet (i + 1) + bit_of mid_octet i) % 2 }
+        (bit_of straddling_octet (i + 4) + bit_of straddling_octet (i + 3) + bit_of straddling_octet (i + 1)
+        + bit_of straddling_octet i) % 2 }
 {
-    let first = (mid_octet >> 4) ^ (mid_octet >> 1) ^ mid_octet;
-    let second = first ^ (mid_octet >> 3);
+    let first = (straddling_octet >> 4) ^ (straddling_octet >> 1) ^ straddling_octet;
+    let second = first ^ (straddling_octet >> 3);
     (first & 15) | ((second & 15) << 4)
 }

@@ -27,8 +27,7 @@ pub record IsXcchWord (w : List ℕ) : Type 0 where
   pub bits : AllBits w
   pub multiple : IsMultiple (xor_bits w (replicate 184 0 ++ replicate 40 1)) fire_generator
 
--- `w` is a codeword of an access burst: 8 information bits and 6 check bits, to which the 6 bits of the BSIC are added modulo 2 (GSM 05.03
--- section 4.6)
+-- `w` is a codeword of an access burst: 8 information bits and the modulo 2 sum of 6 check bits and the BSIC (GSM 05.03 section 4.6)
 pub record IsRachWord (w bsic : List ℕ) : Type 0 where
   pub count : length w ≡ 14
   pub bits : AllBits w

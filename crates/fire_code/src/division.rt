@@ -2,7 +2,7 @@
 //! significant bit is the coefficient of the highest power of D, which is sent first.
 ghost use Rattle.std.specs.Prelude.{◌≡◌, ◌<◌, ◌≤◌, ◌^◌, ◌++◌, ◌∷◌, length, replicate};
 ghost use Rattle.bit_blocks.specs.Bits.{AllBits, xor_bits};
-ghost use Rattle.bit_blocks.specs.Polynomials.{HasQuotient};
+ghost use Rattle.bit_blocks.specs.Polynomials.{IsDivisibleBy};
 ghost use Rattle.fire_code.specs.Registers.{low_bits};
 
 use crate::registers::bits_of_register;
@@ -16,7 +16,7 @@ pub(crate) fn crc<const N: usize>(info: &[u8], taps: u64) -> Bits<N>
     requires degree { 0 < N }
     requires fits { N ≤ 64 }
     requires taps { taps < 2 ^ N }
-    ensures multiple { HasQuotient (info.now ++ xor_bits result (replicate N 1)) (1 ∷ low_bits N taps) }
+    ensures multiple { IsDivisibleBy (info.now ++ xor_bits result (replicate N 1)) (1 ∷ low_bits N taps) }
     ensures count { length result ≡ N }
     ensures bits { AllBits result }
 {
@@ -29,7 +29,7 @@ fn remainder<const N: usize>(bits: &[u8], taps: u64) -> u64
     requires bits { AllBits bits.now }
     requires degree { 0 < N }
     requires taps { taps < 2 ^ N }
-    ensures multiple { HasQuotient (bits.now ++ low_bits N result) (1 ∷ low_bits N taps) }
+    ensures multiple { IsDivisibleBy (bits.now ++ low_bits N result) (1 ∷ low_bits N taps) }
     ensures within { result < 2 ^ N }
 {
     let mut register = 0;

@@ -1,9 +1,9 @@
-//! The remainder of the Fire code, computed an octet at a time with a table of 256 entries. The CRC is reflected, since octets are sent
+//! The remainder of the Fire code, computed one octet at a time with a table of 256 entries. The CRC is reflected, since octets are sent
 //! least significant bit first.
 ghost use Rattle.std.specs.Prelude.{◌≡◌, ℕ, ◌*◌, ◌/◌, ◌<◌, ◌^◌, ◌++◌, List, length};
 ghost use Rattle.bit_blocks.specs.Bits.{AllBits};
 ghost use Rattle.bit_blocks.specs.Octets.{octet_bits, bits_of as octets_to_bits};
-ghost use Rattle.bit_blocks.specs.Polynomials.{HasQuotient, IsMultiple};
+ghost use Rattle.bit_blocks.specs.Polynomials.{IsDivisibleBy, IsMultiple};
 ghost use Rattle.fire_code.specs.Registers.{low_bits};
 ghost use Rattle.fire_code.specs.Words.{fire_generator};
 
@@ -287,7 +287,7 @@ pub fn octet_remainder(octet: u8) -> Bits<40>
 pub(crate) fn remainder(bits: &[u8]) -> u64
     requires bits { AllBits bits.now }
     requires whole { length bits.now ≡ 8 * (length bits.now / 8) }
-    ensures multiple { HasQuotient (bits.now ++ low_bits 40 result) fire_generator }
+    ensures multiple { IsDivisibleBy (bits.now ++ low_bits 40 result) fire_generator }
     ensures within { result < 2 ^ 40 }
 {
     let mut register = 0;
@@ -302,7 +302,7 @@ pub(crate) fn remainder(bits: &[u8]) -> u64
 /// result, bit 0 first, are a multiple of the generator.
 #[inline(always)]
 pub(crate) fn remainder_of_octets(octets: &[u8]) -> u64
-    ensures multiple { HasQuotient (octets_to_bits octets.now ++ low_bits 40 result) fire_generator }
+    ensures multiple { IsDivisibleBy (octets_to_bits octets.now ++ low_bits 40 result) fire_generator }
     ensures within { result < 2 ^ 40 }
 {
     let mut register = 0;
@@ -315,7 +315,7 @@ pub(crate) fn remainder_of_octets(octets: &[u8]) -> u64
 /// The Fire code remainder of one octet, from the table.
 #[inline]
 fn table_remainder(octet: u8) -> u64
-    ensures multiple { HasQuotient (low_bits 8 octet ++ low_bits 40 result) fire_generator }
+    ensures multiple { IsDivisibleBy (low_bits 8 octet ++ low_bits 40 result) fire_generator }
     ensures within { result < 2 ^ 40 }
 {
     REMAINDERS[octet as usize]

@@ -1,5 +1,5 @@
-//! The six check bits of the access burst (RACH), an inverted CRC to which the base station identity code (BSIC) is added, so that a
-//! burst meant for another cell fails its check (GSM 05.03, today 3GPP TS 45.003, section 4.6).
+//! The six check bits of the access burst (RACH): the modulo 2 sum of an inverted CRC and the base station identity code (BSIC). A burst
+//! for another cell therefore fails its check (GSM 05.03, today 3GPP TS 45.003, section 4.6).
 ghost use Rattle.std.specs.Prelude.{◌≡◌, ◌↔◌, ◌++◌, List, ℕ, length, replicate, IsTrue};
 ghost use Rattle.bit_blocks.specs.Bits.{AllBits, xor_bits};
 ghost use Rattle.fire_code.specs.Words.{IsRachWord};
@@ -10,7 +10,7 @@ use bit_blocks::Bits;
 // The generator without D^6: D^5 + D^3 + D^2 + D + 1. The least significant bit is the coefficient of D^5.
 const CRC_TAPS: u64 = 0b11_1101;
 
-/// The CRC of the eight bits of an access burst, before the BSIC is added.
+/// Returns the CRC of the eight information bits of an access burst, before the BSIC is added.
 ///
 /// The burst carries the sum of this CRC and the BSIC (GSM 05.03 section 4.6).
 pub fn rach_parity(d: &Bits<8>) -> Bits<6>
@@ -27,13 +27,13 @@ pub fn rach_parity(d: &Bits<8>) -> Bits<6>
     crc(d.as_slice(), CRC_TAPS)
 }
 
-/// Whether `w`, eight information bits and six check bits, is a codeword for this BSIC.
+/// Returns whether `w`, eight information bits and six check bits, is a codeword for this BSIC.
 pub fn rach_holds(w: &Bits<14>, bsic: &Bits<6>) -> bool
     ensures { IsTrue result ↔ IsRachWord w.now bsic.now }
 {
     let (info, sum) = w.as_slice().split_at(8);
     let sum = Bits::<6>::from_slice(sum).unwrap();
-    // The only BSIC for which `w` is a codeword: the CRC plus the received check bits, modulo 2.
+    // `w` is a codeword for one BSIC only: the modulo 2 sum of the CRC and the received check bits.
     let code = crc::<6>(info, CRC_TAPS).xor(&sum);
     code.as_slice() == bsic.as_slice()
 }

@@ -73,7 +73,7 @@ pub(crate) fn register_from_bits(bits: &[u8]) -> u64
     register
 }
 
-/// Eight bits packed into an octet, least significant bit first.
+/// Packs eight bits into an octet, least significant bit first.
 #[inline]
 pub(crate) fn pack_eight_bits(bits: &[u8]) -> u64
     requires count { length bits.now ≡ 8 }
@@ -95,12 +95,13 @@ fn unpack_octet(octet: u64) -> [u8; 8]
     ensures value { result ≡ low_bits 8 octet }
     ensures bits { AllBits result }
 {
-    // Octet `i` of `kept` holds only bit `i` of `octet`. Adding 127 to each octet of `kept` sets its highest bit exactly if that bit is 1.
+    // Octet `i` of `kept` holds only bit `i` of `octet`. Adding 127 to each octet of `kept` sets its highest bit if and only if that bit is
+    // 1.
     let kept = octet.wrapping_mul(0x0101_0101_0101_0101) & 0x8040_2010_0804_0201;
     ((kept.wrapping_add(0x7f7f_7f7f_7f7f_7f7f) >> 7) & 0x0101_0101_0101_0101).to_le_bytes()
 }
 
-/// Writes the eight bits of `octet` to `bits`, from index `at` on.
+/// Writes the eight bits of `octet` to `bits`, starting at index `at`.
 fn write_octet_bits(bits: &mut Bits<40>, at: usize, octet: &[u8; 8])
     requires count { length bits.old ≡ 40 }
     requires within { at + 8 ≤ 40 }

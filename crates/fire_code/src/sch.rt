@@ -20,7 +20,7 @@ pub fn sch_parity(d: &Bits<25>) -> Bits<10>
     crc(d.as_slice(), CRC_TAPS)
 }
 
-/// Whether the last 10 of 35 bits are the CRC of the first 25.
+/// Returns whether the last 10 of 35 bits are the CRC of the first 25.
 pub fn sch_holds(w: &Bits<35>) -> bool
     ensures { IsTrue result ↔ IsSchWord w.now }
 {

@@ -31,7 +31,7 @@ pub fn xcch_parity_of_octets(octets: &[u8; BLOCK_OCTETS]) -> [u8; 5]
     octets_of_register(!remainder_of_octets(octets))
 }
 
-/// Whether the last 40 of 224 bits are the Fire code bits of the first 184.
+/// Returns whether the last 40 of 224 bits are the Fire code bits of the first 184.
 pub fn xcch_holds(w: &Bits<224>) -> bool
     ensures { IsTrue result ↔ IsXcchWord w.now }
 {

@@ -9,7 +9,7 @@ pub record IsRepair (w v : List ℕ) : Type 0 where
   pub count : length w ≡ 224
   pub bits : AllBits w
   pub not_codeword : IsXcchWord w → ⊥
-  pub word : IsXcchWord v
+  pub codeword : IsXcchWord v
   pub start : ℕ
   pub changes_within_12 : (k : ℕ) → slice_index w k ≢ slice_index v k → (start ≤ k) × (k < start + 12)
 

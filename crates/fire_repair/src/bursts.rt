@@ -18,7 +18,7 @@ pub(crate) struct ErrorBurst {
     pub(crate) shape: u64,
 }
 
-/// Finds the error burst with this syndrome and with the greatest possible `start`. Returns `None` if there is none.
+/// Finds the error burst with this syndrome that starts last. Returns `None` if there is none.
 pub(crate) fn find_error_burst(syndrome: u64) -> Option<ErrorBurst>
     requires { syndrome < 2 ^ 40 }
     ensures start { IfSome result (λ found. found.start ≤ 212) }
@@ -40,7 +40,7 @@ pub(crate) fn find_error_burst(syndrome: u64) -> Option<ErrorBurst>
     None
 }
 
-/// The word `w` with the bits of the error burst inverted.
+/// Returns the word `w` with the bits of the error burst inverted.
 pub(crate) fn flip_error_burst(w: &Bits<224>, found: ErrorBurst) -> Bits<224>
     requires count { length w.now ≡ 224 }
     requires bits { AllBits w.now }
@@ -56,7 +56,7 @@ pub(crate) fn flip_error_burst(w: &Bits<224>, found: ErrorBurst) -> Bits<224>
     word
 }
 
-/// The indexes of the first and the last wrong bit in a shape, each 0 to 11.
+/// Returns the indexes, each 0 to 11, of the first and the last wrong bit in a shape.
 pub(crate) fn first_and_last_bit(shape: u64) -> (u32, u32)
     requires nonzero { 0 < shape }
     requires twelve { shape < 2 ^ 12 }

@@ -10,8 +10,8 @@ use fire_code::{Bits, xcch_syndrome};
 pub enum RepairAnswer {
     /// The received word is a codeword.
     Holds,
-    /// The received word is not a codeword, and `word` is the only codeword that differs from it within twelve consecutive bits.
-    /// `first` is the first bit that differs, and `span` the number of bits from there to the last that differs.
+    /// The received word is not a codeword, and `word` is the only codeword that differs from it only within twelve consecutive bits.
+    /// `first` is the index of the first bit that differs, and `span` is the number of bits from there to the last bit that differs.
     Repaired {
         word: Bits<224>,
         first: u8,

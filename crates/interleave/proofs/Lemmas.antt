@@ -1,6 +1,746 @@
--- Lemmas that other crates cite.
-pub use Rattle.interleave.proofs.Bijection.{same_coded, same_bursts, AllBits-bursts}
-pub use Rattle.interleave.proofs.BurstPlaces.{four_burst_position-lower, four_burst_position-upper, four_burst_position-below}
-pub use Rattle.interleave.proofs.BurstPlaces.{four_burst_position-differs}
-pub use Rattle.interleave.proofs.Existence.{some_spread, some_gathered, IsInterleaved-map, All-interleaved}
-pub use Rattle.interleave.proofs.WholeBursts.{burst_of_bit-below, burst_position-below, halves-at}
+-- Interleaving: the positions of the coded bits, the loops over them, and the columns in vectors.
+use Rattle.bit_blocks.{proofs.Lemmas.{at_passes_below, both_true, passes_below}, specs.{Bits.AllBits, Packed.{AreCodedBitsPacked, bit_of}}}
+use Rattle.bit_blocks.specs.Packed.{packed_bit_index}
+use Rattle.interleave.specs.{Bursts.{AreDeinterleaved, IsBurstDeinterleaved, IsInterleaved}, ColumnPositions.coded_bit_of_column}
+use Rattle.interleave.specs.{ColumnPositions.{coded_index_at, column_bit_position}, Columns.AreColumnsOfCodedBits, Positions.burst_of_bit}
+use Rattle.interleave.specs.{Positions.{burst_position, four_burst_position}, declared.table.TheConstants.HALF_BURST_BITS}
+use Rattle.std.proofs.Common.{All, Bool, Contains, Fits, List, [], ap, ap₂, arith, below_more, bit_and, drop, eqb, get_or-set_other}
+use Rattle.std.proofs.Common.{get_or-set_same, get_or, inl, inr, length-append, length, ltb, map, pos, refl, replicate, rules, subst, suc}
+use Rattle.std.proofs.Common.{sym, take, tests, true, w16, w8, zero-add, zero, ℕ, ℤ, ◌%◌, ◌&&◌, ◌*◌, ◌++◌, ◌+◌}
+use Rattle.std.proofs.Common.{◌-◌, ◌/◌, ◌<◌, ◌^◌, ◌∙◌, ◌∷◌, ◌≡◌, ◌≢◌, ◌≤◌}
+use Rattle.std.proofs.{Math.{Arith.digits_lt, ListN.set, Nat.{mul_comm, pow-suc, pow-zero}}, lemmas.Bool.Decides.{Decides-eqb, nat_tests}}
+use Rattle.std.proofs.lemmas.{Bool.{cases_eq, cases_lt}, List.{Edits.{get_or-between, length-between}, FromFn.get_or-map-range_with_len}}
+use Rattle.std.proofs.lemmas.List.{FromFn.length-map-range_with_len, append-nil, drop_all, drop_at, ext_get_or, get_or-append_right}
+use Rattle.std.proofs.lemmas.List.{get_or-map, get_or-take, get_or_append_left, get_or_default, length-map, length-take, same_lists}
+use Rattle.std.proofs.lemmas.{List.take_at, Nat.{Bits.and_high_mask, and_mask, pow_pos}, Simd.{Each1-chunk, below_from_Fits, chunk-fits}}
+use Rattle.std.proofs.lemmas.Simd.{get_or-chunk, get_or-replicate, get_or-zip2, get_or_wider, length-chunk, length-replicate, length-zip2}
+use Rattle.std.{proofs.lemmas.Simd.put_chunk_is, specs.{List.range_with_len, Prelude.slice_range}}
+use borrow.Rule.Slice.PartMut.{mid_of, put_mid}
+use lib.Lanes.{Each1, chunk, digits_l, number_l, pick_l, put_chunk, zip2}
+use mir.Syntax.{Width}
+use mir.Val.{bits}
+
+-- ## Rows: `coded_index_at` is the inverse of `burst_of_bit` and `burst_position`, checked by computation for all 456 coded bits.
+
+-- coded bit k is at position j of burst b
+pub record StandsAt (k b j : ℕ) : Type 0 where
+  pub in_range : k < 456
+  pub burst : burst_of_bit k ≡ b
+  pub place : burst_position k ≡ j
+
+abbrev is_right : ℕ → ℕ → Bool
+is_right b j = ltb (coded_index_at b j) 456 && (eqb (burst_of_bit (coded_index_at b j)) b && eqb (burst_position (coded_index_at b j)) j)
+
+every_place_is_right : passes_below (λ b. passes_below (is_right b) 114) 4 ≡ true
+unfolding coded_index_at coded_bit_of_column burst_of_bit burst_position passes_below
+every_place_is_right = refl
+
+coded_index_at-stands : (b j : ℕ) → b < 4 → j < 114 → StandsAt (coded_index_at b j) b j
+coded_index_at-stands b j hb hj =
+    let row = at_passes_below (λ b. passes_below _ 114) 4 every_place_is_right b hb in
+    let here = at_passes_below _ 114 row j hj in
+    let burst = eqb _ b in
+    let place = eqb _ j in
+    let first = both_true (ltb (coded_index_at b j) 456) (burst && place) here in
+    let rest = both_true burst place first.1 in
+    record {
+      in_range = search (rules, tests);
+      burst = search (rules, tests);
+      place = search (rules, tests);
+    }
+
+abbrev is_found : ℕ → Bool
+is_found k = eqb (coded_index_at (burst_of_bit k) (burst_position k)) k
+
+every_coded_bit_is_found : passes_below is_found 456 ≡ true
+unfolding coded_index_at coded_bit_of_column burst_of_bit burst_position passes_below
+every_coded_bit_is_found = refl
+
+coded_index_at-of : (k : ℕ) → k < 456 → coded_index_at (burst_of_bit k) (burst_position k) ≡ k
+coded_index_at-of k hk =
+    let found = at_passes_below _ 456 every_coded_bit_is_found k hk in
+    search (rules, tests)
+
+-- the burst and the position in it determine the coded bit
+pub same_coded_bit : (k l : ℕ) → k < 456 → l < 456 → burst_of_bit k ≡ burst_of_bit l → burst_position k ≡ burst_position l →
+    k ≡ l
+same_coded_bit k l hk hl burst place =
+    let at_k = coded_index_at-of k hk in
+    let at_l = coded_index_at-of l hl in
+    cc
+
+pub coded_index_at-is : (k b j : ℕ) → k < 456 → burst_of_bit k ≡ b → burst_position k ≡ j → coded_index_at b j ≡ k
+coded_index_at-is k b j hk burst place = let found = coded_index_at-of k hk in cc
+
+-- ## Bijection: Interleaving is a bijection between coded bits and burst positions, so the coded bits and the bursts determine each other.
+
+-- the coded bit at position j of burst b
+pub coded_bit_at : (b j : ℕ) → b < 4 → j < 114 → (k : ℕ) × (k < 456) × (burst_of_bit k ≡ b) × (burst_position k ≡ j)
+coded_bit_at b j hb hj =
+    let stands = coded_index_at-stands b j hb hj in
+    (coded_index_at b j, stands.in_range, stands.burst, stands.place)
+
+module _ {X : Type 0} where
+  -- each value in the bursts is that of a coded bit
+  from_coded : (coded : List X) (bursts : List (List X)) → IsInterleaved coded bursts → (b j : ℕ) (d : X) → b < 4 →
+      j < 114 → (k : ℕ) × (k < 456) × (burst_of_bit k ≡ b) × (burst_position k ≡ j)
+      × (get_or (get_or bursts b []) j d ≡ get_or coded k d)
+  from_coded coded bursts whole b j d hb hj =
+      let found = coded_bit_at b j hb hj in
+      let holds = whole.positions _ d found.1 in
+      (found.0, found.1, found.2, found.3, rw (found.2, found.3) at holds)
+
+  pub same_coded : (coded coded' : List X) (bursts : List (List X)) → IsInterleaved coded bursts → IsInterleaved coded' bursts →
+      coded ≡ coded'
+  same_coded coded coded' bursts whole whole' =
+      same_lists _ _ (whole.coded_count ∙ sym whole'.coded_count)
+      (λ k d lt. let hk : k < 456 = rw whole.coded_count at lt in sym (whole.positions k d hk) ∙ whole'.positions k d hk)
+
+  pub same_bursts : (coded : List X) (bursts bursts' : List (List X)) → IsInterleaved coded bursts → IsInterleaved coded bursts' →
+      bursts ≡ bursts'
+  same_bursts coded bursts bursts' whole whole' =
+      same_lists _ _ (whole.burst_count ∙ sym whole'.burst_count)
+      (λ b d lt.
+      let hb : b < 4 = rw whole.burst_count at lt in
+      let lt' : b < length bursts' = rw whole'.burst_count hb in
+      same_lists _ _ (whole.burst_lengths b d lt ∙ sym (whole'.burst_lengths b d lt'))
+      (λ j e le.
+      let hj : j < 114 = rw (whole.burst_lengths) at le in
+      let one = from_coded coded bursts whole b j e hb hj in
+      let k = one.0 in
+      let holds' = whole'.positions k e one.1 in
+      ap (λ burst. get_or burst j e) (get_or_default bursts b d [] lt)
+      ∙ one.4
+      ∙ sym (rw (one.2, one.3) at holds')
+      ∙ ap (λ burst. get_or burst j e) (get_or_default bursts' b [] d lt')))
+
+pub AllBits-bursts : (coded : List ℕ) (bursts : List (List ℕ)) → IsInterleaved coded bursts → AllBits coded → All AllBits bursts
+AllBits-bursts coded bursts whole bits b none lt j d le =
+    let hb : b < 4 = rw whole.burst_count at lt in
+    let hj : j < 114 = rw (whole.burst_lengths) at le in
+    let one = from_coded _ _ whole b j d hb hj in
+    let same = get_or_default _ b none [] lt in
+    let within : one.0 < length coded = rw whole.coded_count one.1 in
+    rw (same, one.4) (bits one.0 d within)
+
+-- ## CodedBits: The entries of the table `HALF_BURST_BITS` are what `coded_index_at` gives, checked by computation.
+
+abbrev is_entry_right : ℕ → ℕ → Bool
+is_entry_right r i = eqb (get_or (get_or HALF_BURST_BITS r []) i 0) (coded_index_at (r / 2) (57 * (r % 2) + i))
+
+every_entry_is_right : passes_below (λ r. passes_below (is_entry_right r) 57) 8 ≡ true
+unfolding coded_index_at coded_bit_of_column passes_below
+every_entry_is_right = refl
+
+pub entry-is : (b half i : ℕ) → b < 4 → half ≤ 1 → i < 57 → get_or (get_or HALF_BURST_BITS (2 * b + half) []) i 0 ≡
+    coded_index_at b
+    (57 * half + i)
+entry-is b half i hb hh hi =
+    let r : ℕ = 2 * b + half in
+    let row = at_passes_below (λ r. passes_below (is_entry_right r) 57) 8 every_entry_is_right r (omega arith) in
+    let place : 57 * (r % 2) + i ≡ 57 * half + i = omega arith in
+    (Decides-eqb (get_or (get_or HALF_BURST_BITS r []) i 0) (coded_index_at (r / 2) (57 * (r % 2) + i))).0 (at_passes_below
+    (is_entry_right r) 57 row i hi)
+    ∙ ap₂ coded_index_at (omega arith) place
+
+-- ## WholeBursts: A burst consists of two halves.
+
+pub burst_of_bit-below : (k : ℕ) → burst_of_bit k < 4
+unfolding burst_of_bit
+burst_of_bit-below k = omega arith
+
+pub burst_position-below : (k : ℕ) → burst_position k < 114
+unfolding burst_position
+burst_position-below k = omega arith
+
+-- if both halves have the right value at their positions, so has the whole burst
+pub halves-at : {X : Type 0} (first second : List X) (k : ℕ) (d value : X) → length first ≡ 57 →
+    ((i : ℕ) → i < 57 → burst_position k ≡ 57 * 0 + i → get_or first i d ≡ value) →
+    ((i : ℕ) → i < 57 → burst_position k ≡ 57 * 1 + i → get_or second i d ≡ value) →
+    get_or (first ++ second) (burst_position k) d ≡ value
+halves-at first second k d value long in_first in_second =
+    let within = burst_position-below k in
+    elim (cases_lt (burst_position k) 57) [
+      | inl lower ↦
+          let here : burst_position k < length first = omega arith in
+          get_or_append_left _ _ d (burst_position k) here ∙ in_first _ lower (omega arith)
+      | inr upper ↦
+          get_or-append_right first second 57 (burst_position k) d long upper
+          ∙ in_second (burst_position k - 57) (omega arith) (omega arith)
+    ]
+
+pub put_mid-halves : {X : Type 0} (first old second : List X) → length first ≡ 57 → length old ≡ 57 → length second ≡ 57 →
+    put_mid 57 57 (first ++ old) second ≡ first ++ second
+put_mid-halves first old second f o s =
+    let before : take 57 (first ++ old) ≡ first = take_at _ old 57 f in
+    let behind : drop 57 (drop 57 (first ++ old)) ≡ [] = ap (drop 57) (drop_at _ old 57 f) ∙ drop_all 57 old (omega arith) in
+    ap (λ front. front ++ (second ++ drop 57 (drop 57 (first ++ old)))) before
+    ∙ ap (λ rest. first ++ (second ++ rest)) behind
+    ∙ ap (λ rest. first ++ rest) (append-nil second)
+
+-- ## HalfBursts: One step of the loops over half a burst, which read or write one more value by the table.
+
+module _ (b half : ℕ) (hb : b < 4) (hh : half ≤ 1) where
+  -- the coded bit at position i of the half
+  abbrev pub bit_of_half : ℕ → ℕ
+  bit_of_half i = coded_index_at b (57 * half + i)
+
+  pub half-stands : (i : ℕ) → i < 57 → StandsAt (bit_of_half i) b (57 * half + i)
+  half-stands i hi = coded_index_at-stands b _ hb (omega arith)
+
+  -- the coded bits that are read by the table are this half of the burst
+  pub half_of_bursts : (coded : List ℕ) (bursts : List (List ℕ)) (out : List ℕ) → IsInterleaved coded bursts →
+      length out ≡ 57 → ((i : ℕ) → i < 57 → get_or out i 0 ≡ get_or coded (bit_of_half i) 0) →
+      out ≡ slice_range (get_or bursts b []) (57 * half) (57 * half + 57)
+  half_of_bursts coded bursts out whole long read =
+      let burst = get_or _ b [] in
+      let full : length burst ≡ 114 = whole.burst_lengths b [] (rw whole.burst_count hb) in
+      let within : 57 * half + 57 ≤ length burst = omega arith in
+      let count = length-between _ (57 * half) _ within in
+      ext_get_or 0 _ _ (omega (arith, count))
+      (λ i lt.
+      let here : i < 57 = omega arith in
+      let stands = half-stands i here in
+      let holds = whole.positions (bit_of_half i) 0 stands.in_range in
+      read i here
+      ∙ sym (rw (stands.burst, stands.place) at holds)
+      ∙ sym (get_or-between burst (57 * half) (57 * half + 57) i 0 (omega arith)))
+
+  half-differs : (i j : ℕ) → i < 57 → j < 57 → i ≢ j → bit_of_half i ≢ bit_of_half j
+  half-differs i j hi hj other same =
+      let places : 57 * half + i ≡ 57 * half + j = sym (half-stands i hi).place ∙ ap burst_position same ∙ (half-stands j hj).place in
+      other (omega arith)
+
+  -- one more value is written; the earlier values and those of the other half are unchanged
+  module _ (soft old values : List ℤ) (i : ℕ) (value : ℤ) (hi : i < 57) (full : length soft ≡ 456)
+      (read : value ≡ get_or values i (pos 0)) where
+    pub updated_bits-more : ((j : ℕ) → j < i → get_or soft (bit_of_half j) (pos 0) ≡ get_or values j (pos 0)) →
+        (j : ℕ) → j < i + 1 → get_or (set soft (bit_of_half i) value) (bit_of_half j) (pos 0) ≡ get_or values j (pos 0)
+    updated_bits-more before =
+        let within = (half-stands i hi).in_range in
+        let lt : bit_of_half i < length soft = omega arith in
+        below_more _ i
+        (λ j hj.
+        let ne : bit_of_half j ≢ bit_of_half i = half-differs j i (omega arith) hi (omega arith) in
+        rw get_or-set_other (before j hj)) (rw get_or-set_same read)
+
+    pub unchanged_bits-more : ((k : ℕ) → k < 456 → ((j : ℕ) → j < i → bit_of_half j ≢ k) →
+        get_or soft k (pos 0) ≡ get_or old k (pos 0)) → (k : ℕ) → k < 456 → ((j : ℕ) → j < i + 1 → bit_of_half j ≢ k) →
+        get_or (set soft (bit_of_half i) value) k (pos 0) ≡ get_or old k (pos 0)
+    unchanged_bits-more before k hk none =
+        let ne : k ≢ bit_of_half i = λ same. none i (omega arith) (sym same) in
+        rw get_or-set_other (before k hk (λ j hj. none j (omega arith)))
+
+-- ## BurstPlaces: A coded bit is determined by its position among the 592 bits of four bursts.
+
+-- the first half of a burst's coded bits comes after three tail bits
+pub four_burst_position-lower : (k : ℕ) → burst_position k < 57 →
+    four_burst_position k ≡ 148 * burst_of_bit k + burst_position k + 3
+unfolding four_burst_position
+four_burst_position-lower k h = grind (arith, nat_tests)
+
+-- the second half comes after 28 more bits: two stealing flags and the training sequence
+pub four_burst_position-upper : (k : ℕ) → 57 ≤ burst_position k →
+    four_burst_position k ≡ 148 * burst_of_bit k + burst_position k + 31
+unfolding four_burst_position
+four_burst_position-upper k h = grind (arith, nat_tests)
+
+pub four_burst_position-below : (k : ℕ) → four_burst_position k < 592
+four_burst_position-below k =
+    let burst = burst_of_bit-below k in
+    let place = burst_position-below k in
+    elim (cases_lt (burst_position k) 57) [
+      | inl lower ↦ omega (arith, four_burst_position-lower)
+      | inr upper ↦ omega (arith, four_burst_position-upper)
+    ]
+
+-- k and l have the same burst and the same position in it
+pub record SameBurstAndPlace (k l : ℕ) : Type 0 where
+  pub burst : burst_of_bit k ≡ burst_of_bit l
+  pub place : burst_position k ≡ burst_position l
+
+same_burst_place : (k l : ℕ) → four_burst_position k ≡ four_burst_position l → SameBurstAndPlace k l
+same_burst_place k l same =
+    let place_k = burst_position-below k in
+    let place_l = burst_position-below l in
+    elim (cases_lt _ 57) [
+      | inl lower ↦
+          let at_k = four_burst_position-lower k lower in
+          elim (cases_lt _ 57) [
+            | inl lower' ↦ let at_l = four_burst_position-lower l lower' in record { burst = omega arith; place = omega arith }
+            | inr upper' ↦ let at_l = four_burst_position-upper l upper' in absurd (omega arith)
+          ]
+      | inr upper ↦
+          let at_k = four_burst_position-upper k upper in
+          elim (cases_lt (burst_position l) 57) [
+            | inl lower' ↦ let at_l = four_burst_position-lower l lower' in absurd (omega arith)
+            | inr upper' ↦ let at_l = four_burst_position-upper l upper' in record { burst = omega arith; place = omega arith }
+          ]
+    ]
+
+pub four_burst_position-differs : (k l : ℕ) → k < 456 → l < 456 → four_burst_position k ≡ four_burst_position l → k ≡ l
+four_burst_position-differs k l hk hl same =
+    let both = same_burst_place k l same in
+    same_coded_bit k l hk hl both.burst both.place
+
+-- ## Orders: Bursts may be deinterleaved in any order: each writes only its own coded bits.
+
+Contains-tail : (b x : ℕ) (order : List ℕ) → Contains (b ∷ order) x → x ≢ b → Contains order x
+Contains-tail b x order (zero, h, e) other = absurd (other (sym e))
+Contains-tail b x order (suc n, h, e) other = (n, omega arith, e)
+
+module _ {X : Type 0} (bursts : List (List X)) (k : ℕ) (d : X) (hk : k < 456) where
+  -- the value of this coded bit in the bursts
+  abbrev held : X
+  held = get_or (get_or bursts (burst_of_bit k) []) (burst_position k) d
+
+  gathered_own : (b : ℕ) (old new : List X) → IsBurstDeinterleaved b (get_or bursts b []) old new → burst_of_bit k ≡ b →
+      get_or new k d ≡ held
+  gathered_own b old new step same =
+      step.updated_bits k d hk same ∙ ap (λ n. get_or (get_or bursts n []) (burst_position k) d) (sym same)
+
+  -- a value once written stays
+  gathered_keeps : (order : List ℕ) (old new : List X) → AreDeinterleaved bursts order old new → get_or old k d ≡ held →
+      get_or new k d ≡ held
+  gathered_keeps [] old new same there = ap (λ xs. get_or xs k d) (sym same) ∙ there
+  gathered_keeps (b ∷ order) old new (next, step, rest) there =
+      gathered_keeps order _ new rest
+      (elim (cases_eq (burst_of_bit k) b) [
+        | inl same ↦ gathered_own b old next step same
+        | inr other ↦ step.unchanged_bits k d hk other ∙ there
+      ])
+
+  gathered_reaches : (order : List ℕ) (old new : List X) → AreDeinterleaved bursts order old new → Contains order (burst_of_bit k) →
+      get_or new k d ≡ held
+  gathered_reaches [] old new same (n, h, e) = absurd (omega arith)
+  gathered_reaches (b ∷ order) old new (next, step, rest) among =
+      elim (cases_eq (burst_of_bit k) b) [
+        | inl same ↦ gathered_keeps order _ new rest (gathered_own b old next step same)
+        | inr other ↦ gathered_reaches order next new rest (Contains-tail b (burst_of_bit k) order among other)
+      ]
+
+length-gathered : {X : Type 0} (bursts : List (List X)) (order : List ℕ) (old new : List X) → AreDeinterleaved bursts order old new →
+    length new ≡ length old
+length-gathered bursts [] old new same = ap length (sym same)
+length-gathered bursts (b ∷ order) old new (next, step, rest) = length-gathered bursts order next new rest ∙ step.count
+
+pub any_order : {X : Type 0} (bursts : List (List X)) (order : List ℕ) (old new : List X) →
+    length old ≡ 456 → length bursts ≡ 4 → All (λ burst. length burst ≡ 114) bursts →
+    ((b : ℕ) → b < 4 → Contains order b) → AreDeinterleaved bursts order old new → IsInterleaved new bursts
+any_order bursts order old new long four each every steps = record {
+  coded_count = length-gathered bursts order old new steps ∙ long;
+  burst_count = four;
+  burst_lengths = each;
+  positions = λ k d hk. sym (gathered_reaches bursts k d hk order old new steps (every (burst_of_bit k) (burst_of_bit-below k)));
+}
+
+-- ## Existence: Any 456 coded bits can be interleaved, and any four bursts can be deinterleaved.
+
+-- ---- interleaving
+
+-- the coded bits of burst b, by position
+part_of : List ℕ → ℕ → List ℕ
+part_of c b = map (λ j. get_or c (coded_index_at b j) 0) (range_with_len 0 114)
+
+parts_of : List ℕ → List (List ℕ)
+parts_of c = map (part_of c) (range_with_len 0 4)
+
+pub some_spread : (c : List ℕ) → length c ≡ 456 → (parts : List (List ℕ)) × IsInterleaved c parts
+unfolding parts_of part_of
+some_spread c count = (
+  parts_of c,
+  record {
+    coded_count = count;
+    burst_count = length-map-range_with_len (part_of c) 0 4;
+    burst_lengths = λ b d h.
+        let within : b < 4 = subst (λ n. b < n) (length-map-range_with_len (part_of c) 0 4) h in
+        ap length (get_or-map-range_with_len (part_of c) 0 4 b b d within (omega arith))
+        ∙ length-map-range_with_len (λ j. get_or c (coded_index_at b j) 0) 0 114;
+    positions = λ k d within.
+        let b = burst_of_bit k in
+        let j = burst_position k in
+        let here : k < length c = subst (λ n. k < n) (sym count) within in
+        ap (λ bits. get_or bits j d) (get_or-map-range_with_len (part_of c) 0 4 b b [] (burst_of_bit-below k) (omega arith))
+        ∙ get_or-map-range_with_len (λ i. get_or c (coded_index_at b i) 0) 0 114 j j d (burst_position-below k) (omega arith)
+        ∙ ap (λ i. get_or c i 0) (coded_index_at-of k within)
+        ∙ get_or_default c k 0 d here;
+  },
+)
+
+-- ---- deinterleaving
+
+module _ {X : Type 0} (none : X) (parts : List (List X)) (four : length parts ≡ 4) (each : All (λ part. length part ≡ 114) parts) where
+  -- the value of coded bit k in the bursts
+  held_at : ℕ → X
+  held_at k = get_or (get_or parts (burst_of_bit k) []) (burst_position k) none
+
+  pub some_gathered : (c : List X) × IsInterleaved c parts
+  unfolding held_at
+  some_gathered = (
+    map held_at (range_with_len 0 456),
+    record {
+      coded_count = length-map-range_with_len held_at 0 456;
+      burst_count = four;
+      burst_lengths = each;
+      positions = λ k d h.
+          let within : burst_of_bit k < length parts = subst (λ n. burst_of_bit k < n) (sym four) (burst_of_bit-below k) in
+          let long : length (get_or parts (burst_of_bit k) []) ≡ 114 = each (burst_of_bit k) [] within in
+          let inside : burst_position k < length (get_or parts (burst_of_bit k) []) = subst (λ n. burst_position k < n) (sym long)
+          (burst_position-below k) in
+          get_or_default (get_or parts (burst_of_bit k) []) (burst_position k) d none inside
+          ∙ sym (get_or-map-range_with_len held_at 0 456 k k d h (omega arith));
+    },
+  )
+
+-- ---- what holds for values before and after interleaving
+
+-- mapping a function over all values before or after interleaving gives the same bursts
+pub IsInterleaved-map : {X Y : Type 0} (f : X → Y) (none : X) (c : List X) (parts : List (List X)) → IsInterleaved c parts →
+    IsInterleaved (map f c) (map (map f) parts)
+IsInterleaved-map f none c parts spread = record {
+  coded_count = length-map c f ∙ spread.coded_count;
+  burst_count = length-map _ _ ∙ spread.burst_count;
+  burst_lengths = λ i d h.
+      let within : i < length parts = rw (← length-map _ (map f)) h in
+      ap length (get_or-map (map f) parts i [] d within)
+      ∙ length-map (get_or parts i []) f
+      ∙ spread.burst_lengths i [] within;
+  positions = λ k d h.
+      let b = burst_of_bit k in
+      let j = burst_position k in
+      let within : b < length parts = rw spread.burst_count (burst_of_bit-below k) in
+      let place : j < length (get_or parts b []) = rw (spread.burst_lengths b [] within) (burst_position-below k) in
+      let here : k < length c = rw spread.coded_count h in
+      ap (λ values. get_or values j d) (get_or-map (map f) parts b [] [] within)
+      ∙ get_or-map f (get_or parts b []) j none d place
+      ∙ ap f (spread.positions k none h)
+      ∙ sym (get_or-map f c k none d here);
+}
+
+-- a property of all values in the bursts holds for all deinterleaved values
+pub All-interleaved : {X : Type 0} (P : X → Type 0) (c : List X) (parts : List (List X)) → IsInterleaved c parts →
+    All (All P) parts → All P c
+All-interleaved P c parts spread all k d h =
+    let within : k < 456 = rw (← spread.coded_count) h in
+    let burst : burst_of_bit k < length parts = rw spread.burst_count (burst_of_bit-below k) in
+    let place : burst_position k < length (get_or parts (burst_of_bit k) []) =
+    rw (spread.burst_lengths (burst_of_bit k) [] burst) (burst_position-below k) in
+    subst P (spread.positions k d within) (all (burst_of_bit k) [] burst (burst_position k) d place)
+
+-- ## InColumns: Coded bit k is in column 50 (k / 8) mod 57, since 50 is the inverse of 8 modulo 57.
+
+-- coded bit k is bit r of column q
+pub record IsInColumn (k q r : ℕ) : Type 0 where
+  pub column : q < 57
+  pub bit : r < 8
+  pub coded_bit : coded_bit_of_column q r ≡ k
+  pub burst : burst_of_bit k ≡ r % 4
+  pub place : burst_position k ≡ column_bit_position q r
+
+pub in_column : (k : ℕ) → k < 456 → IsInColumn k (50 * (k / 8) % 57) (k % 8)
+unfolding coded_bit_of_column column_bit_position burst_of_bit burst_position
+in_column k h = record {
+  column = omega arith;
+  bit = omega arith;
+  coded_bit = omega arith;
+  burst = omega arith;
+  place = omega arith;
+}
+
+-- ## JoinedLanes: Interleaving the lanes of two vectors and reading the result as lanes of twice the width joins lanes in pairs. Three such
+-- steps transpose eight rows of eight octets.
+
+-- P holds for each number below n: one tuple of the facts
+abbrev pub EachBelow : (ℕ → Type 0) → ℕ → Type 0
+EachBelow P zero = Unit {0}
+EachBelow P (suc n) = P 0 × EachBelow (λ k. P (suc k)) n
+
+pub below_n : (P : ℕ → Type 0) (n : ℕ) → EachBelow P n → (k : ℕ) → k < n → P k
+below_n P zero h k lt = absurd (omega arith)
+below_n P (suc n) h zero lt = h.0
+below_n P (suc n) h (suc k) lt = below_n _ n h.1 k (omega arith)
+
+number-two : (p : ℕ) (xs : List ℕ) (i : ℕ) → suc i < length xs →
+    number_l p (chunk i 2 xs) ≡ get_or xs i 0 + p * get_or xs (suc i) 0
+number-two p [] i h = absurd (omega arith)
+number-two p (x ∷ []) i h = absurd (omega arith)
+number-two p (x ∷ y ∷ xs) zero h = grind arith
+number-two p (x ∷ y ∷ xs) (suc i) h = let h' : suc i < length (y ∷ xs) = omega arith in number-two p _ i h'
+
+number-digits : (n x : ℕ) → x < 256 ^ n → number_l 256 (digits_l 256 n x) ≡ x
+number-digits zero x h = omega arith
+number-digits (suc n) x h =
+    let front : x / 256 < 256 ^ n = omega arith in
+    let rest = number-digits n _ front in
+    omega arith
+
+number-below : (p : ℕ) (xs : List ℕ) → Each1 (λ x. x < p) xs → number_l p xs < p ^ length xs
+number-below p [] h = omega (arith, pow-zero)
+number-below p (x ∷ xs) h = omega (arith, digits_lt (number-below p xs h.1) h.0, mul_comm, pow-suc)
+
+pub joined_octet : (e : ℕ → ℕ) → ((r : ℕ) → e r < 256) → (r : ℕ) → r < 8 →
+    (e 0 + 256 * e 1 + 65536 * (e 2 + 256 * e 3) + 2 ^ 32 * (e 4 + 256 * e 5 + 65536 * (e 6 + 256 * e 7))) / 256 ^ r % 256 ≡ e r
+joined_octet e h = below_n _ 8
+    (omega arith, (omega arith, (omega arith, (omega arith, (omega arith, (omega arith, (omega arith, (omega arith, tt))))))))
+
+-- two adjacent lanes, read as one lane of twice the width
+joined_lane : (p q n : ℕ) (lanes : List ℕ) → q ≡ p ^ 2 → p ^ length lanes ≡ 256 ^ 16 → Each1 (λ x. x < p) lanes →
+    (j : ℕ) → j < n → suc (2 * j) < length lanes → get_or (digits_l q n (number_l 256 (digits_l 256 16 (number_l p lanes)))) j 0
+    ≡ get_or lanes (2 * j) 0 + p * get_or lanes (suc (2 * j)) 0
+joined_lane p q n lanes square whole small j h within =
+    ap (λ x. get_or (digits_l q n x) j 0) (number-digits 16 _ (rw (← whole) (number-below p lanes small)))
+    ∙ get_or_wider p 2 q n lanes j square small h
+    ∙ number-two p lanes (2 * j) within
+
+module _ (p : ℕ) (some : 0 < p) where
+  pub below_at : (xs : List ℕ) → Each1 (λ x. x < p) xs → (k : ℕ) → get_or xs k 0 < p
+  below_at [] h k = some
+  below_at (x ∷ xs) h zero = h.0
+  below_at (x ∷ xs) h (suc k) = below_at xs h.1 k
+
+  below-append : (xs ys : List ℕ) → Each1 (λ x. x < p) xs → Each1 (λ x. x < p) ys → Each1 (λ x. x < p) (xs ++ ys)
+  below-append [] ys h g = g
+  below-append (x ∷ xs) ys h g = (h.0, below-append xs ys h.1 g)
+
+  below-picked : (xs : List ℕ) → Each1 (λ x. x < p) xs → (ks : List ℕ) → Each1 (λ x. x < p) (pick_l 0 xs ks)
+  below-picked xs h [] = tt
+  below-picked xs h (k ∷ ks) = (below_at xs h k, below-picked xs h ks)
+
+-- lane s of two concatenated vectors
+side_by_side : (p n : ℕ) (x y : List ℕ) → length x ≡ n → (s : ℕ) → s < n →
+    get_or (x ++ y) s 0 + p * get_or (x ++ y) (n + s) 0 ≡ get_or x s 0 + p * get_or y s 0
+side_by_side p n x y long s h =
+    let here : s < length x = omega arith in
+    let after : n + s - n ≡ s = omega arith in
+    ap₂ (λ a b. a + p * b) (get_or_append_left x y 0 s here)
+    (get_or-append_right x y n _ 0 long (omega arith) ∙ ap (λ k. get_or y k 0) after)
+
+-- lane s of both vectors, moved next to each other and read as one lane of twice the width
+pub turned_lane : (w : Width) (q n m : ℕ) (x y : List ℕ) (order : List ℕ) (j s : ℕ) →
+    q ≡ (2 ^ bits w) ^ 2 → (2 ^ bits w) ^ length order ≡ 256 ^ 16 →
+    length x ≡ m → Each1 (Fits w) x → Each1 (Fits w) y → j < n → suc (2 * j) < length order → s < m →
+    get_or order (2 * j) 0 ≡ s → get_or order (suc (2 * j)) 0 ≡ m + s →
+    get_or (digits_l q n (number_l 256 (digits_l 256 16 (number_l (2 ^ bits w) (pick_l 0 (x ++ y) order))))) j 0
+    ≡ get_or x s 0 + 2 ^ bits w * get_or y s 0
+turned_lane w q n m x y order j s square whole long fits_x fits_y h within hs first second =
+    let p : ℕ = 2 ^ bits w in
+    let some : 0 < p = pow_pos _ in
+    let lanes : List ℕ = pick_l 0 _ _ in
+    let count : length lanes ≡ length order = length-map _ _ in
+    let small = below-picked p some _ (below-append p some x y (below_from_Fits w x fits_x) (below_from_Fits w y fits_y)) _ in
+    let at = λ (i : ℕ) (hi : i < length order). get_or-map (λ k. get_or (x ++ y) k 0) order i 0 0 hi in
+    joined_lane p q n lanes square (ap (λ k. p ^ k) count ∙ whole) small j h (omega arith)
+    ∙ ap₂ (λ a b. a + p * b) (at (2 * j) (omega arith) ∙ ap (λ k. get_or (x ++ y) k 0) first)
+    (at (suc (2 * j)) within ∙ ap (λ k. get_or (x ++ y) k 0) second)
+    ∙ side_by_side p m x y long s hs
+
+-- the result, in one lane, of an operation whose second vector has the same number in all lanes
+lane_by : (f : ℕ → ℕ → ℕ) (x : List ℕ) (m n s : ℕ) → length x ≡ m → s < m →
+    get_or (zip2 f x (replicate m n)) s 0 ≡ f (get_or x s 0) n
+lane_by f x m n s long h =
+    get_or-zip2 f x _ s 0 0 0 (omega arith) (omega (arith, length-replicate m n))
+    ∙ ap (f (get_or x s 0)) (get_or-replicate m s n 0 h)
+
+module _ (x y : List ℕ) (long_x : length x ≡ 8) (long_y : length y ≡ 8) where
+  sum_lane : (f g : ℕ → ℕ → ℕ) (m n s : ℕ) → s < 8 →
+      get_or (zip2 (λ a b. (a + b) % 2 ^ 16) (zip2 f x (replicate 8 m)) (zip2 g y (replicate 8 n))) s 0
+      ≡ (f (get_or x s 0) m + g (get_or y s 0) n) % 2 ^ 16
+  sum_lane f g m n s h =
+      let long_f : length (zip2 f x (replicate 8 m)) ≡ 8 = length-zip2 f x (replicate 8 m) long_x ∙ long_x in
+      let long_g : length (zip2 g y (replicate 8 n)) ≡ 8 = length-zip2 g y (replicate 8 n) long_y ∙ long_y in
+      get_or-zip2 _ _ _ s 0 0 0 (omega arith) (omega arith)
+      ∙ ap₂ (λ a b. (a + b) % 2 ^ 16) (lane_by f x 8 m s long_x h) (lane_by g y 8 n s long_y h)
+
+  pub lower_lane : (s : ℕ) → s < 8 →
+      get_or (zip2 (λ a b. (a + b) % 2 ^ 16) (zip2 bit_and x (replicate 8 255)) (zip2 (λ a b. a * 2 ^ b % 2 ^ 16) y (replicate 8 8))) s 0
+      ≡ get_or x s 0 % 256 + 256 * (get_or y s 0 % 256)
+  lower_lane s h =
+      sum_lane _ _ 255 8 s h
+      ∙ ap (λ a. (a + get_or y s 0 * 256 % 65536) % 65536) (and_mask _ 8)
+      ∙ omega arith
+
+  pub upper_lane : Each1 (Fits w16) x → Each1 (Fits w16) y → (s : ℕ) → s < 8 →
+      get_or (zip2 (λ a b. (a + b) % 2 ^ 16) (zip2 (λ a b. a / 2 ^ b) x (replicate 8 8)) (zip2 bit_and y (replicate 8 65280))) s 0
+      ≡ get_or x s 0 / 256 % 256 + 256 * (get_or y s 0 / 256 % 256)
+  upper_lane fits_x fits_y s h =
+      let small_x = below_at _ (pow_pos 16) x (below_from_Fits w16 x fits_x) s in
+      let small_y = below_at _ (pow_pos 16) y (below_from_Fits w16 y fits_y) s in
+      sum_lane (λ a b. a / 2 ^ b) bit_and 8 65280 s h
+      ∙ ap (λ b. (get_or x s 0 / 256 + b) % 65536) (and_high_mask 16 8 (omega arith) (get_or y s 0) small_y)
+      ∙ omega arith
+
+  pub length-sums : (f g : ℕ → ℕ → ℕ) (m n : ℕ) →
+      length (zip2 (λ a b. (a + b) % 2 ^ 16) (zip2 f x (replicate 8 m)) (zip2 g y (replicate 8 n))) ≡ 8
+  length-sums f g m n =
+      let long_f : length (zip2 f x (replicate 8 m)) ≡ 8 = length-zip2 f x (replicate 8 m) long_x ∙ long_x in
+      let long_g : length (zip2 g y (replicate 8 n)) ≡ 8 = length-zip2 g y (replicate 8 n) long_y ∙ long_y in
+      length-zip2 _ _ _ (long_f ∙ sym long_g) ∙ long_f
+
+-- two adjacent octets, read as one 16-bit lane
+pub pair_lane : (octets : List ℕ) (from s : ℕ) → from + 16 ≤ length octets → ((k : ℕ) → Fits w8 (get_or octets k 0)) →
+    s < 8 → get_or (digits_l 65536 8 (number_l 256 (chunk 0 16 (mid_of from (from + 16 - from) octets)))) s 0
+    ≡ get_or octets (from + 2 * s) 0 + 256 * get_or octets (from + suc (2 * s)) 0
+pair_lane octets from s room fits h =
+    let part : List ℕ = chunk _ 16 octets in
+    let lanes : List ℕ = chunk 0 16 _ in
+    let whole : from + 16 - from ≡ 16 = omega arith in
+    let long : length lanes ≡ 16 = length-chunk 0 16 _ (omega (arith, length-chunk)) in
+    let small = Each1-chunk (λ x. x < 256) 0 16 part (below_from_Fits w8 part (chunk-fits w8 from 16 octets fits)) in
+    let at = λ (k : ℕ) (hk : k < 16).
+    get_or-chunk 0 16 part k 0 hk ∙ ap (λ m. get_or part m 0) (zero-add k) ∙ get_or-chunk from 16 octets k 0 hk in
+    ap (λ n. get_or (digits_l 65536 8 (number_l 256 (chunk 0 16 (mid_of from n octets)))) s 0) whole
+    ∙ get_or_wider 256 2 65536 8 lanes s refl small h
+    ∙ number-two 256 lanes (2 * s) (omega arith)
+    ∙ ap₂ (λ a b. a + 256 * b) (at (2 * s) (omega arith)) (at (suc (2 * s)) (omega arith))
+
+-- ## ColumnBits: `Columns` holds the coded bits in columns, and each row of a burst is the same bit of consecutive columns.
+
+-- ---- the octets of the columns
+
+-- for each column, the index of the octet that holds it in the packed coded bits
+abbrev order : List ℕ
+order = map (λ q. 8 * q % 57) (range_with_len 0 64)
+
+pub columns_of_packed : (packed : List ℕ) → length packed ≡ 64 → (q : ℕ) → q < 64 →
+    get_or (pick_l 0 (packed ++ packed) order) q 0 ≡ get_or packed (8 * q % 57) 0
+columns_of_packed packed long q hq =
+    let at : get_or order q 0 ≡ 8 * q % 57 = get_or-map-range_with_len (λ q. 8 * q % 57) 0 64 q q 0 hq (omega arith) in
+    let within : 8 * q % 57 < length packed = omega arith in
+    let here : q < length order = omega (arith, length-map-range_with_len) in
+    get_or-map (λ k. get_or (packed ++ packed) k 0) order q 0 0 here
+    ∙ ap (λ k. get_or (packed ++ packed) k 0) at
+    ∙ get_or_append_left packed packed 0 (8 * q % 57) within
+
+-- a list overwritten from index n on
+module _ (n m : ℕ) (first rest second : List ℕ) (within : n ≤ length first) where
+  pub written_before : (q : ℕ) → q < n → get_or (put_mid n m (first ++ rest) second) q 0 ≡ get_or first q 0
+  written_before q hq =
+      let front : q < length first = omega arith in
+      let taken : q < length (take n (first ++ rest)) = omega (arith, length-take n (first ++ rest), length-append first rest) in
+      get_or_append_left _ _ 0 q taken
+      ∙ get_or-take n (first ++ rest) q 0 hq
+      ∙ get_or_append_left first rest 0 q front
+
+  pub written_behind : (q : ℕ) → q < length second → get_or (put_mid n m (first ++ rest) second) (n + q) 0 ≡ get_or second q 0
+  written_behind q hq =
+      let taken : length (take n (first ++ rest)) ≡ n = omega (arith, length-take n (first ++ rest), length-append first rest) in
+      let back : n + q - n ≡ q = omega arith in
+      get_or-append_right _ _ n _ 0 taken (omega arith)
+      ∙ ap (λ k. get_or (second ++ drop m (drop n (first ++ rest))) k 0) back
+      ∙ get_or_append_left second _ 0 q hq
+
+pub AreColumnsOfCodedBits-repeat_columns : (coded packed columns octets : List ℕ) → AreCodedBitsPacked 57 coded packed →
+    ((q : ℕ) → q < 64 → get_or columns q 0 ≡ get_or packed (8 * q % 57) 0) →
+    ((q : ℕ) → q < 57 → get_or octets q 0 ≡ get_or columns q 0) →
+    ((q : ℕ) → q < 64 → get_or octets (57 + q) 0 ≡ get_or columns q 0) → AreColumnsOfCodedBits coded octets
+unfolding coded_bit_of_column
+AreColumnsOfCodedBits-repeat_columns coded packed columns octets are ordered front back = record {
+  each = λ q r hq hr. ap (λ octet. bit_of octet (packed_bit_index r)) (column q hq) ∙ are _ r (omega arith) hr;
+} where
+  column : (q : ℕ) → q < 121 → get_or octets q 0 ≡ get_or packed (8 * q % 57) 0
+  column q hq =
+      elim (cases_lt q 57) [
+        | inl lower ↦ front q lower ∙ ordered q (omega arith)
+        | inr upper ↦
+            let same : 57 + (q - 57) ≡ q = omega arith in
+            let turn : 8 * (q - 57) % 57 ≡ 8 * q % 57 = omega arith in
+            ap (λ n. get_or octets n 0) (sym same)
+            ∙ back _ (omega arith)
+            ∙ ordered (q - 57) (omega arith)
+            ∙ ap (λ n. get_or packed n 0) turn
+      ]
+
+-- ---- the bits of a burst, read from the columns
+
+-- the next position of a row comes from the next column
+pub row_bit : (coded columns : List ℕ) (b place p : ℕ) → AreColumnsOfCodedBits coded columns → b < 4 → place ≤ 90 → p < 16 →
+    let row = b + 4 * (place % 2) in
+    bit_of (get_or columns (8 * row + place / 2 + p) 0) (packed_bit_index row) ≡ get_or coded (coded_index_at b (place + 2 * p)) 0
+unfolding coded_index_at
+row_bit coded columns b place p are hb hj hp =
+    let row : ℕ = b + 4 * (place % 2) in
+    let same : row ≡ b + 4 * ((place + 2 * p) % 2) = omega arith in
+    let column : 8 * row + place / 2 + p ≡ 8 * (b + 4 * ((place + 2 * p) % 2)) + (place + 2 * p) / 2 = omega arith in
+    are.each _ row (omega arith) (omega arith) ∙ ap (λ k. get_or coded k 0) (ap₂ coded_bit_of_column column same)
+
+-- bit i of each of sixteen octets
+module _ (octets : List ℕ) (i : ℕ) (long : length octets ≡ 16) where
+  abbrev lanes : List ℕ
+  lanes = zip2 bit_and (zip2 (λ a b. a / 2 ^ b) (chunk 0 16 octets) (replicate 16 i)) (replicate 16 1)
+
+  length-shifted : length (zip2 (λ a b. a / 2 ^ b) (chunk 0 16 octets) (replicate 16 i)) ≡ 16
+  length-shifted =
+      let read : length (chunk 0 16 octets) ≡ 16 = length-chunk 0 16 _ (omega arith) in
+      length-zip2 _ _ _ read ∙ read
+
+  pub length-bit_lanes : length lanes ≡ 16
+  length-bit_lanes =
+      length-zip2 _ _ _ length-shifted ∙ length-shifted
+
+  pub bit_lane : (p : ℕ) → p < 16 → get_or lanes p 0 ≡ bit_of (get_or octets p 0) i
+  bit_lane p hp =
+      let read : length (chunk 0 16 octets) ≡ 16 = length-chunk 0 16 _ (omega arith) in
+      lane_by _ _ 16 1 p length-shifted hp
+      ∙ and_mask _ 1
+      ∙ ap (λ a. a % 2)
+      (lane_by _ _ 16 i p read hp
+      ∙ ap (λ a. a / 2 ^ i) (get_or-chunk 0 16 octets p 0 hp ∙ ap (λ k. get_or octets k 0) (zero-add p)))
+
+-- two vectors of sixteen lanes, interleaved
+abbrev turns : List ℕ
+turns = map (λ i. i / 2 + 16 * (i % 2)) (range_with_len 0 32)
+
+pub interleave_lanes : (first second : List ℕ) (i : ℕ) → i < 32 →
+    get_or (pick_l 0 (first ++ second) turns) i 0 ≡ get_or (first ++ second) (i / 2 + 16 * (i % 2)) 0
+interleave_lanes first second i hi =
+    let at : get_or turns i 0 ≡ i / 2 + 16 * (i % 2) = get_or-map-range_with_len (λ i. i / 2 + 16 * (i % 2)) 0 32 i i 0 hi
+    (omega arith) in
+    get_or-map (λ k. get_or (first ++ second) k 0) turns i 0 0 (omega (arith, length-map-range_with_len))
+    ∙ ap (λ k. get_or (first ++ second) k 0) at
+
+-- a list of the same length as the vector is overwritten completely
+pub written_whole : (old lanes : List ℕ) (i : ℕ) → length old ≡ 32 → length lanes ≡ 32 → i < 32 →
+    get_or (put_chunk 0 old lanes) i 0 ≡ get_or lanes i 0
+written_whole old lanes i o l hi =
+    ap (λ xs. get_or xs i 0) (put_chunk_is 0 old _ (omega arith)) ∙ get_or_append_left _ _ 0 i (omega arith)
+
+-- two rows, interleaved, are consecutive positions of a burst
+pub turned_places : (coded first second : List ℕ) (b from i : ℕ) → length first ≡ 16 → i < 32 →
+    ((p : ℕ) → p < 16 → get_or first p 0 ≡ get_or coded (coded_index_at b (from + 2 * p)) 0) →
+    ((p : ℕ) → p < 16 → get_or second p 0 ≡ get_or coded (coded_index_at b (from + 1 + 2 * p)) 0) →
+    get_or (first ++ second) (i / 2 + 16 * (i % 2)) 0 ≡ get_or coded (coded_index_at b (from + i)) 0
+turned_places coded first second b from i long hi even odd =
+    let half : i / 2 < 16 = omega arith in
+    elim (cases_lt (i % 2) 1) [
+      | inl lower ↦
+          let here : i / 2 + 16 * (i % 2) ≡ i / 2 = omega arith in
+          let place : from + 2 * (i / 2) ≡ from + i = omega arith in
+          ap (λ k. get_or (first ++ second) k 0) here
+          ∙ get_or_append_left _ second 0 (i / 2) (omega arith)
+          ∙ even (i / 2) half
+          ∙ ap (λ j. get_or coded (coded_index_at b j) 0) place
+      | inr upper ↦
+          let here : i / 2 + 16 * (i % 2) - 16 ≡ i / 2 = omega arith in
+          let place : from + 1 + 2 * (i / 2) ≡ from + i = omega arith in
+          get_or-append_right first second 16 (i / 2 + 16 * (i % 2)) 0 long (omega arith)
+          ∙ ap (λ k. get_or second k 0) here
+          ∙ odd (i / 2) half
+          ∙ ap (λ j. get_or coded (coded_index_at b j) 0) place
+    ]
+
+-- half a burst is written in two parts: positions 0 to 31, and from position 32 on
+pub half_place : (coded front rest back : List ℕ) (b half m i : ℕ) → length front ≡ 32 → length back ≡ 32 → i < 57 →
+    ((j : ℕ) → j < 32 → get_or front j 0 ≡ get_or coded (coded_index_at b (57 * half + j)) 0) →
+    ((j : ℕ) → j < 32 → get_or back j 0 ≡ get_or coded (coded_index_at b (57 * half + 32 + j)) 0) →
+    get_or (put_mid 32 m (front ++ rest) back) i 0 ≡ get_or coded (coded_index_at b (57 * half + i)) 0
+half_place coded front rest back b half m i long long' hi first second =
+    elim (cases_lt i 32) [
+      | inl lower ↦ written_before 32 m _ _ _ (omega arith) i lower ∙ first i (omega arith)
+      | inr upper ↦
+          let same : 32 + (i - 32) ≡ i = omega arith in
+          let place : 57 * half + 32 + (i - 32) ≡ 57 * half + i = omega arith in
+          ap (λ k. get_or (put_mid 32 m (front ++ rest) back) k 0) (sym same)
+          ∙ written_behind 32 m front rest back (omega arith) (i - 32) (omega arith)
+          ∙ second (i - 32) (omega arith)
+          ∙ ap (λ j. get_or coded (coded_index_at b j) 0) place
+    ]

@@ -1,13 +1,13 @@
 -- Block rectangular interleaving of a whole block over four bursts (GSM 05.03 section 4.1.4).
 use Rattle.std.specs.Prelude.{ℕ, ◌≡◌, ◌≢◌, ◌<◌, List, [], ◌∷◌, length, All, slice_index_or}
-use Rattle.interleave.specs.Places.{burst_of_bit, burst_position}
+use Rattle.interleave.specs.Positions.{burst_of_bit, burst_position}
 
 -- the four `bursts` of 114 values each hold the 456 values of `coded` (coded bits or soft bits), each at its interleaved position
 pub record IsInterleaved {X : Type 0} (coded : List X) (bursts : List (List X)) : Type 0 where
   pub coded_count : length coded ≡ 456
   pub burst_count : length bursts ≡ 4
   pub burst_lengths : All (λ burst. length burst ≡ 114) bursts
-  pub places : (k : ℕ) (d : X) → k < 456 →
+  pub positions : (k : ℕ) (d : X) → k < 456 →
       slice_index_or (slice_index_or bursts (burst_of_bit k) []) (burst_position k) d ≡ slice_index_or coded k d
 
 -- `new` results from `old` by deinterleaving burst number `b`: each of the 114 values of `burst` is written to the index of its coded bit,
@@ -18,7 +18,7 @@ pub record IsBurstDeinterleaved {X : Type 0} (b : ℕ) (burst old new : List X) 
       slice_index_or new k d ≡ slice_index_or burst (burst_position k) d
   pub unchanged_bits : (k : ℕ) (d : X) → k < 456 → burst_of_bit k ≢ b → slice_index_or new k d ≡ slice_index_or old k d
 
--- the last list results from the one before it by deinterleaving bursts one after another, in the order of the given burst numbers
+-- deinterleaving the bursts in the order of these burst numbers turns the first list of coded values into the second
 abbrev pub AreDeinterleaved : {X : Type 0} → List (List X) → List ℕ → List X → List X → Type 0
 AreDeinterleaved bursts [] old new = old ≡ new
 AreDeinterleaved {X} bursts (b ∷ order) old new =

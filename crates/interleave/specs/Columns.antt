@@ -1,7 +1,7 @@
 -- The coded bits of a block packed into octets, one octet for each column (this project's own layout).
 use Rattle.std.specs.Prelude.{ℕ, ◌≡◌, ◌<◌, List, slice_index}
 use Rattle.bit_blocks.specs.Packed.{bit_of, packed_bit_index}
-use Rattle.interleave.specs.ColumnPlaces.{coded_bit_of_column}
+use Rattle.interleave.specs.ColumnPositions.{coded_bit_of_column}
 
 -- each of the first 121 octets of `columns` holds the eight bits of one column of `coded`: columns 0 to 56, then columns 0 to 63, where
 -- columns 57 to 63 repeat columns 0 to 6

@@ -1,4 +1,4 @@
 pub mod Bursts
-pub mod ColumnPlaces
+pub mod ColumnPositions
 pub mod Columns
-pub mod Places
+pub mod Positions

@@ -1,15 +1,15 @@
-//! Interleaves packed coded bits. The even positions of a burst come from one bit position of consecutive octets, and so do the odd
-//! positions, so sixteen octets are processed at a time.
+//! Interleaves packed coded bits. The bits at the even positions of a burst come from one bit position of consecutive octets, and those at
+//! the odd positions from another, so sixteen octets are processed at a time.
 ghost use Rattle.std.specs.Prelude.{◌≡◌, ℕ, ◌+◌, ◌*◌, ◌/◌, ◌%◌, ◌<◌, ◌≤◌, ◌++◌, List, [], length};
 ghost use Rattle.std.specs.Prelude.{slice_index, slice_index_or, slice_range};
 ghost use Rattle.bit_blocks.specs.Packed.{AreCodedBitsPacked, bit_of};
 ghost use Rattle.interleave.specs.Bursts.{IsInterleaved};
-ghost use Rattle.interleave.specs.ColumnPlaces.{coded_index_at};
+ghost use Rattle.interleave.specs.ColumnPositions.{coded_index_at};
 ghost use Rattle.interleave.specs.Columns.{AreColumnsOfCodedBits};
 
 use std::simd::prelude::*;
 
-/// The coded bits of a block, packed into one octet for each column, with the columns in the order in which the bursts use them.
+/// The coded bits of a block, packed into one octet for each column. The columns are in the order in which the bursts use them.
 #[derive(Clone, Copy)]
 pub struct Columns {
     octets: [u8; 128],
@@ -54,7 +54,7 @@ impl Columns {
         out.copy_from_slice(&bits[..57]);
     }
 
-    /// Writes the bits at 32 positions of burst `b`, from position `from` on.
+    /// Writes the bits at 32 positions of burst `b`, starting at position `from`.
     fn write_32_positions(&self, b: usize, from: usize, out: &mut [u8])
         requires burst { b < 4 }
         requires from { from ≤ 89 }
@@ -69,7 +69,7 @@ impl Columns {
         .copy_to_slice(out);
     }
 
-    /// Returns sixteen bits of burst `b`, at every other position from `place` on: one bit of each of sixteen consecutive columns.
+    /// Returns sixteen bits of burst `b`, at every other position starting at `place`: one bit of each of sixteen consecutive columns.
     fn sixteen_row_bits(&self, b: usize, place: usize) -> u8x16
         requires burst { b < 4 }
         requires place { place ≤ 90 }
@@ -103,7 +103,7 @@ fn repeat_columns(columns: &[u8; 64]) -> [u8; 128]
     octets
 }
 
-/// Bit `i` of each of sixteen octets.
+/// Returns bit `i` of each of sixteen octets.
 fn bit_of_each_octet(octets: &[u8], i: usize) -> u8x16
     requires count { length octets.now ≡ 16 }
     requires bit { i < 8 }
@@ -113,7 +113,7 @@ fn bit_of_each_octet(octets: &[u8], i: usize) -> u8x16
     (u8x16::from_slice(octets) >> u8x16::splat(i as u8)) & u8x16::splat(1)
 }
 
-/// The lanes of both vectors, interleaved: lane 0 of `first`, lane 0 of `second`, lane 1 of `first`, and so on.
+/// Interleaves the lanes of both vectors: lane 0 of `first`, lane 0 of `second`, lane 1 of `first`, and so on.
 fn interleave_lanes(first: u8x16, second: u8x16) -> u8x32
     requires first { length first ≡ 16 }
     requires second { length second ≡ 16 }

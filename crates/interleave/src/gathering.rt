@@ -1,10 +1,10 @@
-//! Deinterleaving: brings the soft bits of the bursts into the order of the coded bits.
+//! Deinterleaving: puts the soft bits of the bursts back into the order of the coded bits.
 ghost use Rattle.std.specs.Prelude.{◌≡◌, ◌≢◌, ℕ, ℤ, pos, ◌+◌, ◌*◌, ◌/◌, ◌%◌, ◌^◌, ◌<◌, ◌≤◌};
 ghost use Rattle.std.specs.Prelude.{◌++◌, List, [], map, length, slice_index, slice_index_or};
 ghost use Rattle.std.specs.Int.{cast_signed, w8};
 ghost use Rattle.interleave.specs.Bursts.{IsInterleaved, IsBurstDeinterleaved};
-ghost use Rattle.interleave.specs.ColumnPlaces.{coded_bit_of_column, column_bit_position};
-ghost use Rattle.interleave.specs.Places.{burst_of_bit, burst_position};
+ghost use Rattle.interleave.specs.ColumnPositions.{coded_bit_of_column, column_bit_position};
+ghost use Rattle.interleave.specs.Positions.{burst_of_bit, burst_position};
 
 use crate::joining::eight_columns;
 use crate::table::coded_bit_numbers;
@@ -41,7 +41,7 @@ fn as_octets(part: &[i8; 114]) -> [u8; 114]
     octets
 }
 
-/// The soft bits of column 56, the only one that is in no group of eight columns.
+/// Returns the soft bits of column 56, the only column outside the groups of eight.
 fn last_column(parts: &[[u8; 114]; 4]) -> [u8; 8]
     ensures { (r : ℕ) → r < 8 →
         slice_index result r ≡ slice_index (slice_index_or parts.now (r % 4) []) (column_bit_position 56 r) }
@@ -58,7 +58,7 @@ fn last_column(parts: &[[u8; 114]; 4]) -> [u8; 8]
     ]
 }
 
-/// Writes the soft bits of eight columns, from column `8 * group` on.
+/// Writes the soft bits of eight columns, starting at column `8 * group`.
 fn write_columns(columns: &[u64; 8], group: usize, soft: &mut [i8; CODED_BITS])
     requires { group < 7 }
     ensures updated_bits { (s r : ℕ) → s < 8 → r < 8 →

@@ -2,11 +2,11 @@
 //! eight rows. Octets are joined into pairs, pairs into fours, and fours into the eight octets of a column.
 ghost use Rattle.std.specs.Prelude.{◌≡◌, ℕ, ◌+◌, ◌*◌, ◌/◌, ◌%◌, ◌^◌, ◌<◌, ◌≤◌, [], length};
 ghost use Rattle.std.specs.Prelude.{slice_index, slice_index_or};
-ghost use Rattle.interleave.specs.ColumnPlaces.{column_bit_position};
+ghost use Rattle.interleave.specs.ColumnPositions.{column_bit_position};
 
 use std::simd::prelude::*;
 
-/// Returns eight columns, from column `8 * group` on. Each is one number whose least significant octet belongs to row 0.
+/// Returns eight columns, starting at column `8 * group`. Each is one number whose least significant octet belongs to row 0.
 pub(crate) fn eight_columns(parts: &[[u8; 114]; 4], group: usize) -> [u64; 8]
     requires { group < 7 }
     ensures { (s r : ℕ) → s < 8 → r < 8 →
@@ -14,21 +14,21 @@ pub(crate) fn eight_columns(parts: &[[u8; 114]; 4], group: usize) -> [u64; 8]
         ≡ slice_index (slice_index_or parts.now (r % 4) []) (column_bit_position (8 * group + s) r) }
 {
     let (a, b) = join_octet_pairs(
-        lower_octets(
+        join_lower_octets(
             octet_pairs(&parts[0], column_in_row(group, 0)),
             octet_pairs(&parts[1], column_in_row(group, 1)),
         ),
-        lower_octets(
+        join_lower_octets(
             octet_pairs(&parts[2], column_in_row(group, 2)),
             octet_pairs(&parts[3], column_in_row(group, 3)),
         ),
     );
     let (c, d) = join_octet_pairs(
-        upper_octets(
+        join_upper_octets(
             octet_pairs(&parts[0], column_in_row(group, 4)),
             octet_pairs(&parts[1], column_in_row(group, 5)),
         ),
-        upper_octets(
+        join_upper_octets(
             octet_pairs(&parts[2], column_in_row(group, 6)),
             octet_pairs(&parts[3], column_in_row(group, 7)),
         ),
@@ -63,7 +63,7 @@ fn octet_pairs(part: &[u8], from: usize) -> u16x8
 }
 
 /// Joins the lower octets of `x` and `y` in each lane; the octet of `x` becomes the lower half.
-fn lower_octets(x: u16x8, y: u16x8) -> u16x8
+fn join_lower_octets(x: u16x8, y: u16x8) -> u16x8
     requires x { length x ≡ 8 }
     requires y { length y ≡ 8 }
     ensures count { length result ≡ 8 }
@@ -73,7 +73,7 @@ fn lower_octets(x: u16x8, y: u16x8) -> u16x8
 }
 
 /// Joins the upper octets of `x` and `y` in each lane; the octet of `x` becomes the lower half.
-fn upper_octets(x: u16x8, y: u16x8) -> u16x8
+fn join_upper_octets(x: u16x8, y: u16x8) -> u16x8
     requires x { length x ≡ 8 }
     requires y { length y ≡ 8 }
     ensures count { length result ≡ 8 }

@@ -1,7 +1,7 @@
 //! Properties of the interleaving as laws: a law is a function with an empty body whose contract states a theorem.
 ghost use Rattle.std.specs.Prelude.{◌≡◌, ℕ, ℤ, ◌<◌, List, All, Contains, length};
 ghost use Rattle.interleave.specs.Bursts.{IsInterleaved, AreDeinterleaved};
-ghost use Rattle.interleave.specs.Places.{burst_of_bit, burst_position, four_burst_position};
+ghost use Rattle.interleave.specs.Positions.{burst_of_bit, burst_position, four_burst_position};
 
 use bit_blocks::CODED_BITS;
 
@@ -16,7 +16,7 @@ pub fn law_positions_are_one_to_one()
     ensures distinct { (k l : ℕ) → k < CODED_BITS → l < CODED_BITS → four_burst_position k ≡ four_burst_position l → k ≡ l }
 {}
 
-/// Law: deinterleaving the four bursts in any order gives the soft bits of the whole block.
+/// Law: deinterleaving the four bursts in any order produces the soft bits of the whole block.
 pub fn law_deinterleave_any_order()
     ensures { (bursts : List (List ℤ)) (order : List ℕ) (old new : List ℤ) →
         length old ≡ CODED_BITS → length bursts ≡ 4 → All (λ burst. length burst ≡ 114) bursts →

@@ -1,9 +1,9 @@
-//! Interleaves coded bits with a table that gives the coded bit at each position.
+//! Interleaves coded bits with a lookup table of the coded bit at each position.
 ghost use Rattle.std.specs.Prelude.{◌≡◌, ℕ, ◌+◌, ◌*◌, ◌<◌, ◌≤◌, List, [], All, length, slice_index};
 ghost use Rattle.std.specs.Prelude.{slice_index_or, slice_range};
 ghost use Rattle.bit_blocks.specs.Bits.{AllBits};
 ghost use Rattle.interleave.specs.Bursts.{IsInterleaved};
-ghost use Rattle.interleave.specs.Places.{burst_of_bit, burst_position};
+ghost use Rattle.interleave.specs.Positions.{burst_of_bit, burst_position};
 
 use crate::table::coded_bit_numbers;
 use bit_blocks::CODED_BITS;

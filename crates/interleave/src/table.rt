@@ -1,7 +1,7 @@
-//! The inverse of the interleaving, as a table: for each position, the number of its coded bit. Computing it by the formula takes four
-//! times as many instructions.
+//! The inverse of the interleaving, as a table: for each position, the number of its coded bit. The formula would take four times as many
+//! instructions.
 ghost use Rattle.std.specs.Prelude.{◌≡◌, ℕ, ◌+◌, ◌*◌, ◌<◌, ◌≤◌, slice_index};
-ghost use Rattle.interleave.specs.ColumnPlaces.{coded_index_at};
+ghost use Rattle.interleave.specs.ColumnPositions.{coded_index_at};
 
 use bit_blocks::CODED_BITS;
 

@@ -1,6 +1,1 @@
-pub mod Rules
-pub mod RulesInSequence
-pub mod Moves
-mod PartsOfEnds
-mod Represented
-pub mod SideSteps
+pub mod Lemmas

@@ -10,7 +10,7 @@ use Rattle.lapdm_end.specs.Abstraction.{channel_of, sapi_of, state_of}
 use Rattle.lapdm_end.specs.declared.replies.Reply.{Reply}
 use Rattle.lapdm_end.specs.declared.replies.Reply.TheVariants as C
 
--- translates a program `Reply` into a specification `Reply`
+-- the specification's `Reply` for this Rust `Reply`
 abbrev pub reply_of : Reply → T.Reply
 reply_of C.Nothing = T.Nothing
 reply_of C.Dm = T.SendsDm
@@ -19,7 +19,7 @@ reply_of (C.AcceptSabm info) = T.AcceptsSabm info.now
 reply_of (C.Opened info) = T.ConfirmsEstablishment info.now
 reply_of (C.Closed reason) = T.ClosesLink reason
 reply_of C.Released = T.AcceptsDisc
-reply_of (C.Unit info) = T.TakesUnit info.now
+reply_of (C.Unit info) = T.TakesUi info.now
 reply_of (C.I ns nr p more info) = T.TakesI ns nr p (info.now, more)
 reply_of (C.Rr nr poll) = T.TakesRr nr poll
 reply_of (C.Rej nr poll) = T.TakesRej nr poll
@@ -30,7 +30,7 @@ pub record MayAcceptSabmWith (m : Endpoint) (info : Message) : Type 0 where
   pub fits : length info ≤ n201 (channel_of m)
   pub empty_on_sapi3 : sapi_of m ≡ Three → info ≡ []
 
--- the endpoint can give this reply in its state, and the sequence numbers and information in the reply are within range
+-- the endpoint can choose this reply in its state, and the sequence numbers and information in the reply are in range
 abbrev pub IsPossibleReply : Endpoint → Reply → Type 0
 IsPossibleReply m (C.Ua info) = length info.now ≤ n201 (channel_of m)
 IsPossibleReply m (C.AcceptSabm info) = MayAcceptSabmWith m info.now

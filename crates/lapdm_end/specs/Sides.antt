@@ -1,4 +1,4 @@
--- The abstraction relation of `Side`, and what it means for its calls to implement the specification.
+-- The abstraction relation of `Side`, and when its calls implement the specification.
 use Rattle.std.specs.Prelude.{◌≡◌, map}
 use Rattle.lapdm_frame.specs.declared.Channel.{Channel}
 use Rattle.lapdm_frame.specs.Frames.{octets_of}
@@ -24,20 +24,19 @@ other Three = Zero
 abbrev pub channel_of : Side → Channel
 channel_of m = L.channel_of m.link0
 
--- the two endpoints of the program's side `m` represent those of the abstract side `a`
+-- the two endpoints of the Rust side `m` represent the endpoints of the abstract side `a`
 pub record Represents (m : Side) (a : SideState) : Type 0 where
   pub link0 : L.Represents m.link0 a.link0
   pub link3 : L.Represents m.link3 a.link3
 
--- the program has carried out step `d` of a side: it returned the SAPI, frames and notices of `d`, and side `new` represents the state
--- after `d`
+-- the Rust side has carried out step `d`: it returned the SAPI, frames and notices of `d`, and `new` represents the state after `d`
 pub record CarriesOutStep (channel : Channel) (d : SideStep) (sapi : Sapi) (effects : Effects) (new : Side) : Type 0 where
-  pub represents : Represents new d.after
+  pub represents : Represents new d.new_state
   pub sapi_matches : sapi ≡ d.sapi
   pub frames : effects.frames ≡ map (octets_of channel) d.frames
   pub notices : effects.notices ≡ d.notices
 
--- for every state that the old `Side` represents, the SAPI, the effects and the new `Side` are those of this step of the specification
+-- for every state that the old `Side` represents, the SAPI, the effects and the new `Side` are those of this step
 abbrev pub StepRefines : (SideState → SideStep) → Side → Sapi → Effects → Side → Type 0
 StepRefines side_step old sapi effects new = (a : SideState) → Represents old a →
     CarriesOutStep (channel_of old) (side_step a) sapi effects new

@@ -1,4 +1,4 @@
-//! The entry points of an endpoint: for the calls of layer 3, and for the frames that it receives. A refused call changes nothing.
+//! The entry points of an endpoint, for layer 3 calls and received frames. A refused call changes nothing.
 
 ghost use Rattle.std.specs.Prelude.{◌≡◌, OnErr, OnOk, IfOk};
 ghost use Rattle.lapdm_frame.specs.Content.{frame_of};
@@ -12,14 +12,14 @@ use lapdm_window::{Call, Effects, Refused};
 
 impl Endpoint {
     ghost use Rattle.lapdm_end.specs.Abstraction.{channel_of, sapi_of};
-    ghost use Rattle.lapdm_end.specs.Refinement.{StepRefines, RefusesAsDefined};
+    ghost use Rattle.lapdm_end.specs.Refinement.{StepRefines, RefusesAsSpecified};
 
     /// Carries out a layer 3 call and replaces the effects with its frames and notices. A refused call leaves the effects unchanged.
-    // Inlined because most callers pass a constant call, so that only one arm of the match remains.
+    // Inlined because most callers pass a constant call, which leaves only one arm of the match.
     #[inline(always)]
     pub fn call(&mut self, call: &Call<'_>, effects: &mut Effects) -> Result<(), Refused>
         requires { IsCallOfSapi (sapi_of self.old) (call_of call.now) }
-        ensures refusal { RefusesAsDefined (call_of call.now) self.old result }
+        ensures refusal { RefusesAsSpecified (call_of call.now) self.old result }
         ensures refines { OnOk result
             (StepRefines (call_outcome (call_of call.now)) self.old effects.new self.new) }
         ensures refused { OnErr result (self.new ≡ self.old) }
@@ -45,7 +45,7 @@ impl Endpoint {
     /// Carries out a layer 3 call and returns its frames and notices.
     pub fn call_returning_effects(&mut self, call: &Call<'_>) -> Result<Effects, Refused>
         requires { IsCallOfSapi (sapi_of self.old) (call_of call.now) }
-        ensures refusal { RefusesAsDefined (call_of call.now) self.old result }
+        ensures refusal { RefusesAsSpecified (call_of call.now) self.old result }
         ensures refines { IfOk result
             (λ effects. StepRefines (call_outcome (call_of call.now)) self.old effects self.new) }
         ensures refused { OnErr result (self.new ≡ self.old) }

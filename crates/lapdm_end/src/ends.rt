@@ -14,28 +14,28 @@ use lapdm_window::{Effects, Message, Reason, Refused, Sapi, State, Timer, Window
 pub struct Endpoint {
     pub(crate) window: Window,
     // The information of the SABM that this endpoint sent, or of the SABM that established its link.
-    pub(crate) kept: Message,
-    pub(crate) link: Address,
+    pub(crate) sabm_info: Message,
+    pub(crate) address: Address,
     pub(crate) state: State,
-    // How often the SABM or DISC that awaits an answer has been repeated.
+    // How many times the SABM or DISC that awaits an answer has been repeated.
     pub(crate) retries: u8,
-    ghost one_channel: { window_channel window ≡ link.channel },
-    ghost kept_fits: { length kept ≤ n201 link.channel },
+    ghost one_channel: { window_channel window ≡ address.channel },
+    ghost sabm_info_fits: { length sabm_info ≤ n201 address.channel },
 }
 
 impl Endpoint {
     ghost use Rattle.std.specs.Prelude.{[], ◌∷◌, OnErr, OnOk, IfNone};
     ghost use Rattle.lapdm_frame.specs.Frames.{octets_of};
     ghost use Rattle.lapdm_window.specs.declared.State.TheVariants as S;
-    ghost use Rattle.lapdm_window.specs.Ends.{EndState, start};
+    ghost use Rattle.lapdm_window.specs.Ends.{EndpointState, start};
     ghost use Rattle.lapdm_window.specs.Calls.{first_refusal, frame_refusals, call_outcome, sends_sabm, sabm, disc, t200_expiry, Opens};
-    ghost use Rattle.lapdm_window.specs.Calls.{OpensBare};
+    ghost use Rattle.lapdm_window.specs.Calls.{OpensWithoutInfo};
     ghost use Rattle.lapdm_window.specs.Calls.{Sends};
-    ghost use Rattle.lapdm_window.specs.Calls.{SendsUnit, Closes, T200Expires, SendsFill};
+    ghost use Rattle.lapdm_window.specs.Calls.{SendsUi, Closes, T200Expires, SendsFill};
     ghost use Rattle.lapdm_window.specs.Tables.{closes_and_reports};
     ghost use Rattle.lapdm_end.specs.Addresses.{role_of};
     ghost use Rattle.lapdm_end.specs.Abstraction.{Represents, channel_of, sapi_of, state_of};
-    ghost use Rattle.lapdm_end.specs.Refinement.{StepRefines, RefusesAsDefined};
+    ghost use Rattle.lapdm_end.specs.Refinement.{StepRefines, RefusesAsSpecified};
 
     /// Creates an endpoint in Idle, with this role, SAPI and channel.
     pub fn new_on(role: Role, sapi: Sapi, channel: Channel) -> Endpoint
@@ -45,8 +45,8 @@ impl Endpoint {
     {
         Endpoint {
             window: Window::new_on(channel),
-            kept: Message::new(&[]),
-            link: Address {
+            sabm_info: Message::new(&[]),
+            address: Address {
                 role,
                 sapi,
                 channel,
@@ -58,13 +58,13 @@ impl Endpoint {
 
     pub fn sapi(&self) -> Sapi
         ensures sapi { result ≡ sapi_of self.now }
-        ensures represents { (e : EndState) → Represents self.now e → result ≡ e.sapi }
+        ensures represents { (e : EndpointState) → Represents self.now e → result ≡ e.sapi }
     {
-        self.link.sapi
+        self.address.sapi
     }
 
     pub fn state(&self) -> State
-        ensures { (e : EndState) → Represents self.now e → result ≡ e.state }
+        ensures { (e : EndpointState) → Represents self.now e → result ≡ e.state }
     {
         self.state
     }
@@ -72,7 +72,7 @@ impl Endpoint {
     /// Begins to establish the link: sends a SABM with this information.
     pub(crate) fn open_into(&mut self, info: &[u8], effects: &mut Effects) -> Result<(), Refused>
         requires { sapi_of self.old ≡ Sapi.Zero }
-        ensures refusal { RefusesAsDefined (Opens info.now) self.old result }
+        ensures refusal { RefusesAsSpecified (Opens info.now) self.old result }
         ensures refines { OnOk result
             (StepRefines (call_outcome (Opens info.now)) self.old effects.new self.new) }
         ensures refused { OnErr result (self.new ≡ self.old) }
@@ -93,9 +93,9 @@ impl Endpoint {
     /// Begins to establish the link: sends a SABM without information.
     pub(crate) fn open_bare_into(&mut self, effects: &mut Effects) -> Result<(), Refused>
         requires { sapi_of self.old ≡ Sapi.Three }
-        ensures refusal { RefusesAsDefined OpensBare self.old result }
+        ensures refusal { RefusesAsSpecified OpensWithoutInfo self.old result }
         ensures refines { OnOk result
-            (StepRefines (call_outcome OpensBare) self.old effects.new self.new) }
+            (StepRefines (call_outcome OpensWithoutInfo) self.old effects.new self.new) }
         ensures refused { OnErr result (self.new ≡ self.old) }
         ensures out_unchanged { OnErr result (effects.new ≡ effects.old) }
         ensures sapi { sapi_of self.new ≡ sapi_of self.old }
@@ -110,7 +110,7 @@ impl Endpoint {
 
     /// Sends a message in I frames, which the other endpoint acknowledges.
     pub(crate) fn send_into(&mut self, message: &[u8], effects: &mut Effects) -> Result<(), Refused>
-        ensures refusal { RefusesAsDefined (Sends message.now) self.old result }
+        ensures refusal { RefusesAsSpecified (Sends message.now) self.old result }
         ensures refines { OnOk result
             (StepRefines (call_outcome (Sends message.now)) self.old effects.new self.new) }
         ensures refused { OnErr result (self.new ≡ self.old) }
@@ -125,7 +125,7 @@ impl Endpoint {
             return Err(refusal);
         }
         effects.clear();
-        self.link.send_next(&mut self.window, effects);
+        self.address.send_next(&mut self.window, effects);
         Ok(())
     }
 
@@ -135,9 +135,9 @@ impl Endpoint {
         message: &[u8],
         effects: &mut Effects,
     ) -> Result<(), Refused>
-        ensures refusal { RefusesAsDefined (SendsUnit message.now) self.old result }
+        ensures refusal { RefusesAsSpecified (SendsUi message.now) self.old result }
         ensures refines { OnOk result
-            (StepRefines (call_outcome (SendsUnit message.now)) self.old effects.new self.new) }
+            (StepRefines (call_outcome (SendsUi message.now)) self.old effects.new self.new) }
         ensures unchanged { self.new ≡ self.old }
         ensures out_unchanged { OnErr result (effects.new ≡ effects.old) }
     {
@@ -148,13 +148,13 @@ impl Endpoint {
             p: false,
             info: message,
         };
-        self.link.send_only_command(body, effects);
+        self.address.send_only_command(body, effects);
         Ok(())
     }
 
     /// Begins to release the link: sends a DISC. Unacknowledged messages are discarded.
     pub(crate) fn close_into(&mut self, effects: &mut Effects) -> Result<(), Refused>
-        ensures refusal { RefusesAsDefined Closes self.old result }
+        ensures refusal { RefusesAsSpecified Closes self.old result }
         ensures refines { OnOk result
             (StepRefines (call_outcome Closes) self.old effects.new self.new) }
         ensures refused { OnErr result (self.new ≡ self.old) }
@@ -173,7 +173,7 @@ impl Endpoint {
 
     /// Handles T200 expiry.
     pub(crate) fn t200_expiry_into(&mut self, effects: &mut Effects) -> Result<(), Refused>
-        ensures refusal { RefusesAsDefined T200Expires self.old result }
+        ensures refusal { RefusesAsSpecified T200Expires self.old result }
         ensures refines { OnOk result
             (StepRefines (call_outcome T200Expires) self.old effects.new self.new) }
         ensures refused { OnErr result (self.new ≡ self.old) }
@@ -199,19 +199,19 @@ impl Endpoint {
     pub fn send_fill_into(&self, effects: &mut Effects)
         ensures { StepRefines (call_outcome SendsFill) self.now effects.new self.now }
     {
-        self.link.fill(effects);
+        self.address.send_only_fill(effects);
     }
 
-    // Why this message cannot be sent in one frame, or `None` if it can: it is empty, or longer than N201.
+    // Returns why this message cannot be sent in one frame (it is empty or longer than N201), or `None` if it can.
     fn frame_refusal(&self, message: &[u8]) -> Option<Refused>
-        ensures refusal { (e : EndState) → Represents self.now e
+        ensures refusal { (e : EndpointState) → Represents self.now e
             → result ≡ first_refusal (frame_refusals message.now e) }
         ensures fits { IfNone result (length message.now ≤ n201 (channel_of self.now)) }
     {
         if message.is_empty() {
             return Some(Refused::Empty);
         }
-        if message.len() > self.link.channel.n201() {
+        if message.len() > self.address.channel.n201() {
             return Some(Refused::TooLong);
         }
         None
@@ -226,32 +226,33 @@ impl Endpoint {
         ensures channel { channel_of self.new ≡ channel_of self.old }
     {
         self.state = State::Opening;
-        self.kept = Message::new(info);
+        self.sabm_info = Message::new(info);
         self.retries = 0;
         self.sabm(effects);
     }
 
     fn sabm(&self, effects: &mut Effects)
-        ensures frames { (e : EndState) → Represents self.now e
+        ensures frames { (e : EndpointState) → Represents self.now e
             → effects.new.frames ≡ octets_of e.channel (sabm e) ∷ [] }
         ensures notices { effects.new.notices ≡ [] }
     {
         let body = Body::Sabm {
             p: true,
-            info: self.kept.octets(),
+            info: self.sabm_info.octets(),
         };
-        self.link.send_only_command(body, effects);
+        self.address.send_only_command(body, effects);
     }
 
     fn disc(&self, effects: &mut Effects)
-        ensures frames { (e : EndState) → Represents self.now e
+        ensures frames { (e : EndpointState) → Represents self.now e
             → effects.new.frames ≡ octets_of e.channel (disc e) ∷ [] }
         ensures notices { effects.new.notices ≡ [] }
     {
-        self.link.send_only_command(Body::Disc { p: true }, effects);
+        self.address
+            .send_only_command(Body::Disc { p: true }, effects);
     }
 
-    fn close_and_report_only(&mut self, reason: Reason, effects: &mut Effects)
+    fn close_and_report_into(&mut self, reason: Reason, effects: &mut Effects)
         ensures refines { StepRefines (closes_and_reports reason) self.old effects.new self.new }
         ensures sapi { sapi_of self.new ≡ sapi_of self.old }
         ensures channel { channel_of self.new ≡ channel_of self.old }
@@ -266,8 +267,8 @@ impl Endpoint {
         ensures sapi { sapi_of self.new ≡ sapi_of self.old }
         ensures channel { channel_of self.new ≡ channel_of self.old }
     {
-        if self.retries >= n200(self.link.channel, State::Opening) {
-            self.close_and_report_only(Reason::Failed, effects);
+        if self.retries >= n200(self.address.channel, State::Opening) {
+            self.close_and_report_into(Reason::Failed, effects);
             return;
         }
         self.retries += 1;
@@ -280,8 +281,8 @@ impl Endpoint {
         ensures sapi { sapi_of self.new ≡ sapi_of self.old }
         ensures channel { channel_of self.new ≡ channel_of self.old }
     {
-        if self.retries >= n200(self.link.channel, State::Closing) {
-            self.close_and_report_only(Reason::Failed, effects);
+        if self.retries >= n200(self.address.channel, State::Closing) {
+            self.close_and_report_into(Reason::Failed, effects);
             return;
         }
         self.retries += 1;
@@ -290,7 +291,7 @@ impl Endpoint {
 
     fn t200_in_open(&mut self, effects: &mut Effects) -> Result<(), Refused>
         requires open { state_of self.old ≡ S.Open }
-        ensures refusal { RefusesAsDefined T200Expires self.old result }
+        ensures refusal { RefusesAsSpecified T200Expires self.old result }
         ensures refines { OnOk result (StepRefines t200_expiry self.old effects.new self.new) }
         ensures refused { OnErr result (self.new ≡ self.old) }
         ensures out_unchanged { OnErr result (effects.new ≡ effects.old) }
@@ -300,12 +301,12 @@ impl Endpoint {
         match self.window.on_timer() {
             Timer::NotRunning => Err(Refused::NotRunning),
             Timer::Spent => {
-                self.close_and_report_only(Reason::Failed, effects);
+                self.close_and_report_into(Reason::Failed, effects);
                 Ok(())
             }
             Timer::Again => {
                 effects.clear();
-                self.link.send_outstanding(true, &self.window, effects);
+                self.address.send_outstanding(true, &self.window, effects);
                 Ok(())
             }
         }

@@ -19,7 +19,7 @@ pub use lapdm_window::{
 pub use parts::EndpointParts;
 pub use sides::Side;
 
-/// The side to which an endpoint belongs.
+/// The side of an endpoint.
 #[derive(Clone, Copy, PartialEq, Eq, Debug)]
 pub enum Role {
     /// The mobile, whose commands have C/R 0.

@@ -18,7 +18,7 @@ pub(crate) struct Address {
 }
 
 impl Address {
-    ghost use Rattle.lapdm_end.specs.Addresses.{role_of, frame_with_cr, command_frame_by, response_frame_by};
+    ghost use Rattle.lapdm_end.specs.Addresses.{role_of, frame_with_cr, command_frame_from, response_frame_from};
 
     pub(crate) fn command_cr(self) -> bool
         ensures { result ≡ command_cr (role_of self.role) }
@@ -53,12 +53,12 @@ impl Address {
         effects.frames.push(block);
     }
 
-    pub(crate) fn command(self, body: Body<'_>, effects: &mut Effects)
+    pub(crate) fn send_command(self, body: Body<'_>, effects: &mut Effects)
         requires numbers { NsAndNrFit (content_of body) }
         requires information { InformationFits self.channel (content_of body) }
         requires space { length effects.old.frames < 2 }
         ensures frames { effects.new.frames ≡ effects.old.frames
-            ++ octets_of self.channel (command_frame_by self (content_of body.entry)) ∷ [] }
+            ++ octets_of self.channel (command_frame_from self (content_of body.entry)) ∷ [] }
         ensures notices { effects.new.notices ≡ effects.old.notices }
     {
         self.send(self.command_cr(), body, effects);
@@ -69,7 +69,7 @@ impl Address {
         requires information { InformationFits self.channel (content_of body) }
         requires space { length effects.old.frames < 2 }
         ensures frames { effects.new.frames ≡ effects.old.frames
-            ++ octets_of self.channel (response_frame_by self (content_of body.entry)) ∷ [] }
+            ++ octets_of self.channel (response_frame_from self (content_of body.entry)) ∷ [] }
         ensures notices { effects.new.notices ≡ effects.old.notices }
     {
         self.send(!self.command_cr(), body, effects);
@@ -80,15 +80,15 @@ impl Address {
         requires numbers { NsAndNrFit (content_of body) }
         requires information { InformationFits self.channel (content_of body) }
         ensures frames { effects.new.frames
-            ≡ octets_of self.channel (command_frame_by self (content_of body.entry)) ∷ [] }
+            ≡ octets_of self.channel (command_frame_from self (content_of body.entry)) ∷ [] }
         ensures notices { effects.new.notices ≡ [] }
     {
         effects.clear();
-        self.command(body, effects);
+        self.send_command(body, effects);
     }
 
     // Replaces the effects with the fill frame and no notices.
-    pub(crate) fn fill(self, effects: &mut Effects)
+    pub(crate) fn send_only_fill(self, effects: &mut Effects)
         ensures frames { effects.new.frames
             ≡ octets_of self.channel (fill (command_cr (role_of self.role))) ∷ [] }
         ensures notices { effects.new.notices ≡ [] }

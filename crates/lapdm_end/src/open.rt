@@ -3,8 +3,8 @@
 ghost use Rattle.std.specs.Prelude.{◌≡◌, ◌+◌, ◌≤◌, [], ◌++◌, Bool, length};
 ghost use Rattle.lapdm_frame.specs.Layout.{n201};
 ghost use Rattle.lapdm_window.specs.segmenting.Joining.{latest_message};
-ghost use Rattle.lapdm_window.specs.Ends.{EndState};
-ghost use Rattle.lapdm_window.specs.Rules.{sends_next, counts_acks, segment_notices, sends_rr, answers_segment, answers_poll};
+ghost use Rattle.lapdm_window.specs.Ends.{EndpointState};
+ghost use Rattle.lapdm_window.specs.Rules.{sends_next, evaluates_nr, segment_notices, sends_rr, answers_segment, answers_poll};
 ghost use Rattle.lapdm_window.specs.Rules.{resends_outstanding};
 ghost use Rattle.lapdm_window.specs.Rules.{takes_i_frame};
 ghost use Rattle.lapdm_window.specs.Rules.{takes_rr, takes_rej};
@@ -18,7 +18,7 @@ use lapdm_window::{Acked, Effects, Info, Joined, Message, Notice, Piece, Window}
 fn report_message(joined: Joined, more: bool, window: &Window, effects: &mut Effects)
     requires space { length effects.old.notices ≤ 2 }
     ensures frames { effects.new.frames ≡ effects.old.frames }
-    ensures notices { (e : EndState) → Represents window.now e
+    ensures notices { (e : EndpointState) → Represents window.now e
         → effects.new.notices ≡ effects.old.notices ++ segment_notices joined more (latest_message e.accepted) }
 {
     match joined {
@@ -55,7 +55,7 @@ impl Address {
             more: piece.more,
             info: piece.octets,
         };
-        self.command(body, effects);
+        self.send_command(body, effects);
     }
 
     pub(crate) fn send_next(self, window: &mut Window, effects: &mut Effects)
@@ -73,13 +73,13 @@ impl Address {
     }
 
     // Evaluates a received N(R), and reports a message that it fully acknowledges.
-    fn count(self, nr: u8, window: &mut Window, effects: &mut Effects)
+    fn evaluate_nr(self, nr: u8, window: &mut Window, effects: &mut Effects)
         requires number { nr ≤ 7 }
         requires space { length effects.old.notices ≤ 2 }
         ensures channel { channel_of window.new ≡ channel_of window.old }
         ensures frames { effects.new.frames ≡ effects.old.frames }
         ensures most { length effects.new.notices ≤ length effects.old.notices + 1 }
-        ensures refines { StepRefinesInOpen (counts_acks nr) self window.old window.new
+        ensures refines { StepRefinesInOpen (evaluates_nr nr) self window.old window.new
             effects.old effects.new }
     {
         match window.on_ack(nr) {
@@ -179,7 +179,7 @@ impl Address {
         ensures refines { StepRefinesInOpen (takes_rr nr poll) self window.old window.new
             effects.old effects.new }
     {
-        self.count(nr, window, effects);
+        self.evaluate_nr(nr, window, effects);
         self.answer_poll(poll, window, effects);
         self.send_next(window, effects);
     }
@@ -193,7 +193,7 @@ impl Address {
         ensures refines { StepRefinesInOpen (takes_rej nr poll) self window.old window.new
             effects.old effects.new }
     {
-        self.count(nr, window, effects);
+        self.evaluate_nr(nr, window, effects);
         self.answer_poll(poll, window, effects);
         self.resend_outstanding(window, effects);
     }
@@ -246,7 +246,7 @@ impl Address {
         ensures refines { StepRefinesInOpen (takes_i_frame ns nr p (piece.entry.octets.now, piece.entry.more))
             self window.old window.new effects.old effects.new }
     {
-        self.count(nr, window, effects);
+        self.evaluate_nr(nr, window, effects);
         self.take_segment(ns, p, piece, window, effects);
     }
 }

@@ -4,10 +4,10 @@ ghost use Rattle.std.specs.Prelude.{◌≡◌, ◌↔◌, ◌<◌, ◌≤◌, []
 ghost use Rattle.lapdm_frame.specs.Layout.{n201, largest_n201};
 ghost use Rattle.lapdm_window.specs.segmenting.Joiners.{HoldsReassemblyOf};
 ghost use Rattle.lapdm_window.specs.segmenting.Segments.{max_message_octets, max_segments_per_message};
-ghost use Rattle.lapdm_window.specs.Ends.{EndState};
-ghost use Rattle.lapdm_window.specs.Parts.{values_in as window_by};
+ghost use Rattle.lapdm_window.specs.Ends.{EndpointState};
+ghost use Rattle.lapdm_window.specs.Parts.{values_of_parts as window_by};
 ghost use Rattle.lapdm_end.specs.Addresses.{role_of};
-ghost use Rattle.lapdm_end.specs.Parts.{values_of, values_in, ValuesRepresent, EndpointExists, IsUnusedWindow, IsUnusedBeforeOpen};
+ghost use Rattle.lapdm_end.specs.Parts.{values_of, values_of_parts, ValuesRepresent, EndpointExists, IsInitialWindow, IsInitialBeforeOpen};
 ghost use Rattle.lapdm_end.specs.Parts.{AreConsistent};
 ghost use Rattle.lapdm_end.specs.Abstraction.{Represents, channel_of};
 
@@ -17,59 +17,59 @@ use crate::link::Address;
 use lapdm_frame::Channel;
 use lapdm_window::{Part, Sapi, State, WindowParts};
 
-/// The state of an endpoint as plain data, with borrowed messages and octets. The endpoint's channel is that of its window.
+/// The state of an endpoint as plain data, with borrowed messages and octets. The endpoint has the channel of its window.
 #[derive(Clone, Copy, Debug)]
 pub struct EndpointParts<'a> {
     pub role: Role,
     pub sapi: Sapi,
     pub state: State,
     /// The information of the SABM that this endpoint sent, or of the SABM that established its link.
-    pub kept: &'a [u8],
-    /// How often the SABM or DISC that awaits an answer has been repeated.
+    pub sabm_info: &'a [u8],
+    /// How many times the SABM or DISC that awaits an answer has been repeated.
     pub retries: u8,
     pub window: WindowParts<'a>,
 }
 
 impl EndpointParts<'_> {
-    // Whether an endpoint can have this state, provided that a window can have the state of its window.
+    // Returns whether an endpoint can have this state, provided that its window can have its state.
     fn are_consistent(&self) -> bool
-        ensures { IsTrue result ↔ AreConsistent (values_in self.now) }
+        ensures { IsTrue result ↔ AreConsistent (values_of_parts self.now) }
     {
-        self.has_valid_sabm_information() && is_unused_before_open(self.state, &self.window)
+        self.has_valid_sabm_information() && is_initial_before_open(self.state, &self.window)
     }
 
     fn has_valid_sabm_information(&self) -> bool
-        ensures { IsTrue result ↔ ((length self.now.kept.now ≤ n201 self.now.window.channel)
-            × (self.now.sapi ≡ Sapi.Three → self.now.kept.now ≡ [])) }
+        ensures { IsTrue result ↔ ((length self.now.sabm_info.now ≤ n201 self.now.window.channel)
+            × (self.now.sapi ≡ Sapi.Three → self.now.sabm_info.now ≡ [])) }
     {
-        if self.kept.len() > self.window.channel.n201() {
+        if self.sabm_info.len() > self.window.channel.n201() {
             return false;
         }
         match self.sapi {
             Sapi::Zero => true,
-            Sapi::Three => self.kept.is_empty(),
+            Sapi::Three => self.sabm_info.is_empty(),
         }
     }
 }
 
-fn is_unused_before_open(state: State, window: &WindowParts<'_>) -> bool
-    ensures { IsTrue result ↔ IsUnusedBeforeOpen state (window_by window.now) }
+fn is_initial_before_open(state: State, window: &WindowParts<'_>) -> bool
+    ensures { IsTrue result ↔ IsInitialBeforeOpen state (window_by window.now) }
 {
     match state {
-        State::Idle | State::Opening => is_unused_window(window),
+        State::Idle | State::Opening => is_initial_window(window),
         State::Open | State::Closing | State::Closed => true,
     }
 }
 
-fn is_unused_window(window: &WindowParts<'_>) -> bool
-    ensures { IsTrue result ↔ IsUnusedWindow (window_by window.now) }
+fn is_initial_window(window: &WindowParts<'_>) -> bool
+    ensures { IsTrue result ↔ IsInitialWindow (window_by window.now) }
 {
     window.held.is_empty()
         && window.vs == 0
         && window.va == 0
         && window.vr == 0
-        && window.done == 0
-        && has_reassembled_nothing(window.part, window.joined)
+        && window.acked_messages == 0
+        && has_reassembled_nothing(window.part, window.reassembly)
 }
 
 fn has_reassembled_nothing(part: Part, octets: &[u8]) -> bool
@@ -83,30 +83,30 @@ fn has_reassembled_nothing(part: Part, octets: &[u8]) -> bool
 
 impl Endpoint {
     pub fn role(&self) -> Role
-        ensures { (e : EndState) → Represents self.now e → role_of result ≡ e.role }
+        ensures { (e : EndpointState) → Represents self.now e → role_of result ≡ e.role }
     {
-        self.link.role
+        self.address.role
     }
 
     pub fn channel(&self) -> Channel
         ensures channel { result ≡ channel_of self.now }
-        ensures represents { (e : EndState) → Represents self.now e → result ≡ e.channel }
+        ensures represents { (e : EndpointState) → Represents self.now e → result ≡ e.channel }
     {
-        self.link.channel
+        self.address.channel
     }
 
     pub fn parts(&self) -> EndpointParts<'_>
-        ensures values { values_in result ≡ values_of self.now }
-        ensures sabm_info { length result.kept.now ≤ largest_n201 }
+        ensures values { values_of_parts result ≡ values_of self.now }
+        ensures sabm_info { length result.sabm_info.now ≤ largest_n201 }
         ensures size { length result.window.held.now ≤ 8 }
-        ensures place { result.window.place < max_segments_per_message result.window.channel }
-        ensures most { length result.window.joined.now ≤ max_message_octets }
+        ensures place { result.window.segment_index < max_segments_per_message result.window.channel }
+        ensures most { length result.window.reassembly.now ≤ max_message_octets }
     {
         EndpointParts {
-            role: self.link.role,
-            sapi: self.link.sapi,
+            role: self.address.role,
+            sapi: self.address.sapi,
             state: self.state,
-            kept: self.kept.octets(),
+            sabm_info: self.sabm_info.octets(),
             retries: self.retries,
             window: self.window.parts(),
         }
@@ -114,32 +114,32 @@ impl Endpoint {
 
     /// Restores an endpoint from its state. Returns false and changes nothing if no endpoint can have this state.
     pub fn restore(&mut self, parts: &EndpointParts<'_>) -> bool
-        ensures same { IsTrue result → values_of self.new ≡ values_in parts.now }
-        ensures represents { IsTrue result → (e : EndState) → ValuesRepresent (values_in parts.now) e
+        ensures same { IsTrue result → values_of self.new ≡ values_of_parts parts.now }
+        ensures represents { IsTrue result → (e : EndpointState) → ValuesRepresent (values_of_parts parts.now) e
             → Represents self.new e }
-        ensures known { IsTrue result ↔ EndpointExists (values_in parts.now) }
+        ensures known { IsTrue result ↔ EndpointExists (values_of_parts parts.now) }
         ensures unknown { result ≡ false → self.new ≡ self.old }
     {
         if !parts.are_consistent() || !self.window.restore(&parts.window) {
             return false;
         }
-        self.link = Address {
+        self.address = Address {
             role: parts.role,
             sapi: parts.sapi,
             channel: parts.window.channel,
         };
         self.state = parts.state;
-        self.kept.write(parts.kept);
+        self.sabm_info.write(parts.sabm_info);
         self.retries = parts.retries;
         true
     }
 
     /// Returns the endpoint with this state, or `None` if no endpoint can have it.
     pub fn from_parts(parts: &EndpointParts<'_>) -> Option<Endpoint>
-        ensures same { IfSome result (λ end. values_of end ≡ values_in parts.now) }
+        ensures same { IfSome result (λ end. values_of end ≡ values_of_parts parts.now) }
         ensures represents { IfSome result
-            (λ end. (e : EndState) → ValuesRepresent (values_in parts.now) e → Represents end e) }
-        ensures known { IsSome result ↔ EndpointExists (values_in parts.now) }
+            (λ end. (e : EndpointState) → ValuesRepresent (values_of_parts parts.now) e → Represents end e) }
+        ensures known { IsSome result ↔ EndpointExists (values_of_parts parts.now) }
     {
         let mut end = Endpoint::new_on(parts.role, parts.sapi, parts.window.channel);
         if end.restore(parts) { Some(end) } else { None }

@@ -4,7 +4,7 @@ ghost use Rattle.std.specs.Prelude.{◌≡◌, ◌≤◌, length};
 ghost use Rattle.lapdm_frame.specs.Layout.{largest_n201};
 ghost use Rattle.lapdm_frame.specs.Content.{content_of};
 ghost use Rattle.lapdm_frame.specs.Frames.{InformationFits};
-ghost use Rattle.lapdm_window.specs.Ends.{EndState};
+ghost use Rattle.lapdm_window.specs.Ends.{EndpointState};
 ghost use Rattle.lapdm_window.specs.Tables.{is_accepted_kind, is_poll, dm_if_polled, reply_to_ui};
 ghost use Rattle.lapdm_end.specs.declared.ends.Endpoint.{Endpoint as LinkEnd};
 ghost use Rattle.lapdm_end.specs.Replies.{reply_of, IsPossibleReply};
@@ -94,24 +94,24 @@ impl Endpoint {
     ghost use Rattle.lapdm_frame.specs.Frames.{NsAndNrFit};
     ghost use Rattle.lapdm_window.specs.Tables.{reply_to_sabm_in_idle, reply_in_idle, reply_to_sabm_in_opening, reply_to_ua_in_opening};
     ghost use Rattle.lapdm_window.specs.Tables.{reply_in_opening, reply_to_sabm_in_open, reply_in_open};
-    ghost use Rattle.lapdm_window.specs.Tables.{reply_in_closing, reply_in_closed, reply_in, reply};
+    ghost use Rattle.lapdm_window.specs.Tables.{reply_in_closing, reply_in_closed, reply_in_state, reply};
     ghost use Rattle.lapdm_end.specs.Abstraction.{Represents, channel_of, state_of};
 
-    // Whether this information equals that of the SABM that this endpoint sent or that established its link.
+    // Returns whether this information equals that of the SABM that this endpoint sent or that established its link.
     fn equals_sabm_information(&self, info: &[u8]) -> bool
-        ensures { (e : EndState) → Represents self.now e → result ≡ bytes_eq info.now e.kept }
+        ensures { (e : EndpointState) → Represents self.now e → result ≡ bytes_eq info.now e.sabm_info }
     {
-        info == self.kept.octets()
+        info == self.sabm_info.octets()
     }
 
     fn reply_to_sabm_in_idle<'a>(&self, info: &'a [u8]) -> Reply<'a>
         requires idle { state_of self.now ≡ S.Idle }
         requires information { length info.now ≤ n201 (channel_of self.now) }
-        ensures reply { (e : EndState) → Represents self.now e
+        ensures reply { (e : EndpointState) → Represents self.now e
             → reply_of result ≡ reply_to_sabm_in_idle e.sapi e.role info.now }
         ensures ready { IsPossibleReply self.now result }
     {
-        match (self.link.sapi, self.link.role) {
+        match (self.address.sapi, self.address.role) {
             (Sapi::Zero, Role::Mobile) => Reply::Dm,
             (Sapi::Zero, Role::Network) => {
                 if info.is_empty() {
@@ -133,7 +133,7 @@ impl Endpoint {
     fn reply_in_idle<'a>(&self, poll: bool, body: &Body<'a>) -> Reply<'a>
         requires idle { state_of self.now ≡ S.Idle }
         requires information { InformationFits (channel_of self.now) (content_of body.now) }
-        ensures reply { (e : EndState) → Represents self.now e
+        ensures reply { (e : EndpointState) → Represents self.now e
             → reply_of result ≡ reply_in_idle poll (content_of body.now) e }
         ensures ready { IsPossibleReply self.now result }
     {
@@ -146,11 +146,11 @@ impl Endpoint {
 
     fn reply_to_sabm_in_opening<'a>(&self, info: &'a [u8]) -> Reply<'a>
         requires information { length info.now ≤ n201 (channel_of self.now) }
-        ensures reply { (e : EndState) → Represents self.now e
+        ensures reply { (e : EndpointState) → Represents self.now e
             → reply_of result ≡ reply_to_sabm_in_opening e.sapi info.now }
         ensures ready { IsPossibleReply self.now result }
     {
-        match self.link.sapi {
+        match self.address.sapi {
             Sapi::Zero => Reply::Nothing,
             Sapi::Three => {
                 if info.is_empty() {
@@ -162,18 +162,18 @@ impl Endpoint {
         }
     }
 
-    // The reply to a UA in Opening. On SAPI 0, a UA with information other than that of the SABM sent is meant for another mobile.
+    // The reply to a UA in Opening. On SAPI 0, a UA whose information differs from that of the SABM sent is meant for another mobile.
     fn reply_to_ua_in_opening<'a>(&self, info: &'a [u8]) -> Reply<'a>
         requires opening { state_of self.now ≡ S.Opening }
         requires information { length info.now ≤ n201 (channel_of self.now) }
-        ensures reply { (e : EndState) → Represents self.now e
+        ensures reply { (e : EndpointState) → Represents self.now e
             → reply_of result ≡ reply_to_ua_in_opening info.now e }
         ensures ready { IsPossibleReply self.now result }
     {
         if self.equals_sabm_information(info) {
             return Reply::Opened(info);
         }
-        match self.link.sapi {
+        match self.address.sapi {
             Sapi::Zero => Reply::Closed(Reason::Contention),
             Sapi::Three => Reply::Nothing,
         }
@@ -182,7 +182,7 @@ impl Endpoint {
     fn reply_in_opening<'a>(&self, body: &Body<'a>) -> Reply<'a>
         requires opening { state_of self.now ≡ S.Opening }
         requires information { InformationFits (channel_of self.now) (content_of body.now) }
-        ensures reply { (e : EndState) → Represents self.now e
+        ensures reply { (e : EndpointState) → Represents self.now e
             → reply_of result ≡ reply_in_opening (content_of body.now) e }
         ensures ready { IsPossibleReply self.now result }
     {
@@ -197,11 +197,11 @@ impl Endpoint {
 
     fn reply_to_sabm_in_open<'a>(&self, info: &'a [u8]) -> Reply<'a>
         requires information { length info.now ≤ n201 (channel_of self.now) }
-        ensures reply { (e : EndState) → Represents self.now e
+        ensures reply { (e : EndpointState) → Represents self.now e
             → reply_of result ≡ reply_to_sabm_in_open info.now e }
         ensures ready { IsPossibleReply self.now result }
     {
-        if let (Sapi::Zero, Role::Mobile) = (self.link.sapi, self.link.role) {
+        if let (Sapi::Zero, Role::Mobile) = (self.address.sapi, self.address.role) {
             return Reply::Nothing;
         }
         if self.equals_sabm_information(info) {
@@ -215,7 +215,7 @@ impl Endpoint {
         requires open { state_of self.now ≡ S.Open }
         requires numbers { NsAndNrFit (content_of body.now) }
         requires information { InformationFits (channel_of self.now) (content_of body.now) }
-        ensures reply { (e : EndState) → Represents self.now e
+        ensures reply { (e : EndpointState) → Represents self.now e
             → reply_of result ≡ reply_in_open command (content_of body.now) e }
         ensures ready { IsPossibleReply self.now result }
     {
@@ -276,11 +276,11 @@ impl Endpoint {
         }
     }
 
-    fn reply_in<'a>(&self, command: bool, body: &Body<'a>) -> Reply<'a>
+    fn reply_in_state<'a>(&self, command: bool, body: &Body<'a>) -> Reply<'a>
         requires numbers { NsAndNrFit (content_of body.now) }
         requires information { InformationFits (channel_of self.now) (content_of body.now) }
-        ensures reply { (e : EndState) → Represents self.now e
-            → reply_of result ≡ reply_in e.state command (content_of body.now) e }
+        ensures reply { (e : EndpointState) → Represents self.now e
+            → reply_of result ≡ reply_in_state e.state command (content_of body.now) e }
         ensures ready { IsPossibleReply self.now result }
     {
         match self.state {
@@ -292,17 +292,17 @@ impl Endpoint {
         }
     }
 
-    /// The reply to a frame with the endpoint's SAPI and an accepted kind.
+    /// Returns the reply to a frame with the endpoint's SAPI and an accepted kind.
     pub(crate) fn reply<'a>(&self, command: bool, body: &Body<'a>) -> Reply<'a>
         requires numbers { NsAndNrFit (content_of body.now) }
         requires information { InformationFits (channel_of self.now) (content_of body.now) }
-        ensures reply { (e : EndState) → Represents self.now e
+        ensures reply { (e : EndpointState) → Represents self.now e
             → reply_of result ≡ reply command (content_of body.now) e }
         ensures ready { IsPossibleReply self.now result }
     {
         if let Body::Ui { info, .. } = *body {
             return reply_to_ui(info);
         }
-        self.reply_in(command, body)
+        self.reply_in_state(command, body)
     }
 }

@@ -5,10 +5,10 @@ ghost use Rattle.lapdm_frame.specs.Content.{frame_of};
 ghost use Rattle.lapdm_frame.specs.Frames.{FrameFits};
 ghost use Rattle.lapdm_window.specs.declared.Sapi.TheVariants as S;
 ghost use Rattle.lapdm_window.specs.Calls.{call_of, IsCallOfSapi};
-ghost use Rattle.lapdm_window.specs.Sides.{idle_side, layer3_calls, takes};
+ghost use Rattle.lapdm_window.specs.Sides.{idle_side, layer3_call_step, takes};
 ghost use Rattle.lapdm_end.specs.Addresses.{role_of};
 ghost use Rattle.lapdm_end.specs.Abstraction.{channel_of as end_channel, sapi_of};
-ghost use Rattle.lapdm_end.specs.Refinement.{RefusesAsDefined};
+ghost use Rattle.lapdm_end.specs.Refinement.{RefusesAsSpecified};
 
 use crate::Role;
 use crate::ends::Endpoint;
@@ -49,9 +49,9 @@ impl Side {
         effects: &mut Effects,
     ) -> Result<(), Refused>
         requires { IsCallOfSapi sapi (call_of call.now) }
-        ensures refusal { RefusesAsDefined (call_of call.now) (endpoint_of sapi self.old) result }
+        ensures refusal { RefusesAsSpecified (call_of call.now) (endpoint_of sapi self.old) result }
         ensures refines { OnOk result
-            (StepRefines (layer3_calls sapi (call_of call.now)) self.old sapi effects.new self.new) }
+            (StepRefines (layer3_call_step sapi (call_of call.now)) self.old sapi effects.new self.new) }
         ensures others { endpoint_of (other sapi) self.new ≡ endpoint_of (other sapi) self.old }
         ensures refused { OnErr result (self.new ≡ self.old) }
         ensures out_unchanged { OnErr result (effects.new ≡ effects.old) }

@@ -5,7 +5,7 @@ ghost use Rattle.lapdm_frame.specs.Layout.{n201};
 ghost use Rattle.lapdm_frame.specs.Content.{content_of, frame_of};
 ghost use Rattle.lapdm_frame.specs.Frames.{NsAndNrFit, InformationFits, FrameFits, octets_of};
 ghost use Rattle.lapdm_window.specs.declared.State.TheVariants as S;
-ghost use Rattle.lapdm_window.specs.Ends.{EndState, response_frame};
+ghost use Rattle.lapdm_window.specs.Ends.{EndpointState, response_frame};
 ghost use Rattle.lapdm_window.specs.Tables.{AcceptsDisc, AcceptsSabm, opens_and_reports, closes_and_reports, outcome_of, frame_outcome};
 
 use crate::ends::Endpoint;
@@ -26,8 +26,8 @@ impl Endpoint {
         ensures channel { channel_of self.new ≡ channel_of self.old }
     {
         effects.clear();
-        let command = frame.cr != self.link.command_cr();
-        if frame.sapi != self.link.sapi_number() || !is_accepted_kind(command, &frame.body) {
+        let command = frame.cr != self.address.command_cr();
+        if frame.sapi != self.address.sapi_number() || !is_accepted_kind(command, &frame.body) {
             return;
         }
         let reply = self.reply(command, &frame.body);
@@ -59,11 +59,11 @@ impl Endpoint {
                 info,
             } => {
                 let piece = Piece { octets: info, more };
-                self.link
+                self.address
                     .take_i(ns, nr, p, piece, &mut self.window, effects);
             }
-            Reply::Rr { nr, poll } => self.link.take_rr(nr, poll, &mut self.window, effects),
-            Reply::Rej { nr, poll } => self.link.take_rej(nr, poll, &mut self.window, effects),
+            Reply::Rr { nr, poll } => self.address.take_rr(nr, poll, &mut self.window, effects),
+            Reply::Rej { nr, poll } => self.address.take_rej(nr, poll, &mut self.window, effects),
         }
     }
 
@@ -72,12 +72,12 @@ impl Endpoint {
         requires numbers { NsAndNrFit (content_of body) }
         requires information { InformationFits (channel_of self.now) (content_of body) }
         requires no_frames { effects.old.frames ≡ [] }
-        ensures frames { (e : EndState) → Represents self.now e
+        ensures frames { (e : EndpointState) → Represents self.now e
             → effects.new.frames ≡ effects.old.frames
             ++ octets_of (channel_of self.now) (response_frame e (content_of body.entry)) ∷ [] }
         ensures notices { effects.new.notices ≡ effects.old.notices }
     {
-        self.link.send_response(body, effects);
+        self.address.send_response(body, effects);
     }
 
     // Accepts the peer's SABM: keeps its information, enters Open, reports the establishment and answers with a UA.
@@ -90,7 +90,7 @@ impl Endpoint {
         ensures channel { channel_of self.new ≡ channel_of self.old }
     {
         self.state = State::Open;
-        self.kept = Message::new(info);
+        self.sabm_info = Message::new(info);
         effects.notices.push(Notice::Opened(Message::new(info)));
         self.answer(Body::Ua { f: true, info }, effects);
     }

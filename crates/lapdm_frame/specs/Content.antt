@@ -8,8 +8,8 @@ use Rattle.lapdm_frame.specs.declared.FrameView.{FrameView}
 use Rattle.lapdm_frame.specs.declared.Kind.{Kind}
 use Rattle.lapdm_frame.specs.declared.Kind.TheVariants as K
 
--- the kind of a frame with its fields: N(S) and N(R), the P or F bit, the M bit
--- (`more`: the message continues in the next I frame), and the octets of information
+-- the kind of a frame with its fields: N(S) and N(R), the P or F bit, the M bit (`more`: the message continues in the next I frame), and
+-- the octets of information
 pub data Content : Type 0 where
   I : (ns nr : ℕ) → (p more : Bool) → (info : List ℕ) → Content
   Rr : (nr : ℕ) → (pf : Bool) → Content
@@ -27,7 +27,7 @@ pub record Frame : Type 0 where
   pub cr : Bool
   pub content : Content
 
--- the content that a `Body` of the program represents
+-- the content of a Rust `Body`
 abbrev pub content_of : Body → Content
 content_of (B.I ns nr p more info) = I ns nr p more info.now
 content_of (B.Rr nr pf) = Rr nr pf
@@ -39,11 +39,11 @@ content_of (B.Ui p info) = Ui p info.now
 content_of (B.Disc p) = Disc p
 content_of (B.Ua f info) = Ua f info.now
 
--- the frame that a `FrameView` of the program represents
+-- the frame of a Rust `FrameView`
 abbrev pub frame_of : FrameView → Frame
 frame_of view = record { sapi = view.sapi; cr = view.cr; content = content_of view.body }
 
--- the octets of information that a `Body` borrows from its block, or `None` if its kind has no information
+-- the information octets that a `Body` borrows from its block, or `None` if its kind has no information
 abbrev pub borrowed_information : Body → Option (Bor (List ℕ))
 borrowed_information (B.I ns nr p more info) = Some info
 borrowed_information (B.Sabm p info) = Some info
@@ -51,7 +51,7 @@ borrowed_information (B.Ui p info) = Some info
 borrowed_information (B.Ua f info) = Some info
 borrowed_information other = None
 
--- the octets of information of a frame; RR, RNR, REJ, DM and DISC have none
+-- the information octets of a frame; RR, RNR, REJ, DM and DISC have none
 abbrev pub information : Content → List ℕ
 information (I ns nr p more info) = info
 information (Sabm p info) = info
@@ -64,7 +64,7 @@ abbrev pub more_follows : Content → Bool
 more_follows (I ns nr p more info) = more
 more_follows other = false
 
--- all frame kinds; the number of a kind, used by programs in other languages, is its index in this list
+-- all frame kinds; the number of a kind in the C API is its index in this list
 abbrev pub kinds : List Kind
 kinds = K.I ∷ K.Rr ∷ K.Rnr ∷ K.Rej ∷ K.Sabm ∷ K.Dm ∷ K.Ui ∷ K.Disc ∷ K.Ua ∷ []
 
@@ -91,7 +91,7 @@ pub record Fields : Type 0 where
 abbrev pub fields : Kind → (ns nr : ℕ) → (pf more : Bool) → List ℕ → Fields
 fields kind ns nr pf more info = record { kind = kind; ns = ns; nr = nr; pf = pf; more = more; info = info }
 
--- the kind and fields of a content; a field that this kind does not have is 0, false or empty
+-- the kind and fields of a content; fields of other kinds are 0, false or empty
 abbrev pub fields_of : Content → Fields
 fields_of (I ns nr p more info) = fields K.I ns nr p more info
 fields_of (Rr nr pf) = fields K.Rr 0 nr pf false []
@@ -103,7 +103,7 @@ fields_of (Ui p info) = fields K.Ui 0 0 p false info
 fields_of (Disc p) = fields K.Disc 0 0 p false []
 fields_of (Ua f info) = fields K.Ua 0 0 f false info
 
--- the content of a given kind with the given fields; a field that the kind does not have is ignored
+-- the content of a given kind with the given fields; fields of other kinds are ignored
 abbrev pub content_with_fields : Kind → (ns nr : ℕ) → (pf more : Bool) → (info : List ℕ) → Content
 content_with_fields K.I ns nr pf more info = I ns nr pf more info
 content_with_fields K.Rr ns nr pf more info = Rr nr pf
@@ -115,9 +115,9 @@ content_with_fields K.Ui ns nr pf more info = Ui pf info
 content_with_fields K.Disc ns nr pf more info = Disc pf
 content_with_fields K.Ua ns nr pf more info = Ua pf info
 
--- the fields that a `FrameFields` of the program represents
-abbrev pub fields_in : FrameFields → Fields
-fields_in f = fields f.kind f.ns f.nr f.pf f.more f.info.now
+-- the fields of a Rust `FrameFields`
+abbrev pub abstract_fields : FrameFields → Fields
+abstract_fields f = fields f.kind f.ns f.nr f.pf f.more f.info.now
 
 abbrev pub content_of_fields : Fields → Content
 content_of_fields f = content_with_fields f.kind f.ns f.nr f.pf f.more f.info

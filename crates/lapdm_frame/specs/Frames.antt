@@ -2,7 +2,7 @@
 use Rattle.std.specs.Prelude.{◌≡◌, ℕ, ◌+◌, ◌-◌, ◌*◌, ◌<◌, ◌≤◌, Bool, true, false, List, [], ◌∷◌}
 use Rattle.std.specs.Prelude.{◌++◌, length, replicate, slice_index}
 use Rattle.lapdm_frame.specs.declared.Channel.{Channel}
-use Rattle.lapdm_frame.specs.Layout.{layer1_octets, n201, address_in, control_in, length_in, information_in}
+use Rattle.lapdm_frame.specs.Layout.{layer1_octets, n201, address_in_block, control_in_block, length_in_block, information_in_block}
 use Rattle.lapdm_frame.specs.Content.{Content, I, Rr, Rnr, Rej, Sabm, Dm, Ui, Disc, Ua, Frame, information, more_follows}
 
 -- a bit as a number, 0 or 1
@@ -53,17 +53,18 @@ pub record FrameFits (channel : Channel) (f : Frame) : Type 0 where
 pub record IsFrameCoding (channel : Channel) (f : Frame) (octets : List ℕ) : Type 0 where
   pub count : length octets ≡ 23
   pub fits : FrameFits channel f
-  pub address_matches : address_in channel octets ≡ address f
-  pub control_matches : control_in channel octets ≡ control f.content
-  pub length_matches : length_in channel octets ≡ length_octet f.content
-  pub information_matches : information_in channel octets (length (information f.content)) ≡ information f.content
+  pub address_matches : address_in_block channel octets ≡ address f
+  pub control_matches : control_in_block channel octets ≡ control f.content
+  pub length_matches : length_in_block channel octets ≡ length_octet f.content
+  pub information_matches : information_in_block channel octets (length (information f.content)) ≡ information f.content
 
 -- the 23 octets encode the frame `f`, the layer 1 octets before the address are 00 (this project's own rule), and the octets after the
 -- information are fill octets 2b (section 2.2)
 pub record IsCanonicalCoding (channel : Channel) (f : Frame) (octets : List ℕ) : Type 0 where
   pub frame : IsFrameCoding channel f octets
-  pub before : (k : ℕ) → k < layer1_octets channel → slice_index octets k ≡ 0
-  pub after : (k : ℕ) → layer1_octets channel + 3 + length (information f.content) ≤ k → k < 23 → slice_index octets k ≡ 0x2b
+  pub layer1_is_zero : (k : ℕ) → k < layer1_octets channel → slice_index octets k ≡ 0
+  pub fill_after : (k : ℕ) → layer1_octets channel + 3 + length (information f.content) ≤ k → k < 23 → slice_index octets k
+      ≡ 0x2b
 
 -- the canonical coding, 23 octets, of a frame that fits the channel
 abbrev pub octets_of : Channel → Frame → List ℕ

@@ -1,4 +1,4 @@
--- Where the fields of a frame lie in the 23 octets of a block, by channel (GSM 04.06, section 2.1).
+-- Where the fields of a frame are in the 23 octets of a block, on each channel (GSM 04.06, section 2.1).
 use Rattle.std.specs.Prelude.{ℕ, ◌+◌, List, slice_index, slice_range}
 use Rattle.lapdm_frame.specs.declared.Channel.{Channel}
 use Rattle.lapdm_frame.specs.declared.Channel.TheVariants.{Sdcch, Sacch}
@@ -8,7 +8,7 @@ abbrev pub layer1_octets : Channel → ℕ
 layer1_octets Sdcch = 0
 layer1_octets Sacch = 2
 
--- N201, the greatest number of octets of information in a frame (section 5.8.3): 23 less the layer 1, address, control and length octets
+-- N201, the maximum number of information octets in a frame (section 5.8.3): 23 minus the layer 1, address, control and length octets
 abbrev pub n201 : Channel → ℕ
 n201 Sdcch = 20
 n201 Sacch = 18
@@ -18,15 +18,15 @@ abbrev pub largest_n201 : ℕ
 largest_n201 = n201 Sdcch
 
 -- the address octet of a block; the control octet and the length octet follow it
-abbrev pub address_in : Channel → List ℕ → ℕ
-address_in channel octets = slice_index octets (layer1_octets channel)
+abbrev pub address_in_block : Channel → List ℕ → ℕ
+address_in_block channel octets = slice_index octets (layer1_octets channel)
 
-abbrev pub control_in : Channel → List ℕ → ℕ
-control_in channel octets = slice_index octets (layer1_octets channel + 1)
+abbrev pub control_in_block : Channel → List ℕ → ℕ
+control_in_block channel octets = slice_index octets (layer1_octets channel + 1)
 
-abbrev pub length_in : Channel → List ℕ → ℕ
-length_in channel octets = slice_index octets (layer1_octets channel + 2)
+abbrev pub length_in_block : Channel → List ℕ → ℕ
+length_in_block channel octets = slice_index octets (layer1_octets channel + 2)
 
 -- the information octets of a block, given their number
-abbrev pub information_in : Channel → List ℕ → ℕ → List ℕ
-information_in channel octets size = slice_range octets (layer1_octets channel + 3) (layer1_octets channel + 3 + size)
+abbrev pub information_in_block : Channel → List ℕ → ℕ → List ℕ
+information_in_block channel octets size = slice_range octets (layer1_octets channel + 3) (layer1_octets channel + 3 + size)

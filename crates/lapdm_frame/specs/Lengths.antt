@@ -8,9 +8,9 @@ use Rattle.lapdm_frame.specs.Refusals.{IsInformationFrame, HasNoInformation, len
 
 -- in the length octet, EL is 1, the length is at most `most`, and the length is 0 if the frame kind has no information
 pub record IsAllowedLengthOctet (most : ℕ) (content : Content) (octet : ℕ) : Type 0 where
-  pub el_bit_value : el_bit octet ≢ 0
+  pub el_bit_set : el_bit octet ≢ 0
   pub length_bound : length_field octet ≤ most
-  pub kind_allows : 0 < length_field octet → ¬ HasNoInformation content
+  pub kind_has_information : 0 < length_field octet → ¬ HasNoInformation content
 
 -- the reason is the first of `El`, `Length`, `Empty` and `More` that applies to the length octet
 abbrev pub IsLengthFault : ℕ → Content → ℕ → Refusal → Type 0
@@ -25,6 +25,6 @@ IsLengthFault most content octet other = ⊥
 
 -- none of the reasons `El`, `Length`, `Empty` and `More` applies to the length octet
 pub record HasNoLengthFault (most : ℕ) (content : Content) (octet : ℕ) : Type 0 where
-  pub room : IsAllowedLengthOctet most content octet
+  pub allowed_length : IsAllowedLengthOctet most content octet
   pub i_frame_not_empty : length_field octet ≡ 0 → ¬ IsInformationFrame content
-  pub more : m_bit octet ≡ 1 → IsInformationFrame content
+  pub m_bit_only_in_i_frame : m_bit octet ≡ 1 → IsInformationFrame content

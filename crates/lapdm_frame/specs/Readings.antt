@@ -12,19 +12,19 @@ use Rattle.lapdm_frame.specs.Refusals.{IsRefused}
 -- the octets encode the frame `f` and no other, and no reason to refuse them applies
 pub record IsOnlyFrame (channel : Channel) (f : Frame) (octets : List ℕ) : Type 0 where
   pub frame : IsFrameCoding channel f octets
-  pub only : (other : Frame) → IsFrameCoding channel other octets → other ≡ f
+  pub unique : (other : Frame) → IsFrameCoding channel other octets → other ≡ f
   pub not_refused : (reason : Refusal) → ¬ IsRefused channel octets reason
 
 -- the octets are refused for `reason` and no other reason, and encode no frame
 pub record IsOnlyRefusal (channel : Channel) (octets : List ℕ) (reason : Refusal) : Type 0 where
   pub refused : IsRefused channel octets reason
-  pub only : (other : Refusal) → IsRefused channel octets other → other ≡ reason
+  pub unique : (other : Refusal) → IsRefused channel octets other → other ≡ reason
   pub no_frame : (f : Frame) → ¬ IsFrameCoding channel f octets
 
 -- `octets` is the only canonical coding of the frame `f`, and it encodes no other frame
 pub record IsOnlyCanonicalCoding (channel : Channel) (f : Frame) (octets : List ℕ) : Type 0 where
   pub canonical : IsCanonicalCoding channel f octets
-  pub only : (others : List ℕ) → IsCanonicalCoding channel f others → others ≡ octets
+  pub unique : (others : List ℕ) → IsCanonicalCoding channel f others → others ≡ octets
   pub reads_back : IsOnlyFrame channel f octets
 
 -- the octets either encode exactly one frame or are refused for exactly one reason, but not both
@@ -33,6 +33,6 @@ HasUniqueReading channel octets = ((f : Frame) × IsOnlyFrame channel f octets) 
     IsOnlyRefusal channel octets reason)
 
 -- the information of a frame body, if its kind has any, is a borrowed slice of the block that begins directly after the length octet
-abbrev pub IsBorrowedFrom : Channel → Bor (List ℕ) → Body → Type 0
-IsBorrowedFrom channel block body = IfSome (borrowed_information body) (λ info. (info.ref_ptr.0 ≡ block.ref_ptr.0)
+abbrev pub InformationIsBorrowed : Channel → Bor (List ℕ) → Body → Type 0
+InformationIsBorrowed channel block body = IfSome (borrowed_information body) (λ info. (info.ref_ptr.0 ≡ block.ref_ptr.0)
     × (info.ref_ptr.1 ≡ block.ref_ptr.1 + layer1_octets channel + 3))

@@ -3,7 +3,7 @@ use Rattle.std.specs.Prelude.{◌≡◌, ℕ, ◌/◌, ◌%◌, ◌<◌, ◌≤�
 use Rattle.lapdm_frame.specs.declared.Channel.{Channel}
 use Rattle.lapdm_frame.specs.declared.Refusal.{Refusal}
 use Rattle.lapdm_frame.specs.declared.Refusal.TheVariants.{Lpd, Ea, Control, El, Length, Empty, More}
-use Rattle.lapdm_frame.specs.Layout.{n201, address_in, control_in, length_in}
+use Rattle.lapdm_frame.specs.Layout.{n201, address_in_block, control_in_block, length_in_block}
 use Rattle.lapdm_frame.specs.declared.Kind.{Kind}
 use Rattle.lapdm_frame.specs.declared.Kind.TheVariants as K
 use Rattle.lapdm_frame.specs.Content.{Content, I, fields_of}
@@ -56,10 +56,10 @@ RefusalApplies channel address control length More = (m_bit length ≡ 1) × ¬ 
 
 -- the reason for refusal applies to the address, control and length octets of the block
 abbrev pub RefusalAppliesToBlock : Channel → List ℕ → Refusal → Type 0
-RefusalAppliesToBlock channel octets = RefusalApplies channel (address_in channel octets) (control_in channel octets)
-    (length_in channel octets)
+RefusalAppliesToBlock channel octets = RefusalApplies channel (address_in_block channel octets) (control_in_block channel octets)
+    (length_in_block channel octets)
 
--- the position of a reason for refusal, from 0, in the order in which the reasons are tested
+-- the position of a reason for refusal in the order of the tests, from 0
 abbrev pub refusal_order : Refusal → ℕ
 refusal_order Lpd = 0
 refusal_order Ea = 1
@@ -69,7 +69,7 @@ refusal_order Length = 4
 refusal_order Empty = 5
 refusal_order More = 6
 
--- `reason` applies to the octets, and no reason that is tested earlier does
+-- `reason` applies to the octets, and no reason tested earlier applies
 pub record IsRefused (channel : Channel) (octets : List ℕ) (reason : Refusal) : Type 0 where
   pub applies : RefusalAppliesToBlock channel octets reason
-  pub first : (earlier : Refusal) → refusal_order earlier < refusal_order reason → ¬ RefusalAppliesToBlock channel octets earlier
+  pub no_earlier : (earlier : Refusal) → refusal_order earlier < refusal_order reason → ¬ RefusalAppliesToBlock channel octets earlier

@@ -3,7 +3,7 @@
 #![tactic(auto)]
 
 ghost use Rattle.std.specs.Prelude.{◌≡◌, ◌+◌, false, [], slice_get};
-ghost use Rattle.lapdm_frame.specs.Content.{fields, fields_in};
+ghost use Rattle.lapdm_frame.specs.Content.{fields, abstract_fields};
 
 mod laws;
 mod reader;
@@ -15,7 +15,7 @@ pub use reader::{read, read_on};
 use thiserror::Error;
 pub use writer::{fill, fill_on, fits, fits_on, write, write_on};
 
-/// The control channel of a block. It determines where the fields of a frame lie.
+/// The control channel of a block. It determines where the fields of a frame are.
 #[derive(Clone, Copy, PartialEq, Eq, Debug)]
 pub enum Channel {
     /// Stand-alone dedicated control channel. A block has address, control and length octets, then 20 octets.
@@ -27,7 +27,7 @@ pub enum Channel {
 impl Channel {
     ghost use Rattle.lapdm_frame.specs.Layout.{layer1_octets, n201};
 
-    /// N201 of GSM 04.06: the greatest number of octets of information in a frame, 20 or 18.
+    /// N201 of GSM 04.06: the maximum number of information octets in a frame, 20 or 18.
     pub fn n201(self) -> usize
         ensures { result ≡ n201 self }
     {
@@ -147,7 +147,7 @@ impl Kind {
     }
 }
 
-/// The kind of a frame, and every field that a frame of any kind may have. A field that this kind does not have is 0, false or empty.
+/// The kind of a frame, and every field that a frame of any kind may have. Fields of other kinds are 0, false or empty.
 #[derive(Clone, Copy, PartialEq, Eq, Debug)]
 pub struct FrameFields<'a> {
     pub kind: Kind,
@@ -163,11 +163,11 @@ pub struct FrameFields<'a> {
 }
 
 impl<'a> FrameFields<'a> {
-    ghost use Rattle.lapdm_frame.specs.Content.{content_of, content_of_fields, fields_in};
+    ghost use Rattle.lapdm_frame.specs.Content.{content_of, content_of_fields, abstract_fields};
 
-    /// Builds the frame body from the kind and the fields. Fields that the kind does not have are ignored.
+    /// Builds a frame body from the kind and the fields. Ignores fields that this kind does not have.
     pub fn body(&self) -> Body<'a>
-        ensures { content_of result ≡ content_of_fields (fields_in self.now) }
+        ensures { content_of result ≡ content_of_fields (abstract_fields self.now) }
     {
         let FrameFields {
             kind,
@@ -198,11 +198,11 @@ impl<'a> FrameFields<'a> {
 }
 
 impl<'a> Body<'a> {
-    ghost use Rattle.lapdm_frame.specs.Content.{content_of, fields_of, fields_in};
+    ghost use Rattle.lapdm_frame.specs.Content.{content_of, fields_of, abstract_fields};
 
-    /// The kind and all fields of this frame body. Fields that the kind does not have are 0, false or empty.
+    /// The kind and all fields of this frame body. Fields of other kinds are 0, false or empty.
     pub fn fields(&self) -> FrameFields<'a>
-        ensures { fields_in result ≡ fields_of (content_of self.now) }
+        ensures { abstract_fields result ≡ fields_of (content_of self.now) }
     {
         match *self {
             Body::I {
@@ -244,7 +244,7 @@ impl<'a> Body<'a> {
 
 // The fields of an I frame.
 fn i_frame_fields(ns: u8, nr: u8, p: bool, more: bool, info: &[u8]) -> FrameFields<'_>
-    ensures { fields_in result ≡ fields Kind.I ns nr p more info.now }
+    ensures { abstract_fields result ≡ fields Kind.I ns nr p more info.now }
 {
     FrameFields {
         ns,
@@ -257,7 +257,7 @@ fn i_frame_fields(ns: u8, nr: u8, p: bool, more: bool, info: &[u8]) -> FrameFiel
 
 // The fields of a frame that has a P or F bit, but no N(S), no N(R) and no information.
 fn fields_with_only_pf(kind: Kind, pf: bool) -> FrameFields<'static>
-    ensures { fields_in result ≡ fields kind 0 0 pf false [] }
+    ensures { abstract_fields result ≡ fields kind 0 0 pf false [] }
 {
     FrameFields {
         kind,
@@ -285,7 +285,7 @@ pub enum Refusal {
     /// EL is 0: another octet of the length field follows.
     #[error("the EL bit of the length octet is 0, expected 1")]
     El,
-    /// The length is above N201, or is not 0 although this kind has no information.
+    /// The length exceeds N201, or is not 0 in a frame of a kind that has no information.
     #[error("the length is above N201, or above 0 in a frame type without information")]
     Length,
     /// An I frame has no information.

@@ -4,7 +4,7 @@ ghost use Rattle.std.specs.Prelude.{◌≡◌, ◌⊎◌, ◌↔◌, IsTrue, IfS
 ghost use Rattle.lapdm_frame.specs.Content.{Content, content_of, frame_of, information, more_follows, borrowed_information};
 ghost use Rattle.lapdm_frame.specs.Refusals.{IsControlOctetOf, IsInformationFrame, HasNoInformation};
 ghost use Rattle.lapdm_frame.specs.Lengths.{IsLengthFault, HasNoLengthFault};
-ghost use Rattle.lapdm_frame.specs.Readings.{IsOnlyFrame, IsOnlyRefusal, IsBorrowedFrom};
+ghost use Rattle.lapdm_frame.specs.Readings.{IsOnlyFrame, IsOnlyRefusal, InformationIsBorrowed};
 
 use crate::{Body, Channel, FrameView, Refusal};
 use bit_blocks::BLOCK_OCTETS;
@@ -16,7 +16,7 @@ fn body_of<'a>(control: u8, more: bool, info: &'a [u8]) -> Option<Body<'a>>
     ensures unknown { IfNone result ((content : Content) → ¬ IsControlOctetOf control content) }
     ensures carried { IfSome result
         (λ body. HasNoInformation (content_of body) ⊎ (information (content_of body) ≡ info.now)) }
-    ensures lent { IfSome result
+    ensures borrowed { IfSome result
         (λ body. IfSome (borrowed_information body) (λ part. part.ref_ptr ≡ info.entry.ref_ptr)) }
     ensures goes_on { IfSome result
         (λ body. IsInformationFrame (content_of body) → more_follows (content_of body) ≡ more) }
@@ -100,7 +100,7 @@ pub fn read_on<'a>(
     channel: Channel,
 ) -> Result<FrameView<'a>, Refusal>
     ensures frame { IfOk result (λ f. IsOnlyFrame channel (frame_of f) octets.now) }
-    ensures lent { IfOk result (λ f. IsBorrowedFrom channel octets.entry f.body) }
+    ensures borrowed { IfOk result (λ f. InformationIsBorrowed channel octets.entry f.body) }
     ensures refusal { IfErr result (λ reason. IsOnlyRefusal channel octets.now reason) }
 {
     let start = channel.layer1_octets();
@@ -131,7 +131,7 @@ pub fn read_on<'a>(
 /// Reads the frame in an SDCCH block (see `read_on`).
 pub fn read<'a>(octets: &'a [u8; BLOCK_OCTETS]) -> Result<FrameView<'a>, Refusal>
     ensures frame { IfOk result (λ f. IsOnlyFrame Channel.Sdcch (frame_of f) octets.now) }
-    ensures lent { IfOk result (λ f. IsBorrowedFrom Channel.Sdcch octets.entry f.body) }
+    ensures borrowed { IfOk result (λ f. InformationIsBorrowed Channel.Sdcch octets.entry f.body) }
     ensures refusal { IfErr result (λ reason. IsOnlyRefusal Channel.Sdcch octets.now reason) }
 {
     read_on(octets, Channel::Sdcch)

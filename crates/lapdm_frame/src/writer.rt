@@ -70,8 +70,8 @@ fn length_octet_of(body: &Body<'_>) -> u8
     4 * information_of(body).len() as u8 + 2 * u8::from(more) + 1
 }
 
-/// Whether the frame can be written on the channel: SAPI, N(S) and N(R) are at most 7,
-/// an I frame has information, and no frame has more than N201 octets of it.
+/// Returns whether the frame can be written on the channel: its SAPI, N(S) and N(R) must be at most 7, an I frame must have information,
+/// and the information must have at most N201 octets.
 pub fn fits_on(f: &FrameView<'_>, channel: Channel) -> bool
     ensures { IsTrue result ↔ FrameFits channel (frame_of f.now) }
 {
@@ -101,8 +101,8 @@ pub fn write_on(f: &FrameView<'_>, channel: Channel) -> [u8; BLOCK_OCTETS]
     octets
 }
 
-/// Writes the fill frame of GSM 04.06, a UI frame of SAPI 0 without information: that of the network if `cr` is true, else that of the
-/// mobile.
+/// Writes the fill frame of GSM 04.06, a UI frame of SAPI 0 without information. If `cr` is true, writes the fill frame of the network,
+/// otherwise that of the mobile.
 pub fn fill_on(cr: bool, channel: Channel) -> [u8; BLOCK_OCTETS]
     ensures octets { result ≡ octets_of channel (fill cr) }
     ensures canonical { IsOnlyCanonicalCoding channel (fill cr) result }
@@ -114,7 +114,7 @@ pub fn fill_on(cr: bool, channel: Channel) -> [u8; BLOCK_OCTETS]
     write_on(&FrameView { sapi: 0, cr, body }, channel)
 }
 
-/// Whether the frame can be written on SDCCH (see `fits_on`).
+/// Returns whether the frame can be written on SDCCH (see `fits_on`).
 pub fn fits(f: &FrameView<'_>) -> bool
     ensures { IsTrue result ↔ FrameFits Channel.Sdcch (frame_of f.now) }
 {

@@ -1,20 +1,111 @@
--- Every step of an endpoint preserves the invariant of both directions of its link, and the invariant implies the claims about delivery: in
--- order, delivered before acknowledged, none oversize.
-use Rattle.lapdm_link.proofs.Words.{◌≡◌, refl, sym, arith, List, [], ◌∷◌, Some, ◌∙◌, ap, ℕ, suc, ◌≤◌, ◌++◌}
-use Rattle.lapdm_link.proofs.Words.{length, map, take, drop, Option, None, All, filter_map, flat_map, take-append-drop, filter_map-append}
-use Rattle.lapdm_link.proofs.Words.{n201, Content, Message, Segment, IsValidMessage, segments, ended_messages, messages, message_count}
-use Rattle.lapdm_link.proofs.Words.{partial_message_after, ended_messages-all, ended_messages-append, ended-take, ended-ended_messages}
-use Rattle.lapdm_link.proofs.Words.{messages_of, Sapi, Notice, Role, EndState, IsPrefix, Line, Notified, OccursAfter, notices}
-use Rattle.lapdm_link.proofs.{Words.{delivered_in_notice, delivered_messages, acked_numbers, sent_messages}, Views.notices-at}
-use Rattle.lapdm_link.proofs.{Directions.climbs-le, Keeping.{BothHold, sends_plain}, Notified.ending_in, Order.IsReported, Links.Side}
-use Rattle.lapdm_link.proofs.Links.{Act, IsActed, called, took, rival, after, other_after}
+-- Delivery in benign sessions: both directions, UI frames, causes of establishment, each link by itself.
+use Rattle.lapdm_link.proofs.Events.{AllFrames, AllOf, Holds, IsForSapi, IsPlaced, KnowsBy, acted, by_kind, by_link, calls_in_log-else}
+use Rattle.lapdm_link.proofs.Events.{calls_in_log-own, climbs-le, content_of, contents-else, contents-own, contents_on, contents}
+use Rattle.lapdm_link.proofs.Events.{end_does-else, end_does, end_of, frames-own, frames-say, holds-step, is_end, is_on, lines_of_step}
+use Rattle.lapdm_link.proofs.Events.{link_else, notices-at, notices-else, notices-own, number_as_rr, of-append, of-as, other_is, rest}
+use Rattle.lapdm_link.proofs.{Events.{segment_as_rr, start-direction, way_does, way, without_first}, Steps.{AllOccur, AllReported}}
+use Rattle.lapdm_link.proofs.Steps.{BothHold, Goes, IsCalled, IsDone, IsOpening, IsReported, IsTaken, OpensBy, ReportsUnit, Says, begins}
+use Rattle.lapdm_link.proofs.Steps.{closes, ending_in, ends, gone, in_order-step, is_called, occur-append, opens, order_claims, remains}
+use Rattle.lapdm_link.proofs.{Steps.{sends_plain, stands, start-reported, taken-frame, unit_in}, Words.{AckedAtMostDelivered, All-append}}
+use Rattle.lapdm_link.proofs.Words.{All-cons, All-drop, All-head, All-nil, All-tail, All-take, All, Asked, Bool, Call, Channel, Claims}
+use Rattle.lapdm_link.proofs.Words.{Contains-append_left, Contains-push, Contains, Content, EndpointState, EventRefusal, Event, Frame}
+use Rattle.lapdm_link.proofs.Words.{HasEstablishmentTrigger, HasWindowOfOne, IsBenignEvent, IsBenign, IsOldestSentOrNone, IsOpenEndpoint}
+use Rattle.lapdm_link.proofs.Words.{IsOrderedLog, IsPrefix, IsSubsequence, IsValidMessage, I, List, LogLine, MayOpen, Message, Mobile}
+use Rattle.lapdm_link.proofs.Words.{Network, None, Notice, Notified, OccursAfter, OpensWithoutInfo, Opens, Option, Outcome, QueueCapacity}
+use Rattle.lapdm_link.proofs.Words.{Rej, RivalSabm, Role, Rr, Sabm, Sapi, Segment, SendsUi, Sends, Some, State, Three, Ua, Ui, World, Zero}
+use Rattle.lapdm_link.proofs.Words.{[], acked_message_numbers, all_segments, answer_log_lines, answers, answer, append-nil, append_assoc}
+use Rattle.lapdm_link.proofs.Words.{ap, arith, call_in_line, call_outcome, calls_in_log, cons_option, cut_segments, got_message}
+use Rattle.lapdm_link.proofs.Words.{delivered_messages, drop, ended-ended_messages, ended-take, ended_messages-all, ended_messages-append}
+use Rattle.lapdm_link.proofs.Words.{ended_messages, false, filter_map-append, filter_map, flat_map, frame_outcome, get_or}
+use Rattle.lapdm_link.proofs.Words.{if◌then◌else◌, information, initial_world, inl, inr, is_same_sapi, length-append, length, map}
+use Rattle.lapdm_link.proofs.Words.{message_count, message_sent_by_call, messages_of, messages, n201, nat_eq, notice_in_line, notices}
+use Rattle.lapdm_link.proofs.Words.{opened_info_in_notice, other, partial_message_after, refl, refusal_of, refusal, rival_sabm, sapi_number}
+use Rattle.lapdm_link.proofs.Words.{segments, sent_messages, start, subst, suc, sym, take-append-drop, take, true, ui_message_in_notice}
+use Rattle.lapdm_link.proofs.Words.{ui_message_of_call, world_after, zero, ℕ, ◌++◌, ◌+◌, ◌<◌, ◌∙◌, ◌∷◌, ◌≡◌}
+use Rattle.lapdm_link.{proofs.Words.{◌≤◌, ◌⊎◌}, specs.{Claims.{is_log_line_of_sapi, log_lines_of_sapi}, Worlds.AllowsRrForRej}}
+use Rattle.lapdm_link.specs.Worlds.{EventAllowsRrForRej, IsOldestSentOrRr, rr_for_rej}
+use Rattle.std.proofs.lemmas.List.Elements.{Contains-append_cases, Contains-append_right}
 use Rattle.lapdm_window.specs.declared.Notice.TheVariants as N
+use Rattle.lapdm_window.specs.declared.State.TheVariants as S
+use Rattle.lapdm_link.specs.Claims as C
+
+-- ## Links: One link as one of its endpoints sees it: the endpoint, its frames in transit, its calls and notices so far, and the steps that
+-- it can take.
+
+pub record Side : Type 0 where
+  pub endpoint : EndpointState
+  pub outgoing : List Content
+  pub calls : List Call
+  pub notified : List Notice
+
+abbrev pub side : Role → Sapi → World → List LogLine → Side
+side r s w ls = record {
+  endpoint = end_of r s w;
+  outgoing = contents_on s (way r w);
+  calls = calls_in_log r s ls;
+  notified =
+      notices r s ls;
+}
+
+-- a step of one endpoint: the SABM frames that other mobiles send with it, the endpoint's call, its outcome, and the frames that remain in
+-- transit from the other endpoint
+pub record Act : Type 0 where
+  pub role : Role
+  pub sapi : Sapi
+  pub rivals : List Message
+  pub layer3_call_step : List Call
+  pub endpoint_step : Outcome
+  pub remaining : List Content
+
+abbrev pub act : Role → Sapi → List Call → Outcome → List Content → Act
+act r s cs o left = record { role = r; sapi = s; rivals = []; layer3_call_step = cs; endpoint_step = o; remaining = left }
+
+-- the step in which another mobile sends a SABM and the mobile's endpoint stays unchanged
+abbrev pub rivals : Message → Side → Side → Act
+rivals info x y = record (act Mobile Zero [] (record { new_state = x.endpoint; frames = rival_sabm info ∷ []; notices = [] })
+    y.outgoing) {
+      rivals = info ∷ [];
+    }
+
+abbrev pub lines : Act → List LogLine
+lines a = lines_of_step a.role a.sapi a.rivals a.layer3_call_step a.endpoint_step.notices
+
+-- the possible steps: layer 3 calls the endpoint, the oldest frame from the other endpoint arrives, or another mobile sends a SABM
+pub data IsActed (x y : Side) : Act → Type 0 where
+  called : {r : Role} {s : Sapi} {call : Call} {o : Outcome} → IsPlaced r s call → IsCalled x.endpoint call o →
+      IsActed x y (act r s (call ∷ []) o y.outgoing)
+  took : {r : Role} {s : Sapi} {c : Content} {o : Outcome} {left : List Content} → y.outgoing ≡ cons_option (content_of c) left →
+      IsTaken c x.endpoint o → IsActed x y (act r s [] o left)
+  rival : {info : Message} → IsActed x y (rivals info x y)
+
+-- the endpoint that acts, and (below) the other endpoint, after the step
+abbrev pub after : Act → Side → Side
+after a x = record {
+  endpoint = a.endpoint_step.new_state;
+  outgoing = x.outgoing ++ contents a.endpoint_step.frames;
+  calls = x.calls ++ a.layer3_call_step;
+  notified = x.notified ++ a.endpoint_step.notices;
+}
+
+abbrev pub other_after : Act → Side → Side
+other_after a y = record y { outgoing = a.remaining }
+
+abbrev pub acted_by : Act → World → World
+acted_by a w = acted a.role a.sapi a.endpoint_step w
+
+acts_own : {x y : Side} {a : Act} → IsActed x y a → x.endpoint.sapi ≡ a.sapi → AllOf (IsForSapi a.sapi) a.endpoint_step.frames
+acts_own {a = a} (called p c) same = rw same at (frames-own _ _ a.endpoint_step.frames c.frames)
+acts_own {a = a} (took e t) same = rw same at (frames-own _ _ a.endpoint_step.frames t.frames)
+acts_own rival same = (inl refl, tt)
+
+-- ## Delivery: Every step of an endpoint preserves the invariant of both directions of its link, and the invariant implies the claims about
+-- delivery: in order, delivered before acknowledged, none oversize.
 
 -- the invariant of both directions of a link, as one of its sides sees it
 abbrev pub IsCarried : Side → Side → Type 0
-IsCarried x y = BothHold x.end y.end x.out y.out y.out
+IsCarried x y = BothHold x.endpoint y.endpoint x.outgoing y.outgoing y.outgoing
 
-pub carried-acts : {x y : Side} {a : Act} → IsActed x y a → IsCarried x y → IsCarried (after a x) (other_after a y)
+carried-acts : {x y : Side} {a : Act} → IsActed x y a → IsCarried x y → IsCarried (after a x) (other_after a y)
 carried-acts (called p c) h = c.arrives _ _ _ h
 carried-acts (took e t) h = t.arrives _ _ _ (rw e at h)
 carried-acts rival h = sends_plain _ _ h
@@ -37,8 +128,8 @@ module _ (n : ℕ) (ms : List Message) (good : All IsValidMessage ms) (r : ℕ) 
     (accepted : qs ≡ take r (flat_map (segments n) ms))
   where
     -- the messages that the accepted segments complete are a prefix of all messages
-    begins : (more : List (Option Message)) × (ended_messages [] qs ++ more ≡ map (λ m. Some m) ms)
-    begins =
+    delivered_prefix : (more : List (Option Message)) × (ended_messages [] qs ++ more ≡ map (λ m. Some m) ms)
+    delivered_prefix =
         let left = drop r (flat_map (segments n) ms) in
         let whole = ap (λ ps. ps ++ left) accepted
         ∙ take-append-drop r _ in (
@@ -48,8 +139,9 @@ module _ (n : ℕ) (ms : List Message) (good : All IsValidMessage ms) (r : ℕ) 
 
     prefix : IsPrefix (messages qs) ms
     prefix = (
-      filter_map (λ x. x) begins.0,
-      sym (filter_map-append (λ x. x) (ended_messages [] qs) begins.0) ∙ ap (filter_map (λ x. x)) begins.1 ∙ messages_of ms,
+      filter_map (λ x. x) delivered_prefix.0,
+      sym (filter_map-append (λ x. x) (ended_messages [] qs) delivered_prefix.0) ∙ ap (filter_map (λ x. x)) delivered_prefix.1
+          ∙ messages_of ms,
     )
 
     counted : (a : ℕ) → a ≤ r → message_count (take a (flat_map (segments n) ms)) ≤ length (messages qs)
@@ -58,32 +150,812 @@ module _ (n : ℕ) (ms : List Message) (good : All IsValidMessage ms) (r : ℕ) 
       ended-take a r (flat_map (segments n) ms) h,
       ap message_count accepted,
       ended-ended_messages qs,
-      prefix_is_complete (ended_messages [] qs) begins.0 ms begins.1,
+      prefix_is_complete (ended_messages [] qs) delivered_prefix.0 ms delivered_prefix.1,
     )
 
-got-messages : (ns : List Notice) → filter_map delivered_in_notice ns ≡ filter_map (λ x. x) (filter_map ending_in ns)
+got-messages : (ns : List Notice) → filter_map got_message ns ≡ filter_map (λ x. x) (filter_map ending_in ns)
 got-messages [] = refl
 got-messages (N.Got m ∷ ns) = ap (λ ms. m ∷ ms) (got-messages ns)
 got-messages (n ∷ ns) = got-messages ns
 
 -- below, x and y are the endpoints of a link in some state of a benign session
-module _ {r q : Role} {s : Sapi} {x y : EndState} {ls : List Line} {out comes hears : List Content} (here : IsReported r s x ls)
+module _ {r q : Role} {s : Sapi} {x y : EndpointState} {ls : List LogLine} {out comes hears : List Content} (here : IsReported r s x ls)
     (there : IsReported q s y ls) (both : BothHold x y out comes hears) where
   delivered_is : delivered_messages q s ls ≡ messages y.accepted
   delivered_is = got-messages (notices q s ls) ∙ ap (filter_map (λ x. x)) there.notified.got
 
-  pub delivered_in_order : IsPrefix (delivered_messages q s ls) (sent_messages r s ls)
-  delivered_in_order = rw (delivered_is, here.notified.taken) (prefix (n201 x.channel) _ here.end.messages _ y.accepted both.there.in_order)
+  delivered_in_order : IsPrefix (delivered_messages q s ls) (sent_messages r s ls)
+  delivered_in_order = rw (delivered_is, here.notified.taken)
+      (prefix (n201 x.channel) _ here.window_of_one.messages _ y.accepted both.forward.in_order)
 
-  pub acked_most : length (acked_numbers r s ls) ≤ length (delivered_messages q s ls)
+  acked_most : length (acked_message_numbers r s ls) ≤ length (delivered_messages q s ls)
   acked_most =
-      let most = counted (n201 x.channel) x.taken here.end.messages _ y.accepted both.there.in_order x.acked
-      (climbs-le both.there.acknowledged) in omega (arith, most, here.notified.acked, ap length delivered_is)
+      let most = counted (n201 x.channel) x.taken here.window_of_one.messages _ y.accepted both.forward.in_order x.acked
+      (climbs-le both.forward.acknowledged) in omega (arith, most, here.notified.acked, ap length delivered_is)
 
-  pub none_oversize : (before : List Line) → ¬ OccursAfter before (Notified q s N.Oversize) ls
+  none_oversize : (before : List LogLine) → ¬ OccursAfter before (Notified q s N.Oversize) ls
   none_oversize before place =
-      let all = begins (n201 x.channel) x.taken here.end.messages _ y.accepted both.there.in_order in
+      let all = delivered_prefix (n201 x.channel) x.taken here.window_of_one.messages _ y.accepted both.forward.in_order in
       no_oversize (filter_map ending_in (notices q s before)) (filter_map ending_in (notices q s place.0)) all.0 x.taken
       (ap (λ es. es ++ all.0) (sym (filter_map-append ending_in (notices q s before) (N.Oversize ∷ notices q s place.0))
       ∙ ap (filter_map ending_in) (sym (notices-at q s before N.Oversize place.0) ∙ ap (notices q s) place.1) ∙ there.notified.got)
       ∙ all.1)
+
+-- ## Units: UI frames arrive in order or are lost: the messages reported, followed by those in transit, are a subsequence of those sent.
+
+-- the first list is a subsequence of the second, as an inductive type
+pub data IsSome : List Message → List Message → Type 0 where
+  empty : IsSome [] []
+  kept : {m : Message} {xs ys : List Message} → IsSome xs ys → IsSome (m ∷ xs) (m ∷ ys)
+  dropped : {m : Message} {xs ys : List Message} → IsSome xs ys → IsSome xs (m ∷ ys)
+
+subsequence : {xs ys : List Message} → IsSome xs ys → IsSubsequence xs ys
+subsequence empty = refl
+subsequence (kept h) = inl (refl, subsequence h)
+subsequence (dropped {xs = []} h) = tt
+subsequence (dropped {xs = x ∷ xs} h) = inr (subsequence h)
+
+all : (xs : List Message) → IsSome xs xs
+all [] = empty
+all (x ∷ xs) = kept (all xs)
+
+front : (xs zs : List Message) → IsSome xs (xs ++ zs)
+front [] [] = empty
+front [] (z ∷ zs) = dropped (front [] zs)
+front (x ∷ xs) zs = kept (front xs zs)
+
+append : {xs ys us vs : List Message} → IsSome xs ys → IsSome us vs → IsSome (xs ++ us) (ys ++ vs)
+append empty g = g
+append (kept h) g = kept (append h g)
+append (dropped h) g = dropped (append h g)
+
+trans : {xs ys zs : List Message} → IsSome xs ys → IsSome ys zs → IsSome xs zs
+trans h empty = h
+trans (kept h) (kept g) = kept (trans h g)
+trans (dropped h) (kept g) = dropped (trans h g)
+trans h (dropped g) = dropped (trans h g)
+
+-- the UI messages that y has reported, followed by those in transit from x, are a subsequence of those that x was asked to send
+pub record HasUnits (x y : Side) : Type 0 where
+  pub units_sent : IsSome (filter_map ui_message_in_notice y.notified ++ filter_map unit_in x.outgoing)
+      (filter_map ui_message_of_call x.calls)
+
+ui_in_order-claim : (x y : Side) → HasUnits x y → IsSubsequence (filter_map ui_message_in_notice y.notified)
+    (filter_map ui_message_of_call x.calls)
+ui_in_order-claim x y h = subsequence
+    (trans (front (filter_map ui_message_in_notice y.notified) (filter_map unit_in x.outgoing)) h.units_sent)
+
+in_front : (o : Option Content) (cs : List Content) → cons_option o [] ++ cs ≡ cons_option o cs
+in_front None cs = refl
+in_front (Some c) cs = refl
+
+unit_lost : (o : Option Content) (cs : List Content) → IsSome (filter_map unit_in cs) (filter_map unit_in (cons_option o cs))
+unit_lost o cs = rw (← in_front o cs, filter_map-append) (append (front [] (filter_map unit_in (cons_option o []))) (all _))
+
+sent : {x y : Side} {a : Act} → IsActed x y a → filter_map unit_in (contents a.endpoint_step.frames) ≡
+    filter_map ui_message_of_call a.layer3_call_step
+sent h = grind arith
+
+no_more : (c : Content) (ns : List Notice) (cs : List Content) → ReportsUnit c ns →
+    IsSome (filter_map ui_message_in_notice ns ++ filter_map unit_in cs) (filter_map unit_in (cons_option (content_of c) cs))
+no_more c ns cs (inl h) = rw h (unit_lost (content_of c) cs)
+no_more c ns cs (inr h) = rw (h, ← filter_map-append, in_front _ cs) (all _)
+
+taken : {x y : Side} {a : Act} → IsActed x y a →
+    IsSome (filter_map ui_message_in_notice a.endpoint_step.notices ++ filter_map unit_in a.remaining) (filter_map unit_in y.outgoing)
+taken {a = a} (called p c) = no_more (Ui false []) a.endpoint_step.notices a.remaining c.reports
+taken {a = a} (took {c = c} e t) = rw e (no_more c a.endpoint_step.notices _ t.reports)
+taken rival = all _
+
+ui_in_order-here : {x y : Side} {a : Act} → IsActed x y a → HasUnits x y → HasUnits (after a x) (other_after a y)
+ui_in_order-here a h = record {
+  units_sent =
+      rw (filter_map-append, filter_map-append, sent a, ← append_assoc) (append h.units_sent (all _));
+}
+
+ui_in_order-there : {x y : Side} {a : Act} → IsActed x y a → HasUnits y x → HasUnits (other_after a y) (after a x)
+ui_in_order-there a h = record { units_sent = rw (filter_map-append, append_assoc) (trans (append (all _) (taken a)) h.units_sent) }
+
+ui_in_order-lost : (x y : Side) (o : Option Content) (cs : List Content) → HasUnits (record x { outgoing = cons_option o cs }) y →
+    HasUnits (record x { outgoing = cs }) y
+ui_in_order-lost x y o cs h = record { units_sent = trans (append (all _) (unit_lost o cs)) h.units_sent }
+
+-- ## Octets: The invariant that the information of all frames in transit consists of octets (0 to 255), if all messages do.
+
+abbrev pub AreOctets : List ℕ → Type 0
+AreOctets m = All (λ octet. octet < 256) m
+
+-- the messages in a call, and (below) in a log line, consist of octets
+abbrev pub CallOctets : Call → Type 0
+CallOctets (Opens info) = AreOctets info
+CallOctets (Sends m) = AreOctets m
+CallOctets (SendsUi m) = AreOctets m
+CallOctets other = Unit {0}
+
+abbrev pub LineOctets : List LogLine → Type 0
+LineOctets [] = Unit {0}
+LineOctets (Asked r s call ∷ ls) = CallOctets call × LineOctets ls
+LineOctets (RivalSabm info ∷ ls) = AreOctets info × LineOctets ls
+LineOctets (Notified r s n ∷ ls) = LineOctets ls
+
+abbrev pub AllMessages : List Message → Type 0
+AllMessages ms = All AreOctets ms
+
+abbrev SegmentOctets : Segment → Type 0
+SegmentOctets p = AreOctets p.0
+
+pub record EndOctets (e : EndpointState) : Type 0 where
+  pub sabm_info : AreOctets e.sabm_info
+  pub taken : AllMessages e.taken
+
+abbrev pub SaysOctets : Frame → Type 0
+SaysOctets f = AreOctets (information f.content)
+
+abbrev pub AllSay : List Frame → Type 0
+AllSay fs = All SaysOctets fs
+
+abbrev pub WorldOctets : World → Type 0
+WorldOctets w = (channel : Channel) × Holds (λ s e. EndOctets e) SaysOctets channel w
+
+none : AreOctets []
+none = All-nil (λ octet. octet < 256)
+
+none_sent : AllMessages []
+none_sent = All-nil _
+
+-- ---- segments
+cut_segments-octets : (n k : ℕ) (m : Message) → AreOctets m → All SegmentOctets (cut_segments n k m)
+cut_segments-octets n zero m h = All-cons SegmentOctets _ [] h (All-nil _)
+cut_segments-octets n (suc k) m h =
+    All-cons SegmentOctets _ _ (All-take (λ octet. octet < 256) n m h) (cut_segments-octets n k _ (All-drop (λ octet. octet < 256) n m h))
+
+all-octets : (n : ℕ) (ms : List Message) → AllMessages ms → All SegmentOctets (flat_map (segments n) ms)
+all-octets n [] h = All-nil _
+all-octets n (m ∷ ms) h =
+    All-append SegmentOctets (segments n m) (flat_map (segments n) ms) (cut_segments-octets n _ m (All-head AreOctets m ms h))
+    (all-octets n ms (All-tail AreOctets m ms h))
+
+octets_carried : (x : EndpointState) (info : List ℕ) (more : Bool) (i : ℕ) → EndOctets x → i < length (all_segments x) →
+    get_or (all_segments x) i ([], false) ≡ (info, more) → AreOctets info
+octets_carried x info more i h l e = subst AreOctets (ap (λ p. p.0) e) (all-octets (n201 x.channel) x.taken h.taken i ([], false) l)
+
+-- ---- frames sent
+abbrev OctetsBy : Option Call → Type 0
+OctetsBy None = Unit {0}
+OctetsBy (Some call) = CallOctets call
+
+said-octets : (call : Option Call) (x z : EndpointState) → OctetsBy call → EndOctets z → (c : Content) → Says call x z c →
+    AreOctets (information c)
+said-octets call x z said h (I ns nr p more info) a = octets_carried z _ _ a.0 h a.1 a.2
+said-octets call x z said h (Sabm p info) a = subst AreOctets a.1 h.sabm_info
+said-octets call x z said h (Ui p info) (inl e) = subst OctetsBy e said
+said-octets call x z said h (Ui p info) (inr e) = subst AreOctets (sym e.1) none
+said-octets call x z said h (Ua f info) (inl e) = subst AreOctets e.1 h.sabm_info
+said-octets call x z said h (Ua f info) (inr e) = subst AreOctets (sym e.0) none
+said-octets call x z said h other a = subst AreOctets (sym a) none
+
+frames-octets : (Says : Content → Type 0) → ((c : Content) → Says c → AreOctets (information c)) →
+    (s : Sapi) (fs : List Frame) → AllFrames Says s fs → AllSay fs
+frames-octets Says octets s [] h = All-nil _
+frames-octets Says octets s (f ∷ fs) h = All-cons SaysOctets f fs (octets f.content h.1) (frames-octets _ octets s fs h.2)
+
+-- ---- the kept information and the messages sent
+
+kept-octets : (call : Option Call) (c : Content) (x : EndpointState) (o : Outcome) → OctetsBy call → AreOctets (information c) →
+    AreOctets x.sabm_info → Goes call c x o → AreOctets o.new_state.sabm_info
+kept-octets call c x o h g k l = grind arith
+
+sent-octets : (call : Option Call) → OctetsBy call → AllMessages (filter_map message_sent_by_call (cons_option call []))
+sent-octets call h = grind arith
+
+pub record OutcomeOctets (o : Outcome) : Type 0 where
+  pub end_octets : EndOctets o.new_state
+  pub frames : AllSay o.frames
+
+done-octets : (call : Option Call) (c : Content) (x : EndpointState) (o : Outcome) → IsDone call c x o → OctetsBy call →
+    AreOctets (information c) → EndOctets x → OutcomeOctets o
+done-octets call c x o d said octets h =
+    let taken = subst AllMessages (sym d.taken) (All-append AreOctets x.taken _ h.taken
+    (sent-octets call said)) in
+    let end : EndOctets o.new_state = record { sabm_info = kept-octets _ c x o said octets h.sabm_info d.goes; taken = taken } in
+    record {
+      end_octets = end;
+      frames =
+          frames-octets (Says call x o.new_state) (said-octets call x o.new_state said end) x.sapi o.frames d.frames;
+    }
+
+pub frame-octets : (f : Frame) (x : EndpointState) → AreOctets (information f.content) → HasWindowOfOne x → EndOctets x →
+    OutcomeOctets (frame_outcome f x)
+frame-octets f x octets e h = done-octets None f.content x _ (taken-frame x e f) tt octets h
+
+pub call-octets : (call : Call) (x : EndpointState) → CallOctets call → refusal_of call x ≡ None → HasWindowOfOne x →
+    EndOctets x →
+    OutcomeOctets (call_outcome call x)
+call-octets call x said ok e h = done-octets (Some call) (Ui false []) x _ (is_called x e _ ok) said none h
+
+pub octets-step : (w : World) (ls : List LogLine) (event : Event) → AllReported w ls →
+    KnowsBy (refusal event w) (λ sender f. AreOctets (information f.content)) event → WorldOctets w →
+    LineOctets (answer_log_lines event (answer event w)) → WorldOctets (world_after event w)
+octets-step w ls event reported known h said = (
+  h.0,
+  holds-step (λ s e. EndOctets e) SaysOctets LineOctets (λ sender f. AreOctets (information f.content)) h.0 w h.1
+      (λ r s call placed ok l. (let g = call-octets call (end_of r s w) l.0 ok (reported r s).window_of_one (h.1.ends r s) in
+      (g.end_octets, g.frames)))
+      (λ r s f octets. (let g = frame-octets f (end_of r s w) octets (reported r s).window_of_one (h.1.ends r s) in
+      (g.end_octets, g.frames)))
+      (λ info ok l. l.0) event known said,
+)
+
+pub start-octets : (capacity : QueueCapacity) (channel : Channel) → WorldOctets (initial_world capacity channel)
+start-octets capacity channel = grind arith
+
+-- ## Openings: Each establishment is reported after its cause. The invariant says why each SABM or UA in transit was sent and how each
+-- endpoint reached its state.
+
+-- the call with which layer 3 establishes the link of this SAPI with this information
+abbrev pub opening_call : Sapi → Message → Call
+opening_call Zero k = Opens k
+opening_call Three k = OpensWithoutInfo
+
+abbrev pub MayAsk : Role → Sapi → Message → Type 0
+MayAsk r Zero k = (r ≡ Mobile) × (1 ≤ length k)
+MayAsk r Three k = k ≡ []
+
+abbrev pub WasAsked : Role → Sapi → List LogLine → Message → Type 0
+WasAsked r s ls k = Contains ls (Asked r s (opening_call s k)) × MayAsk r s k
+
+abbrev pub IsBare : Sapi → Message → Type 0
+IsBare Zero k = Unit {0}
+IsBare Three k = k ≡ []
+
+abbrev pub WasOpened : Role → Sapi → List LogLine → Message → Type 0
+WasOpened r s ls k = Contains ls (Notified r s (N.Opened k)) × IsBare s k
+
+-- what in the log explains that this content of the endpoint is in transit; only a SABM or UA needs an explanation
+abbrev pub IsCaused : Role → Sapi → List LogLine → Content → Type 0
+IsCaused r s ls (Sabm p info) = WasAsked r s ls info ⊎ ((s ≡ Zero) × Contains ls (RivalSabm info))
+IsCaused r s ls (Ua f info) = WasOpened r s ls info ⊎ ((info ≡ []) × ((k : Message) × (WasAsked r s ls k ⊎ WasOpened r s ls k)))
+IsCaused r s ls c = Unit {0}
+
+-- what in the log explains that the endpoint is in this state with this information kept
+abbrev pub IsReached : Role → Sapi → List LogLine → State → Message → Type 0
+IsReached r s ls S.Opening k = WasAsked r s ls k
+IsReached r s ls S.Open k = WasOpened r s ls k
+IsReached r s ls S.Closing k = WasOpened r s ls k
+IsReached r s ls state k = Unit {0}
+
+abbrev pub HasReached : Role → Sapi → List LogLine → EndpointState → Type 0
+HasReached r s ls x = IsReached r s ls x.state x.sabm_info
+
+abbrev pub HasOpenings : Role → Sapi → Side → List LogLine → Type 0
+HasOpenings r s x ls = AllOf (IsCaused r s ls) x.outgoing × HasReached r s ls x.endpoint
+
+-- these explanations remain valid when lines are added to the log
+module _ (r : Role) (s : Sapi) (ls new : List LogLine) where
+  asked-more : (k : Message) → WasAsked r s ls k → WasAsked r s (ls ++ new) k
+  asked-more k h = (Contains-append_left ls new _ h.0, h.1)
+
+  opened-more : (k : Message) → WasOpened r s ls k → WasOpened r s (ls ++ new) k
+  opened-more k h = (Contains-append_left ls new _ h.0, h.1)
+
+  caused-more : (c : Content) → IsCaused r s ls c → IsCaused r s (ls ++ new) c
+  caused-more (Sabm p info) (inl h) = inl (asked-more _ h)
+  caused-more (Sabm p info) (inr h) = inr (h.0, Contains-append_left ls new _ h.1)
+  caused-more (Ua f info) (inl h) = inl (opened-more _ h)
+  caused-more (Ua f info) (inr (e, (k, inl h))) = inr (e, (k, inl (asked-more k h)))
+  caused-more (Ua f info) (inr (e, (k, inr h))) = inr (e, (k, inr (opened-more k h)))
+  caused-more c h = tt
+
+  reached-more : (state : State) (k : Message) → IsReached r s ls state k → IsReached r s (ls ++ new) state k
+  reached-more S.Opening k h = asked-more k h
+  reached-more S.Open k h = opened-more k h
+  reached-more S.Closing k h = opened-more k h
+  reached-more state k h = tt
+
+  establishment_infos-more : (x : Side) → HasOpenings r s x ls → HasOpenings r s x (ls ++ new)
+  establishment_infos-more x h = (of-as _ _ caused-more _ h.0, reached-more _ _ h.1)
+
+-- a SABM, or (below) a UA, that can establish a link has a cause in the log
+sabm-cause : (r : Role) (s : Sapi) (ls : List LogLine) (info : Message) → MayOpen s r info →
+    WasAsked (other r) s ls info ⊎ ((s ≡ Zero) × Contains ls (RivalSabm info)) → HasEstablishmentTrigger r s info ls × IsBare s info
+sabm-cause r s ls info h g = grind arith
+
+ua-cause : (r : Role) (s : Sapi) (ls : List LogLine) (info : Message) → WasAsked r s ls info →
+    WasOpened (other r) s ls info ⊎ ((info ≡ []) × ((k : Message) × (WasAsked (other r) s ls k ⊎ WasOpened (other r) s ls k))) →
+    HasEstablishmentTrigger r s info ls × IsBare s info
+ua-cause r s ls info k h = grind arith
+
+-- if the line reports an establishment, its cause is among the lines before it
+abbrev pub IsOpenedAfter : List LogLine → LogLine → Type 0
+IsOpenedAfter before (Notified r s (N.Opened info)) = HasEstablishmentTrigger r s info before
+IsOpenedAfter before other = Unit {0}
+
+module _ (r : Role) (s : Sapi) where
+  none-opened : (ns : List Notice) (ls : List LogLine) → filter_map opened_info_in_notice ns ≡ [] →
+      AllOccur IsOpenedAfter ls (map (Notified r s) ns)
+  none-opened [] ls h = tt
+  none-opened (N.Opened i ∷ ns) ls h = cc h
+  none-opened (n ∷ ns) ls h = (tt, none-opened ns _ h)
+
+  abbrev HasAsked : List LogLine → Option Call → Type 0
+  HasAsked ls None = Unit {0}
+  HasAsked ls (Some call) = IsPlaced r s call × Contains ls (Asked r s call)
+
+  was-asked : (ls : List LogLine) (call : Option Call) (k : Message) → IsOpening call k → HasAsked ls call → WasAsked r s ls k
+  was-asked ls call k h g = grind arith
+
+  said-caused : (ls : List LogLine) (call : Option Call) (x z : EndpointState) → HasReached r s ls x → HasReached r s ls z →
+      (c : Content) →
+      Says call x z c → IsCaused r s ls c
+  said-caused ls call x z c h g k = grind arith
+
+  module _ (ls : List LogLine) (x : Side) (role : x.endpoint.role ≡ r) (same : x.endpoint.sapi ≡ s) (h : HasOpenings r s x ls)
+      (left : List Content)
+    where
+      opening-cause : (c : Content) (info : Message) → OpensBy c x.endpoint info →
+          AllOf (IsCaused (other r) s ls) (cons_option (content_of c) left) → HasEstablishmentTrigger r s info ls × IsBare s info
+      opening-cause (Sabm p i) info o sent = sabm-cause r s ls info (rw (same, role) at o.2) (let g = sent.0 in rw o.0 at g)
+      opening-cause (Ua f i) info o sent = ua-cause r s ls info (rw o.2 (rw o.1 at h.1)) (let g = sent.0 in rw o.0 at g)
+      opening-cause c info o sent = absurd o
+
+      module _ (call : Option Call) (c : Content) (o : Outcome) (asked : HasAsked ls call)
+          (sent : AllOf (IsCaused (other r) s ls) (cons_option (content_of c) left)) where
+        abbrev notified : List LogLine
+        notified = map (Notified r s) o.notices
+
+        goes-on : Goes call c x.endpoint o → HasReached r s (ls ++ notified) o.new_state × AllOccur IsOpenedAfter ls notified
+        goes-on (remains same e n) = (rw (same, e) (reached-more r s ls _ _ _ h.1), none-opened _ ls n)
+        goes-on (ends over e n) = (rw over tt, none-opened _ ls n)
+        goes-on (closes now closing e n) =
+            (rw (closing, e) (opened-more r s ls _ _ (rw now at h.1)), none-opened _ ls n)
+        goes-on (begins opening a n) =
+            (rw opening (asked-more r s ls _ _ (was-asked ls _ _ a asked)), none-opened _ ls n)
+        goes-on (opens {info} n now e by) =
+            let cause = opening-cause c _ by sent in rw (now, e, n) ((Contains-push ls _, cause.1), (cause.0, tt))
+
+        done : IsDone call c x.endpoint o → (AllOf (IsCaused r s (ls ++ notified)) (x.outgoing ++ contents o.frames) ×
+            HasReached r s (ls ++ notified) o.new_state) × AllOccur IsOpenedAfter ls notified
+        done d =
+            let h' = establishment_infos-more r s ls notified x h in
+            let to = goes-on d.goes in
+            let says = said-caused (ls ++ notified) call x.endpoint o.new_state h'.1 to.0 in (
+              (of-append _ x.outgoing _ h'.0 (frames-say _ (IsCaused r s (ls ++ notified)) says x.endpoint.sapi o.frames d.frames), to.0),
+              to.1,
+            )
+
+establishment_infos-here : {x y : Side} {a : Act} (ls : List LogLine) → IsActed x y a → x.endpoint.role ≡ a.role → x.endpoint.sapi
+    ≡ a.sapi →
+    HasOpenings a.role a.sapi x ls → HasOpenings (other a.role) a.sapi y ls →
+    HasOpenings a.role a.sapi (after a x) (ls ++ lines a) × AllOccur IsOpenedAfter ls (lines a)
+establishment_infos-here {x} {y} {a} ls (called {r} {s} {call} p c) role same h g =
+    let asked = Asked r s call ∷ [] in
+    let to = done r s (ls ++ asked) x role same (establishment_infos-more r s ls _ x h) y.outgoing (Some call) (Ui false []) a.endpoint_step
+    (p, Contains-push ls _) (establishment_infos-more _ s ls _ y g).0 c in (rw append_assoc at to.0, (tt, to.1))
+establishment_infos-here {x} {y} {a} ls (took {r} {s} {c} {o} {left} e t) role same h g =
+    done r s ls x role same h left None c o tt (rw e at g.0) t
+establishment_infos-here {x} {y} {a} ls (rival {info}) role same h g =
+    let h' = establishment_infos-more _ _ ls _ x h in
+    ((of-append _ x.outgoing _ h'.0 (inr (refl, Contains-push ls _), tt), h'.1), (tt, tt))
+
+of-rest : (P : Content → Type 0) (o : Option Content) (cs : List Content) → AllOf P (cons_option o cs) → AllOf P cs
+of-rest P None cs h = h
+of-rest P (Some c) cs h = h.1
+
+establishment_infos-there : {x y : Side} {a : Act} (ls : List LogLine) → IsActed x y a → HasOpenings (other a.role) a.sapi y ls →
+    HasOpenings (other a.role) a.sapi (other_after a y) (ls ++ lines a)
+establishment_infos-there {y = y} {a = a} ls i g = establishment_infos-more _ _ ls _ (other_after a y) (left _ i g.0, g.1)
+  where
+    left : {x y : Side} {a : Act} (P : Content → Type 0) → IsActed x y a → AllOf P y.outgoing → AllOf P a.remaining
+    left P (called p c) g = g
+    left P (took {c = c} e t) g = of-rest P (content_of c) _ (rw e at g)
+    left P rival g = g
+
+-- ## Sessions: The claims about delivery hold in every benign session. The invariant `IsSession` combines the directions, UI frames and
+-- causes of both links.
+
+-- ---- one link
+
+-- the invariant of one link, stated for both of its endpoints
+pub data IsLink (r q : Role) (s : Sapi) (x y : Side) (ls : List LogLine) : Type 0 where
+  link : IsCarried x y → HasUnits x y → HasUnits y x → HasOpenings r s x ls → HasOpenings q s y ls → IsLink r q s x y ls
+
+carried_by_link : {r q : Role} {s : Sapi} {x y : Side} {ls : List LogLine} → IsLink r q s x y ls → IsCarried x y
+carried_by_link (link c u v o p) = c
+
+ui_in_order : {r q : Role} {s : Sapi} {x y : Side} {ls : List LogLine} → IsLink r q s x y ls → HasUnits x y
+ui_in_order (link c u v o p) = u
+
+swapped : {r q : Role} {s : Sapi} {x y : Side} {ls : List LogLine} → IsLink r q s x y ls → IsLink q r s y x ls
+swapped h = grind arith
+
+link-acts : {x y : Side} {a : Act} (ls : List LogLine) → IsActed x y a → x.endpoint.role ≡ a.role → x.endpoint.sapi ≡ a.sapi →
+    IsLink a.role (other a.role) a.sapi x y ls →
+    IsLink a.role (other a.role) a.sapi (after a x) (other_after a y) (ls ++ lines a) × AllOccur IsOpenedAfter ls (lines a)
+link-acts ls i role same (link c u v o p) =
+    let opens = establishment_infos-here ls i role same o p in
+    (link (carried-acts i c) (ui_in_order-here i u) (ui_in_order-there i v) opens.0 (establishment_infos-there ls i p), opens.1)
+
+more : {r q : Role} {s : Sapi} {x y : Side} {ls : List LogLine} (new : List LogLine) → IsLink r q s x y ls →
+    IsLink r q s x y (ls ++ new)
+more {r} {q} {s} {x} {y} {ls} new (link c u v o p) =
+    link c u v (establishment_infos-more r s ls new x o) (establishment_infos-more q s ls new y p)
+
+module _ {r q : Role} {s : Sapi} (x y : Side) {ls : List LogLine} where
+  -- the invariant holds after the oldest frame in transit is lost
+  first_gone : (o : Option Content) (cs : List Content) → IsLink r q s x (record y { outgoing = cons_option o cs }) ls →
+      IsLink r q s x (record y { outgoing = cs }) ls
+  first_gone d cs (link c u v o p) =
+      link (gone d c) (record { units_sent = u.units_sent }) (ui_in_order-lost y x d cs v) o (of-rest _ d cs p.0, p.1)
+
+  rest_gone : (fs : List Frame) → IsLink r q s x (record y { outgoing = contents_on s fs }) ls →
+      IsLink r q s x (record y { outgoing = contents_on s (rest fs) }) ls
+  rest_gone [] h = h
+  rest_gone (f ∷ fs) h = first_gone _ _ h
+
+-- the invariant holds after a REJ in transit is replaced by an RR with the same N(R)
+link-rr : {r q : Role} {s : Sapi} (x y : Side) {ls : List LogLine} (nr : ℕ) (pf : Bool) (cs : List Content) →
+    IsLink r q s x (record y { outgoing = Rej nr pf ∷ cs }) ls → IsLink r q s x (record y { outgoing = Rr nr pf ∷ cs }) ls
+link-rr x y nr pf cs (link c u v o p) =
+    link (record { forward = number_as_rr c.forward; backward = segment_as_rr c.backward }) (record { units_sent = u.units_sent })
+    (record { units_sent = v.units_sent }) o p
+
+first-rr : {r q : Role} {s : Sapi} (x y : Side) {ls : List LogLine} (c : Content) (cs : List Content) →
+    IsLink r q s x (record y { outgoing = cons_option (content_of c) cs }) ls →
+    IsLink r q s x (record y { outgoing = cons_option (content_of (rr_for_rej c)) cs }) ls
+first-rr x y (Rej nr pf) cs h = link-rr x y nr pf cs h
+first-rr x y c cs h = h
+
+-- ---- both links
+
+abbrev pub Links : Role → Sapi → World → List LogLine → Type 0
+Links r s w ls = IsLink r (other r) s (side r s w ls) (side (other r) s w ls) ls
+
+abbrev pub AllLinks : World → List LogLine → Type 0
+AllLinks w ls = (r : Role) (s : Sapi) → Links r s w ls
+
+seen_by : (r : Role) (w : World) (ls : List LogLine) → ((s : Sapi) → Links r s w ls) → AllLinks w ls
+seen_by Mobile w ls h Mobile s = h s
+seen_by Network w ls h Network s = h s
+seen_by Mobile w ls h r s = swapped (h s)
+seen_by Network w ls h r s = swapped (h s)
+
+first_lost : (r : Role) (s : Sapi) (w : World) (ls : List LogLine) → Links r s w ls → Links r s (without_first (other r) w) ls
+first_lost Mobile s w ls h = rest_gone _ (side Network s w ls) _ h
+first_lost Network s w ls h = rest_gone _ (side Mobile s w ls) _ h
+
+sides : {x y : Side} → x.endpoint ≡ y.endpoint → x.outgoing ≡ y.outgoing → x.calls ≡ y.calls → x.notified ≡ y.notified → x
+    ≡ y
+sides h g k l = grind arith
+
+-- a step of one endpoint changes the state of that endpoint only
+module _ (v : World) (ls : List LogLine) (a : Act) (own : AllOf (IsForSapi a.sapi) a.endpoint_step.frames) where
+  here : side a.role a.sapi (acted_by a v) (ls ++ lines a) ≡ after a (side a.role a.sapi v ls)
+  here = sides (end_does _ _ a.endpoint_step v) (rw (way_does _ _ _ v, filter_map-append, contents-own _ _ own) refl)
+      (calls_in_log-own _ _ ls _ _ _)
+      (notices-own _ _ ls _ _ _)
+
+  out-else : (r' r : Role) (s : Sapi) → is_end r s r' a.sapi ≡ false →
+      contents_on s (way r (acted r' a.sapi a.endpoint_step v)) ≡ contents_on s (way r v)
+  out-else Mobile Mobile s n = rw (filter_map-append, contents-else s _ n _ own, append-nil) refl
+  out-else Network Network s n = rw (filter_map-append, contents-else s _ n _ own, append-nil) refl
+  out-else r' r s n = refl
+
+  elsewhere : (r : Role) (s : Sapi) → is_end r s a.role a.sapi ≡ false → side r s (acted_by a v) (ls ++ lines a) ≡ side r s v ls
+  elsewhere r s n = sides (end_does-else _ _ a.endpoint_step v r s n) (out-else _ r s n) (calls_in_log-else _ _ ls _ _ _ r s n)
+      (notices-else _ _ ls _ _ _ r s n)
+
+  links-act : {x y : Side} → side a.role a.sapi v ls ≡ x → side (other a.role) a.sapi v ls ≡ y →
+      IsLink a.role (other a.role) a.sapi (after a x) y (ls ++ lines a) →
+      ((s : Sapi) → is_same_sapi s a.sapi ≡ false → Links a.role s v ls) → AllLinks (acted_by a v) (ls ++ lines a)
+  links-act e e' own others = seen_by _ (acted_by a v) _ (by_link (λ s. Links a.role s (acted_by a v) (ls ++ lines a)) _
+      (rw (here ∙ ap (after a) e, elsewhere _ a.sapi (other_is a.role a.sapi) ∙ e') own)
+      (λ s n. rw (elsewhere _ s (link_else a.role a.role s a.sapi n), elsewhere (other a.role) s (link_else _ a.role s a.sapi n))
+      (more (lines a) (others s n))))
+
+-- ---- an acknowledgement is reported after the delivery
+
+abbrev pub IsAfterDelivered : List LogLine → LogLine → Type 0
+IsAfterDelivered before (Notified r s (N.Acked n)) = length (acked_message_numbers r s before) + 1 ≤ length
+    (delivered_messages (other r) s before)
+IsAfterDelivered before other = Unit {0}
+
+-- the step delivers nothing, so if after it no more messages are acknowledged than delivered, each acknowledgement follows its delivery
+notified-after : (r : Role) (s : Sapi) (is : List Message) (cs : List Call) (ns : List Notice) (ls : List LogLine) →
+    (let zs = ls ++ lines_of_step r s is cs ns in length (acked_message_numbers r s zs) ≤ length (delivered_messages (other r) s zs)) →
+    AllOccur IsAfterDelivered ls (lines_of_step r s is cs ns)
+notified-after r s (i ∷ is) cs ns ls h = (tt, notified-after r s is cs ns _ (rw append_assoc h))
+notified-after r s [] (c ∷ cs) ns ls h = (tt, notified-after r s [] cs ns (ls ++ Asked r s c ∷ []) (rw append_assoc h))
+notified-after r s [] [] (N.Acked i ∷ ns) ls h =
+    let g = rw (notices-own r s ls [] [] (N.Acked i ∷ ns), notices-else r s ls [] [] _ _ s (other_is r s)) at h in
+    let later = notified-after r s [] [] ns (ls ++ Notified r s (N.Acked i) ∷ []) (rw append_assoc h) in
+    (omega (arith, simp (filter_map-append, length-append) at g), later)
+notified-after r s [] [] (n ∷ ns) ls h = (tt, notified-after r s [] [] ns (ls ++ Notified r s n ∷ []) (rw append_assoc h))
+notified-after r s [] [] [] ls h = tt
+
+-- ---- a session
+
+-- the invariant of a session: what its log says, both links, and the order of its lines
+pub record IsSession (w : World) (ls : List LogLine) : Type 0 where
+  pub reported : AllReported w ls
+  pub links : AllLinks w ls
+  pub after_delivered : AllOccur IsAfterDelivered [] ls
+  pub after_cause : AllOccur IsOpenedAfter [] ls
+
+abbrev GoesInSession : List LogLine → World → List LogLine → Type 0
+GoesInSession ls z new = AllReported z (ls ++ new) →
+    AllLinks z (ls ++ new) × AllOccur IsAfterDelivered ls new × AllOccur IsOpenedAfter ls new
+
+acts : (ls : List LogLine) (v : World) {x y : Side} {a : Act} → IsActed x y a → x.endpoint.role ≡ a.role → x.endpoint.sapi
+    ≡ a.sapi →
+    side a.role a.sapi v ls ≡ x → side (other a.role) a.sapi v ls ≡ other_after a y → IsLink a.role (other a.role) a.sapi x y ls →
+    ((s : Sapi) → is_same_sapi s a.sapi ≡ false → Links a.role s v ls) → GoesInSession ls (acted_by a v) (lines a)
+acts ls v {x} {y} {a} i role same e e' h others reported =
+    let link = link-acts ls i role same h in
+    let all = links-act v ls a (acts_own i same) e e' link.0 others in
+    let most = acked_most (reported a.role a.sapi) (reported (other a.role) a.sapi) (carried_by_link (all _ _)) in
+    (all, notified-after _ _ _ _ _ ls most, link.1)
+
+comes-first : (s : Sapi) (f : Frame) (fs : List Frame) → is_on s f ≡ true → IsOldestSentOrNone (Some f) fs →
+    contents_on s fs ≡ cons_option (content_of f.content) (contents_on s (rest fs))
+comes-first s f fs on sent = grind arith
+
+left-here : (r : Role) (s : Sapi) (w : World) (ls : List LogLine) → side r s (without_first (other r) w) ls ≡ side r s w ls
+left-here r s w ls = grind arith
+
+left-there : (r : Role) (s : Sapi) (w : World) (ls : List LogLine) → side (other r) s (without_first (other r) w) ls ≡
+    record (side (other r) s w ls) { outgoing = contents_on s (rest (way (other r) w)) }
+left-there r s w ls = grind arith
+
+lost : (sender : Role) (w : World) (ls : List LogLine) → AllLinks w ls → AllLinks (without_first sender w) ls
+lost Mobile w ls h = seen_by Network (without_first Mobile w) ls (λ s. first_lost _ s w ls (h _ s))
+lost Network w ls h = seen_by Mobile (without_first Network w) ls (λ s. first_lost _ s w ls (h _ s))
+
+-- the arriving frame is the one that was sent, or an RR in place of a REJ
+came : (r : Role) (s : Sapi) (w : World) (ls : List LogLine) (f : Frame) (fs : List Frame) → way (other r) w ≡ fs →
+    is_on s f ≡ true → IsOldestSentOrRr (Some f) fs → Links r s w ls →
+    IsLink r (other r) s (side r s w ls)
+    (record (side (other r) s w ls) { outgoing = cons_option (content_of f.content) (contents_on s (rest fs)) }) ls
+came r s w ls f (g ∷ gs) is on (inl same) h =
+    subst (λ cs. IsLink r (other r) s (side r s w ls) (record (side (other r) s w ls) { outgoing = cs }) ls)
+    (ap (contents_on s) is ∙ comes-first s f (g ∷ gs) on same) h
+came r s w ls f (g ∷ gs) is on (inr same) h =
+    let x = side r s w ls in
+    let y = side (other r) s w ls in
+    let on' = ap (λ n. nat_eq n (sapi_number s)) (ap (λ k. k.sapi) (sym same)) ∙ on in
+    let out = ap (contents_on s) is ∙ comes-first s g (g ∷ gs) on' refl in
+    let as_sent = subst (λ cs. IsLink r (other r) s x (record y { outgoing = cs }) ls) out h in
+    subst (λ c. IsLink r (other r) s x (record y { outgoing = cons_option (content_of c) (contents_on s gs) }) ls)
+    (ap (λ k. k.content) (sym same)) (first-rr x y g.content (contents_on s gs) as_sent)
+came r s w ls f [] is on sent h = absurd sent
+
+as_sent : (o : Option EventRefusal) (event : Event) (w : World) → EventAllowsRrForRej o event w →
+    KnowsBy o (λ sender f. IsOldestSentOrRr (Some f) (way sender w)) event
+as_sent o event w h = grind arith
+
+goes : (w : World) (ls : List LogLine) (event : Event) → EventAllowsRrForRej (refusal event w) event w → IsSession w ls →
+    GoesInSession ls (world_after event w) (answer_log_lines event (answer event w))
+goes w ls event benign h =
+    by_kind w (GoesInSession ls) (λ sender f. IsOldestSentOrRr (Some f) (way sender w))
+    (λ g. (rw append-nil h.links, tt, tt))
+    (λ r s call placed ok. (let x = h.reported r s in
+    acts ls w (called placed (is_called _ x.window_of_one _ ok)) x.role x.sapi refl refl (h.links r s) (λ t n. h.links r t)))
+    (λ r s f on known. (let x = h.reported r s in
+    acts ls (without_first (other r) w) (took refl (taken-frame _ x.window_of_one f)) x.role
+    x.sapi (left-here r s w ls) (left-there r s w ls) (came r s w ls f (way (other r) w) refl on known (h.links r s))
+    (λ t n. first_lost r t w ls (h.links r t))))
+    (λ sender g. (rw append-nil (lost sender w ls h.links), tt, tt))
+    (λ info ok. (let x = h.reported Mobile Zero in acts ls w rival x.role x.sapi refl refl (h.links _ _) (λ t n. h.links Mobile t)))
+    _ (as_sent _ _ w benign)
+
+session-step : (w : World) (ls : List LogLine) (event : Event) → EventAllowsRrForRej (refusal event w) event w → IsSession w ls →
+    IsSession (world_after event w) (ls ++ answer_log_lines event (answer event w))
+session-step w ls event benign h =
+    let new : List LogLine = answer_log_lines event (answer event w) in
+    let reported : AllReported (world_after event w) (ls ++ new) = in_order-step w ls event h.reported in
+    let g = goes w ls event benign h reported in
+    let after_delivered : AllOccur IsAfterDelivered [] (ls ++ new) = occur-append IsAfterDelivered [] ls new h.after_delivered g.1 in
+    record { reported = reported; links = g.0; after_delivered = after_delivered; after_cause = occur-append _ [] ls new h.after_cause g.2 }
+
+session-run : (events : List Event) (w : World) (ls : List LogLine) → AllowsRrForRej events w → IsSession w ls →
+    ((z : World) × IsSession z (ls ++ C.lines events (answers events w)))
+session-run [] w ls benign h = (w, rw append-nil h)
+session-run (event ∷ events) w ls benign h =
+    rw (← append_assoc) (session-run events (world_after event w) _ benign.1 (session-step w ls event benign.0 h))
+
+abbrev first_side : Role → Sapi → Channel → Side
+first_side r s channel = record { endpoint = start r s channel; outgoing = []; calls = []; notified = [] }
+
+start-link : (r q : Role) (s : Sapi) (channel : Channel) → IsLink r q s (first_side r s channel) (first_side q s channel) []
+start-link r q s channel = link (record { forward = start-direction; backward = start-direction }) (record { units_sent = empty })
+    (record { units_sent = empty }) _ _
+
+start-links : (capacity : QueueCapacity) (channel : Channel) → AllLinks (initial_world capacity channel) []
+start-links capacity channel Mobile Zero = start-link _ _ _ _
+start-links capacity channel Mobile Three = start-link _ _ _ _
+start-links capacity channel Network Zero = start-link _ _ _ _
+start-links capacity channel Network Three = start-link _ _ _ _
+
+started : (capacity : QueueCapacity) (channel : Channel) → IsSession (initial_world capacity channel) []
+started capacity channel =
+    record { reported = start-reported capacity _; links = start-links capacity _; after_delivered = tt; after_cause = tt }
+
+pub counts_with_rr : (capacity : QueueCapacity) (channel : Channel) (events : List Event) →
+    AllowsRrForRej events (initial_world capacity channel) →
+    AckedAtMostDelivered (C.lines events (answers events (initial_world capacity channel)))
+counts_with_rr capacity channel events benign r s =
+    let (z, h) = session-run events (initial_world capacity channel) [] benign (started capacity channel) in
+    acked_most (h.reported r s) (h.reported (other r) s) (carried_by_link (h.links r s))
+
+pub claims_with_rr : (capacity : QueueCapacity) (channel : Channel) (events : List Event) →
+    AllowsRrForRej events (initial_world capacity channel) →
+    Claims (C.lines events (answers events (initial_world capacity channel)))
+claims_with_rr capacity channel events benign =
+    let ls : List LogLine = C.lines events (answers events (initial_world capacity channel)) in
+    let in_order : IsOrderedLog ls = order_claims capacity channel events in
+    let (z, h) = session-run events (initial_world capacity channel) [] benign (started capacity channel) in
+    record {
+      in_order = λ r s. delivered_in_order (h.reported r s) (h.reported (other r) s) (carried_by_link (h.links r s));
+      acked_in_order = λ r s n before place. (
+        (in_order.acked_in_order r s n before place).0,
+        stands IsAfterDelivered ls before (Notified r s (N.Acked n)) h.after_delivered place,
+      );
+      ui_in_order = λ r s. ui_in_order-claim (side r s z ls) (side (other r) s z ls) (ui_in_order (h.links r s));
+      establishment_trigger = λ r s info before place. stands IsOpenedAfter ls before (Notified r s (N.Opened info)) h.after_cause place;
+      established_once = in_order.established_once;
+      no_oversize = λ r s. none_oversize (h.reported (other r) s) (h.reported r s) (carried_by_link (swapped (h.links r s)));
+    }
+
+-- a frame that arrives as it was sent also satisfies `EventAllowsRrForRej`
+benign_allows_rr : (o : Option EventRefusal) (event : Event) (w : World) → IsBenignEvent o event w → EventAllowsRrForRej o event w
+benign_allows_rr o event w h = grind arith
+
+at_all : (events : List Event) (w : World) → IsBenign events w → AllowsRrForRej events w
+at_all [] w h = tt
+at_all (event ∷ events) w h = (benign_allows_rr (refusal event w) event w h.0, at_all events _ h.1)
+
+pub acked_at_most_delivered : (capacity : QueueCapacity) (channel : Channel) (events : List Event) →
+    IsBenign events (initial_world capacity channel) → AckedAtMostDelivered
+    (C.lines events (answers events (initial_world capacity channel)))
+acked_at_most_delivered capacity channel events benign = counts_with_rr capacity channel events (at_all events
+    (initial_world capacity channel) benign)
+
+pub claims : (capacity : QueueCapacity) (channel : Channel) (events : List Event) → IsBenign events (initial_world capacity channel) →
+    Claims (C.lines events (answers events (initial_world capacity channel)))
+claims capacity channel events benign = claims_with_rr capacity channel events (at_all events
+    (initial_world capacity channel) benign)
+
+-- ## ByLink: Each claim depends only on the log lines of one link, so it can be proved for each link separately.
+
+first-is : {X : Type 0} (x y : X) → Contains (x ∷ []) y → x ≡ y
+first-is x y h = grind arith
+
+module _ (s : Sapi) where
+  abbrev chosen : Bool → LogLine → Option LogLine
+  chosen b l = if b then Some l else None
+
+  -- a list that is read from the log and has nothing from lines of other links is the same if read from the lines of this link alone
+  kept_by_link : {A : Type 0} (h : LogLine → Option A) → ((l : LogLine) → is_log_line_of_sapi s l ≡ false → h l ≡ None) →
+      (ls : List LogLine) → filter_map h (log_lines_of_sapi s ls) ≡ filter_map h ls
+  kept_by_link h none [] = refl
+  kept_by_link {A} h none (l ∷ ls) = by (kept_by_link h none ls) (is_log_line_of_sapi s l) refl
+    where
+      by : filter_map h (log_lines_of_sapi s ls) ≡ filter_map h ls → (b : Bool) → is_log_line_of_sapi s l ≡ b →
+          filter_map h (cons_option (chosen (is_log_line_of_sapi s l) l) (log_lines_of_sapi s ls)) ≡ cons_option (h l) (filter_map h ls)
+      by rest true on = rw on (ap (cons_option (h l)) rest)
+      by rest false off = rw (off, none l off) rest
+
+  calls_in_log-kept : (r : Role) (ls : List LogLine) → calls_in_log r s (log_lines_of_sapi s ls) ≡ calls_in_log r s ls
+  calls_in_log-kept r ls = kept_by_link (call_in_line r s) (λ l off. none l off) ls
+    where
+      none : (l : LogLine) → is_log_line_of_sapi s l ≡ false → call_in_line r s l ≡ None
+      none l off = grind arith
+
+  notices-kept : (r : Role) (ls : List LogLine) → notices r s (log_lines_of_sapi s ls) ≡ notices r s ls
+  notices-kept r ls = kept_by_link (notice_in_line r s) (λ l off. none l off) ls
+    where
+      none : (l : LogLine) → is_log_line_of_sapi s l ≡ false → notice_in_line r s l ≡ None
+      none l off = grind arith
+
+  stands-kept : (before ls : List LogLine) (l : LogLine) → is_log_line_of_sapi s l ≡ true → OccursAfter before l ls →
+      OccursAfter (log_lines_of_sapi s before) l (log_lines_of_sapi s ls)
+  stands-kept before ls l on place =
+      let h : LogLine → Option LogLine = λ x. chosen (is_log_line_of_sapi s x) x in
+      let here : log_lines_of_sapi s (l ∷ place.0) ≡ l ∷ log_lines_of_sapi s place.0 = rw on refl in
+      let whole = ap (λ xs. log_lines_of_sapi s before ++ xs) (sym here) ∙ sym (filter_map-append h _ _)
+      ∙ ap (log_lines_of_sapi s) place.1 in
+      (log_lines_of_sapi s place.0, whole)
+
+  contains-back : (ls : List LogLine) (x : LogLine) → Contains (log_lines_of_sapi s ls) x → Contains ls x
+  contains-back [] x h = h
+  contains-back (l ∷ ls) x h =
+      by (λ later. Contains-append_right (l ∷ []) ls x (contains-back ls x later)) (is_log_line_of_sapi s l) h
+    where
+      by : (Contains (log_lines_of_sapi s ls) x → Contains (l ∷ ls) x) → (b : Bool) →
+          Contains (cons_option (chosen b l) (log_lines_of_sapi s ls)) x →
+          Contains (l ∷ ls) x
+      by later true h = elim (Contains-append_cases (l ∷ []) (log_lines_of_sapi s ls) x h) [
+        | inl here ↦ Contains-append_left (l ∷ []) ls x here
+        | inr behind ↦ later behind
+      ]
+      by later false h = later h
+
+  contains-kept : (ls : List LogLine) (x : LogLine) → is_log_line_of_sapi s x ≡ true → Contains ls x →
+      Contains (log_lines_of_sapi s ls) x
+  contains-kept [] x on h = h
+  contains-kept (l ∷ ls) x on h = elim (Contains-append_cases (l ∷ []) ls x h) [
+    | inl here ↦ by _ (ap (is_log_line_of_sapi s) (first-is l x here) ∙ on)
+        (Contains-append_left (l ∷ []) (log_lines_of_sapi s ls) x here)
+    | inr behind ↦ either (is_log_line_of_sapi s l) (contains-kept ls x on behind)
+  ] where
+    by : (b : Bool) → b ≡ true → Contains (l ∷ log_lines_of_sapi s ls) x →
+        Contains (cons_option (chosen b l) (log_lines_of_sapi s ls)) x
+    by true e h = h
+    by false e h = absurd (cc e)
+
+    either : (b : Bool) → Contains (log_lines_of_sapi s ls) x → Contains (cons_option (chosen b l) (log_lines_of_sapi s ls)) x
+    either true h = Contains-append_right (l ∷ []) _ x h
+    either false h = h
+
+itself : (s : Sapi) → is_same_sapi s s ≡ true
+itself Zero = refl
+itself Three = refl
+
+cause-back : (r : Role) (s : Sapi) (info : Message) (before : List LogLine) →
+    HasEstablishmentTrigger r s info (log_lines_of_sapi s before) →
+    HasEstablishmentTrigger r s info before
+cause-back Mobile Zero info before h = (contains-back Zero _ _ h.0, contains-back Zero _ _ h.1)
+cause-back Network Zero info before (inl h) = inl (contains-back Zero _ _ h)
+cause-back Network Zero info before (inr h) = inr (contains-back Zero _ _ h)
+cause-back r Three info before (inl h) = inl (contains-back Three _ _ h)
+cause-back r Three info before (inr h) = inr (contains-back Three _ _ h.0, contains-back Three _ _ h.1)
+
+open-kept : (r : Role) (s : Sapi) (before : List LogLine) → IsOpenEndpoint r s (log_lines_of_sapi s before) → IsOpenEndpoint r s before
+open-kept r s before h =
+    record {
+      opened_once = rw (notices-kept s r _) at h.opened_once;
+      not_closed = λ reason c. h.not_closed reason (contains-kept s _ _ (itself s) c);
+      release_not_requested = λ c. h.release_not_requested (contains-kept s _ _ (itself s) c);
+    }
+
+each_link : (P : List LogLine → Type 0) (ls : List LogLine) → P (log_lines_of_sapi Zero ls) → P (log_lines_of_sapi Three ls) →
+    (s : Sapi) → P (log_lines_of_sapi s ls)
+each_link P ls of_0 of_3 Zero = of_0
+each_link P ls of_0 of_3 Three = of_3
+
+module _ (ls : List LogLine) where
+  notified-kept : (r : Role) (s : Sapi) (n : Notice) (before : List LogLine) → OccursAfter before (Notified r s n) ls →
+      OccursAfter (log_lines_of_sapi s before) (Notified r s n) (log_lines_of_sapi s ls)
+  notified-kept r s n before place = stands-kept s _ ls _ (itself s) place
+
+  pub delivery_by_link : Claims (log_lines_of_sapi Zero ls) → Claims (log_lines_of_sapi Three ls) → Claims ls
+  delivery_by_link of_0 of_3 =
+      let h = each_link Claims ls of_0 of_3 in
+      record {
+        in_order = λ r s. rw (notices-kept s (other r) ls, calls_in_log-kept s r ls) at ((h s).in_order r s);
+        acked_in_order = λ r s n before place. rw (notices-kept s r _, notices-kept s _ _)
+            at ((h s).acked_in_order r s n (log_lines_of_sapi s before) (notified-kept r s _ _ place));
+        ui_in_order = λ r s. rw (notices-kept s _ ls, calls_in_log-kept s r ls) at ((h s).ui_in_order r s);
+        establishment_trigger = λ r s info before place.
+            cause-back r s _ before ((h s).establishment_trigger r s info (log_lines_of_sapi s before)
+            (notified-kept r s (N.Opened info) before place));
+        established_once = λ r s. rw (notices-kept s r ls) at ((h s).established_once r s);
+        no_oversize = λ r s before place. (h s).no_oversize r s (log_lines_of_sapi s before) (notified-kept r s N.Oversize before place);
+      }
+
+  pub order_by_link : IsOrderedLog (log_lines_of_sapi Zero ls) → IsOrderedLog (log_lines_of_sapi Three ls) → IsOrderedLog ls
+  order_by_link of_0 of_3 =
+      let h = each_link IsOrderedLog ls of_0 of_3 in
+      record {
+        acked_in_order = λ r s n before place. rw (notices-kept s r before, calls_in_log-kept s r before)
+            at ((h s).acked_in_order r s n (log_lines_of_sapi s before) (notified-kept r s _ _ place));
+        established_once = λ r s. rw (notices-kept s r ls) at ((h s).established_once r s);
+        closed_once = λ r s. rw (notices-kept s r ls) at ((h s).closed_once r s);
+        only_while_open = λ r s n before of place.
+            open-kept r s before ((h s).only_while_open r s n (log_lines_of_sapi s before) of (notified-kept r s n before place));
+      }
+
+  pub counts_by_link : AckedAtMostDelivered (log_lines_of_sapi Zero ls) → AckedAtMostDelivered (log_lines_of_sapi Three ls) →
+      AckedAtMostDelivered ls
+  counts_by_link of_0 of_3 r s =
+      let h = each_link AckedAtMostDelivered ls of_0 of_3 in
+      rw (notices-kept s r ls, notices-kept s (other r) ls) at (h s r s)

@@ -1,10 +1,10 @@
 -- Worked examples of sessions, and for each claim a log that violates it.
 use Rattle.lapdm_link.proofs.Words.{◌≡◌, refl, arith, ℕ, false, List, [], ◌∷◌, ◌++◌, replicate, inl, inr, Option, Some}
 use Rattle.lapdm_link.proofs.Words.{None, Sdcch, I, Ui, Frame, Message, zero, suc, Contains, Zero, Three, Role, Mobile, Network, Opens}
-use Rattle.lapdm_link.proofs.Words.{OpensBare, Sends, SendsUnit, Closes, T200Expires, queue_of, Event, Send, Close, T200Expiry, Open}
+use Rattle.lapdm_link.proofs.Words.{OpensWithoutInfo, Sends, SendsUi, Closes, T200Expires, queue_of, Event, Send, Close, T200Expiry, Open}
 use Rattle.lapdm_link.proofs.Words.{OpenBare, Ask, Deliver, Lose, Rival, World, initial_world, initial_session, world_after, answers}
-use Rattle.lapdm_link.proofs.Words.{IsBenign, Line, Asked, RivalSabm, Notified, lines, Claims, IsOrderedLog, IsSubsequence}
-use Rattle.lapdm_link.specs.Events.{SendUnit, unbounded_capacity}
+use Rattle.lapdm_link.proofs.Words.{IsBenign, LogLine, Asked, RivalSabm, Notified, lines, Claims, IsOrderedLog, IsSubsequence}
+use Rattle.lapdm_link.specs.Events.{SendUi, unbounded_capacity}
 use Rattle.lapdm_window.specs.declared.Notice.TheVariants as N
 use Rattle.lapdm_window.specs.declared.Reason.TheVariants as R
 
@@ -25,10 +25,10 @@ abbrev played : List Move → World → List Event
 played [] w = []
 played (move ∷ moves) w = event_of move w ∷ played moves (world_after (event_of move w) w)
 
-abbrev lines_of : List Event → List Line
+abbrev lines_of : List Event → List LogLine
 lines_of events = lines events (answers events (initial_session Sdcch))
 
-abbrev notified : List Move → List Line
+abbrev notified : List Move → List LogLine
 notified moves = lines_of (played moves (initial_session Sdcch))
 
 -- ---- contention: another mobile's SABM arrives first, so the UA has other information and this mobile gives up
@@ -43,7 +43,7 @@ contention = refl
 abbrev opening : List Move
 opening = Happens (Open (1 ∷ [])) ∷ Arrives Mobile ∷ Arrives Network ∷ []
 
-abbrev opened : List Line
+abbrev opened : List LogLine
 opened = Asked Mobile Zero (Opens (1 ∷ [])) ∷ Notified Network Zero (N.Opened (1 ∷ [])) ∷ Notified Mobile Zero (N.Opened (1 ∷ []))
     ∷ []
 
@@ -79,7 +79,8 @@ crossing = refl
 collision : notified (Happens (OpenBare Mobile) ∷ Happens (OpenBare Network) ∷ Arrives Mobile ∷ Arrives Network ∷ Arrives Mobile
     ∷ Arrives
     Network ∷ Happens (Ask Mobile Three (Send (5 ∷ []))) ∷ Arrives Mobile ∷ Arrives Network ∷ [])
-    ≡ Asked Mobile Three OpensBare ∷ Asked Network Three OpensBare ∷ Notified Network Three (N.Opened []) ∷ Notified Mobile Three
+    ≡ Asked Mobile Three OpensWithoutInfo ∷ Asked Network Three OpensWithoutInfo ∷ Notified Network Three (N.Opened []) ∷ Notified
+    Mobile Three
     (N.Opened []) ∷ Asked Mobile Three (Sends (5 ∷ []))
     ∷ Notified Network Three (N.Got (5 ∷ [])) ∷ Notified Mobile Three (N.Acked 1) ∷ []
 collision = refl
@@ -121,19 +122,19 @@ abbrev moved : List Move → World → World
 moved [] w = w
 moved (move ∷ moves) w = moved moves (world_after (event_of move w) w)
 
-abbrev notified_from : World → List Move → List Line
+abbrev notified_from : World → List Move → List LogLine
 notified_from w moves = let events = played moves w in lines events (answers events w)
 
 abbrev unbounded_world : World
 unbounded_world = initial_world unbounded_capacity Sdcch
 
 abbrev sends_unit : ℕ → Move
-sends_unit octet = Happens (Ask Mobile Zero (SendUnit (octet ∷ [])))
+sends_unit octet = Happens (Ask Mobile Zero (SendUi (octet ∷ [])))
 
 abbrev given : ℕ → Move
 given octet = Happens (Deliver Mobile (Some (record { sapi = 0; cr = false; content = Ui false (octet ∷ []) })))
 
-given_twice : notified_from unbounded_world (sends_unit 4 ∷ given 4 ∷ given 4 ∷ []) ≡ Asked Mobile Zero (SendsUnit
+given_twice : notified_from unbounded_world (sends_unit 4 ∷ given 4 ∷ given 4 ∷ []) ≡ Asked Mobile Zero (SendsUi
     (4 ∷ [])) ∷ Notified Network Zero
     (N.Unit (4 ∷ [])) ∷ Notified Network Zero (N.Unit (4 ∷ [])) ∷ []
 given_twice = refl
@@ -146,8 +147,8 @@ given_twice_breaks h = none (h.ui_in_order Mobile Zero)
     none (inr e) = cc e
 
 out_of_order : notified_from unbounded_world (sends_unit 4 ∷ sends_unit 5 ∷ given 5 ∷ given 4 ∷ []) ≡
-    Asked Mobile Zero (SendsUnit (4 ∷ []))
-    ∷ Asked Mobile Zero (SendsUnit (5 ∷ [])) ∷ Notified Network Zero (N.Unit (5 ∷ [])) ∷ Notified Network Zero (N.Unit (4 ∷ []))
+    Asked Mobile Zero (SendsUi (4 ∷ []))
+    ∷ Asked Mobile Zero (SendsUi (5 ∷ [])) ∷ Notified Network Zero (N.Unit (5 ∷ [])) ∷ Notified Network Zero (N.Unit (4 ∷ []))
     ∷ []
 out_of_order = refl
 
@@ -174,7 +175,8 @@ stale_answer = refl
 
 stale_answer_breaks : Claims (notified_from with_old_ua (Happens (Open (1 ∷ [])) ∷ Arrives Network ∷ [])) → ⊥
 stale_answer_breaks h =
-    let cause = h.cause Mobile Zero (1 ∷ []) (Asked Mobile Zero (Opens (1 ∷ [])) ∷ []) ([], refl) in not_notified cause.0
+    let cause = h.establishment_trigger Mobile Zero (1 ∷ []) (Asked Mobile Zero (Opens (1 ∷ [])) ∷ []) ([], refl) in
+    not_notified cause.0
   where
     not_notified : Contains (Asked Mobile Zero (Opens (1 ∷ [])) ∷ []) (Notified Network Zero (N.Opened (1 ∷ []))) → ⊥
     not_notified (zero, few, e) = cc e
@@ -191,12 +193,16 @@ open_before = refl
 
 open_before_breaks : IsOrderedLog (notified_from restored (Happens (Ask Mobile Zero (Send (2 ∷ []))) ∷ Arrives Mobile ∷ [])) → ⊥
 open_before_breaks h =
-    omega (arith, (h.only_while_open Network Zero (N.Got (2 ∷ [])) (Asked Mobile Zero (Sends (2 ∷ [])) ∷ []) tt ([], refl)).opened)
+    omega (
+      arith,
+      (h.only_while_open Network Zero (N.Got (2 ∷ [])) (Asked Mobile Zero (Sends (2 ∷ [])) ∷ []) tt
+          ([], refl)).opened_once,
+    )
 
 -- ---- logs that violate the other claims about delivery
 
 early_acknowledgement : Claims (Notified Mobile Zero (N.Acked 1) ∷ []) → ⊥
-early_acknowledgement h = omega (arith, (h.acknowledged Mobile Zero 1 [] ([], refl)).1)
+early_acknowledgement h = omega (arith, (h.acked_in_order Mobile Zero 1 [] ([], refl)).1)
 
 unit_from_nowhere : Claims (Notified Network Zero (N.Unit (3 ∷ [])) ∷ []) → ⊥
 unit_from_nowhere h = no_such ((3 ∷ []) ∷ []) refl (h.ui_in_order Mobile Zero)
@@ -205,16 +211,16 @@ unit_from_nowhere h = no_such ((3 ∷ []) ∷ []) refl (h.ui_in_order Mobile Zer
     no_such ms e g = cc (e, g)
 
 opened_alone : Claims (Notified Mobile Zero (N.Opened (1 ∷ [])) ∷ []) → ⊥
-opened_alone h = (let cause = h.cause _ _ _ [] ([], refl) in omega (arith, cause.0.1))
+opened_alone h = (let cause = h.establishment_trigger _ _ _ [] ([], refl) in omega (arith, cause.0.1))
 
 opened_by_nobody : Claims (Notified Network Zero (N.Opened (1 ∷ [])) ∷ []) → ⊥
-opened_by_nobody h = elim (h.cause Network Zero (1 ∷ []) [] ([], refl)) [
+opened_by_nobody h = elim (h.establishment_trigger Network Zero (1 ∷ []) [] ([], refl)) [
   | inl asked ↦ omega (arith, asked.1)
   | inr rival ↦ omega (arith, rival.1)
 ]
 
 opened_unasked : Claims (Notified Mobile Three (N.Opened []) ∷ []) → ⊥
-opened_unasked h = elim (h.cause Mobile Three [] [] ([], refl)) [
+opened_unasked h = elim (h.establishment_trigger Mobile Three [] [] ([], refl)) [
   | inl asked ↦ omega (arith, asked.1)
   | inr own ↦ omega (arith, own.0.1)
 ]
@@ -228,10 +234,10 @@ too_long h = h.no_oversize Mobile Zero [] ([], refl)
 -- ---- logs that violate the claims about order
 
 acknowledged_unsent : IsOrderedLog (Notified Mobile Zero (N.Acked 1) ∷ []) → ⊥
-acknowledged_unsent h = omega (arith, (h.acknowledged Mobile Zero 1 [] ([], refl)).1)
+acknowledged_unsent h = omega (arith, (h.acked_in_order Mobile Zero 1 [] ([], refl)).1)
 
 wrong_number : IsOrderedLog (Asked Mobile Zero (Sends []) ∷ Notified Mobile Zero (N.Acked 2) ∷ []) → ⊥
-wrong_number h = not_one 2 (h.acknowledged Mobile Zero 2 (Asked Mobile Zero (Sends []) ∷ []) ([], refl)).0 refl
+wrong_number h = not_one 2 (h.acked_in_order Mobile Zero 2 (Asked Mobile Zero (Sends []) ∷ []) ([], refl)).0 refl
   where
     not_one : (n : ℕ) → n ≡ 1 → n ≡ 2 → ⊥
     not_one n h g = omega (arith, h, g)
@@ -243,18 +249,18 @@ closed_again : IsOrderedLog (Notified Mobile Zero (N.Closed R.Failed) ∷ Notifi
 closed_again h = omega (arith, h.closed_once Mobile Zero)
 
 delivered_unopened : IsOrderedLog (Notified Mobile Zero (N.Got []) ∷ []) → ⊥
-delivered_unopened h = omega (arith, (h.only_while_open Mobile Zero (N.Got []) [] tt ([], refl)).opened)
+delivered_unopened h = omega (arith, (h.only_while_open Mobile Zero (N.Got []) [] tt ([], refl)).opened_once)
 
-abbrev an_open_end : List Line
+abbrev an_open_end : List LogLine
 an_open_end = Notified Mobile Zero (N.Opened []) ∷ []
 
 delivered_when_closed : IsOrderedLog (an_open_end ++ Notified Mobile Zero (N.Closed R.Failed) ∷ Notified Mobile Zero (N.Got [])
     ∷ []) → ⊥
 delivered_when_closed h =
     let before = an_open_end ++ Notified Mobile Zero (N.Closed R.Failed) ∷ [] in
-    (h.only_while_open _ _ _ before tt ([], refl)).closed R.Failed (1, omega arith, refl)
+    (h.only_while_open _ _ _ before tt ([], refl)).not_closed R.Failed (1, omega arith, refl)
 
 delivered_when_closing : IsOrderedLog (an_open_end ++ Asked Mobile Zero Closes ∷ Notified Mobile Zero (N.Got []) ∷ []) → ⊥
 delivered_when_closing h =
     let before = an_open_end ++ Asked Mobile Zero Closes ∷ [] in
-    (h.only_while_open _ _ _ before tt ([], refl)).asked (1, omega arith, refl)
+    (h.only_while_open _ _ _ before tt ([], refl)).release_not_requested (1, omega arith, refl)

@@ -10,65 +10,65 @@ use Rattle.lapdm_window.specs.declared.Reason.{Reason}
 use Rattle.lapdm_window.specs.declared.Notice.{Notice}
 use Rattle.lapdm_window.specs.declared.Notice.TheVariants as N
 use Rattle.lapdm_window.specs.Ends.{Role, Mobile, Network, sapi_number, capped_at_64_bits}
-pub use Rattle.lapdm_window.specs.Steps.{delivered_in_notice}
-use Rattle.lapdm_window.specs.Calls.{Call, Opens, OpensBare, Sends, SendsUnit, Closes}
-use Rattle.lapdm_link.specs.Events.{EventWith, Open, OpenBare, Ask, Rival, Answer, Refuses, Does, Who, BySide, call_of, other}
+pub use Rattle.lapdm_window.specs.Steps.{got_message}
+use Rattle.lapdm_window.specs.Calls.{Call, Opens, OpensWithoutInfo, Sends, SendsUi, Closes}
+use Rattle.lapdm_link.specs.Events.{EventWith, Open, OpenBare, Ask, Rival, Answer, Refuses, Accepts, Who, BySide, call_of, other}
 
 -- a line of the log: a call that was not refused, a SABM sent by another mobile, or a notice that an endpoint reported
-pub data Line : Type 0 where
-  Asked : Role → Sapi → Call → Line
-  RivalSabm : Message → Line
-  Notified : Role → Sapi → Notice → Line
+pub data LogLine : Type 0 where
+  Asked : Role → Sapi → Call → LogLine
+  RivalSabm : Message → LogLine
+  Notified : Role → Sapi → Notice → LogLine
 
 -- the log lines of an event: one for a layer 3 call or for the SABM of another mobile, none for any other event
-abbrev pub event_log_lines : {Arrival : Type 0} → EventWith Arrival → List Line
+abbrev pub event_log_lines : {Arrival : Type 0} → EventWith Arrival → List LogLine
 event_log_lines (Open info) = Asked Mobile Zero (Opens info) ∷ []
-event_log_lines (OpenBare role) = Asked role Three OpensBare ∷ []
+event_log_lines (OpenBare role) = Asked role Three OpensWithoutInfo ∷ []
 event_log_lines (Ask role sapi request) = Asked role sapi (call_of request) ∷ []
 event_log_lines (Rival info) = RivalSabm info ∷ []
 event_log_lines other = []
 
 -- the log lines of the notices that a side reports in a step; if another mobile or nobody acts, there are none
-abbrev pub notice_log_lines : Who → Sapi → List Notice → List Line
+abbrev pub notice_log_lines : Who → Sapi → List Notice → List LogLine
 notice_log_lines (BySide role) sapi ns = map (Notified role sapi) ns
 notice_log_lines who sapi ns = []
 
 -- the log lines of an event and its answer: first the event, then the notices; a refused event has no lines
-abbrev pub answer_log_lines : {Arrival : Type 0} → EventWith Arrival → Answer → List Line
+abbrev pub answer_log_lines : {Arrival : Type 0} → EventWith Arrival → Answer → List LogLine
 answer_log_lines event (Refuses why) = []
-answer_log_lines event (Does who sapi frames notices) = event_log_lines event ++ notice_log_lines who sapi notices
+answer_log_lines event (Accepts who sapi frames notices) = event_log_lines event ++ notice_log_lines who sapi notices
 
 -- the log of a session with these events and answers
-abbrev pub lines : {Arrival : Type 0} → List (EventWith Arrival) → List Answer → List Line
+abbrev pub lines : {Arrival : Type 0} → List (EventWith Arrival) → List Answer → List LogLine
 lines (event ∷ events) (answer ∷ answers) = answer_log_lines event answer ++ lines events answers
 lines events answers = []
 
--- whether the two roles are equal
+-- whether two roles are equal
 abbrev pub is_same_role : Role → Role → Bool
 is_same_role Mobile Mobile = true
 is_same_role Network Network = true
 is_same_role r r' = false
 
--- whether the two SAPIs are equal
+-- whether two SAPIs are equal
 abbrev pub is_same_sapi : Sapi → Sapi → Bool
 is_same_sapi s s' = nat_eq (sapi_number s') (sapi_number s)
 
 -- the call in this log line, if it is a call to the endpoint with this role and SAPI
-abbrev pub call_in_line : Role → Sapi → Line → Option Call
+abbrev pub call_in_line : Role → Sapi → LogLine → Option Call
 call_in_line r s (Asked role sapi call) = if is_same_role r role && is_same_sapi s sapi then Some call else None
 call_in_line r s other = None
 
 -- the notice in this log line, if the endpoint with this role and SAPI reported it
-abbrev pub notice_in_line : Role → Sapi → Line → Option Notice
+abbrev pub notice_in_line : Role → Sapi → LogLine → Option Notice
 notice_in_line r s (Notified role sapi notice) = if is_same_role r role && is_same_sapi s sapi then Some notice else None
 notice_in_line r s other = None
 
 -- all calls in the log to the endpoint with this role and SAPI, in order
-abbrev pub calls_in_log : Role → Sapi → List Line → List Call
+abbrev pub calls_in_log : Role → Sapi → List LogLine → List Call
 calls_in_log r s ls = filter_map (call_in_line r s) ls
 
 -- all notices in the log from the endpoint with this role and SAPI, in order
-abbrev pub notices : Role → Sapi → List Line → List Notice
+abbrev pub notices : Role → Sapi → List LogLine → List Notice
 notices r s ls = filter_map (notice_in_line r s) ls
 
 -- the message that a call sends in I frames, or `None` for any other call
@@ -78,7 +78,7 @@ message_sent_by_call other = None
 
 -- the message that a call sends in a UI frame, or `None` for any other call
 abbrev pub ui_message_of_call : Call → Option Message
-ui_message_of_call (SendsUnit m) = Some m
+ui_message_of_call (SendsUi m) = Some m
 ui_message_of_call other = None
 
 -- the message from a UI frame that a notice delivers, or `None` for any other notice
@@ -91,93 +91,94 @@ abbrev pub acked_number_in_notice : Notice → Option ℕ
 acked_number_in_notice (N.Acked n) = Some n
 acked_number_in_notice other = None
 
--- the information with which a notice reports the establishment of the link, or `None` for any other notice
+-- the information in a notice that reports the establishment of the link, or `None` for any other notice
 abbrev pub opened_info_in_notice : Notice → Option Message
 opened_info_in_notice (N.Opened info) = Some info
 opened_info_in_notice other = None
 
 -- the notice itself if it reports that the link is closed, otherwise `None`
-abbrev pub notice_if_closed : Notice → Option Notice
-notice_if_closed (N.Closed reason) = Some (N.Closed reason)
-notice_if_closed other = None
+abbrev pub as_close_notice : Notice → Option Notice
+as_close_notice (N.Closed reason) = Some (N.Closed reason)
+as_close_notice other = None
 
 -- whether the log line belongs to the link with this SAPI; the SABM of another mobile belongs to SAPI 0
-abbrev pub is_log_line_of_sapi : Sapi → Line → Bool
+abbrev pub is_log_line_of_sapi : Sapi → LogLine → Bool
 is_log_line_of_sapi s (Asked role sapi call) = is_same_sapi s sapi
 is_log_line_of_sapi s (RivalSabm info) = is_same_sapi s Zero
 is_log_line_of_sapi s (Notified role sapi notice) = is_same_sapi s sapi
 
 -- the log lines that belong to the link with this SAPI
-abbrev pub log_lines_of_sapi : Sapi → List Line → List Line
+abbrev pub log_lines_of_sapi : Sapi → List LogLine → List LogLine
 log_lines_of_sapi s ls = filter_map (λ l. if is_log_line_of_sapi s l then Some l else None) ls
 
 -- the messages that layer 3 sends in I frames at the endpoint with this role and SAPI, in order
-abbrev pub sent_messages : Role → Sapi → List Line → List Message
+abbrev pub sent_messages : Role → Sapi → List LogLine → List Message
 sent_messages r s ls = filter_map message_sent_by_call (calls_in_log r s ls)
 
 -- the messages from I frames that the endpoint with this role and SAPI delivers to layer 3, in order
-abbrev pub delivered_messages : Role → Sapi → List Line → List Message
-delivered_messages r s ls = filter_map delivered_in_notice (notices r s ls)
+abbrev pub delivered_messages : Role → Sapi → List LogLine → List Message
+delivered_messages r s ls = filter_map got_message (notices r s ls)
 
 -- the messages that layer 3 sends in UI frames at the endpoint with this role and SAPI, in order
-abbrev pub ui_messages_sent : Role → Sapi → List Line → List Message
+abbrev pub ui_messages_sent : Role → Sapi → List LogLine → List Message
 ui_messages_sent r s ls = filter_map ui_message_of_call (calls_in_log r s ls)
 
 -- the messages from UI frames that the endpoint with this role and SAPI delivers to layer 3, in order
-abbrev pub ui_messages_delivered : Role → Sapi → List Line → List Message
+abbrev pub ui_messages_delivered : Role → Sapi → List LogLine → List Message
 ui_messages_delivered r s ls = filter_map ui_message_in_notice (notices r s ls)
 
 -- the numbers of the messages that the endpoint with this role and SAPI reports as acknowledged, in order
-abbrev pub acked_numbers : Role → Sapi → List Line → List ℕ
-acked_numbers r s ls = filter_map acked_number_in_notice (notices r s ls)
+abbrev pub acked_message_numbers : Role → Sapi → List LogLine → List ℕ
+acked_message_numbers r s ls = filter_map acked_number_in_notice (notices r s ls)
 
 -- the information in each establishment that the endpoint with this role and SAPI reports, in order
-abbrev pub establishments : Role → Sapi → List Line → List Message
-establishments r s ls = filter_map opened_info_in_notice (notices r s ls)
+abbrev pub establishment_infos : Role → Sapi → List LogLine → List Message
+establishment_infos r s ls = filter_map opened_info_in_notice (notices r s ls)
 
--- the notices with which the endpoint with this role and SAPI reports that its link is closed, in order
-abbrev pub close_notices : Role → Sapi → List Line → List Notice
-close_notices r s ls = filter_map notice_if_closed (notices r s ls)
+-- the notices that report a closed link, from the endpoint with this role and SAPI, in order
+abbrev pub close_notices : Role → Sapi → List LogLine → List Notice
+close_notices r s ls = filter_map as_close_notice (notices r s ls)
 
 -- the first list is a prefix of the second
 abbrev pub IsPrefix : {T : Type 0} → List T → List T → Type 0
 IsPrefix {T} xs ys = (more : List T) × (xs ++ more ≡ ys)
 
--- the first list is a subsequence of the second, that is, the second with some elements possibly left out
+-- the first list is a subsequence of the second, that is, the second list, perhaps without some of its elements
 abbrev pub IsSubsequence : List Message → List Message → Type 0
 IsSubsequence xs [] = xs ≡ []
 IsSubsequence [] (y ∷ ys) = Unit {0}
 IsSubsequence (x ∷ xs) (y ∷ ys) = ((x ≡ y) × IsSubsequence xs ys) ⊎ IsSubsequence (x ∷ xs) ys
 
--- the line occurs in the log, preceded by exactly the lines given first
-abbrev pub OccursAfter : List Line → Line → List Line → Type 0
-OccursAfter before line ls = (more : List Line) × (before ++ line ∷ more ≡ ls)
+-- the line occurs in the log, directly after the lines `before` and no others
+abbrev pub OccursAfter : List LogLine → LogLine → List LogLine → Type 0
+OccursAfter before line ls = (more : List LogLine) × (before ++ line ∷ more ≡ ls)
 
--- what must precede the report of an establishment in the log. On the mobile, SAPI 0: its own call and the network's report of the same
+-- what must precede a reported establishment in the log. On the mobile, SAPI 0: its own call and the network's report of the same
 -- establishment (section 5.4.1.4). On the network, SAPI 0: the mobile's call or the SABM of another mobile. On SAPI 3: the peer's call, or
 -- the endpoint's own call and the peer's report.
-abbrev pub HasEstablishmentCause : Role → Sapi → Message → List Line → Type 0
-HasEstablishmentCause Mobile Zero info before = Contains before (Notified Network Zero (N.Opened info))
+abbrev pub HasEstablishmentTrigger : Role → Sapi → Message → List LogLine → Type 0
+HasEstablishmentTrigger Mobile Zero info before = Contains before (Notified Network Zero (N.Opened info))
     × Contains before (Asked Mobile Zero (Opens info))
-HasEstablishmentCause Network Zero info before = Contains before (Asked Mobile Zero (Opens info)) ⊎ Contains before (RivalSabm info)
-HasEstablishmentCause r Three info before =
-    Contains before (Asked (other r) Three OpensBare) ⊎ (Contains before (Asked r Three OpensBare)
+HasEstablishmentTrigger Network Zero info before = Contains before (Asked Mobile Zero (Opens info)) ⊎ Contains before (RivalSabm info)
+HasEstablishmentTrigger r Three info before =
+    Contains before (Asked (other r) Three OpensWithoutInfo) ⊎ (Contains before (Asked r Three OpensWithoutInfo)
     × Contains before (Notified (other r) Three (N.Opened [])))
 
--- The claims about delivery, for sessions in which each frame arrives in order and unchanged, or is lost. For each endpoint, its peer
--- delivers a prefix of the messages sent; acknowledgements are numbered 1, 2, ... (up to 2^64 - 1), and each message is delivered before it
--- is acknowledged; the UI messages that arrive are a subsequence of those sent; the link is established at most once, and only with a
--- cause; and no message is oversize.
-pub record Claims (ls : List Line) : Type 0 where
+-- The claims about delivery, for sessions without damaged or reordered frames; frames may be lost. For each endpoint, its peer delivers a
+-- prefix of the messages sent; acknowledgements are numbered 1, 2, ... (up to 2^64 - 1), and each message is delivered before it is
+-- acknowledged; the UI messages that arrive are a subsequence of those sent; the link is established at most once, and only in response to
+-- a call or SABM; and no message is oversize.
+pub record Claims (ls : List LogLine) : Type 0 where
   pub in_order : (r : Role) (s : Sapi) → IsPrefix (delivered_messages (other r) s ls) (sent_messages r s ls)
-  pub acknowledged : (r : Role) (s : Sapi) (n : ℕ) (before : List Line) → OccursAfter before (Notified r s (N.Acked n)) ls →
-      (n ≡ capped_at_64_bits (length (acked_numbers r s before) + 1))
-      × (length (acked_numbers r s before) + 1 ≤ length (delivered_messages (other r) s before))
+  pub acked_in_order : (r : Role) (s : Sapi) (n : ℕ) (before : List LogLine) → OccursAfter before (Notified r s (N.Acked n)) ls →
+      (n ≡ capped_at_64_bits (length (acked_message_numbers r s before) + 1))
+      × (length (acked_message_numbers r s before) + 1 ≤ length (delivered_messages (other r) s before))
   pub ui_in_order : (r : Role) (s : Sapi) → IsSubsequence (ui_messages_delivered (other r) s ls) (ui_messages_sent r s ls)
-  pub cause : (r : Role) (s : Sapi) (info : Message) (before : List Line) → OccursAfter before (Notified r s (N.Opened info)) ls →
-      HasEstablishmentCause r s info before
-  pub established_once : (r : Role) (s : Sapi) → length (establishments r s ls) ≤ 1
-  pub no_oversize : (r : Role) (s : Sapi) (before : List Line) → ¬ OccursAfter before (Notified r s N.Oversize) ls
+  pub establishment_trigger : (r : Role) (s : Sapi) (info : Message) (before : List LogLine) →
+      OccursAfter before (Notified r s (N.Opened info)) ls →
+      HasEstablishmentTrigger r s info before
+  pub established_once : (r : Role) (s : Sapi) → length (establishment_infos r s ls) ≤ 1
+  pub no_oversize : (r : Role) (s : Sapi) (before : List LogLine) → ¬ OccursAfter before (Notified r s N.Oversize) ls
 
 -- the notice can only come from an endpoint in Open: it delivers a message from I frames, reports an acknowledgement, or reports an
 -- oversize message
@@ -187,26 +188,26 @@ NeedsOpenLink (N.Acked n) = Unit {0}
 NeedsOpenLink N.Oversize = Unit {0}
 NeedsOpenLink other = ⊥
 
--- according to the log `before`, the link was established once at this endpoint, which has neither reported it closed nor been asked to
--- release it
-pub record IsOpenEndpoint (r : Role) (s : Sapi) (before : List Line) : Type 0 where
-  pub opened : length (establishments r s before) ≡ 1
-  pub closed : (reason : Reason) → ¬ Contains before (Notified r s (N.Closed reason))
-  pub asked : ¬ Contains before (Asked r s Closes)
+-- in the log `before`, this endpoint reports that its link is established once and never that it is closed, and layer 3 never asks it to
+-- release the link
+pub record IsOpenEndpoint (r : Role) (s : Sapi) (before : List LogLine) : Type 0 where
+  pub opened_once : length (establishment_infos r s before) ≡ 1
+  pub not_closed : (reason : Reason) → ¬ Contains before (Notified r s (N.Closed reason))
+  pub release_not_requested : ¬ Contains before (Asked r s Closes)
 
 -- The claims about order, for all sessions, whatever frames arrive. For each endpoint, acknowledgements are numbered 1, 2, ..., and each
 -- message is sent before it is acknowledged; the link is established at most once and closed at most once; and deliveries, acknowledgements
 -- and oversize messages are reported only while the link is open.
-pub record IsOrderedLog (ls : List Line) : Type 0 where
-  pub acknowledged : (r : Role) (s : Sapi) (n : ℕ) (before : List Line) → OccursAfter before (Notified r s (N.Acked n)) ls →
-      (n ≡ capped_at_64_bits (length (acked_numbers r s before) + 1))
-      × (length (acked_numbers r s before) + 1 ≤ length (sent_messages r s before))
-  pub established_once : (r : Role) (s : Sapi) → length (establishments r s ls) ≤ 1
+pub record IsOrderedLog (ls : List LogLine) : Type 0 where
+  pub acked_in_order : (r : Role) (s : Sapi) (n : ℕ) (before : List LogLine) → OccursAfter before (Notified r s (N.Acked n)) ls →
+      (n ≡ capped_at_64_bits (length (acked_message_numbers r s before) + 1))
+      × (length (acked_message_numbers r s before) + 1 ≤ length (sent_messages r s before))
+  pub established_once : (r : Role) (s : Sapi) → length (establishment_infos r s ls) ≤ 1
   pub closed_once : (r : Role) (s : Sapi) → length (close_notices r s ls) ≤ 1
-  pub only_while_open : (r : Role) (s : Sapi) (notice : Notice) (before : List Line) → NeedsOpenLink notice →
+  pub only_while_open : (r : Role) (s : Sapi) (notice : Notice) (before : List LogLine) → NeedsOpenLink notice →
       OccursAfter before (Notified r s notice) ls →
       IsOpenEndpoint r s before
 
 -- no endpoint has more messages acknowledged than its peer has delivered
-abbrev pub AckedAtMostDelivered : List Line → Type 0
-AckedAtMostDelivered ls = (r : Role) (s : Sapi) → length (acked_numbers r s ls) ≤ length (delivered_messages (other r) s ls)
+abbrev pub AckedAtMostDelivered : List LogLine → Type 0
+AckedAtMostDelivered ls = (r : Role) (s : Sapi) → length (acked_message_numbers r s ls) ≤ length (delivered_messages (other r) s ls)

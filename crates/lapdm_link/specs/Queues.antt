@@ -12,7 +12,7 @@ pub record Queues (T : Type 0) : Type 0 where
 abbrev pub empty_queues : {T : Type 0} → Queues T
 empty_queues = record { up = []; down = [] }
 
--- the queue into which this side sends
+-- the queue of the items that this side sent
 abbrev pub queue_of : {T : Type 0} → Role → Queues T → List T
 queue_of Mobile ws = ws.up
 queue_of Network ws = ws.down

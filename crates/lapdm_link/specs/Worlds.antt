@@ -4,20 +4,20 @@ use Rattle.lapdm_window.specs.lapdm_frame.declared.Channel.{Channel}
 use Rattle.lapdm_window.specs.lapdm_frame.Content.{Content, Rr, Rej, Frame}
 use Rattle.lapdm_window.specs.lapdm_frame.Frames.{FrameFits}
 use Rattle.lapdm_link.specs.Queues.{Queues, empty_queues, queue_of, with_appended, count, IsOldestSentOrNone}
-use Rattle.lapdm_link.specs.Events.{Event, Deliver, Ends, idle_endpoints, role_of_who, SideStep}
+use Rattle.lapdm_link.specs.Events.{Event, Deliver, BothSides, idle_endpoints, sending_role, SideStep}
 use Rattle.lapdm_link.specs.Events.{event_step, queues_after_removal, QueueCapacity}
 use Rattle.lapdm_link.specs.Events.{bounded_capacity}
 use Rattle.lapdm_link.specs.Events.{EventRefusal, refusal_with_capacity, Answer}
-use Rattle.lapdm_link.specs.Events.{Refuses, Does}
+use Rattle.lapdm_link.specs.Events.{Refuses, Accepts}
 
 -- the state of a session: the capacity of its queues, the channel, the endpoints, and the frames in transit
 pub record World : Type 0 where
   pub capacity : QueueCapacity
   pub channel : Channel
-  pub ends : Ends
+  pub ends : BothSides
   pub queues : Queues Frame
 
--- the initial state of a session whose queues have this capacity
+-- the initial state of a session with this queue capacity
 abbrev pub initial_world : QueueCapacity → Channel → World
 initial_world capacity channel = record {
   capacity = capacity;
@@ -27,7 +27,7 @@ initial_world capacity channel = record {
       empty_queues;
 }
 
--- the initial state of a session whose queues have room for 64 blocks
+-- the initial state of a session with queues for 64 blocks
 abbrev pub initial_session : Channel → World
 initial_session channel = initial_world bounded_capacity channel
 
@@ -38,16 +38,15 @@ refusal event w = refusal_with_capacity w.capacity w.channel (count w.queues) ev
 -- the answer to an event, given the reason for its refusal, if any, and the step that it would otherwise cause
 abbrev pub answer_unless_refused : Option EventRefusal → SideStep → Answer
 answer_unless_refused (Some why) d = Refuses why
-answer_unless_refused None d = Does d.who d.sapi d.frames d.notices
+answer_unless_refused None d = Accepts d.who d.sapi d.frames d.notices
 
 -- the answer to an event in this state of the session
 abbrev pub answer : Event → World → Answer
 answer event w = answer_unless_refused (refusal event w) (event_step event w.ends)
 
--- the state of the session after a step: the endpoints are those after the step, and the frames sent are appended to the queue of the side
--- that acted
+-- the state of the session after a step: the endpoints have changed, and the frames sent are appended to the queue of the side that acted
 abbrev pub world_after_step : SideStep → World → World
-world_after_step d w = record w { ends = d.after; queues = with_appended (role_of_who d.who) d.frames w.queues }
+world_after_step d w = record w { ends = d.new_state; queues = with_appended (sending_role d.who) d.frames w.queues }
 
 -- the state after an event, given the reason for its refusal, if any
 abbrev pub world_unless_refused : Option EventRefusal → Event → World → World
@@ -78,7 +77,7 @@ abbrev pub rr_for_rej : Content → Content
 rr_for_rej (Rej nr pf) = Rr nr pf
 rr_for_rej c = c
 
--- the frame read, if any, is the oldest frame sent or, if that is a REJ, possibly an RR with the same N(R)
+-- the frame read, if any, is the oldest frame sent; an RR with the same N(R) may replace a REJ
 abbrev pub IsOldestSentOrRr : Option Frame → List Frame → Type 0
 IsOldestSentOrRr None sent = Unit {0}
 IsOldestSentOrRr (Some f) [] = ⊥
@@ -103,4 +102,4 @@ ArrivingFrameFits channel event = Unit {0}
 -- the answer has at most two frames, each of which fits in a block of the channel, and at most two notices
 abbrev pub SentFramesFit : Channel → Answer → Type 0
 SentFramesFit channel (Refuses why) = Unit {0}
-SentFramesFit channel (Does who sapi frames notices) = (length frames ≤ 2) × All (FrameFits channel) frames × (length notices ≤ 2)
+SentFramesFit channel (Accepts who sapi frames notices) = (length frames ≤ 2) × All (FrameFits channel) frames × (length notices ≤ 2)

@@ -7,12 +7,12 @@ ghost use Rattle.lapdm_window.specs.declared.Sapi.TheVariants.{Zero, Three};
 ghost use Rattle.lapdm_window.specs.lapdm_frame.declared.Channel.{Channel};
 ghost use Rattle.lapdm_link.specs.Events.{QueueCapacity, Event};
 ghost use Rattle.lapdm_link.specs.Worlds.{initial_world, answers, IsBenign, AllowsRrForRej, ArrivingFrameFits, SentFramesFit};
-ghost use Rattle.lapdm_link.specs.Claims.{Line, log_lines_of_sapi, lines, Claims, IsOrderedLog, AckedAtMostDelivered};
+ghost use Rattle.lapdm_link.specs.Claims.{LogLine, log_lines_of_sapi, lines, Claims, IsOrderedLog, AckedAtMostDelivered};
 
 /// Law: if each frame arrives in order and unchanged, or is lost, each endpoint delivers a prefix of the messages that its peer sent, and
 /// each message is delivered before it is reported as acknowledged. The queues may have any capacity, and other mobiles may send SABM
 /// frames at any time.
-#[tactic(auto, using(crate::proofs::Sessions::claims))]
+#[tactic(auto, using(crate::proofs::Delivery::claims))]
 pub fn law_delivers_in_order()
     ensures { (capacity : QueueCapacity) (channel : Channel) (events : List Event) → IsBenign events (initial_world capacity channel)
         → Claims (lines events (answers events (initial_world capacity channel))) }
@@ -24,14 +24,14 @@ pub fn law_rr_may_replace_rej()
     ensures delivery { (capacity : QueueCapacity) (channel : Channel) (events : List Event) →
         AllowsRrForRej events (initial_world capacity channel)
         → Claims (lines events (answers events (initial_world capacity channel))) }
-    ensures counts_acks { (capacity : QueueCapacity) (channel : Channel) (events : List Event) →
+    ensures acked_at_most_delivered { (capacity : QueueCapacity) (channel : Channel) (events : List Event) →
         AllowsRrForRej events (initial_world capacity channel)
         → AckedAtMostDelivered (lines events (answers events (initial_world capacity channel))) }
 {}
 
-/// Law: whatever frames arrive, an endpoint reports as acknowledged only messages that were sent before; it is established at most once,
-/// and it reports deliveries and acknowledgements only while its link is open.
-#[tactic(auto, using(crate::proofs::Order::order_claims))]
+/// Law: whatever frames arrive, an endpoint reports a message as acknowledged only after the message was sent. Its link is established at
+/// most once, and it reports deliveries and acknowledgements only while the link is open.
+#[tactic(auto, using(crate::proofs::Steps::order_claims))]
 pub fn law_log_is_ordered()
     ensures { (capacity : QueueCapacity) (channel : Channel) (events : List Event)
         → IsOrderedLog (lines events (answers events (initial_world capacity channel))) }
@@ -45,18 +45,17 @@ pub fn law_acked_at_most_delivered()
 
 /// Law: if each arriving frame fits in a block, each step sends at most two frames, which also fit in blocks, and reports at most two
 /// notices.
-#[tactic(auto, using(crate::proofs::Fitting::small_answers))]
+#[tactic(auto, using(crate::proofs::Events::small_answers))]
 pub fn law_sent_frames_fit_blocks()
     ensures { (capacity : QueueCapacity) (channel : Channel) (events : List Event) → All (ArrivingFrameFits channel) events
         → All (SentFramesFit channel) (answers events (initial_world capacity channel)) }
 {}
 
-/// Law: claims that hold for the log lines of SAPI 0 and for those of SAPI 3 hold for the whole log, so each link may have its own channel
-/// or queue.
+/// Law: claims that hold for the log lines of each SAPI hold for the whole log, so each link may have its own channel or queue.
 pub fn law_claims_combine_by_link()
-    ensures delivery { (ls : List Line) → Claims (log_lines_of_sapi Zero ls) → Claims (log_lines_of_sapi Three ls) → Claims ls }
-    ensures order { (ls : List Line) → IsOrderedLog (log_lines_of_sapi Zero ls) → IsOrderedLog (log_lines_of_sapi Three ls) →
+    ensures delivery { (ls : List LogLine) → Claims (log_lines_of_sapi Zero ls) → Claims (log_lines_of_sapi Three ls) → Claims ls }
+    ensures order { (ls : List LogLine) → IsOrderedLog (log_lines_of_sapi Zero ls) → IsOrderedLog (log_lines_of_sapi Three ls) →
         IsOrderedLog ls }
-    ensures counts_acks { (ls : List Line) →
+    ensures acked_at_most_delivered { (ls : List LogLine) →
         AckedAtMostDelivered (log_lines_of_sapi Zero ls) → AckedAtMostDelivered (log_lines_of_sapi Three ls) → AckedAtMostDelivered ls }
 {}

@@ -4,4 +4,4 @@ use Rattle.lapdm_mobile.specs.declared.mobile.Mobile.{Mobile}
 
 -- the `Endpoint` inside the mobile
 abbrev pub endpoint_of : Mobile → Endpoint
-endpoint_of m = m.end
+endpoint_of m = m.endpoint

@@ -5,19 +5,19 @@ ghost use Rattle.lapdm_end.specs.lapdm_frame.declared.Channel.TheVariants as C;
 ghost use Rattle.lapdm_end.specs.lapdm_frame.Content.{frame_of};
 ghost use Rattle.lapdm_end.specs.lapdm_frame.Frames.{FrameFits};
 ghost use Rattle.lapdm_end.specs.lapdm_window.declared.Sapi.TheVariants as S;
-ghost use Rattle.lapdm_end.specs.lapdm_window.Ends.{EndState, start};
+ghost use Rattle.lapdm_end.specs.lapdm_window.Ends.{EndpointState, start};
 ghost use Rattle.lapdm_end.specs.lapdm_window.Ends as E;
-ghost use Rattle.lapdm_end.specs.lapdm_window.Calls.{call_outcome, Opens, OpensBare, Sends, SendsUnit, Closes, T200Expires, SendsFill};
+ghost use Rattle.lapdm_end.specs.lapdm_window.Calls.{call_outcome, Opens, OpensWithoutInfo, Sends, SendsUi, Closes, T200Expires, SendsFill};
 ghost use Rattle.lapdm_end.specs.lapdm_window.Tables.{frame_outcome};
 ghost use Rattle.lapdm_end.specs.Abstraction.{Represents, sapi_of, channel_of};
-ghost use Rattle.lapdm_end.specs.Refinement.{StepRefines, RefusesAsDefined};
+ghost use Rattle.lapdm_end.specs.Refinement.{StepRefines, RefusesAsSpecified};
 
 use lapdm_end::{Call, Channel, Effects, Endpoint, FrameView, Refused, Role, Sapi, State};
 
 /// The mobile's endpoint of a data link. A refused call changes nothing.
 #[derive(Debug, Drop)]
 pub struct Mobile {
-    pub(crate) end: Endpoint,
+    pub(crate) endpoint: Endpoint,
 }
 
 impl Mobile {
@@ -48,27 +48,28 @@ impl Mobile {
         ensures channel { channel_of (endpoint_of result) ≡ channel }
     {
         Mobile {
-            end: Endpoint::new_on(Role::Mobile, sapi, channel),
+            endpoint: Endpoint::new_on(Role::Mobile, sapi, channel),
         }
     }
 
     pub fn sapi(&self) -> Sapi
         ensures sapi { result ≡ sapi_of (endpoint_of self.now) }
-        ensures represents { (e : EndState) → Represents (endpoint_of self.now) e → result ≡ e.sapi }
+        ensures represents { (e : EndpointState) → Represents (endpoint_of self.now) e → result ≡ e.sapi }
     {
-        self.end.sapi()
+        self.endpoint.sapi()
     }
 
     pub fn state(&self) -> State
-        ensures { (e : EndState) → Represents (endpoint_of self.now) e → result ≡ e.state }
+        ensures { (e : EndpointState) → Represents (endpoint_of self.now) e → result ≡ e.state }
     {
-        self.end.state()
+        self.endpoint.state()
     }
 
-    /// Begins to establish the link of SAPI 0: sends a SABM with this information, 1 to N201 octets.
+    /// Begins to establish the link of SAPI 0: sends a SABM with this information, 1 to N201 octets. Refusals: `NotIdle`, `Empty`,
+    /// `TooLong`.
     pub fn open(&mut self, info: &[u8]) -> Result<Effects, Refused>
         requires { sapi_of (endpoint_of self.old) ≡ S.Zero }
-        ensures refusal { RefusesAsDefined (Opens info.now) (endpoint_of self.old) result }
+        ensures refusal { RefusesAsSpecified (Opens info.now) (endpoint_of self.old) result }
         ensures refines { IfOk result
             (λ effects. StepRefines (call_outcome (Opens info.now)) (endpoint_of self.old) effects
             (endpoint_of self.new)) }
@@ -76,26 +77,26 @@ impl Mobile {
         ensures sapi { sapi_of (endpoint_of self.new) ≡ sapi_of (endpoint_of self.old) }
         ensures channel { channel_of (endpoint_of self.new) ≡ channel_of (endpoint_of self.old) }
     {
-        self.end.call_returning_effects(&Call::Open(info))
+        self.endpoint.call_returning_effects(&Call::Open(info))
     }
 
-    /// Begins to establish the link of SAPI 3: sends a SABM without information.
+    /// Begins to establish the link of SAPI 3: sends a SABM without information. Refusal: `NotIdle`.
     pub fn open_bare(&mut self) -> Result<Effects, Refused>
         requires { sapi_of (endpoint_of self.old) ≡ S.Three }
-        ensures refusal { RefusesAsDefined OpensBare (endpoint_of self.old) result }
+        ensures refusal { RefusesAsSpecified OpensWithoutInfo (endpoint_of self.old) result }
         ensures refines { IfOk result
-            (λ effects. StepRefines (call_outcome OpensBare)
+            (λ effects. StepRefines (call_outcome OpensWithoutInfo)
             (endpoint_of self.old) effects (endpoint_of self.new)) }
         ensures refused { OnErr result (self.new ≡ self.old) }
         ensures sapi { sapi_of (endpoint_of self.new) ≡ sapi_of (endpoint_of self.old) }
         ensures channel { channel_of (endpoint_of self.new) ≡ channel_of (endpoint_of self.old) }
     {
-        self.end.call_returning_effects(&Call::OpenBare)
+        self.endpoint.call_returning_effects(&Call::OpenBare)
     }
 
-    /// Sends a message of 1 to 251 octets in I frames, which the network acknowledges.
+    /// Sends a message of 1 to 251 octets in I frames, which the network acknowledges. Refusals: `NotOpen`, `Empty`, `TooLong`, `Full`.
     pub fn send(&mut self, message: &[u8]) -> Result<Effects, Refused>
-        ensures refusal { RefusesAsDefined (Sends message.now) (endpoint_of self.old) result }
+        ensures refusal { RefusesAsSpecified (Sends message.now) (endpoint_of self.old) result }
         ensures refines { IfOk result
             (λ effects. StepRefines (call_outcome (Sends message.now)) (endpoint_of self.old) effects
             (endpoint_of self.new)) }
@@ -103,51 +104,51 @@ impl Mobile {
         ensures sapi { sapi_of (endpoint_of self.new) ≡ sapi_of (endpoint_of self.old) }
         ensures channel { channel_of (endpoint_of self.new) ≡ channel_of (endpoint_of self.old) }
     {
-        self.end.call_returning_effects(&Call::Send(message))
+        self.endpoint.call_returning_effects(&Call::Send(message))
     }
 
-    /// Sends a message of 1 to N201 octets in one UI frame, which is not acknowledged.
+    /// Sends a message of 1 to N201 octets in one UI frame, which is not acknowledged. Refusals: `Empty`, `TooLong`.
     pub fn unit(&mut self, message: &[u8]) -> Result<Effects, Refused>
-        ensures refusal { RefusesAsDefined (SendsUnit message.now) (endpoint_of self.old) result }
+        ensures refusal { RefusesAsSpecified (SendsUi message.now) (endpoint_of self.old) result }
         ensures refines { IfOk result
-            (λ effects. StepRefines (call_outcome (SendsUnit message.now)) (endpoint_of self.old) effects
+            (λ effects. StepRefines (call_outcome (SendsUi message.now)) (endpoint_of self.old) effects
             (endpoint_of self.new)) }
         ensures refused { OnErr result (self.new ≡ self.old) }
         ensures sapi { sapi_of (endpoint_of self.new) ≡ sapi_of (endpoint_of self.old) }
         ensures channel { channel_of (endpoint_of self.new) ≡ channel_of (endpoint_of self.old) }
     {
-        self.end.call_returning_effects(&Call::Unit(message))
+        self.endpoint.call_returning_effects(&Call::Unit(message))
     }
 
-    /// Begins to release the link: sends a DISC. Unacknowledged messages are discarded.
+    /// Begins to release the link: sends a DISC. Unacknowledged messages are discarded. Refusal: `NotOpen`.
     pub fn close(&mut self) -> Result<Effects, Refused>
-        ensures refusal { RefusesAsDefined Closes (endpoint_of self.old) result }
+        ensures refusal { RefusesAsSpecified Closes (endpoint_of self.old) result }
         ensures refines { IfOk result
             (λ effects. StepRefines (call_outcome Closes) (endpoint_of self.old) effects (endpoint_of self.new)) }
         ensures refused { OnErr result (self.new ≡ self.old) }
         ensures sapi { sapi_of (endpoint_of self.new) ≡ sapi_of (endpoint_of self.old) }
         ensures channel { channel_of (endpoint_of self.new) ≡ channel_of (endpoint_of self.old) }
     {
-        self.end.call_returning_effects(&Call::Close)
+        self.endpoint.call_returning_effects(&Call::Close)
     }
 
-    /// Handles T200 expiry.
+    /// Handles T200 expiry. Refusal: `NotRunning`.
     pub fn timer(&mut self) -> Result<Effects, Refused>
-        ensures refusal { RefusesAsDefined T200Expires (endpoint_of self.old) result }
+        ensures refusal { RefusesAsSpecified T200Expires (endpoint_of self.old) result }
         ensures refines { IfOk result
             (λ effects. StepRefines (call_outcome T200Expires) (endpoint_of self.old) effects (endpoint_of self.new)) }
         ensures refused { OnErr result (self.new ≡ self.old) }
         ensures sapi { sapi_of (endpoint_of self.new) ≡ sapi_of (endpoint_of self.old) }
         ensures channel { channel_of (endpoint_of self.new) ≡ channel_of (endpoint_of self.old) }
     {
-        self.end.call_returning_effects(&Call::Timer)
+        self.endpoint.call_returning_effects(&Call::Timer)
     }
 
     /// Sends the fill frame, for use when there is nothing else to send in a block.
     pub fn idle(&self) -> Effects
         ensures { StepRefines (call_outcome SendsFill) (endpoint_of self.now) result (endpoint_of self.now) }
     {
-        self.end.idle()
+        self.endpoint.idle()
     }
 
     /// Processes a received frame.
@@ -158,6 +159,6 @@ impl Mobile {
         ensures sapi { sapi_of (endpoint_of self.new) ≡ sapi_of (endpoint_of self.old) }
         ensures channel { channel_of (endpoint_of self.new) ≡ channel_of (endpoint_of self.old) }
     {
-        self.end.take(frame)
+        self.endpoint.take(frame)
     }
 }

@@ -10,12 +10,12 @@ use lapdm_end::{
 };
 use std::process::Abort;
 
-// An endpoint of SAPI 0, and the channel on which it works.
+// An endpoint of SAPI 0, and its channel.
 #[derive(Drop)]
 struct Session {
     end: Mobile,
     channel: Channel,
-    ghost same: { channel_of (endpoint_of end) ≡ channel },
+    ghost same_channel: { channel_of (endpoint_of end) ≡ channel },
     ghost zero: { sapi_of (endpoint_of end) ≡ S.Zero },
 }
 
@@ -32,22 +32,22 @@ impl Session {
         self.end.take(frame)
     }
 
-    // Gives the endpoint a frame of SAPI 0, and checks its answer.
+    // Passes a frame of SAPI 0 to the endpoint, and checks the frames and notices that result.
     fn take_and_check(
         &mut self,
         rt: &impl Abort,
         cr: bool,
         body: Body<'_>,
         sent: &[u8],
-        told: Option<Notice>,
+        expected_notice: Option<Notice>,
     ) {
         let effects = self.take(rt, &FrameView { sapi: 0, cr, body });
         assert!(rt; sends_only(&effects, sent));
-        assert!(rt; reports_only(&effects, &told));
+        assert!(rt; reports_only(&effects, &expected_notice));
     }
 }
 
-// Whether the endpoint sent exactly one block of these octets and fill, or no block if `octets` is empty.
+// Whether the endpoint sent exactly one block, these octets followed by fill octets, or no block if `octets` is empty.
 fn sends_only(effects: &Effects, octets: &[u8]) -> bool {
     match effects.frames.as_slice() {
         [] => octets.is_empty(),
@@ -60,8 +60,8 @@ fn sends_only(effects: &Effects, octets: &[u8]) -> bool {
     }
 }
 
-fn reports_only(effects: &Effects, told: &Option<Notice>) -> bool {
-    match (effects.notices.as_slice(), told) {
+fn reports_only(effects: &Effects, expected_notice: &Option<Notice>) -> bool {
+    match (effects.notices.as_slice(), expected_notice) {
         ([], None) => true,
         ([one], Some(other)) => is_same_notice(one, other),
         _ => false,
@@ -80,9 +80,13 @@ fn is_same_notice(one: &Notice, other: &Notice) -> bool {
     }
 }
 
-fn sends_and_reports(answer: &Result<Effects, Refused>, sent: &[u8], told: Option<Notice>) -> bool {
+fn sends_and_reports(
+    answer: &Result<Effects, Refused>,
+    sent: &[u8],
+    expected_notice: Option<Notice>,
+) -> bool {
     match answer {
-        Ok(effects) => sends_only(effects, sent) && reports_only(effects, &told),
+        Ok(effects) => sends_only(effects, sent) && reports_only(effects, &expected_notice),
         Err(_) => false,
     }
 }
@@ -126,12 +130,12 @@ fn mobile_in_opening(rt: &impl Abort) -> Session {
 
 fn opened(rt: &impl Abort) -> Session {
     let mut session = mobile_in_opening(rt);
-    let told = Some(Notice::Opened(Message::new(&[1, 2])));
+    let expected_notice = Some(Notice::Opened(Message::new(&[1, 2])));
     let ua = Body::Ua {
         f: true,
         info: &[1, 2],
     };
-    session.take_and_check(rt, false, ua, &[], told);
+    session.take_and_check(rt, false, ua, &[], expected_notice);
     open_is_refused(rt, &mut session);
     t200_expiry_is_refused(rt, &mut session);
     sends_ui_frames(rt, &mut session);
@@ -224,6 +228,6 @@ fn opens_sapi_3_from_both_ends_at_once(rt: HostRuntime) {
     assert!(rt; sends_only(&effects, &[0x0f, 0x73, 0x01]) && reports_only(&effects, &None));
     let ua = Body::Ua { f: true, info: &[] };
     let effects = take_sapi_3_frame(&rt, &mut mobile, false, ua);
-    let told = Some(Notice::Opened(Message::new(&[])));
-    assert!(rt; sends_only(&effects, &[]) && reports_only(&effects, &told));
+    let expected_notice = Some(Notice::Opened(Message::new(&[])));
+    assert!(rt; sends_only(&effects, &[]) && reports_only(&effects, &expected_notice));
 }

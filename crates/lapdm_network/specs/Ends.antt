@@ -4,4 +4,4 @@ use Rattle.lapdm_network.specs.declared.network.Network.{Network}
 
 -- the `Endpoint` inside the network
 abbrev pub endpoint_of : Network → Endpoint
-endpoint_of m = m.end
+endpoint_of m = m.endpoint

@@ -8,12 +8,12 @@ use lapdm_end::{
 };
 use std::process::Abort;
 
-// An endpoint, and the channel on which it works.
+// An endpoint, and its channel.
 #[derive(Drop)]
 struct Session {
     end: Network,
     channel: Channel,
-    ghost same: { channel_of (endpoint_of end) ≡ channel },
+    ghost same_channel: { channel_of (endpoint_of end) ≡ channel },
 }
 
 impl Session {
@@ -29,22 +29,22 @@ impl Session {
         self.end.take(frame)
     }
 
-    // Gives the endpoint a frame of SAPI 0, and checks its answer.
+    // Passes a frame of SAPI 0 to the endpoint, and checks the frames and notices that result.
     fn take_and_check(
         &mut self,
         rt: &impl Abort,
         cr: bool,
         body: Body<'_>,
         sent: &[u8],
-        told: Option<Notice>,
+        expected_notice: Option<Notice>,
     ) {
         let effects = self.take(rt, &FrameView { sapi: 0, cr, body });
         assert!(rt; sends_only(&effects, sent));
-        assert!(rt; reports_only(&effects, &told));
+        assert!(rt; reports_only(&effects, &expected_notice));
     }
 }
 
-// Whether the endpoint sent exactly one block of these octets and fill, or no block if `octets` is empty.
+// Whether the endpoint sent exactly one block, these octets followed by fill octets, or no block if `octets` is empty.
 fn sends_only(effects: &Effects, octets: &[u8]) -> bool {
     match effects.frames.as_slice() {
         [] => octets.is_empty(),
@@ -57,8 +57,8 @@ fn sends_only(effects: &Effects, octets: &[u8]) -> bool {
     }
 }
 
-fn reports_only(effects: &Effects, told: &Option<Notice>) -> bool {
-    match (effects.notices.as_slice(), told) {
+fn reports_only(effects: &Effects, expected_notice: &Option<Notice>) -> bool {
+    match (effects.notices.as_slice(), expected_notice) {
         ([], None) => true,
         ([one], Some(other)) => is_same_notice(one, other),
         _ => false,
@@ -93,8 +93,8 @@ fn opened(rt: &impl Abort) -> Session {
         p: true,
         info: &[1],
     };
-    let told = Some(Notice::Opened(Message::new(&[1])));
-    session.take_and_check(rt, false, sabm, &[0x01, 0x73, 0x05, 0x01], told);
+    let expected_notice = Some(Notice::Opened(Message::new(&[1])));
+    session.take_and_check(rt, false, sabm, &[0x01, 0x73, 0x05, 0x01], expected_notice);
     session
 }
 
@@ -172,7 +172,7 @@ fn ignores_what_the_mobile_does_not_send(rt: HostRuntime) {
     );
 }
 
-// Checks that an RR with an N(R) other than `number` acknowledges nothing; with 8, that no RR does.
+// Checks that an RR acknowledges nothing unless its N(R) is `number`; 8 excludes every N(R).
 fn ignores_other_nr(rt: &impl Abort, session: &mut Session, number: u8) {
     for nr in 0..8u8 {
         if nr != number {

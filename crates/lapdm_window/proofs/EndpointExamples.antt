@@ -2,9 +2,9 @@
 use Rattle.std.proofs.Common.{◌≡◌, Bool, ℕ, true, false, List, [], ◌∷◌, ◌++◌, map, replicate, refl, Ok, Err, Result}
 use Rattle.segmenting.specs.lapdm_frame.{declared.Channel.TheVariants.{Sdcch, Sacch}, Content.{Content, I, Sabm, Dm, Ua, Rnr}}
 use Rattle.segmenting.specs.lapdm_frame.Frames.{octets_of}
-use Rattle.lapdm_window.specs.{declared.{Sapi.TheVariants.{Zero, Three}, Notice.Notice, Refused.Refused}, Ends.{EndState, start, Mobile}}
-use Rattle.lapdm_window.specs.{Ends.{Network, Outcome}, Calls.{Opens, OpensBare, Sends, SendsUnit, Closes, T200Expires}, Steps.StepInput}
-use Rattle.lapdm_window.specs.Steps.{Asked, Received, step}
+use Rattle.lapdm_window.specs.{declared.{Sapi.TheVariants.{Zero, Three}, Notice.Notice, Refused.Refused}, Ends.{EndpointState, start}}
+use Rattle.lapdm_window.specs.{Ends.{Mobile, Network, Outcome}, Calls.{Opens, OpensWithoutInfo, Sends, SendsUi, Closes, T200Expires}}
+use Rattle.lapdm_window.specs.Steps.{StepInput, Asked, Received, step}
 use Rattle.lapdm_window.specs.declared.State.TheVariants as S
 use Rattle.lapdm_window.specs.declared.Notice.TheVariants as N
 use Rattle.lapdm_window.specs.declared.Reason.TheVariants as R
@@ -14,15 +14,15 @@ use Rattle.lapdm_window.specs.declared.Refused.TheVariants as No
 abbrev Seen : Type 0
 Seen = Result (List (List ℕ) × List Notice) Refused
 
-abbrev seen_in : EndState → Result Outcome Refused → Seen
+abbrev seen_in : EndpointState → Result Outcome Refused → Seen
 seen_in e (Ok o) = Ok (map (octets_of e.channel) o.frames, o.notices)
 seen_in e (Err refusal) = Err refusal
 
-abbrev state_after : EndState → Result Outcome Refused → EndState
-state_after e (Ok o) = o.after
+abbrev state_after : EndpointState → Result Outcome Refused → EndpointState
+state_after e (Ok o) = o.new_state
 state_after e (Err refusal) = e
 
-abbrev session : EndState → List StepInput → List Seen
+abbrev session : EndpointState → List StepInput → List Seen
 session e [] = []
 session e (input ∷ inputs) = let r = step input e in seen_in e r ∷ session (state_after e r) inputs
 
@@ -60,7 +60,7 @@ network_opened_by_mobile = refl
 mobile_losing_contention : session (start Mobile Zero Sdcch)
     (Asked (Sends (0xaa ∷ [])) ∷ Asked Closes ∷ Asked T200Expires ∷ Asked (Opens []) ∷ Asked (Opens (0x01 ∷ []))
     ∷ Asked (Opens (0x01 ∷ []))
-    ∷ Asked (SendsUnit (replicate 21 0)) ∷ from_network (Ua true (0x02 ∷ [])) ∷ [])
+    ∷ Asked (SendsUi (replicate 21 0)) ∷ from_network (Ua true (0x02 ∷ [])) ∷ [])
     ≡ Err No.NotOpen ∷ Err No.NotOpen ∷ Err No.NotRunning ∷ Err No.Empty ∷ sent (0x01 ∷ 0x3f ∷ 0x05 ∷ 0x01 ∷ []) 19
     ∷ Err No.NotIdle ∷ Err No.TooLong ∷ reported (N.Closed R.Contention) ∷ []
 mobile_losing_contention = refl
@@ -71,7 +71,7 @@ refused_mobile = refl
 
 -- both sides establish SAPI 3 at the same time
 collision_on_sapi_3 : session (start Mobile Three Sdcch)
-    (Asked OpensBare ∷ Asked OpensBare ∷ Received (record { sapi = 3; cr = true; content = Sabm true [] })
+    (Asked OpensWithoutInfo ∷ Asked OpensWithoutInfo ∷ Received (record { sapi = 3; cr = true; content = Sabm true [] })
     ∷ Received (record { sapi = 3; cr = false; content = Ua true [] }) ∷ [])
     ≡ sent (0x0d ∷ 0x3f ∷ 0x01 ∷ []) 20 ∷ Err No.NotIdle ∷ sent (0x0f ∷ 0x73 ∷ 0x01 ∷ []) 20 ∷ reported (N.Opened [])
     ∷ []
@@ -83,7 +83,7 @@ unanswered_on_sacch : session (start Mobile Zero Sacch) (Asked (Opens (0x01 ∷ 
 unanswered_on_sacch = refl
 
 -- the endpoint ignores an I frame with the C/R of a response, a frame of another SAPI, an RNR, and a UA with the C/R of a command
-ignored_frames : session (record (start Network Zero Sdcch) { state = S.Open; kept = 0x01 ∷ [] })
+ignored_frames : session (record (start Network Zero Sdcch) { state = S.Open; sabm_info = 0x01 ∷ [] })
     (Received (record { sapi = 0; cr = true; content = I 0 0 false false (0xaa ∷ []) })
     ∷ Received (record { sapi = 5; cr = false; content = I 0 0 false false (0xaa ∷ []) })
     ∷ from_mobile (Rnr 0 true) ∷ from_mobile (Ua true []) ∷ [])
@@ -97,7 +97,7 @@ segment_of ns more octets = from_mobile (I ns 0 false more octets)
 abbrev ready : ℕ → Seen
 ready control = sent (0x01 ∷ control ∷ 0x01 ∷ []) 20
 
-oversize_message : session (record (start Network Zero Sdcch) { state = S.Open; kept = 0x01 ∷ [] })
+oversize_message : session (record (start Network Zero Sdcch) { state = S.Open; sabm_info = 0x01 ∷ [] })
     (segment_of 0 true (replicate 20 7) ∷ segment_of 1 true (replicate 20 7) ∷ segment_of 2 true (replicate 20 7) ∷ segment_of 3 true
     (replicate 20 7)
     ∷ segment_of 4 true (replicate 20 7) ∷ segment_of 5 true (replicate 20 7) ∷ segment_of 6 true (replicate 20 7)

@@ -2,8 +2,8 @@
 use Rattle.std.proofs.Common.{◌≡◌, ℕ, true, false, List, [], ◌∷◌, ◌++◌, map, drop, replicate, refl, Ok, Err, Result}
 use Rattle.segmenting.specs.lapdm_frame.{declared.Channel.{Channel, TheVariants.{Sdcch, Sacch}}, Content.{Sabm, Frame}, Frames.octets_of}
 use Rattle.segmenting.specs.Segments.{Message}
-use Rattle.lapdm_window.specs.{declared.{Sapi.TheVariants.Zero, Notice.Notice, Refused.Refused}, Ends.{EndState, start, Mobile, Network}}
-use Rattle.lapdm_window.specs.{Ends.Outcome, Calls.{Call, Opens, Sends, Closes, T200Expires}, Steps.{Asked, Received, step}}
+use Rattle.lapdm_window.specs.{declared.{Sapi.TheVariants.Zero, Notice.Notice, Refused.Refused}, Ends.{EndpointState, start, Mobile}}
+use Rattle.lapdm_window.specs.{Ends.{Network, Outcome}, Calls.{Call, Opens, Sends, Closes, T200Expires}, Steps.{Asked, Received, step}}
 use Rattle.lapdm_window.specs.declared.Notice.TheVariants as N
 use Rattle.lapdm_window.specs.declared.Reason.TheVariants as R
 use Rattle.lapdm_window.specs.declared.Refused.TheVariants as No
@@ -19,8 +19,8 @@ data Event : Type 0 where
   Rival : Message → Event
 
 record Pair : Type 0 where
-  mobile : EndState
-  network : EndState
+  mobile : EndpointState
+  network : EndpointState
   up : List Frame
   down : List Frame
 
@@ -33,15 +33,15 @@ seen_in channel (Ok o) = Ok (o.notices, map (octets_of channel) o.frames)
 seen_in channel (Err refusal) = Err refusal
 
 abbrev with_mobile : Result Outcome Refused → Pair → Pair
-with_mobile (Ok o) p = record p { mobile = o.after; up = p.up ++ o.frames }
+with_mobile (Ok o) p = record p { mobile = o.new_state; up = p.up ++ o.frames }
 with_mobile (Err refusal) p = p
 
 abbrev with_network : Result Outcome Refused → Pair → Pair
-with_network (Ok o) p = record p { network = o.after; down = p.down ++ o.frames }
+with_network (Ok o) p = record p { network = o.new_state; down = p.down ++ o.frames }
 with_network (Err refusal) p = p
 
 -- the endpoint receives the oldest frame in transit
-abbrev taken_from : List Frame → EndState → Result Outcome Refused
+abbrev taken_from : List Frame → EndpointState → Result Outcome Refused
 taken_from [] e = Err No.NotRunning
 taken_from (f ∷ fs) e = step (Received f) e
 
@@ -81,8 +81,8 @@ abbrev open_pair : Pair
 open_pair =
     let idle = idle_on Sdcch in
     record idle {
-      mobile = record idle.mobile { state = S.Open; kept = 0x01 ∷ [] };
-      network = record idle.network { state = S.Open; kept = 0x01 ∷ [] };
+      mobile = record idle.mobile { state = S.Open; sabm_info = 0x01 ∷ [] };
+      network = record idle.network { state = S.Open; sabm_info = 0x01 ∷ [] };
     }
 
 abbrev block : List ℕ → ℕ → List ℕ

@@ -14,44 +14,45 @@ use Rattle.lapdm_window.specs.declared.State.TheVariants.{Idle, Opening, Closing
 use Rattle.lapdm_window.specs.declared.Reason.TheVariants as R
 use Rattle.lapdm_window.specs.declared.Refused.{Refused}
 use Rattle.lapdm_window.specs.declared.Refused.TheVariants as No
-use Rattle.lapdm_window.specs.Ends.{EndState, Outcome, sends_frame, command_frame, command_cr, unacked_message_count, awaits_answer, n200}
+use Rattle.lapdm_window.specs.Ends.{EndpointState, Outcome, sends_frame, command_frame, command_cr, unacked_message_count, awaits_answer}
+use Rattle.lapdm_window.specs.Ends.{n200}
 use Rattle.lapdm_window.specs.Rules.{is_open, sends_next, outstanding_frame}
 use Rattle.lapdm_window.specs.Tables.{closes_and_reports}
 
 -- a call to an endpoint: layer 3 establishes the link with or without information, sends a message in I frames or in a UI frame, or
--- releases the link; T200 expires; or the fill frame is to be sent
+-- releases the link; T200 expires; or the endpoint sends the fill frame
 pub data Call : Type 0 where
   Opens : (info : Message) → Call
-  OpensBare : Call
+  OpensWithoutInfo : Call
   Sends : (m : Message) → Call
-  SendsUnit : (m : Message) → Call
+  SendsUi : (m : Message) → Call
   Closes : Call
   T200Expires : Call
   SendsFill : Call
 
--- translates a program `Call` into a specification `Call`
+-- the specification's `Call` for this Rust `Call`
 abbrev pub call_of : Asked → Call
 call_of (A.Open info) = Opens info.now
-call_of A.OpenBare = OpensBare
+call_of A.OpenBare = OpensWithoutInfo
 call_of (A.Send m) = Sends m.now
-call_of (A.Unit m) = SendsUnit m.now
+call_of (A.Unit m) = SendsUi m.now
 call_of A.Close = Closes
 call_of A.Timer = T200Expires
 call_of A.Idle = SendsFill
 
--- an endpoint with this SAPI has this call: `Opens` exists only on SAPI 0, `OpensBare` only on SAPI 3, every other call on both
+-- an endpoint with this SAPI has this call: `Opens` exists only on SAPI 0, `OpensWithoutInfo` only on SAPI 3, every other call on both
 abbrev pub IsCallOfSapi : Sapi → Call → Type 0
 IsCallOfSapi sapi (Opens info) = sapi ≡ Zero
-IsCallOfSapi sapi OpensBare = sapi ≡ Three
+IsCallOfSapi sapi OpensWithoutInfo = sapi ≡ Three
 IsCallOfSapi sapi other = Unit {0}
 
--- an endpoint has this call, given its SAPI
-abbrev pub IsCallOfItsSapi : EndState → Call → Type 0
-IsCallOfItsSapi e call = IsCallOfSapi e.sapi call
+-- this call exists for the SAPI of this endpoint
+abbrev pub IsCallOfEndpoint : EndpointState → Call → Type 0
+IsCallOfEndpoint e call = IsCallOfSapi e.sapi call
 
 -- the call sends a UI frame and leaves the endpoint state unchanged
 abbrev pub SendsUiFrame : Call → Type 0
-SendsUiFrame (SendsUnit m) = Unit {0}
+SendsUiFrame (SendsUi m) = Unit {0}
 SendsUiFrame SendsFill = Unit {0}
 SendsUiFrame other = ⊥
 
@@ -68,7 +69,7 @@ first_refusal ((false, refusal) ∷ others) = first_refusal others
 
 -- the conditions for refusing a message to be sent in I frames, in the order tested: it is empty, it has more than 251 octets, or eight
 -- messages are not yet fully acknowledged
-abbrev pub message_refusals : Message → EndState → List (Bool × Refused)
+abbrev pub message_refusals : Message → EndpointState → List (Bool × Refused)
 message_refusals m e =
     (nat_eq (length m) 0, No.Empty) ∷ (nat_lt max_message_octets (length m), No.TooLong) ∷ (
       nat_le 8
@@ -78,60 +79,60 @@ message_refusals m e =
 
 -- the conditions for refusing information or a message to be sent in one frame, in the order tested: it is empty, or it has more than N201
 -- octets
-abbrev pub frame_refusals : Message → EndState → List (Bool × Refused)
+abbrev pub frame_refusals : Message → EndpointState → List (Bool × Refused)
 frame_refusals m e =
     (nat_eq (length m) 0, No.Empty) ∷ (nat_lt (n201 e.channel) (length m), No.TooLong) ∷ []
 
 -- the conditions for refusing a call, each with the reason returned, in the order tested
-abbrev pub call_refusals : Call → EndState → List (Bool × Refused)
+abbrev pub call_refusals : Call → EndpointState → List (Bool × Refused)
 call_refusals (Opens info) e = (not (is_idle e.state), No.NotIdle) ∷ frame_refusals info e
-call_refusals OpensBare e = (not (is_idle e.state), No.NotIdle) ∷ []
+call_refusals OpensWithoutInfo e = (not (is_idle e.state), No.NotIdle) ∷ []
 call_refusals (Sends m) e = (not (is_open e.state), No.NotOpen) ∷ message_refusals m e
-call_refusals (SendsUnit m) e = frame_refusals m e
+call_refusals (SendsUi m) e = frame_refusals m e
 call_refusals Closes e = (not (is_open e.state), No.NotOpen) ∷ []
 call_refusals T200Expires e = (not (awaits_answer e), No.NotRunning) ∷ []
 call_refusals SendsFill e = []
 
 -- the reason why the call is refused, or `None` if it is accepted
-abbrev pub refusal_of : Call → EndState → Option Refused
+abbrev pub refusal_of : Call → EndpointState → Option Refused
 refusal_of call e = first_refusal (call_refusals call e)
 
 -- the SABM that an endpoint sends, with P = 1 and the information kept in its state
-abbrev pub sabm : EndState → Frame
-sabm e = command_frame e (Sabm true e.kept)
+abbrev pub sabm : EndpointState → Frame
+sabm e = command_frame e (Sabm true e.sabm_info)
 
 -- the DISC that an endpoint sends, with P = 1
-abbrev pub disc : EndState → Frame
+abbrev pub disc : EndpointState → Frame
 disc e = command_frame e (Disc true)
 
 -- the endpoint sends a SABM with this information and enters state Opening
-abbrev pub sends_sabm : Message → EndState → Outcome
-sends_sabm info e = let later = record e { state = Opening; kept = info; retries = 0 } in sends_frame (sabm later) later
+abbrev pub sends_sabm : Message → EndpointState → Outcome
+sends_sabm info e = let later = record e { state = Opening; sabm_info = info; retries = 0 } in sends_frame (sabm later) later
 
 -- the endpoint state after layer 3 has passed it this message to send
-abbrev pub with_message : Message → EndState → EndState
-with_message m e = record e { taken = e.taken ++ m ∷ [] }
+abbrev pub with_queued_message : Message → EndpointState → EndpointState
+with_queued_message m e = record e { taken = e.taken ++ m ∷ [] }
 
 -- the frame that is repeated at T200 expiry: the SABM in Opening, the DISC in Closing, otherwise the outstanding I frame with P = 1
-abbrev pub repeated_frame : State → EndState → Frame
+abbrev pub repeated_frame : State → EndpointState → Frame
 repeated_frame Opening e = sabm e
 repeated_frame Closing e = disc e
 repeated_frame other e = outstanding_frame true e
 
 -- the outcome of T200 expiry: the frame that awaits an answer is repeated or, after N200 repetitions, the link is closed as failed (section
 -- 5.5.7 for state Open)
-abbrev pub t200_expiry : EndState → Outcome
+abbrev pub t200_expiry : EndpointState → Outcome
 t200_expiry e =
     if nat_lt e.retries (n200 e.channel e.state)
     then sends_frame (repeated_frame e.state e) (record e { retries = e.retries + 1 })
     else closes_and_reports R.Failed e
 
 -- the outcome of an accepted call: the new state, the frames sent and the notices reported
-abbrev pub call_outcome : Call → EndState → Outcome
+abbrev pub call_outcome : Call → EndpointState → Outcome
 call_outcome (Opens info) e = sends_sabm info e
-call_outcome OpensBare e = sends_sabm [] e
-call_outcome (Sends m) e = sends_next (with_message m e)
-call_outcome (SendsUnit m) e = sends_frame (command_frame e (Ui false m)) e
+call_outcome OpensWithoutInfo e = sends_sabm [] e
+call_outcome (Sends m) e = sends_next (with_queued_message m e)
+call_outcome (SendsUi m) e = sends_frame (command_frame e (Ui false m)) e
 call_outcome Closes e = sends_frame (disc e) (record e { state = Closing; retries = 0 })
 call_outcome T200Expires e = t200_expiry e
 call_outcome SendsFill e = sends_frame (fill (command_cr e.role)) e

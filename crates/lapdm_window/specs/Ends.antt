@@ -15,19 +15,19 @@ use Rattle.lapdm_window.specs.declared.State.{State}
 use Rattle.lapdm_window.specs.declared.State.TheVariants.{Idle, Opening, Open, Closing}
 use Rattle.lapdm_window.specs.declared.Notice.{Notice}
 
--- the side to which an endpoint belongs
+-- the side of an endpoint
 pub data Role : Type 0 where
   Mobile : Role
   Network : Role
 
 -- the state of an endpoint
-pub record EndState : Type 0 where
+pub record EndpointState : Type 0 where
   pub role : Role
   pub sapi : Sapi
   pub channel : Channel
   pub state : State
   -- the information of the SABM that this endpoint sent, or of the SABM that established its link
-  pub kept : Message
+  pub sabm_info : Message
   -- all messages that layer 3 has passed to this endpoint to send in I frames, in order
   pub taken : List Message
   -- the number of segments acknowledged so far, over all messages
@@ -38,17 +38,17 @@ pub record EndState : Type 0 where
   pub accepted : List Segment
   -- the reject condition: a REJ was sent, and no segment has been accepted since
   pub rejecting : Bool
-  -- how often the frame that awaits an answer has been repeated
+  -- how many times the frame that awaits an answer has been repeated
   pub retries : ℕ
 
 -- the initial state of an endpoint
-abbrev pub start : Role → Sapi → Channel → EndState
+abbrev pub start : Role → Sapi → Channel → EndpointState
 start role sapi channel = record {
   role = role;
   sapi = sapi;
   channel = channel;
   state = Idle;
-  kept = [];
+  sabm_info = [];
   taken = [];
   acked = 0;
   sent = 0;
@@ -58,18 +58,18 @@ start role sapi channel = record {
 }
 
 -- the segments of all messages that layer 3 has passed to this endpoint, in order
-abbrev pub all_segments : EndState → List Segment
+abbrev pub all_segments : EndpointState → List Segment
 all_segments e = flat_map (segments (n201 e.channel)) e.taken
 
 -- the outstanding segment or, if none is outstanding, the next segment to send
-abbrev pub next_segment : EndState → Segment
+abbrev pub next_segment : EndpointState → Segment
 next_segment e = slice_index_or (all_segments e) e.acked ([], false)
 
 -- the window size is 1 (section 5.8.4): at most one segment has been sent but not yet acknowledged
-pub record HasWindowOfOne (e : EndState) : Type 0 where
+pub record HasWindowOfOne (e : EndpointState) : Type 0 where
   pub messages : All IsValidMessage e.taken
   pub sent : e.sent ≤ length (all_segments e)
-  pub behind : e.acked ≤ e.sent
+  pub acked_at_most_sent : e.acked ≤ e.sent
   pub window : e.sent ≤ e.acked + 1
 
 -- the link has not been established yet: the state is Idle or Opening
@@ -80,42 +80,42 @@ IsBeforeOpen other = ⊥
 
 -- the invariant of an endpoint: its window size is 1; its SABM information fits in a frame and is empty on SAPI 3; before state Open, it
 -- has taken no message from layer 3 and accepted no segment
-pub record IsValidEndpoint (e : EndState) : Type 0 where
+pub record IsValidEndpoint (e : EndpointState) : Type 0 where
   pub window : HasWindowOfOne e
-  pub kept : length e.kept ≤ n201 e.channel
-  pub empty_on_sapi3 : e.sapi ≡ Three → e.kept ≡ []
-  pub taken : IsBeforeOpen e.state → e.taken ≡ []
-  pub accepted : IsBeforeOpen e.state → e.accepted ≡ []
+  pub sabm_info_fits : length e.sabm_info ≤ n201 e.channel
+  pub empty_on_sapi3 : e.sapi ≡ Three → e.sabm_info ≡ []
+  pub no_message_before_open : IsBeforeOpen e.state → e.taken ≡ []
+  pub no_segment_before_open : IsBeforeOpen e.state → e.accepted ≡ []
 
 -- whether an I frame is outstanding, that is, sent but not yet acknowledged
-abbrev pub awaits_ack : EndState → Bool
+abbrev pub awaits_ack : EndpointState → Bool
 awaits_ack e = not (nat_eq e.sent e.acked)
 
 -- the send state variable V(S), 0 to 7 (section 3.5.2)
-abbrev pub vs : EndState → ℕ
+abbrev pub vs : EndpointState → ℕ
 vs e = e.sent % 8
 
 -- the acknowledge state variable V(A), 0 to 7 (section 3.5.2)
-abbrev pub va : EndState → ℕ
+abbrev pub va : EndpointState → ℕ
 va e = e.acked % 8
 
 -- the receive state variable V(R), 0 to 7 (section 3.5.2)
-abbrev pub vr : EndState → ℕ
+abbrev pub vr : EndpointState → ℕ
 vr e = length e.accepted % 8
 
--- the number of fully acknowledged messages, that is, those all of whose segments are acknowledged
-abbrev pub acked_message_count : EndState → ℕ
+-- the number of fully acknowledged messages: all segments of these messages are acknowledged
+abbrev pub acked_message_count : EndpointState → ℕ
 acked_message_count e = message_count (take e.acked (all_segments e))
 
 -- the number of messages with at least one unacknowledged segment
-abbrev pub unacked_message_count : EndState → ℕ
+abbrev pub unacked_message_count : EndpointState → ℕ
 unacked_message_count e = length e.taken - acked_message_count e
 
 -- a message number limited to 2^64 - 1, as notices report it (this project's own rule)
 abbrev pub capped_at_64_bits : ℕ → ℕ
 capped_at_64_bits n = min n (2 ^ 64 - 1)
 
--- N200 (section 5.8.2): how often a frame is repeated before the link fails, for this channel and link state
+-- N200 (section 5.8.2): how many times a frame is repeated before the link fails, for this channel and link state
 abbrev pub n200 : Channel → State → ℕ
 n200 Sdcch Open = 23
 n200 channel state = 5
@@ -129,34 +129,33 @@ awaits_answer_in_state Open waiting = waiting
 awaits_answer_in_state other waiting = false
 
 -- whether an endpoint awaits an answer to a SABM, a DISC or an I frame
-abbrev pub awaits_answer : EndState → Bool
+abbrev pub awaits_answer : EndpointState → Bool
 awaits_answer e = awaits_answer_in_state e.state (awaits_ack e)
 
 -- the result of a step of an endpoint: its state afterwards, the frames that it sends, and the notices that it reports to layer 3
 pub record Outcome : Type 0 where
-  pub after : EndState
+  pub new_state : EndpointState
   pub frames : List Frame
   pub notices : List Notice
 
 -- the endpoint does nothing: it sends no frame, reports nothing, and keeps its state
-abbrev pub no_effect : EndState → Outcome
-no_effect e = record { after = e; frames = []; notices = [] }
+abbrev pub no_effect : EndpointState → Outcome
+no_effect e = record { new_state = e; frames = []; notices = [] }
 
 -- the endpoint sends one frame
-abbrev pub sends_frame : Frame → EndState → Outcome
-sends_frame f e = record { after = e; frames = f ∷ []; notices = [] }
+abbrev pub sends_frame : Frame → EndpointState → Outcome
+sends_frame f e = record { new_state = e; frames = f ∷ []; notices = [] }
 
 -- the endpoint reports one notice to layer 3
-abbrev pub reports_notice : Notice → EndState → Outcome
-reports_notice n e = record { after = e; frames = []; notices = n ∷ [] }
+abbrev pub reports_notice : Notice → EndpointState → Outcome
+reports_notice n e = record { new_state = e; frames = []; notices = n ∷ [] }
 
--- sequential composition of an outcome and a rule: the rule continues from the state after the outcome, and its frames and notices follow
--- those of the outcome
+-- sequential composition: the rule starts in the state after the outcome, and its frames and notices follow those of the outcome
 infixl 30 ◌then◌
-abbrev pub ◌then◌ : Outcome → (EndState → Outcome) → Outcome
+abbrev pub ◌then◌ : Outcome → (EndpointState → Outcome) → Outcome
 o then rule =
-    let next = rule o.after in
-    record { after = next.after; frames = o.frames ++ next.frames; notices = o.notices ++ next.notices }
+    let next = rule o.new_state in
+    record { new_state = next.new_state; frames = o.frames ++ next.frames; notices = o.notices ++ next.notices }
 
 -- the C/R bit of commands that this side sends (section 3.3.2); its responses have the opposite bit
 abbrev pub command_cr : Role → Bool
@@ -169,9 +168,9 @@ sapi_number Zero = 0
 sapi_number Three = 3
 
 -- a command frame from this endpoint, with this content
-abbrev pub command_frame : EndState → Content → Frame
+abbrev pub command_frame : EndpointState → Content → Frame
 command_frame e content = record { sapi = sapi_number e.sapi; cr = command_cr e.role; content = content }
 
 -- a response frame from this endpoint, with this content
-abbrev pub response_frame : EndState → Content → Frame
+abbrev pub response_frame : EndpointState → Content → Frame
 response_frame e content = record { sapi = sapi_number e.sapi; cr = not (command_cr e.role); content = content }

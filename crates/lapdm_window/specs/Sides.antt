@@ -5,26 +5,26 @@ use Rattle.segmenting.specs.lapdm_frame.Content.{Frame}
 use Rattle.lapdm_window.specs.declared.Sapi.{Sapi}
 use Rattle.lapdm_window.specs.declared.Sapi.TheVariants.{Zero, Three}
 use Rattle.lapdm_window.specs.declared.Notice.{Notice}
-use Rattle.lapdm_window.specs.Ends.{Role, EndState, Outcome, start}
+use Rattle.lapdm_window.specs.Ends.{Role, EndpointState, Outcome, start}
 use Rattle.lapdm_window.specs.Calls.{Call, call_outcome}
 use Rattle.lapdm_window.specs.Tables.{frame_outcome}
 
 -- the state of both endpoints of a side
 pub record SideState : Type 0 where
-  pub link0 : EndState
-  pub link3 : EndState
+  pub link0 : EndpointState
+  pub link3 : EndpointState
 
 -- the initial state of a side: both endpoints in Idle
 abbrev pub idle_side : Role → Channel → SideState
 idle_side role channel = record { link0 = start role Zero channel; link3 = start role Three channel }
 
 -- the endpoint of the side with this SAPI
-abbrev pub endpoint_on : Sapi → SideState → EndState
+abbrev pub endpoint_on : Sapi → SideState → EndpointState
 endpoint_on Zero a = a.link0
 endpoint_on Three a = a.link3
 
 -- the side with its endpoint of this SAPI replaced by the given one
-abbrev pub with_endpoint_on : Sapi → EndState → SideState → SideState
+abbrev pub with_endpoint_on : Sapi → EndpointState → SideState → SideState
 with_endpoint_on Zero e a = record a { link0 = e }
 with_endpoint_on Three e a = record a { link3 = e }
 
@@ -34,19 +34,19 @@ pub record SideStep : Type 0 where
   pub sapi : Sapi
   pub frames : List Frame
   pub notices : List Notice
-  pub after : SideState
+  pub new_state : SideState
 
--- the step of a side in which the endpoint with this SAPI acts with this outcome
+-- the step of a side whose endpoint with this SAPI has this outcome
 abbrev pub endpoint_step : Sapi → Outcome → SideState → SideStep
-endpoint_step sapi o a = record { sapi = sapi; frames = o.frames; notices = o.notices; after = with_endpoint_on sapi o.after a }
+endpoint_step sapi o a = record { sapi = sapi; frames = o.frames; notices = o.notices; new_state = with_endpoint_on sapi o.new_state a }
 
--- the step of a side in which neither endpoint acts
+-- the step of a side that changes neither endpoint
 abbrev pub no_op_step : SideState → SideStep
-no_op_step a = record { sapi = Zero; frames = []; notices = []; after = a }
+no_op_step a = record { sapi = Zero; frames = []; notices = []; new_state = a }
 
--- the step of a side in which layer 3 makes this call to the endpoint with this SAPI
-abbrev pub layer3_calls : Sapi → Call → SideState → SideStep
-layer3_calls sapi call a = endpoint_step sapi (call_outcome call (endpoint_on sapi a)) a
+-- the step of a side for this layer 3 call to its endpoint with this SAPI
+abbrev pub layer3_call_step : Sapi → Call → SideState → SideStep
+layer3_call_step sapi call a = endpoint_step sapi (call_outcome call (endpoint_on sapi a)) a
 
 -- the step of a side that receives a frame: the frame goes to the endpoint with its SAPI, and is ignored if its SAPI is not 0 or 3
 abbrev pub takes : Frame → SideState → SideStep

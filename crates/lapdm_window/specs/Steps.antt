@@ -8,8 +8,8 @@ use Rattle.lapdm_window.specs.declared.Notice.{Notice}
 use Rattle.lapdm_window.specs.declared.Notice.TheVariants.{Got}
 use Rattle.lapdm_window.specs.declared.Refused.{Refused}
 use Rattle.lapdm_window.specs.declared.effects.Effects.{Effects}
-use Rattle.lapdm_window.specs.Ends.{EndState, Outcome}
-use Rattle.lapdm_window.specs.Calls.{Call, IsCallOfItsSapi, refusal_of, call_outcome}
+use Rattle.lapdm_window.specs.Ends.{EndpointState, Outcome}
+use Rattle.lapdm_window.specs.Calls.{Call, IsCallOfEndpoint, refusal_of, call_outcome}
 use Rattle.lapdm_window.specs.Tables.{frame_outcome}
 
 -- the input of an endpoint step: a call or a received frame
@@ -17,9 +17,9 @@ pub data StepInput : Type 0 where
   Asked : Call → StepInput
   Received : Frame → StepInput
 
--- an endpoint may get this input: a call that its SAPI has, or any frame that fits in a block of its channel
-abbrev pub IsPossibleInput : EndState → StepInput → Type 0
-IsPossibleInput e (Asked call) = IsCallOfItsSapi e call
+-- an endpoint may receive this input: a call that its SAPI has, or any frame that fits in a block of its channel
+abbrev pub IsPossibleInput : EndpointState → StepInput → Type 0
+IsPossibleInput e (Asked call) = IsCallOfEndpoint e call
 IsPossibleInput e (Received f) = FrameFits e.channel f
 
 -- the refusal if there is one, otherwise the outcome
@@ -28,22 +28,22 @@ outcome_unless_refused None o = Ok o
 outcome_unless_refused (Some refusal) o = Err refusal
 
 -- the outcome of a step, or the reason why the call is refused; a refused call leaves the endpoint unchanged
-abbrev pub step : StepInput → EndState → Result Outcome Refused
+abbrev pub step : StepInput → EndpointState → Result Outcome Refused
 step (Asked call) e = outcome_unless_refused (refusal_of call e) (call_outcome call e)
 step (Received f) e = Ok (frame_outcome f e)
 
 -- the message that a `Got` notice delivers to layer 3, or `None` for any other notice
-abbrev pub delivered_in_notice : Notice → Option Message
-delivered_in_notice (Got m) = Some m
-delivered_in_notice other = None
+abbrev pub got_message : Notice → Option Message
+got_message (Got m) = Some m
+got_message other = None
 
 -- both endpoints have the same side, SAPI and channel
-pub record IsSameEndpoint (e f : EndState) : Type 0 where
+pub record IsSameEndpoint (e f : EndpointState) : Type 0 where
   pub role : f.role ≡ e.role
   pub sapi : f.sapi ≡ e.sapi
   pub channel : f.channel ≡ e.channel
 
--- the program's `effects` contain the frames of outcome `o`, encoded as octets, and its notices
+-- the Rust `effects` contain the frames of outcome `o`, encoded as octets, and its notices
 pub record HasEffects (effects : Effects) (channel : Channel) (o : Outcome) : Type 0 where
   pub frames : effects.frames ≡ map (octets_of channel) o.frames
   pub notices : effects.notices ≡ o.notices

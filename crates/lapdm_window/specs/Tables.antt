@@ -12,14 +12,14 @@ use Rattle.lapdm_window.specs.declared.State.TheVariants.{Idle, Opening, Open, C
 use Rattle.lapdm_window.specs.declared.Reason.{Reason}
 use Rattle.lapdm_window.specs.declared.Reason.TheVariants as R
 use Rattle.lapdm_window.specs.declared.Notice.TheVariants as N
-use Rattle.lapdm_window.specs.Ends.{Role, Mobile, Network, EndState, Outcome, no_effect}
+use Rattle.lapdm_window.specs.Ends.{Role, Mobile, Network, EndpointState, Outcome, no_effect}
 use Rattle.lapdm_window.specs.Ends.{sends_frame, reports_notice, ◌then◌, command_cr}
 use Rattle.lapdm_window.specs.Ends.{sapi_number}
 use Rattle.lapdm_window.specs.Ends.{response_frame}
 use Rattle.lapdm_window.specs.Rules.{takes_i_frame, takes_rr, takes_rej}
 
 -- whether a received frame is a command, by its C/R bit
-abbrev pub is_command : EndState → Frame → Bool
+abbrev pub is_command : EndpointState → Frame → Bool
 is_command e f = not (beq f.cr (command_cr e.role))
 
 -- whether an endpoint accepts this kind of frame as a command or as a response; RNR is never accepted
@@ -54,7 +54,7 @@ pub data Reply : Type 0 where
   -- the peer's DISC releases the link, and the endpoint answers with a UA
   AcceptsDisc : Reply
   -- the endpoint reports the information of a UI frame to layer 3
-  TakesUnit : (info : Message) → Reply
+  TakesUi : (info : Message) → Reply
   -- the endpoint applies the window rules to a received I frame
   TakesI : (ns nr : ℕ) (p : Bool) (segment : Segment) → Reply
   -- the endpoint applies the window rules to a received RR, which is a poll if `poll` is true
@@ -63,27 +63,27 @@ pub data Reply : Type 0 where
   TakesRej : (nr : ℕ) (poll : Bool) → Reply
 
 -- the endpoint sends a UA with F = 1
-abbrev pub sends_ua : Message → EndState → Outcome
+abbrev pub sends_ua : Message → EndpointState → Outcome
 sends_ua info e = sends_frame (response_frame e (Ua true info)) e
 
 -- the endpoint enters Open and reports the establishment to layer 3 with this information
-abbrev pub opens_and_reports : Message → EndState → Outcome
+abbrev pub opens_and_reports : Message → EndpointState → Outcome
 opens_and_reports info e = reports_notice (N.Opened info) (record e { state = Open })
 
 -- the endpoint enters Closed and reports this to layer 3 with the reason
-abbrev pub closes_and_reports : Reason → EndState → Outcome
+abbrev pub closes_and_reports : Reason → EndpointState → Outcome
 closes_and_reports reason e = reports_notice (N.Closed reason) (record e { state = Closed })
 
 -- the outcome of carrying out a reply; every DM and UA sent has F = 1, and the information of an accepted SABM is kept
-abbrev pub outcome_of : Reply → EndState → Outcome
+abbrev pub outcome_of : Reply → EndpointState → Outcome
 outcome_of Nothing e = no_effect e
 outcome_of SendsDm e = sends_frame (response_frame e (Dm true)) e
 outcome_of (SendsUa info) e = sends_ua info e
-outcome_of (AcceptsSabm info) e = opens_and_reports info (record e { kept = info }) then sends_ua info
+outcome_of (AcceptsSabm info) e = opens_and_reports info (record e { sabm_info = info }) then sends_ua info
 outcome_of (ConfirmsEstablishment info) e = opens_and_reports info e
 outcome_of (ClosesLink reason) e = closes_and_reports reason e
 outcome_of AcceptsDisc e = closes_and_reports R.Released e then sends_ua []
-outcome_of (TakesUnit info) e = reports_notice (N.Unit info) e
+outcome_of (TakesUi info) e = reports_notice (N.Unit info) e
 outcome_of (TakesI ns nr p segment) e = takes_i_frame ns nr p segment e
 outcome_of (TakesRr nr poll) e = takes_rr nr poll e
 outcome_of (TakesRej nr poll) e = takes_rej nr poll e
@@ -102,7 +102,7 @@ abbrev pub dm_if_polled : Bool → Reply
 dm_if_polled poll = if poll then SendsDm else Nothing
 
 -- the reply to a frame in Idle; a DISC or a poll is answered with a DM (section 5.4.5)
-abbrev pub reply_in_idle : Bool → Content → EndState → Reply
+abbrev pub reply_in_idle : Bool → Content → EndpointState → Reply
 reply_in_idle poll (Sabm p info) e = reply_to_sabm_in_idle e.sapi e.role info
 reply_in_idle poll (Disc p) e = SendsDm
 reply_in_idle poll other e = dm_if_polled poll
@@ -114,8 +114,8 @@ reply_to_mismatched_ua Zero = ClosesLink R.Contention
 reply_to_mismatched_ua Three = Nothing
 
 -- the reply to a UA in Opening: the link is established if the UA repeats the information of the SABM sent (section 5.4.1.2)
-abbrev pub reply_to_ua_in_opening : Message → EndState → Reply
-reply_to_ua_in_opening info e = if bytes_eq info e.kept then ConfirmsEstablishment info else reply_to_mismatched_ua e.sapi
+abbrev pub reply_to_ua_in_opening : Message → EndpointState → Reply
+reply_to_ua_in_opening info e = if bytes_eq info e.sabm_info then ConfirmsEstablishment info else reply_to_mismatched_ua e.sapi
 
 -- the reply to a SABM in Opening: on SAPI 3, where both sides may send a SABM at once, a UA if the SABM has no information; otherwise
 -- nothing
@@ -125,7 +125,7 @@ reply_to_sabm_in_opening Three [] = SendsUa []
 reply_to_sabm_in_opening Three (x ∷ xs) = Nothing
 
 -- the reply to a frame in Opening; a DM with F = 1 means that the peer refuses the link (section 5.4.1.2)
-abbrev pub reply_in_opening : Content → EndState → Reply
+abbrev pub reply_in_opening : Content → EndpointState → Reply
 reply_in_opening (Sabm p info) e = reply_to_sabm_in_opening e.sapi info
 reply_in_opening (Ua true info) e = reply_to_ua_in_opening info e
 reply_in_opening (Dm true) e = ClosesLink R.Refused
@@ -139,12 +139,12 @@ answers_repeated_sabm sapi role = true
 
 -- the reply to a SABM in Open: a UA if it has the information of the SABM that established the link, otherwise nothing; the mobile on SAPI
 -- 0 never replies
-abbrev pub reply_to_sabm_in_open : Message → EndState → Reply
-reply_to_sabm_in_open info e = if answers_repeated_sabm e.sapi e.role && bytes_eq info e.kept then SendsUa info else Nothing
+abbrev pub reply_to_sabm_in_open : Message → EndpointState → Reply
+reply_to_sabm_in_open info e = if answers_repeated_sabm e.sapi e.role && bytes_eq info e.sabm_info then SendsUa info else Nothing
 
 -- the reply to a frame in Open: I, RR and REJ follow the window rules, a DISC releases the link (section 5.4.4.2), and a DM closes it as
 -- failed
-abbrev pub reply_in_open : Bool → Content → EndState → Reply
+abbrev pub reply_in_open : Bool → Content → EndpointState → Reply
 reply_in_open is_command (I ns nr p more info) e = TakesI ns nr p (info, more)
 reply_in_open is_command (Rr nr pf) e = TakesRr nr (is_command && pf)
 reply_in_open is_command (Rej nr pf) e = TakesRej nr (is_command && pf)
@@ -167,30 +167,30 @@ reply_in_closed poll (Disc p) = SendsDm
 reply_in_closed poll other = dm_if_polled poll
 
 -- the reply to a frame other than UI, depending on the state of the endpoint
-abbrev pub reply_in : State → Bool → Content → EndState → Reply
-reply_in Idle is_command content e = reply_in_idle (is_poll is_command content) content e
-reply_in Opening is_command content e = reply_in_opening content e
-reply_in Open is_command content e = reply_in_open is_command content e
-reply_in Closing is_command content e = reply_in_closing content
-reply_in Closed is_command content e = reply_in_closed (is_poll is_command content) content
+abbrev pub reply_in_state : State → Bool → Content → EndpointState → Reply
+reply_in_state Idle is_command content e = reply_in_idle (is_poll is_command content) content e
+reply_in_state Opening is_command content e = reply_in_opening content e
+reply_in_state Open is_command content e = reply_in_open is_command content e
+reply_in_state Closing is_command content e = reply_in_closing content
+reply_in_state Closed is_command content e = reply_in_closed (is_poll is_command content) content
 
 -- the reply to a UI frame, in every state: its information is reported to layer 3 if it is not empty
 abbrev pub reply_to_ui : Message → Reply
 reply_to_ui [] = Nothing
-reply_to_ui (x ∷ xs) = TakesUnit (x ∷ xs)
+reply_to_ui (x ∷ xs) = TakesUi (x ∷ xs)
 
 -- the reply to a frame that has the endpoint's SAPI and an accepted kind
-abbrev pub reply : Bool → Content → EndState → Reply
+abbrev pub reply : Bool → Content → EndpointState → Reply
 reply is_command (Ui p info) e = reply_to_ui info
-reply is_command content e = reply_in e.state is_command content e
+reply is_command content e = reply_in_state e.state is_command content e
 
 -- the reply to any received frame; a frame with another SAPI, an RNR, or a frame with the wrong C/R bit for its kind is ignored
-abbrev pub reply_to_frame : Frame → EndState → Reply
+abbrev pub reply_to_frame : Frame → EndpointState → Reply
 reply_to_frame f e =
     if nat_eq f.sapi (sapi_number e.sapi) && is_accepted_kind (is_command e f) f.content
     then reply (is_command e f) f.content e
     else Nothing
 
 -- the outcome when an endpoint receives this frame
-abbrev pub frame_outcome : Frame → EndState → Outcome
+abbrev pub frame_outcome : Frame → EndpointState → Outcome
 frame_outcome f e = outcome_of (reply_to_frame f e) e

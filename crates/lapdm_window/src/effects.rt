@@ -35,14 +35,14 @@ impl Effects {
     }
 }
 
-/// A list of at most two blocks, in the order in which they are sent.
+/// A list of at most two blocks, in sending order.
 #[derive(Debug, Drop)]
 pub struct Frames {
     blocks: [[u8; BLOCK_OCTETS]; 2],
     len: usize,
 }
 
-// In contracts, a `Frames` stands for a list of blocks, each a list of octets.
+// In contracts, a `Frames` is a list of blocks, each a list of octets.
 impl Model for Frames {
     ghost use Rattle.std.specs.Prelude.{◌≤◌, List, ℕ, take};
 
@@ -88,14 +88,14 @@ impl Frames {
     }
 }
 
-/// A list of at most three notices, in the order in which they are reported.
+/// A list of at most three notices, in reporting order.
 #[derive(Debug, Drop)]
 pub struct Notices {
     items: [Notice; 3],
     len: usize,
 }
 
-// In contracts, a `Notices` stands for a list of notices.
+// In contracts, a `Notices` is a list of notices.
 impl Model for Notices {
     ghost use Rattle.std.specs.Prelude.{◌≤◌, List, take};
     ghost use Rattle.lapdm_window.specs.declared.Notice.{Notice};
@@ -111,7 +111,7 @@ impl Notices {
     pub fn new() -> Notices
         ensures { result ≡ [] }
     {
-        // Unused slots hold a variant with a field: for a variant without one, the compiler would build a temporary and copy it.
+        // Unused slots hold a variant with a field: for a variant without a field, the compiler would build and copy a temporary.
         Notices {
             items: [Notice::Acked(0), Notice::Acked(0), Notice::Acked(0)],
             len: 0,

@@ -14,7 +14,7 @@ pub(crate) struct Held {
     len: usize,
 }
 
-// In contracts, a `Held` stands for a list of messages.
+// In contracts, a `Held` is a list of messages.
 impl Model for Held {
     ghost use Rattle.std.specs.Prelude.{◌≤◌, map, take};
     ghost use Rattle.segmenting.specs.Buffers.{octets_in};

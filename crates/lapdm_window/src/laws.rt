@@ -9,43 +9,43 @@ ghost use Rattle.segmenting.specs.lapdm_frame.Readings.{IsOnlyCanonicalCoding};
 ghost use Rattle.segmenting.specs.Segments.{segments};
 ghost use Rattle.segmenting.specs.Joining.{messages};
 ghost use Rattle.lapdm_window.specs.declared.Sapi.{Sapi};
-ghost use Rattle.lapdm_window.specs.Ends.{Role, EndState, IsValidEndpoint, start, acked_message_count};
-ghost use Rattle.lapdm_window.specs.Steps.{StepInput, IsPossibleInput, step, delivered_in_notice, IsSameEndpoint};
+ghost use Rattle.lapdm_window.specs.Ends.{Role, EndpointState, IsValidEndpoint, start, acked_message_count};
+ghost use Rattle.lapdm_window.specs.Steps.{StepInput, IsPossibleInput, step, got_message, IsSameEndpoint};
 
 /// The initial endpoint satisfies the invariant `IsValidEndpoint`, and every step preserves it and the endpoint's role, SAPI and channel.
 pub fn law_endpoint_stays_valid()
     ensures start { (role : Role) (sapi : Sapi) (channel : Channel)
         → IsValidEndpoint (start role sapi channel) }
-    ensures step { (input : StepInput) (e : EndState) → IsValidEndpoint e → IsPossibleInput e input
-        → IfOk (step input e) (λ o. IsValidEndpoint o.after) }
-    ensures link { (input : StepInput) (e : EndState) → IsValidEndpoint e → IsPossibleInput e input
-        → IfOk (step input e) (λ o. IsSameEndpoint e o.after) }
+    ensures step { (input : StepInput) (e : EndpointState) → IsValidEndpoint e → IsPossibleInput e input
+        → IfOk (step input e) (λ o. IsValidEndpoint o.new_state) }
+    ensures link { (input : StepInput) (e : EndpointState) → IsValidEndpoint e → IsPossibleInput e input
+        → IfOk (step input e) (λ o. IsSameEndpoint e o.new_state) }
 {}
 
-/// Every frame that an endpoint sends fits in a block of its channel, and its canonical octets are read back as that frame only.
+/// Every frame that an endpoint sends fits in a block of its channel, and the reader reads exactly this frame from its canonical octets.
 pub fn law_sent_frames_fit()
-    ensures { (input : StepInput) (e : EndState) → IsValidEndpoint e → IsPossibleInput e input
+    ensures { (input : StepInput) (e : EndpointState) → IsValidEndpoint e → IsPossibleInput e input
         → IfOk (step input e)
         (λ o. All (λ f. IsOnlyCanonicalCoding e.channel f (octets_of e.channel f)) o.frames) }
 {}
 
 /// A step of an endpoint produces at most two frames and two notices.
 pub fn law_at_most_two_effects()
-    ensures { (input : StepInput) (e : EndState)
+    ensures { (input : StepInput) (e : EndpointState)
         → IfOk (step input e) (λ o. (length o.frames ≤ 2) × (length o.notices ≤ 2)) }
 {}
 
-/// The messages delivered by the notices of a step are exactly those completed by the segments that the step accepts.
+/// The notices of a step deliver exactly the messages that its accepted segments complete.
 pub fn law_notices_deliver_messages()
-    ensures { (input : StepInput) (e : EndState) → IfOk (step input e) (λ o.
-        messages o.after.accepted ≡ messages e.accepted ++ filter_map delivered_in_notice o.notices) }
+    ensures { (input : StepInput) (e : EndpointState) → IfOk (step input e) (λ o.
+        messages o.new_state.accepted ≡ messages e.accepted ++ filter_map got_message o.notices) }
 {}
 
-/// The first `k` messages sent count as acknowledged if and only if all their segments are acknowledged; no more messages count as
-/// acknowledged than were sent.
+/// The first `k` messages sent count as acknowledged if and only if all their segments are acknowledged; the number of messages that count
+/// as acknowledged never exceeds the number sent.
 pub fn law_acked_messages_are_whole()
-    ensures most { (e : EndState) → acked_message_count e ≤ length e.taken }
-    ensures whole { (e : EndState) (k : ℕ) → k ≤ length e.taken
+    ensures most { (e : EndpointState) → acked_message_count e ≤ length e.taken }
+    ensures whole { (e : EndpointState) (k : ℕ) → k ≤ length e.taken
         → (k ≤ acked_message_count e)
         ↔ (length (flat_map (segments (n201 e.channel)) (take k e.taken)) ≤ e.acked) }
 {}

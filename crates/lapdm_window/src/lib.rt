@@ -22,7 +22,7 @@ pub use segmenting::{Joined, MessageBuffer, Part, Piece};
 use thiserror::Error;
 pub use window::{Window, WindowParts};
 
-/// N200 of GSM 04.06: how often a frame is repeated before the link fails, for this channel and link state.
+/// N200 of GSM 04.06: how many times a frame is repeated before the link fails, for this channel and link state.
 pub fn n200(channel: Channel, state: State) -> u8
     ensures value { result ≡ most_repeats channel state }
     ensures most { result ≤ 23 }
@@ -114,7 +114,7 @@ pub enum Call<'a> {
     Idle,
 }
 
-/// Why a call is refused. If several reasons apply, the call returns the first that it tests.
+/// Why a call is refused. If several reasons apply, the call returns the first one that it tests.
 #[derive(Clone, Copy, PartialEq, Eq, Debug, Error)]
 pub enum Refused {
     /// The state is not Idle.
@@ -137,7 +137,7 @@ pub enum Refused {
     Full,
 }
 
-/// What a received N(R) acknowledges.
+/// The result of a received N(R).
 #[derive(Clone, Copy, PartialEq, Eq, Debug)]
 pub enum Acked {
     Nothing,
@@ -147,7 +147,7 @@ pub enum Acked {
     Message(u64),
 }
 
-/// What the window does with a received segment.
+/// The result of receiving a segment.
 #[derive(Clone, Copy, PartialEq, Eq, Debug)]
 pub enum Info {
     Accepted(Joined),
@@ -158,7 +158,7 @@ pub enum Info {
     },
 }
 
-/// What happens to the outstanding segment at T200 expiry.
+/// The result of T200 expiry for the outstanding segment.
 #[derive(Clone, Copy, PartialEq, Eq, Debug)]
 pub enum Timer {
     /// The segment is sent again.

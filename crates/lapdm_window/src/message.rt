@@ -8,18 +8,18 @@ use std::marker::Model;
 /// A layer 3 message of at most 251 octets, stored inline.
 #[derive(Debug, Drop)]
 pub struct Message {
-    held: [u8; LONGEST_MESSAGE],
+    buffer: [u8; LONGEST_MESSAGE],
     len: usize,
 }
 
-// In contracts, a `Message` stands for a list of octets.
+// In contracts, a `Message` is a list of octets.
 impl Model for Message {
     ghost use Rattle.std.specs.Prelude.{◌≤◌, List, ℕ, take};
     ghost use Rattle.segmenting.specs.Segments.{max_message_octets};
 
     ghost Value = { List ℕ };
 
-    ghost view = { λ m. take m.len m.held };
+    ghost view = { λ m. take m.len m.buffer };
 
     ghost invariant = { λ m. m.len ≤ max_message_octets };
 }
@@ -32,7 +32,7 @@ impl Default for Message {
         ensures { result ≡ [] }
     {
         Message {
-            held: [0; LONGEST_MESSAGE],
+            buffer: [0; LONGEST_MESSAGE],
             len: 0,
         }
     }
@@ -46,7 +46,7 @@ impl Message {
         let len = octets.len();
         let mut held = [0; LONGEST_MESSAGE];
         held[..len].copy_from_slice(octets);
-        Message { held, len }
+        Message { buffer: held, len }
     }
 
     /// Replaces the message with these octets.
@@ -55,7 +55,7 @@ impl Message {
         ensures { self.new ≡ octets.now }
     {
         let len = octets.len();
-        self.held[0..len].copy_from_slice(octets);
+        self.buffer[0..len].copy_from_slice(octets);
         self.len = len;
     }
 
@@ -63,6 +63,6 @@ impl Message {
         ensures value { result.now ≡ self.now }
         ensures most { length result.now ≤ max_message_octets }
     {
-        &self.held[..self.len]
+        &self.buffer[..self.len]
     }
 }

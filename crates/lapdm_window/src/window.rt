@@ -3,7 +3,7 @@
 ghost use Rattle.std.specs.Prelude.{◌≡◌, ◌≢◌, ◌+◌, ◌<◌, ◌≤◌, ◌↔◌, length, [], slice_index_or, All};
 ghost use Rattle.std.specs.Prelude.{IsTrue, IsSome, IfSome};
 ghost use Rattle.segmenting.specs.lapdm_frame.Layout.{n201, largest_n201};
-ghost use Rattle.segmenting.specs.Segments.{IsValidMessage, max_message_octets, count_of};
+ghost use Rattle.segmenting.specs.Segments.{IsValidMessage, max_message_octets, number_of_segments};
 
 use crate::held::Held;
 use crate::{Acked, Info, Refused, State, Timer, n200};
@@ -19,18 +19,18 @@ pub struct Window {
     held: Held,
     joiner: Joiner,
     // The index, within the first held message, of the outstanding segment or, if none is outstanding, of the next segment.
-    place: usize,
+    segment_index: usize,
     // The number of fully acknowledged messages.
-    done: u64,
+    acked_messages: u64,
     channel: Channel,
     vs: u8,
     va: u8,
     vr: u8,
     rejecting: bool,
     retries: u8,
-    ghost few: { length held.items ≤ 8 },
+    ghost at_most_8: { length held.items ≤ 8 },
     ghost messages: { All IsValidMessage held.items },
-    ghost within: { place < count_of (n201 channel) (slice_index_or held.items 0 []) },
+    ghost in_range: { segment_index < number_of_segments (n201 channel) (slice_index_or held.items 0 []) },
     ghost waiting: { vs ≢ va → 1 ≤ length held.items },
     ghost vs_fits: { vs ≤ 7 },
     ghost va_fits: { va ≤ 7 },
@@ -44,11 +44,17 @@ impl Window {
     ghost use Rattle.segmenting.specs.Segments.{segments};
     ghost use Rattle.segmenting.specs.Joining.{latest_message};
     ghost use Rattle.lapdm_window.specs.declared.Sapi.{Sapi};
-    ghost use Rattle.lapdm_window.specs.Ends.{EndState, Role, start, awaits_ack, vs, va, vr};
-    ghost use Rattle.lapdm_window.specs.Rules.{has_segment_to_send, with_segment_sent, counts_acks};
-    ghost use Rattle.lapdm_window.specs.Calls.{with_message};
-    ghost use Rattle.lapdm_window.specs.Answers.{message_refusal, outstanding_segment, acked_by_nr, i_frame_answer, state_after_i_frame};
-    ghost use Rattle.lapdm_window.specs.Answers.{t200_answer, state_after_t200};
+    ghost use Rattle.lapdm_window.specs.Ends.{EndpointState, Role, start, awaits_ack, vs, va, vr};
+    ghost use Rattle.lapdm_window.specs.Rules.{has_segment_to_send, with_segment_sent, evaluates_nr};
+    ghost use Rattle.lapdm_window.specs.Calls.{with_queued_message};
+    ghost use Rattle.lapdm_window.specs.Answers.{
+      message_refusal,
+      outstanding_segment,
+      acked_by_nr,
+      received_segment_result,
+      state_after_i_frame,
+    };
+    ghost use Rattle.lapdm_window.specs.Answers.{t200_result, state_after_t200};
     ghost use Rattle.lapdm_window.specs.Abstraction.{Represents, HasOutstandingSegment, channel_of};
 
     /// Creates a window for SDCCH in its initial state.
@@ -68,8 +74,8 @@ impl Window {
         Window {
             held: Held::new(),
             joiner: Joiner::new(),
-            place: 0,
-            done: 0,
+            segment_index: 0,
+            acked_messages: 0,
             channel,
             vs: 0,
             va: 0,
@@ -79,12 +85,12 @@ impl Window {
         }
     }
 
-    /// Queues a message to send.
+    /// Queues a message of 1 to 251 octets for sending. Refusals: `Empty`, `TooLong`, `Full`.
     pub fn put(&mut self, message: &[u8]) -> Result<(), Refused>
-        ensures answer { (e : EndState) → Represents self.old e
+        ensures answer { (e : EndpointState) → Represents self.old e
             → result_err result ≡ message_refusal message.now e }
-        ensures taken { (e : EndState) → Represents self.old e
-            → OnOk result (Represents self.new (with_message message.now e)) }
+        ensures taken { (e : EndpointState) → Represents self.old e
+            → OnOk result (Represents self.new (with_queued_message message.now e)) }
         ensures refused { OnErr result (self.new ≡ self.old) }
         ensures channel { channel_of self.new ≡ channel_of self.old }
     {
@@ -101,10 +107,10 @@ impl Window {
         Ok(())
     }
 
-    /// Makes the next segment outstanding, if there is one and none is outstanding. Returns whether it did.
+    /// Makes the next segment outstanding if there is one and no segment is outstanding. Returns whether it did so.
     pub fn send_next(&mut self) -> bool
-        ensures answer { (e : EndState) → Represents self.old e → result ≡ has_segment_to_send e }
-        ensures sent { (e : EndState) → Represents self.old e
+        ensures answer { (e : EndpointState) → Represents self.old e → result ≡ has_segment_to_send e }
+        ensures sent { (e : EndpointState) → Represents self.old e
             → Represents self.new (if result then with_segment_sent e else e) }
         ensures waiting { IsTrue result → HasOutstandingSegment self.new }
         ensures channel { channel_of self.new ≡ channel_of self.old }
@@ -117,9 +123,9 @@ impl Window {
         true
     }
 
-    /// The outstanding segment, if there is one.
+    /// Returns the outstanding segment, if there is one.
     pub fn waiting(&self) -> Option<Piece<'_>>
-        ensures piece { (e : EndState) → Represents self.now e
+        ensures piece { (e : EndpointState) → Represents self.now e
             → option_map (λ p. (p.octets.now, p.more)) result ≡ outstanding_segment e }
         ensures waiting { IsSome result ↔ HasOutstandingSegment self.now }
         ensures size { IfSome result (λ p. (1 ≤ length p.octets.now)
@@ -131,11 +137,11 @@ impl Window {
         Some(self.next())
     }
 
-    /// Evaluates a received N(R), which acknowledges the outstanding segment if it equals V(S), and otherwise nothing.
+    /// Evaluates a received N(R). It acknowledges the outstanding segment if it equals V(S); otherwise it acknowledges nothing.
     pub fn on_ack(&mut self, nr: u8) -> Acked
         requires { nr ≤ 7 }
-        ensures answer { (e : EndState) → Represents self.old e → result ≡ acked_by_nr nr e }
-        ensures counted { (e : EndState) → Represents self.old e → Represents self.new (counts_acks nr e).after }
+        ensures answer { (e : EndpointState) → Represents self.old e → result ≡ acked_by_nr nr e }
+        ensures counted { (e : EndpointState) → Represents self.old e → Represents self.new (evaluates_nr nr e).new_state }
         ensures channel { channel_of self.new ≡ channel_of self.old }
     {
         if self.vs == self.va || nr != self.vs {
@@ -144,23 +150,23 @@ impl Window {
         let more = self.next().more;
         self.va = self.vs;
         if more {
-            self.place += 1;
+            self.segment_index += 1;
             return Acked::Piece;
         }
         self.held.remove_first();
-        self.place = 0;
-        self.done = self.done.saturating_add(1);
-        Acked::Message(self.done)
+        self.segment_index = 0;
+        self.acked_messages = self.acked_messages.saturating_add(1);
+        Acked::Message(self.acked_messages)
     }
 
-    /// Accepts the segment of a received I frame if its N(S) equals V(R), and otherwise discards it and says whether a REJ must be sent.
+    /// Accepts the segment of a received I frame if its N(S) equals V(R). Otherwise, discards it and returns whether a REJ must be sent.
     pub fn on_info(&mut self, ns: u8, p: bool, piece: &[u8], more: bool) -> Info
         requires ns { ns ≤ 7 }
         requires some { 1 ≤ length piece.now }
         requires most { length piece.now ≤ largest_n201 }
-        ensures answer { (e : EndState) → Represents self.old e
-            → result ≡ i_frame_answer ns p (piece.now, more) e }
-        ensures taken { (e : EndState) → Represents self.old e
+        ensures answer { (e : EndpointState) → Represents self.old e
+            → result ≡ received_segment_result ns p (piece.now, more) e }
+        ensures taken { (e : EndpointState) → Represents self.old e
             → Represents self.new (state_after_i_frame result (piece.now, more) e) }
         ensures channel { channel_of self.new ≡ channel_of self.old }
     {
@@ -174,9 +180,9 @@ impl Window {
         Info::Accepted(self.joiner.take(piece, more))
     }
 
-    /// Returns whether a segment is outstanding, which must then be repeated because a REJ was received.
+    /// Handles a received REJ: returns whether a segment is outstanding and must be repeated.
     pub fn on_reject(&self) -> bool
-        ensures answer { (e : EndState) → Represents self.now e → result ≡ awaits_ack e }
+        ensures answer { (e : EndpointState) → Represents self.now e → result ≡ awaits_ack e }
         ensures waiting { IsTrue result ↔ HasOutstandingSegment self.now }
     {
         self.vs != self.va
@@ -184,8 +190,8 @@ impl Window {
 
     /// Handles T200 expiry.
     pub fn on_timer(&mut self) -> Timer
-        ensures answer { (e : EndState) → Represents self.old e → result ≡ t200_answer e }
-        ensures counted { (e : EndState) → Represents self.old e
+        ensures answer { (e : EndpointState) → Represents self.old e → result ≡ t200_result e }
+        ensures counted { (e : EndpointState) → Represents self.old e
             → Represents self.new (state_after_t200 result e) }
         ensures waiting { result ≡ Timer.Again → HasOutstandingSegment self.new }
         ensures unchanged { result ≢ Timer.Again → self.new ≡ self.old }
@@ -203,7 +209,7 @@ impl Window {
 
     /// V(S), the N(S) of the next segment to be sent.
     pub fn vs(&self) -> u8
-        ensures number { (e : EndState) → Represents self.now e → result ≡ vs e }
+        ensures number { (e : EndpointState) → Represents self.now e → result ≡ vs e }
         ensures fits { result ≤ 7 }
     {
         self.vs
@@ -211,7 +217,7 @@ impl Window {
 
     /// V(A), the N(S) of the oldest unacknowledged segment.
     pub fn va(&self) -> u8
-        ensures number { (e : EndState) → Represents self.now e → result ≡ va e }
+        ensures number { (e : EndpointState) → Represents self.now e → result ≡ va e }
         ensures fits { result ≤ 7 }
     {
         self.va
@@ -219,7 +225,7 @@ impl Window {
 
     /// V(R), the N(S) of the segment that is expected next.
     pub fn vr(&self) -> u8
-        ensures number { (e : EndState) → Represents self.now e → result ≡ vr e }
+        ensures number { (e : EndpointState) → Represents self.now e → result ≡ vr e }
         ensures fits { result ≤ 7 }
     {
         self.vr
@@ -227,7 +233,7 @@ impl Window {
 
     /// The message that the last accepted segment completed, or no octets if it completed none.
     pub fn message(&self) -> &[u8]
-        ensures latest_message { (e : EndState) → Represents self.now e → result.now ≡ latest_message e.accepted }
+        ensures latest_message { (e : EndpointState) → Represents self.now e → result.now ≡ latest_message e.accepted }
         ensures most { length result.now ≤ max_message_octets }
     {
         self.joiner.message()
@@ -237,9 +243,9 @@ impl Window {
     fn next(&self) -> Piece<'_>
         requires { 1 ≤ length self.now.held.items }
         ensures { let first = slice_index_or self.now.held.items 0 [] in
-            slice_get (segments (n201 self.now.channel) first) self.now.place
+            slice_get (segments (n201 self.now.channel) first) self.now.segment_index
             ≡ Some (result.octets.now, result.more) }
     {
-        Pieces::new_on(self.held.first(), self.channel).piece(self.place)
+        Pieces::new_on(self.held.first(), self.channel).piece(self.segment_index)
     }
 }

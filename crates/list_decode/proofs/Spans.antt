@@ -1,17 +1,23 @@
--- A span of a word, and the most likely word that deviates in it.
-use Rattle.std.proofs.Common.{◌≡◌, ℕ, zero, suc, ◌+◌, ◌-◌, ◌*◌, ◌<◌, ◌≤◌, true, ℤ, pos, negsuc, ◌-ℤ◌}
-use Rattle.std.proofs.Common.{List, [], ◌∷◌, ◌++◌, length, get_or, take, drop, Some, refl, ap, sym, ◌∙◌, subst, arith, w32}
-use Rattle.std.{proofs.{Common.FitsSigned, lemmas.{Int.ints, List.Elements.{All-head, All-tail}}}, specs.Prelude.◌≤ℤ◌}
-use Rattle.weight_bound.specs.{bit_blocks.{Bits.AllBits, SoftValues.{IsSoftBit, bit_metric}}, conv_code.Code.encoding}
-use Rattle.weight_bound.{specs.conv_code.Likelihood.{AllSoftBits, likelihood}, proofs.conv_code.Lemmas.AllBits-coded}
-use Rattle.trellis_decode.{specs.Trellis.{next, traceback}, proofs.Lemmas.{bit_metric-one, bit_metric-zero}}
-use Rattle.list_decode.specs.Branches.{is_in_range, deviations_in_span, word_of_deviation, IsSpanOfWord, IsDeviation, IsMostLikelyDeviation}
-use Rattle.list_decode.specs.DeviatingLists.{state_after_bits, FollowsSurvivors, deviation, IsLeastLossFreePosition}
-use Rattle.list_decode.specs.{FreePlaces.IsLeastLossDeviationOrNone, Passes.{IsCompletePass, soft_bits_of_pass, decision_rows}}
-use Rattle.list_decode.specs.{Passes.losses_of_pass, Ranking.IsCandidate, declared.branch.{WordSpan.WordSpan, Deviation.Deviation}}
+-- Spans of a word, and the deviation in a span that loses least.
+use Rattle.list_decode.proofs.DeviatingWords.{below_limit, bit_small, chosen_bit, chosen_from, not_below_limit, reached_more, reached_small}
+use Rattle.list_decode.proofs.Deviations.{IsFollowed, deviation_best, deviation_value, deviation_written, follows_behind}
+use Rattle.list_decode.specs.Branches.{IsDeviation, IsMostLikelyDeviation, IsSpanOfWord, deviations_in_span, word_of_deviation}
+use Rattle.list_decode.specs.DeviatingWords.{FollowsSurvivors, IsLeastLossFreePosition, deviation_loss, deviation, is_in_range}
+use Rattle.list_decode.specs.{DeviatingWords.state_after_bits, LeastLosses.{IsLeastLossDeviationOrNone, IsLeastLossSoFar}}
+use Rattle.list_decode.specs.{LeastLosses.IsPossibleDeviation, Passes.{IsCompletePass, decision_rows, losses_of_pass, soft_bits_of_pass}}
+use Rattle.list_decode.specs.{Ranking.IsCandidate, declared.branch.{Deviation.Deviation, LeastLossSoFar.LeastLossSoFar, WordSpan.WordSpan}}
 use Rattle.list_decode.specs.declared.departure.{DeviationPoint.DeviationPoint, PossibleDeviation.PossibleDeviation}
-use Rattle.list_decode.{specs.declared.pass.ViterbiPass.ViterbiPass, proofs.{Losses.{reached_more, reached_small}, Deviations.IsFollowed}}
-use Rattle.list_decode.proofs.Deviations.{follows_behind, deviation_value, deviation_best, deviation_written}
+use Rattle.list_decode.specs.declared.pass.ViterbiPass.{ViterbiPass}
+use Rattle.std.proofs.Common.{FitsSigned, List, Some, [], ap, ap₂, arith, drop, get_or, inl, inr, length, negsuc, pos, refl, subst, suc}
+use Rattle.std.proofs.Common.{sym, take, true, w32, zero, ℕ, ℤ, ◌%◌, ◌*◌, ◌++◌, ◌+ℤ◌, ◌+◌, ◌-ℤ◌, ◌-◌}
+use Rattle.std.proofs.Common.{◌/◌, ◌<◌, ◌^◌, ◌∙◌, ◌∷◌, ◌≡◌, ◌≢◌, ◌≤◌, ◌⊎◌}
+use Rattle.std.{proofs.lemmas.{Bool.cases_lt, Int.ints, List.{Elements.{All-head, All-tail}, get_or-drop}}, specs.Prelude.◌<ℤ◌}
+use Rattle.std.specs.Prelude.{◌≤ℤ◌}
+use Rattle.trellis_decode.{proofs.Lemmas.{bit_metric-one, bit_metric-zero, length-traceback}, specs.Trellis.{next, traceback}}
+use Rattle.weight_bound.{proofs.conv_code.Lemmas.{AllBits-coded, bit_at-most_1}, specs.bit_blocks.{Bits.AllBits, SoftValues.IsSoftBit}}
+use Rattle.weight_bound.specs.{bit_blocks.SoftValues.bit_metric, conv_code.{Code.encoding, Likelihood.{AllSoftBits, likelihood}}}
+
+-- ## Spans: A span of a word, and the most likely word that deviates in it.
 
 -- ---- the positions of a span
 
@@ -32,7 +38,7 @@ follows_all (suc n) [] state within = absurd (omega arith)
 follows_all (suc n) (row ∷ rows) state within = follows_all n _ _ (omega arith)
 
 -- a word that follows the survivors from a position on follows them from later positions on
-pub follows_later : (from n : ℕ) (u rows : List ℕ) (state : ℕ) → FollowsSurvivors from u rows state → from ≤ n →
+follows_later : (from n : ℕ) (u rows : List ℕ) (state : ℕ) → FollowsSurvivors from u rows state → from ≤ n →
     n ≤ length rows → FollowsSurvivors n u rows state
 follows_later zero n u rows state follows le within =
     rw follows (follows_all n _ _ within)
@@ -43,7 +49,7 @@ follows_later (suc from) (suc n) (x ∷ u) (row ∷ rows) state follows le withi
     follows_later from n u _ _ follows (omega arith) (omega arith)
 
 -- from that position on, the word is what traceback reads from the state reached there
-pub chosen_after : (n : ℕ) (u rows : List ℕ) (state : ℕ) → FollowsSurvivors n u rows state →
+chosen_after : (n : ℕ) (u rows : List ℕ) (state : ℕ) → FollowsSurvivors n u rows state →
     drop n u ≡ traceback (drop n rows) (state_after_bits state (take n u))
 chosen_after zero u rows state follows = follows
 chosen_after (suc n) [] rows state follows = absurd follows
@@ -98,7 +104,7 @@ likelihood_high (p ∷ s) (x ∷ c) soft bits =
     let rest = likelihood_high s c (All-tail IsSoftBit p s soft) (All-tail (λ b. b ≤ 1) x c bits) in
     omega (arith, ints)
 
-pub likelihood_fits : (s : List ℤ) (c : List ℕ) → AllSoftBits s → AllBits c → length s ≤ 456 → FitsSigned w32 (likelihood s c)
+likelihood_fits : (s : List ℤ) (c : List ℕ) → AllSoftBits s → AllBits c → length s ≤ 456 → FitsSigned w32 (likelihood s c)
 likelihood_fits s c soft bits few = fits_wide _ _ few (likelihood_low s c soft bits) (likelihood_high s c soft bits)
   where
     fits_wide : (x : ℤ) (n : ℕ) → n ≤ 456 → (pos 0 -ℤ pos (127 * n)) ≤ℤ x → x ≤ℤ pos (127 * n) → FitsSigned w32 x
@@ -119,8 +125,8 @@ module _ (pass : ViterbiPass) (u : List ℕ) (span : WordSpan) (is : IsCompleteP
     (is_span : IsSpanOfWord pass u span) where
   followed : IsFollowed (soft_bits_of_pass pass) (decision_rows pass) (losses_of_pass pass) (deviations_in_span u span) span.from
   followed = record {
-    kept = is.kept;
-    pairs = is.pairs ∙ ap (λ n. 2 * n) (sym is.places);
+    decisions = is.decisions;
+    pairs = is.soft_bit_count ∙ ap (λ n. 2 * n) (sym is.row_count);
     candidate = candidate;
     follows = is_span.follows;
     later = λ k h. between_from _ _ k h;
@@ -135,12 +141,12 @@ module _ (pass : ViterbiPass) (u : List ℕ) (span : WordSpan) (is : IsCompleteP
     least : IsLeastLossFreePosition u (losses_of_pass pass) (is_in_range span.from span.to) (length u - 4) departure.place
     least =
         let old = best.1 in
-        let end = is_span.end in record {
-          within = let i = old.within in omega arith;
+        let end = is_span.before_tail in record {
+          in_range = let i = old.in_range in omega arith;
           place_is_free = old.place_is_free;
           least = (λ k lt free. old.least k (between_to _ _ k free) free);
-          before = old.before;
-          after = (λ k late lt free tie. old.after k late (between_to span.from span.to k free) free tie);
+          tie_before = old.tie_before;
+          tie_after = (λ k late lt free tie. old.tie_after k late (between_to span.from span.to k free) free tie);
         }
 
     v : List ℕ
@@ -159,23 +165,24 @@ module _ (pass : ViterbiPass) (u : List ℕ) (span : WordSpan) (is : IsCompleteP
     pub value_fits : FitsSigned w32 (span.likelihood -ℤ departure.loss)
     value_fits = subst (FitsSigned w32) value_is
         (likelihood_fits (soft_bits_of_pass pass) (encoding (deviation u (decision_rows pass) 0 departure.place)) is.soft
-        (AllBits-coded (deviation u (decision_rows pass) 0 departure.place)) (let p = is.pairs in let m = is.at_most in omega arith))
+        (AllBits-coded (deviation u (decision_rows pass) 0 departure.place))
+        (let p = is.soft_bit_count in let m = is.at_most in omega arith))
 
-    pub best_deviation : (x : Deviation) → x.list ≡ span.list → x.departure.place ≡ departure.place →
+    pub best_deviation : (x : Deviation) → x.word_index ≡ span.word_index → x.departure.place ≡ departure.place →
         x.departure.state ≡ departure.state → x.departure.bit ≡ get_or u departure.place 0 →
         x.likelihood ≡ span.likelihood -ℤ departure.loss →
         IsMostLikelyDeviation pass u span (Some x)
     best_deviation x list place state bit likely =
         subst (λ departure. IsMostLikelyDeviation pass u span
-        (Some (record { list = x.list; departure = departure; likelihood = x.likelihood })))
+        (Some (record { word_index = x.word_index; departure = departure; likelihood = x.likelihood })))
         (sym (same_deviation x.departure departure.place departure.state (get_or u departure.place 0) place state bit)) (
           record {
-            within = let i = best.1.within in let e = is_span.end in omega arith;
+            in_range = let i = best.1.in_range in let e = is_span.before_tail in omega arith;
             follows = follows_later span.from departure.place u (decision_rows pass) 0 is_span.follows
                 (between_from span.from span.to departure.place best.1.place_is_free)
-                (let i = best.1.within in let e = is_span.end in let n = long in omega arith);
+                (let i = best.1.in_range in let e = is_span.before_tail in let n = long in omega arith);
             value = likely ∙ sym value_is;
-            small = subst (λ state. state < 16) (sym best.0.state) (reached_small 0 (take departure.place u) (omega arith));
+            state_in_range = subst (λ state. state < 16) (sym best.0.state) (reached_small 0 (take departure.place u) (omega arith));
             state = best.0.state;
             bit = refl;
           },
@@ -206,12 +213,12 @@ module _ (pass : ViterbiPass) (u : List ℕ) (x : Deviation) (is : IsCompletePas
       span.likelihood ≡ old.likelihood → span.state ≡ next x.departure.state (get_or u x.departure.place 0) →
       IsSpanOfWord pass u span
   span_after old span old_is within from to likely state =
-      let end = old_is.end in record {
+      let end = old_is.before_tail in record {
         follows = rw from (follows_later _ _ u _ 0 is_deviation.follows (omega arith) (omega arith));
         value = likely ∙ old_is.value;
         order = omega arith;
-        end = omega arith;
-        small = omega arith;
+        before_tail = omega arith;
+        state_in_range = omega arith;
         state = state ∙ ap (λ s. next s (get_or u x.departure.place 0)) is_deviation.state
             ∙ sym (reached_more u x.departure.place 0 (omega arith))
             ∙ ap (λ from. state_after_bits 0 (take from u)) (sym from);
@@ -229,8 +236,8 @@ module _ (pass : ViterbiPass) (u : List ℕ) (x : Deviation) (is : IsCompletePas
         follows = rw from (rw written (follows_behind u (decision_rows pass) 0 x.departure.place n (omega arith)));
         value = likely ∙ is_deviation.value ∙ ap (λ v. likelihood (soft_bits_of_pass pass) (encoding v)) (sym written);
         order = omega arith;
-        end = omega arith;
-        small = omega arith;
+        before_tail = omega arith;
+        state_in_range = omega arith;
         state = state
             ∙ ap (λ s. next s (get_or v x.departure.place 0))
             (is_deviation.state ∙ ap (state_after_bits 0)
@@ -238,3 +245,243 @@ module _ (pass : ViterbiPass) (u : List ℕ) (x : Deviation) (is : IsCompletePas
             ∙ sym (reached_more v x.departure.place 0 (omega arith))
             ∙ ap (λ from. state_after_bits 0 (take from v)) (sym from);
       }
+
+-- The free position with the least loss: of two ranges, one behind the other, and when one more position is examined.
+
+-- the values that are stored for a position that was found
+pub is_departure : (u : List ℕ) (losses : List (List ℤ)) (k state : ℕ) (lost : ℤ) (departure : PossibleDeviation) → AllBits u →
+    state ≡ state_after_bits 0 (take k u) → lost ≡ deviation_loss 0 u losses k → departure.place ≡ k →
+    departure.state ≡ state → departure.loss ≡ lost →
+    departure.loss_limit ≡ lost +ℤ pos 1 -ℤ pos (get_or u k 0) → IsPossibleDeviation u losses departure
+is_departure u losses k state lost departure bits found is_lost at s l m = record {
+  bit = bit_at-most_1 u _ bits;
+  state = s ∙ found ∙ ap (λ k. state_after_bits 0 (take k u)) (sym at);
+  loss = l ∙ is_lost ∙ ap (deviation_loss 0 u losses) (sym at);
+  loss_limit = m ∙ ap₂ (λ lost place. lost +ℤ pos 1 -ℤ pos (get_or u place 0)) (sym l) (sym at);
+}
+
+-- ---- two ranges, one behind the other
+
+module _ (u : List ℕ) (losses : List (List ℤ)) (from k n place other : ℕ) (bit : get_or u place 0 ≤ 1)
+    (early : IsLeastLossFreePosition u losses (is_in_range from k) k place)
+    (later : IsLeastLossFreePosition u losses (is_in_range k n) n other) where
+  abbrev loss : ℕ → ℤ
+  loss = deviation_loss 0 u losses
+
+  starts : from ≤ place
+  starts = between_from from k place early.place_is_free
+
+  follows : k ≤ other
+  follows = between_from k n other later.place_is_free
+
+  free_early : (j : ℕ) → j < k → is_in_range from n j ≡ true → is_in_range from k j ≡ true
+  free_early j lt is_free = is_between from k j (between_from from n j is_free) lt
+
+  low : (j : ℕ) → k ≤ j → j < n → loss other ≤ℤ loss j
+  low j le lt = later.least j lt (is_between k n j le lt)
+
+  one : (x : ℕ) → x ≤ 1 → x ≢ 0 → x ≡ 1
+  one zero le ne = absurd (ne refl)
+  one (suc x) le ne = omega arith
+
+  pub early_kept : (loss place <ℤ loss other) ⊎ ((loss other ≡ loss place) × (get_or u place 0 ≢ 0)) →
+      IsLeastLossFreePosition u losses (is_in_range from n) n place
+  early_kept more =
+      let s = starts in
+      let f = follows in
+      let i = early.in_range in
+      let w = later.in_range in
+      let within : place < n = omega arith in record {
+        in_range = within;
+        place_is_free = is_between from n place s within;
+        least = (λ j lt is_free. elim (cases_lt j k) [
+          | inl before ↦ early.least j before (free_early j before is_free)
+          | inr behind ↦ let l = low j (omega arith) lt in
+              elim more [ inl less ↦ omega (arith, ints) | inr tie ↦ let e = tie.0 in omega (arith, ints) ]
+        ]);
+        tie_before = (λ j lt is_free equal. early.tie_before j lt (free_early j (omega arith) is_free) equal);
+        tie_after = (λ j late lt is_free equal. elim (cases_lt j k) [
+          | inl before ↦ early.tie_after j late before (free_early j before is_free) equal
+          | inr behind ↦ let l = low j (omega arith) lt in
+              elim more [ inl less ↦ absurd (omega (arith, ints)) | inr tie ↦ one _ bit tie.1 ]
+        ]);
+      }
+
+  pub later_taken : (loss other <ℤ loss place) ⊎ ((loss other ≡ loss place) × (get_or u place 0 ≡ 0)) →
+      IsLeastLossFreePosition u losses (is_in_range from n) n other
+  later_taken less =
+      let s = starts in
+      let f = follows in
+      let i = early.in_range in
+      let w = later.in_range in record {
+        in_range = w;
+        place_is_free = is_between from n other (omega arith) w;
+        least = (λ j lt is_free. elim (cases_lt j k) [
+          | inl before ↦ let l = early.least j before (free_early j before is_free) in
+              elim less [ inl less ↦ omega (arith, ints) | inr tie ↦ let e = tie.0 in omega (arith, ints) ]
+          | inr behind ↦ low j (omega arith) lt
+        ]);
+        tie_before = (λ j lt is_free equal. elim (cases_lt j k) [
+          | inl before ↦ elim less [
+            | inl less ↦ absurd (let l = early.least j before (free_early j before is_free) in omega (arith, ints))
+            | inr tie ↦ elim (cases_lt j place) [
+              | inl ahead ↦ early.tie_before j ahead (free_early j before is_free) (equal ∙ tie.0)
+              | inr not_ahead ↦ elim (cases_lt place j) [
+                | inl late ↦ absurd (let one = early.tie_after j late before (free_early j before is_free) (equal ∙ tie.0) in
+                    let zero = tie.1 in omega arith)
+                | inr not_late ↦ let here : j ≡ place = omega arith in subst (λ j. get_or u j 0 ≡ 0) (sym here) tie.1
+              ]
+            ]
+          ]
+          | inr behind ↦ later.tie_before j lt (is_between k n j (omega arith) (omega arith)) equal
+        ]);
+        tie_after = (λ j late lt is_free equal. later.tie_after j late lt (is_between k n j (omega arith) lt) equal);
+      }
+
+-- a range of one position
+pub alone : (u : List ℕ) (losses : List (List ℤ)) (k : ℕ) → IsLeastLossFreePosition u losses (is_in_range k (k + 1)) (k + 1) k
+alone u losses k = record {
+  in_range = omega arith;
+  place_is_free = is_between k (k + 1) k (omega arith) (omega arith);
+  least = (λ j lt is_free.
+      let low = between_from k (k + 1) j is_free in
+      let here : j ≡ k = omega arith in rw here (omega (arith, ints)));
+  tie_before = (λ j lt is_free equal. let low = between_from k (k + 1) j is_free in absurd (omega arith));
+  tie_after = (λ j late lt is_free equal. absurd (omega arith));
+}
+
+pub spot_first : (u : List ℕ) (losses : List (List ℤ)) (k : ℕ) (new : LeastLossSoFar) → new.place ≡ k →
+    new.state ≡ state_after_bits 0 (take k u) → new.loss_limit ≡ deviation_loss 0 u losses k +ℤ pos 1 -ℤ pos (get_or u k 0) →
+    IsLeastLossSoFar u losses (is_in_range k (k + 1)) (k + 1) new
+spot_first u losses k new at state loss_limit = record {
+  state = state ∙ ap (λ k. state_after_bits 0 (take k u)) (sym at);
+  loss_limit = loss_limit ∙ ap (λ k. deviation_loss 0 u losses k +ℤ pos 1 -ℤ pos (get_or u k 0)) (sym at);
+  least = rw at (alone u losses k);
+}
+
+-- the best position of a range after one more position has been examined
+module _ (u : List ℕ) (losses : List (List ℤ)) (from k : ℕ) where
+  pub spot_taken : (best new : LeastLossSoFar) → AllBits u → IsLeastLossSoFar u losses (is_in_range from k) k best →
+      new.place ≡ k → new.state ≡ state_after_bits 0 (take k u) →
+      new.loss_limit ≡ deviation_loss 0 u losses k +ℤ pos 1 -ℤ pos (get_or u k 0) →
+      deviation_loss 0 u losses k <ℤ best.loss_limit →
+      IsLeastLossSoFar u losses (is_in_range from (k + 1)) (k + 1) new
+  spot_taken best new bits old at state loss_limit less =
+      let bit = bit_at-most_1 u best.place bits in record {
+        state = state ∙ ap (λ k. state_after_bits 0 (take k u)) (sym at);
+        loss_limit = loss_limit ∙ ap (λ k. deviation_loss 0 u losses k +ℤ pos 1 -ℤ pos (get_or u k 0)) (sym at);
+        least = rw at (later_taken u losses from k (k + 1) best.place k bit old.least (alone u losses k)
+            (below_limit _ _ (get_or u best.place 0) bit (rw (← old.loss_limit) less)));
+      }
+
+  pub spot_kept : (best : LeastLossSoFar) → AllBits u → IsLeastLossSoFar u losses (is_in_range from k) k best →
+      best.loss_limit ≤ℤ deviation_loss 0 u losses k → IsLeastLossSoFar u losses (is_in_range from (k + 1)) (k + 1) best
+  spot_kept best bits old most =
+      let bit = bit_at-most_1 u best.place bits in record {
+        state = old.state;
+        loss_limit = old.loss_limit;
+        least = early_kept u losses from k (k + 1) best.place k bit old.least (alone u losses k)
+            (not_below_limit _ _ (get_or u best.place 0) bit (rw (← old.loss_limit) most));
+      }
+
+-- Words that agree from a position on have the same best deviation from there on.
+
+-- ---- words that agree from a position on
+
+states_agree : (k j : ℕ) (u w : List ℕ) (s t : ℕ) → drop k u ≡ drop k w →
+    state_after_bits s (take k u) ≡ state_after_bits t (take k w) → k ≤ length u → k ≤ length w → k ≤ j →
+    state_after_bits s (take j u) ≡ state_after_bits t (take j w)
+states_agree zero j u w s t rest state a b le = ap₂ (λ s u. state_after_bits s (take j u)) state rest
+states_agree (suc k) zero u w s t rest state a b le = absurd (omega arith)
+states_agree (suc k) (suc j) [] w s t rest state a b le = absurd (omega arith)
+states_agree (suc k) (suc j) (x ∷ u) [] s t rest state a b le = absurd (omega arith)
+states_agree (suc k) (suc j) (x ∷ u) (y ∷ w) s t rest state a b le =
+    states_agree k j u w (next s x) (next t y) rest state (omega arith) (omega arith) (omega arith)
+
+bits_agree : (k j : ℕ) (u w : List ℕ) → drop k u ≡ drop k w → k ≤ j → get_or u j 0 ≡ get_or w j 0
+bits_agree k j u w rest le =
+    let at : k + (j - k) ≡ j = omega arith in
+    subst (λ j. get_or u j 0 ≡ get_or w j 0) at
+    (sym (get_or-drop k u (j - k) 0) ∙ ap (λ l. get_or l (j - k) 0) rest ∙ get_or-drop k w (j - k) 0)
+
+module _ (u w : List ℕ) (losses : List (List ℤ)) (k n : ℕ) (rest : drop k u ≡ drop k w)
+    (state : state_after_bits 0 (take k u) ≡ state_after_bits 0 (take k w)) (in_u : k ≤ length u) (in_w : k ≤ length w) where
+  same_state : (j : ℕ) → k ≤ j → state_after_bits 0 (take j u) ≡ state_after_bits 0 (take j w)
+  same_state j le = states_agree k j u w 0 0 rest state in_u in_w le
+
+  same_loss : (j : ℕ) → k ≤ j → deviation_loss 0 u losses j ≡ deviation_loss 0 w losses j
+  same_loss j le = ap (λ s. get_or (get_or losses j []) s (pos 0)) (same_state j le)
+
+  same_bit : (j : ℕ) → k ≤ j → get_or u j 0 ≡ get_or w j 0
+  same_bit j le = bits_agree k j u w rest le
+
+  -- the best deviation from one word is the best deviation from the other
+  pub moved : (x : PossibleDeviation) → IsPossibleDeviation w losses x →
+      IsLeastLossFreePosition w losses (is_in_range k n) n x.place →
+      IsLeastLossDeviationOrNone u losses (is_in_range k n) n (Some x)
+  moved x is best =
+      let le = between_from k n x.place best.place_is_free in (
+        record {
+          bit = subst (λ b. b ≤ 1) (sym (same_bit x.place le)) is.bit;
+          state = is.state ∙ sym (same_state x.place le);
+          loss = is.loss ∙ sym (same_loss x.place le);
+          loss_limit = is.loss_limit ∙ ap (λ b. x.loss +ℤ pos 1 -ℤ pos b) (sym (same_bit x.place le));
+        },
+        record {
+          in_range = best.in_range;
+          place_is_free = best.place_is_free;
+          least = (λ j lt is_free.
+              let l = best.least j lt is_free in
+              let a = same_loss x.place le in
+              let b = same_loss j (between_from k n j is_free) in omega (arith, ints));
+          tie_before = (λ j lt is_free equal.
+              let at = between_from k n j is_free in
+              same_bit j at ∙ best.tie_before j lt is_free (sym (same_loss j at) ∙ equal ∙ same_loss x.place le));
+          tie_after = (λ j late lt is_free equal.
+              let at = between_from k n j is_free in
+              same_bit x.place le ∙ best.tie_after j late lt is_free (sym (same_loss j at) ∙ equal ∙ same_loss x.place le));
+        },
+      )
+
+-- ---- a deviation from the survivor of state 0
+
+pub survivor_departure : (rows : List ℕ) (losses : List (List ℤ)) (k state bit : ℕ) (lost : ℤ) (x : PossibleDeviation) →
+    k < length rows → state ≡ state_after_bits 0 (take k (traceback rows 0)) → lost ≡ get_or (get_or losses k []) state (pos 0) →
+    bit ≡ get_or rows k 0 / 2 ^ state % 2 → x.place ≡ k → x.state ≡ state → x.loss ≡ lost →
+    x.loss_limit ≡ lost +ℤ pos 1 -ℤ pos bit → IsPossibleDeviation (traceback rows 0) losses x
+survivor_departure rows losses k state bit lost x within reached is_lost is_bit at s l m =
+    let u = traceback rows 0 in record {
+      bit = bit_small rows 0 x.place;
+      state = s ∙ reached ∙ ap (λ k. state_after_bits 0 (take k u)) (sym at);
+      loss = l ∙ is_lost ∙ ap (λ s. get_or (get_or losses k []) s (pos 0)) reached ∙ ap (deviation_loss 0 u losses) (sym at);
+      loss_limit = m ∙ ap₂ (λ lost bit. lost +ℤ pos 1 -ℤ pos bit) (sym l)
+          (is_bit ∙ ap (λ s. get_or rows k 0 / 2 ^ s % 2) reached ∙ sym (chosen_bit rows 0 k within)
+          ∙ ap (λ k. get_or u k 0) (sym at));
+    }
+
+-- where a word that follows the survivors is in a state of the most likely word, the best later deviation from one is that from the other
+pub merged_tail : (pass : ViterbiPass) (u : List ℕ) (span : WordSpan) (m : ℕ) (x : PossibleDeviation) → IsCompletePass pass →
+    IsCandidate (soft_bits_of_pass pass) u → IsSpanOfWord pass u span → pass.bits ≤ span.to + 4 → span.from ≤ m →
+    m < span.to →
+    state_after_bits 0 (take m u) ≡ get_or pass.tails.states m 0 → x.place ≡ get_or pass.tails.places m 0 →
+    IsPossibleDeviation (traceback (decision_rows pass) 0) (losses_of_pass pass) x →
+    IsLeastLossDeviationOrNone u (losses_of_pass pass) (is_in_range m span.to) span.to (Some x)
+merged_tail pass u span m x is candidate is_span last from to state place possible =
+    let rows = decision_rows pass in
+    let losses = losses_of_pass pass in
+    let w = traceback rows 0 in
+    let places = is.row_count in
+    let pairs = is.soft_bit_count in
+    let count = candidate.count in
+    let end = is_span.before_tail in
+    let long : length u ≡ length rows = omega arith in
+    let same = length-traceback rows 0 in
+    let n : length rows - 4 ≡ span.to = omega arith in
+    let states : state_after_bits 0 (take m u) ≡ state_after_bits 0 (take m w) = state ∙ is.tails.states m (omega arith) in
+    let rest : drop m u ≡ drop m w =
+    chosen_after m u rows 0 (follows_later span.from m u rows 0 is_span.follows from (omega arith))
+    ∙ ap (traceback (drop m rows)) states ∙ sym (chosen_from rows 0 m (omega arith)) in
+    let best = subst (IsLeastLossFreePosition w losses (is_in_range m (length rows - 4)) (length rows - 4)) (sym place)
+    (is.tails.places m (omega arith)) in
+    subst (λ n. IsLeastLossDeviationOrNone u losses (is_in_range m n) n (Some x)) n
+    (moved u w losses m (length rows - 4) rest states (omega arith) (omega arith) x possible best)

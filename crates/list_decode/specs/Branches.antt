@@ -1,11 +1,12 @@
 -- A span is a range of positions in a returned word. A branch consists of a span and the most likely word that deviates from the returned
 -- word within the span.
-use Rattle.std.specs.Prelude.{ℕ, ◌≡◌, ◌≢◌, ◌≤◌, ◌<◌, ◌+◌, Bool, ◌&&◌, nat_le, nat_lt, List, [], length}
+use Rattle.std.specs.Prelude.{ℕ, ◌≡◌, ◌≢◌, ◌≤◌, ◌<◌, ◌+◌, List, [], length}
 use Rattle.std.specs.Prelude.{take, slice_index, slice_index_or, Option, Some, None}
 use Rattle.weight_bound.specs.conv_code.Code.{encoding}
 use Rattle.weight_bound.specs.conv_code.Likelihood.{likelihood, RanksAfter}
 use Rattle.list_decode.specs.Classes.{DeviationClass, IsInClass}
-use Rattle.list_decode.specs.DeviatingLists.{FollowsSurvivors, state_after_bits, deviation}
+use Rattle.list_decode.specs.DeviatingWords.{FollowsSurvivors, state_after_bits, deviation}
+pub use Rattle.list_decode.specs.DeviatingWords.{is_in_range}
 use Rattle.list_decode.specs.Passes.{soft_bits_of_pass, decision_rows}
 use Rattle.list_decode.specs.Ranking.{IsCandidate}
 use Rattle.list_decode.specs.declared.branch.WordBranch.{WordBranch}
@@ -13,42 +14,38 @@ use Rattle.list_decode.specs.declared.branch.WordSpan.{WordSpan}
 use Rattle.list_decode.specs.declared.branch.Deviation.{Deviation}
 use Rattle.list_decode.specs.declared.pass.ViterbiPass.{ViterbiPass}
 
--- whether a position lies in the range from a first index up to, but not including, an end index
-abbrev pub is_in_range : ℕ → ℕ → ℕ → Bool
-is_in_range from to k = nat_le from k && nat_lt k to
-
 -- the class of words whose first difference from a given word lies in a span
 abbrev pub deviations_in_span : List ℕ → WordSpan → DeviationClass
-deviations_in_span u span = record { list = u; free = is_in_range span.from span.to }
+deviations_in_span u span = record { word = u; can_deviate = is_in_range span.from span.to }
 
 -- the word that results from applying a deviation to a given word
 abbrev pub word_of_deviation : ViterbiPass → List ℕ → Deviation → List ℕ
 word_of_deviation pass u x = deviation u (decision_rows pass) 0 x.departure.place
 
--- `span` is a span of the word `u`, and from the start of the span on, `u` follows the survivors
+-- `span` is a span of the word `u`, and `u` follows the survivors from the start of the span
 pub record IsSpanOfWord (pass : ViterbiPass) (u : List ℕ) (span : WordSpan) : Type 0 where
   pub follows : FollowsSurvivors span.from u (decision_rows pass) 0
   pub value : span.likelihood ≡ likelihood (soft_bits_of_pass pass) (encoding u)
   pub order : span.from ≤ span.to
-  pub end : span.to + 4 ≤ length u
-  pub small : span.state < 16
+  pub before_tail : span.to + 4 ≤ length u
+  pub state_in_range : span.state < 16
   pub state : span.state ≡ state_after_bits 0 (take span.from u)
 
--- `x` is a deviation from the word `u`, at a position from which on `u` follows the survivors
+-- `x` is a deviation from the word `u`, and `u` follows the survivors from its position
 pub record IsDeviation (pass : ViterbiPass) (u : List ℕ) (x : Deviation) : Type 0 where
-  pub within : x.departure.place + 4 < length u
+  pub in_range : x.departure.place + 4 < length u
   pub follows : FollowsSurvivors x.departure.place u (decision_rows pass) 0
   pub value : x.likelihood ≡ likelihood (soft_bits_of_pass pass) (encoding (word_of_deviation pass u x))
-  pub small : x.departure.state < 16
+  pub state_in_range : x.departure.state < 16
   pub state : x.departure.state ≡ state_after_bits 0 (take x.departure.place u)
   pub bit : x.departure.bit ≡ slice_index u x.departure.place
 
--- the deviation gives the most likely word that deviates from a given word within a span; it is `None` if no candidate deviates there
+-- the deviation produces the most likely word that deviates from a given word within a span; it is `None` if no candidate deviates there
 abbrev pub IsMostLikelyDeviation : ViterbiPass → List ℕ → WordSpan → Option Deviation → Type 0
 IsMostLikelyDeviation pass u span None = (w : List ℕ) → IsCandidate (soft_bits_of_pass pass) w →
     IsInClass (deviations_in_span u span) w → ⊥
 IsMostLikelyDeviation pass u span (Some x) =
-    IsDeviation pass u x × (x.list ≡ span.list) × (span.from ≤ x.departure.place) × (x.departure.place < span.to) ×
+    IsDeviation pass u x × (x.word_index ≡ span.word_index) × (span.from ≤ x.departure.place) × (x.departure.place < span.to) ×
     ((w : List ℕ) → IsCandidate (soft_bits_of_pass pass) w → IsInClass (deviations_in_span u span) w →
     w ≢ word_of_deviation pass u x →
     RanksAfter (soft_bits_of_pass pass) w (word_of_deviation pass u x))
@@ -60,9 +57,9 @@ pub record IsBranch (pass : ViterbiPass) (u : List ℕ) (branch : WordBranch) : 
 
 -- `branch` is a branch of one of the returned words `us`
 pub record IsBranchOfReturnedWord (pass : ViterbiPass) (us : List (List ℕ)) (branch : WordBranch) : Type 0 where
-  pub within : branch.span.list < length us
-  pub is : IsBranch pass (slice_index_or us branch.span.list []) branch
+  pub in_range : branch.span.word_index < length us
+  pub is_branch : IsBranch pass (slice_index_or us branch.span.word_index []) branch
 
 -- the class of words that deviate from a returned word within the span of a branch
 abbrev pub class_of_branch : List (List ℕ) → WordBranch → DeviationClass
-class_of_branch us branch = deviations_in_span (slice_index_or us branch.span.list []) branch.span
+class_of_branch us branch = deviations_in_span (slice_index_or us branch.span.word_index []) branch.span

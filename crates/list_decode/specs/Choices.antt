@@ -1,5 +1,5 @@
 -- The selection of the branch whose most likely word ranks first.
-use Rattle.std.specs.Prelude.{ℕ, ◌≡◌, ◌⊎◌, ◌<◌}
+use Rattle.std.specs.Prelude.{ℕ, ◌≡◌, ◌⊎◌, ◌<◌, ℤ, pos, IfSome}
 use Rattle.std.specs.Prelude.{Bool, true, false, List, [], length, slice_get, slice_index_or, Option, Some, None}
 use Rattle.std.specs.List.{All}
 use Rattle.weight_bound.specs.conv_code.Likelihood.{RanksAfter, IsLexicographicallyBefore}
@@ -10,25 +10,34 @@ use Rattle.list_decode.specs.declared.branch.Deviation.{Deviation}
 use Rattle.list_decode.specs.declared.choice.BranchChoice.{BranchChoice}
 use Rattle.list_decode.specs.declared.pass.ViterbiPass.{ViterbiPass}
 
--- the word that results from applying a deviation to the returned word to which it refers
+-- the returned word of a deviation, with the deviation applied
 abbrev pub deviating_word : ViterbiPass → List (List ℕ) → Deviation → List ℕ
-deviating_word pass us x = word_of_deviation pass (slice_index_or us x.list []) x
+deviating_word pass us x = word_of_deviation pass (slice_index_or us x.word_index []) x
 
 -- `x` is a deviation from one of the returned words `us`
 pub record DeviatesFromReturnedWord (pass : ViterbiPass) (us : List (List ℕ)) (x : Deviation) : Type 0 where
-  pub within : x.list < length us
-  pub deviation : IsDeviation pass (slice_index_or us x.list []) x
+  pub in_range : x.word_index < length us
+  pub deviation : IsDeviation pass (slice_index_or us x.word_index []) x
 
--- the second deviation, if there is one, gives either the same word as the first or a word that ranks after it
+-- the second deviation, if there is one, produces the word of the first or a word that ranks after it
 abbrev pub RanksNotBefore : ViterbiPass → List (List ℕ) → Deviation → Option Deviation → Type 0
 RanksNotBefore pass us x None = Unit {0}
 RanksNotBefore pass us x (Some y) = (deviating_word pass us y ≡ deviating_word pass us x) ⊎
     RanksAfter (soft_bits_of_pass pass) (deviating_word pass us y) (deviating_word pass us x)
 
--- the flag tells whether the first list comes before the second in lexicographic order
+-- the flag is true if and only if the first list comes before the second in lexicographic order
 abbrev pub DecidesLexicographicOrder : List ℕ → List ℕ → Bool → Type 0
 DecidesLexicographicOrder u v true = IsLexicographicallyBefore u v
 DecidesLexicographicOrder u v false = (u ≡ v) ⊎ IsLexicographicallyBefore v u
+
+-- a branch without a word, used when an index is out of range
+abbrev pub no_branch : WordBranch
+no_branch = record { span = record { likelihood = pos 0; word_index = 0; from = 0; to = 0; state = 0 }; best = None }
+
+-- the list holds the path metric of the most likely word of each branch that has one
+abbrev pub HasMetrics : List WordBranch → List ℤ → Type 0
+HasMetrics branches metrics = (k : ℕ) → k < length branches →
+    IfSome (slice_index_or branches k no_branch).best (λ best. slice_index_or metrics k (pos 0) ≡ best.likelihood)
 
 -- the choice is the branch whose most likely word ranks first; it is `None` if no branch has a word
 abbrev pub IsFirstRankedBranch : ViterbiPass → List (List ℕ) → List WordBranch → Option BranchChoice → Type 0

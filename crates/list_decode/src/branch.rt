@@ -1,16 +1,17 @@
 //! Spans of returned words, and the best deviation from the word in each span.
 
-ghost use Rattle.std.specs.Prelude.{◌≡◌, ◌≤◌, ◌+◌, ℕ, ◌<◌, ℤ, Bool, true, pos, ◌+ℤ◌, ◌-ℤ◌, List};
-ghost use Rattle.std.specs.Prelude.{length, slice_index, take};
+ghost use Rattle.std.specs.Prelude.{◌≡◌, ◌≤◌, ◌+◌, ℕ, ◌<◌, ℤ, pos, ◌+ℤ◌, ◌-ℤ◌, List};
+ghost use Rattle.std.specs.Prelude.{IfSome, length, slice_index, take};
 ghost use Rattle.weight_bound.specs.bit_blocks.Bits.{AllBits};
 ghost use Rattle.list_decode.specs.Branches.{IsBranch, IsSpanOfWord, IsDeviation, is_in_range, word_of_deviation};
-ghost use Rattle.list_decode.specs.DeviatingLists.{deviation_loss, state_after_bits};
-ghost use Rattle.list_decode.specs.FreePlaces.{IsLeastLossDeviationOrNone, IsLeastLossSoFar};
-ghost use Rattle.list_decode.specs.Passes.{IsCompletePass, soft_bits_of_pass};
+ghost use Rattle.list_decode.specs.DeviatingWords.{deviation_loss, state_after_bits};
+ghost use Rattle.list_decode.specs.LeastLosses.{IsLeastLossDeviationOrNone, IsLeastLossSoFar};
+ghost use Rattle.list_decode.specs.Passes.{IsCompletePass, losses_of_pass, soft_bits_of_pass};
 ghost use Rattle.list_decode.specs.Ranking.{IsCandidate};
 
 use crate::departure::{DeviationPoint, PossibleDeviation, apply_deviation, write_deviation};
 use crate::pass::ViterbiPass;
+use crate::tails::{find_merging_place, survivor_deviation};
 use trellis_decode::ENCODER_INPUT_BITS;
 
 /// The positions `from..to` of a returned word, the path metric of the word (`likelihood`), and the trellis state before `from`.
@@ -18,7 +19,7 @@ use trellis_decode::ENCODER_INPUT_BITS;
 pub(crate) struct WordSpan {
     pub(crate) likelihood: i32,
     /// The number of the word, counted from 0 in order of rank.
-    pub(crate) list: u8,
+    pub(crate) word_index: u8,
     pub(crate) from: u8,
     pub(crate) to: u8,
     pub(crate) state: u8,
@@ -29,8 +30,8 @@ pub(crate) struct WordSpan {
 pub(crate) struct Deviation {
     pub(crate) likelihood: i32,
     pub(crate) departure: DeviationPoint,
-    /// The number of the returned word from which this word deviates.
-    pub(crate) list: u8,
+    /// The number of the returned word that this word deviates from.
+    pub(crate) word_index: u8,
 }
 
 /// A span of a returned word, and the most likely word that deviates within it (`best`).
@@ -49,7 +50,7 @@ impl WordBranch {
         ensures span { result.span ≡ span }
         ensures branch { IsBranch pass.now u.now result }
     {
-        let best = match find_least_loss_in_span(u, &pass.losses[..pass.bits], &span) {
+        let best = match find_least_loss(pass, u, &span) {
             None => None,
             Some(departure) => Some(Deviation {
                 likelihood: span.likelihood - departure.loss,
@@ -58,38 +59,84 @@ impl WordBranch {
                     departure.state,
                     u[departure.place],
                 ),
-                list: span.list,
+                word_index: span.word_index,
             }),
         };
         WordBranch { span, best }
+    }
+
+    /// The path metric of the best deviation.
+    pub(crate) fn metric(&self) -> i32
+        ensures { IfSome self.now.best (λ best. result ≡ best.likelihood) }
+    {
+        match &self.best {
+            Some(best) => best.likelihood,
+            None => i32::MIN,
+        }
     }
 }
 
 impl Deviation {
     /// Writes to `v` the word that results from applying this deviation to `u`.
-    pub(crate) fn write(&self, pass: &ViterbiPass, u: &[u8], v: &mut [u8])
+    pub(crate) fn write_word(&self, pass: &ViterbiPass, u: &[u8], v: &mut [u8])
         requires pass { IsCompletePass pass.now }
         requires list { IsCandidate (soft_bits_of_pass pass.now) u.now }
         requires deviation { IsDeviation pass.now u.now self.now }
         requires count { length v.old ≡ length u.now }
         ensures { v.new ≡ word_of_deviation pass.now u.now self.now }
     {
-        write_deviation(u, &pass.rows[..pass.bits], self.departure, v);
+        write_deviation(u, &pass.decisions[..pass.bits], self.departure, v);
     }
 
     /// Applies this deviation to `u` in place.
-    pub(crate) fn take(&self, pass: &ViterbiPass, u: &mut [u8])
+    pub(crate) fn apply(&self, pass: &ViterbiPass, u: &mut [u8])
         requires pass { IsCompletePass pass.now }
         requires list { IsCandidate (soft_bits_of_pass pass.now) u.old }
         requires deviation { IsDeviation pass.now u.old self.now }
         ensures { u.new ≡ word_of_deviation pass.now u.old self.now }
     {
-        apply_deviation(&pass.rows[..pass.bits], self.departure, u);
+        apply_deviation(&pass.decisions[..pass.bits], self.departure, u);
     }
 }
 
-/// Finds the position in a span at which a deviation loses least. Of positions with equal losses, it takes the one whose deviating word
-/// comes first in lexicographic order. Returns `None` if the span is empty.
+/// Finds the position in a span where a deviation has the least loss, as `find_least_loss_in_span` does. If the span ends with the word,
+/// the search ends where the word merges with the most likely word.
+fn find_least_loss(pass: &ViterbiPass, u: &[u8], span: &WordSpan) -> Option<PossibleDeviation>
+    requires pass { IsCompletePass pass.now }
+    requires list { IsCandidate (soft_bits_of_pass pass.now) u.now }
+    requires span { IsSpanOfWord pass.now u.now span.now }
+    ensures { IsLeastLossDeviationOrNone u.now (losses_of_pass pass.now) (is_in_range span.now.from span.now.to) span.now.to result }
+{
+    let losses = &pass.losses[..pass.bits];
+    if usize::from(span.to) + 4 < pass.bits {
+        return find_least_loss_in_span(u, losses, span);
+    }
+    let merging = find_merging_place(u, &pass.tails.states, span);
+    let early = find_least_loss_in_span(
+        u,
+        losses,
+        &WordSpan {
+            to: merging,
+            ..*span
+        },
+    );
+    if merging == span.to {
+        return early;
+    }
+    let later = survivor_deviation(
+        &pass.decisions[..pass.bits],
+        losses,
+        &pass.tails.states,
+        usize::from(pass.tails.places[usize::from(merging)]),
+    );
+    match early {
+        None => Some(later),
+        Some(early) => Some(early.or_later(later)),
+    }
+}
+
+/// Finds the position in a span where a deviation has the least loss. On a tie, it takes the position whose deviating word comes first in
+/// lexicographic order. Returns `None` if the span is empty.
 fn find_least_loss_in_span(
     list: &[u8],
     losses: &[[i16; 16]],
@@ -113,7 +160,7 @@ fn find_least_loss_in_span(
     let mut best = LeastLossSoFar::new(from, state, losses[from][state], list[from]);
     let mut state = (2 * state + usize::from(list[from])) % 16;
     for k in from + 1..to {
-        best = best.or_lower_loss(k, state, losses[k][state], list[k]);
+        best = best.or_better_position(k, state, losses[k][state], list[k]);
         state = (2 * state + usize::from(list[k])) % 16;
     }
     Some(PossibleDeviation::new(
@@ -147,13 +194,13 @@ impl LeastLossSoFar {
     }
 
     /// Returns the better of this position and a later one.
-    fn or_lower_loss(self, place: usize, state: usize, loss: i16, bit: u8) -> LeastLossSoFar
+    fn or_better_position(self, place: usize, state: usize, loss: i16, bit: u8) -> LeastLossSoFar
         requires { bit ≤ 1 }
-        ensures { (u : List ℕ) (losses : List (List ℤ)) (free : ℕ → Bool) → IsLeastLossSoFar u losses free place self →
-            free place ≡ true →
+        ensures { (u : List ℕ) (losses : List (List ℤ)) (from : ℕ) →
+            IsLeastLossSoFar u losses (is_in_range from place) place self →
             state ≡ state_after_bits 0 (take place u) → loss ≡ deviation_loss 0 u losses place → bit ≡ slice_index u place →
             AllBits u →
-            IsLeastLossSoFar u losses free (place + 1) result }
+            IsLeastLossSoFar u losses (is_in_range from (place + 1)) (place + 1) result }
     {
         if i32::from(loss) < self.loss_limit {
             LeastLossSoFar::new(place, state, loss, bit)

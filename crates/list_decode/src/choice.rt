@@ -1,54 +1,64 @@
 //! Selects the branch whose most likely word ranks first.
 
 ghost use Rattle.std.specs.Prelude.{◌≡◌, ◌⊎◌, ◌+◌, ◌<◌, ◌++◌, ◌∷◌, [], List, ℕ, Bool, true, false, Some};
-ghost use Rattle.std.specs.Prelude.{None, IfSome, length};
+ghost use Rattle.std.specs.Prelude.{None, IfSome, MatchOption, ◌≤ℤ◌, length};
 ghost use Rattle.std.specs.List.{All};
 ghost use Rattle.weight_bound.specs.conv_code.Likelihood.{RanksAfter};
 ghost use Rattle.list_decode.specs.Branches.{IsBranchOfReturnedWord};
-ghost use Rattle.list_decode.specs.Choices.{IsFirstRankedBranch, DecidesLexicographicOrder, DeviatesFromReturnedWord, deviating_word};
-ghost use Rattle.list_decode.specs.Lists.{IsDeviationTree, stored_words};
+ghost use Rattle.list_decode.specs.Choices.{HasMetrics, IsFirstRankedBranch, DecidesLexicographicOrder};
+ghost use Rattle.list_decode.specs.Choices.{DeviatesFromReturnedWord, deviating_word};
+ghost use Rattle.list_decode.specs.WordStorage.{IsDeviationTree, stored_words};
 ghost use Rattle.list_decode.specs.Passes.{IsCompletePass, soft_bits_of_pass};
 ghost use Rattle.list_decode.specs.Ranking.{IsCandidate};
 ghost use Rattle.list_decode.specs.declared.branch.WordBranch.{WordBranch as TheBranch};
 
 use crate::branch::{Deviation, WordBranch};
-use crate::lists::Lists;
+use crate::lists::StoredWords;
 use crate::pass::ViterbiPass;
 use trellis_decode::ENCODER_INPUT_BITS;
 
-/// The index of a branch, and the deviation that makes its most likely word.
+/// The index of a branch, and the deviation that produces its most likely word.
 #[derive(Clone, Copy)]
 pub(crate) struct BranchChoice {
     pub(crate) branch: usize,
     pub(crate) deviation: Deviation,
 }
 
-/// The branch whose most likely word ranks first, or `None` if no branch has a word.
+/// Returns the branch whose most likely word ranks first, or `None` if no branch has a word. `metrics` holds the path metric of each
+/// branch's most likely word.
 pub(crate) fn find_first_ranked_branch(
     pass: &ViterbiPass,
-    lists: &Lists,
+    lists: &StoredWords,
     branches: &[WordBranch],
+    metrics: &[i32],
 ) -> Option<BranchChoice>
     requires pass { IsCompletePass pass.now }
     requires tree { IsDeviationTree pass.now lists.now }
     requires lists { All (IsCandidate (soft_bits_of_pass pass.now)) (stored_words pass.now lists.now) }
     requires branches { All (IsBranchOfReturnedWord pass.now (stored_words pass.now lists.now)) branches.now }
+    requires count { length metrics.now ≡ length branches.now }
+    requires metrics { HasMetrics branches.now metrics.now }
     ensures first { IsFirstRankedBranch pass.now (stored_words pass.now lists.now) branches.now result }
 {
     let mut first = None;
-    for (i, branch) in branches.iter().enumerate() {
-        if let Some(deviation) = &branch.best {
-            first = earlier(pass, lists, first, i, deviation);
+    // The likelihood of `first`: saves a comparison for most branches.
+    let mut least = i32::MIN;
+    for (i, metric) in metrics.iter().enumerate() {
+        if *metric >= least {
+            if let Some(deviation) = &branches[i].best {
+                first = higher_ranked(pass, lists, first, i, deviation);
+                least = deviation.likelihood;
+            }
         }
     }
     first
 }
 
-/// Returns the higher-ranking of two choices: `first`, the best so far, and branch `number`, whose most likely word is given by
+/// Returns the higher-ranking of two choices: `first`, the best so far, and branch `number`, whose most likely word results from
 /// `deviation`.
-fn earlier(
+fn higher_ranked(
     pass: &ViterbiPass,
-    lists: &Lists,
+    lists: &StoredWords,
     first: Option<BranchChoice>,
     number: usize,
     deviation: &Deviation,
@@ -58,7 +68,8 @@ fn earlier(
     requires lists { All (IsCandidate (soft_bits_of_pass pass.now)) (stored_words pass.now lists.now) }
     requires first { IfSome first (λ old. DeviatesFromReturnedWord pass.now (stored_words pass.now lists.now) old.deviation) }
     requires new { DeviatesFromReturnedWord pass.now (stored_words pass.now lists.now) deviation.now }
-    ensures { (branches : List TheBranch) (branch : TheBranch) →
+    ensures least { MatchOption result ⊥ (λ x. deviation.now.likelihood ≤ℤ x.deviation.likelihood) }
+    ensures first { (branches : List TheBranch) (branch : TheBranch) →
         IsFirstRankedBranch pass.now (stored_words pass.now lists.now) branches first →
         branch.best ≡ Some deviation.now → number ≡ length branches →
         IsFirstRankedBranch pass.now (stored_words pass.now lists.now) (branches ++ branch ∷ []) result }
@@ -82,12 +93,18 @@ fn earlier(
 }
 
 /// Whether the word of `first` ranks before the word of `second`: by path metric, and if the metrics are equal, by lexicographic order.
-fn ranks_before(pass: &ViterbiPass, lists: &Lists, first: &Deviation, second: &Deviation) -> bool
+fn ranks_before(
+    pass: &ViterbiPass,
+    lists: &StoredWords,
+    first: &Deviation,
+    second: &Deviation,
+) -> bool
     requires pass { IsCompletePass pass.now }
     requires tree { IsDeviationTree pass.now lists.now }
     requires lists { All (IsCandidate (soft_bits_of_pass pass.now)) (stored_words pass.now lists.now) }
     requires first { DeviatesFromReturnedWord pass.now (stored_words pass.now lists.now) first.now }
     requires second { DeviatesFromReturnedWord pass.now (stored_words pass.now lists.now) second.now }
+    ensures least { result ≡ false → first.now.likelihood ≤ℤ second.now.likelihood }
     ensures before { result ≡ true → RanksAfter (soft_bits_of_pass pass.now) (deviating_word pass.now
         (stored_words pass.now lists.now) second.now)
         (deviating_word pass.now (stored_words pass.now lists.now) first.now) }
@@ -100,7 +117,7 @@ fn ranks_before(pass: &ViterbiPass, lists: &Lists, first: &Deviation, second: &D
     if first.likelihood != second.likelihood {
         return first.likelihood > second.likelihood;
     }
-    match compare_by_chains(pass, lists, first, second) {
+    match compare_deviation_chains(pass, lists, first, second) {
         Some(before) => before,
         None => is_lexicographically_before(pass, lists, first, second),
     }
@@ -109,9 +126,9 @@ fn ranks_before(pass: &ViterbiPass, lists: &Lists, first: &Deviation, second: &D
 /// Decides from the deviations alone whether the first word comes before the second in lexicographic order. It follows both chains of
 /// deviations back to a common word; the two words first differ at the earlier of their deviations from that word. Returns `None` if this
 /// does not decide the order.
-fn compare_by_chains(
+fn compare_deviation_chains(
     pass: &ViterbiPass,
-    lists: &Lists,
+    lists: &StoredWords,
     first: &Deviation,
     second: &Deviation,
 ) -> Option<bool>
@@ -125,8 +142,8 @@ fn compare_by_chains(
 {
     let mut x = *first;
     let mut y = *second;
-    while x.list != y.list {
-        if x.list > y.list {
+    while x.word_index != y.word_index {
+        if x.word_index > y.word_index {
             x = lists.parent_deviation(pass, &x)?;
         } else {
             y = lists.parent_deviation(pass, &y)?;
@@ -144,7 +161,7 @@ fn compare_by_chains(
 /// Writes both words and compares them in lexicographic order.
 fn is_lexicographically_before(
     pass: &ViterbiPass,
-    lists: &Lists,
+    lists: &StoredWords,
     first: &Deviation,
     second: &Deviation,
 ) -> bool
@@ -160,9 +177,9 @@ fn is_lexicographically_before(
     let mut second_word = [0; ENCODER_INPUT_BITS];
     let u = &mut first_word[..pass.bits];
     let v = &mut second_word[..pass.bits];
-    lists.write(pass, first.list, u);
-    first.take(pass, u);
-    lists.write(pass, second.list, v);
-    second.take(pass, v);
+    lists.write_word(pass, first.word_index, u);
+    first.apply(pass, u);
+    lists.write_word(pass, second.word_index, v);
+    second.apply(pass, v);
     *u < *v
 }

@@ -1,16 +1,18 @@
 //! The best position for a deviation from a word, and the word that deviates there.
 
-ghost use Rattle.std.specs.Prelude.{◌≡◌, true, false, pos, ◌+ℤ◌, ◌-ℤ◌, ◌<ℤ◌, ◌≤ℤ◌, ℕ, ◌+◌, ◌-◌};
+ghost use Rattle.std.specs.Prelude.{◌≡◌, true, false, pos, ℤ, ◌+ℤ◌, ◌-ℤ◌, ◌<ℤ◌, ◌≤ℤ◌, List, Some};
+ghost use Rattle.std.specs.Prelude.{ℕ, ◌+◌, ◌-◌};
 ghost use Rattle.std.specs.Prelude.{◌*◌, ◌%◌, ◌<◌, ◌≤◌, length, slice_index, ◌++◌, ◌∷◌};
 ghost use Rattle.std.proofs.Common.{take, drop};
 ghost use Rattle.weight_bound.specs.bit_blocks.Bits.{AllBits};
-ghost use Rattle.list_decode.specs.DeviatingLists.{IsLeastLossPosition, state_after_bits};
-ghost use Rattle.list_decode.specs.Readings.{IsPartialTraceback};
+ghost use Rattle.list_decode.specs.DeviatingWords.{IsLeastLossPosition, is_in_range, state_after_bits};
+ghost use Rattle.list_decode.specs.LeastLosses.{IsLeastLossDeviationOrNone};
+ghost use Rattle.list_decode.specs.PartialTracebacks.{IsPartialTraceback};
 ghost use Rattle.trellis_decode.specs.Trellis.{next, traceback};
 
 use trellis_decode::{ENCODER_INPUT_BITS, trace_back};
 
-/// A position at which another word deviates from a given word, and the trellis state before this position.
+/// A position where another word deviates from a given word, and the trellis state before this position.
 #[derive(Clone, Copy)]
 pub(crate) struct DeviationPoint {
     pub(crate) place: u8,
@@ -43,7 +45,7 @@ pub(crate) struct PossibleDeviation {
     pub(crate) state: usize,
     pub(crate) loss: i32,
     /// A later position is better if its loss is below this limit: the loss here, plus 1 if the word has a 0 here. Changing a 0 to a 1
-    /// gives a word that comes later in lexicographic order, so at equal losses the later position is then better.
+    /// moves the word later in lexicographic order, so if the losses are equal, the later position is then better.
     pub(crate) loss_limit: i32,
 }
 
@@ -71,6 +73,20 @@ impl PossibleDeviation {
     {
         loss < self.loss_limit
     }
+
+    /// Returns the better of this position, the best of a range, and `later`, the best of the range that follows.
+    pub(crate) fn or_later(self, later: PossibleDeviation) -> PossibleDeviation
+        ensures { (u : List ℕ) (losses : List (List ℤ)) (from k n : ℕ) →
+            IsLeastLossDeviationOrNone u losses (is_in_range from k) k (Some self) →
+            IsLeastLossDeviationOrNone u losses (is_in_range k n) n (Some later) →
+            IsLeastLossDeviationOrNone u losses (is_in_range from n) n (Some result) }
+    {
+        if self.is_improved_by(later.loss) {
+            later
+        } else {
+            self
+        }
+    }
 }
 
 /// The state of a traceback that has reached some position.
@@ -84,7 +100,13 @@ struct PartialTraceback {
 
 impl PartialTraceback {
     /// Traces back the bit at position `k`, and keeps the better position for a deviation.
-    fn more(self, k: usize, rows: &[u16], losses: &[[i16; 16]], u: &mut [u8]) -> PartialTraceback
+    fn trace_back_bit(
+        self,
+        k: usize,
+        rows: &[u16],
+        losses: &[[i16; 16]],
+        u: &mut [u8],
+    ) -> PartialTraceback
         requires rows { length rows.now ≡ length u.old }
         requires same { length losses.now ≡ length u.old }
         requires at_most { length u.old ≤ ENCODER_INPUT_BITS }
@@ -106,8 +128,8 @@ impl PartialTraceback {
     }
 }
 
-/// Writes to `u` the survivor of state 0, which is the most likely word, and returns the position at which a deviation loses least. Of
-/// positions with equal losses, it returns the one whose deviating word comes first in lexicographic order.
+/// Writes to `u` the survivor of state 0, which is the most likely word, and returns the position where a deviation has the least loss. On
+/// a tie, it returns the position whose deviating word comes first in lexicographic order.
 pub(crate) fn find_least_loss(rows: &[u16], losses: &[[i16; 16]], u: &mut [u8]) -> PossibleDeviation
     requires rows { length rows.now ≡ length u.old }
     requires same { length losses.now ≡ length u.old }
@@ -122,13 +144,13 @@ pub(crate) fn find_least_loss(rows: &[u16], losses: &[[i16; 16]], u: &mut [u8]) 
     let groups = free / 4;
     let mut reading = trace_back_groups_of_four(groups, rows, losses, u);
     for k in 4 * groups..free {
-        reading = reading.more(k, rows, losses, u);
+        reading = reading.trace_back_bit(k, rows, losses, u);
     }
     trace_back(&rows[free..], reading.state as u16, &mut u[free..]);
     reading.best
 }
 
-/// Traces back the first `4 * groups` positions, four in each iteration to save jumps.
+/// Traces back the first `4 * groups` positions, four in each iteration to reduce loop overhead.
 fn trace_back_groups_of_four(
     groups: usize,
     rows: &[u16],
@@ -149,10 +171,10 @@ fn trace_back_groups_of_four(
     for group in 0..groups {
         let k = 4 * group;
         reading = reading
-            .more(k, rows, losses, u)
-            .more(k + 1, rows, losses, u)
-            .more(k + 2, rows, losses, u)
-            .more(k + 3, rows, losses, u);
+            .trace_back_bit(k, rows, losses, u)
+            .trace_back_bit(k + 1, rows, losses, u)
+            .trace_back_bit(k + 2, rows, losses, u)
+            .trace_back_bit(k + 3, rows, losses, u);
     }
     reading
 }

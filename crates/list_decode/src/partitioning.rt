@@ -1,16 +1,17 @@
-//! Finds the next word in the ranking, and splits the branch from which it comes (Lawler's partition).
+//! Finds the next word in the ranking, and splits the branch of this word (Lawler's partition).
 
 ghost use Rattle.std.specs.Prelude.{◌≡◌, ◌≤◌, ◌+◌, ◌<◌, length, MatchOption};
 ghost use Rattle.std.specs.List.{All};
 ghost use Rattle.list_decode.specs.Branches.{IsBranch, IsBranchOfReturnedWord, IsSpanOfWord, IsDeviation, word_of_deviation};
-ghost use Rattle.list_decode.specs.Lists.{IsDeviationTree, stored_words};
+ghost use Rattle.list_decode.specs.Choices.{HasMetrics};
+ghost use Rattle.list_decode.specs.WordStorage.{IsDeviationTree, stored_words};
 ghost use Rattle.list_decode.specs.Partitioning.{NoBranchHasWord, IsNextRankedWord};
 ghost use Rattle.list_decode.specs.Passes.{IsCompletePass, soft_bits_of_pass};
 ghost use Rattle.list_decode.specs.Ranking.{IsCandidate};
 
 use crate::branch::{Deviation, WordBranch, WordSpan};
 use crate::choice::find_first_ranked_branch;
-use crate::lists::Lists;
+use crate::lists::StoredWords;
 use crate::pass::ViterbiPass;
 use trellis_decode::ENCODER_INPUT_BITS;
 
@@ -27,32 +28,35 @@ pub(crate) struct NextWord {
 /// The three branches that replace a branch when its most likely word is returned (see `partition`).
 #[derive(Clone, Copy)]
 pub(crate) struct BranchParts {
-    pub(crate) before: WordBranch,
-    pub(crate) behind: WordBranch,
-    pub(crate) after: WordBranch,
+    pub(crate) branch_before: WordBranch,
+    pub(crate) branch_of_new_word: WordBranch,
+    pub(crate) branch_after: WordBranch,
 }
 
 /// Writes the next word in the ranking to `u`. Returns `None` if no branch has a word left.
 pub(crate) fn find_next_word(
     pass: &ViterbiPass,
-    lists: &Lists,
+    lists: &StoredWords,
     branches: &[WordBranch],
+    metrics: &[i32],
     u: &mut [u8],
 ) -> Option<NextWord>
     requires pass { IsCompletePass pass.now }
     requires tree { IsDeviationTree pass.now lists.now }
     requires lists { All (IsCandidate (soft_bits_of_pass pass.now)) (stored_words pass.now lists.now) }
     requires branches { All (IsBranchOfReturnedWord pass.now (stored_words pass.now lists.now)) branches.now }
+    requires same { length metrics.now ≡ length branches.now }
+    requires metrics { HasMetrics branches.now metrics.now }
     requires count { length u.old ≡ pass.now.bits }
     ensures next { MatchOption result (NoBranchHasWord branches.now × (u.new ≡ u.old))
         (IsNextRankedWord pass.now (stored_words pass.now lists.now) branches.now u.new) }
 {
-    let choice = find_first_ranked_branch(pass, lists, branches)?;
+    let choice = find_first_ranked_branch(pass, lists, branches, metrics)?;
     let span = branches[choice.branch].span;
     let mut word = [0; ENCODER_INPUT_BITS];
     let list = &mut word[..pass.bits];
-    lists.write(pass, span.list, list);
-    choice.deviation.write(pass, list, u);
+    lists.write_word(pass, span.word_index, list);
+    choice.deviation.write_word(pass, list, u);
     let parts = partition(pass, list, u, span, &choice.deviation, lists.count as u8);
     Some(NextWord {
         branch: choice.branch,
@@ -61,8 +65,8 @@ pub(crate) fn find_next_word(
     })
 }
 
-/// Splits a span of `u` at the position at which its most likely deviating word, `v`, deviates. In the result, `before` and `after` cover
-/// the parts of the span before and after that position, and `behind` covers the positions of `v` after it. `v` gets the number `new`.
+/// Splits a span of `u` at the position where its most likely deviating word, `v`, deviates. In the result, `before` and `after` cover the
+/// parts of the span before and after that position, and `behind` covers the positions of `v` after it. The number of `v` is `new`.
 fn partition(
     pass: &ViterbiPass,
     u: &[u8],
@@ -79,21 +83,23 @@ fn partition(
     requires written { v.now ≡ word_of_deviation pass.now u.now deviation.now }
     requires from { span.from ≤ deviation.now.departure.place }
     requires to { deviation.now.departure.place < span.to }
-    ensures before { IsBranch pass.now u.now result.before }
-    ensures behind { IsBranch pass.now v.now result.behind }
-    ensures after { IsBranch pass.now u.now result.after }
-    ensures before_span { (result.before.span.list ≡ span.list) × (result.before.span.from ≡ span.from) ×
-        (result.before.span.to ≡ deviation.now.departure.place) }
-    ensures behind_span { (result.behind.span.list ≡ new) × (result.behind.span.from ≡ deviation.now.departure.place + 1) ×
-        (result.behind.span.to + 4 ≡ pass.now.bits) }
-    ensures after_span { (result.after.span.list ≡ span.list) × (result.after.span.from ≡ deviation.now.departure.place + 1) ×
-        (result.after.span.to ≡ span.to) }
+    ensures before { IsBranch pass.now u.now result.branch_before }
+    ensures behind { IsBranch pass.now v.now result.branch_of_new_word }
+    ensures after { IsBranch pass.now u.now result.branch_after }
+    ensures before_span { (result.branch_before.span.word_index ≡ span.word_index) × (result.branch_before.span.from ≡ span.from) ×
+        (result.branch_before.span.to ≡ deviation.now.departure.place) }
+    ensures behind_span { (result.branch_of_new_word.span.word_index ≡ new)
+        × (result.branch_of_new_word.span.from ≡ deviation.now.departure.place + 1) ×
+        (result.branch_of_new_word.span.to + 4 ≡ pass.now.bits) }
+    ensures after_span { (result.branch_after.span.word_index ≡ span.word_index)
+        × (result.branch_after.span.from ≡ deviation.now.departure.place + 1) ×
+        (result.branch_after.span.to ≡ span.to) }
 {
     let place = deviation.departure.place;
     let before = WordSpan { to: place, ..span };
     let behind = WordSpan {
         likelihood: deviation.likelihood,
-        list: new,
+        word_index: new,
         from: place + 1,
         to: (pass.bits - 4) as u8,
         state: (2 * deviation.departure.state + v[usize::from(place)]) % 16,
@@ -104,8 +110,8 @@ fn partition(
         ..span
     };
     BranchParts {
-        before: WordBranch::new(pass, u, before),
-        behind: WordBranch::new(pass, v, behind),
-        after: WordBranch::new(pass, u, after),
+        branch_before: WordBranch::new(pass, u, before),
+        branch_of_new_word: WordBranch::new(pass, v, behind),
+        branch_after: WordBranch::new(pass, u, after),
     }
 }

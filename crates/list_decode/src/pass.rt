@@ -1,23 +1,25 @@
-//! The backward Viterbi pass over the soft bits.
+//! The backward Viterbi pass over the soft bits, and the best deviations from the most likely word.
 
 ghost use Rattle.std.specs.Prelude.{◌≡◌, ◌≤◌, ◌%◌, length};
 ghost use Rattle.weight_bound.specs.conv_code.Likelihood.{AllSoftBits};
 ghost use Rattle.list_decode.specs.Passes.{IsCompletePass, HasSoftBits, soft_bits_of_pass};
 
+use crate::tails::Tails;
 use trellis_decode::{CODED_BITS, ENCODER_INPUT_BITS, fill_decisions};
 
 /// The soft bits, two for each information bit, and for each position the decision of every state (`rows`) and how much path metric the
-/// other bit would lose (`losses`).
+/// other bit would lose (`losses`); and the most likely word with its best deviations (`tails`).
 #[derive(Drop)]
 pub(crate) struct ViterbiPass {
     pub(crate) soft: [i8; CODED_BITS],
     pub(crate) bits: usize,
-    pub(crate) rows: [u16; ENCODER_INPUT_BITS],
+    pub(crate) decisions: [u16; ENCODER_INPUT_BITS],
     pub(crate) losses: [[i16; 16]; ENCODER_INPUT_BITS],
+    pub(crate) tails: Tails,
 }
 
 impl ViterbiPass {
-    /// Copies the soft bits. The decisions and losses are computed later, by `run`.
+    /// Copies the soft bits. The rest is computed later, by `run`.
     pub(crate) fn new(soft: &[i8]) -> ViterbiPass
         requires at_least { 10 ≤ length soft.now }
         requires at_most { length soft.now ≤ CODED_BITS }
@@ -32,12 +34,16 @@ impl ViterbiPass {
         ViterbiPass {
             soft: copy,
             bits,
-            rows: [0; ENCODER_INPUT_BITS],
+            decisions: [0; ENCODER_INPUT_BITS],
             losses: [[0; 16]; ENCODER_INPUT_BITS],
+            tails: Tails {
+                states: [0; ENCODER_INPUT_BITS],
+                places: [0; ENCODER_INPUT_BITS],
+            },
         }
     }
 
-    /// Runs the backward pass: computes the decisions and the losses.
+    /// Runs the backward pass: computes the decisions, the losses and the tails.
     pub(crate) fn run(&mut self)
         requires has_soft_bits { HasSoftBits self.old }
         ensures soft { self.new.soft ≡ self.old.soft }
@@ -52,6 +58,7 @@ impl ViterbiPass {
             &mut rows[..bits],
             &mut self.losses[..bits],
         );
-        self.rows = rows;
+        self.tails.fill(&rows[..bits], &self.losses[..bits]);
+        self.decisions = rows;
     }
 }

@@ -2,8 +2,9 @@
 //!
 //! The algorithm is list Viterbi decoding (Seshadri and Sundberg, 1994) with Lawler's partition (1972). A backward pass stores the
 //! decisions and losses of all states. Every word not yet returned deviates from a returned word at a position in one of its spans; the
-//! best such word follows the survivors afterwards. A walk along a span finds its best deviation, and the best deviation of all spans gives
-//! the next word. The span of this deviation is then split at its position, and the positions of the new word after it form a third span.
+//! best such word follows the survivors afterwards. A walk along a span finds its best deviation; where the word merges with the most
+//! likely word, a table has the rest. The best deviation of all spans produces the next word. The span of this deviation is then split at
+//! its position, and the positions after it in the new word form a third span.
 
 ghost use Rattle.std.specs.Prelude.{◌≡◌, ◌↔◌, ◌≤◌, ◌+◌, ◌-◌, ◌*◌, ◌%◌, ◌<◌, ◌++◌, ◌∷◌};
 ghost use Rattle.std.specs.Prelude.{[], length, take, None, IfSome, MatchOption};
@@ -11,40 +12,42 @@ ghost use Rattle.weight_bound.specs.conv_code.Code.{encoding, IsEncoderInput};
 ghost use Rattle.weight_bound.specs.conv_code.Likelihood.{AllSoftBits, likelihood};
 ghost use Rattle.list_decode.specs.Ranking.{IsRankingDone, IsRanked};
 
-use crate::MAX_LISTS;
+use crate::MAX_RANK;
 use crate::branch::{Deviation, WordBranch, WordSpan};
 use crate::departure::DeviationPoint;
-use crate::lists::Lists;
+use crate::lists::StoredWords;
 use crate::partitioning::find_next_word;
 use crate::pass::ViterbiPass;
 use std::marker::Model;
 use trellis_decode::{CODED_BITS, ENCODER_INPUT_BITS, decode};
 
-/// A list decoder: returns the information lists for given soft bits in order of rank, at most 64. A list with a greater path metric
-/// ranks first; of lists with equal metrics, the lexicographically first one does.
+/// A list decoder: returns the information lists for given soft bits in order of rank, at most 64. A list with a greater path metric ranks
+/// first; lists with equal metrics are in lexicographic order.
 #[derive(Drop)]
-pub struct Ranked {
+pub struct ListDecoder {
     pass: ViterbiPass,
-    lists: Lists,
+    lists: StoredWords,
     /// One branch for the first word, and two more for each word after it.
     branches: [WordBranch; 127],
+    /// The path metrics of the best deviations of the branches.
+    metrics: [i32; 127],
 }
 
-impl Model for Ranked {
+impl Model for ListDecoder {
     ghost use Rattle.list_decode.specs.Ranking.{Ranking};
 
     ghost Value = { Ranking };
 
-    ghost use Rattle.list_decode.specs.Ranked.{IsSoundRanking, ranking_of};
+    ghost use Rattle.list_decode.specs.DecoderInvariant.{IsSoundRanking, ranking_of};
 
     ghost view = { ranking_of };
 
     ghost invariant = { IsSoundRanking };
 }
 
-impl Ranked {
-    /// Starts a ranking, with no word returned yet. `soft` has two soft bits for each of 5 to 228 information bits.
-    pub fn new(soft: &[i8]) -> Ranked
+impl ListDecoder {
+    /// Starts a ranking, with no word returned yet. `soft` must have two soft bits for each of 5 to 228 information bits.
+    pub fn new(soft: &[i8]) -> ListDecoder
         requires at_least { 10 ≤ length soft.now }
         requires at_most { length soft.now ≤ CODED_BITS }
         requires pairs { length soft.now % 2 ≡ 0 }
@@ -54,7 +57,7 @@ impl Ranked {
     {
         let span = WordSpan {
             likelihood: 0,
-            list: 0,
+            word_index: 0,
             from: 0,
             to: 0,
             state: 0,
@@ -62,20 +65,21 @@ impl Ranked {
         let deviation = Deviation {
             likelihood: 0,
             departure: DeviationPoint::new(0, 0, 0),
-            list: 0,
+            word_index: 0,
         };
-        Ranked {
+        ListDecoder {
             pass: ViterbiPass::new(soft),
-            lists: Lists {
-                first: [0; ENCODER_INPUT_BITS],
+            lists: StoredWords {
+                first_word: [0; ENCODER_INPUT_BITS],
                 deviations: [deviation; 63],
                 count: 0,
             },
             branches: [WordBranch { span, best: None }; 127],
+            metrics: [0; 127],
         }
     }
 
-    /// Writes the next word to `u` and returns its path metric. Returns `None` if 64 words were returned or no word is left.
+    /// Writes the next word to `u` and returns its path metric. Returns `None` if 64 words have been returned or no word is left.
     pub fn next(&mut self, u: &mut [u8]) -> Option<i32>
         requires count { length self.old.soft ≡ 2 * length u.old }
         ensures soft { self.new.soft ≡ self.old.soft }
@@ -88,7 +92,7 @@ impl Ranked {
         if self.lists.count == 0 {
             return Some(self.write_most_likely_word(u));
         }
-        if self.lists.count == MAX_LISTS {
+        if self.lists.count == MAX_RANK {
             return None;
         }
         self.write_next_best_word(u)
@@ -106,15 +110,17 @@ impl Ranked {
         self.pass.run();
         let bits = self.pass.bits;
         let likelihood = decode(&self.pass.soft[..2 * bits], u);
-        self.lists.first = pad_with_zeros(u);
+        self.lists.first_word = pad_with_zeros(u);
         let span = WordSpan {
             likelihood,
-            list: 0,
+            word_index: 0,
             from: 0,
             to: (bits - 4) as u8,
             state: 0,
         };
-        self.branches[0] = WordBranch::new(&self.pass, u, span);
+        let branch = WordBranch::new(&self.pass, u, span);
+        self.branches[0] = branch;
+        self.metrics[0] = branch.metric();
         self.lists.count = 1;
         likelihood
     }
@@ -123,7 +129,7 @@ impl Ranked {
     fn write_next_best_word(&mut self, u: &mut [u8]) -> Option<i32>
         requires count { length self.old.soft ≡ 2 * length u.old }
         requires some { 0 < length self.old.returned }
-        requires space { length self.old.returned < MAX_LISTS }
+        requires space { length self.old.returned < MAX_RANK }
         ensures soft { self.new.soft ≡ self.old.soft }
         ensures ranked { IsRanked self.new.soft self.new.returned }
         ensures returned { MatchOption result ((self.new ≡ self.old) × (u.new ≡ u.old) × IsRankingDone self.old) (λ value.
@@ -131,10 +137,19 @@ impl Ranked {
     {
         let returned = self.lists.count;
         let count = 2 * returned - 1;
-        let next = find_next_word(&self.pass, &self.lists, &self.branches[..count], u)?;
-        self.branches[next.branch] = next.parts.before;
-        self.branches[count] = next.parts.behind;
-        self.branches[count + 1] = next.parts.after;
+        let next = find_next_word(
+            &self.pass,
+            &self.lists,
+            &self.branches[..count],
+            &self.metrics[..count],
+            u,
+        )?;
+        self.branches[next.branch] = next.parts.branch_before;
+        self.branches[count] = next.parts.branch_of_new_word;
+        self.branches[count + 1] = next.parts.branch_after;
+        self.metrics[next.branch] = next.parts.branch_before.metric();
+        self.metrics[count] = next.parts.branch_of_new_word.metric();
+        self.metrics[count + 1] = next.parts.branch_after.metric();
         self.lists.deviations[returned - 1] = next.deviation;
         self.lists.count = returned + 1;
         Some(next.deviation.likelihood)

@@ -1,7 +1,578 @@
--- The lemmas that other crates cite.
-pub use Rattle.segmenting.proofs.Cutting.{length-segments, are_segments, room_of, begins_within, segment_is, few_segments}
-pub use Rattle.segmenting.proofs.Fronts.{ended_messages-all, ended_messages-append, ended-take, ended-ended_messages, messages_of}
-pub use Rattle.segmenting.proofs.Fronts.{ended-append, ended-all}
-pub use Rattle.segmenting.proofs.Fronts.{ended-whole}
-pub use Rattle.segmenting.proofs.Joins.{within_some, latest_message_after-last, ended_messages-more, ended_messages-last, messages-push}
-pub use Rattle.segmenting.proofs.Histories.{HasHistory, joiner_past}
+-- Segmentation and reassembly of messages.
+use Rattle.lapdm_frame.specs.{Layout.n201, declared.Channel.{TheVariants.{Sacch, Sdcch}, Channel}}
+use Rattle.segmenting.specs.{Joiners.HoldsReassemblyOf, Joining.{delivered_by_segment, ended_messages, latest_message_after}}
+use Rattle.segmenting.specs.Joining.{latest_message, message_count, message_if_fits, message_if_whole, messages, partial_message_after}
+use Rattle.segmenting.specs.{Joining.{partial_message, reassembly_result}, Segments.{AreFullExceptLast, AreSegments, IsFullSegment}}
+use Rattle.segmenting.specs.Segments.{IsValidMessage, Message, Segment, cut_segments, max_message_octets, max_segments_per_message}
+use Rattle.segmenting.specs.{Segments.{reassembled_octets, segments}, declared.joiner.Joined.TheVariants.{More, Oversize, Whole}}
+use Rattle.segmenting.specs.declared.joiner.{Joiner.Joiner, Part.Part}
+use Rattle.std.proofs.Common.{All, Bool, List, None, Some, [], ap, arith, cond, drop, false, inl, inr, length, map, min, nat_lt, not, refl}
+use Rattle.std.proofs.Common.{replicate, slice_get, subst, suc, sym, take, true, unwrap_or, zero, ℕ, ◌%◌, ◌*◌, ◌++◌, ◌+◌}
+use Rattle.std.proofs.{Common.{◌-◌, ◌/◌, ◌<◌, ◌↔◌, ◌∙◌, ◌∷◌, ◌≡◌, ◌≤◌}, Math.Nat.eq-or-lt_of_le}
+use Rattle.std.proofs.Math.{Nat.{mul-le-mul_right, suc-mul}, Seq.{drop-append_seam, take-append-add, take-append_seam, take-length}}
+use Rattle.std.proofs.lemmas.{Bool.{Decides.nat_tests, cases_lt}, List.Elements.{All-head, All-tail, filter_map-append}}
+use Rattle.std.proofs.lemmas.List.{Recursion.is_count_by, Sums.sum_by-append, append-nil, append_assoc, drop-drop, length-append}
+use Rattle.std.proofs.lemmas.List.{length-drop, length-replicate, length-take-le, length-take, take-append-drop, take-map, take-take}
+use Rattle.std.{proofs.lemmas.Slice.take-put_mid, specs.List.{filter_map, flat_map}}
+use borrow.Rule.Slice.PartMut.{put_mid}
+use Rattle.segmenting.specs.declared.joiner.Part.TheVariants as P
+
+-- ## Joins: Reassembling the segments of messages gives these messages, and one more segment adds the message that it completes.
+
+pub within_some : (m : List ℕ) → length m ≤ max_message_octets → message_if_fits m ≡ Some m
+within_some m h = grind (arith, nat_tests)
+
+within_none : (m : List ℕ) → max_message_octets < length m → message_if_fits m ≡ None
+within_none m h = grind (arith, nat_tests)
+
+ended_messages-cut_segments : (n k : ℕ) (partial m : List ℕ) (ps : List Segment) →
+    ended_messages partial (cut_segments n k m ++ ps) ≡ message_if_fits (partial ++ m) ∷ ended_messages [] ps
+ended_messages-cut_segments n zero partial m ps = refl
+ended_messages-cut_segments n (suc k) partial m ps =
+    ended_messages-cut_segments n k _ _ ps ∙ ap (λ whole. message_if_fits whole ∷ ended_messages [] ps)
+    (append_assoc partial _ _ ∙ ap (λ rest. partial ++ rest) (take-append-drop n m))
+
+pub messages_come_back : (n : ℕ) (ms : List Message) → All IsValidMessage ms → messages (flat_map (segments n) ms) ≡ ms
+messages_come_back n [] h = refl
+messages_come_back n (m ∷ ms) h =
+    let first = All-head IsValidMessage m ms h in
+    let rest = messages_come_back n ms (All-tail IsValidMessage m ms h) in
+    ap (filter_map (λ ending. ending)) (ended_messages-cut_segments n ((length m - 1) / n) [] m _ ∙ ap
+    (λ e. e ∷ ended_messages [] (flat_map (segments n) ms)) (within_some m first.at_most)) ∙ ap (λ others. m ∷ others) rest
+
+-- how `partial_message_after`, `ended_messages` and `latest_message_after` change when one segment is appended
+partial_message_after-more : (partial : List ℕ) (ps : List Segment) (octets : List ℕ) →
+    partial_message_after partial (ps ++ (octets, true) ∷ []) ≡ partial_message_after partial ps ++ octets
+partial_message_after-more partial [] octets = refl
+partial_message_after-more partial ((o, true) ∷ ps) octets = partial_message_after-more _ ps _
+partial_message_after-more partial ((o, false) ∷ ps) octets = partial_message_after-more [] ps _
+
+partial_message_after-last : (partial : List ℕ) (ps : List Segment) (octets : List ℕ) →
+    partial_message_after partial (ps ++ (octets, false) ∷ []) ≡ []
+partial_message_after-last partial [] octets = refl
+partial_message_after-last partial ((o, true) ∷ ps) octets = partial_message_after-last _ ps _
+partial_message_after-last partial ((o, false) ∷ ps) octets = partial_message_after-last [] ps _
+
+pub ended_messages-more : (partial : List ℕ) (ps : List Segment) (octets : List ℕ) →
+    ended_messages partial (ps ++ (octets, true) ∷ []) ≡ ended_messages partial ps
+ended_messages-more partial [] octets = refl
+ended_messages-more partial ((o, true) ∷ ps) octets = ended_messages-more _ ps _
+ended_messages-more partial ((o, false) ∷ ps) octets = ap (λ others. message_if_fits (partial ++ o) ∷ others)
+    (ended_messages-more [] ps _)
+
+pub ended_messages-last : (partial : List ℕ) (ps : List Segment) (octets : List ℕ) →
+    ended_messages partial (ps ++ (octets, false) ∷ []) ≡ ended_messages partial ps ++ message_if_fits
+    (partial_message_after partial ps ++ octets) ∷ []
+ended_messages-last partial [] octets = refl
+ended_messages-last partial ((o, true) ∷ ps) octets = ended_messages-last _ ps _
+ended_messages-last partial ((o, false) ∷ ps) octets = ap (λ others. message_if_fits (partial ++ o) ∷ others)
+    (ended_messages-last [] ps _)
+
+latest_message_after-more : (partial : List ℕ) (ps : List Segment) (octets : List ℕ) →
+    latest_message_after partial (ps ++ (octets, true) ∷ []) ≡ []
+latest_message_after-more partial [] octets = refl
+latest_message_after-more partial ((o, true) ∷ ps) octets = latest_message_after-more _ ps _
+latest_message_after-more partial ((o, false) ∷ []) octets = refl
+latest_message_after-more partial ((o, false) ∷ p ∷ ps) octets = latest_message_after-more [] (p ∷ ps) _
+
+pub latest_message_after-last : (partial : List ℕ) (ps : List Segment) (octets : List ℕ) →
+    latest_message_after partial (ps ++ (octets, false) ∷ []) ≡
+    unwrap_or (message_if_fits (partial_message_after partial ps ++ octets)) []
+latest_message_after-last partial [] octets = refl
+latest_message_after-last partial ((o, true) ∷ ps) octets = latest_message_after-last _ ps _
+latest_message_after-last partial ((o, false) ∷ []) octets = refl
+latest_message_after-last partial ((o, false) ∷ p ∷ ps) octets = latest_message_after-last [] (p ∷ ps) _
+
+-- the answer to a segment that makes the message too long, and to one that does not
+reassembly_result-over : (ps : List Segment) (p : Segment) → max_message_octets < length (partial_message ps ++ p.0) →
+    reassembly_result ps p ≡ Oversize
+reassembly_result-over ps p h = grind (arith, nat_tests)
+
+reassembly_result-fits : (ps : List Segment) (p : Segment) → length (partial_message ps ++ p.0) ≤ max_message_octets →
+    reassembly_result ps p ≡ cond p.1 More Whole
+reassembly_result-fits ps p h = grind (arith, nat_tests)
+
+nothing_yet : (ps : List Segment) (octets : List ℕ) → delivered_by_segment ps (octets, true) ≡ []
+nothing_yet ps octets = grind arith
+
+at_the_last : (ps : List Segment) (octets : List ℕ) → delivered_by_segment ps (octets, false) ≡ filter_map
+    (λ ending. ending) (message_if_fits (partial_message ps ++ octets) ∷ [])
+at_the_last ps octets = grind arith
+
+pub messages-push : (ps : List Segment) (p : Segment) → messages (ps ++ p ∷ []) ≡ messages ps ++ delivered_by_segment ps p
+messages-push ps (octets, true) =
+    ap (filter_map (λ ending. ending)) (ended_messages-more [] ps _) ∙ sym (append-nil _) ∙ ap
+    (λ ms. messages ps ++ ms) (sym (nothing_yet ps _))
+messages-push ps (octets, false) =
+    ap (filter_map (λ ending. ending)) (ended_messages-last [] ps _) ∙ filter_map-append
+    (λ ending. ending) (ended_messages [] ps) _ ∙ ap
+    (λ ms. messages ps ++ ms) (sym (at_the_last ps _))
+
+-- the message delivered is the one that `latest_message` gives
+pub delivered_is_latest : (ps : List Segment) (p : Segment) → delivered_by_segment ps p ≡ message_if_whole (reassembly_result ps p)
+    (latest_message (ps ++ p ∷ []))
+delivered_is_latest ps (octets, true) =
+    let m = partial_message ps ++ octets in
+    elim (cases_lt max_message_octets (length m)) [
+      | inl over ↦ ap (λ j. message_if_whole j m) (reassembly_result-over ps (octets, true) over)
+          ∙ ap (λ j. message_if_whole j (latest_message (ps ++ (octets, true) ∷ []))) (sym (reassembly_result-over ps
+          (octets, true) over))
+      | inr fits ↦ ap (λ j. message_if_whole j m) (reassembly_result-fits ps (octets, true) fits)
+          ∙ ap (λ j. message_if_whole j (latest_message (ps ++ (octets, true) ∷ []))) (sym (reassembly_result-fits ps
+          (octets, true) fits))
+    ]
+delivered_is_latest ps (octets, false) =
+    let m = partial_message ps ++ octets in
+    elim (cases_lt max_message_octets (length m)) [
+      | inl over ↦ ap (λ j. message_if_whole j m) (reassembly_result-over ps (octets, false) over)
+          ∙ ap (λ j. message_if_whole j (latest_message (ps ++ (octets, false) ∷ []))) (sym (reassembly_result-over ps
+          (octets, false) over))
+      | inr fits ↦
+          let whole = latest_message_after-last [] ps octets ∙ ap (λ o. unwrap_or o []) (within_some m fits) in
+          ap (message_if_whole (reassembly_result ps (octets, false))) (sym whole)
+    ]
+
+-- ## Cutting: `segments` is the only correct segmentation of a message, and each segment can be computed from its index. The proofs are by
+-- induction on the number of full segments.
+
+-- the message m gives k full segments of n octets and leaves 1 to n octets for the last segment
+pub record Fills (n k : ℕ) (m : List ℕ) : Type 0 where
+  pub above : k * n < length m
+  pub below : length m ≤ k * n + n
+
+fills : (n : ℕ) (m : Message) → 0 < n → IsValidMessage m → Fills n ((length m - 1) / n) m
+fills n m some_room h = grind arith
+
+fills_rest : (n k : ℕ) (m : List ℕ) → Fills n (suc k) m → Fills n k (drop n m)
+fills_rest n k m h = grind (arith, suc-mul k n, length-drop n m)
+
+AreFullExceptLast-cons : (n : ℕ) (p : Segment) (ps : List Segment) → IsFullSegment n p → AreFullExceptLast n ps →
+    AreFullExceptLast n (p ∷ ps)
+AreFullExceptLast-cons n p ps h g = grind arith
+
+AreFullExceptLast-cut_segments : (n k : ℕ) (m : List ℕ) → Fills n k m → AreFullExceptLast n (cut_segments n k m)
+AreFullExceptLast-cut_segments n zero m h = grind arith
+AreFullExceptLast-cut_segments n (suc k) m h =
+    AreFullExceptLast-cons n _ _ (record { size = length-take-le n m (omega (arith, suc-mul k n, h.above)); more = refl })
+    (AreFullExceptLast-cut_segments n k _ (fills_rest n k m h))
+
+reassembled_octets-cut_segments : (n k : ℕ) (m : List ℕ) → reassembled_octets (cut_segments n k m) ≡ m
+reassembled_octets-cut_segments n zero m = append-nil m
+reassembled_octets-cut_segments n (suc k) m = ap (λ rest. take n m ++ rest) (reassembled_octets-cut_segments n k _)
+    ∙ take-append-drop n m
+
+pub are_segments : (n : ℕ) (m : Message) → 0 < n → IsValidMessage m → AreSegments n m (segments n m)
+are_segments n m some_room h =
+    record {
+      octets = reassembled_octets-cut_segments n _ m;
+      full_except_last =
+          AreFullExceptLast-cut_segments n _ m (fills n m some_room h);
+    }
+
+-- if the octets of the segments ps are joined, `cut_segments` makes ps of them again: k full segments and the last one
+record IsCounted (n : ℕ) (ps : List Segment) (k : ℕ) : Type 0 where
+  is_cut : ps ≡ cut_segments n k (reassembled_octets ps)
+  fill : Fills n k (reassembled_octets ps)
+
+one_more : (n k : ℕ) (octets : List ℕ) (ps : List Segment) → length octets ≡ n → IsCounted n ps k →
+    IsCounted n ((octets, true) ∷ ps) (suc k)
+one_more n k octets ps size h =
+    let rest = reassembled_octets ps in
+    let first = ap (λ i. take i (octets ++ rest)) (sym size) ∙ take-append_seam _ _ in
+    let others = ap (λ i. drop i (octets ++ rest)) (sym size) ∙ drop-append_seam octets _ in
+    let tail = h.is_cut ∙ ap (cut_segments n k) (sym others) in
+    record {
+      is_cut = cc;
+      fill = record {
+        above = omega (arith, suc-mul k n, length-append octets rest, h.fill.above);
+        below = omega (arith, suc-mul k n, length-append octets rest, h.fill.below);
+      };
+    }
+
+counted : (n : ℕ) (ps : List Segment) → AreFullExceptLast n ps → (k : ℕ) × IsCounted n ps k
+counted n [] h = absurd h
+counted n ((octets, more) ∷ []) h = grind (arith, append-nil octets)
+counted n ((octets, more) ∷ q ∷ ps) h =
+    let rest = counted n (q ∷ ps) h.1 in
+    let b = h.0.more in (
+      suc rest.0,
+      subst (λ b. IsCounted n ((octets, b) ∷ q ∷ ps) (suc rest.0)) (sym b) (one_more n _ _ _ h.0.size rest.1),
+    )
+
+count_is : (n k : ℕ) (m : List ℕ) → 0 < n → Fills n k m → (length m - 1) / n ≡ k
+count_is n k m some_room h = grind arith
+
+only_segments : (n : ℕ) (m : Message) (ps : List Segment) → 0 < n → AreSegments n m ps → ps ≡ segments n m
+only_segments n m ps some_room h =
+    let c = counted n ps h.full_except_last in
+    let e = h.octets in
+    let k = count_is n _ _ some_room c.1.fill in
+    c.1.is_cut ∙ ap (λ i. cut_segments n i (reassembled_octets ps)) (sym k) ∙ ap (segments n) e
+
+pub one_cutting : (n : ℕ) (m : Message) (ps : List Segment) → 0 < n → IsValidMessage m →
+    AreSegments n m ps ↔ (ps ≡ segments n m)
+one_cutting n m ps some_room h = grind (arith, only_segments n m ps some_room, are_segments n m some_room h)
+
+length-cut_segments : (n k : ℕ) (m : List ℕ) → length (cut_segments n k m) ≡ k + 1
+length-cut_segments n zero m = refl
+length-cut_segments n (suc k) m = omega (arith, length-cut_segments n k (drop n m))
+
+pub length-segments : (n : ℕ) (m : Message) → length (segments n m) ≡ (length m - 1) / n + 1
+length-segments n m = length-cut_segments n _ m
+
+drop-drop_next : (n i : ℕ) (m : List ℕ) → drop (i * n) (drop n m) ≡ drop (suc i * n) m
+drop-drop_next n i m = drop-drop _ n m ∙ ap (λ j. drop j m) (omega (arith, suc-mul i n))
+
+-- the segment with index i: full if i < k, otherwise the rest of the message
+slice_get-cut_full : (n k i : ℕ) (m : List ℕ) → i < k →
+    slice_get (cut_segments n k m) i ≡ Some (take n (drop (i * n) m), true)
+slice_get-cut_full n zero i m h = absurd (omega (arith, h))
+slice_get-cut_full n (suc k) zero m h = grind arith
+slice_get-cut_full n (suc k) (suc i) m h = slice_get-cut_full n k i _ (omega arith) ∙ ap
+    (λ rest. Some (take n rest, true)) (drop-drop_next n i m)
+
+slice_get-cut_last : (n k : ℕ) (m : List ℕ) → slice_get (cut_segments n k m) k ≡ Some (drop (k * n) m, false)
+slice_get-cut_last n zero m = grind arith
+slice_get-cut_last n (suc k) m = slice_get-cut_last n k _ ∙ ap (λ rest. Some (rest, false)) (drop-drop_next n k m)
+
+-- n has the range of N201: 1 to 20 octets
+pub record IsN201 (n : ℕ) : Type 0 where
+  pub positive : 1 ≤ n
+  pub at_most : n ≤ 20
+
+pub room_of : (channel : Channel) → IsN201 (n201 channel)
+room_of channel = grind arith
+
+-- the segment with index i begins before the end of the message
+pub begins_within : (n i : ℕ) (m : Message) → 1 ≤ n → 1 ≤ length m → i < length (segments n m) → i * n < length m
+begins_within n i m room some_octets h = grind (arith, length-segments n m)
+
+-- the segment with index i has the octets of the message from position i * n on
+pub segment_is : (n i : ℕ) (m : Message) → 0 < n → IsValidMessage m → i < length (segments n m) →
+    slice_get (segments n m) i ≡ Some (take (min (length m - i * n) n) (drop (i * n) m), nat_lt n (length m - i * n))
+segment_is n i m room h within =
+    let k = (length m - 1) / n in
+    let f = fills n m room h in
+    let at_most : i ≤ k = omega (arith, length-segments n m) in
+    elim (eq-or-lt_of_le at_most) [
+      | inr below ↦
+          let more : n < length m - i * n = omega (arith, f.above, mul-le-mul_right n below, suc-mul i n) in
+          slice_get-cut_full n k i m below ∙ ap (λ p. Some p) (grind (arith, nat_tests))
+      | inl same ↦
+          let size = length-drop (i * n) m in
+          let all = ap
+          (λ j. take j (drop (i * n) m)) (sym size) ∙ take-length _ in
+          let last = subst (λ j. length m - j * n ≤ n) (sym same) (omega (arith, f.below)) in
+          ap (λ j. slice_get (cut_segments n k m) j) same ∙ slice_get-cut_last n k m
+          ∙ ap (λ j. Some (drop (j * n) m, false)) (sym same) ∙ ap
+          (λ p. Some p) (grind (arith, nat_tests))
+    ]
+
+-- the same as `begins_within`, for a number r that equals N201 of the channel
+pub begins_at : (channel : Channel) (r i : ℕ) (m : Message) → r ≡ n201 channel → 1 ≤ length m →
+    i < length (segments (n201 channel) m) → i * r < length m
+begins_at channel r i m same some_octets h =
+    subst (λ n. i * n < length m) (sym same) (begins_within _ i m (room_of _).positive some_octets h)
+
+pub segment_at : (channel : Channel) (r i l : ℕ) (m : Message) → r ≡ n201 channel → l ≡ min (length m - i * r) r →
+    IsValidMessage m → i < length (segments (n201 channel) m) → slice_get (segments (n201 channel) m) i
+    ≡ Some (take (i * r + l - i * r) (drop (i * r) m), nat_lt r (length m - i * r))
+segment_at channel r i l m same size h within =
+    let e : min (length m - i * r) r ≡ i * r + l - i * r = omega arith in
+    subst (λ n. slice_get (segments (n201 channel) m) i ≡ Some
+    (take (min (length m - i * n) n) (drop (i * n) m), nat_lt n (length m - i * n))) (sym same)
+    (segment_is _ i m (room_of _).positive h within) ∙ ap
+    (λ j. Some (take j (drop (i * r) m), nat_lt r (length m - i * r))) e
+
+pub few_segments : (channel : Channel) (r l : ℕ) → r ≡ n201 channel → l ≤ 251 →
+    (l - 1) / r + 1 ≤ max_segments_per_message channel
+few_segments Sdcch r l same h = subst (λ n. (l - 1) / n + 1 ≤ 13) (sym same) (grind arith)
+few_segments Sacch r l same h = subst (λ n. (l - 1) / n + 1 ≤ 14) (sym same) (grind arith)
+
+-- ## Fronts: The first segments of a list of messages complete the first messages of that list: `ended_messages` of a prefix is a prefix of
+-- `ended_messages`.
+
+pub ended_messages-all : (n : ℕ) (ms : List Message) → All IsValidMessage ms →
+    ended_messages [] (flat_map (segments n) ms) ≡ map (λ m. Some m) ms
+ended_messages-all n [] h = refl
+ended_messages-all n (m ∷ ms) h =
+    let first = All-head IsValidMessage m ms h in
+    ended_messages-cut_segments n ((length m - 1) / n) [] m _ ∙ ap (λ e. e ∷ ended_messages [] (flat_map (segments n) ms))
+    (within_some m first.at_most) ∙ ap (λ es. Some m ∷ es) (ended_messages-all n ms (All-tail IsValidMessage m ms h))
+
+pub ended_messages-append : (partial : List ℕ) (ps qs : List Segment) → ended_messages partial (ps ++ qs) ≡ ended_messages partial ps
+    ++ ended_messages (partial_message_after partial ps) qs
+ended_messages-append partial [] qs = refl
+ended_messages-append partial ((o, true) ∷ ps) qs = ended_messages-append _ ps qs
+ended_messages-append partial ((o, false) ∷ ps) qs = grind (arith, ended_messages-append [] ps qs)
+
+-- `ends_in` is a recursive form of `message_count`, the number of segments with M = 0
+abbrev is_last : Segment → Bool
+is_last p = not p.1
+
+abbrev ends_in : List Segment → ℕ
+ends_in [] = 0
+ends_in (p ∷ ps) = cond (is_last p) (1 + ends_in ps) (ends_in ps)
+
+ended-is : (ps : List Segment) → message_count ps ≡ ends_in ps
+ended-is ps = sym (is_count_by ends_in _ refl (λ x xs. refl) ps)
+
+ends_in-ended_messages : (partial : List ℕ) (ps : List Segment) → ends_in ps ≡ length (ended_messages partial ps)
+ends_in-ended_messages partial [] = refl
+ends_in-ended_messages partial ((o, true) ∷ ps) = ends_in-ended_messages _ ps
+ends_in-ended_messages partial ((o, false) ∷ ps) = let e = ends_in-ended_messages [] ps in omega arith
+
+pub ended-ended_messages : (ps : List Segment) → message_count ps ≡ length (ended_messages [] ps)
+ended-ended_messages ps = ended-is ps ∙ ends_in-ended_messages [] ps
+
+pub ended-append : (ps qs : List Segment) → message_count (ps ++ qs) ≡ message_count ps + message_count qs
+ended-append ps qs = sum_by-append (λ p. cond (is_last p) 1 0) ps qs
+
+pub ended-take : (a r : ℕ) (ps : List Segment) → a ≤ r → message_count (take a ps) ≤ message_count (take r ps)
+ended-take a r ps h =
+    grind (arith, ended-append (take a (take r ps)) (drop a (take r ps)), take-append-drop a (take r ps), take-take a r ps h)
+
+-- among the segments of one message, only the last completes the message
+ends_in-cut_segments : (n k : ℕ) (m : List ℕ) (ps : List Segment) → ends_in (cut_segments n k m ++ ps) ≡ 1 + ends_in ps
+ends_in-cut_segments n zero m ps = refl
+ends_in-cut_segments n (suc k) m ps = ends_in-cut_segments n k _ ps
+
+none_yet : (n k r : ℕ) (m : List ℕ) (ps : List Segment) → r ≤ k → ends_in (take r (cut_segments n k m ++ ps)) ≡ 0
+none_yet n k zero m ps h = refl
+none_yet n zero (suc r) m ps h = absurd (omega (arith, h))
+none_yet n (suc k) (suc r) m ps h = none_yet n k r _ ps (omega (arith, h))
+
+ended-segments : (n : ℕ) (m : Message) (ps : List Segment) → message_count (segments n m ++ ps) ≡ 1 + message_count ps
+ended-segments n m ps = ended-is (segments n m ++ ps) ∙ ends_in-cut_segments n ((length m - 1) / n) m ps
+    ∙ ap (λ k. 1 + k) (sym (ended-is ps))
+
+pub ended-all : (n : ℕ) (ms : List Message) → message_count (flat_map (segments n) ms) ≡ length ms
+ended-all n [] = refl
+ended-all n (m ∷ ms) = omega (arith, ended-segments n m (flat_map (segments n) ms), ended-all n ms)
+
+-- the first k messages are complete after the first r segments if and only if all their segments are among these r
+completed_by_length : (n r k : ℕ) (m : Message) (ms : List Message) →
+    ((j : ℕ) → (k ≤ message_count (take j (flat_map (segments n) ms))) ↔ (length (flat_map (segments n) (take k ms)) ≤ j)) →
+    (suc k ≤ message_count (take r (flat_map (segments n) (m ∷ ms)))) ↔
+    (length (flat_map (segments n) (take (suc k) (m ∷ ms))) ≤ r)
+completed_by_length n r k m ms h =
+    let ps = segments n m in
+    let rest = flat_map (segments n) ms in
+    let size = length-segments n m in
+    let all = length-append ps (flat_map (segments n) (take k ms)) in
+    elim (cases_lt r (length ps)) [
+      | inl few ↦
+          let none = ended-is (take r (ps ++ rest)) ∙ none_yet n _ r m _ (omega (arith, few, size)) in
+          ((λ below. absurd (omega (arith, below, none))), (λ below. absurd (omega (arith, below, all, few))))
+      | inr enough ↦
+          let j = r - length ps in
+          let at : length ps + j ≡ r = omega (arith, enough) in
+          let front = ap (λ i. take i (ps ++ rest)) (sym at) ∙ take-append-add ps _ j in
+          let more = ap message_count front
+          ∙ ended-segments n m _ in (
+            (λ below. (let fewer : k ≤ message_count (take j rest) = omega (arith, below, more) in omega (
+              arith,
+              (h j).0 fewer,
+              all,
+              at,
+            ))),
+            (λ below. (let fewer : length (flat_map (segments n) (take k ms)) ≤ j = omega (arith, below, all, at) in
+                omega (arith, (h j).1 fewer, more))),
+          )
+    ]
+
+pub ended-whole : (n r k : ℕ) (ms : List Message) → k ≤ length ms →
+    (k ≤ message_count (take r (flat_map (segments n) ms))) ↔ (length (flat_map (segments n) (take k ms)) ≤ r)
+ended-whole n r zero ms h = ((λ _. omega arith), (λ _. omega arith))
+ended-whole n r (suc k) [] h = absurd (omega (arith, h))
+ended-whole n r (suc k) (m ∷ ms) h = completed_by_length n r k m ms (λ j. ended-whole n j k ms (omega (arith, h)))
+
+-- the first segments complete the first messages, and none is oversize
+prefix_is_take : {T : Type 0} (xs ys zs : List T) → xs ++ ys ≡ zs → xs ≡ take (length xs) zs
+prefix_is_take xs ys zs h = sym (take-append_seam xs ys) ∙ ap (take (length xs)) h
+
+pub ended_messages-front : (n r : ℕ) (ms : List Message) → All IsValidMessage ms →
+    ended_messages [] (take r (flat_map (segments n) ms)) ≡ map (λ m. Some m)
+    (take (message_count (take r (flat_map (segments n) ms))) ms)
+ended_messages-front n r ms h =
+    let all = flat_map (segments n) ms in
+    let front = take r all in
+    let whole = sym (ended_messages-append [] front _) ∙ ap (ended_messages []) (take-append-drop r _) ∙ ended_messages-all n ms h in
+    prefix_is_take _ _ _ whole
+    ∙ ap (λ k. take k (map (λ m. Some m) ms)) (sym (ended-ended_messages front))
+    ∙ take-map (λ m. Some m) _ ms
+
+pub messages_of : (ms : List Message) → filter_map (λ ending. ending) (map (λ m. Some m) ms) ≡ ms
+messages_of [] = refl
+messages_of (m ∷ ms) = ap (λ rest. m ∷ rest) (messages_of ms)
+
+-- ## Taking: What a joiner represents after it takes one more segment, by cases on the M bit and the length.
+
+too_long : (ps : List Segment) (octets : List ℕ) → None ≡ message_if_fits (partial_message ps) →
+    max_message_octets < length (partial_message ps ++ octets)
+too_long ps octets h = grind (arith, length-append (partial_message ps) octets)
+
+-- with this segment, the message is not too long
+pub goes_on : (ps : List Segment) (octets held : List ℕ) → held ≡ partial_message ps ++ octets →
+    length held ≤ max_message_octets → HoldsReassemblyOf P.Open held (ps ++ (octets, true) ∷ [])
+goes_on ps octets held e h =
+    record {
+      partial_octets = sym (within_some _ h) ∙ ap message_if_fits (e ∙ sym (partial_message_after-more [] ps _));
+      completed_message = sym (latest_message_after-more [] ps _);
+      empty_if_discarding = λ over. cc;
+    }
+
+pub completes : (ps : List Segment) (octets held : List ℕ) → held ≡ partial_message ps ++ octets →
+    length held ≤ max_message_octets → HoldsReassemblyOf P.Whole held (ps ++ (octets, false) ∷ [])
+completes ps octets held e h =
+    let whole = ap message_if_fits (sym e) ∙ within_some _ h in
+    record {
+      partial_octets = ap message_if_fits (sym (partial_message_after-last [] ps _));
+      completed_message = ap (λ o. unwrap_or o []) (sym whole) ∙ sym (latest_message_after-last [] ps _);
+      empty_if_discarding = λ over. cc;
+    }
+
+-- with this segment, the message is too long
+pub taken_oversize : (ps : List Segment) (octets : List ℕ) → max_message_octets < length (partial_message ps ++ octets) →
+    HoldsReassemblyOf P.Discarding [] (ps ++ (octets, true) ∷ [])
+taken_oversize ps octets h =
+    record {
+      partial_octets = sym (within_none _ h) ∙ ap message_if_fits (sym (partial_message_after-more [] ps _));
+      completed_message = sym (latest_message_after-more [] ps _);
+      empty_if_discarding = λ over. refl;
+    }
+
+pub drops : (ps : List Segment) (octets : List ℕ) → max_message_octets < length (partial_message ps ++ octets) →
+    HoldsReassemblyOf P.Open [] (ps ++ (octets, false) ∷ [])
+drops ps octets h =
+    record {
+      partial_octets = ap message_if_fits (sym (partial_message_after-last [] ps _));
+      completed_message = ap (λ o. unwrap_or o []) (sym (within_none _ h)) ∙ sym (latest_message_after-last [] ps _);
+      empty_if_discarding = λ over. cc;
+    }
+
+-- `held` is the incomplete message with these octets appended, and is not too long
+pub record IsWritten (ps : List Segment) (octets held : List ℕ) : Type 0 where
+  pub held_is : held ≡ partial_message ps ++ octets
+  pub fits : length held ≤ max_message_octets
+
+pub written : (start : ℕ) (octets : List ℕ) (ps : List Segment) (buffer part : List ℕ) → length buffer ≡ 251 →
+    start + length octets ≤ 251 → part ≡ octets → take start buffer ≡ partial_message ps → IsWritten ps octets
+    (take (start + length octets) (put_mid start (start + length octets - start) buffer part))
+written start octets ps buffer part size room same partial =
+    let l = ap length same in
+    let e = take-put_mid start (start + length octets - start) buffer part (start + length octets) (omega arith) (omega arith) in
+    record {
+      held_is = cc;
+      fits = omega (arith, ap length e, length-append (take start buffer) part, length-take-le start buffer (omega arith));
+    }
+
+pub HoldsReassemblyOf-same : (part part' : Part) (held : List ℕ) (ps : List Segment) (octets : List ℕ) (more more' : Bool) →
+    part ≡ part' → more ≡ more' → HoldsReassemblyOf part held (ps ++ (octets, more) ∷ []) →
+    HoldsReassemblyOf part' held (ps ++ (octets, more') ∷ [])
+HoldsReassemblyOf-same part part' held ps octets more more' e f h = grind arith
+
+-- ## Histories: For every state of a joiner, some list of segments leads to it. The length of the list modulo 8 can be chosen: empty
+-- segments with M = 0, then one segment with the octets held.
+
+-- a list of segments that leads a joiner to hold these octets, and whose length modulo 8 is `number`
+pub record HasHistory (part : Part) (held : List ℕ) (number : ℕ) : Type 0 where
+  pub taken : List Segment
+  pub count : length taken % 8 ≡ number
+  pub reassembly : HoldsReassemblyOf part held taken
+
+-- k empty segments, each with M = 0
+abbrev empty_last_segments : ℕ → List Segment
+empty_last_segments zero = []
+empty_last_segments (suc k) = ([], false) ∷ empty_last_segments k
+
+length-empty_last_segments : (k : ℕ) → length (empty_last_segments k) ≡ k
+length-empty_last_segments zero = refl
+length-empty_last_segments (suc k) = omega (arith, length-empty_last_segments k)
+
+nothing_open : (k : ℕ) → partial_message (empty_last_segments k) ≡ []
+nothing_open zero = refl
+nothing_open (suc k) = nothing_open k
+
+begins : (k : ℕ) (octets : List ℕ) → octets ≡ partial_message (empty_last_segments k) ++ octets
+begins k octets = ap (λ front. front ++ octets) (sym (nothing_open k))
+
+number_of : (r : ℕ) → r ≤ 7 → ((r + 7) % 8 + 1) % 8 ≡ r
+number_of r few = grind arith
+
+count_of_empty : (r : ℕ) (segment : Segment) → r ≤ 7 → length (empty_last_segments ((r + 7) % 8) ++ segment ∷ []) % 8 ≡ r
+count_of_empty r segment few =
+    let k = (r + 7) % 8 in
+    ap (λ n. n % 8) (length-append _ _ ∙ ap (λ n. n + 1) (length-empty_last_segments k))
+    ∙ number_of r few
+
+history_of : (part : Part) (held : List ℕ) (r : ℕ) → r ≤ 7 → length held ≤ max_message_octets →
+    (part ≡ P.Discarding → held ≡ []) → HasHistory part held r
+history_of P.Open held r few fits empty_if_discarding =
+    let k = (r + 7) % 8 in
+    record {
+      taken = empty_last_segments k ++ (held, true) ∷ [];
+      count = count_of_empty r (held, true) few;
+      reassembly = goes_on _ _ _ (begins k _) fits;
+    }
+history_of P.Whole held r few fits empty_if_discarding =
+    let k = (r + 7) % 8 in
+    record {
+      taken = empty_last_segments k ++ (held, false) ∷ [];
+      count = count_of_empty r (held, false) few;
+      reassembly = completes _ held held (begins k held) fits;
+    }
+history_of P.Discarding held r few fits empty_if_discarding =
+    let k = (r + 7) % 8 in
+    let long = replicate 252 0 in
+    let over = taken_oversize _ long (omega (arith, ap length (begins k long), length-replicate {A = ℕ} 252 0)) in
+    record {
+      taken = empty_last_segments k ++ (long, true) ∷ [];
+      count = count_of_empty r (long, true) few;
+      reassembly = subst (λ octets. HoldsReassemblyOf P.Discarding octets (empty_last_segments k ++ (long, true) ∷ []))
+          (sym (empty_if_discarding refl)) over;
+    }
+
+pub buffer_past : (part : Part) (count : ℕ) (octets : List ℕ) (r : ℕ) → count ≤ max_message_octets →
+    (part ≡ P.Discarding → count ≡ 0) → r ≤ 7 → HasHistory part (take count octets) r
+buffer_past part count octets r fits empty_if_discarding few =
+    history_of _ _ r few (omega (arith, length-take count octets))
+    (λ over. ap (λ n. take n octets) (empty_if_discarding over))
+
+pub joiner_past : (j : Joiner) (r : ℕ) → r ≤ 7 → HasHistory j.part (take j.len j.octets) r
+joiner_past j r few = buffer_past _ _ _ r j.in_range j.empty_if_discarding few
+
+-- ## Worked: Worked examples of segmentation and reassembly.
+
+two_full_segments : segments 20 (replicate 40 7) ≡ (replicate 20 7, true) ∷ (replicate 20 7, false) ∷ []
+two_full_segments = refl
+
+thirteen_on_sdcch : segments 20 (replicate 251 7) ≡ replicate 12 (replicate 20 7, true) ++ (replicate 11 7, false) ∷ []
+thirteen_on_sdcch = refl
+
+fourteen_on_sacch : segments 18 (replicate 251 7) ≡ replicate 13 (replicate 18 7, true) ++ (replicate 17 7, false) ∷ []
+fourteen_on_sacch = refl
+
+-- 251 octets are delivered as a message, 252 are not; the segment after the oversize message begins a new message
+longest_message : messages (replicate 12 (replicate 20 7, true) ++ (replicate 11 8, false) ∷ []) ≡ (replicate 240 7 ++ replicate 11 8)
+    ∷ []
+longest_message = refl
+
+one_octet_too_many : messages (replicate 12 (replicate 20 7, true) ++ (replicate 12 8, false) ∷ (9 ∷ [], false) ∷ []) ≡ (9 ∷ [])
+    ∷ []
+one_octet_too_many = refl
+
+twelve_hold : reassembly_result (replicate 11 (replicate 20 7, true)) (replicate 20 7, true) ≡ More
+twelve_hold = refl
+
+thirteen_do_not : reassembly_result (replicate 12 (replicate 20 7, true)) (replicate 20 7, true) ≡ Oversize
+thirteen_do_not = refl
+
+dropped_to_the_end : reassembly_result (replicate 13 (replicate 20 7, true)) (9 ∷ [], false) ≡ Oversize
+dropped_to_the_end = refl
+
+begins_anew : reassembly_result (replicate 13 (replicate 20 7, true) ++ (9 ∷ [], false) ∷ []) (9 ∷ [], false) ≡ Whole
+begins_anew = refl
+
+and_is_the_latest : latest_message (replicate 13 (replicate 20 7, true) ++ (9 ∷ [], false) ∷ (9 ∷ [], false) ∷ []) ≡ 9 ∷ []
+and_is_the_latest = refl

@@ -1,4 +1,4 @@
--- What a `Pieces` of the program represents: the segments of a message.
+-- What a Rust `Pieces` represents: the segments of a message.
 use Rattle.std.specs.Prelude.{◌≡◌, ℕ, ◌+◌, ◌*◌, List}
 use Rattle.std.specs.Borrow.{Bor}
 use Rattle.lapdm_frame.specs.declared.Channel.{Channel}
@@ -6,7 +6,7 @@ use Rattle.lapdm_frame.specs.Layout.{n201}
 use Rattle.segmenting.specs.declared.pieces.Pieces.{Pieces}
 use Rattle.segmenting.specs.Segments.{Segment, segments}
 
--- the segments that a `Pieces` of the program represents
+-- the segments that a Rust `Pieces` represents
 abbrev pub segments_of : Pieces → List Segment
 segments_of p = segments (n201 p.channel) p.message.now
 
@@ -14,5 +14,5 @@ abbrev pub channel_of_pieces : Pieces → Channel
 channel_of_pieces p = p.channel
 
 -- the octets are a borrowed slice of the message that begins where the segment with a given index begins
-abbrev pub IsBorrowedFrom : Pieces → ℕ → Bor (List ℕ) → Type 0
-IsBorrowedFrom p i octets = (octets.ref_ptr.0 ≡ p.message.ref_ptr.0) × (octets.ref_ptr.1 ≡ p.message.ref_ptr.1 + i * n201 p.channel)
+abbrev pub SegmentIsBorrowed : Pieces → ℕ → Bor (List ℕ) → Type 0
+SegmentIsBorrowed p i octets = (octets.ref_ptr.0 ≡ p.message.ref_ptr.0) × (octets.ref_ptr.1 ≡ p.message.ref_ptr.1 + i * n201 p.channel)

@@ -1,4 +1,4 @@
--- What a `Joiner` of the program represents: the state of reassembly after some segments.
+-- What a Rust `Joiner` represents: the state of reassembly after some segments.
 use Rattle.std.specs.Prelude.{◌≡◌, ℕ, List, [], Option, Some, None, take}
 use Rattle.segmenting.specs.declared.joiner.Part.{Part}
 use Rattle.segmenting.specs.declared.joiner.Part.TheVariants.{Open, Whole, Discarding}
@@ -7,21 +7,21 @@ use Rattle.segmenting.specs.Segments.{Message, Segment}
 use Rattle.segmenting.specs.Joining.{message_if_fits, partial_message, latest_message}
 
 -- the octets received so far of the message being reassembled, or `None` if there are more than 251
-abbrev pub partial_message_held : Part → List ℕ → Option (List ℕ)
-partial_message_held Open octets = Some octets
-partial_message_held Whole octets = Some []
-partial_message_held Discarding octets = None
+abbrev pub partial_joiner_message : Part → List ℕ → Option (List ℕ)
+partial_joiner_message Open octets = Some octets
+partial_joiner_message Whole octets = Some []
+partial_joiner_message Discarding octets = None
 
 -- the message that the last segment completed, or no octets if it completed no message
-abbrev pub completed_message_held : Part → List ℕ → Message
-completed_message_held Whole octets = octets
-completed_message_held other octets = []
+abbrev pub completed_joiner_message : Part → List ℕ → Message
+completed_joiner_message Whole octets = octets
+completed_joiner_message other octets = []
 
 -- after the segments `taken`, a joiner holds the octets of the incomplete message (`part` is `Open`), the message that the last segment
 -- completed (`Whole`), or no octets while an oversize message is discarded (`Discarding`)
 pub record HoldsReassemblyOf (part : Part) (octets : List ℕ) (taken : List Segment) : Type 0 where
-  pub partial : partial_message_held part octets ≡ message_if_fits (partial_message taken)
-  pub completed_message : completed_message_held part octets ≡ latest_message taken
+  pub partial_octets : partial_joiner_message part octets ≡ message_if_fits (partial_message taken)
+  pub completed_message : completed_joiner_message part octets ≡ latest_message taken
   pub empty_if_discarding : part ≡ Discarding → octets ≡ []
 
 -- the joiner is in the state that a new joiner reaches by taking the given segments

@@ -11,8 +11,8 @@ use Rattle.segmenting.specs.Segments.{Message, Segment, max_message_octets}
 abbrev pub message_if_fits : List ℕ → Option Message
 message_if_fits octets = if nat_lt max_message_octets (length octets) then None else Some octets
 
--- the messages that end in the given segments, one for each segment with M = 0; `None` stands for an oversize message. The first message
--- begins with the given octets, which earlier segments carried
+-- the messages that end in the given segments, one for each segment with M = 0; `None` is an oversize message. The first message begins
+-- with the given octets, which earlier segments carried
 abbrev pub ended_messages : List ℕ → List Segment → List (Option Message)
 ended_messages partial [] = []
 ended_messages partial ((octets, true) ∷ ps) = ended_messages (partial ++ octets) ps
@@ -36,20 +36,20 @@ partial_message_after partial ((octets, false) ∷ ps) = partial_message_after [
 abbrev pub partial_message : List Segment → List ℕ
 partial_message ps = partial_message_after [] ps
 
--- the answer of a joiner to a segment that follows the given segments: `Oversize` if the message is too long, else `More` if M = 1 and
--- `Whole` if M = 0
-abbrev pub segment_answer : List Segment → Segment → Joined
-segment_answer ps p =
+-- the result of joining a segment to the given segments: `Oversize` if the message becomes too long, otherwise `More` if M = 1 and `Whole`
+-- if M = 0
+abbrev pub reassembly_result : List Segment → Segment → Joined
+reassembly_result ps p =
     if nat_lt max_message_octets (length (partial_message ps ++ p.0)) then Oversize else (if p.1 then More else Whole)
 
--- the message that a joiner delivers with a given answer: the given message with `Whole`, and none with any other answer
+-- the message that a joiner delivers with a given result: the given message if the result is `Whole`, otherwise none
 abbrev pub message_if_whole : Joined → Message → List Message
 message_if_whole Whole m = m ∷ []
 message_if_whole other m = []
 
 -- the message, if any, that a segment completes when it follows the given segments
 abbrev pub delivered_by_segment : List Segment → Segment → List Message
-delivered_by_segment ps p = message_if_whole (segment_answer ps p) (partial_message ps ++ p.0)
+delivered_by_segment ps p = message_if_whole (reassembly_result ps p) (partial_message ps ++ p.0)
 
 -- the message that the last segment of a list completes, or no octets if it completes no message. The first message begins with the given
 -- octets, which earlier segments carried

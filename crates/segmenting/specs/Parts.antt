@@ -3,7 +3,7 @@ use Rattle.std.specs.Prelude.{◌≡◌, ℕ, List, take}
 use Rattle.segmenting.specs.declared.joiner.Part.{Part}
 use Rattle.segmenting.specs.declared.joiner.Joiner.{Joiner}
 
--- the data that a joiner holds: octets, and which part of a message they are
+-- the data that a joiner holds: octets, and the part of a message that they form
 pub record JoinerValues : Type 0 where
   pub octets : List ℕ
   pub part : Part

@@ -13,14 +13,14 @@ Message = List ℕ
 abbrev pub Segment : Type 0
 Segment = List ℕ × Bool
 
--- the greatest length of a message, in octets
+-- the maximum length of a message, in octets
 abbrev pub max_message_octets : ℕ
 max_message_octets = 251
 
 -- the message `m` has 1 to 251 octets
 pub record IsValidMessage (m : Message) : Type 0 where
-  pub some : 1 ≤ length m
-  pub most : length m ≤ max_message_octets
+  pub nonempty : 1 ≤ length m
+  pub at_most : length m ≤ max_message_octets
 
 -- the segment `p` has `n` octets, as many as an I frame can carry, and M = 1
 pub record IsFullSegment (n : ℕ) (p : Segment) : Type 0 where
@@ -29,8 +29,8 @@ pub record IsFullSegment (n : ℕ) (p : Segment) : Type 0 where
 
 -- the segment `p` has 1 to `n` octets, and M = 0
 pub record IsLastSegment (n : ℕ) (p : Segment) : Type 0 where
-  pub some : 1 ≤ length p.0
-  pub most : length p.0 ≤ n
+  pub nonempty : 1 ≤ length p.0
+  pub at_most : length p.0 ≤ n
   pub more : p.1 ≡ false
 
 -- every segment but the last has the given full length and M = 1; the last has at least one octet, at most the full length, and M = 0
@@ -46,7 +46,7 @@ reassembled_octets ps = flat_map (λ p. p.0) ps
 -- `ps` are the segments of the message `m` if each I frame carries at most `n` octets
 pub record AreSegments (n : ℕ) (m : Message) (ps : List Segment) : Type 0 where
   pub octets : reassembled_octets ps ≡ m
-  pub cut_segments : AreFullExceptLast n ps
+  pub full_except_last : AreFullExceptLast n ps
 
 -- a message cut into a given number of full segments, each of a given length, and a last segment with the rest
 abbrev pub cut_segments : ℕ → ℕ → Message → List Segment
@@ -58,8 +58,8 @@ abbrev pub segments : ℕ → Message → List Segment
 segments n m = cut_segments n ((length m - 1) / n) m
 
 -- the number of segments of a message if each I frame carries at most a given number of octets
-abbrev pub count_of : ℕ → Message → ℕ
-count_of n m = (length m - 1) / n + 1
+abbrev pub number_of_segments : ℕ → Message → ℕ
+number_of_segments n m = (length m - 1) / n + 1
 
 -- the number of segments of the longest message, 251 octets, on each channel
 abbrev pub max_segments_per_message : Channel → ℕ

@@ -9,7 +9,7 @@ use crate::LONGEST_MESSAGE;
 
 mod parts;
 
-/// What a joiner did with a segment.
+/// The result of taking a segment.
 #[derive(Clone, Copy, PartialEq, Eq, Debug)]
 pub enum Joined {
     /// The message continues in the next segment.
@@ -37,17 +37,17 @@ pub struct Joiner {
     octets: [u8; LONGEST_MESSAGE],
     len: usize,
     part: Part,
-    ghost within: { len ≤ max_message_octets },
+    ghost in_range: { len ≤ max_message_octets },
     ghost empty_if_discarding: { part ≡ Discarding → len ≡ 0 },
 }
 
 impl Joiner {
     ghost use Rattle.std.specs.Prelude.{◌+◌, ◌<◌, List, [], ◌∷◌, ◌++◌, take, IfSome, MatchOption};
     ghost use Rattle.segmenting.specs.Segments.{Segment};
-    ghost use Rattle.segmenting.specs.Joining.{segment_answer, partial_message, latest_message};
+    ghost use Rattle.segmenting.specs.Joining.{reassembly_result, partial_message, latest_message};
     ghost use Rattle.segmenting.specs.Joiners.{HasTakenSegments};
 
-    /// A joiner that has not yet taken any segments.
+    /// Creates a joiner that has not taken any segments.
     pub fn new() -> Joiner
         ensures { HasTakenSegments result [] }
     {
@@ -64,7 +64,7 @@ impl Joiner {
         requires some { 1 ≤ length piece.now }
         requires most { length piece.now ≤ largest_n201 }
         ensures answer { (taken : List Segment) → HasTakenSegments self.old taken
-            → result ≡ segment_answer taken (piece.now, more) }
+            → result ≡ reassembly_result taken (piece.now, more) }
         ensures after { (taken : List Segment) → HasTakenSegments self.old taken
             → HasTakenSegments self.new (taken ++ (piece.now, more) ∷ []) }
     {
@@ -96,7 +96,7 @@ impl Joiner {
         }
     }
 
-    // Returns the index at which the octets of the segment are written, or `None` if they make the message too long.
+    // Returns the write index for the octets of the segment, or `None` if they make the message too long.
     fn write_position_for(&self, piece: &[u8]) -> Option<usize>
         ensures space { IfSome result (λ start. start + length piece.now ≤ max_message_octets) }
         ensures place { (taken : List Segment) → HasTakenSegments self.now taken → MatchOption result

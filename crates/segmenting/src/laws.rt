@@ -6,7 +6,8 @@ ghost use Rattle.std.specs.List.{flat_map};
 ghost use Rattle.lapdm_frame.specs.declared.Channel.{Channel};
 ghost use Rattle.lapdm_frame.specs.Layout.{n201};
 ghost use Rattle.segmenting.specs.Segments.{Message, Segment, IsValidMessage, AreSegments, segments};
-ghost use Rattle.segmenting.specs.Joining.{ended_messages, messages, message_count, segment_answer, message_if_whole, delivered_by_segment};
+ghost use Rattle.segmenting.specs.Joining.{ended_messages, messages, message_count, reassembly_result, message_if_whole};
+ghost use Rattle.segmenting.specs.Joining.{delivered_by_segment};
 ghost use Rattle.segmenting.specs.Joining.{latest_message};
 
 /// Law: for any segment size above 0, there is exactly one way to cut a message of 1 to 251 octets into segments.
@@ -15,23 +16,23 @@ pub fn law_segmentation_is_unique()
         → AreSegments n m ps ↔ (ps ≡ segments n m) }
 {}
 
-/// Law: on either channel, reassembling the segments of a list of messages of 1 to 251 octets gives back exactly these messages.
+/// Law: on either channel, reassembling the segments of a list of messages of 1 to 251 octets returns exactly these messages.
 pub fn law_messages_are_reassembled()
     ensures { (channel : Channel) (ms : List Message) → All IsValidMessage ms
         → messages (flat_map (segments (n201 channel)) ms) ≡ ms }
 {}
 
-/// Law: one more segment adds to the reassembled messages the message that it completes, if any. A `Joiner` holds this message after it has
-/// answered `Whole`.
+/// Law: one more segment adds the message that it completes, if any, to the reassembled messages. A `Joiner` holds this message after it
+/// has returned `Whole`.
 pub fn law_next_segment_delivers()
     ensures messages { (ps : List Segment) (p : Segment)
         → messages (ps ++ p ∷ []) ≡ messages ps ++ delivered_by_segment ps p }
     ensures delivered_is_latest { (ps : List Segment) (p : Segment)
-        → delivered_by_segment ps p ≡ message_if_whole (segment_answer ps p) (latest_message (ps ++ p ∷ [])) }
+        → delivered_by_segment ps p ≡ message_if_whole (reassembly_result ps p) (latest_message (ps ++ p ∷ [])) }
 {}
 
 /// Law: the first `r` segments of a list of messages complete the first `c` messages, none of them oversize, where `c` is the number of
-/// segments with M = 0 among the `r`. The first `k` messages are complete if and only if all their segments are among the `r`.
+/// segments with M = 0 among them. The first `k` messages are complete if and only if all their segments are among these `r` segments.
 pub fn law_segments_complete_in_order()
     ensures front { (channel : Channel) (ms : List Message) (r : ℕ) → All IsValidMessage ms
         → let front = take r (flat_map (segments (n201 channel)) ms) in

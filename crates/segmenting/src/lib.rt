@@ -16,7 +16,7 @@ pub use laws::{
 };
 pub use pieces::{Piece, Pieces};
 
-/// The greatest length of a message, in octets.
+/// The maximum length of a message, in octets.
 pub const LONGEST_MESSAGE: usize = 251;
 
 #[cfg(test)]

@@ -19,14 +19,14 @@ pub struct Piece<'a> {
 pub struct Pieces<'a> {
     message: &'a [u8],
     channel: Channel,
-    ghost some: { 1 ≤ length message.now },
-    ghost most: { length message.now ≤ max_message_octets },
+    ghost nonempty: { 1 ≤ length message.now },
+    ghost at_most: { length message.now ≤ max_message_octets },
 }
 
 impl<'a> Pieces<'a> {
     ghost use Rattle.std.specs.Prelude.{slice_get, Some};
     ghost use Rattle.segmenting.specs.Segments.{segments, max_segments_per_message};
-    ghost use Rattle.segmenting.specs.Cuttings.{segments_of, channel_of_pieces, IsBorrowedFrom};
+    ghost use Rattle.segmenting.specs.Cuttings.{segments_of, channel_of_pieces, SegmentIsBorrowed};
 
     /// The segments of the message for SDCCH, of at most 20 octets each.
     pub fn new(message: &'a [u8]) -> Pieces<'a>
@@ -61,7 +61,7 @@ impl<'a> Pieces<'a> {
     pub fn piece(&self, i: usize) -> Piece<'a>
         requires { i < length (segments_of self.now) }
         ensures value { slice_get (segments_of self.now) i ≡ Some (result.octets.now, result.more) }
-        ensures lent { IsBorrowedFrom self.now i result.octets }
+        ensures borrowed { SegmentIsBorrowed self.now i result.octets }
     {
         let most = self.channel.n201();
         let start = i * most;

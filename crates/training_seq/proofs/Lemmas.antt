@@ -1,3 +1,294 @@
--- Lemmas that other crates cite.
-pub use Rattle.training_seq.proofs.SequenceTable.{length-midamble, AllBits-midamble}
-pub use Rattle.training_seq.proofs.Greatest.{some_first_greatest, one_first_greatest}
+-- Correlations with the training sequences, and the greatest of them.
+use Rattle.bit_blocks.specs.{Bits.{AllBits, IsBit}, SoftValues.{bit_metric, count_wrong_bits, likelihood}}
+use Rattle.std.proofs.Common.{Bool, FitsSigned, List, [], ap, ap₂, arith, drop, eqb, get_or, inl, inr, leb, length, map, negsuc, of_z}
+use Rattle.std.proofs.Common.{pos, refl, replicate, rules, subst, suc, sym, tests, to_z, w16, zero, ℕ, ℤ, ◌%◌, ◌*ℤ◌, ◌*◌}
+use Rattle.std.proofs.Common.{◌+ℤ◌, ◌+◌, ◌<ℤ◌, ◌<◌, ◌^◌, ◌∙◌, ◌∷◌, ◌≡◌, ◌≢◌, ◌≤ℤ◌}
+use Rattle.std.proofs.{Common.{◌≤◌, ◌⊎◌}, lemmas.{Bool.cases_eq, Int.{by_lt_z, int_wrap_fits, ints, to_z-of_z}}}
+use Rattle.std.proofs.lemmas.{Int.{wrapping_add-bits, wrapping_mul_is}, List.{Elements.{All-head, All-tail}, Sums.AllPass-from_list_all}}
+use Rattle.std.{proofs.lemmas.List.{drop_more, get_or-map}, specs.{Int.int_wrap, List.list_all}}
+use Rattle.training_seq.specs.{Choice.IsFirstMaximum, Ranges.IsMagnitudeWithin, Sequences.{midamble, training_sequences}, Sums.sign_of_bit}
+use Rattle.training_seq.specs.Sums.{signs_of_bits, vector_sum, wrong_bits_at}
+use lib.Lanes.{zip2}
+
+-- ## SequenceTable: Properties of the eight training sequences, checked by computation.
+
+abbrev are_bits : List ℕ → Bool
+are_bits bits = list_all (λ bit. leb bit 1) bits
+
+pub length-midamble : (tsc : ℕ) → tsc ≤ 7 → length (midamble tsc) ≡ 26
+length-midamble tsc h =
+    let within : tsc < length training_sequences = omega arith in
+    let found = AllPass-from_list_all (λ bits. eqb (length bits) 26) training_sequences refl tsc [] within in
+    search (rules, tests)
+
+pub AllBits-midamble : (tsc : ℕ) → tsc ≤ 7 → AllBits (midamble tsc)
+AllBits-midamble tsc h k d lt =
+    let within : tsc < length training_sequences = omega arith in
+    let found = AllPass-from_list_all are_bits training_sequences refl tsc [] within in
+    let bit = AllPass-from_list_all (λ bit. leb bit 1) (midamble tsc) found k d lt in
+    search (rules, tests)
+
+sign-small : (bit : ℕ) → bit ≤ 1 → IsMagnitudeWithin 1 (sign_of_bit bit)
+sign-small zero h = (omega (arith, ints), omega (arith, ints))
+sign-small (suc zero) h = (omega (arith, ints), omega (arith, ints))
+sign-small (suc (suc bit)) h = absurd (omega arith)
+
+pub sign_at : (bits : List ℕ) (i : ℕ) → i < length bits → get_or (signs_of_bits bits) i (pos 0) ≡ sign_of_bit (get_or bits i 0)
+sign_at [] i h = absurd (omega (arith, h))
+sign_at (bit ∷ bits) zero h = refl
+sign_at (bit ∷ bits) (suc i) h = sign_at bits i (omega (arith, h))
+
+-- the sign of a training sequence at an index, in the list of all eight signs at that index
+pub sign_in_row : (tsc i : ℕ) → tsc ≤ 7
+    → get_or (map (λ bits. sign_of_bit (get_or bits i 0)) training_sequences) tsc (pos 0) ≡ sign_of_bit (get_or (midamble tsc) i 0)
+sign_in_row tsc i h = get_or-map (λ bits. sign_of_bit (get_or bits i 0)) training_sequences tsc [] (pos 0) (omega arith)
+
+pub small_in_row : (tsc i : ℕ) → tsc ≤ 7 → i < 26 → IsMagnitudeWithin 1 (sign_of_bit (get_or (midamble tsc) i 0))
+small_in_row tsc i h lt =
+    sign-small (get_or (midamble tsc) i 0) (AllBits-midamble tsc h i 0 (omega (arith, lt, length-midamble tsc h)))
+
+pub small_sign : (tsc i : ℕ) → tsc ≤ 7 → i < 26 → IsMagnitudeWithin 1 (get_or (signs_of_bits (midamble tsc)) i (pos 0))
+small_sign tsc i h lt =
+    let bits = midamble tsc in
+    let there : i < length bits = omega (arith, lt, length-midamble tsc h) in
+    subst (IsMagnitudeWithin 1) (sym (sign_at bits i there)) (sign-small (get_or bits i 0) (AllBits-midamble tsc h i 0 there))
+
+-- The lanes of a vector of totals to which a multiple of eight signs is added.
+
+abbrev plus : ℕ → ℕ → ℕ
+plus a b = (a + b) % 2 ^ 16
+
+abbrev times : ℕ → ℕ → ℕ
+times a b = a * b % 2 ^ 16
+
+abbrev pub with_product : (n : ℕ) → List ℤ → ℤ → List ℤ → List ℤ
+with_product n totals value signs =
+    map (to_z w16) (zip2 plus (map (of_z w16) totals) (zip2 times (replicate n (of_z w16 value)) (map (of_z w16) signs)))
+
+pub product_within : (value sign : ℤ) → IsMagnitudeWithin 512 value → IsMagnitudeWithin 1 sign →
+    IsMagnitudeWithin 512 (value *ℤ sign)
+product_within value (pos zero) v s = (omega (arith, ints), omega (arith, ints))
+product_within value (pos (suc zero)) v s = (omega (arith, ints), omega (arith, ints))
+product_within value (pos (suc (suc n))) v s = absurd (omega (arith, ints))
+product_within value (negsuc zero) v s = (omega (arith, ints), omega (arith, ints))
+product_within value (negsuc (suc n)) v s = absurd (omega (arith, ints))
+
+fits : (z : ℤ) → IsMagnitudeWithin 13312 z → FitsSigned w16 z
+fits (pos n) h = record { sfits = omega (arith, ints) }
+fits (negsuc n) h = record { sfits = omega (arith, ints) }
+
+one_lane : (total value sign : ℤ) → IsMagnitudeWithin 12800 total → IsMagnitudeWithin 512 value → IsMagnitudeWithin 1 sign
+    → to_z w16 (plus (of_z w16 total) (times (of_z w16 value) (of_z w16 sign))) ≡ total +ℤ value *ℤ sign
+one_lane total value sign t v s =
+    let p = product_within value sign v s in
+    wrapping_add-bits w16 (of_z w16 total) (times (of_z w16 value) (of_z w16 sign)) (omega (arith, ints)) (omega arith)
+    ∙ ap₂ (λ a b. int_wrap w16 (a +ℤ b)) (to_z-of_z w16 total (fits total (omega (arith, ints), omega (arith, ints))))
+    (wrapping_mul_is w16 value sign (fits value (omega (arith, ints), omega (arith, ints)))
+    (fits sign (omega (arith, ints), omega (arith, ints)))
+    ∙ int_wrap_fits w16 (value *ℤ sign) (fits _ (omega (arith, ints), omega (arith, ints))))
+    ∙ int_wrap_fits w16 (total +ℤ value *ℤ sign) (fits _ (omega (arith, ints), omega (arith, ints)))
+
+pub length-with_product : (n : ℕ) (totals : List ℤ) (value : ℤ) (signs : List ℤ) → length totals ≡ n → length signs ≡ n
+    → length (with_product n totals value signs) ≡ n
+length-with_product zero [] value [] e e' = refl
+length-with_product (suc n) (total ∷ totals) value (sign ∷ signs) e e' =
+    ap suc (length-with_product n totals value signs (omega arith) (omega arith))
+length-with_product n totals value signs e e' = absurd (omega arith)
+
+at : (n : ℕ) (totals : List ℤ) (value : ℤ) (signs : List ℤ) (k : ℕ) → length totals ≡ n → length signs ≡ n → k < n
+    → get_or (with_product n totals value signs) k (pos 0)
+    ≡ to_z w16 (plus (of_z w16 (get_or totals k (pos 0))) (times (of_z w16 value) (of_z w16 (get_or signs k (pos 0)))))
+at (suc n) (total ∷ totals) value (sign ∷ signs) zero e e' lt = refl
+at (suc n) (total ∷ totals) value (sign ∷ signs) (suc k) e e' lt = at n totals value signs k (omega arith) (omega arith) (omega arith)
+at n totals value signs k e e' lt = absurd (omega arith)
+
+pub total_with_product : (totals : List ℤ) (value : ℤ) (signs : List ℤ) (k : ℕ) → length totals ≡ 8 → length signs ≡ 8
+    → k < 8
+    → IsMagnitudeWithin 12800 (get_or totals k (pos 0)) → IsMagnitudeWithin 512 value → IsMagnitudeWithin 1 (get_or signs k (pos 0))
+    → get_or (with_product 8 totals value signs) k (pos 0) ≡ get_or totals k (pos 0) +ℤ value *ℤ get_or signs k (pos 0)
+total_with_product totals value signs k e e' lt t v s =
+    at 8 totals value signs k e e' lt ∙ one_lane (get_or totals k (pos 0)) value (get_or signs k (pos 0)) t v s
+
+-- a total is unchanged when it is passed on
+pub passed : (n : ℕ) (totals : List ℤ) (k : ℕ) → length totals ≡ n → k < n → IsMagnitudeWithin 13312 (get_or totals k (pos 0))
+    → get_or (map (to_z w16) (map (of_z w16) totals)) k (pos 0) ≡ get_or totals k (pos 0)
+passed (suc n) (total ∷ totals) zero e lt h = to_z-of_z w16 total (fits total h)
+passed (suc n) (total ∷ totals) (suc k) e lt h = passed n totals k (omega arith) (omega arith) h
+passed n totals k e lt h = absurd (omega arith)
+
+-- ## Correlations: Correlations with one more soft bit, and the correlation of a sum of soft bits.
+
+pub correlation_more : (soft : List ℤ) (bits : List ℕ) (i : ℕ) (total all : ℤ) → i < length soft → i < length bits →
+    total +ℤ likelihood (drop i soft) (drop i bits) ≡ all →
+    (total +ℤ bit_metric (get_or soft i (pos 0)) (get_or bits i 0)) +ℤ likelihood (drop (i + 1) soft) (drop (i + 1) bits) ≡ all
+correlation_more soft bits i total all hs hb before =
+    let value = get_or soft i (pos 0) in
+    let bit = get_or bits i 0 in
+    let next : total +ℤ (bit_metric value bit +ℤ likelihood (drop (i + 1) soft) (drop (i + 1) bits)) ≡ all =
+    rw (drop_more soft i (pos 0), drop_more bits i 0) at before in
+    omega (arith, ints)
+
+-- the wrong soft bits from index i on are those from i + 1 on, plus one if soft bit i is wrong
+pub wrong_more : (soft : List ℤ) (bits : List ℕ) (i : ℕ) → i < length soft → i < length bits →
+    count_wrong_bits (drop i soft) (drop i bits) ≡ wrong_bits_at soft i (sign_of_bit (get_or bits i 0)) + count_wrong_bits
+    (drop (i + 1) soft)
+    (drop (i + 1) bits)
+wrong_more soft bits i hs hb = rw (drop_more soft i (pos 0), drop_more bits i 0) refl
+
+bit_metric-add : (x y : ℤ) (bit : ℕ) → bit ≤ 1 → bit_metric (x +ℤ y) bit ≡ bit_metric x bit +ℤ bit_metric y bit
+bit_metric-add x y zero h = omega (arith, ints)
+bit_metric-add x y (suc zero) h = omega (arith, ints)
+bit_metric-add x y (suc (suc bit)) h = absurd (omega arith)
+
+pub length-vector_sum : (xs ys : List ℤ) → length xs ≡ length ys → length (vector_sum xs ys) ≡ length xs
+length-vector_sum [] ys e = refl
+length-vector_sum (x ∷ xs) [] e = absurd (omega arith)
+length-vector_sum (x ∷ xs) (y ∷ ys) e =
+    let e' : length xs ≡ length ys = omega arith in
+    ap suc (length-vector_sum xs ys e')
+
+pub get_or-vector_sum : (xs ys : List ℤ) (k : ℕ) → length xs ≡ length ys →
+    get_or (vector_sum xs ys) k (pos 0) ≡ get_or xs k (pos 0) +ℤ get_or ys k (pos 0)
+get_or-vector_sum [] [] k e = refl
+get_or-vector_sum [] (y ∷ ys) k e = absurd (omega arith)
+get_or-vector_sum (x ∷ xs) [] k e = absurd (omega arith)
+get_or-vector_sum (x ∷ xs) (y ∷ ys) zero e = refl
+get_or-vector_sum (x ∷ xs) (y ∷ ys) (suc k) e =
+    let e' : length xs ≡ length ys = omega arith in
+    get_or-vector_sum xs ys k e'
+
+pub correlation-vector_sum : (xs ys : List ℤ) (bits : List ℕ) → length xs ≡ length ys → AllBits bits →
+    likelihood (vector_sum xs ys) bits ≡ likelihood xs bits +ℤ likelihood ys bits
+correlation-vector_sum [] [] bits e b = refl
+correlation-vector_sum [] (y ∷ ys) bits e b = absurd (omega arith)
+correlation-vector_sum (x ∷ xs) [] bits e b = absurd (omega arith)
+correlation-vector_sum (x ∷ xs) (y ∷ ys) [] e b = refl
+correlation-vector_sum (x ∷ xs) (y ∷ ys) (bit ∷ bits) e b =
+    let e' : length xs ≡ length ys = omega arith in
+    let here = bit_metric-add x y bit (All-head IsBit bit bits b) in
+    let rest = correlation-vector_sum xs ys bits e' (All-tail IsBit bit bits b) in
+    omega (arith, ints, here, rest)
+
+-- ## Greatest: A loop finds the greatest of several scores, and the first if several are equal.
+
+-- every other index below `end` has a smaller score, or an equal one and comes later
+pub record LeadsBelow (score : ℕ → ℤ) (end best : ℕ) : Type 0 where
+  pub in_range : best < end
+  pub others : (n : ℕ) → n < end → n ≢ best → (score n <ℤ score best) ⊎ ((score n ≡ score best) × (best < n))
+
+LeadsBelow-one : (score : ℕ → ℤ) → LeadsBelow score 1 0
+LeadsBelow-one score = record {
+  in_range = omega arith;
+  others = λ n h ne. absurd (omega arith);
+}
+
+-- the next index has a greater score and becomes the best
+pub LeadsBelow-overtaken : (score : ℕ → ℤ) (end best : ℕ) → LeadsBelow score end best → score best <ℤ score end →
+    LeadsBelow score (end + 1) end
+LeadsBelow-overtaken score end best leads more = record {
+  in_range = omega arith;
+  others = λ n h ne. inl (behind n (omega arith) (cases_eq n best));
+} where
+  behind : (n : ℕ) → n < end → (n ≡ best) ⊎ (n ≢ best) → score n <ℤ score end
+  behind n h (inl same) = rw same more
+  behind n h (inr other) = elim (leads.others n h other) [
+    | inl less ↦ omega (arith, ints)
+    | inr equal ↦ let e = equal.0 in omega (arith, ints)
+  ]
+
+-- the next index has no greater score
+pub LeadsBelow-kept : (score : ℕ → ℤ) (end best : ℕ) → LeadsBelow score end best → score end ≤ℤ score best →
+    LeadsBelow score (end + 1) best
+LeadsBelow-kept score end best leads less = record {
+  in_range = let w = leads.in_range in omega arith;
+  others = λ n h ne. behind n h ne (cases_eq n end);
+} where
+  behind : (n : ℕ) → n < end + 1 → n ≢ best → (n ≡ end) ⊎ (n ≢ end) →
+      (score n <ℤ score best) ⊎ ((score n ≡ score best) × (best < n))
+  behind n h ne (inl same) =
+      rw same
+      (by_lt_z (score end) (score best)
+      (λ under. inl under)
+      (λ over. let w = leads.in_range in inr (omega (arith, ints), omega arith)))
+  behind n h ne (inr other) = leads.others n (omega arith) ne
+
+pub IsFirstMaximum-from_LeadsBelow : (score : ℕ → ℤ) (best : ℕ) → LeadsBelow score 8 best → IsFirstMaximum score 7 best
+IsFirstMaximum-from_LeadsBelow score best leads = record {
+  in_range = let w = leads.in_range in omega arith;
+  others = λ n h ne. leads.others n (omega arith) ne;
+}
+
+-- two equal scores have the same first greatest index
+pub IsFirstMaximum-same : (score total : ℕ → ℤ) (last best : ℕ) → ((n : ℕ) → n ≤ last → score n ≡ total n) →
+    IsFirstMaximum score last best → IsFirstMaximum total last best
+IsFirstMaximum-same score total last best same first = record {
+  in_range = first.in_range;
+  others = λ n h ne.
+      let here = same n h in
+      let there = same best first.in_range in
+      elim (first.others n h ne) [
+        | inl less ↦ inl (omega (arith, ints))
+        | inr equal ↦ let e = equal.0 in let later = equal.1 in inr (omega (arith, ints), later)
+      ];
+}
+
+leads : (score : ℕ → ℤ) (n : ℕ) → (best : ℕ) × LeadsBelow score (n + 1) best
+leads score zero = (0, LeadsBelow-one score)
+leads score (suc n) =
+    let before = leads score n in
+    let longer : n + 1 + 1 ≡ suc n + 1 = omega arith in
+    by_lt_z (score before.0) (score (n + 1))
+    (λ more. (n + 1, subst (λ k. LeadsBelow score k (n + 1)) longer (LeadsBelow-overtaken score (n + 1) before.0 before.1 more)))
+    (λ less. (before.0, subst (λ k. LeadsBelow score k before.0) longer (LeadsBelow-kept score (n + 1) before.0 before.1 less)))
+
+pub some_first_greatest : (score : ℕ → ℤ) → (best : ℕ) × IsFirstMaximum score 7 best
+some_first_greatest score =
+    let found = leads score 7 in (found.0, IsFirstMaximum-from_LeadsBelow score found.0 found.1)
+
+-- the first index with the greatest score is unique
+pub one_first_greatest : (score : ℕ → ℤ) (last m n : ℕ) → IsFirstMaximum score last m → IsFirstMaximum score last n → m ≡ n
+one_first_greatest score last m n h g = elim (cases_eq m n) [
+  | inl same ↦ same
+  | inr other ↦ elim (h.others n g.in_range (λ e. other (sym e))) [
+    | inl less ↦ elim (g.others m h.in_range other) [
+      | inl more ↦ absurd (omega (arith, ints))
+      | inr level ↦ let e = level.0 in absurd (omega (arith, ints))
+    ]
+    | inr behind ↦ elim (g.others m h.in_range other) [
+      | inl more ↦ let e = behind.0 in absurd (omega (arith, ints))
+      | inr ahead ↦ let e = behind.1 in let e' = ahead.1 in absurd (omega arith)
+    ]
+  ]
+]
+
+-- ## Widths: A sum of four soft bits fits in 16 bits.
+
+-- a value converted to 16 bits and back
+abbrev pub kept : ℤ → ℤ
+kept z = to_z w16 (of_z w16 z)
+
+kept_is : (z : ℤ) → IsMagnitudeWithin 512 z → kept z ≡ z
+kept_is z h = omega (arith, ints)
+
+module _ (a b c d : ℤ) (ha : IsMagnitudeWithin 128 a) (hb : IsMagnitudeWithin 128 b) (hc : IsMagnitudeWithin 128 c)
+    (hd : IsMagnitudeWithin 128 d) where
+  three_kept : kept (kept (kept a +ℤ kept b) +ℤ kept c) ≡ (a +ℤ b) +ℤ c
+  three_kept =
+      let ka = kept_is a (omega (arith, ints), omega (arith, ints)) in
+      let kb = kept_is b (omega (arith, ints), omega (arith, ints)) in
+      let kc = kept_is c (omega (arith, ints), omega (arith, ints)) in
+      let kab = kept_is (a +ℤ b) (omega (arith, ints), omega (arith, ints)) in
+      let kabc = kept_is ((a +ℤ b) +ℤ c) (omega (arith, ints), omega (arith, ints)) in
+      cc
+
+  pub four_fit : FitsSigned w16 (kept (kept (kept a +ℤ kept b) +ℤ kept c) +ℤ kept d)
+  four_fit =
+      let kd = kept_is d (omega (arith, ints), omega (arith, ints)) in
+      rw (three_kept, kd) (omega (arith, ints))
+
+  pub four_kept : kept (kept (kept (kept a +ℤ kept b) +ℤ kept c) +ℤ kept d) ≡ ((a +ℤ b) +ℤ c) +ℤ d
+  four_kept =
+      let kd = kept_is d (omega (arith, ints), omega (arith, ints)) in
+      let all = kept_is (((a +ℤ b) +ℤ c) +ℤ d) (omega (arith, ints), omega (arith, ints)) in
+      let three = three_kept in
+      cc

@@ -1,11 +1,11 @@
--- The choice, by correlation, of the training sequence with which four received bursts were sent (this project's own rule).
+-- Detection, by correlation, of the training sequence of four received bursts (this project's own rule).
 use Rattle.std.specs.Prelude.{ℕ, ◌≡◌, ◌≢◌, ◌+◌, ◌<◌, ◌≤◌, ◌⊎◌, ℤ, ◌+ℤ◌, ◌<ℤ◌, List}
 use Rattle.training_seq.specs.Sequences.{midamble}
 use Rattle.bit_blocks.specs.SoftValues.{likelihood, count_wrong_bits}
 
--- of the indexes 0 to `last`, `best` is the one with the greatest `score`, or the first of these if there are several
+-- `best` is the index, 0 to `last`, with the greatest `score`, or the first of several such indexes
 pub record IsFirstMaximum (score : ℕ → ℤ) (last best : ℕ) : Type 0 where
-  pub within : best ≤ last
+  pub in_range : best ≤ last
   pub others : (n : ℕ) → n ≤ last → n ≢ best → (score n <ℤ score best) ⊎ ((score n ≡ score best) × (best < n))
 
 -- the sum of the correlations of four midambles, each of 26 soft bits, with a training sequence
@@ -14,7 +14,7 @@ total_correlation a b c d tsc =
     let bits = midamble tsc in
     ((likelihood a bits +ℤ likelihood b bits) +ℤ likelihood c bits) +ℤ likelihood d bits
 
--- the training sequence code, 0 to 7, has the greatest total correlation with four midambles; of equal codes, it is the lowest
+-- the training sequence code, 0 to 7, has the greatest total correlation with four midambles; on a tie, it is the lowest
 abbrev pub CorrelatesBest : (a b c d : List ℤ) → ℕ → Type 0
 CorrelatesBest a b c d tsc = IsFirstMaximum (total_correlation a b c d) 7 tsc
 

@@ -12,7 +12,7 @@ vector_sum (x ∷ xs) (y ∷ ys) = (x +ℤ y) ∷ vector_sum xs ys
 abbrev pub soft_bit_at : List ℤ → ℕ → ℤ
 soft_bit_at values i = slice_index_or values i (pos 0)
 
--- the factor by which a training bit multiplies a soft bit in a correlation: 1 for bit 0, -1 for bit 1
+-- the factor of a training bit in a correlation: 1 for bit 0, -1 for bit 1
 abbrev pub sign_of_bit : ℕ → ℤ
 sign_of_bit bit = pos 1 -ℤ pos (2 * bit)
 

@@ -24,7 +24,8 @@ pub fn best(a: &[i8], b: &[i8], c: &[i8], d: &[i8]) -> (u8, u32)
     (tsc, count_wrong_training_bits(a, b, c, d, tsc))
 }
 
-// Adds the four midambles element by element, so that each sequence is correlated only once. Inlined, the loop is not vectorized.
+// Adds the four midambles element by element, so that each sequence is correlated only once. If this function were inlined, the compiler
+// would not vectorize the loop.
 #[inline(never)]
 fn add_midambles(a: &[i8], b: &[i8], c: &[i8], d: &[i8]) -> [i16; 26]
     requires a { length a.now ≡ 26 }
@@ -58,10 +59,11 @@ fn most_correlated_tsc(sums: &[i16; 26]) -> u8
     requires small { All (IsMagnitudeWithin 512) sums.now }
     ensures { IsFirstMaximum (λ tsc. likelihood sums.now (midamble tsc)) 7 result }
 {
+    let totals = correlate_sums(sums);
     let mut best = 0;
-    let mut greatest = correlate_sums(sums, 0);
+    let mut greatest = totals[0];
     for tsc in 1..8 {
-        let total = correlate_sums(sums, tsc);
+        let total = totals[tsc as usize];
         if total > greatest {
             best = tsc;
             greatest = total;
@@ -103,8 +105,8 @@ fn count_wrong_bits_at(a: &[i8], b: &[i8], c: &[i8], d: &[i8], i: usize, sign: i
         + wrong_bits_at(d, i, sign)
 }
 
-// Returns 1 if the soft bit at index `i` disagrees with a training bit of this sign, else 0. The result has 16 bits, as the signs have, so
-// that a vector holds eight of either.
+// Returns 1 if the soft bit at index `i` disagrees with a training bit of this sign, else 0. Results and signs both have 16 bits, so a
+// vector holds eight of either.
 fn wrong_bits_at(values: &[i8], i: usize, sign: i16) -> u16
     requires within { i < length values.now }
     requires sign { IsMagnitudeWithin 1 sign }

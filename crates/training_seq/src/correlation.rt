@@ -1,10 +1,12 @@
 //! The correlation of soft bits with a training sequence, as a sum of products.
-ghost use Rattle.std.specs.Prelude.{◌≡◌, ◌≤◌, length, All, neg_ℤ, pos, ◌*ℤ◌, ◌≤ℤ◌};
+ghost use Rattle.std.specs.Prelude.{◌≡◌, ◌≤◌, ℕ, length, All, neg_ℤ, pos, ◌+ℤ◌, ◌*ℤ◌, ◌≤ℤ◌};
 ghost use Rattle.bit_blocks.specs.SoftValues.{likelihood};
 ghost use Rattle.training_seq.specs.Ranges.{IsMagnitudeWithin};
 ghost use Rattle.training_seq.specs.Sequences.{midamble};
+ghost use Rattle.training_seq.specs.Sums.{soft_bit_at};
 
-use crate::sequences::signs;
+use crate::sequences::signs_at;
+use std::simd::prelude::*;
 
 /// The correlation of 26 soft bits with a training sequence: the sum of the soft bits, each negated where the sequence has a 1.
 pub fn correlate(soft: &[i8], tsc: u8) -> i32
@@ -12,7 +14,7 @@ pub fn correlate(soft: &[i8], tsc: u8) -> i32
     requires known { tsc ≤ 7 }
     ensures { result ≡ likelihood soft.now (midamble tsc) }
 {
-    i32::from(correlate_sums(&widen_to_i16(soft), tsc))
+    i32::from(correlate_sums(&widen_to_i16(soft))[tsc as usize])
 }
 
 /// Widens 26 soft bits to 16-bit numbers.
@@ -28,18 +30,43 @@ fn widen_to_i16(soft: &[i8]) -> [i16; 26]
     wide
 }
 
-/// The correlation of the sums of four midambles with a training sequence.
-pub(crate) fn correlate_sums(sums: &[i16; 26], tsc: u8) -> i16
+/// The correlations of the sums of four midambles with the eight training sequences.
+pub(crate) fn correlate_sums(sums: &[i16; 26]) -> [i16; 8]
     requires small { All (IsMagnitudeWithin 512) sums.now }
-    requires known { tsc ≤ 7 }
-    ensures { result ≡ likelihood sums.now (midamble tsc) }
+    ensures value { (tsc : ℕ) → tsc ≤ 7 → soft_bit_at result tsc ≡ likelihood sums.now (midamble tsc) }
+    ensures within { (tsc : ℕ) → tsc ≤ 7 → IsMagnitudeWithin 13312 (soft_bit_at result tsc) }
 {
-    let signs = signs(tsc);
-    let mut total = 0;
-    for (i, value) in sums.iter().enumerate() {
-        total += times_sign(*value, signs[i]);
+    let mut totals = Totals {
+        lanes: i16x8::splat(0),
+    };
+    for i in 0..26 {
+        totals = totals.add_product(sums[i], signs_at(i));
     }
-    total
+    totals.lanes.to_array()
+}
+
+/// The correlations with the eight training sequences so far.
+#[derive(Clone, Copy)]
+struct Totals {
+    lanes: i16x8,
+}
+
+impl Totals {
+    /// Adds to each total `value` times the sign at the same index.
+    #[inline]
+    fn add_product(self, value: i16, signs: &[i16; 8]) -> Totals
+        requires count { length self.lanes ≡ 8 }
+        requires totals { (tsc : ℕ) → tsc ≤ 7 → IsMagnitudeWithin 12800 (soft_bit_at self.lanes tsc) }
+        requires value { IsMagnitudeWithin 512 value }
+        requires signs { (tsc : ℕ) → tsc ≤ 7 → IsMagnitudeWithin 1 (soft_bit_at signs.now tsc) }
+        ensures count { length result.lanes ≡ 8 }
+        ensures each { (tsc : ℕ) → tsc ≤ 7 →
+            soft_bit_at result.lanes tsc ≡ soft_bit_at self.lanes tsc +ℤ value *ℤ soft_bit_at signs.now tsc }
+    {
+        Totals {
+            lanes: self.lanes + i16x8::splat(value) * i16x8::from_array(*signs),
+        }
+    }
 }
 
 /// `value` if `sign` is 1, and `-value` if it is -1.

@@ -1,5 +1,5 @@
-//! The eight training sequences (midambles) of the normal burst (GSM 05.02, today 3GPP TS 45.002, section 5.2.3), and the choice of the
-//! sequence with which a received block was sent.
+//! The eight training sequences (midambles) of the normal burst (GSM 05.02, today 3GPP TS 45.002, section 5.2.3), and the detection of the
+//! sequence in a received block.
 #![tactic(auto)]
 
 mod choice;

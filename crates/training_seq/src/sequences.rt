@@ -1,8 +1,8 @@
 //! The table of training sequences, as bits and as signs.
-ghost use Rattle.std.specs.Prelude.{◌≡◌, ◌≤◌, take, drop};
+ghost use Rattle.std.specs.Prelude.{◌≡◌, ◌<◌, ◌≤◌, map, take, drop, slice_index};
 ghost use Rattle.bit_blocks.specs.Bits.{AllBits};
-ghost use Rattle.training_seq.specs.Sequences.{midamble};
-ghost use Rattle.training_seq.specs.Sums.{signs_of_bits};
+ghost use Rattle.training_seq.specs.Sequences.{midamble, training_sequences};
+ghost use Rattle.training_seq.specs.Sums.{sign_of_bit, signs_of_bits};
 
 static TRAINING_SEQUENCES: [[u8; 26]; 8] = [
     [
@@ -62,6 +62,36 @@ static TRAINING_SIGNS: [[i16; 26]; 8] = [
     ],
 ];
 
+// The signs of the eight training sequences at each of the 26 indexes.
+static SIGNS_BY_INDEX: [[i16; 8]; 26] = [
+    [1, 1, 1, 1, 1, 1, -1, -1],
+    [1, 1, -1, -1, 1, -1, 1, -1],
+    [-1, -1, 1, 1, 1, 1, -1, -1],
+    [1, 1, 1, 1, -1, 1, 1, 1],
+    [1, -1, 1, 1, -1, -1, 1, -1],
+    [-1, -1, 1, -1, 1, -1, -1, -1],
+    [1, 1, -1, -1, -1, -1, -1, -1],
+    [-1, -1, -1, -1, 1, 1, -1, -1],
+    [-1, -1, -1, -1, -1, -1, -1, 1],
+    [-1, -1, 1, 1, -1, 1, -1, 1],
+    [1, 1, -1, -1, -1, -1, 1, 1],
+    [1, -1, -1, -1, 1, -1, -1, -1],
+    [1, -1, -1, 1, 1, 1, -1, 1],
+    [1, -1, 1, -1, -1, 1, 1, 1],
+    [-1, -1, -1, 1, 1, 1, 1, -1],
+    [1, 1, 1, 1, 1, 1, 1, 1],
+    [1, 1, 1, 1, 1, 1, -1, -1],
+    [1, 1, -1, -1, 1, -1, 1, -1],
+    [-1, -1, 1, 1, 1, 1, -1, -1],
+    [1, 1, 1, 1, -1, 1, 1, 1],
+    [1, -1, 1, 1, -1, -1, 1, -1],
+    [-1, -1, 1, -1, 1, -1, -1, -1],
+    [1, 1, -1, -1, -1, -1, -1, -1],
+    [-1, -1, -1, -1, 1, 1, -1, -1],
+    [-1, -1, -1, -1, -1, -1, -1, 1],
+    [-1, -1, 1, 1, -1, 1, -1, 1],
+];
+
 /// The 26 bits of the training sequence with code `tsc` (GSM 05.02 section 5.2.3).
 pub fn sequence(tsc: u8) -> [u8; 26]
     requires { tsc ≤ 7 }
@@ -78,4 +108,12 @@ pub(crate) fn signs(tsc: u8) -> &'static [i16; 26]
     ensures { result.now ≡ signs_of_bits (midamble tsc) }
 {
     &TRAINING_SIGNS[tsc as usize]
+}
+
+/// The signs of the eight training sequences at index `i`.
+pub(crate) fn signs_at(i: usize) -> &'static [i16; 8]
+    requires { i < 26 }
+    ensures { result.now ≡ map (λ bits. sign_of_bit (slice_index bits i)) training_sequences }
+{
+    &SIGNS_BY_INDEX[i]
 }

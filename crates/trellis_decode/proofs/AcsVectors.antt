@@ -54,33 +54,35 @@ pub difference-lane : (x y : ℤ) → FitsSigned w16 x → FitsSigned w16 y → 
     cast_signed w16 ((cast_unsigned w16 x + (2 ^ 16 - cast_unsigned w16 y)) % 2 ^ 16) ≡ x -ℤ y
 difference-lane x y hx hy h = wrapping_sub_is _ x y hx hy ∙ int_wrap_fits _ _ h
 
-pub AreInt16-modest : (a : List ℤ) → HaveHeadroom16 a → AreInt16 a
-AreInt16-modest a h = record {
+AreInt16-headroom16 : (a : List ℤ) → HaveHeadroom16 a → AreInt16 a
+AreInt16-headroom16 a h = record {
   count = h.count;
-  fits = λ k lt. let low = h.low k lt in let high = h.high k lt in fits_between _ (omega (arith, ints)) (omega (arith, ints));
+  fits = λ k lt. let low = h.lower_bound k lt in let high = h.upper_bound k lt in
+      fits_between _ (omega (arith, ints)) (omega (arith, ints));
 }
 
-pub AreInt16-branch_metrics : (a : List ℤ) → AreBranchMetrics a → AreInt16 a
+AreInt16-branch_metrics : (a : List ℤ) → AreBranchMetrics a → AreInt16 a
 AreInt16-branch_metrics a h = record {
   count = h.count;
-  fits = λ k lt. let low = h.low k lt in let high = h.high k lt in fits_between _ (omega (arith, ints)) (omega (arith, ints));
+  fits = λ k lt. let low = h.lower_bound k lt in let high = h.upper_bound k lt in
+      fits_between _ (omega (arith, ints)) (omega (arith, ints));
 }
 
 sums_fit : (a b : List ℤ) → HaveHeadroom16 a → AreBranchMetrics b → (k : ℕ) → k < 8 → FitsSigned w16 (lane a k +ℤ lane b k)
 sums_fit a b ha hb k lt =
-    let low = ha.low k lt in
-    let high = ha.high k lt in
-    let low' = hb.low k lt in
-    let high' = hb.high k lt in
+    let low = ha.lower_bound k lt in
+    let high = ha.upper_bound k lt in
+    let low' = hb.lower_bound k lt in
+    let high' = hb.upper_bound k lt in
     fits_between _ (omega (arith, ints)) (omega (arith, ints))
 
 differences_fit : (a b : List ℤ) → HaveHeadroom16 a → AreBranchMetrics b → (k : ℕ) → k < 8 →
     FitsSigned w16 (lane a k -ℤ lane b k)
 differences_fit a b ha hb k lt =
-    let low = ha.low k lt in
-    let high = ha.high k lt in
-    let low' = hb.low k lt in
-    let high' = hb.high k lt in
+    let low = ha.lower_bound k lt in
+    let high = ha.upper_bound k lt in
+    let low' = hb.lower_bound k lt in
+    let high' = hb.upper_bound k lt in
     fits_between _ (omega (arith, ints)) (omega (arith, ints))
 
 pub lane-add_branch_metrics : (a b : List ℤ) → HaveHeadroom16 a → AreBranchMetrics b → (k : ℕ) → k < 8 →
@@ -88,7 +90,7 @@ pub lane-add_branch_metrics : (a b : List ℤ) → HaveHeadroom16 a → AreBranc
 lane-add_branch_metrics a b ha hb k lt =
     let sb : k < length b = omega (arith, hb.count) in
     lane-zip2 _ a b k (omega (arith, ha.count)) sb
-    ∙ sum-lane _ _ ((AreInt16-modest a ha).fits k lt) ((AreInt16-branch_metrics b hb).fits k lt) (sums_fit a b ha hb k lt)
+    ∙ sum-lane _ _ ((AreInt16-headroom16 a ha).fits k lt) ((AreInt16-branch_metrics b hb).fits k lt) (sums_fit a b ha hb k lt)
 
 pub AreInt16-add_branch_metrics : (a b : List ℤ) → HaveHeadroom16 a → AreBranchMetrics b → AreInt16 (add_branch_metrics a b)
 AreInt16-add_branch_metrics a b ha hb = record {
@@ -98,29 +100,29 @@ AreInt16-add_branch_metrics a b ha hb = record {
 
 pub lane-subtract_lanes : (a b : List ℤ) → AreInt16 a → AreInt16 b → DifferencesFit16Bits a b → (k : ℕ) → k < 8 →
     lane (subtract_branch_metrics a b) k ≡ lane a k -ℤ lane b k
-lane-subtract_lanes a b ha hb near k lt =
+lane-subtract_lanes a b ha hb fits_16_bits k lt =
     let sb : k < length b = omega (arith, hb.count) in
     lane-zip2 _ a b k (omega (arith, ha.count)) sb
-    ∙ difference-lane _ _ (ha.fits k lt) (hb.fits k lt) (near.fits k lt)
+    ∙ difference-lane _ _ (ha.fits k lt) (hb.fits k lt) (fits_16_bits.fits k lt)
 
 pub AreInt16-subtract_lanes : (a b : List ℤ) → AreInt16 a → AreInt16 b → DifferencesFit16Bits a b →
     AreInt16 (subtract_branch_metrics a b)
-AreInt16-subtract_lanes a b ha hb near = record {
+AreInt16-subtract_lanes a b ha hb fits_16_bits = record {
   count = length-lanes-zip2 _ a b (ha.count ∙ sym hb.count) ∙ ha.count;
-  fits = λ k lt. rw lane-subtract_lanes (near.fits k lt);
+  fits = λ k lt. rw lane-subtract_lanes (fits_16_bits.fits k lt);
 }
 
 module _ (a b : List ℤ) (ha : HaveHeadroom16 a) (hb : AreBranchMetrics b) where
   pub lane-subtract_branch_metrics : (k : ℕ) → k < 8 → lane (subtract_branch_metrics a b) k ≡ lane a k -ℤ lane b k
   lane-subtract_branch_metrics =
-      lane-subtract_lanes a b (AreInt16-modest a ha) (AreInt16-branch_metrics b hb) (record { fits = differences_fit a b ha hb })
+      lane-subtract_lanes a b (AreInt16-headroom16 a ha) (AreInt16-branch_metrics b hb) (record { fits = differences_fit a b ha hb })
 
   pub AreInt16-subtract_branch_metrics : AreInt16 (subtract_branch_metrics a b)
   AreInt16-subtract_branch_metrics =
-      AreInt16-subtract_lanes a b (AreInt16-modest a ha) (AreInt16-branch_metrics b hb) (record { fits = differences_fit a b ha hb })
+      AreInt16-subtract_lanes a b (AreInt16-headroom16 a ha) (AreInt16-branch_metrics b hb) (record { fits = differences_fit a b ha hb })
 
 -- a lane converted to an unsigned number and back is unchanged
-pub lane_back : (a : List ℤ) (rest : List ℕ) (s : ℕ) → s < length a → FitsSigned w16 (lane a s) →
+lane_back : (a : List ℤ) (rest : List ℕ) (s : ℕ) → s < length a → FitsSigned w16 (lane a s) →
     cast_signed w16 (get_or (bits a ++ rest) s 0) ≡ lane a s
 lane_back [] rest s lt fits = absurd (omega arith)
 lane_back (x ∷ a) rest zero lt fits = to_z-of_z w16 x fits
@@ -277,8 +279,8 @@ AreDecisionLanes-each lanes t count is = record { count = count; each = λ k lt.
 
 AbsFit16Bits-fits : (a : List ℤ) → AbsFit16Bits a → (s : ℕ) → s < 16 → FitsSigned w16 (lane a s)
 AbsFit16Bits-fits a h s lt =
-    let low = h.low s lt in
-    let high = h.high s lt in
+    let low = h.lower_bound s lt in
+    let high = h.upper_bound s lt in
     fits_between _ (omega (arith, ints)) (omega (arith, ints))
 
 pub passed-subtract_lanes : (a : List ℤ) → AbsFit16Bits a → passed a ≡ a
@@ -321,14 +323,14 @@ size_one_is x low high =
 
 pub lane-absolute_values : (a : List ℤ) → AbsFit16Bits a → (s : ℕ) → s < 16 →
     lane (sizes_of 16 a) s ≡ (if int_lt (lane a s) (pos 0 -ℤ lane a s) then pos 0 -ℤ lane a s else lane a s)
-lane-absolute_values a h s lt = absolute_values-at a 16 s h.count lt ∙ size_one_is (lane a s) (h.low s lt) (h.high s lt)
+lane-absolute_values a h s lt = absolute_values-at a 16 s h.count lt ∙ size_one_is (lane a s) (h.lower_bound s lt) (h.upper_bound s lt)
 
 pub AbsFit16Bits-absolute_values : (a : List ℤ) → AbsFit16Bits a → AbsFit16Bits (sizes_of 16 a)
 AbsFit16Bits-absolute_values a h = record {
   count = length-absolute_values a _ h.count;
-  low = λ s lt. rw lane-absolute_values (let low = h.low s lt in let high = h.high s lt in
+  lower_bound = λ s lt. rw lane-absolute_values (let low = h.lower_bound s lt in let high = h.upper_bound s lt in
       if_either (λ x. negsuc 32766 ≤ℤ x) (int_lt (lane a s) (pos 0 -ℤ lane a s)) (omega (arith, ints)) low);
-  high = λ s lt. rw lane-absolute_values (let low = h.low s lt in let high = h.high s lt in
+  upper_bound = λ s lt. rw lane-absolute_values (let low = h.lower_bound s lt in let high = h.upper_bound s lt in
       if_either (λ x. x ≤ℤ pos 32767) (int_lt (lane a s) (pos 0 -ℤ lane a s)) (omega (arith, ints)) high);
 }
 

@@ -7,7 +7,7 @@ use Rattle.std.proofs.lemmas.{List.get_or_append_left, Simd.{SwzOk, SwzOk-from_b
 use Rattle.std.{proofs.lemmas.Simd.length-swz_l, specs.Int.{cast_signed, cast_unsigned}}
 use lib.Lanes.{zip2, sel_l, mask_l, top}
 use Rattle.trellis_decode.specs.{Lanes.lane, Hard.{AreInt8, AreMinusOneToOne, HaveHeadroom8, lane_of_next_state_1, sign_bit_of}}
-use Rattle.trellis_decode.{specs.Hard.lane_of_next_state_0, proofs.{BranchMetricLanes.same_below, AcsVectors.{if_either, if_map, sign_bit}}}
+use Rattle.trellis_decode.{specs.Hard.lane_of_next_state_0, proofs.{AcsSteps.same_below, AcsVectors.{if_either, if_map, sign_bit}}}
 
 abbrev bits : List ℤ → List ℕ
 bits = map (cast_unsigned w8)
@@ -43,10 +43,12 @@ fits_between (pos n) low high = record { sfits = omega (arith, ints) }
 fits_between (negsuc n) low high = record { sfits = omega (arith, ints) }
 
 AreInt8-headroom : (a : List ℤ) → HaveHeadroom8 a → (k : ℕ) → k < 16 → FitsSigned w8 (lane a k)
-AreInt8-headroom a h k lt = let low = h.low k lt in let high = h.high k lt in fits_between _ (omega (arith, ints)) (omega (arith, ints))
+AreInt8-headroom a h k lt = let low = h.lower_bound k lt in let high = h.upper_bound k lt in
+    fits_between _ (omega (arith, ints)) (omega (arith, ints))
 
 AreInt8-units : (a : List ℤ) → AreMinusOneToOne a → (k : ℕ) → k < 16 → FitsSigned w8 (lane a k)
-AreInt8-units a h k lt = let low = h.low k lt in let high = h.high k lt in fits_between _ (omega (arith, ints)) (omega (arith, ints))
+AreInt8-units a h k lt = let low = h.lower_bound k lt in let high = h.upper_bound k lt in
+    fits_between _ (omega (arith, ints)) (omega (arith, ints))
 
 -- ---- the candidate metrics of bit 0 and of bit 1
 
@@ -85,18 +87,18 @@ module _ (a branch_metrics : List ℤ) (ha : HaveHeadroom8 a) (he : AreMinusOneT
 
   sum_fits : (i k : ℕ) → i < 16 → k < 16 → FitsSigned w8 (lane a i +ℤ lane branch_metrics k)
   sum_fits i k li lk =
-      let low = ha.low i li in
-      let high = ha.high i li in
-      let low' = he.low k lk in
-      let high' = he.high k lk in
+      let low = ha.lower_bound i li in
+      let high = ha.upper_bound i li in
+      let low' = he.lower_bound k lk in
+      let high' = he.upper_bound k lk in
       fits_between _ (omega (arith, ints)) (omega (arith, ints))
 
   difference_fits : (i k : ℕ) → i < 16 → k < 16 → FitsSigned w8 (lane a i -ℤ lane branch_metrics k)
   difference_fits i k li lk =
-      let low = ha.low i li in
-      let high = ha.high i li in
-      let low' = he.low k lk in
-      let high' = he.high k lk in
+      let low = ha.lower_bound i li in
+      let high = ha.upper_bound i li in
+      let low' = he.lower_bound k lk in
+      let high' = he.upper_bound k lk in
       fits_between _ (omega (arith, ints)) (omega (arith, ints))
 
   abbrev pub zeros : List ℤ
@@ -206,7 +208,7 @@ module _ (bit_0_candidates bit_1_candidates : List ℤ) (hz : AreInt8 bit_0_cand
   one_long : length (bits bit_1_candidates) ≡ 16
   one_long = length-map _ _ ∙ ho.count
 
-  pub picked : (xs ys : List ℕ) → length xs ≡ 16 → length ys ≡ 16 → (k : ℕ) → k < 16 → get_or (choice xs ys) k 0
+  picked : (xs ys : List ℕ) → length xs ≡ 16 → length ys ≡ 16 → (k : ℕ) → k < 16 → get_or (choice xs ys) k 0
       ≡ (if less k then get_or xs k 0 else get_or ys k 0)
   picked xs ys ex ey k lt =
       let ez = zero_long in
@@ -214,7 +216,7 @@ module _ (bit_0_candidates bit_1_candidates : List ℤ) (hz : AreInt8 bit_0_cand
       chosen-at _ _ xs ys k (omega arith) (omega arith) (omega arith) (omega arith)
       ∙ ap₂ (λ a b. if int_lt a b then get_or xs k 0 else get_or ys k 0) (zero_back k lt) (one_back k lt)
 
-  pub length-picked : (xs ys : List ℕ) → length xs ≡ 16 → length ys ≡ 16 → length (choice xs ys) ≡ 16
+  length-picked : (xs ys : List ℕ) → length xs ≡ 16 → length ys ≡ 16 → length (choice xs ys) ≡ 16
   length-picked xs ys ex ey =
       length-chosen _ _ xs ys (one_long ∙ sym zero_long) (ex ∙ sym zero_long) (ey ∙ sym zero_long)
       ∙ zero_long

@@ -26,18 +26,18 @@ metrics_of_lanes even odd =
 
 -- the path metrics of states 0 to 15 that a `PathMetrics` holds
 abbrev pub path_metric : PathMetrics → List ℤ
-path_metric values = metrics_of_lanes values.even.lanes values.odd.lanes
+path_metric values = metrics_of_lanes values.even_states.lanes values.odd_states.lanes
 
 -- there are eight lanes, and adding a branch metric to any of them or subtracting it does not overflow 16 bits
 pub record HaveHeadroom16 (lanes : List ℤ) : Type 0 where
   pub count : length lanes ≡ 8
-  pub low : (k : ℕ) → k < 8 → negsuc 32499 ≤ℤ lane lanes k
-  pub high : (k : ℕ) → k < 8 → lane lanes k ≤ℤ pos 32500
+  pub lower_bound : (k : ℕ) → k < 8 → negsuc 32499 ≤ℤ lane lanes k
+  pub upper_bound : (k : ℕ) → k < 8 → lane lanes k ≤ℤ pos 32500
 
 -- in each lane, the vectors `a` and `b` differ by at most 4,096
 pub record DifferByAtMost4096 (a b : List ℤ) : Type 0 where
-  pub low : (k : ℕ) → k < 8 → negsuc 4095 ≤ℤ (lane a k -ℤ lane b k)
-  pub high : (k : ℕ) → k < 8 → (lane a k -ℤ lane b k) ≤ℤ pos 4096
+  pub lower_bound : (k : ℕ) → k < 8 → negsuc 4095 ≤ℤ (lane a k -ℤ lane b k)
+  pub upper_bound : (k : ℕ) → k < 8 → (lane a k -ℤ lane b k) ≤ℤ pos 4096
 
 -- in each lane, the difference of the vectors `a` and `b` fits in 16 bits
 pub record DifferencesFit16Bits (a b : List ℤ) : Type 0 where
@@ -46,8 +46,8 @@ pub record DifferencesFit16Bits (a b : List ℤ) : Type 0 where
 -- the sixteen lanes are from -32,767 to 32,767, so their absolute values fit in 16 bits
 pub record AbsFit16Bits (lanes : List ℤ) : Type 0 where
   pub count : length lanes ≡ 16
-  pub low : (s : ℕ) → s < 16 → negsuc 32766 ≤ℤ lane lanes s
-  pub high : (s : ℕ) → s < 16 → lane lanes s ≤ℤ pos 32767
+  pub lower_bound : (s : ℕ) → s < 16 → negsuc 32766 ≤ℤ lane lanes s
+  pub upper_bound : (s : ℕ) → s < 16 → lane lanes s ≤ℤ pos 32767
 
 -- merges two vectors, for states 0 to 7 and 8 to 15 in bit-reversed order, into sixteen lanes in state order
 abbrev pub lanes_in_state_order : List ℤ → List ℤ → List ℤ
@@ -58,10 +58,10 @@ lanes_in_state_order low high =
 -- the eight lanes are in the range of branch metrics, -256 to 256
 pub record AreBranchMetrics (lanes : List ℤ) : Type 0 where
   pub count : length lanes ≡ 8
-  pub low : (k : ℕ) → k < 8 → negsuc 255 ≤ℤ lane lanes k
-  pub high : (k : ℕ) → k < 8 → lane lanes k ≤ℤ pos 256
+  pub lower_bound : (k : ℕ) → k < 8 → negsuc 255 ≤ℤ lane lanes k
+  pub upper_bound : (k : ℕ) → k < 8 → lane lanes k ≤ℤ pos 256
 
--- the lanes of two vectors at four given indexes, interleaved: at each index in turn, the lane of the first vector, then that of the second
+-- the lanes of two vectors at four given indexes, interleaved: for each index, the lane of the first vector, then the lane of the second
 abbrev pub interleaved_lanes : List ℤ → List ℤ → ℕ → ℕ → ℕ → ℕ → List ℤ
 interleaved_lanes a b i j k l = lane a i ∷ lane b i ∷ lane a j ∷ lane b j ∷ lane a k ∷ lane b k ∷ lane a l ∷ lane b l ∷ []
 

@@ -1,4 +1,4 @@
--- The candidate metrics of one trellis step: two path metrics for each state, of which the greater one is then selected.
+-- The candidate metrics of one trellis step: two path metrics for each state. The step then selects the greater one.
 use Rattle.std.specs.Prelude.{ℕ, ◌≡◌, ◌<◌, ℤ, ◌+ℤ◌, ◌-ℤ◌, List}
 use Rattle.trellis_decode.specs.Lanes.{lane}
 use Rattle.trellis_decode.specs.AcsLanes.{AreInt16}

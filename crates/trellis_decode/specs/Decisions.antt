@@ -8,8 +8,8 @@ use Rattle.trellis_decode.specs.Trellis.{IsSurvivor, AreDecisions, traceback}
 pub record HasDecisionsAndMetrics (rows : List ℕ) (losses : List (List ℤ)) (soft values : List ℤ) : Type 0 where
   pub decisions : AreDecisions rows losses soft
   pub count : length soft ≡ 2 * length rows
-  pub same : length losses ≡ length rows
+  pub equal_counts : length losses ≡ length rows
   pub at_least : 4 ≤ length rows
   pub octets : AreSignedOctets soft
-  pub low : (s : ℕ) → s < 16 → negsuc 1023 ≤ℤ lane values s
+  pub lower_bound : (s : ℕ) → s < 16 → negsuc 1023 ≤ℤ lane values s
   pub best : (s : ℕ) → s < 16 → IsSurvivor s (traceback rows s) soft (lane values s)

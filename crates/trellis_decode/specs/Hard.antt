@@ -23,20 +23,20 @@ pub record AreInt8 (lanes : List ℤ) : Type 0 where
 -- there are sixteen lanes, and adding 1 to any of them or subtracting it does not overflow 8 bits
 pub record HaveHeadroom8 (lanes : List ℤ) : Type 0 where
   pub count : length lanes ≡ 16
-  pub low : (k : ℕ) → k < 16 → negsuc 126 ≤ℤ lane lanes k
-  pub high : (k : ℕ) → k < 16 → lane lanes k ≤ℤ pos 126
+  pub lower_bound : (k : ℕ) → k < 16 → negsuc 126 ≤ℤ lane lanes k
+  pub upper_bound : (k : ℕ) → k < 16 → lane lanes k ≤ℤ pos 126
 
 -- `lanes` consists of sixteen numbers, each -1, 0 or 1
 pub record AreMinusOneToOne (lanes : List ℤ) : Type 0 where
   pub count : length lanes ≡ 16
-  pub low : (k : ℕ) → k < 16 → negsuc 0 ≤ℤ lane lanes k
-  pub high : (k : ℕ) → k < 16 → lane lanes k ≤ℤ pos 1
+  pub lower_bound : (k : ℕ) → k < 16 → negsuc 0 ≤ℤ lane lanes k
+  pub upper_bound : (k : ℕ) → k < 16 → lane lanes k ≤ℤ pos 1
 
 -- the path metric that an 8-bit lane represents: a lane holds the path metric divided by 254, minus 120
 abbrev pub metric_of_hard_lane : ℤ → ℤ
 metric_of_hard_lane number = pos 254 *ℤ (number +ℤ pos 120)
 
--- the path metrics of states 0 to 15, from a vector of 8-bit lanes with each state in the lane that `lane_of_state` gives
+-- the path metrics of states 0 to 15, from a vector of 8-bit lanes with each state in its lane (`lane_of_state`)
 abbrev pub hard_lane_metrics : List ℤ → List ℤ
 hard_lane_metrics lanes =
     metric_of_hard_lane (lane lanes 0) ∷ metric_of_hard_lane (lane lanes 4) ∷ metric_of_hard_lane (lane lanes 2) ∷ metric_of_hard_lane
@@ -50,11 +50,11 @@ hard_lane_metrics lanes =
     ∷ metric_of_hard_lane
     (lane lanes 15) ∷ []
 
--- the lane of the state to which bit 0 leads from the state in a given lane
+-- the lane of the next state after bit 0, given the lane of a state
 abbrev pub lane_of_next_state_0 : ℕ → ℕ
 lane_of_next_state_0 k = 8 * (k % 2) + k % 8 / 2
 
--- the lane of the state to which bit 1 leads from the state in a given lane
+-- the lane of the next state after bit 1, given the lane of a state
 abbrev pub lane_of_next_state_1 : ℕ → ℕ
 lane_of_next_state_1 k = lane_of_next_state_0 k + 4
 

@@ -8,8 +8,8 @@ use Rattle.conv_code.specs.Likelihood.{likelihood}
 pub use Rattle.conv_code.specs.States.{next, first_coded_bit, second_coded_bit, encoding_from_state}
 
 -- the path metric of a list of input bits for given soft bits, if the encoder starts in a given state
-unfoldable pub metric_from : ℕ → List ℕ → List ℤ → ℤ
-metric_from state u soft = likelihood soft (encoding_from_state state u)
+unfoldable pub metric_from_state : ℕ → List ℕ → List ℤ → ℤ
+metric_from_state state u soft = likelihood soft (encoding_from_state state u)
 
 -- the branch metric of an input bit in a state: what its two coded bits add to the path metric for a pair of soft bits
 unfoldable pub branch_metric : ℕ → ℕ → List ℤ → ℤ
@@ -29,8 +29,8 @@ IsNotLexicographicallyAfter (x ∷ u) (y ∷ v) = (x < y) ⊎ ((x ≡ y) × IsNo
 -- for an encoder that starts in `state`, the input bits `v` are no better than `u`: their path metric is smaller, or it is equal and `v`
 -- does not come before `u` in lexicographic order
 pub data IsNoBetterPath (state : ℕ) (soft : List ℤ) (v u : List ℕ) : Type 0 where
-  LessMetric : metric_from state v soft <ℤ metric_from state u soft → IsNoBetterPath state soft v u
-  EqualMetricButLater : metric_from state v soft ≡ metric_from state u soft → IsNotLexicographicallyAfter u v →
+  LessMetric : metric_from_state state v soft <ℤ metric_from_state state u soft → IsNoBetterPath state soft v u
+  EqualMetricButLater : metric_from_state state v soft ≡ metric_from_state state u soft → IsNotLexicographicallyAfter u v →
       IsNoBetterPath state soft v u
 
 -- the bits that traceback reads from decision rows, starting in a given state. Bit `s` of each row is the decision in state `s`
@@ -40,8 +40,8 @@ traceback (row ∷ rows) state = (row / 2 ^ state % 2) ∷ traceback rows (next 
 
 -- `u` is the survivor of `state`, that is, the best list of input bits from this state to the end, and `value` is its path metric
 pub record IsSurvivor (state : ℕ) (u : List ℕ) (soft : List ℤ) (value : ℤ) : Type 0 where
-  pub has_metric : value ≡ metric_from state u soft
-  pub ends : HasTailBits u
+  pub has_metric : value ≡ metric_from_state state u soft
+  pub tail_bits : HasTailBits u
   pub beats_others : (v : List ℕ) → HasTailBits v → length v ≡ length u → IsNoBetterPath state soft v u
 
 -- the candidate metric of a bit in a state: its branch metric for a pair of soft bits, plus the path metric of the next state
@@ -59,9 +59,9 @@ IsDecision after pair state value bit =
 -- at the first position of `soft`, `row` holds the decision of each state, and `losses` the cost of the decision: how much path metric the
 -- other bit would lose. `rows` holds the decisions at the later positions
 pub record IsDecisionRow (row : ℕ) (rows : List ℕ) (losses : List ℤ) (soft : List ℤ) : Type 0 where
-  pub best : (s : ℕ) → s < 16 → IsSurvivor s (traceback (row ∷ rows) s) soft (metric_from s (traceback (row ∷ rows) s) soft)
-  pub lost : (s : ℕ) → s < 16 → 4 ≤ length rows → slice_index_or losses s (pos 0) ≡
-      metric_from s (traceback (row ∷ rows) s) soft -ℤ metric_from s ((1 - row / 2 ^ s % 2) ∷ traceback rows (next s
+  pub best : (s : ℕ) → s < 16 → IsSurvivor s (traceback (row ∷ rows) s) soft (metric_from_state s (traceback (row ∷ rows) s) soft)
+  pub each_loss : (s : ℕ) → s < 16 → 4 ≤ length rows → slice_index_or losses s (pos 0) ≡
+      metric_from_state s (traceback (row ∷ rows) s) soft -ℤ metric_from_state s ((1 - row / 2 ^ s % 2) ∷ traceback rows (next s
       (1 - row / 2 ^ s % 2))) soft
 
 -- the lists hold one decision row and its costs for each position, that is, for each pair of soft bits

@@ -29,7 +29,7 @@ pub struct SixteenLanes {
 
 /// Adds to each lane its branch metric.
 pub fn add_branch_metrics(a: EightLanes, branch_metrics: EightLanes) -> EightLanes
-    requires modest { HaveHeadroom16 a.lanes }
+    requires headroom16 { HaveHeadroom16 a.lanes }
     requires branch_metrics { AreBranchMetrics branch_metrics.lanes }
     ensures each { (k : ℕ) → k < 8 → lane result.lanes k ≡ lane a.lanes k +ℤ lane branch_metrics.lanes k }
     ensures lanes { AreInt16 result.lanes }
@@ -41,7 +41,7 @@ pub fn add_branch_metrics(a: EightLanes, branch_metrics: EightLanes) -> EightLan
 
 /// Subtracts from each lane its branch metric.
 pub fn subtract_branch_metrics(a: EightLanes, branch_metrics: EightLanes) -> EightLanes
-    requires modest { HaveHeadroom16 a.lanes }
+    requires headroom16 { HaveHeadroom16 a.lanes }
     requires branch_metrics { AreBranchMetrics branch_metrics.lanes }
     ensures each { (k : ℕ) → k < 8 → lane result.lanes k ≡ lane a.lanes k -ℤ lane branch_metrics.lanes k }
     ensures lanes { AreInt16 result.lanes }
@@ -51,7 +51,7 @@ pub fn subtract_branch_metrics(a: EightLanes, branch_metrics: EightLanes) -> Eig
     }
 }
 
-/// The greater of the two lanes at each index.
+/// Returns the greater of the two lanes at each index.
 pub fn lane_maxima(a: EightLanes, b: EightLanes) -> EightLanes
     requires a_lanes { AreInt16 a.lanes }
     requires b_lanes { AreInt16 b.lanes }
@@ -88,7 +88,7 @@ pub fn interleave_last_lanes(a: EightLanes, b: EightLanes) -> EightLanes
     }
 }
 
-/// -1 in each lane in which `b` is greater than `a`, and 0 in the others.
+/// Returns -1 in each lane where `b` is greater than `a`, and 0 in the others.
 pub fn greater_lane_decisions(a: EightLanes, b: EightLanes) -> EightDecisions
     requires a_lanes { AreInt16 a.lanes }
     requires b_lanes { AreInt16 b.lanes }
@@ -104,7 +104,7 @@ pub fn greater_lane_decisions(a: EightLanes, b: EightLanes) -> EightDecisions
 pub fn subtract_lanes(a: EightLanes, b: EightLanes) -> EightLanes
     requires a_lanes { AreInt16 a.lanes }
     requires b_lanes { AreInt16 b.lanes }
-    requires near { DifferencesFit16Bits a.lanes b.lanes }
+    requires fits_16_bits { DifferencesFit16Bits a.lanes b.lanes }
     ensures each { (k : ℕ) → k < 8 → lane result.lanes k ≡ lane a.lanes k -ℤ lane b.lanes k }
     ensures lanes { AreInt16 result.lanes }
 {

@@ -22,33 +22,33 @@ use std::simd::prelude::*;
 #[derive(Clone, Copy)]
 pub struct PathMetrics {
     /// The path metrics of the even states, in the bit-reversed order of their upper three bits.
-    pub even: EightLanes,
+    pub even_states: EightLanes,
     /// The path metrics of the odd states, in the bit-reversed order of their upper three bits.
-    pub odd: EightLanes,
+    pub odd_states: EightLanes,
 }
 
 impl PathMetrics {
     /// The path metrics after the last bit: 0 in every state.
     pub fn new() -> PathMetrics
         ensures each { (s : ℕ) → s < 16 → lane (path_metric result) s ≡ pos 0 }
-        ensures even { AreInt16 result.even.lanes }
-        ensures odd { AreInt16 result.odd.lanes }
+        ensures even { AreInt16 result.even_states.lanes }
+        ensures odd { AreInt16 result.odd_states.lanes }
     {
         let lanes = EightLanes {
             lanes: i16x8::splat(-31_000),
         };
         PathMetrics {
-            even: lanes,
-            odd: lanes,
+            even_states: lanes,
+            odd_states: lanes,
         }
     }
 
     /// The path metric of state 0.
     pub fn metric_of_state_0(self) -> i32
-        requires { AreInt16 self.even.lanes }
+        requires { AreInt16 self.even_states.lanes }
         ensures { result ≡ lane (path_metric self) 0 }
     {
-        i32::from(self.even.lanes.to_array()[0]) + 31_000
+        i32::from(self.even_states.lanes.to_array()[0]) + 31_000
     }
 }
 
@@ -63,43 +63,43 @@ pub struct Candidates {
     pub high_states_bit_1: EightLanes,
 }
 
-/// The result of one trellis step. The steps run backward: from the path metrics after a bit to those before it.
+/// The result of one trellis step. The steps run backward: from the path metrics after a bit to the metrics before it.
 #[derive(Clone, Copy)]
 pub struct TrellisStep {
     pub candidates: Candidates,
     /// The path metrics before the bit.
     pub values: PathMetrics,
     /// The decisions in the states 0 to 7, in bit-reversed order.
-    pub low: EightDecisions,
+    pub low_decisions: EightDecisions,
     /// The decisions in the states 8 to 15, in bit-reversed order.
-    pub high: EightDecisions,
+    pub high_decisions: EightDecisions,
 }
 
 impl TrellisStep {
     /// Computes the step over one bit: `after` holds the path metrics after the bit, and `branch_metrics` its branch metrics.
     pub fn new(after: PathMetrics, branch_metrics: EightLanes) -> TrellisStep
-        requires even { HaveHeadroom16 after.even.lanes }
-        requires odd { HaveHeadroom16 after.odd.lanes }
+        requires even { HaveHeadroom16 after.even_states.lanes }
+        requires odd { HaveHeadroom16 after.odd_states.lanes }
         requires branch_metrics { AreBranchMetrics branch_metrics.lanes }
         ensures each { (pair : List ℤ) → HasBranchMetrics branch_metrics.lanes pair → (s : ℕ) → s < 16 →
             IsDecision (path_metric after) pair s
             (lane (path_metric result.values) s)
-            (slice_index (lane_decisions result.low.lanes result.high.lanes) s) }
-        ensures candidates { AreAcsCandidates after.even.lanes after.odd.lanes branch_metrics.lanes result.candidates }
-        ensures low { AreDecisionLanes result.low.lanes }
-        ensures high { AreDecisionLanes result.high.lanes }
-        ensures even { AreInt16 result.values.even.lanes }
-        ensures odd { AreInt16 result.values.odd.lanes }
+            (slice_index (lane_decisions result.low_decisions.lanes result.high_decisions.lanes) s) }
+        ensures candidates { AreAcsCandidates after.even_states.lanes after.odd_states.lanes branch_metrics.lanes result.candidates }
+        ensures low { AreDecisionLanes result.low_decisions.lanes }
+        ensures high { AreDecisionLanes result.high_decisions.lanes }
+        ensures even { AreInt16 result.values.even_states.lanes }
+        ensures odd { AreInt16 result.values.odd_states.lanes }
     {
-        let low_states_bit_0 = add_branch_metrics(after.even, branch_metrics);
-        let low_states_bit_1 = subtract_branch_metrics(after.odd, branch_metrics);
-        let high_states_bit_0 = subtract_branch_metrics(after.even, branch_metrics);
-        let high_states_bit_1 = add_branch_metrics(after.odd, branch_metrics);
+        let low_states_bit_0 = add_branch_metrics(after.even_states, branch_metrics);
+        let low_states_bit_1 = subtract_branch_metrics(after.odd_states, branch_metrics);
+        let high_states_bit_0 = subtract_branch_metrics(after.even_states, branch_metrics);
+        let high_states_bit_1 = add_branch_metrics(after.odd_states, branch_metrics);
         let low = lane_maxima(low_states_bit_0, low_states_bit_1);
         let high = lane_maxima(high_states_bit_0, high_states_bit_1);
         let values = PathMetrics {
-            even: interleave_first_lanes(low, high),
-            odd: interleave_last_lanes(low, high),
+            even_states: interleave_first_lanes(low, high),
+            odd_states: interleave_last_lanes(low, high),
         };
         TrellisStep {
             candidates: Candidates {
@@ -109,25 +109,25 @@ impl TrellisStep {
                 high_states_bit_1,
             },
             values,
-            low: greater_lane_decisions(low_states_bit_0, low_states_bit_1),
-            high: greater_lane_decisions(high_states_bit_0, high_states_bit_1),
+            low_decisions: greater_lane_decisions(low_states_bit_0, low_states_bit_1),
+            high_decisions: greater_lane_decisions(high_states_bit_0, high_states_bit_1),
         }
     }
 }
 
 /// The path metrics before a tail bit. A tail bit is always 0, so nothing is compared.
 pub fn tail_step(after: PathMetrics, branch_metrics: EightLanes) -> PathMetrics
-    requires even { HaveHeadroom16 after.even.lanes }
+    requires even { HaveHeadroom16 after.even_states.lanes }
     requires branch_metrics { AreBranchMetrics branch_metrics.lanes }
     ensures each { (pair : List ℤ) → HasBranchMetrics branch_metrics.lanes pair → (s : ℕ) → s < 16 →
         lane (path_metric result) s ≡ candidate_metric (path_metric after) pair s 0 }
-    ensures even { AreInt16 result.even.lanes }
-    ensures odd { AreInt16 result.odd.lanes }
+    ensures even { AreInt16 result.even_states.lanes }
+    ensures odd { AreInt16 result.odd_states.lanes }
 {
-    let low = add_branch_metrics(after.even, branch_metrics);
-    let high = subtract_branch_metrics(after.even, branch_metrics);
+    let low = add_branch_metrics(after.even_states, branch_metrics);
+    let high = subtract_branch_metrics(after.even_states, branch_metrics);
     PathMetrics {
-        even: interleave_first_lanes(low, high),
-        odd: interleave_last_lanes(low, high),
+        even_states: interleave_first_lanes(low, high),
+        odd_states: interleave_last_lanes(low, high),
     }
 }

@@ -22,8 +22,8 @@ pub fn fill_survivors(soft: &[i8], survivors: &mut [[u8; 16]]) -> PathMetrics
     ensures best { (s : ℕ) → s < 16 →
         IsSurvivor s (survivor_traceback survivors.new (lane_of_state s)) soft.now (lane (path_metric result) s) }
     ensures within { AreMetricsWithin 58368 (path_metric result) }
-    ensures even { AreInt16 result.even.lanes }
-    ensures odd { AreInt16 result.odd.lanes }
+    ensures even { AreInt16 result.even_states.lanes }
+    ensures odd { AreInt16 result.odd_states.lanes }
     ensures at_least { 1 ≤ length survivors.new }
 {
     let last = survivors.len() - 1;
@@ -32,7 +32,7 @@ pub fn fill_survivors(soft: &[i8], survivors: &mut [[u8; 16]]) -> PathMetrics
     for group in (0..last).rev() {
         let walk = extend_survivors(values, &soft[8 * group..8 * group + 8], 4);
         values = walk.values;
-        survivors[group] = walk.map.to_array();
+        survivors[group] = walk.survivor_map.to_array();
     }
     values
 }
@@ -42,8 +42,8 @@ pub fn tail_metrics(soft: &[i8]) -> PathMetrics
     requires count { length soft.now ≡ 8 }
     requires octets { AreSignedOctets soft.now }
     ensures best { (s : ℕ) → s < 16 → IsSurvivor s (replicate 4 0) soft.now (lane (path_metric result) s) }
-    ensures even { AreInt16 result.even.lanes }
-    ensures odd { AreInt16 result.odd.lanes }
+    ensures even { AreInt16 result.even_states.lanes }
+    ensures odd { AreInt16 result.odd_states.lanes }
 {
     let branch_metrics = four_branch_metrics(soft);
     let mut values = PathMetrics::new();
@@ -61,14 +61,14 @@ pub fn extend_survivors(after: PathMetrics, soft: &[i8], places: usize) -> Survi
     requires few { places ≤ 4 }
     requires octets { AreSignedOctets soft.now }
     requires within { AreMetricsWithin 58368 (path_metric after) }
-    requires even { AreInt16 after.even.lanes }
-    requires odd { AreInt16 after.odd.lanes }
-    ensures walk { AreSurvivors (path_metric after) (path_metric result.values) result.map
+    requires even { AreInt16 after.even_states.lanes }
+    requires odd { AreInt16 after.odd_states.lanes }
+    ensures walk { AreSurvivors (path_metric after) (path_metric result.values) result.survivor_map
         (take (2 * places) soft.now) }
     ensures within { AreMetricsWithin 59392 (path_metric result.values) }
-    ensures even { AreInt16 result.values.even.lanes }
-    ensures odd { AreInt16 result.values.odd.lanes }
-    ensures count { length result.map ≡ 16 }
+    ensures even { AreInt16 result.values.even_states.lanes }
+    ensures odd { AreInt16 result.values.odd_states.lanes }
+    ensures count { length result.survivor_map ≡ 16 }
 {
     let branch_metrics = four_branch_metrics(soft);
     let mut walk = Survivors::new(after);

@@ -16,7 +16,7 @@ use crate::acs_lanes::{
 };
 use crate::acs_step::{PathMetrics, TrellisStep};
 
-/// The result of one trellis step. The steps run backward: from the path metrics after a bit to those before it.
+/// The result of one trellis step. The steps run backward: from the path metrics after a bit to the metrics before it.
 #[derive(Clone, Copy)]
 pub struct DecisionStep {
     /// The path metrics before the bit.
@@ -30,9 +30,9 @@ pub struct DecisionStep {
 impl DecisionStep {
     /// Computes the step over one bit: `after` holds the path metrics after the bit, and `branch_metrics` its branch metrics.
     pub fn new(after: PathMetrics, branch_metrics: EightLanes) -> DecisionStep
-        requires even { HaveHeadroom16 after.even.lanes }
-        requires odd { HaveHeadroom16 after.odd.lanes }
-        requires close { DifferByAtMost4096 after.even.lanes after.odd.lanes }
+        requires even { HaveHeadroom16 after.even_states.lanes }
+        requires odd { HaveHeadroom16 after.odd_states.lanes }
+        requires close { DifferByAtMost4096 after.even_states.lanes after.odd_states.lanes }
         requires branch_metrics { AreBranchMetrics branch_metrics.lanes }
         ensures each { (pair : List ℤ) → HasBranchMetrics branch_metrics.lanes pair → (s : ℕ) → s < 16 →
             IsDecision (path_metric after) pair s
@@ -42,8 +42,8 @@ impl DecisionStep {
             candidate_metric (path_metric after) pair s (result.row / 2 ^ s % 2)
             -ℤ candidate_metric (path_metric after) pair s (1 - result.row / 2 ^ s % 2) }
         ensures lanes { AbsFit16Bits result.losses.lanes }
-        ensures even { AreInt16 result.values.even.lanes }
-        ensures odd { AreInt16 result.values.odd.lanes }
+        ensures even { AreInt16 result.values.even_states.lanes }
+        ensures odd { AreInt16 result.values.odd_states.lanes }
     {
         let step = TrellisStep::new(after, branch_metrics);
         let low = subtract_lanes(

@@ -1,15 +1,16 @@
-//! Decodes by trying every information list, as the definition of the most likely list says. Tests compare `decode` with this search.
+//! Decodes by trying every information list, in direct application of the definition of the most likely list. Tests compare `decode` with
+//! this search.
 
 ghost use Rattle.std.specs.Prelude.{◌≡◌, ℕ, ◌*◌, ◌^◌, ◌<◌, ◌≤◌, pos, ◌-ℤ◌, ◌≤ℤ◌, List, length};
 ghost use Rattle.conv_code.specs.bit_blocks.Bits.{AllBits, IsBit};
 ghost use Rattle.conv_code.specs.Code.{encoding, IsEncoderInput};
 ghost use Rattle.conv_code.specs.Likelihood.{bit_metric, AllSoftBits, IsMostLikely, likelihood};
-ghost use Rattle.trellis_decode.specs.Words.{word};
+ghost use Rattle.trellis_decode.specs.Words.{to_binary};
 
 use conv_code::encode;
 
-/// Finds the most likely information list by trying all of them in lexicographic order. Gives the same results as `decode`, but is slow and
-/// therefore limited to 20 bits.
+/// Finds the most likely information list by trying all of them in lexicographic order. Returns the same results as `decode`, but is slow
+/// and therefore limited to 20 bits.
 pub fn search(soft: &[i8], u: &mut [u8]) -> i32
     requires count { length soft.now ≡ 2 * length u.old }
     requires at_least { 5 ≤ length u.old }
@@ -49,7 +50,7 @@ fn write_bits_and_zero_tail(number: u32, u: &mut [u8])
     requires at_least { 5 ≤ length u.old }
     requires at_most { length u.old ≤ 20 }
     requires fits { 16 * number < 2 ^ length u.old }
-    ensures list { u.new ≡ word (length u.old) (16 * number) }
+    ensures list { u.new ≡ to_binary (length u.old) (16 * number) }
     ensures information { IsEncoderInput u.new }
 {
     let spelled = 16 * number;
@@ -86,7 +87,7 @@ fn sum_of_bit_metrics(soft: &[i8], coded: &[u8]) -> i32
     sum
 }
 
-/// What a coded bit adds to the path metric: the value of its soft bit for 0, and the negated value for 1.
+/// Returns what a coded bit adds to the path metric: the value of its soft bit for 0, or the negated value for 1.
 fn bit_metric_of(value: i8, bit: u8) -> i32
     requires { IsBit bit }
     ensures exact { result ≡ bit_metric value bit }

@@ -1,6 +1,6 @@
 //! The Viterbi algorithm for hard bits: soft bits that are all 127 or -127.
 //!
-//! All metrics are multiples of 254, and path metrics are between -4 * 254 and 228 * 254. Divided by 254 and lowered by 120, they fit in
+//! All metrics are multiples of 254, and path metrics are between -4 * 254 and 228 * 254. Divided by 254 and reduced by 120, they fit in
 //! signed octets, so one vector holds the path metrics of all sixteen states. Each state has the same lane as in a survivor map.
 
 ghost use Rattle.std.specs.Prelude.{◌≡◌, ℕ, ◌+◌, ◌*◌, ◌/◌, ◌%◌, ◌^◌, ◌<◌, ◌≤◌, ℤ, List, []};
@@ -24,16 +24,16 @@ use std::simd::prelude::*;
 
 /// One number for each state, in the lane that the state has in a survivor map.
 #[derive(Clone, Copy)]
-pub struct StateLanes {
+pub struct StateMetrics {
     pub lanes: i8x16,
 }
 
 /// The survivors of all states over a few bits, and the path metrics before these bits.
 #[derive(Clone, Copy)]
 pub struct HardSurvivors {
-    pub values: StateLanes,
-    /// The survivor map: the lane of each state holds the lane of the state in which its survivor ends.
-    pub map: u8x16,
+    pub values: StateMetrics,
+    /// The survivor map: the lane of each state holds the lane of its survivor's end state.
+    pub survivor_map: u8x16,
 }
 
 /// The branch metric of bit 0 in each state, divided by 254, for each of the four combinations of signs of the two soft bits.
@@ -44,7 +44,7 @@ static HARD_BRANCH_METRICS: [[i8; 16]; 4] = [
     [-1, 1, -1, 1, 0, 0, 0, 0, 1, -1, 1, -1, 0, 0, 0, 0],
 ];
 
-/// Whether all soft bits are 127 or -127. The loop has no early exit, so that the compiler can vectorize it.
+/// Returns whether all soft bits are 127 or -127. The loop has no early exit, so the compiler can vectorize it.
 pub fn are_hard_bits(soft: &[i8]) -> bool
     ensures { IsTrue result → All IsHardBit soft.now }
 {
@@ -80,7 +80,7 @@ pub fn decode_hard(soft: &[i8], u: &mut [u8]) -> i32
     values.metric_of_state_0()
 }
 
-impl StateLanes {
+impl StateMetrics {
     /// The path metric of state 0: the number in its lane plus 120, times 254.
     fn metric_of_state_0(self) -> i32
         requires { AreInt8 self.lanes }
@@ -93,7 +93,7 @@ impl StateLanes {
 /// Writes a survivor map for each group of four bits, from the last group to the first, and returns the path metrics before the first bit.
 ///
 /// The last four bits are the tail, all 0.
-fn fill_hard_survivors(soft: &[i8], survivors: &mut [[u8; 16]]) -> StateLanes
+fn fill_hard_survivors(soft: &[i8], survivors: &mut [[u8; 16]]) -> StateMetrics
     requires count { length soft.now ≡ 8 * length survivors.old }
     requires at_least { 1 ≤ length survivors.old }
     requires at_most { length survivors.old ≤ 57 }
@@ -109,20 +109,20 @@ fn fill_hard_survivors(soft: &[i8], survivors: &mut [[u8; 16]]) -> StateLanes
     for group in (0..last).rev() {
         let walk = extend_hard_survivors(values, &soft[8 * group..8 * group + 8]);
         values = walk.values;
-        survivors[group] = walk.map.to_array();
+        survivors[group] = walk.survivor_map.to_array();
     }
     values
 }
 
 /// Returns the path metrics before the four tail bits, from the eight soft bits of the tail.
-fn hard_tail_metrics(soft: &[i8]) -> StateLanes
+fn hard_tail_metrics(soft: &[i8]) -> StateMetrics
     requires count { length soft.now ≡ 8 }
     requires hard { All IsHardBit soft.now }
     ensures best { (s : ℕ) → s < 16 → IsSurvivor s (replicate 4 0) soft.now (lane (hard_lane_metrics result.lanes) s) }
     ensures lanes { AreInt8 result.lanes }
 {
     let branch_metrics = hard_branch_metrics(soft);
-    let mut values = StateLanes {
+    let mut values = StateMetrics {
         lanes: i8x16::splat(-120),
     };
     for k in (0..4).rev() {
@@ -133,20 +133,20 @@ fn hard_tail_metrics(soft: &[i8]) -> StateLanes
 
 /// Returns the survivors over four bits, and the path metrics before these bits. `after` holds the path metrics after them.
 #[inline]
-fn extend_hard_survivors(after: StateLanes, soft: &[i8]) -> HardSurvivors
+fn extend_hard_survivors(after: StateMetrics, soft: &[i8]) -> HardSurvivors
     requires count { length soft.now ≡ 8 }
     requires hard { All IsHardBit soft.now }
     requires within { AreMetricsWithin 58368 (hard_lane_metrics after.lanes) }
     requires lanes { AreInt8 after.lanes }
-    ensures walk { AreSurvivors (hard_lane_metrics after.lanes) (hard_lane_metrics result.values.lanes) result.map soft.now }
+    ensures walk { AreSurvivors (hard_lane_metrics after.lanes) (hard_lane_metrics result.values.lanes) result.survivor_map soft.now }
     ensures within { AreMetricsWithin 59392 (hard_lane_metrics result.values.lanes) }
     ensures lanes { AreInt8 result.values.lanes }
-    ensures count { length result.map ≡ 16 }
+    ensures count { length result.survivor_map ≡ 16 }
 {
     let branch_metrics = hard_branch_metrics(soft);
     let mut walk = HardSurvivors {
         values: after,
-        map: u8x16::from_array([0, 1, 2, 3, 4, 5, 6, 7, 8, 9, 10, 11, 12, 13, 14, 15]),
+        survivor_map: u8x16::from_array([0, 1, 2, 3, 4, 5, 6, 7, 8, 9, 10, 11, 12, 13, 14, 15]),
     };
     for k in (0..4).rev() {
         walk = walk.step(branch_metrics[k]);
@@ -157,31 +157,31 @@ fn extend_hard_survivors(after: StateLanes, soft: &[i8]) -> HardSurvivors
 impl HardSurvivors {
     /// Extends the survivors backward by one bit, whose branch metrics are `branch_metrics`.
     #[inline]
-    fn step(self, branch_metrics: StateLanes) -> HardSurvivors
+    fn step(self, branch_metrics: StateMetrics) -> HardSurvivors
         requires headroom { HaveHeadroom8 self.values.lanes }
-        requires count { length self.map ≡ 16 }
+        requires count { length self.survivor_map ≡ 16 }
         requires branch_metrics { AreMinusOneToOne branch_metrics.lanes }
         ensures walk { (pair : List ℤ) → HasHardBranchMetrics branch_metrics.lanes pair → (after soft : List ℤ) →
-            AreSurvivors after (hard_lane_metrics self.values.lanes) self.map soft →
-            AreSurvivors after (hard_lane_metrics result.values.lanes) result.map (pair ++ soft) }
+            AreSurvivors after (hard_lane_metrics self.values.lanes) self.survivor_map soft →
+            AreSurvivors after (hard_lane_metrics result.values.lanes) result.survivor_map (pair ++ soft) }
         ensures within { (pair : List ℤ) → HasHardBranchMetrics branch_metrics.lanes pair → AreSignedOctets pair → (most : ℕ) →
             AreMetricsWithin most (hard_lane_metrics self.values.lanes) →
             AreMetricsWithin (most + 256) (hard_lane_metrics result.values.lanes) }
         ensures lanes { AreInt8 result.values.lanes }
-        ensures count { length result.map ≡ 16 }
+        ensures count { length result.survivor_map ≡ 16 }
     {
         let zero = bit_0_candidates(self.values, branch_metrics);
         let one = bit_1_candidates(self.values, branch_metrics);
         HardSurvivors {
             values: larger_lanes(zero, one),
-            map: extend_map_swizzle_dyn(self.map, zero, one),
+            survivor_map: extend_map_swizzle_dyn(self.survivor_map, zero, one),
         }
     }
 }
 
 /// The candidate metrics of bit 0: for each state, the path metric of its best list that begins with bit 0.
 #[inline]
-fn bit_0_candidates(after: StateLanes, branch_metrics: StateLanes) -> StateLanes
+fn bit_0_candidates(after: StateMetrics, branch_metrics: StateMetrics) -> StateMetrics
     requires headroom { HaveHeadroom8 after.lanes }
     requires branch_metrics { AreMinusOneToOne branch_metrics.lanes }
     ensures each { (k : ℕ) → k < 16 → lane result.lanes k ≡
@@ -191,14 +191,14 @@ fn bit_0_candidates(after: StateLanes, branch_metrics: StateLanes) -> StateLanes
     let next = after
         .lanes
         .swizzle::<16>([0, 8, 1, 9, 2, 10, 3, 11, 0, 8, 1, 9, 2, 10, 3, 11]);
-    StateLanes {
+    StateMetrics {
         lanes: next + branch_metrics.lanes,
     }
 }
 
 /// The candidate metrics of bit 1: for each state, the path metric of its best list that begins with bit 1.
 #[inline]
-fn bit_1_candidates(after: StateLanes, branch_metrics: StateLanes) -> StateLanes
+fn bit_1_candidates(after: StateMetrics, branch_metrics: StateMetrics) -> StateMetrics
     requires headroom { HaveHeadroom8 after.lanes }
     requires branch_metrics { AreMinusOneToOne branch_metrics.lanes }
     ensures each { (k : ℕ) → k < 16 → lane result.lanes k ≡
@@ -208,28 +208,28 @@ fn bit_1_candidates(after: StateLanes, branch_metrics: StateLanes) -> StateLanes
     let next = after
         .lanes
         .swizzle::<16>([4, 12, 5, 13, 6, 14, 7, 15, 4, 12, 5, 13, 6, 14, 7, 15]);
-    StateLanes {
+    StateMetrics {
         lanes: next - branch_metrics.lanes,
     }
 }
 
 /// The greater of the two candidate metrics of each state.
 #[inline]
-fn larger_lanes(zero: StateLanes, one: StateLanes) -> StateLanes
+fn larger_lanes(zero: StateMetrics, one: StateMetrics) -> StateMetrics
     requires zero { AreInt8 zero.lanes }
     requires one { AreInt8 one.lanes }
     ensures each { (k : ℕ) → k < 16 → lane result.lanes k ≡
         (if int_lt (lane zero.lanes k) (lane one.lanes k) then lane one.lanes k else lane zero.lanes k) }
     ensures lanes { AreInt8 result.lanes }
 {
-    StateLanes {
+    StateMetrics {
         lanes: zero.lanes.simd_max(one.lanes),
     }
 }
 
 /// Extends a survivor map backward by one bit: in each state, the bit with the greater candidate metric, or bit 0 on a tie.
 #[inline]
-fn extend_map_swizzle_dyn(map: u8x16, zero: StateLanes, one: StateLanes) -> u8x16
+fn extend_map_swizzle_dyn(map: u8x16, zero: StateMetrics, one: StateMetrics) -> u8x16
     requires map { length map ≡ 16 }
     requires zero { AreInt8 zero.lanes }
     requires one { AreInt8 one.lanes }
@@ -245,7 +245,7 @@ fn extend_map_swizzle_dyn(map: u8x16, zero: StateLanes, one: StateLanes) -> u8x1
 /// Computes the result of `extend_map_swizzle_dyn` with two fixed swizzles. In WebAssembly, `swizzle_dyn` takes sixteen loads; on other
 /// targets, it is one instruction.
 #[inline]
-pub fn extend_map_swizzle_fixed(map: u8x16, zero: StateLanes, one: StateLanes) -> u8x16
+pub fn extend_map_swizzle_fixed(map: u8x16, zero: StateMetrics, one: StateMetrics) -> u8x16
     requires map { length map ≡ 16 }
     requires zero { AreInt8 zero.lanes }
     requires one { AreInt8 one.lanes }
@@ -260,12 +260,12 @@ pub fn extend_map_swizzle_fixed(map: u8x16, zero: StateLanes, one: StateLanes) -
 
 /// The branch metrics of four information bits, each computed from a pair of hard bits.
 #[inline]
-fn hard_branch_metrics(soft: &[i8]) -> [StateLanes; 4]
+fn hard_branch_metrics(soft: &[i8]) -> [StateMetrics; 4]
     requires count { length soft.now ≡ 8 }
     requires hard { All IsHardBit soft.now }
-    ensures has { (k : ℕ) (d : StateLanes) → k < 4 →
+    ensures has { (k : ℕ) (d : StateMetrics) → k < 4 →
         HasHardBranchMetrics (slice_index_or result k d).lanes (take 2 (drop (2 * k) soft.now)) }
-    ensures units { (k : ℕ) (d : StateLanes) → k < 4 → AreMinusOneToOne (slice_index_or result k d).lanes }
+    ensures units { (k : ℕ) (d : StateMetrics) → k < 4 → AreMinusOneToOne (slice_index_or result k d).lanes }
 {
     let signs = signs_of(soft);
     [
@@ -289,13 +289,13 @@ fn signs_of(soft: &[i8]) -> u64
 /// The branch metrics of an information bit, from the signs of its two soft bits: bit 0 of `signs` is 1 if the first soft bit is negative,
 /// and bit 1 is 1 if the second is.
 #[inline]
-fn branch_metrics_of_signs(signs: u64) -> StateLanes
+fn branch_metrics_of_signs(signs: u64) -> StateMetrics
     requires { signs < 4 }
     ensures has { (p q : ℤ) → IsHardBit p → IsHardBit q → signs ≡ sign_bit_of p + 2 * sign_bit_of q →
         HasHardBranchMetrics result.lanes (p ∷ q ∷ []) }
     ensures units { AreMinusOneToOne result.lanes }
 {
-    StateLanes {
+    StateMetrics {
         lanes: i8x16::from_array(HARD_BRANCH_METRICS[signs as usize]),
     }
 }

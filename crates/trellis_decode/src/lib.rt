@@ -1,7 +1,7 @@
 //! A soft-decision Viterbi decoder for the convolutional code of GSM 05.03 (today 3GPP TS 45.003), section 4.1.3, with SIMD vectors.
 //!
 //! The trellis is processed backward: each step extends the survivors of the sixteen states by one earlier bit. Traceback then reads the
-//! decisions forward, and taking bit 0 on a tie gives the lexicographically first of equally likely lists.
+//! decisions forward, and taking bit 0 on a tie selects the lexicographically first of equally likely lists.
 #![tactic(auto)]
 
 mod acs_lanes;
@@ -27,10 +27,10 @@ pub use conv_code::{CODED_BITS, ENCODER_INPUT_BITS};
 pub use exhaustive::search;
 pub use trellis::{fill_decisions, trace_back};
 
-/// Writes the most likely information list for the soft bits to `u` and returns its path metric. Of equally likely lists, it takes the
-/// first in lexicographic order.
+/// Writes the most likely information list for the soft bits to `u` and returns its path metric. If several lists are equally likely, it
+/// takes the first in lexicographic order.
 ///
-/// `soft` has two soft bits for each bit of `u`. The old content of `u` is ignored.
+/// `soft` must have two soft bits for each bit of `u`. The old content of `u` is ignored.
 pub fn decode(soft: &[i8], u: &mut [u8]) -> i32
     requires count { length soft.now ≡ 2 * length u.old }
     requires at_least { 5 ≤ length u.old }
@@ -40,8 +40,7 @@ pub fn decode(soft: &[i8], u: &mut [u8]) -> i32
     ensures value { result ≡ likelihood soft.now (encoding u.new) }
     ensures only { (v : List ℕ) → IsMostLikely soft.now v → v ≡ u.new }
 {
-    // Uses the faster decoder if all soft bits are hard bits. Testing the first eight on their own almost always rules out other input
-    // early.
+    // Uses the faster decoder if all soft bits are hard bits. Checking the first eight separately almost always rejects other input early.
     if u.len() % 4 == 0 && are_hard_bits(&soft[..8]) && are_hard_bits(soft) {
         return decode_hard(soft, u);
     }
@@ -62,7 +61,7 @@ fn decode_soft(soft: &[i8], u: &mut [u8]) -> i32
     let survivors = &mut survivors[..u.len() / 4];
     let values = fill_survivors(&soft[2 * few..], survivors);
     let walk = extend_survivors(values, &soft[..8], few);
-    let at = walk.map.to_array()[0] % 16;
+    let at = walk.survivor_map.to_array()[0] % 16;
     let (first, others) = u.split_at_mut(few);
     write_last_state_bits(at, few, first);
     trace_back_survivors(survivors, at, others);

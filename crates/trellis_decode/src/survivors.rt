@@ -1,5 +1,5 @@
-//! A survivor map tells, for each state, in which state its survivor ends after a few bits. With maps over four bits, traceback needs
-//! one lookup for every four bits.
+//! A survivor map holds, for each state, the end state of its survivor after a few bits. With maps over four bits, traceback needs one
+//! lookup for every four bits.
 
 ghost use Rattle.std.specs.Prelude.{◌≡◌, ℕ, ◌+◌, ◌-◌, ◌*◌, ◌<◌, List, [], ◌++◌, ℤ, length, drop, slice_index};
 ghost use Rattle.trellis_decode.specs.Lanes.{AreSignedOctets};
@@ -8,11 +8,11 @@ ghost use Rattle.trellis_decode.specs.AcsLanes.{AreBranchMetrics, AreInt16, AreD
 ghost use Rattle.trellis_decode.specs.AcsLanes.{HaveHeadroom16, lane_of_state};
 ghost use Rattle.trellis_decode.specs.AcsLanes.{path_metric};
 ghost use Rattle.trellis_decode.specs.SurvivorPaths.{AreMetricsWithin, AreSurvivors, survivor_traceback};
-ghost use Rattle.trellis_decode.specs.Words.{word};
+ghost use Rattle.trellis_decode.specs.Words.{to_binary};
 
 use crate::acs_lanes::{EightDecisions, EightLanes};
 use crate::acs_step::{PathMetrics, TrellisStep};
-use crate::hard::{StateLanes, extend_map_swizzle_fixed};
+use crate::hard::{StateMetrics, extend_map_swizzle_fixed};
 use std::simd::prelude::*;
 
 /// The survivors of all states over a few bits.
@@ -20,53 +20,57 @@ use std::simd::prelude::*;
 pub struct Survivors {
     /// The path metric of each state before the first of the bits.
     pub values: PathMetrics,
-    /// The survivor map: the lane of each state holds the lane of the state in which its survivor ends.
-    pub map: u8x16,
+    /// The survivor map: the lane of each state holds the lane of its survivor's end state.
+    pub survivor_map: u8x16,
 }
 
 impl Survivors {
-    /// The survivors over zero bits: each ends in the state in which it starts.
+    /// The survivors over zero bits: each ends in its start state.
     pub fn new(values: PathMetrics) -> Survivors
-        requires even { AreInt16 values.even.lanes }
-        requires odd { AreInt16 values.odd.lanes }
-        ensures even { result.values.even.lanes ≡ values.even.lanes }
-        ensures odd { result.values.odd.lanes ≡ values.odd.lanes }
-        ensures walk { AreSurvivors (path_metric values) (path_metric values) result.map [] }
-        ensures count { length result.map ≡ 16 }
+        requires even { AreInt16 values.even_states.lanes }
+        requires odd { AreInt16 values.odd_states.lanes }
+        ensures even { result.values.even_states.lanes ≡ values.even_states.lanes }
+        ensures odd { result.values.odd_states.lanes ≡ values.odd_states.lanes }
+        ensures walk { AreSurvivors (path_metric values) (path_metric values) result.survivor_map [] }
+        ensures count { length result.survivor_map ≡ 16 }
     {
         Survivors {
             values,
-            map: u8x16::from_array([0, 1, 2, 3, 4, 5, 6, 7, 8, 9, 10, 11, 12, 13, 14, 15]),
+            survivor_map: u8x16::from_array([0, 1, 2, 3, 4, 5, 6, 7, 8, 9, 10, 11, 12, 13, 14, 15]),
         }
     }
 
     /// Extends the survivors backward by one bit, whose branch metrics are `branch_metrics`.
     pub fn step(self, branch_metrics: EightLanes) -> Survivors
-        requires even { HaveHeadroom16 self.values.even.lanes }
-        requires odd { HaveHeadroom16 self.values.odd.lanes }
-        requires count { length self.map ≡ 16 }
+        requires even { HaveHeadroom16 self.values.even_states.lanes }
+        requires odd { HaveHeadroom16 self.values.odd_states.lanes }
+        requires count { length self.survivor_map ≡ 16 }
         requires branch_metrics { AreBranchMetrics branch_metrics.lanes }
         ensures walk { (pair : List ℤ) → HasBranchMetrics branch_metrics.lanes pair → (after soft : List ℤ) →
-            AreSurvivors after (path_metric self.values) self.map soft →
-            AreSurvivors after (path_metric result.values) result.map (pair ++ soft) }
+            AreSurvivors after (path_metric self.values) self.survivor_map soft →
+            AreSurvivors after (path_metric result.values) result.survivor_map (pair ++ soft) }
         ensures within { (pair : List ℤ) → HasBranchMetrics branch_metrics.lanes pair → AreSignedOctets pair → (most : ℕ) →
             AreMetricsWithin most (path_metric self.values) →
             AreMetricsWithin (most + 256) (path_metric result.values) }
-        ensures even { AreInt16 result.values.even.lanes }
-        ensures odd { AreInt16 result.values.odd.lanes }
-        ensures count { length result.map ≡ 16 }
+        ensures even { AreInt16 result.values.even_states.lanes }
+        ensures odd { AreInt16 result.values.odd_states.lanes }
+        ensures count { length result.survivor_map ≡ 16 }
     {
         let step = TrellisStep::new(self.values, branch_metrics);
         Survivors {
             values: step.values,
-            map: extend_survivor_map(self.map, step.low, step.high),
+            survivor_map: extend_survivor_map(
+                self.survivor_map,
+                step.low_decisions,
+                step.high_decisions,
+            ),
         }
     }
 }
 
 /// Extends a survivor map backward by one bit: in each state, the decision of that state.
 ///
-/// The lanes of a map stand for states 0 to 7 in bit-reversed order, then for states 8 to 15 in bit-reversed order.
+/// A map has a lane for each state: states 0 to 7 in bit-reversed order, then states 8 to 15 in bit-reversed order.
 fn extend_survivor_map(map: u8x16, low: EightDecisions, high: EightDecisions) -> u8x16
     requires map { length map ≡ 16 }
     requires low { AreDecisionLanes low.lanes }
@@ -76,13 +80,13 @@ fn extend_survivor_map(map: u8x16, low: EightDecisions, high: EightDecisions) ->
         (lane_decisions low.lanes high.lanes) s))) }
     ensures count { length result ≡ 16 }
 {
-    let taken = StateLanes {
+    let taken = StateMetrics {
         lanes: low.lanes.shuffle::<16>(
             high.lanes,
             [0, 1, 2, 3, 4, 5, 6, 7, 8, 9, 10, 11, 12, 13, 14, 15],
         ),
     };
-    let none = StateLanes {
+    let none = StateMetrics {
         lanes: i8x16::splat(0),
     };
     extend_map_swizzle_fixed(map, taken, none)
@@ -111,7 +115,7 @@ static STATE_BITS: [[u8; 4]; 16] = [
 /// The four bits of the state in lane `at` of a survivor map, the oldest bit first.
 fn state_bits(at: u8) -> [u8; 4]
     requires { at < 16 }
-    ensures { result ≡ word 4 (lane_of_state at) }
+    ensures { result ≡ to_binary 4 (lane_of_state at) }
 {
     STATE_BITS[usize::from(at)]
 }
@@ -134,7 +138,7 @@ pub fn write_last_state_bits(at: u8, few: usize, u: &mut [u8])
     requires count { length u.old ≡ few }
     requires few { few < 4 }
     requires at { at < 16 }
-    ensures { u.new ≡ drop (4 - few) (word 4 (lane_of_state at)) }
+    ensures { u.new ≡ drop (4 - few) (to_binary 4 (lane_of_state at)) }
 {
     u.copy_from_slice(&state_bits(at)[4 - few..]);
 }

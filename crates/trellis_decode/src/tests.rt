@@ -57,7 +57,7 @@ fn decodes_only_lists_with_zero_tail(rt: HostRuntime) -> Result<(), Fail> {
 }
 
 // Writes coded bits as hard bits: 127 for a 0, -127 for a 1.
-fn hard(coded: &[u8], soft: &mut [i8]) {
+fn write_hard_bits(coded: &[u8], soft: &mut [i8]) {
     for (value, bit) in soft.iter_mut().zip(coded) {
         *value = if *bit == 0 { 127 } else { -127 };
     }
@@ -71,7 +71,7 @@ fn decodes_a_synchronisation_burst(rt: HostRuntime) -> Result<(), Fail> {
         1, 0, 1, 0, 1, 0, 1, 0, 1, 0, 0, 1, 0, 0, 0, 0, 1, 1,
     ];
     let mut soft = [0; 78];
-    hard(&coded, &mut soft);
+    write_hard_bits(&coded, &mut soft);
     let mut u = [9; 39];
     assert_eq!(rt; decoded(&soft, &mut u), Some(9906));
     let word = [
@@ -82,7 +82,7 @@ fn decodes_a_synchronisation_burst(rt: HostRuntime) -> Result<(), Fail> {
     Ok(())
 }
 
-// Pseudo-random soft bits: mostly -1, 0 and 1, so that many lists tie, and some of 127.
+// Pseudo-random soft bits: mostly -1, 0 and 1, so that many lists have equal path metrics, and some of 127.
 fn fill_with_noise(soft: &mut [i8], start: u32) {
     let mut seed = start;
     for value in soft.iter_mut() {

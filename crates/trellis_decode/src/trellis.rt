@@ -44,8 +44,8 @@ fn prove_octet_range(soft: &[i8])
     }
 }
 
-/// Fills `rows` and `losses` for `places` bits from index `first` on. `after` holds the path metrics after these bits, and the result
-/// those before them.
+/// Fills `rows` and `losses` for `places` bits, starting at index `first`. `after` holds the path metrics after these bits, and the result
+/// the metrics before them.
 #[inline]
 fn fill_decision_rows(
     after: PathMetrics,
@@ -64,12 +64,12 @@ fn fill_decision_rows(
     requires decided { HasDecisionsAndMetrics (drop (first + places) rows.old) (drop (first + places) losses.old)
         (drop (2 * (first + places)) soft.now)
         (path_metric after) }
-    requires even { AreInt16 after.even.lanes }
-    requires odd { AreInt16 after.odd.lanes }
+    requires even { AreInt16 after.even_states.lanes }
+    requires odd { AreInt16 after.odd_states.lanes }
     ensures decided { HasDecisionsAndMetrics (drop first rows.new) (drop first losses.new) (drop (2 * first) soft.now)
         (path_metric result) }
-    ensures even { AreInt16 result.even.lanes }
-    ensures odd { AreInt16 result.odd.lanes }
+    ensures even { AreInt16 result.even_states.lanes }
+    ensures odd { AreInt16 result.odd_states.lanes }
 {
     let branch_metrics = four_branch_metrics(&soft[2 * first..2 * first + 8]);
     let mut values = after;

@@ -20,21 +20,20 @@ pub use Rattle.lapdm_link.specs.lapdm_window.Ends.{Role}
 pub use Rattle.lapdm_link.specs.Queues.{with_appended, Queues, queue_of, IsOldestSentOrNone, empty_queues, count, with_queue}
 pub use Rattle.lapdm_link.specs.Events.{
   Deliver,
-  role_of_who,
+  sending_role,
   SideStep,
   event_step,
   queues_after_removal,
-  Ends,
+  BothSides,
   EventRefusal,
   BySide,
   refusal_if,
 }
-pub use Rattle.lapdm_link.specs.Events.{bounded_capacity}
-pub use Rattle.lapdm_link.specs.Events.{refusal_with_bounded_queues, Who, Nothing}
+pub use Rattle.lapdm_link.specs.Events.{bounded_capacity, refusal_with_bounded_queues, Who, Nothing}
 pub use Rattle.lapdm_link.specs.lapdm_frame.Frames.{FrameFits, IsFrameCoding, octets_of, address, control, length_octet, NsAndNrFit}
 pub use Rattle.lapdm_link.specs.Worlds.{World, answer_unless_refused, world_unless_refused}
 pub use Rattle.lapdm_link.specs.Claims.{
-  Line,
+  LogLine,
   notice_log_lines,
   answer_log_lines,
   Claims,
@@ -47,28 +46,25 @@ pub use Rattle.lapdm_link.specs.lapdm_window.declared.Sapi.{Sapi}
 pub use Rattle.lapdm_link.specs.lapdm_window.declared.Notice.{Notice}
 pub use Rattle.lapdm_link.specs.lapdm_frame.declared.Refusal.{Refusal}
 pub use Rattle.lapdm_link.specs.lapdm_frame.Refusals.{IsRefused}
-pub use Rattle.lapdm_link.proofs.lapdm_frame.Uniqueness.{same_frame, information_bound}
-pub use Rattle.lapdm_link.proofs.lapdm_frame.Existence.{one_reading}
+pub use Rattle.lapdm_link.proofs.lapdm_frame.Lemmas.{same_frame, information_bound, one_reading, octets_canonical}
 pub use Rattle.um_block.specs.declared.received.Received.{Received}
 pub use Rattle.um_block.specs.Received.{soft_bits, soft_bit_of, coded_soft_bits, IsReceivedBlock}
 pub use Rattle.um_block.proofs.Lemmas.{one_received_block, one_sent_block, AreBits, few_listed_positions, clean_gathered, coded_block_bits}
 pub use Rattle.um_block.proofs.Lemmas.{restored_block, accepted_octets, some_sent_block, sent_block_bits, some_received_block}
 pub use Rattle.um_block.proofs.Lemmas.{accepted_count}
 pub use Rattle.um_air.specs.Air.{Octets, Block, Event, event_with_frame, AirState, ReadsFrame, ReceivesBlock, EventDelivers, AreCodedFrames}
-pub use Rattle.um_air.specs.Air.{Step, Answer, Refuses}
-pub use Rattle.um_air.specs.Air.{Does}
-pub use Rattle.um_air.specs.Air.{CarriesOutEvent, IsAirStep, IsAirRun, with_bits_inverted, with_bit_inverted, refusal, initial_session}
+pub use Rattle.um_air.specs.Air.{Step, Answer, Refuses, Accepts, CarriesOutEvent, IsAirStep, IsAirRun, with_bits_inverted}
+pub use Rattle.um_air.specs.Air.{with_bit_inverted, refusal, initial_session}
 pub use Rattle.um_block.specs.bit_blocks.SoftValues.{count_wrong_bits}
-pub use Rattle.um_block.specs.interleave.Places.{burst_of_bit, burst_position, four_burst_position}
+pub use Rattle.um_block.specs.interleave.Positions.{burst_of_bit, burst_position, four_burst_position}
 pub use Rattle.um_block.specs.interleave.Bursts.{IsInterleaved}
 pub use Rattle.um_block.proofs.interleave.Lemmas.{four_burst_position-lower, four_burst_position-upper, burst_of_bit-below, halves-at}
 pub use Rattle.um_block.specs.weight_bound.Restoring.{IsCorrectable}
 pub use Rattle.um_block.proofs.weight_bound.Lemmas.{IsCorrectable-equal}
 pub use Rattle.um_block.specs.Sent.{IsSentBlock}
-pub use Rattle.lapdm_link.proofs.lapdm_frame.Canonical.{octets_canonical}
 pub use Rattle.lapdm_link.proofs.Lemmas.{KnowsBy, SaysOctets, AllFit, IsFitting, fits-step, AllReported, in_order-step, start-reported}
-pub use Rattle.lapdm_link.proofs.Lemmas.{order_claims, start-fits, claims, counts_acks, LineOctets, AllSay, EndOctets, WorldOctets}
-pub use Rattle.lapdm_link.proofs.Lemmas.{octets-step, start-octets, event_step-fits, event_step-holds}
+pub use Rattle.lapdm_link.proofs.Lemmas.{order_claims, start-fits, claims, acked_at_most_delivered, LineOctets, AllSay, EndOctets}
+pub use Rattle.lapdm_link.proofs.Lemmas.{WorldOctets, octets-step, start-octets, event_step-fits, event_step-holds}
 pub use Rattle.um_air.specs.Sessions.{
   answer_without_blocks,
   queues_after_event,
@@ -78,6 +74,5 @@ pub use Rattle.um_air.specs.Sessions.{
   lines,
   IsBenignFrom,
 }
-pub use Rattle.um_air.specs.Sessions.{IsBenign, InvertFewBits}
-pub use Rattle.um_air.specs.Sessions.{EventMessageIsOctets}
-pub use Rattle.lapdm_link.proofs.lapdm_frame.Controls.{bit_bound}
+pub use Rattle.um_air.specs.Sessions.{IsBenign, InvertFewBits, EventMessageIsOctets}
+pub use Rattle.lapdm_link.proofs.lapdm_frame.Lemmas.{bit_bound}

@@ -16,7 +16,8 @@ use Rattle.um_block.specs.Sent.{IsSentBlock}
 use Rattle.um_block.specs.Received.{IsReceivedBlock, soft_bits}
 use Rattle.lapdm_link.specs.Queues.{Queues, empty_queues, queue_of, with_appended, count}
 use Rattle.lapdm_link.specs.Events as E
-use Rattle.lapdm_link.specs.Events.{EventWith, Open, OpenBare, Ask, Deliver, Lose, Rival, Ends, idle_endpoints, Who, role_of_who, SideStep}
+use Rattle.lapdm_link.specs.Events.{EventWith, Open, OpenBare, Ask, Deliver, Lose, Rival, BothSides, idle_endpoints, Who, sending_role}
+use Rattle.lapdm_link.specs.Events.{SideStep}
 use Rattle.lapdm_link.specs.Events.{event_step}
 use Rattle.lapdm_link.specs.Events.{queues_after_removal, EventRefusal, refusal_with_bounded_queues}
 
@@ -32,7 +33,7 @@ Block = List (List ℕ)
 abbrev pub Event : Type 0
 Event = EventWith (List ℕ)
 
--- the event as the endpoints see it: an arriving block becomes the frame read from it, or `None` if no frame is read
+-- the event as the endpoints see it: an arriving block becomes the frame read from it, or `None` if there is none
 abbrev pub event_with_frame : Option Frame → Event → E.Event
 event_with_frame read (Open info) = Open info
 event_with_frame read (OpenBare role) = OpenBare role
@@ -45,25 +46,25 @@ event_with_frame read (Rival info) = Rival info
 pub record AirState : Type 0 where
   pub tsc : ℕ
   pub channel : Channel
-  pub ends : Ends
+  pub ends : BothSides
   pub queues : Queues Block
 
 -- the initial state of a session: idle endpoints, and no blocks in transit
 abbrev pub initial_session : ℕ → Channel → AirState
 initial_session tsc channel = record { tsc = tsc; channel = channel; ends = idle_endpoints channel; queues = empty_queues }
 
--- the block with one bit inverted, given by its index, 0 to 591, in the concatenation of the four bursts
+-- the block with the bit at this index inverted, where the bits of the four bursts have the indices 0 to 591
 abbrev pub with_bit_inverted : ℕ → Block → Block
 with_bit_inverted place block =
     let burst = slice_index_or block (place / 148) [] in
     slice_set block (place / 148) (slice_set burst (place % 148) (1 - slice_index_or burst (place % 148) 0))
 
--- the block with the bits at these indices inverted one after another; inverting a bit twice restores it
+-- the block with the bits at these indices inverted; an index that occurs twice leaves its bit unchanged
 abbrev pub with_bits_inverted : List ℕ → Block → Block
 with_bits_inverted [] block = block
 with_bits_inverted (place ∷ places) block = with_bits_inverted places (with_bit_inverted place block)
 
--- what is read from the accepted octets: a frame, or `None` if no octets are accepted or they do not encode a frame
+-- the frame in the accepted octets, or `None` if no octets are accepted or they do not encode a frame
 abbrev pub ReadsFrame : Channel → Option Octets → Option Frame → Type 0
 ReadsFrame channel (Some octets) (Some f) = IsFrameCoding channel f octets
 ReadsFrame channel (Some octets) None = (why : Refusal) × IsRefused channel octets why
@@ -74,12 +75,12 @@ ReadsFrame channel None None = Unit {0}
 -- any
 pub record ReceivesBlock (a : AirState) (sender : Role) (places : List ℕ) (report : Received) (read : Option Frame) : Type 0 where
   pub block : Block
-  pub others : List Block
-  pub first : queue_of sender a.queues ≡ block ∷ others
+  pub later_blocks : List Block
+  pub queue_front : queue_of sender a.queues ≡ block ∷ later_blocks
   pub received : IsReceivedBlock (map soft_bits (with_bits_inverted places block)) report
-  pub reads : ReadsFrame a.channel report.accepted read
+  pub reads_frame : ReadsFrame a.channel report.accepted read
 
--- an arrival gives the receiver a report and, if one can be read, a frame; any other event gives it neither
+-- if a block arrives, the receiver gets a report and, if it can read one, a frame; in any other event, it gets neither
 abbrev pub EventDelivers : AirState → Event → Option Received → Option Frame → Type 0
 EventDelivers a (Deliver sender places) (Some report) read = ReceivesBlock a sender places report read
 EventDelivers a (Deliver sender places) None read = ⊥
@@ -90,7 +91,8 @@ EventDelivers a event report read = ⊥
 abbrev pub AreCodedFrames : Channel → ℕ → List Frame → List Block → Type 0
 AreCodedFrames channel tsc fs blocks = AllZip (λ f block. IsSentBlock (octets_of channel f) tsc block) fs blocks
 
--- the result of an accepted event: who acted, on which SAPI, what was received, the octets of the frames sent, and the notices reported
+-- the result of an accepted event: who acted, the SAPI, the report on a received block, the octets of the frames sent, and the notices
+-- reported
 pub record Step : Type 0 where
   pub who : Who
   pub sapi : Sapi
@@ -101,17 +103,17 @@ pub record Step : Type 0 where
 -- the answer to an event: the reason for its refusal, or its result
 pub data Answer : Type 0 where
   Refuses : EventRefusal → Answer
-  Does : Step → Answer
+  Accepts : Step → Answer
 
 -- the accepted event leads from state `a` to state `b` with result `step`: the endpoints act on the call or on the frame read, and the
 -- frames that they send are coded and appended to the queue
 pub record CarriesOutEvent (a : AirState) (event : Event) (b : AirState) (step : Step) : Type 0 where
   pub read : Option Frame
   pub blocks : List Block
-  pub arrives : EventDelivers a event step.received read
+  pub delivery : EventDelivers a event step.received read
   pub sent : AreCodedFrames a.channel a.tsc (event_step (event_with_frame read event) a.ends).frames blocks
-  pub after : let d = event_step (event_with_frame read event) a.ends in
-      b ≡ record a { ends = d.after; queues = with_appended (role_of_who d.who) blocks (queues_after_removal event a.queues) }
+  pub new_state_is : let d = event_step (event_with_frame read event) a.ends in
+      b ≡ record a { ends = d.new_state; queues = with_appended (sending_role d.who) blocks (queues_after_removal event a.queues) }
   pub step_matches : let d = event_step (event_with_frame read event) a.ends in
       step ≡ record step { who = d.who; sapi = d.sapi; frames = map (octets_of a.channel) d.frames; notices = d.notices }
 
@@ -122,7 +124,7 @@ refusal event a = refusal_with_bounded_queues a.channel (count a.queues) event a
 -- the event leads from the first state to the second and has this answer; a refused event leaves the state unchanged
 abbrev pub IsAirStep : AirState → Event → AirState → Answer → Type 0
 IsAirStep a event b (Refuses why) = (refusal event a ≡ Some why) × (b ≡ a)
-IsAirStep a event b (Does step) = (refusal event a ≡ None) × CarriesOutEvent a event b step
+IsAirStep a event b (Accepts step) = (refusal event a ≡ None) × CarriesOutEvent a event b step
 
 -- the events lead from the first state to the second and have these answers, in order
 abbrev pub IsAirRun : AirState → List Event → List Answer → AirState → Type 0

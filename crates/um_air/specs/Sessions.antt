@@ -1,34 +1,34 @@
--- Sessions that exchange blocks: their logs; benign sessions, in which each block is accepted with the octets that were sent, or not at
--- all; and sessions in which at most three bits of each block are inverted.
+-- Sessions that exchange blocks: their logs; benign sessions (each block is accepted with the octets that were sent, or not at all); and
+-- sessions with at most three inverted bits in each block.
 use Rattle.std.specs.Prelude.{◌<◌, ◌≤◌, ℕ, All, List, [], ◌∷◌, map, length, IfSome}
 use Rattle.lapdm_link.specs.Queues.{Queues, empty_queues, queue_of, with_appended, IsOldestSentOrNone}
-use Rattle.lapdm_link.specs.Events.{Open, Ask, Deliver, Rival, Send, SendUnit, role_of_who, queues_after_removal}
+use Rattle.lapdm_link.specs.Events.{Open, Ask, Deliver, Rival, Send, SendUi, sending_role, queues_after_removal}
 use Rattle.lapdm_link.specs.Events as E
-use Rattle.lapdm_link.specs.Claims.{Line}
+use Rattle.lapdm_link.specs.Claims.{LogLine}
 use Rattle.lapdm_link.specs.Claims as C
-use Rattle.um_air.specs.Air.{Octets, Event, Answer, Refuses, Does}
+use Rattle.um_air.specs.Air.{Octets, Event, Answer, Refuses, Accepts}
 
 -- converts an answer to one of a session that exchanges frames, leaving out the received block and the frames sent
 abbrev pub answer_without_blocks : Answer → E.Answer
 answer_without_blocks (Refuses why) = E.Refuses why
-answer_without_blocks (Does step) = E.Does step.who step.sapi [] step.notices
+answer_without_blocks (Accepts step) = E.Accepts step.who step.sapi [] step.notices
 
 -- the log of a session: the log lines of all its events and answers
-abbrev pub lines : List Event → List Answer → List Line
+abbrev pub lines : List Event → List Answer → List LogLine
 lines events answers = C.lines events (map answer_without_blocks answers)
 
--- the octets of the blocks in transit after an event with this answer, given those in transit before it
+-- the octets of the blocks in transit after an event with this answer, given the blocks in transit before it
 abbrev pub queues_after_event : Event → Answer → Queues Octets → Queues Octets
 queues_after_event event (Refuses why) ws = ws
-queues_after_event event (Does step) ws = with_appended (role_of_who step.who) step.frames (queues_after_removal event ws)
+queues_after_event event (Accepts step) ws = with_appended (sending_role step.who) step.frames (queues_after_removal event ws)
 
 -- if a block arrives, it is accepted with the octets that were sent, or not at all
 abbrev pub IsBenignStep : Event → Answer → Queues Octets → Type 0
-IsBenignStep (Deliver sender places) (Does step) ws = IfSome step.received (λ report. IsOldestSentOrNone report.accepted
+IsBenignStep (Deliver sender places) (Accepts step) ws = IfSome step.received (λ report. IsOldestSentOrNone report.accepted
     (queue_of sender ws))
 IsBenignStep event answer ws = Unit {0}
 
--- in these events, each arriving block is accepted with the octets that were sent, or not at all; the queues are those at the start
+-- starting with these queues, each arriving block is accepted with the octets that were sent, or not at all
 abbrev pub IsBenignFrom : Queues Octets → List Event → List Answer → Type 0
 IsBenignFrom ws (event ∷ events) (answer ∷ answers) =
     IsBenignStep event answer ws × IsBenignFrom (queues_after_event event answer ws) events answers
@@ -51,7 +51,7 @@ EventInvertsFewBits event = Unit {0}
 abbrev pub EventMessageIsOctets : Event → Type 0
 EventMessageIsOctets (Open info) = AreOctets info
 EventMessageIsOctets (Ask role sapi (Send m)) = AreOctets m
-EventMessageIsOctets (Ask role sapi (SendUnit m)) = AreOctets m
+EventMessageIsOctets (Ask role sapi (SendUi m)) = AreOctets m
 EventMessageIsOctets (Rival info) = AreOctets info
 EventMessageIsOctets event = Unit {0}
 

@@ -13,14 +13,14 @@ ghost use Rattle.um_air.specs.Damage.{AreLightlyDamaged};
 ghost use Rattle.um_air.specs.Sessions.{lines, IsBenign, EventMessageIsOctets, InvertFewBits};
 
 /// Law: an event has at most one answer, and at most one state can follow it.
-#[tactic(auto, using(crate::proofs::AnswerUnique::one_answer))]
+#[tactic(auto, using(crate::proofs::Lemmas::one_answer))]
 pub fn law_answer_is_unique()
     ensures { (a : AirState) (event : Event) (b c : AirState) (x y : Answer) →
         IsAirStep a event b x → IsAirStep a event c y → (b ≡ c) × (x ≡ y) }
 {}
 
 /// Law: at any point of a session, every event whose messages consist of octets has an answer.
-#[tactic(auto, using(crate::proofs::AnswerExists::some_answer))]
+#[tactic(auto, using(crate::proofs::Lemmas::some_answer))]
 pub fn law_answer_exists()
     ensures { (tsc : ℕ) (channel : Channel) (events : List Event) (answers : List Answer)
         (a : AirState) → tsc ≤ 7 → All EventMessageIsOctets events →
@@ -29,30 +29,30 @@ pub fn law_answer_exists()
 {}
 
 /// Law: the events of a session determine all its answers and its last state.
-#[tactic(auto, using(crate::proofs::AnswerUnique::one_run))]
+#[tactic(auto, using(crate::proofs::Lemmas::one_run))]
 pub fn law_run_is_unique()
     ensures { (a : AirState) (events : List Event) (b c : AirState) (xs ys : List Answer) →
         IsAirRun a events xs b → IsAirRun a events ys c → (b ≡ c) × (xs ≡ ys) }
 {}
 
 /// Law: for any events whose messages consist of octets, a session with these events exists.
-#[tactic(auto, using(crate::proofs::AnswerExists::some_run))]
+#[tactic(auto, using(crate::proofs::Lemmas::some_run))]
 pub fn law_run_exists()
     ensures { (tsc : ℕ) (channel : Channel) (events : List Event) → tsc ≤ 7 →
         All EventMessageIsOctets events →
         (answers : List Answer) × (b : AirState) × IsAirRun (initial_session tsc channel) events answers b }
 {}
 
-/// Law: in a benign session, in which each block is accepted with the octets that were sent or not at all, messages are delivered in order
-/// and before they are acknowledged (`Claims`).
-#[tactic(auto, using(crate::proofs::AsFrameSessions::air_claims))]
+/// Law: in a benign session (each block is accepted with the octets that were sent, or not at all), messages are delivered in order and
+/// before they are acknowledged (`Claims`).
+#[tactic(auto, using(crate::proofs::Lemmas::air_claims))]
 pub fn law_run_delivers_in_order()
     ensures { (tsc : ℕ) (channel : Channel) (events : List Event) (answers : List Answer)
         (b : AirState) → IsAirRun (initial_session tsc channel) events answers b →
         IsBenign events answers → Claims (lines events answers) }
 {}
 
-/// Law: in a benign session, in which each block is accepted with the octets that were sent or not at all, no endpoint has more messages
+/// Law: in a benign session (each block is accepted with the octets that were sent, or not at all), no endpoint has more messages
 /// acknowledged than its peer has delivered.
 pub fn law_run_acked_at_most_delivered()
     ensures { (tsc : ℕ) (channel : Channel) (events : List Event) (answers : List Answer)
@@ -61,8 +61,8 @@ pub fn law_run_acked_at_most_delivered()
 {}
 
 /// Law: in every session, whatever blocks are accepted, each endpoint numbers its acknowledgements in order, and reports at most one
-/// establishment and one closing (`IsOrderedLog`).
-#[tactic(auto, using(crate::proofs::AsFrameSessions::air_order))]
+/// establishment and one closed link (`IsOrderedLog`).
+#[tactic(auto, using(crate::proofs::Lemmas::air_order))]
 pub fn law_run_log_is_ordered()
     ensures { (tsc : ℕ) (channel : Channel) (events : List Event) (answers : List Answer)
         (b : AirState) → IsAirRun (initial_session tsc channel) events answers b →
@@ -71,7 +71,7 @@ pub fn law_run_log_is_ordered()
 
 /// Law: if a session extended by one step is benign, messages are delivered in order and before they are acknowledged in the extended
 /// session (`Claims`).
-#[tactic(auto, using(crate::proofs::AsFrameSessions::step_claims))]
+#[tactic(auto, using(crate::proofs::Lemmas::step_claims))]
 pub fn law_delivers_in_order()
     ensures { (tsc : ℕ) (channel : Channel) (events : List Event) (answers : List Answer)
         (a : AirState) (event : Event) (answer : Answer) (b : AirState) →
@@ -81,7 +81,7 @@ pub fn law_delivers_in_order()
 {}
 
 /// Law: if a session is extended by one step, whatever blocks are accepted, the extended session has an ordered log (`IsOrderedLog`).
-#[tactic(auto, using(crate::proofs::AsFrameSessions::step_order))]
+#[tactic(auto, using(crate::proofs::Lemmas::step_order))]
 pub fn law_log_is_ordered()
     ensures { (tsc : ℕ) (channel : Channel) (events : List Event) (answers : List Answer)
         (a : AirState) (event : Event) (answer : Answer) (b : AirState) →
@@ -105,7 +105,7 @@ pub fn law_light_damage_is_corrected()
 {}
 
 /// Law: if at most three bits of each block are inverted, a session is benign: each block is accepted with the octets that were sent.
-#[tactic(auto, using(crate::proofs::AsFrameSessions::few_inverted_is_benign))]
+#[tactic(auto, using(crate::proofs::Lemmas::few_inverted_is_benign))]
 pub fn law_three_inverted_bits_are_benign()
     ensures { (tsc : ℕ) (channel : Channel) (events : List Event) (answers : List Answer)
         (b : AirState) → IsAirRun (initial_session tsc channel) events answers b →

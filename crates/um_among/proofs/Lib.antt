@@ -1,3 +1,2 @@
 pub use Rattle.list_decode.proofs as list_decode
-mod FirstCrcMatch
-pub mod UniqueReports
+pub mod Lemmas

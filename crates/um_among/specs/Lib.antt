@@ -1,4 +1,4 @@
 pub use Rattle.list_decode.specs as list_decode
 -- The definitions that the contracts of this crate cite.
-pub mod Among
-pub mod Parities
+pub mod ListDecoding
+pub mod ChannelCrcs

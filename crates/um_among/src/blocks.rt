@@ -1,4 +1,4 @@
-//! Receives blocks with a list decoder: takes the first of the most likely words whose CRC holds.
+//! Receives blocks with a list decoder: takes the first of the most likely words whose CRC is correct.
 ghost use Rattle.std.specs.Prelude.{◌≡◌, ◌≢◌, ◌≤◌, ◌↔◌, ℕ, ℤ, All, IsNone, IsSome, List, map};
 ghost use Rattle.um_block.specs.bit_blocks.SoftValues.{AllSoftBits};
 ghost use Rattle.um_block.specs.conv_code.Code.{IsEncoderInput};
@@ -6,26 +6,26 @@ ghost use Rattle.um_block.specs.conv_code.Likelihood.{RanksAfter};
 ghost use Rattle.um_block.specs.interleave.Bursts.{IsInterleaved};
 ghost use Rattle.list_decode.specs.Ranking.{IsCandidate};
 ghost use Rattle.um_block.specs.Received.{IsReceivedBlock, coded_soft_bits};
-ghost use Rattle.um_among.specs.Among.{IsListDecodedBlock, NoCrcHolds};
-ghost use Rattle.um_among.specs.Parities.{BlockCrcHolds};
+ghost use Rattle.um_among.specs.ListDecoding.{IsListDecodedBlock, NoCrcHolds};
+ghost use Rattle.um_among.specs.ChannelCrcs.{BlockCrcHolds};
 
 use crate::crc::ChannelCrc;
 use crate::reports::ListDecodedBlock;
 use crate::search::first_crc_match;
-use list_decode::MAX_LISTS;
+use list_decode::MAX_RANK;
 use um_block::{
     BURST_BITS, Bits, CODED_BITS, ENCODER_INPUT_BITS, Received, deinterleave_block,
     octets_if_crc_holds, receive_deinterleaved,
 };
 
-/// Receives the four bursts of a block: takes the first of the `most` most likely words whose CRC holds; `most` is 1 to 64.
+/// Receives the four bursts of a block: takes the first of the `most` most likely words whose CRC is correct; `most` must be 1 to 64.
 ///
-/// The CRC of a word that was not sent holds by chance with probability 2^-40 for each word tried: with 64 words, about once in
-/// 1.7 * 10^10 lost blocks.
+/// The CRC of a word that was not sent is correct by chance with probability 2^-40 for each word tried. With 64 words, this happens about
+/// once in 17 billion lost blocks.
 pub fn receive_block_among(bursts: &[[i8; BURST_BITS]; 4], most: u32) -> ListDecodedBlock
     requires soft { All AllSoftBits bursts.now }
     requires at_least { 1 ≤ most }
-    requires at_most { most ≤ MAX_LISTS }
+    requires at_most { most ≤ MAX_RANK }
     ensures received { IsListDecodedBlock bursts.now most result }
     ensures only { (other : ListDecodedBlock) → IsListDecodedBlock bursts.now most other → other ≡ result }
     ensures best { IsSome result.report.accepted → (soft : List ℤ) (v : List ℕ) →
@@ -42,7 +42,7 @@ pub fn receive_block_among(bursts: &[[i8; BURST_BITS]; 4], most: u32) -> ListDec
 }
 
 /// Receives a block as `receive_block_among` does, with its coded soft bits already deinterleaved into `soft`. The contract states only
-/// that the report meets its definition, from which the other guarantees of `receive_block_among` follow.
+/// that the report meets its definition; the other guarantees of `receive_block_among` follow from this.
 pub fn receive_deinterleaved_among(
     bursts: &[[i8; BURST_BITS]; 4],
     soft: &[i8; CODED_BITS],
@@ -51,7 +51,7 @@ pub fn receive_deinterleaved_among(
     requires soft { AllSoftBits soft.now }
     requires deinterleaved { IsInterleaved soft.now (map coded_soft_bits bursts.now) }
     requires at_least { 1 ≤ most }
-    requires at_most { most ≤ MAX_LISTS }
+    requires at_most { most ≤ MAX_RANK }
     ensures { IsListDecodedBlock bursts.now most result }
 {
     let report = receive_deinterleaved(bursts, soft);

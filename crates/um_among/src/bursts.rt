@@ -1,6 +1,6 @@
-//! Receives access and synchronisation bursts with a list decoder: takes the first of the most likely words whose CRC holds.
+//! Receives access and synchronisation bursts with a list decoder: takes the first of the most likely words whose CRC is correct.
 //!
-//! Their CRCs are short: six bits in an access burst and ten in a synchronisation burst. The CRC of a word that was not sent holds by
+//! Their CRCs are short: six bits in an access burst and ten in a synchronisation burst. The CRC of a word that was not sent is correct by
 //! chance about once in 64 or 1,024 words tried. Try more than one word only if another check rejects wrong bursts.
 ghost use Rattle.std.specs.Prelude.{◌≡◌, ◌≢◌, ◌≤◌, ◌↔◌, ℕ, IsNone, IsSome, List};
 ghost use Rattle.um_block.specs.bit_blocks.SoftValues.{AllSoftBits};
@@ -8,27 +8,27 @@ ghost use Rattle.um_block.specs.conv_code.Code.{IsEncoderInput};
 ghost use Rattle.um_block.specs.conv_code.Likelihood.{RanksAfter};
 ghost use Rattle.list_decode.specs.Ranking.{IsCandidate};
 ghost use Rattle.um_block.specs.Received.{IsReceivedAccess, IsReceivedSync, access_soft_bits, sync_soft_bits};
-ghost use Rattle.um_among.specs.Among.{IsListDecodedAccess, IsListDecodedSync, NoCrcHolds};
-ghost use Rattle.um_among.specs.Parities.{AccessCrcHolds, SyncCrcHolds};
+ghost use Rattle.um_among.specs.ListDecoding.{IsListDecodedAccess, IsListDecodedSync, NoCrcHolds};
+ghost use Rattle.um_among.specs.ChannelCrcs.{AccessCrcHolds, SyncCrcHolds};
 
 use crate::crc::ChannelCrc;
 use crate::reports::{ListDecodedAccess, ListDecodedSync};
 use crate::search::first_crc_match;
-use list_decode::MAX_LISTS;
+use list_decode::MAX_RANK;
 use um_block::{
     AccessView, BURST_BITS, Bits, ReceivedAccess, ReceivedSync, SyncView, access_bits_if_crc_holds,
     join_sync_halves, receive_access, receive_sync, sync_bits_if_crc_holds,
 };
 
 /// Receives an access burst for a base station identity code (BSIC) of six bits: takes the first of the `most` most likely words whose CRC
-/// holds; `most` is 1 to 64.
+/// is correct; `most` must be 1 to 64.
 ///
-/// The CRC of six bits holds by chance about once in 64 words tried, so if many words are tried and the sent word is not the first, a wrong
-/// one is usually accepted. Use a `most` above 1 only if another check rejects wrong bits.
+/// The CRC of six bits is correct by chance about once in 64 words tried, so if many words are tried and the sent word is not the first, a
+/// wrong one is usually accepted. Use a `most` above 1 only if another check rejects wrong bits.
 pub fn receive_access_among(burst: &[i8; 88], bsic: &Bits<6>, most: u32) -> ListDecodedAccess
     requires soft { AllSoftBits burst.now }
     requires at_least { 1 ≤ most }
-    requires at_most { most ≤ MAX_LISTS }
+    requires at_most { most ≤ MAX_RANK }
     ensures received { IsListDecodedAccess burst.now bsic.now most result }
     ensures only { (other : ListDecodedAccess) → IsListDecodedAccess burst.now bsic.now most other → other ≡ result }
     ensures best { IsSome result.report.accepted → (v : List ℕ) → IsCandidate (access_soft_bits burst.now) v →
@@ -43,12 +43,12 @@ pub fn receive_access_among(burst: &[i8; 88], bsic: &Bits<6>, most: u32) -> List
     list_decode_access(burst, bsic, most)
 }
 
-/// Does the work of `receive_access_among`. The contract states only that the report meets its definition, from which the other guarantees
-/// of `receive_access_among` follow.
+/// Implements `receive_access_among`. The contract states only that the report meets its definition; the other guarantees of
+/// `receive_access_among` follow from this.
 fn list_decode_access(burst: &[i8; 88], bsic: &Bits<6>, most: u32) -> ListDecodedAccess
     requires soft { AllSoftBits burst.now }
     requires at_least { 1 ≤ most }
-    requires at_most { most ≤ MAX_LISTS }
+    requires at_most { most ≤ MAX_RANK }
     ensures { IsListDecodedAccess burst.now bsic.now most result }
 {
     let report = receive_access(burst, bsic);
@@ -71,14 +71,14 @@ fn list_decode_access(burst: &[i8; 88], bsic: &Bits<6>, most: u32) -> ListDecode
     }
 }
 
-/// Receives a synchronisation burst: takes the first of the `most` most likely words whose CRC holds; `most` is 1 to 64.
+/// Receives a synchronisation burst: takes the first of the `most` most likely words whose CRC is correct; `most` must be 1 to 64.
 ///
-/// The CRC of ten bits holds by chance about once in 1,024 words tried, so with 64 words a wrong one is accepted in about one burst of
-/// noise in sixteen. Use a `most` above 1 only if another check rejects wrong bits.
+/// The CRC of ten bits is correct by chance about once in 1,024 words tried, so with 64 words a wrong one is accepted in about one noise
+/// burst in sixteen. Use a `most` above 1 only if another check rejects wrong bits.
 pub fn receive_sync_among(burst: &[i8; BURST_BITS], most: u32) -> ListDecodedSync
     requires soft { AllSoftBits burst.now }
     requires at_least { 1 ≤ most }
-    requires at_most { most ≤ MAX_LISTS }
+    requires at_most { most ≤ MAX_RANK }
     ensures received { IsListDecodedSync burst.now most result }
     ensures only { (other : ListDecodedSync) → IsListDecodedSync burst.now most other → other ≡ result }
     ensures best { IsSome result.report.accepted → (v : List ℕ) → IsCandidate (sync_soft_bits burst.now) v → SyncCrcHolds v →
@@ -92,12 +92,12 @@ pub fn receive_sync_among(burst: &[i8; BURST_BITS], most: u32) -> ListDecodedSyn
     list_decode_sync(burst, most)
 }
 
-/// Does the work of `receive_sync_among`. The contract states only that the report meets its definition, from which the other guarantees of
-/// `receive_sync_among` follow.
+/// Implements `receive_sync_among`. The contract states only that the report meets its definition; the other guarantees of
+/// `receive_sync_among` follow from this.
 fn list_decode_sync(burst: &[i8; BURST_BITS], most: u32) -> ListDecodedSync
     requires soft { AllSoftBits burst.now }
     requires at_least { 1 ≤ most }
-    requires at_most { most ≤ MAX_LISTS }
+    requires at_most { most ≤ MAX_RANK }
     ensures { IsListDecodedSync burst.now most result }
 {
     let report = receive_sync(burst);

@@ -1,7 +1,7 @@
-//! The CRC of each channel, with which the list decoder checks a word.
+//! The CRC of each channel, as the list decoder checks it for a word.
 ghost use Rattle.std.specs.Prelude.{◌≡◌, ◌↔◌, ◌≤◌, IsTrue, length, take};
 ghost use Rattle.um_block.specs.bit_blocks.Bits.{AllBits};
-ghost use Rattle.um_among.specs.Parities.{CrcHolds, word_length};
+ghost use Rattle.um_among.specs.ChannelCrcs.{CrcHolds, word_length};
 
 use um_block::{Bits, rach_holds, sch_holds, xcch_holds};
 
@@ -15,7 +15,7 @@ pub(crate) enum ChannelCrc {
 }
 
 impl ChannelCrc {
-    /// Whether the CRC of the information list `u` holds.
+    /// Returns whether the CRC of the information list `u` is correct.
     pub(crate) fn holds(&self, u: &[u8]) -> bool
         requires word_length { length u.now ≡ word_length self.now }
         requires bits { AllBits u.now }

@@ -1,13 +1,13 @@
-//! The search for the first word whose CRC holds.
+//! The search for the first word whose CRC is correct.
 ghost use Rattle.std.specs.Prelude.{◌≡◌, ◌*◌, ◌≤◌, MatchOption, length};
 ghost use Rattle.um_block.specs.bit_blocks.SoftValues.{AllSoftBits};
 ghost use Rattle.um_block.specs.conv_code.Code.{encoding, IsEncoderInput};
 ghost use Rattle.um_block.specs.conv_code.Likelihood.{likelihood};
-ghost use Rattle.um_among.specs.Parities.{CrcHolds, word_length};
-ghost use Rattle.um_among.specs.Among.{IsFirstCrcMatch, NoCrcHolds};
+ghost use Rattle.um_among.specs.ChannelCrcs.{CrcHolds, word_length};
+ghost use Rattle.um_among.specs.ListDecoding.{IsFirstCrcMatch, NoCrcHolds};
 
 use crate::crc::ChannelCrc;
-use list_decode::{MAX_LISTS, Ranked};
+use list_decode::{ListDecoder, MAX_RANK};
 
 /// The rank of the word that was found, and its path metric.
 #[derive(Clone, Copy)]
@@ -16,7 +16,7 @@ pub(crate) struct CrcMatch {
     pub(crate) metric: i32,
 }
 
-/// Writes to `u` the first of the `most` most likely words whose CRC holds. Returns `None` if the CRC of none of them holds.
+/// Writes to `u` the first of the `most` most likely words whose CRC is correct. Returns `None` if none of their CRCs is correct.
 pub(crate) fn first_crc_match(
     crc: &ChannelCrc,
     soft: &[i8],
@@ -26,13 +26,13 @@ pub(crate) fn first_crc_match(
     requires word_length { length u.old ≡ word_length crc.now }
     requires pairs { length soft.now ≡ 2 * length u.old }
     requires soft { AllSoftBits soft.now }
-    requires at_most { most ≤ MAX_LISTS }
+    requires at_most { most ≤ MAX_RANK }
     ensures { MatchOption result
         (NoCrcHolds (CrcHolds crc.now) soft.now most)
         (λ found. IsFirstCrcMatch (CrcHolds crc.now) soft.now most found.rank u.new
         × (found.metric ≡ likelihood soft.now (encoding u.new)) × IsEncoderInput u.new) }
 {
-    let mut ranked = Ranked::new(soft);
+    let mut ranked = ListDecoder::new(soft);
     for tried in 0..most {
         let metric = ranked.next(u)?;
         if crc.holds(u) {

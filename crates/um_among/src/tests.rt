@@ -14,7 +14,7 @@ fn are_soft(values: &[i8]) -> bool
     values.iter().all(|value| *value != -128)
 }
 
-fn block(rt: &impl Abort, bursts: &[[i8; BURST_BITS]; 4], most: u32) -> ListDecodedBlock {
+fn decode_block(rt: &impl Abort, bursts: &[[i8; BURST_BITS]; 4], most: u32) -> ListDecodedBlock {
     let all_soft = bursts.iter().all(|burst| are_soft(burst));
     assert!(rt; all_soft);
     assert!(rt; most >= 1);
@@ -22,7 +22,7 @@ fn block(rt: &impl Abort, bursts: &[[i8; BURST_BITS]; 4], most: u32) -> ListDeco
     receive_block_among(bursts, most)
 }
 
-fn access(rt: &impl Abort, burst: &[i8; 88], bsic: [u8; 6], most: u32) -> ListDecodedAccess {
+fn decode_access(rt: &impl Abort, burst: &[i8; 88], bsic: [u8; 6], most: u32) -> ListDecodedAccess {
     assert!(rt; are_soft(burst));
     let are_bits = bsic.iter().all(|bit| *bit <= 1);
     assert!(rt; are_bits);
@@ -31,7 +31,7 @@ fn access(rt: &impl Abort, burst: &[i8; 88], bsic: [u8; 6], most: u32) -> ListDe
     receive_access_among(burst, &Bits::from_array(bsic), most)
 }
 
-fn sync(rt: &impl Abort, burst: &[i8; BURST_BITS], most: u32) -> ListDecodedSync {
+fn decode_sync(rt: &impl Abort, burst: &[i8; BURST_BITS], most: u32) -> ListDecodedSync {
     assert!(rt; are_soft(burst));
     assert!(rt; most >= 1);
     assert!(rt; most <= 64);
@@ -57,12 +57,12 @@ fn the_second_most_likely_word_is_the_sent_one(rt: HostRuntime) {
         sent[burst][place] ^= 1;
     }
     let bursts = sent.map(|burst| softened(&rt, &burst));
-    let alone = block(&rt, &bursts, 1);
+    let alone = decode_block(&rt, &bursts, 1);
     assert_eq!(rt; alone.report.accepted, None);
     assert_eq!(rt; alone.report.metric, 450 * 127);
     assert_eq!(rt; alone.rank, 1);
     for most in [2, 16, 64] {
-        let among = block(&rt, &bursts, most);
+        let among = decode_block(&rt, &bursts, most);
         assert_eq!(rt; among.report.accepted, Some(octets));
         assert_eq!(rt; among.report.metric, 448 * 127);
         assert_eq!(rt; among.report.tsc, 7);
@@ -75,15 +75,15 @@ fn the_second_most_likely_word_is_the_sent_one(rt: HostRuntime) {
 // bits, which take every value. None of these CRCs holds, because the CRC of zeros is forty ones.
 #[test]
 fn a_lost_block_stays_lost(rt: HostRuntime) {
-    let lost = block(&rt, &[[0; BURST_BITS]; 4], 64);
+    let lost = decode_block(&rt, &[[0; BURST_BITS]; 4], 64);
     assert_eq!(rt; lost.report.accepted, None);
     assert_eq!(rt; lost.report.u, Bits::zero());
     assert_eq!(rt; lost.report.wrong_training, 104);
     assert_eq!(rt; lost.rank, 1);
 }
 
-// All words are equally likely, so the first 64 have the information bits 0 and take every value of the six CRC bits in turn. The right
-// CRC of zeros is the inverted BSIC, which therefore gives the rank.
+// All words are equally likely, so the first 64 have the information bits 0 and all values of the six CRC bits in ascending order. The CRC
+// of zeros is the inverted BSIC, so the BSIC determines the rank.
 #[test]
 fn a_lost_access_burst_matches_each_bsic(rt: HostRuntime) {
     for (bsic, rank) in [
@@ -93,14 +93,14 @@ fn a_lost_access_burst_matches_each_bsic(rt: HostRuntime) {
         ([0, 1, 1, 1, 1, 1], 33),
         ([0, 0, 0, 0, 0, 0], 64),
     ] {
-        let found = access(&rt, &[0; 88], bsic, 64);
+        let found = decode_access(&rt, &[0; 88], bsic, 64);
         assert_eq!(rt; found.rank, rank);
         assert_eq!(rt; found.report.accepted, Some(Bits::zero()));
         for (k, bit) in bsic.iter().enumerate() {
             assert_eq!(rt; found.report.u.get(8 + k), 1 - *bit);
         }
     }
-    let missed = access(&rt, &[0; 88], [0; 6], 63);
+    let missed = decode_access(&rt, &[0; 88], [0; 6], 63);
     assert_eq!(rt; missed.report.accepted, None);
     assert_eq!(rt; missed.report.u, Bits::zero());
     assert_eq!(rt; missed.rank, 1);
@@ -108,7 +108,7 @@ fn a_lost_access_burst_matches_each_bsic(rt: HostRuntime) {
 
 #[test]
 fn a_lost_synchronisation_burst_stays_lost(rt: HostRuntime) {
-    let lost = sync(&rt, &[0; BURST_BITS], 64);
+    let lost = decode_sync(&rt, &[0; BURST_BITS], 64);
     assert_eq!(rt; lost.report.accepted, None);
     assert_eq!(rt; lost.report.u, Bits::zero());
     assert_eq!(rt; lost.rank, 1);

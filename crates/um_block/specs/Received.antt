@@ -1,4 +1,4 @@
--- Reports of received bursts: the most likely information list, the training sequence, and the information if the CRC holds (GSM 05.03
+-- Reports of received bursts: the most likely information list, the training sequence, and the information if the CRC is correct (GSM 05.03
 -- sections 4.1, 4.6 and 4.7; the choice of the most likely list is this project's own rule).
 use Rattle.std.specs.Prelude.{ℕ, ◌≡◌, ◌==◌, if◌then◌else◌, ℤ, pos, negsuc, List, [], ◌++◌, map, take}
 use Rattle.std.specs.Prelude.{slice_index_or, MatchOption}
@@ -71,7 +71,7 @@ pub record IsReceivedBlock (bursts : List (List ℤ)) (r : Received) : Type 0 wh
       (λ octets. IsXcchWord (take 224 r.u) × (octets ≡ octets_of (take 184 r.u)))
 
 -- `r` is the report of an access burst of 88 soft bits, checked with the BSIC `bsic`. Its `accepted` holds the eight information bits if
--- the CRC holds, and is `None` otherwise
+-- the CRC is correct, and is `None` otherwise
 pub record IsReceivedAccess (burst : List ℤ) (bsic : List ℕ) (r : ReceivedAccess) : Type 0 where
   pub best : IsMostLikely (access_soft_bits burst) r.u
   pub metric : r.metric ≡ likelihood (access_soft_bits burst) (encoding r.u)
@@ -80,7 +80,7 @@ pub record IsReceivedAccess (burst : List ℤ) (bsic : List ℕ) (r : ReceivedAc
       (¬ IsRachWord (take 14 r.u) bsic)
       (λ info. IsRachWord (take 14 r.u) bsic × (info ≡ take 8 r.u))
 
--- `r` is the report of a synchronisation burst of 148 soft bits. Its `accepted` holds the 25 information bits if the CRC holds, and is
+-- `r` is the report of a synchronisation burst of 148 soft bits. Its `accepted` holds the 25 information bits if the CRC is correct, and is
 -- `None` otherwise
 pub record IsReceivedSync (burst : List ℤ) (r : ReceivedSync) : Type 0 where
   pub best : IsMostLikely (sync_soft_bits burst) r.u

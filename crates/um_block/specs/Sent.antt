@@ -47,9 +47,9 @@ pub record IsCodedSync (d c : List ℕ) : Type 0 where
 pub record IsSentBlock (octets : List ℕ) (tsc : ℕ) (bursts : List (List ℕ)) : Type 0 where
   pub coded_bits : List ℕ
   pub parts : List (List ℕ)
-  pub known : tsc ≤ 7
+  pub valid_tsc : tsc ≤ 7
   pub code : IsCodedBlock octets coded_bits
-  pub spread : IsInterleaved coded_bits parts
+  pub interleaved : IsInterleaved coded_bits parts
   pub layout : bursts ≡ map (λ part. normal_burst (take 57 part) (drop 57 part) tsc) parts
 
 -- `x` is the access burst of the eight information bits `d` for the BSIC `b` (GSM 05.03 section 4.6, GSM 05.02 section 5.2.7)
@@ -58,7 +58,7 @@ pub record IsSentAccess (d b x : List ℕ) : Type 0 where
   pub code : IsCodedAccess d b coded_bits
   pub burst : x ≡ access_burst coded_bits
 
--- `x` is the synchronisation burst of the 25 information bits `d` (GSM 05.03 section 4.7, GSM 05.02 section 5.2.5)
+-- `x` is the synchronisation burst that carries the 25 information bits `d` (GSM 05.03 section 4.7, GSM 05.02 section 5.2.5)
 pub record IsSentSync (d x : List ℕ) : Type 0 where
   pub coded_bits : List ℕ
   pub code : IsCodedSync d coded_bits

@@ -1,7 +1,7 @@
 -- The counters of blocks that a radio has sent and received (this project's own rule).
 use Rattle.std.specs.Prelude.{ℕ, zero, suc, ◌+◌, ◌-◌, ◌^◌, min}
 
--- a counter plus one; a counter stays at its greatest value, 2^64 - 1
+-- a counter plus one; counters saturate at 2^64 - 1
 abbrev pub counter_plus_one : ℕ → ℕ
 counter_plus_one n = min (n + 1) (2 ^ 64 - 1)
 

@@ -4,15 +4,15 @@ ghost use Rattle.std.specs.Prelude.{◌≡◌, ℕ, ℤ, pos, ◌<◌, ◌≤◌
 ghost use Rattle.std.specs.Prelude.{slice_index_or};
 ghost use Rattle.bit_blocks.specs.SoftValues.{count_wrong_bits};
 ghost use Rattle.interleave.specs.Bursts.{IsInterleaved};
-ghost use Rattle.interleave.specs.Places.{four_burst_position};
+ghost use Rattle.interleave.specs.Positions.{four_burst_position};
 ghost use Rattle.um_block.specs.Received.{coded_soft_bits, joined_bursts, soft_bits};
 ghost use Rattle.um_block.specs.Sent.{IsCodedBlock, IsSentBlock};
 
 use bit_blocks::CODED_BITS;
 use burst_map::BURST_BITS;
 
-/// Law: among the 592 bits of its four bursts, each coded bit of a block is sent at the position that `four_burst_position` gives, and
-/// its soft bit is read from there.
+/// Law: among the 592 bits of its four bursts, each coded bit of a block is sent at its `four_burst_position`, and its soft bit is read
+/// from there.
 pub fn law_coded_bits_are_in_position()
     ensures sent { (octets c : List ℕ) (tsc : ℕ) (bursts : List (List ℕ)) → IsSentBlock octets tsc bursts →
         IsCodedBlock octets c → (k : ℕ) → k < CODED_BITS → slice_index (joined_bursts bursts) (four_burst_position k) ≡

@@ -13,7 +13,7 @@ use crate::{Received, receive_block, send_block};
 use bit_blocks::BLOCK_OCTETS;
 use burst_map::BURST_BITS;
 
-/// Sends and receives blocks as `send_block` and `receive_block` do, and counts them. The counters stay at their greatest value, 2^64 - 1.
+/// Sends and receives blocks as `send_block` and `receive_block` do, and counts them. The counters saturate at 2^64 - 1.
 pub trait Radio {
     /// The number of blocks sent.
     ghost sent: { Self → ℕ };
@@ -21,7 +21,7 @@ pub trait Radio {
     /// The number of blocks received.
     ghost heard: { Self → ℕ };
 
-    /// Encodes a block of 23 octets into four normal bursts, with a training sequence code of 0 to 7.
+    /// Encodes a block of 23 octets into four normal bursts, with a training sequence code, which must be 0 to 7.
     fn send(&mut self, octets: &[u8; BLOCK_OCTETS], tsc: u8) -> [[u8; BURST_BITS]; 4]
         requires { tsc ≤ 7 }
         ensures sent { IsSentBlock octets.now tsc result }

@@ -1,8 +1,8 @@
-//! Receiving: decodes bursts to the most likely information list and checks its CRC (GSM 05.03, today 3GPP TS 45.003, leaves the
-//! decoding open; maximum likelihood is this project's own choice).
+//! Receiving: decodes bursts to the most likely information list and checks its CRC (GSM 05.03, today 3GPP TS 45.003, does not specify a
+//! decoder; maximum likelihood is this project's own choice).
 ghost use Rattle.std.specs.Prelude.{◌≡◌, ℕ, ◌≤◌, ◌++◌, ℤ, List, Some, length, map, take, All, MatchOption};
 ghost use Rattle.bit_blocks.specs.Bits.{AllBits};
-ghost use Rattle.bit_blocks.specs.Octets.{octets_of};
+ghost use Rattle.bit_blocks.specs.Octets.{bits_of, octets_of};
 ghost use Rattle.bit_blocks.specs.SoftValues.{AllSoftBits};
 ghost use Rattle.fire_code.specs.Words.{IsXcchWord, IsRachWord, IsSchWord};
 ghost use Rattle.interleave.specs.Bursts.{IsInterleaved};
@@ -22,7 +22,7 @@ use interleave::gather;
 use training_seq::best;
 use trellis_decode::decode;
 
-/// Decodes the four normal bursts of a block, 148 soft bits each, -127 to 127.
+/// Decodes the four normal bursts of a block. Each has 148 soft bits, which must be from -127 to 127.
 pub fn receive_block(bursts: &[[i8; BURST_BITS]; 4]) -> Received
     requires { All AllSoftBits bursts.now }
     ensures received { IsReceivedBlock bursts.now result }
@@ -93,7 +93,7 @@ fn detect_tsc(bursts: &[[i8; BURST_BITS]; 4]) -> (u8, u32)
     )
 }
 
-/// The 23 octets of a block's information list, or `None` if its Fire code bits do not match.
+/// Returns the 23 octets of a block's information list, or `None` if its Fire code bits do not match.
 pub fn octets_if_crc_holds(u: &[u8; ENCODER_INPUT_BITS]) -> Option<[u8; BLOCK_OCTETS]>
     requires { AllBits u.now }
     ensures { MatchOption result
@@ -101,7 +101,7 @@ pub fn octets_if_crc_holds(u: &[u8; ENCODER_INPUT_BITS]) -> Option<[u8; BLOCK_OC
         (λ octets. IsXcchWord (take 224 u.now) × (octets ≡ octets_of (take BLOCK_BITS u.now))) }
 {
     let mut octets = [0; BLOCK_OCTETS];
-    to_octets(&u[..BLOCK_BITS], &mut octets);
+    pack_information_bits(u, &mut octets);
     let mut check = [0; 5];
     to_octets(&u[BLOCK_BITS..224], &mut check);
     if check == xcch_parity_of_octets(&octets) {
@@ -111,7 +111,17 @@ pub fn octets_if_crc_holds(u: &[u8; ENCODER_INPUT_BITS]) -> Option<[u8; BLOCK_OC
     }
 }
 
-/// Decodes an access burst of 88 soft bits, -127 to 127, for a base station identity code (BSIC).
+// Packs the information bits of a block into octets. Inlined, the octets would be kept in registers, and moved one by one.
+#[inline(never)]
+fn pack_information_bits(u: &[u8; ENCODER_INPUT_BITS], octets: &mut [u8; BLOCK_OCTETS])
+    requires { AllBits u.now }
+    ensures value { octets.new ≡ octets_of (take BLOCK_BITS u.now) }
+    ensures round_trip { bits_of octets.new ≡ take BLOCK_BITS u.now }
+{
+    to_octets(&u[..BLOCK_BITS], octets);
+}
+
+/// Decodes an access burst for a base station identity code (BSIC). Its 88 soft bits must be from -127 to 127.
 pub fn receive_access(burst: &[i8; 88], bsic: &Bits<6>) -> ReceivedAccess
     requires { AllSoftBits burst.now }
     ensures received { IsReceivedAccess burst.now bsic.now result }
@@ -132,7 +142,7 @@ pub fn receive_access(burst: &[i8; 88], bsic: &Bits<6>) -> ReceivedAccess
     }
 }
 
-/// The eight information bits of an access burst's information list, or `None` if its CRC does not hold for the BSIC.
+/// Returns the eight information bits of an access burst's information list, or `None` if its CRC is wrong for the BSIC.
 pub fn access_bits_if_crc_holds(u: &[u8; 18], bsic: &Bits<6>) -> Option<Bits<8>>
     requires { AllBits u.now }
     ensures { MatchOption result
@@ -149,7 +159,7 @@ pub fn access_bits_if_crc_holds(u: &[u8; 18], bsic: &Bits<6>) -> Option<Bits<8>>
     Some(Bits::from_array(info))
 }
 
-/// Decodes a synchronisation burst of 148 soft bits, -127 to 127.
+/// Decodes a synchronisation burst. Its 148 soft bits must be from -127 to 127.
 pub fn receive_sync(burst: &[i8; BURST_BITS]) -> ReceivedSync
     requires { AllSoftBits burst.now }
     ensures received { IsReceivedSync burst.now result }
@@ -182,7 +192,7 @@ pub fn join_sync_halves(first: &[i8], second: &[i8]) -> [i8; 78]
     soft
 }
 
-/// The 25 information bits of a synchronisation burst's information list, or `None` if its CRC does not hold.
+/// Returns the 25 information bits of a synchronisation burst's information list, or `None` if its CRC is wrong.
 pub fn sync_bits_if_crc_holds(u: &[u8; 39]) -> Option<Bits<25>>
     requires { AllBits u.now }
     ensures { MatchOption result

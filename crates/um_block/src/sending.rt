@@ -15,7 +15,7 @@ use conv_code::{encode, encode_packed};
 use fire_code::{rach_parity, sch_parity, xcch_parity_of_octets};
 use interleave::Columns;
 
-/// Encodes a block of 23 octets into four normal bursts, with a training sequence code of 0 to 7.
+/// Encodes a block of 23 octets into four normal bursts, with a training sequence code, which must be 0 to 7.
 pub fn send_block(octets: &[u8; BLOCK_OCTETS], tsc: u8) -> [[u8; BURST_BITS]; 4]
     requires { tsc ≤ 7 }
     ensures sent { IsSentBlock octets.now tsc result }
@@ -48,9 +48,9 @@ fn octets_with_crc(octets: &[u8; BLOCK_OCTETS]) -> [u8; 32]
     word
 }
 
-/// Builds normal burst `b` of a block, and writes both halves of its coded bits in place.
+/// Builds normal burst `b` of a block, with both halves of its coded bits in their positions.
 fn build_normal_burst(columns: &Columns, b: usize, tsc: u8) -> [u8; BURST_BITS]
-    requires which { b < 4 }
+    requires burst_number { b < 4 }
     requires known { tsc ≤ 7 }
     ensures { (coded : List ℕ) (parts : List (List ℕ)) → AreColumnsOfCodedBits coded columns.now.octets →
         IsInterleaved coded parts → result ≡ normal_burst (take 57 (slice_index_or parts b [])) (drop 57 (slice_index_or parts b []))
@@ -63,7 +63,7 @@ fn build_normal_burst(columns: &Columns, b: usize, tsc: u8) -> [u8; BURST_BITS]
     burst
 }
 
-/// Encodes eight information bits into an access burst for a base station identity code (BSIC). `bsic` starts with the network colour
+/// Encodes eight information bits into an access burst for a base station identity code (BSIC). `bsic` must start with the network colour
 /// code, most significant bit first.
 pub fn send_access(info: &Bits<8>, bsic: &Bits<6>) -> [u8; 88]
     ensures sent { IsSentAccess info.now bsic.now result }

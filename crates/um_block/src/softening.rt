@@ -1,4 +1,4 @@
-//! Converts bits to soft bits of full confidence.
+//! Converts bits to soft bits with full confidence.
 ghost use Rattle.std.specs.Prelude.{◌≡◌, ◌≤◌, map, take, drop, All};
 ghost use Rattle.bit_blocks.specs.Bits.{AllBits};
 ghost use Rattle.bit_blocks.specs.SoftValues.{AllSoftBits};
@@ -6,7 +6,7 @@ ghost use Rattle.um_block.specs.Received.{soft_bits};
 
 use burst_map::BURST_BITS;
 
-/// Converts the bits of a burst to soft bits of full confidence: 127 for 0, -127 for 1.
+/// Converts the bits of a burst to soft bits with full confidence: 127 for 0, -127 for 1.
 pub fn soften(burst: &[u8; BURST_BITS]) -> [i8; BURST_BITS]
     requires { AllBits burst.now }
     ensures value { result ≡ soft_bits burst.now }
@@ -17,7 +17,7 @@ pub fn soften(burst: &[u8; BURST_BITS]) -> [i8; BURST_BITS]
     soft
 }
 
-/// Converts the bits of the four bursts of a block to soft bits of full confidence, and writes these to `soft`.
+/// Converts the bits of the four bursts of a block to soft bits with full confidence, and writes these to `soft`.
 pub fn soften_block(block: &[[u8; BURST_BITS]; 4], soft: &mut [[i8; BURST_BITS]; 4])
     requires { All AllBits block.now }
     ensures value { soft.new ≡ map soft_bits block.now }
@@ -28,8 +28,7 @@ pub fn soften_block(block: &[[u8; BURST_BITS]; 4], soft: &mut [[i8; BURST_BITS];
     }
 }
 
-// Converts the bits of a burst to soft bits, sixteen at a time. As 148 is not a multiple of sixteen, the last group overlaps the one before
-// it by twelve.
+// Converts the bits of a burst to soft bits, sixteen at a time. As 148 is not a multiple of sixteen, the last two groups overlap by twelve.
 fn soften_burst_into(burst: &[u8; BURST_BITS], soft: &mut [i8; BURST_BITS])
     requires { AllBits burst.now }
     ensures value { soft.new ≡ soft_bits burst.now }

@@ -12,13 +12,13 @@ fn are_soft(values: &[i8]) -> bool
     values.iter().all(|value| *value != -128)
 }
 
-fn block(rt: &impl Abort, bursts: &[[i8; BURST_BITS]; 4]) -> Received {
+fn decode_block(rt: &impl Abort, bursts: &[[i8; BURST_BITS]; 4]) -> Received {
     let all_soft = bursts.iter().all(|burst| are_soft(burst));
     assert!(rt; all_soft);
     receive_block(bursts)
 }
 
-fn access(rt: &impl Abort, burst: &[i8; 88], bsic: [u8; 6]) -> ReceivedAccess {
+fn decode_access(rt: &impl Abort, burst: &[i8; 88], bsic: [u8; 6]) -> ReceivedAccess {
     assert!(rt; are_soft(burst));
     let are_bits = bsic.iter().all(|bit| *bit <= 1);
     assert!(rt; are_bits);
@@ -33,7 +33,7 @@ fn softened(rt: &impl Abort, burst: &[u8; BURST_BITS]) -> [i8; BURST_BITS] {
 
 #[test]
 fn a_lost_block_decodes_to_zeros(rt: HostRuntime) {
-    let lost = block(&rt, &[[0; BURST_BITS]; 4]);
+    let lost = decode_block(&rt, &[[0; BURST_BITS]; 4]);
     let expected = Received {
         u: Bits::zero(),
         metric: 0,
@@ -49,7 +49,7 @@ fn a_strong_soft_bit_outweighs_weak_ones(rt: HostRuntime) {
     let mut burst = [0; 88];
     burst[49..85].fill(1);
     burst[49] = -7;
-    let received = access(&rt, &burst, [1; 6]);
+    let received = decode_access(&rt, &burst, [1; 6]);
     assert_eq!(rt; received.metric, 30);
     assert_eq!(rt; received.wrong_training, 41);
     assert_eq!(rt; received.accepted.is_none(), true);
@@ -59,10 +59,10 @@ fn a_strong_soft_bit_outweighs_weak_ones(rt: HostRuntime) {
 
 #[test]
 fn a_lost_access_burst_matches_only_one_bsic(rt: HostRuntime) {
-    let fits = access(&rt, &[0; 88], [1; 6]);
+    let fits = decode_access(&rt, &[0; 88], [1; 6]);
     assert_eq!(rt; fits.accepted, Some(Bits::zero()));
     assert_eq!(rt; fits.metric, 0);
-    assert_eq!(rt; access(&rt, &[0; 88], [0; 6]).accepted, None);
+    assert_eq!(rt; decode_access(&rt, &[0; 88], [0; 6]).accepted, None);
 }
 
 #[test]
@@ -71,7 +71,7 @@ fn the_tail_of_an_access_burst_decodes_to_zeros(rt: HostRuntime) {
     burst[49..85].fill(1);
     burst[83] = -1;
     burst[84] = -1;
-    let received = access(&rt, &burst, [1; 6]);
+    let received = decode_access(&rt, &burst, [1; 6]);
     assert_eq!(rt; received.metric, 32);
     assert_eq!(rt; received.accepted, Some(Bits::zero()));
 }
@@ -86,14 +86,14 @@ fn a_block_is_restored_without_one_of_its_bursts(rt: HostRuntime) {
         softened(&rt, &sent[2]),
         softened(&rt, &sent[3]),
     ];
-    let received = block(&rt, &bursts);
+    let received = decode_block(&rt, &bursts);
     assert_eq!(rt; received.metric, 43434);
     assert_eq!(rt; received.tsc, 0);
     assert_eq!(rt; received.wrong_training, 26);
     assert_eq!(rt; received.accepted, Some(octets));
 }
 
-// Seven wrong coded bits (the free distance is seven) turn the coded bits into those of another information list, whose CRC fails.
+// Seven wrong bits, as many as the free distance, turn the coded bits into the coded bits of another information list. Its CRC fails.
 #[test]
 fn a_list_with_a_bad_crc_is_reported_but_not_accepted(rt: HostRuntime) {
     let mut octets = [0x2b; BLOCK_OCTETS];
@@ -113,7 +113,7 @@ fn a_list_with_a_bad_crc_is_reported_but_not_accepted(rt: HostRuntime) {
         sent[burst][place] ^= 1;
     }
     let bursts = sent.map(|burst| softened(&rt, &burst));
-    let received = block(&rt, &bursts);
+    let received = decode_block(&rt, &bursts);
     assert_eq!(rt; received.metric, 57912);
     assert_eq!(rt; received.tsc, 7);
     assert_eq!(rt; received.wrong_training, 0);

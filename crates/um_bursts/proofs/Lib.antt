@@ -1,3 +1,1 @@
-pub mod BurstRules
-pub mod NextAnswers
-pub mod ReplayRules
+pub mod Lemmas

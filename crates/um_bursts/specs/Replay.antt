@@ -1,4 +1,4 @@
--- How the command `replay` answers a line (this project's own rule).
+-- How the `replay` command answers a line (this project's own rule).
 use Rattle.std.specs.Prelude.{ℤ, ◌≡◌, List}
 use Rattle.um_block.specs.Received.{IsReceivedBlock, IsReceivedAccess, IsReceivedSync}
 use Rattle.um_block.specs.declared.received.Received.{Received}
@@ -6,10 +6,10 @@ use Rattle.um_block.specs.declared.received.ReceivedAccess.{ReceivedAccess}
 use Rattle.um_block.specs.declared.received.ReceivedSync.{ReceivedSync}
 use Rattle.um_formats.specs.Reports.{IsBlockReport, access_report_text, sync_report_text}
 use Rattle.um_driver.specs.Rules.{Rules}
-use Rattle.um_bursts.specs.BurstRules.{Answers, burst_rules}
+use Rattle.um_bursts.specs.BurstRules.{BurstAnswers, burst_rules}
 
--- the answer of `replay` to bursts is a report on what was received
-abbrev pub replay_answers : Answers
+-- the answer of `replay` to bursts is the report on their reception
+abbrev pub replay_answers : BurstAnswers
 replay_answers = record {
   block = λ bursts answer. (r : Received) × IsReceivedBlock bursts r × IsBlockReport r answer;
   access = λ bsic burst answer. (r : ReceivedAccess) × IsReceivedAccess burst bsic r × (answer ≡ access_report_text bsic r);

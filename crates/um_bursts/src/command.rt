@@ -1,7 +1,7 @@
 //! A command that reads bursts as text lines.
 ghost use Rattle.std.specs.Prelude.{◌≡◌, ◌<◌, ℤ, List, [], ◌∷◌, ◌++◌, length};
-ghost use Rattle.um_formats.specs.Held.{HasOnlySoftValues};
-ghost use Rattle.um_bursts.specs.BurstRules.{burst_rules, IsAnswerToLineResult};
+ghost use Rattle.um_formats.specs.Held.{HasValidSoftValues};
+ghost use Rattle.um_bursts.specs.BurstRules.{burst_rules, AnswersLineResult};
 ghost use Rattle.um_driver.specs.Rules.{Answers};
 
 use crate::reports::Reports;
@@ -18,7 +18,7 @@ pub struct BurstCommand<R> {
     reports: R,
 }
 
-// In contracts, a `BurstCommand` stands for the list of bursts that it holds.
+// In contracts, a `BurstCommand` is the list of bursts that it holds.
 impl<R> Model for BurstCommand<R> {
     ghost use Rattle.std.specs.Prelude.{ℤ, List};
 
@@ -62,7 +62,7 @@ impl<R: Reports> Command for BurstCommand<R> {
 
     ghost represents = { λ command held. command ≡ held };
 
-    ghost Kept = { Unit {0} };
+    ghost FixedPart = { Unit {0} };
 
     ghost kept = { λ _. tt };
 
@@ -96,8 +96,8 @@ impl<R: Reports> Command for BurstCommand<R> {
 /// Writes the answer to `next`, the result of a line.
 fn write_answer<R: Reports>(out: &mut Text, reports: &R, next: &BurstLineResult, held: &HeldBursts)
     requires empty { out.old ≡ [] }
-    requires soft { HasOnlySoftValues next.now }
-    ensures answer { IsAnswerToLineResult R.answers next.now held.now out.new }
+    requires soft { HasValidSoftValues next.now }
+    ensures answer { AnswersLineResult R.answers next.now held.now out.new }
     ensures size { length out.new < 2000 }
 {
     match next {

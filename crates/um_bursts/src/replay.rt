@@ -1,11 +1,11 @@
-//! The command `replay`: decodes recorded bursts, with hard or soft bits.
+//! The `replay` command: decodes recorded bursts, given as hard or soft bits.
 ghost use Rattle.um_bursts.specs.Replay.{replay_answers};
 
 use crate::reports::Reports;
 use um_block::{BURST_BITS, Bits, receive_access, receive_block, receive_sync};
 use um_formats::{Text, access_report, block_report, sync_report};
 
-/// Decodes each block or single burst, and reports what was received.
+/// Decodes each block or single burst, and reports the result.
 #[derive(Drop)]
 pub struct Replay {}
 

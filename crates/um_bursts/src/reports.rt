@@ -2,7 +2,7 @@
 ghost use Rattle.std.specs.Prelude.{◌≡◌, ◌<◌, [], length};
 ghost use Rattle.std.specs.List.{All};
 ghost use Rattle.um_block.specs.bit_blocks.SoftValues.{AllSoftBits};
-ghost use Rattle.um_bursts.specs.BurstRules.{Answers};
+ghost use Rattle.um_bursts.specs.BurstRules.{BurstAnswers};
 
 use um_block::{BURST_BITS, Bits};
 use um_formats::Text;
@@ -10,7 +10,7 @@ use um_formats::Text;
 /// Writes a command's answers to the four bursts of a block, to an access burst and to a synchronisation burst.
 pub trait Reports {
     /// The answers that the command may give.
-    ghost answers: { Answers };
+    ghost answers: { BurstAnswers };
 
     /// Writes the answer to the four bursts of a block.
     fn block(&self, out: &mut Text, bursts: &[[i8; BURST_BITS]; 4])

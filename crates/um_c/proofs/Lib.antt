@@ -1,9 +1,2 @@
-mod Accepting
 mod Calls
-mod Places
-mod Plain
-mod AsFrameSessions
-mod UniqueRepairs
-mod UniqueReports
-mod Opened
-mod Exchanged
+mod Sessions

@@ -8,7 +8,7 @@ use Rattle.um_air.specs.segmenting.Buffers.{message_buffer}
 use Rattle.um_c.specs.declared.effects.CNotice.{CNotice}
 use Rattle.um_c.specs.declared.effects.CEffects.{CEffects}
 
--- the number that C programs see for the reason why a link is closed, 0 to 3
+-- the number in the C API of the reason why a link was closed, 0 to 3
 abbrev pub reason_number : Reason → ℕ
 reason_number R.Contention = 0
 reason_number R.Failed = 1

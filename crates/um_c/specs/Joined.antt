@@ -1,5 +1,4 @@
--- A C program that connects endpoints: it calls them with the states that it holds, and carries the blocks that they send from one to the
--- other.
+-- A C program that connects endpoints: it keeps their states, calls them, and carries the blocks between them.
 use Rattle.std.specs.Prelude.{ℕ, ℤ, ◌≡◌, ◌≤◌, ◌==◌, ◌&&◌, ◌≢◌, ◌⊎◌, if◌then◌else◌, true, false}
 use Rattle.std.specs.Prelude.{List, [], ◌∷◌, ◌++◌, length, take, map, Option, Some, None}
 use Rattle.std.specs.List.{filter_map}
@@ -18,7 +17,7 @@ use Rattle.um_air.specs.lapdm_window.Calls.{Call}
 use Rattle.um_air.specs.lapdm_link.Queues.{Queues, empty_queues, queue_of, with_appended, without_first}
 use Rattle.um_air.specs.lapdm_link.Events.{other, rival_sabm, rival_refusal}
 use Rattle.um_air.specs.lapdm_link.Worlds.{rr_for_rej}
-use Rattle.um_air.specs.lapdm_link.Claims.{Line, Asked, Notified, is_same_role, is_same_sapi}
+use Rattle.um_air.specs.lapdm_link.Claims.{LogLine, Asked, Notified, is_same_role, is_same_sapi}
 use Rattle.um_air.specs.lapdm_link.Claims as C
 use Rattle.um_air.specs.Damage.{AreLightlyDamaged}
 use Rattle.um_c.specs.declared.states.CEndpoint.{CEndpoint}
@@ -27,11 +26,11 @@ use Rattle.um_c.specs.Reports.{IsBlockReport, IsListDecodedReport}
 use Rattle.um_c.specs.declared.effects.CNotice.{CNotice}
 use Rattle.um_c.specs.declared.effects.CEffects.{CEffects}
 use Rattle.um_c.specs.States.{channel_number}
-use Rattle.um_c.specs.EndCalls.{AnswersCall, AnswersBlock, AnswersNewEndpoint}
+use Rattle.um_c.specs.EndCalls.{EndpointAnswersCall, EndpointReceivesBlock, IsNewEndpointResult}
 
 -- ---- reading the effects of a call
 
--- the reason for which this number stands
+-- the reason with this number
 abbrev pub reason_from_number : ℕ → Reason
 reason_from_number number =
     if number == 0 then R.Contention else if number == 1 then R.Failed else if number == 2 then R.Refused else R.Released
@@ -57,72 +56,72 @@ blocks_sent answer output = if answer == 0 then take output.frame_count output.f
 
 -- ---- one step of the program
 
--- one step of the program: an endpoint is called; an endpoint gets the oldest block in transit to its side; an endpoint gets a block that
--- encodes no frame with its SAPI; the oldest block from a side is lost; or the SABM of another mobile is added to the uplink
+-- one step of the program: an endpoint is called; an endpoint receives the oldest block in transit to its side, or a block that encodes no
+-- frame with its SAPI; the oldest block from a side is lost; or the SABM of another mobile is added to the uplink
 pub data ProgramStep : Type 0 where
   Calls : (role : Role) (sapi : Sapi) (call : Call) (answer : ℕ) (output : CEffects) → ProgramStep
-  TakesOldest : (role : Role) (sapi : Sapi) (block : List ℕ) (answer : ℕ) (output : CEffects) → ProgramStep
-  TakesForeign : (role : Role) (sapi : Sapi) (block : List ℕ) (answer : ℕ) (output : CEffects) → ProgramStep
-  LosesOldest : (sender : Role) → ProgramStep
+  TakesOldestBlock : (role : Role) (sapi : Sapi) (block : List ℕ) (answer : ℕ) (output : CEffects) → ProgramStep
+  TakesOtherSapiBlock : (role : Role) (sapi : Sapi) (block : List ℕ) (answer : ℕ) (output : CEffects) → ProgramStep
+  LosesOldestBlock : (sender : Role) → ProgramStep
   RivalSabm : (info : Message) (block : List ℕ) → ProgramStep
 
 -- the states of the endpoints that the program has, and the blocks in transit in each direction, in order
-pub record Joined : Type 0 where
+pub record ProgramState : Type 0 where
   pub state : Role → Sapi → Option CEndpoint
   pub queues : Queues (List ℕ)
 
 -- in a step of the program, the state of one endpoint changes from `old` to `new`, all other states stay the same, and the blocks `out` are
 -- added to the blocks in transit `left`
-pub record IsEndpointChange (r : Role) (s : Sapi) (old new : CEndpoint) (out : List (List ℕ)) (left : Queues (List ℕ))
-    (a b : Joined) : Type 0 where
-  pub before : a.state r s ≡ Some old
-  pub after : b.state r s ≡ Some new
-  pub others : (r' : Role) (s' : Sapi) → is_same_role r' r && is_same_sapi s' s ≡ false → b.state r' s' ≡ a.state r' s'
+pub record ChangesOneEndpoint (r : Role) (s : Sapi) (old new : CEndpoint) (out : List (List ℕ)) (left : Queues (List ℕ))
+    (a b : ProgramState) : Type 0 where
+  pub old_state : a.state r s ≡ Some old
+  pub new_state : b.state r s ≡ Some new
+  pub others_unchanged : (r' : Role) (s' : Sapi) → is_same_role r' r && is_same_sapi s' s ≡ false → b.state r' s' ≡ a.state r' s'
   pub queues : b.queues ≡ with_appended r out left
 
 -- the block encodes no frame with this SAPI
-abbrev pub IsNoFrameOnSapi : Channel → Sapi → List ℕ → Type 0
-IsNoFrameOnSapi channel s block = (f : Frame) → IsFrameCoding channel f block → f.sapi ≢ sapi_number s
+abbrev pub HasNoFrameOnSapi : Channel → Sapi → List ℕ → Type 0
+HasNoFrameOnSapi channel s block = (f : Frame) → IsFrameCoding channel f block → f.sapi ≢ sapi_number s
 
--- the step leads from the first program state to the second, and the endpoint answers the call or the block as its contract says
-abbrev pub IsProgramStep : Channel → Joined → ProgramStep → Joined → Type 0
+-- the step leads from the first program state to the second, and the endpoint meets the contract of the call
+abbrev pub IsProgramStep : Channel → ProgramState → ProgramStep → ProgramState → Type 0
 IsProgramStep channel a (Calls r s call answer output) b =
-    (old new : CEndpoint) × (output_old : CEffects) × AnswersCall call answer old new output_old output
-    × IsEndpointChange r s old new (blocks_sent answer output) a.queues a b
-IsProgramStep channel a (TakesOldest r s block answer output) b =
-    (old new : CEndpoint) × (output_old : CEffects) × AnswersBlock block answer old new output_old output
-    × IsEndpointChange r s old new (blocks_sent answer output) (without_first (other r) a.queues) a b × (length block ≡ 23)
-IsProgramStep channel a (TakesForeign r s block answer output) b =
-    (old new : CEndpoint) × (output_old : CEffects) × AnswersBlock block answer old new output_old output
-    × IsEndpointChange r s old new (blocks_sent answer output) a.queues a b × (length block ≡ 23) × IsNoFrameOnSapi channel s block
-IsProgramStep channel a (LosesOldest sender) b = b ≡ record a { queues = without_first sender a.queues }
+    (old new : CEndpoint) × (output_old : CEffects) × EndpointAnswersCall call answer old new output_old output
+    × ChangesOneEndpoint r s old new (blocks_sent answer output) a.queues a b
+IsProgramStep channel a (TakesOldestBlock r s block answer output) b =
+    (old new : CEndpoint) × (output_old : CEffects) × EndpointReceivesBlock block answer old new output_old output
+    × ChangesOneEndpoint r s old new (blocks_sent answer output) (without_first (other r) a.queues) a b × (length block ≡ 23)
+IsProgramStep channel a (TakesOtherSapiBlock r s block answer output) b =
+    (old new : CEndpoint) × (output_old : CEffects) × EndpointReceivesBlock block answer old new output_old output
+    × ChangesOneEndpoint r s old new (blocks_sent answer output) a.queues a b × (length block ≡ 23) × HasNoFrameOnSapi channel s block
+IsProgramStep channel a (LosesOldestBlock sender) b = b ≡ record a { queues = without_first sender a.queues }
 IsProgramStep channel a (RivalSabm info block) b =
     (b ≡ record a { queues = with_appended Mobile (block ∷ []) a.queues }) × IsFrameCoding channel (rival_sabm info) block
     × (rival_refusal channel info ≡ None)
 
 -- ---- several steps
 
--- the number that C programs see for a role
+-- the number of a role in the C API
 abbrev pub role_number : Role → ℕ
 role_number Mobile = 0
 role_number Network = 1
 
--- the program does not have this endpoint, or has it in the state of a new endpoint
+-- the program does not have this endpoint, or the endpoint is new
 abbrev pub IsNewEndpointOrNone : Channel → Role → Sapi → Option CEndpoint → Type 0
 IsNewEndpointOrNone channel r s None = Unit {0}
 IsNewEndpointOrNone channel r s (Some new) =
-    (old : CEndpoint) × AnswersNewEndpoint (role_number r) (sapi_number s) (channel_number channel) true old new
+    (old : CEndpoint) × IsNewEndpointResult (role_number r) (sapi_number s) (channel_number channel) true old new
 
 -- the program at its start: each endpoint is new, and no block is in transit
-pub record IsProgramStart (channel : Channel) (a : Joined) : Type 0 where
+pub record IsProgramStart (channel : Channel) (a : ProgramState) : Type 0 where
   pub new_endpoint : (r : Role) (s : Sapi) → IsNewEndpointOrNone channel r s (a.state r s)
   pub queues : a.queues ≡ empty_queues
 
--- the steps lead from the first program state to the last, and the condition `May` holds for each
-abbrev pub IsProgramRun : Channel → (Channel → Joined → ProgramStep → Type 0) → (a : Joined) → List ProgramStep →
-    (z : Joined) → Type 0
+-- the steps lead from the first program state to the last, and each satisfies the condition `May`
+abbrev pub IsProgramRun : Channel → (Channel → ProgramState → ProgramStep → Type 0) → (a : ProgramState) → List ProgramStep →
+    (z : ProgramState) → Type 0
 IsProgramRun channel May a [] z = z ≡ a
-IsProgramRun channel May a (turn ∷ turns) z = May channel a turn × (b : Joined) × IsProgramStep channel a turn b
+IsProgramRun channel May a (turn ∷ turns) z = May channel a turn × (b : ProgramState) × IsProgramStep channel a turn b
     × IsProgramRun channel May b turns z
 
 -- the list is not empty, and its first block satisfies the condition
@@ -135,10 +134,10 @@ abbrev pub EncodeSameFrame : Channel → (sent block : List ℕ) → Type 0
 EncodeSameFrame channel sent block = (f : Frame) → IsFrameCoding channel f sent →
     IsFrameCoding channel f block ⊎ IsFrameCoding channel (record f { content = rr_for_rej f.content }) block
 
--- an endpoint that gets the oldest block in transit gets the frame that was sent, perhaps with other fill octets, or an RR in place of a
--- REJ with the same N(R)
-abbrev pub DeliversOldestBlock : Channel → Joined → ProgramStep → Type 0
-DeliversOldestBlock channel a (TakesOldest r s block answer output) =
+-- an endpoint that takes the oldest block in transit receives the frame that was sent, perhaps with other fill octets, or an RR in place of
+-- a REJ with the same N(R)
+abbrev pub DeliversOldestBlock : Channel → ProgramState → ProgramStep → Type 0
+DeliversOldestBlock channel a (TakesOldestBlock r s block answer output) =
     FirstBlockSatisfies (λ first. EncodeSameFrame channel first block) (queue_of
     (other r) a.queues)
 DeliversOldestBlock channel a turn = Unit {0}
@@ -152,25 +151,26 @@ pub record IsReceptionOf (sent block : List ℕ) : Type 0 where
   pub received : IsBlockReport bursts report ⊎ ((most rank : ℕ) × (1 ≤ most) × IsListDecodedReport bursts most rank report)
   pub octets : block ≡ report.octets
 
--- an endpoint that gets the oldest block in transit gets what a receiver accepts from lightly damaged bursts of that block
-abbrev pub ReceivesOldestBlock : Channel → Joined → ProgramStep → Type 0
-ReceivesOldestBlock channel a (TakesOldest r s block answer output) = FirstBlockSatisfies (λ first. IsReceptionOf first block) (queue_of
+-- an endpoint that takes the oldest block in transit receives the octets that are accepted from lightly damaged bursts of that block
+abbrev pub ReceivesOldestBlock : Channel → ProgramState → ProgramStep → Type 0
+ReceivesOldestBlock channel a (TakesOldestBlock r s block answer output) =
+    FirstBlockSatisfies (λ first. IsReceptionOf first block) (queue_of
     (other r) a.queues)
 ReceivesOldestBlock channel a turn = Unit {0}
 
--- any step is allowed: an endpoint may get any block
-abbrev pub AnyStepAllowed : Channel → Joined → ProgramStep → Type 0
+-- any step is allowed: an endpoint may receive any block
+abbrev pub AnyStepAllowed : Channel → ProgramState → ProgramStep → Type 0
 AnyStepAllowed channel a turn = Unit {0}
 
 -- the log lines of a step, computed from the returned number and effects alone: the call, if any, and the notices
-abbrev pub step_log_lines : ProgramStep → List Line
+abbrev pub step_log_lines : ProgramStep → List LogLine
 step_log_lines (Calls r s call answer output) = if answer == 0 then Asked r s call ∷ map (Notified r s) (notices_from_c output) else []
-step_log_lines (TakesOldest r s block answer output) = if answer == 0 then map (Notified r s) (notices_from_c output) else []
-step_log_lines (TakesForeign r s block answer output) = if answer == 0 then map (Notified r s) (notices_from_c output) else []
-step_log_lines (LosesOldest sender) = []
+step_log_lines (TakesOldestBlock r s block answer output) = if answer == 0 then map (Notified r s) (notices_from_c output) else []
+step_log_lines (TakesOtherSapiBlock r s block answer output) = if answer == 0 then map (Notified r s) (notices_from_c output) else []
+step_log_lines (LosesOldestBlock sender) = []
 step_log_lines (RivalSabm info block) = C.RivalSabm info ∷ []
 
 -- the log of these steps, in order
-abbrev pub lines : List ProgramStep → List Line
+abbrev pub lines : List ProgramStep → List LogLine
 lines [] = []
 lines (turn ∷ turns) = step_log_lines turn ++ lines turns

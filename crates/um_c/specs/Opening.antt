@@ -6,14 +6,14 @@ use Rattle.um_air.specs.segmenting.Segments.{Message}
 use Rattle.um_air.specs.lapdm_window.declared.Sapi.{Sapi}
 use Rattle.um_air.specs.lapdm_window.declared.Sapi.TheVariants.{Zero, Three}
 use Rattle.um_air.specs.lapdm_window.declared.State.TheVariants.{Idle, Open}
-use Rattle.um_air.specs.lapdm_window.Ends.{Role, Mobile, Network, EndState, command_cr}
+use Rattle.um_air.specs.lapdm_window.Ends.{Role, Mobile, Network, EndpointState, command_cr}
 use Rattle.um_air.specs.lapdm_window.Calls.{Opens, refusal_of}
 use Rattle.um_air.specs.lapdm_window.Tables.{frame_outcome}
 use Rattle.um_air.specs.lapdm_link.Queues.{empty_queues}
 use Rattle.um_c.specs.declared.states.CEndpoint.{CEndpoint}
 use Rattle.um_c.specs.declared.effects.CEffects.{CEffects}
-use Rattle.um_c.specs.EndCalls.{EndpointHasCall}
-use Rattle.um_c.specs.Joined.{Joined, ProgramStep, Calls, TakesOldest}
+use Rattle.um_c.specs.EndCalls.{EndpointSupportsCall}
+use Rattle.um_c.specs.Joined.{ProgramState, ProgramStep, Calls, TakesOldestBlock}
 
 -- the endpoint states of a program with these two endpoints, both of SAPI 0
 abbrev pub state_of_two_endpoints : CEndpoint → CEndpoint → Role → Sapi → Option CEndpoint
@@ -22,18 +22,18 @@ state_of_two_endpoints mobile network Network Zero = Some network
 state_of_two_endpoints mobile network r Three = None
 
 -- a program that has these two endpoints of SAPI 0, and no block in transit
-abbrev pub program_of_two_endpoints : (mobile network : CEndpoint) → Joined
+abbrev pub program_of_two_endpoints : (mobile network : CEndpoint) → ProgramState
 program_of_two_endpoints mobile network = record { state = state_of_two_endpoints mobile network; queues = empty_queues }
 
 -- the first block that a call sends
 abbrev pub first_block : CEffects → List ℕ
 first_block output = slice_index_or output.frames 0 []
 
--- the three steps that establish the link: the mobile's call sends a SABM, the network gets the SABM, and the mobile gets the UA
+-- the three steps that establish the link: the mobile's call sends a SABM, the network receives it, and the mobile receives the UA
 abbrev pub opening : Message → (asked answered opened : CEffects) → List ProgramStep
 opening info asked answered opened =
-    Calls Mobile Zero (Opens info) 0 asked ∷ TakesOldest Network Zero (first_block asked) 0 answered
-    ∷ TakesOldest Mobile Zero (first_block answered) 0 opened ∷ []
+    Calls Mobile Zero (Opens info) 0 asked ∷ TakesOldestBlock Network Zero (first_block asked) 0 answered
+    ∷ TakesOldestBlock Mobile Zero (first_block answered) 0 opened ∷ []
 
 -- ---- when all three calls succeed
 
@@ -42,30 +42,30 @@ abbrev pub sabm_with_info : Message → Frame
 sabm_with_info info = record { sapi = 0; cr = command_cr Mobile; content = Sabm true info }
 
 -- the mobile can establish the link with this information, and the network answers its SABM with one frame
-pub record CanEstablishLink (info : Message) (mobile network : EndState) : Type 0 where
-  pub channel : mobile.channel ≡ network.channel
-  pub allowed : EndpointHasCall mobile (Opens info)
+pub record CanEstablishLink (info : Message) (mobile network : EndpointState) : Type 0 where
+  pub same_channel : mobile.channel ≡ network.channel
+  pub allowed : EndpointSupportsCall mobile (Opens info)
   pub not_refused : refusal_of (Opens info) mobile ≡ None
-  pub answer : length (frame_outcome (sabm_with_info info) network).frames ≡ 1
+  pub one_answer : length (frame_outcome (sabm_with_info info) network).frames ≡ 1
 
 -- the endpoint of SAPI 0 with this role is in Idle
-pub record IsIdleEndpoint (r : Role) (e : EndState) : Type 0 where
+pub record IsIdleEndpoint (r : Role) (e : EndpointState) : Type 0 where
   pub role : e.role ≡ r
   pub sapi : e.sapi ≡ Zero
   pub state : e.state ≡ Idle
 
 -- both endpoints of the link of SAPI 0 are in Idle, and the information fits in a frame
-pub record BothAreIdle (info : Message) (mobile network : EndState) : Type 0 where
-  pub asks : IsIdleEndpoint Mobile mobile
-  pub answers : IsIdleEndpoint Network network
-  pub channel : mobile.channel ≡ network.channel
-  pub some : 1 ≤ length info
+pub record BothAreIdle (info : Message) (mobile network : EndpointState) : Type 0 where
+  pub mobile_idle : IsIdleEndpoint Mobile mobile
+  pub network_idle : IsIdleEndpoint Network network
+  pub same_channel : mobile.channel ≡ network.channel
+  pub nonempty : 1 ≤ length info
   pub fits : length info ≤ n201 mobile.channel
 
 -- the mobile's endpoint after the three calls
-abbrev pub mobile_after_opening : Message → EndState → EndState
-mobile_after_opening info e = record e { state = Open; kept = info; retries = 0 }
+abbrev pub mobile_after_opening : Message → EndpointState → EndpointState
+mobile_after_opening info e = record e { state = Open; sabm_info = info; retries = 0 }
 
 -- the network's endpoint after the three calls
-abbrev pub network_after_opening : Message → EndState → EndState
-network_after_opening info e = record e { state = Open; kept = info }
+abbrev pub network_after_opening : Message → EndpointState → EndpointState
+network_after_opening info e = record e { state = Open; sabm_info = info }

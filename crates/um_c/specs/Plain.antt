@@ -12,11 +12,11 @@ use Rattle.lapdm_frame.specs.Frames.{bit, FrameFits, octets_of}
 use Rattle.lapdm_frame.specs.Readings.{IsOnlyFrame, IsOnlyRefusal}
 use Rattle.um_c.specs.declared.frames.CFrame.{CFrame}
 
--- the channel for which this number stands: 0 is SDCCH, 1 is SACCH, any other number is invalid
+-- the channel with this number: 0 is SDCCH, 1 is SACCH, any other number is invalid
 abbrev pub channel_of : ℕ → Option Channel
 channel_of number = if number == 0 then Some Sdcch else if number == 1 then Some Sacch else None
 
--- the C struct of a frame: fields that its kind does not have are 0, and zeros follow the information
+-- the C struct of a frame: fields of other kinds are 0, and zeros follow the information
 abbrev pub c_frame_of_fields : ℕ → Bool → Fields → CFrame
 c_frame_of_fields sapi cr f = record {
   kind = kind_number f.kind;
@@ -34,7 +34,7 @@ c_frame_of_fields sapi cr f = record {
 abbrev pub c_struct : Frame → CFrame
 c_struct f = c_frame_of_fields f.sapi f.cr (fields_of f.content)
 
--- the number that C programs see for the reason why a block is not a valid frame, 1 to 7; 0 means success
+-- the number in the C API for the reason why a block is not a valid frame, 1 to 7; 0 means success
 abbrev pub frame_refusal_number : Refusal → ℕ
 frame_refusal_number Lpd = 1
 frame_refusal_number Ea = 2
@@ -46,12 +46,12 @@ frame_refusal_number More = 7
 
 -- either the octets encode exactly one frame, and the call returns 0 and writes its fields; or they are not a valid frame, and the call
 -- returns the number of the reason and writes nothing
-abbrev pub AnswersFrameRead : Channel → List ℕ → ℕ → (before after : CFrame) → Type 0
-AnswersFrameRead channel octets answer before after =
+abbrev pub IsFrameReadResult : Channel → List ℕ → ℕ → (before after : CFrame) → Type 0
+IsFrameReadResult channel octets answer before after =
     ((f : Frame) × IsOnlyFrame channel f octets × (answer ≡ 0) × (after ≡ c_struct f))
     ⊎ ((reason : Refusal) × IsOnlyRefusal channel octets reason × (answer ≡ frame_refusal_number reason) × (after ≡ before))
 
--- whether a number in a C struct stands for the bit 1: any number other than 0 does
+-- whether a number in a C struct counts as bit 1: every nonzero number does
 abbrev pub is_nonzero : ℕ → Bool
 is_nonzero field = not (field == 0)
 
@@ -59,8 +59,8 @@ is_nonzero field = not (field == 0)
 abbrev pub content_if_info_length : ℕ → Content → Option Content
 content_if_info_length count content = if length (fields_of content).info == count then Some content else None
 
--- the content that the fields describe for this kind, or `None` if there is no kind, or if a kind without information has a count other
--- than 0; fields that the kind does not have are ignored
+-- the content that the fields describe for this kind, or `None` if there is no kind, or if a kind without information has a nonzero
+-- count; fields of other kinds are ignored
 abbrev pub content_of_kind : CFrame → Option Kind → Option Content
 content_of_kind f None = None
 content_of_kind f (Some kind) = content_if_info_length f.count (content_with_fields kind f.ns f.nr (is_nonzero f.pf) (is_nonzero f.more)
@@ -75,14 +75,14 @@ abbrev pub frame_with_address_fields : ℕ → Bool → Option Content → Optio
 frame_with_address_fields sapi cr None = None
 frame_with_address_fields sapi cr (Some content) = Some (record { sapi = sapi; cr = cr; content = content })
 
--- the frame that the fields describe, or `None` if they describe none, or if they count more than 20 octets of information
+-- the frame that the fields describe, or `None` if they describe none or the count of information octets exceeds 20
 abbrev pub frame_from_fields : CFrame → Option Frame
 frame_from_fields f = if nat_le f.count 20 then frame_with_address_fields f.sapi (is_nonzero f.cr) (content_from_fields f) else None
 
--- if there is a frame and it fits in a block of the channel, the call returns true and writes its canonical octets; otherwise it returns
+-- if there is a frame that fits in a block of the channel, the call returns true and writes its canonical octets; otherwise it returns
 -- false and writes nothing
-abbrev pub AnswersFrameWrite : Channel → Option Frame → Bool → (before after : List ℕ) → Type 0
-AnswersFrameWrite channel None answer before after = (answer ≡ false) × (after ≡ before)
-AnswersFrameWrite channel (Some f) answer before after =
+abbrev pub IsFrameWriteResult : Channel → Option Frame → Bool → (before after : List ℕ) → Type 0
+IsFrameWriteResult channel None answer before after = (answer ≡ false) × (after ≡ before)
+IsFrameWriteResult channel (Some f) answer before after =
     (FrameFits channel f × (answer ≡ true) × (after ≡ octets_of channel f))
     ⊎ ((¬ FrameFits channel f) × (answer ≡ false) × (after ≡ before))

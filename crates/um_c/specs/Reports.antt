@@ -1,4 +1,4 @@
--- The C structs that report what was received from bursts.
+-- The C structs of the reports on received bursts.
 use Rattle.std.specs.Prelude.{ℕ, ◌≡◌, ℤ, List, map, replicate, MatchOption}
 use Rattle.um_block.specs.bit_blocks.SoftValues.{count_wrong_bits}
 use Rattle.um_block.specs.conv_code.Code.{encoding}
@@ -8,13 +8,13 @@ use Rattle.um_block.specs.declared.received.ReceivedAccess.{ReceivedAccess}
 use Rattle.um_block.specs.declared.received.ReceivedSync.{ReceivedSync}
 use Rattle.um_block.specs.Received.{IsReceivedBlock, IsReceivedAccess, IsReceivedSync, coded_soft_bits, access_soft_bits, sync_soft_bits}
 use Rattle.um_among.specs.declared.reports.ListDecodedBlock.{ListDecodedBlock}
-use Rattle.um_among.specs.Among.{IsListDecodedBlock}
+use Rattle.um_among.specs.ListDecoding.{IsListDecodedBlock}
 use Rattle.um_c.specs.declared.blocks.BlockReport.{BlockReport}
 use Rattle.um_c.specs.declared.bursts.AccessReport.{AccessReport}
 use Rattle.um_c.specs.declared.bursts.SyncReport.{SyncReport}
 
--- the report contains what was received from four bursts, the number of wrong bits among the 456 coded bits, and the 23 octets if the CRC
--- holds, otherwise zeros
+-- the C struct `r` contains the report `received`, the number of wrong bits among the 456 coded bits, and the 23 octets if the CRC holds,
+-- otherwise zeros
 pub record ReportsBlock (bursts : List (List ℤ)) (received : Received) (r : BlockReport) : Type 0 where
   pub word : r.word ≡ received.u
   pub metric : r.metric ≡ received.metric
@@ -29,21 +29,21 @@ pub record ReportsBlock (bursts : List (List ℤ)) (received : Received) (r : Bl
 -- `r` is the report on the block received from four bursts
 pub record IsBlockReport (bursts : List (List ℤ)) (r : BlockReport) : Type 0 where
   pub received : Received
-  pub is : IsReceivedBlock bursts received
-  pub output : ReportsBlock bursts received r
+  pub is_received : IsReceivedBlock bursts received
+  pub reports_block : ReportsBlock bursts received r
 
--- `r` is the report on the block that a list decoder receives from four bursts when it tries the `most` most likely words, and `rank`, from
--- 1, is the rank of the chosen word among its candidates
+-- `r` is the report on the block that a list decoder receives from four bursts when it tries the `most` most likely words, and `rank` is
+-- the rank (from 1) of the chosen word among its candidates
 pub record IsListDecodedReport (bursts : List (List ℤ)) (most rank : ℕ) (r : BlockReport) : Type 0 where
   pub received : ListDecodedBlock
-  pub is : IsListDecodedBlock bursts most received
-  pub output : ReportsBlock bursts received.report r
-  pub place : rank ≡ received.rank
+  pub is_received : IsListDecodedBlock bursts most received
+  pub reports_block : ReportsBlock bursts received.report r
+  pub same_rank : rank ≡ received.rank
 
 -- `r` is the report on an access burst received with this BSIC
 pub record IsAccessReport (burst : List ℤ) (bsic : List ℕ) (r : AccessReport) : Type 0 where
   pub received : ReceivedAccess
-  pub is : IsReceivedAccess burst bsic received
+  pub is_received : IsReceivedAccess burst bsic received
   pub word : r.word ≡ received.u
   pub metric : r.metric ≡ received.metric
   pub wrong_training : r.wrong_training ≡ received.wrong_training
@@ -55,7 +55,7 @@ pub record IsAccessReport (burst : List ℤ) (bsic : List ℕ) (r : AccessReport
 -- `r` is the report on a received synchronisation burst
 pub record IsSyncReport (burst : List ℤ) (r : SyncReport) : Type 0 where
   pub received : ReceivedSync
-  pub is : IsReceivedSync burst received
+  pub is_received : IsReceivedSync burst received
   pub word : r.word ≡ received.u
   pub metric : r.metric ≡ received.metric
   pub wrong_training : r.wrong_training ≡ received.wrong_training

@@ -13,7 +13,7 @@ use Rattle.um_air.specs.lapdm_window.declared.Sapi.{Sapi}
 use Rattle.um_air.specs.lapdm_window.declared.Sapi.TheVariants.{Zero, Three}
 use Rattle.um_air.specs.lapdm_window.declared.State.{State}
 use Rattle.um_air.specs.lapdm_window.declared.State.TheVariants as S
-use Rattle.um_air.specs.lapdm_window.Ends.{EndState}
+use Rattle.um_air.specs.lapdm_window.Ends.{EndpointState}
 use Rattle.um_air.specs.lapdm_window.Parts.{WindowValues}
 use Rattle.lapdm_end.specs.declared.Role.{Role}
 use Rattle.lapdm_end.specs.declared.Role.TheVariants.{Mobile, Network}
@@ -21,15 +21,15 @@ use Rattle.lapdm_end.specs.Parts.{EndpointValues, ValuesRepresent}
 use Rattle.um_c.specs.declared.states.CEndpoint.{CEndpoint}
 use Rattle.um_c.specs.Plain.{is_nonzero, channel_of}
 
--- the role for which this number stands, or `None` if it is invalid
+-- the role with this number, or `None` if the number is invalid
 abbrev pub role_of : ℕ → Option Role
 role_of number = if number == 0 then Some Mobile else if number == 1 then Some Network else None
 
--- the SAPI for which this number stands, or `None` if it is invalid
+-- the SAPI with this number, or `None` if the number is invalid
 abbrev pub sapi_of : ℕ → Option Sapi
 sapi_of number = if number == 0 then Some Zero else if number == 3 then Some Three else None
 
--- the link state for which this number stands, or `None` if it is invalid
+-- the link state with this number, or `None` if the number is invalid
 abbrev pub state_of : ℕ → Option State
 state_of number =
     if number == 0 then Some S.Idle
@@ -39,70 +39,70 @@ state_of number =
     else if number == 4 then Some S.Closed
     else None
 
--- the reassembly state for which this number stands, or `None` if it is invalid
+-- the reassembly state with this number, or `None` if the number is invalid
 abbrev pub reassembly_from_number : ℕ → Option Part
 reassembly_from_number number = if number == 0 then Some P.Open else if number == 1 then Some P.Whole else if number == 2 then Some
     P.Discarding else
     None
 
--- the values of the window in the struct, if channel and reassembly state are valid and the struct holds at most eight messages
-abbrev pub window_values_if_decoded : CEndpoint → Option Channel → Option Part → Bool → Option WindowValues
-window_values_if_decoded s (Some channel) (Some part) true =
+-- the values of the window in the struct, if its channel and reassembly state are valid and it holds at most eight messages
+abbrev pub window_values_if_valid : CEndpoint → Option Channel → Option Part → Bool → Option WindowValues
+window_values_if_valid s (Some channel) (Some part) true =
     Some (record {
       channel = channel;
       held = map octets_in (take s.held_count s.held);
-      place = s.place;
+      segment_index = s.place;
       vs = s.vs;
       va = s.va;
       vr = s.vr;
-      done = s.done;
+      acked_messages = s.done;
       rejecting = is_nonzero s.rejecting;
       retries = s.repeats;
       joiner = record { octets = octets_in s.joined; part = part };
     })
-window_values_if_decoded s channel part few = None
+window_values_if_valid s channel part few = None
 
 -- the values of the window in the struct, or `None` if its numbers are invalid
 abbrev pub window_values_from : CEndpoint → Option WindowValues
-window_values_from s = window_values_if_decoded s (channel_of s.channel) (reassembly_from_number s.part) (nat_le s.held_count 8)
+window_values_from s = window_values_if_valid s (channel_of s.channel) (reassembly_from_number s.part) (nat_le s.held_count 8)
 
 -- the values of the endpoint in the struct, if role, SAPI, link state and window are valid
-abbrev pub endpoint_values_if_decoded : CEndpoint → Option Role → Option Sapi → Option State → Option WindowValues →
+abbrev pub endpoint_values_if_valid : CEndpoint → Option Role → Option Sapi → Option State → Option WindowValues →
     Option EndpointValues
-endpoint_values_if_decoded s (Some role) (Some sapi) (Some state) (Some window) =
-    Some (record { role = role; sapi = sapi; state = state; kept = octets_in s.kept; retries = s.retries; window = window })
-endpoint_values_if_decoded s role sapi state window = None
+endpoint_values_if_valid s (Some role) (Some sapi) (Some state) (Some window) =
+    Some (record { role = role; sapi = sapi; state = state; sabm_info = octets_in s.kept; retries = s.retries; window = window })
+endpoint_values_if_valid s role sapi state window = None
 
 -- the values of the endpoint in the struct, if all its numbers are in range and it holds at most eight messages
 abbrev pub endpoint_values_from : CEndpoint → Option EndpointValues
-endpoint_values_from s = endpoint_values_if_decoded s (role_of s.role) (sapi_of s.sapi) (state_of s.state) (window_values_from s)
+endpoint_values_from s = endpoint_values_if_valid s (role_of s.role) (sapi_of s.sapi) (state_of s.state) (window_values_from s)
 
 -- struct `s` represents endpoint `e`
-pub record StructRepresents (s : CEndpoint) (e : EndState) : Type 0 where
-  pub values : EndpointValues
-  pub decoded : endpoint_values_from s ≡ Some values
-  pub represents_values : ValuesRepresent values e
+pub record StructRepresents (s : CEndpoint) (e : EndpointState) : Type 0 where
+  pub endpoint_values : EndpointValues
+  pub decoded : endpoint_values_from s ≡ Some endpoint_values
+  pub represents_values : ValuesRepresent endpoint_values e
 
 -- the struct represents some endpoint
 abbrev pub RepresentsSomeEndpoint : CEndpoint → Type 0
-RepresentsSomeEndpoint s = (e : EndState) × StructRepresents s e
+RepresentsSomeEndpoint s = (e : EndpointState) × StructRepresents s e
 
--- the number that C programs see for a role
+-- the number of a role in the C API
 abbrev pub role_number : Role → ℕ
 role_number Mobile = 0
 role_number Network = 1
 
--- the number that C programs see for a SAPI
+-- the number of a SAPI in the C API
 abbrev pub sapi_number : Sapi → ℕ
 sapi_number Zero = 0
 sapi_number Three = 3
 
--- the number that C programs see for a channel
+-- the number of a channel in the C API
 abbrev pub channel_number : Channel → ℕ
 channel_number Sdcch = 0
 channel_number Sacch = 1
 
--- the number that C programs see for a link state
+-- the number of a link state in the C API
 abbrev pub state_number : State → ℕ
 state_number S.Idle = 0
 state_number S.Opening = 1
@@ -110,7 +110,7 @@ state_number S.Open = 2
 state_number S.Closing = 3
 state_number S.Closed = 4
 
--- the number that C programs see for the reassembly state
+-- the number of a reassembly state in the C API
 abbrev pub reassembly_number : Part → ℕ
 reassembly_number P.Open = 0
 reassembly_number P.Whole = 1
@@ -125,7 +125,7 @@ buffers_of_messages (suc k) (m ∷ ms) = message_buffer m ∷ buffers_of_message
 -- the struct written for these values, with zeros in all unused octets
 abbrev pub c_endpoint : EndpointValues → CEndpoint
 c_endpoint x = record {
-  done = x.window.done;
+  done = x.window.acked_messages;
   role = role_number x.role;
   sapi = sapi_number x.sapi;
   channel = channel_number x.window.channel;
@@ -136,14 +136,14 @@ c_endpoint x = record {
   vr = x.window.vr;
   repeats = x.window.retries;
   rejecting = bit x.window.rejecting;
-  place = x.window.place;
+  place = x.window.segment_index;
   held_count = length x.window.held;
   part = reassembly_number x.window.joiner.part;
-  kept = message_buffer x.kept;
+  kept = message_buffer x.sabm_info;
   joined = message_buffer x.window.joiner.octets;
   held = buffers_of_messages 8 x.window.held;
 }
 
--- the struct is in canonical form, as structs are written; each endpoint has exactly one struct in this form
+-- the struct is in canonical form, the form that the C calls write; each endpoint has exactly one such struct
 abbrev pub IsCanonicalStruct : CEndpoint → Type 0
 IsCanonicalStruct s = (x : EndpointValues) × (s ≡ c_endpoint x)

@@ -1,4 +1,4 @@
-//! C functions for blocks of 23 octets: coding as four normal bursts, and decoding.
+//! C functions that encode blocks of 23 octets as four normal bursts, and decode them.
 ghost use Rattle.std.specs.Prelude.{◌≡◌, ◌≢◌, ◌≤◌, ◌↔◌, All, IsTrue, IsSome, false, ℕ, ℤ, List, map};
 ghost use Rattle.std.specs.Prelude.{replicate, MatchOption};
 ghost use Rattle.um_block.specs.bit_blocks.Bits.{AllBits};
@@ -10,18 +10,18 @@ ghost use Rattle.um_block.specs.interleave.Bursts.{IsInterleaved};
 ghost use Rattle.um_among.specs.list_decode.Ranking.{IsCandidate};
 ghost use Rattle.um_block.specs.declared.received.Received.{Received as ReceivedOf};
 ghost use Rattle.um_block.specs.Received.{IsReceivedBlock, coded_soft_bits};
-ghost use Rattle.um_among.specs.Among.{NoCrcHolds};
-ghost use Rattle.um_among.specs.Parities.{BlockCrcHolds};
+ghost use Rattle.um_among.specs.ListDecoding.{NoCrcHolds};
+ghost use Rattle.um_among.specs.ChannelCrcs.{BlockCrcHolds};
 ghost use Rattle.um_c.specs.Reports.{IsBlockReport, IsListDecodedReport, ReportsBlock};
 
 use crate::soft::are_soft_bursts;
-use um_among::{MAX_LISTS, receive_deinterleaved_among};
+use um_among::{MAX_RANK, receive_deinterleaved_among};
 use um_block::{
     BLOCK_OCTETS, BURST_BITS, CODED_BITS, ENCODER_INPUT_BITS, Received, deinterleave_block,
     receive_deinterleaved, send_block, wrong_coded_bits,
 };
 
-/// What was received from the four bursts of a block.
+/// The report on a block received in four bursts.
 #[repr(C)]
 #[derive(Drop)]
 pub struct BlockReport {
@@ -29,7 +29,7 @@ pub struct BlockReport {
     pub metric: i32,
     /// How many of the 104 training bits are wrong. A soft value of 0 counts as wrong.
     pub wrong_training: u32,
-    /// How many of the 456 coded bits differ from those of the reported word. A soft value of 0 counts as wrong.
+    /// How many of the 456 coded bits differ from the coded bits of the reported word. A soft value of 0 counts as wrong.
     pub wrong_coded: u32,
     /// The training sequence code that fits the bursts best, 0 to 7.
     pub tsc: u8,
@@ -37,11 +37,11 @@ pub struct BlockReport {
     pub accepted: u8,
     /// The 23 octets if the CRC holds, otherwise zeros.
     pub octets: [u8; BLOCK_OCTETS],
-    /// The reported word, with one bit in each octet: 184 data bits, 40 CRC bits, four zeros.
+    /// The reported word, with one bit in each octet: 184 data bits, 40 CRC bits and four zeros.
     pub word: [u8; ENCODER_INPUT_BITS],
 }
 
-/// Codes 23 octets as four bursts with this training sequence code. Returns false, and writes nothing, if the code is above 7.
+/// Encodes 23 octets as four bursts with this training sequence code. Returns false, and writes nothing, if the code exceeds 7.
 #[unsafe(no_mangle)]
 pub extern "C" fn um_send_block(
     octets: &[u8; BLOCK_OCTETS],
@@ -79,8 +79,8 @@ pub extern "C" fn um_receive_block(bursts: &[[i8; BURST_BITS]; 4], report: &mut 
 }
 
 /// Decodes the soft values of four bursts by trying the `most` (1 to 64) most likely words. Reports the first word whose CRC holds, or the
-/// most likely word if none does, and its rank among the list decoder's candidates, from 1. Returns false, and writes nothing, if a soft
-/// value is -128 or `most` is out of range.
+/// most likely word if none does, and its rank (from 1) among the list decoder's candidates. Returns false, and writes nothing, if a
+/// soft value is -128 or `most` is out of range.
 #[unsafe(no_mangle)]
 pub extern "C" fn um_receive_block_among(
     bursts: &[[i8; BURST_BITS]; 4],
@@ -88,7 +88,7 @@ pub extern "C" fn um_receive_block_among(
     report: &mut BlockReport,
     rank: &mut u32,
 ) -> bool
-    ensures known { IsTrue result ↔ (All AllSoftBits bursts.now × (1 ≤ most) × (most ≤ MAX_LISTS)) }
+    ensures known { IsTrue result ↔ (All AllSoftBits bursts.now × (1 ≤ most) × (most ≤ MAX_RANK)) }
     ensures received { IsTrue result → IsListDecodedReport bursts.now most rank.new report.new }
     ensures only { IsTrue result → (place : ℕ) (other : BlockReport)
         → IsListDecodedReport bursts.now most place other → (place ≡ rank.new) × (other ≡ report.new) }
@@ -102,7 +102,7 @@ pub extern "C" fn um_receive_block_among(
         → IsSome r.accepted → ReportsBlock bursts.now r report.new × (rank.new ≡ 1) }
     ensures refused { result ≡ false → (report.new ≡ report.old) × (rank.new ≡ rank.old) }
 {
-    if most == 0 || most > MAX_LISTS as u32 || !are_soft_bursts(bursts) {
+    if most == 0 || most > MAX_RANK as u32 || !are_soft_bursts(bursts) {
         return false;
     }
     let soft = deinterleave_block(bursts);

@@ -1,4 +1,4 @@
-//! C functions that code and decode access bursts and synchronisation bursts.
+//! C functions that encode and decode access bursts and synchronisation bursts.
 ghost use Rattle.std.specs.Prelude.{◌≡◌, ◌↔◌, ℕ, List, replicate, IsTrue, false, MatchOption};
 ghost use Rattle.um_block.specs.bit_blocks.Bits.{AllBits};
 ghost use Rattle.um_block.specs.bit_blocks.SoftValues.{AllSoftBits};
@@ -11,7 +11,7 @@ use um_block::{
     wrong_sync_bits,
 };
 
-/// What was received from an access burst.
+/// The report on a received access burst.
 #[repr(C)]
 #[derive(Drop)]
 pub struct AccessReport {
@@ -19,17 +19,17 @@ pub struct AccessReport {
     pub metric: i32,
     /// How many of the 41 training bits are wrong. A soft value of 0 counts as wrong.
     pub wrong_training: u32,
-    /// How many of the 36 coded bits differ from those of the word. A soft value of 0 counts as wrong.
+    /// How many of the 36 coded bits differ from the coded bits of the word. A soft value of 0 counts as wrong.
     pub wrong_coded: u32,
     /// 1 if the CRC holds for this BSIC, otherwise 0.
     pub accepted: u8,
     /// The 8 data bits if the CRC holds, otherwise zeros.
     pub info: [u8; 8],
-    /// The most likely word, with one bit in each octet: 8 data bits, 6 CRC bits to which the BSIC is added modulo 2, four zeros.
+    /// The most likely word, with one bit in each octet: 8 data bits, the modulo 2 sum of the 6 CRC bits and the BSIC, and four zeros.
     pub word: [u8; 18],
 }
 
-/// What was received from a synchronisation burst.
+/// The report on a received synchronisation burst.
 #[repr(C)]
 #[derive(Drop)]
 pub struct SyncReport {
@@ -37,17 +37,17 @@ pub struct SyncReport {
     pub metric: i32,
     /// How many of the 64 training bits are wrong. A soft value of 0 counts as wrong.
     pub wrong_training: u32,
-    /// How many of the 78 coded bits differ from those of the word. A soft value of 0 counts as wrong.
+    /// How many of the 78 coded bits differ from the coded bits of the word. A soft value of 0 counts as wrong.
     pub wrong_coded: u32,
     /// 1 if the CRC holds, otherwise 0.
     pub accepted: u8,
     /// The 25 data bits if the CRC holds, otherwise zeros.
     pub info: [u8; 25],
-    /// The most likely word, with one bit in each octet: 25 data bits, 10 CRC bits, four zeros.
+    /// The most likely word, with one bit in each octet: 25 data bits, 10 CRC bits and four zeros.
     pub word: [u8; 39],
 }
 
-/// Codes 8 bits as the access burst for a BSIC of 6 bits, with one bit in each octet. Returns false, and writes nothing, if an octet is
+/// Encodes 8 bits as the access burst for a 6-bit BSIC, with one bit in each octet. Returns false, and writes nothing, if an octet is
 /// neither 0 nor 1.
 #[unsafe(no_mangle)]
 pub extern "C" fn um_send_access(info: &[u8; 8], bsic: &[u8; 6], burst: &mut [u8; 88]) -> bool
@@ -101,7 +101,8 @@ pub extern "C" fn um_receive_access(
     true
 }
 
-/// Codes 25 bits as a synchronisation burst, with one bit in each octet. Returns false, and writes nothing, if an octet is neither 0 nor 1.
+/// Encodes 25 bits as a synchronisation burst, with one bit in each octet. Returns false, and writes nothing, if an octet is neither 0 nor
+/// 1.
 #[unsafe(no_mangle)]
 pub extern "C" fn um_send_sync(info: &[u8; 25], burst: &mut [u8; BURST_BITS]) -> bool
     ensures known { IsTrue result ↔ AllBits info.now }

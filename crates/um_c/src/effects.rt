@@ -52,8 +52,8 @@ fn write_notices(reported: &[Notice], notices: &mut [CNotice; 3])
     requires { length reported.now ≤ 3 }
     ensures { notices.new ≡ map c_notice reported.now ++ replicate (3 - length reported.now) blank_notice }
 {
-    // An empty list is written at once, since most calls report nothing. Other lists are written one by one: with a loop, the compiler
-    // would not see that a call that sends a fill frame reports nothing.
+    // Most calls report nothing, so an empty list has its own branch. The notices are written without a loop, so that the compiler sees
+    // that a call that sends a fill frame reports nothing.
     if reported.is_empty() {
         *notices = [blank_notice(); 3];
         return;

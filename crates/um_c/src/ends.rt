@@ -3,15 +3,21 @@
 //! Each call creates the buffer for its effects before the endpoint, so that the compiler fills the buffer with zeros only once.
 ghost use Rattle.std.specs.Prelude.{◌≡◌, false, OnOk, IfErr, IsTrue};
 ghost use Rattle.um_air.specs.segmenting.Buffers.{octets_in};
-ghost use Rattle.um_air.specs.lapdm_window.Ends.{EndState};
+ghost use Rattle.um_air.specs.lapdm_window.Ends.{EndpointState};
 ghost use Rattle.lapdm_end.specs.Abstraction.{Represents, sapi_of as link_sapi};
-ghost use Rattle.um_air.specs.lapdm_window.Calls.{call_of, IsCallOfSapi, SendsUiFrame, Opens, OpensBare, Sends, SendsUnit, Closes};
+ghost use Rattle.um_air.specs.lapdm_window.Calls.{call_of, IsCallOfSapi, SendsUiFrame, Opens, OpensWithoutInfo, Sends, SendsUi, Closes};
 ghost use Rattle.um_air.specs.lapdm_window.Calls.{T200Expires};
 ghost use Rattle.um_air.specs.lapdm_window.Calls.{SendsFill};
 ghost use Rattle.lapdm_end.specs.Parts.{values_of};
 ghost use Rattle.um_c.specs.States.{c_endpoint, IsCanonicalStruct};
 ghost use Rattle.um_c.specs.Effects.{c_effects};
-ghost use Rattle.um_c.specs.EndCalls.{call_refusal_number, EndpointHasCall, AnswersCall, AnswersBlock, AnswersNewEndpoint};
+ghost use Rattle.um_c.specs.EndCalls.{
+  call_refusal_number,
+  EndpointSupportsCall,
+  EndpointAnswersCall,
+  EndpointReceivesBlock,
+  IsNewEndpointResult,
+};
 
 use crate::effects::{CEffects, write_effects};
 use crate::frames::channel_of;
@@ -19,16 +25,16 @@ use crate::states::{CEndpoint, read_endpoint, role_of, sapi_of, write_endpoint};
 use lapdm_end::{Call, Effects, Endpoint, MessageBuffer, Refused, Role, Sapi};
 use lapdm_frame::{BLOCK_OCTETS, Channel, read_on};
 
-pub(crate) const NOT_AN_ENDPOINT: u8 = 7;
+pub(crate) const INVALID_ENDPOINT: u8 = 7;
 
-pub(crate) const NOT_A_CALL: u8 = 8;
+pub(crate) const CALL_NOT_SUPPORTED: u8 = 8;
 
-const NOT_A_FRAME: u8 = 9;
+const INVALID_FRAME: u8 = 9;
 
-/// Writes the state of a new endpoint. Returns false, and writes nothing, if role, SAPI or channel is invalid.
+/// Writes the state of a new endpoint. Returns false, and writes nothing, if the role, SAPI or channel is invalid.
 #[unsafe(no_mangle)]
 pub extern "C" fn um_end_new(end: &mut CEndpoint, role: u8, sapi: u8, channel: u8) -> bool
-    ensures new_endpoint { AnswersNewEndpoint role sapi channel result end.old end.new }
+    ensures new_endpoint { IsNewEndpointResult role sapi channel result end.old end.new }
     ensures numbers { IsTrue result → (end.new.role ≡ role) × (end.new.sapi ≡ sapi) × (end.new.channel ≡ channel) }
     ensures c_struct { IsTrue result → IsCanonicalStruct end.new }
 {
@@ -45,120 +51,120 @@ pub extern "C" fn um_end_new(end: &mut CEndpoint, role: u8, sapi: u8, channel: u
     true
 }
 
-/// Begins to establish the link of SAPI 0: sends a SABM with this information.
+/// Begins to establish the link of SAPI 0: sends a SABM with this information. Returns 0, or an error number.
 #[unsafe(no_mangle)]
 pub extern "C" fn um_end_open(
     end: &mut CEndpoint,
     info: &MessageBuffer,
     effects: &mut CEffects,
 ) -> u8
-    ensures answers_call { AnswersCall (Opens (octets_in info.now)) result end.old end.new effects.old effects.new }
+    ensures answers_call { EndpointAnswersCall (Opens (octets_in info.now)) result end.old end.new effects.old effects.new }
     ensures c_struct { result ≡ 0 → IsCanonicalStruct end.new }
 {
-    ask(end, &Call::Open(info.octets()), effects)
+    call_endpoint(end, &Call::Open(info.octets()), effects)
 }
 
-/// Begins to establish the link of SAPI 3: sends a SABM without information.
+/// Begins to establish the link of SAPI 3: sends a SABM without information. Returns 0, or an error number.
 #[unsafe(no_mangle)]
 pub extern "C" fn um_end_open_bare(end: &mut CEndpoint, effects: &mut CEffects) -> u8
-    ensures answers_call { AnswersCall OpensBare result end.old end.new effects.old effects.new }
+    ensures answers_call { EndpointAnswersCall OpensWithoutInfo result end.old end.new effects.old effects.new }
     ensures c_struct { result ≡ 0 → IsCanonicalStruct end.new }
 {
-    ask(end, &Call::OpenBare, effects)
+    call_endpoint(end, &Call::OpenBare, effects)
 }
 
-/// Sends a message in I frames, which the other endpoint acknowledges.
+/// Sends a message in I frames, which the other endpoint acknowledges. Returns 0, or an error number.
 #[unsafe(no_mangle)]
 pub extern "C" fn um_end_send(
     end: &mut CEndpoint,
     message: &MessageBuffer,
     effects: &mut CEffects,
 ) -> u8
-    ensures answers_call { AnswersCall (Sends (octets_in message.now)) result end.old end.new effects.old effects.new }
+    ensures answers_call { EndpointAnswersCall (Sends (octets_in message.now)) result end.old end.new effects.old effects.new }
     ensures c_struct { result ≡ 0 → IsCanonicalStruct end.new }
 {
-    ask(end, &Call::Send(message.octets()), effects)
+    call_endpoint(end, &Call::Send(message.octets()), effects)
 }
 
-/// Sends a message in one UI frame, which is not acknowledged.
+/// Sends a message in one UI frame, which is not acknowledged. Returns 0, or an error number.
 #[unsafe(no_mangle)]
 pub extern "C" fn um_end_unit(
     end: &CEndpoint,
     message: &MessageBuffer,
     effects: &mut CEffects,
 ) -> u8
-    ensures { AnswersCall (SendsUnit (octets_in message.now)) result end.now end.now effects.old effects.new }
+    ensures { EndpointAnswersCall (SendsUi (octets_in message.now)) result end.now end.now effects.old effects.new }
 {
-    ask_keeping_endpoint(end, &Call::Unit(message.octets()), effects)
+    send_ui_frame(end, &Call::Unit(message.octets()), effects)
 }
 
-/// Begins to release the link: sends a DISC. Unacknowledged messages are discarded.
+/// Begins to release the link: sends a DISC. Unacknowledged messages are discarded. Returns 0, or an error number.
 #[unsafe(no_mangle)]
 pub extern "C" fn um_end_close(end: &mut CEndpoint, effects: &mut CEffects) -> u8
-    ensures answers_call { AnswersCall Closes result end.old end.new effects.old effects.new }
+    ensures answers_call { EndpointAnswersCall Closes result end.old end.new effects.old effects.new }
     ensures c_struct { result ≡ 0 → IsCanonicalStruct end.new }
 {
-    ask(end, &Call::Close, effects)
+    call_endpoint(end, &Call::Close, effects)
 }
 
-/// Handles T200 expiry.
+/// Handles T200 expiry. Returns 0, or an error number.
 #[unsafe(no_mangle)]
 pub extern "C" fn um_end_timer(end: &mut CEndpoint, effects: &mut CEffects) -> u8
-    ensures answers_call { AnswersCall T200Expires result end.old end.new effects.old effects.new }
+    ensures answers_call { EndpointAnswersCall T200Expires result end.old end.new effects.old effects.new }
     ensures c_struct { result ≡ 0 → IsCanonicalStruct end.new }
 {
-    ask(end, &Call::Timer, effects)
+    call_endpoint(end, &Call::Timer, effects)
 }
 
-/// Sends the fill frame, for use when there is nothing else to send in a block.
+/// Sends the fill frame, for use when there is nothing else to send in a block. Returns 0, or 7 if the struct represents no endpoint.
 #[unsafe(no_mangle)]
 pub extern "C" fn um_end_idle(end: &CEndpoint, effects: &mut CEffects) -> u8
-    ensures { AnswersCall SendsFill result end.now end.now effects.old effects.new }
+    ensures { EndpointAnswersCall SendsFill result end.now end.now effects.old effects.new }
 {
     let mut output = Effects::new();
     let mut held = endpoint_to_overwrite();
     if !read_endpoint(end, &mut held) {
-        return NOT_AN_ENDPOINT;
+        return INVALID_ENDPOINT;
     }
     held.send_fill_into(&mut output);
     write_call_effects(Ok(()), &output, effects)
 }
 
-/// Processes a received block.
+/// Processes a received block of 23 octets. Returns 0, 7 if the struct represents no endpoint, or 9 if the block encodes no frame.
 #[unsafe(no_mangle)]
 pub extern "C" fn um_end_take(
     end: &mut CEndpoint,
     octets: &[u8; BLOCK_OCTETS],
     effects: &mut CEffects,
 ) -> u8
-    ensures answers_block { AnswersBlock octets.now result end.old end.new effects.old effects.new }
+    ensures answers_block { EndpointReceivesBlock octets.now result end.old end.new effects.old effects.new }
     ensures c_struct { result ≡ 0 → IsCanonicalStruct end.new }
 {
     let mut output = Effects::new();
     let mut held = endpoint_to_overwrite();
     if !read_endpoint(end, &mut held) {
-        return NOT_AN_ENDPOINT;
+        return INVALID_ENDPOINT;
     }
     match read_on(octets, held.channel()) {
-        Err(_) => return NOT_A_FRAME,
+        Err(_) => return INVALID_FRAME,
         Ok(frame) => held.take_frame_into(&frame, &mut output),
     }
     write_call_result(Ok(()), &output, &held, end, effects)
 }
 
-/// Carries out a layer 3 call to an endpoint. Returns 0, or the number of the reason why the call was not carried out.
+/// Carries out a layer 3 call to an endpoint. Returns 0, or an error number.
 #[inline(always)]
-pub(crate) fn ask(end: &mut CEndpoint, call: &Call<'_>, effects: &mut CEffects) -> u8
-    ensures answers_call { AnswersCall (call_of call.now) result end.old end.new effects.old effects.new }
+pub(crate) fn call_endpoint(end: &mut CEndpoint, call: &Call<'_>, effects: &mut CEffects) -> u8
+    ensures answers_call { EndpointAnswersCall (call_of call.now) result end.old end.new effects.old effects.new }
     ensures c_struct { result ≡ 0 → IsCanonicalStruct end.new }
 {
     let mut output = Effects::new();
     let mut held = endpoint_to_overwrite();
     if !read_endpoint(end, &mut held) {
-        return NOT_AN_ENDPOINT;
+        return INVALID_ENDPOINT;
     }
-    if !endpoint_has_call(&held, call) {
-        return NOT_A_CALL;
+    if !endpoint_supports_call(&held, call) {
+        return CALL_NOT_SUPPORTED;
     }
     let answer = held.call(call, &mut output);
     write_call_result(answer, &output, &held, end, effects)
@@ -166,25 +172,25 @@ pub(crate) fn ask(end: &mut CEndpoint, call: &Call<'_>, effects: &mut CEffects) 
 
 /// Carries out a call that sends a UI frame and leaves the endpoint unchanged.
 #[inline(always)]
-pub(crate) fn ask_keeping_endpoint(end: &CEndpoint, call: &Call<'_>, effects: &mut CEffects) -> u8
+pub(crate) fn send_ui_frame(end: &CEndpoint, call: &Call<'_>, effects: &mut CEffects) -> u8
     requires { SendsUiFrame (call_of call.now) }
-    ensures { AnswersCall (call_of call.now) result end.now end.now effects.old effects.new }
+    ensures { EndpointAnswersCall (call_of call.now) result end.now end.now effects.old effects.new }
 {
     let mut output = Effects::new();
     let mut held = endpoint_to_overwrite();
     if !read_endpoint(end, &mut held) {
-        return NOT_AN_ENDPOINT;
+        return INVALID_ENDPOINT;
     }
     let answer = held.call(call, &mut output);
     write_call_effects(answer, &output, effects)
 }
 
-/// Whether the endpoint has this call: only a mobile establishes SAPI 0, with information; either side establishes SAPI 3, without.
-fn endpoint_has_call(end: &Endpoint, call: &Call<'_>) -> bool
+/// Whether the endpoint supports this call: only a mobile establishes SAPI 0, with information; either side establishes SAPI 3, without it.
+fn endpoint_supports_call(end: &Endpoint, call: &Call<'_>) -> bool
     ensures sapi { IsTrue result → IsCallOfSapi (link_sapi end.now) (call_of call.now) }
-    ensures allowed { IsTrue result → (e : EndState) → Represents end.now e → EndpointHasCall e (call_of call.now) }
-    ensures never { result ≡ false → (e : EndState) → Represents end.now e
-        → EndpointHasCall e (call_of call.now) → ⊥ }
+    ensures allowed { IsTrue result → (e : EndpointState) → Represents end.now e → EndpointSupportsCall e (call_of call.now) }
+    ensures never { result ≡ false → (e : EndpointState) → Represents end.now e
+        → EndpointSupportsCall e (call_of call.now) → ⊥ }
 {
     match *call {
         Call::Open(_) => match (end.sapi(), end.role()) {
@@ -204,7 +210,7 @@ fn endpoint_has_call(end: &Endpoint, call: &Call<'_>) -> bool
     }
 }
 
-/// Creates an endpoint whose contents do not matter, because the state that the caller holds overwrites it.
+/// Creates a placeholder, which the state that the caller holds overwrites.
 fn endpoint_to_overwrite() -> Endpoint {
     Endpoint::new_on(Role::Mobile, Sapi::Zero, Channel::Sdcch)
 }

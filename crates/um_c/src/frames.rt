@@ -1,11 +1,11 @@
 //! C functions that read and write LAPDm frames.
 ghost use Rattle.std.specs.Prelude.{◌≡◌, ◌≤◌, Some, None, false, length, MatchOption};
 ghost use Rattle.lapdm_frame.specs.declared.Channel.{Channel as ChannelOf};
-ghost use Rattle.lapdm_frame.specs.Content.{content_of, fields_in, frame_of};
+ghost use Rattle.lapdm_frame.specs.Content.{content_of, abstract_fields, frame_of};
 ghost use Rattle.lapdm_frame.specs.Frames.{FrameFits};
 ghost use Rattle.um_c.specs.Plain.{channel_of, frame_refusal_number, c_struct, c_frame_of_fields, frame_from_fields, content_from_fields};
-ghost use Rattle.um_c.specs.Plain.{AnswersFrameRead};
-ghost use Rattle.um_c.specs.Plain.{AnswersFrameWrite};
+ghost use Rattle.um_c.specs.Plain.{IsFrameReadResult};
+ghost use Rattle.um_c.specs.Plain.{IsFrameWriteResult};
 
 use lapdm_frame::{
     BLOCK_OCTETS, Body, Channel, FrameFields, FrameView, Kind, Refusal, fits_on, read_on, write_on,
@@ -19,7 +19,7 @@ pub struct CFrame {
     pub kind: u8,
     /// The SAPI, 0 to 7.
     pub sapi: u8,
-    /// The command/response bit. In all bit fields, any number other than 0 counts as 1.
+    /// The command/response bit. In all bit fields, any nonzero number counts as 1.
     pub cr: u8,
     /// The poll or final bit.
     pub pf: u8,
@@ -41,7 +41,7 @@ pub struct CFrame {
 pub extern "C" fn um_read_frame(octets: &[u8; BLOCK_OCTETS], channel: u8, frame: &mut CFrame) -> u8
     ensures { MatchOption (channel_of channel)
         ((result ≡ 8) × (frame.new ≡ frame.old))
-        (λ known. AnswersFrameRead known octets.now result frame.old frame.new) }
+        (λ known. IsFrameReadResult known octets.now result frame.old frame.new) }
 {
     let Some(channel) = channel_of(channel) else {
         return 8;
@@ -65,7 +65,7 @@ pub extern "C" fn um_write_frame(
 ) -> bool
     ensures { MatchOption (channel_of channel)
         ((result ≡ false) × (octets.new ≡ octets.old))
-        (λ known. AnswersFrameWrite known (frame_from_fields frame.now) result octets.old octets.new) }
+        (λ known. IsFrameWriteResult known (frame_from_fields frame.now) result octets.old octets.new) }
 {
     let Some(channel) = channel_of(channel) else {
         return false;
@@ -80,7 +80,7 @@ pub extern "C" fn um_write_frame(
     true
 }
 
-/// The channel for which this number stands: 0 SDCCH, 1 SACCH.
+/// The channel with this number: 0 SDCCH, 1 SACCH, `None` for any other number.
 pub(crate) fn channel_of(number: u8) -> Option<Channel>
     ensures { result ≡ channel_of number }
 {
@@ -106,7 +106,7 @@ fn frame_refusal_number(refusal: Refusal) -> u8
 }
 
 /// Converts the frame, which must fit in a block, to a C struct.
-#[tactic(auto, using(lapdm_frame::proofs::FieldLaws::few_octets))]
+#[tactic(auto, using(lapdm_frame::proofs::Lemmas::few_octets))]
 fn c_struct(view: &FrameView<'_>) -> CFrame
     requires { (channel : ChannelOf) × FrameFits channel (frame_of view.now) }
     ensures { result ≡ c_struct (frame_of view.now) }
@@ -116,7 +116,7 @@ fn c_struct(view: &FrameView<'_>) -> CFrame
 
 fn c_frame_of_fields(sapi: u8, cr: bool, fields: &FrameFields<'_>) -> CFrame
     requires { length fields.now.info.now ≤ 20 }
-    ensures { result ≡ c_frame_of_fields sapi cr (fields_in fields.now) }
+    ensures { result ≡ c_frame_of_fields sapi cr (abstract_fields fields.now) }
 {
     let mut info = [0; 20];
     info[..fields.info.len()].copy_from_slice(fields.info);

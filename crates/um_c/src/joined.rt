@@ -7,8 +7,17 @@ ghost use Rattle.um_air.specs.lapdm_window.Ends.{Role};
 ghost use Rattle.um_air.specs.lapdm_window.Calls.{Call};
 ghost use Rattle.um_c.specs.declared.states.CEndpoint.{CEndpoint};
 ghost use Rattle.um_c.specs.declared.effects.CEffects.{CEffects};
-ghost use Rattle.um_c.specs.EndCalls.{AnswersCall, AnswersBlock};
-ghost use Rattle.um_c.specs.Joined.{Joined, ProgramStep, Calls, TakesOldest, TakesForeign, IsNoFrameOnSapi, IsProgramStep, IsProgramStart};
+ghost use Rattle.um_c.specs.EndCalls.{EndpointAnswersCall, EndpointReceivesBlock};
+ghost use Rattle.um_c.specs.Joined.{
+  ProgramState,
+  ProgramStep,
+  Calls,
+  TakesOldestBlock,
+  TakesOtherSapiBlock,
+  HasNoFrameOnSapi,
+  IsProgramStep,
+};
+ghost use Rattle.um_c.specs.Joined.{IsProgramStart};
 ghost use Rattle.um_c.specs.Joined.{IsProgramRun, DeliversOldestBlock, ReceivesOldestBlock};
 ghost use Rattle.um_c.specs.Joined.{AnyStepAllowed};
 ghost use Rattle.um_c.specs.Joined.{lines};
@@ -17,58 +26,58 @@ use lapdm_frame::BLOCK_OCTETS;
 
 /// If each block that arrives is the oldest in transit to its side, messages are delivered in order and before they are acknowledged
 /// (`Claims`), however many blocks are in transit.
-#[tactic(auto, using(crate::proofs::AsFrameSessions::joined_claims))]
+#[tactic(auto, using(crate::proofs::Sessions::joined_claims))]
 pub fn law_joined_endpoints_deliver()
-    ensures { (channel : Channel) (a z : Joined) (turns : List ProgramStep) → IsProgramStart channel a →
+    ensures { (channel : Channel) (a z : ProgramState) (turns : List ProgramStep) → IsProgramStart channel a →
         IsProgramRun channel DeliversOldestBlock a turns z → Claims (lines turns) }
 {}
 
-/// Whatever blocks arrive, the log of the program is ordered (`IsOrderedLog`).
-#[tactic(auto, using(crate::proofs::AsFrameSessions::joined_order))]
-pub fn law_joined_endpoints_in_order()
-    ensures { (channel : Channel) (a z : Joined) (turns : List ProgramStep) → IsProgramStart channel a →
+/// Whatever blocks arrive, the program's log stays ordered (`IsOrderedLog`).
+#[tactic(auto, using(crate::proofs::Sessions::joined_order))]
+pub fn law_joined_log_is_ordered()
+    ensures { (channel : Channel) (a z : ProgramState) (turns : List ProgramStep) → IsProgramStart channel a →
         IsProgramRun channel AnyStepAllowed a turns z → IsOrderedLog (lines turns) }
 {}
 
 /// If each block that arrives is the oldest in transit to its side, neither side has more messages acknowledged than the other has
 /// delivered.
 pub fn law_joined_acked_at_most_delivered()
-    ensures { (channel : Channel) (a z : Joined) (turns : List ProgramStep) → IsProgramStart channel a →
+    ensures { (channel : Channel) (a z : ProgramState) (turns : List ProgramStep) → IsProgramStart channel a →
         IsProgramRun channel DeliversOldestBlock a turns z → AckedAtMostDelivered (lines turns) }
 {}
 
 /// If each block that arrives is decoded from lightly damaged bursts of the oldest block in transit to its side, messages are delivered in
 /// order (`Claims`), and no endpoint has more messages acknowledged than its peer has delivered.
 pub fn law_damaged_bursts_delivered()
-    ensures delivery { (channel : Channel) (a z : Joined) (turns : List ProgramStep) → IsProgramStart channel a →
+    ensures delivery { (channel : Channel) (a z : ProgramState) (turns : List ProgramStep) → IsProgramStart channel a →
         IsProgramRun channel ReceivesOldestBlock a turns z → Claims (lines turns) }
-    ensures counts { (channel : Channel) (a z : Joined) (turns : List ProgramStep) → IsProgramStart channel a →
+    ensures counts { (channel : Channel) (a z : ProgramState) (turns : List ProgramStep) → IsProgramStart channel a →
         IsProgramRun channel ReceivesOldestBlock a turns z → AckedAtMostDelivered (lines turns) }
 {}
 
 /// If a program holds the state of an endpoint, a call with this state is a possible step of the program, whatever the call returns.
 pub fn law_any_call_is_program_step()
-    ensures { (channel : Channel) (a : Joined) (r : Role) (s : Sapi) (call : Call) (answer : ℕ) (old new : CEndpoint)
+    ensures { (channel : Channel) (a : ProgramState) (r : Role) (s : Sapi) (call : Call) (answer : ℕ) (old new : CEndpoint)
         (output_old output : CEffects) →
-        a.state r s ≡ Some old → AnswersCall call answer old new output_old output →
-        (b : Joined) × IsProgramStep channel a (Calls r s call answer output) b × (b.state r s ≡ Some new) }
+        a.state r s ≡ Some old → EndpointAnswersCall call answer old new output_old output →
+        (b : ProgramState) × IsProgramStep channel a (Calls r s call answer output) b × (b.state r s ≡ Some new) }
 {}
 
 /// If a program holds the state of an endpoint, passing a block to this endpoint is a possible step of the program, whatever the call
 /// returns.
 pub fn law_any_block_is_program_step()
-    ensures { (channel : Channel) (a : Joined) (r : Role) (s : Sapi) (block : List ℕ) (answer : ℕ) (old new : CEndpoint)
+    ensures { (channel : Channel) (a : ProgramState) (r : Role) (s : Sapi) (block : List ℕ) (answer : ℕ) (old new : CEndpoint)
         (output_old output : CEffects) →
-        a.state r s ≡ Some old → length block ≡ BLOCK_OCTETS → AnswersBlock block answer old new output_old output →
-        (b : Joined) × IsProgramStep channel a (TakesOldest r s block answer output) b × (b.state r s ≡ Some new) }
+        a.state r s ≡ Some old → length block ≡ BLOCK_OCTETS → EndpointReceivesBlock block answer old new output_old output →
+        (b : ProgramState) × IsProgramStep channel a (TakesOldestBlock r s block answer output) b × (b.state r s ≡ Some new) }
 {}
 
 /// If a program holds the state of an endpoint, passing it a block that encodes no frame with its SAPI is a possible step of the program;
 /// the blocks in transit stay in transit.
-pub fn law_foreign_block_is_step()
-    ensures { (channel : Channel) (a : Joined) (r : Role) (s : Sapi) (block : List ℕ) (answer : ℕ) (old new : CEndpoint)
+pub fn law_other_sapi_block_is_step()
+    ensures { (channel : Channel) (a : ProgramState) (r : Role) (s : Sapi) (block : List ℕ) (answer : ℕ) (old new : CEndpoint)
         (output_old output : CEffects) →
-        a.state r s ≡ Some old → length block ≡ BLOCK_OCTETS → IsNoFrameOnSapi channel s block →
-        AnswersBlock block answer old new output_old output →
-        (b : Joined) × IsProgramStep channel a (TakesForeign r s block answer output) b × (b.state r s ≡ Some new) }
+        a.state r s ≡ Some old → length block ≡ BLOCK_OCTETS → HasNoFrameOnSapi channel s block →
+        EndpointReceivesBlock block answer old new output_old output →
+        (b : ProgramState) × IsProgramStep channel a (TakesOtherSapiBlock r s block answer output) b × (b.state r s ≡ Some new) }
 {}

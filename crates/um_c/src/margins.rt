@@ -1,4 +1,4 @@
-//! How reliable the decoded word of a block is: by how much its likelihood exceeds that of the second most likely word.
+//! The reliability of a decoded block: the difference between the likelihoods of its two most likely words.
 ghost use Rattle.std.specs.Prelude.{◌≡◌, ◌↔◌, All, IsTrue, false};
 ghost use Rattle.um_block.specs.bit_blocks.SoftValues.{AllSoftBits};
 ghost use Rattle.um_c.specs.MarginReports.{IsMarginReport};
@@ -7,15 +7,15 @@ use crate::soft::are_soft_bursts;
 use um_among::margin;
 use um_block::{BURST_BITS, ENCODER_INPUT_BITS, deinterleave_block};
 
-/// The two most likely words of a block, and the difference of their path metrics.
+/// The two most likely words of a block, and the difference between their path metrics.
 #[repr(C)]
 #[derive(Drop)]
 pub struct MarginReport {
-    /// By how much the path metric of the most likely word exceeds that of the second: 0 if and only if another word is equally likely.
+    /// The path metric of the most likely word minus that of the second. It is 0 if and only if another word is equally likely.
     pub margin: i32,
-    /// The most likely word, with one bit in each octet: 184 data bits, 40 CRC bits, four zeros.
+    /// The most likely word, with one bit in each octet: 184 data bits, 40 CRC bits and four zeros.
     pub word: [u8; ENCODER_INPUT_BITS],
-    /// The second most likely word; the first one if several are equally likely.
+    /// The second most likely word; of equally likely words, the first in lexicographic order.
     pub next: [u8; ENCODER_INPUT_BITS],
 }
 

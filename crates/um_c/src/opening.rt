@@ -3,8 +3,8 @@ ghost use Rattle.std.specs.Prelude.{◌≡◌, length, IsTrue, Some};
 ghost use Rattle.lapdm_frame.specs.declared.Channel.{Channel};
 ghost use Rattle.um_air.specs.segmenting.Buffers.{octets_in};
 ghost use Rattle.um_air.specs.lapdm_window.declared.Sapi.TheVariants.{Zero};
-ghost use Rattle.um_air.specs.lapdm_window.Ends.{Mobile, Network, EndState};
-ghost use Rattle.um_c.specs.Joined.{Joined, IsProgramRun, DeliversOldestBlock};
+ghost use Rattle.um_air.specs.lapdm_window.Ends.{Mobile, Network, EndpointState};
+ghost use Rattle.um_c.specs.Joined.{ProgramState, IsProgramRun, DeliversOldestBlock};
 ghost use Rattle.um_c.specs.States.{StructRepresents};
 ghost use Rattle.um_c.specs.Opening.{program_of_two_endpoints, first_block, opening, CanEstablishLink, BothAreIdle, mobile_after_opening};
 ghost use Rattle.um_c.specs.Opening.{network_after_opening};
@@ -26,13 +26,13 @@ pub fn open_link(
     answered: &mut CEffects,
     opened: &mut CEffects,
 ) -> bool
-    ensures run { IsTrue result → (channel : Channel) → (z : Joined)
+    ensures run { IsTrue result → (channel : Channel) → (z : ProgramState)
         × IsProgramRun channel DeliversOldestBlock (program_of_two_endpoints mobile.old network.old)
         (opening (octets_in info.now) asked.new answered.new opened.new) z
         × (z.state Mobile Zero ≡ Some mobile.new) × (z.state Network Zero ≡ Some network.new) }
-    ensures exchanges { (e f : EndState) → StructRepresents mobile.old e → StructRepresents network.old f →
+    ensures succeeds_from_idle { (e f : EndpointState) → StructRepresents mobile.old e → StructRepresents network.old f →
         CanEstablishLink (octets_in info.now) e f → IsTrue result }
-    ensures opens { (e f : EndState) → StructRepresents mobile.old e → StructRepresents network.old f →
+    ensures opens { (e f : EndpointState) → StructRepresents mobile.old e → StructRepresents network.old f →
         BothAreIdle (octets_in info.now) e f → StructRepresents mobile.new (mobile_after_opening (octets_in info.now) e)
         × StructRepresents network.new (network_after_opening (octets_in info.now) f) }
 {

@@ -1,11 +1,11 @@
-//! The C function that repairs words whose wrong bits lie close together.
+//! The C function that repairs words with short error bursts.
 ghost use Rattle.std.specs.Prelude.{◌≡◌, ℕ};
-ghost use Rattle.um_c.specs.RepairReports.{AnswersRepair};
+ghost use Rattle.um_c.specs.RepairReports.{IsRepairCallResult};
 
 use fire_repair::{RepairAnswer, repair};
 use um_block::Bits;
 
-/// How a word was repaired.
+/// The repair of a word.
 #[repr(C)]
 #[derive(Drop)]
 pub struct RepairReport {
@@ -21,9 +21,9 @@ pub struct RepairReport {
 /// if the word was repaired, 2 if there is no such repair, and 3 if an octet is neither 0 nor 1. Writes the report only if it returns 1.
 #[unsafe(no_mangle)]
 pub extern "C" fn um_repair(word: &[u8; 224], report: &mut RepairReport) -> u8
-    ensures answer { AnswersRepair word.now result report.old report.new }
+    ensures answer { IsRepairCallResult word.now result report.old report.new }
     ensures only { (answer : ℕ) (other : RepairReport)
-        → AnswersRepair word.now answer report.old other → (answer ≡ result) × (other ≡ report.new) }
+        → IsRepairCallResult word.now answer report.old other → (answer ≡ result) × (other ≡ report.new) }
 {
     let Some(bits) = Bits::<224>::from_slice(word) else {
         return 3;

@@ -2,13 +2,14 @@
 ghost use Rattle.std.specs.Prelude.{◌≡◌, ◌≢◌, ◌↔◌, Some, IsTrue};
 ghost use Rattle.um_air.specs.segmenting.Buffers.{octets_in};
 ghost use Rattle.um_air.specs.lapdm_window.declared.Sapi.{Sapi as LinkSapi};
-ghost use Rattle.um_air.specs.lapdm_window.Calls.{call_of, Opens, OpensBare, Sends, SendsUnit, Closes, T200Expires, SendsFill};
+ghost use Rattle.um_air.specs.lapdm_window.Calls.{call_of, Opens, OpensWithoutInfo, Sends, SendsUi, Closes, T200Expires, SendsFill};
 ghost use Rattle.um_c.specs.States.{sapi_of, IsCanonicalStruct};
-ghost use Rattle.um_c.specs.SideCalls.{IsValidSide, endpoint_of, IsFrameOnSapi3, AnswersNewSide, SideAnswersCall, SideAnswersBlock};
+ghost use Rattle.um_c.specs.SideCalls.{IsValidSide, endpoint_of, IsFrameOnSapi3, IsNewSideResult, SideAnswersCall, SideReceivesBlock};
 
 use crate::effects::CEffects;
 use crate::ends::{
-    NOT_A_CALL, NOT_AN_ENDPOINT, ask, ask_keeping_endpoint, um_end_idle, um_end_new, um_end_take,
+    CALL_NOT_SUPPORTED, INVALID_ENDPOINT, call_endpoint, send_ui_frame, um_end_idle, um_end_new,
+    um_end_take,
 };
 use crate::frames::channel_of;
 use crate::states::{CEndpoint, sapi_of};
@@ -25,13 +26,13 @@ pub struct CSide {
     pub link3: CEndpoint,
 }
 
-/// Writes the state of a new side. Returns false, and writes nothing, if role or channel is invalid.
+/// Writes the state of a new side. Returns false, and writes nothing, if the role or channel is invalid.
 #[unsafe(no_mangle)]
 pub extern "C" fn um_side_new(side: &mut CSide, role: u8, channel: u8) -> bool
-    ensures new_endpoint { AnswersNewSide role channel result side.old side.new }
+    ensures new_endpoint { IsNewSideResult role channel result side.old side.new }
     ensures side { IsTrue result → IsValidSide side.new }
-    ensures plain0 { IsTrue result → IsCanonicalStruct side.new.link0 }
-    ensures plain3 { IsTrue result → IsCanonicalStruct side.new.link3 }
+    ensures canonical0 { IsTrue result → IsCanonicalStruct side.new.link0 }
+    ensures canonical3 { IsTrue result → IsCanonicalStruct side.new.link3 }
 {
     if !um_end_new(&mut side.link0, role, 0, channel) {
         return false;
@@ -39,25 +40,26 @@ pub extern "C" fn um_side_new(side: &mut CSide, role: u8, channel: u8) -> bool
     um_end_new(&mut side.link3, role, 3, channel)
 }
 
-/// Begins to establish the link of SAPI 0: sends a SABM with this information. Only a mobile has this call.
+/// Begins to establish the link of SAPI 0: sends a SABM with this information. Only a mobile supports this call. Returns 0, or an error
+/// number.
 #[unsafe(no_mangle)]
 pub extern "C" fn um_side_open(side: &mut CSide, info: &MessageBuffer, effects: &mut CEffects) -> u8
     ensures answers_call { SideAnswersCall 0 (Opens (octets_in info.now)) result side.old side.new effects.old effects.new }
     ensures c_struct { result ≡ 0 → IsCanonicalStruct side.new.link0 }
 {
-    ask_link_of_side(side, 0, &Call::Open(info.octets()), effects)
+    call_endpoint_of_side(side, 0, &Call::Open(info.octets()), effects)
 }
 
-/// Begins to establish the link of SAPI 3: sends a SABM without information.
+/// Begins to establish the link of SAPI 3: sends a SABM without information. Returns 0, or an error number.
 #[unsafe(no_mangle)]
 pub extern "C" fn um_side_open_bare(side: &mut CSide, effects: &mut CEffects) -> u8
-    ensures answers_call { SideAnswersCall 3 OpensBare result side.old side.new effects.old effects.new }
+    ensures answers_call { SideAnswersCall 3 OpensWithoutInfo result side.old side.new effects.old effects.new }
     ensures c_struct { result ≡ 0 → IsCanonicalStruct side.new.link3 }
 {
-    ask_link_of_side(side, 3, &Call::OpenBare, effects)
+    call_endpoint_of_side(side, 3, &Call::OpenBare, effects)
 }
 
-/// Sends a message over the link of this SAPI in I frames, which the other side acknowledges.
+/// Sends a message over the link of this SAPI in I frames, which the other side acknowledges. Returns 0, or an error number.
 #[unsafe(no_mangle)]
 pub extern "C" fn um_side_send(
     side: &mut CSide,
@@ -68,10 +70,10 @@ pub extern "C" fn um_side_send(
     ensures answers_call { SideAnswersCall sapi (Sends (octets_in message.now)) result side.old side.new effects.old effects.new }
     ensures c_struct { result ≡ 0 → (s : LinkSapi) → Some s ≡ sapi_of sapi → IsCanonicalStruct (endpoint_of s side.new) }
 {
-    ask_link_of_side(side, sapi, &Call::Send(message.octets()), effects)
+    call_endpoint_of_side(side, sapi, &Call::Send(message.octets()), effects)
 }
 
-/// Sends a message in one UI frame with this SAPI, which is not acknowledged.
+/// Sends a message in one UI frame with this SAPI, which is not acknowledged. Returns 0, or an error number.
 #[unsafe(no_mangle)]
 pub extern "C" fn um_side_unit(
     side: &CSide,
@@ -79,35 +81,35 @@ pub extern "C" fn um_side_unit(
     message: &MessageBuffer,
     effects: &mut CEffects,
 ) -> u8
-    ensures { SideAnswersCall sapi (SendsUnit (octets_in message.now)) result side.now side.now effects.old effects.new }
+    ensures { SideAnswersCall sapi (SendsUi (octets_in message.now)) result side.now side.now effects.old effects.new }
 {
     if !is_valid_side(side) {
-        return NOT_AN_ENDPOINT;
+        return INVALID_ENDPOINT;
     }
     let call = Call::Unit(message.octets());
     match sapi_of(sapi) {
-        Some(Sapi::Zero) => ask_keeping_endpoint(&side.link0, &call, effects),
-        Some(Sapi::Three) => ask_keeping_endpoint(&side.link3, &call, effects),
-        None => NOT_A_CALL,
+        Some(Sapi::Zero) => send_ui_frame(&side.link0, &call, effects),
+        Some(Sapi::Three) => send_ui_frame(&side.link3, &call, effects),
+        None => CALL_NOT_SUPPORTED,
     }
 }
 
-/// Begins to release the link of this SAPI: sends a DISC. Unacknowledged messages are discarded.
+/// Begins to release the link of this SAPI: sends a DISC. Unacknowledged messages are discarded. Returns 0, or an error number.
 #[unsafe(no_mangle)]
 pub extern "C" fn um_side_close(side: &mut CSide, sapi: u8, effects: &mut CEffects) -> u8
     ensures answers_call { SideAnswersCall sapi Closes result side.old side.new effects.old effects.new }
     ensures c_struct { result ≡ 0 → (s : LinkSapi) → Some s ≡ sapi_of sapi → IsCanonicalStruct (endpoint_of s side.new) }
 {
-    ask_link_of_side(side, sapi, &Call::Close, effects)
+    call_endpoint_of_side(side, sapi, &Call::Close, effects)
 }
 
-/// Handles T200 expiry on the link of this SAPI.
+/// Handles T200 expiry on the link of this SAPI. Returns 0, or an error number.
 #[unsafe(no_mangle)]
 pub extern "C" fn um_side_timer(side: &mut CSide, sapi: u8, effects: &mut CEffects) -> u8
     ensures answers_call { SideAnswersCall sapi T200Expires result side.old side.new effects.old effects.new }
     ensures c_struct { result ≡ 0 → (s : LinkSapi) → Some s ≡ sapi_of sapi → IsCanonicalStruct (endpoint_of s side.new) }
 {
-    ask_link_of_side(side, sapi, &Call::Timer, effects)
+    call_endpoint_of_side(side, sapi, &Call::Timer, effects)
 }
 
 /// Sends the fill frame, for use when there is nothing else to send in a block.
@@ -116,7 +118,7 @@ pub extern "C" fn um_side_idle(side: &CSide, effects: &mut CEffects) -> u8
     ensures { SideAnswersCall 0 SendsFill result side.now side.now effects.old effects.new }
 {
     if !is_valid_side(side) {
-        return NOT_AN_ENDPOINT;
+        return INVALID_ENDPOINT;
     }
     um_end_idle(&side.link0, effects)
 }
@@ -130,11 +132,11 @@ pub extern "C" fn um_side_take(
     sapi: &mut u8,
     effects: &mut CEffects,
 ) -> u8
-    ensures answers_block { SideAnswersBlock octets.now result side.old side.new sapi.old sapi.new effects.old effects.new }
+    ensures answers_block { SideReceivesBlock octets.now result side.old side.new sapi.old sapi.new effects.old effects.new }
     ensures c_struct { result ≡ 0 → (s : LinkSapi) → Some s ≡ sapi_of sapi.new → IsCanonicalStruct (endpoint_of s side.new) }
 {
     if !is_valid_side(side) {
-        return NOT_AN_ENDPOINT;
+        return INVALID_ENDPOINT;
     }
     if is_frame_on_sapi_3(octets, side.link0.channel) {
         let answer = um_end_take(&mut side.link3, octets, effects);
@@ -146,7 +148,7 @@ pub extern "C" fn um_side_take(
     answer
 }
 
-/// Writes the SAPI of the endpoint that got a block, if the call returns 0.
+/// If the call returns 0, writes the SAPI of the endpoint that received the block.
 fn write_sapi(answer: u8, number: u8, sapi: &mut u8)
     ensures written { answer ≡ 0 → sapi.new ≡ number }
     ensures unchanged { answer ≢ 0 → sapi.new ≡ sapi.old }
@@ -157,17 +159,17 @@ fn write_sapi(answer: u8, number: u8, sapi: &mut u8)
 }
 
 /// Carries out a layer 3 call to the endpoint with this SAPI.
-fn ask_link_of_side(side: &mut CSide, sapi: u8, call: &Call<'_>, effects: &mut CEffects) -> u8
+fn call_endpoint_of_side(side: &mut CSide, sapi: u8, call: &Call<'_>, effects: &mut CEffects) -> u8
     ensures answers_call { SideAnswersCall sapi (call_of call.now) result side.old side.new effects.old effects.new }
     ensures c_struct { result ≡ 0 → (s : LinkSapi) → Some s ≡ sapi_of sapi → IsCanonicalStruct (endpoint_of s side.new) }
 {
     if !is_valid_side(side) {
-        return NOT_AN_ENDPOINT;
+        return INVALID_ENDPOINT;
     }
     match sapi_of(sapi) {
-        Some(Sapi::Zero) => ask(&mut side.link0, call, effects),
-        Some(Sapi::Three) => ask(&mut side.link3, call, effects),
-        None => NOT_A_CALL,
+        Some(Sapi::Zero) => call_endpoint(&mut side.link0, call, effects),
+        Some(Sapi::Three) => call_endpoint(&mut side.link3, call, effects),
+        None => CALL_NOT_SUPPORTED,
     }
 }
 

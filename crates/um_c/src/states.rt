@@ -2,9 +2,9 @@
 //! only the octets in use are copied from each message.
 ghost use Rattle.std.specs.Prelude.{◌≡◌, ◌≤◌, ◌↔◌, Some, None, length, map, IsTrue, MatchOption};
 ghost use Rattle.um_air.specs.segmenting.Buffers.{octets_in};
-ghost use Rattle.um_air.specs.lapdm_window.Ends.{EndState};
-ghost use Rattle.um_air.specs.lapdm_window.Parts.{values_in as window_by};
-ghost use Rattle.lapdm_end.specs.Parts.{values_of, values_in};
+ghost use Rattle.um_air.specs.lapdm_window.Ends.{EndpointState};
+ghost use Rattle.um_air.specs.lapdm_window.Parts.{values_of_parts as window_by};
+ghost use Rattle.lapdm_end.specs.Parts.{values_of, values_of_parts};
 ghost use Rattle.lapdm_end.specs.Abstraction.{Represents};
 ghost use Rattle.um_c.specs.Plain.{channel_of};
 ghost use Rattle.um_c.specs.States.{role_of, sapi_of, state_of, reassembly_from_number, window_values_from, endpoint_values_from};
@@ -42,12 +42,12 @@ pub struct CEndpoint {
     pub repeats: u8,
     /// The reject condition: 1 if a REJ was sent and no segment has been accepted since, otherwise 0.
     pub rejecting: u8,
-    /// The index, within the first held message, of the outstanding segment or, if none is outstanding, of the next segment.
+    /// The index of the outstanding segment in the first held message; if none is outstanding, the index of the next segment.
     pub place: u8,
-    /// The number of messages held, that is, those not yet fully acknowledged.
+    /// The number of messages held because they are not yet fully acknowledged.
     pub held_count: u8,
-    /// What the reassembly buffer holds: 0 the beginning of a message; 1 a delivered message; 2 nothing, because the rest of an oversize
-    /// message is being discarded.
+    /// The state of the reassembly buffer: 0 holds the beginning of a message; 1 holds a delivered message; 2 is empty, while the rest of
+    /// an oversize message is discarded.
     pub part: u8,
     /// The information of the SABM that this endpoint sent, or of the SABM that established its link.
     pub kept: MessageBuffer,
@@ -58,7 +58,7 @@ pub struct CEndpoint {
 /// Reads the state into `end` and returns true if it represents an endpoint; otherwise returns false and leaves `end` unchanged.
 pub(crate) fn read_endpoint(c_struct: &CEndpoint, end: &mut Endpoint) -> bool
     ensures decoded { IsTrue result → endpoint_values_from c_struct.now ≡ Some (values_of end.new) }
-    ensures represents { IsTrue result → (e : EndState) → StructRepresents c_struct.now e → Represents end.new e }
+    ensures represents { IsTrue result → (e : EndpointState) → StructRepresents c_struct.now e → Represents end.new e }
     ensures known { IsTrue result ↔ RepresentsSomeEndpoint c_struct.now }
 {
     match endpoint_parts_of(c_struct) {
@@ -69,7 +69,7 @@ pub(crate) fn read_endpoint(c_struct: &CEndpoint, end: &mut Endpoint) -> bool
 
 fn endpoint_parts_of(c_struct: &CEndpoint) -> Option<EndpointParts<'_>>
     ensures { MatchOption result (endpoint_values_from c_struct.now ≡ None)
-        (λ parts. endpoint_values_from c_struct.now ≡ Some (values_in parts)) }
+        (λ parts. endpoint_values_from c_struct.now ≡ Some (values_of_parts parts)) }
 {
     let role = role_of(c_struct.role)?;
     let sapi = sapi_of(c_struct.sapi)?;
@@ -79,7 +79,7 @@ fn endpoint_parts_of(c_struct: &CEndpoint) -> Option<EndpointParts<'_>>
         role,
         sapi,
         state,
-        kept: c_struct.kept.octets(),
+        sabm_info: c_struct.kept.octets(),
         retries: c_struct.retries,
         window,
     })
@@ -97,14 +97,14 @@ fn window_parts_of(c_struct: &CEndpoint) -> Option<WindowParts<'_>>
     Some(WindowParts {
         channel,
         held: &c_struct.held[..usize::from(c_struct.held_count)],
-        place: usize::from(c_struct.place),
+        segment_index: usize::from(c_struct.place),
         vs: c_struct.vs,
         va: c_struct.va,
         vr: c_struct.vr,
-        done: c_struct.done,
+        acked_messages: c_struct.done,
         rejecting: c_struct.rejecting != 0,
         retries: c_struct.repeats,
-        joined: c_struct.joined.octets(),
+        reassembly: c_struct.joined.octets(),
         part,
     })
 }
@@ -159,7 +159,7 @@ pub(crate) fn write_endpoint(end: &Endpoint, c_struct: &mut CEndpoint)
 {
     let parts = end.parts();
     let window = parts.window;
-    c_struct.done = window.done;
+    c_struct.done = window.acked_messages;
     c_struct.role = role_number(parts.role);
     c_struct.sapi = sapi_number(parts.sapi);
     c_struct.channel = channel_number(window.channel);
@@ -170,11 +170,11 @@ pub(crate) fn write_endpoint(end: &Endpoint, c_struct: &mut CEndpoint)
     c_struct.vr = window.vr;
     c_struct.repeats = window.retries;
     c_struct.rejecting = u8::from(window.rejecting);
-    c_struct.place = window.place as u8;
+    c_struct.place = window.segment_index as u8;
     c_struct.held_count = window.held.len() as u8;
     c_struct.part = reassembly_number(window.part);
-    c_struct.kept.write(parts.kept);
-    c_struct.joined.write(window.joined);
+    c_struct.kept.write(parts.sabm_info);
+    c_struct.joined.write(window.reassembly);
     write_buffers(window.held, &mut c_struct.held);
 }
 

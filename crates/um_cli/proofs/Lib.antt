@@ -1,6 +1,1 @@
-pub mod Counts
-pub mod Headlines
-pub mod Restoring
-pub mod Tops
-pub mod WordListsLemmas
-pub mod Arriving
+pub mod Lemmas

@@ -14,50 +14,50 @@ use Rattle.um_end.specs.um_block.declared.received.ReceivedAccess.{ReceivedAcces
 use Rattle.um_end.specs.um_block.declared.received.ReceivedSync.{ReceivedSync}
 use Rattle.um_code.specs.um_formats.Reports.{IsBlockReport, access_report_text, sync_report_text}
 use Rattle.um_driver.specs.Rules.{Rules}
-use Rattle.um_bursts.specs.BurstRules.{Answers, burst_rules}
+use Rattle.um_bursts.specs.BurstRules.{BurstAnswers, burst_rules}
 
 -- the encoding of the information list `u` is a codeword, and no codeword of the same length is more likely for the soft values `soft`
 pub record IsMaximumLikelihood (soft : List ℤ) (u : List ℕ) : Type 0 where
   pub codeword : IsCodeword (encoding u) (length u)
-  pub places : length soft ≡ length (encoding u)
+  pub same_length : length soft ≡ length (encoding u)
   pub none_more_likely : (c : List ℕ) → IsCodeword c (length u) → likelihood soft c ≤ℤ likelihood soft (encoding u)
 
 -- the four `bursts` of a block are decoded to a most likely word; its first 184 bits are accepted as the data if and only if the CRC in its
 -- first 224 bits holds
 pub record IsMostLikelyWord (bursts : List (List ℤ)) (r : Received) : Type 0 where
   pub soft : List ℤ
-  pub read : IsInterleaved soft (map coded_soft_bits bursts)
-  pub best : IsMaximumLikelihood soft r.u
+  pub deinterleaved : IsInterleaved soft (map coded_soft_bits bursts)
+  pub max_likelihood : IsMaximumLikelihood soft r.u
   pub accepted : MatchOption r.accepted
       (¬ IsXcchWord (take 224 r.u))
       (λ octets. IsXcchWord (take 224 r.u) × (octets ≡ octets_of (take 184 r.u)))
 
 -- `report` describes a block that was received from `bursts` and decoded to a most likely word
 pub record IsMostLikelyBlock (bursts : List (List ℤ)) (report : List ℕ) : Type 0 where
-  pub r : Received
-  pub word : IsMostLikelyWord bursts r
-  pub text : IsBlockReport r report
+  pub received : Received
+  pub most_likely : IsMostLikelyWord bursts received
+  pub text : IsBlockReport received report
 
 -- `report` describes an access burst that was decoded to a most likely word, and was accepted if and only if its CRC holds for `bsic`
 pub record IsMostLikelyAccess (burst : List ℤ) (bsic report : List ℕ) : Type 0 where
-  pub r : ReceivedAccess
-  pub best : IsMaximumLikelihood (A.body burst) r.u
-  pub accepted : MatchOption r.accepted
-      (¬ IsRachWord (take 14 r.u) bsic)
-      (λ info. IsRachWord (take 14 r.u) bsic × (info ≡ take 8 r.u))
-  pub text : report ≡ access_report_text bsic r
+  pub received : ReceivedAccess
+  pub max_likelihood : IsMaximumLikelihood (A.body burst) received.u
+  pub accepted : MatchOption received.accepted
+      (¬ IsRachWord (take 14 received.u) bsic)
+      (λ info. IsRachWord (take 14 received.u) bsic × (info ≡ take 8 received.u))
+  pub text : report ≡ access_report_text bsic received
 
 -- `report` describes a synchronisation burst that was decoded to a most likely word, and was accepted if and only if its CRC holds
 pub record IsMostLikelySync (burst : List ℤ) (report : List ℕ) : Type 0 where
-  pub r : ReceivedSync
-  pub best : IsMaximumLikelihood (S.first_coded_half burst ++ S.second_coded_half burst) r.u
-  pub accepted : MatchOption r.accepted
-      (¬ IsSchWord (take 35 r.u))
-      (λ info. IsSchWord (take 35 r.u) × (info ≡ take 25 r.u))
-  pub text : report ≡ sync_report_text r
+  pub received : ReceivedSync
+  pub max_likelihood : IsMaximumLikelihood (S.first_coded_half burst ++ S.second_coded_half burst) received.u
+  pub accepted : MatchOption received.accepted
+      (¬ IsSchWord (take 35 received.u))
+      (λ info. IsSchWord (take 35 received.u) × (info ≡ take 25 received.u))
+  pub text : report ≡ sync_report_text received
 
 -- the answers of `replay`, with the further claim that the bursts are decoded to a most likely word
-abbrev pub replay_answers_with_ml_decoding : Answers
+abbrev pub replay_answers_with_ml_decoding : BurstAnswers
 replay_answers_with_ml_decoding = record {
   block = IsMostLikelyBlock;
   access = λ bsic burst. IsMostLikelyAccess burst bsic;

@@ -4,7 +4,7 @@ use Rattle.um_driver.specs.Rules.{Rules, Machine}
 use Rattle.um_driver.specs.Table.{IsRun, EndsAsPrescribed}
 use Rattle.um_driver.specs.Laws.{HasOneOutput}
 use Rattle.um_driver.specs.declared.status.Status.{Status}
-use Rattle.um_code.specs.Code.{code_rules}
+use Rattle.um_code.specs.Code.{code_command_rules}
 use Rattle.um_bursts.specs.Replay.{replay_rules}
 use Rattle.um_show.specs.Show.{show_rules}
 use Rattle.um_cli.specs.declared.words.Invocation.{Invocation}
@@ -14,26 +14,26 @@ use Rattle.um_repair.specs.RepairRules.{repair_rules}
 use Rattle.um_make.specs.Generated.{generated_events}
 use Rattle.um_make.specs.Runs.{HasOneSummary}
 use Rattle.um_end.specs.um_link.Naming.{role_of}
-use Rattle.um_session.specs.Sessions.{idle, link_rules}
+use Rattle.um_session.specs.Sessions.{new_session, link_rules}
 use Rattle.um_end.specs.EndRuns as E
-use Rattle.um_end.specs.EndRuns.{end_rules}
+use Rattle.um_end.specs.EndRuns.{end_command_rules}
 
--- the state machine of a command, made from its rules and its first state
+-- the state machine of a command, given its rules and its first state
 abbrev pub machine : {State : Type 0} → Rules State → State → Machine
 machine {State} rules start = record { State = State; rules = rules; start = start }
 
--- the predicate holds for the state machine of the command; for `make`, which reads no lines, nothing is claimed
+-- the predicate holds for the state machine of the command; `make` reads no lines, so nothing is claimed about it
 abbrev pub HoldsForMachine : Invocation → (Machine → Type 0) → Type 0
-HoldsForMachine Code P = P (machine code_rules tt)
+HoldsForMachine Code P = P (machine code_command_rules tt)
 HoldsForMachine Replay P = P (machine replay_rules [])
 HoldsForMachine Show P = P (machine show_rules tt)
 HoldsForMachine Margin P = P (machine margin_rules [])
 HoldsForMachine Repair P = P (machine repair_rules tt)
-HoldsForMachine (Link tsc channel) P = P (machine link_rules (idle tsc channel))
+HoldsForMachine (Link tsc channel) P = P (machine link_rules (new_session tsc channel))
 HoldsForMachine (Make n tsc) P = Unit {0}
-HoldsForMachine (End side tsc) P = P (machine end_rules (E.idle (role_of side) tsc))
+HoldsForMachine (End side tsc) P = P (machine end_command_rules (E.initial_run (role_of side) tsc))
 
--- for a command that reads lines, the status tells what the run has read and written
+-- for a command that reads lines, the status determines what the run has read and written
 abbrev pub IsRunOfCommand : Invocation → Status → (left left' taken taken' : Option (List ℕ)) → Type 0
 IsRunOfCommand command status left left' taken taken' =
     HoldsForMachine command (λ m. IsRun m.rules m.start (λ _. Unit {0}) status left left' taken taken')

@@ -2,31 +2,31 @@
 use Rattle.std.specs.Prelude.{ℕ, ◌≡◌, ◌+◌, List, Option}
 use Rattle.std.specs.Io.KnownBytes.{Appends, Keeps}
 use Rattle.um_end.specs.um_block.Tallies.{counter_plus}
-use Rattle.um_driver.specs.Table.{TakesPrefix}
+use Rattle.um_driver.specs.Table.{SinkTakesPrefix}
 use Rattle.um_driver.specs.declared.status.Status.{Status}
 use Rattle.um_driver.specs.declared.status.Status.TheVariants.{Done, WriteFault, NoMemory}
 use Rattle.um_make.specs.declared.summary.Summary.{Summary}
 use Rattle.um_make.specs.Generated.{generated_events}
-use Rattle.um_make.specs.Runs.{IsSummaryOfEvents, AckedAtMostGot}
+use Rattle.um_make.specs.Runs.{IsSummaryOfEvents, AckedAtMostReceived}
 use Rattle.um_make.specs.Texts.{summary_text}
-use Rattle.um_session.specs.Courses.{Tallies}
+use Rattle.um_session.specs.Courses.{RadioCounters}
 
 -- `s` is the summary of the generated session; the radio encoded and decoded each of its blocks, and neither side has more messages
--- acknowledged than the other delivered
-pub record IsMakeSummary (n tsc : ℕ) (s : Summary) (before after : Tallies) : Type 0 where
+-- acknowledged than the other has delivered
+pub record IsMakeSummary (n tsc : ℕ) (s : Summary) (before after : RadioCounters) : Type 0 where
   pub session : IsSummaryOfEvents tsc (generated_events n) s
-  pub delivered : AckedAtMostGot s
-  pub sent : after.sent ≡ counter_plus s.sends before.sent
-  pub heard : after.heard ≡ counter_plus (s.takes + s.drops) before.heard
+  pub acked_at_most_got : AckedAtMostReceived s
+  pub sent : after.sent_blocks ≡ counter_plus s.sent_blocks before.sent_blocks
+  pub heard : after.received_blocks ≡ counter_plus (s.good_blocks + s.bad_blocks) before.received_blocks
 
 -- the whole text was written (`Done`), or a prefix of it before the sink failed (`WriteFault`)
 abbrev pub IsTextWritten : List ℕ → Status → (taken taken' : Option (List ℕ)) → Type 0
 IsTextWritten text Done taken taken' = Appends taken taken' text
-IsTextWritten text WriteFault taken taken' = TakesPrefix taken taken' text
+IsTextWritten text WriteFault taken taken' = SinkTakesPrefix taken taken' text
 IsTextWritten text status taken taken' = ⊥
 
 -- the summary was written, or a prefix of it before the sink failed; or an allocation failed and nothing was done
-abbrev pub IsMakeRun : (n tsc : ℕ) → Status → (taken taken' : Option (List ℕ)) → (before after : Tallies) → Type 0
+abbrev pub IsMakeRun : (n tsc : ℕ) → Status → (taken taken' : Option (List ℕ)) → (before after : RadioCounters) → Type 0
 IsMakeRun n tsc NoMemory taken taken' before after = Keeps taken taken' × (after ≡ before)
 IsMakeRun n tsc status taken taken' before after =
     (s : Summary) × IsMakeSummary n tsc s before after × IsTextWritten (summary_text n tsc s) status taken taken'

@@ -14,27 +14,27 @@ use Rattle.um_driver.specs.Outputs.{IsOutput}
 use Rattle.um_driver.specs.Table.{WritesAsPrescribed}
 use Rattle.um_driver.specs.declared.status.Status.{Status}
 use Rattle.um_driver.specs.declared.status.Status.TheVariants.{Done}
-use Rattle.um_code.specs.Code.{code_rules}
+use Rattle.um_code.specs.Code.{code_command_rules}
 
 -- the report of `replay` on the undamaged bursts that `code` writes for a line: the encoded information, a CRC that holds, no wrong
--- training bit, and the greatest possible metric
+-- training bits, and the maximum path metric
 abbrev pub IsReportOfCodeLine : CodeLine → List ℕ → Type 0
 IsReportOfCodeLine Skip report = report ≡ []
 IsReportOfCodeLine (Block tsc octets) report = (r : Received) × IsErrorFreeBlock octets tsc r × IsBlockReport r report
 IsReportOfCodeLine (Rach info bsic) report = (r : ReceivedAccess) × IsErrorFreeAccess info bsic r × (report ≡ access_report_text bsic r)
 IsReportOfCodeLine (Sch info) report = (r : ReceivedSync) × IsErrorFreeSync info r × (report ≡ sync_report_text r)
 
--- the reports of `replay` on the bursts that `code` writes for these lines, one after another
+-- the concatenated reports of `replay` on the bursts that `code` writes for these lines
 abbrev pub AreReportsOfCodeLines : List (List ℕ) → List ℕ → Type 0
 AreReportsOfCodeLines [] reports = reports ≡ []
 AreReportsOfCodeLines (line ∷ lines) reports =
     (meaning : CodeLine) × (report : List ℕ) × (rest : List ℕ) ×
     CodeLineMeans line meaning × IsReportOfCodeLine meaning report × AreReportsOfCodeLines lines rest × (reports ≡ report ++ rest)
 
--- if the input of `replay` is what `code` writes for lines of which none is refused, the output reports the information in those lines,
--- unless the source, the sink or an allocation fails
+-- if the input of `replay` is the output of `code` for lines without a refusal, `replay` reports the information in these lines, unless the
+-- source, the sink or an allocation fails
 abbrev pub ReplayRecoversCode : Status → Option (List ℕ) → Option (List ℕ) → Option (List ℕ) → Type 0
-ReplayRecoversCode status left taken taken' = IfSome left (λ x. (z : List ℕ) → IsOutput code_rules tt z Done x →
+ReplayRecoversCode status left taken taken' = IfSome left (λ x. (z : List ℕ) → IsOutput code_command_rules tt z Done x →
     length x ≤ input_limit → (lines : List (List ℕ)) × (reports : List ℕ) × IsDivided z lines
     × AreReportsOfCodeLines lines reports ×
     WritesAsPrescribed status Done reports taken taken')

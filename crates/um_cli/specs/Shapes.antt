@@ -26,14 +26,14 @@ tsc_of_word [] = None
 tsc_of_word (digit ∷ []) = if nat_le 48 digit && nat_le digit 55 then Some (digit - 48) else None
 tsc_of_word (digit ∷ other ∷ word) = None
 
--- the command `link` on this channel, if the training sequence code is valid
-abbrev pub link_if_valid : Option ℕ → Channel → Option Invocation
-link_if_valid None channel = None
-link_if_valid (Some tsc) channel = Some (Link tsc channel)
+-- the `link` command on this channel, if the training sequence code is valid
+abbrev pub invocation_of_link : Option ℕ → Channel → Option Invocation
+invocation_of_link None channel = None
+invocation_of_link (Some tsc) channel = Some (Link tsc channel)
 
--- the command `link` on this channel, if the first word is `link` and the second is a training sequence code
-abbrev pub link_command : List ℕ → List ℕ → Channel → Option Invocation
-link_command word tsc channel = if bytes_eq word (codes "link") then link_if_valid (tsc_of_word tsc) channel else None
+-- the `link` command on this channel, if the first word is `link` and the second is a training sequence code
+abbrev pub parse_link_words : List ℕ → List ℕ → Channel → Option Invocation
+parse_link_words word tsc channel = if bytes_eq word (codes "link") then invocation_of_link (tsc_of_word tsc) channel else None
 
 -- the number of messages that a word represents: 1 to 1000, in decimal without leading zeros
 abbrev pub message_count_of_word : List ℕ → Option ℕ
@@ -41,37 +41,37 @@ message_count_of_word word =
     let n = digits_value 10 word in
     if nat_le 49 (slice_index word 0) && all_ascii_digits word && nat_le 1 n && nat_le n 1000 then Some n else None
 
--- the command `make`, if both operands are valid
-abbrev pub make_if_valid : Option ℕ → Option ℕ → Option Invocation
-make_if_valid (Some n) (Some tsc) = Some (Make n tsc)
-make_if_valid n tsc = None
+-- the `make` command, if both operands are valid
+abbrev pub invocation_of_make : Option ℕ → Option ℕ → Option Invocation
+invocation_of_make (Some n) (Some tsc) = Some (Make n tsc)
+invocation_of_make n tsc = None
 
 -- the side that a word names: `mob` or `net`
-abbrev pub side_of : List ℕ → Option L.End
-side_of word = if bytes_eq word (codes "mob") then Some Mobile else if bytes_eq word (codes "net") then Some Network else None
+abbrev pub side_of_word : List ℕ → Option L.End
+side_of_word word = if bytes_eq word (codes "mob") then Some Mobile else if bytes_eq word (codes "net") then Some Network else None
 
--- the command `end`, if both operands are valid
-abbrev pub end_if_valid : Option L.End → Option ℕ → Option Invocation
-end_if_valid (Some side) (Some tsc) = Some (End side tsc)
-end_if_valid side tsc = None
+-- the `end` command, if both operands are valid
+abbrev pub invocation_of_end : Option L.End → Option ℕ → Option Invocation
+invocation_of_end (Some side) (Some tsc) = Some (End side tsc)
+invocation_of_end side tsc = None
 
 -- the command that three words name: `make N T`, `end mob T`, `end net T` or `link T sacch`
 abbrev pub three_word_command : List ℕ → List ℕ → List ℕ → Option Invocation
 three_word_command word second last =
-    if bytes_eq word (codes "make") then make_if_valid (message_count_of_word second) (tsc_of_word last)
-    else if bytes_eq word (codes "end") then end_if_valid (side_of second) (tsc_of_word last)
-    else if bytes_eq last (codes "sacch") then link_command word second Sacch
+    if bytes_eq word (codes "make") then invocation_of_make (message_count_of_word second) (tsc_of_word last)
+    else if bytes_eq word (codes "end") then invocation_of_end (side_of_word second) (tsc_of_word last)
+    else if bytes_eq last (codes "sacch") then parse_link_words word second Sacch
     else None
 
 -- the command that the words name, or `None` if they name none
 abbrev pub command_of_words : List (List ℕ) → Option Invocation
 command_of_words [] = None
 command_of_words (word ∷ []) = one_word_command word
-command_of_words (word ∷ tsc ∷ []) = link_command word tsc Sdcch
+command_of_words (word ∷ tsc ∷ []) = parse_link_words word tsc Sdcch
 command_of_words (word ∷ second ∷ last ∷ []) = three_word_command word second last
 command_of_words (word ∷ second ∷ last ∷ other ∷ words) = None
 
--- the training sequence code is 0 to 7, and the number of messages is 1 to 1000
+-- the training sequence code must be 0 to 7, and the number of messages 1 to 1000
 abbrev pub HasValidOperands : Invocation → Type 0
 HasValidOperands (Link tsc channel) = tsc ≤ 7
 HasValidOperands (Make n tsc) = (1 ≤ n) × (n ≤ 1000) × (tsc ≤ 7)

@@ -6,7 +6,7 @@ mod make;
 mod top;
 mod words;
 
-pub use top::{law_output_is_unique, run};
+pub use top::{law_command_output_is_unique, run};
 pub use um_driver::{MemorySink, MemorySource, PlainSource, ReadSource, Source, Status, WriteSink};
 pub use um_make::Script;
 pub use um_session::PlainRadio;

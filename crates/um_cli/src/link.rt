@@ -1,18 +1,18 @@
-//! Runs the command `link` in a new session.
+//! Runs the `link` command in a new session.
 ghost use Rattle.std.specs.Prelude.{◌≡◌, ◌≢◌, ◌≤◌};
 ghost use Rattle.um_cli.specs.Arrivals.{link_rules_with_ml_decoding};
-ghost use Rattle.um_driver.specs.Table.{IsRun, FaultsAreCounted, EndsAsPrescribed};
+ghost use Rattle.um_driver.specs.Table.{IsRun, FailureCountsMatch, EndsAsPrescribed};
 ghost use Rattle.um_end.specs.um_link.um_air.Air.{initial_session};
 ghost use Rattle.um_end.specs.um_link.Abstraction.{Represents};
-ghost use Rattle.um_session.specs.Sessions.{idle, link_rules};
+ghost use Rattle.um_session.specs.Sessions.{new_session, link_rules};
 ghost use Rattle.um_session.specs.Promises.{IsLinkRun};
 
 use std::alloc::Global;
 use um_driver::{Sink, Source, Status, drive};
 use um_session::{Channel, LinkCommand, Radio, World};
 
-/// Runs a script in a new session on `channel`, with training sequence `tsc` (0 to 7). All memory is allocated before the first octet is
-/// read.
+/// Runs a script in a new session on `channel`. The training sequence code `tsc` must be 0 to 7. All memory is allocated before the first
+/// octet is read.
 pub(crate) fn run_link<S: Source, K: Sink, R: Radio>(
     alloc: Global,
     tsc: u8,
@@ -25,19 +25,19 @@ pub(crate) fn run_link<S: Source, K: Sink, R: Radio>(
 
     ensures session { IsLinkRun tsc channel result
         (S.left input.old) (S.left input.new) (K.taken output.old) (K.taken output.new)
-        (record { sent = R.sent radio.old; heard = R.heard radio.old })
-        (record { sent = R.sent radio.new; heard = R.heard radio.new }) }
+        (record { sent_blocks = R.sent radio.old; received_blocks = R.heard radio.old })
+        (record { sent_blocks = R.sent radio.new; received_blocks = R.heard radio.new }) }
 
-    ensures arrivals { IsRun link_rules_with_ml_decoding (idle tsc channel) (λ _. Unit {0}) result
+    ensures link_most_likely { IsRun link_rules_with_ml_decoding (new_session tsc channel) (λ _. Unit {0}) result
         (S.left input.old) (S.left input.new) (K.taken output.old) (K.taken output.new) }
 
-    ensures due { EndsAsPrescribed link_rules (idle tsc channel) result
+    ensures due { EndsAsPrescribed link_rules (new_session tsc channel) result
         (S.left input.old) (K.taken output.old) (K.taken output.new) }
 
     ensures opening { result ≡ Status.NoMemory → (input.new ≡ input.old) × (output.new ≡ output.old) }
-    ensures silent { result ≡ Status.NoMemory → radio.new ≡ radio.old }
+    ensures radio_unused { result ≡ Status.NoMemory → radio.new ≡ radio.old }
 
-    ensures cause { FaultsAreCounted result (S.faults input.old) (S.faults input.new)
+    ensures cause { FailureCountsMatch result (S.faults input.old) (S.faults input.new)
         (K.faults output.old) (K.faults output.new) }
 
     ensures words { result ≢ Status.BadWords }
@@ -45,14 +45,14 @@ pub(crate) fn run_link<S: Source, K: Sink, R: Radio>(
     match World::new_on(alloc, tsc, channel) {
         Ok(mut world) => {
             let mut link = LinkCommand::new(&mut world, radio);
-            drive_link(alloc, &mut link, input, output)
+            run_link_session(alloc, &mut link, input, output)
         }
         Err(_) => Status::NoMemory,
     }
 }
 
-/// Runs the script in the session of `link`, which has just begun.
-fn drive_link<S: Source, K: Sink, R: Radio>(
+/// Runs the script in a session of `link` that has just begun.
+fn run_link_session<S: Source, K: Sink, R: Radio>(
     alloc: Global,
     link: &mut LinkCommand<'_, R>,
     input: &mut S,
@@ -63,16 +63,16 @@ fn drive_link<S: Source, K: Sink, R: Radio>(
 
     ensures session { IsLinkRun link.old.world.now.tsc link.old.world.now.channel result
         (S.left input.old) (S.left input.new) (K.taken output.old) (K.taken output.new)
-        (record { sent = R.sent link.old.radio.now; heard = R.heard link.old.radio.now })
-        (record { sent = R.sent link.new.radio.now; heard = R.heard link.new.radio.now }) }
+        (record { sent_blocks = R.sent link.old.radio.now; received_blocks = R.heard link.old.radio.now })
+        (record { sent_blocks = R.sent link.new.radio.now; received_blocks = R.heard link.new.radio.now }) }
 
-    ensures due { EndsAsPrescribed link_rules (idle link.old.world.now.tsc link.old.world.now.channel) result
+    ensures due { EndsAsPrescribed link_rules (new_session link.old.world.now.tsc link.old.world.now.channel) result
         (S.left input.old) (K.taken output.old) (K.taken output.new) }
 
     ensures opening { result ≡ Status.NoMemory → (input.new ≡ input.old) × (output.new ≡ output.old) }
-    ensures silent { result ≡ Status.NoMemory → link.new.radio.now ≡ link.old.radio.now }
+    ensures radio_unused { result ≡ Status.NoMemory → link.new.radio.now ≡ link.old.radio.now }
 
-    ensures cause { FaultsAreCounted result (S.faults input.old) (S.faults input.new)
+    ensures cause { FailureCountsMatch result (S.faults input.old) (S.faults input.new)
         (K.faults output.old) (K.faults output.new) }
 
     ensures words { result ≢ Status.BadWords }

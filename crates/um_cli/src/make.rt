@@ -1,6 +1,6 @@
-//! Runs the command `make`: carries out the generated session, and writes its summary.
+//! Runs the `make` command: carries out the generated session, and writes its summary.
 ghost use Rattle.std.specs.Prelude.{◌≡◌, ◌≤◌, ℕ};
-ghost use Rattle.um_driver.specs.Table.{FaultsAreCounted};
+ghost use Rattle.um_driver.specs.Table.{FailureCountsMatch};
 ghost use Rattle.um_cli.specs.Make.{IsMakeRun, IsTextWritten};
 ghost use Rattle.um_make.specs.Texts.{summary_text};
 
@@ -9,9 +9,9 @@ use um_driver::{Sink, Status, Text, put_all};
 use um_make::{Summary, make, summary_lines};
 use um_session::Radio;
 
-/// Carries out the generated session of `n` messages (1 to 1000) with training sequence `tsc` (0 to 7), and writes its summary.
+/// Carries out the generated session of `n` messages with training sequence code `tsc`, and writes its summary.
 ///
-/// All memory is allocated before the first block is sent.
+/// `n` must be 1 to 1000, and `tsc` 0 to 7. All memory is allocated before the first block is sent.
 pub(crate) fn run_make<K: Sink, R: Radio>(
     alloc: Global,
     n: u32,
@@ -24,11 +24,11 @@ pub(crate) fn run_make<K: Sink, R: Radio>(
     requires tsc { tsc ≤ 7 }
 
     ensures made { IsMakeRun n tsc result (K.taken output.old) (K.taken output.new)
-        (record { sent = R.sent radio.old; heard = R.heard radio.old })
-        (record { sent = R.sent radio.new; heard = R.heard radio.new }) }
+        (record { sent_blocks = R.sent radio.old; received_blocks = R.heard radio.old })
+        (record { sent_blocks = R.sent radio.new; received_blocks = R.heard radio.new }) }
 
     ensures opening { result ≡ Status.NoMemory → (output.new ≡ output.old) × (radio.new ≡ radio.old) }
-    ensures cause { (read : ℕ) → FaultsAreCounted result read read (K.faults output.old) (K.faults output.new) }
+    ensures cause { (read : ℕ) → FailureCountsMatch result read read (K.faults output.old) (K.faults output.new) }
 {
     match make(alloc, n, tsc, radio) {
         Ok(summary) => write_summary(n, tsc, &summary, output),
@@ -39,7 +39,7 @@ pub(crate) fn run_make<K: Sink, R: Radio>(
 /// Writes the four lines of the summary of a generated session.
 fn write_summary<K: Sink>(n: u32, tsc: u8, summary: &Summary, output: &mut K) -> Status
     ensures written { IsTextWritten (summary_text n tsc summary.now) result (K.taken output.old) (K.taken output.new) }
-    ensures cause { (read : ℕ) → FaultsAreCounted result read read (K.faults output.old) (K.faults output.new) }
+    ensures cause { (read : ℕ) → FailureCountsMatch result read read (K.faults output.old) (K.faults output.new) }
 {
     let mut out = Text::new();
     summary_lines(&mut out, n, tsc, summary);

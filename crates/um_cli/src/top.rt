@@ -1,6 +1,6 @@
 //! The function `run`, which the program `um` calls.
 ghost use Rattle.std.specs.Prelude.{◌≡◌, ◌↔◌, ℕ, Some, None, []};
-ghost use Rattle.um_driver.specs.Table.{IsRun, FaultsAreCounted};
+ghost use Rattle.um_driver.specs.Table.{IsRun, FailureCountsMatch};
 ghost use Rattle.um_cli.specs.Arrivals.{link_rules_with_ml_decoding};
 ghost use Rattle.um_cli.specs.Brought.{end_rules_with_ml_decoding};
 ghost use Rattle.um_cli.specs.Headline.{replay_rules_with_ml_decoding};
@@ -9,11 +9,11 @@ ghost use Rattle.um_cli.specs.Machines.{IsRunOfCommand, CommandEndsAsPrescribed,
 ghost use Rattle.um_cli.specs.Restored.{ReplayRecoversCode};
 ghost use Rattle.um_cli.specs.Shapes.{command_of_words, HasValidOperands, UsesNoRadio};
 ghost use Rattle.um_session.specs.Promises.{IsLinkRun};
-ghost use Rattle.um_session.specs.Sessions.{idle};
+ghost use Rattle.um_session.specs.Sessions.{new_session};
 ghost use Rattle.um_end.specs.lapdm_frame.declared.Channel.{Channel as ChannelOf};
 ghost use Rattle.um_end.specs.um_link.declared.events.End.{End as SideOf};
 ghost use Rattle.um_end.specs.um_link.Naming.{role_of};
-ghost use Rattle.um_end.specs.EndRuns.{idle as idle_end};
+ghost use Rattle.um_end.specs.EndRuns.{initial_run as idle_end};
 
 use crate::link::run_link;
 use crate::make::run_make;
@@ -45,7 +45,7 @@ pub fn run<S: Source, K: Sink, R: Radio>(
     // If an allocation fails, nothing has been read or written.
     ensures opening { result ≡ Status.NoMemory → (input.new ≡ input.old) × (output.new ≡ output.old) }
 
-    // For a command that reads lines, the status tells what the run has read and written.
+    // For a command that reads lines, the status determines what the run has read and written.
     ensures table { (command : Invocation) → command_of_words words.now ≡ Some command → IsRunOfCommand command result
         (S.left input.old) (S.left input.new) (K.taken output.old) (K.taken output.new) }
 
@@ -56,19 +56,19 @@ pub fn run<S: Source, K: Sink, R: Radio>(
 
     // For each block, `replay` reports a codeword that is at least as likely as any other, given the soft values read, and accepts its data
     // if and only if its CRC holds.
-    ensures headline { command_of_words words.now ≡ Some Invocation.Replay →
+    ensures replay_most_likely { command_of_words words.now ≡ Some Invocation.Replay →
         IsRun replay_rules_with_ml_decoding [] (λ _. Unit {0}) result
         (S.left input.old) (S.left input.new) (K.taken output.old) (K.taken output.new) }
 
     // Each block received in a session of `link` is decoded to a codeword that is at least as likely as any other, given the soft values
     // received, and is accepted if and only if its CRC holds.
-    ensures arrivals { (tsc : ℕ) (channel : ChannelOf) → command_of_words words.now ≡ Some (Invocation.Link tsc channel) →
-        IsRun link_rules_with_ml_decoding (idle tsc channel) (λ _. Unit {0}) result
+    ensures link_most_likely { (tsc : ℕ) (channel : ChannelOf) → command_of_words words.now ≡ Some (Invocation.Link tsc channel) →
+        IsRun link_rules_with_ml_decoding (new_session tsc channel) (λ _. Unit {0}) result
         (S.left input.old) (S.left input.new) (K.taken output.old) (K.taken output.new) }
 
     // Each block that `end` receives is decoded to a codeword that is at least as likely as any other, given the soft values of its bursts,
     // and is accepted if and only if its CRC holds.
-    ensures brought { (side : SideOf) (tsc : ℕ) → command_of_words words.now ≡ Some (Invocation.End side tsc) →
+    ensures end_most_likely { (side : SideOf) (tsc : ℕ) → command_of_words words.now ≡ Some (Invocation.End side tsc) →
         IsRun end_rules_with_ml_decoding (idle_end (role_of side) tsc) (λ _. Unit {0}) result
         (S.left input.old) (S.left input.new) (K.taken output.old) (K.taken output.new) }
 
@@ -76,28 +76,28 @@ pub fn run<S: Source, K: Sink, R: Radio>(
     ensures restores { command_of_words words.now ≡ Some Invocation.Replay → ReplayRecoversCode result
         (S.left input.old) (K.taken output.old) (K.taken output.new) }
 
-    // The failure count of the source has risen if the status is `ReadFault`, that of the sink if it is `WriteFault`; otherwise both are
+    // The source has counted a failure if the status is `ReadFault`, and the sink has if it is `WriteFault`. Otherwise both counts are
     // unchanged.
-    ensures cause { FaultsAreCounted result (S.faults input.old) (S.faults input.new)
+    ensures cause { FailureCountsMatch result (S.faults input.old) (S.faults input.new)
         (K.faults output.old) (K.faults output.new) }
 
-    // A run of `link` is a session whose blocks the radio encodes and decodes. What is claimed of sessions holds up to the last line of
-    // whose answer at least one octet was written.
+    // A run of `link` is a session whose blocks the radio encodes and decodes. The claims about sessions hold for all lines whose answers
+    // were written at least in part.
     ensures session { (tsc : ℕ) (channel : ChannelOf) → command_of_words words.now ≡ Some (Invocation.Link tsc channel) →
         IsLinkRun tsc channel result
         (S.left input.old) (S.left input.new) (K.taken output.old) (K.taken output.new)
-        (record { sent = R.sent radio.old; heard = R.heard radio.old })
-        (record { sent = R.sent radio.new; heard = R.heard radio.new }) }
+        (record { sent_blocks = R.sent radio.old; received_blocks = R.heard radio.old })
+        (record { sent_blocks = R.sent radio.new; received_blocks = R.heard radio.new }) }
 
     // `make` reads nothing, and writes the summary of the generated session, whose blocks the radio encodes and decodes.
     ensures unread { (n tsc : ℕ) → command_of_words words.now ≡ Some (Invocation.Make n tsc) → input.new ≡ input.old }
     ensures made { (n tsc : ℕ) → command_of_words words.now ≡ Some (Invocation.Make n tsc)
         → IsMakeRun n tsc result (K.taken output.old) (K.taken output.new)
-        (record { sent = R.sent radio.old; heard = R.heard radio.old })
-        (record { sent = R.sent radio.new; heard = R.heard radio.new }) }
+        (record { sent_blocks = R.sent radio.old; received_blocks = R.heard radio.old })
+        (record { sent_blocks = R.sent radio.new; received_blocks = R.heard radio.new }) }
 
     // Other commands do not use the radio, nor does a run that ends with `NoMemory`.
-    ensures silent { UsesNoRadio (command_of_words words.now) → radio.new ≡ radio.old }
+    ensures radio_unused { UsesNoRadio (command_of_words words.now) → radio.new ≡ radio.old }
     ensures unused { result ≡ Status.NoMemory → radio.new ≡ radio.old }
 {
     match words.command() {
@@ -120,6 +120,6 @@ pub fn run<S: Source, K: Sink, R: Radio>(
 
 /// Law: for every command that reads lines, every input has exactly one output and one status; every generated session has exactly one
 /// summary.
-pub fn law_output_is_unique()
+pub fn law_command_output_is_unique()
     ensures { (command : Invocation) → HasValidOperands command → HasOneOutputPerInput command }
 {}

@@ -1,8 +1,9 @@
 //! Stores the command-line words, and finds the command that they name.
 ghost use Rattle.std.specs.Prelude.{◌≡◌, ◌≤◌, ℕ, List, [], map, slice_index, IfSome};
 ghost use Rattle.um_cli.specs.WordLists.{stored_word, words_with_added};
-ghost use Rattle.um_cli.specs.Shapes.{one_word_command, command_of_words, link_command, three_word_command, make_if_valid, end_if_valid};
-ghost use Rattle.um_cli.specs.Shapes.{side_of};
+ghost use Rattle.um_cli.specs.Shapes.{one_word_command, command_of_words, parse_link_words, three_word_command, invocation_of_make};
+ghost use Rattle.um_cli.specs.Shapes.{invocation_of_end};
+ghost use Rattle.um_cli.specs.Shapes.{side_of_word};
 ghost use Rattle.um_cli.specs.Shapes.{message_count_of_word, tsc_of_word};
 ghost use Rattle.um_cli.specs.Shapes.{HasValidOperands};
 
@@ -23,7 +24,7 @@ pub enum Invocation {
     Link(u8, Channel),
     /// Runs a generated session with the given number of messages and the given training sequence code.
     Make(u32, u8),
-    /// Runs one side over recorded bursts, with the given training sequence code for its own blocks.
+    /// Runs one side over recorded bursts, with the given training sequence code for the blocks that it sends.
     End(End, u8),
 }
 
@@ -40,7 +41,7 @@ pub struct Words {
     held: ArrayVec<ArrayString<8>, 4>,
 }
 
-// In contracts, a `Words` stands for the list of stored words, each a list of octets.
+// In contracts, a `Words` is the list of stored words, each a list of octets.
 impl Model for Words {
     ghost Value = { List (List ℕ) };
 
@@ -73,7 +74,7 @@ impl Words {
     {
         match self.held.as_slice() {
             [word] => one_word_command(word.as_str()),
-            [word, tsc] => link_command(word.as_str(), tsc.as_str(), Channel::Sdcch),
+            [word, tsc] => parse_link_words(word.as_str(), tsc.as_str(), Channel::Sdcch),
             [word, second, last] => three_word_command(
                 word.as_str(),
                 second.as_str(),
@@ -103,37 +104,37 @@ fn three_word_command(word: &str, second: &str, last: &str) -> Option<Invocation
     ensures fits { IfSome result (λ command. HasValidOperands command) }
 {
     if word == "make" {
-        make_command(second, last)
+        parse_make_operands(second, last)
     } else if word == "end" {
-        end_command(second, last)
+        parse_end_operands(second, last)
     } else if last == "sacch" {
-        link_command(word, second, Channel::Sacch)
+        parse_link_words(word, second, Channel::Sacch)
     } else {
         None
     }
 }
 
-/// The command `make`, if both operands are valid.
-fn make_command(count: &str, tsc: &str) -> Option<Invocation>
-    ensures command { result ≡ make_if_valid (message_count_of_word count.now) (tsc_of_word tsc.now) }
+/// The `make` command, if both operands are valid.
+fn parse_make_operands(count: &str, tsc: &str) -> Option<Invocation>
+    ensures command { result ≡ invocation_of_make (message_count_of_word count.now) (tsc_of_word tsc.now) }
     ensures fits { IfSome result (λ command. HasValidOperands command) }
 {
     let count = message_count_of_word(count)?;
     Some(Invocation::Make(count, tsc_of_word(tsc)?))
 }
 
-/// The command `end`, if both operands are valid.
-fn end_command(side: &str, tsc: &str) -> Option<Invocation>
-    ensures command { result ≡ end_if_valid (side_of side.now) (tsc_of_word tsc.now) }
+/// The `end` command, if both operands are valid.
+fn parse_end_operands(side: &str, tsc: &str) -> Option<Invocation>
+    ensures command { result ≡ invocation_of_end (side_of_word side.now) (tsc_of_word tsc.now) }
     ensures fits { IfSome result (λ command. HasValidOperands command) }
 {
-    let side = side_of(side)?;
+    let side = side_of_word(side)?;
     Some(Invocation::End(side, tsc_of_word(tsc)?))
 }
 
 /// The side that a word names: `mob` or `net`.
-fn side_of(word: &str) -> Option<End>
-    ensures { result ≡ side_of word.now }
+fn side_of_word(word: &str) -> Option<End>
+    ensures { result ≡ side_of_word word.now }
 {
     match word {
         "mob" => Some(End::Mobile),
@@ -165,9 +166,9 @@ fn number_of_word(word: &str) -> Option<u32>
     }
 }
 
-/// The command `link` on this channel, if the first word is `link` and the second is a training sequence code.
-fn link_command(word: &str, tsc: &str, channel: Channel) -> Option<Invocation>
-    ensures command { result ≡ link_command word.now tsc.now channel }
+/// The `link` command on this channel, if the first word is `link` and the second is a training sequence code.
+fn parse_link_words(word: &str, tsc: &str, channel: Channel) -> Option<Invocation>
+    ensures command { result ≡ parse_link_words word.now tsc.now channel }
     ensures fits { IfSome result (λ command. HasValidOperands command) }
 {
     if word == "link" {

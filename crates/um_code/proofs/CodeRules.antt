@@ -1,14 +1,13 @@
 -- The command `code` has exactly one output for every input, since a line with a meaning has exactly one answer.
 use Rattle.std.proofs.Common.{◌≡◌, ℕ, List, [], refl, sym, ap, ◌∙◌}
 use Rattle.um_formats.specs.{declared.code.CodeLine.{CodeLine, TheVariants.{Skip, Block, Rach, Sch}}, CodeLines.{code_fault, CodeLineMeans}}
-use Rattle.um_formats.{specs.BurstTexts.{bursts_text, access_burst_text, sync_burst_text}, proofs.CodeLaws.{one_meaning, can_be_sent}}
+use Rattle.um_formats.{specs.BurstTexts.{bursts_text, access_burst_text, sync_burst_text}, proofs.Lemmas.{one_code_meaning, can_be_sent}}
 use Rattle.um_block.proofs.Lemmas.{one_sent_block, one_access_burst, one_sync_burst, some_sent_block, some_access_burst, some_sync_burst}
-use Rattle.um_driver.{specs.{Rules.IsDeterministic, Laws.HasOneOutput}, proofs.StatelessRules.stateless_is_determined}
-use Rattle.um_driver.proofs.StatelessRules.{stateless_has_one_output}
-use Rattle.um_code.specs.Code.{IsCodeAnswer, code_rules}
+use Rattle.um_driver.{specs.{Rules.IsDeterministic, Laws.HasOneOutput}, proofs.Outputs.{stateless_is_determined, stateless_has_one_output}}
+use Rattle.um_code.specs.Code.{IsCodeCommandAnswer, code_command_rules}
 
 -- a line with a given meaning has at most one answer
-same_answer : (m : CodeLine) (y y' : List ℕ) → IsCodeAnswer m y → IsCodeAnswer m y' → y ≡ y'
+same_answer : (m : CodeLine) (y y' : List ℕ) → IsCodeCommandAnswer m y → IsCodeCommandAnswer m y' → y ≡ y'
 same_answer Skip y y' a a' = a ∙ sym a'
 same_answer (Block tsc octets) y y' a a' =
     a.2 ∙ ap bursts_text (one_sent_block octets tsc a.0 a'.0 a.1 a'.1) ∙ sym a'.2
@@ -17,11 +16,11 @@ same_answer (Rach info bsic) y y' a a' =
 same_answer (Sch info) y y' a a' =
     a.2 ∙ ap sync_burst_text (one_sync_burst info a.0 a'.0 a.1 a'.1) ∙ sym a'.2
 
-pub code_is_determined : IsDeterministic code_rules
-code_is_determined = stateless_is_determined code_fault CodeLineMeans IsCodeAnswer one_meaning same_answer
+pub code_is_determined : IsDeterministic code_command_rules
+code_is_determined = stateless_is_determined code_fault CodeLineMeans IsCodeCommandAnswer one_code_meaning same_answer
 
 -- every line that has a meaning has an answer
-some_answer : (line : List ℕ) (m : CodeLine) → CodeLineMeans line m → (answer : List ℕ) × IsCodeAnswer m answer
+some_answer : (line : List ℕ) (m : CodeLine) → CodeLineMeans line m → (answer : List ℕ) × IsCodeCommandAnswer m answer
 some_answer line Skip means = ([], refl)
 some_answer line (Block tsc octets) means =
     let known = can_be_sent line (Block tsc octets) means in
@@ -36,5 +35,5 @@ some_answer line (Sch info) means =
     let sent = some_sync_burst info known.0 known.1 in
     (sync_burst_text sent.0, (sent.0, sent.1, refl))
 
-pub code_has_one_output : HasOneOutput code_rules tt
-code_has_one_output = stateless_has_one_output code_fault CodeLineMeans IsCodeAnswer one_meaning same_answer some_answer
+pub code_has_one_output : HasOneOutput code_command_rules tt
+code_has_one_output = stateless_has_one_output code_fault CodeLineMeans IsCodeCommandAnswer one_code_meaning same_answer some_answer

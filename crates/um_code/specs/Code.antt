@@ -1,4 +1,4 @@
--- How the command `code` answers a line (this project's own rule).
+-- How the `code` command answers a line (this project's own rule).
 use Rattle.std.specs.Prelude.{ℕ, ◌≡◌, List, []}
 use Rattle.um_block.specs.Sent.{IsSentBlock, IsSentAccess, IsSentSync}
 use Rattle.um_formats.specs.declared.code.CodeLine.{CodeLine}
@@ -8,19 +8,19 @@ use Rattle.um_formats.specs.BurstTexts.{bursts_text, access_burst_text, sync_bur
 use Rattle.um_driver.specs.Rules.{Rules, stateless}
 
 -- the answer to a line with this meaning: the text lines of the bursts that carry its information
-abbrev pub IsCodeAnswer : CodeLine → List ℕ → Type 0
-IsCodeAnswer Skip answer = answer ≡ []
-IsCodeAnswer (Block tsc octets) answer =
+abbrev pub IsCodeCommandAnswer : CodeLine → List ℕ → Type 0
+IsCodeCommandAnswer Skip answer = answer ≡ []
+IsCodeCommandAnswer (Block tsc octets) answer =
     (bursts : List (List ℕ)) × IsSentBlock octets tsc bursts × (answer ≡ bursts_text bursts)
-IsCodeAnswer (Rach info bsic) answer =
+IsCodeCommandAnswer (Rach info bsic) answer =
     (burst : List ℕ) × IsSentAccess info bsic burst × (answer ≡ access_burst_text bsic burst)
-IsCodeAnswer (Sch info) answer =
+IsCodeCommandAnswer (Sch info) answer =
     (burst : List ℕ) × IsSentSync info burst × (answer ≡ sync_burst_text burst)
 
--- the command `code` may give this answer to the line
-abbrev pub AnswersCodeLine : List ℕ → List ℕ → Type 0
-AnswersCodeLine line answer = (meaning : CodeLine) × CodeLineMeans line meaning × IsCodeAnswer meaning answer
+-- the `code` command may return this answer to the line
+abbrev pub IsAnswerToCodeLine : List ℕ → List ℕ → Type 0
+IsAnswerToCodeLine line answer = (meaning : CodeLine) × CodeLineMeans line meaning × IsCodeCommandAnswer meaning answer
 
 -- the rules of `code`, which keeps no state, so that its input may end after any line
-abbrev pub code_rules : Rules (Unit {0})
-code_rules = stateless code_fault AnswersCodeLine
+abbrev pub code_command_rules : Rules (Unit {0})
+code_command_rules = stateless code_fault IsAnswerToCodeLine

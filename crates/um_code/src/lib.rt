@@ -1,4 +1,4 @@
-//! The command `code`: encodes the information of blocks, access bursts and synchronisation bursts, and writes the bursts.
+//! The `code` command: encodes the information of blocks, access bursts and synchronisation bursts, and writes the bursts.
 #![tactic(auto)]
 
 mod command;

@@ -4,5 +4,5 @@ use Rattle.um_io.specs.Lines.{IsLine, text_of_lines}
 
 -- `octets` consists of `lines`, each followed by a line feed, and then `rest`
 pub record BeginsWithLines (octets : List ℕ) (lines : List (List ℕ)) (rest : List ℕ) : Type 0 where
-  pub plain : All IsLine lines
-  pub whole : octets ≡ text_of_lines lines ++ rest
+  pub no_line_feed : All IsLine lines
+  pub octets_split : octets ≡ text_of_lines lines ++ rest

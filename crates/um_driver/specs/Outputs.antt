@@ -10,16 +10,17 @@ use Rattle.um_driver.specs.Rules.{Rules, IsLineAccepted, IsLineRefused}
 use Rattle.um_driver.specs.declared.status.Status.{Status}
 use Rattle.um_driver.specs.declared.status.Status.TheVariants.{Done, BadInput, TooLong}
 
--- the input `q` exceeds the input limit: `counted` holds its octets up to the limit, `past` those after it
+-- the input `q` exceeds the input limit: `counted` holds its octets up to the limit, `past` the octets after it
 pub record ExceedsInputLimit (q counted past : List ℕ) : Type 0 where
-  pub whole : q ≡ counted ++ past
+  pub octets_split : q ≡ counted ++ past
   pub count : length counted ≡ input_limit
-  pub some : 0 < length past
+  pub nonempty : 0 < length past
 
--- the `octets` of the input `x` that count: all of them if it is within the input limit (`ended`), otherwise those up to the limit
-abbrev pub AreCountedOctets : (x octets : List ℕ) (ended : Bool) → Type 0
-AreCountedOctets x octets true = (x ≡ octets) × (length x ≤ input_limit)
-AreCountedOctets x octets false = (past : List ℕ) × ExceedsInputLimit x octets past
+-- the `octets` of the input `x` up to the input limit: all octets if `x` is within the limit (`ended`), otherwise only its first octets,
+-- up to the limit
+abbrev pub AreOctetsWithinLimit : (x octets : List ℕ) (ended : Bool) → Type 0
+AreOctetsWithinLimit x octets true = (x ≡ octets) × (length x ≤ input_limit)
+AreOctetsWithinLimit x octets false = (past : List ℕ) × ExceedsInputLimit x octets past
 
 -- the octets `last` after the last line feed are processed as a line, because they end the input or already exceed the line limit
 abbrev pub LastLineIsProcessed : (last : List ℕ) (ended : Bool) → Type 0
@@ -31,40 +32,40 @@ abbrev pub LastLineIsNotProcessed : (last : List ℕ) (ended : Bool) → Type 0
 LastLineIsNotProcessed last true = last ≡ []
 LastLineIsNotProcessed last false = length last ≤ line_limit
 
--- the lines `judged` of the input `x` that a run processes; `ended` says whether `x` is within the input limit
+-- a run processes the lines `judged` of the input `x`; `ended` says whether `x` is within the input limit
 pub record AreProcessedLines (x : List ℕ) (judged : List (List ℕ)) (ended : Bool) : Type 0 where
   pub octets : List ℕ
   pub lines : List (List ℕ)
   pub last : List ℕ
-  pub counts : AreCountedOctets x octets ended
+  pub in_limit : AreOctetsWithinLimit x octets ended
   pub begins : BeginsWithLines octets lines last
-  pub plain : IsLine last
-  pub tail : ((judged ≡ lines) × LastLineIsNotProcessed last ended)
+  pub no_line_feed : IsLine last
+  pub judged_split : ((judged ≡ lines) × LastLineIsNotProcessed last ended)
       ⊎ ((judged ≡ lines ++ last ∷ []) × LastLineIsProcessed last ended)
 
 -- the line is not refused, the output begins with its answer, and `Then` holds for the next state and the rest of the output
 pub record AnswersLineThen {State : Type 0} (r : Rules State) (a : State) (line : List ℕ) (Then : State → List ℕ →
     Type 0) (z : List ℕ) : Type 0 where
   pub answer : List ℕ
-  pub rest : List ℕ
-  pub mid : State
-  pub good : IsLineAccepted r a line
-  pub step : r.Step a line answer mid
-  pub rest_follows : Then mid rest
-  pub output : z ≡ answer ++ rest
+  pub later_output : List ℕ
+  pub mid_state : State
+  pub line_accepted : IsLineAccepted r a line
+  pub step : r.Step a line answer mid_state
+  pub rest_follows : Then mid_state later_output
+  pub output : z ≡ answer ++ later_output
 
 -- line number `n` is refused, and the output `z` is the line that says why
 pub record RefusesLine {State : Type 0} (r : Rules State) (a : State) (n : ℕ) (line : List ℕ) (status : Status) (z : List ℕ) : Type 0
   where
     pub fault : LineFault
-    pub bad : IsLineRefused r a line fault
+    pub refused : IsLineRefused r a line fault
     pub is_bad_input : status ≡ BadInput
     pub output : z ≡ refused_text n fault
 
 -- the input must not end in state `a`, and the output `z` is the line that says why; `n` is one more than the number of the last line
 pub record RefusesInputEnd {State : Type 0} (r : Rules State) (a : State) (n : ℕ) (status : Status) (z : List ℕ) : Type 0 where
   pub fault : LineFault
-  pub bad : r.end_fault a ≡ Some fault
+  pub refused : r.end_fault a ≡ Some fault
   pub is_bad_input : status ≡ BadInput
   pub output : z ≡ refused_text n fault
 

@@ -2,10 +2,10 @@
 use Rattle.std.specs.Prelude.{ℕ, ◌≡◌, ◌≤◌, true, false, List, [], ◌++◌, length, Bool, Option, Some, None, All, ◌⊎◌}
 use Rattle.std.specs.Io.KnownBytes.{Appends, Consumes, IsAtEnd}
 use Rattle.um_io.specs.Lines.{IsLine, EndsWithoutLineFeed, text_of_lines}
-use Rattle.um_io.specs.Reading.{Reading, IsValidReader, input_limit, held_limit}
+use Rattle.um_io.specs.Reading.{ReaderState, IsValidReader, input_limit, buffer_limit}
 use Rattle.um_io.specs.Streams.{FailureCountRose}
 use Rattle.um_driver.specs.Rules.{Rules, Runs, concatenated_text}
-use Rattle.um_driver.specs.Table.{ReadsAtMostABuffer, InputEnds, TakesPrefix}
+use Rattle.um_driver.specs.Table.{ReadsAtMostABuffer, InputEnds, SinkTakesPrefix}
 use Rattle.um_driver.specs.declared.status.Status.{Status}
 use Rattle.um_driver.specs.declared.status.Status.TheVariants.{BadWords, ReadFault, WriteFault, NoMemory}
 
@@ -14,8 +14,8 @@ abbrev pub SourceHasEnded : Option (List ℕ) → Option (List ℕ) → Type 0
 SourceHasEnded None left' = Unit {0}
 SourceHasEnded (Some x) left' = IsAtEnd left'
 
--- the octets `q` that were read are `lines`, each with a line feed, and then those `held` by the reader; or the last line has ended without
--- a line feed, and none are held
+-- the octets `q` that were read are `lines`, each with a line feed, and then the octets `held` in the buffer; or the last line has no line
+-- feed, and the buffer is empty
 abbrev pub AccountsForOctets : (q : List ℕ) → (lines : List (List ℕ)) → (held : List ℕ) → (answered : ℕ) →
     (ended : Bool) → Type 0
 AccountsForOctets q lines held answered ended =
@@ -26,54 +26,55 @@ AccountsForOctets q lines held answered ended =
 pub record AreLinesRead (q : List ℕ) (lines : List (List ℕ)) (held : List ℕ) (answered : ℕ) (ended : Bool)
     (left left' : Option (List ℕ)) : Type 0 where
   pub read : Consumes left left' q
-  pub plain : All IsLine lines
-  pub holds : AccountsForOctets q lines held answered ended
-  pub within : answered ≤ input_limit
-  pub room : length held ≤ held_limit
+  pub no_line_feed : All IsLine lines
+  pub accounts_for : AccountsForOctets q lines held answered ended
+  pub in_range : answered ≤ input_limit
+  pub fits_buffer : length held ≤ buffer_limit
   pub at_end : ended ≡ true → SourceHasEnded left left'
 
--- a point of a run: what was read and written so far, the lines processed and their answers, and the state that the command has reached
+-- a point in a run: the octets read and written so far, the lines processed and their answers, and the current state of the command
 pub record IsPointOfRun {State : Type 0} (r : Rules State) (a : State) (held : List ℕ) (answered number : ℕ) (ended : Bool)
     (left left' taken taken' : Option (List ℕ)) : Type 0 where
-  pub q : List ℕ
-  pub y : List ℕ
+  pub input_read : List ℕ
+  pub output : List ℕ
   pub lines : List (List ℕ)
   pub answers : List (List ℕ)
   pub state : State
-  pub reads : AreLinesRead q lines held answered ended left left'
+  pub reads : AreLinesRead input_read lines held answered ended left left'
   pub number_counts_lines : number ≡ length lines
-  pub written : Appends taken taken' y
+  pub written : Appends taken taken' output
   pub runs : Runs r a lines answers state
-  pub reads_little_ahead : ReadsAtMostABuffer q y lines answers
+  pub reads_little_ahead : ReadsAtMostABuffer input_read output lines answers
 
--- the run continues: all answers have been written except for the gathered octets, which are pending
-pub record IsRunUnderway {State : Type 0} (r : Rules State) (a : State) (Represents : State → Type 0) (reading : Reading)
+-- the run continues: all answers have been written, except for the octets in the output buffer
+pub record IsRunUnderway {State : Type 0} (r : Rules State) (a : State) (Represents : State → Type 0) (reading : ReaderState)
     (left left' taken taken' : Option (List ℕ)) (gathered : List ℕ) : Type 0 where
-  pub at : IsPointOfRun r a (reading.held ++ reading.past) reading.answered reading.number reading.ended left left' taken taken'
-  pub represents : Represents at.state
-  pub output : concatenated_text at.answers ≡ at.y ++ gathered
+  pub point : IsPointOfRun r a (reading.held ++ reading.excess) reading.octet_count reading.line_count reading.ended left left' taken taken'
+  pub represents : Represents point.state
+  pub output : concatenated_text point.answers ≡ point.output ++ gathered
   pub valid : IsValidReader reading
-  pub goes_on : reading.is_over ≡ false
+  pub not_stopped : reading.is_over ≡ false
 
--- the run ends with the given status as soon as the gathered octets and the given text are written
+-- the run ends with the given status as soon as the output buffer and the given text are written
 pub record IsRunEnding {State : Type 0} (r : Rules State) (a : State) (Represents : State → Type 0) (status : Status)
     (left left' taken taken' : Option (List ℕ)) (gathered text : List ℕ) : Type 0 where
   pub held : List ℕ
-  pub answered : ℕ
-  pub number : ℕ
+  pub octet_count : ℕ
+  pub line_count : ℕ
   pub ended : Bool
-  pub at : IsPointOfRun r a held answered number ended left left' taken taken'
-  pub represents : Represents at.state
-  pub output : concatenated_text at.answers ≡ at.y ++ gathered
-  pub ends : (rest : List ℕ) → (SourceHasEnded left left' → rest ≡ []) → InputEnds r status at.q rest at.lines at.state text
+  pub point : IsPointOfRun r a held octet_count line_count ended left left' taken taken'
+  pub represents : Represents point.state
+  pub output : concatenated_text point.answers ≡ point.output ++ gathered
+  pub input_ends : (rest : List ℕ) → (SourceHasEnded left left' → rest ≡ []) →
+      InputEnds r status point.input_read rest point.lines point.state text
 
 -- the result of processing one line, before its output is written: the run continues (`None`), or ends with a status
-abbrev pub IsLineOutcome : {State : Type 0} → Rules State → State → (State → Type 0) → Reading →
+abbrev pub IsLineOutcome : {State : Type 0} → Rules State → State → (State → Type 0) → ReaderState →
     Option (List ℕ) → Option (List ℕ) → Option (List ℕ) → Option (List ℕ) → List ℕ → List ℕ → Option Status →
     Type 0
 IsLineOutcome r a Represents reading left left' taken taken' gathered text None =
     IsRunUnderway r a Represents reading left left' taken taken' (gathered ++ text)
--- after a read failure, no gathered octets are pending, because all are written before the source is read
+-- after a read failure, the output buffer is empty, because it is written before the source is read
 IsLineOutcome r a Represents reading left left' taken taken' gathered text (Some ReadFault) =
     IsRunEnding r a Represents ReadFault left left' taken taken' gathered [] × (gathered ≡ [])
 IsLineOutcome r a Represents reading left left' taken taken' gathered text (Some status) =
@@ -84,13 +85,13 @@ IsLineOutcome r a Represents reading left left' taken taken' gathered text (Some
 abbrev pub IsLastWriteResult : Status → List ℕ → Option (List ℕ) → Option (List ℕ) → Status → Type 0
 IsLastWriteResult ReadFault text taken taken' result = (result ≡ ReadFault) × (taken' ≡ taken)
 IsLastWriteResult status text taken taken' result =
-    ((result ≡ status) × Appends taken taken' text) ⊎ ((result ≡ WriteFault) × TakesPrefix taken taken' text)
+    ((result ≡ status) × Appends taken taken' text) ⊎ ((result ≡ WriteFault) × SinkTakesPrefix taken taken' text)
 
 -- the failure count of the source rises if the status is `ReadFault`, and otherwise is unchanged; processing a line never ends with
 -- `WriteFault`, `NoMemory` or `BadWords`
-abbrev pub ReadFaultIsCounted : Option Status → ℕ → ℕ → Type 0
-ReadFaultIsCounted (Some ReadFault) before now = FailureCountRose before now × (before ≤ now)
-ReadFaultIsCounted (Some WriteFault) before now = ⊥
-ReadFaultIsCounted (Some NoMemory) before now = ⊥
-ReadFaultIsCounted (Some BadWords) before now = ⊥
-ReadFaultIsCounted _ before now = now ≡ before
+abbrev pub ReadFailureIsCounted : Option Status → ℕ → ℕ → Type 0
+ReadFailureIsCounted (Some ReadFault) before now = FailureCountRose before now × (before ≤ now)
+ReadFailureIsCounted (Some WriteFault) before now = ⊥
+ReadFailureIsCounted (Some NoMemory) before now = ⊥
+ReadFailureIsCounted (Some BadWords) before now = ⊥
+ReadFailureIsCounted _ before now = now ≡ before

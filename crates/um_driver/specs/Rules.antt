@@ -6,8 +6,8 @@ use Rattle.um_io.specs.Reading.{line_limit}
 use Rattle.um_lines.specs.declared.fault.LineFault.{LineFault}
 use Rattle.um_lines.specs.declared.fault.LineFault.TheVariants.{Long}
 
--- the rules of a command: `fault` gives the first reason to refuse a line in a state, if any; `end_fault` gives the reason to refuse the
--- end of the input in a state, if any; `Step` relates a state and a line to an answer and the next state
+-- the rules of a command: `fault` is the first reason to refuse a line in a state, if any; `end_fault` is the reason to refuse the end of
+-- the input in a state, if any; `Step` relates a state and a line to an answer and the next state
 pub record Rules (State : Type 0) : Type 1 where
   pub fault : State → List ℕ → Option LineFault
   pub end_fault : State → Option LineFault
@@ -29,7 +29,7 @@ pub record Machine : Type 1 where
 
 -- the line is accepted in this state: it is within the line limit, and the rules find no fault
 pub record IsLineAccepted {State : Type 0} (r : Rules State) (a : State) (line : List ℕ) : Type 0 where
-  pub short : length line ≤ line_limit
+  pub in_limit : length line ≤ line_limit
   pub no_fault : r.fault a line ≡ None
 
 -- the line is refused in this state with this fault: `Long` if it exceeds the line limit, otherwise the fault that the rules find
@@ -37,7 +37,7 @@ abbrev pub IsLineRefused : {State : Type 0} → Rules State → State → List �
 IsLineRefused r a line fault =
     ((line_limit < length line) × (fault ≡ Long)) ⊎ ((length line ≤ line_limit) × (r.fault a line ≡ Some fault))
 
--- `lines`, one after another, lead from the first state to the last without a refusal, and have these `answers`
+-- `lines`, in order, lead from the first state to the last without a refusal, and have these `answers`
 abbrev pub Runs : {State : Type 0} → Rules State → State → (lines answers : List (List ℕ)) → State → Type 0
 Runs r a [] [] b = b ≡ a
 Runs {State} r a (line ∷ lines) (answer ∷ answers) b =

@@ -3,7 +3,7 @@ use Rattle.std.specs.Prelude.{ℕ}
 use Rattle.um_driver.specs.declared.status.Status.{Status}
 use Rattle.um_driver.specs.declared.status.Status.TheVariants.{Done, BadWords, BadInput, ReadFault, WriteFault, NoMemory, TooLong}
 
--- the number with which the program exits
+-- the program's exit status as a number
 abbrev pub status_number : Status → ℕ
 status_number Done = 0
 status_number BadWords = 2

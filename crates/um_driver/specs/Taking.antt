@@ -2,21 +2,21 @@
 use Rattle.std.specs.Prelude.{ℕ, ◌≡◌, ◌≤◌, List, ◌++◌, Option, Result, MatchResult}
 use Rattle.std.specs.Io.KnownBytes.{Appends}
 use Rattle.um_io.specs.Streams.{FailureCountRose}
-use Rattle.um_driver.specs.Table.{TakesPrefix}
+use Rattle.um_driver.specs.Table.{SinkTakesPrefix}
 
 -- the sink received the whole text if the result is `Ok`, and a prefix of it if the result is `Err`
-abbrev pub TakesWholeText : {T E : Type 0} → Option (List ℕ) → Option (List ℕ) → Result T E → List ℕ → Type 0
-TakesWholeText taken taken' result piece = MatchResult result (λ _. Appends taken taken' piece) (λ _. TakesPrefix taken taken' piece)
+abbrev pub SinkTakesText : {T E : Type 0} → Option (List ℕ) → Option (List ℕ) → Result T E → List ℕ → Type 0
+SinkTakesText taken taken' result piece = MatchResult result (λ _. Appends taken taken' piece) (λ _. SinkTakesPrefix taken taken' piece)
 
--- the sink received a prefix of the text, and the rest of it is gathered (used inside this crate)
-abbrev pub GathersUnwrittenText : List ℕ → List ℕ → Option (List ℕ) → Option (List ℕ) → Type 0
-GathersUnwrittenText text gathered' taken taken' = (w : List ℕ) × (text ≡ w ++ gathered') × Appends taken taken' w
+-- the sink received a prefix of the text, and the output buffer holds the rest (used inside this crate)
+abbrev pub BuffersUnwrittenText : List ℕ → List ℕ → Option (List ℕ) → Option (List ℕ) → Type 0
+BuffersUnwrittenText text gathered' taken taken' = (w : List ℕ) × (text ≡ w ++ gathered') × Appends taken taken' w
 
--- the sink received a prefix of the text and, if the result is `Ok`, the rest of it is gathered
-abbrev pub GathersTextIfOk : {T E : Type 0} → Result T E → List ℕ → List ℕ → Option (List ℕ) → Option (List ℕ) → Type 0
-GathersTextIfOk result text gathered' taken taken' = MatchResult result (λ _. GathersUnwrittenText text gathered' taken taken')
-    (λ _. TakesPrefix taken taken' text)
+-- the sink received a prefix of the text and, if the result is `Ok`, the output buffer holds the rest
+abbrev pub BuffersTextIfOk : {T E : Type 0} → Result T E → List ℕ → List ℕ → Option (List ℕ) → Option (List ℕ) → Type 0
+BuffersTextIfOk result text gathered' taken taken' = MatchResult result (λ _. BuffersUnwrittenText text gathered' taken taken')
+    (λ _. SinkTakesPrefix taken taken' text)
 
 -- the failure count is unchanged if the result is `Ok`, and has risen if it is `Err`
-abbrev pub CountsFailures : {T E : Type 0} → Result T E → ℕ → ℕ → Type 0
-CountsFailures result before now = MatchResult result (λ _. now ≡ before) (λ _. FailureCountRose before now × (before ≤ now))
+abbrev pub CountsWriteFailure : {T E : Type 0} → Result T E → ℕ → ℕ → Type 0
+CountsWriteFailure result before now = MatchResult result (λ _. now ≡ before) (λ _. FailureCountRose before now × (before ≤ now))

@@ -21,9 +21,9 @@ pub trait Command {
     ghost represents: { Self → State → Type 0 };
 
     /// The type of the part of the command that no call changes, such as the identity of a borrow; `Unit {0}` if there is none.
-    ghost Kept: { Type 0 };
+    ghost FixedPart: { Type 0 };
 
-    ghost kept: { Self → Kept };
+    ghost kept: { Self → FixedPart };
 
     /// Writes the answer to a line, or returns the reason why the line is refused.
     fn answer(&mut self, line: &[u8], out: &mut Text) -> Result<(), LineFault>

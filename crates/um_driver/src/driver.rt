@@ -1,20 +1,20 @@
-//! The driver, which runs any command over an input.
+//! The driver, which runs any command on an input.
 ghost use Rattle.std.specs.Prelude.{◌≡◌, ◌≢◌, ℕ, ◌<◌, List, Option, Some, None, [], ◌++◌, ◌⊎◌, OnOk};
-ghost use Rattle.um_io.specs.Reading.{reader_at_start, IsAnswerReady};
+ghost use Rattle.um_io.specs.Reading.{new_reader, IsResultReady};
 ghost use Rattle.um_lines.specs.Refusals.{refused_text};
 ghost use Rattle.um_driver.specs.Rules.{IsDeterministic};
-ghost use Rattle.um_driver.specs.Table.{IsRun, FaultsAreCounted, EndsAsPrescribed};
-ghost use Rattle.um_driver.specs.Taking.{GathersTextIfOk, CountsFailures};
-ghost use Rattle.um_driver.specs.Progress.{IsRunUnderway, IsLineOutcome, IsLastWriteResult, ReadFaultIsCounted};
+ghost use Rattle.um_driver.specs.Table.{IsRun, FailureCountsMatch, EndsAsPrescribed};
+ghost use Rattle.um_driver.specs.Taking.{BuffersTextIfOk, CountsWriteFailure};
+ghost use Rattle.um_driver.specs.Progress.{IsRunUnderway, IsLineOutcome, IsLastWriteResult, ReadFailureIsCounted};
 
 use crate::command::Command;
-use crate::gathered::GatheredOutput;
+use crate::gathered::OutputBuffer;
 use crate::status::Status;
 use std::alloc::Global;
 use um_io::{Failed, Lines, Next, Sink, Source};
 use um_lines::{LineFault, Text, refused_line};
 
-/// Reads the next line of input and writes the command's answer to `out`, or returns the status with which the run ends.
+/// Reads the next line of input and writes the command's answer to `out`, or returns the final status of the run.
 fn answer_next_line<C: Command, S: Source>(
     command: &mut C,
     lines: &mut Lines,
@@ -24,10 +24,10 @@ fn answer_next_line<C: Command, S: Source>(
     requires { out.old ≡ [] }
     ensures comes { (a : C.State) (left taken taken' : Option (List ℕ)) (gathered : List ℕ) →
         IsRunUnderway C.rules a (C.represents command.old) lines.old left (S.left input.old) taken taken' gathered →
-        IsAnswerReady lines.old ⊎ (gathered ≡ []) →
+        IsResultReady lines.old ⊎ (gathered ≡ []) →
         IsLineOutcome C.rules a (C.represents command.new) lines.new left (S.left input.new) taken taken' gathered out.new result }
-    ensures goes_on { result ≡ None → lines.old.answered < lines.new.answered }
-    ensures cause { ReadFaultIsCounted result (S.faults input.old) (S.faults input.new) }
+    ensures goes_on { result ≡ None → lines.old.octet_count < lines.new.octet_count }
+    ensures cause { ReadFailureIsCounted result (S.faults input.old) (S.faults input.new) }
     ensures keeps { C.kept command.new ≡ C.kept command.old }
 {
     match lines.next(input) {
@@ -45,7 +45,7 @@ fn answer_next_line<C: Command, S: Source>(
     }
 }
 
-/// Writes the line that refuses line `number` of the input, or the end of the input, and returns the status `BadInput`.
+/// Writes the line that reports the refusal of line `number`, or of the end of the input, and returns the status `BadInput`.
 #[cold]
 #[inline(never)]
 fn write_refusal(number: u64, fault: LineFault, out: &mut Text) -> Status
@@ -57,19 +57,19 @@ fn write_refusal(number: u64, fault: LineFault, out: &mut Text) -> Status
     Status::BadInput
 }
 
-/// Writes the gathered octets and then `out`, and returns the final status. After a read failure it writes nothing, because all gathered
-/// octets were written before the source was read.
+/// Writes the output buffer and then `out`, and returns the final status. After a read failure it writes nothing, because the buffer was
+/// written before the source was read.
 #[cold]
 #[inline(never)]
 fn write_last_text<K: Sink>(
     status: Status,
     out: &Text,
-    gathered: &mut GatheredOutput,
+    gathered: &mut OutputBuffer,
     output: &mut K,
 ) -> Status
-    ensures concludes { IsLastWriteResult status (gathered.old ++ out.now) (K.taken output.old) (K.taken output.new) result }
-    ensures cause { (before now : ℕ) → ReadFaultIsCounted (Some status) before now →
-        FaultsAreCounted result before now (K.faults output.old) (K.faults output.new) × (result ≢ Status.NoMemory) }
+    ensures last_write { IsLastWriteResult status (gathered.old ++ out.now) (K.taken output.old) (K.taken output.new) result }
+    ensures cause { (before now : ℕ) → ReadFailureIsCounted (Some status) before now →
+        FailureCountsMatch result before now (K.faults output.old) (K.faults output.new) × (result ≢ Status.NoMemory) }
 {
     match status {
         Status::ReadFault => status,
@@ -80,17 +80,17 @@ fn write_last_text<K: Sink>(
     }
 }
 
-/// Writes the gathered octets if the next result needs a read from the source.
+/// Writes the output buffer if the next result needs a read from the source.
 #[inline(always)]
 fn flush_before_read<K: Sink>(
     lines: &mut Lines,
-    gathered: &mut GatheredOutput,
+    gathered: &mut OutputBuffer,
     output: &mut K,
 ) -> Result<(), Failed>
     ensures unchanged { lines.new ≡ lines.old }
-    ensures gathers { GathersTextIfOk result gathered.old gathered.new (K.taken output.old) (K.taken output.new) }
-    ensures ready { OnOk result (IsAnswerReady lines.new ⊎ (gathered.new ≡ [])) }
-    ensures counted { CountsFailures result (K.faults output.old) (K.faults output.new) }
+    ensures gathers { BuffersTextIfOk result gathered.old gathered.new (K.taken output.old) (K.taken output.new) }
+    ensures ready { OnOk result (IsResultReady lines.new ⊎ (gathered.new ≡ [])) }
+    ensures counted { CountsWriteFailure result (K.faults output.old) (K.faults output.new) }
 {
     if lines.is_ready() {
         Ok(())
@@ -99,7 +99,7 @@ fn flush_before_read<K: Sink>(
     }
 }
 
-/// Answers line after line until the run ends. All answers are written before each read from the source.
+/// Answers lines until the run ends. Writes all pending answers before each read from the source.
 fn answer_all_lines<C: Command, S: Source, K: Sink>(
     command: &mut C,
     lines: &mut Lines,
@@ -107,19 +107,19 @@ fn answer_all_lines<C: Command, S: Source, K: Sink>(
     output: &mut K,
 ) -> Status
     requires represents { C.represents command.old (C.start command.old) }
-    requires first { lines.old ≡ reader_at_start }
+    requires first { lines.old ≡ new_reader }
 
     ensures table { IsRun C.rules (C.start command.old) (C.represents command.new) result
         (S.left input.old) (S.left input.new) (K.taken output.old) (K.taken output.new) }
 
-    ensures cause { FaultsAreCounted result (S.faults input.old) (S.faults input.new)
+    ensures cause { FailureCountsMatch result (S.faults input.old) (S.faults input.new)
         (K.faults output.old) (K.faults output.new) }
 
     ensures opened { result ≢ Status.NoMemory }
     ensures keeps { C.kept command.new ≡ C.kept command.old }
 {
     let mut out = Text::new();
-    let mut gathered = GatheredOutput::new();
+    let mut gathered = OutputBuffer::new();
     loop {
         match flush_before_read(lines, &mut gathered, output) {
             Ok(()) => {}
@@ -136,7 +136,7 @@ fn answer_all_lines<C: Command, S: Source, K: Sink>(
     }
 }
 
-/// Runs a command over the lines of `input`, and writes its answers to `output`.
+/// Runs a command on the lines of `input`, and writes its answers to `output`.
 ///
 /// All memory is allocated before the first octet is read.
 pub fn drive<C: Command, S: Source, K: Sink>(
@@ -154,14 +154,14 @@ pub fn drive<C: Command, S: Source, K: Sink>(
     ensures due { IsDeterministic C.rules → EndsAsPrescribed C.rules (C.start command.old) result
         (S.left input.old) (K.taken output.old) (K.taken output.new) }
 
-    ensures cause { FaultsAreCounted result (S.faults input.old) (S.faults input.new)
+    ensures cause { FailureCountsMatch result (S.faults input.old) (S.faults input.new)
         (K.faults output.old) (K.faults output.new) }
 
     ensures words { result ≢ Status.BadWords }
 
     // If an allocation fails, nothing has been read or written.
     ensures opening { result ≡ Status.NoMemory → (input.new ≡ input.old) × (output.new ≡ output.old) }
-    ensures unasked { result ≡ Status.NoMemory → command.new ≡ command.old }
+    ensures command_unchanged { result ≡ Status.NoMemory → command.new ≡ command.old }
 
     ensures keeps { C.kept command.new ≡ C.kept command.old }
 {

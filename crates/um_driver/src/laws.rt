@@ -8,7 +8,7 @@ pub fn law_output_is_unique<C: Command>()
     ensures { OutputIsUnique C.rules }
 {}
 
-/// Law: if the rules give an answer to every line that is not refused, every input has an output.
+/// Law: if every line that is not refused has an answer, every input has an output.
 pub fn law_output_exists<C: Command>()
     ensures { OutputExists C.rules }
 {}

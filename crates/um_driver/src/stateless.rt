@@ -22,7 +22,7 @@ pub trait Answer {
             (λ reason. (fault line.now ≡ Some reason) × (out.new ≡ [])) };
 }
 
-/// A command made from an `Answer`, without a state.
+/// A stateless command made from an `Answer`.
 #[derive(Clone, Copy, Debug)]
 pub struct Stateless<A>(pub A);
 
@@ -35,7 +35,7 @@ impl<A: Answer> Command for Stateless<A> {
 
     ghost represents = { λ _ _. Unit {0} };
 
-    ghost Kept = { Unit {0} };
+    ghost FixedPart = { Unit {0} };
 
     ghost kept = { λ _. tt };
 

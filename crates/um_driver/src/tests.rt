@@ -7,13 +7,13 @@ use um_io::{Failed, MemorySink, MemorySource, PlainSource, Source};
 use um_lines::{LineFault, Text, refused_line};
 
 /// A command for tests that answers lines by their lengths: a line of one octet opens or closes, lines of three octets are refused, and the
-/// input may not end while open.
+/// input must not end while open.
 #[derive(Drop)]
-struct Sizes {
+struct LineLengthCommand {
     open: bool,
 }
 
-impl Command for Sizes {
+impl Command for LineLengthCommand {
     ghost use Rattle.um_lines.specs.declared.fault.LineFault.TheVariants.{Word, Order, Twice};
 
     ghost State = { Bool };
@@ -30,7 +30,7 @@ impl Command for Sizes {
 
     ghost represents = { λ s a. s.open ≡ a };
 
-    ghost Kept = { Unit {0} };
+    ghost FixedPart = { Unit {0} };
 
     ghost kept = { λ _. tt };
 
@@ -94,7 +94,7 @@ fn lines_are_answered_up_to_the_first_bad_one(rt: HostRuntime) -> Result<(), Fai
         for most in [1, 2, 7, 5000] {
             let mut source = PlainSource::new(input.as_bytes(), most);
             let mut sink = MemorySink::new(rt.alloc(), 100, most, &[])?;
-            let mut sizes = Sizes { open: false };
+            let mut sizes = LineLengthCommand { open: false };
             let ended = drive(rt.alloc(), &mut sizes, &mut source, &mut sink);
             assert_eq!(rt; ended, status, "{input}");
             assert_eq!(rt; sink.octets(), output.as_bytes(), "{input}");
@@ -122,7 +122,7 @@ fn a_failed_read_leaves_the_answers_to_earlier_lines(rt: HostRuntime) -> Result<
         let fails = [call];
         let mut source = MemorySource::new(THREE_LINES, 4, &fails);
         let mut sink = MemorySink::new(rt.alloc(), 48, 48, &[])?;
-        let mut sizes = Sizes { open: false };
+        let mut sizes = LineLengthCommand { open: false };
         let ended = drive(rt.alloc(), &mut sizes, &mut source, &mut sink);
         assert_eq!(rt; ended, status, "{call}");
         assert_eq!(rt; sink.octets(), &THREE_ANSWERS[..count], "{call}");
@@ -137,7 +137,7 @@ fn a_failed_write_leaves_a_prefix_of_the_answers(rt: HostRuntime) -> Result<(), 
         let fails = [before as u64 + 1];
         let mut source = PlainSource::new(THREE_LINES, 4);
         let mut sink = MemorySink::new(rt.alloc(), 48, 5, &fails)?;
-        let mut sizes = Sizes { open: false };
+        let mut sizes = LineLengthCommand { open: false };
         let ended = drive(rt.alloc(), &mut sizes, &mut source, &mut sink);
         let status = if *count < 48 {
             Status::WriteFault
@@ -162,7 +162,7 @@ fn a_line_of_4096_octets_is_answered_and_one_more_is_long(rt: HostRuntime) -> Re
     for (input, status, output) in runs {
         let mut source = PlainSource::new(input, 1000);
         let mut sink = MemorySink::new(rt.alloc(), 100, 100, &[])?;
-        let mut sizes = Sizes { open: false };
+        let mut sizes = LineLengthCommand { open: false };
         let ended = drive(rt.alloc(), &mut sizes, &mut source, &mut sink);
         assert_eq!(rt; ended, status);
         assert_eq!(rt; sink.octets(), output);
@@ -178,7 +178,7 @@ fn at_most_one_buffer_is_read_beyond_the_answered_lines(rt: HostRuntime) -> Resu
     }
     let mut source = PlainSource::new(&octets, 4097);
     let mut sink = MemorySink::new(rt.alloc(), 5100, 5100, &[1])?;
-    let mut sizes = Sizes { open: false };
+    let mut sizes = LineLengthCommand { open: false };
     let ended = drive(rt.alloc(), &mut sizes, &mut source, &mut sink);
     assert_eq!(rt; ended, Status::WriteFault);
     assert_eq!(rt; source.take(&mut [0; 6300]), Ok(2203));
@@ -207,7 +207,7 @@ impl Source for EndlessSource {
 fn an_input_above_the_limit_is_answered_up_to_the_limit(rt: HostRuntime) -> Result<(), Fail> {
     let mut source = EndlessSource(0);
     let mut sink = MemorySink::new(rt.alloc(), 400_000, 400_000, &[])?;
-    let mut sizes = Sizes { open: false };
+    let mut sizes = LineLengthCommand { open: false };
     let ended = drive(rt.alloc(), &mut sizes, &mut source, &mut sink);
     assert_eq!(rt; ended, Status::TooLong);
     assert_eq!(rt; sink.octets().len(), 16_384 * 19);

@@ -5,27 +5,28 @@ use Rattle.std.proofs.Common.{nat_lt, ℤ, pos, negsuc, nat_abs, List, [], ◌�
 use Rattle.std.proofs.{Common.{map, Option, None, Some, refl, sym, ap, ◌∙◌, subst, arith}, lemmas.Bool.Decides.nat_tests}
 use Rattle.std.{proofs.lemmas.{Fmt.{length-decimal-le, length_signed_le}, List.length-map}, specs.{Int.Signed.mag, Fmt.decimal}}
 use Rattle.std.specs.{Fmt.signed_decimal, List.join_with_byte}
-use Rattle.um_lines.{specs.{Hex.encode_lower, Spelled.octets_word}, proofs.SpelledLaws.length-encode_lower}
+use Rattle.um_lines.{specs.{Hex.encode_lower, Spelled.octets_word}, proofs.FormLaws.length-encode_lower}
 use Rattle.um_link.specs.lapdm_frame.{declared.Channel.TheVariants.Sdcch, Content.{Content, I, Frame, information}, Frames.InformationFits}
 use Rattle.um_link.specs.{lapdm_frame.Frames.{IsFrameCoding, octets_of}, lapdm_window.segmenting.declared.joiner.Joined.Joined}
 use Rattle.um_link.specs.lapdm_window.segmenting.{Segments.{Message, Segment, max_message_octets}, Joining.partial_message}
-use Rattle.um_link.specs.lapdm_window.{segmenting.Joining.segment_answer, declared.{Sapi.{Sapi, TheVariants.{Zero, Three}}, Notice.Notice}}
-use Rattle.um_link.specs.lapdm_window.Ends.{Role, Mobile, Network, EndState, Outcome, no_effect, ◌then◌, next_segment, n200, vr}
-use Rattle.um_link.specs.lapdm_window.Rules.{may_send_next, sends_segment, sends_next, acknowledges, reports_acked, counts_acks}
-use Rattle.um_link.specs.lapdm_window.Rules.{segment_notices, accepts_segment, sends_rr, answers_segment, reject_is_due, rejects_segment}
-use Rattle.um_link.specs.lapdm_window.{Rules.{takes_i_frame, answers_poll, takes_rr, resends_outstanding, takes_rej}, Calls.{Call, Opens}}
-use Rattle.um_link.specs.lapdm_window.Calls.{OpensBare, Sends, SendsUnit, Closes, T200Expires, SendsFill, call_outcome, with_message}
-use Rattle.um_link.specs.lapdm_window.Tables.{Reply, Nothing, SendsDm, SendsUa, AcceptsSabm, ConfirmsEstablishment, ClosesLink, AcceptsDisc}
-use Rattle.um_link.specs.lapdm_window.Tables.{TakesUnit, TakesI, TakesRr, TakesRej, closes_and_reports, outcome_of, reply_to_frame}
-use Rattle.um_link.specs.{lapdm_window.Tables.frame_outcome, um_block.declared.received.Received.Received, lapdm_link.Events.Open}
-use Rattle.um_link.specs.{lapdm_link.Events.{OpenBare, Ask, Deliver, Lose, Rival, BySide, call_of}, um_air.Air.{Octets, Block, ReadsFrame}}
-use Rattle.um_link.{specs.{um_air.Air.{Event, Step, Answer, Refuses, Does}, Coded.AreCodedBlocks}, proofs.lapdm_window.Lemmas.IsReplyTo}
-use Rattle.um_link.proofs.lapdm_window.Lemmas.{cause_of, by_sapi, few-frame, few-call}
+use Rattle.um_link.specs.lapdm_window.{segmenting.Joining.reassembly_result, declared.Sapi.{Sapi, TheVariants.{Zero, Three}}}
+use Rattle.um_link.specs.lapdm_window.{declared.Notice.Notice, Ends.{Role, Mobile, Network, EndpointState, Outcome, no_effect, ◌then◌}}
+use Rattle.um_link.specs.lapdm_window.{Ends.{next_segment, n200, vr}, Rules.{may_send_next, sends_segment, sends_next, nr_acknowledges}}
+use Rattle.um_link.specs.lapdm_window.Rules.{marks_acked, evaluates_nr, segment_notices, accepts_segment, sends_rr, answers_segment}
+use Rattle.um_link.specs.lapdm_window.Rules.{reject_is_due, rejects_segment, takes_i_frame, answers_poll, takes_rr, resends_outstanding}
+use Rattle.um_link.specs.lapdm_window.{Rules.takes_rej, Calls.{Call, Opens, OpensWithoutInfo, Sends, SendsUi, Closes, T200Expires}}
+use Rattle.um_link.specs.lapdm_window.{Calls.{SendsFill, call_outcome, with_queued_message}, Tables.{Reply, Nothing, SendsDm, SendsUa}}
+use Rattle.um_link.specs.lapdm_window.Tables.{AcceptsSabm, ConfirmsEstablishment, ClosesLink, AcceptsDisc, TakesUi, TakesI, TakesRr}
+use Rattle.um_link.specs.lapdm_window.Tables.{TakesRej, closes_and_reports, outcome_of, reply_to_frame, frame_outcome}
+use Rattle.um_link.specs.{um_block.declared.received.Received.Received, lapdm_link.Events.{Open, OpenBare, Ask, Deliver, Lose, Rival}}
+use Rattle.um_link.specs.{lapdm_link.Events.{BySide, call_of}, um_air.Air.{Octets, Block, ReadsFrame, Event, Step, Answer, Refuses}}
+use Rattle.um_link.{specs.{um_air.Air.Accepts, Coded.AreCodedBlocks}, proofs.lapdm_window.Lemmas.{IsReplyTo, cause_of, by_sapi, few-frame}}
+use Rattle.um_link.proofs.lapdm_window.Lemmas.{few-call}
 use Rattle.um_script.specs.{AnswerWords.{actor_word, sapi_suffix}, AnswerLines.{AnswerLine, reception_quality, reception_words}}
 use Rattle.um_script.specs.AnswerLines.{notice_words, received_block_line, received_block_lines, spaced_words, lines_text, answer_text}
 use Rattle.um_script.{specs.AnswerLines.ReceptionIsInRange, proofs.AnswerLaws.{lines_text_append, join-spaced, report_line}}
-use Rattle.um_end.specs.Terminals.{SideState, endpoint_on, endpoint_step, no_op_step, takes, step_for_read_frame, step_of, IsCallAnswer}
-use Rattle.um_end.specs.{Terminals.{AnswersCall, ReceivesBursts}, EndRuns.{frames_in_answer, IsAnswerText}}
+use Rattle.um_end.specs.Terminals.{SideState, endpoint_on, endpoint_step, no_op_step, takes, step_for_read_frame, step_of}
+use Rattle.um_end.specs.{Terminals.{EndpointAnswersCall, SideAnswersCall, ReceivesBursts}, EndRuns.{frames_in_answer, IsAnswerText}}
 use Rattle.um_link.specs.lapdm_window.segmenting.declared.joiner.Joined.TheVariants as J
 use Rattle.um_link.specs.lapdm_window.declared.State.TheVariants as S
 use Rattle.um_link.specs.lapdm_window.declared.Notice.TheVariants as N
@@ -90,13 +91,13 @@ by_test P false o p h g = g
 
 -- ---- the rules of the window
 
-next : (e : EndState) → (sends_next e).notices ≡ []
+next : (e : EndpointState) → (sends_next e).notices ≡ []
 next e = by_test (λ ns. ns ≡ []) (may_send_next e) (sends_segment e) (no_effect e) refl refl
 
-acked : (nr : ℕ) (e : EndState) → IsAcked (counts_acks nr e).notices
-acked nr e = by_test IsAcked (acknowledges nr e) (reports_acked (next_segment e).1 e) (no_effect e) (by_more (next_segment e).1) tt
+acked : (nr : ℕ) (e : EndpointState) → IsAcked (evaluates_nr nr e).notices
+acked nr e = by_test IsAcked (nr_acknowledges nr e) (marks_acked (next_segment e).1 e) (no_effect e) (by_more (next_segment e).1) tt
   where
-    by_more : (b : Bool) → IsAcked (reports_acked b e).notices
+    by_more : (b : Bool) → IsAcked (marks_acked b e).notices
     by_more true = tt
     by_more false = omega arith
 
@@ -105,13 +106,13 @@ IsWhole J.Whole = Unit {0}
 IsWhole J.More = ⊥
 IsWhole J.Oversize = ⊥
 
-accepted : (segment : Segment) (e : EndState) → IsOne (accepts_segment segment e).notices
-accepted segment e = by_answer (segment_answer e.accepted segment) segment.1 refl
+accepted : (segment : Segment) (e : EndpointState) → IsOne (accepts_segment segment e).notices
+accepted segment e = by_answer (reassembly_result e.accepted segment) segment.1 refl
   where
     m : Message
     m = partial_message e.accepted ++ segment.0
 
-    by_answer : (j : Joined) (b : Bool) → segment_answer e.accepted segment ≡ j → IsOne (segment_notices j b m)
+    by_answer : (j : Joined) (b : Bool) → reassembly_result e.accepted segment ≡ j → IsOne (segment_notices j b m)
     by_answer J.Whole b is = whole (nat_lt max_message_octets (length m)) refl
       where
         whole : (t : Bool) → nat_lt max_message_octets (length m) ≡ t → length m ≤ 251
@@ -122,37 +123,39 @@ accepted segment e = by_answer (segment_answer e.accepted segment) segment.1 ref
     by_answer J.Oversize true is = tt
     by_answer J.More b is = tt
 
-answered : (p : Bool) (e : EndState) → (answers_segment p e).notices ≡ []
+answered : (p : Bool) (e : EndpointState) → (answers_segment p e).notices ≡ []
 answered true e = next e
 answered false e = by_test (λ ns. ns ≡ []) (may_send_next e) (sends_segment e) (sends_rr false e) refl refl
 
-rejected : (p : Bool) (e : EndState) → IsOne (rejects_segment p e).notices
+rejected : (p : Bool) (e : EndpointState) → IsOne (rejects_segment p e).notices
 rejected p e = by_test IsOne (reject_is_due p e) _ (no_effect e) tt tt
 
-notices_of_poll : (b : Bool) (e : EndState) → IsOne (answers_poll b e).notices
+notices_of_poll : (b : Bool) (e : EndpointState) → IsOne (answers_poll b e).notices
 notices_of_poll b e = by_test IsOne b (sends_rr true e) (no_effect e) tt tt
 
-again : (e : EndState) → (resends_outstanding e).notices ≡ []
+again : (e : EndpointState) → (resends_outstanding e).notices ≡ []
 again e = by_test (λ ns. ns ≡ []) _ _ (sends_next e) refl (next e)
 
 -- the notices after an N(R) is evaluated and two further rules are applied
-counted : (nr : ℕ) (first second : EndState → Outcome) (e : EndState) → ((x : EndState) → IsOne (first x).notices) →
-    ((x : EndState) → (second x).notices ≡ []) → IsAtMostAckAndOne (counts_acks nr e then first then second).notices
+counted : (nr : ℕ) (first second : EndpointState → Outcome) (e : EndpointState) →
+    ((x : EndpointState) → IsOne (first x).notices) →
+    ((x : EndpointState) → (second x).notices ≡ []) → IsAtMostAckAndOne (evaluates_nr nr e then first then second).notices
 counted nr first second e h g =
-    let o = counts_acks nr e in
-    all_three o.notices (first o.after).notices (second (o then first).after).notices (acked nr e) (h o.after) (g (o then first).after)
+    let o = evaluates_nr nr e in
+    all_three o.notices (first o.new_state).notices (second (o then first).new_state).notices (acked nr e) (h o.new_state)
+    (g (o then first).new_state)
 
-brief-i : (ns nr : ℕ) (p : Bool) (segment : Segment) (e : EndState) → IsAtMostAckAndOne (takes_i_frame ns nr p segment e).notices
+brief-i : (ns nr : ℕ) (p : Bool) (segment : Segment) (e : EndpointState) → IsAtMostAckAndOne (takes_i_frame ns nr p segment e).notices
 brief-i ns nr p segment e =
-    by_test IsAtMostAckAndOne (nat_eq ns (vr e)) (counts_acks nr e then accepts_segment segment then answers_segment p)
-    (counts_acks nr e then rejects_segment p then sends_next)
+    by_test IsAtMostAckAndOne (nat_eq ns (vr e)) (evaluates_nr nr e then accepts_segment segment then answers_segment p)
+    (evaluates_nr nr e then rejects_segment p then sends_next)
     (counted nr (accepts_segment segment) (answers_segment p) e (accepted segment) (answered p))
     (counted nr (rejects_segment p) sends_next e (rejected p) next)
 
-brief-rr : (nr : ℕ) (b : Bool) (e : EndState) → IsAtMostAckAndOne (takes_rr nr b e).notices
+brief-rr : (nr : ℕ) (b : Bool) (e : EndpointState) → IsAtMostAckAndOne (takes_rr nr b e).notices
 brief-rr nr b e = counted nr (answers_poll b) sends_next e (notices_of_poll b) next
 
-brief-rej : (nr : ℕ) (b : Bool) (e : EndState) → IsAtMostAckAndOne (takes_rej nr b e).notices
+brief-rej : (nr : ℕ) (b : Bool) (e : EndpointState) → IsAtMostAckAndOne (takes_rej nr b e).notices
 brief-rej nr b e = counted nr (answers_poll b) resends_outstanding e (notices_of_poll b) again
 
 -- ---- the tables of replies
@@ -161,7 +164,7 @@ brief-rej nr b e = counted nr (answers_poll b) resends_outstanding e (notices_of
 short : (c d : Content) → c ≡ d → length (information c) ≤ 251 → length (information d) ≤ 251
 short c d is h = subst (λ (x : Content). length (information x) ≤ 251) is h
 
-brief-reply : (r : Reply) (c : Content) (e : EndState) → IsReplyTo c e r → length (information c) ≤ 251 →
+brief-reply : (r : Reply) (c : Content) (e : EndpointState) → IsReplyTo c e r → length (information c) ≤ 251 →
     IsAtMostAckAndOne (outcome_of r e).notices
 brief-reply Nothing c e cause h = tt
 brief-reply SendsDm c e cause h = tt
@@ -170,20 +173,21 @@ brief-reply (AcceptsSabm info) c e cause h = short c _ cause.1 h
 brief-reply (ConfirmsEstablishment info) c e cause h = short c _ cause.0 h
 brief-reply (ClosesLink reason) c e cause h = tt
 brief-reply AcceptsDisc c e cause h = tt
-brief-reply (TakesUnit info) c e cause h = short c _ cause.1 h
+brief-reply (TakesUi info) c e cause h = short c _ cause.1 h
 brief-reply (TakesI ns nr p segment) c e cause h = brief-i ns nr p segment e
 brief-reply (TakesRr nr poll) c e cause h = brief-rr nr poll e
 brief-reply (TakesRej nr poll) c e cause h = brief-rej nr poll e
 
 -- a frame, or (below) a call, leads to at most one notice, perhaps after an acknowledgement
-pub brief-frame : (f : Frame) (e : EndState) → length (information f.content) ≤ 251 → IsAtMostAckAndOne (frame_outcome f e).notices
+brief-frame : (f : Frame) (e : EndpointState) → length (information f.content) ≤ 251 →
+    IsAtMostAckAndOne (frame_outcome f e).notices
 brief-frame f e h = brief-reply (reply_to_frame f e) f.content e (cause_of e f) h
 
-pub brief-call : (call : Call) (e : EndState) → IsAtMostAckAndOne (call_outcome call e).notices
+brief-call : (call : Call) (e : EndpointState) → IsAtMostAckAndOne (call_outcome call e).notices
 brief-call (Opens info) e = tt
-brief-call OpensBare e = tt
-brief-call (Sends m) e = subst IsAtMostAckAndOne (sym (next (with_message m e))) tt
-brief-call (SendsUnit m) e = tt
+brief-call OpensWithoutInfo e = tt
+brief-call (Sends m) e = subst IsAtMostAckAndOne (sym (next (with_queued_message m e))) tt
+brief-call (SendsUi m) e = tt
 brief-call Closes e = tt
 brief-call T200Expires e = by_test IsAtMostAckAndOne (nat_lt e.retries (n200 e.channel e.state)) _ (closes_and_reports _ e) tt tt
 brief-call SendsFill e = tt
@@ -322,7 +326,7 @@ lines_four a b c d =
 
 outcome_short : (role : Role) (received : Option Received) (sapi : Sapi) (o : Outcome) (a : SideState) (tsc : ℕ) (blocks : List Block) →
     length o.frames ≤ 2 → IsAtMostAckAndOne o.notices → length (lines_text (received_block_lines (BySide role) received)) ≤ 118 →
-    AreCodedBlocks tsc (map (octets_of Sdcch) o.frames) blocks → IsShort (Does (step_of role received (endpoint_step sapi o a)))
+    AreCodedBlocks tsc (map (octets_of Sdcch) o.frames) blocks → IsShort (Accepts (step_of role received (endpoint_step sapi o a)))
 outcome_short role received sapi o a tsc blocks few brief arrived coded =
     let frames = map (octets_of Sdcch) o.frames in
     let all = lines_four (received_block_lines (BySide role) received) (map (L.Reports (BySide role) sapi) o.notices)
@@ -339,31 +343,31 @@ outcome_short role received sapi o a tsc blocks few brief arrived coded =
     )
 
 asked_short : (role : Role) (a : SideState) (sapi : Sapi) (call : Call) (b : SideState) (answer : Answer) (tsc : ℕ)
-    (blocks : List Block) → IsCallAnswer role a sapi call b answer → AreCodedBlocks tsc (frames_in_answer answer) blocks →
+    (blocks : List Block) → EndpointAnswersCall role a sapi call b answer → AreCodedBlocks tsc (frames_in_answer answer) blocks →
     length (answer_text answer) < 2000 →
     IsShort answer
 asked_short role a sapi call b (Refuses why) tsc blocks h coded lines = omega (arith, lines)
-asked_short role a sapi call b (Does step) tsc blocks h coded lines =
+asked_short role a sapi call b (Accepts step) tsc blocks h coded lines =
     let o = call_outcome call (endpoint_on sapi a) in
-    subst (λ (s : Step). AreCodedBlocks tsc s.frames blocks → IsShort (Does s)) (sym h.2)
+    subst (λ (s : Step). AreCodedBlocks tsc s.frames blocks → IsShort (Accepts s)) (sym h.2)
     (outcome_short role None sapi o a tsc blocks (few-call call (endpoint_on sapi a)).frames (brief-call call (endpoint_on sapi a))
     (omega arith)) coded
 
 -- the answer to a call has fewer than 2000 octets
 pub call_short : (role : Role) (a : SideState) (event : Event) (b : SideState) (answer : Answer) (tsc : ℕ) (text : List ℕ) →
-    AnswersCall role a event b answer → IsAnswerText tsc answer text → length (answer_text answer) < 2000 → IsShort answer
+    SideAnswersCall role a event b answer → IsAnswerText tsc answer text → length (answer_text answer) < 2000 → IsShort answer
 call_short role a event b answer tsc text h t lines = by_event event h
   where
-    by_event : (event : Event) → AnswersCall role a event b answer → IsShort answer
+    by_event : (event : Event) → SideAnswersCall role a event b answer → IsShort answer
     by_event (Open info) h = asked_short role a Zero (Opens info) b answer tsc t.blocks h t.coded lines
-    by_event (OpenBare other) h = asked_short role a Three OpensBare b answer tsc t.blocks h t.coded lines
+    by_event (OpenBare other) h = asked_short role a Three OpensWithoutInfo b answer tsc t.blocks h t.coded lines
     by_event (Ask other sapi request) h = asked_short role a sapi (call_of request) b answer tsc t.blocks h t.coded lines
     by_event (Deliver sender places) h = absurd h
     by_event (Lose sender) h = absurd h
     by_event (Rival info) h = absurd h
 
 -- an answer that sends nothing satisfies `IsShort` if its own lines have fewer than 2000 octets
-unsent : (step : Step) → step.frames ≡ [] → length (answer_text (Does step)) < 2000 → IsShort (Does step)
+unsent : (step : Step) → step.frames ≡ [] → length (answer_text (Accepts step)) < 2000 → IsShort (Accepts step)
 unsent step none lines = let n = ap (λ fs. length fs) none in omega (arith, n, lines)
 
 has_room : (c : Content) → InformationFits Sdcch c → length (information c) ≤ 251
@@ -374,13 +378,13 @@ taken_short : (role : Role) (a : SideState) (r : Received) (f : Frame) (octets :
     r.accepted ≡ Some octets →
     IsFrameCoding Sdcch f octets → r.tsc ≤ 7 → ReceptionIsInRange (reception_quality r) →
     AreCodedBlocks tsc (step_of role (Some r) (takes f a)).frames blocks →
-    length (answer_text (Does (step_of role (Some r) (takes f a)))) < 2000 → IsShort (Does (step_of role (Some r) (takes f a)))
+    length (answer_text (Accepts (step_of role (Some r) (takes f a)))) < 2000 → IsShort (Accepts (step_of role (Some r) (takes f a)))
 taken_short role a r f octets tsc blocks is frame known fits =
     let arrived = arrival_short role r octets is frame.count known fits in
     let room = has_room f.content frame.fits.information in
     by_sapi f a (λ d. AreCodedBlocks tsc (step_of role (Some r) d).frames blocks →
-    length (answer_text (Does (step_of role (Some r) d))) < 2000 →
-    IsShort (Does (step_of role (Some r) d)))
+    length (answer_text (Accepts (step_of role (Some r) d))) < 2000 →
+    IsShort (Accepts (step_of role (Some r) d)))
     (λ q coded lines. outcome_short role (Some r) Zero (frame_outcome f a.link0) a tsc blocks (few-frame f a.link0).frames
     (brief-frame f a.link0 room) arrived coded)
     (λ q coded lines. outcome_short role (Some r) Three (frame_outcome f a.link3) a tsc blocks (few-frame f a.link3).frames
@@ -390,16 +394,17 @@ taken_short role a r f octets tsc blocks is frame known fits =
 -- the answer to a block has fewer than 2000 octets
 pub block_short : (role : Role) (a : SideState) (bursts : List (List ℤ)) (b : SideState) (step : Step) (tsc : ℕ) (text : List ℕ) →
     ReceivesBursts role a bursts b step → ((r : Received) → step.received ≡ Some r → ReceptionIsInRange (reception_quality r)) →
-    IsAnswerText tsc (Does step) text →
-    length (answer_text (Does step)) < 2000 → IsShort (Does step)
-block_short role a bursts b step tsc text h fits t lines = by_read h.read h.report.accepted h.reads refl h.step_is
+    IsAnswerText tsc (Accepts step) text →
+    length (answer_text (Accepts step)) < 2000 → IsShort (Accepts step)
+block_short role a bursts b step tsc text h fits t lines = by_read h.frame h.report.accepted h.reads refl h.step_is
   where
     by_read : (read : Option Frame) (accepted : Option Octets) → ReadsFrame Sdcch accepted read → h.report.accepted ≡ accepted →
-        step ≡ step_of role (Some h.report) (step_for_read_frame read a) → IsShort (Does step)
+        step ≡ step_of role (Some h.report) (step_for_read_frame read a) → IsShort (Accepts step)
     by_read None accepted reads is same = unsent step (ap (λ (s : Step). s.frames) same) lines
     by_read (Some f) None reads is same = absurd reads
     by_read (Some f) (Some octets) reads is same =
-        subst (λ (s : Step). AreCodedBlocks tsc s.frames t.blocks → length (answer_text (Does s)) < 2000 → IsShort (Does s)) (sym same)
-        (taken_short role a h.report f octets tsc t.blocks is reads h.received.tsc.within
+        subst (λ (s : Step). AreCodedBlocks tsc s.frames t.blocks → length (answer_text (Accepts s)) < 2000 → IsShort (Accepts s))
+        (sym same)
+        (taken_short role a h.report f octets tsc t.blocks is reads h.received.tsc.in_range
         (fits h.report (ap (λ (s : Step). s.received) same)))
         t.coded lines

@@ -4,27 +4,28 @@ use Rattle.std.proofs.Common.{◌≡◌, refl, sym, ◌∙◌, ap, ap₂, subst,
 use Rattle.std.{proofs.{Common.{Some, None}, lemmas.List.append-nil}, specs.Prelude.IfSome}
 use Rattle.um_link.specs.lapdm_frame.{declared.Channel.TheVariants.Sdcch, Content.Frame, Frames.{FrameFits, octets_of}}
 use Rattle.um_link.specs.lapdm_window.{declared.Sapi.{Sapi, TheVariants.{Zero, Three}}, Ends.{Role, Mobile, Network}, Calls.{Call, Opens}}
-use Rattle.um_link.specs.{lapdm_window.Calls.{OpensBare, refusal_of}, lapdm_link.Queues.{Queues, empty_queues, queue_of, with_appended}}
-use Rattle.um_link.specs.lapdm_link.{Queues.{without_first, IsOldestSentOrNone}, Events.{Open, OpenBare, Ask, Deliver, Lose, Rival}}
-use Rattle.um_link.specs.lapdm_link.Events.{Request, BySide, Ends, other, side_in, with_side_in, unbounded_capacity, EventRefusal}
-use Rattle.um_link.specs.lapdm_link.{Events.{as_event_refusal, call_of, event_step}, Worlds.{World, refusal, answer_unless_refused, answer}}
-use Rattle.um_link.specs.lapdm_link.{Worlds.{world_unless_refused, world_after, answers, IsBenignEvent, IsBenign}, Claims.event_log_lines}
-use Rattle.um_link.specs.lapdm_link.Claims.{answer_log_lines, notice_log_lines, Claims, IsOrderedLog, AckedAtMostDelivered}
-use Rattle.um_link.specs.{um_block.{Received.IsReceivedBlock, declared.received.Received.Received}, um_air.Air.{Octets, Event, Answer}}
-use Rattle.um_link.{specs.um_air.Air.{Refuses, Does, Step, ReadsFrame}, proofs.lapdm_link.Lemmas.{KnowsBy, IsFitting, fits-step}}
-use Rattle.um_link.proofs.{lapdm_link.Lemmas.{start-fits, AreOctets, claims, counts_acks, order_claims}, um_block.Lemmas.accepted_octets}
-use Rattle.um_link.proofs.um_air.Laws.{zip-rest, AreAlike, alike-more, read_back, all-written, damaged_received, reads-well}
-use Rattle.um_end.specs.Terminals.{SideState, IsCallOfRole, AnswersCall, IsCallAnswer, ReceivesBursts, endpoint_on, step_for_read_frame}
-use Rattle.um_end.specs.{EndRuns.frames_in_answer, TwoTerminals.{TwoTerminals, idle_terminals, TerminalStep, Calls, TakesBurst, Loses}}
-use Rattle.um_end.specs.TwoTerminals.{state_after_step, IsTerminalStep, AreStepsFrom, AreBurstsOfFirstBlock, DeliversOldestBlock}
-use Rattle.um_end.specs.TwoTerminals.{AnyStepAllowed, step_log_lines, lines}
+use Rattle.um_link.specs.{lapdm_window.Calls.{OpensWithoutInfo, refusal_of}, lapdm_link.Queues.{Queues, empty_queues, queue_of}}
+use Rattle.um_link.specs.lapdm_link.{Queues.{with_appended, without_first, IsOldestSentOrNone}, Events.{Open, OpenBare, Ask, Deliver, Lose}}
+use Rattle.um_link.specs.lapdm_link.Events.{Rival, Request, BySide, BothSides, other, side_with_role, with_side, unbounded_capacity}
+use Rattle.um_link.specs.lapdm_link.{Events.{EventRefusal, as_event_refusal, call_of, event_step}, Worlds.{World, refusal}}
+use Rattle.um_link.specs.lapdm_link.Worlds.{answer_unless_refused, answer, world_unless_refused, world_after, answers, IsBenignEvent}
+use Rattle.um_link.specs.lapdm_link.{Worlds.IsBenign, Claims.{event_log_lines, answer_log_lines, notice_log_lines, Claims, IsOrderedLog}}
+use Rattle.um_link.specs.{lapdm_link.Claims.AckedAtMostDelivered, um_block.{Received.IsReceivedBlock, declared.received.Received.Received}}
+use Rattle.um_link.{specs.um_air.Air.{Octets, Event, Answer, Refuses, Accepts, Step, ReadsFrame}, proofs.lapdm_link.Lemmas.KnowsBy}
+use Rattle.um_link.proofs.lapdm_link.Lemmas.{IsFitting, fits-step, start-fits, AreOctets, claims, acked_at_most_delivered, order_claims}
+use Rattle.um_link.proofs.{um_block.Lemmas.accepted_octets, um_air.Lemmas.{zip-rest, AreAlike, alike-more, read_back, all-written}}
+use Rattle.um_link.proofs.um_air.Lemmas.{damaged_received, reads-well}
+use Rattle.um_end.specs.Terminals.{SideState, IsCallOfRole, SideAnswersCall, EndpointAnswersCall, ReceivesBursts, endpoint_on}
+use Rattle.um_end.specs.{Terminals.step_for_read_frame, EndRuns.frames_in_answer, TwoTerminals.{TwoTerminals, idle_terminals, TerminalStep}}
+use Rattle.um_end.specs.TwoTerminals.{Calls, TakesBurst, Loses, state_after_step, IsTerminalStep, AreStepsFrom, AreBurstsOfFirstBlock}
+use Rattle.um_end.specs.TwoTerminals.{DeliversOldestBlock, AnyStepAllowed, step_log_lines, lines}
 use Rattle.um_link.specs.lapdm_window.Sides as S
 use Rattle.um_link.specs.lapdm_link.Events as E
 use Rattle.um_link.specs.lapdm_link.Claims as C
 
 -- the corresponding state of a session of frames, with these frames in transit
 abbrev world_of : TwoTerminals → Queues Frame → World
-world_of a fs = record { capacity = unbounded_capacity; channel = Sdcch; ends = a.ends; queues = fs }
+world_of a fs = record { capacity = unbounded_capacity; channel = Sdcch; ends = a.sides; queues = fs }
 
 abbrev Written : Queues Frame → Queues Octets → Type 0
 Written fs os = AreAlike (λ f o. o ≡ octets_of Sdcch f) fs os
@@ -47,7 +48,7 @@ rest-written Mobile fs os h Network = h Network
 rest-written Network fs os h Mobile = h Mobile
 rest-written Network fs os h Network = zip-rest (λ f o. o ≡ octets_of Sdcch f) fs.down os.down (h Network)
 
-same_ends : (side : Role) (es : Ends) → with_side_in side (side_in side es) es ≡ es
+same_ends : (side : Role) (es : BothSides) → with_side side (side_with_role side es) es ≡ es
 same_ends Mobile es = refl
 same_ends Network es = refl
 
@@ -72,14 +73,14 @@ module _ {a : TwoTerminals} {fs : Queues Frame} (seen : IsSeen a fs) where
   w = world_of a fs
 
   -- if a side does not change and sends nothing, the state is the same
-  quiet : (side : Role) → state_after_step side (side_in side a.ends) [] a.queues a ≡ a
-  quiet side = ap₂ (λ (es : Ends) (ws : Queues Octets). record { ends = es; queues = ws }) (same_ends side a.ends)
+  quiet : (side : Role) → state_after_step side (side_with_role side a.sides) [] a.queues a ≡ a
+  quiet side = ap₂ (λ (es : BothSides) (ws : Queues Octets). record { sides = es; queues = ws }) (same_ends side a.sides)
       (none_more side a.queues)
 
   -- below, the event is not refused, and side `side` does d in it
   module _ (event : E.Event) (side : Role) (d : S.SideStep) (left : Queues Frame) (from : Queues Octets) (none : refusal event w ≡ None)
       (later : world_unless_refused None event w ≡ record w {
-        ends = with_side_in side d.after a.ends;
+        ends = with_side side d.new_state a.sides;
         queues = with_appended side
             d.frames left;
       })
@@ -88,7 +89,7 @@ module _ {a : TwoTerminals} {fs : Queues Frame} (seen : IsSeen a fs) where
     frames_then = with_appended side d.frames left
 
     abbrev then_is : TwoTerminals
-    then_is = state_after_step side d.after (map (octets_of Sdcch) d.frames) from a
+    then_is = state_after_step side d.new_state (map (octets_of Sdcch) d.frames) from a
 
     now : world_after event w ≡ world_of then_is frames_then
     now = ap (λ o. world_unless_refused o event w) none ∙ later
@@ -103,28 +104,28 @@ module _ {a : TwoTerminals} {fs : Queues Frame} (seen : IsSeen a fs) where
     }
 
     played : (turn : TerminalStep) (b : TwoTerminals) → then_is ≡ b → (DeliversOldestBlock a turn → IsBenignEvent None event w) →
-        step_log_lines turn ≡ answer_log_lines event (answer_unless_refused None (event_step event a.ends)) → IsPlayed a b turn fs
+        step_log_lines turn ≡ answer_log_lines event (answer_unless_refused None (event_step event a.sides)) → IsPlayed a b turn fs
     played turn b same benign says =
         subst (λ (z : TwoTerminals). IsPlayed a z turn fs) same
         (endpoint_step event frames_then now seen_then (λ q. subst (λ (o : Option EventRefusal). IsBenignEvent o event w) (sym none)
         (benign q))
-        (says ∙ sym (ap (λ o. answer_log_lines event (answer_unless_refused o (event_step event a.ends))) none)))
+        (says ∙ sym (ap (λ o. answer_log_lines event (answer_unless_refused o (event_step event a.sides))) none)))
 
   -- a call of a side corresponds to an event of the session
   asked_call : (side : Role) (sapi : Sapi) (call : Call) (event : Event) (e : E.Event) (links : SideState) (answer : Answer) →
-      refusal e w ≡ as_event_refusal (refusal_of call (endpoint_on sapi (side_in side a.ends))) →
-      (let d : S.SideStep = S.layer3_calls sapi call (side_in side a.ends) in
-      (world_unless_refused None e w ≡ record w { ends = with_side_in side d.after a.ends; queues = with_appended side d.frames fs })
-      × (answer_log_lines e (answer_unless_refused None (event_step e a.ends)) ≡ event_log_lines event ++ notice_log_lines
+      refusal e w ≡ as_event_refusal (refusal_of call (endpoint_on sapi (side_with_role side a.sides))) →
+      (let d : S.SideStep = S.layer3_call_step sapi call (side_with_role side a.sides) in
+      (world_unless_refused None e w ≡ record w { ends = with_side side d.new_state a.sides; queues = with_appended side d.frames fs })
+      × (answer_log_lines e (answer_unless_refused None (event_step e a.sides)) ≡ event_log_lines event ++ notice_log_lines
       (BySide side) d.sapi d.notices)) →
       KnowsBy None (λ r f. FrameFits Sdcch f) e → IsBenignEvent None e w →
-      IsCallAnswer side (side_in side a.ends) sapi call links answer →
+      EndpointAnswersCall side (side_with_role side a.sides) sapi call links answer →
       IsPlayed a (state_after_step side links (frames_in_answer answer) a.queues a) (Calls side event answer) fs
   asked_call side sapi call event e links (Refuses why) refused done known benign t =
       idle (ap (λ (l : SideState). state_after_step side l [] a.queues a) t.1 ∙ quiet side) refl
-  asked_call side sapi call event e links (Does step) refused done known benign t =
-      let d : S.SideStep = S.layer3_calls sapi call (side_in side a.ends) in
-      played e side d fs a.queues (refused ∙ t.0) done.0 known seen.written (Calls side event (Does step))
+  asked_call side sapi call event e links (Accepts step) refused done known benign t =
+      let d : S.SideStep = S.layer3_call_step sapi call (side_with_role side a.sides) in
+      played e side d fs a.queues (refused ∙ t.0) done.0 known seen.written (Calls side event (Accepts step))
       (state_after_step side links step.frames a.queues a)
       (ap₂ (λ (l : SideState) (x : Step). state_after_step side l x.frames a.queues a) (sym t.1) (sym t.2)) (λ q. benign)
       (ap (λ (x : Step). event_log_lines event ++ notice_log_lines x.who x.sapi x.notices) t.2 ∙ sym done.1)
@@ -133,15 +134,15 @@ module _ {a : TwoTerminals} {fs : Queues Frame} (seen : IsSeen a fs) where
   own side r sapi request h = grind arith
 
   calls : (side : Role) (event : Event) (answer : Answer) (links : SideState) → IsCallOfRole side event →
-      AnswersCall side (side_in side a.ends) event links answer →
+      SideAnswersCall side (side_with_role side a.sides) event links answer →
       IsPlayed a (state_after_step side links (frames_in_answer answer) a.queues a) (Calls side event answer) fs
   calls Mobile (Open info) answer links of t = asked_call Mobile Zero (Opens info) (Open info) (Open info) links answer refl (refl, refl) tt
       tt t
   calls Network (Open info) answer links of t = absurd (cc of)
   calls Mobile (OpenBare Mobile) answer links of t =
-      asked_call Mobile Three OpensBare (OpenBare Mobile) (OpenBare Mobile) links answer refl (refl, refl) tt tt t
+      asked_call Mobile Three OpensWithoutInfo (OpenBare Mobile) (OpenBare Mobile) links answer refl (refl, refl) tt tt t
   calls Network (OpenBare Network) answer links of t =
-      asked_call Network Three OpensBare (OpenBare Network) (OpenBare Network) links answer refl (refl, refl) tt tt t
+      asked_call Network Three OpensWithoutInfo (OpenBare Network) (OpenBare Network) links answer refl (refl, refl) tt tt t
   calls Mobile (OpenBare Network) answer links of t = absurd (cc of)
   calls Network (OpenBare Mobile) answer links of t = absurd (cc of)
   calls Mobile (Ask Mobile sapi request) answer links of t =
@@ -158,36 +159,37 @@ module _ {a : TwoTerminals} {fs : Queues Frame} (seen : IsSeen a fs) where
 
   -- below, bursts arrive at a side
   module _ (side : Role) (bursts : List (List ℤ)) (step : Step) (links : SideState)
-      (h : ReceivesBursts side (side_in side a.ends) bursts links step) where
+      (h : ReceivesBursts side (side_with_role side a.sides) bursts links step) where
     abbrev event : E.Event
-    event = Deliver (other side) h.read
+    event = Deliver (other side) h.frame
 
     abbrev side_step_is : S.SideStep
-    side_step_is = step_for_read_frame h.read (side_in side a.ends)
+    side_step_is = step_for_read_frame h.frame (side_with_role side a.sides)
 
     carried : DeliversOldestBlock a (TakesBurst side bursts step) → IsBenignEvent None event w
     carried q =
-        read_back Sdcch h.report.accepted h.read (queue_of (other side) fs) (queue_of (other side) a.queues) (seen.written (other side))
+        read_back Sdcch h.report.accepted h.frame (queue_of (other side) fs) (queue_of (other side) a.queues) (seen.written (other side))
         (seen.fit.queues (other side)) h.reads (received_first bursts (queue_of (other side) a.queues) h.report h.received q)
 
     brings : world_unless_refused None event w ≡ record w {
-      ends = with_side_in side side_step_is.after a.ends;
+      ends = with_side side side_step_is.new_state a.sides;
       queues = with_appended side side_step_is.frames (without_first (other side) fs);
     } →
-        answer_log_lines event (answer_unless_refused None (event_step event a.ends)) ≡ notice_log_lines
+        answer_log_lines event (answer_unless_refused None (event_step event a.sides)) ≡ notice_log_lines
         (BySide side) side_step_is.sapi side_step_is.notices →
         IsPlayed a (state_after_step side links step.frames (without_first (other side) a.queues) a) (TakesBurst side bursts step) fs
     brings later says =
         played event side side_step_is (without_first (other side) fs) (without_first (other side) a.queues) refl later
-        (known_read (other side) h.report.accepted h.read (accepted_octets bursts h.report h.received) h.reads)
+        (known_read (other side) h.report.accepted h.frame (accepted_octets bursts h.report h.received) h.reads)
         (rest-written (other side) fs a.queues seen.written) (TakesBurst side bursts step)
         (state_after_step side links step.frames (without_first (other side) a.queues) a)
-        (ap₂ (λ (l : SideState) (x : Step). state_after_step side l x.frames (without_first (other side) a.queues) a) (sym h.after)
+        (ap₂ (λ (l : SideState) (x : Step). state_after_step side l x.frames (without_first (other side) a.queues) a)
+        (sym h.new_state_is)
         (sym h.step_is))
         carried (ap (λ (x : Step). notice_log_lines x.who x.sapi x.notices) h.step_is ∙ sym says)
 
   brought : (side : Role) (bursts : List (List ℤ)) (step : Step) (links : SideState) →
-      ReceivesBursts side (side_in side a.ends) bursts links step →
+      ReceivesBursts side (side_with_role side a.sides) bursts links step →
       IsPlayed a (state_after_step side links step.frames (without_first (other side) a.queues) a) (TakesBurst side bursts step) fs
   brought Mobile bursts step links h = brings Mobile bursts step links h refl refl
   brought Network bursts step links h = brings Network bursts step links h refl refl
@@ -218,7 +220,7 @@ module _ {a : TwoTerminals} {fs : Queues Frame} (seen : IsSeen a fs) where
 
 record IsSession (turns : List TerminalStep) (w : World) (Sound : Type 0) : Type 0 where
   events : List E.Event
-  same : lines turns ≡ C.lines events (answers events w)
+  same_lines : lines turns ≡ C.lines events (answers events w)
   benign : Sound → IsBenign events w
 
 module _ (May : TwoTerminals → TerminalStep → Type 0) where
@@ -231,19 +233,20 @@ module _ (May : TwoTerminals → TerminalStep → Type 0) where
   goes a b turn turns fs seen may (idle same none) rest =
       let r : IsSession turns (world_of a fs) Sound = subst (λ (z : TwoTerminals). IsSession turns (world_of z fs) Sound) same
       (rest fs (subst (λ (z : TwoTerminals). IsSeen z fs) (sym same) seen)) in
-      record { events = r.events; same = ap (λ ls. ls ++ lines turns) none ∙ r.same; benign = r.benign }
+      record { events = r.events; same_lines = ap (λ ls. ls ++ lines turns) none ∙ r.same_lines; benign = r.benign }
   goes a b turn turns fs seen may (endpoint_step event gs now later benign says) rest =
       let r : IsSession turns (world_after event (world_of a fs)) Sound =
       subst (λ (z : World). IsSession turns z Sound) (sym now) (rest gs later) in
       record {
         events = event ∷ r.events;
-        same = ap (λ ls. ls ++ lines turns) says ∙ ap (λ ls. answer_log_lines event (answer event (world_of a fs)) ++ ls) r.same;
+        same_lines = ap (λ ls. ls ++ lines turns) says
+            ∙ ap (λ ls. answer_log_lines event (answer event (world_of a fs)) ++ ls) r.same_lines;
         benign = λ q. (benign (q a turn may), r.benign q);
       }
 
   session : (turns : List TerminalStep) (a : TwoTerminals) (fs : Queues Frame) → IsSeen a fs → AreStepsFrom May a turns →
       IsSession turns (world_of a fs) Sound
-  session [] a fs seen run = record { events = []; same = refl; benign = λ q. tt }
+  session [] a fs seen run = record { events = []; same_lines = refl; benign = λ q. tt }
   session (turn ∷ turns) a fs seen run =
       goes a run.1 turn turns fs seen run.0 (turn-step seen turn run.1 run.2) (λ gs later. session turns run.1 gs later run.3)
 
@@ -257,15 +260,16 @@ start_seen = record { written = alike; fit = start-fits unbounded_capacity Sdcch
 pub two_claims : (turns : List TerminalStep) → AreStepsFrom DeliversOldestBlock idle_terminals turns → Claims (lines turns)
 two_claims turns run =
     let x = session DeliversOldestBlock turns idle_terminals empty_queues start_seen run in
-    subst Claims (sym x.same) (claims unbounded_capacity Sdcch x.events (x.benign (λ a turn may. may)))
+    subst Claims (sym x.same_lines) (claims unbounded_capacity Sdcch x.events (x.benign (λ a turn may. may)))
 
 pub two_counts : (turns : List TerminalStep) → AreStepsFrom DeliversOldestBlock idle_terminals turns →
     AckedAtMostDelivered (lines turns)
 two_counts turns run =
     let x = session DeliversOldestBlock turns idle_terminals empty_queues start_seen run in
-    subst AckedAtMostDelivered (sym x.same) (counts_acks unbounded_capacity Sdcch x.events (x.benign (λ a turn may. may)))
+    subst AckedAtMostDelivered (sym x.same_lines)
+    (acked_at_most_delivered unbounded_capacity Sdcch x.events (x.benign (λ a turn may. may)))
 
 pub two_in_order : (turns : List TerminalStep) → AreStepsFrom AnyStepAllowed idle_terminals turns → IsOrderedLog (lines turns)
 two_in_order turns run =
     let x = session AnyStepAllowed turns idle_terminals empty_queues start_seen run in
-    subst IsOrderedLog (sym x.same) (order_claims unbounded_capacity Sdcch x.events)
+    subst IsOrderedLog (sym x.same_lines) (order_claims unbounded_capacity Sdcch x.events)

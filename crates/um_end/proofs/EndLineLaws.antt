@@ -5,19 +5,19 @@ use Rattle.std.proofs.Common.{◌++◌, length, map, option_map, Option, Some, N
 use Rattle.std.{proofs.{Common.{subst, inl, inr}, lemmas.{Bool.{cases_Bool, le-ltb}, Slice.Eq.bytes_eq-Decides}}, specs.Str.bytes_eq}
 use Rattle.um_link.specs.{lapdm_window.Ends.{Role, Mobile, Network}, um_air.{Air.Event, Sessions.EventMessageIsOctets}, Naming.event_of}
 use Rattle.um_lines.specs.{declared.fault.LineFault.{LineFault, TheVariants.{Word, Order, Digits, Length, Soft, Twice}}, Words.is_skipped}
-use Rattle.um_lines.specs.{Words.words, Fields.{Field, Value}, Forms.{LineForm, FormTable, has_form, form_of_words, first_word_fault}}
+use Rattle.um_lines.specs.{Words.words, Fields.{LineField, Value}, Forms.{LineForm, LineForms, has_form, form_of_words, first_word_fault}}
 use Rattle.um_lines.specs.Forms.{fields_for_word_count, first_field_fault, has_faulty_word, has_repeated_number, places, values_of_words}
 use Rattle.um_lines.specs.{Forms.{meaning_of_words, line_fault, line_meaning, no_order_fault, LineMeans}, BurstForms.BurstLineKind}
 use Rattle.um_lines.specs.BurstForms.{is_single_burst, block_burst_forms, single_burst_forms, burst_forms, is_burst_out_of_order}
 use Rattle.um_lines.specs.LinkForms.{LinkLineKind, EndLineKind, mobile_call_forms, network_call_forms, link_forms, end_forms}
 use Rattle.um_lines.specs.{LinkForms.is_end_line_out_of_order, Meanings.HasOneMeaningOrFault, Reading.LineParsesTo}
-use Rattle.um_lines.proofs.{FormLaws.{line_means, one_meaning, one_made}, KnownValues.line_is, OneMeaning.{no_fault, same_meaning}}
+use Rattle.um_lines.proofs.FormLaws.{line_means, one_meaning, one_made, line_is, no_fault_if_meant, same_meaning}
 use Rattle.um_formats.specs.{declared.burst_lines.BurstLine.BurstLine, BurstLines.{burst_line_of_meaning, burst_fault, BurstLineMeans}}
-use Rattle.um_formats.proofs.BurstLaws.{one_meaning as one_burst, AreSoft, hard, soft, lost}
+use Rattle.um_formats.proofs.Lemmas.{one_burst_meaning as one_burst, AreSoft, hard, soft, lost}
 use Rattle.um_script.specs.ScriptLines.{event_of_meaning, ScriptLineMeans}
-use Rattle.um_end.specs.{declared.lines.EndLine.EndLine, Terminals.IsCallOfRole, EndLines.{LineMeaning, Nothing, TakesBurst, Calls}}
-use Rattle.um_end.specs.EndLines.{meaning_of, IsPossibleLine, call_forms_of, meaning_of_burst_line, meaning_of_call, meaning_of_end_line}
-use Rattle.um_end.specs.EndLines.{end_fault, EndLineMeans, names_endpoint_of_side, fault_inside_block, burst_fault_to_end_fault}
+use Rattle.um_end.specs.{declared.lines.EndLine.EndLine, Terminals.IsCallOfRole, EndLines.{EndLineMeaning, Nothing, TakesBurst, Calls}}
+use Rattle.um_end.specs.EndLines.{meaning_of, IsPossibleLine, call_line_forms, meaning_of_burst_line, meaning_of_call, meaning_of_end_line}
+use Rattle.um_end.specs.EndLines.{end_line_fault, EndLineMeans, names_endpoint_of_side, call_fault_to_block_fault, burst_fault_to_end_fault}
 use Rattle.um_lines.specs.declared.fault.LineFault.TheVariants as R
 use Rattle.um_lines.specs.Fields as S
 use Rattle.um_lines.specs.LinkForms as L
@@ -25,17 +25,17 @@ use Rattle.um_end.specs.declared.lines.EndLine.TheVariants as V
 
 -- ---- lines without a fault, for any table of forms
 
-module _ {Name A : Type 0} (table : FormTable Name) (elsewhere : Name → Bool) (make : Option (Name × List Value) →
+module _ {Name A : Type 0} (table : LineForms Name) (elsewhere : Name → Bool) (make : Option (Name × List Value) →
     A) (line : List ℕ) where
   means_said : line_fault table elsewhere line ≡ None → LineParsesTo table elsewhere make line (make (line_meaning table line))
   means_said good = (line_meaning table line, line_means table elsewhere line good, refl)
 
 -- ---- a table of forms under other names
 
-abbrev renamed : {A B : Type 0} → (A → B) → FormTable A → FormTable B
+abbrev renamed : {A B : Type 0} → (A → B) → LineForms A → LineForms B
 renamed {A} name table = map (λ (entry : A × LineForm). (name entry.0, entry.1)) table
 
-find_mapped : {A B : Type 0} (name : A → B) (ws : List (List ℕ)) (table : FormTable A) →
+find_mapped : {A B : Type 0} (name : A → B) (ws : List (List ℕ)) (table : LineForms A) →
     form_of_words (renamed name table) ws ≡ option_map (λ (entry : A × LineForm). (name entry.0, entry.1)) (form_of_words table ws)
 find_mapped name ws [] = refl
 find_mapped name ws (entry ∷ table) =
@@ -57,7 +57,7 @@ by_word P known w here other =
     ]
 
 abbrev IsOwnForm : Role → List (List ℕ) → Type 0
-IsOwnForm role ws = form_of_words (end_forms (call_forms_of role)) ws ≡ option_map as_call (form_of_words link_forms ws)
+IsOwnForm role ws = form_of_words (end_forms (call_line_forms role)) ws ≡ option_map as_call (form_of_words link_forms ws)
 
 own_form : (role : Role) (ws : List (List ℕ)) → names_endpoint_of_side role ws ≡ true → IsOwnForm role ws
 own_form role [] e = absurd (cc e)
@@ -72,10 +72,10 @@ own_form Network (name ∷ ws) e =
 
 -- the words of a line have the same fault in `end` as in a script, or the fault of a call inside a block
 abbrev inside_if : Bool → Option LineFault → Option LineFault
-inside_if b fault = if b then fault_inside_block fault else fault
+inside_if b fault = if b then call_fault_to_block_fault fault else fault
 
 no_word : (digits many soft place twice : Bool) →
-    Some Order ≡ fault_inside_block
+    Some Order ≡ call_fault_to_block_fault
     (if digits then Some Digits else if many then Some Length else if soft then Some Soft else if place then Some R.Place
     else if twice then Some Twice else None)
 no_word true many soft place twice = refl
@@ -89,7 +89,7 @@ record IsSameCall (held : ℕ) (ws : List (List ℕ)) (own : Option (EndLineKind
     LineForm)) : Type 0 where
   pub fault : first_word_fault (is_end_line_out_of_order held) own ws ≡ inside_if (not (held == 0))
       (first_word_fault no_order_fault script ws)
-  pub says : meaning_of_end_line (meaning_of_words own ws) ≡ meaning_of_call (event_of_meaning (meaning_of_words script ws))
+  pub same_meaning : meaning_of_end_line (meaning_of_words own ws) ≡ meaning_of_call (event_of_meaning (meaning_of_words script ws))
 
 by_bool : (P : Bool → Type 0) (b : Bool) → P true → P false → P b
 by_bool P true t f = t
@@ -99,7 +99,7 @@ inside_word : (b : Bool) → Some Word ≡ inside_if b (Some Word)
 inside_word true = refl
 inside_word false = refl
 
-inside_fields : (b : Bool) (fields : List Field) (ws : List (List ℕ)) →
+inside_fields : (b : Bool) (fields : List LineField) (ws : List (List ℕ)) →
     (if b && true then Some Order else first_field_fault fields ws) ≡ inside_if b (first_field_fault fields ws)
 inside_fields true fields ws =
     no_word (has_faulty_word S.has_wrong_digits fields ws) (has_faulty_word S.has_wrong_length fields ws)
@@ -109,14 +109,14 @@ inside_fields false fields ws = refl
 
 same_call : (held : ℕ) (ws : List (List ℕ)) (script : Option (LinkLineKind × LineForm)) →
     IsSameCall held ws (option_map as_call script) script
-same_call held ws None = record { fault = inside_word (not (held == 0)); says = refl }
+same_call held ws None = record { fault = inside_word (not (held == 0)); same_meaning = refl }
 same_call held ws (Some entry) = record {
   fault = inside_fields (not (held == 0)) (fields_for_word_count entry.1 (length ws)) ws;
-  says = refl;
+  same_meaning = refl;
 }
 
 own_words : (role : Role) (held : ℕ) (ws : List (List ℕ)) → names_endpoint_of_side role ws ≡ true →
-    IsSameCall held ws (form_of_words (end_forms (call_forms_of role)) ws) (form_of_words link_forms ws)
+    IsSameCall held ws (form_of_words (end_forms (call_line_forms role)) ws) (form_of_words link_forms ws)
 own_words role held ws own =
     subst (λ o. IsSameCall held ws o (form_of_words link_forms ws)) (sym (own_form role ws own)) (same_call held ws
     (form_of_words link_forms ws))
@@ -125,7 +125,7 @@ own_words role held ws own =
 
 -- the words have the form of no call
 abbrev IsNoCall : Role → List (List ℕ) → Type 0
-IsNoCall role ws = form_of_words (renamed L.Call (call_forms_of role)) ws ≡ None
+IsNoCall role ws = form_of_words (renamed L.Call (call_line_forms role)) ws ≡ None
 
 neither : (a b : Bool) → (a || b) ≡ false → (a ≡ false) × (b ≡ false)
 neither true b e = absurd cc
@@ -146,7 +146,7 @@ record IsSameBurst (held : ℕ) (ws : List (List ℕ)) (own : Option (EndLineKin
     LineForm)) : Type 0 where
   pub fault : first_word_fault (is_end_line_out_of_order held) own ws ≡ burst_fault_to_end_fault (first_word_fault
       (is_burst_out_of_order 3) burst ws)
-  pub says : first_word_fault (is_burst_out_of_order 3) burst ws ≡ None →
+  pub same_meaning : first_word_fault (is_burst_out_of_order 3) burst ws ≡ None →
       meaning_of_end_line (meaning_of_words own ws) ≡ meaning_of_burst_line (burst_line_of_meaning (meaning_of_words burst ws))
 
 no_order : (digits many soft place twice : Bool) →
@@ -161,7 +161,7 @@ no_order false false false true twice = refl
 no_order false false false false true = refl
 no_order false false false false false = refl
 
-burst_fields : (b : Bool) (fields : List Field) (ws : List (List ℕ)) →
+burst_fields : (b : Bool) (fields : List LineField) (ws : List (List ℕ)) →
     (if b && false then Some Order else first_field_fault fields ws) ≡ burst_fault_to_end_fault (first_field_fault fields ws)
 burst_fields true fields ws =
     no_order (has_faulty_word S.has_wrong_digits fields ws) (has_faulty_word S.has_wrong_length fields ws)
@@ -180,7 +180,7 @@ module _ (held : ℕ) (ws : List (List ℕ)) where
   by_block name form false own burst block h = h
   by_block name form true own burst block h = record {
     fault = rw block (burst_fields (not (held == 0)) (fields_for_word_count form (length ws)) ws);
-    says = λ good. refl;
+    same_meaning = λ good. refl;
   }
 
   by_single : (name : BurstLineKind) (form : LineForm) (b : Bool) (burst : Option (BurstLineKind × LineForm)) →
@@ -189,7 +189,7 @@ module _ (held : ℕ) (ws : List (List ℕ)) where
   by_single name form false burst single h = h
   by_single name form true burst single h = record {
     fault = rw single refl;
-    says = λ good. absurd (let e : (if is_single_burst name then Some Order else first_field_fault (fields_for_word_count form
+    same_meaning = λ good. absurd (let e : (if is_single_burst name then Some Order else first_field_fault (fields_for_word_count form
         (length ws)) ws) ≡ None = good in
         not_order (is_single_burst name) _ single e);
   }
@@ -198,35 +198,35 @@ module _ (held : ℕ) (ws : List (List ℕ)) where
       not_order true fault e good = cc good
       not_order false fault e good = cc e
 
-  abbrev AreBlocks : FormTable BurstLineKind → Type 0
+  abbrev AreBlocks : LineForms BurstLineKind → Type 0
   AreBlocks [] = Unit {0}
   AreBlocks (entry ∷ table) = (is_single_burst entry.0 ≡ false) × AreBlocks table
 
-  abbrev AreSingles : FormTable BurstLineKind → Type 0
+  abbrev AreSingles : LineForms BurstLineKind → Type 0
   AreSingles [] = Unit {0}
   AreSingles (entry ∷ table) = (is_single_burst entry.0 ≡ true) × AreSingles table
 
-  singles : (table : FormTable BurstLineKind) → AreSingles table → IsSameBurst held ws None (form_of_words table ws)
-  singles [] all = record { fault = refl; says = λ good. absurd (cc good) }
+  singles : (table : LineForms BurstLineKind) → AreSingles table → IsSameBurst held ws None (form_of_words table ws)
+  singles [] all = record { fault = refl; same_meaning = λ good. absurd (cc good) }
   singles (entry ∷ table) all = by_single entry.0 entry.1 (has_form ws entry.1) _ all.0 (singles table all.1)
 
-  blocks : (table single : FormTable BurstLineKind) (rest : FormTable EndLineKind) → AreBlocks table →
+  blocks : (table single : LineForms BurstLineKind) (rest : LineForms EndLineKind) → AreBlocks table →
       IsSameBurst held ws (form_of_words rest ws) (form_of_words single ws) →
       IsSameBurst held ws (form_of_words (renamed L.Burst table ++ rest) ws) (form_of_words (table ++ single) ws)
   blocks [] single rest all h = h
   blocks (entry ∷ table) single rest all h = by_block entry.0 entry.1 (has_form ws entry.1) _ _ all.0 (blocks table single rest all.1 h)
 
   other_words : (role : Role) → names_endpoint_of_side role ws ≡ false →
-      IsSameBurst held ws (form_of_words (end_forms (call_forms_of role)) ws) (form_of_words burst_forms ws)
+      IsSameBurst held ws (form_of_words (end_forms (call_line_forms role)) ws) (form_of_words burst_forms ws)
   other_words role other =
-      blocks block_burst_forms single_burst_forms (renamed L.Call (call_forms_of role)) (refl, (refl, (refl, tt)))
+      blocks block_burst_forms single_burst_forms (renamed L.Call (call_line_forms role)) (refl, (refl, (refl, tt)))
       (subst (λ (o : Option (EndLineKind × LineForm)). IsSameBurst held ws o (form_of_words single_burst_forms ws)) (sym
       (no_call role ws other))
       (singles single_burst_forms (refl, (refl, (refl, (refl, tt))))))
 
 -- ---- whole lines
 
-module _ {Name : Type 0} (table : FormTable Name) (elsewhere : Name → Bool) (line : List ℕ) (short : length line ≤ 4096)
+module _ {Name : Type 0} (table : LineForms Name) (elsewhere : Name → Bool) (line : List ℕ) (short : length line ≤ 4096)
     (kept : is_skipped line ≡ false) where
   fault_of_words : line_fault table elsewhere line ≡ first_word_fault elsewhere (form_of_words table (words line)) (words line)
   fault_of_words = rw (le-ltb 4096 (length line) short, kept) refl
@@ -235,13 +235,14 @@ module _ {Name : Type 0} (table : FormTable Name) (elsewhere : Name → Bool) (l
   says_of_words = rw kept refl
 
 pub end_one_meaning : (role : Role) (held : ℕ) (line : List ℕ) →
-    HasOneMeaningOrFault (end_fault role held line) (EndLineMeans role held line)
+    HasOneMeaningOrFault (end_line_fault role held line) (EndLineMeans role held line)
 end_one_meaning Mobile held line =
-    one_made meaning_of_end_line (LineMeans (end_forms mobile_call_forms) (is_end_line_out_of_order held) line) (end_fault Mobile held line)
+    one_made meaning_of_end_line (LineMeans (end_forms mobile_call_forms) (is_end_line_out_of_order held) line)
+    (end_line_fault Mobile held line)
     (one_meaning (end_forms mobile_call_forms) (is_end_line_out_of_order held) line refl)
 end_one_meaning Network held line =
     one_made meaning_of_end_line (LineMeans (end_forms network_call_forms) (is_end_line_out_of_order held) line)
-    (end_fault Network held line)
+    (end_line_fault Network held line)
     (one_meaning (end_forms network_call_forms) (is_end_line_out_of_order held) line refl)
 
 script_one_meaning : (line : List ℕ) → HasOneMeaningOrFault (line_fault link_forms no_order_fault line) (ScriptLineMeans line)
@@ -251,78 +252,80 @@ script_one_meaning line =
 
 module _ (role : Role) (held : ℕ) (line : List ℕ) (short : length line ≤ 4096) (kept : is_skipped line ≡ false) where
   module _ (own : names_endpoint_of_side role (words line) ≡ true) where
-    same : IsSameCall held (words line) (form_of_words (end_forms (call_forms_of role)) (words line)) (form_of_words link_forms
+    same : IsSameCall held (words line) (form_of_words (end_forms (call_line_forms role)) (words line)) (form_of_words link_forms
         (words line))
     same = own_words role held (words line) own
 
-    own_fault : end_fault role held line ≡ inside_if (not (held == 0)) (line_fault link_forms no_order_fault line)
+    own_fault : end_line_fault role held line ≡ inside_if (not (held == 0)) (line_fault link_forms no_order_fault line)
     own_fault =
-        fault_of_words (end_forms (call_forms_of role)) (is_end_line_out_of_order held) line short kept ∙ same.fault
+        fault_of_words (end_forms (call_line_forms role)) (is_end_line_out_of_order held) line short kept ∙ same.fault
         ∙ ap (inside_if (not (held == 0))) (sym (fault_of_words link_forms no_order_fault line short kept))
 
-    own_says : meaning_of_end_line (line_meaning (end_forms (call_forms_of role)) line) ≡ meaning_of_call (event_of_meaning
+    own_says : meaning_of_end_line (line_meaning (end_forms (call_line_forms role)) line) ≡ meaning_of_call (event_of_meaning
         (line_meaning link_forms line))
     own_says =
-        ap meaning_of_end_line (says_of_words (end_forms (call_forms_of role)) (is_end_line_out_of_order held) line short kept)
-        ∙ same.says
+        ap meaning_of_end_line (says_of_words (end_forms (call_line_forms role)) (is_end_line_out_of_order held) line short kept)
+        ∙ same.same_meaning
         ∙ ap (λ said. meaning_of_call (event_of_meaning said)) (sym (says_of_words link_forms no_order_fault line short kept))
 
     -- inside a block a call is out of order
-    pub inside_fault : not (held == 0) ≡ true → end_fault role held line ≡
-        fault_inside_block (line_fault link_forms no_order_fault line)
+    pub inside_fault : not (held == 0) ≡ true → end_line_fault role held line ≡
+        call_fault_to_block_fault (line_fault link_forms no_order_fault line)
     inside_fault some = own_fault ∙ rw some refl
 
     -- outside a block, a call is refused for the same reason as in a script
-    pub call_fault : not (held == 0) ≡ false → end_fault role held line ≡ line_fault link_forms no_order_fault line
+    pub call_fault : not (held == 0) ≡ false → end_line_fault role held line ≡ line_fault link_forms no_order_fault line
     call_fault none = own_fault ∙ rw none refl
 
     pub call_means : not (held == 0) ≡ false → (event : Option Event) → ScriptLineMeans line event →
         EndLineMeans role held line (meaning_of_call event)
     call_means none event means =
         let good : line_fault link_forms no_order_fault line ≡ None =
-        no_fault (ScriptLineMeans line) (line_fault link_forms no_order_fault line) (script_one_meaning line) event means in
+        no_fault_if_meant (ScriptLineMeans line) (line_fault link_forms no_order_fault line) (script_one_meaning line) event means in
         let said : event ≡ event_of_meaning (line_meaning link_forms line) =
         same_meaning (ScriptLineMeans line) (line_fault link_forms no_order_fault line) (script_one_meaning line)
         event (event_of_meaning (line_meaning link_forms line)) means
         (means_said link_forms no_order_fault event_of_meaning line good) in
         subst (EndLineMeans role held line) (own_says ∙ ap meaning_of_call (sym said))
-        (means_said (end_forms (call_forms_of role)) (is_end_line_out_of_order held) meaning_of_end_line line (call_fault none ∙ good))
+        (means_said (end_forms (call_line_forms role)) (is_end_line_out_of_order held) meaning_of_end_line line (call_fault none ∙ good))
 
   module _ (other : names_endpoint_of_side role (words line) ≡ false) where
-    same-2 : IsSameBurst held (words line) (form_of_words (end_forms (call_forms_of role)) (words line)) (form_of_words burst_forms
+    same-2 : IsSameBurst held (words line) (form_of_words (end_forms (call_line_forms role)) (words line)) (form_of_words burst_forms
         (words line))
     same-2 = other_words held (words line) role other
 
-    pub other_fault : end_fault role held line ≡ burst_fault_to_end_fault (burst_fault 3 line)
+    pub other_fault : end_line_fault role held line ≡ burst_fault_to_end_fault (burst_fault 3 line)
     other_fault =
-        fault_of_words (end_forms (call_forms_of role)) (is_end_line_out_of_order held) line short kept ∙ same-2.fault
+        fault_of_words (end_forms (call_line_forms role)) (is_end_line_out_of_order held) line short kept ∙ same-2.fault
         ∙ ap burst_fault_to_end_fault (sym (fault_of_words burst_forms (is_burst_out_of_order 3) line short kept))
 
     pub other_means : (read : BurstLine) → BurstLineMeans 3 line read → EndLineMeans role held line (meaning_of_burst_line read)
     other_means read means =
-        let good : burst_fault 3 line ≡ None = no_fault (BurstLineMeans 3 line) (burst_fault 3 line) (one_burst 3 line) read means in
+        let good : burst_fault 3 line ≡ None =
+        no_fault_if_meant (BurstLineMeans 3 line) (burst_fault 3 line) (one_burst 3 line) read means in
         let said : read ≡ burst_line_of_meaning (line_meaning burst_forms line) =
         same_meaning (BurstLineMeans 3 line) (burst_fault 3 line) (one_burst 3 line) read
         (burst_line_of_meaning (line_meaning burst_forms line)) means
         (means_said burst_forms (is_burst_out_of_order 3) burst_line_of_meaning line good) in
-        let says : meaning_of_end_line (line_meaning (end_forms (call_forms_of role)) line) ≡ meaning_of_burst_line (burst_line_of_meaning
+        let says : meaning_of_end_line (line_meaning (end_forms (call_line_forms role)) line) ≡ meaning_of_burst_line
+        (burst_line_of_meaning
         (line_meaning burst_forms line)) =
-        ap meaning_of_end_line (says_of_words (end_forms (call_forms_of role)) (is_end_line_out_of_order held) line short kept)
-        ∙ same-2.says (sym (fault_of_words burst_forms (is_burst_out_of_order 3) line short kept) ∙ good)
+        ap meaning_of_end_line (says_of_words (end_forms (call_line_forms role)) (is_end_line_out_of_order held) line short kept)
+        ∙ same-2.same_meaning (sym (fault_of_words burst_forms (is_burst_out_of_order 3) line short kept) ∙ good)
         ∙ ap (λ said. meaning_of_burst_line (burst_line_of_meaning said)) (sym (says_of_words burst_forms
         (is_burst_out_of_order 3) line short kept)) in
         subst (EndLineMeans role held line) (says ∙ ap meaning_of_burst_line (sym said))
-        (means_said (end_forms (call_forms_of role)) (is_end_line_out_of_order held) meaning_of_end_line line (other_fault
+        (means_said (end_forms (call_line_forms role)) (is_end_line_out_of_order held) meaning_of_end_line line (other_fault
         ∙ ap burst_fault_to_end_fault good))
 
 -- ---- a terminal of this side can carry out what a line means
 
-abbrev pub CanBeCarriedOut : Role → LineMeaning → Type 0
+abbrev pub CanBeCarriedOut : Role → EndLineMeaning → Type 0
 CanBeCarriedOut role Nothing = Unit {0}
 CanBeCarriedOut role (TakesBurst soft) = AreSoft 148 soft
 CanBeCarriedOut role (Calls event) = IsCallOfRole role event × EventMessageIsOctets event
 
-end_well : (role : Role) (held : ℕ) (line : List ℕ) (meaning : LineMeaning) → EndLineMeans role held line meaning →
+end_well : (role : Role) (held : ℕ) (line : List ℕ) (meaning : EndLineMeaning) → EndLineMeans role held line meaning →
     CanBeCarriedOut role meaning
 end_well Mobile held line meaning means =
     line_is (end_forms mobile_call_forms) (is_end_line_out_of_order held) meaning_of_end_line (CanBeCarriedOut Mobile) tt (

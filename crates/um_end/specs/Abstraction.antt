@@ -1,4 +1,4 @@
--- The abstraction relation of a terminal, and what it means for its answers to follow the specification.
+-- The abstraction relation of a terminal, and when its answers follow the specification.
 use Rattle.std.specs.Prelude.{◌≡◌, ℤ, List, Result}
 use Rattle.um_link.specs.lapdm_window.Ends.{Role}
 use Rattle.lapdm_end.specs.Sides as L
@@ -7,14 +7,14 @@ use Rattle.um_link.specs.um_air.Air as A
 use Rattle.um_link.specs.declared.events.No.{No}
 use Rattle.um_link.specs.declared.events.Step.{Step}
 use Rattle.um_link.specs.Naming.{role_of, step_of, answer_of}
-use Rattle.um_end.specs.Terminals.{SideState, AnswersCall, ReceivesBursts}
+use Rattle.um_end.specs.Terminals.{SideState, SideAnswersCall, ReceivesBursts}
 use Rattle.um_end.specs.declared.terminal.Terminal.{Terminal}
 
--- the side to which a terminal belongs
+-- the side of a terminal
 abbrev pub side_of : Terminal → Role
 side_of t = role_of t.side
 
--- the endpoints of the terminal represent those of this side state
+-- the endpoints of the terminal represent the endpoints of this side state
 abbrev pub Represents : Terminal → SideState → Type 0
 Represents t a = L.Represents t.links a
 
@@ -22,12 +22,12 @@ Represents t a = L.Represents t.links a
 -- state after it
 abbrev pub CallRefinesSideStep : Event → Terminal → Result Step No → Terminal → Type 0
 CallRefinesSideStep event old result new = (a : SideState) → Represents old a →
-    (b : SideState) × Represents new b × AnswersCall (side_of old) a event b (answer_of result)
+    (b : SideState) × Represents new b × SideAnswersCall (side_of old) a event b (answer_of result)
 
 -- for every state that the terminal represents, the specification allows no answer to the call other than this result
 abbrev pub IsOnlyPossibleAnswer : Event → Terminal → Result Step No → Type 0
 IsOnlyPossibleAnswer event old result =
-    (a : SideState) → Represents old a → (b : SideState) (answer : Answer) → AnswersCall (side_of old) a event b answer →
+    (a : SideState) → Represents old a → (b : SideState) (answer : Answer) → SideAnswersCall (side_of old) a event b answer →
     answer ≡ answer_of result
 
 -- for every state that the old terminal represents, the specification allows this step for the four received bursts, and the new terminal

@@ -1,7 +1,7 @@
 -- Which events are calls to an endpoint, the SAPI of that endpoint, and its call (internal).
 use Rattle.um_link.specs.lapdm_window.declared.Sapi.{Sapi}
 use Rattle.um_link.specs.lapdm_window.declared.Sapi.TheVariants.{Zero, Three}
-use Rattle.um_link.specs.lapdm_window.Calls.{Call, Opens, OpensBare, SendsFill}
+use Rattle.um_link.specs.lapdm_window.Calls.{Call, Opens, OpensWithoutInfo, SendsFill}
 use Rattle.um_link.specs.lapdm_link.Events.{Open, OpenBare, Ask, Deliver, Lose, Rival, call_of}
 use Rattle.um_link.specs.um_air.Air.{Event}
 
@@ -12,7 +12,7 @@ IsCallEvent (Lose sender) = ⊥
 IsCallEvent (Rival info) = ⊥
 IsCallEvent event = Unit {0}
 
--- the SAPI of the endpoint to which the event is addressed
+-- the SAPI of the endpoint that the event calls
 abbrev pub sapi_of_call_event : Event → Sapi
 sapi_of_call_event (OpenBare role) = Three
 sapi_of_call_event (Ask role sapi request) = sapi
@@ -21,6 +21,6 @@ sapi_of_call_event event = Zero
 -- the endpoint call that the event requests
 abbrev pub call_of_call_event : Event → Call
 call_of_call_event (Open info) = Opens info
-call_of_call_event (OpenBare role) = OpensBare
+call_of_call_event (OpenBare role) = OpensWithoutInfo
 call_of_call_event (Ask role sapi request) = call_of request
 call_of_call_event event = SendsFill

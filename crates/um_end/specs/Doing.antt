@@ -12,9 +12,9 @@ use Rattle.um_end.specs.declared.terminal.Terminal.{Terminal}
 
 -- if the accepted octets encode a frame, the endpoint with its SAPI receives it; `sapi`, `effects` and `new` are the result
 pub record TakesAcceptedBlock (accepted : Option Octets) (a : SideState) (sapi : Sapi) (effects : Effects) (new : Terminal) : Type 0 where
-  pub read : Option Frame
-  pub reads : ReadsFrame Sdcch accepted read
-  pub done : CarriesOutStep Sdcch (step_for_read_frame read a) sapi effects new.links
+  pub frame : Option Frame
+  pub reads : ReadsFrame Sdcch accepted frame
+  pub carried_out : CarriesOutStep Sdcch (step_for_read_frame frame a) sapi effects new.links
 
 -- for every state that the old terminal represents, the endpoint with the frame's SAPI receives the frame that the accepted octets encode,
 -- if any

@@ -1,33 +1,33 @@
--- How the command `end` answers a line (this project's own rule).
+-- How the `end` command answers a line (this project's own rule).
 use Rattle.std.specs.Prelude.{ℕ, ℤ, ◌≡◌, ◌<◌, ◌⊎◌, List, [], ◌∷◌, ◌++◌, length}
 use Rattle.std.specs.List.{flat_map}
 use Rattle.um_link.specs.lapdm_window.Ends.{Role}
 use Rattle.um_formats.specs.BurstLines.{unfinished_block_fault}
 use Rattle.um_formats.specs.BurstTexts.{bursts_text}
-use Rattle.um_link.specs.um_air.Air.{Octets, Block, Event, Answer, Refuses, Does, Step}
+use Rattle.um_link.specs.um_air.Air.{Octets, Block, Event, Answer, Refuses, Accepts, Step}
 use Rattle.um_link.specs.Coded.{AreCodedBlocks}
 use Rattle.um_script.specs.AnswerLines.{answer_text}
 use Rattle.um_driver.specs.Rules.{Rules}
 use Rattle.um_link.specs.lapdm_frame.declared.Channel.TheVariants.{Sdcch}
-use Rattle.um_end.specs.Terminals.{SideState, idle_side, AnswersCall, ReceivesBursts}
-use Rattle.um_end.specs.EndLines.{LineMeaning, Nothing, TakesBurst, Calls, end_fault, EndLineMeans}
+use Rattle.um_end.specs.Terminals.{SideState, idle_side, SideAnswersCall, ReceivesBursts}
+use Rattle.um_end.specs.EndLines.{EndLineMeaning, Nothing, TakesBurst, Calls, end_line_fault, EndLineMeans}
 
--- the state of a run of the command `end`: the side, its training sequence code, its two endpoints, and the bursts of an unfinished block
+-- the state of a run of the `end` command: the side, its training sequence code, its two endpoints, and the bursts of an unfinished block
 -- in order
 pub record EndRunState : Type 0 where
   pub role : Role
   pub tsc : ℕ
   pub links : SideState
-  pub held : List (List ℤ)
+  pub held_bursts : List (List ℤ)
 
 -- the state of a run before its first line
-abbrev pub idle : Role → ℕ → EndRunState
-idle role tsc = record { role = role; tsc = tsc; links = idle_side role Sdcch; held = [] }
+abbrev pub initial_run : Role → ℕ → EndRunState
+initial_run role tsc = record { role = role; tsc = tsc; links = idle_side role Sdcch; held_bursts = [] }
 
 -- the octets of the frames that an answer reports as sent
 abbrev pub frames_in_answer : Answer → List Octets
 frames_in_answer (Refuses why) = []
-frames_in_answer (Does step) = step.frames
+frames_in_answer (Accepts step) = step.frames
 
 -- `text` is the text of an answer, followed by the burst lines of each frame sent
 pub record IsAnswerText (tsc : ℕ) (answer : Answer) (text : List ℕ) : Type 0 where
@@ -42,42 +42,42 @@ pub record AppendsCodedFrames (tsc : ℕ) (frames : List Octets) (old new : List
   pub text_is : new ≡ old ++ flat_map bursts_text blocks
 
 -- the answer to the fourth burst of a block: the four bursts are received as a block
-pub record IsBlockAnswer (s : EndRunState) (bursts : List (List ℤ)) (text : List ℕ) (after : EndRunState) : Type 0 where
+pub record IsAnswerToFourBursts (s : EndRunState) (bursts : List (List ℤ)) (text : List ℕ) (after : EndRunState) : Type 0 where
   pub links : SideState
   pub step : Step
-  pub heard : ReceivesBursts s.role s.links bursts links step
-  pub text_is : IsAnswerText s.tsc (Does step) text
-  pub after_is : after ≡ record s { links = links; held = [] }
+  pub receives_bursts : ReceivesBursts s.role s.links bursts links step
+  pub text_is : IsAnswerText s.tsc (Accepts step) text
+  pub after_is : after ≡ record s { links = links; held_bursts = [] }
 
 -- the answer to the last of these bursts: none if there are fewer than four, otherwise the answer to the block
-abbrev pub AnswersBursts : EndRunState → List (List ℤ) → List ℕ → EndRunState → Type 0
-AnswersBursts s bursts text after =
-    ((length bursts < 4) × (text ≡ []) × (after ≡ record s { held = bursts }))
-    ⊎ ((length bursts ≡ 4) × IsBlockAnswer s bursts text after)
+abbrev pub IsAnswerToBursts : EndRunState → List (List ℤ) → List ℕ → EndRunState → Type 0
+IsAnswerToBursts s bursts text after =
+    ((length bursts < 4) × (text ≡ []) × (after ≡ record s { held_bursts = bursts }))
+    ⊎ ((length bursts ≡ 4) × IsAnswerToFourBursts s bursts text after)
 
 -- the answer to a call line in state `s` is `text`, and `after` is the state after it
 pub record IsCallLineAnswer (s : EndRunState) (event : Event) (text : List ℕ) (after : EndRunState) : Type 0 where
   pub links : SideState
   pub answer : Answer
-  pub asked_call : AnswersCall s.role s.links event links answer
+  pub answers_call : SideAnswersCall s.role s.links event links answer
   pub text_is : IsAnswerText s.tsc answer text
   pub after_is : after ≡ record s { links = links }
 
 -- the text answers a line with this meaning, and leads from the first state to the second
-abbrev pub AnswersLineMeaning : EndRunState → LineMeaning → List ℕ → EndRunState → Type 0
-AnswersLineMeaning s Nothing text after = (text ≡ []) × (after ≡ s)
-AnswersLineMeaning s (TakesBurst soft) text after = AnswersBursts s (s.held ++ soft ∷ []) text after
-AnswersLineMeaning s (Calls event) text after = IsCallLineAnswer s event text after
+abbrev pub TextAnswersMeaning : EndRunState → EndLineMeaning → List ℕ → EndRunState → Type 0
+TextAnswersMeaning s Nothing text after = (text ≡ []) × (after ≡ s)
+TextAnswersMeaning s (TakesBurst soft) text after = IsAnswerToBursts s (s.held_bursts ++ soft ∷ []) text after
+TextAnswersMeaning s (Calls event) text after = IsCallLineAnswer s event text after
 
 -- the text answers a line, and leads from the first state to the second
 abbrev pub AnswersEndLine : EndRunState → List ℕ → List ℕ → EndRunState → Type 0
-AnswersEndLine s line text after = (meaning : LineMeaning) × EndLineMeans s.role (length s.held) line meaning
-    × AnswersLineMeaning s meaning text after
+AnswersEndLine s line text after = (meaning : EndLineMeaning) × EndLineMeans s.role (length s.held_bursts) line meaning
+    × TextAnswersMeaning s meaning text after
 
--- the rules of the command `end`; its input must not end inside a block
-abbrev pub end_rules : Rules EndRunState
-end_rules = record {
-  fault = λ s line. end_fault s.role (length s.held) line;
-  end_fault = λ s. unfinished_block_fault s.held;
+-- the rules of the `end` command; its input must not end inside a block
+abbrev pub end_command_rules : Rules EndRunState
+end_command_rules = record {
+  fault = λ s line. end_line_fault s.role (length s.held_bursts) line;
+  end_fault = λ s. unfinished_block_fault s.held_bursts;
   Step = AnswersEndLine;
 }

@@ -1,42 +1,43 @@
--- Two processes of `um end`, a mobile and a network, each of which receives the bursts sent by the other (this project's own rule).
+-- Two processes of `um end`, a mobile and a network, that receive each other's bursts (this project's own rule).
 use Rattle.std.specs.Prelude.{◌≡◌, ℤ, List, [], ◌∷◌, ◌++◌}
 use Rattle.um_link.specs.lapdm_frame.declared.Channel.TheVariants.{Sdcch}
 use Rattle.um_link.specs.lapdm_window.Ends.{Role}
 use Rattle.um_link.specs.lapdm_link.Queues.{Queues, empty_queues, queue_of, with_appended, without_first}
-use Rattle.um_link.specs.lapdm_link.Events.{Ends, idle_endpoints, side_in, with_side_in, other}
-use Rattle.um_link.specs.lapdm_link.Claims.{Line, answer_log_lines, notice_log_lines}
+use Rattle.um_link.specs.lapdm_link.Events.{BothSides, idle_endpoints, side_with_role, with_side, other}
+use Rattle.um_link.specs.lapdm_link.Claims.{LogLine, answer_log_lines, notice_log_lines}
 use Rattle.um_link.specs.um_air.Air.{Octets, Event, Answer, Step}
 use Rattle.um_link.specs.um_air.Damage.{AreLightlyDamaged}
 use Rattle.um_link.specs.um_air.Sessions.{answer_without_blocks}
-use Rattle.um_end.specs.Terminals.{SideState, IsCallOfRole, AnswersCall, ReceivesBursts}
+use Rattle.um_end.specs.Terminals.{SideState, IsCallOfRole, SideAnswersCall, ReceivesBursts}
 use Rattle.um_end.specs.EndRuns.{frames_in_answer}
 
 -- the state of both sides, and the octets of the blocks in transit from each, in order
 pub record TwoTerminals : Type 0 where
-  pub ends : Ends
+  pub sides : BothSides
   pub queues : Queues Octets
 
 -- the initial state: idle endpoints, and no blocks in transit
 abbrev pub idle_terminals : TwoTerminals
-idle_terminals = record { ends = idle_endpoints Sdcch; queues = empty_queues }
+idle_terminals = record { sides = idle_endpoints Sdcch; queues = empty_queues }
 
--- one step of the two processes: a side gets a call and gives this answer; four bursts reach a side, with this result; or the oldest block
+-- one step of the two processes: a side is called and returns this answer; four bursts reach a side, with this result; or the oldest block
 -- from a side is lost
 pub data TerminalStep : Type 0 where
   Calls : (side : Role) (event : Event) (answer : Answer) → TerminalStep
   TakesBurst : (side : Role) (bursts : List (List ℤ)) (step : Step) → TerminalStep
   Loses : (sender : Role) → TerminalStep
 
--- the state after a side has changed to a new state, and the blocks that it sent have been added to those in transit
+-- the state after a side has changed to a new state and its blocks have been added to the blocks in transit
 abbrev pub state_after_step : Role → SideState → List Octets → Queues Octets → TwoTerminals → TwoTerminals
-state_after_step side links sent left a = record { ends = with_side_in side links a.ends; queues = with_appended side sent left }
+state_after_step side links sent left a = record { sides = with_side side links a.sides; queues = with_appended side sent left }
 
 -- the step leads from the first state to the second
 abbrev pub IsTerminalStep : TwoTerminals → TerminalStep → TwoTerminals → Type 0
 IsTerminalStep a (Calls side event answer) b = (links : SideState) × IsCallOfRole side event
-    × AnswersCall side (side_in side a.ends) event links answer × (b ≡ state_after_step side links (frames_in_answer answer) a.queues a)
+    × SideAnswersCall side (side_with_role side a.sides) event links answer
+    × (b ≡ state_after_step side links (frames_in_answer answer) a.queues a)
 IsTerminalStep a (TakesBurst side bursts step) b = (links : SideState)
-    × ReceivesBursts side (side_in side a.ends) bursts links step
+    × ReceivesBursts side (side_with_role side a.sides) bursts links step
     × (b ≡ state_after_step side links step.frames (without_first (other side) a.queues) a)
 IsTerminalStep a (Loses sender) b = b ≡ record a { queues = without_first sender a.queues }
 
@@ -60,12 +61,12 @@ abbrev pub AnyStepAllowed : TwoTerminals → TerminalStep → Type 0
 AnyStepAllowed a turn = Unit {0}
 
 -- the log lines of a step: its call, if any, and the notices reported
-abbrev pub step_log_lines : TerminalStep → List Line
+abbrev pub step_log_lines : TerminalStep → List LogLine
 step_log_lines (Calls side event answer) = answer_log_lines event (answer_without_blocks answer)
 step_log_lines (TakesBurst side bursts step) = notice_log_lines step.who step.sapi step.notices
 step_log_lines (Loses sender) = []
 
 -- the log of these steps, in order
-abbrev pub lines : List TerminalStep → List Line
+abbrev pub lines : List TerminalStep → List LogLine
 lines [] = []
 lines (turn ∷ turns) = step_log_lines turn ++ lines turns

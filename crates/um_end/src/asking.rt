@@ -7,7 +7,7 @@ ghost use Rattle.um_end.specs.Asking.{IsCallEvent, sapi_of_call_event, call_of_c
 use lapdm_end::{Call, Sapi};
 use um_link::Event;
 
-/// The SAPI of the endpoint to which the event is addressed.
+/// The SAPI of the endpoint that the event calls.
 pub(crate) fn sapi_of_event(event: &Event<'_>) -> Sapi
     ensures { result ≡ sapi_of_call_event (event_of event.now) }
 {

@@ -1,4 +1,4 @@
-//! The command `end`: one side, with recorded bursts and calls as its input.
+//! The `end` command, which runs one side on recorded bursts and layer 3 calls.
 ghost use Rattle.std.specs.Prelude.{◌≡◌, ◌+◌, ◌*◌, ◌<◌, ◌≤◌, ℕ, [], ◌∷◌, ◌++◌, length, OnOk};
 ghost use Rattle.um_link.specs.um_block.conv_code.Likelihood.{AllSoftBits};
 ghost use Rattle.um_link.specs.Coded.{AreCodedBlocks};
@@ -10,7 +10,8 @@ ghost use Rattle.um_link.specs.um_io.Reading.{line_limit};
 ghost use Rattle.um_driver.specs.Laws.{HasOneOutput};
 ghost use Rattle.um_driver.specs.Rules.{Answers};
 ghost use Rattle.um_script.specs.AnswerLines.{answer_text};
-ghost use Rattle.um_end.specs.EndRuns.{EndRunState, idle, end_rules, frames_in_answer, IsAnswerText, AnswersBursts, AppendsCodedFrames};
+ghost use Rattle.um_end.specs.EndRuns.{EndRunState, initial_run, end_command_rules, frames_in_answer, IsAnswerText, IsAnswerToBursts};
+ghost use Rattle.um_end.specs.EndRuns.{AppendsCodedFrames};
 ghost use Rattle.um_end.specs.Commands.{CommandRepresents, start_state_of};
 
 use crate::lines::{EndLine, parse_end};
@@ -21,12 +22,12 @@ use um_lines::{LineFault, Text};
 use um_link::{End, No, Step};
 use um_script::{Room, write_step_lines};
 
-/// For the command `end`, every input has exactly one output and one status.
-pub fn law_output_is_unique()
-    ensures { (role : Role) (tsc : ℕ) → tsc ≤ 7 → HasOneOutput end_rules (idle role tsc) }
+/// For the `end` command, every input has exactly one output and one status.
+pub fn law_end_output_is_unique()
+    ensures { (role : Role) (tsc : ℕ) → tsc ≤ 7 → HasOneOutput end_command_rules (initial_run role tsc) }
 {}
 
-/// The command `end`: a terminal, and the bursts of an unfinished block.
+/// The state of the `end` command: its terminal, and the bursts received so far of a block.
 #[derive(Drop)]
 pub struct EndCommand {
     terminal: Terminal,
@@ -37,11 +38,11 @@ pub struct EndCommand {
 }
 
 impl EndCommand {
-    /// Creates the command for a side with idle endpoints, training sequence code `tsc` (0 to 7), and no bursts held.
+    /// Creates the command for a side with idle endpoints and no held bursts. The training sequence code `tsc` must be 0 to 7.
     pub fn new(side: End, tsc: u8) -> EndCommand
         requires { tsc ≤ 7 }
         ensures represents { CommandRepresents result (start_state_of result) }
-        ensures start { start_state_of result ≡ idle (role_of side) tsc }
+        ensures start { start_state_of result ≡ initial_run (role_of side) tsc }
     {
         EndCommand {
             terminal: Terminal::new(side, tsc),
@@ -56,7 +57,7 @@ impl EndCommand {
         requires soft { AllSoftBits burst }
         requires empty { out.old ≡ [] }
         ensures answers { (s : EndRunState) → CommandRepresents self.old s →
-            (after : EndRunState) × AnswersBursts s (s.held ++ burst ∷ []) out.new after × CommandRepresents self.new after }
+            (after : EndRunState) × IsAnswerToBursts s (s.held_bursts ++ burst ∷ []) out.new after × CommandRepresents self.new after }
         ensures size { (s : EndRunState) → CommandRepresents self.old s → length out.new < 2000 }
     {
         if self.held.add(burst) {
@@ -70,13 +71,13 @@ impl EndCommand {
 impl Command for EndCommand {
     ghost State = { EndRunState };
 
-    ghost rules = { end_rules };
+    ghost rules = { end_command_rules };
 
     ghost start = { start_state_of };
 
     ghost represents = { CommandRepresents };
 
-    ghost Kept = { Unit {0} };
+    ghost FixedPart = { Unit {0} };
 
     ghost kept = { λ _. tt };
 
@@ -85,7 +86,7 @@ impl Command for EndCommand {
         requires plain { IsLine line.now }
         requires empty { out.old ≡ [] }
         ensures answered { (s : EndRunState) → CommandRepresents self.old s →
-            Answers end_rules s line.now result out.new (CommandRepresents self.new) }
+            Answers end_command_rules s line.now result out.new (CommandRepresents self.new) }
         ensures keeps { tt {0} ≡ tt }
         ensures size { (s : EndRunState) → CommandRepresents self.old s → length out.new < 2000 }
     {

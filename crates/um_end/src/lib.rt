@@ -1,4 +1,4 @@
-//! One side, a mobile or a network, that gets layer 3 calls and receives recorded bursts in groups of four.
+//! One side, a mobile or a network, that receives layer 3 calls, and recorded bursts in groups of four.
 #![tactic(auto)]
 
 mod asking;
@@ -7,7 +7,7 @@ mod lines;
 mod terminal;
 mod two_ends;
 
-pub use command::{EndCommand, law_output_is_unique};
+pub use command::{EndCommand, law_end_output_is_unique};
 pub use lines::{EndLine, law_end_line_meaning_is_unique, parse_end};
 pub use terminal::Terminal;
 pub use two_ends::law_two_terminals_deliver;

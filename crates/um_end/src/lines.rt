@@ -1,4 +1,4 @@
-//! Parses the lines of the command `end`.
+//! Parses the lines of the `end` command.
 //!
 //! A line that begins with the name of an endpoint of this side is parsed as a script line, any other line as a burst line. This module
 //! also refuses lines of other forms, and calls inside a block.
@@ -9,8 +9,9 @@ ghost use Rattle.um_lines.specs.Meanings.{HasOneMeaningOrFault};
 ghost use Rattle.um_link.specs.lapdm_window.Ends.{Role};
 ghost use Rattle.um_link.specs.Naming.{role_of};
 ghost use Rattle.um_script.specs.Naming.{meaning_of as script_meaning};
-ghost use Rattle.um_end.specs.EndLines.{end_fault, EndLineMeans, meaning_of, IsPossibleLine, names_endpoint_of_side, meaning_of_burst_line};
-ghost use Rattle.um_end.specs.EndLines.{meaning_of_call, fault_inside_block};
+ghost use Rattle.um_end.specs.EndLines.{end_line_fault, EndLineMeans, meaning_of, IsPossibleLine, names_endpoint_of_side};
+ghost use Rattle.um_end.specs.EndLines.{meaning_of_burst_line};
+ghost use Rattle.um_end.specs.EndLines.{meaning_of_call, call_fault_to_block_fault};
 ghost use Rattle.um_end.specs.EndLines.{burst_fault_to_end_fault};
 
 use um_formats::{BURST_BITS, BurstLine, parse_burst};
@@ -18,7 +19,7 @@ use um_lines::{LINE_LIMIT, LineFault, first_word, is_skipped};
 use um_link::{End, Event};
 use um_script::{Room, ScriptLine, parse_script};
 
-/// What a line of the command `end` asks for.
+/// The meaning of a line of the `end` command.
 #[derive(Clone, Copy, Drop)]
 pub enum EndLine<'a> {
     /// The line is skipped: it is empty, or begins with `#`.
@@ -29,10 +30,10 @@ pub enum EndLine<'a> {
     Ask(Event<'a>),
 }
 
-/// Parses a line of the command `end`, without its line feed: `n DIGITS148`, `N HEX296`, `lost`, or a call of this side as in a script.
+/// Parses a line of the `end` command, without its line feed: `n DIGITS148`, `N HEX296`, `lost`, or a call of this side as in a script.
 /// `held` is the number of bursts of the unfinished block. The octets of a call are stored in `room`.
 ///
-/// If several errors apply, the first in this order is returned, whatever its place in the line: `Long`, `Word`, `Order` (a call inside a
+/// If several errors apply, returns the first in this order, wherever it occurs in the line: `Long`, `Word`, `Order` (a call inside a
 /// block), `Digits`, `Length`, `Soft`.
 pub fn parse_end<'a>(
     line: &[u8],
@@ -42,7 +43,7 @@ pub fn parse_end<'a>(
 ) -> Result<EndLine<'a>, LineFault>
     requires { held ≤ 3 }
     ensures means { IfOk result (λ read. EndLineMeans (role_of side) held line.now (meaning_of read)) }
-    ensures refused { result_err result ≡ end_fault (role_of side) held line.now }
+    ensures refused { result_err result ≡ end_line_fault (role_of side) held line.now }
 
     // A terminal of this side can carry out the line.
     ensures possible { IfOk result (IsPossibleLine (role_of side)) }
@@ -84,19 +85,19 @@ fn parse_call_line<'a>(
     requires not_skipped { is_skipped line.now ≡ false }
     requires own { names_endpoint_of_side (role_of side) (words line.now) ≡ true }
     ensures means { IfOk result (λ read. EndLineMeans (role_of side) held line.now (meaning_of read)) }
-    ensures refused { result_err result ≡ end_fault (role_of side) held line.now }
+    ensures refused { result_err result ≡ end_line_fault (role_of side) held line.now }
 {
     let read = parse_script(line, room);
     if held > 0 {
-        return Err(call_fault_inside_block(read.err()));
+        return Err(block_fault_from_call_fault(read.err()));
     }
     match read {
-        Ok(script) => Ok(end_line_of_script_line(script)),
+        Ok(script) => Ok(as_end_line(script)),
         Err(fault) => Err(fault),
     }
 }
 
-fn end_line_of_script_line(script: ScriptLine<'_>) -> EndLine<'_>
+fn as_end_line(script: ScriptLine<'_>) -> EndLine<'_>
     ensures { meaning_of result ≡ meaning_of_call (script_meaning script.entry) }
 {
     match script {
@@ -105,9 +106,9 @@ fn end_line_of_script_line(script: ScriptLine<'_>) -> EndLine<'_>
     }
 }
 
-/// The reason for refusing a call inside a block, given the reason for refusing it elsewhere, if any.
-fn call_fault_inside_block(fault: Option<LineFault>) -> LineFault
-    ensures { Some result ≡ fault_inside_block fault }
+/// Converts the fault of a call line outside a block, if any, to its fault inside a block.
+fn block_fault_from_call_fault(fault: Option<LineFault>) -> LineFault
+    ensures { Some result ≡ call_fault_to_block_fault fault }
 {
     match fault {
         Some(LineFault::Word) => LineFault::Word,
@@ -115,17 +116,17 @@ fn call_fault_inside_block(fault: Option<LineFault>) -> LineFault
     }
 }
 
-/// Parses a line with one burst of a block. The command `end` does not allow access and synchronisation bursts.
+/// Parses a line with one burst of a block. The `end` command does not allow access bursts or synchronisation bursts.
 fn parse_burst_line<'a>(line: &[u8], side: End, held: u8) -> Result<EndLine<'a>, LineFault>
     requires size { length line.now ≤ 4096 }
     requires not_skipped { is_skipped line.now ≡ false }
     requires other { names_endpoint_of_side (role_of side) (words line.now) ≡ false }
     ensures means { IfOk result (λ read. EndLineMeans (role_of side) held line.now (meaning_of read)) }
-    ensures refused { result_err result ≡ end_fault (role_of side) held line.now }
+    ensures refused { result_err result ≡ end_line_fault (role_of side) held line.now }
 {
     match parse_burst(line, 3) {
         Ok(burst) => Ok(end_line_of_burst_line(burst)),
-        Err(fault) => Err(fault_outside_block(fault)),
+        Err(fault) => Err(end_fault_from_burst_fault(fault)),
     }
 }
 
@@ -140,8 +141,8 @@ fn end_line_of_burst_line<'a>(burst: BurstLine) -> EndLine<'a>
     }
 }
 
-/// The reason for refusing a burst line in the command `end`, given the reason for refusing it inside a block in `replay`.
-fn fault_outside_block(fault: LineFault) -> LineFault
+/// Converts the fault of a burst line inside a block in `replay` to its fault in the `end` command.
+fn end_fault_from_burst_fault(fault: LineFault) -> LineFault
     ensures { Some result ≡ burst_fault_to_end_fault (Some fault) }
 {
     match fault {
@@ -150,8 +151,8 @@ fn fault_outside_block(fault: LineFault) -> LineFault
     }
 }
 
-/// A line of the command `end` either has exactly one meaning, or is refused for the first reason that applies.
+/// A line of the `end` command either has exactly one meaning, or is refused for the first reason that applies.
 pub fn law_end_line_meaning_is_unique()
     ensures { (role : Role) (held : ℕ) (line : List ℕ) →
-        HasOneMeaningOrFault (end_fault role held line) (EndLineMeans role held line) }
+        HasOneMeaningOrFault (end_line_fault role held line) (EndLineMeans role held line) }
 {}

@@ -23,7 +23,7 @@ pub struct Terminal {
     pub(crate) side: End,
     tsc: u8,
     links: Side,
-    ghost known: { tsc ≤ 7 },
+    ghost valid_tsc: { tsc ≤ 7 },
     ghost channel: { channel_of links ≡ Sdcch },
 }
 
@@ -33,7 +33,7 @@ impl Terminal {
     ghost use Rattle.um_end.specs.Abstraction.{IsOnlyStepForBursts, KeepsSideAndTsc, side_of};
     ghost use Rattle.um_end.specs.Doing.{BlockRefinesSideStep};
 
-    /// Creates a side with both endpoints in Idle and training sequence code `tsc` (0 to 7).
+    /// Creates a side with both endpoints in Idle. The training sequence code `tsc` must be 0 to 7.
     pub fn new(side: End, tsc: u8) -> Terminal
         requires { tsc ≤ 7 }
         ensures represents { Represents result (idle_side (role_of side) Sdcch) }
@@ -124,7 +124,7 @@ impl Terminal {
         self.set_side_and_sapi(sapi, step);
     }
 
-    /// Codes these octets as the four bursts of a block, with the terminal's training sequence code.
+    /// Encodes these octets as the four bursts of a block, with the terminal's training sequence code.
     pub fn bursts(&self, octets: &[u8; BLOCK_OCTETS]) -> [[u8; BURST_BITS]; 4]
         ensures sent { IsSentBlock octets.now self.now.tsc result }
         ensures only { (other : List (List ℕ)) → IsSentBlock octets.now self.now.tsc other → other ≡ result }
@@ -151,7 +151,7 @@ impl Terminal {
         Sapi::Zero
     }
 
-    /// Records in `step` which side acted, and on which SAPI.
+    /// Records in `step` the side that acted and the SAPI.
     fn set_side_and_sapi(&self, sapi: Sapi, step: &mut Step)
         ensures step { step_of step.new ≡ record {
           who = E.BySide (side_of self.now);

@@ -1,5 +1,4 @@
-//! Laws of two processes of `um end`, each of which receives the bursts sent by the other. The body of a law is empty: call it to use its
-//! contract in a proof.
+//! Laws of two processes of `um end` that receive each other's bursts. The body of a law is empty: call it to use its contract in a proof.
 ghost use Rattle.std.specs.Prelude.{List};
 ghost use Rattle.um_link.specs.lapdm_link.Claims.{Claims, IsOrderedLog, AckedAtMostDelivered};
 ghost use Rattle.um_end.specs.TwoTerminals.{TerminalStep, idle_terminals, AreStepsFrom, DeliversOldestBlock, AnyStepAllowed, lines};
@@ -8,7 +7,7 @@ ghost use Rattle.um_end.specs.TwoTerminals.{TerminalStep, idle_terminals, AreSte
 /// and before they are acknowledged (`Claims`). Whatever bursts arrive, the log is ordered (`IsOrderedLog`).
 pub fn law_two_terminals_deliver()
     ensures delivery { (turns : List TerminalStep) → AreStepsFrom DeliversOldestBlock idle_terminals turns → Claims (lines turns) }
-    ensures counts_acks { (turns : List TerminalStep) → AreStepsFrom DeliversOldestBlock idle_terminals turns →
+    ensures acked_at_most_delivered { (turns : List TerminalStep) → AreStepsFrom DeliversOldestBlock idle_terminals turns →
         AckedAtMostDelivered (lines turns) }
     ensures order { (turns : List TerminalStep) → AreStepsFrom AnyStepAllowed idle_terminals turns → IsOrderedLog (lines turns) }
 {}

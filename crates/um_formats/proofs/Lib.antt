@@ -1,11 +1,1 @@
-pub mod BurstLaws
-pub mod CodeLaws
-pub mod DigitWords
-pub mod NormalLines
-pub mod OtherBursts
-pub mod ReportLaws
-pub mod ShowLaws
-pub mod ShowReading
-pub mod WorkedLines
-pub mod WrittenBursts
-pub mod WrittenFrames
+pub mod Lemmas

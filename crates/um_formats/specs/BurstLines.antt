@@ -5,7 +5,7 @@ use Rattle.um_lines.specs.declared.fault.LineFault.{LineFault}
 use Rattle.um_lines.specs.declared.fault.LineFault.TheVariants.{Order}
 use Rattle.um_lines.specs.Fields.{Value, NumberList}
 use Rattle.um_lines.specs.Forms.{line_fault}
-use Rattle.um_lines.specs.Reading.{LineParsesTo, parsed_words}
+use Rattle.um_lines.specs.Reading.{LineParsesTo, words_parse_result}
 use Rattle.um_lines.specs.BurstForms.{BurstLineKind, Normal, NormalSoft, Lost, Access, AccessSoft, Sync, SyncSoft, burst_forms}
 use Rattle.um_lines.specs.BurstForms.{is_burst_out_of_order}
 use Rattle.um_formats.specs.declared.burst_lines.BurstLine.{BurstLine}
@@ -42,5 +42,5 @@ abbrev pub BurstLineMeans : (held : ℕ) → List ℕ → BurstLine → Type 0
 BurstLineMeans held line = LineParsesTo burst_forms (is_burst_out_of_order held) burst_line_of_meaning line
 
 -- the result of parsing the words of a line of `replay` (used only inside the parser)
-abbrev pub parsed_burst : (held : ℕ) → List (List ℕ) → Result BurstLine LineFault
-parsed_burst held words = parsed_words burst_forms (is_burst_out_of_order held) burst_line_of_meaning words
+abbrev pub burst_parse_result : (held : ℕ) → List (List ℕ) → Result BurstLine LineFault
+burst_parse_result held words = words_parse_result burst_forms (is_burst_out_of_order held) burst_line_of_meaning words

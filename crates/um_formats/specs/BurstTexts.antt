@@ -15,6 +15,6 @@ access_burst_text bsic burst = codes "a " ++ bit_digits bsic ++ codes " " ++ bit
 abbrev pub sync_burst_text : List ℕ → List ℕ
 sync_burst_text burst = codes "s " ++ bit_digits burst ++ codes "\n"
 
--- the lines of the normal bursts of a block, one after another
+-- the lines of the normal bursts of a block, in order
 abbrev pub bursts_text : List (List ℕ) → List ℕ
 bursts_text bursts = flat_map normal_burst_text bursts

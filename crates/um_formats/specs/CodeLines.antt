@@ -3,7 +3,7 @@ use Rattle.std.specs.Prelude.{ℕ, List, [], ◌∷◌, Option, Some, None, Resu
 use Rattle.um_lines.specs.declared.fault.LineFault.{LineFault}
 use Rattle.um_lines.specs.Fields.{Value, Number, NumberList}
 use Rattle.um_lines.specs.Forms.{no_order_fault, line_fault}
-use Rattle.um_lines.specs.Reading.{LineParsesTo, parsed_words}
+use Rattle.um_lines.specs.Reading.{LineParsesTo, words_parse_result}
 use Rattle.um_lines.specs.CodeForms.{CodeLineKind, Block, Rach, Sch, code_forms}
 use Rattle.um_formats.specs.declared.code.CodeLine.{CodeLine}
 use Rattle.um_formats.specs.declared.code.CodeLine.TheVariants as C
@@ -28,5 +28,5 @@ abbrev pub CodeLineMeans : List ℕ → CodeLine → Type 0
 CodeLineMeans line = LineParsesTo code_forms no_order_fault code_line_of_meaning line
 
 -- the result of parsing the words of a line of `code` (used only inside the parser)
-abbrev pub parsed_code : List (List ℕ) → Result CodeLine LineFault
-parsed_code words = parsed_words code_forms no_order_fault code_line_of_meaning words
+abbrev pub code_parse_result : List (List ℕ) → Result CodeLine LineFault
+code_parse_result words = words_parse_result code_forms no_order_fault code_line_of_meaning words

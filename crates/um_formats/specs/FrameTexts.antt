@@ -26,7 +26,7 @@ syntax_of_frame f = syntax (fields_of f.content).kind
 abbrev pub frame_values : Frame → List Value
 frame_values f = Number f.sapi ∷ Number (bit f.cr) ∷ shape_values (syntax_of_frame f).shape (fields_of f.content)
 
--- the text line of a frame: the words of its form, with the frame's values
+-- the text line of a frame: its form, filled with the values of the frame
 abbrev pub frame_text : Frame → List ℕ
 frame_text f = line_of_values (frame_fields (syntax_of_frame f)) (frame_values f) ++ codes "\n"
 

@@ -10,24 +10,23 @@ use Rattle.um_formats.specs.declared.held.BurstLineResult.{BurstLineResult}
 use Rattle.um_formats.specs.declared.held.BurstLineResult.TheVariants as N
 use Rattle.um_formats.specs.BurstLines.{burst_fault, BurstLineMeans}
 
--- a buffer for the four bursts of a block: `held` lists the bursts of the incomplete block, in order; `places` is the whole buffer, which
+-- a buffer for the four bursts of a block: `held` lists the bursts of the incomplete block, in order; `slots` is the whole buffer, which
 -- keeps the last complete block until the next normal burst overwrites it
-pub record Held : Type 0 where
+pub record BurstBuffer : Type 0 where
   pub held : List (List ℤ)
-  pub places : List (List ℤ)
+  pub slots : List (List ℤ)
 
--- a normal burst is added to those in the buffer; if `whole`, it completes the block, and the buffer holds no burst of an incomplete block
--- afterwards
-abbrev pub AddsNormalBurst : Held → List ℤ → (whole : Bool) → Held → Type 0
+-- a normal burst is added to the buffer; if `whole`, it completes the block, and no burst of an incomplete block remains
+abbrev pub AddsNormalBurst : BurstBuffer → List ℤ → (whole : Bool) → BurstBuffer → Type 0
 AddsNormalBurst old burst false new = (new.held ≡ old.held ++ burst ∷ []) × (length new.held < 4)
-AddsNormalBurst old burst true new = (new.places ≡ old.held ++ burst ∷ []) × (length new.places ≡ 4) × (new.held ≡ [])
+AddsNormalBurst old burst true new = (new.slots ≡ old.held ++ burst ∷ []) × (length new.slots ≡ 4) × (new.held ≡ [])
 
 abbrev pub normal_burst_result : (whole : Bool) → BurstLineResult
 normal_burst_result false = N.Held
 normal_burst_result true = N.Block
 
 -- the result of a line with this meaning, and the buffer before and after it; only a normal burst changes the buffer
-abbrev pub IsBurstLineResult : Held → BurstLine → BurstLineResult → Held → Type 0
+abbrev pub IsBurstLineResult : BurstBuffer → BurstLine → BurstLineResult → BurstBuffer → Type 0
 IsBurstLineResult old B.Skip next new = (next ≡ N.Skip) × (new ≡ old)
 IsBurstLineResult old (B.Normal soft) next new = (whole : Bool) × (next ≡ normal_burst_result whole)
     × AddsNormalBurst old soft whole new
@@ -35,33 +34,33 @@ IsBurstLineResult old (B.Access bsic soft) next new = (next ≡ N.Access bsic so
 IsBurstLineResult old (B.Sync soft) next new = (next ≡ N.Sync soft) × (new ≡ old)
 
 -- the soft values of an access or synchronisation burst are in the range -127 to 127
-abbrev pub HasOnlySoftValues : BurstLineResult → Type 0
-HasOnlySoftValues (N.Access bsic soft) = AllSoftBits soft
-HasOnlySoftValues (N.Sync soft) = AllSoftBits soft
-HasOnlySoftValues next = Unit {0}
+abbrev pub HasValidSoftValues : BurstLineResult → Type 0
+HasValidSoftValues (N.Access bsic soft) = AllSoftBits soft
+HasValidSoftValues (N.Sync soft) = AllSoftBits soft
+HasValidSoftValues next = Unit {0}
 
 -- ---- used only by the contracts of the parser
 
 -- `line` holds the 148 hard bits of a normal burst: `n ` and 148 `digits`, each `0` or `1`
 pub record IsHardNormalLine (line digits : List ℕ) : Type 0 where
-  pub is : line ≡ codes "n " ++ digits
-  pub each : list_all is_bit_digit digits ≡ true
-  pub many : length digits ≡ 148
+  pub line_form : line ≡ codes "n " ++ digits
+  pub all_bit_digits : list_all is_bit_digit digits ≡ true
+  pub right_length : length digits ≡ 148
 
 -- `line` holds 148 octets for a normal burst: `N ` and 296 hexadecimal `digits`
 pub record IsHexNormalLine (line digits : List ℕ) : Type 0 where
-  pub is : line ≡ codes "N " ++ digits
-  pub each : list_all is_hex_digit digits ≡ true
-  pub many : length digits ≡ 296
+  pub line_form : line ≡ codes "N " ++ digits
+  pub all_hex_digits : list_all is_hex_digit digits ≡ true
+  pub right_length : length digits ≡ 296
 
 -- a line that holds the 148 soft values of a normal burst, none of them -128
 pub record IsSoftNormalLine (line digits : List ℕ) : Type 0 where
   pub octets : IsHexNormalLine line digits
-  pub within : list_any (λ octet. octet == 128) (octets_from_hex digits) ≡ false
+  pub in_range : list_any (λ octet. octet == 128) (octets_from_hex digits) ≡ false
 
 -- `line` is a valid normal burst, which is added to the buffer and, if `whole`, completes the block
-pub record HoldsBurstOfLine (old : Held) (line : List ℕ) (new : Held) (whole : Bool) : Type 0 where
+pub record HoldsBurstOfLine (old : BurstBuffer) (line : List ℕ) (new : BurstBuffer) (whole : Bool) : Type 0 where
   pub soft : List ℤ
   pub means : BurstLineMeans (length old.held) line (B.Normal soft)
-  pub refused : None ≡ burst_fault (length old.held) line
-  pub holds : AddsNormalBurst old soft whole new
+  pub no_fault : None ≡ burst_fault (length old.held) line
+  pub adds_burst : AddsNormalBurst old soft whole new

@@ -14,7 +14,7 @@ abbrev pub crc_word : Bool → List ℕ
 crc_word true = codes "ok"
 crc_word false = codes "bad"
 
--- the words for the quality of a reception: the number of wrong training bits, the metric, and whether the CRC holds
+-- the words for reception quality: the number of wrong training bits, the metric, and whether the CRC is correct
 abbrev pub quality_text : ℕ → ℤ → Bool → List ℕ
 quality_text wrong metric holds =
     codes " train " ++ decimal wrong ++ codes " metric " ++ signed_decimal metric
@@ -30,7 +30,7 @@ block_report_line r =
     codes "block tsc " ++ decimal r.tsc ++ quality_text r.wrong_training r.metric (is_some r.accepted)
     ++ data_and_check_text (encode_lower (octets_of (take 184 r.u))) (encode_lower (octets_of (take 40 (drop 184 r.u))))
 
--- the report on a block: its report line and, if the CRC holds, the line for the frame in the block
+-- the report on a block: its report line and, if the CRC is correct, the line for the frame in it
 abbrev pub IsBlockReport : Received → List ℕ → Type 0
 IsBlockReport r text =
     MatchOption r.accepted

@@ -7,7 +7,7 @@ use Rattle.lapdm_frame.specs.Frames.{octets_of}
 use Rattle.um_lines.specs.declared.fault.LineFault.{LineFault}
 use Rattle.um_lines.specs.Fields.{Value, Number, NumberList}
 use Rattle.um_lines.specs.Forms.{no_order_fault, line_fault}
-use Rattle.um_lines.specs.Reading.{LineParsesTo, parsed_words}
+use Rattle.um_lines.specs.Reading.{LineParsesTo, words_parse_result}
 use Rattle.um_lines.specs.ShowForms as F
 use Rattle.um_lines.specs.ShowForms.{ShowLineKind, FrameShape, NumberedInfo, Supervisory, WithInfo, WithoutInfo, syntax, show_forms}
 use Rattle.um_formats.specs.declared.show.ShowLine.{ShowLine}
@@ -32,7 +32,7 @@ abbrev pub frame_with_address : (sapi cr : ℕ) → Option Content → Option Fr
 frame_with_address sapi cr None = None
 frame_with_address sapi cr (Some content) = Some (record { sapi = sapi; cr = is_bit_set cr; content = content })
 
--- the frame in a line of this form with these values, or `None` if the form is not that of a frame
+-- the frame in a line of this form with these values, or `None` for any other form
 abbrev pub frame_from_values : ShowLineKind → List Value → Option Frame
 frame_from_values (F.Frame kind) (Number sapi ∷ Number cr ∷ values) = frame_with_address sapi cr (content_from_values
     (syntax kind).shape kind values)
@@ -61,5 +61,5 @@ abbrev pub ShowLineMeans : List ℕ → ShowLine → Type 0
 ShowLineMeans line = LineParsesTo show_forms no_order_fault show_line_of_meaning line
 
 -- the result of parsing the words of a line of `show` (used only inside the parser)
-abbrev pub parsed_show : List (List ℕ) → Result ShowLine LineFault
-parsed_show words = parsed_words show_forms no_order_fault show_line_of_meaning words
+abbrev pub show_parse_result : List (List ℕ) → Result ShowLine LineFault
+show_parse_result words = words_parse_result show_forms no_order_fault show_line_of_meaning words

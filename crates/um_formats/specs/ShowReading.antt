@@ -1,10 +1,10 @@
--- Definitions that only the parser and the writer of frame lines use.
+-- Definitions for the parser and the writer of frame lines only.
 use Rattle.std.specs.Prelude.{ℕ, ◌+◌, ◌%◌, ◌==◌, ◌&&◌, ◌||◌, ◌∷◌}
 use Rattle.std.specs.Prelude.{Bool, false, not, List, [], length, Option, codes}
 use Rattle.std.specs.Cmp.Lexicographic.{pointwise}
 use Rattle.std.specs.Str.{bytes_eq}
 use Rattle.um_lines.specs.declared.fault.LineFault.{LineFault}
-use Rattle.um_lines.specs.Fields.{Field, fits_field}
+use Rattle.um_lines.specs.Fields.{LineField, fits_field}
 use Rattle.um_lines.specs.Forms.{no_order_fault, form_of_words, first_word_fault}
 use Rattle.um_lines.specs.ShowForms.{syntax, show_forms}
 use Rattle.um_lines.specs.ShowForms as F
@@ -13,12 +13,12 @@ use Rattle.um_formats.specs.declared.frame_words.FrameWords.{FrameWords}
 use Rattle.um_formats.specs.declared.frame_words.FrameShape.{FrameShape}
 use Rattle.um_formats.specs.declared.frame_words.FrameShape.TheVariants.{NumberedInfo, Supervisory, WithInfo, WithoutInfo}
 
--- the shape that a `FrameShape` of the code represents in the specification
-abbrev pub code_shape_of : FrameShape → F.FrameShape
-code_shape_of NumberedInfo = F.NumberedInfo
-code_shape_of Supervisory = F.Supervisory
-code_shape_of (WithInfo name) = F.WithInfo name.now
-code_shape_of (WithoutInfo name) = F.WithoutInfo name.now
+-- the shape in the specification that a Rust `FrameShape` represents
+abbrev pub spec_shape_of : FrameShape → F.FrameShape
+spec_shape_of NumberedInfo = F.NumberedInfo
+spec_shape_of Supervisory = F.Supervisory
+spec_shape_of (WithInfo name) = F.WithInfo name.now
+spec_shape_of (WithoutInfo name) = F.WithoutInfo name.now
 
 -- the name of the poll or final bit, `p` or `f`, in a shape that allows either name
 abbrev pub pf_bit_name : F.FrameShape → List ℕ
@@ -30,8 +30,8 @@ pf_bit_name other = []
 abbrev pub digit : ℕ → List ℕ
 digit number = (48 + number) ∷ []
 
--- whether the words fit these fields: there is one word for each field, and each word may stand in its field
-abbrev pub words_fit_fields : List (List ℕ) → List Field → Bool
+-- whether the words fit these fields: there is one word for each field, and each field allows its word (`fits_field`)
+abbrev pub words_fit_fields : List (List ℕ) → List LineField → Bool
 words_fit_fields words fields = pointwise fits_field fields words
 
 -- why the words of a line of `show` are refused: the first fault, or `None`

@@ -6,4 +6,4 @@ use Rattle.um_lines.specs.Words.{is_skipped}
 -- `line` contains no line feed, and is not skipped as empty or as a comment
 pub record IsUnskippedLine (line : List ℕ) : Type 0 where
   pub no_line_feed : All (λ octet. octet ≢ 10) line
-  pub stays : is_skipped line ≡ false
+  pub not_skipped : is_skipped line ≡ false

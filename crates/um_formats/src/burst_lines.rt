@@ -5,7 +5,7 @@ ghost use Rattle.um_block.specs.bit_blocks.Bits.{AllBits};
 ghost use Rattle.um_block.specs.Received.{soft_bits};
 ghost use Rattle.um_lines.specs.Words.{words};
 ghost use Rattle.um_lines.specs.Meanings.{HasOneMeaningOrFault};
-ghost use Rattle.um_formats.specs.BurstLines.{burst_fault, BurstLineMeans, parsed_burst};
+ghost use Rattle.um_formats.specs.BurstLines.{burst_fault, BurstLineMeans, burst_parse_result};
 ghost use Rattle.um_formats.specs.Held.{IsHardNormalLine, IsHexNormalLine};
 ghost use Rattle.um_formats.specs.BurstTexts.{normal_burst_text, access_burst_text, sync_burst_text};
 ghost use Rattle.um_formats.specs.WrittenBursts.{IsUnskippedLine};
@@ -20,7 +20,7 @@ use um_lines::{
 /// The meaning of a line of `replay`. Soft values are positive for 0 and negative for 1.
 #[derive(Clone, Copy, PartialEq, Eq, Debug)]
 pub enum BurstLine {
-    /// Nothing: an empty line, or one that begins with `#`.
+    /// Nothing: the line is empty or begins with `#`.
     Skip,
     /// A normal burst, which is one of the four bursts of a block.
     Normal([i8; BURST_BITS]),
@@ -33,7 +33,7 @@ pub enum BurstLine {
 /// Parses a line of `replay`, without its line feed: `n DIGITS148`, `a BSIC6 DIGITS88`, `s DIGITS148`, `N HEX296`, `A BSIC6 HEX176`, `S
 /// HEX296` or `lost`. `held` is the number of bursts of an incomplete block before this line.
 ///
-/// If several errors apply, the first in this order is returned, wherever it occurs in the line: `Long`, `Word`, `Order`, `Digits`,
+/// If several faults apply, returns the first in this order, wherever it occurs in the line: `Long`, `Word`, `Order`, `Digits`,
 /// `Length`, `Soft`.
 pub fn parse_burst(line: &[u8], held: u8) -> Result<BurstLine, LineFault>
     requires { held ≤ 3 }
@@ -51,10 +51,10 @@ pub fn parse_burst(line: &[u8], held: u8) -> Result<BurstLine, LineFault>
 
 #[inline(never)]
 fn parse_words(line: &[u8], held: u8) -> Result<BurstLine, LineFault>
-    ensures { result ≡ parsed_burst held (words line.now) }
+    ensures { result ≡ burst_parse_result held (words line.now) }
 {
     let Some((kind, rest)) = first_word(line) else {
-        return parse_lost(line);
+        return parse_lost_burst(line);
     };
     let [letter] = kind else {
         return Err(LineFault::Word);
@@ -62,9 +62,9 @@ fn parse_words(line: &[u8], held: u8) -> Result<BurstLine, LineFault>
     parse_line_with_letter(*letter, rest, held)
 }
 
-#[tactic(auto, using(crate::proofs::OtherBursts::other_letter))]
+#[tactic(auto, using(crate::proofs::Lemmas::other_letter))]
 fn parse_line_with_letter(letter: u8, rest: &[u8], held: u8) -> Result<BurstLine, LineFault>
-    ensures { result ≡ parsed_burst held ((letter ∷ []) ∷ words rest.now) }
+    ensures { result ≡ burst_parse_result held ((letter ∷ []) ∷ words rest.now) }
 {
     match letter {
         b'n' => parse_hard_normal(rest),
@@ -77,8 +77,8 @@ fn parse_line_with_letter(letter: u8, rest: &[u8], held: u8) -> Result<BurstLine
     }
 }
 
-fn parse_lost(word: &[u8]) -> Result<BurstLine, LineFault>
-    ensures { (held : ℕ) → result ≡ parsed_burst held (word.now ∷ []) }
+fn parse_lost_burst(word: &[u8]) -> Result<BurstLine, LineFault>
+    ensures { (held : ℕ) → result ≡ burst_parse_result held (word.now ∷ []) }
 {
     match word {
         b"lost" => Ok(BurstLine::Normal([0; BURST_BITS])),
@@ -86,10 +86,10 @@ fn parse_lost(word: &[u8]) -> Result<BurstLine, LineFault>
     }
 }
 
-// Parses the digits of a line `n DIGITS148`. Only a text that is not all digits is searched for a space, to choose the right error.
-#[tactic(auto, using(crate::proofs::DigitWords::bit_word, crate::proofs::DigitWords::whole_word))]
+// Parses the digits of a line `n DIGITS148`. Searches the text for a space only if it is not all digits, to return the right fault.
+#[tactic(auto, using(crate::proofs::Lemmas::bit_word, crate::proofs::Lemmas::whole_word))]
 fn parse_hard_normal(rest: &[u8]) -> Result<BurstLine, LineFault>
-    ensures { (held : ℕ) → result ≡ parsed_burst held (codes "n" ∷ words rest.now) }
+    ensures { (held : ℕ) → result ≡ burst_parse_result held (codes "n" ∷ words rest.now) }
 {
     if !are_bit_digits(rest) {
         parse_only_word(rest)?;
@@ -101,9 +101,9 @@ fn parse_hard_normal(rest: &[u8]) -> Result<BurstLine, LineFault>
     Ok(BurstLine::Normal(hard_values(rest)))
 }
 
-#[tactic(auto, using(crate::proofs::DigitWords::hex_word, crate::proofs::DigitWords::whole_word))]
+#[tactic(auto, using(crate::proofs::Lemmas::hex_word, crate::proofs::Lemmas::whole_word))]
 fn parse_soft_normal(rest: &[u8]) -> Result<BurstLine, LineFault>
-    ensures { (held : ℕ) → result ≡ parsed_burst held (codes "N" ∷ words rest.now) }
+    ensures { (held : ℕ) → result ≡ burst_parse_result held (codes "N" ∷ words rest.now) }
 {
     if !are_hex_digits(rest) {
         parse_only_word(rest)?;
@@ -116,7 +116,7 @@ fn parse_soft_normal(rest: &[u8]) -> Result<BurstLine, LineFault>
 }
 
 fn parse_hard_access(rest: &[u8], held: u8) -> Result<BurstLine, LineFault>
-    ensures { result ≡ parsed_burst held (codes "a" ∷ words rest.now) }
+    ensures { result ≡ burst_parse_result held (codes "a" ∷ words rest.now) }
 {
     let (bsic, digits) = parse_two_words(rest)?;
     if held > 0 {
@@ -135,7 +135,7 @@ fn parse_hard_access(rest: &[u8], held: u8) -> Result<BurstLine, LineFault>
 }
 
 fn parse_soft_access(rest: &[u8], held: u8) -> Result<BurstLine, LineFault>
-    ensures { result ≡ parsed_burst held (codes "A" ∷ words rest.now) }
+    ensures { result ≡ burst_parse_result held (codes "A" ∷ words rest.now) }
 {
     let (bsic, digits) = parse_two_words(rest)?;
     if held > 0 {
@@ -154,7 +154,7 @@ fn parse_soft_access(rest: &[u8], held: u8) -> Result<BurstLine, LineFault>
 }
 
 fn parse_hard_sync(rest: &[u8], held: u8) -> Result<BurstLine, LineFault>
-    ensures { result ≡ parsed_burst held (codes "s" ∷ words rest.now) }
+    ensures { result ≡ burst_parse_result held (codes "s" ∷ words rest.now) }
 {
     let digits = parse_only_word(rest)?;
     if held > 0 {
@@ -170,7 +170,7 @@ fn parse_hard_sync(rest: &[u8], held: u8) -> Result<BurstLine, LineFault>
 }
 
 fn parse_soft_sync(rest: &[u8], held: u8) -> Result<BurstLine, LineFault>
-    ensures { result ≡ parsed_burst held (codes "S" ∷ words rest.now) }
+    ensures { result ≡ burst_parse_result held (codes "S" ∷ words rest.now) }
 {
     let digits = parse_only_word(rest)?;
     if held > 0 {
@@ -201,16 +201,13 @@ pub(crate) fn hard_line_digits(line: &[u8]) -> Option<&[u8]>
     Some(digits)
 }
 
-/// The 296 digits of a line `N HEX296`, or `None` for any other line.
-pub(crate) fn soft_digits(line: &[u8]) -> Option<&[u8]>
+/// The 296 octets after `N ` in a line of 298 octets, or `None` for any other line.
+pub(crate) fn soft_line_digits(line: &[u8]) -> Option<&[u8]>
     ensures { MatchOption result ((digits : List ℕ) → ¬ IsHexNormalLine line.now digits)
-        (λ digits. IsHexNormalLine line.now digits.now) }
+        (λ digits. (line.now ≡ codes "N " ++ digits.now) × (length digits.now ≡ 296)) }
 {
     let digits = line.strip_prefix(b"N ")?;
     if digits.len() != 296 {
-        return None;
-    }
-    if !are_hex_digits(digits) {
         return None;
     }
     Some(digits)
@@ -221,7 +218,7 @@ pub fn law_burst_meaning_is_unique()
     ensures { (held : ℕ) (line : List ℕ) → HasOneMeaningOrFault (burst_fault held line) (BurstLineMeans held line) }
 {}
 
-/// Law: written bursts read back: parsing the line of a burst of hard bits gives its soft values, 127 for 0 and -127 for 1.
+/// Law: parsing the line written for a burst of hard bits returns its soft values, 127 for 0 and -127 for 1.
 pub fn law_written_bursts_read_back()
     ensures normal { (held : ℕ) (burst line : List ℕ) → length burst ≡ BURST_BITS → AllBits burst
         → normal_burst_text burst ≡ line ++ codes "\n"

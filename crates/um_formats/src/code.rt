@@ -3,7 +3,7 @@ ghost use Rattle.std.specs.Prelude.{◌≡◌, ℕ, List, ◌∷◌, IfOk, codes
 ghost use Rattle.std.specs.Result.{result_err};
 ghost use Rattle.um_lines.specs.Words.{words};
 ghost use Rattle.um_lines.specs.Meanings.{HasOneMeaningOrFault};
-ghost use Rattle.um_formats.specs.CodeLines.{code_fault, CodeLineMeans, parsed_code};
+ghost use Rattle.um_formats.specs.CodeLines.{code_fault, CodeLineMeans, code_parse_result};
 
 use um_block::{BLOCK_OCTETS, Bits};
 use um_lines::{
@@ -14,7 +14,7 @@ use um_lines::{
 /// The meaning of a line of `code`.
 #[derive(Clone, Copy, PartialEq, Eq, Debug)]
 pub enum CodeLine {
-    /// Nothing: an empty line, or one that begins with `#`.
+    /// Nothing: the line is empty or begins with `#`.
     Skip,
     /// A block of 23 octets, to be sent in four normal bursts with training sequence `tsc`, 0 to 7.
     Block { tsc: u8, octets: [u8; BLOCK_OCTETS] },
@@ -26,7 +26,7 @@ pub enum CodeLine {
 
 /// Parses a line of `code`, without its line feed: `block T HEX46`, `rach DIGITS8 BSIC6` or `sch DIGITS25`.
 ///
-/// If several errors apply, the first in this order is returned, wherever it occurs in the line: `Long`, `Word`, `Digits`, `Length`.
+/// If several faults apply, returns the first in this order, wherever it occurs in the line: `Long`, `Word`, `Digits`, `Length`.
 pub fn parse_code(line: &[u8]) -> Result<CodeLine, LineFault>
     ensures means { IfOk result (CodeLineMeans line.now) }
     ensures refused { result_err result ≡ code_fault line.now }
@@ -41,9 +41,9 @@ pub fn parse_code(line: &[u8]) -> Result<CodeLine, LineFault>
 }
 
 fn parse_words(line: &[u8]) -> Result<CodeLine, LineFault>
-    ensures { result ≡ parsed_code (words line.now) }
+    ensures { result ≡ code_parse_result (words line.now) }
 {
-    // A block, the most frequent line, is recognised without a search for a space.
+    // Recognises the most frequent line, a block, without searching for a space.
     if let Some(rest) = line.strip_prefix(b"block ") {
         return parse_block(rest);
     }
@@ -58,11 +58,11 @@ fn parse_words(line: &[u8]) -> Result<CodeLine, LineFault>
     }
 }
 
-// Parses the words after `block`. Only a text that is not all digits is searched for a space, to choose the right error.
+// Parses the words after `block`. Searches the text for a space only if it is not all digits, to return the right fault.
 #[inline(always)]
-#[tactic(auto, using(crate::proofs::DigitWords::hex_word, crate::proofs::DigitWords::whole_word))]
+#[tactic(auto, using(crate::proofs::Lemmas::hex_word, crate::proofs::Lemmas::whole_word))]
 fn parse_block(rest: &[u8]) -> Result<CodeLine, LineFault>
-    ensures { result ≡ parsed_code (codes "block" ∷ words rest.now) }
+    ensures { result ≡ code_parse_result (codes "block" ∷ words rest.now) }
 {
     let Some((number, digits)) = first_word(rest) else {
         return Err(LineFault::Word);
@@ -80,7 +80,7 @@ fn parse_block(rest: &[u8]) -> Result<CodeLine, LineFault>
 }
 
 fn parse_rach(rest: &[u8]) -> Result<CodeLine, LineFault>
-    ensures { result ≡ parsed_code (codes "rach" ∷ words rest.now) }
+    ensures { result ≡ code_parse_result (codes "rach" ∷ words rest.now) }
 {
     let (info, bsic) = parse_two_words(rest)?;
     if !are_bit_digits(info) || !are_bit_digits(bsic) {
@@ -96,7 +96,7 @@ fn parse_rach(rest: &[u8]) -> Result<CodeLine, LineFault>
 }
 
 fn parse_sch(rest: &[u8]) -> Result<CodeLine, LineFault>
-    ensures { result ≡ parsed_code (codes "sch" ∷ words rest.now) }
+    ensures { result ≡ code_parse_result (codes "sch" ∷ words rest.now) }
 {
     let info = parse_only_word(rest)?;
     if !are_bit_digits(info) {

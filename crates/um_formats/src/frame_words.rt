@@ -4,7 +4,7 @@ ghost use Rattle.std.specs.Prelude.{◌≡◌, ◌-◌, ◌≤◌, ◌∷◌, �
 ghost use Rattle.std.specs.Prelude.{IsTrue, IfSome, IfNone, MatchResult, map};
 ghost use Rattle.std.specs.List.{list_any};
 ghost use Rattle.std.specs.Str.{bytes_eq};
-ghost use Rattle.lapdm_frame.specs.Content.{Frame, kinds, content_of_fields, fields_in};
+ghost use Rattle.lapdm_frame.specs.Content.{Frame, kinds, content_of_fields, abstract_fields};
 ghost use Rattle.lapdm_frame.specs.Frames.{octets_of};
 ghost use Rattle.um_lines.specs.Words.{words};
 ghost use Rattle.um_lines.specs.Fields.{has_wrong_digits, has_wrong_length, octets_from_hex, is_digit_up_to};
@@ -12,7 +12,7 @@ ghost use Rattle.um_lines.specs.Forms.{has_faulty_word, values_of_words};
 ghost use Rattle.um_lines.specs.ShowForms.{syntax, prepend_named_digit, information, m_bit_and_info_fields, shape_fields, frame_fields};
 ghost use Rattle.um_lines.specs.ShowForms as F;
 ghost use Rattle.um_formats.specs.ShowLines.{is_bit_set, content_from_values, frame_from_values};
-ghost use Rattle.um_formats.specs.ShowReading.{code_shape_of, pf_bit_name, words_fit_fields, first_show_fault, begins_with_name_and_value};
+ghost use Rattle.um_formats.specs.ShowReading.{spec_shape_of, pf_bit_name, words_fit_fields, first_show_fault, begins_with_name_and_value};
 ghost use Rattle.um_formats.specs.ShowReading.{is_name_and_value};
 ghost use Rattle.um_formats.specs.ShowReading.{field_words, frame_line_words, info_word, min_info_octets};
 
@@ -38,9 +38,9 @@ pub(crate) enum FrameShape {
 /// The word for a frame kind, and the shape of the fields that follow it.
 pub(crate) fn syntax(kind: Kind) -> (&'static [u8], FrameShape)
     ensures word { result.0.now ≡ (syntax kind).word }
-    ensures shape { code_shape_of result.1 ≡ (syntax kind).shape }
+    ensures shape { spec_shape_of result.1 ≡ (syntax kind).shape }
     ensures size { length result.0.now ≤ 4 }
-    ensures name { length (pf_bit_name (code_shape_of result.1)) ≤ 1 }
+    ensures name { length (pf_bit_name (spec_shape_of result.1)) ≤ 1 }
 {
     match kind {
         Kind::I => (b"i", FrameShape::NumberedInfo),
@@ -74,7 +74,7 @@ fn kind_of_word(word: &[u8]) -> Option<Kind>
     }
 }
 
-/// The words for the values in a frame's line, without the names of the fields. Fields that the frame kind does not have are not used.
+/// The words for the values in a frame's line, without the names of the fields. Fields of other frame kinds are not used.
 #[derive(Clone, Copy)]
 pub(crate) struct FieldWords<'a> {
     pub(crate) ns: &'a [u8],
@@ -93,7 +93,7 @@ pub(crate) struct FrameWords<'a> {
     pub(crate) fields: FieldWords<'a>,
 }
 
-/// Splits the text after the word `frame` into fields. The only possible fault is `Word`.
+/// Splits the text after the word `frame` into fields, or returns the fault `Word`.
 pub(crate) fn frame_words<'a>(text: &'a [u8]) -> Result<FrameWords<'a>, LineFault>
     ensures { MatchResult result
         (λ found. codes "frame" ∷ words text.now ≡ frame_line_words found)
@@ -119,8 +119,8 @@ pub(crate) fn frame_words<'a>(text: &'a [u8]) -> Result<FrameWords<'a>, LineFaul
 
 fn field_words<'a>(shape: FrameShape, text: &'a [u8]) -> Result<FieldWords<'a>, LineFault>
     ensures { MatchResult result
-        (λ found. words text.now ≡ field_words (code_shape_of shape) found)
-        (λ fault. (fault ≡ LineFault.Word) × (words_fit_fields (words text.now) (shape_fields (code_shape_of shape)) ≡ false)) }
+        (λ found. words text.now ≡ field_words (spec_shape_of shape) found)
+        (λ fault. (fault ≡ LineFault.Word) × (words_fit_fields (words text.now) (shape_fields (spec_shape_of shape)) ≡ false)) }
 {
     let (ns, nr, more, none): (&[u8], &[u8], &[u8], &[u8]) = (b"0", b"0", b"0", b"-");
     match shape {
@@ -205,7 +205,7 @@ fn parse_bit_and_information<'a, const LEAST: usize>(
     Ok((pf, info))
 }
 
-/// The value after this name, and the text after that value. The text must begin with the name.
+/// Returns the value after this name, and the text after that value. The text must begin with the name.
 fn parse_name_and_value<'a>(text: &'a [u8], name: &[u8]) -> Result<(&'a [u8], &'a [u8]), LineFault>
     ensures { MatchResult result
         (λ both. words text.now ≡ name.now ∷ both.0.now ∷ words both.1.now)
@@ -224,7 +224,7 @@ fn parse_name_and_value<'a>(text: &'a [u8], name: &[u8]) -> Result<(&'a [u8], &'
     }
 }
 
-/// The value after this name. The text must consist of the name and the value only.
+/// Returns the value after this name. The text must consist of the name and the value only.
 fn parse_last_name_and_value<'a>(text: &'a [u8], name: &[u8]) -> Result<&'a [u8], LineFault>
     ensures { MatchResult result
         (λ value. words text.now ≡ name.now ∷ value.now ∷ [])
@@ -239,7 +239,7 @@ fn parse_last_name_and_value<'a>(text: &'a [u8], name: &[u8]) -> Result<&'a [u8]
 }
 
 impl FrameWords<'_> {
-    /// Whether every word has only characters that its field allows and, if it is a number, is in range.
+    /// Whether every word consists of characters that its field allows, and every number is in range.
     pub(crate) fn have_valid_digits(&self) -> bool
         ensures { result ≡ not (has_faulty_word has_wrong_digits (frame_fields (syntax self.now.kind)) (frame_line_words self.now)) }
     {
@@ -272,7 +272,7 @@ impl FrameWords<'_> {
         let (_, shape) = syntax(self.kind);
         let (room, count) = octets_of_hex_word(self.fields.info_word(shape));
         let sapi = value_of_digit(self.sapi);
-        let cr = is_word_one(self.cr);
+        let cr = is_digit_one(self.cr);
         let body = self
             .fields
             .frame_fields_of_kind(self.kind, shape, &room[..count])
@@ -283,7 +283,7 @@ impl FrameWords<'_> {
 
 impl FrameShape {
     fn min_info_octets(self) -> usize
-        ensures { result ≡ min_info_octets (code_shape_of self) }
+        ensures { result ≡ min_info_octets (spec_shape_of self) }
     {
         match self {
             FrameShape::NumberedInfo => 1,
@@ -294,8 +294,8 @@ impl FrameShape {
 
 impl<'a> FieldWords<'a> {
     fn have_valid_digits(&self, shape: FrameShape) -> bool
-        ensures { result ≡ not (has_faulty_word has_wrong_digits (shape_fields (code_shape_of shape))
-            (field_words (code_shape_of shape) self.now)) }
+        ensures { result ≡ not (has_faulty_word has_wrong_digits (shape_fields (spec_shape_of shape))
+            (field_words (spec_shape_of shape) self.now)) }
     {
         match shape {
             FrameShape::NumberedInfo => {
@@ -312,7 +312,7 @@ impl<'a> FieldWords<'a> {
     }
 
     fn info_word(&self, shape: FrameShape) -> &'a [u8]
-        ensures { result.now ≡ info_word (code_shape_of shape) self.now }
+        ensures { result.now ≡ info_word (spec_shape_of shape) self.now }
     {
         match shape {
             FrameShape::NumberedInfo | FrameShape::WithInfo(_) => self.info,
@@ -327,17 +327,17 @@ impl<'a> FieldWords<'a> {
         shape: FrameShape,
         info: &'b [u8],
     ) -> FrameFields<'b>
-        requires digits { has_faulty_word has_wrong_digits (shape_fields (code_shape_of shape))
-            (field_words (code_shape_of shape) self.now) ≡ false }
-        requires octets { info.now ≡ octets_from_hex (info_word (code_shape_of shape) self.now) }
-        ensures said { content_from_values (code_shape_of shape) kind
-            (values_of_words (shape_fields (code_shape_of shape)) (field_words (code_shape_of shape) self.now))
-            ≡ Some (content_of_fields (fields_in result)) }
+        requires digits { has_faulty_word has_wrong_digits (shape_fields (spec_shape_of shape))
+            (field_words (spec_shape_of shape) self.now) ≡ false }
+        requires octets { info.now ≡ octets_from_hex (info_word (spec_shape_of shape) self.now) }
+        ensures said { content_from_values (spec_shape_of shape) kind
+            (values_of_words (shape_fields (spec_shape_of shape)) (field_words (spec_shape_of shape) self.now))
+            ≡ Some (content_of_fields (abstract_fields result)) }
         ensures kind { result.kind ≡ kind }
         ensures ns_nr_fit { (result.ns ≤ 7) × (result.nr ≤ 7) }
         ensures information { result.info.now ≡ info.now }
     {
-        let pf = is_word_one(self.pf);
+        let pf = is_digit_one(self.pf);
         let bare = FrameFields {
             kind,
             ns: 0,
@@ -350,7 +350,7 @@ impl<'a> FieldWords<'a> {
             FrameShape::NumberedInfo => FrameFields {
                 ns: value_of_digit(self.ns),
                 nr: value_of_digit(self.nr),
-                more: is_word_one(self.more),
+                more: is_digit_one(self.more),
                 ..bare
             },
             FrameShape::Supervisory => FrameFields {
@@ -362,7 +362,7 @@ impl<'a> FieldWords<'a> {
     }
 }
 
-fn is_word_one(word: &[u8]) -> bool
+fn is_digit_one(word: &[u8]) -> bool
     requires { IsTrue (is_digit_up_to 1 word.now) }
     ensures { result ≡ is_bit_set (slice_index word.now 0 - 48) }
 {

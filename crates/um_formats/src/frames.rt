@@ -1,12 +1,12 @@
 //! Writes frames as text lines.
 ghost use Rattle.std.specs.Prelude.{◌≡◌, ℕ, ◌+◌, ◌<◌, ◌≤◌, List, [], ◌∷◌, ◌++◌, length, codes};
-ghost use Rattle.lapdm_frame.specs.Content.{frame_of, fields_in};
+ghost use Rattle.lapdm_frame.specs.Content.{frame_of, abstract_fields};
 ghost use Rattle.lapdm_frame.specs.Frames.{bit, FrameFits};
 ghost use Rattle.um_lines.specs.Fields.{FixedWord};
 ghost use Rattle.um_lines.specs.ShowForms.{shape_fields};
 ghost use Rattle.um_lines.specs.Spelled.{octets_word, line_of_values};
 ghost use Rattle.um_formats.specs.FrameTexts.{shape_values, frame_text, refusal_word, unread_text, octets_text, IsTextOfOctets};
-ghost use Rattle.um_formats.specs.ShowReading.{code_shape_of, pf_bit_name, digit};
+ghost use Rattle.um_formats.specs.ShowReading.{spec_shape_of, pf_bit_name, digit};
 
 use crate::frame_words::{FrameShape, syntax};
 use lapdm_frame::{Channel, FrameFields, FrameView, Refusal};
@@ -62,11 +62,11 @@ fn push_frame_view(out: &mut Text, f: &FrameView<'_>)
 fn push_fields(out: &mut Text, word: &[u8], shape: FrameShape, f: &FrameFields<'_>)
     requires space { length out.old + 75 ≤ 4096 }
     requires size { length word.now ≤ 4 }
-    requires name { length (pf_bit_name (code_shape_of shape)) ≤ 1 }
+    requires name { length (pf_bit_name (spec_shape_of shape)) ≤ 1 }
     requires ns_nr_fit { (f.now.ns ≤ 7) × (f.now.nr ≤ 7) }
     requires information { length f.now.info.now ≤ 20 }
-    ensures text { out.new ≡ out.old ++ 32 ∷ line_of_values (FixedWord word.now ∷ shape_fields (code_shape_of shape))
-        (shape_values (code_shape_of shape) (fields_in f.now)) }
+    ensures text { out.new ≡ out.old ++ 32 ∷ line_of_values (FixedWord word.now ∷ shape_fields (spec_shape_of shape))
+        (shape_values (spec_shape_of shape) (abstract_fields f.now)) }
     ensures length { length out.new ≤ length out.old + 75 }
 {
     out.push(b" ");

@@ -10,14 +10,14 @@ ghost use Rattle.um_formats.specs.SoftOctets.{signed_octets};
 ghost use Rattle.um_formats.specs.declared.burst_lines.BurstLine.{BurstLine as Meaning};
 ghost use Rattle.um_formats.specs.BurstLines.{burst_fault, BurstLineMeans};
 ghost use Rattle.um_formats.specs.Held.{AddsNormalBurst, HoldsBurstOfLine, IsHardNormalLine, IsSoftNormalLine, IsBurstLineResult};
-ghost use Rattle.um_formats.specs.Held.{HasOnlySoftValues};
+ghost use Rattle.um_formats.specs.Held.{HasValidSoftValues};
 ghost use Rattle.um_formats.specs.Held.{normal_burst_result};
 
-use crate::burst_lines::{BurstLine, hard_line_digits, parse_burst, soft_digits};
+use crate::burst_lines::{BurstLine, hard_line_digits, parse_burst, soft_line_digits};
 use crate::soft_digits::{has_minus_128, write_hard_values, write_signed_values};
 use std::marker::Model;
 use um_block::{BURST_BITS, Bits};
-use um_lines::{LineFault, write_octets_from_hex};
+use um_lines::{LineFault, decode_hex};
 
 /// A buffer for the four normal bursts of a block, filled in order. It keeps a complete block until the next normal burst arrives.
 #[derive(Drop)]
@@ -26,16 +26,16 @@ pub struct HeldBursts {
     count: u8,
 }
 
-// In contracts, a `HeldBursts` stands for the bursts of the incomplete block and for the whole buffer.
+// In contracts, a `HeldBursts` consists of the bursts of the incomplete block and the whole buffer.
 impl Model for HeldBursts {
     ghost use Rattle.std.specs.Prelude.{◌≤◌, take};
     ghost use Rattle.std.specs.List.{All};
     ghost use Rattle.um_block.specs.conv_code.Likelihood.{AllSoftBits};
-    ghost use Rattle.um_formats.specs.Held.{Held};
+    ghost use Rattle.um_formats.specs.Held.{BurstBuffer};
 
-    ghost Value = { Held };
+    ghost Value = { BurstBuffer };
 
-    ghost view = { λ h. record { held = take h.count h.bursts; places = h.bursts } };
+    ghost view = { λ h. record { held = take h.count h.bursts; slots = h.bursts } };
 
     ghost invariant = { λ h. (h.count ≤ 3) × All AllSoftBits h.bursts };
 }
@@ -43,7 +43,7 @@ impl Model for HeldBursts {
 /// The result of a line of `replay`: nothing, a burst, or a complete block.
 #[derive(Clone, Copy, Drop)]
 pub enum BurstLineResult {
-    /// Nothing: an empty line, or one that begins with `#`.
+    /// Nothing: the line is empty or begins with `#`.
     Skip,
     /// A normal burst, which is held until its block is complete.
     Held,
@@ -59,7 +59,7 @@ impl HeldBursts {
     /// An empty buffer.
     pub fn new() -> HeldBursts
         ensures held { result.held ≡ [] }
-        ensures places { result.places ≡ replicate 4 (replicate BURST_BITS (pos 0)) }
+        ensures places { result.slots ≡ replicate 4 (replicate BURST_BITS (pos 0)) }
     {
         HeldBursts {
             bursts: [[0; BURST_BITS]; 4],
@@ -77,14 +77,14 @@ impl HeldBursts {
 
     /// The four bursts in the buffer, which are the last complete block until another burst is added.
     pub fn block(&self) -> &[[i8; BURST_BITS]; 4]
-        ensures bursts { result.now ≡ self.now.places }
+        ensures bursts { result.now ≡ self.now.slots }
         ensures soft { All AllSoftBits result.now }
     {
         &self.bursts
     }
 
     /// Adds a normal burst to the buffer, and returns true if it completes a block.
-    #[tactic(auto, using(crate::proofs::BurstLaws::fourth_burst_completes))]
+    #[tactic(auto, using(crate::proofs::Lemmas::fourth_burst_completes))]
     pub fn add(&mut self, burst: [i8; BURST_BITS]) -> bool
         requires { AllSoftBits burst }
         ensures { AddsNormalBurst self.old burst result self.new }
@@ -100,7 +100,7 @@ impl HeldBursts {
     }
 
     /// Adds the burst whose hard bits are written as these digits, and returns true if it completes a block.
-    #[tactic(auto, using(crate::proofs::BurstLaws::fourth_burst_completes))]
+    #[tactic(auto, using(crate::proofs::Lemmas::fourth_burst_completes))]
     fn add_hard_burst(&mut self, digits: &[u8]) -> bool
         requires each { IsTrue (list_all is_bit_digit digits.now) }
         requires size { length digits.now ≡ BURST_BITS }
@@ -117,7 +117,7 @@ impl HeldBursts {
     }
 
     /// Adds the burst whose soft values are these octets, and returns true if it completes a block.
-    #[tactic(auto, using(crate::proofs::BurstLaws::fourth_burst_completes))]
+    #[tactic(auto, using(crate::proofs::Lemmas::fourth_burst_completes))]
     fn add_soft_burst(&mut self, octets: &[u8; BURST_BITS]) -> bool
         requires { AllSoftBits (signed_octets octets.now) }
         ensures { AddsNormalBurst self.old (signed_octets octets.now) result self.new }
@@ -153,9 +153,11 @@ fn hold_soft_burst(line: &[u8], held: &mut HeldBursts) -> Option<bool>
     ensures { MatchOption result ((held.new ≡ held.old) × ((digits : List ℕ) → ¬ IsSoftNormalLine line.now digits))
         (HoldsBurstOfLine held.old line.now held.new) }
 {
-    let digits = soft_digits(line)?;
+    let digits = soft_line_digits(line)?;
     let mut octets = [0; BURST_BITS];
-    write_octets_from_hex(digits, &mut octets);
+    if !decode_hex(digits, &mut octets) {
+        return None;
+    }
     if has_minus_128(&octets) {
         return None;
     }
@@ -168,7 +170,7 @@ pub fn read_burst_into(line: &[u8], held: &mut HeldBursts) -> Result<BurstLineRe
     ensures means { IfOk result (λ next. (meaning : Meaning) × BurstLineMeans (length held.old.held) line.now meaning
         × IsBurstLineResult held.old meaning next held.new) }
     ensures refused { result_err result ≡ burst_fault (length held.old.held) line.now }
-    ensures soft { IfOk result HasOnlySoftValues }
+    ensures soft { IfOk result HasValidSoftValues }
     ensures unchanged { OnErr result (held.new ≡ held.old) }
 {
     match parse_burst(line, held.count())? {

@@ -5,10 +5,10 @@ ghost use Rattle.um_formats.specs.ShowReading.{is_octets_word};
 
 use um_lines::write_octets_from_hex;
 
-/// The octets that a word represents, at the front of the array, and their number.
+/// Returns the octets that a word represents, at the start of the array, and their number.
 pub(crate) fn octets_of_hex_word(word: &[u8]) -> ([u8; 20], usize)
     requires each { IsTrue (is_dash_or_hex word.now) }
-    requires well { IsTrue (is_octets_word word.now) }
+    requires valid_word { IsTrue (is_octets_word word.now) }
     requires size { octet_count word.now ≤ 20 }
     ensures count { result.1 ≡ octet_count word.now }
     ensures octets { take result.1 result.0 ≡ octets_from_hex word.now }

@@ -12,7 +12,7 @@ use crate::frames::push_frame;
 use um_block::{BLOCK_BITS, BLOCK_OCTETS, Bits, Received, ReceivedAccess, ReceivedSync};
 use um_lines::{Text, octets_from_bits_at};
 
-/// Writes the report on a block and, if its CRC holds, the text line of the frame in it.
+/// Writes the report on a block and, if its CRC is correct, the text line of the frame in it.
 pub fn block_report(out: &mut Text, r: &Received)
     requires { out.old ≡ [] }
     ensures report { IsBlockReport r.now out.new }
@@ -24,7 +24,7 @@ pub fn block_report(out: &mut Text, r: &Received)
     }
 }
 
-/// Writes the report on an access burst. `bsic` is the base station identity code (BSIC) with which its CRC was checked.
+/// Writes the report on an access burst. `bsic` is the base station identity code (BSIC) for the CRC check.
 pub fn access_report(out: &mut Text, bsic: &Bits<6>, r: &ReceivedAccess)
     requires { out.old ≡ [] }
     ensures report { out.new ≡ access_report_text bsic.now r.now }
@@ -110,7 +110,7 @@ fn push_data_and_check(out: &mut Text, octets: &[u8], check: &[u8])
     ensures text { out.new ≡ out.old ++ data_and_check_text (encode_lower octets.now) (encode_lower check.now) }
     ensures length { length out.new ≡ length out.old + 70 }
 
-    // Unpacking octets to bits and packing the bits again gives the original octets.
+    // Unpacking octets to bits and packing the bits again restores the octets.
     ensures octets { octets_of (bits_of octets.now) ≡ octets.now }
     ensures check { octets_of (bits_of check.now) ≡ check.now }
 {

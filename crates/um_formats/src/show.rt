@@ -10,7 +10,7 @@ ghost use Rattle.um_lines.specs.Forms.{LineMeans, no_order_fault};
 ghost use Rattle.um_lines.specs.ShowForms.{ShowLineKind, show_forms};
 ghost use Rattle.um_lines.specs.Meanings.{HasOneMeaningOrFault};
 ghost use Rattle.um_formats.specs.FrameTexts.{frame_text, octets_text, IsTextOfOctets};
-ghost use Rattle.um_formats.specs.ShowLines.{frame_from_values, show_fault, ShowLineMeans, parsed_show};
+ghost use Rattle.um_formats.specs.ShowLines.{frame_from_values, show_fault, ShowLineMeans, show_parse_result};
 ghost use Rattle.um_formats.specs.WrittenBursts.{IsUnskippedLine};
 
 use crate::frame_words::frame_words;
@@ -21,7 +21,7 @@ use um_lines::{LINE_LIMIT, LineFault, are_hex_digits, is_skipped, octets_of, par
 /// The meaning of a line of `show`.
 #[derive(Clone, Copy, PartialEq, Eq, Debug)]
 pub enum ShowLine {
-    /// Nothing: an empty line, or one that begins with `#`.
+    /// Nothing: the line is empty or begins with `#`.
     Skip,
     /// A line with 23 octets; the output is the text line of the frame in them.
     Octets([u8; BLOCK_OCTETS]),
@@ -32,7 +32,7 @@ pub enum ShowLine {
 /// Parses a line of `show`, without its line feed: `octets HEX46`, or a frame as `frame_line` writes it. Hexadecimal digits may be in upper
 /// or lower case.
 ///
-/// If several errors apply, the first in this order is returned, wherever it occurs in the line: `Long`, `Word`, `Digits`, `Length`.
+/// If several faults apply, returns the first in this order, wherever it occurs in the line: `Long`, `Word`, `Digits`, `Length`.
 pub fn parse_show(line: &[u8]) -> Result<ShowLine, LineFault>
     ensures means { IfOk result (ShowLineMeans line.now) }
     ensures refused { result_err result ≡ show_fault line.now }
@@ -47,7 +47,7 @@ pub fn parse_show(line: &[u8]) -> Result<ShowLine, LineFault>
 }
 
 fn parse_words(line: &[u8]) -> Result<ShowLine, LineFault>
-    ensures { result ≡ parsed_show (words line.now) }
+    ensures { result ≡ show_parse_result (words line.now) }
 {
     if let Some(rest) = line.strip_prefix(b"octets ") {
         parse_octets(rest)
@@ -58,10 +58,10 @@ fn parse_words(line: &[u8]) -> Result<ShowLine, LineFault>
     }
 }
 
-// Parses the word after `octets`. Only a text that is not all digits is searched for a space, to choose the right error.
-#[tactic(auto, using(crate::proofs::DigitWords::hex_word, crate::proofs::DigitWords::whole_word))]
+// Parses the word after `octets`. Searches the text for a space only if it is not all digits, to return the right fault.
+#[tactic(auto, using(crate::proofs::Lemmas::hex_word, crate::proofs::Lemmas::whole_word))]
 fn parse_octets(rest: &[u8]) -> Result<ShowLine, LineFault>
-    ensures { result ≡ parsed_show (codes "octets" ∷ words rest.now) }
+    ensures { result ≡ show_parse_result (codes "octets" ∷ words rest.now) }
 {
     if !are_hex_digits(rest) {
         parse_only_word(rest)?;
@@ -74,7 +74,7 @@ fn parse_octets(rest: &[u8]) -> Result<ShowLine, LineFault>
 }
 
 fn parse_frame(rest: &[u8]) -> Result<ShowLine, LineFault>
-    ensures { result ≡ parsed_show (codes "frame" ∷ words rest.now) }
+    ensures { result ≡ show_parse_result (codes "frame" ∷ words rest.now) }
 {
     let found = frame_words(rest)?;
     if !found.have_valid_digits() {
@@ -91,8 +91,8 @@ pub fn law_show_meaning_is_unique()
     ensures { (line : List ℕ) → HasOneMeaningOrFault (show_fault line) (ShowLineMeans line) }
 {}
 
-/// Law: written lines read back: the line written for octets parses to those octets, and the line written for the frame in canonical SDCCH
-/// octets parses to the same octets. Conversely, the octets of a frame's line are written as the line of that frame.
+/// Law: the line written for octets parses to those octets, and the line written for the frame in canonical SDCCH octets parses to the
+/// same octets. Conversely, if a frame's line parses to octets, the line written for these octets is the line of that frame.
 pub fn law_written_frames_read_back()
     ensures octets { (octets line : List ℕ) → length octets ≡ BLOCK_OCTETS → All (λ octet. octet < 256) octets
         → octets_text octets ≡ line ++ codes "\n" → IsUnskippedLine line × ShowLineMeans line (ShowLine.Octets octets) }

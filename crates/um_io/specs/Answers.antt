@@ -2,42 +2,42 @@
 use Rattle.std.specs.Prelude.{ℕ, ◌≡◌, ◌≤◌, ◌<◌, List, [], ◌∷◌, ◌++◌, length, All, Option}
 use Rattle.std.specs.Borrow.{Bor}
 use Rattle.um_io.specs.Lines.{IsLine, text_of_lines, lines_of_octets}
-use Rattle.um_io.specs.Reading.{Reading, input_limit, line_limit}
+use Rattle.um_io.specs.Reading.{ReaderState, input_limit, line_limit}
 use Rattle.um_io.specs.Next.{IsReaderStep}
 use Rattle.um_io.specs.declared.lines.Next.{Next}
 use Rattle.um_io.specs.declared.lines.Next.TheVariants.{Line, End, Long, TooMany, Failed}
 
--- successive calls of a reader, from the first state to the last, return exactly these lines and read exactly these octets from the source
-abbrev pub AnswersLines : Reading → Option (List ℕ) → List (List ℕ) → List ℕ → Reading → Option (List ℕ) → Type 0
-AnswersLines r left [] came r' left' = (came ≡ []) × (r' ≡ r) × (left' ≡ left)
-AnswersLines r left (line ∷ lines) came r' left' =
-    (first rest : List ℕ) × (mid : Reading) × (between : Option (List ℕ)) × (answer : Bor (List ℕ)) × (answer.now ≡ line)
+-- successive calls of a reader, from the first state to the last, return exactly these lines and read exactly these octets
+abbrev pub CallsReturnLines : ReaderState → Option (List ℕ) → List (List ℕ) → List ℕ → ReaderState → Option (List ℕ) →
+    Type 0
+CallsReturnLines r left [] came r' left' = (came ≡ []) × (r' ≡ r) × (left' ≡ left)
+CallsReturnLines r left (line ∷ lines) came r' left' =
+    (first rest : List ℕ) × (mid : ReaderState) × (between : Option (List ℕ)) × (answer : Bor (List ℕ)) × (answer.now ≡ line)
     × (came ≡ first ++ rest)
-    × IsReaderStep r mid left between (Line answer) first × AnswersLines mid between lines rest r' left'
+    × IsReaderStep r mid left between (Line answer) first × CallsReturnLines mid between lines rest r' left'
 
 -- `came`, the part of `octets` that was read, consists of the complete `lines`, an incomplete `line` within the input limit, and the octets
 -- `past` that limit
 pub record DividesReadOctets (octets came : List ℕ) (lines : List (List ℕ)) (line past : List ℕ) : Type 0 where
-  pub rest : List ℕ
-  pub octets_split : octets ≡ came ++ rest
+  pub unread : List ℕ
+  pub octets_split : octets ≡ came ++ unread
   pub read_split : came ≡ text_of_lines lines ++ (line ++ past)
-  pub plain : All IsLine lines
+  pub no_line_feed : All IsLine lines
   pub no_feed_in_line : IsLine line
   pub limit : length (text_of_lines lines ++ line) ≤ input_limit
   pub past_only_at_limit : 0 < length past → length (text_of_lines lines ++ line) ≡ input_limit
 
--- how the octets read by a reader that stops with this result divide into the lines that it returned; `came` is the part of `octets` that
--- was read
-abbrev pub EndsReaderWith : Next → (octets came : List ℕ) → List (List ℕ) → Type 0
+-- the relation between the octets read and the lines returned when a reader stops with this result; `came` is the part of `octets` read
+abbrev pub ReaderStopsWith : Next → (octets came : List ℕ) → List (List ℕ) → Type 0
 -- a line does not stop the reader
-EndsReaderWith (Line line) octets came lines = Unit {0}
+ReaderStopsWith (Line line) octets came lines = Unit {0}
 -- at the end of the input, the lines returned are all lines of the input
-EndsReaderWith End octets came lines = lines ≡ lines_of_octets octets
+ReaderStopsWith End octets came lines = lines ≡ lines_of_octets octets
 -- the next line exceeds the line limit
-EndsReaderWith Long octets came lines = (line past : List ℕ) × DividesReadOctets octets came lines line past
+ReaderStopsWith Long octets came lines = (line past : List ℕ) × DividesReadOctets octets came lines line past
     × (line_limit < length line)
 -- the next line does not exceed the line limit, but does not end within the input limit
-EndsReaderWith TooMany octets came lines =
+ReaderStopsWith TooMany octets came lines =
     (line past : List ℕ) × DividesReadOctets octets came lines line past × (length line ≤ line_limit) × (0 < length past)
 -- a read failed before the next line ended
-EndsReaderWith Failed octets came lines = (line : List ℕ) × DividesReadOctets octets came lines line [] × (length line ≤ line_limit)
+ReaderStopsWith Failed octets came lines = (line : List ℕ) × DividesReadOctets octets came lines line [] × (length line ≤ line_limit)

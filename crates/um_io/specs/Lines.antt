@@ -13,9 +13,9 @@ IsLine line = All IsNotLineFeed line
 
 -- the first line feed of the octets has index `n`
 pub record IsFirstLineFeed (octets : List ℕ) (n : ℕ) : Type 0 where
-  pub within : n < length octets
-  pub plain : IsLine (take n octets)
-  pub feed : slice_index octets n ≡ 10
+  pub in_range : n < length octets
+  pub no_line_feed : IsLine (take n octets)
+  pub is_line_feed : slice_index octets n ≡ 10
 
 -- the lines in order, each followed by a line feed
 abbrev pub text_of_lines : List (List ℕ) → List ℕ
@@ -28,12 +28,12 @@ pub record EndsWithoutLineFeed (octets : List ℕ) (lines : List (List ℕ)) : T
   pub last : List ℕ
   pub lines_split : lines ≡ front ++ last ∷ []
   pub octets_split : octets ≡ text_of_lines front ++ last
-  pub some : 0 < length last
+  pub nonempty : 0 < length last
 
 -- `octets` consists of `lines`; only the last may lack its line feed
 pub record IsDivided (octets : List ℕ) (lines : List (List ℕ)) : Type 0 where
-  pub plain : All IsLine lines
-  pub whole : (octets ≡ text_of_lines lines) ⊎ EndsWithoutLineFeed octets lines
+  pub no_line_feed : All IsLine lines
+  pub octets_split : (octets ≡ text_of_lines lines) ⊎ EndsWithoutLineFeed octets lines
 
 -- prepends an octet to the first line of a list of lines
 abbrev pub push_onto_first_line : ℕ → List (List ℕ) → List (List ℕ)

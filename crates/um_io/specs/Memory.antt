@@ -3,25 +3,25 @@ use Rattle.std.specs.Prelude.{ℕ, ◌≡◌, ◌<◌, ◌+◌, ◌++◌, ◌⊎
 use Rattle.std.specs.Prelude.{min, List, [], length, take, drop, Contains, Option, Some, None}
 use Rattle.um_io.specs.Streams.{next_failure_count}
 
--- a source that never fails: the octets still to come, and the maximum number of octets that one call returns
+-- a source that never fails: the unread octets, and the maximum number of octets that one call returns
 pub record PlainSourceState : Type 0 where
-  pub left : List ℕ
+  pub unread : List ℕ
   pub max_per_call : ℕ
 
--- a source in memory: the octets still to come, the maximum number of octets per call, the numbers of the calls that fail, how many calls
--- were made, and how many of them failed
+-- a source in memory: the unread octets, the maximum number of octets per call, the numbers of the calls that fail, the number of calls
+-- so far, and how many of them failed
 pub record MemorySourceState : Type 0 where
-  pub left : List ℕ
+  pub unread : List ℕ
   pub max_per_call : ℕ
   pub failing_calls : List ℕ
   pub call_count : ℕ
   pub faults : ℕ
 
--- a sink in memory: the octets taken, its capacity, the maximum number of octets per call, the numbers of the calls that fail, how many
--- calls were made, and how many of them failed
+-- a sink in memory: the octets taken, its capacity, the maximum number of octets per call, the numbers of the calls that fail, the
+-- number of calls so far, and how many of them failed
 pub record MemorySinkState : Type 0 where
-  pub taken : List ℕ
-  pub room : ℕ
+  pub written : List ℕ
+  pub capacity : ℕ
   pub max_per_call : ℕ
   pub failing_calls : List ℕ
   pub call_count : ℕ
@@ -30,7 +30,7 @@ pub record MemorySinkState : Type 0 where
 -- a new source with these octets, this maximum number of octets per call, and these numbers of the calls that fail
 abbrev pub new_source_state : List ℕ → ℕ → List ℕ → MemorySourceState
 new_source_state octets max_per_call failing_calls = record {
-  left = octets;
+  unread = octets;
   max_per_call = max_per_call;
   failing_calls =
       failing_calls;
@@ -41,8 +41,8 @@ new_source_state octets max_per_call failing_calls = record {
 -- a new, empty sink with this capacity, this maximum number of octets per call, and these numbers of the calls that fail
 abbrev pub new_sink_state : ℕ → ℕ → List ℕ → MemorySinkState
 new_sink_state room max_per_call failing_calls = record {
-  taken = [];
-  room = room;
+  written = [];
+  capacity = room;
   max_per_call = max_per_call;
   failing_calls =
       failing_calls;
@@ -51,12 +51,12 @@ new_sink_state room max_per_call failing_calls = record {
 }
 
 -- the number of octets that a successful read returns
-abbrev pub given_octet_count : ℕ → List ℕ → List ℕ → ℕ
-given_octet_count max_per_call left into = min max_per_call (min (length into) (length left))
+abbrev pub read_octet_count : ℕ → List ℕ → List ℕ → ℕ
+read_octet_count max_per_call left into = min max_per_call (min (length into) (length left))
 
 -- the number of octets that a successful write takes
-abbrev pub taken_octet_count : ℕ → List ℕ → ℕ
-taken_octet_count max_per_call piece = min max_per_call (length piece)
+abbrev pub written_octet_count : ℕ → List ℕ → ℕ
+written_octet_count max_per_call piece = min max_per_call (length piece)
 
 -- the destination buffer after a read of the given number of octets: they overwrite its front, and the rest is unchanged
 abbrev pub buffer_after_read : List ℕ → ℕ → List ℕ → List ℕ
@@ -69,17 +69,18 @@ NextCallFails failing_calls call_count = Contains failing_calls (next_failure_co
 -- the sink refuses the next write: the number of the call is in the list of failing calls, or the octets do not fit in the remaining
 -- capacity
 abbrev pub SinkRefuses : MemorySinkState → List ℕ → Type 0
-SinkRefuses s piece = NextCallFails s.failing_calls s.call_count ⊎ (s.room < length s.taken + taken_octet_count s.max_per_call piece)
+SinkRefuses s piece = NextCallFails s.failing_calls s.call_count ⊎
+    (s.capacity < length s.written + written_octet_count s.max_per_call piece)
 
 -- a source after a call that returned the given number of octets
 abbrev pub source_after_read : MemorySourceState → ℕ → MemorySourceState
-source_after_read s n = record s { left = drop n s.left; call_count = next_failure_count s.call_count }
+source_after_read s n = record s { unread = drop n s.unread; call_count = next_failure_count s.call_count }
 
 -- a source after a failed call
 abbrev pub source_after_failure : MemorySourceState → MemorySourceState
 source_after_failure s = record s { call_count = next_failure_count s.call_count; faults = next_failure_count s.faults }
 
--- one call turns the first state of the source into the second: `Some` gives the number of octets returned, `None` means that the call
+-- one call turns the first state of the source into the second: `Some` holds the number of octets returned, `None` means that the call
 -- failed
 abbrev pub IsMemorySourceCall : MemorySourceState → Option ℕ → MemorySourceState → Type 0
 IsMemorySourceCall s (Some n) t = t ≡ source_after_read s n
@@ -87,7 +88,7 @@ IsMemorySourceCall s None t = t ≡ source_after_failure s
 
 -- a sink after a call that took the given number of octets from the front of this list
 abbrev pub sink_after_write : MemorySinkState → List ℕ → ℕ → MemorySinkState
-sink_after_write s piece n = record s { taken = s.taken ++ take n piece; call_count = next_failure_count s.call_count }
+sink_after_write s piece n = record s { written = s.written ++ take n piece; call_count = next_failure_count s.call_count }
 
 -- a sink after a failed call
 abbrev pub sink_after_failure : MemorySinkState → MemorySinkState

@@ -13,47 +13,55 @@ abbrev pub line_limit : ℕ
 line_limit = 4096
 
 -- the maximum number of octets that a reader buffers: the longest line and its line feed
-abbrev pub held_limit : ℕ
-held_limit = line_limit + 1
+abbrev pub buffer_limit : ℕ
+buffer_limit = line_limit + 1
 
--- the state of a line reader: the buffered octets within the input limit (`held`) and past it (`past`), the number of octets (`answered`)
--- and lines (`number`) returned so far, whether the source has ended (`ended`), and whether no further line will be returned (`is_over`)
-pub record Reading : Type 0 where
+-- the state of a line reader: the buffered octets within the input limit (`held`) and past it (`excess`), the numbers of octets
+-- (`octet_count`) and lines (`line_count`) returned so far, whether the source has ended, and whether no further line follows (`is_over`)
+pub record ReaderState : Type 0 where
   pub held : List ℕ
-  pub past : List ℕ
-  pub answered : ℕ
-  pub number : ℕ
+  pub excess : List ℕ
+  pub octet_count : ℕ
+  pub line_count : ℕ
   pub ended : Bool
   pub is_over : Bool
 
 -- a reader that has read nothing
-abbrev pub reader_at_start : Reading
-reader_at_start = record { held = []; past = []; answered = 0; number = 0; ended = false; is_over = false }
+abbrev pub new_reader : ReaderState
+new_reader = record { held = []; excess = []; octet_count = 0; line_count = 0; ended = false; is_over = false }
 
 -- the invariant of a line reader
-pub record IsValidReader (r : Reading) : Type 0 where
-  pub limit : r.answered + length r.held ≤ input_limit
-  pub past : 0 < length r.past → r.answered + length r.held ≡ input_limit
-  pub room : length r.held + length r.past ≤ held_limit
-  pub number : r.number ≤ r.answered
+pub record IsValidReader (r : ReaderState) : Type 0 where
+  pub limit : r.octet_count + length r.held ≤ input_limit
+  pub excess : 0 < length r.excess → r.octet_count + length r.held ≡ input_limit
+  pub fits_buffer : length r.held + length r.excess ≤ buffer_limit
+  pub line_count : r.line_count ≤ r.octet_count
 
 -- the next result needs a read: the buffered octets contain no line feed and exceed no limit, and the source has not ended
-pub record NeedsMoreOctets (r : Reading) : Type 0 where
-  pub plain : IsLine r.held
-  pub short : length r.held ≤ line_limit
-  pub past : r.past ≡ []
+pub record NeedsMoreOctets (r : ReaderState) : Type 0 where
+  pub no_line_feed : IsLine r.held
+  pub in_limit : length r.held ≤ line_limit
+  pub excess : r.excess ≡ []
   pub ended : r.ended ≡ false
 
 -- the next result needs no read from the source
-abbrev pub IsAnswerReady : Reading → Type 0
-IsAnswerReady r = (r.is_over ≡ true) ⊎ (¬ NeedsMoreOctets r)
+abbrev pub IsResultReady : ReaderState → Type 0
+IsResultReady r = (r.is_over ≡ true) ⊎ (¬ NeedsMoreOctets r)
 
 -- the reader has not stopped, and its next result needs a read from the source
-abbrev pub NeedsReading : Reading → Type 0
+abbrev pub NeedsReading : ReaderState → Type 0
 NeedsReading r = (r.is_over ≡ false) × NeedsMoreOctets r
 
--- a reader that buffers these octets, divided into those within the input limit and those past it
-abbrev pub reader_holding : List ℕ → ℕ → ℕ → Bool → Bool → Reading
+-- a reader that buffers these octets, divided into the octets within the input limit and the octets past it
+abbrev pub reader_holding : List ℕ → ℕ → ℕ → Bool → Bool → ReaderState
 reader_holding octets answered number ended is_over =
     let within = input_limit - answered in
-    record { held = take within octets; past = drop within octets; answered = answered; number = number; ended = ended; is_over = is_over }
+    record {
+      held = take within octets;
+      excess = drop within octets;
+      octet_count = answered;
+      line_count = number;
+      ended = ended;
+      is_over =
+          is_over;
+    }

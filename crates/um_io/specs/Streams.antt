@@ -1,11 +1,11 @@
 -- How sources and sinks count failures, and how many octets a sink takes (this project's own rules).
 use Rattle.std.specs.Prelude.{ℕ, ◌≤◌, ◌<◌, ◌+◌, ◌-◌, ◌^◌, min, List, length, IfOk, Result}
 
--- a failure count increased by one, but at most the greatest `u64`
+-- a failure count plus one, at most the maximum of `u64`
 abbrev pub next_failure_count : ℕ → ℕ
 next_failure_count n = min (n + 1) (2 ^ 64 - 1)
 
--- a failure count has risen, unless it was already the greatest `u64`
+-- a failure count has risen, or was already at its maximum
 abbrev pub FailureCountRose : ℕ → ℕ → Type 0
 FailureCountRose before now = next_failure_count before ≤ now
 

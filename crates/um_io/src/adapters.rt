@@ -1,4 +1,4 @@
-//! Adapters that turn any `Read` into a source and any `Write` into a sink.
+//! Adapters from any `Read` to a source and from any `Write` to a sink.
 ghost use Rattle.std.specs.Prelude.{◌≡◌, ◌≤◌, OnOk, OnErr};
 ghost use Rattle.std.specs.Io.{ReadsAtMost, WritesAtMost};
 ghost use Rattle.std.specs.Io.KnownBytes.{ReadConsumes, WriteAppends};
@@ -9,7 +9,7 @@ use std::io::{Read, Write};
 
 /// A source that reads from a `Read` and counts each error of the reader as a failure.
 ///
-/// The source knows which octets remain if the reader knows it.
+/// The source knows which octets remain if the reader does.
 #[derive(Debug, Drop)]
 pub struct ReadSource<R> {
     reader: R,
@@ -49,10 +49,10 @@ impl<R: Read> Source for ReadSource<R> {
     }
 }
 
-/// A sink that writes to a `Write`. It counts each error of the writer as a failure, and also each call in which the writer takes none of
-/// the octets that it is given.
+/// A sink that writes to a `Write`. It counts each error of the writer as a failure, and also each call that takes none of the octets
+/// offered.
 ///
-/// The sink knows which octets were taken if the writer knows it.
+/// The sink knows which octets were taken if the writer does.
 #[derive(Debug, Drop)]
 pub struct WriteSink<W> {
     writer: W,

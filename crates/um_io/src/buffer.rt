@@ -5,7 +5,7 @@ ghost use Rattle.std.specs.Io.KnownBytes.{Consumes, Keeps, IsAtEnd};
 ghost use Rattle.std.specs.Result.{result_ok};
 ghost use Rattle.um_io.specs.Lines.{IsLine, IsFirstLineFeed};
 ghost use Rattle.um_io.specs.Streams.{FailureCountRose};
-ghost use Rattle.um_io.specs.Reading.{held_limit};
+ghost use Rattle.um_io.specs.Reading.{buffer_limit};
 
 use crate::streams::{Failed, NoMemory, Source};
 use memchr::memchr;
@@ -24,11 +24,11 @@ pub(crate) struct Buffer {
     start: usize,
     scanned: usize,
     end: usize,
-    ghost size: { vec_len octets ≡ held_limit },
-    ghost begun: { start ≤ scanned },
-    ghost seen: { scanned ≤ end },
-    ghost within: { end ≤ held_limit },
-    ghost plain: { IsLine (slice_range octets.items start scanned) },
+    ghost size: { vec_len octets ≡ buffer_limit },
+    ghost start_order: { start ≤ scanned },
+    ghost scan_order: { scanned ≤ end },
+    ghost in_range: { end ≤ buffer_limit },
+    ghost no_line_feed: { IsLine (slice_range octets.items start scanned) },
 }
 
 impl Buffer {
@@ -49,7 +49,7 @@ impl Buffer {
     /// The number of buffered octets.
     pub(crate) fn len(&self) -> usize
         ensures held { result ≡ length (octets_of self.now) }
-        ensures space { result ≤ held_limit }
+        ensures space { result ≤ buffer_limit }
     {
         self.end - self.start
     }
@@ -72,13 +72,13 @@ impl Buffer {
         }
     }
 
-    /// Calls the source once, asking for as many octets as fit, and returns the number of octets that it gave.
+    /// Calls the source once, asking for as many octets as fit, and returns the number of octets received.
     pub(crate) fn read<S: Source>(&mut self, source: &mut S) -> Result<usize, Failed>
-        requires space { length (octets_of self.old) < held_limit }
+        requires space { length (octets_of self.old) < buffer_limit }
         ensures came { IfOk result (λ n. (came : List ℕ) × (octets_of self.new ≡ octets_of self.old ++ came) × (length came ≡ n)
             × Consumes (S.left source.old) (S.left source.new) came) }
         ensures end { IfOk result (λ n. n ≡ 0 → IsAtEnd (S.left source.new)) }
-        ensures asked { S.took source.old (result_ok result) source.new }
+        ensures asked { S.is_call source.old (result_ok result) source.new }
         ensures failed { OnErr result ((octets_of self.new ≡ octets_of self.old) × Keeps (S.left source.old) (S.left source.new)) }
         ensures counted { OnOk result (S.faults source.new ≡ S.faults source.old) }
         ensures later { S.faults source.old ≤ S.faults source.new }
@@ -107,7 +107,7 @@ impl Buffer {
         requires { count ≤ length (octets_of self.old) }
         ensures rest { octets_of self.new ≡ drop count (octets_of self.old) }
         ensures skipped { slice_range self.new.octets.items result (result + count) ≡ take count (octets_of self.old) }
-        ensures within { result + count ≤ held_limit }
+        ensures within { result + count ≤ buffer_limit }
     {
         let from = self.start;
         self.start += count;
@@ -117,14 +117,14 @@ impl Buffer {
 
     pub(crate) fn slice(&self, from: usize, to: usize) -> &[u8]
         requires ordered { from ≤ to }
-        requires within { to ≤ held_limit }
+        requires within { to ≤ buffer_limit }
         ensures { result.now ≡ slice_range self.now.octets.items from to }
     {
         &self.octets[from..to]
     }
 }
 
-/// Calls the source once to write into `octets` from index `end` on, and returns the number of octets written.
+/// Calls the source once to write into `octets`, starting at index `end`, and returns the number of octets written.
 fn read_into<S: Source>(source: &mut S, octets: &mut Vec<u8>, end: usize) -> Result<usize, Failed>
     requires { end < vec_len octets.old }
     ensures len { vec_len octets.new ≡ vec_len octets.old }
@@ -132,7 +132,7 @@ fn read_into<S: Source>(source: &mut S, octets: &mut Vec<u8>, end: usize) -> Res
     ensures bound { IfOk result (λ n. n + end ≤ vec_len octets.old) }
     ensures came { IfOk result (λ n. Consumes (S.left source.old) (S.left source.new) (slice_range octets.new.items end (end + n))) }
     ensures at_end { IfOk result (λ n. n ≡ 0 → IsAtEnd (S.left source.new)) }
-    ensures asked { S.took source.old (result_ok result) source.new }
+    ensures asked { S.is_call source.old (result_ok result) source.new }
     ensures failed { OnErr result (Keeps (S.left source.old) (S.left source.new)) }
     ensures counted { OnOk result (S.faults source.new ≡ S.faults source.old) }
     ensures later { S.faults source.old ≤ S.faults source.new }
@@ -141,7 +141,7 @@ fn read_into<S: Source>(source: &mut S, octets: &mut Vec<u8>, end: usize) -> Res
     source.take(&mut octets[end..])
 }
 
-/// The index of the first line feed, if there is one; a line feed in front is found without a search.
+/// The index of the first line feed, if there is one. A line feed at index 0 is found without a search.
 fn find_line_feed(octets: &[u8]) -> Option<usize>
     ensures { MatchOption result (IsLine octets.now) (IsFirstLineFeed octets.now) }
 {

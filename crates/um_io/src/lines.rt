@@ -1,10 +1,10 @@
-//! A line reader, which divides an input into lines with one buffer of fixed size.
+//! A line reader, which divides an input into lines and uses one buffer of fixed size.
 ghost use Rattle.std.specs.Prelude.{◌≡◌, ◌≤◌, ◌<◌, ◌+◌, ◌-◌, ◌↔◌, ℕ, List, Bool, true, false, None, []};
 ghost use Rattle.std.specs.Prelude.{◌++◌, length, MatchBool, MatchOption, IfOk, IfSome, OnOk, OnErr, IsTrue, ◌⊎◌};
 ghost use Rattle.std.specs.Borrow.{sem};
 ghost use Rattle.um_io.specs.Asking.{StopsAtEndOrFailure, IsOneSourceCall};
 ghost use Rattle.um_io.specs.Streams.{FailureCountRose};
-ghost use Rattle.um_io.specs.Found.{IsFoundWithoutLineFeed, HasNoAnswerYet};
+ghost use Rattle.um_io.specs.Found.{IsFoundWithoutLineFeed, HasNoResultYet};
 
 use crate::buffer::{Buffer, LINE_LIMIT};
 use crate::streams::{Failed, NoMemory, Source};
@@ -47,7 +47,7 @@ enum Found {
 pub struct Lines {
     buffer: Buffer,
     line_feed: Option<usize>,
-    answered: u64,
+    octet_count: u64,
     number: u64,
     ended: bool,
     is_over: bool,
@@ -58,30 +58,30 @@ impl Model for Lines {
     ghost use Rattle.std.specs.Prelude.{◌≤◌, ◌-◌, take, IfSome};
     ghost use Rattle.um_io.specs.Buffer.{octets_of};
     ghost use Rattle.um_io.specs.Lines.{IsFirstLineFeed};
-    ghost use Rattle.um_io.specs.Reading.{Reading, reader_holding, input_limit};
+    ghost use Rattle.um_io.specs.Reading.{ReaderState, reader_holding, input_limit};
 
-    ghost Value = { Reading };
+    ghost Value = { ReaderState };
 
-    ghost view = { λ s. reader_holding (octets_of s.buffer) s.answered s.number s.ended s.is_over };
+    ghost view = { λ s. reader_holding (octets_of s.buffer) s.octet_count s.number s.ended s.is_over };
 
-    ghost invariant = { λ s. (s.answered ≤ input_limit) × (s.number ≤ s.answered)
-        × IfSome s.line_feed (IsFirstLineFeed (take (input_limit - s.answered) (octets_of s.buffer))) };
+    ghost invariant = { λ s. (s.octet_count ≤ input_limit) × (s.number ≤ s.octet_count)
+        × IfSome s.line_feed (IsFirstLineFeed (take (input_limit - s.octet_count) (octets_of s.buffer))) };
 }
 
 impl Lines {
     ghost use Rattle.um_io.specs.Lines.{IsLine, IsFirstLineFeed};
-    ghost use Rattle.um_io.specs.Reading.{reader_at_start, IsValidReader, NeedsMoreOctets, IsAnswerReady, NeedsReading, held_limit};
-    ghost use Rattle.um_io.specs.Found.{IsFoundInHeldOctets, IsReadResult, IsSearchResult};
-    ghost use Rattle.um_io.specs.Next.{EndsLineBorrow, CountsFailure};
+    ghost use Rattle.um_io.specs.Reading.{new_reader, IsValidReader, NeedsMoreOctets, IsResultReady, NeedsReading, buffer_limit};
+    ghost use Rattle.um_io.specs.Found.{IsFoundInBuffer, IsReadResult, IsSearchResult};
+    ghost use Rattle.um_io.specs.Next.{LineBorrowEnds, CountsReadFailure};
 
     /// Creates a reader that has read nothing, and allocates all its memory.
     pub fn new(alloc: Global) -> Result<Lines, NoMemory>
-        ensures { IfOk result (λ lines. lines ≡ reader_at_start) }
+        ensures { IfOk result (λ lines. lines ≡ new_reader) }
     {
         Ok(Lines {
             buffer: Buffer::new(alloc)?,
             line_feed: None,
-            answered: 0,
+            octet_count: 0,
             number: 0,
             ended: false,
             is_over: false,
@@ -90,7 +90,7 @@ impl Lines {
 
     /// The number of the last line returned, counted from 1; 0 before the first line.
     pub fn number(&self) -> u64
-        ensures { result ≡ self.now.number }
+        ensures { result ≡ self.now.line_count }
     {
         self.number
     }
@@ -98,7 +98,7 @@ impl Lines {
     /// Whether `next` can return its result without a read from the source.
     pub fn is_ready(&mut self) -> bool
         ensures unchanged { self.new ≡ self.old }
-        ensures ready { MatchBool result (IsAnswerReady self.old) (NeedsReading self.old) }
+        ensures ready { MatchBool result (IsResultReady self.old) (NeedsReading self.old) }
     {
         self.is_over || self.find_in_held_octets().is_some()
     }
@@ -106,9 +106,9 @@ impl Lines {
     /// The number of buffered octets within the input limit.
     fn within(&self) -> usize
         ensures within { result ≡ length self.now.held }
-        ensures space { result ≤ held_limit }
+        ensures space { result ≤ buffer_limit }
     {
-        let left = INPUT_LIMIT - self.answered;
+        let left = INPUT_LIMIT - self.octet_count;
         left.min(self.buffer.len() as u64) as usize
     }
 
@@ -116,7 +116,7 @@ impl Lines {
     fn first_line_feed(&mut self) -> Option<usize>
         ensures unchanged { self.new ≡ self.old }
         ensures found { MatchOption result (IsLine self.old.held) (IsFirstLineFeed self.old.held) }
-        ensures space { IfSome result (λ at. at < held_limit) }
+        ensures space { IfSome result (λ at. at < buffer_limit) }
     {
         match self.line_feed {
             None => self.find_line_feed(),
@@ -127,9 +127,9 @@ impl Lines {
     fn find_line_feed(&mut self) -> Option<usize>
         ensures unchanged { self.new ≡ self.old }
         ensures found { MatchOption result (IsLine self.old.held) (IsFirstLineFeed self.old.held) }
-        ensures space { IfSome result (λ at. at < held_limit) }
+        ensures space { IfSome result (λ at. at < buffer_limit) }
     {
-        let left = INPUT_LIMIT - self.answered;
+        let left = INPUT_LIMIT - self.octet_count;
         match self.buffer.first_line_feed() {
             Some(at) if (at as u64) < left => {
                 self.line_feed = Some(at);
@@ -142,7 +142,7 @@ impl Lines {
     /// What the reader finds in its buffered octets, or `None` if it must read more octets first.
     fn find_in_held_octets(&mut self) -> Option<Found>
         ensures unchanged { self.new ≡ self.old }
-        ensures found { MatchOption result (NeedsMoreOctets self.old) (IsFoundInHeldOctets self.old) }
+        ensures found { MatchOption result (NeedsMoreOctets self.old) (IsFoundInBuffer self.old) }
     {
         if let Some(at) = self.first_line_feed() {
             return Some(Found::Line {
@@ -154,13 +154,13 @@ impl Lines {
         find_without_line_feed(within, self.buffer.len() - within, self.ended)
     }
 
-    /// Reads from the source once; a read that gives no octet marks the end of the input.
+    /// Reads from the source once. A read that returns no octet marks the end of the input.
     #[cold]
     #[inline(never)]
     fn read<S: Source>(&mut self, source: &mut S) -> Result<(), Failed>
         requires { NeedsMoreOctets self.old }
         ensures read { IsReadResult self.old self.new (S.left source.old) (S.left source.new) result }
-        ensures asked { IsOneSourceCall S.took source.old source.new self.new.ended result }
+        ensures asked { IsOneSourceCall S.is_call source.old source.new self.new.ended result }
         ensures valid { IsValidReader self.new }
         ensures counted { OnOk result (S.faults source.new ≡ S.faults source.old) }
         ensures later { S.faults source.old ≤ S.faults source.new }
@@ -172,12 +172,12 @@ impl Lines {
         Ok(())
     }
 
-    /// Reads from the source until the buffered octets give a result, and returns it.
+    /// Reads from the source until the buffered octets determine the result, and returns it.
     #[inline(always)]
     fn find_line<S: Source>(&mut self, source: &mut S) -> Result<Found, Failed>
         ensures found { IsSearchResult self.old self.new (S.left source.old) (S.left source.new) result }
-        ensures unasked { NeedsMoreOctets self.old ⊎ (source.new ≡ source.old) }
-        ensures asked { StopsAtEndOrFailure S.took source.old source.new }
+        ensures source_unchanged { NeedsMoreOctets self.old ⊎ (source.new ≡ source.old) }
+        ensures asked { StopsAtEndOrFailure S.is_call source.old source.new }
         ensures counted { OnOk result (S.faults source.new ≡ S.faults source.old) }
         ensures later { S.faults source.old ≤ S.faults source.new }
         ensures cause { OnErr result (FailureCountRose (S.faults source.old) (S.faults source.new)) }
@@ -195,10 +195,10 @@ impl Lines {
     /// After `Long`, `TooMany` or `Failed`, every further result is `End`. A source that has reached its end is not called again.
     #[inline(always)]
     pub fn next<S: Source>(&mut self, source: &mut S) -> Next<'_>
-        ensures* ends { sem 𝓛 (EndsLineBorrow self.entry (S.left source.old) (S.left source.new) result) }
-        ensures unasked { IsAnswerReady self.old → source.new ≡ source.old }
-        ensures asked { StopsAtEndOrFailure S.took source.old source.new }
-        ensures failed { CountsFailure (S.faults source.old) (S.faults source.new) result }
+        ensures* ends { sem 𝓛 (LineBorrowEnds self.entry (S.left source.old) (S.left source.new) result) }
+        ensures source_unchanged { IsResultReady self.old → source.new ≡ source.old }
+        ensures asked { StopsAtEndOrFailure S.is_call source.old source.new }
+        ensures failed { CountsReadFailure (S.faults source.old) (S.faults source.new) result }
     {
         if self.is_over {
             return Next::End;
@@ -207,7 +207,7 @@ impl Lines {
             Ok(Found::Line { length, whole }) => {
                 let from = self.buffer.skip(whole);
                 self.line_feed = None;
-                self.answered += whole as u64;
+                self.octet_count += whole as u64;
                 self.number += 1;
                 Next::Line(self.buffer.slice(from, from + length))
             }
@@ -231,7 +231,7 @@ impl Lines {
 /// What a reader finds if it buffers `within` octets without a line feed and `past` octets past the input limit; `None` if it must read
 /// more octets first.
 fn find_without_line_feed(within: usize, past: usize, ended: bool) -> Option<Found>
-    ensures { MatchOption result (HasNoAnswerYet within past ended) (IsFoundWithoutLineFeed within past ended) }
+    ensures { MatchOption result (HasNoResultYet within past ended) (IsFoundWithoutLineFeed within past ended) }
 {
     if within > LINE_LIMIT {
         Some(Found::LineTooLong)
@@ -328,7 +328,7 @@ mod tests {
         Ok(())
     }
 
-    /// A source that gives the stored number of line feeds.
+    /// A source that returns the stored number of line feeds.
     #[derive(Drop)]
     struct LineFeedSource(usize);
 

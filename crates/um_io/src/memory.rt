@@ -1,12 +1,12 @@
-//! Sources and sinks in memory, for tests: their contents are known, and chosen calls fail.
+//! Sources and sinks in memory, for tests, with known contents and calls that fail on request.
 ghost use Rattle.std.specs.Prelude.{◌≡◌, ◌≤◌, ◌+◌, ◌↔◌, ℕ, Some, Ok, Err, [], ◌++◌, length, take, drop};
 ghost use Rattle.std.specs.Prelude.{vec_len, vec_capacity, IfOk, OnOk, OnErr, IsErr};
 ghost use Rattle.std.specs.Io.{ReadsAtMost, WritesAtMost};
 ghost use Rattle.std.specs.Io.KnownBytes.{ReadConsumes, WriteAppends};
 ghost use Rattle.um_io.specs.Streams.{next_failure_count, FailureCountRose, TakesAtLeastOneOctet};
 ghost use Rattle.um_io.specs.Memory.{PlainSourceState, MemorySourceState, MemorySinkState, new_source_state, new_sink_state};
-ghost use Rattle.um_io.specs.Memory.{given_octet_count};
-ghost use Rattle.um_io.specs.Memory.{taken_octet_count, buffer_after_read, NextCallFails, SinkRefuses};
+ghost use Rattle.um_io.specs.Memory.{read_octet_count};
+ghost use Rattle.um_io.specs.Memory.{written_octet_count, buffer_after_read, NextCallFails, SinkRefuses};
 ghost use Rattle.um_io.specs.Memory.{source_after_read, source_after_failure, sink_after_write, sink_after_failure, IsMemorySourceCall};
 ghost use Rattle.std.specs.Result.{result_ok};
 
@@ -14,10 +14,9 @@ use crate::streams::{Failed, NoMemory, Sink, Source, count_failure};
 use std::alloc::Global;
 use std::marker::Model;
 
-/// Copies at most `max_per_call` octets from the front of `left` to the front of `into`, removes them from `left`, and returns their
-/// number.
+/// Moves at most `max_per_call` octets from the start of `left` to the start of `into`, and returns their number.
 fn move_octets(left: &mut &[u8], max_per_call: usize, into: &mut [u8]) -> usize
-    ensures exact { result ≡ given_octet_count max_per_call left.old.now into.old }
+    ensures exact { result ≡ read_octet_count max_per_call left.old.now into.old }
     ensures copied { into.new ≡ buffer_after_read left.old.now result into.old }
     ensures rest { left.new.now ≡ drop result left.old.now }
 {
@@ -41,16 +40,16 @@ impl<'a> Model for PlainSource<'a> {
 
     ghost Value = { PlainSourceState };
 
-    ghost view = { λ s. record { left = s.octets.now; max_per_call = s.max_per_call } };
+    ghost view = { λ s. record { unread = s.octets.now; max_per_call = s.max_per_call } };
 
     ghost invariant = { λ s. 1 ≤ s.max_per_call };
 }
 
 impl<'a> PlainSource<'a> {
-    /// A source of `octets` that gives at most `max_per_call` of them per call.
+    /// A source of `octets` that returns at most `max_per_call` of them per call.
     pub fn new(octets: &'a [u8], max_per_call: usize) -> Self
         requires { 1 ≤ max_per_call }
-        ensures { result ≡ record { left = octets.now; max_per_call = max_per_call } }
+        ensures { result ≡ record { unread = octets.now; max_per_call = max_per_call } }
     {
         PlainSource {
             octets,
@@ -60,13 +59,13 @@ impl<'a> PlainSource<'a> {
 }
 
 impl<'a> Source for PlainSource<'a> {
-    ghost left = { λ s. Some s.left };
+    ghost left = { λ s. Some s.unread };
 
     ghost faults = { λ _. 0 };
 
     fn take(&mut self, into: &mut [u8]) -> Result<usize, Failed>
         ensures bound { ReadsAtMost result into.new }
-        ensures octets { ReadConsumes (Some self.old.left) (Some self.new.left) result into.new }
+        ensures octets { ReadConsumes (Some self.old.unread) (Some self.new.unread) result into.new }
         ensures unchanged { let count = ⟦<PlainSource<'a> as Source>⟧.faults in
             OnOk result (count self.new ≡ count self.old) }
         ensures later { let count = ⟦<PlainSource<'a> as Source>⟧.faults in
@@ -74,9 +73,9 @@ impl<'a> Source for PlainSource<'a> {
         ensures cause { let count = ⟦<PlainSource<'a> as Source>⟧.faults in
             OnErr result (FailureCountRose (count self.old) (count self.new)) }
 
-        ensures exact { result ≡ Ok (given_octet_count self.old.max_per_call self.old.left into.old) }
-        ensures copied { IfOk result (λ n. into.new ≡ buffer_after_read self.old.left n into.old) }
-        ensures rest { IfOk result (λ n. self.new ≡ record self.old { left = drop n self.old.left }) }
+        ensures exact { result ≡ Ok (read_octet_count self.old.max_per_call self.old.unread into.old) }
+        ensures copied { IfOk result (λ n. into.new ≡ buffer_after_read self.old.unread n into.old) }
+        ensures rest { IfOk result (λ n. self.new ≡ record self.old { unread = drop n self.old.unread }) }
     {
         Ok(move_octets(&mut self.octets, self.max_per_call, into))
     }
@@ -84,7 +83,7 @@ impl<'a> Source for PlainSource<'a> {
 
 /// A source in memory, some of whose calls fail.
 ///
-/// Calls are numbered from 1; the numbers stop at the greatest `u64`.
+/// Calls are numbered from 1 to `u64::MAX`; all later calls have the number `u64::MAX`.
 #[derive(Debug, Drop)]
 pub struct MemorySource<'a> {
     octets: &'a [u8],
@@ -101,7 +100,7 @@ impl<'a> Model for MemorySource<'a> {
     ghost Value = { MemorySourceState };
 
     ghost view = { λ s. record {
-      left = s.octets.now;
+      unread = s.octets.now;
       max_per_call = s.max_per_call;
       failing_calls = s.failing_calls.now;
       call_count = s.call_count;
@@ -112,7 +111,7 @@ impl<'a> Model for MemorySource<'a> {
 }
 
 impl<'a> MemorySource<'a> {
-    /// A source of `octets` that gives at most `max_per_call` of them per call and fails the calls whose numbers are in `fails`.
+    /// A source of `octets` that returns at most `max_per_call` of them per call. The calls whose numbers are in `fails` fail.
     pub fn new(octets: &'a [u8], max_per_call: usize, fails: &'a [u64]) -> Self
         requires { 1 ≤ max_per_call }
         ensures { result ≡ new_source_state octets.now max_per_call fails.now }
@@ -128,23 +127,23 @@ impl<'a> MemorySource<'a> {
 }
 
 impl<'a> Source for MemorySource<'a> {
-    ghost left = { λ s. Some s.left };
+    ghost left = { λ s. Some s.unread };
 
     ghost faults = { λ s. s.faults };
 
-    ghost took = { IsMemorySourceCall };
+    ghost is_call = { IsMemorySourceCall };
 
     fn take(&mut self, into: &mut [u8]) -> Result<usize, Failed>
         ensures bound { ReadsAtMost result into.new }
-        ensures octets { ReadConsumes (Some self.old.left) (Some self.new.left) result into.new }
+        ensures octets { ReadConsumes (Some self.old.unread) (Some self.new.unread) result into.new }
         ensures step { IsMemorySourceCall self.old (result_ok result) self.new }
         ensures unchanged { OnOk result (self.new.faults ≡ self.old.faults) }
         ensures later { self.old.faults ≤ self.new.faults }
         ensures cause { OnErr result (FailureCountRose self.old.faults self.new.faults) }
 
         ensures fails { IsErr result ↔ NextCallFails self.old.failing_calls self.old.call_count }
-        ensures exact { IfOk result (λ n. n ≡ given_octet_count self.old.max_per_call self.old.left into.old) }
-        ensures copied { IfOk result (λ n. into.new ≡ buffer_after_read self.old.left n into.old) }
+        ensures exact { IfOk result (λ n. n ≡ read_octet_count self.old.max_per_call self.old.unread into.old) }
+        ensures copied { IfOk result (λ n. into.new ≡ buffer_after_read self.old.unread n into.old) }
         ensures given { IfOk result (λ n. self.new ≡ source_after_read self.old n) }
         ensures failed { OnErr result (self.new ≡ source_after_failure self.old) }
         ensures untouched { OnErr result (into.new ≡ into.old) }
@@ -159,7 +158,7 @@ impl<'a> Source for MemorySource<'a> {
 
 /// A sink in memory, some of whose calls fail.
 ///
-/// Calls are numbered from 1; the numbers stop at the greatest `u64`.
+/// Calls are numbered from 1 to `u64::MAX`; all later calls have the number `u64::MAX`.
 #[derive(Debug, Drop)]
 pub struct MemorySink<'a> {
     octets: Vec<u8>,
@@ -177,21 +176,21 @@ impl<'a> Model for MemorySink<'a> {
     ghost Value = { MemorySinkState };
 
     ghost view = { λ s. record {
-      taken = s.octets.items;
-      room = s.room;
+      written = s.octets.items;
+      capacity = s.room;
       max_per_call = s.max_per_call;
       failing_calls = s.failing_calls.now;
       call_count = s.call_count;
       faults = s.faults;
     } };
 
-    // The sink holds at most `room` octets, for which `new` has allocated the memory.
+    // The sink holds at most `room` octets; `new` has allocated memory for them.
     ghost invariant = { λ s. (1 ≤ s.max_per_call) × (vec_len s.octets ≤ s.room) × (s.room ≤ vec_capacity s.octets) };
 }
 
 impl<'a> MemorySink<'a> {
-    /// A sink that takes at most `max_per_call` octets per call and `room` octets in all, and fails the calls whose numbers are in `fails`.
-    /// All its memory is allocated here.
+    /// A sink that takes at most `max_per_call` octets per call and `room` octets in all. The calls whose numbers are in `fails` fail.
+    /// Allocates all memory of the sink.
     pub fn new(
         alloc: Global,
         room: usize,
@@ -214,27 +213,27 @@ impl<'a> MemorySink<'a> {
 
     /// The octets taken, in order.
     pub fn octets(&self) -> &[u8]
-        ensures { result.now ≡ self.now.taken }
+        ensures { result.now ≡ self.now.written }
     {
         &self.octets
     }
 }
 
 impl<'a> Sink for MemorySink<'a> {
-    ghost taken = { λ s. Some s.taken };
+    ghost taken = { λ s. Some s.written };
 
     ghost faults = { λ s. s.faults };
 
     fn put(&mut self, piece: &[u8]) -> Result<usize, Failed>
         ensures bound { WritesAtMost result piece.now }
         ensures some { TakesAtLeastOneOctet result piece.now }
-        ensures octets { WriteAppends (Some self.old.taken) (Some self.new.taken) result piece.now }
+        ensures octets { WriteAppends (Some self.old.written) (Some self.new.written) result piece.now }
         ensures unchanged { OnOk result (self.new.faults ≡ self.old.faults) }
         ensures later { self.old.faults ≤ self.new.faults }
         ensures cause { OnErr result (FailureCountRose self.old.faults self.new.faults) }
 
         ensures fails { IsErr result ↔ SinkRefuses self.old piece.now }
-        ensures exact { IfOk result (λ n. n ≡ taken_octet_count self.old.max_per_call piece.now) }
+        ensures exact { IfOk result (λ n. n ≡ written_octet_count self.old.max_per_call piece.now) }
         ensures taken { IfOk result (λ n. self.new ≡ sink_after_write self.old piece.now n) }
         ensures failed { OnErr result (self.new ≡ sink_after_failure self.old) }
     {

@@ -26,21 +26,21 @@ impl From<AllocError> for NoMemory {
 
 /// A source of octets.
 ///
-/// `left` holds the octets still to come, if the source knows them. `faults` counts failures, up to the greatest `u64`.
+/// `left` holds the remaining octets, if the source knows them. `faults` counts failures, up to `u64::MAX`.
 pub trait Source {
     ghost left: { Self → Option (List ℕ) };
 
     ghost faults: { Self → ℕ };
 
-    ghost took: { Self → Option ℕ → Self → Type 0 } = { λ _ _ _. Unit {0} };
+    ghost is_call: { Self → Option ℕ → Self → Type 0 } = { λ _ _ _. Unit {0} };
 
-    /// Writes the next octets to the front of `into` and returns their number. The rest of `into` is unspecified afterwards.
+    /// Writes the next octets to the start of `into` and returns their number. The rest of `into` is unspecified afterwards.
     fn take(&mut self, into: &mut [u8]) -> Result<usize, Failed>
         ensures bound { ReadsAtMost result into.new }
 
         // A call returns the first of the remaining octets. A result of 0 means the end of the input; a failed call consumes no octets.
         ensures octets { ReadConsumes (left self.old) (left self.new) result into.new }
-        ensures step { took self.old (result_ok result) self.new }
+        ensures step { is_call self.old (result_ok result) self.new }
 
         // A successful call leaves the failure count unchanged; a failed call raises it.
         ensures unchanged { OnOk result (faults self.new ≡ faults self.old) }
@@ -50,13 +50,13 @@ pub trait Source {
 
 /// A sink of octets.
 ///
-/// `taken` holds the octets taken so far, if the sink knows them. `faults` counts failures, up to the greatest `u64`.
+/// `taken` holds the octets taken so far, if the sink knows them. `faults` counts failures, up to `u64::MAX`.
 pub trait Sink {
     ghost taken: { Self → Option (List ℕ) };
 
     ghost faults: { Self → ℕ };
 
-    /// Takes octets from the front of `piece` and returns their number.
+    /// Takes octets from the start of `piece` and returns their number.
     fn put(&mut self, piece: &[u8]) -> Result<usize, Failed>
         ensures bound { WritesAtMost result piece.now }
 

@@ -4,7 +4,7 @@ ghost use Rattle.hex.specs.Hex.{encode_lower, lower_digits};
 ghost use Rattle.um_lines.specs.HexPlaces.{HasDigitsOfOctet};
 
 /// Writes the octets as lowercase hexadecimal digits, high digit first.
-#[tactic(auto, using(crate::proofs::LowerDigits::digits_from_places))]
+#[tactic(auto, using(crate::proofs::Texts::digits_from_places))]
 pub(crate) fn write_lower_hex(octets: &[u8], digits: &mut [u8])
     requires size { length digits.old ≡ 2 * length octets.now }
     ensures { digits.new ≡ encode_lower octets.now }
@@ -27,7 +27,7 @@ fn write_one_by_one(octets: &[u8], digits: &mut [u8])
 }
 
 // Encodes octets as hexadecimal digits, sixteen octets at a time. If their number is not a multiple of sixteen, the last sixteen overlap
-// those before them.
+// the preceding ones.
 fn write_by_sixteens(octets: &[u8], digits: &mut [u8])
     requires size { length digits.old ≡ 2 * length octets.now }
     requires some { 16 ≤ length octets.now }
@@ -57,8 +57,8 @@ fn write_sixteen_octets(octets: &[u8], digits: &mut [u8], at: usize)
     }
 }
 
-/// The high and the low hexadecimal digits of the sixteen octets from index `at` on. Two separate arrays show the compiler that writing a
-/// digit changes no octet; if this function were inlined, its loop would merge with the caller's into a slower one.
+/// The high and the low hexadecimal digits of the sixteen octets that start at index `at`. Two separate arrays show the compiler that
+/// writing a digit changes no octet; if this function were inlined, its loop would merge with the caller's into a slower one.
 #[inline(never)]
 fn digits_of_sixteen(octets: &[u8], at: usize) -> ([u8; 16], [u8; 16])
     requires { at + 16 ≤ length octets.now }
@@ -74,7 +74,7 @@ fn digits_of_sixteen(octets: &[u8], at: usize) -> ([u8; 16], [u8; 16])
     (high, low)
 }
 
-#[tactic(auto, using(crate::proofs::LowerDigits::small_digit, crate::proofs::LowerDigits::large_digit))]
+#[tactic(auto, using(crate::proofs::Texts::small_digit, crate::proofs::Texts::large_digit))]
 fn lower_digit(value: u8) -> u8
     requires { value < 16 }
     ensures { result ≡ slice_index lower_digits value }

@@ -12,19 +12,19 @@ pub(crate) trait OctetSet {
 
 /// Whether the set contains all octets of a word. Long words are tested 64 or 16 octets at a time, so that the compiler uses vector
 /// instructions.
-pub(crate) fn has_all_octets<S: OctetSet>(word: &[u8]) -> bool
+pub(crate) fn all_octets_in_set<S: OctetSet>(word: &[u8]) -> bool
     ensures { result ≡ list_all S.has word.now }
 {
     if word.len() >= 64 {
-        has_all_in_steps::<S, 64>(word)
+        all_in_set_in_steps::<S, 64>(word)
     } else if word.len() >= 16 {
-        has_all_in_steps::<S, 16>(word)
+        all_in_set_in_steps::<S, 16>(word)
     } else {
-        has_all_one_by_one::<S>(word)
+        all_in_set_one_by_one::<S>(word)
     }
 }
 
-fn has_all_one_by_one<S: OctetSet>(word: &[u8]) -> bool
+fn all_in_set_one_by_one<S: OctetSet>(word: &[u8]) -> bool
     ensures { result ≡ list_all S.has word.now }
 {
     let mut all = true;
@@ -34,8 +34,8 @@ fn has_all_one_by_one<S: OctetSet>(word: &[u8]) -> bool
     all
 }
 
-// Whether the set contains all octets of a word, tested `N` at a time; the last `N` may overlap those before them.
-fn has_all_in_steps<S: OctetSet, const N: usize>(word: &[u8]) -> bool
+// Whether the set contains all octets of a word, tested `N` at a time; the last `N` may overlap the preceding ones.
+fn all_in_set_in_steps<S: OctetSet, const N: usize>(word: &[u8]) -> bool
     requires some { 0 < N }
     requires enough { N ≤ length word.now }
     ensures { result ≡ list_all S.has word.now }
@@ -44,8 +44,8 @@ fn has_all_in_steps<S: OctetSet, const N: usize>(word: &[u8]) -> bool
     let mut all = true;
     let mut at = 0;
     while at < last {
-        all &= has_all_one_by_one::<S>(&word[at..at + N]);
+        all &= all_in_set_one_by_one::<S>(&word[at..at + N]);
         at += N;
     }
-    all & has_all_one_by_one::<S>(&word[last..last + N])
+    all & all_in_set_one_by_one::<S>(&word[last..last + N])
 }

@@ -8,14 +8,14 @@ ghost use Rattle.um_lines.specs.Fields.{bit_digits};
 use crate::lower_digits::write_lower_hex;
 use std::marker::Model;
 
-/// A buffer for output lines, at most 4,096 octets, stored in place.
+/// A buffer for output lines, at most 4,096 octets, stored inline.
 #[derive(Drop)]
 pub struct Text {
     buffer: [u8; 4096],
     length: usize,
 }
 
-// In contracts, a `Text` stands for its list of octets.
+// In contracts, a `Text` is its list of octets.
 impl Model for Text {
     ghost use Rattle.std.specs.Prelude.{ℕ, ◌≤◌, List, take};
 
@@ -123,7 +123,7 @@ fn write_one_by_one(digits: &mut [u8], bits: &[u8])
     }
 }
 
-// Writes sixteen digits at a time; the last sixteen may overlap those before them.
+// Writes sixteen digits at a time; the last sixteen may overlap the preceding ones.
 #[inline(always)]
 fn write_by_sixteens(digits: &mut [u8], bits: &[u8])
     requires count { length digits.old ≡ length bits.now }

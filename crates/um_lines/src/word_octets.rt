@@ -4,11 +4,11 @@ ghost use Rattle.bit_blocks.specs.Octets.{bits_of, octets_of};
 
 use bit_blocks::{Bits, to_octets};
 
-/// Packs the `8 * N` bits of `word` from index `place` on into `N` octets.
+/// Packs the `8 * N` bits of `word` that start at index `place` into `N` octets.
 pub fn octets_from_bits_at<const N: usize, const M: usize>(word: &Bits<M>, place: usize) -> [u8; N]
     requires { place + 8 * N ≤ M }
     ensures value { result ≡ octets_of (take (8 * N) (drop place word.now)) }
-    ensures undone { bits_of result ≡ take (8 * N) (drop place word.now) }
+    ensures round_trip { bits_of result ≡ take (8 * N) (drop place word.now) }
 {
     let bits = &word.as_slice()[place..place + 8 * N];
     let mut octets = [0; N];

@@ -1,10 +1,10 @@
--- The abstraction relation of a world, and what it means for its answers to follow the specification.
+-- The abstraction relation of a world, and when its answers follow the specification.
 use Rattle.std.specs.Prelude.{◌≡◌, ◌≤◌, ℕ, List, length, Option, Some, None, Result, Ok, Err, []}
 use Rattle.um_air.specs.lapdm_window.Ends.{Role, Mobile, Network}
 use Rattle.um_block.specs.declared.received.Received.{Received}
 use Rattle.um_air.specs.lapdm_window.declared.Sapi.{Sapi}
 use Rattle.um_air.specs.lapdm_window.declared.Sapi.TheVariants.{Zero, Three}
-use Rattle.um_air.specs.lapdm_window.Calls.{Call, Opens, OpensBare}
+use Rattle.um_air.specs.lapdm_window.Calls.{Call, Opens, OpensWithoutInfo}
 use Rattle.um_air.specs.lapdm_link.Events.{Open, OpenBare, Ask, call_of, Who, BySide, OtherMobile, Nobody}
 use Rattle.um_air.specs.Air as A
 use Rattle.um_air.specs.Air.{Block, AirState, IsAirStep}
@@ -15,12 +15,12 @@ use Rattle.um_link.specs.declared.links.WorldState.{WorldState}
 use Rattle.um_link.specs.Queues.{IsValidQueue}
 use Rattle.um_link.specs.Naming.{answer_of}
 
--- the blocks in transit in the queue into which this side sends
+-- the blocks in transit that this side sent
 abbrev pub queued_blocks : Role → WorldState → List Block
 queued_blocks Mobile w = w.up.items
 queued_blocks Network w = w.down.items
 
--- world `w` represents session state `a`: its endpoints represent those of `a`, and the same blocks are in transit
+-- world `w` represents session state `a`: its endpoints represent the endpoints of `a`, and the same blocks are in transit
 pub record Represents (w : WorldState) (a : AirState) : Type 0 where
   pub tsc : w.tsc ≡ a.tsc
   pub channel : w.channel ≡ a.channel
@@ -36,8 +36,8 @@ pub record IsValidWorld (w : WorldState) : Type 0 where
   pub up : IsValidQueue w.up
   pub down : IsValidQueue w.down
 
--- for every state that the old world represents, the specification allows this answer to the event, and the new world represents the state
--- after it
+-- for every state that the old world represents, the specification allows this answer to the event, and the new world represents the
+-- resulting state
 abbrev pub StepRefines : A.Event → WorldState → Result Step No → WorldState → Type 0
 StepRefines event old result new = (a : AirState) → Represents old a →
     (b : AirState) × Represents new b × IsAirStep a event b (answer_of result)
@@ -45,7 +45,7 @@ StepRefines event old result new = (a : AirState) → Represents old a →
 -- the event is this call to the endpoint with this role and SAPI
 abbrev pub IsLayer3CallTo : A.Event → Role → Sapi → Call → Type 0
 IsLayer3CallTo (Open info) role sapi call = (role ≡ Mobile) × (sapi ≡ Zero) × (call ≡ Opens info)
-IsLayer3CallTo (OpenBare asked) role sapi call = (role ≡ asked) × (sapi ≡ Three) × (call ≡ OpensBare)
+IsLayer3CallTo (OpenBare asked) role sapi call = (role ≡ asked) × (sapi ≡ Three) × (call ≡ OpensWithoutInfo)
 IsLayer3CallTo (Ask asked link request) role sapi call = (role ≡ asked) × (sapi ≡ link) × (call ≡ call_of request)
 IsLayer3CallTo event role sapi call = ⊥
 
@@ -61,16 +61,16 @@ sent_frame_count (Ok s) = length s.effects.frames
 sent_frame_count (Err reason) = 0
 
 -- 1 if a block was received, otherwise 0
-abbrev pub count_of : Option Received → ℕ
-count_of None = 0
-count_of (Some report) = 1
+abbrev pub arrival_count : Option Received → ℕ
+arrival_count None = 0
+arrival_count (Some report) = 1
 
 -- the number of blocks that a step receives, 0 or 1
 abbrev pub arrived_block_count : Result Step No → ℕ
-arrived_block_count (Ok s) = count_of s.received
+arrived_block_count (Ok s) = arrival_count s.received
 arrived_block_count (Err reason) = 0
 
--- in a step of another mobile, nothing is received or reported; in a step of nobody, nothing is sent either
+-- if another mobile acts, nothing is received or reported; if nobody acts, nothing is sent either
 abbrev pub ActorCanTakeStep : Who → A.Step → Type 0
 ActorCanTakeStep (BySide role) s = Unit {0}
 ActorCanTakeStep OtherMobile s = (s.received ≡ None) × (s.notices ≡ [])

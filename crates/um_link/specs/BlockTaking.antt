@@ -8,26 +8,27 @@ use Rattle.um_air.specs.lapdm_window.Ends.{Role}
 use Rattle.um_block.specs.declared.received.Received.{Received}
 use Rattle.um_air.specs.lapdm_link.Events as E
 use Rattle.um_air.specs.Air.{Octets, ReadsFrame}
-use Rattle.um_link.specs.declared.ends.Ends.{Ends}
+use Rattle.um_link.specs.declared.ends.BothSides.{BothSides}
 use Rattle.um_link.specs.FourEndpoints as F
 
--- the octets of the received block, if one arrived and its CRC holds
+-- the octets of the received block, if one arrived and its CRC is correct
 abbrev pub accepted_octets : Option Received → Option Octets
 accepted_octets None = None
 accepted_octets (Some report) = report.accepted
 
--- the side with this role receives the frame that the accepted octets encode, or does nothing if there is none; the new endpoints and the
--- effects are the result
-pub record TakesAcceptedFrame (role : Role) (channel : Channel) (accepted : Option Octets) (es : E.Ends) (link : Sapi) (effects : Effects)
-    (new : Ends) : Type 0 where
+-- the side with this role receives the frame that the accepted octets encode, or does nothing if there is none; `new` and `effects` are the
+-- result
+pub record TakesAcceptedFrame (role : Role) (channel : Channel) (accepted : Option Octets) (es : E.BothSides) (link : Sapi)
+    (effects : Effects)
+    (new : BothSides) : Type 0 where
   pub read : Option Frame
-  pub reads : ReadsFrame channel accepted read
-  pub represents : F.Represents new (E.step_for_read_frame role read es).after
+  pub reads_frame : ReadsFrame channel accepted read
+  pub represents : F.Represents new (E.step_for_read_frame role read es).new_state
   pub has_effects : F.HasEffects effects channel (E.step_for_read_frame role read es)
   pub sapi : link ≡ (E.step_for_read_frame role read es).sapi
 
 -- for every state that the old endpoints represent, the side with this role receives the frame that the accepted octets encode, or does
 -- nothing if there is none
-abbrev pub TakingFrameRefines : Role → Channel → Option Octets → Ends → Sapi → Effects → Ends → Type 0
-TakingFrameRefines role channel accepted old sapi effects new = (es : E.Ends) → F.Represents old es →
+abbrev pub TakingFrameRefines : Role → Channel → Option Octets → BothSides → Sapi → Effects → BothSides → Type 0
+TakingFrameRefines role channel accepted old sapi effects new = (es : E.BothSides) → F.Represents old es →
     TakesAcceptedFrame role channel accepted es sapi effects new

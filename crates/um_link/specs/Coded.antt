@@ -1,4 +1,4 @@
--- Octets and the coded blocks in which they are sent.
+-- Octets and their coded blocks.
 use Rattle.std.specs.Prelude.{◌≡◌, ℕ, List, [], ◌∷◌, ◌++◌}
 use Rattle.um_block.specs.Sent.{IsSentBlock}
 use Rattle.um_air.specs.Air.{Octets, Block}
@@ -9,7 +9,7 @@ AreCodedBlocks tsc [] [] = Unit {0}
 AreCodedBlocks tsc (o ∷ os) (b ∷ bs) = IsSentBlock o tsc b × AreCodedBlocks tsc os bs
 AreCodedBlocks tsc os bs = ⊥
 
--- `new` is the queue `old` with the coded blocks of these octets appended
+-- appending the coded blocks of these octets to the queue `old` yields `new`
 pub record AppendsBlocks (tsc : ℕ) (octets : List Octets) (old new : List Block) : Type 0 where
   pub blocks : List Block
   pub coded : AreCodedBlocks tsc octets blocks

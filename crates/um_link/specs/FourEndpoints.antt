@@ -1,24 +1,24 @@
--- The abstraction relation of `Ends`, the four endpoints of the program.
+-- The abstraction relation of `BothSides`, the four Rust endpoints.
 use Rattle.std.specs.Prelude.{◌≡◌, map}
 use Rattle.lapdm_frame.specs.declared.Channel.{Channel}
 use Rattle.lapdm_frame.specs.Frames.{octets_of}
 use Rattle.um_air.specs.lapdm_window.declared.effects.Effects.{Effects}
 use Rattle.lapdm_end.specs.Sides as S
 use Rattle.um_air.specs.lapdm_link.Events as E
-use Rattle.um_link.specs.declared.ends.Ends.{Ends}
+use Rattle.um_link.specs.declared.ends.BothSides.{BothSides}
 
--- the program's four endpoints `p` represent the abstract endpoints `es`
-pub record Represents (p : Ends) (es : E.Ends) : Type 0 where
+-- the four Rust endpoints `p` represent the abstract endpoints `es`
+pub record Represents (p : BothSides) (es : E.BothSides) : Type 0 where
   pub mobile : S.Represents p.mobile es.mobile
   pub network : S.Represents p.network es.network
 
 -- both sides use this channel
-pub record IsOnChannel (channel : Channel) (p : Ends) : Type 0 where
+pub record IsOnChannel (channel : Channel) (p : BothSides) : Type 0 where
   pub mobile : S.channel_of p.mobile ≡ channel
   pub network : S.channel_of p.network ≡ channel
 
 -- the channel that the mobile uses
-abbrev pub channel_of_ends : Ends → Channel
+abbrev pub channel_of_ends : BothSides → Channel
 channel_of_ends p = S.channel_of p.mobile
 
 -- `effects` are the frames of step `d`, encoded as octets, and its notices
@@ -26,8 +26,8 @@ pub record HasEffects (effects : Effects) (channel : Channel) (d : E.SideStep) :
   pub frames : effects.frames ≡ map (octets_of channel) d.frames
   pub notices : effects.notices ≡ d.notices
 
--- for every state that the old endpoints represent, the new ones represent the state after this step, and the effects are the frames and
--- notices of the step
-abbrev pub StepRefines : Channel → (E.Ends → E.SideStep) → Ends → Effects → Ends → Type 0
-StepRefines channel event_step old effects new = (es : E.Ends) → Represents old es → Represents new (event_step es).after
+-- for every state that the old endpoints represent, the new endpoints represent the state after this step, and the effects are the frames
+-- and notices of the step
+abbrev pub StepRefines : Channel → (E.BothSides → E.SideStep) → BothSides → Effects → BothSides → Type 0
+StepRefines channel event_step old effects new = (es : E.BothSides) → Represents old es → Represents new (event_step es).new_state
     × HasEffects effects channel (event_step es)

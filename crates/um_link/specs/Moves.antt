@@ -19,18 +19,18 @@ pub record DiffersOnlyInQueue (sender : Role) (old new : WorldState) : Type 0 wh
 -- the coded blocks of these octets are appended to the queue of side `sender`; nothing else changes
 pub record AppendsToQueue (sender : Role) (octets : List Octets) (old new : WorldState) : Type 0 where
   pub appends : AppendsBlocks old.tsc octets (queued_blocks sender old) (queued_blocks sender new)
-  pub same : DiffersOnlyInQueue sender old new
+  pub rest_same : DiffersOnlyInQueue sender old new
 
 -- the oldest block from side `sender` leaves its queue and is received with the bits at `places` inverted; nothing else changes
 pub record ReceivesOldestFrom (sender : Role) (places : List ℕ) (old : WorldState) (arrived : Option Received) (new : WorldState) : Type 0
   where
     pub report : Received
-    pub is : arrived ≡ Some report
+    pub is_report : arrived ≡ Some report
     pub received : ReceivesOldestBlock places (queued_blocks sender old) report (queued_blocks sender new)
-    pub same : DiffersOnlyInQueue sender old new
+    pub rest_same : DiffersOnlyInQueue sender old new
 
 -- the oldest block from side `sender` leaves its queue without being received; nothing else changes
 pub record LosesOldestFrom (sender : Role) (old new : WorldState) : Type 0 where
   pub block : Block
-  pub first : queued_blocks sender old ≡ block ∷ queued_blocks sender new
-  pub same : DiffersOnlyInQueue sender old new
+  pub queue_front : queued_blocks sender old ≡ block ∷ queued_blocks sender new
+  pub rest_same : DiffersOnlyInQueue sender old new

@@ -19,5 +19,5 @@ pub record IsValidQueue (way : Buffer Block) : Type 0 where
 -- describes the result
 pub record ReceivesOldestBlock (places : List ℕ) (old : List Block) (report : Received) (new : List Block) : Type 0 where
   pub block : Block
-  pub first : old ≡ block ∷ new
+  pub queue_front : old ≡ block ∷ new
   pub received : IsReceivedBlock (map soft_bits (with_bits_inverted places block)) report

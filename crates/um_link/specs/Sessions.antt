@@ -1,4 +1,4 @@
--- Worlds reached by a session, that is, by a list of events with their answers from the initial state.
+-- The worlds that a session reaches. A session is a list of events with their answers.
 use Rattle.std.specs.Prelude.{ℕ, List, [], ◌∷◌, ◌++◌, Result}
 use Rattle.lapdm_frame.specs.declared.Channel.{Channel}
 use Rattle.um_air.specs.lapdm_link.Claims.{Claims, IsOrderedLog}

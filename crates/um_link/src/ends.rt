@@ -14,20 +14,20 @@ use lapdm_frame::{Channel, FrameView};
 
 /// The four endpoints: two sides, each with SAPI 0 and SAPI 3.
 #[derive(Drop)]
-pub(crate) struct Ends {
+pub(crate) struct BothSides {
     mobile: Side,
     network: Side,
 }
 
-impl Ends {
+impl BothSides {
     ghost use Rattle.um_link.specs.FourEndpoints.{IsOnChannel, Represents, StepRefines, channel_of_ends};
 
     /// Creates the four endpoints, all in Idle.
-    pub(crate) fn new_on(channel: Channel) -> Ends
+    pub(crate) fn new_on(channel: Channel) -> BothSides
         ensures represents { Represents result (E.idle_endpoints channel) }
         ensures channel { IsOnChannel channel result }
     {
-        Ends {
+        BothSides {
             mobile: Side::new_on(Role::Mobile, channel),
             network: Side::new_on(Role::Network, channel),
         }
@@ -43,10 +43,11 @@ impl Ends {
     ) -> Result<(), Refused>
         requires on { IsOnChannel (channel_of_ends self.old) self.old }
         requires call { IsCallOfSapi sapi (call_of call.now) }
-        ensures refusal { (es : E.Ends) → Represents self.old es
-            → result_err result ≡ refusal_of (call_of call.now) (E.endpoint_in (role_of end) sapi es) }
+        ensures refusal { (es : E.BothSides) → Represents self.old es
+            → result_err result ≡ refusal_of (call_of call.now) (E.endpoint_at (role_of end) sapi es) }
         ensures refines { OnOk result
-            (StepRefines (channel_of_ends self.old) (E.layer3_calls (role_of end) sapi (call_of call.now)) self.old effects.new self.new) }
+            (StepRefines (channel_of_ends self.old) (E.layer3_call_step (role_of end) sapi (call_of call.now)) self.old
+            effects.new self.new) }
         ensures on { IsOnChannel (channel_of_ends self.old) self.new }
         ensures refused { OnErr result (self.new ≡ self.old) }
         ensures out_unchanged { OnErr result (effects.new ≡ effects.old) }
@@ -64,7 +65,7 @@ impl Ends {
         ensures refines { StepRefines (channel_of_ends self.old) (E.step_for_read_frame (role_of end) (Some
             (frame_of frame.now))) self.old effects.new
             self.new }
-        ensures sapi { (es : E.Ends) → Represents self.old es →
+        ensures sapi { (es : E.BothSides) → Represents self.old es →
             result ≡ (E.step_for_read_frame (role_of end) (Some (frame_of frame.now)) es).sapi }
         ensures on { IsOnChannel (channel_of_ends self.old) self.new }
     {

@@ -60,8 +60,8 @@ impl<'a> Call<'a> {
 pub enum Air<'a> {
     Deliver,
     Lose,
-    /// The block arrives with the bits at these indices inverted, one after another. Index `p`, 0 to 591, is bit `p % 148` of burst `p /
-    /// 148`.
+    /// The block arrives with the bits at these indices inverted; an index that occurs twice leaves its bit unchanged. Index `p`, 0 to 591,
+    /// is bit `p % 148` of burst `p / 148`.
     Flip(&'a [u16]),
 }
 
@@ -103,7 +103,7 @@ pub struct Step {
 impl Step {
     ghost use Rattle.um_link.specs.Naming.{step_of};
 
-    /// A step in which nobody acts and nothing is sent, received or reported.
+    /// Creates a step in which nobody acts: nothing is sent, received or reported.
     pub fn new() -> Step
         ensures { step_of result
             ≡ record { who = E.Nobody; sapi = S.Zero; received = None; frames = []; notices = [] } }
@@ -135,7 +135,7 @@ pub enum No {
     /// No block is in transit in the direction of the event.
     #[error("no block is in transit in that direction")]
     Nothing,
-    /// More than 62 blocks are in the queue into which the event may send.
+    /// The queue for the event's frames holds more than 62 blocks.
     #[error("more than 62 blocks are in transit in the direction in which the event sends")]
     AirFull,
 }

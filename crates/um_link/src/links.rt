@@ -13,7 +13,7 @@ ghost use Rattle.um_link.specs.Possible.{IsPossibleEvent, IsPossibleAirEvent};
 ghost use Rattle.um_block.specs.Tallies.{counter_plus_one, counter_plus};
 ghost use Rattle.um_link.specs.Queues.{AreBitIndices};
 
-use crate::ends::Ends;
+use crate::ends::BothSides;
 use crate::events::{Air, End, Event, No, Step, Way, Who};
 use crate::queue::{QUEUE_CAPACITY, drop_oldest_block, receive_oldest_block, send_frames};
 use crate::taking::take_received_block;
@@ -29,7 +29,7 @@ use um_io::NoMemory;
 pub(crate) struct WorldState {
     tsc: u8,
     channel: Channel,
-    ends: Ends,
+    ends: BothSides,
     up: HeapCircularBuffer<[[u8; BURST_BITS]; 4]>,
     down: HeapCircularBuffer<[[u8; BURST_BITS]; 4]>,
     // A buffer for the soft values of an arriving block. It is kept between steps because clearing it in each step would be slow.
@@ -52,7 +52,7 @@ impl WorldState {
         Ok(WorldState {
             tsc,
             channel,
-            ends: Ends::new_on(channel),
+            ends: BothSides::new_on(channel),
             up,
             down,
             soft: [[0; BURST_BITS]; 4],
@@ -68,7 +68,7 @@ impl WorldState {
         }
     }
 
-    /// Whether the queue of this side has too little room for the frames of one more step, of which there are at most two.
+    /// Returns whether the queue of this side has too little room for another step, which may send two frames.
     fn is_queue_full(&self, sender: End) -> bool
         ensures { result ≡ E.is_queue_full (length (queued_blocks (role_of sender) self.now)) }
     {
@@ -262,7 +262,7 @@ impl WorldState {
         Ok(())
     }
 
-    /// Carries out the event in which another mobile sends a SABM for SAPI 0.
+    /// Puts a SABM for SAPI 0 from another mobile into the queue to the network.
     fn rival<R: Radio>(&mut self, radio: &mut R, info: &[u8], step: &mut Step) -> Result<(), No>
         requires sound { IsValidWorld self.old }
         ensures refines { StepRefines (E.Rival info.now) self.old (step_result result step.new) self.new }

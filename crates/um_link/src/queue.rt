@@ -94,7 +94,7 @@ pub(crate) fn drop_oldest_block(way: &mut HeapCircularBuffer<[[u8; BURST_BITS]; 
     }
 }
 
-/// Inverts the bits of the block at these indices, one after another.
+/// Inverts the bits of the block at these indices. An index that occurs twice leaves its bit unchanged.
 fn invert_bits(block: &mut [[u8; BURST_BITS]; 4], places: &[u16])
     requires bits { All AllBits block.old }
     requires places { AreBitIndices places.now }

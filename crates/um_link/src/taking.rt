@@ -4,7 +4,7 @@ ghost use Rattle.um_link.specs.FourEndpoints.{IsOnChannel, channel_of_ends};
 ghost use Rattle.um_link.specs.Naming.{role_of};
 ghost use Rattle.um_link.specs.BlockTaking.{TakingFrameRefines, accepted_octets};
 
-use crate::ends::Ends;
+use crate::ends::BothSides;
 use crate::events::End;
 use lapdm_end::{Effects, Sapi};
 use lapdm_frame::{Channel, read_on};
@@ -12,7 +12,7 @@ use um_block::Received;
 
 /// Reads the frame from the accepted octets, if there are any, and passes it to the receiving side. Replaces the effects.
 pub(crate) fn take_received_block(
-    ends: &mut Ends,
+    ends: &mut BothSides,
     channel: Channel,
     end: End,
     received: &Option<Received>,

@@ -1,4 +1,4 @@
-//! A session between a mobile and a network, in which each call of `step` carries out one event.
+//! A session between a mobile and a network. Each call of `step` carries out one event.
 ghost use Rattle.std.specs.Prelude.{◌≡◌, ◌≤◌, IfOk, OnOk, OnErr};
 ghost use Rattle.lapdm_frame.specs.declared.Channel.TheVariants as C;
 ghost use Rattle.um_air.specs.Air.{initial_session};
@@ -29,10 +29,10 @@ use um_io::NoMemory;
 /// each frame that is sent and receives each block that arrives.
 #[derive(Drop)]
 pub struct World {
-    links: WorldState,
+    state: WorldState,
 }
 
-// In contracts, a `World` stands for its private `WorldState`.
+// In contracts, a `World` is its private `WorldState`.
 impl Model for World {
     ghost use Rattle.um_link.specs.declared.links.WorldState.{WorldState};
 
@@ -40,14 +40,14 @@ impl Model for World {
 
     ghost use Rattle.um_link.specs.Abstraction.{IsValidWorld};
 
-    ghost view = { λ world. world.links };
+    ghost view = { λ world. world.state };
 
-    ghost invariant = { λ world. IsValidWorld world.links };
+    ghost invariant = { λ world. IsValidWorld world.state };
 }
 
 impl World {
-    /// Creates a world for SDCCH, with idle endpoints and empty queues. The training sequence code is 0 to 7. Allocates all memory that the
-    /// world ever needs.
+    /// Creates a world for SDCCH, with idle endpoints and empty queues. The training sequence code must be 0 to 7. Allocates all memory
+    /// that the world needs.
     pub fn new(alloc: Global, tsc: u8) -> Result<World, NoMemory>
         requires { tsc ≤ 7 }
         ensures { IfOk result (λ world. Represents world (initial_session tsc C.Sdcch)) }
@@ -55,19 +55,19 @@ impl World {
         World::new_on(alloc, tsc, Channel::Sdcch)
     }
 
-    /// Creates a world for either channel, with idle endpoints and empty queues. The training sequence code is 0 to 7. Allocates all memory
-    /// that the world ever needs.
+    /// Creates a world for this channel, with idle endpoints and empty queues. The training sequence code must be 0 to 7. Allocates all
+    /// memory that the world needs.
     pub fn new_on(alloc: Global, tsc: u8, channel: Channel) -> Result<World, NoMemory>
         requires { tsc ≤ 7 }
         ensures { IfOk result (λ world. Represents world (initial_session tsc channel)) }
     {
         let links = WorldState::new_on(alloc, tsc, channel)?;
-        Ok(World { links })
+        Ok(World { state: links })
     }
 
-    /// Carries out an event, or refuses it for the first of these reasons: no block is in transit in its direction (`Nothing`); more than
-    /// 62 blocks are in the queue into which it may send (`AirFull`); the endpoint refuses the call; the SABM of another mobile has no
-    /// information (`Empty`) or more than N201 octets (`TooLong`).
+    /// Carries out an event, or refuses it for the first of these reasons: no block is in transit in its direction (`Nothing`); the queue
+    /// for its frames holds more than 62 blocks (`AirFull`); the endpoint refuses the call; the SABM of another mobile has no information
+    /// (`Empty`) or more than N201 octets (`TooLong`).
     pub fn step<R: Radio>(&mut self, radio: &mut R, event: &Event<'_>) -> Result<Step, No>
         requires { IsPossibleEvent event.now }
         ensures refines { StepRefines (event_of event.now) self.old result self.new }
@@ -90,8 +90,8 @@ impl World {
         }
     }
 
-    /// Carries out an event and writes the result into the caller's `Step`, which stays unchanged if the event is refused. The reasons for
-    /// a refusal are those of `World::step`.
+    /// Carries out an event and writes the result into the caller's `Step`, which stays unchanged if the event is refused. It refuses an
+    /// event for the same reasons as `World::step`.
     pub fn step_into<R: Radio>(
         &mut self,
         radio: &mut R,
@@ -118,7 +118,7 @@ impl World {
         law_delivers_in_order();
         law_three_inverted_bits_are_benign();
         law_event_messages_are_octets(event);
-        self.links.carry_out_event(radio, event, step)
+        self.state.carry_out_event(radio, event, step)
     }
 }
 

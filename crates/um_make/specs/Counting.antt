@@ -6,32 +6,32 @@ use Rattle.um_link.specs.lapdm_window.declared.Sapi.{Sapi}
 use Rattle.um_link.specs.lapdm_window.declared.Sapi.TheVariants.{Zero}
 use Rattle.um_link.specs.lapdm_window.Ends.{Role, Mobile, Network}
 use Rattle.um_link.specs.lapdm_link.Events.{Who, BySide}
-use Rattle.um_link.specs.lapdm_link.Claims.{delivered_in_notice, acked_number_in_notice, is_same_role, is_same_sapi}
-use Rattle.um_link.specs.um_air.Air.{Event, Answer, Refuses, Does}
+use Rattle.um_link.specs.lapdm_link.Claims.{got_message, acked_number_in_notice, is_same_role, is_same_sapi}
+use Rattle.um_link.specs.um_air.Air.{Event, Answer, Refuses, Accepts}
 use Rattle.um_make.specs.declared.end_summary.EndpointSummary.{EndpointSummary}
 use Rattle.um_make.specs.declared.summary.Summary.{Summary}
 use Rattle.um_make.specs.Summaries.{sends, reports_good_crc, reports_bad_crc, is_loss_event}
 
--- the counters `new` are `old` with the messages and acknowledgements in these notices added
+-- the messages and acknowledgements in these notices raise the counters from `old` to `new`
 pub record CountsNotices (notices : List Notice) (old new : EndpointSummary) : Type 0 where
-  pub got : new.got ≡ old.got + length (filter_map delivered_in_notice notices)
-  pub octets : new.octets ≡ old.octets + sum_by (λ m. length m) (filter_map delivered_in_notice notices)
-  pub sum : new.sum ≡ old.sum + sum_by (λ m. sum m) (filter_map delivered_in_notice notices)
-  pub acked : new.acked ≡ old.acked + length (filter_map acked_number_in_notice notices)
+  pub messages_got : new.messages_got ≡ old.messages_got + length (filter_map got_message notices)
+  pub octets : new.octets ≡ old.octets + sum_by (λ m. length m) (filter_map got_message notices)
+  pub octet_sum : new.octet_sum ≡ old.octet_sum + sum_by (λ m. sum m) (filter_map got_message notices)
+  pub acked_messages : new.acked_messages ≡ old.acked_messages + length (filter_map acked_number_in_notice notices)
 
 -- no counter of one side has grown by more than `most`
 pub record EndpointCountersGrowAtMost (most : ℕ) (old new : EndpointSummary) : Type 0 where
-  pub got : new.got ≤ old.got + most
+  pub messages_got : new.messages_got ≤ old.messages_got + most
   pub octets : new.octets ≤ old.octets + most
-  pub sum : new.sum ≤ old.sum + most
-  pub acked : new.acked ≤ old.acked + most
+  pub octet_sum : new.octet_sum ≤ old.octet_sum + most
+  pub acked_messages : new.acked_messages ≤ old.acked_messages + most
 
 -- no counter of one side exceeds `most`
 pub record EndpointCountersAreAtMost (most : ℕ) (e : EndpointSummary) : Type 0 where
-  pub got : e.got ≤ most
+  pub messages_got : e.messages_got ≤ most
   pub octets : e.octets ≤ most
-  pub sum : e.sum ≤ most
-  pub acked : e.acked ≤ most
+  pub octet_sum : e.octet_sum ≤ most
+  pub acked_messages : e.acked_messages ≤ most
 
 abbrev pub one_if_true : Bool → ℕ
 one_if_true b = if b then 1 else 0
@@ -42,46 +42,46 @@ sapi0_notices_of_side r (BySide role) sapi notices = if is_same_role r role && i
 sapi0_notices_of_side r who sapi notices = []
 
 -- the notices that this side reports on SAPI 0 in this answer
-abbrev pub sapi0_notices_in : Role → Answer → List Notice
-sapi0_notices_in r (Refuses why) = []
-sapi0_notices_in r (Does step) = sapi0_notices_of_side r step.who step.sapi step.notices
+abbrev pub sapi0_notices_in_answer : Role → Answer → List Notice
+sapi0_notices_in_answer r (Refuses why) = []
+sapi0_notices_in_answer r (Accepts step) = sapi0_notices_of_side r step.who step.sapi step.notices
 
--- the counters `new` are `old` with the blocks and notices of this answer added; the event itself is not counted
+-- the blocks and notices of this answer raise the counters from `old` to `new`; the event itself is not counted
 pub record CountsAnswer (answer : Answer) (old new : Summary) : Type 0 where
   pub steps : new.steps ≡ old.steps
-  pub sent : new.sends ≡ old.sends + sends answer
-  pub takes : new.takes ≡ old.takes + one_if_true (reports_good_crc answer)
-  pub drops : new.drops ≡ old.drops + one_if_true (reports_bad_crc answer)
-  pub lost : new.lost ≡ old.lost
-  pub mobile : CountsNotices (sapi0_notices_in Mobile answer) old.mobile new.mobile
-  pub network : CountsNotices (sapi0_notices_in Network answer) old.network new.network
+  pub sent_blocks : new.sent_blocks ≡ old.sent_blocks + sends answer
+  pub good_blocks : new.good_blocks ≡ old.good_blocks + one_if_true (reports_good_crc answer)
+  pub bad_blocks : new.bad_blocks ≡ old.bad_blocks + one_if_true (reports_bad_crc answer)
+  pub lost_blocks : new.lost_blocks ≡ old.lost_blocks
+  pub mobile : CountsNotices (sapi0_notices_in_answer Mobile answer) old.mobile new.mobile
+  pub network : CountsNotices (sapi0_notices_in_answer Network answer) old.network new.network
 
--- the counters `new` are `old` with this event and its answer added
+-- this event and its answer raise the counters from `old` to `new`
 pub record CountsStep (event : Event) (answer : Answer) (old new : Summary) : Type 0 where
   pub steps : new.steps ≡ old.steps + 1
-  pub sent : new.sends ≡ old.sends + sends answer
-  pub takes : new.takes ≡ old.takes + one_if_true (reports_good_crc answer)
-  pub drops : new.drops ≡ old.drops + one_if_true (reports_bad_crc answer)
-  pub lost : new.lost ≡ old.lost + one_if_true (is_loss_event event)
-  pub mobile : CountsNotices (sapi0_notices_in Mobile answer) old.mobile new.mobile
-  pub network : CountsNotices (sapi0_notices_in Network answer) old.network new.network
+  pub sent_blocks : new.sent_blocks ≡ old.sent_blocks + sends answer
+  pub good_blocks : new.good_blocks ≡ old.good_blocks + one_if_true (reports_good_crc answer)
+  pub bad_blocks : new.bad_blocks ≡ old.bad_blocks + one_if_true (reports_bad_crc answer)
+  pub lost_blocks : new.lost_blocks ≡ old.lost_blocks + one_if_true (is_loss_event event)
+  pub mobile : CountsNotices (sapi0_notices_in_answer Mobile answer) old.mobile new.mobile
+  pub network : CountsNotices (sapi0_notices_in_answer Network answer) old.network new.network
 
 -- no counter of a session has grown by more than `most`
 pub record CountersGrowAtMost (most : ℕ) (old new : Summary) : Type 0 where
   pub steps : new.steps ≤ old.steps + most
-  pub sent : new.sends ≤ old.sends + most
-  pub takes : new.takes ≤ old.takes + most
-  pub drops : new.drops ≤ old.drops + most
-  pub lost : new.lost ≤ old.lost + most
+  pub sent_blocks : new.sent_blocks ≤ old.sent_blocks + most
+  pub good_blocks : new.good_blocks ≤ old.good_blocks + most
+  pub bad_blocks : new.bad_blocks ≤ old.bad_blocks + most
+  pub lost_blocks : new.lost_blocks ≤ old.lost_blocks + most
   pub mobile : EndpointCountersGrowAtMost most old.mobile new.mobile
   pub network : EndpointCountersGrowAtMost most old.network new.network
 
 -- no counter of a session exceeds `most`
 pub record CountersAreAtMost (most : ℕ) (s : Summary) : Type 0 where
   pub steps : s.steps ≤ most
-  pub sent : s.sends ≤ most
-  pub takes : s.takes ≤ most
-  pub drops : s.drops ≤ most
-  pub lost : s.lost ≤ most
+  pub sent_blocks : s.sent_blocks ≤ most
+  pub good_blocks : s.good_blocks ≤ most
+  pub bad_blocks : s.bad_blocks ≤ most
+  pub lost_blocks : s.lost_blocks ≤ most
   pub mobile : EndpointCountersAreAtMost most s.mobile
   pub network : EndpointCountersAreAtMost most s.network

@@ -7,9 +7,9 @@ use Rattle.um_link.specs.um_air.Air.{Event}
 use Rattle.um_make.specs.declared.course.SessionStage.{SessionStage}
 use Rattle.um_make.specs.declared.course.SessionStage.TheVariants.{Opening, Request, Answer, SendNext, AnswerInTransit, Timer}
 use Rattle.um_make.specs.declared.course.SessionProgress.{SessionProgress}
-use Rattle.um_make.specs.Generated.{sender, establishment_events, events_after_turn}
+use Rattle.um_make.specs.Generated.{sender, establishment_events, events_after_transmission}
 
--- the events that remain of the link establishment or of the current turn, in which this side sends
+-- the remaining events of the link establishment, or of the current transmission from this side
 abbrev pub pending_events : SessionStage → Role → List Event
 pending_events Opening r = establishment_events
 pending_events Request r = Deliver Mobile [] ∷ Deliver Network [] ∷ []
@@ -20,11 +20,13 @@ pending_events Timer r = Ask r Zero T200Expiry ∷ []
 
 -- all events that remain of a generated session
 abbrev pub remaining_events : SessionProgress → List Event
-remaining_events s = pending_events s.stage (sender s.number) ++ events_after_turn s.messages_left s.number s.segments_left s.segment_turns
+remaining_events s = pending_events s.stage (sender s.message_number) ++ events_after_transmission s.messages_left s.message_number
+    s.segments_left
+    s.segment_transmissions
 
--- bounds on the messages and turns of a session: it has at most 1000 messages, a message has at most 13 segments, and a segment takes at
--- most two turns
-pub record HasBoundedTurns (s : SessionProgress) : Type 0 where
-  pub messages : s.number + s.messages_left ≤ 1000
-  pub segment_turns : s.segment_turns + 2 * s.segments_left + 26 * s.messages_left ≤ 26001
-  pub not_lost : s.segment_turns % 8 ≢ 0 → s.segment_turns + 2 * s.segments_left + 26 * s.messages_left ≤ 26000
+-- bounds on a session: it has at most 1000 messages, a message has at most 13 segments, and a segment takes at most two transmissions
+pub record HasBoundedTransmissions (s : SessionProgress) : Type 0 where
+  pub messages : s.message_number + s.messages_left ≤ 1000
+  pub segment_transmissions : s.segment_transmissions + 2 * s.segments_left + 26 * s.messages_left ≤ 26001
+  pub bound_if_not_lost : s.segment_transmissions % 8 ≢ 0 →
+      s.segment_transmissions + 2 * s.segments_left + 26 * s.messages_left ≤ 26000

@@ -1,11 +1,11 @@
--- The events of the generated session (this project's own rule). The two sides send messages alternately. Each turn carries one segment;
--- every eighth turn is lost, and in the turns halfway between, three bits of the segment's block are inverted.
+-- The events of the generated session (this project's own rule). The two sides send messages alternately. Each transmission carries one
+-- segment; every eighth one is lost, and halfway between the losses, three bits of the segment's block are inverted.
 use Rattle.std.specs.Prelude.{ℕ, zero, suc, ◌+◌, ◌*◌, ◌%◌, Bool, if◌then◌else◌, nat_eq, List, [], ◌∷◌, ◌++◌}
 use Rattle.std.specs.Prelude.{map}
 use Rattle.std.specs.List.{range_with_len}
 use Rattle.um_link.specs.lapdm_frame.declared.Channel.TheVariants.{Sdcch}
 use Rattle.um_link.specs.lapdm_frame.Layout.{n201}
-use Rattle.um_link.specs.lapdm_window.segmenting.Segments.{Message, count_of}
+use Rattle.um_link.specs.lapdm_window.segmenting.Segments.{Message, number_of_segments}
 use Rattle.um_link.specs.lapdm_window.declared.Sapi.TheVariants.{Zero}
 use Rattle.um_link.specs.lapdm_window.Ends.{Role, Mobile, Network}
 use Rattle.um_link.specs.lapdm_link.Events.{Open, Ask, Deliver, Lose, Send, T200Expiry, other}
@@ -23,53 +23,54 @@ message i = map (λ j. (i + j) % 256) (range_with_len 0 (message_length i))
 abbrev pub sender : ℕ → Role
 sender i = if nat_eq (i % 2) 1 then Mobile else Network
 
--- whether the turn with this number is lost, as every eighth turn is
-abbrev pub is_lost_turn : ℕ → Bool
-is_lost_turn c = nat_eq (c % 8) 0
+-- whether the transmission with this number is lost, as every eighth one is
+abbrev pub is_lost_transmission : ℕ → Bool
+is_lost_transmission c = nat_eq (c % 8) 0
 
--- the indices of the bits that are inverted in the block of this turn: three in turns 4, 12, 20, ..., otherwise none
+-- the indices of the bits that are inverted in this transmission: three in transmissions 4, 12, 20, ..., otherwise none
 abbrev pub inverted_bits : ℕ → List ℕ
 inverted_bits c = if nat_eq (c % 8) 4 then 7 * c % 592 ∷ (7 * c + 1) % 592 ∷ (7 * c + 50) % 592 ∷ [] else []
 
--- the events of one turn, in which this side sends a segment: its block arrives, and then the answer; in a lost turn, its block is lost,
--- and its T200 expires
-abbrev pub segment_turn : Role → ℕ → List Event
-segment_turn r c =
-    if is_lost_turn c then Lose r ∷ Ask r Zero T200Expiry ∷ [] else Deliver r (inverted_bits c) ∷ Deliver (other r) [] ∷ []
+-- the events of one transmission of a segment from this side: its block arrives, and then the answer; in a lost transmission, its block is
+-- lost, and T200 expires
+abbrev pub segment_transmission : Role → ℕ → List Event
+segment_transmission r c =
+    if is_lost_transmission c then Lose r ∷ Ask r Zero T200Expiry ∷ [] else Deliver r (inverted_bits c) ∷ Deliver (other r) [] ∷ []
 
--- the events of one segment from this side, starting with the given turn: one turn, or two if the first is lost
+-- the events of one segment from this side, starting with the given transmission: one transmission, or two if the first is lost
 abbrev pub segment_events : Role → ℕ → List Event
-segment_events r c = segment_turn r c ++ (if is_lost_turn c then segment_turn r (c + 1) else [])
+segment_events r c = segment_transmission r c ++ (if is_lost_transmission c then segment_transmission r (c + 1) else [])
 
--- the number of the last turn of a segment, given that of its first turn
-abbrev pub last_turn_of_segment : ℕ → ℕ
-last_turn_of_segment c = if is_lost_turn c then c + 1 else c
+-- the number of a segment's last transmission, given the number of its first
+abbrev pub last_transmission_of_segment : ℕ → ℕ
+last_transmission_of_segment c = if is_lost_transmission c then c + 1 else c
 
--- the events of this number of segments from this side, starting after the given turn
-abbrev pub segment_turns : Role → ℕ → ℕ → List Event
-segment_turns r zero c = []
-segment_turns r (suc segments) c = segment_events r (c + 1) ++ segment_turns r segments (last_turn_of_segment (c + 1))
+-- the events of this number of segments from this side, starting after the given transmission
+abbrev pub segment_transmissions : Role → ℕ → ℕ → List Event
+segment_transmissions r zero c = []
+segment_transmissions r (suc segments) c =
+    segment_events r (c + 1) ++ segment_transmissions r segments (last_transmission_of_segment (c + 1))
 
--- the number of the last turn of this number of segments, which start after the given turn
-abbrev pub last_turn_number : ℕ → ℕ → ℕ
-last_turn_number zero c = c
-last_turn_number (suc segments) c = last_turn_number segments (last_turn_of_segment (c + 1))
+-- the number of the last transmission of this number of segments, which start after the given transmission
+abbrev pub last_transmission_number : ℕ → ℕ → ℕ
+last_transmission_number zero c = c
+last_transmission_number (suc segments) c = last_transmission_number segments (last_transmission_of_segment (c + 1))
 
 -- the number of segments on SDCCH of the message with this number
-abbrev pub segment_count_of : ℕ → ℕ
-segment_count_of i = count_of (n201 Sdcch) (message i)
+abbrev pub message_segment_count : ℕ → ℕ
+message_segment_count i = number_of_segments (n201 Sdcch) (message i)
 
--- the events of this number of messages, given the number of the first message and of the last turn before it: each message is sent, and
--- then its segments take their turns
+-- the events of this number of messages, given the numbers of the first message and of the last transmission before it: layer 3 passes each
+-- message, and then its segments are transmitted
 abbrev pub messages : ℕ → ℕ → ℕ → List Event
 messages zero i c = []
-messages (suc more) i c = Ask (sender i) Zero (Send (message i)) ∷ segment_turns (sender i) (segment_count_of i) c
-    ++ messages more (i + 1) (last_turn_number (segment_count_of i) c)
+messages (suc more) i c = Ask (sender i) Zero (Send (message i)) ∷ segment_transmissions (sender i) (message_segment_count i) c
+    ++ messages more (i + 1) (last_transmission_number (message_segment_count i) c)
 
--- the events that remain after a turn: the turns of the remaining segments of the current message, then all further messages
-abbrev pub events_after_turn : ℕ → ℕ → ℕ → ℕ → List Event
-events_after_turn messages_left number segments c = segment_turns (sender number) segments c
-    ++ messages messages_left (number + 1) (last_turn_number segments c)
+-- the events that remain after a transmission: the remaining segments of the current message, then all further messages
+abbrev pub events_after_transmission : ℕ → ℕ → ℕ → ℕ → List Event
+events_after_transmission messages_left number segments c = segment_transmissions (sender number) segments c
+    ++ messages messages_left (number + 1) (last_transmission_number segments c)
 
 -- the mobile establishes the link: its SABM arrives, and then the UA of the network
 abbrev pub establishment_events : List Event

@@ -5,14 +5,14 @@ use Rattle.um_link.specs.um_air.Air.{Event, Answer, AirState, initial_session, I
 use Rattle.um_make.specs.declared.summary.Summary.{Summary}
 use Rattle.um_make.specs.Summaries.{IsSummary}
 
--- `s` counts these events and their answers in a session that starts with idle endpoints on SDCCH; all possible answers have the summary
--- `s`
+-- `s` counts these events and their answers in a session that starts with idle endpoints on SDCCH; every possible list of answers has the
+-- summary `s`
 pub record IsSummaryOfEvents (tsc : ℕ) (events : List Event) (s : Summary) : Type 0 where
   pub answers : List Answer
   pub last_state : AirState
   pub run : IsAirRun (initial_session tsc Sdcch) events answers last_state
   pub summary : IsSummary events answers s
-  pub of_other_answers : (others : List Answer) (b : AirState) → IsAirRun (initial_session tsc Sdcch) events others b →
+  pub same_for_other_answers : (others : List Answer) (b : AirState) → IsAirRun (initial_session tsc Sdcch) events others b →
       IsSummary events others s
 
 -- these events have exactly one summary
@@ -22,6 +22,6 @@ pub record HasOneSummary (tsc : ℕ) (events : List Event) : Type 0 where
   pub only_one : (other : Summary) → IsSummaryOfEvents tsc events other → other ≡ summary
 
 -- neither side has more messages acknowledged than the other side has delivered
-pub record AckedAtMostGot (s : Summary) : Type 0 where
-  pub mobile : s.mobile.acked ≤ s.network.got
-  pub network : s.network.acked ≤ s.mobile.got
+pub record AckedAtMostReceived (s : Summary) : Type 0 where
+  pub mobile : s.mobile.acked_messages ≤ s.network.messages_got
+  pub network : s.network.acked_messages ≤ s.mobile.messages_got

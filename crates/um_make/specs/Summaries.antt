@@ -4,9 +4,9 @@ use Rattle.std.specs.List.{sum_by}
 use Rattle.um_link.specs.lapdm_window.declared.Sapi.TheVariants.{Zero}
 use Rattle.um_link.specs.lapdm_window.Ends.{Role, Mobile, Network}
 use Rattle.um_link.specs.um_block.declared.received.Received.{Received}
-use Rattle.um_link.specs.lapdm_link.Claims.{Line, delivered_messages, acked_numbers}
+use Rattle.um_link.specs.lapdm_link.Claims.{LogLine, delivered_messages, acked_message_numbers}
 use Rattle.um_link.specs.lapdm_link.Events.{Lose}
-use Rattle.um_link.specs.um_air.Air.{Event, Answer, Refuses, Does}
+use Rattle.um_link.specs.um_air.Air.{Event, Answer, Refuses, Accepts}
 use Rattle.um_link.specs.um_air.Sessions.{lines}
 use Rattle.um_make.specs.declared.end_summary.EndpointSummary.{EndpointSummary}
 use Rattle.um_make.specs.declared.summary.Summary.{Summary}
@@ -14,12 +14,12 @@ use Rattle.um_make.specs.declared.summary.Summary.{Summary}
 -- the number of blocks that an answer reports as sent
 abbrev pub sends : Answer → ℕ
 sends (Refuses why) = 0
-sends (Does step) = length step.frames
+sends (Accepts step) = length step.frames
 
 -- whether a block was received with a good CRC
-abbrev pub crc_holds : Option Received → Bool
-crc_holds None = false
-crc_holds (Some r) = is_some r.accepted
+abbrev pub crc_passes : Option Received → Bool
+crc_passes None = false
+crc_passes (Some r) = is_some r.accepted
 
 -- whether a block was received with a bad CRC
 abbrev pub crc_fails : Option Received → Bool
@@ -29,12 +29,12 @@ crc_fails (Some r) = not (is_some r.accepted)
 -- whether an answer reports a block received with a good CRC
 abbrev pub reports_good_crc : Answer → Bool
 reports_good_crc (Refuses why) = false
-reports_good_crc (Does step) = crc_holds step.received
+reports_good_crc (Accepts step) = crc_passes step.received
 
 -- whether an answer reports a block received with a bad CRC
 abbrev pub reports_bad_crc : Answer → Bool
 reports_bad_crc (Refuses why) = false
-reports_bad_crc (Does step) = crc_fails step.received
+reports_bad_crc (Accepts step) = crc_fails step.received
 
 -- whether the event is the loss of a block
 abbrev pub is_loss_event : Event → Bool
@@ -43,18 +43,18 @@ is_loss_event event = false
 
 -- `e` holds the counters of side `r` on SAPI 0: messages delivered, octets in these messages, the sum of these octets, and messages
 -- acknowledged
-pub record IsEndpointSummary (r : Role) (ls : List Line) (e : EndpointSummary) : Type 0 where
-  pub messages : e.got ≡ length (delivered_messages r Zero ls)
+pub record IsEndpointSummary (r : Role) (ls : List LogLine) (e : EndpointSummary) : Type 0 where
+  pub messages : e.messages_got ≡ length (delivered_messages r Zero ls)
   pub octets : e.octets ≡ sum_by (λ m. length m) (delivered_messages r Zero ls)
-  pub sum : e.sum ≡ sum_by (λ m. sum m) (delivered_messages r Zero ls)
-  pub acknowledged : e.acked ≡ length (acked_numbers r Zero ls)
+  pub octet_sum : e.octet_sum ≡ sum_by (λ m. sum m) (delivered_messages r Zero ls)
+  pub acked_messages : e.acked_messages ≡ length (acked_message_numbers r Zero ls)
 
 -- `s` holds the counters of a session with these events and answers
 pub record IsSummary (events : List Event) (answers : List Answer) (s : Summary) : Type 0 where
   pub steps : s.steps ≡ length events
-  pub sent : s.sends ≡ sum_by sends answers
-  pub takes : s.takes ≡ count_by reports_good_crc answers
-  pub drops : s.drops ≡ count_by reports_bad_crc answers
-  pub lost : s.lost ≡ count_by is_loss_event events
+  pub sent_blocks : s.sent_blocks ≡ sum_by sends answers
+  pub good_blocks : s.good_blocks ≡ count_by reports_good_crc answers
+  pub bad_blocks : s.bad_blocks ≡ count_by reports_bad_crc answers
+  pub lost_blocks : s.lost_blocks ≡ count_by is_loss_event events
   pub mobile : IsEndpointSummary Mobile (lines events answers) s.mobile
   pub network : IsEndpointSummary Network (lines events answers) s.network

@@ -12,15 +12,15 @@ header_line n tsc = codes "make " ++ decimal n ++ codes " " ++ decimal tsc ++ co
 -- bad CRC, and lost
 abbrev pub steps_line : Summary → List ℕ
 steps_line s =
-    codes "steps " ++ decimal s.steps ++ codes " sends " ++ decimal s.sends ++ codes " takes " ++ decimal s.takes
-    ++ codes " drops " ++ decimal s.drops ++ codes " lost " ++ decimal s.lost ++ codes "\n"
+    codes "steps " ++ decimal s.steps ++ codes " sends " ++ decimal s.sent_blocks ++ codes " takes " ++ decimal s.good_blocks
+    ++ codes " drops " ++ decimal s.bad_blocks ++ codes " lost " ++ decimal s.lost_blocks ++ codes "\n"
 
 -- the line `X got G octets O sum S acked K` of side `X`, `mob` or `net`: the messages delivered, the number and the sum of their octets,
 -- and the messages acknowledged
 abbrev pub endpoint_line : List ℕ → EndpointSummary → List ℕ
 endpoint_line name e =
-    name ++ codes " got " ++ decimal e.got ++ codes " octets " ++ decimal e.octets
-    ++ codes " sum " ++ decimal e.sum ++ codes " acked " ++ decimal e.acked ++ codes "\n"
+    name ++ codes " got " ++ decimal e.messages_got ++ codes " octets " ++ decimal e.octets
+    ++ codes " sum " ++ decimal e.octet_sum ++ codes " acked " ++ decimal e.acked_messages ++ codes "\n"
 
 -- the four lines that report on a generated session
 abbrev pub summary_text : ℕ → ℕ → Summary → List ℕ

@@ -13,8 +13,8 @@ pub record IsRunInProgress (tsc : ℕ) (all remaining_events : List Event) (worl
   pub events : List Event
   pub answers : List Answer
   pub state : AirState
-  pub all_is : all ≡ events ++ remaining_events
-  pub same : length answers ≡ length events
-  pub after : IsWorldAfterEvents tsc Sdcch events answers state world
+  pub all_events : all ≡ events ++ remaining_events
+  pub equal_counts : length answers ≡ length events
+  pub world_is : IsWorldAfterEvents tsc Sdcch events answers state world
   pub summary : IsSummary events answers s
   pub counters_bounded : CountersAreAtMost (192015 * length events) s

@@ -7,7 +7,7 @@ ghost use Rattle.um_link.specs.Naming.{event_of, role_of, sender_of};
 ghost use Rattle.um_link.specs.Possible.{IsPossibleEvent};
 ghost use Rattle.um_link.specs.Queues.{AreBitIndices};
 ghost use Rattle.um_make.specs.declared.course.SessionStage.TheVariants as S;
-ghost use Rattle.um_make.specs.Generated.{generated_events, message_length, message, segment_count_of, inverted_bits, sender};
+ghost use Rattle.um_make.specs.Generated.{generated_events, message_length, message, message_segment_count, inverted_bits, sender};
 
 use um_link::{Air, Call, End, Event, Sapi, Way};
 use um_script::Room;
@@ -36,37 +36,37 @@ pub(crate) struct SessionProgress {
     /// How many messages have not been sent yet.
     messages_left: u32,
     /// The number of the message that was sent last; 0 before the first.
-    number: u32,
+    message_number: u32,
     /// How many segments of the current message have not arrived yet.
     segments_left: u32,
-    /// How many turns have begun.
-    segment_turns: u32,
+    /// How many transmissions of segments have begun.
+    segment_transmissions: u32,
 }
 
 impl SessionProgress {
-    ghost use Rattle.um_make.specs.Courses.{remaining_events, HasBoundedTurns};
+    ghost use Rattle.um_make.specs.Courses.{remaining_events, HasBoundedTransmissions};
 
     pub(crate) fn new(n: u32) -> SessionProgress
         requires { n ≤ 1000 }
         ensures all { remaining_events result ≡ generated_events n }
-        ensures sound { HasBoundedTurns result }
+        ensures sound { HasBoundedTransmissions result }
     {
         SessionProgress {
             stage: SessionStage::Opening,
             messages_left: n,
-            number: 0,
+            message_number: 0,
             segments_left: 0,
-            segment_turns: 0,
+            segment_transmissions: 0,
         }
     }
 
     /// Returns the next event, or `None` after the last.
     pub(crate) fn next<'a>(&mut self, room: &'a mut Room) -> Option<Event<'a>>
-        requires { HasBoundedTurns self.old }
+        requires { HasBoundedTransmissions self.old }
         ensures event { MatchOption result ((remaining_events self.old ≡ []) × (remaining_events self.new ≡ []))
             (λ e. remaining_events self.old ≡ event_of e ∷ remaining_events self.new) }
         ensures possible { IfSome result (λ e. IsPossibleEvent e) }
-        ensures sound { HasBoundedTurns self.new }
+        ensures sound { HasBoundedTransmissions self.new }
     {
         match self.stage {
             SessionStage::Opening => {
@@ -89,21 +89,21 @@ impl SessionProgress {
                 self.stage = SessionStage::SendNext;
                 Some(Event::End(self.sender(), Sapi::Zero, Call::Timer))
             }
-            SessionStage::SendNext => self.next_turn_event(room),
+            SessionStage::SendNext => self.next_transmission_event(room),
         }
     }
 
-    /// Returns the first event of the next turn or, if no segment is left, the event that sends the next message.
-    fn next_turn_event<'a>(&mut self, room: &'a mut Room) -> Option<Event<'a>>
-        requires sound { HasBoundedTurns self.old }
+    /// Returns the first event of the next transmission or, if no segment is left, the event that sends the next message.
+    fn next_transmission_event<'a>(&mut self, room: &'a mut Room) -> Option<Event<'a>>
+        requires sound { HasBoundedTransmissions self.old }
         requires stage { self.old.stage ≡ S.SendNext }
         ensures event { MatchOption result ((remaining_events self.old ≡ []) × (remaining_events self.new ≡ []))
             (λ e. remaining_events self.old ≡ event_of e ∷ remaining_events self.new) }
         ensures possible { IfSome result (λ e. IsPossibleEvent e) }
-        ensures sound { HasBoundedTurns self.new }
+        ensures sound { HasBoundedTransmissions self.new }
     {
         if self.segments_left > 0 {
-            Some(self.segment_turn(room))
+            Some(self.segment_transmission(room))
         } else if self.messages_left > 0 {
             Some(self.send(room))
         } else {
@@ -111,25 +111,25 @@ impl SessionProgress {
         }
     }
 
-    /// Returns the first event of a turn: the block of a segment arrives or is lost.
-    fn segment_turn<'a>(&mut self, room: &'a mut Room) -> Event<'a>
-        requires sound { HasBoundedTurns self.old }
+    /// Returns the first event of a transmission: the block of a segment arrives or is lost.
+    fn segment_transmission<'a>(&mut self, room: &'a mut Room) -> Event<'a>
+        requires sound { HasBoundedTransmissions self.old }
         requires stage { self.old.stage ≡ S.SendNext }
         requires some { 0 < self.old.segments_left }
         ensures event { remaining_events self.old ≡ event_of result ∷ remaining_events self.new }
         ensures possible { IsPossibleEvent result }
-        ensures sound { HasBoundedTurns self.new }
+        ensures sound { HasBoundedTransmissions self.new }
     {
-        self.segment_turns += 1;
+        self.segment_transmissions += 1;
         let segment_direction = self.segment_direction();
-        if self.segment_turns % 8 == 0 {
+        if self.segment_transmissions % 8 == 0 {
             self.stage = SessionStage::Timer;
             return Event::Air(segment_direction, Air::Lose);
         }
         self.segments_left -= 1;
         self.stage = SessionStage::AnswerInTransit;
-        if self.segment_turns % 8 == 4 {
-            let inverted_bits = inverted_bits(self.segment_turns);
+        if self.segment_transmissions % 8 == 4 {
+            let inverted_bits = inverted_bits(self.segment_transmissions);
             return Event::Air(
                 segment_direction,
                 Air::Flip(room.hold_places(&inverted_bits)),
@@ -140,37 +140,37 @@ impl SessionProgress {
 
     /// Returns the event that sends the next message.
     fn send<'a>(&mut self, room: &'a mut Room) -> Event<'a>
-        requires sound { HasBoundedTurns self.old }
+        requires sound { HasBoundedTransmissions self.old }
         requires stage { self.old.stage ≡ S.SendNext }
         requires none { self.old.segments_left ≡ 0 }
         requires some { 0 < self.old.messages_left }
         ensures event { remaining_events self.old ≡ event_of result ∷ remaining_events self.new }
         ensures possible { IsPossibleEvent result }
-        ensures sound { HasBoundedTurns self.new }
+        ensures sound { HasBoundedTransmissions self.new }
     {
         self.messages_left -= 1;
-        self.number += 1;
-        let size = size(self.number);
+        self.message_number += 1;
+        let size = message_size(self.message_number);
         self.segments_left = (size - 1) / 20 + 1;
-        let octets = octets(self.number);
+        let octets = message_octets(self.message_number);
         let message = room.hold_octets(&octets[..size as usize]);
         Event::End(self.sender(), Sapi::Zero, Call::Send(message))
     }
 
     /// The sender of the current message.
     fn sender(&self) -> End
-        ensures { role_of result ≡ sender self.now.number }
+        ensures { role_of result ≡ sender self.now.message_number }
     {
-        if self.number % 2 == 1 {
+        if self.message_number % 2 == 1 {
             End::Mobile
         } else {
             End::Network
         }
     }
 
-    /// The direction in which the segments of the current message travel.
+    /// The direction of the segments of the current message.
     fn segment_direction(&self) -> Way
-        ensures { sender_of result ≡ sender self.now.number }
+        ensures { sender_of result ≡ sender self.now.message_number }
     {
         match self.sender() {
             End::Mobile => Way::Up,
@@ -178,9 +178,9 @@ impl SessionProgress {
         }
     }
 
-    /// The direction in which the answers to the segments of the current message travel.
+    /// The direction of the answers to the segments of the current message.
     fn reply_direction(&self) -> Way
-        ensures { sender_of result ≡ other (sender self.now.number) }
+        ensures { sender_of result ≡ other (sender self.now.message_number) }
     {
         match self.sender() {
             End::Mobile => Way::Down,
@@ -190,7 +190,7 @@ impl SessionProgress {
 }
 
 /// The number of octets of message `number`.
-fn size(number: u32) -> u32
+fn message_size(number: u32) -> u32
     requires { number ≤ 1000 }
     ensures size { result ≡ message_length number }
     ensures some { 1 ≤ result }
@@ -200,7 +200,7 @@ fn size(number: u32) -> u32
 }
 
 /// The octets of message `number`, continued by the same rule up to 251 octets.
-fn octets(number: u32) -> [u8; 251]
+fn message_octets(number: u32) -> [u8; 251]
     requires { number ≤ 1000 }
     ensures { result ≡ map (λ j. (number + j) % 256) (range_with_len 0 251) }
 {
@@ -211,14 +211,14 @@ fn octets(number: u32) -> [u8; 251]
     octets
 }
 
-/// The indices of the three bits that are inverted in this turn.
-fn inverted_bits(segment_turn: u32) -> [u16; 3]
-    requires size { segment_turn ≤ 30000 }
-    requires fourth { segment_turn % 8 ≡ 4 }
-    ensures inverted_bits { result ≡ inverted_bits segment_turn }
+/// The indices of the three bits that are inverted in this transmission.
+fn inverted_bits(segment_transmission: u32) -> [u16; 3]
+    requires size { segment_transmission ≤ 30000 }
+    requires inverted_transmission { segment_transmission % 8 ≡ 4 }
+    ensures inverted_bits { result ≡ inverted_bits segment_transmission }
     ensures within { AreBitIndices result }
 {
-    let first = 7 * segment_turn;
+    let first = 7 * segment_transmission;
     [
         (first % 592) as u16,
         ((first + 1) % 592) as u16,

@@ -7,26 +7,26 @@ use um_link::Notice;
 #[derive(Clone, Copy, Debug, PartialEq, Eq)]
 pub struct EndpointSummary {
     /// How many messages this side delivered.
-    pub got: u64,
+    pub messages_got: u64,
     /// The total number of octets in the messages that this side delivered.
     pub octets: u64,
     /// The sum of all octets, as numbers 0 to 255, in the messages that this side delivered.
-    pub sum: u64,
+    pub octet_sum: u64,
     /// How many messages that this side sent were acknowledged.
-    pub acked: u64,
+    pub acked_messages: u64,
 }
 
 impl EndpointSummary {
     ghost use Rattle.um_make.specs.Counting.{CountsNotices, EndpointCountersGrowAtMost, EndpointCountersAreAtMost};
 
     pub(crate) fn new() -> EndpointSummary
-        ensures { result ≡ record { got = 0; octets = 0; sum = 0; acked = 0 } }
+        ensures { result ≡ record { messages_got = 0; octets = 0; octet_sum = 0; acked_messages = 0 } }
     {
         EndpointSummary {
-            got: 0,
+            messages_got: 0,
             octets: 0,
-            sum: 0,
-            acked: 0,
+            octet_sum: 0,
+            acked_messages: 0,
         }
     }
 
@@ -39,11 +39,11 @@ impl EndpointSummary {
         match notice {
             Notice::Got(message) => {
                 let octets = message.octets();
-                self.got += 1;
+                self.messages_got += 1;
                 self.octets += octets.len() as u64;
-                self.sum += octet_sum(octets);
+                self.octet_sum += octet_sum(octets);
             }
-            Notice::Acked(_) => self.acked += 1,
+            Notice::Acked(_) => self.acked_messages += 1,
             _ => {}
         }
     }

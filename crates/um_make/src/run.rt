@@ -2,7 +2,7 @@
 ghost use Rattle.std.specs.Prelude.{◌≡◌, ◌≤◌, ◌+◌, IfOk, OnErr};
 ghost use Rattle.um_link.specs.um_block.Tallies.{counter_plus};
 ghost use Rattle.um_make.specs.Generated.{generated_events};
-ghost use Rattle.um_make.specs.Runs.{IsSummaryOfEvents, AckedAtMostGot};
+ghost use Rattle.um_make.specs.Runs.{IsSummaryOfEvents, AckedAtMostReceived};
 
 use crate::script::Script;
 use crate::summary::Summary;
@@ -10,16 +10,16 @@ use std::alloc::Global;
 use um_link::{NoMemory, Radio, Step, World};
 use um_script::Room;
 
-/// Carries out the generated session of `n` messages, on SDCCH with training sequence `tsc` (0 to 7), and counts what happens. Allocates
-/// all memory before the first event.
+/// Carries out the generated session of `n` messages (1 to 1000) on SDCCH with training sequence code `tsc` (0 to 7), and counts what
+/// happens. Allocates all memory before the first event.
 pub fn make<R: Radio>(alloc: Global, n: u32, tsc: u8, radio: &mut R) -> Result<Summary, NoMemory>
     requires some { 1 ≤ n }
     requires most { n ≤ 1000 }
     requires tsc { tsc ≤ 7 }
     ensures run { IfOk result (λ s. IsSummaryOfEvents tsc (generated_events n) s) }
-    ensures delivered_messages { IfOk result (λ s. AckedAtMostGot s) }
-    ensures sent { IfOk result (λ s. R.sent radio.new ≡ counter_plus s.sends (R.sent radio.old)) }
-    ensures heard { IfOk result (λ s. R.heard radio.new ≡ counter_plus (s.takes + s.drops) (R.heard radio.old)) }
+    ensures delivered_messages { IfOk result (λ s. AckedAtMostReceived s) }
+    ensures sent { IfOk result (λ s. R.sent radio.new ≡ counter_plus s.sent_blocks (R.sent radio.old)) }
+    ensures heard { IfOk result (λ s. R.heard radio.new ≡ counter_plus (s.good_blocks + s.bad_blocks) (R.heard radio.old)) }
     ensures silent { OnErr result (radio.new ≡ radio.old) }
 {
     let mut world = World::new(alloc, tsc)?;

@@ -1,4 +1,4 @@
-//! The events of a generated session, one after another.
+//! The events of a generated session, in order.
 ghost use Rattle.std.specs.Prelude.{◌≡◌, ◌≤◌, [], ◌∷◌, MatchOption, IfSome};
 ghost use Rattle.um_link.specs.Naming.{event_of};
 ghost use Rattle.um_link.specs.Possible.{IsPossibleEvent};
@@ -12,20 +12,20 @@ use um_script::Room;
 /// The remaining events of a generated session, stored as a position rather than as a list.
 #[derive(Drop)]
 pub struct Script {
-    course: SessionProgress,
+    progress: SessionProgress,
 }
 
-// In contracts, a `Script` stands for the list of remaining events.
+// In contracts, a `Script` is the list of remaining events.
 impl Model for Script {
     ghost use Rattle.std.specs.Prelude.{List};
     ghost use Rattle.um_link.specs.um_air.Air.{Event};
-    ghost use Rattle.um_make.specs.Courses.{remaining_events, HasBoundedTurns};
+    ghost use Rattle.um_make.specs.Courses.{remaining_events, HasBoundedTransmissions};
 
     ghost Value = { List Event };
 
-    ghost view = { λ s. remaining_events s.course };
+    ghost view = { λ s. remaining_events s.progress };
 
-    ghost invariant = { λ s. HasBoundedTurns s.course };
+    ghost invariant = { λ s. HasBoundedTransmissions s.progress };
 }
 
 impl Script {
@@ -36,7 +36,7 @@ impl Script {
         ensures { result ≡ generated_events n }
     {
         Script {
-            course: SessionProgress::new(n),
+            progress: SessionProgress::new(n),
         }
     }
 
@@ -45,6 +45,6 @@ impl Script {
         ensures event { MatchOption result ((self.old ≡ []) × (self.new ≡ [])) (λ e. self.old ≡ event_of e ∷ self.new) }
         ensures possible { IfSome result (λ e. IsPossibleEvent e) }
     {
-        self.course.next(room)
+        self.progress.next(room)
     }
 }

@@ -16,34 +16,34 @@ pub struct Summary {
     /// How many events there were.
     pub steps: u64,
     /// How many blocks were sent.
-    pub sends: u64,
+    pub sent_blocks: u64,
     /// How many blocks were received with a good CRC.
-    pub takes: u64,
+    pub good_blocks: u64,
     /// How many blocks were received with a bad CRC.
-    pub drops: u64,
+    pub bad_blocks: u64,
     /// How many events were losses of a block, including refused ones.
-    pub lost: u64,
+    pub lost_blocks: u64,
     pub mobile: EndpointSummary,
     pub network: EndpointSummary,
 }
 
 impl Summary {
-    ghost use Rattle.um_make.specs.Summaries.{IsSummary, crc_holds, crc_fails};
+    ghost use Rattle.um_make.specs.Summaries.{IsSummary, crc_passes, crc_fails};
     ghost use Rattle.um_make.specs.Counting.{CountsAnswer, CountsStep, CountersGrowAtMost, CountersAreAtMost, EndpointCountersAreAtMost};
     ghost use Rattle.um_make.specs.Counting.{CountsNotices, EndpointCountersGrowAtMost};
-    ghost use Rattle.um_make.specs.Counting.{sapi0_notices_in, one_if_true};
+    ghost use Rattle.um_make.specs.Counting.{sapi0_notices_in_answer, one_if_true};
 
-    /// Creates a summary in which all counters are 0.
+    /// Creates a summary with all counters 0.
     pub(crate) fn new() -> Summary
         ensures counts { IsSummary [] [] result }
         ensures counters_bounded { CountersAreAtMost 0 result }
     {
         Summary {
             steps: 0,
-            sends: 0,
-            takes: 0,
-            drops: 0,
-            lost: 0,
+            sent_blocks: 0,
+            good_blocks: 0,
+            bad_blocks: 0,
+            lost_blocks: 0,
             mobile: EndpointSummary::new(),
             network: EndpointSummary::new(),
         }
@@ -57,7 +57,7 @@ impl Summary {
     {
         self.steps += 1;
         if is_loss_event(event) {
-            self.lost += 1;
+            self.lost_blocks += 1;
         }
         if done.is_ok() {
             self.add(step);
@@ -67,27 +67,27 @@ impl Summary {
     /// Adds the result of an event to the counters.
     fn add(&mut self, step: &Step)
         requires { CountersAreAtMost (2 ^ 59) self.old }
-        ensures adds { CountsAnswer (A.Does (step_of step.now)) self.old self.new }
+        ensures adds { CountsAnswer (A.Accepts (step_of step.now)) self.old self.new }
         ensures rises { CountersGrowAtMost 192015 self.old self.new }
     {
-        self.sends += step.effects.frames.as_slice().len() as u64;
+        self.sent_blocks += step.effects.frames.as_slice().len() as u64;
         self.count_received_block(&step.received);
         self.count_notice(step);
     }
 
-    /// Counts the received block, if there is one, by whether its CRC holds.
+    /// Counts the received block, if there is one, as good or bad by its CRC.
     fn count_received_block(&mut self, received: &Option<Received>)
         requires { CountersAreAtMost (2 ^ 60) self.old }
         ensures { self.new ≡ record self.old {
-          takes = self.old.takes + one_if_true (crc_holds received.now);
-          drops = self.old.drops + one_if_true (crc_fails received.now);
+          good_blocks = self.old.good_blocks + one_if_true (crc_passes received.now);
+          bad_blocks = self.old.bad_blocks + one_if_true (crc_fails received.now);
         } }
     {
         if let Some(report) = received {
             if report.accepted.is_some() {
-                self.takes += 1;
+                self.good_blocks += 1;
             } else {
-                self.drops += 1;
+                self.bad_blocks += 1;
             }
         }
     }
@@ -96,8 +96,9 @@ impl Summary {
     fn count_notice(&mut self, step: &Step)
         requires mobile_small { EndpointCountersAreAtMost (2 ^ 59) self.old.mobile }
         requires network_small { EndpointCountersAreAtMost (2 ^ 59) self.old.network }
-        ensures mobile { CountsNotices (sapi0_notices_in R.Mobile (A.Does (step_of step.now))) self.old.mobile self.new.mobile }
-        ensures network { CountsNotices (sapi0_notices_in R.Network (A.Does (step_of step.now))) self.old.network self.new.network }
+        ensures mobile { CountsNotices (sapi0_notices_in_answer R.Mobile (A.Accepts (step_of step.now))) self.old.mobile self.new.mobile }
+        ensures network { CountsNotices (sapi0_notices_in_answer R.Network (A.Accepts (step_of step.now))) self.old.network
+            self.new.network }
         ensures same { self.new ≡ record self.old { mobile = self.new.mobile; network = self.new.network } }
         ensures mobile_most { EndpointCountersGrowAtMost 192015 self.old.mobile self.new.mobile }
         ensures network_most { EndpointCountersGrowAtMost 192015 self.old.network self.new.network }
@@ -122,7 +123,7 @@ fn sapi0_notices(step: &Step) -> &[Notice]
     }
 }
 
-/// Whether the event is the loss of a block.
+/// Returns whether the event is the loss of a block.
 fn is_loss_event(event: &Event<'_>) -> bool
     ensures { result ≡ is_loss_event (event_of event.now) }
 {

@@ -37,10 +37,10 @@ fn push_steps_line(out: &mut Text, summary: &Summary)
     ensures length { length out.new ≤ length out.old + 250 }
 {
     push_number(out, b"steps ", summary.steps);
-    push_number(out, b" sends ", summary.sends);
-    push_number(out, b" takes ", summary.takes);
-    push_number(out, b" drops ", summary.drops);
-    push_number(out, b" lost ", summary.lost);
+    push_number(out, b" sends ", summary.sent_blocks);
+    push_number(out, b" takes ", summary.good_blocks);
+    push_number(out, b" drops ", summary.bad_blocks);
+    push_number(out, b" lost ", summary.lost_blocks);
     out.push(b"\n");
 }
 
@@ -51,10 +51,10 @@ fn push_endpoint_line(out: &mut Text, name: &[u8], summary: &EndpointSummary)
     ensures length { length out.new ≤ length out.old + 200 }
 {
     out.push(name);
-    push_number(out, b" got ", summary.got);
+    push_number(out, b" got ", summary.messages_got);
     push_number(out, b" octets ", summary.octets);
-    push_number(out, b" sum ", summary.sum);
-    push_number(out, b" acked ", summary.acked);
+    push_number(out, b" sum ", summary.octet_sum);
+    push_number(out, b" acked ", summary.acked_messages);
     out.push(b"\n");
 }
 

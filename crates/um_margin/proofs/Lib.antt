@@ -1,4 +1,1 @@
-mod Ahead
-mod Comparing
 pub mod Lemmas
-mod MarginRules

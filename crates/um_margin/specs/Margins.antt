@@ -1,17 +1,18 @@
--- How the command `margin` answers a line (this project's own rule). It reads the same lines as `replay`.
+-- How the `margin` command answers a line (this project's own rule). It reads the same lines as `replay`.
 use Rattle.std.specs.Prelude.{ℤ, ◌≡◌, List}
 use Rattle.um_block.specs.Received.{access_soft_bits, sync_soft_bits}
 use Rattle.um_bursts.specs.um_driver.Rules.{Rules}
-use Rattle.um_bursts.specs.BurstRules.{Answers, burst_rules}
-use Rattle.um_margin.specs.Compared.{Compared, AreComparedWords, AreComparedBlockWords}
+use Rattle.um_bursts.specs.BurstRules.{BurstAnswers, burst_rules}
+use Rattle.um_margin.specs.Compared.{ComparedWords, AreComparedWords, AreComparedBlockWords}
 use Rattle.um_margin.specs.Texts.{block_margin_text, access_margin_text, sync_margin_text}
 
 -- the answer of `margin` to bursts is a line that compares their two most likely words
-abbrev pub margin_answers : Answers
+abbrev pub margin_answers : BurstAnswers
 margin_answers = record {
-  block = λ bursts answer. (c : Compared) × AreComparedBlockWords bursts c × (answer ≡ block_margin_text c);
-  access = λ bsic burst answer. (c : Compared) × AreComparedWords (access_soft_bits burst) c × (answer ≡ access_margin_text bsic c);
-  sync = λ burst answer. (c : Compared) × AreComparedWords (sync_soft_bits burst) c × (answer ≡ sync_margin_text c);
+  block = λ bursts answer. (c : ComparedWords) × AreComparedBlockWords bursts c × (answer ≡ block_margin_text c);
+  access =
+      λ bsic burst answer. (c : ComparedWords) × AreComparedWords (access_soft_bits burst) c × (answer ≡ access_margin_text bsic c);
+  sync = λ burst answer. (c : ComparedWords) × AreComparedWords (sync_soft_bits burst) c × (answer ≡ sync_margin_text c);
 }
 
 abbrev pub margin_rules : Rules (List (List ℤ))

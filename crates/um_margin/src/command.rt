@@ -1,4 +1,4 @@
-//! The command `margin`, which reads the same lines as `replay`.
+//! The `margin` command, which reads the same lines as `replay`.
 ghost use Rattle.std.specs.Prelude.{◌≡◌, ◌++◌, ◌<◌, length};
 ghost use Rattle.std.specs.List.{All};
 ghost use Rattle.um_block.specs.bit_blocks.SoftValues.{AllSoftBits};
@@ -7,7 +7,7 @@ ghost use Rattle.um_margin.specs.Compared.{AreComparedWords, AreComparedBlockWor
 ghost use Rattle.um_margin.specs.Margins.{margin_answers};
 
 use crate::comparison::{Comparison, compare_words};
-use crate::lines::{access_line, block_line, sync_line};
+use crate::lines::{write_access_line, write_block_line, write_sync_line};
 use um_block::{
     AccessView, BURST_BITS, Bits, ENCODER_INPUT_BITS, SyncView, deinterleave_block,
     join_sync_halves,
@@ -22,15 +22,15 @@ impl Reports for Margins {
     ghost answers = { margin_answers };
 
     fn block(&self, out: &mut Text, bursts: &[[i8; BURST_BITS]; 4]) {
-        block_line(out, &compare_block(bursts));
+        write_block_line(out, &compare_block(bursts));
     }
 
     fn access(&self, out: &mut Text, bsic: &Bits<6>, burst: &[i8; 88]) {
-        access_line(out, bsic, &compare_access(burst));
+        write_access_line(out, bsic, &compare_access(burst));
     }
 
     fn sync(&self, out: &mut Text, burst: &[i8; BURST_BITS]) {
-        sync_line(out, &compare_sync(burst));
+        write_sync_line(out, &compare_sync(burst));
     }
 }
 

@@ -7,7 +7,7 @@ use list_decode::{decode, margin};
 use std::marker::Model;
 use um_block::{Bits, ENCODER_INPUT_BITS};
 
-/// The two most likely words, the difference of their path metrics, and the path metric of the most likely word.
+/// The two most likely words, the difference between their path metrics, and the path metric of the most likely word.
 #[derive(Drop, Debug)]
 pub(crate) struct Comparison<const N: usize> {
     pub(crate) best: Bits<N>,
@@ -16,11 +16,11 @@ pub(crate) struct Comparison<const N: usize> {
     pub(crate) metric: i32,
 }
 
-// In contracts, a `Comparison` stands for a `Compared` record, for every `N`.
+// In contracts, a `Comparison` is a `ComparedWords` record, for every `N`.
 impl<const N: usize> Model for Comparison<N> {
-    ghost use Rattle.um_margin.specs.Compared.{Compared};
+    ghost use Rattle.um_margin.specs.Compared.{ComparedWords};
 
-    ghost Value = { Compared };
+    ghost Value = { ComparedWords };
 
     ghost view = { λ c. record { best = c.best; next = c.next; margin = c.margin; metric = c.metric } };
 }

@@ -1,4 +1,4 @@
-//! Laws of the command `margin`. A law does nothing at run time; its contract states a theorem.
+//! Laws of the `margin` command. A law does nothing at run time; its contract states a theorem.
 ghost use Rattle.std.specs.Prelude.{◌≡◌, ℕ, ◌*◌, ◌-◌, ◌≤◌, ℤ, pos, ◌≤ℤ◌, unsigned_abs, List, []};
 ghost use Rattle.std.specs.List.{All};
 ghost use Rattle.std.proofs.Math.Logic.{◌↔◌};
@@ -10,29 +10,29 @@ ghost use Rattle.um_block.specs.declared.received.Received.{Received};
 ghost use Rattle.um_block.specs.declared.received.ReceivedAccess.{ReceivedAccess};
 ghost use Rattle.um_block.specs.declared.received.ReceivedSync.{ReceivedSync};
 ghost use Rattle.um_bursts.specs.um_driver.Laws.{HasOneOutput};
-ghost use Rattle.um_margin.specs.Compared.{Compared, AreComparedWords, AreComparedBlockWords};
+ghost use Rattle.um_margin.specs.Compared.{ComparedWords, AreComparedWords, AreComparedBlockWords};
 ghost use Rattle.um_margin.specs.Margins.{margin_rules};
 
 /// Law: every input has exactly one output and one exit status.
-pub fn law_output_is_unique()
+pub fn law_margin_output_is_unique()
     ensures { HasOneOutput margin_rules [] }
 {}
 
-/// Law: the most likely word and its path metric are those in the report of `replay` on the same bursts.
-pub fn law_best_word_is_replayed()
-    ensures block { (bursts : List (List ℤ)) (r : Received) (c : Compared) → IsReceivedBlock bursts r →
+/// Law: `replay` reports the same most likely word and path metric for the same bursts.
+pub fn law_replay_reports_best_word()
+    ensures block { (bursts : List (List ℤ)) (r : Received) (c : ComparedWords) → IsReceivedBlock bursts r →
         AreComparedBlockWords bursts c → (c.best ≡ r.u) × (c.metric ≡ r.metric) }
-    ensures access { (burst : List ℤ) (bsic : List ℕ) (r : ReceivedAccess) (c : Compared) → IsReceivedAccess burst bsic r →
+    ensures access { (burst : List ℤ) (bsic : List ℕ) (r : ReceivedAccess) (c : ComparedWords) → IsReceivedAccess burst bsic r →
         AreComparedWords (access_soft_bits burst) c → (c.best ≡ r.u) × (c.metric ≡ r.metric) }
-    ensures sync { (burst : List ℤ) (r : ReceivedSync) (c : Compared) → IsReceivedSync burst r →
+    ensures sync { (burst : List ℤ) (r : ReceivedSync) (c : ComparedWords) → IsReceivedSync burst r →
         AreComparedWords (sync_soft_bits burst) c → (c.best ≡ r.u) × (c.metric ≡ r.metric) }
 {}
 
-/// Law: the margin is 0 if and only if another word has the same path metric as the most likely word. For hard bits of which `e` are
-/// wrong (at most three), the margin is at least 254 * (7 - 2 * e), which is 1,778 if none is wrong.
+/// Law: the margin is 0 if and only if another word has the same path metric as the most likely word. For hard bits of which `e`
+/// are wrong (at most three), the margin is at least 254 * (7 - 2 * e), which is 1,778 if none is wrong.
 pub fn law_margin_ties_and_bound()
-    ensures tie { (soft : List ℤ) (c : Compared) → AreComparedWords soft c → (c.margin ≡ pos 0) ↔ HasTiedWord soft c.best }
-    ensures hard { (soft : List ℤ) (c : Compared) (e : ℕ) → AreComparedWords soft c →
+    ensures tie { (soft : List ℤ) (c : ComparedWords) → AreComparedWords soft c → (c.margin ≡ pos 0) ↔ HasTiedWord soft c.best }
+    ensures hard { (soft : List ℤ) (c : ComparedWords) (e : ℕ) → AreComparedWords soft c →
         All (λ value. unsigned_abs value ≡ 127) soft → count_wrong_bits soft (encoding c.best) ≡ e → e ≤ 3 →
         pos (254 * (7 - 2 * e)) ≤ℤ c.margin }
 {}

@@ -1,4 +1,4 @@
-//! The command `margin`: reports by how much the path metric of the most likely word exceeds that of the second most likely word.
+//! The `margin` command: reports by how much the path metric of the most likely word exceeds that of the second most likely word.
 #![tactic(auto)]
 
 mod command;
@@ -7,4 +7,6 @@ mod laws;
 mod lines;
 
 pub use command::Margins;
-pub use laws::{law_best_word_is_replayed, law_margin_ties_and_bound, law_output_is_unique};
+pub use laws::{
+    law_margin_output_is_unique, law_margin_ties_and_bound, law_replay_reports_best_word,
+};

@@ -8,7 +8,7 @@ use um_block::{BLOCK_BITS, BLOCK_OCTETS, Bits, ENCODER_INPUT_BITS};
 use um_bursts::{Text, octets_from_bits_at};
 
 /// Writes the line `block margin G metric M data HEX46 check HEX10 next HEX46 HEX10`.
-pub(crate) fn block_line(out: &mut Text, c: &Comparison<ENCODER_INPUT_BITS>)
+pub(crate) fn write_block_line(out: &mut Text, c: &Comparison<ENCODER_INPUT_BITS>)
     requires { out.old ≡ [] }
     ensures line { out.new ≡ block_margin_text c.now }
     ensures size { length out.new < 2000 }
@@ -23,7 +23,7 @@ pub(crate) fn block_line(out: &mut Text, c: &Comparison<ENCODER_INPUT_BITS>)
 }
 
 /// Writes the line `access BSIC6 margin G metric M data DIGITS8 check DIGITS6 next DIGITS8 DIGITS6`.
-pub(crate) fn access_line(out: &mut Text, bsic: &Bits<6>, c: &Comparison<18>)
+pub(crate) fn write_access_line(out: &mut Text, bsic: &Bits<6>, c: &Comparison<18>)
     requires { out.old ≡ [] }
     ensures line { out.new ≡ access_margin_text bsic.now c.now }
     ensures size { length out.new < 2000 }
@@ -39,7 +39,7 @@ pub(crate) fn access_line(out: &mut Text, bsic: &Bits<6>, c: &Comparison<18>)
 }
 
 /// Writes the line `sync margin G metric M data DIGITS25 check DIGITS10 next DIGITS25 DIGITS10`.
-pub(crate) fn sync_line(out: &mut Text, c: &Comparison<39>)
+pub(crate) fn write_sync_line(out: &mut Text, c: &Comparison<39>)
     requires { out.old ≡ [] }
     ensures line { out.new ≡ sync_margin_text c.now }
     ensures size { length out.new < 2000 }

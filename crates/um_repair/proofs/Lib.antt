@@ -1,3 +1,1 @@
 pub mod Lemmas
-mod LineLaws
-mod RepairAnswers

@@ -1,15 +1,15 @@
--- The input lines of the command `repair` (this project's own rule).
+-- The input lines of the `repair` command (this project's own rule).
 use Rattle.std.specs.Prelude.{ℕ, List, [], ◌∷◌, ◌++◌, Option, Some, None, Result}
 use Rattle.um_lines.specs.bit_blocks.Octets.{bits_of}
 use Rattle.um_lines.specs.declared.fault.LineFault.{LineFault}
 use Rattle.um_lines.specs.Fields.{Value, NumberList}
 use Rattle.um_lines.specs.Forms.{no_order_fault, line_fault}
-use Rattle.um_lines.specs.Reading.{LineParsesTo, parsed_words}
+use Rattle.um_lines.specs.Reading.{LineParsesTo, words_parse_result}
 use Rattle.um_lines.specs.RepairForms.{RepairLineKind, CrcWord, repair_forms}
 use Rattle.um_repair.specs.declared.parsing.RepairLine.{RepairLine}
 use Rattle.um_repair.specs.declared.parsing.RepairLine.TheVariants.{Skip, Word}
 
--- the bits of the data octets, followed by those of the CRC octets
+-- the bits of the data octets, followed by the bits of the CRC octets
 abbrev pub bits_of_data_and_crc : List ℕ → List ℕ → List ℕ
 bits_of_data_and_crc data_octets check = bits_of data_octets ++ bits_of check
 
@@ -22,14 +22,14 @@ abbrev pub repair_line_of_meaning : Option (RepairLineKind × List Value) → Re
 repair_line_of_meaning None = Skip
 repair_line_of_meaning (Some meaning) = repair_line_of_values meaning.0 meaning.1
 
--- why a line of `repair` is refused: the first fault, or `None`
-abbrev pub repair_fault : List ℕ → Option LineFault
-repair_fault line = line_fault repair_forms no_order_fault line
+-- the first fault of a line of `repair`, or `None`
+abbrev pub repair_line_fault : List ℕ → Option LineFault
+repair_line_fault line = line_fault repair_forms no_order_fault line
 
 -- the line of `repair` has this meaning
 abbrev pub RepairLineMeans : List ℕ → RepairLine → Type 0
 RepairLineMeans line = LineParsesTo repair_forms no_order_fault repair_line_of_meaning line
 
 -- the result of parsing the words of a line of `repair` (used only inside the parser)
-abbrev pub parsed_repair : List (List ℕ) → Result RepairLine LineFault
-parsed_repair words = parsed_words repair_forms no_order_fault repair_line_of_meaning words
+abbrev pub repair_parse_result : List (List ℕ) → Result RepairLine LineFault
+repair_parse_result words = words_parse_result repair_forms no_order_fault repair_line_of_meaning words

@@ -1,11 +1,11 @@
--- How the command `repair` answers a line (this project's own rule).
+-- How the `repair` command answers a line (this project's own rule).
 use Rattle.std.specs.Prelude.{ℕ, ◌≡◌, List, []}
 use Rattle.fire_repair.specs.Answers.{IsRepairResult}
 use Rattle.fire_repair.specs.declared.repairs.RepairAnswer.{RepairAnswer}
 use Rattle.um_driver.specs.Rules.{Rules, stateless}
 use Rattle.um_repair.specs.declared.parsing.RepairLine.{RepairLine}
 use Rattle.um_repair.specs.declared.parsing.RepairLine.TheVariants.{Skip, Word}
-use Rattle.um_repair.specs.RepairLines.{repair_fault, RepairLineMeans}
+use Rattle.um_repair.specs.RepairLines.{repair_line_fault, RepairLineMeans}
 use Rattle.um_repair.specs.Texts.{answer_text}
 
 -- the answer to a word of 224 bits is the line that describes its repair; a skipped line has no answer
@@ -13,10 +13,10 @@ abbrev pub IsRepairAnswer : RepairLine → List ℕ → Type 0
 IsRepairAnswer Skip answer = answer ≡ []
 IsRepairAnswer (Word w) answer = (a : RepairAnswer) × IsRepairResult w a × (answer ≡ answer_text a)
 
--- the command `repair` may give this answer to the line
+-- the `repair` command may answer the line with `answer`
 abbrev pub AnswersRepairLine : List ℕ → List ℕ → Type 0
 AnswersRepairLine line answer = (meaning : RepairLine) × RepairLineMeans line meaning × IsRepairAnswer meaning answer
 
--- the rules of `repair`, which keeps no state, so that its input may end after any line
+-- the rules of `repair`, which keeps no state, so its input may end after any line
 abbrev pub repair_rules : Rules (Unit {0})
-repair_rules = stateless repair_fault AnswersRepairLine
+repair_rules = stateless repair_line_fault AnswersRepairLine

@@ -1,4 +1,4 @@
-//! The command `repair`: corrects short error bursts in codewords of the control channels.
+//! The `repair` command: corrects short error bursts in codewords of the control channels.
 #![tactic(auto)]
 
 mod command;
@@ -7,5 +7,5 @@ mod lines;
 mod parsing;
 
 pub use command::Repair;
-pub use laws::law_output_is_unique;
+pub use laws::law_repair_output_is_unique;
 pub use parsing::{RepairLine, parse_repair};

@@ -6,7 +6,7 @@ use fire_repair::RepairAnswer;
 use um_lines::{BLOCK_BITS, BLOCK_OCTETS, Bits, Text, octets_from_bits_at};
 
 /// Writes the line `holds`, `none`, or `repaired first P span S data HEX46 check HEX10`.
-pub(crate) fn answer_line(out: &mut Text, answer: &RepairAnswer)
+pub(crate) fn write_answer_line(out: &mut Text, answer: &RepairAnswer)
     requires { out.old ≡ [] }
     ensures line { out.new ≡ answer_text answer.now }
     ensures size { length out.new < 2000 }
@@ -15,12 +15,12 @@ pub(crate) fn answer_line(out: &mut Text, answer: &RepairAnswer)
         RepairAnswer::Holds => out.push(b"holds\n"),
         RepairAnswer::NoRepair => out.push(b"none\n"),
         RepairAnswer::Repaired { word, first, span } => {
-            repaired_line(out, word, *first, *span);
+            write_repaired_line(out, word, *first, *span);
         }
     }
 }
 
-fn repaired_line(out: &mut Text, word: &Bits<224>, first: u8, span: u8)
+fn write_repaired_line(out: &mut Text, word: &Bits<224>, first: u8, span: u8)
     requires { out.old ≡ [] }
     ensures line { out.new ≡ repaired_text word.now first span }
     ensures size { length out.new < 2000 }

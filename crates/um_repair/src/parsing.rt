@@ -1,20 +1,20 @@
-//! Parses the input lines of the command `repair`.
+//! Parses the input lines of the `repair` command.
 ghost use Rattle.std.specs.Prelude.{◌≡◌, ◌∷◌, IfOk, codes};
 ghost use Rattle.std.specs.Result.{result_err};
 ghost use Rattle.um_lines.specs.bit_blocks.Bits.{AllBits};
 ghost use Rattle.um_lines.specs.bit_blocks.Octets.{bits_of};
 ghost use Rattle.um_lines.specs.Words.{words};
-ghost use Rattle.um_repair.specs.RepairLines.{repair_fault, RepairLineMeans, parsed_repair, bits_of_data_and_crc};
+ghost use Rattle.um_repair.specs.RepairLines.{repair_line_fault, RepairLineMeans, repair_parse_result, bits_of_data_and_crc};
 
 use um_lines::{
     BLOCK_BITS, BLOCK_OCTETS, Bits, LINE_LIMIT, LineFault, are_hex_digits, first_word, from_octets,
     is_skipped, octets_of, parse_two_words,
 };
 
-/// What a line of `repair` requests.
+/// The meaning of a line of `repair`.
 #[derive(Clone, Copy)]
 pub enum RepairLine {
-    /// Nothing: the line is empty, or begins with `#`.
+    /// The line is skipped: it is empty, or begins with `#`.
     Skip,
     /// A word of 184 data bits and 40 CRC bits, to be repaired.
     Word(Bits<224>),
@@ -22,10 +22,10 @@ pub enum RepairLine {
 
 /// Parses a line of `repair`, without its line feed: `word HEX46 HEX10`, the data and the CRC of a block as `replay` writes them.
 ///
-/// Refuses a line with the first of these reasons that applies: `Long`, `Word`, `Digits` or `Length`.
+/// Refuses a line for the first of these reasons that applies: `Long`, `Word`, `Digits` or `Length`.
 pub fn parse_repair(line: &[u8]) -> Result<RepairLine, LineFault>
     ensures means { IfOk result (RepairLineMeans line.now) }
-    ensures refused { result_err result ≡ repair_fault line.now }
+    ensures refused { result_err result ≡ repair_line_fault line.now }
 {
     if line.len() > LINE_LIMIT {
         return Err(LineFault::Long);
@@ -37,7 +37,7 @@ pub fn parse_repair(line: &[u8]) -> Result<RepairLine, LineFault>
 }
 
 fn parse_words(line: &[u8]) -> Result<RepairLine, LineFault>
-    ensures { result ≡ parsed_repair (words line.now) }
+    ensures { result ≡ repair_parse_result (words line.now) }
 {
     let Some((command, rest)) = first_word(line) else {
         return Err(LineFault::Word);
@@ -49,7 +49,7 @@ fn parse_words(line: &[u8]) -> Result<RepairLine, LineFault>
 }
 
 fn parse_word(rest: &[u8]) -> Result<RepairLine, LineFault>
-    ensures { result ≡ parsed_repair (codes "word" ∷ words rest.now) }
+    ensures { result ≡ repair_parse_result (codes "word" ∷ words rest.now) }
 {
     let (octets, check) = parse_two_words(rest)?;
     if !are_hex_digits(octets) || !are_hex_digits(check) {
@@ -61,7 +61,7 @@ fn parse_word(rest: &[u8]) -> Result<RepairLine, LineFault>
     Ok(RepairLine::Word(word_of_octets(&octets_of(octets), &octets_of(check))))
 }
 
-/// The bits of the data octets, followed by those of the CRC octets.
+/// The bits of the data octets, followed by the bits of the CRC octets.
 fn word_of_octets(octets: &[u8; BLOCK_OCTETS], check: &[u8; 5]) -> Bits<224>
     ensures { result ≡ bits_of_data_and_crc octets.now check.now }
 {

@@ -1,26 +1,29 @@
--- Different answer lines have different texts. No word contains a line feed or a space, so a text can be split into its lines and words,
--- and each line can be read back from its words.
-use Rattle.std.proofs.Common.{◌≡◌, ◌≢◌, ℕ, suc, ◌-◌, ◌<◌, ◌≤◌, ◌^◌, ◌==◌, ℤ, pos, negsuc, nat_abs}
-use Rattle.std.proofs.Common.{nat_le, Bool, true, false, List, [], ◌∷◌, ◌++◌, length, length-append, take, codes}
-use Rattle.std.proofs.Common.{if◌then◌else◌, refl, sym, ap, ◌∙◌, inl, inr, append_assoc, append-nil, arith}
-use Rattle.std.proofs.lemmas.{Bool.{and_parts, cases_lt, le-leb, leb-true, ne_eqb}, Fmt.{digits_decimal, digits_value-decimal}}
-use Rattle.std.proofs.lemmas.List.{Elements.{All-nil, All-cons, All-append}, Splits.{slice_split_at, join_with_byte-slice_split}}
-use Rattle.std.{proofs.lemmas.Str.Parse.{IsNumeralModel, numerals_by_value, tells_all_ascii_digits}, specs.Fmt.{decimal, signed_decimal}}
-use Rattle.std.specs.{List.{list_all, list_any, join_with_byte, slice_split}, Str.{bytes_eq, all_ascii_digits, Parse.digits_value}}
-use Rattle.um_lines.specs.{Hex.{encode_lower, is_hex_digit}, Fields.octets_from_hex, Words.{IsNotSpace, words}, Spelled.octets_word}
-use Rattle.um_lines.proofs.{SpelledLaws.hex_digits_decode, WordLists.words-join}
-use Rattle.um_link.specs.lapdm_window.declared.{Sapi.{Sapi, TheVariants.{Zero, Three}}, Reason.{Reason, TheVariants.{Contention, Failed}}}
-use Rattle.um_link.specs.lapdm_window.{declared.{Reason.TheVariants.{Refused, Released}, Notice.Notice}, Ends.{Mobile, Network}}
-use Rattle.um_link.specs.um_air.Sessions.{AreOctets}
-use Rattle.um_script.specs.{AnswerWords.{actor_word, sapi_suffix, call_refusal_word, closing_reason_word}, AnswerLines.ReceptionQuality}
-use Rattle.um_script.specs.AnswerLines.{AnswerLine, No, Takes, Drops, Reports, Sends, All, answer_lines, notice_words, reception_words}
-use Rattle.um_script.specs.AnswerLines.{spaced_words, answer_words, answer_line_text, lines_text, answer_text, ReceptionIsInRange}
-use Rattle.um_script.specs.AnswerLines.{NoticeIsInRange, LineIsInRange, LinesAreInRange}
+-- The lines of an answer: their texts, and the octets in them.
+use Rattle.std.proofs.Common.{Bool, Fits, List, [], append-nil, append_assoc, ap, arith, codes, false, get_or, if◌then◌else◌, inl}
+use Rattle.std.proofs.Common.{inr, length-append, length, nat_abs, nat_le, negsuc, pos, refl, suc, sym, take, true, w8, ℕ, ℤ, ◌%◌}
+use Rattle.std.proofs.Common.{◌*◌, ◌++◌, ◌+◌, ◌-◌, ◌/◌, ◌<◌, ◌==◌, ◌^◌, ◌∙◌, ◌∷◌, ◌≡◌}
+use Rattle.std.proofs.{Common.{◌≢◌, ◌≤◌}, lemmas.{Bool.{and_parts, cases_lt, le-leb, leb-true, ne_eqb}, Fmt.digits_decimal}}
+use Rattle.std.proofs.lemmas.{Fmt.digits_value-decimal, List.{Elements.{All-append, All-cons, All-nil}, Splits.join_with_byte-slice_split}}
+use Rattle.std.proofs.lemmas.{List.Splits.slice_split_at, Str.Parse.{IsNumeralModel, numerals_by_value, tells_all_ascii_digits}}
+use Rattle.std.specs.{Fmt.{decimal, signed_decimal}, List.{join_with_byte, list_all, list_any, slice_split}, Str.Parse.digits_value}
+use Rattle.std.specs.Str.{all_ascii_digits, bytes_eq}
+use Rattle.um_lines.{proofs.{FormLaws.hex_digits_decode, Texts.words-join}, specs.{Fields.octets_from_hex, Hex.encode_lower}}
+use Rattle.um_lines.specs.{Hex.is_hex_digit, Spelled.octets_word, Words.{IsNotSpace, words}}
+use Rattle.um_link.specs.{bit_blocks.Octets.{bits_of, octets_of}, lapdm_window.{Ends.{Mobile, Network}, declared.Notice.Notice}}
+use Rattle.um_link.specs.lapdm_window.declared.Reason.{TheVariants.{Contention, Failed, Refused, Released}, Reason}
+use Rattle.um_link.specs.{lapdm_window.declared.Sapi.{TheVariants.{Three, Zero}, Sapi}, um_air.Sessions.AreOctets}
+use Rattle.um_script.specs.AnswerLines.{All, AnswerLine, Drops, LineIsInRange, LinesAreInRange, NoticeIsInRange, No, ReceptionIsInRange}
+use Rattle.um_script.specs.AnswerLines.{ReceptionQuality, Reports, Sends, Takes, answer_line_text, answer_lines, answer_text, answer_words}
+use Rattle.um_script.specs.{AnswerLines.{lines_text, notice_words, reception_words, spaced_words}, AnswerWords.actor_word}
+use Rattle.um_script.specs.AnswerWords.{call_refusal_word, closing_reason_word, sapi_suffix}
 use Rattle.std.specs.List as L
 use Rattle.um_link.specs.lapdm_window.declared.Notice.TheVariants as N
 use Rattle.um_link.specs.lapdm_window.declared.Refused.TheVariants as Q
 use Rattle.um_link.specs.lapdm_link.Events as E
 use Rattle.um_link.specs.um_air.Air as A
+
+-- ## AnswerLaws: Different answer lines have different texts. No word contains a line feed or a space, so a text can be split into its
+-- lines and words, and each line can be read back from its words.
 
 -- ---- how lines are written
 
@@ -166,12 +169,12 @@ plain_all (octet ∷ word) other below plain =
     let large : 33 ≤ octet = leb-true 33 octet parts.0 in
     All-cons (λ o. o ≢ other) octet word (λ same. omega arith) (plain_all word other below parts.1)
 
-spaceless : (ws : List (List ℕ)) → are_plain ws ≡ true → L.All (L.All IsNotSpace) ws
+no_spaces : (ws : List (List ℕ)) → are_plain ws ≡ true → L.All (L.All IsNotSpace) ws
 unfolding are_plain
-spaceless [] plain = All-nil (L.All IsNotSpace)
-spaceless (w ∷ ws) plain =
+no_spaces [] plain = All-nil (L.All IsNotSpace)
+no_spaces (w ∷ ws) plain =
     let parts = and_parts (is_plain w) (are_plain ws) plain in
-    All-cons (L.All IsNotSpace) w ws (plain_all w 32 (omega arith) parts.0) (spaceless ws parts.1)
+    All-cons (L.All IsNotSpace) w ws (plain_all w 32 (omega arith) parts.0) (no_spaces ws parts.1)
 
 -- the words and the spaces between them contain no line feed
 abbrev Uncut : List ℕ → Type 0
@@ -221,8 +224,8 @@ some_words All e = absurd cc
 same_words : (l m : AnswerLine) → LineIsInRange l → LineIsInRange m →
     join_with_byte 32 (answer_words l) ≡ join_with_byte 32 (answer_words m) → answer_words l ≡ answer_words m
 same_words l m h k e =
-    sym (words-join (answer_words l) (some_words l) (spaceless (answer_words l) (line_plain l h))) ∙ ap words e
-    ∙ words-join (answer_words m) (some_words m) (spaceless (answer_words m) (line_plain m k))
+    sym (words-join (answer_words l) (some_words l) (no_spaces (answer_words l) (line_plain l h))) ∙ ap words e
+    ∙ words-join (answer_words m) (some_words m) (no_spaces (answer_words m) (line_plain m k))
 
 -- ---- a line is read back from its words
 
@@ -421,3 +424,26 @@ different_lines x y h k e = same_lines (answer_lines x) (answer_lines y) h k e
 
 pub same_text : (x y : A.Answer) → answer_lines x ≡ answer_lines y → answer_text x ≡ answer_text y
 same_text x y e = ap lines_text e
+
+-- ## FittingLines: If the parts of an answer have values in range, so have its lines.
+
+pub fit_append : (ls ms : List AnswerLine) → LinesAreInRange ls → LinesAreInRange ms → LinesAreInRange (ls ++ ms)
+fit_append [] ms h k = k
+fit_append (l ∷ ls) ms h k = (h.0, fit_append ls ms h.1 k)
+
+-- ## PackedOctets: Octets are unchanged if they are unpacked to bits and packed again.
+
+-- an octet is the sum of its eight bits, each multiplied by its power of two
+octet_of_bits : (x : ℕ) → x < 256
+    → x % 2 + 2 * (x / 2 % 2) + 4 * (x / 4 % 2) + 8 * (x / 8 % 2) + 16 * (x / 16 % 2) + 32 * (x / 32 % 2) + 64 * (x / 64 % 2) + 128
+    * (x / 128 % 2) ≡ x
+octet_of_bits x small = omega arith
+
+pub octets_of-bits_of : (octets : List ℕ) → ((k : ℕ) → Fits w8 (get_or octets k 0)) → octets_of (bits_of octets) ≡ octets
+octets_of-bits_of [] each = refl
+octets_of-bits_of (x ∷ octets) each =
+    let small : Fits w8 x = each 0 in
+    let below : x < 256 = omega (arith, small) in
+    let first = octet_of_bits x below in
+    let rest = octets_of-bits_of octets (λ k. each (suc k)) in
+    cc

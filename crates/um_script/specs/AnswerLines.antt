@@ -45,7 +45,7 @@ received_block_lines who (Some r) = received_block_line who r.accepted r ∷ []
 -- all lines of an answer, in order
 abbrev pub answer_lines : A.Answer → List AnswerLine
 answer_lines (A.Refuses why) = No why ∷ []
-answer_lines (A.Does s) =
+answer_lines (A.Accepts s) =
     received_block_lines s.who s.received ++ map (Reports s.who s.sapi) s.notices ++ map (Sends s.who) s.frames ++ All ∷ []
 
 -- ---- the text of lines
@@ -84,7 +84,7 @@ answer_words All = codes "ok" ∷ []
 abbrev pub answer_line_text : AnswerLine → List ℕ
 answer_line_text line = join_with_byte 32 (answer_words line) ++ codes "\n"
 
--- the text of the lines, one after another
+-- the text of the lines, in order
 abbrev pub lines_text : List AnswerLine → List ℕ
 lines_text [] = []
 lines_text (line ∷ lines) = answer_line_text line ++ lines_text lines
@@ -101,7 +101,7 @@ pub record ReceptionIsInRange (h : ReceptionQuality) : Type 0 where
   pub wrong_training : h.wrong_training < 2 ^ 64
   pub metric : nat_abs h.metric < 2 ^ 63
 
--- the octets or the number in the notice, if it has any, are in range
+-- the octets or the number in the notice, if any, are in range
 abbrev pub NoticeIsInRange : Notice → Type 0
 NoticeIsInRange (N.Opened m) = AreOctets m
 NoticeIsInRange (N.Got m) = AreOctets m

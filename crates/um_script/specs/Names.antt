@@ -1,4 +1,4 @@
--- The first two words of a script line: who acts, and what happens (used inside this crate).
+-- The first two words of a script line: the actor and the action (used inside this crate).
 use Rattle.std.specs.Prelude.{ℕ, List, Option, Some, None, codes, if◌then◌else◌}
 use Rattle.std.specs.Str.{bytes_eq}
 use Rattle.um_link.specs.lapdm_window.declared.Sapi.{Sapi}

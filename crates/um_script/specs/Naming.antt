@@ -1,4 +1,4 @@
--- What the results of the script parser represent.
+-- The meaning of the script parser's results.
 use Rattle.std.specs.Prelude.{Option, Some, None, Result, Ok, Err}
 use Rattle.um_link.specs.um_air.Air as A
 use Rattle.um_lines.specs.declared.fault.LineFault.{LineFault}
@@ -18,7 +18,7 @@ abbrev pub event_or_fault : Result Event LineFault → EventOrFault
 event_or_fault (Ok event) = Ok (Some (event_of event))
 event_or_fault (Err fault) = Err fault
 
--- the bits that the event inverts, if any, have indices of a block, 0 to 591
-abbrev pub HasPossibleEvent : ScriptLine → Type 0
-HasPossibleEvent Skip = Unit {0}
-HasPossibleEvent (Step event) = IsPossibleEvent event
+-- the index of every bit that the event inverts is in a block, 0 to 591
+abbrev pub HasValidBitIndices : ScriptLine → Type 0
+HasValidBitIndices Skip = Unit {0}
+HasValidBitIndices (Step event) = IsPossibleEvent event

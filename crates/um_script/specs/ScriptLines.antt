@@ -9,7 +9,7 @@ use Rattle.um_lines.specs.Fields.{Value, Number, NumberList, Place}
 use Rattle.um_lines.specs.Forms.{LineMeans, no_order_fault, places}
 use Rattle.um_lines.specs.LinkForms as L
 use Rattle.um_lines.specs.LinkForms.{link_forms}
-use Rattle.um_lines.specs.Meanings.{IsMadeFromMeaning}
+use Rattle.um_lines.specs.Meanings.{IsValueOfMeaning}
 
 -- the side of an endpoint, mobile or network
 abbrev pub role_of : L.LinkEndpoint → Role
@@ -37,7 +37,7 @@ octets_of_values (Number n ∷ values) = octets_of_values values
 octets_of_values (NumberList octets ∷ values) = octets
 octets_of_values (Place n ∷ values) = octets_of_values values
 
--- the event in which this endpoint receives this call
+-- the event of this call to this endpoint
 abbrev pub call_event : L.LinkEndpoint → E.Request → A.Event
 call_event end request = E.Ask (role_of end) (sapi_of end) request
 
@@ -46,7 +46,7 @@ abbrev pub event_of_values : L.LinkLineKind → List Value → A.Event
 event_of_values L.Open values = E.Open (octets_of_values values)
 event_of_values (L.OpenBare end) values = E.OpenBare (role_of end)
 event_of_values (L.Send end) values = call_event end (E.Send (octets_of_values values))
-event_of_values (L.UnitData end) values = call_event end (E.SendUnit (octets_of_values values))
+event_of_values (L.UnitData end) values = call_event end (E.SendUi (octets_of_values values))
 event_of_values (L.Close end) values = call_event end E.Close
 event_of_values (L.Tick end) values = call_event end E.T200Expiry
 event_of_values (L.Idle end) values = call_event end E.Idle
@@ -61,4 +61,4 @@ event_of_meaning said = option_map (λ meaning. event_of_values meaning.0 meanin
 
 -- the script line means this event, or is skipped (`None`)
 abbrev pub ScriptLineMeans : List ℕ → Option A.Event → Type 0
-ScriptLineMeans line = IsMadeFromMeaning event_of_meaning (LineMeans link_forms no_order_fault line)
+ScriptLineMeans line = IsValueOfMeaning event_of_meaning (LineMeans link_forms no_order_fault line)

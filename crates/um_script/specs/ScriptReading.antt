@@ -27,8 +27,9 @@ abbrev pub EventOrFault : Type 0
 EventOrFault = Result (Option A.Event) LineFault
 
 -- the event that the words describe, or their first fault
-abbrev pub parsed_by_forms : List (List ℕ) → EventOrFault
-parsed_by_forms ws = fault_or_value (first_word_fault no_order_fault (form_of_words link_forms ws) ws) (event_of_meaning (meaning_of_words
+abbrev pub script_parse_result : List (List ℕ) → EventOrFault
+script_parse_result ws = fault_or_value (first_word_fault no_order_fault (form_of_words link_forms ws) ws)
+    (event_of_meaning (meaning_of_words
     (form_of_words link_forms ws) ws))
 
 -- the octets that a single word represents, or its first fault; no word, or more than one, is the fault `Word`
@@ -49,12 +50,12 @@ parsed_bit_indices ws =
     else if has_repeated_number (map (digits_value 10) ws) then Err Twice
     else Ok (map (digits_value 10) ws)
 
-abbrev pub event_from_result : (List ℕ → A.Event) → Result (List ℕ) LineFault → EventOrFault
-event_from_result make (Ok ns) = Ok (Some (make ns))
-event_from_result make (Err fault) = Err fault
+abbrev pub event_of_result : (List ℕ → A.Event) → Result (List ℕ) LineFault → EventOrFault
+event_of_result make (Ok ns) = Ok (Some (make ns))
+event_of_result make (Err fault) = Err fault
 
-abbrev pub accepted_event : A.Event → EventOrFault
-accepted_event event = Ok (Some event)
+abbrev pub ok_event : A.Event → EventOrFault
+ok_event event = Ok (Some event)
 
 -- ---- calls to an endpoint
 
@@ -64,10 +65,10 @@ is_sapi_3 Three = true
 
 -- the event for a call without octets, such as `close`, or the fault `Word`
 abbrev pub parsed_one_word_call : L.LinkEndpoint → Option Request → EventOrFault
-parsed_one_word_call end (Some Q.Open) = if is_sapi_3 (sapi_of end) then accepted_event (E.OpenBare (role_of end)) else Err Word
-parsed_one_word_call end (Some Q.Close) = accepted_event (call_event end E.Close)
-parsed_one_word_call end (Some Q.Tick) = accepted_event (call_event end E.T200Expiry)
-parsed_one_word_call end (Some Q.Idle) = if is_sapi_3 (sapi_of end) then Err Word else accepted_event (call_event end E.Idle)
+parsed_one_word_call end (Some Q.Open) = if is_sapi_3 (sapi_of end) then ok_event (E.OpenBare (role_of end)) else Err Word
+parsed_one_word_call end (Some Q.Close) = ok_event (call_event end E.Close)
+parsed_one_word_call end (Some Q.Tick) = ok_event (call_event end E.T200Expiry)
+parsed_one_word_call end (Some Q.Idle) = if is_sapi_3 (sapi_of end) then Err Word else ok_event (call_event end E.Idle)
 parsed_one_word_call end request = Err Word
 
 abbrev pub is_mobile_sapi_0 : L.LinkEndpoint → Bool
@@ -76,9 +77,9 @@ is_mobile_sapi_0 end = false
 
 -- the event for a call with octets, such as `send`, or the fault
 abbrev pub parsed_octets_call : L.LinkEndpoint → Option Request → List (List ℕ) → EventOrFault
-parsed_octets_call end (Some Q.Open) ws = if is_mobile_sapi_0 end then event_from_result E.Open (parsed_octets_word ws) else Err Word
-parsed_octets_call end (Some Q.Send) ws = event_from_result (λ m. call_event end (E.Send m)) (parsed_octets_word ws)
-parsed_octets_call end (Some Q.Unit) ws = event_from_result (λ m. call_event end (E.SendUnit m)) (parsed_octets_word ws)
+parsed_octets_call end (Some Q.Open) ws = if is_mobile_sapi_0 end then event_of_result E.Open (parsed_octets_word ws) else Err Word
+parsed_octets_call end (Some Q.Send) ws = event_of_result (λ m. call_event end (E.Send m)) (parsed_octets_word ws)
+parsed_octets_call end (Some Q.Unit) ws = event_of_result (λ m. call_event end (E.SendUi m)) (parsed_octets_word ws)
 parsed_octets_call end request ws = Err Word
 
 abbrev pub parsed_layer3_call : L.LinkEndpoint → List (List ℕ) → EventOrFault
@@ -86,30 +87,30 @@ parsed_layer3_call end [] = Err Word
 parsed_layer3_call end (verb ∷ []) = parsed_one_word_call end (request_of_name verb)
 parsed_layer3_call end (verb ∷ w ∷ ws) = parsed_octets_call end (request_of_name verb) (w ∷ ws)
 
--- ---- what happens to a block on the radio path
+-- ---- events of a block on the radio path
 
 abbrev pub parsed_deliver_or_lose : L.Way → Option RadioAction → EventOrFault
-parsed_deliver_or_lose way (Some T.Deliver) = accepted_event (E.Deliver (sender_of way) [])
-parsed_deliver_or_lose way (Some T.Lose) = accepted_event (E.Lose (sender_of way))
+parsed_deliver_or_lose way (Some T.Deliver) = ok_event (E.Deliver (sender_of way) [])
+parsed_deliver_or_lose way (Some T.Lose) = ok_event (E.Lose (sender_of way))
 parsed_deliver_or_lose way act = Err Word
 
-abbrev pub parsed_flip : L.Way → Option RadioAction → List (List ℕ) → EventOrFault
-parsed_flip way (Some T.Flip) ws = event_from_result (E.Deliver (sender_of way)) (parsed_bit_indices ws)
-parsed_flip way act ws = Err Word
+abbrev pub parsed_bit_inversion : L.Way → Option RadioAction → List (List ℕ) → EventOrFault
+parsed_bit_inversion way (Some T.Flip) ws = event_of_result (E.Deliver (sender_of way)) (parsed_bit_indices ws)
+parsed_bit_inversion way act ws = Err Word
 
 abbrev pub parsed_radio_event : L.Way → List (List ℕ) → EventOrFault
 parsed_radio_event way [] = Err Word
 parsed_radio_event way (verb ∷ []) = parsed_deliver_or_lose way (action_of_name verb)
-parsed_radio_event way (verb ∷ w ∷ ws) = parsed_flip way (action_of_name verb) (w ∷ ws)
+parsed_radio_event way (verb ∷ w ∷ ws) = parsed_bit_inversion way (action_of_name verb) (w ∷ ws)
 
 -- ---- whole lines
 
-abbrev pub parsed_actor_words : Option Actor → List (List ℕ) → EventOrFault
-parsed_actor_words None ws = Err Word
-parsed_actor_words (Some (W.End end sapi)) ws = parsed_layer3_call (link_endpoint_of end sapi) ws
-parsed_actor_words (Some (W.Way way)) ws = parsed_radio_event (link_direction_of way) ws
-parsed_actor_words (Some W.Rival) ws = event_from_result E.Rival (parsed_octets_word ws)
+abbrev pub parsed_actor_line : Option Actor → List (List ℕ) → EventOrFault
+parsed_actor_line None ws = Err Word
+parsed_actor_line (Some (W.End end sapi)) ws = parsed_layer3_call (link_endpoint_of end sapi) ws
+parsed_actor_line (Some (W.Way way)) ws = parsed_radio_event (link_direction_of way) ws
+parsed_actor_line (Some W.Rival) ws = event_of_result E.Rival (parsed_octets_word ws)
 
 abbrev pub parsed_script_words : List (List ℕ) → EventOrFault
 parsed_script_words [] = Err Word
-parsed_script_words (name ∷ ws) = parsed_actor_words (actor_of_name name) ws
+parsed_script_words (name ∷ ws) = parsed_actor_line (actor_of_name name) ws

@@ -34,7 +34,7 @@ pub fn step_lines(out: &mut Text, answer: &Result<Step, No>)
     }
 }
 
-/// Writes the lines of an answer whose step is stored in a buffer of the caller.
+/// Writes the lines of an answer whose step is stored in the caller's buffer.
 pub fn write_step_lines(out: &mut Text, done: &Result<(), No>, step: &Step)
     requires empty { out.old ≡ [] }
     requires fits { OnOk done.now (StepFitsItsActor (step_of step.now)) }
@@ -74,20 +74,20 @@ fn call_refusal_word(reason: No) -> &'static [u8]
     }
 }
 
-#[tactic(auto, using(crate::proofs::FittingLines::fit_append, crate::proofs::AnswerLaws::lines_text_append))]
+#[tactic(auto, using(crate::proofs::AnswerLaws::fit_append, crate::proofs::AnswerLaws::lines_text_append))]
 fn push_step(out: &mut Text, step: &Step)
     requires { out.old ≡ [] }
     ensures text { out.new ≡ answer_text (answer_of (Ok step.now)) }
     ensures size { length out.new < 2000 }
     ensures fit { LinesAreInRange (answer_lines (answer_of (Ok step.now))) }
 {
-    push_arrival(out, step.who, &step.received);
+    push_received(out, step.who, &step.received);
     push_notices(out, step.who, step.sapi, step.effects.notices.as_slice());
     push_frames(out, step.who, step.effects.frames.as_slice());
     out.push(b"ok\n");
 }
 
-fn push_arrival(out: &mut Text, who: Who, received: &Option<Received>)
+fn push_received(out: &mut Text, who: Who, received: &Option<Received>)
     requires { out.old ≡ [] }
     ensures text { out.new ≡ lines_text (received_block_lines (actor_of_who who) received.now) }
     ensures size { length out.new ≤ 300 }
@@ -180,7 +180,7 @@ fn push_data_and_check_words(out: &mut Text, octets: &[u8], check: &[u8])
         ++ spaced_words (codes "data" ∷ encode_lower octets.now ∷ codes "check" ∷ encode_lower check.now ∷ []) }
     ensures size { length out.new ≡ length out.old + 69 }
 
-    // The octets are in range, and unpacking them to bits and packing the bits again gives the original octets.
+    // The octets are in range, and unpacking them to bits and packing the bits again restores the octets.
     ensures fit { AreOctets octets.now × AreOctets check.now }
     ensures octets { octets_of (bits_of octets.now) ≡ octets.now }
     ensures check { octets_of (bits_of check.now) ≡ check.now }
@@ -292,8 +292,8 @@ fn push_sent_frame(out: &mut Text, frame: &[u8])
     out.push(b"\n");
 }
 
-/// Law: the text of an answer determines its lines: if all octets and numbers are in range, two answers have the same text exactly if they
-/// have the same lines.
+/// Law: the text of an answer determines its lines. If all octets and numbers are in range, two answers have the same text if and only if
+/// they have the same lines.
 pub fn law_text_determines_lines()
     ensures same { (x y : A.Answer) → answer_lines x ≡ answer_lines y → answer_text x ≡ answer_text y }
     ensures different { (x y : A.Answer) → LinesAreInRange (answer_lines x) → LinesAreInRange (answer_lines y) →

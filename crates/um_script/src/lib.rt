@@ -1,5 +1,4 @@
-//! Parses the script lines of `link`, each of which describes an event at a side or on the radio path, and writes the output lines for
-//! them.
+//! Parses the script lines of `link`, which describe events at a side or on the radio path, and writes the output lines for them.
 #![tactic(auto)]
 
 mod answer;

@@ -1,4 +1,4 @@
-//! The first two words of a script line: who acts, and what happens.
+//! The first two words of a script line: the actor and the action.
 ghost use Rattle.std.specs.Prelude.{◌≡◌};
 ghost use Rattle.std.specs.Str.{bytes_eq};
 ghost use Rattle.um_script.specs.Names.{actor_of_name, request_of_name, action_of_name};
@@ -13,7 +13,7 @@ pub(crate) enum Actor {
     Rival,
 }
 
-/// What an endpoint is asked to do.
+/// An operation that layer 3 calls on an endpoint.
 #[derive(Clone, Copy, PartialEq, Eq, Debug)]
 pub(crate) enum Request {
     Open,
@@ -24,7 +24,7 @@ pub(crate) enum Request {
     Idle,
 }
 
-/// What happens to a block on the radio path.
+/// An event of a block on the radio path.
 #[derive(Clone, Copy, PartialEq, Eq, Debug)]
 pub(crate) enum RadioAction {
     Deliver,

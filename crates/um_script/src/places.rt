@@ -61,7 +61,7 @@ pub(crate) fn are_decimals(text: &[u8]) -> bool
     true
 }
 
-/// The number that a word of digits represents, or 592 if the number is greater. The word may have any length.
+/// The number that a word of digits represents, at most 592: every greater number is returned as 592. The word may have any length.
 fn bit_index_of_word(word: &[u8]) -> u16
     requires { IsTrue (all_ascii_digits word.now) }
     ensures { result ≡ min (digits_value 10 word.now) 592 }
@@ -108,7 +108,7 @@ pub(crate) fn has_repeated_index(text: &[u8]) -> bool
     false
 }
 
-/// Writes the bit indices in the words of the text to the front of `places`, and returns their number.
+/// Writes the bit indices in the words of the text to the start of `places`, and returns their number.
 pub(crate) fn hold_places(places: &mut [u16; 592], text: &[u8]) -> usize
     requires words { AreBitIndexWords (words text.now) }
     requires space { length (words text.now) ≤ 592 }

@@ -13,20 +13,20 @@ use um_lines::{
     LineFault, has_octet_count, is_dash_or_hex, parse_only_word, write_octets_from_hex,
 };
 
-/// A buffer, stored in place, for the octets and the bit indices of one line. A line has at most 2,047 octets of data, and a block has 592
+/// A buffer, stored inline, for the octets and the bit indices of one line. A line has at most 2,047 octets of data, and a block has 592
 /// bits.
 #[derive(Drop)]
 pub struct Room {
     octets: [u8; 2048],
-    places: [u16; 592],
+    bit_indices: [u16; 592],
 }
 
 impl Room {
-    /// A buffer that holds nothing yet.
+    /// Creates an empty buffer.
     pub fn new() -> Room {
         Room {
             octets: [0; 2048],
-            places: [0; 592],
+            bit_indices: [0; 592],
         }
     }
 
@@ -45,7 +45,7 @@ impl Room {
         requires { length places.now ≤ 592 }
         ensures { result.now ≡ places.now }
     {
-        let held = &mut self.places[..places.len()];
+        let held = &mut self.bit_indices[..places.len()];
         held.copy_from_slice(places);
         held
     }
@@ -94,7 +94,7 @@ impl Room {
         if has_repeated_index(text) {
             return Err(LineFault::Twice);
         }
-        let count = hold_places(&mut self.places, text);
-        Ok(&self.places[..count])
+        let count = hold_places(&mut self.bit_indices, text);
+        Ok(&self.bit_indices[..count])
     }
 }

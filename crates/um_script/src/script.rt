@@ -9,9 +9,9 @@ ghost use Rattle.um_lines.specs.LinkForms.{link_forms};
 ghost use Rattle.um_lines.specs.Meanings.{HasOneMeaningOrFault};
 ghost use Rattle.um_script.specs.ScriptLines.{ScriptLineMeans};
 ghost use Rattle.um_script.specs.ScriptReading.{parsed_layer3_call, parsed_one_word_call, parsed_octets_call, parsed_radio_event};
-ghost use Rattle.um_script.specs.ScriptReading.{parsed_deliver_or_lose, parsed_flip};
+ghost use Rattle.um_script.specs.ScriptReading.{parsed_deliver_or_lose, parsed_bit_inversion};
 ghost use Rattle.um_script.specs.ScriptReading.{parsed_script_words};
-ghost use Rattle.um_script.specs.Naming.{meaning_of, event_or_fault, HasPossibleEvent};
+ghost use Rattle.um_script.specs.Naming.{meaning_of, event_or_fault, HasValidBitIndices};
 ghost use Rattle.um_script.specs.Names.{link_endpoint_of, link_direction_of};
 ghost use Rattle.um_link.specs.Possible.{IsPossibleEvent};
 
@@ -20,10 +20,10 @@ use crate::room::Room;
 use um_lines::{LINE_LIMIT, LineFault, first_word, is_skipped};
 use um_link::{Air, Call, End, Event, Sapi, Way};
 
-/// What a script line requests.
+/// The meaning of a script line.
 #[derive(Clone, Copy, Drop)]
 pub enum ScriptLine<'a> {
-    /// Nothing: the line is empty, or begins with `#`.
+    /// Nothing: the line is empty or begins with `#`.
     Skip,
     Step(Event<'a>),
 }
@@ -35,8 +35,8 @@ pub fn parse_script<'a>(line: &[u8], room: &'a mut Room) -> Result<ScriptLine<'a
     ensures means { IfOk result (λ read. ScriptLineMeans line.now (meaning_of read)) }
     ensures refused { result_err result ≡ line_fault link_forms no_order_fault line.now }
 
-    // All bits that the event inverts have indices of a block, 0 to 591.
-    ensures possible { IfOk result (λ read. HasPossibleEvent read) }
+    // The index of every bit that the event inverts is in a block, 0 to 591.
+    ensures possible { IfOk result (λ read. HasValidBitIndices read) }
 {
     if line.len() > LINE_LIMIT {
         return Err(LineFault::Long);
@@ -155,7 +155,7 @@ fn parse_flip<'a>(
     places: &[u8],
     room: &'a mut Room,
 ) -> Result<Event<'a>, LineFault>
-    ensures read { event_or_fault result ≡ parsed_flip (link_direction_of way) done (words places.now) }
+    ensures read { event_or_fault result ≡ parsed_bit_inversion (link_direction_of way) done (words places.now) }
     ensures possible { IfOk result (λ event. IsPossibleEvent event) }
 {
     match done {

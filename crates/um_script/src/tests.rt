@@ -103,7 +103,7 @@ fn block(front: [u8; 4]) -> [u8; BLOCK_OCTETS] {
     octets
 }
 
-/// A received block. Its CRC is good if `accepted` has octets, otherwise bad.
+/// A received block. Its CRC is correct if and only if `accepted` holds octets.
 fn reception_quality(
     u: Bits<ENCODER_INPUT_BITS>,
     tsc: u8,

@@ -1,6 +1,1 @@
-pub mod Laws
-mod Answering
-mod Tallying
-mod Stepping
-mod Octets
-mod Running
+pub mod Lemmas

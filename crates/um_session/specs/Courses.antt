@@ -1,14 +1,14 @@
 -- A session together with the counters of the radio that encodes and decodes its blocks.
 use Rattle.std.specs.Prelude.{ℕ, ◌≡◌, ◌+◌, List, [], ◌∷◌, length, Option, Some, None}
 use Rattle.um_link.specs.um_block.declared.received.Received.{Received}
-use Rattle.um_link.specs.um_air.Air.{Answer, Refuses, Does}
+use Rattle.um_link.specs.um_air.Air.{Answer, Refuses, Accepts}
 use Rattle.um_driver.specs.Rules.{Rules}
-use Rattle.um_session.specs.Sessions.{Session, AnswersScriptLine, link_rules}
+use Rattle.um_session.specs.Sessions.{Session, TextAnswersScriptLine, link_rules}
 
 -- the number of frames that an answer reports as sent
 abbrev pub sent_frame_count : Answer → ℕ
 sent_frame_count (Refuses why) = 0
-sent_frame_count (Does step) = length step.frames
+sent_frame_count (Accepts step) = length step.frames
 
 -- 1 if a block was received, otherwise 0
 abbrev pub received_block_count : Option Received → ℕ
@@ -18,7 +18,7 @@ received_block_count (Some report) = 1
 -- the number of blocks that an answer reports as received, 0 or 1
 abbrev pub arrived_block_count : Answer → ℕ
 arrived_block_count (Refuses why) = 0
-arrived_block_count (Does step) = received_block_count step.received
+arrived_block_count (Accepts step) = received_block_count step.received
 
 -- the number of frames that these answers report as sent
 abbrev pub total_frames_sent : List Answer → ℕ
@@ -31,19 +31,19 @@ total_blocks_received [] = 0
 total_blocks_received (answer ∷ answers) = arrived_block_count answer + total_blocks_received answers
 
 -- the counters of a radio: the number of blocks sent and the number received
-pub record Tallies : Type 0 where
-  pub sent : ℕ
-  pub heard : ℕ
+pub record RadioCounters : Type 0 where
+  pub sent_blocks : ℕ
+  pub received_blocks : ℕ
 
 -- a session, and the radio's counters before the first line of the script
 pub record SessionWithRadio : Type 0 where
   pub session : Session
-  pub before : Tallies
+  pub initial_counters : RadioCounters
 
--- the rules of the command `link`, with states that also contain the radio's counters before the first line
+-- the rules of the `link` command, with states that also contain the radio's counters before the first line
 abbrev pub rules_with_radio : Rules SessionWithRadio
 rules_with_radio = record {
   fault = λ c line. link_rules.fault c.session line;
   end_fault = λ c. None;
-  Step = λ c line text after. AnswersScriptLine c.session line text after.session × (after.before ≡ c.before);
+  Step = λ c line text after. TextAnswersScriptLine c.session line text after.session × (after.initial_counters ≡ c.initial_counters);
 }

@@ -1,4 +1,4 @@
--- How the command `link` answers the lines of a script (this project's own rule).
+-- How the `link` command answers the lines of a script (this project's own rule).
 use Rattle.std.specs.Prelude.{ℕ, ◌≡◌, List, [], ◌∷◌, ◌++◌, Option, Some, None}
 use Rattle.um_link.specs.lapdm_frame.declared.Channel.{Channel}
 use Rattle.um_script.specs.um_lines.Forms.{line_fault, no_order_fault}
@@ -14,9 +14,9 @@ pub record Session : Type 0 where
   pub answers : List Answer
   pub air : AirState
 
--- a session in which nothing has happened yet
-abbrev pub idle : ℕ → Channel → Session
-idle tsc channel = record { events = []; answers = []; air = initial_session tsc channel }
+-- a session before its first event
+abbrev pub new_session : ℕ → Channel → Session
+new_session tsc channel = record { events = []; answers = []; air = initial_session tsc channel }
 
 -- the session extended by one event, its answer, and the state after it
 abbrev pub session_with_step : Session → Event → Answer → AirState → Session
@@ -31,18 +31,19 @@ pub record IsEventStep (s : Session) (event : Event) (text : List ℕ) (after : 
   pub after_is : after ≡ session_with_step s event answer air
 
 -- the text answers a line with this meaning, and leads from the first session to the second; a skipped line has no answer
-abbrev pub AnswersLineMeaning : Session → Option Event → List ℕ → Session → Type 0
-AnswersLineMeaning s None text after = (text ≡ []) × (after ≡ s)
-AnswersLineMeaning s (Some event) text after = IsEventStep s event text after
+abbrev pub TextAnswersMeaning : Session → Option Event → List ℕ → Session → Type 0
+TextAnswersMeaning s None text after = (text ≡ []) × (after ≡ s)
+TextAnswersMeaning s (Some event) text after = IsEventStep s event text after
 
 -- the text answers a line of the script, and leads from the first session to the second
-abbrev pub AnswersScriptLine : Session → List ℕ → List ℕ → Session → Type 0
-AnswersScriptLine s line text after = (meaning : Option Event) × ScriptLineMeans line meaning × AnswersLineMeaning s meaning text after
+abbrev pub TextAnswersScriptLine : Session → List ℕ → List ℕ → Session → Type 0
+TextAnswersScriptLine s line text after =
+    (meaning : Option Event) × ScriptLineMeans line meaning × TextAnswersMeaning s meaning text after
 
--- the rules of the command `link`; the script may end after any line
+-- the rules of the `link` command; the script may end after any line
 abbrev pub link_rules : Rules Session
 link_rules = record {
   fault = λ s line. line_fault link_forms no_order_fault line;
   end_fault = λ s. None;
-  Step = AnswersScriptLine;
+  Step = TextAnswersScriptLine;
 }

@@ -1,4 +1,4 @@
-//! The command `link`: a script drives a mobile, a network and the radio path between them.
+//! The `link` command: a script drives a mobile, a network and the radio path between them.
 #![tactic(auto)]
 
 mod link;

@@ -1,16 +1,16 @@
-//! The command `link`, as a `Command` that the driver runs.
+//! The `link` command, as a `Command` that the driver runs.
 ghost use base.Fml.{GName};
 ghost use Rattle.std.specs.Prelude.{◌≡◌, None};
 ghost use Rattle.um_link.specs.um_block.Tallies.{counter_plus};
 ghost use Rattle.um_link.specs.Abstraction.{Represents};
-ghost use Rattle.um_session.specs.Sessions.{idle};
+ghost use Rattle.um_session.specs.Sessions.{new_session};
 ghost use Rattle.um_session.specs.Courses.{SessionWithRadio, rules_with_radio, total_frames_sent, total_blocks_received};
 
 use um_driver::Command;
 use um_link::{Radio, Step, World};
 use um_script::{LineFault, Room, ScriptLine, Text, parse_script, write_step_lines};
 
-/// The command `link`: `world` holds both sides and the blocks in transit, and `radio` encodes and decodes the blocks.
+/// The `link` command: `world` holds both sides and the blocks in transit, and `radio` encodes and decodes the blocks.
 #[derive(Drop)]
 pub struct LinkCommand<'a, R> {
     pub world: &'a mut World,
@@ -21,7 +21,7 @@ pub struct LinkCommand<'a, R> {
 }
 
 impl<'a, R: Radio> LinkCommand<'a, R> {
-    /// Creates the command `link`, which continues from the current state of `world`.
+    /// Creates the `link` command, which continues from the current state of `world`.
     pub fn new(world: &'a mut World, radio: &'a mut R) -> LinkCommand<'a, R>
         ensures world { result.world.now ≡ world.old }
         ensures radio { result.radio.now ≡ radio.old }
@@ -42,15 +42,16 @@ impl<'a, R: Radio> Command for LinkCommand<'a, R> {
     ghost rules = { rules_with_radio };
 
     ghost start = { λ link. record {
-      session = idle link.world.now.tsc link.world.now.channel;
-      before = record { sent = R.sent link.radio.now; heard = R.heard link.radio.now };
+      session = new_session link.world.now.tsc link.world.now.channel;
+      initial_counters = record { sent_blocks = R.sent link.radio.now; received_blocks = R.heard link.radio.now };
     } };
 
     ghost represents = { λ link course. Represents link.world.now course.session.air
-        × (R.sent link.radio.now ≡ counter_plus (total_frames_sent course.session.answers) course.before.sent)
-        × (R.heard link.radio.now ≡ counter_plus (total_blocks_received course.session.answers) course.before.heard) };
+        × (R.sent link.radio.now ≡ counter_plus (total_frames_sent course.session.answers) course.initial_counters.sent_blocks)
+        × (R.heard link.radio.now
+        ≡ counter_plus (total_blocks_received course.session.answers) course.initial_counters.received_blocks) };
 
-    ghost Kept = { GName };
+    ghost FixedPart = { GName };
 
     ghost kept = { λ link. link.radio.ghost_name };
 

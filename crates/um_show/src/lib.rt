@@ -1,4 +1,4 @@
-//! The command `show`: converts LAPDm frames between octets and text.
+//! The `show` command: converts LAPDm frames between octets and text.
 #![tactic(auto)]
 
 mod command;

@@ -1,4 +1,4 @@
-//! Runs of the command `code` on values computed by hand, and lines that it refuses.
+//! Runs of the `code` command on values computed by hand, and lines that it refuses.
 use crate::outside::{
     StreamLimits, check_line_feeds, check_longest_lines, check_refusal, check_run,
     check_run_in_pieces,
@@ -10,7 +10,7 @@ use um_cli::Status;
 pub const ACCESS_BURST: &[u8] =
     b"a 000000 0011101001001011011111111001100110101010001111000000000000000000011101001101001000011000\n";
 
-/// The access burst of eight zero bits for BSIC 111111, which turns the CRC bits into zeros.
+/// The access burst of eight zero bits for BSIC 111111. The modulo 2 sum of CRC and BSIC is 000000.
 pub const ACCESS_BURST_OF_ZEROS: &[u8] =
     b"a 111111 0011101001001011011111111001100110101010001111000000000000000000000000000000000000000000\n";
 

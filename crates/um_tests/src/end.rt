@@ -1,4 +1,4 @@
-//! Runs of the command `end` on values computed by hand, and lines that it refuses. A separate script coded the bursts in the same way as
+//! Runs of the `end` command on values computed by hand, and lines that it refuses. A separate script coded the bursts in the same way as
 //! the blocks in `vectors/`.
 use crate::outside::{StreamLimits, check_run, check_run_in_pieces, output_of_code};
 use std::test::Fail;
@@ -15,7 +15,7 @@ n 000000100010111110100010000001000000100011111010100010000100101000111101101000
 n 00000010000100010101110111101010000010010001010111011010101010100011110110100010001111011010000101000101110111\
 10101010001000010101011101101011101000\n";
 
-/// What a network answers to the SABM: the received block, that the link is open, its UA, and the bursts of the UA.
+/// The answer of a network to the SABM: the received block, the open link, its UA, and the bursts of the UA.
 const ESTABLISHMENT: &[u8] =
     b"net takes 013f05012b2b2b2b2b2b2b2b2b2b2b2b2b2b2b2b2b2b2b tsc 3 train 0 metric 57912\n\
 net opened 01\n\
@@ -30,7 +30,7 @@ n 000000100011101110100010000100000000000010101010001010000100101000111101101000
 n 00000010000101010101010111111010000010010001011111011110101010100011110110100010001111011000000101000101110111\
 10101010101000010101011101101111101000\n";
 
-/// What a mobile answers to `mob idle`: its fill frame and the bursts of the fill frame.
+/// The answer of a mobile to `mob idle`: its fill frame and the bursts of the fill frame.
 const FILL_FRAME_ANSWER: &[u8] = b"mob sends 0103012b2b2b2b2b2b2b2b2b2b2b2b2b2b2b2b2b2b2b2b\n\
 ok\n\
 n 00010000001000111010101000000100010000100010101110101000000010010010111000010001001011110100000000101010101000\
@@ -42,7 +42,7 @@ n 000000000011101010100010000100000000001011111010100000010100100100101110000100
 n 00000010000001010111011110111010100000000001011111011110101010010010111000010001001011111010100101010101110110\
 10101010101000000001011101101110101000\n";
 
-/// What a network answers to four lost bursts.
+/// The answer of a network to four lost bursts.
 const FOUR_LOST_BURSTS_ANSWER: &[u8] =
     b"net drops tsc 0 train 104 metric 0 data 0000000000000000000000000000000000000000000000 check 0000000000\nok\n";
 
@@ -57,7 +57,7 @@ fn a_network_answers_the_bursts_of_a_sabm(rt: HostRuntime) {
     );
 }
 
-// The bursts in these tests are those that `code` writes for the blocks of the SABM and the UA.
+// The bursts in these tests are the output of `code` for the blocks of the SABM and the UA.
 #[test]
 fn the_bursts_of_end_equal_those_of_code(rt: HostRuntime) -> Result<(), Fail> {
     let sabm = output_of_code(

@@ -1,4 +1,4 @@
-//! Runs in which the source or the sink fails.
+//! Runs with a failing source or sink.
 use crate::code::ACCESS_BURST;
 use crate::outside::{StreamLimits, check_run};
 use std::test::Fail;
@@ -22,7 +22,7 @@ fn answers(count: usize) -> Option<[u8; 294]> {
     Some(all)
 }
 
-/// A source that gives one line for each read, and a sink to which each answer is written alone, first 50 octets and then 48.
+/// A source that returns one line per read, and a sink that accepts each answer in two writes of 50 and 48 octets.
 fn one_line_per_read(failing_puts: &[u64]) -> StreamLimits<'_> {
     StreamLimits {
         max_per_take: 21,

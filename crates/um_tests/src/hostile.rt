@@ -6,7 +6,7 @@ use um_cli::Status;
 
 const LINK_SDCCH_WORDS: [&str; 2] = ["link", "0"];
 
-/// A script. Inverting these seven bits of a block gives another codeword; inverting three training bits does not change the data.
+/// A script. Inverting these seven bits of a block yields another codeword; inverting three training bits does not change the data.
 const INVERTED_BITS_SCRIPT: &[u8] = b"net idle
 down flip 3 131 263 277 318 450 541
 net idle
@@ -67,7 +67,7 @@ fn word(report: &[u8], place: usize) -> &[u8] {
     line.split(|octet| *octet == b' ').nth(place).unwrap_or(b"")
 }
 
-/// What `link` answers when it receives a block for which `replay` writes this report.
+/// The answer of `link` to a received block, computed from the report of `replay` on the same block.
 fn link_answer_for(report: &[u8], alloc: Global) -> Result<Vec<u8>, Fail> {
     let taken = word(report, 8) == b"ok".as_slice();
     let mut answer = Vec::new(alloc);

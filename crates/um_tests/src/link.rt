@@ -1,4 +1,4 @@
-//! Sessions of the command `link`, computed by hand.
+//! Sessions of the `link` command, computed by hand.
 use crate::script::Script;
 use std::process::Abort;
 use std::test::Fail;
@@ -60,7 +60,7 @@ net sends 0173510102030405060708090a0b0c0d0e0f1011121314, ok",
     ),
 ];
 
-/// Two mobiles establish a link to the same network at once.
+/// Two mobiles try to establish a link to the same network at the same time.
 const CONTENTION_SESSION: [(&str, &str); 10] = [
     ("rival 02", "rival sends 013f0502, ok"),
     ("mob open 01", "mob sends 013f0501, ok"),
@@ -229,8 +229,8 @@ const FAILURE_AFTER_LAST_REPETITION: [(&str, &str); 2] = [
     ("mob tick", "no notrunning"),
 ];
 
-/// If the queue of a side is full, `airfull` is reported before the call is checked, and before a block is received to which the side might
-/// have to answer.
+/// If the queue of a side is full, `airfull` is reported before the call is checked, and before a block is received that the side might
+/// answer.
 const FULL_QUEUE: [(&str, &str); 6] = [
     ("net idle", "no airfull"),
     ("net tick", "no airfull"),
@@ -240,7 +240,7 @@ const FULL_QUEUE: [(&str, &str); 6] = [
     ("up deliver", "net takes 010301, ok"),
 ];
 
-/// An I frame of the mobile acknowledges the network's message, whose next message waits for that.
+/// The mobile's I frame acknowledges the network's message. The next message of the network waits for this acknowledgement.
 const ACK_BY_I_FRAME: [(&str, &str); 7] = [
     ("net send bb", "net sends 030005bb, ok"),
     ("net send cc", "ok"),

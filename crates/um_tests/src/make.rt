@@ -1,10 +1,10 @@
-//! Runs of the command `make`. A separate script computed the numbers from the definition of the generated session.
+//! Runs of the `make` command. A separate script computed the numbers from the definition of the generated session.
 use crate::outside::{StreamLimits, check_run, check_run_in_pieces};
 use std::test::Fail;
 use um_cli::{MemorySink, PlainRadio, PlainSource, Source, Status, Words, run};
 
-/// What `make` writes for three messages of 38, 75 and 112 octets. They have 2, 4 and 6 segments, which take 13 turns because the eighth
-/// turn is lost.
+/// What `make` writes for three messages of 38, 75 and 112 octets. They have 2, 4 and 6 segments, which take 13 transmissions because the
+/// eighth is lost.
 const THREE_MESSAGES_SUMMARY: &[u8] = b"make 3 5
 steps 32 sends 27 takes 26 drops 0 lost 1
 mob got 1 octets 75 sum 2925 acked 2

@@ -1,4 +1,4 @@
-//! Runs of the command `margin` on values computed by hand, and lines that it refuses.
+//! Runs of the `margin` command on values computed by hand, and lines that it refuses.
 use crate::code::{ACCESS_BURST_OF_ZEROS, SYNC_BURST};
 use crate::outside::{StreamLimits, check_refusal, check_run, check_run_in_pieces};
 use crate::replay::BURSTS_WITH_THREE_WRONG_BITS;

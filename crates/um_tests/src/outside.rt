@@ -1,4 +1,4 @@
-//! Runs a command over octets in memory, and compares the results with those expected.
+//! Runs a command over octets in memory, and compares the results with the expected ones.
 ghost use Rattle.std.specs.Prelude.{◌≤◌};
 
 use std::process::Abort;
@@ -13,8 +13,8 @@ pub struct StreamLimits<'a> {
     pub max_per_put: usize,
     pub failing_puts: &'a [u64],
     pub sink_capacity: usize,
-    ghost takes_some: { 1 ≤ max_per_take },
-    ghost puts_some: { 1 ≤ max_per_put },
+    ghost positive_take: { 1 ≤ max_per_take },
+    ghost positive_put: { 1 ≤ max_per_put },
 }
 
 impl<'a> StreamLimits<'a> {
@@ -130,7 +130,7 @@ pub fn check_run_in_pieces(
     );
 }
 
-/// `check_run_in_pieces` where a line is refused, with its number, and nothing else is written.
+/// Runs `check_run_in_pieces`, and expects the refusal of this line as the whole output.
 pub fn check_refusal(
     rt: &(impl Abort + AllocGlobal),
     words: &[&str],
@@ -161,12 +161,12 @@ pub fn check_line_feeds(rt: &(impl Abort + AllocGlobal), words: &[&str]) -> Resu
     Ok(())
 }
 
-/// What the command `code` writes for this input.
+/// The output of the `code` command for this input.
 pub fn output_of_code(rt: &(impl Abort + AllocGlobal), input: &[u8]) -> Result<Vec<u8>, Fail> {
     output_of_run(rt, &["code"], input)
 }
 
-/// What a run that succeeds writes for this input.
+/// The output of a successful run for this input.
 pub fn output_of_run(
     rt: &(impl Abort + AllocGlobal),
     words: &[&str],

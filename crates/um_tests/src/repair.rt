@@ -1,4 +1,4 @@
-//! Runs of the command `repair`.
+//! Runs of the `repair` command.
 use crate::outside::{StreamLimits, check_refusal, check_run, check_run_in_pieces};
 use std::test::Fail;
 use um_cli::Status;

@@ -1,4 +1,4 @@
-//! Runs of the command `replay` on values computed by hand, and lines that it refuses.
+//! Runs of the `replay` command on values computed by hand, and lines that it refuses.
 ghost use Rattle.std.specs.Prelude.{◌≤◌};
 
 use crate::code::{ACCESS_BURST, ACCESS_BURST_OF_ZEROS, BLOCK_OF_ZEROS, SYNC_BURST};
@@ -37,8 +37,8 @@ n 000000000011111010101010000100000010001010111010101000010100111101111000100101
 n 00000010000101010101011110111010101000000001010111011111101011110111100010010111011110011000100000010101010110\
 11101010001000010001011101111010101000\n";
 
-/// The same bursts with seven coded bits inverted: the ones in the coded list of data that are a single 1 followed by zeros. So the bits
-/// are a codeword again, but its CRC does not hold.
+/// The same bursts plus, modulo 2, the seven coded bits of a single 1 followed by zeros. The sum is a codeword again, but its CRC does not
+/// hold.
 const BURSTS_WITH_SEVEN_WRONG_BITS: &[u8] =
     b"n 00000000001000111010101000000001010000000011111110101000000111110111100010010111011110010100001000101110\
 10100000000101000010000010111010100000010000\n\

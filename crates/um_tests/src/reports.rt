@@ -1,4 +1,4 @@
-//! Tests of the functions that write frames and reports, and of the one that reads the lines of `show`.
+//! Tests of the functions that write frames and reports, and of the parser for the lines of `show`.
 use std::test::Fail;
 use um_text::{
     BLOCK_BITS, BLOCK_OCTETS, Bits, LineFault, Received, ReceivedAccess, ReceivedSync, ShowLine,

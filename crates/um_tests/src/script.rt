@@ -43,7 +43,7 @@ impl Script {
         Ok(())
     }
 
-    /// Appends an answer line, given in short form, in full.
+    /// Expands an answer line from its short form, and appends it.
     fn add_answer(&mut self, short: &str) -> Result<(), AllocError> {
         let mut words = short.split(' ').skip(1);
         let verb = words.next().unwrap_or("");
@@ -64,7 +64,7 @@ impl Script {
         self.input.as_bytes()
     }
 
-    /// Checks that `link` gives these answers, whatever number of octets each read and write moves.
+    /// Checks that `link` writes these answers, however many octets each read and write moves.
     pub fn check(&self, rt: &(impl Abort + AllocGlobal), words: &[&str]) {
         check_run_in_pieces(
             rt,

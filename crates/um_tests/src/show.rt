@@ -1,4 +1,4 @@
-//! Runs of the command `show` on values computed by hand, and lines that it refuses.
+//! Runs of the `show` command on values computed by hand, and lines that it refuses.
 use crate::outside::{
     StreamLimits, check_line_feeds, check_longest_lines, check_refusal, check_run,
     check_run_in_pieces,

@@ -7,7 +7,7 @@ use Rattle.conv_code.specs.Code.{encoding, IsEncoderInput}
 abbrev pub differ_at : List ℕ → List ℕ → ℕ → Bool
 differ_at a b k = not (slice_index a k == slice_index b k)
 
--- the Hamming distance of two lists of equal length
+-- the Hamming distance between two lists of equal length
 abbrev pub distance : List ℕ → List ℕ → ℕ
 distance a b = count_by (differ_at a b) (range_with_len 0 (length a))
 
@@ -20,8 +20,8 @@ FreeDistanceAtLeastSeven = (u v : List ℕ) → IsEncoderInput u → IsEncoderIn
 pub record SomeDistanceIsSeven (n : ℕ) : Type 0 where
   pub u : List ℕ
   pub v : List ℕ
-  pub first : IsEncoderInput u
-  pub second : IsEncoderInput v
+  pub u_is_input : IsEncoderInput u
+  pub v_is_input : IsEncoderInput v
   pub first_count : length u ≡ n
   pub second_count : length v ≡ n
   pub seven : distance (encoding u) (encoding v) ≡ 7

@@ -1,5 +1,5 @@
--- A condition on soft bits under which decoding certainly corrects all errors: the most likely information list is then the one that was
--- sent (this project's own rule).
+-- A condition on soft bits that guarantees correct decoding: the most likely information list is then the sent list (this project's own
+-- rule).
 use Rattle.std.specs.Prelude.{ℕ, ◌≡◌, ◌≢◌, ◌<◌, ◌≤◌, ◌*◌, ℤ, ◌<ℤ◌, unsigned_abs, List, length, map}
 use Rattle.std.specs.List.{All, Contains}
 use Rattle.bit_blocks.specs.SoftValues.{count_wrong_bits}
@@ -15,7 +15,7 @@ pub record AreLeastAndGreatestStrength (s : List ℤ) (min_abs max_abs : ℕ) : 
 -- at most three of the soft bits `s` disagree with the coded bits `c`, and all are of similar strength: four times the least absolute value
 -- exceeds three times the greatest
 pub record IsCorrectable (s : List ℤ) (c : List ℕ) : Type 0 where
-  pub few : count_wrong_bits s c ≤ 3
+  pub at_most_3 : count_wrong_bits s c ≤ 3
   pub min_abs : ℕ
   pub max_abs : ℕ
   pub strengths : AreLeastAndGreatestStrength s min_abs max_abs

@@ -8,7 +8,7 @@ ghost use Rattle.weight_bound.specs.Restoring.{AreLeastAndGreatestStrength};
 
 use bit_blocks::{CODED_BITS, count_wrong_bits};
 
-/// The Hamming distance of two bit lists of equal length, at most 456.
+/// Returns the Hamming distance between two bit lists of equal length, at most 456.
 pub fn distance(a: &[u8], b: &[u8]) -> u32
     requires count { length a.now ≡ length b.now }
     requires at_most { length a.now ≤ CODED_BITS }
@@ -25,7 +25,7 @@ pub fn distance(a: &[u8], b: &[u8]) -> u32
     places
 }
 
-/// The number of soft bits that disagree with the coded bit at the same position: they are 0 or have the sign of the opposite bit.
+/// Returns the number of soft bits that disagree with the coded bit at the same position, that is, are 0 or have the opposite sign.
 pub fn wrong_bits(soft: &[i8], coded: &[u8]) -> u32
     requires count { length soft.now ≡ length coded.now }
     requires at_most { length soft.now ≤ CODED_BITS }
@@ -36,7 +36,7 @@ pub fn wrong_bits(soft: &[i8], coded: &[u8]) -> u32
     count_wrong_bits(soft, coded)
 }
 
-/// The least and the greatest absolute value of soft bits.
+/// Returns the least and the greatest absolute value of the soft bits.
 pub fn strengths(soft: &[i8]) -> (u8, u8)
     requires any { 0 < length soft.now }
     requires soft { AllSoftBits soft.now }

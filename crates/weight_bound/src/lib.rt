@@ -1,4 +1,4 @@
-//! The free distance of the convolutional code, which is seven, and the errors that decoding certainly corrects.
+//! The free distance of the convolutional code, which is seven, and the errors that decoding is guaranteed to correct.
 #![tactic(auto)]
 
 mod counts;

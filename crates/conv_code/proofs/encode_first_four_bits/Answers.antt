@@ -1,5 +1,5 @@
 use Rattle.std.proofs.{Common.{◌+◌, ◌*◌, ◌<◌, length, ◌∙◌, arith}, lemmas.List.length-set}
-use Rattle.conv_code.proofs.Coding.{delayed_bit-at_most_1, bit_at-most_1, first_by_xor, second_by_xor, coded_more}
+use Rattle.conv_code.proofs.Lemmas.{delayed_bit-at_most_1, bit_at-most_1, first_by_xor, second_by_xor, coded_more}
 use Rattle.conv_code.proofs.encode_first_four_bits.Goals as goal
 
 pub loop-k-preserved : goal.loop-k-preserved

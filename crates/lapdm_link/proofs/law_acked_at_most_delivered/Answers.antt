@@ -1,5 +1,5 @@
-use Rattle.lapdm_link.proofs.Sessions.{counts_acks}
+use Rattle.lapdm_link.proofs.Delivery.{acked_at_most_delivered}
 use Rattle.lapdm_link.proofs.law_acked_at_most_delivered.Goals as goal
 
 pub returns : goal.returns
-returns c = counts_acks
+returns c = acked_at_most_delivered

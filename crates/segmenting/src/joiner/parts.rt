@@ -24,7 +24,8 @@ impl Joiner {
         self.part
     }
 
-    /// Sets the joiner to the state given by octets and their part. Returns false, and changes nothing, if no joiner can be in this state.
+    /// Restores the state of a joiner: the octets joined so far, and what they are part of. Returns false and changes nothing if no joiner
+    /// can be in this state.
     pub fn restore(&mut self, octets: &[u8], part: Part) -> bool
         ensures same { IsTrue result
             → values_of self.new ≡ record { octets = octets.now; part = part } }

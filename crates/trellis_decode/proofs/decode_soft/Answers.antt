@@ -3,9 +3,9 @@ use Rattle.std.proofs.Common.{arith, rules, lit≤, ◌≡◌, ◌*◌, ◌-◌,
 use Rattle.std.proofs.{Common.{refl, ap₂, sym, ◌∙◌, w32, FitsSigned}, lemmas.{Int.{ints, to_z-of_z}, List.length-append}}
 use Rattle.std.proofs.lemmas.List.{length-take, length-drop, take_all, take-take, take-append-drop, Elements.{All-take, All-drop}}
 use Rattle.conv_code.specs.Likelihood.{AllSoftBits}
-use Rattle.trellis_decode.specs.{Lanes.{lane, AreSignedOctets, IsSignedOctet}, Trellis.IsSurvivor, AcsLanes.path_metric, Words.word}
-use Rattle.trellis_decode.proofs.{Lists.{IsMostLikely-best, likelihood-best}, MapLists.{walked, walked_bits, walked_state, list_of_few}}
-use Rattle.trellis_decode.proofs.{Paths.IsSurvivor-same, decode_soft.Goals.After-metric_of_state_0}
+use Rattle.trellis_decode.specs.{Lanes.{lane, AreSignedOctets, IsSignedOctet}, Trellis.IsSurvivor, AcsLanes.path_metric, Words.to_binary}
+use Rattle.trellis_decode.proofs.{Viterbi.{IsMostLikely-best, likelihood-best, IsSurvivor-same}, SurvivorLists.{walked, walked_bits}}
+use Rattle.trellis_decode.proofs.{SurvivorLists.{walked_state, list_of_few}, decode_soft.Goals.After-metric_of_state_0}
 use Rattle.trellis_decode.proofs.decode_soft.Goals as goal
 
 octets : (soft : List ℤ) → AllSoftBits soft → AreSignedOctets soft
@@ -25,7 +25,7 @@ best c =
     (take_all _ _ (omega (arith, length-drop (2 * few) soft))) ∙ take-append-drop (2 * few) soft in
     let after = path_metric c.fill_survivors-values.result in
     let values = path_metric c.extend_survivors-walk.result.values in
-    let map = c.extend_survivors-walk.result.map in
+    let map = c.extend_survivors-walk.result.survivor_map in
     let survivors = c.fill_survivors-values.new.survivors in
     let walk = c.extend_survivors-walk.ensures.walk in
     let some = c.fill_survivors-values.ensures.at_least in
@@ -38,7 +38,7 @@ best c =
     let state = walked_state after values front rest map survivors walk some each 0 (lit≤ tt) in
     let first : c.write_last_state_bits.new.u ≡ bits =
     c.write_last_state_bits.ensures
-    ∙ ap₂ (λ k s. drop (4 - k) (word 4 s)) (sym counted) state
+    ∙ ap₂ (λ k s. drop (4 - k) (to_binary 4 s)) (sym counted) state
     ∙ list_of_few bits (omega arith) (walked_bits after values front rest map survivors walk some each 0 (lit≤ tt)) in
     IsSurvivor-same 0 (sym (ap₂ (λ u v. u ++ v) first c.trace_back_survivors.ensures)) whole refl
     (walked after values front rest map survivors walk some each 0 (lit≤ tt))

@@ -1,4 +1,4 @@
-use Rattle.um_air.proofs.Damaged.{damaged_received, flipped_damaged}
+use Rattle.um_air.proofs.Lemmas.{damaged_received, flipped_damaged}
 use Rattle.um_air.proofs.law_light_damage_is_corrected.Goals as goal
 
 pub returns : goal.returns

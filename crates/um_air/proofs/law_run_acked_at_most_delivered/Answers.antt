@@ -1,4 +1,4 @@
-use Rattle.um_air.proofs.AsFrameSessions.{air_counts}
+use Rattle.um_air.proofs.Lemmas.{air_counts}
 use Rattle.um_air.proofs.law_run_acked_at_most_delivered.Goals as goal
 
 pub returns : goal.returns

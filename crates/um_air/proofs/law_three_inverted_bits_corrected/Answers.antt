@@ -1,4 +1,4 @@
-use Rattle.um_air.proofs.FewFlipped.{accepted_as_sent}
+use Rattle.um_air.proofs.Lemmas.{accepted_as_sent}
 use Rattle.um_air.proofs.law_three_inverted_bits_corrected.Goals as goal
 
 pub returns : goal.returns

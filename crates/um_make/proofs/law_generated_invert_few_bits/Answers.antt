@@ -1,4 +1,4 @@
-use Rattle.um_make.proofs.BenignEvents.{few_inverted-generated}
+use Rattle.um_make.proofs.Lemmas.{few_inverted-generated}
 use Rattle.um_make.proofs.law_generated_invert_few_bits.Goals as goal
 
 pub returns : goal.returns

@@ -1,4 +1,4 @@
-use Rattle.um_make.proofs.OneSummary.{one_generated_summary}
+use Rattle.um_make.proofs.Lemmas.{one_generated_summary}
 use Rattle.um_make.proofs.law_summary_is_unique.Goals as goal
 
 pub returns : goal.returns

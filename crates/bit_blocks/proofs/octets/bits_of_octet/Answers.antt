@@ -1,5 +1,5 @@
 use Rattle.std.proofs.Common.{◌<◌, ap, ◌∙◌, arith}
-use Rattle.bit_blocks.{specs.Octets.octet_bits, proofs.OctetWords.spread_bits}
+use Rattle.bit_blocks.{specs.Octets.octet_bits, proofs.Lemmas.spread_bits}
 use Rattle.bit_blocks.proofs.octets.bits_of_octet.Goals as goal
 
 pub returns : goal.returns

@@ -1,5 +1,5 @@
 use Rattle.std.proofs.{Common.{◌*◌, ◌++◌, drop, ap, sym, subst, ◌∙◌, arith}, lemmas.List.{append-nil, drop_all, take_all}}
-use Rattle.bit_blocks.{specs.{Bits.AllBits, Octets.bits_of}, proofs.OctetLists.AllBits-bits_of}
+use Rattle.bit_blocks.{specs.{Bits.AllBits, Octets.bits_of}, proofs.Lemmas.AllBits-bits_of}
 use Rattle.bit_blocks.proofs.octets.from_octets.Goals as goal
 
 pub returns-clause-value : goal.returns-clause-value

@@ -1,4 +1,4 @@
-use Rattle.bit_blocks.proofs.OctetLists.{octets_of-bits_of, bits_of-octets_of}
+use Rattle.bit_blocks.proofs.Lemmas.{octets_of-bits_of, bits_of-octets_of}
 use Rattle.bit_blocks.proofs.octets.law_octet_bits_round_trip.Goals as goal
 
 pub returns : goal.returns

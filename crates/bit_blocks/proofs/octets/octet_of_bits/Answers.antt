@@ -1,5 +1,5 @@
 use Rattle.std.proofs.Common.{◌*◌, ◌%◌, ◌/◌, ◌^◌, [], ◌∷◌, ap, sym, ◌∙◌}
-use Rattle.bit_blocks.proofs.OctetWords.{gathered_octet}
+use Rattle.bit_blocks.proofs.Lemmas.{gathered_octet}
 use Rattle.bit_blocks.proofs.octets.octet_of_bits.Goals as goal
 
 pub returns : goal.returns

@@ -1,5 +1,5 @@
 use Rattle.std.proofs.{Common.{◌≡◌, arith, ◌+◌, ◌-◌, ◌*◌, length, ap, ◌∙◌, sym, take}, Math.Seq.take-length}
-use Rattle.bit_blocks.{specs.Octets.{bits_of, octets_of}, proofs.OctetLists.{octets_of_more, bits_of-octets_of}}
+use Rattle.bit_blocks.{specs.Octets.{bits_of, octets_of}, proofs.Lemmas.{octets_of_more, bits_of-octets_of}}
 use Rattle.bit_blocks.proofs.octets.to_octets.Goals as goal
 
 pub loop-m-preserved : goal.loop-m-preserved
@@ -17,7 +17,7 @@ returns-clause-value c =
     ∙ ap (λ n. octets_of (take n c.args.bits.now)) whole
     ∙ ap octets_of (take-length c.args.bits.now)
 
-pub returns-clause-undone : goal.returns-clause-undone
-returns-clause-undone c =
+pub returns-clause-round_trip : goal.returns-clause-round_trip
+returns-clause-round_trip c =
     ap bits_of (returns-clause-value c)
     ∙ bits_of-octets_of c.args.bits.now (length c.args.out.now) c.requires.count c.requires.bits

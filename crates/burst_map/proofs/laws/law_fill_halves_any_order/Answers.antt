@@ -1,4 +1,4 @@
-use Rattle.burst_map.proofs.WrittenHalves.{write_first-second, write_second-first}
+use Rattle.burst_map.proofs.Lemmas.{write_first-second, write_second-first}
 use Rattle.burst_map.proofs.laws.law_fill_halves_any_order.Goals as goal
 
 pub returns : goal.returns

@@ -106,9 +106,9 @@ module _ (n : ℕ) {M : Type 1} {𝓤 : Ura M} (𝓛 : Logic 𝓤) (at_mem : Mem
         (lends_part 𝓛 (named 0) κ q b o γ n from to xs order within small (vptr b o ∷ [])) $ await ! tt $
         pick ! (λ δ. learn ! (λ long.
         returns ! (look_at ! 0 refl) $ free_all ! refl $ keep ! (0 ∷ 2 ∷ []) $ split3 ! $
-        let lent : MutBor (List ℕ) = record { ref_ptr = (b, from + o); ghost_name = δ; now = part } in
-        rewrite ! 0 (λ (k : ℕ). ‵ ((MutSlice (named 0) κ u8).own_val lent (slice_val (b, from + o) k ∷ []))) long refl $
-        suffices ! _ (ends_at 𝓛 (ended n) (stayed n) clauses bound (slice_val (b, from + o) (to - from)) lent (tt, (tt, (tt, tt)))
+        let borrowed : MutBor (List ℕ) = record { ref_ptr = (b, from + o); ghost_name = δ; now = part } in
+        rewrite ! 0 (λ (k : ℕ). ‵ ((MutSlice (named 0) κ u8).own_val borrowed (slice_val (b, from + o) k ∷ []))) long refl $
+        suffices ! _ (ends_at 𝓛 (ended n) (stayed n) clauses bound (slice_val (b, from + o) (to - from)) borrowed (tt, (tt, (tt, tt)))
         (tt, (tt, (tt, tt)))) $
         nothing ! $ nothing ! $ fjoin ! $ nothing ! $ fjoin ! $ nothing ! $ fjoin ! $ join ! $ move !
         (1 ∷ 3 ∷ []) $ join ! $ join ! $ frame ! $ says ! (refl, long) $ done !)))

@@ -1,4 +1,4 @@
-use Rattle.fire_code.proofs.RegisterBits.{inverted_register}
+use Rattle.fire_code.proofs.Lemmas.{inverted_register}
 use Rattle.fire_code.proofs.division.crc.Goals as goal
 
 pub returns-clause-multiple : goal.returns-clause-multiple

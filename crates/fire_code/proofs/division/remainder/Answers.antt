@@ -1,12 +1,11 @@
 use Rattle.std.proofs.{Common.{arith, ◌∷◌, get_or}, lemmas.Nat.pow_pos}
-use Rattle.bit_blocks.proofs.Lemmas.{HasQuotient-zeros}
-use Rattle.fire_code.{specs.Registers.low_bits, proofs.{RegisterBits.{length-low_bits, low_bits-zero}, Steps.remainder_along}}
-use Rattle.fire_code.proofs.Steps.{remainder_within}
+use Rattle.bit_blocks.proofs.Lemmas.{IsDivisibleBy-zeros}
+use Rattle.fire_code.{specs.Registers.low_bits, proofs.Lemmas.{length-low_bits, low_bits-zero, remainder_along, remainder_within}}
 use Rattle.fire_code.proofs.division.remainder.Goals as goal
 
 pub loop-bit-init : goal.loop-bit-init
 loop-bit-init g c = (
-  rw low_bits-zero (HasQuotient-zeros g.row.N (1 ∷ low_bits g.row.N c.args.taps) (omega (arith, length-low_bits))),
+  rw low_bits-zero (IsDivisibleBy-zeros g.row.N (1 ∷ low_bits g.row.N c.args.taps) (omega (arith, length-low_bits))),
   pow_pos g.row.N,
 )
 

@@ -1,5 +1,5 @@
 use Rattle.std.proofs.Common.{arith}
-use Rattle.fire_code.proofs.OctetSteps.{entry_multiple}
+use Rattle.fire_code.proofs.Lemmas.{entry_multiple}
 use Rattle.fire_code.proofs.octets.table_remainder.Goals as goal
 
 pub returns-clause-multiple : goal.returns-clause-multiple

@@ -1,4 +1,4 @@
-use Rattle.fire_code.proofs.OctetBits.{five_octets}
+use Rattle.fire_code.proofs.Lemmas.{five_octets}
 use Rattle.fire_code.proofs.registers.octets_of_register.Goals as goal
 
 pub returns : goal.returns

@@ -1,5 +1,5 @@
 use Rattle.std.proofs.Common.{◌+◌, ◌-◌, ◌*◌, arith}
-use Rattle.fire_code.proofs.OctetBits.{no_places, put_together}
+use Rattle.fire_code.proofs.Lemmas.{no_places, put_together}
 use Rattle.fire_code.proofs.registers.register_from_bits.Goals as goal
 
 pub loop-m-init : goal.loop-m-init

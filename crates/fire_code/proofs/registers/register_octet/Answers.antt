@@ -1,5 +1,5 @@
 use Rattle.std.proofs.Common.{◌*◌}
-use Rattle.fire_code.proofs.OctetBits.{octet_of_register}
+use Rattle.fire_code.proofs.Lemmas.{octet_of_register}
 use Rattle.fire_code.proofs.registers.register_octet.Goals as goal
 
 pub returns : goal.returns

@@ -1,4 +1,4 @@
-use Rattle.fire_code.proofs.SchWords.{sch_word, same_sch_crc}
+use Rattle.fire_code.proofs.Lemmas.{sch_word, same_sch_crc}
 use Rattle.fire_code.proofs.sch.sch_parity.Goals as goal
 
 pub returns-clause-word : goal.returns-clause-word

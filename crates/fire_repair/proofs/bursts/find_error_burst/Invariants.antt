@@ -1,5 +1,5 @@
 use Rattle.std.proofs.Common.{◌≡◌, ◌<◌, ◌^◌}
-use Rattle.fire_repair.proofs.BurstSearch.{find_from}
+use Rattle.fire_repair.proofs.Lemmas.{find_from}
 use Rattle.fire_repair.proofs.bursts.find_error_burst.Given as goal
 
 abbrev pub invariant-loop-start : goal.invariant-loop-start

@@ -1,4 +1,4 @@
-use Rattle.fire_repair.proofs.AreFirstAndLastBit.{edges_of}
+use Rattle.fire_repair.proofs.Lemmas.{edges_of}
 use Rattle.fire_repair.proofs.bursts.first_and_last_bit.Goals as goal
 
 pub returns : goal.returns
@@ -8,6 +8,6 @@ returns c =
       first = first_and_last_bit.first_bit;
       last = first_and_last_bit.last_bit;
       within =
-          (first_and_last_bit.order, first_and_last_bit.within);
+          (first_and_last_bit.order, first_and_last_bit.in_range);
       none_outside = first_and_last_bit.none_outside;
     }

@@ -1,7 +1,7 @@
 use Rattle.std.proofs.Common.{◌+◌, ◌-◌, refl, subst, sym, arith}
 use Rattle.fire_repair.specs.{declared.repairs.RepairAnswer.TheVariants.{Holds, Repaired, NoRepair}, Answers.IsRepairResult}
-use Rattle.fire_repair.{specs.Repairs.{IsRepair, IsSpanOfChangedBits}, proofs.{AreFirstAndLastBit.AreFirstAndLastBit, Repairing.one_answer}}
-use Rattle.fire_repair.proofs.Repairing.{no_repair, some_shape, word_of, repair_of, span_of}
+use Rattle.fire_repair.{specs.Repairs.{IsRepair, IsSpanOfChangedBits}, proofs.Lemmas.{AreFirstAndLastBit, one_answer, no_repair}}
+use Rattle.fire_repair.proofs.Lemmas.{some_shape, word_of, repair_of, span_of}
 use Rattle.fire_repair.proofs.repairs.repair.Goals as goal
 
 pub returns-then-syndrome-eq0 : goal.returns-then-syndrome-eq0
@@ -42,7 +42,7 @@ returns-in-Some c =
       first_bit = e.first;
       last_bit = e.last;
       order = e.within.0;
-      within = e.within.1;
+      in_range = e.within.1;
       none_outside = e.none_outside;
     } in
     let due : IsRepairResult w (Repaired c.flip_error_burst.result (found.start + first) (last - first + 1)) = (

@@ -1,4 +1,4 @@
-use Rattle.interleave.proofs.ColumnBits.{columns_of_packed}
+use Rattle.interleave.proofs.Lemmas.{columns_of_packed}
 use Rattle.interleave.proofs.columns.columns_of_packed.Goals as goal
 
 pub returns-clause-each : goal.returns-clause-each

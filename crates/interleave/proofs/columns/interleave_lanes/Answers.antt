@@ -1,4 +1,4 @@
-use Rattle.interleave.proofs.ColumnBits.{interleave_lanes}
+use Rattle.interleave.proofs.Lemmas.{interleave_lanes}
 use Rattle.interleave.proofs.columns.interleave_lanes.Goals as goal
 
 pub returns-clause-each : goal.returns-clause-each

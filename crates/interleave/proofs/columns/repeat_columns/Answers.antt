@@ -1,5 +1,5 @@
 use Rattle.std.proofs.Common.{get_or, ap, ◌∙◌, arith}
-use Rattle.interleave.proofs.ColumnBits.{written_before, written_behind}
+use Rattle.interleave.proofs.Lemmas.{written_before, written_behind}
 use Rattle.interleave.proofs.columns.repeat_columns.Goals as goal
 
 pub returns-clause-front : goal.returns-clause-front

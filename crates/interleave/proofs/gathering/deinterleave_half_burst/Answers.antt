@@ -1,7 +1,7 @@
 use Rattle.std.proofs.Common.{◌≡◌, ◌<◌, get_or, pos, ap, sym, ◌∙◌, arith, length, w8, to_z, of_z, ◌+◌, ◌*◌}
 use Rattle.std.proofs.lemmas.{Int.ints, List.length-set}
-use Rattle.interleave.{specs.Places.{burst_of_bit, burst_position}, proofs.HalfBursts.{half-stands, updated_bits-more, unchanged_bits-more}}
-use Rattle.interleave.proofs.Rows.{coded_index_at-is}
+use Rattle.interleave.{specs.Positions.{burst_of_bit, burst_position}, proofs.Lemmas.{half-stands, updated_bits-more, unchanged_bits-more}}
+use Rattle.interleave.proofs.Lemmas.{coded_index_at-is}
 use Rattle.interleave.proofs.gathering.deinterleave_half_burst.Goals as goal
 
 pub loop-i-preserved : goal.loop-i-preserved

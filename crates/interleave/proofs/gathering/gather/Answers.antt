@@ -2,9 +2,9 @@
 use Rattle.std.proofs.Common.{◌≡◌, inl, inr, ℕ, ◌+◌, ◌-◌, ◌*◌, ◌/◌, ◌%◌, ◌<◌, List, [], ◌∷◌, map}
 use Rattle.std.proofs.{Common.{length, get_or, pos, ap, ap₂, sym, ◌∙◌, arith, w8}, Math.ListN.get_or-map, lemmas.Bool.cases_lt}
 use Rattle.std.{proofs.lemmas.List.get_or_default, specs.Int.cast_signed}
-use Rattle.interleave.specs.{ColumnPlaces.{coded_bit_of_column, column_bit_position}, Places.{burst_of_bit, burst_position}}
-use Rattle.interleave.proofs.{JoinedLanes.below_n, Bijection.same_coded, InColumns.in_column, WholeBursts.burst_of_bit-below}
-use Rattle.interleave.proofs.{WholeBursts.burst_position-below, gathering.gather.Goals.After-write_column}
+use Rattle.interleave.specs.{ColumnPositions.{coded_bit_of_column, column_bit_position}, Positions.{burst_of_bit, burst_position}}
+use Rattle.interleave.proofs.Lemmas.{below_n, same_coded, in_column, burst_of_bit-below, burst_position-below}
+use Rattle.interleave.proofs.gathering.gather.Goals.{After-write_column}
 use Rattle.interleave.proofs.gathering.gather.Goals as goal
 
 pub loop-group-preserved : goal.loop-group-preserved
@@ -67,7 +67,7 @@ returns-clause-interleaved c =
       coded_count = c.write_column.array_long;
       burst_count = omega arith;
       burst_lengths = λ b d lt. ap length (get_or_default parts b d [] lt) ∙ long c b (omega arith);
-      places = λ k d hk.
+      positions = λ k d hk.
           let burst = burst_of_bit-below k in
           let place = burst_position-below k in
           let count = long c (burst_of_bit k) burst in
@@ -75,7 +75,7 @@ returns-clause-interleaved c =
           get_or_default (get_or parts (burst_of_bit k) []) (burst_position k) d (pos 0) (omega arith)
           ∙ ap₂ (λ b j. get_or (get_or parts b []) j (pos 0)) at.burst at.place
           ∙ sym (written c (50 * (k / 8) % 57) (k % 8) at.column at.bit)
-          ∙ ap (λ k. get_or soft k (pos 0)) at.same
+          ∙ ap (λ k. get_or soft k (pos 0)) at.coded_bit
           ∙ get_or_default soft k (pos 0) d (omega (arith, c.write_column.array_long));
     }
 

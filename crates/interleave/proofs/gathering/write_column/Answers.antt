@@ -1,5 +1,5 @@
 use Rattle.std.proofs.{Common.{inl, inr, ◌+◌, ◌*◌, ◌%◌, arith}, lemmas.Bool.cases_lt}
-use Rattle.interleave.specs.ColumnPlaces.{coded_bit_of_column}
+use Rattle.interleave.specs.ColumnPositions.{coded_bit_of_column}
 use Rattle.interleave.proofs.gathering.write_column.Goals as goal
 
 pub returns-clause-updated_bits : goal.returns-clause-updated_bits

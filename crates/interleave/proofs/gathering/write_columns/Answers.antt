@@ -1,6 +1,6 @@
 use Rattle.std.proofs.Common.{◌≡◌, ℕ, ◌+◌, ◌*◌, ◌/◌, ◌%◌, ◌^◌, ◌<◌, get_or, refl, ap, ◌∙◌, arith}
 use Rattle.std.{proofs.Common.{below_more, w8, w64}, specs.Int.{cast_signed, to_le_bytes}}
-use Rattle.interleave.{specs.ColumnPlaces.coded_bit_of_column, proofs.JoinedLanes.below_n}
+use Rattle.interleave.{specs.ColumnPositions.coded_bit_of_column, proofs.Lemmas.below_n}
 use Rattle.interleave.proofs.gathering.write_columns.Goals as goal
 
 octet_at : (n r : ℕ) → r < 8 → get_or (to_le_bytes w64 n) r 0 ≡ n / 256 ^ r % 256

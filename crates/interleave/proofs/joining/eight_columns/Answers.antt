@@ -1,7 +1,7 @@
 -- Three rounds of joining turn eight rows into eight columns: octet r of column s is the octet that row r has for that column.
 use Rattle.std.proofs.Common.{◌≡◌, ℕ, ◌+◌, ◌*◌, ◌/◌, ◌%◌, ◌^◌, ◌<◌, List, [], ◌∷◌, get_or, ap, ap₂}
 use Rattle.std.proofs.Common.{◌∙◌, arith}
-use Rattle.interleave.{specs.ColumnPlaces.column_bit_position, proofs.JoinedLanes.{below_at, below_n, joined_octet}}
+use Rattle.interleave.{specs.ColumnPositions.column_bit_position, proofs.Lemmas.{below_at, below_n, joined_octet}}
 use Rattle.interleave.proofs.joining.eight_columns.Goals.{After-join_octet_fours-2}
 use Rattle.interleave.proofs.joining.eight_columns.Goals as goal
 
@@ -31,9 +31,11 @@ first c s h =
     c.join_octet_fours.ensures s h
     ∙ ap₂ (λ a b. a + 2 ^ 32 * b)
     (c.join_octet_pairs.ensures.first s h
-    ∙ ap₂ (λ a b. a + 65536 * b) (c.lower_octets.ensures.each s (omega arith)) (c.lower_octets-2.ensures.each s (omega arith)))
+    ∙ ap₂ (λ a b. a + 65536 * b) (c.join_lower_octets.ensures.each s (omega arith))
+    (c.join_lower_octets-2.ensures.each s (omega arith)))
     (c.join_octet_pairs-2.ensures.first s h
-    ∙ ap₂ (λ a b. a + 65536 * b) (c.upper_octets.ensures.each s (omega arith)) (c.upper_octets-2.ensures.each s (omega arith)))
+    ∙ ap₂ (λ a b. a + 65536 * b) (c.join_upper_octets.ensures.each s (omega arith))
+    (c.join_upper_octets-2.ensures.each s (omega arith)))
 
 last : (c : After-join_octet_fours-2) (s : ℕ) → s < 4 → get_or c.join_octet_fours-2.result s 0 ≡ joined c (4 + s)
 unfolding octets joined
@@ -41,10 +43,11 @@ last c s h =
     c.join_octet_fours-2.ensures s h
     ∙ ap₂ (λ a b. a + 2 ^ 32 * b)
     (c.join_octet_pairs.ensures.last s h
-    ∙ ap₂ (λ a b. a + 65536 * b) (c.lower_octets.ensures.each _ (omega arith)) (c.lower_octets-2.ensures.each _ (omega arith)))
+    ∙ ap₂ (λ a b. a + 65536 * b) (c.join_lower_octets.ensures.each _ (omega arith))
+    (c.join_lower_octets-2.ensures.each _ (omega arith)))
     (c.join_octet_pairs-2.ensures.last s h
-    ∙ ap₂ (λ a b. a + 65536 * b) (c.upper_octets.ensures.each (4 + s) (omega arith))
-    (c.upper_octets-2.ensures.each (4 + s) (omega arith)))
+    ∙ ap₂ (λ a b. a + 65536 * b) (c.join_upper_octets.ensures.each (4 + s) (omega arith))
+    (c.join_upper_octets-2.ensures.each (4 + s) (omega arith)))
 
 columns : After-join_octet_fours-2 → List ℕ
 columns c =

@@ -1,5 +1,5 @@
 use Rattle.std.proofs.Common.{◌^◌, [], ◌∷◌, refl, arith, w32}
-use Rattle.interleave.proofs.JoinedLanes.{turned_lane, below_n}
+use Rattle.interleave.proofs.Lemmas.{turned_lane, below_n}
 use Rattle.interleave.proofs.joining.join_octet_fours.Goals as goal
 
 pub returns : goal.returns

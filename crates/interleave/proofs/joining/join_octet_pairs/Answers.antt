@@ -1,5 +1,5 @@
 use Rattle.std.proofs.Common.{◌≡◌, ℕ, suc, ◌+◌, ◌*◌, ◌^◌, List, [], ◌∷◌, get_or, refl, arith, w16}
-use Rattle.interleave.proofs.JoinedLanes.{turned_lane, below_n}
+use Rattle.interleave.proofs.Lemmas.{turned_lane, below_n}
 use Rattle.interleave.proofs.joining.join_octet_pairs.Goals as goal
 
 pub returns-clause-first : goal.returns-clause-first

@@ -1,4 +1,4 @@
-use Rattle.interleave.proofs.Orders.{any_order}
+use Rattle.interleave.proofs.Lemmas.{any_order}
 use Rattle.interleave.proofs.laws.law_deinterleave_any_order.Goals as goal
 
 pub returns : goal.returns

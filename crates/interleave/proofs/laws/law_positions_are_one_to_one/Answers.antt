@@ -1,5 +1,4 @@
-use Rattle.interleave.proofs.{Bijection.coded_bit_at, BurstPlaces.{four_burst_position-below, four_burst_position-differs}}
-use Rattle.interleave.proofs.Rows.{same_coded_bit}
+use Rattle.interleave.proofs.Lemmas.{coded_bit_at, four_burst_position-below, four_burst_position-differs, same_coded_bit}
 use Rattle.interleave.proofs.laws.law_positions_are_one_to_one.Goals as goal
 
 pub returns : goal.returns

@@ -1,5 +1,5 @@
 use Rattle.std.proofs.Common.{◌≡◌, length, get_or, ap, refl, ◌∙◌, arith}
-use Rattle.interleave.{specs.Places.burst_position, proofs.WholeBursts.{halves-at, put_mid-halves}}
+use Rattle.interleave.{specs.Positions.burst_position, proofs.Lemmas.{halves-at, put_mid-halves}}
 use Rattle.interleave.proofs.spreading.burst_of_block.Goals as goal
 
 pub returns : goal.returns

@@ -1,6 +1,6 @@
 use Rattle.std.proofs.{Common.{[], get_or, ◌∙◌, arith}, lemmas.List.get_or_default}
-use Rattle.interleave.{specs.Places.{burst_of_bit, burst_position}, proofs.Bijection.{same_bursts, AllBits-bursts}}
-use Rattle.interleave.proofs.WholeBursts.{burst_of_bit-below, burst_position-below}
+use Rattle.interleave.{specs.Positions.{burst_of_bit, burst_position}, proofs.Lemmas.{same_bursts, AllBits-bursts, burst_of_bit-below}}
+use Rattle.interleave.proofs.Lemmas.{burst_position-below}
 use Rattle.interleave.proofs.spreading.spread.Goals as goal
 
 pub returns-clause-interleaved : goal.returns-clause-interleaved
@@ -11,7 +11,7 @@ returns-clause-interleaved c =
       coded_count = omega arith;
       burst_count = c.loop-b.invariant.0;
       burst_lengths = c.loop-b.invariant.1;
-      places = λ k d hk.
+      positions = λ k d hk.
           let burst = burst_of_bit-below k in
           let long = c.loop-b.invariant.1 (burst_of_bit k) [] (omega arith) in
           let place = burst_position-below k in

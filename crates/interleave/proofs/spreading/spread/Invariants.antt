@@ -1,5 +1,5 @@
 use Rattle.std.proofs.Common.{◌≡◌, ℕ, ◌<◌, [], length, get_or, All}
-use Rattle.interleave.specs.Places.{burst_of_bit, burst_position}
+use Rattle.interleave.specs.Positions.{burst_of_bit, burst_position}
 use Rattle.interleave.proofs.spreading.spread.Given as goal
 
 -- the bursts written so far hold their coded bits

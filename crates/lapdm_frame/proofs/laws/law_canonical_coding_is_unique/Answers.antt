@@ -1,4 +1,4 @@
-use Rattle.lapdm_frame.proofs.Canonical.{only_canonical}
+use Rattle.lapdm_frame.proofs.Lemmas.{only_canonical}
 use Rattle.lapdm_frame.proofs.laws.law_canonical_coding_is_unique.Goals as goal
 
 pub returns : goal.returns

@@ -1,4 +1,4 @@
-use Rattle.lapdm_frame.proofs.Existence.{one_reading}
+use Rattle.lapdm_frame.proofs.Lemmas.{one_reading}
 use Rattle.lapdm_frame.proofs.laws.law_reading_is_unique.Goals as goal
 
 pub returns : goal.returns

@@ -1,6 +1,6 @@
 use Rattle.std.proofs.Common.{◌≡◌, arith}
-use Rattle.lapdm_frame.{specs.{declared.Refusal.TheVariants.{Ea, Control}, Content.content_of}, proofs.Uniqueness.only_frame}
-use Rattle.lapdm_frame.proofs.Order.{Passes, refused, past_lpd, past_address, fault_refuses, frame_found}
+use Rattle.lapdm_frame.{specs.{declared.Refusal.TheVariants.{Ea, Control}, Content.content_of}, proofs.Lemmas.{only_frame, Passes, refused}}
+use Rattle.lapdm_frame.proofs.Lemmas.{past_lpd, past_address, fault_refuses, frame_found}
 use Rattle.lapdm_frame.proofs.reader.read_on.Goals as goal
 
 pub returns-then-address-eq0-clause-refusal : goal.returns-then-address-eq0-clause-refusal
@@ -27,13 +27,13 @@ pub returns-clause-frame : goal.returns-clause-frame
 returns-clause-frame c =
     let at = c.layer1_octets-start.ensures.value in
     let no_fault = c.in_default-length_fault.ensures.none in
-    let within : c.min.result ≡ c.from-size.result = omega (arith, no_fault.room.length_bound) in
+    let within : c.min.result ≡ c.from-size.result = omega (arith, no_fault.allowed_length.length_bound) in
     let passes : Passes c.args.channel c.args.octets.now (content_of c.in-Some.body) = record {
       count = omega arith;
-      low = rw at at c.if-address-ge32.false;
-      odd = rw at at c.if-address-eq0.false;
-      known = rw at at c.in-Some.ensures.known;
-      fault = rw (at, c.n201-most.ensures) at no_fault;
+      address_in_range = rw at at c.if-address-ge32.false;
+      address_is_odd = rw at at c.if-address-eq0.false;
+      known_control = rw at at c.in-Some.ensures.known;
+      no_length_fault = rw (at, c.n201-most.ensures) at no_fault;
       carried = rw at at (rw (within, c.from-size.ensures) at c.in-Some.ensures.carried);
       goes_on = rw at at c.in-Some.ensures.goes_on;
     } in

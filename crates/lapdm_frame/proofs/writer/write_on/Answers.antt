@@ -1,6 +1,6 @@
 use Rattle.std.proofs.{Common.{◌≡◌, ◌∙◌, sym, ap, subst, ℕ, List, arith, replicate}, lemmas.List.length-take}
 use Rattle.lapdm_frame.specs.{Content.{frame_of, information}, Frames.{address, control, length_octet}, Readings.IsOnlyCanonicalCoding}
-use Rattle.lapdm_frame.proofs.Canonical.{written, only_canonical}
+use Rattle.lapdm_frame.proofs.Lemmas.{written, only_canonical}
 use Rattle.lapdm_frame.proofs.writer.write_on.Goals as goal
 
 pub returns-clause-octets : goal.returns-clause-octets

@@ -1,5 +1,5 @@
 use Rattle.segmenting.{specs.lapdm_frame.Layout.n201, proofs.Lemmas.ended-whole}
-use Rattle.lapdm_window.proofs.Counting.{acked_message_count-most}
+use Rattle.lapdm_window.proofs.Windows.{acked_message_count-most}
 use Rattle.lapdm_window.proofs.laws.law_acked_messages_are_whole.Goals as goal
 
 pub returns-clause-most : goal.returns-clause-most

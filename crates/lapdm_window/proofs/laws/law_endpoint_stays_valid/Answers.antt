@@ -1,4 +1,4 @@
-use Rattle.lapdm_window.proofs.{Keeping.IsValidEndpoint-start, Stepping.{step-end, step-link}}
+use Rattle.lapdm_window.proofs.Steps.{IsValidEndpoint-start, step-end, step-link}
 use Rattle.lapdm_window.proofs.laws.law_endpoint_stays_valid.Goals as goal
 
 pub returns-clause-start : goal.returns-clause-start

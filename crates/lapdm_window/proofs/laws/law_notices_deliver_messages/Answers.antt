@@ -1,4 +1,4 @@
-use Rattle.lapdm_window.proofs.Stepping.{step-delivers}
+use Rattle.lapdm_window.proofs.Steps.{step-delivers}
 use Rattle.lapdm_window.proofs.laws.law_notices_deliver_messages.Goals as goal
 
 pub returns : goal.returns

@@ -1,4 +1,4 @@
-use Rattle.lapdm_window.proofs.Stepping.{step-frames}
+use Rattle.lapdm_window.proofs.Steps.{step-frames}
 use Rattle.lapdm_window.proofs.laws.law_sent_frames_fit.Goals as goal
 
 pub returns : goal.returns

@@ -1,9 +1,9 @@
 use Rattle.std.proofs.Common.{arith, rules, ◌≡◌, ◌+◌, ◌<◌, ◌≤◌, [], pos, ◌+ℤ◌, ◌-ℤ◌, get_or, take, refl, ap}
 use Rattle.std.proofs.{Common.{ap₂, sym, subst, ◌∙◌, to_z, of_z, w16, FitsSigned, ℕ, List}, lemmas.Int.to_z-of_z}
 use Rattle.trellis_decode.specs.Trellis.{next}
-use Rattle.list_decode.specs.{Branches.is_in_range, DeviatingLists.{IsLeastLossFreePosition, deviation_loss, state_after_bits}}
-use Rattle.list_decode.proofs.{FreePlaces.{is_departure, spot_first}, Losses.{reached_more, reached_small}, Spans.between_from}
-use Rattle.list_decode.proofs.Spans.{is_between}
+use Rattle.list_decode.specs.{Branches.is_in_range, DeviatingWords.{IsLeastLossFreePosition, deviation_loss, state_after_bits}}
+use Rattle.list_decode.{specs.LeastLosses.IsLeastLossSoFar, proofs.{Spans.{is_departure, spot_first}, DeviatingWords.reached_more}}
+use Rattle.list_decode.proofs.DeviatingWords.{reached_small}
 use Rattle.list_decode.proofs.branch.find_least_loss_in_span.Goals as goal
 
 pub loop-k-init : goal.loop-k-init
@@ -25,10 +25,9 @@ loop-k-init c =
     record {
       small = omega arith;
       state = ap₂ next state c.from.ensures ∙ sym (reached_more u from 0 (omega arith));
-      best = spot_first u losses (is_in_range span.from span.to) from c.new-best.result
-          (λ k lt free. let low = between_from span.from span.to k free in absurd (omega arith))
-          (is_between span.from span.to from (omega arith) (omega arith)) is.place (is.state ∙ state)
-          (is.loss_limit ∙ ap (λ loss. loss +ℤ pos 1 -ℤ pos (get_or u from 0)) lost);
+      best = subst (λ k. IsLeastLossSoFar u losses (is_in_range k (from + 1)) (from + 1) c.new-best.result) is_from
+          (spot_first u losses from c.new-best.result is.place (is.state ∙ state)
+          (is.loss_limit ∙ ap (λ loss. loss +ℤ pos 1 -ℤ pos (get_or u from 0)) lost));
     }
 
 pub loop-k-preserved : goal.loop-k-preserved
@@ -47,8 +46,7 @@ loop-k-preserved c =
     record {
       small = omega arith;
       state = ap₂ next old.state c.from-in-loop-k.ensures ∙ sym (reached_more u k 0 (omega arith));
-      best = c.or_lower_loss-best.ensures u losses (is_in_range span.from span.to) old.best
-          (is_between span.from span.to k (omega arith) (omega arith)) old.state lost refl c.requires.bits;
+      best = c.or_better_position-best.ensures u losses span.from old.best old.state lost refl c.requires.bits;
     }
 
 small_state : (u : List ℕ) (place state : ℕ) → state ≡ state_after_bits 0 (take place u) → state < 16
@@ -82,5 +80,5 @@ returns c =
     let end : c.loop-k.k ≡ span.to = omega arith in (
       is_departure u _ best.place best.state _ _ c.requires.bits old.state lost is.place is.state is.loss is.loss_limit,
       subst (λ place. IsLeastLossFreePosition u losses (is_in_range span.from span.to) span.to place) (sym is.place)
-          (subst (λ n. IsLeastLossFreePosition u losses (is_in_range span.from span.to) n best.place) end old.least),
+          (subst (λ n. IsLeastLossFreePosition u losses (is_in_range span.from n) n best.place) end old.least),
     )

@@ -1,8 +1,27 @@
-use Rattle.std.proofs.Common.{arith, ◌≡◌, ◌+◌, ◌++◌, ◌∷◌, [], get_or, take, length, sym, subst}
-use Rattle.std.proofs.lemmas.List.{length-take, take_all, take_more, Elements.All-take}
-use Rattle.list_decode.{specs.{Branches.IsBranchOfReturnedWord, Choices.IsFirstRankedBranch, Lists.stored_words}, proofs.Choices.blank}
-use Rattle.list_decode.proofs.{Choices.{first_kept, first_deviation, not_some}, choice.find_first_ranked_branch.Goals.{in-Some, in_default}}
+use Rattle.std.proofs.Common.{arith, rules, ◌≡◌, ◌+◌, ◌++◌, ◌∷◌, [], ℕ, ℤ, pos, negsuc, ◌<◌, List, Option, None}
+use Rattle.std.proofs.{Common.{Some, get_or, take, length, sym, subst, ◌∙◌, to_z, w32, FitsSigned}, lemmas.Int.{ints, to_z-of_z}}
+use Rattle.std.{proofs.lemmas.List.{length-take, take_all, take_more, Elements.All-take}, specs.Prelude.{IfSome, MatchOption, ◌≤ℤ◌}}
+use Rattle.list_decode.specs.declared.{branch.WordBranch.WordBranch, choice.BranchChoice.BranchChoice, pass.ViterbiPass.ViterbiPass}
+use Rattle.list_decode.specs.{Branches.IsBranchOfReturnedWord, Choices.IsFirstRankedBranch, WordStorage.stored_words}
+use Rattle.list_decode.proofs.Choices.{blank, None-is_not, first_skipped, first_kept, first_deviation, lowest, not_some}
+use Rattle.list_decode.proofs.choice.find_first_ranked_branch.Goals.{then-metric-least+in-Some, then-metric-least+in_default}
+use Rattle.list_decode.proofs.choice.find_first_ranked_branch.Goals.{else-metric-least}
 use Rattle.list_decode.proofs.choice.find_first_ranked_branch.Goals as goal
+
+-- what the loop knows of the first branch so far
+record IsKnown (pass : ViterbiPass) (us : List (List ℕ)) (branches : List WordBranch) (choice : Option BranchChoice) (limit : ℤ) : Type
+    0
+  where
+    pub first : IsFirstRankedBranch pass us branches choice
+    pub least : IfSome choice (λ x. limit ≤ℤ x.deviation.likelihood)
+    pub none : choice ≡ None → limit ≡ negsuc 2147483647
+
+some_least : (pass : ViterbiPass) (us : List (List ℕ)) (branches : List WordBranch) (first : Option BranchChoice) (least : ℤ) →
+    IsFirstRankedBranch pass us branches first → MatchOption first ⊥ (λ x. least ≤ℤ x.deviation.likelihood) →
+    IsKnown pass us branches first least
+some_least pass us branches None least first most = absurd most
+some_least pass us branches (Some x) least first most =
+    record { first = first; least = most; none = λ e. absurd (None-is_not (sym e)) }
 
 pub loop-i-preserved : goal.loop-i-preserved
 loop-i-preserved c =
@@ -11,24 +30,53 @@ loop-i-preserved c =
     let branches = c.args.branches.now in
     let i = c.loop-i.i in
     let branch = get_or branches i blank in
-    let more = take_more _ i blank c.loop-i-test.true in
-    let count : i ≡ length (take i branches) = let end = c.loop-i-test.true in omega (arith, length-take i branches) in
-    let first : IsFirstRankedBranch pass us (take (i + 1) branches) c.match-branch.first =
-    subst (λ bs. IsFirstRankedBranch pass us bs c.match-branch.first) (sym more) (elim c.match-branch.branch [
-      | in-Some w ↦ subst (IsFirstRankedBranch pass us (take i branches ++ branch ∷ [])) (sym w.first-is)
-          (w.earlier-first.ensures (take i branches) branch c.loop-i.invariant.first w.in-Some.is count)
-      | in_default w ↦ subst (IsFirstRankedBranch pass us (take i branches ++ branch ∷ [])) (sym w.first-is)
-          (first_kept pass us (take i branches) branch c.loop-i.first c.loop-i.invariant.first (not_some branch.best w.in_default.not-Some))
-    ]) in
+    let lt : i < length branches = let end = c.loop-i-test.true in let same = c.requires.count in omega arith in
+    let more = take_more branches i blank lt in
+    let count : i ≡ length (take i branches) = omega (arith, length-take i branches) in
+    let old = c.loop-i.invariant in
+    let least : ℤ = to_z w32 c.loop-i.least-bits in
+    let Known : Option BranchChoice → ℤ → Type 0 = IsKnown pass us (take i branches ++ branch ∷ []) in
+    let known : Known c.if-metric-least.first (to_z w32 c.if-metric-least.least-bits) =
+    elim c.if-metric-least.branch [
+      | then-metric-least+in-Some w ↦
+          let x = w.in-Some.deviation in
+          let fits : FitsSigned w32 x.likelihood = search rules in
+          subst (Known c.if-metric-least.first) (sym (w.least-is ∙ to_z-of_z w32 x.likelihood fits))
+          (subst (λ first. Known first x.likelihood) (sym w.first-is)
+          (some_least pass us (take i branches ++ branch ∷ []) w.higher_ranked-first.result x.likelihood
+          (w.higher_ranked-first.ensures.first (take i branches) branch old.first w.in-Some.is count) w.higher_ranked-first.ensures.least))
+      | then-metric-least+in_default w ↦
+          subst (Known c.if-metric-least.first) (sym w.least-is) (subst (λ first. Known first least) (sym w.first-is) (record {
+            first = first_kept pass us (take i branches) branch c.loop-i.first old.first (not_some branch.best w.in_default.not-Some);
+            least = old.least;
+            none = old.none;
+          }))
+      | else-metric-least w ↦
+          let metric : ℤ = get_or c.args.metrics.now i (pos 0) in
+          let fits : FitsSigned w32 metric = search rules in
+          let same = to_z-of_z w32 metric fits in
+          let below = w.if-metric-least.false in
+          subst (Known c.if-metric-least.first) (sym w.least-is) (subst (λ first. Known first least) (sym w.first-is) (record {
+            first = first_skipped pass us (take i branches) branch c.loop-i.first metric least old.first old.deviation old.least
+                (λ e. subst (λ l. l ≤ℤ metric) (sym (old.none e)) (lowest metric fits)) (c.requires.branches i blank lt)
+                (c.requires.metrics i lt) (omega (arith, ints));
+            least = old.least;
+            none = old.none;
+          }))
+    ] in
+    let first = subst (λ bs. IsFirstRankedBranch pass us bs c.if-metric-least.first) (sym more) known.first in
     record {
       first = first;
-      deviation = first_deviation pass us (take (i + 1) branches) c.match-branch.first
+      least = known.least;
+      none = known.none;
+      deviation = first_deviation pass us (take (i + 1) branches) c.if-metric-least.first
           (All-take (IsBranchOfReturnedWord pass us) (i + 1) branches c.requires.branches) first;
     }
 
 pub returns : goal.returns
 returns c =
     let branches = c.args.branches.now in
+    let same = c.requires.count in
     let all : length branches ≡ c.loop-i.i = let end = c.loop-i-test.false in let i = c.loop-i.auto.i-end in omega arith in
     record {
       first = subst (λ bs. IsFirstRankedBranch c.args.pass.now (stored_words c.args.pass.now c.args.lists.now) bs c.loop-i.first)

@@ -1,20 +1,20 @@
 use Rattle.std.proofs.Common.{arith, rules, ◌≡◌, length, ap, ap₂, ◌∙◌}
-use Rattle.list_decode.{specs.{Branches.word_of_deviation, Choices.deviating_word, Lists.stored_words}, proofs.Choices.order_tested}
-use Rattle.list_decode.proofs.{Choices.deviation_list_is, Trees.length-lists, WordOrder.{test, tested}}
+use Rattle.list_decode.{specs.{Branches.word_of_deviation, Choices.deviating_word, WordStorage.stored_words}, proofs.Choices.order_tested}
+use Rattle.list_decode.proofs.{Choices.{deviation_list_is, length-lists}, DeviatingWords.{test, tested}}
 use Rattle.list_decode.proofs.choice.is_lexicographically_before.Goals as goal
 
-pub write-requires-clause-within : goal.write-requires-clause-within
-write-requires-clause-within c =
+pub write_word-requires-clause-within : goal.write_word-requires-clause-within
+write_word-requires-clause-within c =
     let many : length c.args.lists.now.deviations ≡ 63 = search rules in
-    let n = length-lists c.args.pass.now c.args.lists.now many c.requires.tree.most in
-    let i = c.requires.first.within in
+    let n = length-lists c.args.pass.now c.args.lists.now many c.requires.tree.at_most in
+    let i = c.requires.first.in_range in
     omega arith
 
-pub write-requires-2-clause-within : goal.write-requires-2-clause-within
-write-requires-2-clause-within c =
+pub write_word-requires-2-clause-within : goal.write_word-requires-2-clause-within
+write_word-requires-2-clause-within c =
     let many : length c.args.lists.now.deviations ≡ 63 = search rules in
-    let n = length-lists c.args.pass.now c.args.lists.now many c.requires.tree.most in
-    let i = c.requires.second.within in
+    let n = length-lists c.args.pass.now c.args.lists.now many c.requires.tree.at_most in
+    let i = c.requires.second.in_range in
     omega arith
 
 pub returns : goal.returns
@@ -27,7 +27,8 @@ returns c =
     let is_y = deviation_list_is pass us y c.requires.pass c.requires.lists c.requires.second in
     let m = is_x.count in
     let n = is_y.count in
-    let u : c.take.new.u ≡ deviating_word pass us x = c.take.ensures ∙ ap (λ u. word_of_deviation pass u x) c.write.ensures in
-    let v : c.take-2.new.u ≡ deviating_word pass us y = c.take-2.ensures ∙ ap (λ u. word_of_deviation pass u y) c.write-2.ensures in
+    let u : c.apply.new.u ≡ deviating_word pass us x = c.apply.ensures ∙ ap (λ u. word_of_deviation pass u x) c.write_word.ensures in
+    let v : c.apply-2.new.u ≡ deviating_word pass us y = c.apply-2.ensures
+    ∙ ap (λ u. word_of_deviation pass u y) c.write_word-2.ensures in
     order_tested (deviating_word pass us x) (deviating_word pass us y) c.lt.result is_x.information.bits is_y.information.bits (omega arith)
-    (tested c.take.new.u c.take-2.new.u c.lt.result c.lt.ensures ∙ ap₂ test u v)
+    (tested c.apply.new.u c.apply-2.new.u c.lt.result c.lt.ensures ∙ ap₂ test u v)

@@ -1,7 +1,7 @@
 use Rattle.std.proofs.Common.{arith, ◌≡◌, ◌+◌, ◌-◌, ◌<◌, List, [], ◌++◌, ℕ, length, take, drop, ap, ap₂, sym}
 use Rattle.std.proofs.{Common.{subst, ◌∙◌}, lemmas.List.{append-nil, drop_all, length-drop, take-append-drop, take_all}}
 use Rattle.trellis_decode.{proofs.Lemmas.length-traceback, specs.Trellis.traceback}
-use Rattle.list_decode.{specs.DeviatingLists.{state_after_bits, IsLeastLossPosition}, proofs.Losses.chosen_from}
+use Rattle.list_decode.{specs.DeviatingWords.{state_after_bits, IsLeastLossPosition}, proofs.DeviatingWords.chosen_from}
 use Rattle.list_decode.proofs.departure.find_least_loss.Goals as goal
 
 pub returns-clause-list : goal.returns-clause-list
@@ -22,7 +22,8 @@ returns-clause-list c =
     (old.state ∙ ap (λ k. state_after_bits 0 (take k (traceback rows 0))) end)
     ∙ sym (chosen_from rows 0 free (let count = c.requires.rows in omega arith)) in
     ap (λ none. take free written ++ (rest ++ none)) behind
-    ∙ ap₂ (λ front rest. front ++ rest) (subst (λ k. take k written ≡ take k (traceback rows 0)) end old.written) (append-nil rest
+    ∙ ap₂ (λ front rest. front ++ rest) (subst (λ k. take k written ≡ take k (traceback rows 0)) end old.bits_traced)
+    (append-nil rest
     ∙ last)
     ∙ take-append-drop free (traceback rows 0)
 
@@ -41,4 +42,4 @@ returns-clause-state c =
 
 pub returns-clause-within : goal.returns-clause-within
 returns-clause-within c =
-    subst (λ u. c.loop-k.reading.best.place + 4 < length u) (sym (returns-clause-list c)) c.loop-k.invariant.reading.best.within
+    subst (λ u. c.loop-k.reading.best.place + 4 < length u) (sym (returns-clause-list c)) c.loop-k.invariant.reading.best.in_range

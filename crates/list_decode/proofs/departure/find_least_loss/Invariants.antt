@@ -1,4 +1,4 @@
-use Rattle.list_decode.specs.Readings.{IsPartialTraceback}
+use Rattle.list_decode.specs.PartialTracebacks.{IsPartialTraceback}
 use Rattle.list_decode.proofs.departure.find_least_loss.Given as goal
 
 abbrev pub invariant-loop-k : goal.invariant-loop-k

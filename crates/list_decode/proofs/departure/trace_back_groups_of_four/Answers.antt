@@ -3,8 +3,8 @@ use Rattle.std.proofs.Common.{◌-ℤ◌, length, get_or, take, refl, ap, ap₂,
 use Rattle.std.proofs.lemmas.{Int.to_z-of_z, Nat.and_mask}
 use lib.Bits.{bit_and}
 use Rattle.trellis_decode.{proofs.Lemmas.length-traceback, specs.Trellis.traceback}
-use Rattle.list_decode.specs.{DeviatingLists.{state_after_bits, IsLeastLossPosition}, Readings.IsPartialTraceback}
-use Rattle.list_decode.proofs.Losses.{chosen_bit}
+use Rattle.list_decode.specs.{DeviatingWords.{state_after_bits, IsLeastLossPosition}, PartialTracebacks.IsPartialTraceback}
+use Rattle.list_decode.proofs.DeviatingWords.{chosen_bit}
 use Rattle.list_decode.proofs.departure.trace_back_groups_of_four.Goals as goal
 
 pub loop-group-init : goal.loop-group-init
@@ -22,18 +22,18 @@ loop-group-init c =
     and_mask (get_or rows 0 0) 1 ∙ first ∙ sym (chosen_bit rows 0 0 (let same = c.requires.rows in omega arith)) in
     record {
       reading = record {
-        small = omega arith;
+        state_in_range = omega arith;
         state = refl;
-        written = refl;
+        bits_traced = refl;
         best = record {
-          found = omega arith;
-          within = omega arith;
+          at_most_k = omega arith;
+          in_range = omega arith;
           state = c.new.ensures.state ∙ sym (ap (λ p. state_after_bits 0 (take p u)) place);
           least = subst (λ p. IsLeastLossPosition u losses 0 p c.new.result.loss) (sym place) (record {
             value = lost ∙ to_z-of_z w16 _ fits;
             least = λ k lt. absurd (omega arith);
-            before = λ k lt equal. absurd (omega arith);
-            after = λ k late lt equal. absurd (omega arith);
+            tie_before = λ k lt equal. absurd (omega arith);
+            tie_after = λ k late lt equal. absurd (omega arith);
           });
           loss_limit = c.new.ensures.loss_limit
               ∙ ap₂ (λ (loss : ℤ) (bit : ℕ). loss +ℤ pos 1 -ℤ pos bit) (sym lost) (bit
@@ -42,24 +42,31 @@ loop-group-init c =
       };
     }
 
-pub more-requires-in-loop-group-2-clause-reading : goal.more-requires-in-loop-group-2-clause-reading
-more-requires-in-loop-group-2-clause-reading c =
-    subst (λ k. IsPartialTraceback c.args.rows.now c.args.losses.now c.more-in-loop-group.new.u k c.more-in-loop-group.result)
+pub trace_back_bit-requires-in-loop-group-2-clause-reading : goal.trace_back_bit-requires-in-loop-group-2-clause-reading
+trace_back_bit-requires-in-loop-group-2-clause-reading c =
+    subst
+    (λ k. IsPartialTraceback c.args.rows.now c.args.losses.now c.trace_back_bit-in-loop-group.new.u k
+    c.trace_back_bit-in-loop-group.result)
     (omega arith)
-    c.more-in-loop-group.ensures.reading
+    c.trace_back_bit-in-loop-group.ensures.reading
 
-pub more-reading-requires-clause-reading : goal.more-reading-requires-clause-reading
-more-reading-requires-clause-reading c =
-    subst (λ k. IsPartialTraceback c.args.rows.now c.args.losses.now c.more-in-loop-group-2.new.u k c.more-in-loop-group-2.result)
+pub trace_back_bit-reading-requires-clause-reading : goal.trace_back_bit-reading-requires-clause-reading
+trace_back_bit-reading-requires-clause-reading c =
+    subst
+    (λ k. IsPartialTraceback c.args.rows.now c.args.losses.now c.trace_back_bit-in-loop-group-2.new.u k
+    c.trace_back_bit-in-loop-group-2.result)
     (omega arith)
-    c.more-in-loop-group-2.ensures.reading
+    c.trace_back_bit-in-loop-group-2.ensures.reading
 
 pub loop-group-preserved : goal.loop-group-preserved
 loop-group-preserved c =
     let fourth : 4 * c.loop-group.group + 3 + 1 ≡ 4 * (c.loop-group.group + 1) = omega arith in
     record {
-      reading = subst (λ k. IsPartialTraceback c.args.rows.now c.args.losses.now c.more-reading.new.u k c.more-reading.result) fourth
-          c.more-reading.ensures.reading;
+      reading =
+          subst
+          (λ k. IsPartialTraceback c.args.rows.now c.args.losses.now c.trace_back_bit-reading.new.u k c.trace_back_bit-reading.result)
+          fourth
+          c.trace_back_bit-reading.ensures.reading;
     }
 
 pub returns : goal.returns

@@ -1,4 +1,4 @@
-use Rattle.list_decode.proofs.ClassSteps.{begins_ranked, goes_on_ranked, ends_ranked}
+use Rattle.list_decode.proofs.Rankings.{begins_ranked, goes_on_ranked, ends_ranked}
 use Rattle.list_decode.proofs.laws.law_classes_give_ranking.Goals as goal
 
 pub returns-clause-begins : goal.returns-clause-begins

@@ -2,9 +2,9 @@ use Rattle.std.proofs.Common.{arith, rules, ◌+◌, ◌-◌, ◌*◌, ◌++◌,
 use Rattle.std.{proofs.{Common.{◌∙◌, w32}, lemmas.Int.to_z-of_z}, specs.Prelude.◌≤ℤ◌}
 use Rattle.weight_bound.specs.bit_blocks.Bits.{AllBits}
 use Rattle.trellis_decode.specs.Trellis.{next, traceback}
-use Rattle.list_decode.{specs.DeviatingLists.state_after_bits, proofs.DeviatingLists.{AllBits-kept, AreFirstTwo, first_two}}
-use Rattle.list_decode.proofs.{Losses.{chosen_behind, reached_small}, Margins.{IsMargin-second, tie_by_margin, hard_margin, both_only}}
-use Rattle.list_decode.proofs.second.margin.Goals.{After-write_deviation}
+use Rattle.list_decode.{specs.DeviatingWords.state_after_bits, proofs.DeviatingWords.{AllBits-kept, AreFirstTwo, first_two}}
+use Rattle.list_decode.proofs.{DeviatingWords.{traceback_behind, reached_small}, Rankings.{IsMargin-second, tie_by_margin, hard_margin}}
+use Rattle.list_decode.proofs.{Rankings.both_only, second.margin.Goals.After-write_deviation}
 use Rattle.list_decode.proofs.second.margin.Goals as goal
 
 pub write_deviation-requires-clause-bits : goal.write_deviation-requires-clause-bits
@@ -18,7 +18,8 @@ write_deviation-requires-clause-chosen c =
     let departure = c.find_least_loss-departure in
     let is = c.new-deviation.ensures in
     let at = is.place in
-    chosen_behind c.fill_decisions.new.rows departure.new.u c.new-deviation.result.place c.new-deviation.result.state departure.ensures.list
+    traceback_behind c.fill_decisions.new.rows departure.new.u c.new-deviation.result.place c.new-deviation.result.state
+    departure.ensures.list
     (let i = departure.ensures.within in let n = c.fill_decisions.auto.rows in let m = departure.auto.u in omega arith)
     (let n = c.fill_decisions.auto.rows in let m = departure.auto.u in omega arith)
     (is.state ∙ departure.ensures.state ∙ ap (λ place. state_after_bits 0 (take place departure.new.u)) (sym is.place))

@@ -1,4 +1,4 @@
-use Rattle.segmenting.proofs.Joins.{messages_come_back}
+use Rattle.segmenting.proofs.Lemmas.{messages_come_back}
 use Rattle.segmenting.proofs.laws.law_messages_are_reassembled.Goals as goal
 
 pub returns : goal.returns

@@ -1,4 +1,4 @@
-use Rattle.segmenting.proofs.Joins.{messages-push, delivered_is_latest}
+use Rattle.segmenting.proofs.Lemmas.{messages-push, delivered_is_latest}
 use Rattle.segmenting.proofs.laws.law_next_segment_delivers.Goals as goal
 
 pub returns-clause-messages : goal.returns-clause-messages

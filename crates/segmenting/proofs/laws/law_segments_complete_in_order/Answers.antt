@@ -1,4 +1,4 @@
-use Rattle.segmenting.proofs.Fronts.{ended_messages-front, ended-whole}
+use Rattle.segmenting.proofs.Lemmas.{ended_messages-front, ended-whole}
 use Rattle.segmenting.proofs.laws.law_segments_complete_in_order.Goals as goal
 
 pub returns-clause-front : goal.returns-clause-front

@@ -1,7 +1,7 @@
 use Rattle.std.proofs.Common.{◌≡◌, ◌≢◌, ◌<◌, length, pos, refl, arith, below_more, get_or-set_other, get_or-set_same}
 use Rattle.std.proofs.{Common.{◌∙◌, sym, ap, get_or, ◌+ℤ◌}, lemmas.{Int.ints, List.{ext_get_or, length-set}}}
 use Rattle.std.proofs.lemmas.List.Elements.{All-replicate, All-set}
-use Rattle.training_seq.{specs.{Ranges.IsMagnitudeWithin, Sums.vector_sum}, proofs.Correlations.{length-vector_sum, get_or-vector_sum}}
+use Rattle.training_seq.{specs.{Ranges.IsMagnitudeWithin, Sums.vector_sum}, proofs.Lemmas.{length-vector_sum, get_or-vector_sum}}
 use Rattle.training_seq.proofs.choice.add_midambles.Goals as goal
 
 pub loop-i-init : goal.loop-i-init

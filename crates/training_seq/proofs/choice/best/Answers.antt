@@ -1,7 +1,7 @@
 -- Correlation is linear: correlating the sum of four midambles gives the sum of their correlations.
 use Rattle.std.proofs.{Common.{◌≡◌, ℕ, ℤ, ◌≤◌, List, length, arith}, lemmas.Int.ints}
-use Rattle.training_seq.{specs.{Choice.total_correlation, Sequences.midamble, Sums.vector_sum}, proofs.Correlations.length-vector_sum}
-use Rattle.training_seq.proofs.{Correlations.correlation-vector_sum, Greatest.IsFirstMaximum-same, SequenceTable.AllBits-midamble}
+use Rattle.training_seq.{specs.{Choice.total_correlation, Sequences.midamble, Sums.vector_sum}, proofs.Lemmas.length-vector_sum}
+use Rattle.training_seq.proofs.Lemmas.{correlation-vector_sum, IsFirstMaximum-same, AllBits-midamble}
 use Rattle.bit_blocks.specs.SoftValues.{likelihood}
 use Rattle.training_seq.proofs.choice.best.Goals as goal
 

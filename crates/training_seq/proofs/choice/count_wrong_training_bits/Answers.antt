@@ -1,6 +1,6 @@
 use Rattle.std.proofs.{Common.{◌≡◌, ◌<◌, length, pos, arith, get_or, w16, to_z, of_z}, lemmas.Int.ints}
-use Rattle.training_seq.{specs.{Ranges.IsMagnitudeWithin, Sequences.midamble, Sums.sign_of_bit}, proofs.Correlations.wrong_more}
-use Rattle.training_seq.proofs.SequenceTable.{length-midamble, sign_at, small_sign}
+use Rattle.training_seq.{specs.{Ranges.IsMagnitudeWithin, Sequences.midamble, Sums.sign_of_bit}, proofs.Lemmas.wrong_more}
+use Rattle.training_seq.proofs.Lemmas.{length-midamble, sign_at, small_sign}
 use Rattle.training_seq.proofs.choice.count_wrong_training_bits.Goals as goal
 
 pub count_wrong_bits_at-wrong-requires-clause-sign : goal.count_wrong_bits_at-wrong-requires-clause-sign

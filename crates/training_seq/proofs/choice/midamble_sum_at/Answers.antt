@@ -1,5 +1,5 @@
 use Rattle.std.proofs.{Common.arith, lemmas.Int.ints}
-use Rattle.training_seq.proofs.Widths.{four_fit, four_kept}
+use Rattle.training_seq.proofs.Lemmas.{four_fit, four_kept}
 use Rattle.training_seq.proofs.choice.midamble_sum_at.Goals as goal
 
 pub overflow_add-result-3 : goal.overflow_add-result-3

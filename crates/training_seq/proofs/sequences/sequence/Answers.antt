@@ -1,4 +1,4 @@
-use Rattle.training_seq.proofs.SequenceTable.{AllBits-midamble}
+use Rattle.training_seq.proofs.Lemmas.{AllBits-midamble}
 use Rattle.training_seq.proofs.sequences.sequence.Goals as goal
 
 pub returns-clause-bits : goal.returns-clause-bits

@@ -1,7 +1,7 @@
 use Rattle.std.proofs.Common.{◌≡◌, ℕ, ◌+◌, ◌*◌, ◌-◌, ◌<◌, ◌++◌, drop, take, ap, ap₂, sym, ◌∙◌, subst}
 use Rattle.std.proofs.{Common.arith, Math.Seq.take-add, lemmas.{Int.ints, List.drop-drop}}
 use Rattle.trellis_decode.specs.{AcsLanes.{AreInt16, path_metric, metrics_of_lanes}, SurvivorPaths.{AreMetricsWithin, AreSurvivors}}
-use Rattle.trellis_decode.proofs.{FourPairs.{AreSignedOctets-pair, pair_at}, SurvivorPaths.{HaveHeadroom16-even, HaveHeadroom16-odd}}
+use Rattle.trellis_decode.proofs.{AcsSteps.{AreSignedOctets-pair, pair_at}, SurvivorLists.{HaveHeadroom16-even, HaveHeadroom16-odd}}
 use Rattle.trellis_decode.proofs.backward.extend_survivors.Goals as goal
 
 pub loop-k-init : goal.loop-k-init
@@ -10,7 +10,7 @@ loop-k-init c =
     let same = ap₂ metrics_of_lanes c.new-walk.ensures.even c.new-walk.ensures.odd in
     record {
       walk = subst (λ n. AreSurvivors (path_metric c.args.after) (path_metric c.new-walk.result.values)
-          c.new-walk.result.map (take n (drop (2 * c.args.places) c.args.soft.now))) none
+          c.new-walk.result.survivor_map (take n (drop (2 * c.args.places) c.args.soft.now))) none
           (rw same c.new-walk.ensures.walk);
       within = subst (λ most. AreMetricsWithin most (path_metric c.new-walk.result.values)) (omega arith)
           (subst (AreMetricsWithin 58368) (sym same) c.requires.within);
@@ -20,11 +20,11 @@ loop-k-init c =
     }
 
 pub step-walk-requires-clause-even : goal.step-walk-requires-clause-even
-step-walk-requires-clause-even c = HaveHeadroom16-even _ c.loop-k.walk.values.odd.lanes
+step-walk-requires-clause-even c = HaveHeadroom16-even _ c.loop-k.walk.values.odd_states.lanes
     _ (omega arith) c.loop-k.invariant.within c.loop-k.invariant.even.count
 
 pub step-walk-requires-clause-odd : goal.step-walk-requires-clause-odd
-step-walk-requires-clause-odd c = HaveHeadroom16-odd c.loop-k.walk.values.even.lanes _
+step-walk-requires-clause-odd c = HaveHeadroom16-odd c.loop-k.walk.values.even_states.lanes _
     _ (omega arith) c.loop-k.invariant.within c.loop-k.invariant.odd.count
 
 pub loop-k-preserved : goal.loop-k-preserved
@@ -53,11 +53,11 @@ pub returns-clause-walk : goal.returns-clause-walk
 returns-clause-walk c =
     let none : c.loop-k.k ≡ 0 = omega arith in
     let SurvivorPaths : ℕ → ℕ → Type 0 = λ n k. AreSurvivors (path_metric c.args.after)
-    (path_metric c.loop-k.walk.values) c.loop-k.walk.map (take n (drop (2 * k) c.args.soft.now)) in
+    (path_metric c.loop-k.walk.values) c.loop-k.walk.survivor_map (take n (drop (2 * k) c.args.soft.now)) in
     subst (SurvivorPaths (2 * c.args.places)) none (subst (λ n. SurvivorPaths n c.loop-k.k) (omega arith) c.loop-k.invariant.walk)
 
 pub returns-clause-within : goal.returns-clause-within
 returns-clause-within c = record {
-  low = c.loop-k.invariant.within.low;
-  high = λ s lt. let high = c.loop-k.invariant.within.high s lt in omega (arith, ints);
+  lower_bound = c.loop-k.invariant.within.lower_bound;
+  upper_bound = λ s lt. let high = c.loop-k.invariant.within.upper_bound s lt in omega (arith, ints);
 }

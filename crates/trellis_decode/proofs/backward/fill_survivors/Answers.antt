@@ -2,8 +2,8 @@
 use Rattle.std.proofs.Common.{◌≡◌, ℕ, ◌*◌, ◌+◌, ◌-◌, ◌<◌, [], ◌∷◌, drop, take, length, ◌∙◌, subst}
 use Rattle.std.proofs.{Common.arith, lemmas.List.{length-set, take_all, length-take, length-drop, Elements.All-drop}}
 use Rattle.trellis_decode.specs.{Lanes.{lane, IsSignedOctet}, Trellis.IsSurvivor, AcsLanes.{lane_of_state, path_metric}}
-use Rattle.trellis_decode.{specs.SurvivorPaths.{AreSurvivors, survivor_traceback}, proofs.MapLists.{last_map, more_survivors}}
-use Rattle.trellis_decode.proofs.{Paths.IsSurvivor-to_end, SurvivorPaths.{AreMetricsWithin-best, AreMetricsWithin-most}}
+use Rattle.trellis_decode.{specs.SurvivorPaths.{AreSurvivors, survivor_traceback}, proofs.SurvivorLists.{last_map, more_survivors}}
+use Rattle.trellis_decode.proofs.{SurvivorLists.{AreMetricsWithin-best, AreMetricsWithin-most}, Viterbi.IsSurvivor-to_end}
 use Rattle.trellis_decode.proofs.backward.fill_survivors.Goals.{After-tail_metrics-values}
 use Rattle.trellis_decode.proofs.backward.fill_survivors.Goals as goal
 
@@ -22,7 +22,7 @@ loop-group-init c =
       best = last_map c.args.survivors.now (drop (8 * last) soft) values last (omega (arith, c.requires.at_least)) (closing c);
       low = (AreMetricsWithin-best values (drop (8 * last) soft) (λ s. 0 ∷ 0 ∷ 0 ∷ 0 ∷ [])
           (All-drop IsSignedOctet (8 * last) soft c.requires.octets)
-          (omega (arith, length-drop (8 * last) soft, c.requires.count, c.requires.at_least)) (closing c)).low;
+          (omega (arith, length-drop (8 * last) soft, c.requires.count, c.requires.at_least)) (closing c)).lower_bound;
       even = c.tail_metrics-values.ensures.even;
       odd = c.tail_metrics-values.ensures.odd;
     }
@@ -43,7 +43,7 @@ loop-group-preserved c =
     let before = group - 1 in
     let after = path_metric c.loop-group.values in
     let values = path_metric c.extend_survivors-walk.result.values in
-    let map = c.extend_survivors-walk.result.map in
+    let map = c.extend_survivors-walk.result.survivor_map in
     let eight : 8 * before + 8 - 8 * before ≡ 8 = omega arith in
     let same : length survivors ≡ length c.args.survivors.now = c.loop-group.auto.survivors
     ∙ length-set c.args.survivors.now (length c.args.survivors.now - 1) _ in
@@ -54,7 +54,7 @@ loop-group-preserved c =
     record {
       best = more_survivors after values soft map survivors before group (omega arith) (omega (arith, same, within, c.requires.at_least))
           (omega (arith, same, within, c.requires.at_least, c.requires.count)) walk c.loop-group.invariant.best;
-      low = c.extend_survivors-walk.ensures.within.low;
+      low = c.extend_survivors-walk.ensures.within.lower_bound;
       even = c.extend_survivors-walk.ensures.even;
       odd = c.extend_survivors-walk.ensures.odd;
     }

@@ -10,6 +10,6 @@ invariant-loop-group l = record {
       IsSurvivor s (survivor_traceback (drop l.group l.survivors) (lane_of_state s)) (drop (8 * l.group) l.soft) (lane
       (path_metric l.values) s);
   low : (s : ℕ) → s < 16 → negsuc 1023 ≤ℤ lane (path_metric l.values) s;
-  even : AreInt16 l.values.even.lanes;
-  odd : AreInt16 l.values.odd.lanes;
+  even : AreInt16 l.values.even_states.lanes;
+  odd : AreInt16 l.values.odd_states.lanes;
 }

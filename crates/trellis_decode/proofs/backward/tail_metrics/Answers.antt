@@ -1,8 +1,8 @@
 use Rattle.std.proofs.Common.{◌≡◌, suc, ◌+◌, ◌*◌, ◌-◌, ◌<◌, drop, replicate, refl, ap, sym, ◌∙◌, subst, lit≤}
 use Rattle.std.proofs.{Common.arith, Math.Seq.drop-length, lemmas.List.{length-drop, Elements.All-drop}}
-use Rattle.trellis_decode.{specs.{Lanes.{IsSignedOctet, lane}, Trellis.IsSurvivor, AcsLanes.path_metric}, proofs.FourPairs.pair_at}
-use Rattle.trellis_decode.proofs.{FourPairs.pair_and_after, Paths.{IsSurvivor-none, IsSurvivor-same}, SurvivorPaths.HaveHeadroom16-even}
-use Rattle.trellis_decode.proofs.SurvivorPaths.{AreMetricsWithin-best, IsSurvivor-closed}
+use Rattle.trellis_decode.{specs.{Lanes.{IsSignedOctet, lane}, Trellis.IsSurvivor, AcsLanes.path_metric}, proofs.AcsSteps.pair_at}
+use Rattle.trellis_decode.proofs.{AcsSteps.pair_and_after, Viterbi.{IsSurvivor-none, IsSurvivor-same}, SurvivorLists.HaveHeadroom16-even}
+use Rattle.trellis_decode.proofs.SurvivorLists.{AreMetricsWithin-best, IsSurvivor-closed}
 use Rattle.trellis_decode.proofs.backward.tail_metrics.Goals as goal
 
 pub loop-k-init : goal.loop-k-init
@@ -19,7 +19,7 @@ pub tail_step-values-requires-clause-even : goal.tail_step-values-requires-claus
 tail_step-values-requires-clause-even c =
     let soft = c.args.soft.now in
     let k = c.loop-k.k in
-    HaveHeadroom16-even c.loop-k.values.even.lanes c.loop-k.values.odd.lanes 1024 (lit≤ tt)
+    HaveHeadroom16-even c.loop-k.values.even_states.lanes c.loop-k.values.odd_states.lanes 1024 (lit≤ tt)
     (AreMetricsWithin-best (path_metric c.loop-k.values) (drop (2 * k) soft) (λ s. replicate (4 - k) 0)
     (All-drop IsSignedOctet (2 * k) soft c.requires.octets) (omega (arith, length-drop (2 * k) soft, c.requires.count))
     c.loop-k.invariant.best) c.loop-k.invariant.even.count

@@ -6,6 +6,6 @@ use Rattle.trellis_decode.proofs.backward.tail_metrics.Given as goal
 abbrev pub invariant-loop-k : goal.invariant-loop-k
 invariant-loop-k l = record {
   best : (s : ℕ) → s < 16 → IsSurvivor s (replicate (4 - l.k) 0) (drop (2 * l.k) l.soft) (lane (path_metric l.values) s);
-  even : AreInt16 l.values.even.lanes;
-  odd : AreInt16 l.values.odd.lanes;
+  even : AreInt16 l.values.even_states.lanes;
+  odd : AreInt16 l.values.odd_states.lanes;
 }

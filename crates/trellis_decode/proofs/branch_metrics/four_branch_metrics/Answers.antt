@@ -1,9 +1,8 @@
 use Rattle.std.proofs.Common.{◌≡◌, ℕ, ◌+◌, ◌*◌, ◌≤◌, ◌∷◌, [], List, ℤ, lit≤, length, get_or, take, drop, ap}
 use Rattle.std.proofs.Common.{sym, ◌∙◌, subst}
 use Rattle.trellis_decode.specs.{Lanes.AreSignedOctets, AcsLanes.{AreBranchMetrics, HasBranchMetrics}}
-use Rattle.trellis_decode.{specs.declared.acs_lanes.EightLanes.EightLanes, proofs.{BranchMetricLanes.each, FourPairs.branch_metrics_at}}
-use Rattle.trellis_decode.proofs.FourPairs.{HasBranchMetrics-at, AreBranchMetrics-at}
-use Rattle.trellis_decode.proofs.branch_metrics.four_branch_metrics.Goals.{After-widen_to_i16-values}
+use Rattle.trellis_decode.{specs.declared.acs_lanes.EightLanes.EightLanes, proofs.AcsSteps.{each, branch_metrics_at, HasBranchMetrics-at}}
+use Rattle.trellis_decode.proofs.{AcsSteps.AreBranchMetrics-at, branch_metrics.four_branch_metrics.Goals.After-widen_to_i16-values}
 use Rattle.trellis_decode.proofs.branch_metrics.four_branch_metrics.Goals as goal
 
 abbrev place : List ℤ → ℕ → EightLanes

@@ -1,5 +1,5 @@
 use Rattle.std.{proofs.{Common.{arith, map, ap, ◌∙◌, w8, w16}, lemmas.List.take_all}, specs.Int.{cast_signed, cast_unsigned}}
-use Rattle.trellis_decode.proofs.FourPairs.{widened_fits, widened_same}
+use Rattle.trellis_decode.proofs.AcsSteps.{widened_fits, widened_same}
 use Rattle.trellis_decode.proofs.branch_metrics.widen_to_i16.Goals as goal
 
 pub overflow_cast-result : goal.overflow_cast-result

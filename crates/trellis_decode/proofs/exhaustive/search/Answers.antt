@@ -1,7 +1,7 @@
 use Rattle.std.proofs.Common.{arith, rules, ◌≡◌, ◌*◌, ◌^◌, ◌<◌, length, ap, ◌∙◌, ◌<ℤ◌, ◌≤ℤ◌}
 use Rattle.std.proofs.{Common.{FitsSigned, w32}, lemmas.Int.to_z-of_z}
 use Rattle.conv_code.{specs.{Code.encoding, Likelihood.likelihood}, proofs.Lemmas.IsMostLikely-only}
-use Rattle.trellis_decode.{specs.Words.word, proofs.Searching.{less_by_test, most_by_test, new_leads, old_leads, IsMostLikely-chosen}}
+use Rattle.trellis_decode.{specs.Words.to_binary, proofs.Viterbi.{less_by_test, most_by_test, new_leads, old_leads, IsMostLikely-chosen}}
 use Rattle.trellis_decode.proofs.exhaustive.search.Goals.{then-value-best, else-value-best}
 use Rattle.trellis_decode.proofs.exhaustive.search.Goals as goal
 
@@ -19,12 +19,12 @@ loop-number-preserved c =
       ap (λ n. 2 ^ n) c.write_bits_and_zero_tail.auto.u,
     ) in
     let fits : FitsSigned w32 c.path_metric-value.result = search rules in
-    let value : c.path_metric-value.result ≡ likelihood soft (encoding (word n (16 * number))) =
+    let value : c.path_metric-value.result ≡ likelihood soft (encoding (to_binary n (16 * number))) =
     c.path_metric-value.ensures ∙ ap (λ u. likelihood soft (encoding u)) c.write_bits_and_zero_tail-in-loop-number.ensures.list in
     elim c.if-value-best.branch [
       | then-value-best w ↦
           let is = w.chosen-is in
-          let more : likelihood soft (encoding (word n (16 * chosen))) <ℤ likelihood soft (encoding (word n (16 * number))) =
+          let more : likelihood soft (encoding (to_binary n (16 * chosen))) <ℤ likelihood soft (encoding (to_binary n (16 * number))) =
           less_by_test _ _ _ _ kept.value (to_z-of_z w32 c.path_metric-value.result fits ∙ value) w.if-value-best.true in
           record {
             before = omega arith;
@@ -33,7 +33,7 @@ loop-number-preserved c =
           }
       | else-value-best w ↦
           let is = w.chosen-is in
-          let most : likelihood soft (encoding (word n (16 * number))) ≤ℤ likelihood soft (encoding (word n (16 * chosen))) =
+          let most : likelihood soft (encoding (to_binary n (16 * number))) ≤ℤ likelihood soft (encoding (to_binary n (16 * chosen))) =
           most_by_test _ _ _ _ kept.value (to_z-of_z w32 c.path_metric-value.result fits ∙ value) w.if-value-best.false in
           record {
             before = omega arith;

@@ -1,13 +1,13 @@
 use Rattle.std.proofs.Common.{◌≡◌, ◌≢◌, ℕ, ◌*◌, ◌<◌, length}
 use Rattle.conv_code.specs.{Code.encoding, Likelihood.{likelihood, RanksAfter}}
-use Rattle.trellis_decode.specs.Words.{word}
+use Rattle.trellis_decode.specs.Words.{to_binary}
 use Rattle.trellis_decode.proofs.exhaustive.search.Given as goal
 
 -- the chosen list is the most likely list so far, and the first of equally likely ones
 abbrev pub invariant-loop-number : goal.invariant-loop-number
 invariant-loop-number l = record {
   before : l.chosen < l.number;
-  value : l.best ≡ likelihood l.soft (encoding (word (length l.u) (16 * l.chosen)));
+  value : l.best ≡ likelihood l.soft (encoding (to_binary (length l.u) (16 * l.chosen)));
   others : (m : ℕ) → m < l.number → m ≢ l.chosen →
-      RanksAfter l.soft (word (length l.u) (16 * m)) (word (length l.u) (16 * l.chosen));
+      RanksAfter l.soft (to_binary (length l.u) (16 * m)) (to_binary (length l.u) (16 * l.chosen));
 }

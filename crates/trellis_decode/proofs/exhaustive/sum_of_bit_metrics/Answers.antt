@@ -1,7 +1,7 @@
 use Rattle.std.proofs.{Common.{rules, arith, ◌≡◌, ◌+◌, suc, ap, ◌∙◌, pos, ◌+ℤ◌, w8, get_or, take}, lemmas.Int.ints}
 use Rattle.std.proofs.lemmas.Int.{to_z-of_z}
 use Rattle.conv_code.specs.Likelihood.{bit_metric, likelihood}
-use Rattle.trellis_decode.proofs.Likelihoods.{likelihood-more}
+use Rattle.trellis_decode.proofs.Viterbi.{likelihood-more}
 use Rattle.trellis_decode.proofs.exhaustive.sum_of_bit_metrics.Goals as goal
 
 pub loop-k-preserved : goal.loop-k-preserved

@@ -1,6 +1,6 @@
 use Rattle.std.proofs.{Common.{arith, rules, ◌∙◌, w32, FitsSigned}, lemmas.Int.to_z-of_z}
-use Rattle.trellis_decode.{specs.{Hard.hard_lane_metrics, Lanes.lane, Trellis.IsSurvivor}, proofs.Lists.IsMostLikely-best}
-use Rattle.trellis_decode.proofs.{Lists.likelihood-best, hard.decode_hard.Goals.After-metric_of_state_0}
+use Rattle.trellis_decode.{specs.{Hard.hard_lane_metrics, Lanes.lane, Trellis.IsSurvivor}, proofs.Viterbi.IsMostLikely-best}
+use Rattle.trellis_decode.proofs.{Viterbi.likelihood-best, hard.decode_hard.Goals.After-metric_of_state_0}
 use Rattle.trellis_decode.proofs.hard.decode_hard.Goals as goal
 
 -- the list that is written is the best list from state 0

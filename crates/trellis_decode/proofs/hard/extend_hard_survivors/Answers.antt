@@ -1,8 +1,8 @@
 use Rattle.std.proofs.Common.{◌≡◌, ◌+◌, ◌*◌, ◌-◌, ◌<◌, drop, refl, ap, sym, ◌∙◌, subst, arith}
 use Rattle.std.proofs.Math.Seq.{drop-length}
 use Rattle.trellis_decode.specs.{Hard.hard_lane_metrics, SurvivorPaths.{AreMetricsWithin, AreSurvivors}}
-use Rattle.trellis_decode.proofs.{FourPairs.{AreSignedOctets-pair, pair_at, pair_and_after}, HardSteps.{HaveHeadroom8-within, hard_octets}}
-use Rattle.trellis_decode.proofs.SurvivorPaths.{AreSurvivors-none}
+use Rattle.trellis_decode.proofs.AcsSteps.{AreSignedOctets-pair, pair_at, pair_and_after, HaveHeadroom8-within, hard_octets}
+use Rattle.trellis_decode.proofs.SurvivorLists.{AreSurvivors-none}
 use Rattle.trellis_decode.proofs.hard.extend_hard_survivors.Goals as goal
 
 pub loop-k-init : goal.loop-k-init
@@ -33,7 +33,7 @@ loop-k-preserved c =
     let next : 2 * (k - 1) + 2 ≡ 2 * k = omega arith in
     record {
       walk = subst (AreSurvivors (hard_lane_metrics c.args.after.lanes) (hard_lane_metrics c.step-walk.result.values.lanes)
-          c.step-walk.result.map)
+          c.step-walk.result.survivor_map)
           (pair_and_after soft (2 * (k - 1)) (2 * k) next)
           (c.step-walk.ensures.walk pair has (hard_lane_metrics c.args.after.lanes) (drop (2 * k) soft) c.loop-k.invariant.walk);
       within = subst (λ most. AreMetricsWithin most (hard_lane_metrics c.step-walk.result.values.lanes)) (omega arith)
@@ -46,7 +46,8 @@ loop-k-preserved c =
 pub returns-clause-walk : goal.returns-clause-walk
 returns-clause-walk c =
     let none : c.loop-k.k ≡ 0 = omega arith in
-    subst (λ k. AreSurvivors (hard_lane_metrics c.args.after.lanes) (hard_lane_metrics c.loop-k.walk.values.lanes) c.loop-k.walk.map
+    subst (λ k. AreSurvivors (hard_lane_metrics c.args.after.lanes) (hard_lane_metrics c.loop-k.walk.values.lanes)
+    c.loop-k.walk.survivor_map
     (drop (2 * k) c.args.soft.now)) none c.loop-k.invariant.walk
 
 pub returns-clause-within : goal.returns-clause-within

@@ -2,9 +2,9 @@
 use Rattle.std.proofs.Common.{◌≡◌, ℕ, ◌*◌, ◌+◌, ◌-◌, ◌<◌, [], ◌∷◌, drop, take, length, ◌∙◌, subst}
 use Rattle.std.proofs.{Common.arith, lemmas.List.{length-set, length-drop, Elements.{All-drop, All-take}}}
 use Rattle.trellis_decode.specs.{Hard.{IsHardBit, hard_lane_metrics}, Lanes.{lane, IsSignedOctet}, Trellis.IsSurvivor}
-use Rattle.trellis_decode.{specs.{AcsLanes.lane_of_state, SurvivorPaths.{AreSurvivors, survivor_traceback}}, proofs.HardSteps.hard_octets}
-use Rattle.trellis_decode.proofs.{MapLists.{last_map, more_survivors}, Paths.IsSurvivor-to_end, SurvivorPaths.AreMetricsWithin-best}
-use Rattle.trellis_decode.proofs.{SurvivorPaths.AreMetricsWithin-most, hard.fill_hard_survivors.Goals.After-hard_tail_metrics-values}
+use Rattle.trellis_decode.{specs.{AcsLanes.lane_of_state, SurvivorPaths.{AreSurvivors, survivor_traceback}}, proofs.AcsSteps.hard_octets}
+use Rattle.trellis_decode.proofs.SurvivorLists.{last_map, more_survivors, AreMetricsWithin-best, AreMetricsWithin-most}
+use Rattle.trellis_decode.proofs.{Viterbi.IsSurvivor-to_end, hard.fill_hard_survivors.Goals.After-hard_tail_metrics-values}
 use Rattle.trellis_decode.proofs.hard.fill_hard_survivors.Goals as goal
 
 closing : (c : After-hard_tail_metrics-values) (s : ℕ) → s < 16 →
@@ -28,7 +28,7 @@ loop-group-init c =
       low = (AreMetricsWithin-best (hard_lane_metrics c.hard_tail_metrics-values.result.lanes) (drop (8 * last) soft) (λ s. 0 ∷ 0 ∷ 0
           ∷ 0 ∷ [])
           (All-drop IsSignedOctet (8 * last) soft (hard_octets soft c.requires.hard))
-          (omega (arith, length-drop (8 * last) soft, c.requires.count, c.requires.at_least)) (closing c)).low;
+          (omega (arith, length-drop (8 * last) soft, c.requires.count, c.requires.at_least)) (closing c)).lower_bound;
       lanes = c.hard_tail_metrics-values.ensures.lanes;
     }
 
@@ -61,13 +61,14 @@ loop-group-preserved c =
     let within = c.loop-group.auto.group in
     let walk = subst (λ n. AreSurvivors (hard_lane_metrics c.loop-group.values.lanes)
     (hard_lane_metrics c.extend_hard_survivors-walk.result.values.lanes)
-    c.extend_hard_survivors-walk.result.map (take n (drop (8 * before) soft))) eight c.extend_hard_survivors-walk.ensures.walk in
+    c.extend_hard_survivors-walk.result.survivor_map (take n (drop (8 * before) soft))) eight c.extend_hard_survivors-walk.ensures.walk in
     record {
       best = more_survivors (hard_lane_metrics c.loop-group.values.lanes)
           (hard_lane_metrics c.extend_hard_survivors-walk.result.values.lanes) soft
-          c.extend_hard_survivors-walk.result.map survivors before group (omega arith) (omega (arith, same, within, c.requires.at_least))
+          c.extend_hard_survivors-walk.result.survivor_map survivors before group (omega arith)
+          (omega (arith, same, within, c.requires.at_least))
           (omega (arith, same, within, c.requires.at_least, c.requires.count)) walk c.loop-group.invariant.best;
-      low = c.extend_hard_survivors-walk.ensures.within.low;
+      low = c.extend_hard_survivors-walk.ensures.within.lower_bound;
       lanes = c.extend_hard_survivors-walk.ensures.lanes;
     }
 

@@ -1,6 +1,5 @@
 use Rattle.std.proofs.Common.{ℕ, ◌+◌, ◌*◌, ◌<◌, ◌≤◌, ◌∷◌, [], List, ℤ, pos, lit≤, get_or, take, drop, arith}
-use Rattle.trellis_decode.{specs.{Lanes.lane, Hard.{HasHardBranchMetrics, IsHardBit}}, proofs.BranchMetricLanes.each}
-use Rattle.trellis_decode.proofs.HardSteps.{hard_octets, pair_lanes}
+use Rattle.trellis_decode.{specs.{Lanes.lane, Hard.{HasHardBranchMetrics, IsHardBit}}, proofs.AcsSteps.{each, hard_octets, pair_lanes}}
 use Rattle.trellis_decode.proofs.hard.hard_branch_metrics.Goals as goal
 
 pub signs_of-signs-requires-clause-octets : goal.signs_of-signs-requires-clause-octets

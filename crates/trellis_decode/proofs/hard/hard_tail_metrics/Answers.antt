@@ -1,9 +1,9 @@
 use Rattle.std.proofs.Common.{◌≡◌, suc, ◌+◌, ◌*◌, ◌-◌, ◌<◌, drop, replicate, refl, ap, sym, ◌∙◌, subst, lit≤}
 use Rattle.std.proofs.{Common.arith, Math.Seq.drop-length, lemmas.List.{length-drop, Elements.All-drop}}
-use Rattle.trellis_decode.{specs.{Hard.hard_lane_metrics, Lanes.{IsSignedOctet, lane}, Trellis.IsSurvivor}, proofs.FourPairs.pair_at}
-use Rattle.trellis_decode.proofs.{FourPairs.pair_and_after, HardSteps.{AreInt8-start, HaveHeadroom8-within, hard_octets, hard_metric}}
-use Rattle.trellis_decode.proofs.{HardSteps.{start_metric, zero_candidate}, Paths.{IsSurvivor-none, IsSurvivor-same}}
-use Rattle.trellis_decode.proofs.SurvivorPaths.{AreMetricsWithin-best, IsSurvivor-closed}
+use Rattle.trellis_decode.{specs.{Hard.hard_lane_metrics, Lanes.{IsSignedOctet, lane}, Trellis.IsSurvivor}, proofs.AcsSteps.pair_at}
+use Rattle.trellis_decode.proofs.AcsSteps.{pair_and_after, AreInt8-start, HaveHeadroom8-within, hard_octets, hard_metric, start_metric}
+use Rattle.trellis_decode.proofs.{AcsSteps.zero_candidate, Viterbi.{IsSurvivor-none, IsSurvivor-same}, SurvivorLists.AreMetricsWithin-best}
+use Rattle.trellis_decode.proofs.SurvivorLists.{IsSurvivor-closed}
 use Rattle.trellis_decode.proofs.hard.hard_tail_metrics.Goals as goal
 
 pub loop-k-init : goal.loop-k-init

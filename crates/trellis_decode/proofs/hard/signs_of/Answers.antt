@@ -1,5 +1,5 @@
 use Rattle.std.proofs.{Common.{◌≡◌, take, length, ap, ◌∙◌, arith}, lemmas.List.take_all}
-use Rattle.trellis_decode.{specs.{Lanes.lane, Hard.sign_bit_of}, proofs.{FourPairs.fits_octet, HardLanes.bit-signs}}
+use Rattle.trellis_decode.{specs.{Lanes.lane, Hard.sign_bit_of}, proofs.{AcsSteps.fits_octet, HardLanes.bit-signs}}
 use Rattle.trellis_decode.proofs.hard.signs_of.Goals as goal
 
 pub returns : goal.returns

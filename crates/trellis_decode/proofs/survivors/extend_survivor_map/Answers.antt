@@ -1,6 +1,6 @@
 use Rattle.std.proofs.Common.{get_or, ap, ◌∙◌}
-use Rattle.trellis_decode.{specs.{Lanes.lane, Trellis.next, AcsLanes.lane_of_state}, proofs.Followed.{AreInt8-joined, AreInt8-none, joined}}
-use Rattle.trellis_decode.proofs.{Followed.{joined_choice, none}, HardSteps.{followed_place, inside}}
+use Rattle.trellis_decode.{specs.{Lanes.lane, Trellis.next, AcsLanes.lane_of_state}, proofs.AcsSteps.{AreInt8-joined, AreInt8-none, joined}}
+use Rattle.trellis_decode.proofs.AcsSteps.{joined_choice, none, followed_place, inside}
 use Rattle.trellis_decode.proofs.survivors.extend_survivor_map.Goals as goal
 
 pub extend_map_swizzle_fixed-requires-clause-zero : goal.extend_map_swizzle_fixed-requires-clause-zero

@@ -1,9 +1,9 @@
 use Rattle.std.proofs.Common.{◌≡◌, ℕ, ◌*◌, ◌+◌, ◌-◌, ◌<◌, ◌∷◌, drop, ap, sym, ◌∙◌, subst, arith}
 use Rattle.std.proofs.lemmas.List.{drop-set, length-drop, Elements.{All-take, All-drop}}
 use Rattle.trellis_decode.specs.{Decisions.HasDecisionsAndMetrics, Lanes.{IsSignedOctet, lane}, AcsLanes.{HasBranchMetrics, path_metric}}
-use Rattle.trellis_decode.proofs.FourPairs.{AreSignedOctets-pair, pair_at, pair_of_part, pair_and_after}
-use Rattle.trellis_decode.proofs.Decisions.{HasDecisionsAndMetrics-more, HasDecisionsAndMetrics-same, HasDecisionsAndMetrics-close}
-use Rattle.trellis_decode.proofs.{Decisions.{HasDecisionsAndMetrics-even, HasDecisionsAndMetrics-odd}, AcsVectors.passed}
+use Rattle.trellis_decode.proofs.AcsSteps.{AreSignedOctets-pair, pair_at, pair_of_part, pair_and_after}
+use Rattle.trellis_decode.proofs.SurvivorLists.{HasDecisionsAndMetrics-more, HasDecisionsAndMetrics-same, HasDecisionsAndMetrics-close}
+use Rattle.trellis_decode.proofs.{SurvivorLists.{HasDecisionsAndMetrics-even, HasDecisionsAndMetrics-odd}, AcsVectors.passed}
 use Rattle.trellis_decode.proofs.AcsVectors.{passed-subtract_lanes}
 use Rattle.trellis_decode.proofs.trellis.fill_decision_rows.Goals as goal
 
@@ -12,12 +12,12 @@ four_branch_metrics-branch_metrics-requires-clause-octets c = All-take IsSignedO
 
 pub new-step-requires-clause-even : goal.new-step-requires-clause-even
 new-step-requires-clause-even c =
-    HasDecisionsAndMetrics-even _ _ _ _ c.loop-k.values.odd.lanes c.loop-k.invariant.decided
+    HasDecisionsAndMetrics-even _ _ _ _ c.loop-k.values.odd_states.lanes c.loop-k.invariant.decided
     (omega (arith, length-drop (c.args.first + c.loop-k.k) c.loop-k.rows)) c.loop-k.invariant.even.count
 
 pub new-step-requires-clause-odd : goal.new-step-requires-clause-odd
 new-step-requires-clause-odd c =
-    HasDecisionsAndMetrics-odd _ _ _ c.loop-k.values.even.lanes _ c.loop-k.invariant.decided
+    HasDecisionsAndMetrics-odd _ _ _ c.loop-k.values.even_states.lanes _ c.loop-k.invariant.decided
     (omega (arith, length-drop (c.args.first + c.loop-k.k) c.loop-k.rows)) c.loop-k.invariant.odd.count
 
 pub new-step-requires-clause-close : goal.new-step-requires-clause-close

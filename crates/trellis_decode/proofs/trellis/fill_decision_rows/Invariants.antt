@@ -7,6 +7,6 @@ abbrev pub invariant-loop-k : goal.invariant-loop-k
 invariant-loop-k l = record {
   decided : HasDecisionsAndMetrics (drop (l.first + l.k) l.rows) (drop (l.first + l.k) l.losses) (drop (2 * (l.first + l.k)) l.soft)
       (path_metric l.values);
-  even : AreInt16 l.values.even.lanes;
-  odd : AreInt16 l.values.odd.lanes;
+  even : AreInt16 l.values.even_states.lanes;
+  odd : AreInt16 l.values.odd_states.lanes;
 }

@@ -1,7 +1,7 @@
 use Rattle.std.proofs.Common.{◌≡◌, ℕ, ◌*◌, ◌+◌, ◌-◌, ◌/◌, ◌%◌, drop, length, subst, arith}
 use Rattle.std.proofs.lemmas.List.{length-drop, Elements.{All-take, All-drop}}
 use Rattle.trellis_decode.specs.{Decisions.HasDecisionsAndMetrics, Lanes.IsSignedOctet, AcsLanes.path_metric}
-use Rattle.trellis_decode.proofs.{Decisions.HasDecisionsAndMetrics-closing, Paths.IsSurvivor-to_end}
+use Rattle.trellis_decode.proofs.{SurvivorLists.HasDecisionsAndMetrics-closing, Viterbi.IsSurvivor-to_end}
 use Rattle.trellis_decode.proofs.trellis.fill_decisions.Goals as goal
 
 pub tail_metrics-values-requires-clause-octets : goal.tail_metrics-values-requires-clause-octets

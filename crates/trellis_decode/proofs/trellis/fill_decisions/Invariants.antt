@@ -7,6 +7,6 @@ abbrev pub invariant-loop-group : goal.invariant-loop-group
 invariant-loop-group l = record {
   decided : HasDecisionsAndMetrics (drop (l.few + 4 * l.group) l.rows) (drop (l.few + 4 * l.group) l.losses) (drop (2 *
       (l.few + 4 * l.group)) l.soft) (path_metric l.values);
-  even : AreInt16 l.values.even.lanes;
-  odd : AreInt16 l.values.odd.lanes;
+  even : AreInt16 l.values.even_states.lanes;
+  odd : AreInt16 l.values.odd_states.lanes;
 }

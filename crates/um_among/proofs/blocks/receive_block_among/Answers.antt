@@ -1,5 +1,4 @@
-use Rattle.um_among.proofs.UniqueReports.{one_block_among, block_best, block_none, block_information, block_first, block_alone}
-use Rattle.um_among.proofs.UniqueReports.{block_of_one}
+use Rattle.um_among.proofs.Lemmas.{one_block_among, block_best, block_none, block_information, block_first, block_alone, block_of_one}
 use Rattle.um_among.proofs.blocks.receive_block_among.Goals as goal
 
 pub returns : goal.returns

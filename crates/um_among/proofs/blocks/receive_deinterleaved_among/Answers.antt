@@ -1,5 +1,5 @@
 use Rattle.std.proofs.Common.{rules, sym, ◌∙◌}
-use Rattle.um_among.proofs.{FirstCrcMatch.never, UniqueReports.{block_at_once, block_lost, block_found}}
+use Rattle.um_among.proofs.Lemmas.{never, block_at_once, block_lost, block_found}
 use Rattle.um_among.proofs.blocks.receive_deinterleaved_among.Goals as goal
 
 pub returns-then-is_some : goal.returns-then-is_some

@@ -1,6 +1,6 @@
 use Rattle.std.proofs.Common.{rules, ap, sym, subst, ◌∙◌}
 use Rattle.um_block.{specs.{bit_blocks.SoftValues.AllSoftBits, burst_map.AccessBurst.body}, proofs.Lemmas.AllSoftBits-range}
-use Rattle.um_among.proofs.{FirstCrcMatch.never, UniqueReports.{access_at_once, access_lost, access_found}}
+use Rattle.um_among.proofs.Lemmas.{never, access_at_once, access_lost, access_found}
 use Rattle.um_among.proofs.bursts.list_decode_access.Goals as goal
 
 pub first_crc_match-requires-clause-soft : goal.first_crc_match-requires-clause-soft

@@ -1,7 +1,7 @@
 use Rattle.std.proofs.{Common.{rules, ◌++◌, ap, ap₂, sym, subst, ◌∙◌}, lemmas.List.Elements.All-append}
 use Rattle.um_block.specs.{bit_blocks.SoftValues.{IsSoftBit, AllSoftBits}, burst_map.SyncBurst.{first_coded_half, second_coded_half}}
 use Rattle.um_block.proofs.Lemmas.{AllSoftBits-range}
-use Rattle.um_among.proofs.{FirstCrcMatch.never, UniqueReports.{sync_at_once, sync_lost, sync_found}}
+use Rattle.um_among.proofs.Lemmas.{never, sync_at_once, sync_lost, sync_found}
 use Rattle.um_among.proofs.bursts.list_decode_sync.Goals as goal
 
 pub first_crc_match-requires-clause-soft : goal.first_crc_match-requires-clause-soft

@@ -1,5 +1,5 @@
-use Rattle.um_among.proofs.UniqueReports.{one_access_among, access_best, access_none, access_information, access_first, access_alone}
-use Rattle.um_among.proofs.UniqueReports.{access_of_one}
+use Rattle.um_among.proofs.Lemmas.{one_access_among, access_best, access_none, access_information, access_first, access_alone}
+use Rattle.um_among.proofs.Lemmas.{access_of_one}
 use Rattle.um_among.proofs.bursts.receive_access_among.Goals as goal
 
 pub returns : goal.returns

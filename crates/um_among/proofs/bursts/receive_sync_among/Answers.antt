@@ -1,4 +1,4 @@
-use Rattle.um_among.proofs.UniqueReports.{one_sync_among, sync_best, sync_none, sync_information, sync_first, sync_alone, sync_of_one}
+use Rattle.um_among.proofs.Lemmas.{one_sync_among, sync_best, sync_none, sync_information, sync_first, sync_alone, sync_of_one}
 use Rattle.um_among.proofs.bursts.receive_sync_among.Goals as goal
 
 pub returns : goal.returns

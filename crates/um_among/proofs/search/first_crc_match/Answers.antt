@@ -1,7 +1,7 @@
 use Rattle.std.proofs.Common.{◌+◌, ℕ, List, [], ◌∷◌, length, length-append, ap, sym, subst, ◌∙◌}
 use Rattle.std.{proofs.lemmas.List.Elements.{All-nil, All-cons, All-append}, specs.List.All}
 use Rattle.list_decode.specs.Ranking.{IsRanked}
-use Rattle.um_among.{specs.Parities.CrcHolds, proofs.FirstCrcMatch.never}
+use Rattle.um_among.{specs.ChannelCrcs.CrcHolds, proofs.Lemmas.never}
 use Rattle.um_among.proofs.search.first_crc_match.Goals as goal
 
 pub loop-tried-preserved : goal.loop-tried-preserved

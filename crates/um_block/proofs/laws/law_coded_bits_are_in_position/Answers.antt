@@ -1,5 +1,5 @@
 use Rattle.std.proofs.Common.{pos}
-use Rattle.um_block.proofs.BlockPlaces.{sent_place, received_place}
+use Rattle.um_block.proofs.ReceivedBursts.{sent_place, received_place}
 use Rattle.um_block.proofs.laws.law_coded_bits_are_in_position.Goals as goal
 
 pub returns : goal.returns

@@ -2,8 +2,8 @@ use Rattle.std.proofs.Common.{◌≡◌, ℕ, ℤ, List, length, rules, ap, sym,
 use Rattle.bit_blocks.specs.SoftValues.{AllSoftBits}
 use Rattle.burst_map.specs.AccessBurst.{body}
 use Rattle.um_block.specs.{Sent.IsSentAccess, Received.{soft_bits, IsReceivedAccess}, Restored.IsErrorFreeAccess}
-use Rattle.um_block.{specs.declared.received.ReceivedAccess.ReceivedAccess, proofs.ReceivedOnce.one_received_access}
-use Rattle.um_block.proofs.{CleanRestoring.clean_access, Softness.AllSoftBits-range, Restoring.restored_access}
+use Rattle.um_block.{specs.declared.received.ReceivedAccess.ReceivedAccess, proofs.ReceivedBursts.{one_received_access, clean_access}}
+use Rattle.um_block.proofs.ReceivedBursts.{AllSoftBits-range, restored_access}
 use Rattle.um_block.proofs.receiving.receive_access.Goals as goal
 
 restored : (burst : List ℤ) (bsic : List ℕ) (r : ReceivedAccess) → IsReceivedAccess burst bsic r → (info sent : List ℕ) →

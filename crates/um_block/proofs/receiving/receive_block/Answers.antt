@@ -1,7 +1,6 @@
 use Rattle.std.proofs.Common.{◌≡◌, ℕ, ℤ, List, map, subst, rules}
 use Rattle.um_block.specs.{Sent.IsSentBlock, Received.{soft_bits, IsReceivedBlock}, Restored.IsErrorFreeBlock}
-use Rattle.um_block.{specs.declared.received.Received.Received, proofs.{ReceivedOnce.one_received_block, CleanRestoring.clean_block}}
-use Rattle.um_block.proofs.Restoring.{restored_block}
+use Rattle.um_block.{specs.declared.received.Received.Received, proofs.ReceivedBursts.{one_received_block, clean_block, restored_block}}
 use Rattle.um_block.proofs.receiving.receive_block.Goals as goal
 
 restored : (bursts : List (List ℤ)) (r : Received) → IsReceivedBlock bursts r →

@@ -3,8 +3,8 @@ use Rattle.std.proofs.lemmas.List.Elements.{All-append}
 use Rattle.bit_blocks.specs.SoftValues.{IsSoftBit, AllSoftBits}
 use Rattle.burst_map.specs.SyncBurst.{first_coded_half, second_coded_half}
 use Rattle.um_block.specs.{Sent.IsSentSync, Received.{soft_bits, IsReceivedSync}, Restored.IsErrorFreeSync}
-use Rattle.um_block.{specs.declared.received.ReceivedSync.ReceivedSync, proofs.{ReceivedOnce.one_received_sync, CleanRestoring.clean_sync}}
-use Rattle.um_block.proofs.{Softness.AllSoftBits-range, Restoring.restored_sync}
+use Rattle.um_block.{specs.declared.received.ReceivedSync.ReceivedSync, proofs.ReceivedBursts.{one_received_sync, clean_sync}}
+use Rattle.um_block.proofs.ReceivedBursts.{AllSoftBits-range, restored_sync}
 use Rattle.um_block.proofs.receiving.receive_sync.Goals as goal
 
 restored : (burst : List ℤ) (r : ReceivedSync) → IsReceivedSync burst r → (info sent : List ℕ) → IsSentSync info sent →

@@ -2,7 +2,7 @@ use Rattle.std.proofs.{Common.{◌<◌, get_or, refl, subst, arith}, lemmas.List
 use Rattle.bit_blocks.specs.Octets.{bits_of}
 use Rattle.conv_code.specs.Code.{encoding}
 use Rattle.fire_code.specs.Words.{IsXcchWord}
-use Rattle.um_block.{specs.Sent.with_tail, proofs.{BlockOctets.AreCodedBitsPacked-block, Words.carries}}
+use Rattle.um_block.{specs.Sent.with_tail, proofs.SentBursts.{AreCodedBitsPacked-block, carries}}
 use Rattle.um_block.proofs.sending.encode_block.Goals as goal
 
 pub returns : goal.returns

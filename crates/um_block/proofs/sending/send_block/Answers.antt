@@ -1,7 +1,7 @@
 use Rattle.std.proofs.Common.{[], List, ℕ, map, take, drop, sym, ap, ◌∙◌}
 use Rattle.interleave.proofs.Lemmas.{some_spread}
 use Rattle.burst_map.specs.NormalBurst.{normal_burst}
-use Rattle.um_block.proofs.{SentOnce.one_sent_block, SentShapes.sent_block_bits, SpreadParts.{four, same_four}, Words.coded_block_bits}
+use Rattle.um_block.proofs.SentBursts.{one_sent_block, sent_block_bits, four, same_four, coded_block_bits}
 use Rattle.um_block.proofs.sending.send_block.Goals as goal
 
 pub returns-clause-sent : goal.returns-clause-sent
@@ -9,14 +9,14 @@ returns-clause-sent c =
     let block = c.encode_block-columns.ensures in
     let coded = block.0 in
     let burst : List ℕ → List ℕ = λ part. normal_burst (take 57 part) (drop 57 part) c.args.tsc in
-    let spread = some_spread coded (coded_block_bits _ _ block.1).many in
+    let spread = some_spread coded (coded_block_bits _ _ block.1).right_length in
     let parts = spread.0 in
     record {
       coded_bits = coded;
       parts = parts;
-      known = c.requires;
+      valid_tsc = c.requires;
       code = block.1;
-      spread = spread.1;
+      interleaved = spread.1;
       layout = same_four _ _ _ _ _ _ _ _
           (c.build_normal_burst.ensures coded parts block.2 spread.1) (c.build_normal_burst-2.ensures coded parts block.2 spread.1)
           (c.build_normal_burst-3.ensures coded parts block.2 spread.1) (c.build_normal_burst-4.ensures coded parts block.2 spread.1)

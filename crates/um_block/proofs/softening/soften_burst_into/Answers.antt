@@ -2,8 +2,8 @@ use Rattle.std.proofs.Common.{◌≡◌, ◌+◌, ◌-◌, ◌≤◌, length, ta
 use Rattle.std.proofs.lemmas.List.{length-map, length-take-le, length-drop, take_all}
 use borrow.Rule.Slice.PartMut.{put_mid}
 use Rattle.bit_blocks.specs.SoftValues.{AllSoftBits}
-use Rattle.um_block.{specs.Received.{soft_bit_of, soft_bits}, proofs.Softness.{AllSoftBits-softened, softened-more, softened-before}}
-use Rattle.um_block.proofs.Softness.{length-put}
+use Rattle.um_block.{specs.Received.{soft_bit_of, soft_bits}, proofs.ReceivedBursts.{AllSoftBits-softened, softened-more, softened-before}}
+use Rattle.um_block.proofs.ReceivedBursts.{length-put}
 use Rattle.um_block.proofs.softening.soften_burst_into.Goals as goal
 
 pub loop-at-preserved : goal.loop-at-preserved

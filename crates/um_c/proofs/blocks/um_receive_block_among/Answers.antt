@@ -1,8 +1,8 @@
 use Rattle.std.proofs.Common.{sym, ◌∙◌, ap, subst, rules, List, ℕ}
 use Rattle.um_block.specs.conv_code.Likelihood.{RanksAfter}
-use Rattle.um_among.{specs.declared.reports.ListDecodedBlock.ListDecodedBlock, proofs.UniqueReports.{one_block_among, block_best}}
-use Rattle.um_among.proofs.UniqueReports.{block_none, block_information, block_first}
-use Rattle.um_c.{specs.Reports.ReportsBlock, proofs.{Accepting.{some_flagged, none_flagged}, UniqueReports.equal_reports}}
+use Rattle.um_among.{specs.declared.reports.ListDecodedBlock.ListDecodedBlock, proofs.Lemmas.{one_block_among, block_best, block_none}}
+use Rattle.um_among.proofs.Lemmas.{block_information, block_first}
+use Rattle.um_c.{specs.Reports.ReportsBlock, proofs.Calls.{some_flagged, none_flagged, equal_reports}}
 use Rattle.um_c.proofs.blocks.um_receive_block_among.Goals as goal
 
 pub block_report_of-requires-clause-information : goal.block_report_of-requires-clause-information
@@ -37,8 +37,8 @@ returns-clause-first c = λ _ r received some.
 pub returns-clause-only : goal.returns-clause-only
 returns-clause-only c = λ _ place other h.
     let among = c.receive_deinterleaved_among-among.result in
-    let same = one_block_among c.args.bursts.now c.args.most h.received among h.is c.receive_deinterleaved_among-among.ensures in (
-      h.place ∙ ap (λ (x : ListDecodedBlock). x.rank) same,
-      equal_reports c.args.bursts.now h.is.soft h.received.report among.report other _ h.is.deinterleaved
-          (ap (λ (x : ListDecodedBlock). x.report) same) h.output c.block_report_of.ensures,
+    let same = one_block_among c.args.bursts.now c.args.most h.received among h.is_received c.receive_deinterleaved_among-among.ensures in (
+      h.same_rank ∙ ap (λ (x : ListDecodedBlock). x.rank) same,
+      equal_reports c.args.bursts.now h.is_received.soft h.received.report among.report other _ h.is_received.deinterleaved
+          (ap (λ (x : ListDecodedBlock). x.report) same) h.reports_block c.block_report_of.ensures,
     )

@@ -1,4 +1,4 @@
-use Rattle.um_c.proofs.Places.{three_notices}
+use Rattle.um_c.proofs.Calls.{three_notices}
 use Rattle.um_c.proofs.effects.write_notices.Goals as goal
 
 pub returns : goal.returns

@@ -11,7 +11,7 @@ returns c =
     c.write_call_effects.result r
     (record {
       represents = c.read_endpoint.ensures.represents c.if-not-read_endpoint.false;
-      one = c.read_endpoint.ensures.known.0 c.if-not-read_endpoint.false;
+      is_endpoint = c.read_endpoint.ensures.known.0 c.if-not-read_endpoint.false;
     })
     (c.read_endpoint.ensures.decoded c.if-not-read_endpoint.false) (λ e h. tt)
     (λ e h. refl) c.send_fill_into.ensures c.write_call_effects.ensures.done tt

@@ -10,7 +10,7 @@ returns-clause-answers_block c =
     c.take_frame_into.new.effects
     (record {
       represents = c.read_endpoint.ensures.represents c.if-not-read_endpoint.false;
-      one = c.read_endpoint.ensures.known.0 c.if-not-read_endpoint.false;
+      is_endpoint = c.read_endpoint.ensures.known.0 c.if-not-read_endpoint.false;
     })
     c.channel.ensures.represents c.in-Ok.ensures.frame c.take_frame_into.ensures.refines
     (is_done c.take_frame_into.new.effects c.take_frame_into.new.self c.write_call_result.result c.write_call_result.new.end
@@ -25,6 +25,6 @@ returns-in-Err-clause-answers_block c =
     not_given c.args.octets.now c.channel.result _ c.args.end.now c.args.effects.now c.read_endpoint.new.end
     (record {
       represents = c.read_endpoint.ensures.represents c.if-not-read_endpoint.false;
-      one = c.read_endpoint.ensures.known.0 c.if-not-read_endpoint.false;
+      is_endpoint = c.read_endpoint.ensures.known.0 c.if-not-read_endpoint.false;
     })
     c.channel.ensures.represents c.in-Err.ensures.refusal

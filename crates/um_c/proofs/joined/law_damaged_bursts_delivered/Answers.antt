@@ -1,4 +1,4 @@
-use Rattle.um_c.proofs.AsFrameSessions.{joined_bursts, joined_bursts_counts}
+use Rattle.um_c.proofs.Sessions.{joined_bursts, joined_bursts_counts}
 use Rattle.um_c.proofs.joined.law_damaged_bursts_delivered.Goals as goal
 
 pub returns-clause-delivery : goal.returns-clause-delivery

@@ -1,4 +1,4 @@
-use Rattle.um_c.proofs.AsFrameSessions.{joined_counts}
+use Rattle.um_c.proofs.Sessions.{joined_counts}
 use Rattle.um_c.proofs.joined.law_joined_acked_at_most_delivered.Goals as goal
 
 pub returns : goal.returns

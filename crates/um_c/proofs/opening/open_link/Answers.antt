@@ -1,41 +1,42 @@
 use Rattle.std.proofs.{Common.{◌≡◌, sym, ◌∙◌, ap, subst, ℕ, nat_eq, true, List, length, arith}, lemmas.Bool.Decides.nat_tests}
 use Rattle.um_air.specs.segmenting.Buffers.{octets_in}
-use Rattle.um_c.{specs.EndCalls.AnswersBlock, proofs.{Opened.opened_run, Exchanged.{was-asked, asked-one, was-answered, answered-one}}}
-use Rattle.um_c.proofs.Exchanged.{was-opened, allowed-exchange, both-open}
+use Rattle.um_c.{specs.EndCalls.EndpointReceivesBlock, proofs.Sessions.{opened_run, was-asked, asked-one, was-answered, answered-one}}
+use Rattle.um_c.proofs.Sessions.{was-opened, allowed-exchange, both-open}
 use Rattle.um_c.proofs.opening.open_link.Goals as goal
 
 is_zero : (n : ℕ) → nat_eq n 0 ≡ true → n ≡ 0
 is_zero n h = grind (arith, nat_tests)
 
 -- where the function returns early, a call was refused or did not send exactly one block
-pub returns-then-um_end_open-ne0-clause-exchanges : goal.returns-then-um_end_open-ne0-clause-exchanges
-returns-then-um_end_open-ne0-clause-exchanges c = λ e f mobile network allowed.
-    absurd (c.if-um_end_open-ne0.true (was-asked mobile network allowed c.um_end_open.ensures.answers_call).zero)
+pub returns-then-um_end_open-ne0-clause-succeeds_from_idle : goal.returns-then-um_end_open-ne0-clause-succeeds_from_idle
+returns-then-um_end_open-ne0-clause-succeeds_from_idle c = λ e f mobile network allowed.
+    absurd (c.if-um_end_open-ne0.true (was-asked mobile network allowed c.um_end_open.ensures.answers_call).answer_is_0)
 
 pub returns-then-um_end_open-ne0-clause-opens : goal.returns-then-um_end_open-ne0-clause-opens
 returns-then-um_end_open-ne0-clause-opens c = λ e f mobile network idle.
-    absurd (c.if-um_end_open-ne0.true (was-asked mobile network (allowed-exchange _ e f idle) c.um_end_open.ensures.answers_call).zero)
+    absurd (c.if-um_end_open-ne0.true
+    (was-asked mobile network (allowed-exchange _ e f idle) c.um_end_open.ensures.answers_call).answer_is_0)
 
-pub returns-then-asked-ne1-clause-exchanges : goal.returns-then-asked-ne1-clause-exchanges
-returns-then-asked-ne1-clause-exchanges c = λ e f mobile network allowed.
+pub returns-then-asked-ne1-clause-succeeds_from_idle : goal.returns-then-asked-ne1-clause-succeeds_from_idle
+returns-then-asked-ne1-clause-succeeds_from_idle c = λ e f mobile network allowed.
     absurd (c.if-asked-ne1.true (asked-one mobile network allowed c.um_end_open.ensures.answers_call))
 
 pub returns-then-asked-ne1-clause-opens : goal.returns-then-asked-ne1-clause-opens
 returns-then-asked-ne1-clause-opens c = λ e f mobile network idle.
     absurd (c.if-asked-ne1.true (asked-one mobile network (allowed-exchange _ e f idle) c.um_end_open.ensures.answers_call))
 
-pub returns-then-um_end_take-ne0-clause-exchanges : goal.returns-then-um_end_take-ne0-clause-exchanges
-returns-then-um_end_take-ne0-clause-exchanges c = λ e f mobile network allowed.
+pub returns-then-um_end_take-ne0-clause-succeeds_from_idle : goal.returns-then-um_end_take-ne0-clause-succeeds_from_idle
+returns-then-um_end_take-ne0-clause-succeeds_from_idle c = λ e f mobile network allowed.
     absurd (c.if-um_end_take-ne0.true (was-answered mobile network allowed c.um_end_open.ensures.answers_call c.first_block.ensures.value
-    c.um_end_take.ensures.answers_block).zero)
+    c.um_end_take.ensures.answers_block).answer_is_0)
 
 pub returns-then-um_end_take-ne0-clause-opens : goal.returns-then-um_end_take-ne0-clause-opens
 returns-then-um_end_take-ne0-clause-opens c = λ e f mobile network idle.
     absurd (c.if-um_end_take-ne0.true (was-answered mobile network (allowed-exchange _ e f idle) c.um_end_open.ensures.answers_call
-    c.first_block.ensures.value c.um_end_take.ensures.answers_block).zero)
+    c.first_block.ensures.value c.um_end_take.ensures.answers_block).answer_is_0)
 
-pub returns-then-answered-ne1-clause-exchanges : goal.returns-then-answered-ne1-clause-exchanges
-returns-then-answered-ne1-clause-exchanges c = λ e f mobile network allowed.
+pub returns-then-answered-ne1-clause-succeeds_from_idle : goal.returns-then-answered-ne1-clause-succeeds_from_idle
+returns-then-answered-ne1-clause-succeeds_from_idle c = λ e f mobile network allowed.
     absurd (c.if-answered-ne1.true (answered-one mobile network allowed c.um_end_open.ensures.answers_call c.first_block.ensures.value
     c.um_end_take.ensures.answers_block))
 
@@ -44,12 +45,12 @@ returns-then-answered-ne1-clause-opens c = λ e f mobile network idle.
     absurd (c.if-answered-ne1.true (answered-one mobile network (allowed-exchange _ e f idle) c.um_end_open.ensures.answers_call
     c.first_block.ensures.value c.um_end_take.ensures.answers_block))
 
-pub returns-clause-exchanges : goal.returns-clause-exchanges
-returns-clause-exchanges c = λ e f mobile network allowed.
+pub returns-clause-succeeds_from_idle : goal.returns-clause-succeeds_from_idle
+returns-clause-succeeds_from_idle c = λ e f mobile network allowed.
     let done = was-opened mobile network allowed c.um_end_open.ensures.answers_call c.first_block.ensures.value
     c.um_end_take.ensures.answers_block
     c.first_block-2.ensures.value c.um_end_take-2.ensures.answers_block in
-    ap (λ n. nat_eq n 0) done.zero
+    ap (λ n. nat_eq n 0) done.answer_is_0
 
 pub returns-clause-opens : goal.returns-clause-opens
 returns-clause-opens c = λ e f mobile network idle.
@@ -65,19 +66,20 @@ returns-clause-run c =
     c.um_end_take.new.end c.args.asked.now c.args.answered.now c.args.opened.now c.um_end_open.new.effects c.um_end_take.new.effects
     c.um_end_take-2.new.effects c.um_end_open.result c.um_end_take.result c.um_end_take-2.result
     (record {
-      done = c.if-um_end_open-ne0.false;
+      answer_is_0 = c.if-um_end_open-ne0.false;
       count = c.if-asked-ne1.false;
       capacity = asked.space;
       size = ap length (sym asked.value) ∙ asked.size;
     })
     (record {
-      done = c.if-um_end_take-ne0.false;
+      answer_is_0 = c.if-um_end_take-ne0.false;
       count = c.if-answered-ne1.false;
       capacity = answered.space;
       size = ap length (sym answered.value) ∙ answered.size;
     })
     (is_zero c.um_end_take-2.result ok) c.um_end_open.ensures.answers_call
-    (subst (λ (o : List ℕ). AnswersBlock o c.um_end_take.result c.args.network.now c.um_end_take.new.end c.args.answered.now
+    (subst (λ (o : List ℕ). EndpointReceivesBlock o c.um_end_take.result c.args.network.now c.um_end_take.new.end c.args.answered.now
     c.um_end_take.new.effects) asked.value c.um_end_take.ensures.answers_block)
-    (subst (λ (o : List ℕ). AnswersBlock o c.um_end_take-2.result c.um_end_open.new.end c.um_end_take-2.new.end c.args.opened.now
+    (subst (λ (o : List ℕ). EndpointReceivesBlock o c.um_end_take-2.result c.um_end_open.new.end c.um_end_take-2.new.end
+    c.args.opened.now
     c.um_end_take-2.new.effects) answered.value c.um_end_take-2.ensures.answers_block)

@@ -6,13 +6,13 @@ pub returns-then-is_frame_on_sapi_3-clause-answers_block : goal.returns-then-is_
 returns-then-is_frame_on_sapi_3-clause-answers_block c =
     let is = c.is_frame_on_sapi_3.ensures.0 c.if-is_frame_on_sapi_3.true in
     record {
-      three = λ _ _. record {
+      on_sapi3 = λ _ _. record {
         answers_block = c.um_end_take-answer.ensures.answers_block;
-        kept = refl;
-        names_sapi =
+        other_unchanged = refl;
+        reports_sapi =
             c.write_sapi.ensures.written;
       };
-      zero = λ _ never. absurd (never is);
+      on_sapi0 = λ _ never. absurd (never is);
       not_a_side = λ never. absurd (never (c.is_valid_side.ensures.0 c.if-not-is_valid_side.false));
       unchanged = λ other.
           let u = c.um_end_take-answer.ensures.answers_block.unchanged other in (
@@ -24,11 +24,11 @@ returns-then-is_frame_on_sapi_3-clause-answers_block c =
 
 pub returns-clause-answers_block : goal.returns-clause-answers_block
 returns-clause-answers_block c = record {
-  three = λ _ is. absurd (false≢true (sym c.if-is_frame_on_sapi_3.false ∙ c.is_frame_on_sapi_3.ensures.1 is));
-  zero = λ _ _. record {
+  on_sapi3 = λ _ is. absurd (false≢true (sym c.if-is_frame_on_sapi_3.false ∙ c.is_frame_on_sapi_3.ensures.1 is));
+  on_sapi0 = λ _ _. record {
     answers_block = c.um_end_take-answer-2.ensures.answers_block;
-    kept = refl;
-    names_sapi =
+    other_unchanged = refl;
+    reports_sapi =
         c.write_sapi-2.ensures.written;
   };
   not_a_side = λ never. absurd (never (c.is_valid_side.ensures.0 c.if-not-is_valid_side.false));

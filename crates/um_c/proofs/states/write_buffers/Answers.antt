@@ -1,4 +1,4 @@
-use Rattle.um_c.proofs.Places.{room_written}
+use Rattle.um_c.proofs.Calls.{room_written}
 use Rattle.um_c.proofs.states.write_buffers.Goals as goal
 
 pub loop-i-preserved : goal.loop-i-preserved

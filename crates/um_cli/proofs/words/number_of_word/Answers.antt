@@ -1,4 +1,4 @@
-use Rattle.um_cli.proofs.Counts.{number_read, none_read}
+use Rattle.um_cli.proofs.Lemmas.{number_read, none_read}
 use Rattle.um_cli.proofs.words.number_of_word.Goals as goal
 
 pub returns-in-Ok-clause-value : goal.returns-in-Ok-clause-value

@@ -1,7 +1,7 @@
 -- Each round of the loop preserves `IsRunUnderway` or ends the run. The loop ends because each round answers at least one octet of the
 -- input, and at most `input_limit` octets are answered.
 use Rattle.std.proofs.Common.{arith, refl, ◌<◌, ◌∙◌}
-use Rattle.um_driver.proofs.AfterWrites.{at_first, underway_gathers, underway_cut, run_ends}
+use Rattle.um_driver.proofs.Runs.{at_first, underway_gathers, underway_cut, run_ends}
 use Rattle.um_driver.proofs.driver.answer_all_lines.Goals as goal
 
 pub loop-command-init : goal.loop-command-init
@@ -20,7 +20,7 @@ pub returns-in-Some-clause-table : goal.returns-in-Some-clause-table
 returns-in-Some-clause-table g c =
     let way = underway_gathers c.loop-command.invariant.underway c.in-Ok.ensures.gathers c.flush_before_read.ensures.unchanged in
     run_ends _ _ _ c.answer_next_line.new.lines _ _ _ _ _ _ c.answer_next_line.new.out c.in-Some.status _
-    (c.in-Some.ensures.comes _ _ _ _ _ way c.in-Ok.ensures.ready) c.write_last_text.ensures.concludes
+    (c.in-Some.ensures.comes _ _ _ _ _ way c.in-Ok.ensures.ready) c.write_last_text.ensures.last_write
 
 pub returns-in-Some-clause-cause : goal.returns-in-Some-clause-cause
 returns-in-Some-clause-cause g c =
@@ -49,6 +49,6 @@ pub loop-command-smaller : goal.loop-command-smaller
 loop-command-smaller g c =
     let way = underway_gathers c.loop-command.invariant.underway c.in-Ok.ensures.gathers c.flush_before_read.ensures.unchanged in
     let limit = (c.in-None.ensures.comes _ _ _ _ _ way c.in-Ok.ensures.ready).valid.limit in
-    let rises : c.loop-command.lines.answered < c.answer_next_line.new.lines.answered =
+    let rises : c.loop-command.lines.octet_count < c.answer_next_line.new.lines.octet_count =
     rw c.flush_before_read.ensures.unchanged at (c.in-None.ensures.goes_on refl) in
     omega (arith, rises, limit)

@@ -14,4 +14,4 @@ invariant-loop-command g l = record {
 }
 
 abbrev pub decreases-loop-command : goal.decreases-loop-command
-decreases-loop-command g l = input_limit - l.lines.answered
+decreases-loop-command g l = input_limit - l.lines.octet_count

@@ -1,4 +1,4 @@
-use Rattle.um_driver.proofs.Turns.{line_answered, line_refused, end_good, end_refused, long_refused, ends_too_long, ends_failed}
+use Rattle.um_driver.proofs.Runs.{line_answered, line_refused, end_good, end_refused, long_refused, ends_too_long, ends_failed}
 use Rattle.um_driver.proofs.driver.answer_next_line.Goals as goal
 
 pub returns-in-Ok-clause-comes : goal.returns-in-Ok-clause-comes

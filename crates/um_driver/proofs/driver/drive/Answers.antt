@@ -1,4 +1,4 @@
-use Rattle.um_driver.proofs.{AfterWrites.without_memory, TableLemmas.EndsAsPrescribed-from_run}
+use Rattle.um_driver.proofs.Runs.{without_memory, EndsAsPrescribed-from_run}
 use Rattle.um_driver.proofs.driver.drive.Goals as goal
 
 pub returns-in-Ok-clause-due : goal.returns-in-Ok-clause-due

@@ -1,4 +1,4 @@
-use Rattle.um_driver.proofs.OutputLemmas.{output_unique}
+use Rattle.um_driver.proofs.Outputs.{output_unique}
 use Rattle.um_driver.proofs.laws.law_output_is_unique.Goals as goal
 
 pub returns : goal.returns

@@ -1,20 +1,20 @@
 use Rattle.std.proofs.Common.{ℕ, List, Option, take, drop, sym, take-append-drop, arith, length-drop, length-take, ◌∙◌}
 use Rattle.std.{proofs.lemmas.Result.MatchResult-from_err, specs.Io.KnownBytes.Appends}
-use Rattle.um_driver.specs.Table.{TakesPrefix}
-use Rattle.um_io.proofs.KnownOctets.{Appends-front, Appends-keeps}
+use Rattle.um_driver.specs.Table.{SinkTakesPrefix}
+use Rattle.um_io.proofs.Lemmas.{Appends-front, Appends-keeps}
 use Rattle.um_driver.proofs.writing.put_all.Goals as goal
 
 -- if the sink received the first n octets, it received a prefix of the octets
-TakesPrefix-take : (a b : Option (List ℕ)) (n : ℕ) (piece : List ℕ) → Appends a b (take n piece) → TakesPrefix a b piece
-TakesPrefix-take a b n piece taken = (take n piece, (drop n piece, sym (take-append-drop n piece)), taken)
+SinkTakesPrefix-take : (a b : Option (List ℕ)) (n : ℕ) (piece : List ℕ) → Appends a b (take n piece) → SinkTakesPrefix a b piece
+SinkTakesPrefix-take a b n piece taken = (take n piece, (drop n piece, sym (take-append-drop n piece)), taken)
 
 pub returns-in_err-written-clause-taken : goal.returns-in_err-written-clause-taken
 returns-in_err-written-clause-taken g c =
     MatchResult-from_err c.from_residual.result
     (λ _. Appends (g.K.Sink.taken c.args.output.now) (g.K.Sink.taken c.put.new.self) c.args.piece.now)
-    (λ _. TakesPrefix (g.K.Sink.taken c.args.output.now) (g.K.Sink.taken c.put.new.self) c.args.piece.now)
+    (λ _. SinkTakesPrefix (g.K.Sink.taken c.args.output.now) (g.K.Sink.taken c.put.new.self) c.args.piece.now)
     c.from_residual.ensures.0
-    (λ _. TakesPrefix-take _ _ c.loop-written.written _
+    (λ _. SinkTakesPrefix-take _ _ c.loop-written.written _
     (Appends-keeps _ _ _ _ c.loop-written.invariant.front c.in_err-written.ensures.octets))
 
 pub loop-written-preserved : goal.loop-written-preserved

@@ -1,5 +1,5 @@
 use Rattle.std.proofs.Common.{arith}
-use Rattle.um_end.proofs.Answering.{coded_next}
+use Rattle.um_end.proofs.EndSteps.{coded_next}
 use Rattle.um_end.proofs.command.push_block_lines.Goals as goal
 
 pub loop-octets-preserved : goal.loop-octets-preserved

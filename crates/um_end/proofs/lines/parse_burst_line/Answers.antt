@@ -16,5 +16,5 @@ returns-in-Ok-clause-refused c =
 
 pub returns-in-Err-clause-refused : goal.returns-in-Err-clause-refused
 returns-in-Err-clause-refused c =
-    c.fault_outside_block.ensures ∙ ap burst_fault_to_end_fault c.in-Err.ensures.refused
+    c.end_fault_from_burst_fault.ensures ∙ ap burst_fault_to_end_fault c.in-Err.ensures.refused
     ∙ sym (other_fault (role_of c.args.side) c.args.held c.args.line.now c.requires.size c.requires.not_skipped c.requires.other)

@@ -2,7 +2,7 @@ use Rattle.std.proofs.Common.{◌≡◌, ◌==◌, ◌<◌, ◌≤◌, true, fal
 use Rattle.std.proofs.lemmas.Bool.Decides.{nat_tests}
 use Rattle.um_link.specs.Naming.{role_of}
 use Rattle.um_script.specs.Naming.{meaning_of}
-use Rattle.um_end.{specs.EndLines.{EndLineMeans, fault_inside_block}, proofs.EndLineLaws.{inside_fault, call_fault, call_means}}
+use Rattle.um_end.{specs.EndLines.{EndLineMeans, call_fault_to_block_fault}, proofs.EndLineLaws.{inside_fault, call_fault, call_means}}
 use Rattle.um_end.proofs.lines.parse_call_line.Goals as goal
 
 some : (held : ℕ) → 0 < held → not (held == 0) ≡ true
@@ -13,14 +13,14 @@ none held h = grind (arith, nat_tests)
 
 pub returns-then-held-gt0-clause-refused : goal.returns-then-held-gt0-clause-refused
 returns-then-held-gt0-clause-refused c =
-    c.call_fault_inside_block.ensures
-    ∙ ap fault_inside_block (c.err.ensures.value ∙ c.parse_script-read.ensures.refused)
+    c.block_fault_from_call_fault.ensures
+    ∙ ap call_fault_to_block_fault (c.err.ensures.value ∙ c.parse_script-read.ensures.refused)
     ∙ sym (inside_fault (role_of c.args.side) c.args.held c.args.line.now c.requires.size c.requires.not_skipped c.requires.own
     (some c.args.held c.if-held-gt0.true))
 
 pub returns-in-Ok-clause-means : goal.returns-in-Ok-clause-means
 returns-in-Ok-clause-means c =
-    subst (EndLineMeans (role_of c.args.side) c.args.held c.args.line.now) (sym c.end_line_of_script_line.ensures)
+    subst (EndLineMeans (role_of c.args.side) c.args.held c.args.line.now) (sym c.as_end_line.ensures)
     (call_means (role_of c.args.side) c.args.held c.args.line.now c.requires.size c.requires.not_skipped c.requires.own
     (none c.args.held c.if-held-gt0.false) (meaning_of c.in-Ok.script) c.in-Ok.ensures.means)
 

@@ -1,8 +1,8 @@
 use Rattle.std.proofs.{Common.{codes, subst}, lemmas.List.append_cancel_right}
 use Rattle.um_block.specs.Received.{soft_bits}
 use Rattle.um_formats.specs.{declared.burst_lines.BurstLine.TheVariants.{Normal, Access, Sync}, BurstLines.BurstLineMeans}
-use Rattle.um_formats.{specs.WrittenBursts.IsUnskippedLine, proofs.WrittenBursts.{normal_line, normal_restored, normal_whole, access_line}}
-use Rattle.um_formats.proofs.WrittenBursts.{access_restored, access_whole, sync_line, sync_restored, sync_whole}
+use Rattle.um_formats.{specs.WrittenBursts.IsUnskippedLine, proofs.Lemmas.{normal_line, normal_restored, normal_whole, access_line}}
+use Rattle.um_formats.proofs.Lemmas.{access_restored, access_whole, sync_line, sync_restored, sync_whole}
 use Rattle.um_formats.proofs.burst_lines.law_written_bursts_read_back.Goals as goal
 
 pub returns-clause-normal : goal.returns-clause-normal

@@ -1,5 +1,5 @@
 use Rattle.std.proofs.Common.{◌≢◌, length, sym, arith}
-use Rattle.um_formats.proofs.{OtherBursts.other_kind, burst_lines.parse_words.Goals.in_default-kind-via-then-kind-lt1}
+use Rattle.um_formats.proofs.{Lemmas.other_kind, burst_lines.parse_words.Goals.in_default-kind-via-then-kind-lt1}
 use Rattle.um_formats.proofs.burst_lines.parse_words.Goals.{in_default-kind-via-else-kind-lt1+else-kind-lt2}
 use Rattle.um_formats.proofs.burst_lines.parse_words.Goals as goal
 

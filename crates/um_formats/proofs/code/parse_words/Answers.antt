@@ -1,11 +1,11 @@
 use Rattle.std.proofs.{Common.{◌≡◌, Some, ◌++◌, codes, sym, ap, ◌∙◌}, lemmas.Bool.Decides.Decides-eqb}
 use Rattle.std.proofs.lemmas.Slice.Eq.{strip_prefix_is}
 use Rattle.um_lines.specs.Words.{words}
-use Rattle.um_formats.specs.CodeLines.{parsed_code}
+use Rattle.um_formats.specs.CodeLines.{code_parse_result}
 use Rattle.um_formats.proofs.code.parse_words.Goals as goal
 
 pub returns-in-Some : goal.returns-in-Some
 returns-in-Some c =
     let whole : c.args.line.now ≡ codes "block " ++ c.in-Some.rest.now =
     strip_prefix_is Decides-eqb c.args.line.now (codes "block ") (Some c.in-Some.rest) c.in-Some.ensures.cases in
-    c.parse_block.ensures ∙ sym (ap (λ line. parsed_code (words line)) whole)
+    c.parse_block.ensures ∙ sym (ap (λ line. code_parse_result (words line)) whole)

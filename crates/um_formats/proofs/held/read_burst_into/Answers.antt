@@ -1,6 +1,6 @@
 use Rattle.std.proofs.Common.{ℕ, subst}
-use Rattle.um_formats.{specs.{declared.burst_lines.BurstLine.TheVariants.Normal, BurstLines.BurstLineMeans}, proofs.BurstLaws.normal_burst}
-use Rattle.um_formats.proofs.BurstLaws.{access_burst, sync_burst}
+use Rattle.um_formats.{specs.{declared.burst_lines.BurstLine.TheVariants.Normal, BurstLines.BurstLineMeans}, proofs.Lemmas.normal_burst}
+use Rattle.um_formats.proofs.Lemmas.{access_burst, sync_burst}
 use Rattle.um_formats.proofs.held.read_burst_into.Goals as goal
 
 pub add-requires : goal.add-requires

@@ -1,20 +1,20 @@
 use Rattle.std.proofs.{Common.{◌≡◌, Some, None, ◌++◌, codes, sym, ap, ◌∙◌}, lemmas.Bool.Decides.Decides-eqb}
 use Rattle.std.proofs.lemmas.Slice.Eq.{strip_prefix_is}
 use Rattle.um_lines.specs.Words.{words}
-use Rattle.um_formats.{specs.ShowLines.parsed_show, proofs.ShowReading.no_name}
+use Rattle.um_formats.{specs.ShowLines.show_parse_result, proofs.Lemmas.no_name}
 use Rattle.um_formats.proofs.show.parse_words.Goals as goal
 
 pub returns-in-Some : goal.returns-in-Some
 returns-in-Some c =
     let whole : c.args.line.now ≡ codes "octets " ++ c.in-Some.rest.now =
     strip_prefix_is Decides-eqb c.args.line.now (codes "octets ") (Some c.in-Some.rest) c.in-Some.ensures.cases in
-    c.parse_octets.ensures ∙ sym (ap (λ line. parsed_show (words line)) whole)
+    c.parse_octets.ensures ∙ sym (ap (λ line. show_parse_result (words line)) whole)
 
 pub returns-in-Some-strip_prefix : goal.returns-in-Some-strip_prefix
 returns-in-Some-strip_prefix c =
     let whole : c.args.line.now ≡ codes "frame " ++ c.in-Some-strip_prefix.rest.now =
     strip_prefix_is Decides-eqb c.args.line.now (codes "frame ") (Some c.in-Some-strip_prefix.rest) c.in-Some-strip_prefix.ensures.cases in
-    c.parse_frame.ensures ∙ sym (ap (λ line. parsed_show (words line)) whole)
+    c.parse_frame.ensures ∙ sym (ap (λ line. show_parse_result (words line)) whole)
 
 pub returns-in_default-strip_prefix : goal.returns-in_default-strip_prefix
 returns-in_default-strip_prefix c =

@@ -1,4 +1,4 @@
-use Rattle.um_io.proofs.FeedLemmas.{MatchOption-feed}
+use Rattle.um_io.proofs.Lemmas.{MatchOption-feed}
 use Rattle.um_io.proofs.buffer.find_line_feed.Goals as goal
 
 pub returns-in_default : goal.returns-in_default

@@ -1,4 +1,4 @@
-use Rattle.um_io.proofs.DivisionLemmas.{IsDivided-lines_of_octets, lines_of_octets-only}
+use Rattle.um_io.proofs.Lemmas.{IsDivided-lines_of_octets, lines_of_octets-only}
 use Rattle.um_io.proofs.laws.law_lines_are_unique.Goals as goal
 
 pub returns : goal.returns

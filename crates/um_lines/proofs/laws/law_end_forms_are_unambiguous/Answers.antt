@@ -7,4 +7,4 @@ pub returns-clause-mobile : goal.returns-clause-mobile
 returns-clause-mobile c = λ held line. one_meaning (end_forms mobile_call_forms) (is_end_line_out_of_order held) line refl
 
 pub returns-clause-network : goal.returns-clause-network
-returns-clause-network c = λ held line. one_meaning (end_forms network_call_forms) (is_end_line_out_of_order held) line refl
+returns-clause-network c = λ _ line. one_meaning (end_forms network_call_forms) _ line refl

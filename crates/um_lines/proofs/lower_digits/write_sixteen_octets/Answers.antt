@@ -1,5 +1,5 @@
 use Rattle.std.proofs.{Common.{◌+◌, ◌*◌, ◌<◌, length, set, get_or, ◌∙◌, arith}, lemmas.List.length-set}
-use Rattle.um_lines.proofs.LowerDigits.{digits_set}
+use Rattle.um_lines.proofs.Texts.{digits_set}
 use Rattle.um_lines.proofs.lower_digits.write_sixteen_octets.Goals as goal
 
 pub loop-i-preserved : goal.loop-i-preserved

@@ -1,10 +1,10 @@
 use Rattle.std.proofs.{Common.{◌≡◌, ℕ, List, ◌+◌, ◌-◌, ◌≤◌, length, ◌∙◌, arith}, lemmas.List.length-map}
 use Rattle.std.proofs.lemmas.List.{map-append}
-use Rattle.um_lines.{specs.Fields.bit_digits, proofs.Sixteens.{written_more, written_all}}
+use Rattle.um_lines.{specs.Fields.bit_digits, proofs.Texts.{written_more, written_all}}
 use Rattle.um_lines.proofs.text.write_by_sixteens.Goals as goal
 
 long : (bits : List ℕ) → length (bit_digits bits) ≡ length bits
-long bits = length-map bits (λ bit. 48 + bit)
+long _ = length-map _ _
 
 pub loop-at-preserved : goal.loop-at-preserved
 loop-at-preserved c =

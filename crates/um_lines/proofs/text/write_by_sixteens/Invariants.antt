@@ -1,5 +1,5 @@
 use Rattle.std.proofs.Common.{◌≡◌, ◌+◌, ◌-◌, ◌≤◌, length}
-use Rattle.um_lines.{specs.Fields.bit_digits, proofs.Sixteens.AreWritten}
+use Rattle.um_lines.{specs.Fields.bit_digits, proofs.Texts.AreWritten}
 use Rattle.um_lines.proofs.text.write_by_sixteens.Given as goal
 
 abbrev pub invariant-loop-at : goal.invariant-loop-at

@@ -1,12 +1,12 @@
 use Rattle.std.proofs.lemmas.List.Splits.{join_with_byte-slice_split}
-use Rattle.um_lines.proofs.WordLists.{words-spaceless, words-join}
+use Rattle.um_lines.proofs.Texts.{words-no_spaces, words-join}
 use Rattle.um_lines.proofs.words.law_words_join_to_line.Goals as goal
 
 pub returns-clause-whole : goal.returns-clause-whole
-returns-clause-whole c line = join_with_byte-slice_split 32 line
+returns-clause-whole c _ = join_with_byte-slice_split 32 _
 
-pub returns-clause-spaceless : goal.returns-clause-spaceless
-returns-clause-spaceless c line = words-spaceless line
+pub returns-clause-no_spaces : goal.returns-clause-no_spaces
+returns-clause-no_spaces c line = words-no_spaces line
 
 pub returns-clause-only : goal.returns-clause-only
 returns-clause-only c parts some each = words-join parts some each

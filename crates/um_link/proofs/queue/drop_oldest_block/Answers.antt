@@ -1,5 +1,5 @@
 use Rattle.std.proofs.Common.{ap, arith}
-use Rattle.um_link.proofs.Sending.{gone_first, gone_last, first_gone}
+use Rattle.um_link.proofs.Lemmas.{gone_first, gone_last, first_gone}
 use Rattle.um_link.proofs.queue.drop_oldest_block.Goals as goal
 
 pub returns-then-len-eq1-clause-first : goal.returns-then-len-eq1-clause-first

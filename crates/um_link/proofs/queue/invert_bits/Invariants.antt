@@ -1,4 +1,4 @@
-use Rattle.um_link.proofs.Flipping.{AreFlipped}
+use Rattle.um_link.proofs.Lemmas.{AreFlipped}
 use Rattle.um_link.proofs.queue.invert_bits.Given as goal
 
 abbrev pub invariant-loop-place : goal.invariant-loop-place

@@ -10,7 +10,7 @@ returns-clause-received g c =
       refl,
       record {
         block = gone.0;
-        first = gone.1;
+        queue_front = gone.1;
         received = subst (λ bursts. IsReceivedBlock bursts c.receive.result) softened c.receive.ensures.received;
       },
     )

@@ -1,4 +1,4 @@
-use Rattle.um_link.proofs.Sending.{AreSentSoFar}
+use Rattle.um_link.proofs.Lemmas.{AreSentSoFar}
 use Rattle.um_link.proofs.queue.send_frames.Given as goal
 
 abbrev pub invariant-loop-octets : goal.invariant-loop-octets

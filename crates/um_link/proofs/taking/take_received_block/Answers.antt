@@ -1,6 +1,6 @@
 use Rattle.std.proofs.Common.{rules, ap, ◌∙◌, None}
 use Rattle.lapdm_frame.specs.Content.{frame_of}
-use Rattle.um_link.{specs.{Naming.role_of, BlockTaking.accepted_octets}, proofs.Reading.{read_taken, none_taken}}
+use Rattle.um_link.{specs.{Naming.role_of, BlockTaking.accepted_octets}, proofs.Lemmas.{read_taken, none_taken}}
 use Rattle.um_air.specs.Air.{ReadsFrame}
 use Rattle.um_link.proofs.taking.take_received_block.Goals as goal
 

@@ -1,5 +1,5 @@
 use Rattle.std.proofs.{Common.{rules, w32, FitsSigned}, lemmas.Int.to_z-of_z}
-use Rattle.um_margin.proofs.Comparing.{is_compared}
+use Rattle.um_margin.proofs.Lemmas.{is_compared}
 use Rattle.um_margin.proofs.comparison.compare_words.Goals as goal
 
 pub returns : goal.returns

@@ -1,4 +1,4 @@
-use Rattle.um_margin.proofs.Ahead.{zero_margin_is_tie, hard_margin_law}
+use Rattle.um_margin.proofs.Lemmas.{zero_margin_is_tie, hard_margin_law}
 use Rattle.um_margin.proofs.laws.law_margin_ties_and_bound.Goals as goal
 
 pub returns : goal.returns

@@ -1,4 +1,4 @@
-use Rattle.um_script.proofs.PackedOctets.{octets_of-bits_of}
+use Rattle.um_script.proofs.AnswerLaws.{octets_of-bits_of}
 use Rattle.um_script.proofs.answer.push_data_and_check_words.Goals as goal
 
 pub returns-clause-octets : goal.returns-clause-octets

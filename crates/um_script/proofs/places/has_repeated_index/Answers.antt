@@ -1,7 +1,7 @@
 use Rattle.std.proofs.Common.{ap, sym, ◌∙◌}
 use Rattle.um_lines.specs.Words.{words}
-use Rattle.um_script.{specs.Held.{remaining_words, numbers_of_words, has_marked_or_repeated_index}, proofs.PlaceLaws.named_twice}
-use Rattle.um_script.proofs.PlaceLaws.{named_here}
+use Rattle.um_script.{specs.Held.{remaining_words, numbers_of_words, has_marked_or_repeated_index}, proofs.ScriptLines.named_twice}
+use Rattle.um_script.proofs.ScriptLines.{named_here}
 use Rattle.um_script.proofs.places.has_repeated_index.Goals as goal
 
 pub returns-then-named-place : goal.returns-then-named-place

@@ -1,4 +1,4 @@
-use Rattle.um_script.proofs.OctetLaws.{octet_event}
+use Rattle.um_script.proofs.ScriptLines.{octet_event}
 use Rattle.um_script.proofs.script.law_messages_are_octets.Goals as goal
 
 pub returns : goal.returns

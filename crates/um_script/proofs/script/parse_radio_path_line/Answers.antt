@@ -1,6 +1,7 @@
 use Rattle.std.proofs.Common.{ap, sym, ◌∙◌}
 use Rattle.um_lines.specs.Words.{words}
-use Rattle.um_script.{specs.{Names.link_direction_of, ScriptReading.{parsed_radio_event, parsed_flip}}, proofs.ReadingLaws.more_air}
+use Rattle.um_script.specs.{Names.link_direction_of, ScriptReading.{parsed_radio_event, parsed_bit_inversion}}
+use Rattle.um_script.proofs.ScriptLines.{more_air}
 use Rattle.um_script.proofs.script.parse_radio_path_line.Goals as goal
 
 pub returns-in-Some-clause-read : goal.returns-in-Some-clause-read
@@ -8,6 +9,6 @@ returns-in-Some-clause-read c =
     let way = link_direction_of c.args.way in
     let places = c.in-Some.places.now in
     c.parse_flip.ensures.read
-    ∙ ap (λ done. parsed_flip way done (words places)) c.action_of_word-in-Some.ensures
+    ∙ ap (λ done. parsed_bit_inversion way done (words places)) c.action_of_word-in-Some.ensures
     ∙ more_air way c.in-Some.verb.now places
     ∙ ap (parsed_radio_event way) (sym c.in-Some.ensures.parts)

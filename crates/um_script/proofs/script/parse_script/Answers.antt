@@ -1,6 +1,6 @@
 use Rattle.std.{proofs.Common.{ap, sym, ◌∙◌, subst, IfOk, Some}, specs.Result.result_err}
 use Rattle.um_link.specs.Naming.{event_of}
-use Rattle.um_script.{specs.ScriptLines.ScriptLineMeans, proofs.LineLaws.read_line}
+use Rattle.um_script.{specs.ScriptLines.ScriptLineMeans, proofs.ScriptLines.read_line}
 use Rattle.um_script.proofs.script.parse_script.Goals as goal
 
 pub returns-in-Ok-clause-means : goal.returns-in-Ok-clause-means

@@ -1,4 +1,4 @@
-use Rattle.weight_bound.proofs.AbsoluteValues.{IsSoFar}
+use Rattle.weight_bound.proofs.Lemmas.{IsSoFar}
 use Rattle.weight_bound.proofs.counts.strengths.Given as goal
 
 abbrev pub invariant-loop-value : goal.invariant-loop-value

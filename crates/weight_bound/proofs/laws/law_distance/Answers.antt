@@ -1,4 +1,4 @@
-use Rattle.weight_bound.proofs.Distances.{at_least_seven}
+use Rattle.weight_bound.proofs.Lemmas.{at_least_seven}
 use Rattle.weight_bound.proofs.laws.law_distance.Goals as goal
 
 pub returns : goal.returns

@@ -1,4 +1,4 @@
-use Rattle.weight_bound.proofs.Distances.{reaches_seven}
+use Rattle.weight_bound.proofs.Lemmas.{reaches_seven}
 use Rattle.weight_bound.proofs.laws.law_free_distance_is_seven.Goals as goal
 
 pub returns : goal.returns

@@ -1,6 +1,6 @@
 use Rattle.std.proofs.{Common.{◌+◌, ◌*◌, ◌%◌, ap, ◌∙◌, arith}, lemmas.List.Edits.get_or-between}
 use Rattle.bit_blocks.specs.Packed.{bit_of, packed_bit_index}
-use Rattle.interleave.proofs.ColumnBits.{row_bit}
+use Rattle.interleave.proofs.Lemmas.{row_bit}
 use Rattle.interleave.proofs.columns.Columns.sixteen_row_bits.Goals as goal
 
 pub returns-clause-each : goal.returns-clause-each

@@ -1,7 +1,7 @@
 use Rattle.std.proofs.Common.{◌≡◌, ℕ, List, ◌++◌, length, get_or, take, drop, replicate, ap, ◌∙◌, arith}
 use Rattle.std.proofs.lemmas.List.{get_or-take, length-append, length-take, length-drop}
 use borrow.Rule.Slice.PartMut.{put_mid}
-use Rattle.interleave.proofs.{ColumnBits.half_place, HalfBursts.half_of_bursts}
+use Rattle.interleave.proofs.Lemmas.{half_place, half_of_bursts}
 use Rattle.interleave.proofs.columns.Columns.write_half_burst.Goals as goal
 
 length-written : (front back : List ℕ) → length front ≡ 32 → length back ≡ 32 →

@@ -1,11 +1,11 @@
 use Rattle.std.proofs.Common.{refl}
 use Rattle.lapdm_window.specs.declared.State.TheVariants.{Closing}
-use Rattle.lapdm_end.proofs.Moves.{moved, both, window_holds_unacked, Represents-moved, Holds-other}
+use Rattle.lapdm_end.proofs.Lemmas.{moved, both, window_holds_unacked, Represents-moved, Holds-other}
 use Rattle.lapdm_end.proofs.ends.Endpoint.close_into.Goals as goal
 
 pub returns-clause-refines : goal.returns-clause-refines
 returns-clause-refines c e h =
     let m = c.args.self.now in
-    both (Represents-moved h.end h.link h.variables refl h.kept h.end.kept h.end.empty_on_sapi3 (λ u. absurd u)
-    (record { holds = Holds-other (window_holds_unacked m.window m.retries e m.state h.now); count = refl }))
-    (λ s. record { frames = c.disc.ensures.frames (moved Closing e.kept 0 e) s; notices = c.disc.ensures.notices })
+    both (Represents-moved h.valid h.address h.variables refl h.sabm_info h.valid.sabm_info_fits h.valid.empty_on_sapi3 (λ u. absurd u)
+    (record { unacked_messages = Holds-other (window_holds_unacked m.window m.retries e m.state h.now); retry_count = refl }))
+    (λ s. record { frames = c.disc.ensures.frames (moved Closing e.sabm_info 0 e) s; notices = c.disc.ensures.notices })

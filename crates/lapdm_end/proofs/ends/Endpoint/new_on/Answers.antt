@@ -7,10 +7,10 @@ pub returns-clause-represents : goal.returns-clause-represents
 returns-clause-represents c =
     let window = c.new_on.ensures.represents (role_of c.args.role) c.args.sapi in
     record {
-      end = IsValidEndpoint-start (role_of c.args.role) c.args.sapi c.args.channel;
-      link = record { role = refl; sapi = refl; channel = refl };
+      valid = IsValidEndpoint-start (role_of c.args.role) c.args.sapi c.args.channel;
+      address = record { role = refl; sapi = refl; channel = refl };
       state = refl;
-      kept = c.new.ensures;
+      sabm_info = c.new.ensures;
       variables = window.variables;
       now = window;
     }

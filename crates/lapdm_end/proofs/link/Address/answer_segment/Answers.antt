@@ -1,6 +1,6 @@
 use Rattle.std.proofs.Common.{◌≡◌, sym, ap, ◌∙◌, true}
 use Rattle.lapdm_window.specs.Rules.{has_segment_to_send, sends_next, answers_segment}
-use Rattle.lapdm_end.proofs.{Rules.answers-next, RulesInSequence.{Gives-as, Gives-then, Gives-next}}
+use Rattle.lapdm_end.proofs.Lemmas.{answers-next, Gives-as, Gives-then, Gives-next}
 use Rattle.lapdm_end.proofs.link.Address.answer_segment.Goals as goal
 
 pub returns-then-p-clause-refines : goal.returns-then-p-clause-refines

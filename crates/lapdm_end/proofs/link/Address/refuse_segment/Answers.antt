@@ -1,5 +1,5 @@
 use Rattle.lapdm_window.specs.Rules.{sends_next}
-use Rattle.lapdm_end.proofs.RulesInSequence.{Gives-then}
+use Rattle.lapdm_end.proofs.Lemmas.{Gives-then}
 use Rattle.lapdm_end.proofs.link.Address.refuse_segment.Goals as goal
 
 pub returns-clause-refines : goal.returns-clause-refines

@@ -1,6 +1,6 @@
 use Rattle.std.proofs.Common.{◌≡◌, sym, true}
 use Rattle.lapdm_window.specs.Rules.{has_segment_to_send}
-use Rattle.lapdm_end.proofs.{Rules.sends_next-yes, RulesInSequence.{Gives-as, Gives-next}}
+use Rattle.lapdm_end.proofs.Lemmas.{sends_next-yes, Gives-as, Gives-next}
 use Rattle.lapdm_end.proofs.link.Address.send_next.Goals as goal
 
 pub returns-clause-refines : goal.returns-clause-refines

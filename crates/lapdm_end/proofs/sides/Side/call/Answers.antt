@@ -1,6 +1,6 @@
 use Rattle.std.proofs.{Common.refl, lemmas.Result.on_ok_weaker}
 use Rattle.lapdm_window.specs.{declared.Sapi.TheVariants.{Zero, Three}, Calls.{call_of, call_outcome}}
-use Rattle.lapdm_end.proofs.SideSteps.{does_at, asks_at}
+use Rattle.lapdm_end.proofs.Lemmas.{does_at, asks_at}
 use Rattle.lapdm_end.proofs.sides.Side.call.Goals as goal
 
 pub returns-in-Zero-clause-refines : goal.returns-in-Zero-clause-refines

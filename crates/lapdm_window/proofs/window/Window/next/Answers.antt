@@ -12,7 +12,7 @@ piece-requires c =
       ap length c.new_on.ensures.pieces,
       ap (λ m. length (segments n m)) same,
       length-segments n (slice_index_or w.held.items 0 []),
-      w.within,
+      w.in_range,
     )
 
 pub returns : goal.returns

@@ -4,13 +4,13 @@ use Rattle.lapdm_window.proofs.window.Window.parts.Goals as goal
 
 first_fits : (held : List Message) → All IsValidMessage held → length (get_or held 0 []) ≤ max_message_octets
 first_fits [] h = omega arith
-first_fits (m ∷ ms) h = let first : IsValidMessage m = All-head IsValidMessage m ms h in first.most
+first_fits (m ∷ ms) h = let first : IsValidMessage m = All-head IsValidMessage m ms h in first.at_most
 
 pub returns-clause-place : goal.returns-clause-place
 returns-clause-place c =
     let w = c.args.self.now in
     omega (
       arith,
-      w.within,
+      w.in_range,
       few_segments w.channel (n201 w.channel) (length (get_or w.held.items 0 [])) refl (first_fits w.held.items w.messages),
     )

@@ -2,8 +2,8 @@
 use Rattle.std.proofs.Common.{◌≡◌, ◌≢◌, refl, sym, ◌∙◌, ap, subst, arith, ℕ, ◌+◌, ◌%◌, ◌≤◌, ◌⊎◌}
 use Rattle.std.proofs.{Common.{inl, inr, length, map}, lemmas.Bool.false≢true}
 use Rattle.segmenting.specs.{Parts.JoinerValues, Buffers.octets_in}
-use Rattle.lapdm_window.specs.{declared.window.Window.Window, Parts.{WindowValues, values_of, values_in, WindowExists, AreConsistent}}
-use Rattle.lapdm_window.proofs.Parts.{in_step, represents_one}
+use Rattle.lapdm_window.specs.{declared.window.Window.Window, Parts.{WindowValues, values_of, values_of_parts, WindowExists, AreConsistent}}
+use Rattle.lapdm_window.proofs.Windows.{in_step, represents_one}
 use Rattle.lapdm_window.proofs.window.Window.restore.Goals.{then-not-are_consistent-via-then-not-are_consistent}
 use Rattle.lapdm_window.proofs.window.Window.restore.Goals.{then-not-are_consistent-via-else-not-are_consistent+then-not-restore}
 use Rattle.lapdm_window.proofs.window.Window.restore.Goals as goal
@@ -23,39 +23,39 @@ returns-then-not-are_consistent-clause-known c = (
   λ s. absurd (false≢true s),
   λ h. elim c.then-not-are_consistent.branch [
     | then-not-are_consistent-via-then-not-are_consistent w ↦
-        absurd (false≢true (sym w.if-not-are_consistent.true ∙ c.are_consistent.ensures.together.1 (stepped
-        (values_in c.args.parts.now) h)))
+        absurd (false≢true (sym w.if-not-are_consistent.true ∙ c.are_consistent.ensures.consistent.1 (stepped
+        (values_of_parts c.args.parts.now) h)))
     | then-not-are_consistent-via-else-not-are_consistent+then-not-restore w ↦
         absurd (false≢true (sym w.if-not-restore.true
-        ∙ w.restore.ensures.known.1 (h.1.window.joiner, ap (λ (x : WindowValues). x.joiner) h.1.values)))
+        ∙ w.restore.ensures.known.1 (h.1.window.joiner, ap (λ (x : WindowValues). x.joiner) h.1.values_match)))
   ],
 )
 
 pub returns-clause-known : goal.returns-clause-known
 returns-clause-known c =
     let p = c.args.parts.now in
-    let x = values_in p in
-    let h : AreConsistent x = c.are_consistent.ensures.together.0 c.if-not-are_consistent.false in
+    let x = values_of_parts p in
+    let h : AreConsistent x = c.are_consistent.ensures.consistent.0 c.if-not-are_consistent.false in
     let w : Window = record {
       channel = p.channel;
       held = record { items = map octets_in p.held.now };
-      place = p.place;
+      segment_index = p.segment_index;
       vs = p.vs;
       va = p.va;
       vr = p.vr;
-      done = p.done;
+      acked_messages = p.acked_messages;
       rejecting = p.rejecting;
       retries = p.retries;
       joiner = c.restore.new.self;
-      few = h.held.few;
+      at_most_8 = h.held.at_most_8;
       messages = h.held.messages;
-      within = h.within;
-      waiting = some_held p.vs p.va (1 ≤ length (map octets_in p.held.now)) h.waiting;
-      vs_fits = fits p.vs p.va (1 ≤ length (map octets_in p.held.now)) h.va h.waiting;
+      in_range = h.segment_index_in_range;
+      waiting = some_held p.vs p.va (1 ≤ length (map octets_in p.held.now)) h.at_most_one_outstanding;
+      vs_fits = fits p.vs p.va (1 ≤ length (map octets_in p.held.now)) h.va h.at_most_one_outstanding;
       va_fits = h.va;
       vr_fits = h.vr;
     } in
     let same : values_of w ≡ x = ap (λ (j : JoinerValues). let y : WindowValues = record x { joiner = j } in y)
     (c.restore.ensures.same c.if-not-restore.false) in
     let found = represents_one w (subst AreConsistent (sym same) h) c.are_consistent.ensures.counted in
-    (λ s. (found.0, record { window = w; values = same; represents = found.1 }), λ k. refl)
+    (λ s. (found.0, record { window = w; values_match = same; represents = found.1 }), λ k. refl)

@@ -13,13 +13,13 @@ each (room ∷ buffers) h =
 pub returns-then-messages-gt8 : goal.returns-then-messages-gt8
 returns-then-messages-gt8 c =
     let buffers = c.args.messages.now in
-    (λ s. absurd (false≢true s), λ h. absurd (omega (arith, h.few, length-map buffers octets_in, c.if-messages-gt8.true)))
+    (λ s. absurd (false≢true s), λ h. absurd (omega (arith, h.at_most_8, length-map buffers octets_in, c.if-messages-gt8.true)))
 
 pub returns : goal.returns
 returns c =
     let buffers = c.args.messages.now in (
       λ s. record {
-        few = omega (arith, length-map buffers octets_in, c.if-messages-gt8.false);
+        at_most_8 = omega (arith, length-map buffers octets_in, c.if-messages-gt8.false);
         messages = All-map IsValidMessage octets_in buffers (c.are_valid_messages.ensures.0 s);
       },
       λ h. c.are_valid_messages.ensures.1 (each buffers h.messages),

@@ -1,7 +1,7 @@
 use Rattle.std.proofs.Common.{arith, rules, ◌<◌, ◌-ℤ◌, take, refl, ap, ap₂, sym, ◌∙◌, subst, w32, FitsSigned, to_z, of_z}
 use Rattle.std.proofs.lemmas.Int.{to_z-of_z}
-use Rattle.list_decode.specs.{Branches.is_in_range, FreePlaces.IsLeastLossDeviationOrNone, Passes.losses_of_pass}
-use Rattle.list_decode.proofs.{Losses.reached_small, Spans.{best_deviation, value_fits}}
+use Rattle.list_decode.specs.{Branches.is_in_range, LeastLosses.IsLeastLossDeviationOrNone, Passes.losses_of_pass}
+use Rattle.list_decode.proofs.{DeviatingWords.reached_small, Spans.{best_deviation, value_fits}}
 use Rattle.list_decode.proofs.branch.WordBranch.new.Goals as goal
 
 pub overflow_sub-best : goal.overflow_sub-best
@@ -10,7 +10,7 @@ overflow_sub-best c =
     let departure = c.in-Some.departure in
     let found = subst (IsLeastLossDeviationOrNone c.args.u.now (losses_of_pass c.args.pass.now) (is_in_range span.from span.to) span.to)
     c.in-Some.is
-    c.find_least_loss_in_span.ensures in
+    c.find_least_loss.ensures in
     let a : FitsSigned w32 span.likelihood = search rules in
     let b : FitsSigned w32 departure.loss = search rules in
     subst (FitsSigned w32) (sym (ap₂ (λ x y. x -ℤ y) (to_z-of_z w32 span.likelihood a) (to_z-of_z w32 departure.loss b)))
@@ -22,7 +22,7 @@ returns-in-Some-clause-branch c =
     let departure = c.in-Some.departure in
     let found = subst (IsLeastLossDeviationOrNone c.args.u.now (losses_of_pass c.args.pass.now) (is_in_range span.from span.to) span.to)
     c.in-Some.is
-    c.find_least_loss_in_span.ensures in
+    c.find_least_loss.ensures in
     let a : FitsSigned w32 span.likelihood = search rules in
     let b : FitsSigned w32 departure.loss = search rules in
     let both = ap₂ (λ x y. x -ℤ y) (to_z-of_z w32 span.likelihood a) (to_z-of_z w32 departure.loss b) in
@@ -39,5 +39,5 @@ new-requires-clause-state c =
     let span = c.args.span in
     let found = subst (IsLeastLossDeviationOrNone c.args.u.now (losses_of_pass c.args.pass.now) (is_in_range span.from span.to) span.to)
     c.in-Some.is
-    c.find_least_loss_in_span.ensures in
+    c.find_least_loss.ensures in
     subst (λ s. s < 16) (sym found.0.state) (reached_small 0 (take c.in-Some.departure.place c.args.u.now) (omega arith))

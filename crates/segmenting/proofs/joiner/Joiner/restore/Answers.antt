@@ -1,6 +1,5 @@
 use Rattle.std.proofs.{Common.{◌≡◌, refl, ap, arith, ◌++◌, [], length}, lemmas.List.take_at}
-use Rattle.segmenting.specs.{declared.joiner.{Part.TheVariants.Discarding, Joiner.Joiner}, Parts.JoinerValues}
-use Rattle.segmenting.proofs.Histories.{buffer_past}
+use Rattle.segmenting.{specs.{declared.joiner.{Part.TheVariants.Discarding, Joiner.Joiner}, Parts.JoinerValues}, proofs.Lemmas.buffer_past}
 use Rattle.segmenting.proofs.joiner.Joiner.restore.Goals as goal
 
 none_over : (c : goal.After-self-1) → c.args.part ≡ Discarding → length c.args.octets.now ≡ 0
@@ -14,7 +13,7 @@ returns-clause-known c =
       octets = octets ++ [];
       len = length octets;
       part = part;
-      within = c.if-octets-gt-LONGEST_MESSAGE.false;
+      in_range = c.if-octets-gt-LONGEST_MESSAGE.false;
       empty_if_discarding = none_over c;
     } in
     let same = ap
@@ -24,4 +23,4 @@ returns-clause-known c =
 pub returns-clause-taken : goal.returns-clause-taken
 returns-clause-taken c =
     let past = buffer_past _ _ _ 0 c.if-octets-gt-LONGEST_MESSAGE.false (none_over c) (omega arith) in
-    λ s. (past.taken, past.joined)
+    λ s. (past.taken, past.reassembly)

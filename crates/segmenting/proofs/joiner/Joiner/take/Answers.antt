@@ -1,5 +1,5 @@
 use Rattle.std.proofs.Common.{refl, sym, arith, true, false}
-use Rattle.segmenting.proofs.Taking.{goes_on, completes, taken_oversize, drops, written, HoldsReassemblyOf-same}
+use Rattle.segmenting.proofs.Lemmas.{goes_on, completes, taken_oversize, drops, written, HoldsReassemblyOf-same}
 use Rattle.segmenting.proofs.joiner.Joiner.take.Goals.{then-more, else-more}
 use Rattle.segmenting.specs.declared.joiner.Part.TheVariants as P
 use Rattle.segmenting.proofs.joiner.Joiner.take.Goals as goal
@@ -17,11 +17,11 @@ returns-then-more-2-clause-after c taken h =
     let held = written c.in-Some.start c.args.piece.now taken c.args.self.now.octets c.copy_from_slice.new.self
     (omega arith) c.in-Some.ensures.space c.copy_from_slice.ensures.after (c.in-Some.ensures.place taken h) in
     HoldsReassemblyOf-same _ P.Open _ taken _ true _ refl (sym c.if-more-2.true)
-    (goes_on taken _ _ held.same held.fits)
+    (goes_on taken _ _ held.held_is held.fits)
 
 pub returns-clause-after : goal.returns-clause-after
 returns-clause-after c taken h =
     let held = written c.in-Some.start c.args.piece.now taken c.args.self.now.octets c.copy_from_slice.new.self
     (omega arith) c.in-Some.ensures.space c.copy_from_slice.ensures.after (c.in-Some.ensures.place taken h) in
     HoldsReassemblyOf-same _ P.Whole _ taken _ false _ refl (sym c.if-more-2.false)
-    (completes taken _ _ held.same held.fits)
+    (completes taken _ _ held.held_is held.fits)

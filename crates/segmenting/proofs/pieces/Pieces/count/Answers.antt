@@ -1,5 +1,5 @@
 use Rattle.std.proofs.Common.{◌∙◌, sym, ap, ◌+◌, ◌-◌, ◌/◌, length}
-use Rattle.segmenting.proofs.Cutting.{length-segments, few_segments}
+use Rattle.segmenting.proofs.Lemmas.{length-segments, few_segments}
 use Rattle.segmenting.proofs.pieces.Pieces.count.Goals as goal
 
 pub returns-clause-count : goal.returns-clause-count
@@ -10,4 +10,4 @@ returns-clause-count c =
 pub returns-clause-most : goal.returns-clause-most
 returns-clause-most c =
     let p = c.args.self.now in
-    few_segments _ _ _ c.n201.ensures p.most
+    few_segments _ _ _ c.n201.ensures p.at_most

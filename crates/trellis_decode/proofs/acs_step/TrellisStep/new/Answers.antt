@@ -18,8 +18,8 @@ low_chosen : (c : After-greater_lane_decisions-2) (pair : List ℤ) → HasBranc
     (lane (metrics_of_lanes c.interleave_first_lanes.result.lanes c.interleave_last_lanes.result.lanes) (bit_reversed k))
     (lane_decision (lane c.greater_lane_decisions.result.lanes k))
 low_chosen c pair has k lt =
-    let even = c.args.after.even.lanes in
-    let odd = c.args.after.odd.lanes in
+    let even = c.args.after.even_states.lanes in
+    let odd = c.args.after.odd_states.lanes in
     let taken = lane _ k in
     let counted = sym (has.each k lt) in
     rw (ap (λ l. lane l (bit_reversed k)) (stepped_is c) ∙ low_metric c.lane_maxima-low.result.lanes c.lane_maxima-high.result.lanes k
@@ -38,8 +38,8 @@ high_chosen : (c : After-greater_lane_decisions-2) (pair : List ℤ) → HasBran
     (lane (metrics_of_lanes c.interleave_first_lanes.result.lanes c.interleave_last_lanes.result.lanes) (8 + bit_reversed k))
     (lane_decision (lane c.greater_lane_decisions-2.result.lanes k))
 high_chosen c pair has k lt =
-    let even = c.args.after.even.lanes in
-    let odd = c.args.after.odd.lanes in
+    let even = c.args.after.even_states.lanes in
+    let odd = c.args.after.odd_states.lanes in
     let branch_metric = lane _ k in
     let zero = lane _ k in
     let one = lane _ k in

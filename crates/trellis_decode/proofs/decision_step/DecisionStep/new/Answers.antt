@@ -1,16 +1,17 @@
-use Rattle.trellis_decode.{specs.Lanes.lane, proofs.Leads.{AreLeads, choice_is, high_near, leads_are, loss_is, low_near}}
+use Rattle.trellis_decode.{specs.Lanes.lane, proofs.AcsSteps.{AreLeads, choice_is, high_near, leads_are, loss_is, low_near}}
 use Rattle.trellis_decode.proofs.decision_step.DecisionStep.new.Goals.{After-to_state_order-leads}
 use Rattle.trellis_decode.proofs.decision_step.DecisionStep.new.Goals as goal
 
-pub subtract_lanes-low-requires-clause-near : goal.subtract_lanes-low-requires-clause-near
-subtract_lanes-low-requires-clause-near c =
+pub subtract_lanes-low-requires-clause-fits_16_bits : goal.subtract_lanes-low-requires-clause-fits_16_bits
+subtract_lanes-low-requires-clause-fits_16_bits c =
     low_near _ _ _ _ c.new-step.ensures.candidates c.requires.close c.requires.branch_metrics
 
-pub subtract_lanes-high-requires-clause-near : goal.subtract_lanes-high-requires-clause-near
-subtract_lanes-high-requires-clause-near c =
+pub subtract_lanes-high-requires-clause-fits_16_bits : goal.subtract_lanes-high-requires-clause-fits_16_bits
+subtract_lanes-high-requires-clause-fits_16_bits c =
     high_near _ _ _ _ c.new-step.ensures.candidates c.requires.close c.requires.branch_metrics
 
-leads : (c : After-to_state_order-leads) → AreLeads c.args.after.even.lanes c.args.after.odd.lanes c.args.branch_metrics.lanes
+leads : (c : After-to_state_order-leads) →
+    AreLeads c.args.after.even_states.lanes c.args.after.odd_states.lanes c.args.branch_metrics.lanes
     c.to_state_order-leads.result.lanes
 leads c = leads_are _ _ _ c.new-step.result.candidates c.new-step.ensures.candidates c.requires.close c.requires.branch_metrics
     c.subtract_lanes-low.result.lanes c.subtract_lanes-high.result.lanes _

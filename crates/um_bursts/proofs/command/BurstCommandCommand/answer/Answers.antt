@@ -1,7 +1,7 @@
 use Rattle.std.proofs.Common.{◌≡◌, ℤ, List, Ok, refl, ap, sym, ◌∙◌, subst}
-use Rattle.um_formats.specs.{declared.burst_lines.BurstLine.TheVariants.Normal, Held.{Held, normal_burst_result}}
+use Rattle.um_formats.specs.{declared.burst_lines.BurstLine.TheVariants.Normal, Held.{BurstBuffer, normal_burst_result}}
 use Rattle.um_driver.specs.Rules.{Answers}
-use Rattle.um_bursts.{specs.BurstRules.{burst_rules, IsAnswerToLineResult}, proofs.NextAnswers.line_answered}
+use Rattle.um_bursts.{specs.BurstRules.{burst_rules, AnswersLineResult}, proofs.Lemmas.line_answered}
 use Rattle.um_bursts.proofs.command.BurstCommandCommand.answer.Goals.{then-whole, else-whole}
 use Rattle.um_bursts.proofs.command.BurstCommandCommand.answer.Goals as goal
 
@@ -10,7 +10,7 @@ returns-after-whole-clause-answered g c = λ held same.
     let a = g.R.Reports.answers in
     let new = c.hold_normal_burst.new.held in
     let h = c.in-Some.ensures in
-    let wrote : IsAnswerToLineResult a (normal_burst_result c.in-Some.whole) new c.if-whole.out =
+    let wrote : AnswersLineResult a (normal_burst_result c.in-Some.whole) new c.if-whole.out =
     elim c.if-whole.branch [
       | then-whole w ↦ rw (w.if-whole.true, w.out-is)
           (subst (λ (bs : List (List ℤ)). a.block bs w.block-then-whole.new.out) w.block.ensures.bursts
@@ -20,10 +20,10 @@ returns-after-whole-clause-answered g c = λ held same.
     subst (λ (hs : List (List ℤ)). Answers (burst_rules a) hs c.args.line.now (Ok tt) c.if-whole.out (λ after. new.held ≡ after))
     (c.self.view_is ∙ same)
     (line_answered a c.self.inside.held new c.if-whole.out c.args.line.now (Normal h.soft) (normal_burst_result c.in-Some.whole) h.means
-    (sym h.refused) (c.in-Some.whole, refl, h.holds) wrote)
+    (sym h.no_fault) (c.in-Some.whole, refl, h.adds_burst) wrote)
 
 pub returns-in-None-clause-answered : goal.returns-in-None-clause-answered
 returns-in-None-clause-answered g c = λ held same.
     subst (λ (hs : List (List ℤ)). Answers (burst_rules g.R.Reports.answers) hs c.args.line.now c.answer_other_line.result
     c.answer_other_line.new.out (λ after. c.answer_other_line.new.self ≡ after))
-    (ap (λ (s : Held). s.held) c.in-None.ensures.0 ∙ c.self.view_is ∙ same) c.answer_other_line.ensures.answered
+    (ap (λ (s : BurstBuffer). s.held) c.in-None.ensures.0 ∙ c.self.view_is ∙ same) c.answer_other_line.ensures.answered

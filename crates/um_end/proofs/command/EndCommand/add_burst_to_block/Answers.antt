@@ -1,6 +1,6 @@
 use Rattle.std.proofs.Common.{◌≡◌, Bool, ℕ, ℤ, ◌<◌, List, [], ◌∷◌, ◌++◌, length, inl, inr, refl, sym, ap, ◌∙◌}
 use Rattle.std.proofs.Common.{subst, rules, arith}
-use Rattle.um_link.specs.{lapdm_window.Ends.Role, um_air.Air.Does, Naming.{role_of, step_of}}
+use Rattle.um_link.specs.{lapdm_window.Ends.Role, um_air.Air.Accepts, Naming.{role_of, step_of}}
 use Rattle.um_formats.specs.Held.{AddsNormalBurst}
 use Rattle.um_end.{specs.{Terminals.ReceivesBursts, EndRuns.IsAnswerText}, proofs.AnswerSizes.block_short}
 use Rattle.um_end.proofs.command.EndCommand.add_burst_to_block.Goals as goal
@@ -9,22 +9,22 @@ pub returns-then-add : goal.returns-then-add
 returns-then-add c = record {
   answers = λ s st.
       let f = c.receive_into.ensures.refines s.links st.links in
-      let bursts : List (List ℤ) = s.held ++ c.args.burst ∷ [] in
+      let bursts : List (List ℤ) = s.held_bursts ++ c.args.burst ∷ [] in
       let holds = subst (λ (whole : Bool). AddsNormalBurst c.args.self.now.held c.args.burst whole c.add.new.self) c.if-add.true
       c.add.ensures in
       let whole : c.block.result.now ≡ bursts = c.block.ensures.bursts ∙ holds.0
-      ∙ ap (λ held. held ++ c.args.burst ∷ []) (sym st.held) in
+      ∙ ap (λ held. held ++ c.args.burst ∷ []) (sym st.held_bursts) in
       let step = step_of c.receive_into.new.step in
       let tsc : c.receive_into.new.self.tsc ≡ s.tsc = c.receive_into.ensures.same.tsc ∙ sym st.tsc in (
-        record s { links = f.0; held = [] },
+        record s { links = f.0; held_bursts = [] },
         inr (
           ap length (sym whole) ∙ search rules,
           record {
             links = f.0;
             step = step;
-            heard = subst (λ (bs : List (List ℤ)). ReceivesBursts s.role s.links bs f.0 step) whole
+            receives_bursts = subst (λ (bs : List (List ℤ)). ReceivesBursts s.role s.links bs f.0 step) whole
                 (subst (λ (r : Role). ReceivesBursts r s.links c.block.result.now f.0 step) (sym st.role) f.2);
-            text_is = subst (λ (n : ℕ). IsAnswerText n (Does step) c.write_answer.new.out) tsc c.write_answer.ensures.text;
+            text_is = subst (λ (n : ℕ). IsAnswerText n (Accepts step) c.write_answer.new.out) tsc c.write_answer.ensures.text;
             after_is = refl;
           },
         ),
@@ -32,7 +32,7 @@ returns-then-add c = record {
           role = st.role ∙ ap role_of (sym c.receive_into.ensures.same.side);
           tsc = sym tsc;
           links = f.1;
-          held = sym holds.2;
+          held_bursts = sym holds.2;
         },
       );
   size = λ s st.
@@ -45,13 +45,13 @@ returns-then-add c = record {
 pub returns-else-add : goal.returns-else-add
 returns-else-add c = record {
   answers = λ s st.
-      let bursts : List (List ℤ) = s.held ++ c.args.burst ∷ [] in
+      let bursts : List (List ℤ) = s.held_bursts ++ c.args.burst ∷ [] in
       let holds = subst (λ (whole : Bool). AddsNormalBurst c.args.self.now.held c.args.burst whole c.add.new.self) c.if-add.false
       c.add.ensures in
-      let held : c.add.new.self.held ≡ bursts = holds.0 ∙ ap (λ held. held ++ c.args.burst ∷ []) (sym st.held) in (
-        record s { held = bursts },
+      let held : c.add.new.self.held ≡ bursts = holds.0 ∙ ap (λ held. held ++ c.args.burst ∷ []) (sym st.held_bursts) in (
+        record s { held_bursts = bursts },
         inl (subst (λ (bs : List (List ℤ)). length bs < 4) held holds.1, c.requires.empty, refl),
-        record { role = st.role; tsc = st.tsc; links = st.links; held = sym held },
+        record { role = st.role; tsc = st.tsc; links = st.links; held_bursts = sym held },
       );
   size = λ s st. let none = ap length c.requires.empty in omega (arith, none);
 }

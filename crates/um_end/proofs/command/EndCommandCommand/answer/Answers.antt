@@ -1,16 +1,19 @@
 use Rattle.std.proofs.Common.{arith, ◌≡◌, ℕ, None, refl, sym, ap, ◌∙◌, subst}
 use Rattle.um_link.specs.{lapdm_window.Ends.Role, Naming.{role_of, event_of, answer_of, step_result}, um_air.Air.Answer}
-use Rattle.um_end.specs.{Terminals.AnswersCall, Abstraction.side_of, EndLines.{TakesBurst, Calls, meaning_of, end_fault, EndLineMeans}}
-use Rattle.um_end.{specs.{EndRuns.IsAnswerText, declared.lines.EndLine.EndLine}, proofs.{Answering.at_run, AnswerSizes.call_short}}
+use Rattle.um_end.specs.{Terminals.SideAnswersCall, Abstraction.side_of, EndLines.{TakesBurst, Calls, meaning_of, end_line_fault}}
+use Rattle.um_end.{specs.{EndLines.EndLineMeans, EndRuns.IsAnswerText, declared.lines.EndLine.EndLine}, proofs.EndSteps.at_run}
+use Rattle.um_end.proofs.AnswerSizes.{call_short}
 use Rattle.um_end.proofs.command.EndCommandCommand.answer.Goals as goal
 
 pub returns-in-Burst-clause-answered : goal.returns-in-Burst-clause-answered
 returns-in-Burst-clause-answered c s st =
     let line = c.args.line.now in
     let old = c.args.self.now in
-    let f = c.add_burst_to_block.ensures.answers s (record { role = st.role; tsc = st.tsc; links = st.links; held = st.held }) in (
+    let f = c.add_burst_to_block.ensures.answers s
+    (record { role = st.role; tsc = st.tsc; links = st.links; held_bursts = st.held_bursts }) in (
       f.0,
-      at_run (λ r n. end_fault r n line ≡ None) old s c.count.result st c.count.ensures.count (sym c.in_ok-parse_end.ensures.refused),
+      at_run (λ r n. end_line_fault r n line ≡ None) old s c.count.result st c.count.ensures.count
+          (sym c.in_ok-parse_end.ensures.refused),
       (
         TakesBurst c.in-Burst.burst,
         at_run (λ r n. EndLineMeans r n line (TakesBurst c.in-Burst.burst)) old s c.count.result st c.count.ensures.count
@@ -30,7 +33,8 @@ returns-in-Ask-clause-answered c s st =
     let answer : Answer = answer_of (step_result c.ask_into-done.result c.ask_into-done.new.step) in
     let tsc : c.ask_into-done.new.self.tsc ≡ s.tsc = c.ask_into-done.ensures.same.tsc ∙ sym st.tsc in (
       record s { links = f.0 },
-      at_run (λ r n. end_fault r n line ≡ None) old s c.count.result st c.count.ensures.count (sym c.in_ok-parse_end.ensures.refused),
+      at_run (λ r n. end_line_fault r n line ≡ None) old s c.count.result st c.count.ensures.count
+          (sym c.in_ok-parse_end.ensures.refused),
       (
         Calls event,
         at_run (λ r n. EndLineMeans r n line (Calls event)) old s c.count.result st c.count.ensures.count
@@ -39,13 +43,19 @@ returns-in-Ask-clause-answered c s st =
         record {
           links = f.0;
           answer = answer;
-          asked_call = subst (λ (r : Role). AnswersCall r s.links event f.0 answer) (sym st.role) f.2;
+          answers_call = subst (λ (r : Role). SideAnswersCall r s.links event f.0 answer) (sym st.role) f.2;
           text_is = subst (λ (n : ℕ). IsAnswerText n answer c.write_answer.new.out) tsc
               c.write_answer.ensures.text;
           after_is = refl;
         },
       ),
-      record { role = st.role ∙ ap role_of (sym c.ask_into-done.ensures.same.side); tsc = sym tsc; links = f.1; held = st.held },
+      record {
+        role = st.role ∙ ap role_of (sym c.ask_into-done.ensures.same.side);
+        tsc = sym tsc;
+        links = f.1;
+        held_bursts =
+            st.held_bursts;
+      },
     )
 
 pub returns-in-Ask-clause-size : goal.returns-in-Ask-clause-size

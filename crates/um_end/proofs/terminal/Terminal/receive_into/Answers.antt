@@ -1,23 +1,23 @@
 use Rattle.std.proofs.Common.{refl, ap, Some}
 use Rattle.um_link.specs.Naming.{role_of, step_of}
-use Rattle.um_end.{specs.{Terminals.step_for_read_frame, Abstraction.side_of}, proofs.{SideSteps.done_step, Determined.one_reception}}
+use Rattle.um_end.{specs.{Terminals.step_for_read_frame, Abstraction.side_of}, proofs.EndSteps.{done_step, one_reception}}
 use Rattle.um_end.proofs.terminal.Terminal.receive_into.Goals as goal
 
 pub returns-clause-refines : goal.returns-clause-refines
 returns-clause-refines c a st =
     let h = c.take_received_block-sapi.ensures.takes a st in
-    let d = step_for_read_frame h.read a in (
-      d.after,
-      h.done.represents,
+    let d = step_for_read_frame h.frame a in (
+      d.new_state,
+      h.carried_out.represents,
       record {
         report = c.receive_block-report.result;
-        read = h.read;
+        frame = h.frame;
         received = c.receive_block-report.ensures.received;
         reads = h.reads;
-        after = refl;
+        new_state_is = refl;
         step_is = done_step (side_of c.args.self.now) _ (Some c.receive_block-report.result) d _ _ _
             (step_of c.set_side_and_sapi.new.step) c.set_side_and_sapi.ensures.step
-            (ap role_of c.take_received_block-sapi.ensures.same.side) h.done;
+            (ap role_of c.take_received_block-sapi.ensures.same.side) h.carried_out;
       },
     )
 

@@ -8,8 +8,9 @@ pub returns-in-Ok-clause-takes : goal.returns-in-Ok-clause-takes
 returns-in-Ok-clause-takes c a st =
     let f = frame_of c.in-Ok.frame in
     record {
-      read = Some f;
+      frame = Some f;
       reads = subst (λ (o : Option Octets). ReadsFrame Sdcch o (Some f)) (sym c.in-Some.is) c.in-Ok.ensures.frame.frame;
-      done = subst (λ (x : Channel). CarriesOutStep x (takes f a) c.take.result c.take.new.effects c.take.new.self) c.args.self.now.channel
+      carried_out = subst (λ (x : Channel). CarriesOutStep x (takes f a) c.take.result c.take.new.effects c.take.new.self)
+          c.args.self.now.channel
           (c.take.ensures.refines a st);
     }

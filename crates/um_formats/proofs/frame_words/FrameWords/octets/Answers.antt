@@ -13,7 +13,7 @@ returns c =
     let said = subst (λ shape. content_from_values shape w.kind (values_of_words (shape_fields shape) (field_words shape w.fields))
     ≡ Some body)
     c.syntax.ensures.shape (c.frame_fields_of_kind.ensures.said ∙ rw c.body-body.ensures refl) in (
-      record { sapi = c.value_of_digit-sapi.result; cr = c.is_word_one-cr.result; content = body },
-      ap (frame_with_address sapi cr) said ∙ rw (c.value_of_digit-sapi.ensures.value, c.is_word_one-cr.ensures) refl,
+      record { sapi = c.value_of_digit-sapi.result; cr = c.is_digit_one-cr.result; content = body },
+      ap (frame_with_address sapi cr) said ∙ rw (c.value_of_digit-sapi.ensures.value, c.is_digit_one-cr.ensures) refl,
       c.write.ensures.octets,
     )

@@ -1,6 +1,6 @@
 use Rattle.std.proofs.Common.{◌≡◌, ◌++◌, ◌+◌, ℕ, List, take, length, sym, ap, subst, ◌∙◌, arith, slice_range}
 use Rattle.std.proofs.lemmas.List.Edits.{length-between}
-use Rattle.um_io.{specs.{Lines.IsLine, declared.buffer.Buffer.Buffer}, proofs.FeedLemmas.{slice_range-came, slice_range-kept}}
+use Rattle.um_io.{specs.{Lines.IsLine, declared.buffer.Buffer.Buffer}, proofs.Lemmas.{slice_range-came, slice_range-kept}}
 use Rattle.um_io.proofs.buffer.Buffer.read.Goals as goal
 
 pub returns-clause-came : goal.returns-clause-came
@@ -10,7 +10,7 @@ returns-clause-came g c =
     let new = c.read_into.new.octets in
     let n = c.in_ok-count.count in
     let came = slice_range new.items b.end (b.end + n) in
-    let grown = slice_range-came b.octets.items new.items b.start b.end n (omega (arith, b.begun, b.seen)) known.front in
+    let grown = slice_range-came b.octets.items new.items b.start b.end n (omega (arith, b.start_order, b.scan_order)) known.front in
     let size : length came ≡ n =
     omega (arith, length-between new.items b.end (b.end + n) (omega (arith, known.bound, known.len, new.ok.0))) in
     (came, grown ∙ ap (λ l. l ++ came) c.move_to_front.ensures.unchanged, size, known.came)
@@ -18,16 +18,17 @@ returns-clause-came g c =
 -- the scanned octets are unchanged and so still have no line feed
 scanned_stays : (b : Buffer) (octets : List ℕ) → take b.end octets ≡ take b.end b.octets.items
     → IsLine (slice_range octets b.start b.scanned)
-scanned_stays b octets same = subst IsLine (sym (slice_range-kept b.octets.items octets b.start b.scanned b.end b.seen same)) b.plain
+scanned_stays b octets same = subst IsLine (sym (slice_range-kept b.octets.items octets b.start b.scanned b.end b.scan_order same))
+    b.no_line_feed
 
 pub invariant_of-self : goal.invariant_of-self
 invariant_of-self g c =
     let b = c.move_to_front.new.self in record {
       size = c.read_into.ensures.len ∙ b.size;
-      begun = b.begun;
-      seen = b.seen;
-      within = b.within;
-      plain = scanned_stays b c.read_into.new.octets.items c.read_into.ensures.front;
+      start_order = b.start_order;
+      scan_order = b.scan_order;
+      in_range = b.in_range;
+      no_line_feed = scanned_stays b c.read_into.new.octets.items c.read_into.ensures.front;
     }
 
 pub invariant_of-self-2 : goal.invariant_of-self-2
@@ -35,8 +36,8 @@ invariant_of-self-2 g c =
     let b = c.move_to_front.new.self in
     let known = c.in_ok-count.ensures in record {
       size = known.len ∙ b.size;
-      begun = b.begun;
-      seen = omega arith;
-      within = omega arith;
-      plain = scanned_stays b c.read_into.new.octets.items known.front;
+      start_order = b.start_order;
+      scan_order = omega arith;
+      in_range = omega arith;
+      no_line_feed = scanned_stays b c.read_into.new.octets.items known.front;
     }

@@ -1,11 +1,10 @@
 use Rattle.std.proofs.{Common.{rules, ◌≡◌, sym, ap, subst, arith, refl}, lemmas.Grind.common_steps}
-use Rattle.um_io.{specs.Reading.NeedsMoreOctets, proofs.{AskingLemmas.{so_far-none, asked-once}, ReadingLemmas.turns_left}}
-use Rattle.um_io.proofs.ReadingLemmas.{turns_left-read}
+use Rattle.um_io.{specs.Reading.NeedsMoreOctets, proofs.Lemmas.{so_far-none, asked-once, turns_left, turns_left-read}}
 use Rattle.um_io.proofs.lines.Lines.find_line.Goals as goal
 
 pub loop-found-init : goal.loop-found-init
 loop-found-init g c =
-    (search rules, search rules, refl, so_far-none g.S.Source.took c.args.source.now c.args.self.now.ended)
+    (search rules, search rules, refl, so_far-none g.S.Source.is_call c.args.source.now c.args.self.now.ended)
 
 pub loop-found-preserved : goal.loop-found-preserved
 loop-found-preserved g c =
@@ -13,7 +12,7 @@ loop-found-preserved g c =
       grind (arith, common_steps),
       grind arith,
       search rules,
-      asked-once g.S.Source.took c.args.source.now c.loop-found.source c.read.new.source c.loop-found.self.ended c.read.new.self.ended
+      asked-once g.S.Source.is_call c.args.source.now c.loop-found.source c.read.new.source c.loop-found.self.ended c.read.new.self.ended
           once.0 c.loop-found.invariant.3 c.in_default.ensures.found.ended once.1 once.2,
     )
 

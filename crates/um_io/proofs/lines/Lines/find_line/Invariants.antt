@@ -1,5 +1,5 @@
 use Rattle.std.proofs.Common.{◌≡◌, ◌⊎◌, ℕ, List}
-use Rattle.um_io.{specs.Reading.NeedsMoreOctets, proofs.{AskingLemmas.AskedSoFar, ReadingLemmas.{IsFinding, turns_left}}}
+use Rattle.um_io.{specs.Reading.NeedsMoreOctets, proofs.Lemmas.{AskedSoFar, IsFinding, turns_left}}
 use Rattle.um_io.proofs.lines.Lines.find_line.Given as goal
 
 abbrev pub invariant-loop-found : goal.invariant-loop-found
@@ -7,7 +7,7 @@ invariant-loop-found g l =
     ((came : List ℕ) × IsFinding l.initial.self l.self (g.S.Source.left l.initial.source) (g.S.Source.left l.source) came)
     × (NeedsMoreOctets l.initial.self ⊎ ((l.self ≡ l.initial.self) × (l.source ≡ l.initial.source)))
     × (g.S.Source.faults l.source ≡ g.S.Source.faults l.initial.source)
-    × AskedSoFar g.S.Source.took l.initial.source l.source l.self.ended
+    × AskedSoFar g.S.Source.is_call l.initial.source l.source l.self.ended
 
 abbrev pub decreases-loop-found : goal.decreases-loop-found
 decreases-loop-found g l = turns_left l.self

@@ -1,19 +1,19 @@
--- One case for each `Found` and for a failure, by the lemmas of `NextLemmas`.
+-- One case for each `Found` and for a failure, by the lemmas of `Lemmas`.
 use Rattle.std.proofs.Common.{rules, subst, false, true, ◌≡◌, Ok, Err, sym, ap, ◌∙◌, refl}
-use Rattle.um_io.specs.{Reading.{Reading, IsValidReader}, Buffer.octets_of, declared.lines.Found.TheVariants.{Line, LineTooLong}}
+use Rattle.um_io.specs.{Reading.{ReaderState, IsValidReader}, Buffer.octets_of, declared.lines.Found.TheVariants.{Line, LineTooLong}}
 use Rattle.um_io.specs.{declared.lines.{Found.TheVariants.PastInputLimit, Lines.TheInside.Inside}, contracts.lines.Lines.the_view}
-use Rattle.um_io.{specs.contracts.lines.Lines.the_invariant, proofs.{AskingLemmas.asked-none, ReadingLemmas.IsValidReader-from}}
-use Rattle.um_io.proofs.NextLemmas.{IsSearchResult-same, counts-after, IsNextLineCall-found, IsNextLineCall-above, IsNextLineCall-past}
-use Rattle.um_io.proofs.NextLemmas.{IsNextLineCall-failed, unasked}
+use Rattle.um_io.{specs.contracts.lines.Lines.the_invariant, proofs.Lemmas.{asked-none, IsValidReader-from, IsSearchResult-same}}
+use Rattle.um_io.proofs.Lemmas.{counts-after, IsNextLineCall-found, IsNextLineCall-above, IsNextLineCall-past, IsNextLineCall-failed}
+use Rattle.um_io.proofs.Lemmas.{source_unchanged}
 use Rattle.um_io.proofs.lines.Lines.next.Goals as goal
 
 -- the invariant of `Lines` makes the value that contracts see a valid reader
 valid : (inside : Inside) → the_invariant inside → IsValidReader (the_view inside)
-valid inside holds = IsValidReader-from inside.buffer inside.answered inside.number inside.ended inside.is_over holds.0 holds.1
+valid inside holds = IsValidReader-from inside.buffer inside.octet_count inside.number inside.ended inside.is_over holds.0 holds.1
 
 -- the field `is_over` of a `Lines` is that of the value that contracts see
-goes_on : (r : Reading) (inside : Inside) → the_view inside ≡ r → inside.is_over ≡ false → r.is_over ≡ false
-goes_on r inside view going = sym (ap (λ (s : Reading). s.is_over) view) ∙ going
+goes_on : (r : ReaderState) (inside : Inside) → the_view inside ≡ r → inside.is_over ≡ false → r.is_over ≡ false
+goes_on r inside view going = sym (ap (λ (s : ReaderState). s.is_over) view) ∙ going
 
 pub invariant_of-self : goal.invariant_of-self
 invariant_of-self g c =
@@ -21,8 +21,8 @@ invariant_of-self g c =
     let arm = c.in-Ok-Line in
     let found = IsSearchResult-same c.args.self.now c.find_line.new.self (the_view inside) (g.S.Source.left c.args.source.now)
     (g.S.Source.left c.find_line.new.source) (Ok (Line arm.length arm.whole)) c.self-2.view_is (rw arm.field-0-is at arm.ensures.found) in
-    let counts = counts-after (octets_of inside.buffer) inside.answered inside.number arm.length arm.whole inside.ended inside.is_over
-    c.self-2.invariant.0 c.self-2.invariant.1 found.shows in
+    let counts = counts-after (octets_of inside.buffer) inside.octet_count inside.number arm.length arm.whole inside.ended inside.is_over
+    c.self-2.invariant.0 c.self-2.invariant.1 found.outcome in
     (counts.0, counts.1, tt)
 
 pub returns-in-Ok-Line : goal.returns-in-Ok-Line
@@ -32,15 +32,16 @@ returns-in-Ok-Line g c =
     let found = IsSearchResult-same c.args.self.now c.find_line.new.self (the_view inside) (g.S.Source.left c.args.source.now)
     (g.S.Source.left c.find_line.new.source) (Ok (Line arm.length arm.whole)) c.self-2.view_is (rw arm.field-0-is at arm.ensures.found) in
     let going = goes_on c.args.self.now c.self.inside c.self.view_is c.if-self.false in
-    let answers = IsNextLineCall-found c.args.self.now inside.buffer c.skip-from.new.self inside.answered inside.number arm.whole
+    let answers = IsNextLineCall-found c.args.self.now inside.buffer c.skip-from.new.self inside.octet_count inside.number arm.whole
     inside.ended
-    inside.is_over _ _ found.came c.skip-from.result arm.length c.slice.result going found.has found.needed c.self-2.invariant.0
-    c.self-2.invariant.1 c.skip-from.ensures.rest c.skip-from.ensures.skipped c.slice.ensures found.shows in (
+    inside.is_over _ _ found.octets_read c.skip-from.result arm.length c.slice.result going found.has_read found.read_if_needed
+    c.self-2.invariant.0
+    c.self-2.invariant.1 c.skip-from.ensures.rest c.skip-from.ensures.skipped c.slice.ensures found.outcome in (
       (refl, λ _. tt, answers),
       record {
         ends = tt;
-        unasked = unasked c.args.self.now c.args.source.now c.find_line.new.source going
-            c.find_line.ensures.unasked;
+        source_unchanged = source_unchanged c.args.self.now c.args.source.now c.find_line.new.source going
+            c.find_line.ensures.source_unchanged;
         asked = c.find_line.ensures.asked;
         failed = arm.ensures.counted;
       },
@@ -60,7 +61,8 @@ returns-in-Ok-LineTooLong g c =
       ),
       record {
         ends = tt;
-        unasked = unasked c.args.self.now c.args.source.now c.find_line.new.source going c.find_line.ensures.unasked;
+        source_unchanged = source_unchanged c.args.self.now c.args.source.now c.find_line.new.source going
+            c.find_line.ensures.source_unchanged;
         asked = c.find_line.ensures.asked;
         failed =
             c.in-Ok-LineTooLong.ensures.counted;
@@ -81,7 +83,8 @@ returns-in-Ok-PastInputLimit g c =
       ),
       record {
         ends = tt;
-        unasked = unasked c.args.self.now c.args.source.now c.find_line.new.source going c.find_line.ensures.unasked;
+        source_unchanged = source_unchanged c.args.self.now c.args.source.now c.find_line.new.source going
+            c.find_line.ensures.source_unchanged;
         asked = c.find_line.ensures.asked;
         failed =
             c.in-Ok-PastInputLimit.ensures.counted;
@@ -102,8 +105,8 @@ returns-in-Err g c =
       ),
       record {
         ends = tt;
-        unasked =
-            unasked c.args.self.now c.args.source.now c.find_line.new.source going c.find_line.ensures.unasked;
+        source_unchanged =
+            source_unchanged c.args.self.now c.args.source.now c.find_line.new.source going c.find_line.ensures.source_unchanged;
         asked = c.find_line.ensures.asked;
         failed = (known.cause, known.later);
       },
@@ -111,21 +114,21 @@ returns-in-Err g c =
 
 pub returns-then-self : goal.returns-then-self
 returns-then-self g c =
-    let is_over = sym (ap (λ (s : Reading). s.is_over) c.self.view_is) ∙ c.if-self.true in
+    let is_over = sym (ap (λ (s : ReaderState). s.is_over) c.self.view_is) ∙ c.if-self.true in
     let reading = subst IsValidReader c.self.view_is (valid c.self.inside c.self.invariant) in (
       (
         refl,
         λ _. tt,
         record {
           valid = reading;
-          done = λ _. (refl, tt, search rules);
-          goes_on = λ going. absurd (let e : true ≡ false = sym is_over ∙ going in cc e);
+          already_stopped = λ _. (refl, tt, search rules);
+          not_stopped = λ going. absurd (let e : true ≡ false = sym is_over ∙ going in cc e);
         },
       ),
       record {
         ends = tt;
-        unasked = λ _. refl {a = c.args.source.now};
-        asked = asked-none g.S.Source.took c.args.source.now;
+        source_unchanged = λ _. refl {a = c.args.source.now};
+        asked = asked-none g.S.Source.is_call c.args.source.now;
         failed = refl {a = g.S.Source.faults c.args.source.now};
       },
     )

@@ -1,7 +1,7 @@
 use Rattle.std.proofs.Common.{refl, sym, subst, ◌∙◌, ap, Some}
 use Rattle.um_air.specs.lapdm_window.Calls.{call_of}
-use Rattle.um_link.{specs.Naming.{role_of, step_of, event_refusal_of}, proofs.Stepping.{called, stays-ends, on-channel, asked-none}}
-use Rattle.um_link.proofs.Stepping.{asked-as_event_refusal, asked-event_step, asked-refusal, asked-plain}
+use Rattle.um_link.{specs.Naming.{role_of, step_of, event_refusal_of}, proofs.Lemmas.{called, stays-ends, on-channel, asked-none}}
+use Rattle.um_link.proofs.Lemmas.{asked-as_event_refusal, asked-event_step, asked-refusal, asked-plain}
 use Rattle.um_air.specs.lapdm_link.Events as E
 use Rattle.um_link.specs.FourEndpoints as F
 use Rattle.um_link.proofs.links.WorldState.ask.Goals as goal
@@ -14,9 +14,10 @@ returns-in-Ok-clause-refines g c event asked =
     let event_step = asked-event_step role c.args.sapi call event asked in
     called event role w c.send_step_frames.new.self c.ask.new.self c.ask.new.effects (E.BySide role) c.args.sapi
     (step_of c.send_step_frames.new.step) c.send_step_frames.ensures.step
-    (λ es st. subst (λ (d : E.SideStep). F.Represents c.ask.new.self d.after × F.HasEffects c.ask.new.effects w.channel d)
+    (λ es st. subst (λ (d : E.SideStep). F.Represents c.ask.new.self d.new_state × F.HasEffects c.ask.new.effects w.channel d)
     (sym (event_step es))
-    (on-channel w c.ask.new.self c.ask.new.effects (E.layer3_calls role c.args.sapi call) c.requires.sound c.in-Ok.ensures.refines es st))
+    (on-channel w c.ask.new.self c.ask.new.effects (E.layer3_call_step role c.args.sapi call) c.requires.sound c.in-Ok.ensures.refines es
+    st))
     (λ a st. asked-refusal role c.args.sapi call event asked a
     ∙ asked-none role c.args.sapi call w (sym c.is_queue_full.ensures ∙ c.if-is_queue_full.false) c.in-Ok.ensures.refusal a st)
     (asked-plain role c.args.sapi call event asked) refl (λ es. ap (λ (d : E.SideStep). d.who) (sym (event_step es)))

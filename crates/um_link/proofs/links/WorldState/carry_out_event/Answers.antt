@@ -1,5 +1,5 @@
 use Rattle.std.proofs.Common.{refl, sym, ◌∙◌, ap}
-use Rattle.um_link.{specs.Naming.{role_of, step_result, event_of, air_event, request_of}, proofs.Stepping.at-event}
+use Rattle.um_link.{specs.Naming.{role_of, step_result, event_of, air_event, request_of}, proofs.Lemmas.at-event}
 use Rattle.um_air.specs.lapdm_link.Events as E
 use Rattle.um_link.proofs.links.WorldState.carry_out_event.Goals as goal
 

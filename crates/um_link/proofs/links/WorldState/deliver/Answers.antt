@@ -1,12 +1,12 @@
 use Rattle.std.proofs.Common.{sym, ◌∙◌}
-use Rattle.um_link.{specs.Naming.{role_of, step_of}, proofs.Stepping.{arrived, arrives-full, room-other}}
+use Rattle.um_link.{specs.Naming.{role_of, step_of}, proofs.Lemmas.{arrived, arrives-full, room-other}}
 use Rattle.um_link.proofs.links.WorldState.deliver.Goals as goal
 
 pub send_step_frames-requires-clause-space : goal.send_step_frames-requires-clause-space
 send_step_frames-requires-clause-space g c =
     room-other (role_of c.args.sender) (role_of c.other_end-end.result) c.args.self.now c.receive.new.self
     c.take_received_block-step.new.ends
-    c.other_end-end.ensures c.receive.ensures.receives.same (sym c.is_queue_full.ensures ∙ c.if-is_queue_full.false)
+    c.other_end-end.ensures c.receive.ensures.receives.rest_same (sym c.is_queue_full.ensures ∙ c.if-is_queue_full.false)
 
 pub returns-clause-refines : goal.returns-clause-refines
 returns-clause-refines g c =

@@ -1,5 +1,5 @@
 use Rattle.std.proofs.Common.{ap, []}
-use Rattle.um_link.{specs.Naming.{role_of, step_result, air_event}, proofs.Stepping.at-event}
+use Rattle.um_link.{specs.Naming.{role_of, step_result, air_event}, proofs.Lemmas.at-event}
 use Rattle.um_air.specs.lapdm_link.Events as E
 use Rattle.um_link.proofs.links.WorldState.deliver_or_lose.Goals as goal
 

@@ -1,5 +1,5 @@
 use Rattle.std.proofs.Common.{sym, ◌∙◌}
-use Rattle.um_link.{specs.Naming.role_of, proofs.Stepping.lost}
+use Rattle.um_link.{specs.Naming.role_of, proofs.Lemmas.lost}
 use Rattle.um_link.proofs.links.WorldState.lose.Goals as goal
 
 pub returns-clause-refines : goal.returns-clause-refines

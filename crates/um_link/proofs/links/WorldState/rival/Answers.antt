@@ -1,6 +1,6 @@
 use Rattle.std.proofs.{Common.{◌≡◌, refl, sym, ◌∙◌, arith, false, nat_lt, length}, lemmas.Bool.Decides.nat_tests}
 use Rattle.lapdm_frame.specs.Layout.{n201}
-use Rattle.um_link.proofs.Stepping.{called, rival-none}
+use Rattle.um_link.proofs.Lemmas.{called, rival-none}
 use Rattle.um_air.specs.lapdm_window.declared.Sapi.TheVariants as S
 use Rattle.um_air.specs.lapdm_window.Ends as R
 use Rattle.um_air.specs.lapdm_link.Events as E

@@ -1,7 +1,7 @@
 use Rattle.std.proofs.Common.{◌≡◌, ◌∙◌, sym, ap, subst, List, [], ◌+◌, ◌∷◌, ◌++◌, take, arith}
 use Rattle.std.proofs.lemmas.List.{take_more}
 use Rattle.um_link.specs.lapdm_window.declared.Notice.{Notice}
-use Rattle.um_make.{specs.Counting.CountsNotices, proofs.Counting.counts-more}
+use Rattle.um_make.{specs.Counting.CountsNotices, proofs.Lemmas.counts-more}
 use Rattle.um_make.proofs.end_summary.EndpointSummary.count_notices.Goals as goal
 
 pub loop-notice-preserved : goal.loop-notice-preserved
@@ -17,9 +17,9 @@ loop-notice-preserved c =
       counts = subst (λ (xs : List Notice). CountsNotices xs c.args.self.now c.count_notice.new.self) (sym next)
           (counts-more (take i ns) (n ∷ []) _ _ _ old.counts c.count_notice.ensures.counts);
       most = record {
-        got = omega (arith, old.most.got, more.got);
+        messages_got = omega (arith, old.most.messages_got, more.messages_got);
         octets = omega (arith, old.most.octets, more.octets);
-        sum = omega (arith, old.most.sum, more.sum);
-        acked = omega (arith, old.most.acked, more.acked);
+        octet_sum = omega (arith, old.most.octet_sum, more.octet_sum);
+        acked_messages = omega (arith, old.most.acked_messages, more.acked_messages);
       };
     }

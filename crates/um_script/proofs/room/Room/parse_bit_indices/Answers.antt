@@ -1,6 +1,6 @@
 use Rattle.std.{proofs.Common.{◌<◌, sym, subst, ◌∙◌, rules, arith}, specs.Prelude.All}
 use Rattle.um_lines.specs.Words.{words}
-use Rattle.um_script.{specs.Held.AreDecimalWords, proofs.PlaceLaws.{few_places, are_places, places_held}}
+use Rattle.um_script.{specs.Held.AreDecimalWords, proofs.ScriptLines.{few_places, are_places, places_held}}
 use Rattle.um_script.proofs.room.Room.parse_bit_indices.Goals as goal
 
 pub hold_places-count-requires-clause-space : goal.hold_places-count-requires-clause-space

@@ -1,6 +1,6 @@
 use Rattle.std.proofs.Common.{sym}
 use Rattle.um_link.specs.Naming.{step_result}
-use Rattle.um_session.proofs.Stepping.{step_answered}
+use Rattle.um_session.proofs.Lemmas.{step_answered}
 use Rattle.um_session.proofs.link.LinkCommandCommand.answer.Goals as goal
 
 pub returns-in-Step-clause-answered : goal.returns-in-Step-clause-answered

@@ -1,0 +1,636 @@
+-- The window of outstanding segments: its counts, its parts and its moves.
+use Rattle.lapdm_window.specs.{Abstraction.{HasSameVariables, HoldsUnackedMessages, Represents}, Answers.{acked_by_nr, outstanding_segment}}
+use Rattle.lapdm_window.specs.{Calls.with_queued_message, Ends.{EndpointState, HasWindowOfOne, Mobile, Outcome, acked_message_count}}
+use Rattle.lapdm_window.specs.Ends.{all_segments, awaits_ack, capped_at_64_bits, next_segment, no_effect, reports_notice, response_frame}
+use Rattle.lapdm_window.specs.{Ends.{sends_frame, va, vr, vs}, Parts.{AreConsistent, WindowValues, values_of}, Rules.acked_message_number}
+use Rattle.lapdm_window.specs.Rules.{nr_acknowledges, evaluates_nr, has_segment_to_send, reject_is_due, rejects_segment, marks_acked}
+use Rattle.lapdm_window.specs.{Rules.{with_ack, with_reject_condition, with_segment_sent}, declared.Sapi.TheVariants.Zero}
+use Rattle.lapdm_window.specs.declared.{State.TheVariants.Open, window.Window.Window}
+use Rattle.segmenting.proofs.Lemmas.{begins_within, ended-all, ended-append, ended-whole, joiner_past, length-segments, room_of, segment_is}
+use Rattle.segmenting.specs.{Joiners.HoldsReassemblyOf, Joining.message_count, Parts.JoinerValues, Segments.{IsValidMessage, Message}}
+use Rattle.segmenting.specs.{Segments.{Segment, cut_segments, number_of_segments, segments}, lapdm_frame.{Content.Rej, Layout.n201}}
+use Rattle.segmenting.specs.lapdm_frame.declared.Channel.{Channel}
+use Rattle.std.proofs.Common.{All, Bool, IsTrue, List, None, Option, Some, [], ap, arith, drop, false, get_or, if◌then◌else◌, inl}
+use Rattle.std.proofs.Common.{inr, length, min, not, refl, replicate, slice_get, subst, suc, sym, take, true, zero, ℕ, ◌%◌, ◌*◌}
+use Rattle.std.proofs.Common.{◌++◌, ◌+◌, ◌-◌, ◌/◌, ◌<◌, ◌^◌, ◌∙◌, ◌∷◌, ◌≡◌, ◌≢◌, ◌≤◌}
+use Rattle.std.proofs.{Common.◌⊎◌, Math.{ListN.get_or-append, Nat.mul-div_cancel, Seq.{drop-append-add, drop-append_seam}}}
+use Rattle.std.proofs.{Math.Seq.take-append-add, lemmas.{Bool.{Decides.nat_tests, cases_lt, false≢true}, List.Concat.flat_map-append}}
+use Rattle.std.proofs.lemmas.List.{Elements.{All-append, All-cons, All-nil, All-push}, Sums.{count_by_more_no, count_by_more_yes}}
+use Rattle.std.proofs.lemmas.List.{append-nil, drop-append-le, drop-drop, get_or-drop, length-append, length-drop, length-replicate}
+use Rattle.std.proofs.lemmas.{List.{length-take-le, length-take, take-append-drop, take-append-le}, Option.get_or_from_slice_get}
+use Rattle.std.specs.List.{flat_map}
+use Rattle.lapdm_window.specs.declared.Acked as A
+use Rattle.lapdm_window.specs.declared.Acked.TheVariants as V
+use Rattle.lapdm_window.specs.declared.Notice.TheVariants as N
+
+-- ## Numbers: What V(S) and V(A), which count modulo 8, say about the unbounded counts if at most one segment is outstanding.
+
+-- one segment is outstanding if V(S) ≠ V(A)
+pub one_sent : (e : EndpointState) → HasWindowOfOne e → vs e ≢ va e → e.sent ≡ e.acked + 1
+one_sent e h other = grind (arith, h.acked_at_most_sent, h.window)
+
+pub awaits_ack-nothing : (e : EndpointState) → e.sent ≡ e.acked → awaits_ack e ≡ false
+awaits_ack-nothing e h = grind (arith, nat_tests)
+
+pub awaits_ack-one : (e : EndpointState) → e.sent ≡ e.acked + 1 → awaits_ack e ≡ true
+awaits_ack-one e h = grind (arith, nat_tests)
+
+pub next_number : (n v : ℕ) → v ≡ n % 8 → (v + 1) % 8 ≡ (n + 1) % 8
+next_number n v h = grind arith
+
+pub capped-more : (n d : ℕ) → d ≡ capped_at_64_bits n → min (d + 1) (2 ^ 64 - 1) ≡ capped_at_64_bits (n + 1)
+capped-more n d h = omega arith
+
+-- ## Counting: How the number of wholly acknowledged messages changes.
+
+pub acked_message_count-most : (e : EndpointState) → acked_message_count e ≤ length e.taken
+acked_message_count-most e =
+    let all = all_segments e in
+    omega (
+      arith,
+      ended-append (take e.acked all) (drop e.acked all),
+      ap message_count (take-append-drop e.acked all),
+      ended-all (n201 e.channel) e.taken,
+    )
+
+-- how the count of wholly acknowledged messages changes when one more segment is acknowledged
+pub acked_message_count-more : (e : EndpointState) → e.sent ≡ e.acked + 1 → e.acked < length (all_segments e) →
+    (next_segment e).1 ≡ true → acked_message_count (with_ack e) ≡ acked_message_count e
+acked_message_count-more e one within more =
+    ap (λ i. message_count (take i (all_segments e))) one
+    ∙ count_by_more_no (λ p. not p.1) (all_segments e) e.acked ([], false) within (ap not more)
+
+pub acked_message_count-last : (e : EndpointState) → e.sent ≡ e.acked + 1 → e.acked < length (all_segments e) →
+    (next_segment e).1 ≡ false → acked_message_count (with_ack e) ≡ acked_message_count e + 1
+acked_message_count-last e one within more =
+    ap (λ i. message_count (take i (all_segments e))) one
+    ∙ count_by_more_yes (λ p. not p.1) (all_segments e) e.acked ([], false) within (ap not more)
+
+-- how the segments and counts change when layer 3 sends one more message
+pub all_segments-taken : (e : EndpointState) (m : Message) →
+    all_segments (with_queued_message m e) ≡ all_segments e ++ segments (n201 e.channel) m
+all_segments-taken e m =
+    let n = n201 e.channel in
+    flat_map-append (segments n) e.taken (m ∷ []) ∙ ap (λ ps. all_segments e ++ ps) (append-nil (segments n m))
+
+pub acked_message_count-taken : (e : EndpointState) (m : Message) → HasWindowOfOne e →
+    acked_message_count (with_queued_message m e) ≡ acked_message_count e
+acked_message_count-taken e m h =
+    ap (λ ps. message_count (take e.acked ps)) (all_segments-taken e m) ∙ ap message_count
+    (take-append-le e.acked (all_segments e) (segments (n201 e.channel) m) (omega (arith, h.acked_at_most_sent, h.sent)))
+
+-- ## FirstSegments: The next segment has two indices: one among the segments of the first message held, and one among all segments. These
+-- lemmas relate them.
+
+abbrev octets_in : Option Segment → List ℕ
+octets_in None = []
+octets_in (Some p) = p.0
+
+abbrev m_bit_in : Option Segment → Bool
+m_bit_in None = false
+m_bit_in (Some p) = p.1
+
+-- a segment with M = 1 is not the last of its message, and a segment with M = 0 is
+goes_on-cut_segments : (n k i : ℕ) (m : List ℕ) (octets : List ℕ) → slice_get (cut_segments n k m) i ≡ Some (octets, true) →
+    i < k
+goes_on-cut_segments n zero zero m octets h = absurd (false≢true (ap m_bit_in h))
+goes_on-cut_segments n zero (suc i) m octets h = cc
+goes_on-cut_segments n (suc k) zero m octets h = omega arith
+goes_on-cut_segments n (suc k) (suc i) m octets h = omega (arith, goes_on-cut_segments n k i (drop n m) octets h)
+
+ends-cut_segments : (n k i : ℕ) (m : List ℕ) (octets : List ℕ) → slice_get (cut_segments n k m) i ≡ Some (octets, false) →
+    i ≡ k
+ends-cut_segments n zero zero m octets h = refl
+ends-cut_segments n zero (suc i) m octets h = cc
+ends-cut_segments n (suc k) zero m octets h = absurd (false≢true (sym (ap m_bit_in h)))
+ends-cut_segments n (suc k) (suc i) m octets h = omega (arith, ends-cut_segments n k i (drop n m) octets h)
+
+pub goes_on : (n i : ℕ) (m : Message) (octets : List ℕ) → slice_get (segments n m) i ≡ Some (octets, true) →
+    i + 1 < number_of_segments n m
+goes_on n i m octets h = omega (arith, goes_on-cut_segments n _ i m octets h)
+
+pub ends : (n i : ℕ) (m : Message) (octets : List ℕ) → slice_get (segments n m) i ≡ Some (octets, false) →
+    i + 1 ≡ length (segments n m)
+ends n i m octets h = omega (arith, ends-cut_segments n _ i m octets h, length-segments n m)
+
+-- the segment has 1 to n octets
+pub record HasSize (n : ℕ) (octets : List ℕ) : Type 0 where
+  pub nonempty : 1 ≤ length octets
+  pub at_most : length octets ≤ n
+
+pub size_of : (n i : ℕ) (m : Message) (octets : List ℕ) (more : Bool) → 0 < n → IsValidMessage m → i < length (segments n m) →
+    slice_get (segments n m) i ≡ Some (octets, more) → HasSize n octets
+size_of n i m octets more room h within is =
+    let l = length m - i * n in
+    let sends_sabm : i * n < length m = begins_within n i m room h.nonempty within in
+    let same : octets ≡ take (min l n) (drop (i * n) m) = ap octets_in (sym is ∙ segment_is n i m room h within) in
+    let size : length (take (min l n) (drop (i * n) m)) ≡ min l n = length-take-le (min l n) (drop (i * n) m)
+    (omega (arith, length-drop (i * n) m)) in
+    record { nonempty = omega (arith, ap length same); at_most = omega (arith, ap length same) }
+
+-- an index within the first message finds the same segment in the first message and in the segments of all messages
+first_message_segment_count : (n place : ℕ) (held : List Message) (d : Segment) → 1 ≤ length held →
+    place < length (segments n (get_or held 0 [])) → get_or (flat_map (segments n) held) place d ≡
+    get_or (segments n (get_or held 0 [])) place d
+first_message_segment_count n place [] d some_held h = absurd (omega (arith, some_held))
+first_message_segment_count n place (m ∷ ms) d some_held h = get_or-append (segments n m) (flat_map (segments n) ms) d place h
+
+pub within_all : (n place : ℕ) (held : List Message) → 1 ≤ length held → place < length (segments n (get_or held 0 [])) →
+    place < length (flat_map (segments n) held)
+within_all n place [] some_held h = absurd (omega (arith, some_held))
+within_all n place (m ∷ ms) some_held h = omega (arith, length-append (segments n m) (flat_map (segments n) ms), h)
+
+-- after the segments of the first message follow the segments of the other messages
+other_segments : (n place : ℕ) (held : List Message) → 1 ≤ length held → place ≡ length (segments n (get_or held 0 [])) →
+    drop place (flat_map (segments n) held) ≡ flat_map (segments n) (drop 1 held)
+other_segments n place [] some_held h = absurd (omega (arith, some_held))
+other_segments n place (m ∷ ms) some_held h = grind (arith, drop-append_seam (segments n m) (flat_map (segments n) ms))
+
+-- if two lists agree from i and j on, they agree from i + 1 and j + 1 on
+drop-next : (xs ys : List Segment) (i j : ℕ) → drop i xs ≡ drop j ys → drop (i + 1) xs ≡ drop (j + 1) ys
+drop-next xs ys i j h = sym (drop-drop 1 i xs) ∙ ap (drop 1) h ∙ drop-drop 1 j ys
+
+get_or-same : (xs ys : List Segment) (i j : ℕ) (d : Segment) → drop i xs ≡ drop j ys → get_or xs i d ≡ get_or ys j d
+get_or-same xs ys i j d h = grind (arith, get_or-drop i xs 0 d, get_or-drop j ys 0 d)
+
+within-same : (xs ys : List Segment) (i j : ℕ) → drop i xs ≡ drop j ys → i < length xs → j < length ys
+within-same xs ys i j h below = omega (arith, length-drop i xs, length-drop j ys, ap length h)
+
+-- ## ByWindowAnswers: The rules of an endpoint, written in terms of the answers of its window.
+
+-- what the rule for a received N(R) does, given the window's answer about what it acknowledges
+abbrev pub counted : A.Acked → EndpointState → Outcome
+counted V.Nothing e = no_effect e
+counted V.Piece e = no_effect (with_ack e)
+counted (V.Message number) e = reports_notice (N.Acked number) (with_ack e)
+
+pub evaluates_nr-is : (nr : ℕ) (e : EndpointState) → evaluates_nr nr e ≡ counted (acked_by_nr nr e) e
+evaluates_nr-is nr e = grind arith
+
+pub rejects_segment-due : (p : Bool) (e : EndpointState) → reject_is_due p e ≡ true →
+    rejects_segment p e ≡ sends_frame (response_frame e (Rej (vr e) p)) (with_reject_condition e)
+rejects_segment-due p e h = rw h
+
+pub rejects_segment-not_due : (p : Bool) (e : EndpointState) → reject_is_due p e ≡ false →
+    rejects_segment p e ≡ no_effect (with_reject_condition e)
+rejects_segment-not_due p e h = grind arith
+
+-- the segment in the option, or an empty one if there is none
+abbrev segment_in : Option Segment → Segment
+segment_in None = ([], false)
+segment_in (Some segment) = segment
+
+waiting_segment : (waiting : Bool) (next segment : Segment) → Some segment ≡ (if waiting then Some next else None) → next ≡ segment
+waiting_segment waiting next segment h = grind arith
+
+-- ## Moves: After each call a window still holds the unacknowledged segments, and it gives the answer that the rules define.
+
+-- x is the segment with index `place` among the segments of the first message held
+pub record IsFirst (channel : Channel) (held : List Message) (place : ℕ) (x : Segment) : Type 0 where
+  pub nonempty : 1 ≤ length held
+  pub in_range : place < number_of_segments (n201 channel) (get_or held 0 [])
+  pub piece : slice_get (segments (n201 channel) (get_or held 0 [])) place ≡ Some x
+
+-- x is the next segment that the endpoint sends
+pub record IsNext (e : EndpointState) (x : Segment) : Type 0 where
+  pub in_range : e.acked < length (all_segments e)
+  pub piece : next_segment e ≡ x
+
+pub next_is : (e : EndpointState) (channel : Channel) (held : List Message) (place : ℕ) (x : Segment) → channel ≡ e.channel →
+    HoldsUnackedMessages held place e →
+    IsFirst channel held place x → IsNext e x
+next_is e channel held place x same h first =
+    let n = n201 e.channel in
+    let r : n201 channel ≡ n = ap n201 same in
+    let below : place < length (segments n (get_or held 0 [])) = subst
+    (λ (i : ℕ). place < length (segments i (get_or held 0 []))) r
+    (omega (arith, first.in_range, length-segments (n201 channel) (get_or held 0 []))) in
+    let at : slice_get (segments n (get_or held 0 [])) place ≡ Some x = subst
+    (λ (i : ℕ). slice_get (segments i (get_or held 0 [])) place ≡ Some x) r first.piece in
+    record {
+      in_range = within-same (flat_map (segments n) held) (all_segments e) place e.acked h.unacked_segments
+          (within_all n place held first.nonempty below);
+      piece = sym (get_or-same (flat_map (segments n) held) (all_segments e) place e.acked ([], false) h.unacked_segments)
+          ∙ first_message_segment_count n place held ([], false) first.nonempty below ∙ get_or_from_slice_get _ place x ([], false) at;
+    }
+
+pub is_left : (e : EndpointState) (channel : Channel) (held : List Message) (place : ℕ) → channel ≡ e.channel →
+    HoldsUnackedMessages held place e → 1 ≤ length held → place < number_of_segments (n201 channel) (get_or held 0 []) →
+    e.acked < length (all_segments e)
+is_left e channel held place same h some_held within =
+    let n = n201 e.channel in
+    let below : place < length (segments n (get_or held 0 [])) = subst
+    (λ (i : ℕ). place < length (segments i (get_or held 0 []))) (ap n201 same)
+    (omega (arith, within, length-segments (n201 channel) (get_or held 0 []))) in
+    within-same (flat_map (segments n) held) (all_segments e) place e.acked h.unacked_segments (within_all n place held some_held below)
+
+none_left : (e : EndpointState) (held : List Message) (place : ℕ) → HoldsUnackedMessages held place e → held ≡ [] →
+    length (all_segments e) ≤ e.acked
+none_left e held place h none = grind (arith, length-drop e.acked (all_segments e))
+
+-- ---- layer 3 sends a message
+zero-div : (n : ℕ) → 0 < n → 0 / n ≡ 0
+zero-div n h = grind arith
+
+no_message : (n place : ℕ) → place < number_of_segments n [] → place ≡ 0 / n
+no_message n place h = omega (arith, h)
+
+pub within_held : (n place : ℕ) (held : List Message) → 0 < n → place < number_of_segments n (get_or held 0 []) →
+    place ≤ length (flat_map (segments n) held)
+within_held n place [] room h = omega (arith, no_message n place h, zero-div n room)
+within_held n place (m ∷ ms) room h = omega (arith, within_all n place (m ∷ ms) (omega arith) (omega (arith, h, length-segments n m)))
+
+pub HasWindowOfOne-taken : (e : EndpointState) (m : Message) → HasWindowOfOne e → IsValidMessage m →
+    HasWindowOfOne (with_queued_message m e)
+HasWindowOfOne-taken e m h good =
+    grind (
+      arith,
+      All-push IsValidMessage e.taken m h.messages good,
+      all_segments-taken e m,
+      length-append (all_segments e) (segments (n201 e.channel) m),
+    )
+
+pub Holds-taken : (e : EndpointState) (m : Message) (held : List Message) (place : ℕ) → HasWindowOfOne e →
+    HoldsUnackedMessages held place e →
+    place ≤ length (flat_map (segments (n201 e.channel)) held) → HoldsUnackedMessages (held ++ m ∷ []) place (with_queued_message m e)
+Holds-taken e m held place end h within =
+    let n = n201 e.channel in
+    let parts : flat_map (segments n) (held ++ m ∷ []) ≡ flat_map (segments n) held ++ segments n m =
+    flat_map-append (segments n) held (m ∷ [])
+    ∙ ap (λ ps. flat_map (segments n) held ++ ps) (append-nil (segments n m)) in
+    record {
+      messages = ap (λ ms. ms ++ m ∷ []) h.messages ∙ sym (drop-append-le (acked_message_count e) e.taken (m ∷ [])
+          (acked_message_count-most e)) ∙ ap
+          (λ i. drop i (e.taken ++ m ∷ [])) (sym (acked_message_count-taken e m end));
+      unacked_segments = ap (drop place) parts ∙ drop-append-le place (flat_map (segments n) held) (segments n m) within ∙ ap
+          (λ ps. ps ++ segments n m) h.unacked_segments
+          ∙ sym (drop-append-le e.acked (all_segments e) (segments n m) (omega (arith, end.acked_at_most_sent, end.sent)))
+          ∙ ap (drop e.acked) (sym (all_segments-taken e m));
+    }
+
+-- ---- the next segment becomes outstanding
+
+pub has_segment_to_send-left : (e : EndpointState) → HasWindowOfOne e → vs e ≡ va e → e.acked < length (all_segments e) →
+    has_segment_to_send e ≡ true
+has_segment_to_send-left e h same left = grind arith
+
+pub HasWindowOfOne-next : (e : EndpointState) → HasWindowOfOne e → vs e ≡ va e → e.acked < length (all_segments e) →
+    HasWindowOfOne (with_segment_sent e)
+HasWindowOfOne-next e h same left = grind arith
+
+-- ---- the outstanding segment is acknowledged
+pub HasWindowOfOne-acked : (e : EndpointState) → HasWindowOfOne e → HasWindowOfOne (with_ack e)
+HasWindowOfOne-acked e h = grind arith
+
+pub Holds-more : (e : EndpointState) (held : List Message) (place : ℕ) → e.sent ≡ e.acked + 1 →
+    HoldsUnackedMessages held place e →
+    e.acked < length (all_segments e) → (next_segment e).1 ≡ true → HoldsUnackedMessages held (place + 1) (with_ack e)
+Holds-more e held place one h within more =
+    let n = n201 e.channel in
+    record {
+      messages = h.messages ∙ ap (λ i. drop i e.taken) (sym (acked_message_count-more e one within more));
+      unacked_segments = drop-next (flat_map (segments n) held) (all_segments e) place e.acked h.unacked_segments
+          ∙ ap (λ i. drop i (all_segments e)) (sym one);
+    }
+
+pub Holds-last : (e : EndpointState) (held : List Message) (place : ℕ) → e.sent ≡ e.acked + 1 →
+    HoldsUnackedMessages held place e →
+    e.acked < length (all_segments e) → (next_segment e).1 ≡ false → 1 ≤ length held →
+    place + 1 ≡ length (segments (n201 e.channel) (get_or held 0 [])) → HoldsUnackedMessages (drop 1 held) 0 (with_ack e)
+Holds-last e held place one h within last some_held ends =
+    let n = n201 e.channel in
+    record {
+      messages = ap (drop 1) h.messages ∙ drop-drop 1 (acked_message_count e) e.taken ∙ ap
+          (λ i. drop i e.taken) (sym (acked_message_count-last e one within last));
+      unacked_segments = sym (other_segments n (place + 1) held some_held ends)
+          ∙ drop-next (flat_map (segments n) held) (all_segments e) place e.acked h.unacked_segments
+          ∙ ap (λ i. drop i (all_segments e)) (sym one);
+    }
+
+-- ---- what an N(R) acknowledges
+pub nr_acknowledges-not_waiting : (e : EndpointState) (nr : ℕ) → HasWindowOfOne e → vs e ≡ va e → nr_acknowledges nr e ≡ false
+nr_acknowledges-not_waiting e nr h same = grind arith
+
+pub nr_acknowledges-other : (e : EndpointState) (nr : ℕ) → nr ≢ vs e → nr_acknowledges nr e ≡ false
+nr_acknowledges-other e nr h = grind (arith, nat_tests)
+
+pub nr_acknowledges-waiting : (e : EndpointState) (nr : ℕ) → HasWindowOfOne e → vs e ≢ va e → nr ≡ vs e →
+    nr_acknowledges nr e ≡ true
+nr_acknowledges-waiting e nr h other same = grind arith
+
+pub evaluates_nr-nothing : (e : EndpointState) (nr : ℕ) → nr_acknowledges nr e ≡ false → (evaluates_nr nr e).new_state ≡ e
+evaluates_nr-nothing e nr h = rw h
+
+pub evaluates_nr-something : (e : EndpointState) (nr : ℕ) → nr_acknowledges nr e ≡ true →
+    (evaluates_nr nr e).new_state ≡ with_ack e
+evaluates_nr-something e nr h = rw h (after-reports_notice (next_segment e).1 e)
+  where
+    after-reports_notice : (more : Bool) (e : EndpointState) → (marks_acked more e).new_state ≡ with_ack e
+    after-reports_notice true e = refl
+    after-reports_notice false e = refl
+
+pub acked_by_nr-segment : (e : EndpointState) (nr : ℕ) → nr_acknowledges nr e ≡ true → (next_segment e).1 ≡ true →
+    acked_by_nr nr e ≡ V.Piece
+acked_by_nr-segment e nr h more = rw (h, more)
+
+pub acked_by_nr-message : (e : EndpointState) (nr : ℕ) → nr_acknowledges nr e ≡ true → (next_segment e).1 ≡ false →
+    acked_by_nr nr e ≡ V.Message (acked_message_number e)
+acked_by_nr-message e nr h more = rw (h, more)
+
+pub waiting_is : (e : EndpointState) (x : Segment) → awaits_ack e ≡ true → IsNext e x → Some x ≡ outstanding_segment e
+waiting_is e x waiting next = grind arith
+
+pub acked-awaits_ack : (e : EndpointState) → IsTrue (awaits_ack (with_ack e)) → ⊥
+acked-awaits_ack e t = grind arith
+
+pub Represents-same : (w : Window) (e f : EndpointState) → f ≡ e → Represents w e → Represents w f
+Represents-same w e f same h = grind arith
+
+-- ## Histories: Constructs a history that leads to given contents of a window: first `done` acknowledged messages, of which the first is
+-- long enough to bring V(A) to the value given, then the messages held.
+
+-- d messages of one octet each, so each has one segment
+abbrev one_octet_messages : ℕ → List Message
+one_octet_messages zero = []
+one_octet_messages (suc d) = (0 ∷ []) ∷ one_octet_messages d
+
+are_valid_messages : (d : ℕ) → All IsValidMessage (one_octet_messages d)
+are_valid_messages zero = All-nil IsValidMessage
+are_valid_messages (suc d) = grind (arith, are_valid_messages d)
+
+length-one_octet_messages : (d : ℕ) → length (one_octet_messages d) ≡ d
+length-one_octet_messages zero = refl
+length-one_octet_messages (suc d) = omega (arith, length-one_octet_messages d)
+
+segments-one_octet_messages : (n d : ℕ) → 0 < n → length (flat_map (segments n) (one_octet_messages d)) ≡ d
+segments-one_octet_messages n zero room = refl
+segments-one_octet_messages n (suc d) room =
+    omega (
+      arith,
+      length-append (segments n (0 ∷ [])) (flat_map (segments n) (one_octet_messages d)),
+      length-segments n (0 ∷ []),
+      zero-div n room,
+      segments-one_octet_messages n d room,
+    )
+
+-- a message with k + 1 segments
+abbrev pub message_of : ℕ → ℕ → Message
+message_of n k = replicate (k * n + 1) 0
+
+length-message_of : (n k : ℕ) → length (message_of n k) ≡ k * n + 1
+length-message_of n k = length-replicate {A = ℕ} (k * n + 1) 0
+
+pub segments-message_of : (n k : ℕ) → 0 < n → length (segments n (message_of n k)) ≡ k + 1
+segments-message_of n k room = grind (arith, length-message_of n k, length-segments n (message_of n k), mul-div_cancel k room)
+
+few_octets : (n k : ℕ) → n ≤ 20 → k ≤ 7 → k * n ≤ 140
+few_octets n k room few = grind arith
+
+pub is_message_of : (n k : ℕ) → n ≤ 20 → k ≤ 7 → IsValidMessage (message_of n k)
+is_message_of n k room few = grind (arith, length-message_of n k, few_octets n k room few)
+
+-- `done` acknowledged messages such that, with `place` further segments acknowledged, V(A) is `va`
+pub record HasAckedMessages (n done va place : ℕ) : Type 0 where
+  pub front : List Message
+  pub messages : All IsValidMessage front
+  pub count : length front ≡ done
+  pub number : (length (flat_map (segments n) front) + place) % 8 ≡ va
+
+missing : (va b : ℕ) → va ≤ 7 → ((va + 15 - b % 8) % 8 + 1 + b) % 8 ≡ va
+missing va b few = grind arith
+
+front_of : (n done va place : ℕ) → 1 ≤ n → n ≤ 20 → va ≤ 7 → (done ≡ 0 → va ≡ place % 8) →
+    HasAckedMessages n done va place
+front_of n zero va place room most few none = grind (arith, All-nil IsValidMessage)
+front_of n (suc d) va place room most few none =
+    let k = (va + 15 - (d + place) % 8) % 8 in
+    let some : k ≤ 7 = omega arith in
+    let m = message_of n k in
+    let size : length (flat_map (segments n) (m ∷ one_octet_messages d)) + place ≡ k + 1 + (d + place) = omega (
+      arith,
+      length-append (segments n m) (flat_map (segments n) (one_octet_messages d)),
+      segments-message_of n k room,
+      segments-one_octet_messages n d room,
+    ) in
+    record {
+      front = m ∷ one_octet_messages d;
+      messages = All-cons IsValidMessage m (one_octet_messages d) (is_message_of n k most some) (are_valid_messages d);
+      count = omega (arith, length-one_octet_messages d);
+      number = ap (λ i. i % 8) size ∙ missing va (d + place) few;
+    }
+
+-- the segments of the first message, without its last one, complete no message
+ended_before : (n place : ℕ) (held : List Message) → 0 < n → place < number_of_segments n (get_or held 0 []) →
+    message_count (take place (flat_map (segments n) held)) ≡ 0
+ended_before n zero [] room h = refl
+ended_before n (suc place) [] room h = refl
+ended_before n place (m ∷ ms) room h =
+    let front : length (segments n m ++ []) ≡ number_of_segments n m =
+    omega (arith, length-append (segments n m) [], length-segments n m) in
+    let not_one : 1 ≤ message_count (take place (flat_map (segments n) (m ∷ ms))) → ⊥ = λ one. omega
+    (arith, front, h, (ended-whole n place 1 (m ∷ ms) (omega arith)).0 one) in
+    omega (arith, not_one)
+
+-- if the first `acked` segments of the messages `taken` are acknowledged, then what is unacknowledged is exactly `held` from segment
+-- `place` on
+pub record IsHistory (n done va place sent : ℕ) (held taken : List Message) (acked : ℕ) : Type 0 where
+  pub messages : All IsValidMessage taken
+  pub in_range : acked + sent ≤ length (flat_map (segments n) taken)
+  pub number : acked % 8 ≡ va
+  pub acked_count : message_count (take acked (flat_map (segments n) taken)) ≡ done
+  pub held_rest : held ≡ drop done taken
+  pub next_segments : drop place (flat_map (segments n) held) ≡ drop acked (flat_map (segments n) taken)
+
+pub record HasHistory (n done va place sent : ℕ) (held : List Message) : Type 0 where
+  pub taken : List Message
+  pub acked : ℕ
+  pub history : IsHistory n done va place sent held taken acked
+
+pub history_of : (n done va place sent : ℕ) (held : List Message) → 1 ≤ n → n ≤ 20 → va ≤ 7 → All IsValidMessage held →
+    place < number_of_segments n (get_or held 0 []) → place + sent ≤ length (flat_map (segments n) held) →
+    (done ≡ 0 → va ≡ place % 8) →
+    HasHistory n done va place sent held
+history_of n done va place sent held room most few messages below within none =
+    let f = front_of n done va place room most few none in
+    let p = flat_map (segments n) f.front in
+    let q = flat_map (segments n) held in
+    let all : flat_map (segments n) (f.front ++ held) ≡ p ++ q = flat_map-append (segments n) f.front held in
+    let acked = length p + place in
+    record {
+      taken = f.front ++ held;
+      acked = acked;
+      history = record {
+        messages = All-append IsValidMessage f.front held f.messages messages;
+        in_range = omega (arith, ap length all, length-append p q, within);
+        number = f.number;
+        acked_count = ap (λ ps. message_count (take acked ps)) all ∙ ap message_count (take-append-add p q place)
+            ∙ ended-append p (take place q)
+            ∙ ap
+            (λ i. message_count p + i) (ended_before n place held room below)
+            ∙ (let e : message_count p + 0 ≡ done = omega (arith, ended-all n f.front, f.count) in e);
+        held_rest = sym (ap (λ i. drop i (f.front ++ held)) (sym f.count) ∙ drop-append_seam f.front held);
+        next_segments = sym (ap (drop acked) all ∙ drop-append-add p q place);
+      };
+    }
+
+-- ## Parts: A window represents some endpoint if and only if its values satisfy `AreConsistent`. `Histories` constructs the history of
+-- that endpoint.
+
+-- two windows with the same values represent the same endpoints
+abbrev Joins : JoinerValues → List Segment → Type 0
+Joins j taken = HoldsReassemblyOf j.part j.octets taken
+
+abbrev HoldsIn : WindowValues → EndpointState → Type 0
+HoldsIn x e = HoldsUnackedMessages x.held x.segment_index e
+
+pub HasSameVariables-values : {w v : Window} {e : EndpointState} → values_of w ≡ values_of v → HasSameVariables w e →
+    HasSameVariables v e
+HasSameVariables-values {w} {v} {e} same h = grind arith
+
+pub Holds-values : (w v : Window) (e : EndpointState) → values_of w ≡ values_of v →
+    HoldsUnackedMessages w.held.items w.segment_index e →
+    HoldsUnackedMessages v.held.items v.segment_index e
+Holds-values w v e same h = grind arith
+
+pub Represents-values : {w v : Window} {e : EndpointState} → values_of w ≡ values_of v → Represents w e → Represents v e
+Represents-values {w} {v} {e} same h = grind arith
+
+-- the values of every window that represents an endpoint satisfy `AreConsistent`
+one_segment : (w : Window) (e : EndpointState) → Represents w e →
+    (w.vs ≡ w.va) ⊎ ((w.vs ≡ (w.va + 1) % 8) × (1 ≤ length w.held.items))
+one_segment w e h =
+    elim (cases_lt e.acked e.sent) [
+      | inl more ↦
+          let one : e.sent ≡ e.acked + 1 = omega (arith, h.window_of_one.window) in
+          let number : w.vs ≡ (w.va + 1) % 8 = h.variables.vs ∙ ap (λ i. i % 8) one ∙ next e.acked w.va h.variables.va in
+          inr (number, w.waiting (λ same. differs_from_next w.va (sym same ∙ number)))
+      | inr none ↦
+          let same : e.sent ≡ e.acked = omega (arith, h.window_of_one.acked_at_most_sent) in
+          inl (h.variables.vs ∙ ap (λ i. i % 8) same ∙ sym h.variables.va)
+    ]
+  where
+    next : (n v : ℕ) → v ≡ n % 8 → (n + 1) % 8 ≡ (v + 1) % 8
+    next n v h = grind arith
+
+    differs_from_next : (v : ℕ) → v ≡ (v + 1) % 8 → ⊥
+    differs_from_next v h = grind arith
+
+place_is_counted : (w : Window) (e : EndpointState) → Represents w e → w.acked_messages ≡ 0 → w.va ≡ w.segment_index % 8
+place_is_counted w e h none =
+    let n = n201 e.channel in
+    let whole : acked_message_count e ≡ 0 = omega (arith, h.variables.acked_messages) in
+    let held : w.held.items ≡ e.taken = h.unacked_messages.messages ∙ ap (λ i. drop i e.taken) whole in
+    let below : w.segment_index < number_of_segments n (get_or w.held.items 0 []) = omega
+    (arith, w.in_range, ap (λ c. number_of_segments (n201 c) (get_or w.held.items 0 [])) h.variables.channel) in
+    let place : w.segment_index ≤ length (all_segments e) = omega (
+      arith,
+      within_held n w.segment_index w.held.items (room_of e.channel).positive below,
+      ap (λ ms. length (flat_map (segments n) ms)) held,
+    ) in
+    let same : w.segment_index ≡ e.acked = omega (
+      arith,
+      ap length h.unacked_messages.unacked_segments,
+      length-drop w.segment_index (flat_map (segments n) w.held.items),
+      length-drop e.acked (all_segments e),
+      ap (λ ms. length (flat_map (segments n) ms)) held,
+      place,
+      h.window_of_one.sent,
+      h.window_of_one.acked_at_most_sent,
+    ) in
+    h.variables.va ∙ ap (λ i. i % 8) (sym same)
+
+pub in_step : (w : Window) (e : EndpointState) → Represents w e → AreConsistent (values_of w)
+in_step w e h = record {
+  held = record { at_most_8 = w.at_most_8; messages = w.messages };
+  segment_index_in_range = w.in_range;
+  at_most_one_outstanding = one_segment w e h;
+  va = w.va_fits;
+  vr = w.vr_fits;
+  va_if_nothing_acked = place_is_counted w e h;
+  reassembly_fits = omega (arith, length-take w.joiner.len w.joiner.octets, w.joiner.in_range);
+}
+
+-- the number of outstanding segments, which is 0 or 1
+record OutstandingCount (x : WindowValues) : Type 0 where
+  pub sent : ℕ
+  pub at_most_1 : sent ≤ 1
+  pub number : x.vs ≡ (x.va + sent) % 8
+  pub held : (sent ≡ 0) ⊎ (1 ≤ length x.held)
+
+none_waits : (vs va : ℕ) → va ≤ 7 → vs ≡ va → vs ≡ (va + 0) % 8
+none_waits vs va fits same = grind arith
+
+waits_of : (x : WindowValues) → x.va ≤ 7 → (x.vs ≡ x.va) ⊎ ((x.vs ≡ (x.va + 1) % 8) × (1 ≤ length x.held)) →
+    OutstandingCount x
+waits_of x h g = grind arith
+
+room_for : (n place sent : ℕ) (held : List Message) → 0 < n → place < number_of_segments n (get_or held 0 []) → sent ≤ 1 →
+    (sent ≡ 0) ⊎ (1 ≤ length held) → place + sent ≤ length (flat_map (segments n) held)
+room_for n place sent held room below few (inl none) = omega (arith, within_held n place held room below)
+room_for n place sent held room below few (inr some) =
+    omega (arith, within_all n place held some (omega (arith, below, length-segments n (get_or held 0 []))))
+
+sent_number : (acked va sent : ℕ) → acked % 8 ≡ va → (va + sent) % 8 ≡ (acked + sent) % 8
+sent_number acked va sent h = grind arith
+
+capped-fits : (n : ℕ) → n < 2 ^ 64 → n ≡ capped_at_64_bits n
+capped-fits n h = omega arith
+
+-- an endpoint in Open with this history
+abbrev with_history : Window → List Message → ℕ → ℕ → List Segment → EndpointState
+with_history w taken acked sent accepted = record {
+  role = Mobile;
+  sapi = Zero;
+  channel = w.channel;
+  state = Open;
+  sabm_info = [];
+  taken = taken;
+  acked = acked;
+  sent = sent;
+  accepted = accepted;
+  rejecting = w.rejecting;
+  retries = w.retries;
+}
+
+-- this window represents at least one endpoint
+abbrev pub RepresentsOne : Window → Type 0
+RepresentsOne w = (e : EndpointState) × Represents w e
+
+pub represents_one : (w : Window) → AreConsistent (values_of w) → w.acked_messages < 2 ^ 64 → RepresentsOne w
+represents_one w h fits =
+    let n = n201 w.channel in
+    let room = room_of w.channel in
+    let awaits_ack = waits_of (values_of w) h.va h.at_most_one_outstanding in
+    let in_past = history_of n w.acked_messages w.va w.segment_index awaits_ack.sent w.held.items room.positive room.at_most h.va
+    h.held.messages h.segment_index_in_range
+    (room_for n w.segment_index awaits_ack.sent w.held.items room.positive h.segment_index_in_range awaits_ack.at_most_1 awaits_ack.held)
+    h.va_if_nothing_acked in
+    let past : IsHistory n w.acked_messages w.va w.segment_index awaits_ack.sent w.held.items in_past.taken in_past.acked =
+    in_past.history in
+    let came = joiner_past w.joiner w.vr h.vr in (
+      with_history w in_past.taken in_past.acked (in_past.acked + awaits_ack.sent) came.taken,
+      record {
+        window_of_one = record {
+          messages = past.messages;
+          sent = past.in_range;
+          acked_at_most_sent = omega arith;
+          window =
+              omega (arith, awaits_ack.at_most_1);
+        };
+        variables = record {
+          channel = refl;
+          vs = awaits_ack.number ∙ sent_number in_past.acked w.va awaits_ack.sent past.number;
+          va = sym past.number;
+          vr = sym came.count;
+          acked_messages = capped-fits w.acked_messages fits ∙ ap capped_at_64_bits (sym past.acked_count);
+          rejecting = refl;
+          reassembly = came.reassembly;
+        };
+        unacked_messages = record {
+          messages = past.held_rest ∙ ap (λ i. drop i in_past.taken) (sym past.acked_count);
+          unacked_segments =
+              past.next_segments;
+        };
+        retries = λ t. refl;
+      },
+    )

@@ -1,0 +1,16 @@
+use Rattle.std.proofs.Common.{arith, ◌-◌, get_or, subst}
+use Rattle.list_decode.{specs.WordStorage.{IsMadeByDeviation, stored_words, no_deviation}, proofs.Choices.forks_above}
+use Rattle.list_decode.proofs.lists.StoredWords.parent_deviation.Goals as goal
+
+pub returns-then-up-deviation-clause-forks : goal.returns-then-up-deviation-clause-forks
+returns-then-up-deviation-clause-forks c w =
+    let pass = c.args.pass.now in
+    let lists = c.args.self.now in
+    let us = stored_words pass lists in
+    let some = c.requires.some in
+    let within = c.requires.within in
+    let is = c.from.ensures in
+    let up = get_or lists.deviations (c.from.result - 1) no_deviation in
+    let returned =
+    subst (λ i. IsMadeByDeviation pass us i up) (omega arith) (c.requires.tree.each (c.from.result - 1) (omega arith)) in
+    forks_above pass us w c.args.deviation.now up c.requires.pass c.requires.lists returned c.if-up-deviation.true

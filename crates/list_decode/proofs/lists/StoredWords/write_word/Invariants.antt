@@ -1,0 +1,8 @@
+use Rattle.std.proofs.Common.{drop}
+use Rattle.list_decode.proofs.Choices.{OnTheWay}
+use Rattle.list_decode.proofs.lists.StoredWords.write_word.Given as goal
+
+abbrev pub invariant-loop-k : goal.invariant-loop-k
+invariant-loop-k l = record {
+  way : OnTheWay l.pass l.self (drop l.k l.chain.word_indices) l.list l.u;
+}

@@ -1,0 +1,76 @@
+use Rattle.std.proofs.Common.{arith, rules, ◌≡◌, ◌+◌, ◌-◌, ◌<◌, ◌≤◌, ℕ, Some, List, ℤ, inl, inr, get_or, length}
+use Rattle.std.proofs.{Common.{set, sym, subst}, lemmas.{Grind.get_or-set_at, List.get_or-set_other}}
+use Rattle.weight_bound.proofs.conv_code.Lemmas.{same_number}
+use Rattle.trellis_decode.specs.Trellis.{traceback}
+use Rattle.list_decode.specs.{DeviatingWords.{is_in_range, IsLeastLossFreePosition}, LeastLosses.IsPossibleDeviation}
+use Rattle.list_decode.specs.{LeastLosses.IsLeastLossDeviationOrNone, declared.departure.PossibleDeviation.PossibleDeviation}
+use Rattle.list_decode.proofs.Spans.{alone}
+use Rattle.list_decode.proofs.tails.fill_best_later_places.Goals as goal
+
+-- one position alone
+one_place : (u : List ℕ) (losses : List (List ℤ)) (k n : ℕ) (x : PossibleDeviation) → k + 1 ≡ n → x.place ≡ k →
+    IsPossibleDeviation u losses x → IsLeastLossDeviationOrNone u losses (is_in_range k n) n (Some x)
+one_place u losses k n x end place possible = (
+  possible,
+  subst (IsLeastLossFreePosition u losses (is_in_range k n) n) (sym place)
+      (subst (λ n. IsLeastLossFreePosition u losses (is_in_range k n) n k) end (alone u losses k)),
+)
+
+-- what is written for one more position
+one_more : (u : List ℕ) (losses : List (List ℤ)) (places : List ℕ) (k n place j : ℕ) → k < length places →
+    IsLeastLossFreePosition u losses (is_in_range k n) n place →
+    (k + 1 ≤ j → IsLeastLossFreePosition u losses (is_in_range j n) n (get_or places j 0)) → k ≤ j →
+    IsLeastLossFreePosition u losses (is_in_range j n) n (get_or (set places k place) j 0)
+one_more u losses places k n place j within best later low = elim (same_number j k) [
+  | inl here ↦ subst (IsLeastLossFreePosition u losses (is_in_range j n) n) (sym (get_or-set_at places k j place 0 here within))
+      (subst (λ j. IsLeastLossFreePosition u losses (is_in_range j n) n place) (sym here) best)
+  | inr other ↦ subst (IsLeastLossFreePosition u losses (is_in_range j n) n) (sym (get_or-set_other places k j place 0 other))
+      (later (omega arith))
+]
+
+pub loop-k-init : goal.loop-k-init
+loop-k-init c =
+    let rows = c.args.rows.now in
+    let u = traceback rows 0 in
+    let losses = c.args.losses.now in
+    let five = c.requires.at_least in
+    let here = c.survivor_deviation-best.ensures in
+    let first = c.survivor_deviation-best.result in
+    let n = length rows - 4 in
+    let best = one_place u losses (length rows - 5) n first (omega arith) here.place here.possible in
+    record {
+      best = best;
+      each = (λ j low high. one_more u losses c.args.places.now (length rows - 5) n first.place j (search rules) best.1
+          (λ more. absurd (omega arith)) low);
+    }
+
+pub loop-k-preserved : goal.loop-k-preserved
+loop-k-preserved c =
+    let rows = c.args.rows.now in
+    let u = traceback rows 0 in
+    let losses = c.args.losses.now in
+    let here = c.survivor_deviation.ensures in
+    let old = c.loop-k.invariant in
+    let some = c.loop-k-test.true in
+    let k = c.loop-k.k - 1 in
+    let n = length rows - 4 in
+    let best = c.or_later-best.ensures u losses k c.loop-k.k n
+    (one_place u losses k c.loop-k.k c.survivor_deviation.result (omega arith) here.place here.possible) old.best in
+    record {
+      best = best;
+      each = (λ j low high. one_more u losses c.loop-k.places k n c.or_later-best.result.place j (search rules) best.1
+          (λ more. old.each j (omega arith) high) low);
+    }
+
+pub overflow_cast-places-in-loop-k : goal.overflow_cast-places-in-loop-k
+overflow_cast-places-in-loop-k c =
+    let rows = c.args.rows.now in
+    let here = c.survivor_deviation.ensures in
+    let some = c.loop-k-test.true in
+    let k = c.loop-k.k - 1 in
+    let best = c.or_later-best.ensures (traceback rows 0) c.args.losses.now k c.loop-k.k (length rows - 4)
+    (one_place (traceback rows 0) c.args.losses.now k c.loop-k.k c.survivor_deviation.result (omega arith) here.place here.possible)
+    c.loop-k.invariant.best in
+    let within = best.1.in_range in
+    let most = c.requires.at_most in
+    omega arith

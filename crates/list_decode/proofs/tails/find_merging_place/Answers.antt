@@ -1,0 +1,15 @@
+use Rattle.std.proofs.Common.{arith, ap₂, sym, ◌∙◌}
+use Rattle.trellis_decode.specs.Trellis.{next}
+use Rattle.list_decode.proofs.DeviatingWords.{reached_more}
+use Rattle.list_decode.proofs.tails.find_merging_place.Goals as goal
+
+pub loop-k-preserved : goal.loop-k-preserved
+loop-k-preserved c =
+    let old = c.loop-k.invariant in
+    let is_to = c.from-k-end.ensures in
+    let end = c.requires.end in
+    let within = c.loop-k-test.true in
+    record {
+      small = omega arith;
+      state = ap₂ next old.state c.from-in-loop-k.ensures ∙ sym (reached_more c.args.list.now c.loop-k.k 0 (omega arith));
+    }

@@ -1,0 +1,118 @@
+//! The best deviation from the most likely word at or after each position.
+//!
+//! A word that follows the survivors and reaches a state of the most likely word agrees with it from there on, and a deviation loses the
+//! same there. So a search for the best deviation from the word can end at that position.
+
+ghost use Rattle.std.specs.Prelude.{◌≡◌, ◌+◌, ◌<◌, ◌≤◌, length, take, slice_index};
+ghost use Rattle.trellis_decode.specs.Trellis.{traceback};
+ghost use Rattle.list_decode.specs.DeviatingWords.{state_after_bits};
+ghost use Rattle.list_decode.specs.LeastLosses.{IsPossibleDeviation};
+ghost use Rattle.list_decode.specs.SurvivorTails.{AreTails, AreSurvivorStates, AreBestLaterPlaces};
+
+use crate::branch::WordSpan;
+use crate::departure::PossibleDeviation;
+use trellis_decode::ENCODER_INPUT_BITS;
+
+/// For each position of the most likely word, the trellis state before it, and the position from there on at which a deviation loses least.
+#[derive(Clone, Copy)]
+pub(crate) struct Tails {
+    pub(crate) states: [u8; ENCODER_INPUT_BITS],
+    pub(crate) places: [u8; ENCODER_INPUT_BITS],
+}
+
+impl Tails {
+    /// Fills in the states of the most likely word and its best deviations.
+    pub(crate) fn fill(&mut self, rows: &[u16], losses: &[[i16; 16]])
+        requires same { length losses.now ≡ length rows.now }
+        requires at_least { 5 ≤ length rows.now }
+        requires at_most { length rows.now ≤ ENCODER_INPUT_BITS }
+        ensures { AreTails rows.now losses.now self.new }
+    {
+        fill_survivor_states(rows, &mut self.states);
+        fill_best_later_places(rows, losses, &self.states, &mut self.places);
+    }
+}
+
+/// Writes the trellis state before each position of the survivor of state 0.
+fn fill_survivor_states(rows: &[u16], states: &mut [u8; ENCODER_INPUT_BITS])
+    requires at_most { length rows.now ≤ ENCODER_INPUT_BITS }
+    ensures { AreSurvivorStates rows.now states.new }
+{
+    let mut state = 0;
+    for (k, row) in rows.iter().enumerate() {
+        states[k] = state as u8;
+        let bit = (*row >> state) & 1;
+        state = (2 * state + bit) % 16;
+    }
+}
+
+/// Writes, for each position of the survivor of state 0, the position from there on at which a deviation loses least.
+fn fill_best_later_places(
+    rows: &[u16],
+    losses: &[[i16; 16]],
+    states: &[u8; ENCODER_INPUT_BITS],
+    places: &mut [u8; ENCODER_INPUT_BITS],
+)
+    requires same { length losses.now ≡ length rows.now }
+    requires at_least { 5 ≤ length rows.now }
+    requires at_most { length rows.now ≤ ENCODER_INPUT_BITS }
+    requires states { AreSurvivorStates rows.now states.now }
+    ensures { AreBestLaterPlaces rows.now losses.now places.new }
+{
+    let last = rows.len() - 5;
+    let mut best = survivor_deviation(rows, losses, states, last);
+    places[last] = best.place as u8;
+    for k in (0..last).rev() {
+        best = survivor_deviation(rows, losses, states, k).or_later(best);
+        places[k] = best.place as u8;
+    }
+}
+
+/// The deviation from the survivor of state 0 at position `k`.
+pub(crate) fn survivor_deviation(
+    rows: &[u16],
+    losses: &[[i16; 16]],
+    states: &[u8; ENCODER_INPUT_BITS],
+    k: usize,
+) -> PossibleDeviation
+    requires same { length losses.now ≡ length rows.now }
+    requires within { k < length rows.now }
+    requires at_most { length rows.now ≤ ENCODER_INPUT_BITS }
+    requires states { AreSurvivorStates rows.now states.now }
+    ensures place { result.place ≡ k }
+    ensures possible { IsPossibleDeviation (traceback rows.now 0) losses.now result }
+{
+    let state = states[k];
+    let bit = (rows[k] >> state) & 1;
+    PossibleDeviation::new(
+        k,
+        usize::from(state),
+        losses[k][usize::from(state)],
+        bit as u8,
+    )
+}
+
+/// The first position of the span at which the word has one of the given states, or the end of the span.
+pub(crate) fn find_merging_place(
+    list: &[u8],
+    states: &[u8; ENCODER_INPUT_BITS],
+    span: &WordSpan,
+) -> u8
+    requires order { span.now.from ≤ span.now.to }
+    requires end { span.now.to + 4 ≤ length list.now }
+    requires at_most { length list.now ≤ ENCODER_INPUT_BITS }
+    requires small { span.now.state < 16 }
+    requires state { span.now.state ≡ state_after_bits 0 (take span.now.from list.now) }
+    ensures from { span.now.from ≤ result }
+    ensures to { result ≤ span.now.to }
+    ensures merged { result < span.now.to → state_after_bits 0 (take result list.now) ≡ slice_index states.now result }
+{
+    let mut state = usize::from(span.state);
+    for k in usize::from(span.from)..usize::from(span.to) {
+        if state == usize::from(states[k]) {
+            return k as u8;
+        }
+        state = (2 * state + usize::from(list[k])) % 16;
+    }
+    span.to
+}

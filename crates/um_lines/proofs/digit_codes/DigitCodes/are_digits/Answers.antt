@@ -1,0 +1,12 @@
+use Rattle.std.proofs.{Common.{eqb, replicate, ap, sym, ◌∙◌, arith}, lemmas.{Simd.{mask_l-mod, length-zip2}, List.length-map}}
+use lib.Lanes.{zip2, top}
+use Rattle.um_lines.proofs.Texts.{below, none_above}
+use Rattle.um_lines.proofs.digit_codes.DigitCodes.are_digits.Goals as goal
+
+pub returns : goal.returns
+returns c =
+    ap (λ m. eqb m 0) (mask_l-mod _ 64 (omega (
+      arith,
+      length-map (zip2 below (replicate 16 15) c.args.self.lanes) (top 7),
+      length-zip2 below (replicate 16 15) c.args.self.lanes (sym c.requires),
+    ))) ∙ none_above 16 _ c.requires

@@ -1,0 +1,36 @@
+use Rattle.std.proofs.Common.{◌≡◌, ◌&&◌, ◌+◌, ◌-◌, ◌*◌, length, take, drop, ap, ap₂, ◌∙◌, arith}
+use Rattle.std.{proofs.lemmas.List.{take_all, length-drop}, specs.List.list_all}
+use Rattle.hex.specs.Hex.{is_hex_digit}
+use Rattle.um_lines.proofs.Texts.{all_more, all_overlapping}
+use Rattle.um_lines.proofs.hex_digits.decode_by_sixteens.Goals as goal
+
+pub loop-at-preserved : goal.loop-at-preserved
+loop-at-preserved c =
+    let digits = c.args.digits.now in
+    let at = c.loop-at.at in
+    let inv = c.loop-at.invariant in
+    let next : 2 * at + 32 ≡ 2 * (at + 16) = omega arith in (
+      c.decode_sixteen_octets.ensures.length ∙ inv.0,
+      c.decode_sixteen_octets.ensures.written,
+      c.maxima-codes.ensures.test
+          ∙ ap₂ (λ a b. a && b) inv.2 c.decode_sixteen_octets.ensures.test
+          ∙ all_more is_hex_digit digits (2 * at) 32
+          ∙ ap (λ n. list_all is_hex_digit (take n digits)) next,
+      c.maxima-codes.ensures.count,
+      omega (arith, inv.5, c.decode_sixteen_octets.ensures.length),
+      omega (arith, inv.5, c.decode_sixteen_octets.ensures.length),
+    )
+
+pub returns-clause-test : goal.returns-clause-test
+returns-clause-test c =
+    let digits = c.args.digits.now in
+    let at = c.loop-at.at in
+    let inv = c.loop-at.invariant in
+    let last = length c.args.octets.now - 16 in
+    let rest = take_all 32 (drop (2 * last) digits) (omega (arith, length-drop (2 * last) digits, c.requires.size)) in
+    let back : 2 * at ≡ 2 * last + (2 * at - 2 * last) = omega (arith, c.loop-at-test.false) in
+    c.are_digits.ensures
+    ∙ c.maxima.ensures.test
+    ∙ ap₂ (λ a b. a && b) (inv.2 ∙ ap (λ n. list_all is_hex_digit (take n digits)) back)
+    (c.decode_sixteen_octets-2.ensures.test ∙ ap (list_all is_hex_digit) rest)
+    ∙ all_overlapping is_hex_digit digits (2 * last) (2 * at - 2 * last)

@@ -1,0 +1,16 @@
+use Rattle.std.proofs.Common.{◌≡◌, ℕ, ◌+◌, ◌-◌, ◌*◌, ◌<◌, ◌≤◌, length, take, get_or, IsTrue}
+use Rattle.std.specs.List.{list_all}
+use Rattle.hex.specs.Hex.{is_hex_digit}
+use Rattle.um_lines.specs.HexPlaces.{hex_octet_at, are_digit_codes}
+use Rattle.um_lines.proofs.hex_digits.decode_by_sixteens.Given as goal
+
+-- the octets written so far are decoded from their digits, and the codes tell whether these are hexadecimal digits
+abbrev pub invariant-loop-at : goal.invariant-loop-at
+invariant-loop-at l =
+    (length l.octets ≡ length l.initial.octets)
+    × (IsTrue (list_all is_hex_digit l.digits) → (k : ℕ) → k < l.at → get_or l.octets k 0 ≡ hex_octet_at l.digits k)
+    × (are_digit_codes l.codes.lanes ≡ list_all is_hex_digit (take (2 * l.at) l.digits))
+    × (length l.codes.lanes ≡ 16) × (l.at ≤ length l.octets) × (l.last + 16 ≡ length l.octets)
+
+abbrev pub decreases-loop-at : goal.decreases-loop-at
+decreases-loop-at l = l.last - l.at
