@@ -1,5 +1,5 @@
 #!/usr/bin/env bash
-# Nanoseconds for 228 bits: `decode` of trellis_decode, `Ranked` of list_decode with one list given and with 64, in turns. Needs `rt`.
+# Nanoseconds for 228 bits: `decode` of trellis_decode, `ListDecoder` of list_decode with one list given and with 64, in turns. Needs `rt`.
 # The minimum over all rounds counts, because other load only adds time.
 set -eu
 here=$(cd "$(dirname "$0")" && pwd)
