@@ -8,7 +8,7 @@
  *   from -127 (certainly 1) to 127 (certainly 0); 0 means unknown (libosmocore's sbit_t). -128 is refused.
  *   A block is 23 octets, each sent least significant bit first.
  *   No call allocates memory, keeps state between calls, blocks or prints. Every call is thread-safe, but two threads must not use
- *   the same um_end or um_side at the same time. um_receive_block_among uses 17 KB of stack, every other call less than 10 KB.
+ *   the same um_end or um_side at the same time. um_receive_block_among uses 18 KB of stack, every other call less than 10 KB.
  *   Pointers must not be null (gcc and clang warn where they can tell), must point to as many elements as the type says, and must be
  *   aligned for that type. Output must not overlap any other argument. The library cannot test this; a call that breaks it has
  *   undefined behaviour.
