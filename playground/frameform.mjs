@@ -33,7 +33,7 @@ export const frameForm = (host, prefix, channelOf, changed) => {
   const enable = () => {
     for (const name of ["ns", "nr", "more", "info"]) inputs[name].disabled = !has(inputs.kind.value, name);
   };
-  host.addEventListener("input", () => {
+  const read = () => {
     enable();
     const kind = inputs.kind.value;
     const info = valueOf(inputs.info, (text) => (has(kind, "info") ? infoOf(text, kind, channelOf()) : []));
@@ -42,7 +42,10 @@ export const frameForm = (host, prefix, channelOf, changed) => {
     for (const [name] of NUMBERS) frame[name] = has(kind, name) ? Number(inputs[name].value) : 0;
     for (const [name] of BITS) frame[name] = has(kind, name) && inputs[name].checked ? 1 : 0;
     changed(frame);
-  });
+  };
+  // a select reports `change`, and not in every browser `input` too
+  for (const [event, isSelect] of [["input", false], ["change", true]])
+    host.addEventListener(event, ({ target }) => (target.tagName === "SELECT") === isSelect && read());
 
   /** Shows a frame that was read; one that was not leaves the fields as they are. */
   return (frame) => {
