@@ -1,16 +1,22 @@
 -- Bit lists as polynomials: XOR and multiples. Octets and bits: packing and unpacking.
-use Rattle.bit_blocks.specs.{Bits.{AllBits, IsBit, xor_bits}, Octets.{AllOctets, IsOctet, bits_of, octet_bits, octets_of}, Packed.bit_of}
-use Rattle.bit_blocks.specs.{Polynomials.{IsDivisibleBy, IsProduct, product_coefficient}, SoftValues.count_wrong_bits}
-use Rattle.std.proofs.Common.{Bool, List, [], append_assoc, ap, ap₂, arith, below_more, bit_and, bit_xor, drop, eqb, false}
-use Rattle.std.proofs.Common.{get_or-set_other, get_or-set_same, get_or, inl, inr, leb, length, map, refl, replicate, rules, subst, suc}
-use Rattle.std.proofs.Common.{sym, take, tests, true, zero-add, zero, ℕ, ℤ, ◌%◌, ◌&&◌, ◌*◌, ◌++◌, ◌+◌, ◌-◌}
-use Rattle.std.proofs.{Common.{◌/◌, ◌<◌, ◌^◌, ◌∙◌, ◌∷◌, ◌≡◌, ◌≢◌, ◌≤◌}, Math.ListN.set}
-use Rattle.std.proofs.{Math.{Nat.zero-div, Seq.{get_or-append_seam, take-add}}, lemmas.Bool.{Decides.Decides-eqb, cases_eq}}
-use Rattle.std.proofs.lemmas.{Grind.same_number_lists, List.Elements.{All-append, All-cons, All-drop, All-head, All-nil, All-replicate}}
-use Rattle.std.proofs.lemmas.List.{Elements.All-tail, Sums.AllPass-from_list_all, append-nil, get_or-append-add, get_or-append_right}
-use Rattle.std.proofs.lemmas.List.{get_or-replicate, get_or_append_left, get_or_past, length-append, length-replicate, length-take}
-use Rattle.std.{proofs.lemmas.{List.take_more_set, Nat.mul-mod_first, Slice.Eq.bytes_eq-Decides}, specs.Int.{from_le_bytes, to_le_bytes}}
-use Rattle.std.specs.{Int.w64, List.list_all, Str.bytes_eq}
+use Rattle.{
+  bit_blocks.specs.{Bits.{AllBits, IsBit, xor_bits}, Octets.{AllOctets, IsOctet, bits_of, octet_bits, octets_of}, Packed.bit_of},
+  bit_blocks.specs.{Polynomials.{IsDivisibleBy, IsProduct, product_coefficient}, SoftValues.count_wrong_bits},
+  std.{
+    proofs.{
+      Common.{Bool, List, [], append_assoc, ap, ap₂, arith, below_more, bit_and, bit_xor, drop, eqb, false, get_or-set_other},
+      Common.{get_or-set_same, get_or, inl, inr, leb, length, map, refl, replicate, rules, subst, suc, sym, take, tests, true, zero-add},
+      Common.{zero, ℕ, ℤ, ◌%◌, ◌&&◌, ◌*◌, ◌++◌, ◌+◌, ◌-◌, ◌/◌, ◌<◌, ◌^◌, ◌∙◌, ◌∷◌},
+      Common.{◌≡◌, ◌≢◌, ◌≤◌},
+      Math.{ListN.set, Nat.zero-div, Seq.{get_or-append_seam, take-add}},
+      lemmas.{Bool.{Decides.Decides-eqb, cases_eq}, Grind.same_number_lists, List.Elements.{All-append, All-cons, All-drop, All-head}},
+      lemmas.List.{Elements.{All-nil, All-replicate, All-tail}, Sums.AllPass-from_list_all, append-nil, get_or-append-add},
+      lemmas.List.{get_or-append_right, get_or-replicate, get_or_append_left, get_or_past, length-append, length-replicate, length-take},
+      lemmas.{List.take_more_set, Nat.mul-mod_first, Slice.Eq.bytes_eq-Decides},
+    },
+    specs.{Int.{from_le_bytes, to_le_bytes, w64}, List.list_all, Str.bytes_eq},
+  },
+}
 
 -- ## Below: A statement holds for every number below a bound if a test, computed for each of these numbers, succeeds.
 
@@ -89,16 +95,16 @@ AllBits-append xs ys = All-append IsBit xs ys
 
 pub AllBits-front : (xs ys : List ℕ) → AllBits (xs ++ ys) → AllBits xs
 AllBits-front xs ys bits k d within =
-    subst IsBit (get_or_append_left xs ys d k within) (bits k d (omega (arith, length-append xs ys)))
+    rw (← get_or_append_left xs ys d k within) (bits k d (omega (arith, length-append xs ys)))
 
 pub AllBits-back : (xs ys : List ℕ) → AllBits (xs ++ ys) → AllBits ys
 AllBits-back xs ys bits k d within =
-    subst IsBit (get_or-append-add xs ys k d) (bits (length xs + k) d (omega (arith, length-append xs ys)))
+    rw (← get_or-append-add xs ys k d) (bits (length xs + k) d (omega (arith, length-append xs ys)))
 
 -- ## Sums: The bitwise XOR of a list with zeros, of a list with itself, and of concatenated lists.
 
 same_parts : (x y : ℕ) (xs ys : List ℕ) → x ≡ y → xs ≡ ys → x ∷ xs ≡ y ∷ ys
-same_parts x y xs ys e e' = ap (λ h. h ∷ xs) e ∙ ap (λ t. y ∷ t) e'
+same_parts x y xs ys e e' = cc (e, e')
 
 pub AllBits-xor_bits : (xs ys : List ℕ) → AllBits (xor_bits xs ys)
 AllBits-xor_bits [] ys = All-nil IsBit
@@ -145,26 +151,17 @@ add_bits_self (x ∷ xs) =
 
 -- XOR with the same list twice gives back the first list
 pub add_bits_twice : (xs ys : List ℕ) → AllBits xs → length xs ≡ length ys → xor_bits (xor_bits xs ys) ys ≡ xs
-add_bits_twice xs ys b e =
-    xor_bits-assoc xs ys ys
-    ∙ ap (λ sum. xor_bits xs sum) (add_bits_self ys)
-    ∙ xor_bits-zeros xs (length ys) b e
+add_bits_twice xs ys b e = cc (xor_bits-assoc xs ys ys, add_bits_self ys, xor_bits-zeros xs (length ys) b e)
 
 pub add_bits_again : (xs ys : List ℕ) → AllBits ys → length ys ≡ length xs → xor_bits xs (xor_bits xs ys) ≡ ys
-add_bits_again xs ys bits e =
-    ap (λ sum. xor_bits xs sum) (xor_bits-comm xs ys)
-    ∙ xor_bits-comm xs (xor_bits ys xs)
-    ∙ add_bits_twice ys xs bits e
+add_bits_again xs ys bits e = cc (xor_bits-comm xs ys, xor_bits-comm xs (xor_bits ys xs), add_bits_twice ys xs bits e)
 
 -- two bit lists whose XOR is zero are equal
 same_from_zero_sum : (xs ys : List ℕ) (n : ℕ) → AllBits xs → AllBits ys → length xs ≡ n → length ys ≡ n →
     xor_bits xs ys ≡ replicate n 0 → xs ≡ ys
 same_from_zero_sum xs ys n bx by ex ey zeros =
     let e : length xs ≡ length ys = omega arith in
-    sym (add_bits_twice xs ys bx e)
-    ∙ ap (λ sum. xor_bits sum ys) zeros
-    ∙ xor_bits-comm (replicate n 0) ys
-    ∙ xor_bits-zeros ys n by ey
+    cc (add_bits_twice xs ys bx e, zeros, xor_bits-comm (replicate n 0) ys, xor_bits-zeros ys n by ey)
 
 -- ## Multiples: Sums, shifts and zero-padding of multiples of a polynomial are multiples, and a multiple of lower degree than its generator
 -- is 0. So the remainder of a division is unique, and long division computes it.
@@ -347,10 +344,10 @@ same_remainder front r s t br bs er es mr ms =
     let sum : IsDivisibleBy (xor_bits (front ++ r) (front ++ s)) (1 ∷ t) =
     IsDivisibleBy-xor_bits (front ++ r) (front ++ s) (1 ∷ t) same mr ms in
     let split : xor_bits (front ++ r) (front ++ s) ≡ replicate (length front) 0 ++ xor_bits r s =
-    xor_bits-append front front r s refl ∙ ap (λ zeros. zeros ++ xor_bits r s) (add_bits_self front) in
+    cc (xor_bits-append front front r s refl, add_bits_self front) in
     let count : length (xor_bits r s) ≡ length r = length-xor_bits r s e in
     let zeros = zeros_of_multiple (length front) (xor_bits r s) t (omega arith) (rw (← split) sum) in
-    same_from_zero_sum r s (length r) br bs refl (sym e) (zeros ∙ ap (λ n. replicate n 0) count)
+    same_from_zero_sum r s (length r) br bs refl (sym e) (cc (zeros, count))
 
 -- One step of long division, by as many bits as `out` has. If `front ++ out ++ rest` and `start ++ tail` are multiples, then so is
 -- `front`, followed by the sum of `out` and `start`, followed by the sum of `tail` and `rest` shifted to the left.
@@ -371,11 +368,13 @@ divided_more front out rest next start tail g bits es et sum before multiple =
     simp (length-append, length-replicate) (omega arith) in
     let parts : xor_bits (front ++ (out ++ (rest ++ zeros))) (replicate (length front) 0 ++ (start ++ tail))
     ≡ (front ++ next) ++ xor_bits (rest ++ zeros) tail =
-    xor_bits-append front (replicate (length front) 0) _ _ (simp length-replicate)
-    ∙ ap (λ begin. begin ++ xor_bits (out ++ (rest ++ zeros)) (start ++ tail)) (xor_bits-zeros front (length front) bits refl)
-    ∙ ap (λ end. front ++ end) (xor_bits-append out start (rest ++ zeros) tail (sym es))
-    ∙ ap (λ middle. front ++ (middle ++ xor_bits (rest ++ zeros) tail)) sum
-    ∙ sym (append_assoc front next (xor_bits (rest ++ zeros) tail)) in
+    cc (
+      xor_bits-append front (replicate (length front) 0) _ _ (simp length-replicate),
+      xor_bits-zeros front (length front) bits refl,
+      xor_bits-append out start (rest ++ zeros) tail (sym es),
+      sum,
+      append_assoc front next (xor_bits (rest ++ zeros) tail),
+    ) in
     rw (← parts) (IsDivisibleBy-xor_bits _ _ g same moved padded)
 
 -- ## OctetLists: `bits_of` and `octets_of` undo each other, and loops extend their results by one octet at a time.
@@ -527,12 +526,14 @@ pub octets_of_more : (octets bits : List ℕ) (m octet n : ℕ) → m < length o
 octets_of_more octets bits m octet n within count eight here before =
     let at : 8 * (m + 1) ≡ 8 * m + n = omega arith in
     let front : length (take (8 * m) bits) ≡ 8 * m = omega (arith, length-take (8 * m) bits) in
-    take_more_set octets m octet within
-    ∙ ap (λ rest. rest ++ octet ∷ []) before
-    ∙ ap (λ last. octets_of (take (8 * m) bits) ++ last) (sym here)
-    ∙ sym (octets_of-append m (take (8 * m) bits) (take n (drop (8 * m) bits)) front)
-    ∙ ap octets_of (sym (take-add (8 * m) n bits))
-    ∙ ap (λ k. octets_of (take k bits)) (sym at)
+    cc (
+      take_more_set octets m octet within,
+      before,
+      here,
+      octets_of-append m (take (8 * m) bits) (take n (drop (8 * m) bits)) front,
+      take-add (8 * m) n bits,
+      at,
+    )
 
 -- ## OctetPlaces: The single bits of a list that `bits_of` unpacks from octets.
 
@@ -606,8 +607,7 @@ unfolding is_gathered
 gathered_octet bits count all =
     let of = octet_of_eight bits count all in
     let same : gathering (octet_bits of.0) ≡ of.0 =
-    (Decides-eqb (gathering (octet_bits of.0)) of.0).0 (at_passes_below is_gathered 256 all_gathered of.0 of.1) in
-    of.3 ∙ ap (λ n. n ∷ []) (sym (ap gathering (sym of.2) ∙ same))
+    (Decides-eqb (gathering (octet_bits of.0)) of.0).0 (at_passes_below is_gathered 256 all_gathered of.0 of.1) in cc (of.3, of.2, same)
 
 -- ## WrongPlaces: `count_wrong_bits` of a list is the sum of `count_wrong_bits` of its two parts.
 

@@ -11,7 +11,7 @@ abbrev pub AllBits : List ℕ → Type 0
 AllBits bits = All IsBit bits
 
 -- the bitwise XOR of two bit lists; the result is as long as the shorter one
-abbrev pub xor_bits : List ℕ → List ℕ → List ℕ
+abbrev pub xor_bits : (xs ys : List ℕ) → List ℕ
 xor_bits [] ys = []
 xor_bits (x ∷ xs) [] = []
 xor_bits (x ∷ xs) (y ∷ ys) = ((x + y) % 2) ∷ xor_bits xs ys

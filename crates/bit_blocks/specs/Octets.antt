@@ -11,7 +11,7 @@ abbrev pub AllOctets : List ℕ → Type 0
 AllOctets octets = All IsOctet octets
 
 -- the eight bits of an octet, least significant bit first
-abbrev pub octet_bits : ℕ → List ℕ
+abbrev pub octet_bits : (octet : ℕ) → List ℕ
 octet_bits octet =
     octet % 2 ∷
     octet / 2 % 2 ∷
@@ -23,11 +23,11 @@ octet_bits octet =
     octet / 128 % 2 ∷ []
 
 -- the bits of a list of octets in order, eight per octet, least significant bit first
-abbrev pub bits_of : List ℕ → List ℕ
+abbrev pub bits_of : (octets : List ℕ) → List ℕ
 bits_of octets = flat_map octet_bits octets
 
 -- packs bits into octets, eight to an octet, least significant bit first; leftover bits (fewer than eight) are dropped
-abbrev pub octets_of : List ℕ → List ℕ
+abbrev pub octets_of : (bits : List ℕ) → List ℕ
 octets_of (a ∷ b ∷ c ∷ d ∷ e ∷ f ∷ g ∷ h ∷ rest) =
     (a + 2 * b + 4 * c + 8 * d + 16 * e + 32 * f + 64 * g + 128 * h) ∷ octets_of rest
 octets_of _ = []

@@ -3,14 +3,14 @@ use Rattle.std.specs.Prelude.{ℕ, ◌≡◌, ◌<◌, ◌+◌, ◌*◌, ◌/◌
 
 -- the position of a coded bit in its packed octet. The coded bits are numbered 0 to 7 in encoder order and form four pairs: octet bits 0 to
 -- 3 hold the first bits of the pairs, and octet bits 4 to 7 the second bits
-abbrev pub packed_bit_index : ℕ → ℕ
+abbrev pub packed_bit_index : (coded_bit : ℕ) → ℕ
 packed_bit_index r = r / 2 + 4 * (r % 2)
 
 -- the bit of a number at a given index; index 0 is the least significant bit
-abbrev pub bit_of : ℕ → ℕ → ℕ
+abbrev pub bit_of : (number place : ℕ) → ℕ
 bit_of number i = number / 2 ^ i % 2
 
 -- the second list packs the coded bits of the first into a given number of octets: eight per octet, at the positions of `packed_bit_index`
-abbrev pub AreCodedBitsPacked : ℕ → List ℕ → List ℕ → Type 0
+abbrev pub AreCodedBitsPacked : (octet_count : ℕ) (coded octets : List ℕ) → Type 0
 AreCodedBitsPacked n coded octets =
     (t r : ℕ) → t < n → r < 8 → bit_of (slice_index octets t) (packed_bit_index r) ≡ slice_index coded (8 * t + r)

@@ -1,10 +1,11 @@
 -- The parts of a burst.
-use Rattle.burst_map.specs.{NormalBurst.normal_burst, Parts.with_part_replaced, Tails.tail_bits}
-use Rattle.std.proofs.Common.{List, [], ap, arith, drop, length, refl, replicate, sym, take, ℕ, ◌++◌, ◌+◌, ◌-◌, ◌∙◌}
-use Rattle.std.proofs.{Common.{◌∷◌, ◌≡◌, ◌≤◌}, Math.Seq.take-add, lemmas.List.Elements.{All-append, All-replicate}}
-use Rattle.std.proofs.lemmas.List.{Elements.All-same, append_assoc, drop-drop, drop-replicate, drop_at, length-append, take_at}
-use Rattle.std.specs.Prelude.{slice_range}
-use Rattle.training_seq.{proofs.Lemmas.length-midamble, specs.{Sequences.midamble, bit_blocks.Bits.{AllBits, IsBit}}}
+use Rattle.{
+  burst_map.specs.{NormalBurst.normal_burst, Parts.with_part_replaced, Tails.tail_bits},
+  std.proofs.Common.{List, [], ap, arith, drop, length, refl, replicate, sym, take, ℕ, ◌++◌, ◌+◌, ◌-◌, ◌∙◌, ◌∷◌},
+  std.proofs.{Common.{◌≡◌, ◌≤◌}, Math.Seq.take-add, lemmas.List.{Elements.{All-append, All-replicate}, append_assoc}},
+  std.{proofs.lemmas.List.{drop-drop, drop-replicate, drop_at, length-append, take_at}, specs.Prelude.slice_range},
+  training_seq.{proofs.Lemmas.length-midamble, specs.{Sequences.midamble, bit_blocks.Bits.{AllBits, IsBit}}},
+}
 
 -- ## Parts: A list as the concatenation of its slices.
 
@@ -36,15 +37,13 @@ filled_more {old} {front} {at} {rest} new bits next left filled are_bits follows
     ∙ ap (λ n. replicate n 0) less in
     record {
       content = cc;
-      right_length = let l = filled.right_length in omega (arith, length-append front bits);
+      right_length = omega (arith, filled.right_length, length-append front bits);
       bits = All-append IsBit front bits filled.bits are_bits;
     }
 
 pub AllBits-filled : {burst front : List ℕ} {at rest : ℕ} → IsFilled burst front at rest → AllBits burst
-AllBits-filled {burst} {front} {at} {rest} filled =
-    let zeros = All-replicate IsBit rest 0 (omega arith) in
-    All-same IsBit burst (front ++ replicate rest 0) filled.content
-    (All-append IsBit front (replicate rest 0) filled.bits zeros)
+AllBits-filled {front} {rest} filled = rw filled.content
+    (All-append IsBit front (replicate rest 0) filled.bits (All-replicate IsBit rest 0 (omega arith)))
 
 -- ## WrittenHalves: Writing both halves of a normal burst, in either order, gives the burst of these halves.
 
@@ -55,7 +54,7 @@ with_part_replaced-middle places front old back part from to is f t =
     let before : take from places ≡ front = ap (take from) is ∙ take_at front (old ++ back) from f in
     let after : drop to places ≡ back =
     ap (drop to) (is ∙ sym (append_assoc front old back)) ∙ drop_at (front ++ old) back to t in
-    ap (λ xs. xs ++ (part ++ drop to places)) before ∙ ap (λ xs. front ++ (part ++ xs)) after
+    cc
 
 -- the bits after the first half, and those before the second
 abbrev after_first : List ℕ → ℕ → List ℕ
@@ -72,8 +71,7 @@ around_second first second tsc = simp append_assoc
 
 length-before_second : (first : List ℕ) (tsc : ℕ) → length first ≡ 57 → tsc ≤ 7 → length (before_second first tsc) ≡ 88
 length-before_second first tsc f known =
-    let sequence = length-midamble tsc known in
-    simp length-append (omega arith)
+    simp length-append (omega (arith, length-midamble tsc known))
 
 write_first : (old first second : List ℕ) (tsc : ℕ) → length old ≡ 57 →
     with_part_replaced (normal_burst old second tsc) 3 60 first ≡ normal_burst first second tsc
@@ -113,8 +111,4 @@ pub both_written : (left burst half other first second : List ℕ) (tsc : ℕ) �
     tsc ≤ 7 → burst ≡ normal_burst (replicate 57 0) (replicate 57 0) tsc → half ≡ first → other ≡ second →
     left ≡ with_part_replaced (with_part_replaced burst 3 60 half) 88 145 other → left ≡ normal_burst first second tsc
 both_written left burst half other first second tsc f s known zeros h o is =
-    is
-    ∙ ap (λ places. with_part_replaced (with_part_replaced places 3 60 half) 88 145 other) zeros
-    ∙ ap (λ bits. with_part_replaced (with_part_replaced (normal_burst (replicate 57 0) (replicate 57 0) tsc) 3 60 bits) 88 145 other) h
-    ∙ ap (with_part_replaced (with_part_replaced (normal_burst (replicate 57 0) (replicate 57 0) tsc) 3 60 first) 88 145) o
-    ∙ write_first-second first second tsc f s known
+    rw (is, zeros, h, o) (write_first-second first second tsc f s known)

@@ -1,30 +1,17 @@
 -- A slice of an array is borrowed mutably: the rest of the array is unchanged, and when the borrow ends, the array holds the final values
 -- of the slice. This follows from the logic's rule for borrowing elements of a list (`lends_Elements`).
-use mathlib.Core.Path.{◌≡◌, refl, sym, ap, ◌∙◌}
+use mathlib.Core.{Path.{◌≡◌, refl, sym, ap, ◌∙◌}, List.{List, [], ◌∷◌, ◌++◌}}
 use Prim.Native.Nat.{ℕ, ◌+◌, ◌-◌, ◌^◌, ◌<◌, ◌≤◌}
 use native.Mathlib.Omega.{arith}
-use mathlib.Core.List.{List, [], ◌∷◌, ◌++◌}
 use lib.ListN.{length, take, drop as drop_list, take-append-drop, length-drop, length-append}
 use seplogic.Ra.Ura.{Ura}
-use mir.Syntax.{Lifetime}
-use mir.Val.{Val}
-use base.Logic.{SProp, ent, sep, ex, guard}
-use base.Fml.{Lft, GName, Share, fsep, feq, flft}
-use types.Logic.{Logic, sem}
-use types.Kit.{Item, ‵, ◌⊛◌, raw, given, ◌$◌, ◌∵◌, !, qed, move, drop, fsplit3, updating, await, later, some, use1, use2}
-use types.Kit.{group, pick, now, show, done, rewrite, split, join, check, fsplit, fjoin, feq_l, feq_i}
-use types.SemTy.{cells}
-use types.Mut.{open_ref}
-use denote.Builtin.{u8}
-use denote.Memory.{mem, part_at}
-use denote.ArrayMemory.{Array-apart, Array-whole}
-use denote.Index.{row, whole_in, whole_out}
-use base.Fraction.{full_share}
-use denote.Ref.{MutRef}
-use denote.Array.{Array}
-use denote.Slice.{MutSlice, Room, slice_val}
-use denote.Follow.{follows}
-use denote.FollowSlice.{lends_Elements, Elements}
+use mir.{Syntax.Lifetime, Val.Val}
+use base.{Logic.{SProp, ent, sep, ex, guard}, Fml.{Lft, GName, Share, fsep, feq, flft}, Fraction.full_share}
+use types.{Logic.{Logic, sem}, Kit.{Item, ‵, ◌⊛◌, raw, given, ◌$◌, ◌∵◌, !, qed, move, drop, fsplit3, updating, await}}
+use types.Kit.{later, some, use1, use2, group, pick, now, show, done, rewrite, split, join, check, fsplit, fjoin, feq_l, feq_i}
+use types.{SemTy.cells, Mut.open_ref}
+use denote.{Builtin.u8, Memory.{mem, part_at}, ArrayMemory.{Array-apart, Array-whole}, Index.{row, whole_in, whole_out}, Ref.MutRef}
+use denote.{Array.Array, Slice.{MutSlice, Room, slice_val}, Follow.follows, FollowSlice.{lends_Elements, Elements}}
 use Rattle.std.proofs.lemmas.List.{drop-drop}
 use borrow.Table.Elements.{at, at_mul, cut_app, join_app, length-take-le}
 

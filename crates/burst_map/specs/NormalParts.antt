@@ -15,12 +15,12 @@ abbrev pub burst_ghost_name : NormalParts → GName
 burst_ghost_name parts = parts.burst.ghost_name
 
 -- a `NormalParts` with the same reference to the burst, but with other bits in the burst
-abbrev pub parts_with_burst : NormalParts → List ℕ → NormalParts
+abbrev pub parts_with_burst : (parts : NormalParts) (burst : List ℕ) → NormalParts
 parts_with_burst parts burst = record parts { burst = record parts.burst { now = burst } }
 
 -- a range of bits of the burst is borrowed mutably; when the borrow ends, the burst holds their final values in this range and is unchanged
 -- elsewhere
-abbrev pub LendsPartOfBurst : MutBor NormalParts → ℕ → ℕ → MutBor (List ℕ) → Fml
+abbrev pub LendsPartOfBurst : (parts : MutBor NormalParts) (from to : ℕ) (half : MutBor (List ℕ)) → Fml
 LendsPartOfBurst parts from to half =
     Lends (the_row (record { mir = named 1; lft = [] })) (Array u8 0) parts half
     (λ bits. parts_with_burst parts.now (with_part_replaced (burst_of_parts parts.now) from to bits))

@@ -11,7 +11,7 @@ mod place;
 mod sync_burst;
 
 pub use access_burst::{AccessView, access, access_sequence};
-pub use laws::law_fill_halves_any_order;
+pub use laws::law_burst_halves_fill_in_any_order;
 pub use normal_burst::{NormalView, normal};
 pub use normal_parts::NormalParts;
 pub use sync_burst::{SyncView, sync, sync_sequence};

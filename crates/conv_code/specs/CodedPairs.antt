@@ -2,10 +2,11 @@
 use Rattle.std.specs.Prelude.{ℕ, ◌≡◌, ◌<◌, ◌+◌, ◌*◌, ◌%◌, List, slice_index}
 use Rattle.bit_blocks.specs.Packed.{bit_of}
 
--- `octet` holds the coded bits of information bits `4 * t` to `4 * t + 3`; `bits` is the information list, preceded by eight earlier bits
-pub record HoldsFourCodedPairs (bits : List ℕ) (octet t : ℕ) : Type 0 where
+-- `octet` holds the coded bits of information bits `4 * t` to `4 * t + 3`; `bits` is the encoder input, preceded by eight earlier bits
+pub record HoldsFourCodedPairs (bits : List ℕ) (octet index : ℕ) : Type 0 where
   pub first_bits : (i : ℕ) → i < 4 → bit_of octet i ≡
-      (slice_index bits (4 * t + 8 + i) + slice_index bits (4 * t + 5 + i) + slice_index bits (4 * t + 4 + i)) % 2
+      (slice_index bits (4 * index + 8 + i) + slice_index bits (4 * index + 5 + i) + slice_index bits (4 * index + 4 + i)) % 2
   pub second_bits : (i : ℕ) → i < 4 → bit_of octet (i + 4) ≡
-      (slice_index bits (4 * t + 8 + i) + slice_index bits (4 * t + 7 + i) + slice_index bits (4 * t + 5 + i) + slice_index bits
-      (4 * t + 4 + i)) % 2
+      (slice_index bits (4 * index + 8 + i) + slice_index bits (4 * index + 7 + i) + slice_index bits (4 * index + 5 + i) + slice_index
+      bits
+      (4 * index + 4 + i)) % 2

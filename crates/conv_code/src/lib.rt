@@ -1,5 +1,5 @@
 //! The convolutional code of rate 1/2 and constraint length 5 for the signalling channels, RACH and SCH (GSM 05.03, today 3GPP TS 45.003,
-//! section 4.1.3), and the definition of the most likely information list for given soft bits.
+//! section 4.1.3), and the definition of the most likely encoder input for given soft bits.
 #![tactic(auto)]
 
 ghost use Rattle.std.specs.Prelude.{◌≡◌, ◌*◌, ◌<◌, length, take};
@@ -11,7 +11,7 @@ mod packed;
 pub use bit_blocks::{CODED_BITS, ENCODER_INPUT_BITS};
 pub use packed::encode_packed;
 
-/// Writes the coded bits of the information list `u` to `out`: two for each information bit.
+/// Writes the coded bits of the encoder input `u` to `out`: two for each information bit.
 ///
 /// The last four bits of `u` must be the zero tail bits, which return the encoder to state 0.
 pub fn encode(u: &[u8], out: &mut [u8])
@@ -38,11 +38,11 @@ fn encode_first_four_bits(u: &[u8], out: &mut [u8])
 }
 
 /// The bit of `u` that is `delay` positions before bit `k`, or 0 if that is before the first bit.
-fn delayed_bit(u: &[u8], k: usize, delay: usize) -> u8
-    requires { k < length u.now }
-    ensures { result ≡ delayed_bit u.now k delay }
+fn delayed_bit(input: &[u8], k: usize, delay: usize) -> u8
+    requires { k < length input.now }
+    ensures { result ≡ delayed_bit input.now k delay }
 {
-    if k < delay { 0 } else { u[k - delay] }
+    if k < delay { 0 } else { input[k - delay] }
 }
 
 /// Writes the pairs of coded bits, starting with the fifth. No pair depends on another, so the compiler can compute sixteen at a time.

@@ -28,13 +28,13 @@ fn encode_four_bits_per_octet(shifted: &[u8; 33]) -> [u8; 64]
     packed
 }
 
-/// An octet that consists of the last four bits of `before` and the first four bits of `here`; bit 0 of an octet is its first bit.
+/// An octet of the last four bits of `previous_octet` and the first four bits of `current_octet`; bit 0 of an octet is its first bit.
 #[inline]
-fn straddling_octet(before: u8, here: u8) -> u8
-    ensures low { (i : ℕ) → i < 4 → bit_of result i ≡ bit_of before (i + 4) }
-    ensures high { (i : ℕ) → i < 4 → bit_of result (i + 4) ≡ bit_of here i }
+fn straddling_octet(previous_octet: u8, current_octet: u8) -> u8
+    ensures low { (i : ℕ) → i < 4 → bit_of result i ≡ bit_of previous_octet (i + 4) }
+    ensures high { (i : ℕ) → i < 4 → bit_of result (i + 4) ≡ bit_of current_octet i }
 {
-    (before >> 4) | ((here & 15) << 4)
+    (previous_octet >> 4) | ((current_octet & 15) << 4)
 }
 
 /// Encodes the upper four of eight information bits. The result holds the first bits of the four coded pairs in bits 0 to 3, and the second

@@ -1,24 +1,37 @@
 -- The CRCs: long division by a shift register and by a table, and the three kinds of codewords.
-use Rattle.bit_blocks.proofs.Lemmas.{AllBits-back, AllBits-bits_of, AllBits-front, AllBits-table, AllBits-xor_bits}
-use Rattle.bit_blocks.proofs.Lemmas.{IsDivisibleBy-zeros_append, IsDivisibleBy-zeros, HasQuotient_self, add_bits_again, add_bits_twice}
-use Rattle.bit_blocks.proofs.Lemmas.{divided_more, get_or-xor_bits, length-xor_bits, same_remainder, xor_bits-append, xor_bits-comm}
-use Rattle.bit_blocks.{proofs.Lemmas.xor_bits-zeros, specs.{Bits.{AllBits, IsBit, xor_bits}, Octets.{bits_of, octet_bits}}}
-use Rattle.bit_blocks.specs.Polynomials.{IsDivisibleBy, IsMultiple, product_coefficient}
-use Rattle.fire_code.specs.{Registers.low_bits, Words.{IsRachWord, IsSchWord, IsXcchWord, fire_generator, rach_generator, sch_generator}}
-use Rattle.fire_code.specs.declared.octets.TheConstants.{REMAINDERS}
-use Rattle.std.proofs.Common.{Bool, List, [], add-one, append_assoc, ap, arith, below_more, bit_and, bit_or, bit_xor, drop, eqb, get_or}
-use Rattle.std.proofs.Common.{length-append, length, lit<, lit≤, refl, replicate, subst, suc, sym, take, true, zero, ℕ, ◌%◌}
-use Rattle.std.proofs.Common.{◌&&◌, ◌*◌, ◌++◌, ◌+◌, ◌-◌, ◌/◌, ◌<◌, ◌^◌, ◌∙◌, ◌∷◌, ◌≡◌}
-use Rattle.std.proofs.{Common.{◌≢◌, ◌≤◌}, Math.{ListN.set, Nat.pow-suc, Pow.mod-mod-pow, Seq.{take-add, take-append_seam}}}
-use Rattle.std.proofs.{Math.Seq.take-length, lemmas.{Bool.Decides.{Decides-below_and, Decides-eqb}, Grind.flat_map-append}}
-use Rattle.std.proofs.lemmas.{Grind.same_number_lists, List.Elements.{All-append, All-cons, All-drop, All-head, All-nil, All-push, All-set}}
-use Rattle.std.proofs.lemmas.List.{Elements.{All-tail, All-take}, append-nil, get_or-replicate, get_or-set_other, get_or-set_same}
-use Rattle.std.proofs.lemmas.List.{length-drop, length-replicate, length-set, length-take-le, take-append-drop, take_all, take_more}
-use Rattle.std.proofs.lemmas.Nat.Bits.{bit_at-lt, bit_at-suc, bit_at_lowest, bit_at_not, bit_at_xor, same_from_bits_below, shr_and_one}
-use Rattle.std.proofs.lemmas.Nat.{and_le_r, and_mask, field_of, mod_low, mul-add-lt, mul-le, or_comm, or_shifted, pow-add, pow_pos}
-use Rattle.std.proofs.lemmas.{Nat.{shl_whole, shr-shr, shr_below, shr_high, xor_comm, xor_lt, xor_shr}, Slice.Eq.bytes_eq-Decides}
-use Rattle.std.specs.Int.{Bits.{xor_assoc, xor_self, xor_zero_l, xor_zero_r}, bit_at, bit_not, from_le_bytes, to_le_bytes, w64}
-use Rattle.std.specs.Str.{bytes_eq}
+use Rattle.{
+  bit_blocks.{
+    proofs.Lemmas.{AllBits-back, AllBits-bits_of, AllBits-front, AllBits-table, AllBits-xor_bits, IsDivisibleBy-zeros_append},
+    proofs.Lemmas.{IsDivisibleBy-zeros, HasQuotient_self, add_bits_again, add_bits_twice, divided_more, get_or-xor_bits, length-xor_bits},
+    proofs.Lemmas.{same_remainder, xor_bits-append, xor_bits-comm, xor_bits-zeros},
+    specs.{Bits.{AllBits, IsBit, xor_bits}, Octets.{bits_of, octet_bits}, Polynomials.{IsDivisibleBy, IsMultiple, product_coefficient}},
+  },
+  fire_code.specs.{
+    Registers.low_bits,
+    Words.{IsRachWord, IsSchWord, IsXcchWord, fire_generator, rach_generator, sch_generator},
+    declared.octets.TheConstants.REMAINDERS,
+  },
+  std.{
+    proofs.{
+      Common.{Bool, List, [], add-one, append_assoc, ap, arith, below_more, bit_and, bit_or, bit_xor, drop, eqb, get_or, length-append},
+      Common.{length, lit<, lit≤, refl, replicate, subst, suc, sym, take, true, zero, ℕ, ◌%◌, ◌&&◌, ◌*◌, ◌++◌, ◌+◌},
+      Common.{◌-◌, ◌/◌, ◌<◌, ◌^◌, ◌∙◌, ◌∷◌, ◌≡◌, ◌≢◌, ◌≤◌},
+      Math.{ListN.set, Nat.pow-suc, Pow.mod-mod-pow, Seq.{take-add, take-append_seam, take-length}},
+      lemmas.{
+        Bool.Decides.{Decides-below_and, Decides-eqb},
+        Grind.{flat_map-append, same_number_lists},
+        List.{Elements.{All-append, All-cons, All-drop, All-head, All-nil, All-push, All-set, All-tail, All-take}, append-nil},
+        List.{get_or-replicate, get_or-set_other, get_or-set_same, length-drop, length-replicate, length-set, length-take-le},
+        List.{take-append-drop, take_all, take_more},
+        Nat.{Bits.{bit_at-lt, bit_at-suc, bit_at_lowest, bit_at_not, bit_at_xor, same_from_bits_below, shr_and_one}, and_le_r, and_mask},
+        Nat.{field_of, mod_low, mul-add-lt, mul-le, or_comm, or_shifted, pow-add, pow_pos, shl_whole, shr-shr, shr_below, shr_high},
+        Nat.{xor_comm, xor_lt, xor_shr},
+        Slice.Eq.bytes_eq-Decides,
+      },
+    },
+    specs.{Int.{Bits.{xor_assoc, xor_self, xor_zero_l, xor_zero_r}, bit_at, bit_not, from_le_bytes, to_le_bytes, w64}, Str.bytes_eq},
+  },
+}
 
 -- ## Tests: A statement holds for every number below a bound if a test, computed for each of these numbers, succeeds.
 

@@ -21,22 +21,22 @@ rach_generator = 1 ∷ 1 ∷ 0 ∷ 1 ∷ 1 ∷ 1 ∷ 1 ∷ []
 abbrev pub sch_generator : List ℕ
 sch_generator = 1 ∷ 0 ∷ 1 ∷ 0 ∷ 1 ∷ 1 ∷ 1 ∷ 0 ∷ 1 ∷ 0 ∷ 1 ∷ []
 
--- `w` is a codeword of the Fire code on xCCH: 184 information bits and 40 inverted check bits (GSM 05.03 section 4.1.2)
-pub record IsXcchWord (w : List ℕ) : Type 0 where
-  pub count : length w ≡ 224
-  pub bits : AllBits w
-  pub multiple : IsMultiple (xor_bits w (replicate 184 0 ++ replicate 40 1)) fire_generator
+-- `word` is a codeword of the Fire code on xCCH: 184 information bits and 40 inverted check bits (GSM 05.03 section 4.1.2)
+pub record IsXcchWord (word : List ℕ) : Type 0 where
+  pub count : length word ≡ 224
+  pub bits : AllBits word
+  pub multiple : IsMultiple (xor_bits word (replicate 184 0 ++ replicate 40 1)) fire_generator
 
--- `w` is a codeword of an access burst: 8 information bits and the modulo 2 sum of 6 check bits and the BSIC (GSM 05.03 section 4.6)
-pub record IsRachWord (w bsic : List ℕ) : Type 0 where
-  pub count : length w ≡ 14
-  pub bits : AllBits w
+-- `word` is a codeword of an access burst: 8 information bits and the modulo 2 sum of 6 check bits and the BSIC (GSM 05.03 section 4.6)
+pub record IsRachWord (word bsic : List ℕ) : Type 0 where
+  pub count : length word ≡ 14
+  pub bits : AllBits word
   pub bsic_count : length bsic ≡ 6
   pub bsic_bits : AllBits bsic
-  pub multiple : IsMultiple (xor_bits (xor_bits w (replicate 8 0 ++ bsic)) (replicate 8 0 ++ replicate 6 1)) rach_generator
+  pub multiple : IsMultiple (xor_bits (xor_bits word (replicate 8 0 ++ bsic)) (replicate 8 0 ++ replicate 6 1)) rach_generator
 
--- `w` is a codeword of a synchronisation burst: 25 information bits and 10 check bits (GSM 05.03 section 4.7)
-pub record IsSchWord (w : List ℕ) : Type 0 where
-  pub count : length w ≡ 35
-  pub bits : AllBits w
-  pub multiple : IsMultiple (xor_bits w (replicate 25 0 ++ replicate 10 1)) sch_generator
+-- `word` is a codeword of a synchronisation burst: 25 information bits and 10 check bits (GSM 05.03 section 4.7)
+pub record IsSchWord (word : List ℕ) : Type 0 where
+  pub count : length word ≡ 35
+  pub bits : AllBits word
+  pub multiple : IsMultiple (xor_bits word (replicate 25 0 ++ replicate 10 1)) sch_generator

@@ -51,12 +51,12 @@ pub(crate) fn octets_of_register(register: u64) -> [u8; 5]
     ]
 }
 
-/// Octet `m` of a register; octet 0 is the least significant.
-fn register_octet(register: u64, m: usize) -> u8
-    requires { m < 5 }
-    ensures { octet_bits result ≡ low_bits 8 (register / 2 ^ (8 * m)) }
+/// Octet `octet_index` of a register; octet 0 is the least significant.
+fn register_octet(register: u64, octet_index: usize) -> u8
+    requires { octet_index < 5 }
+    ensures { octet_bits result ≡ low_bits 8 (register / 2 ^ (8 * octet_index)) }
 {
-    ((register >> (8 * m)) & 0xff) as u8
+    ((register >> (8 * octet_index)) & 0xff) as u8
 }
 
 /// Packs forty bits into a register; the first bit is the least significant.

@@ -1,25 +1,40 @@
 -- Error bursts: their syndromes are different, and the search finds the one with a given syndrome.
-use Rattle.fire_code.proofs.Lemmas.{AllBits-low_bits, add_after, carry_is, get_or-low_bits, length-low_bits, low_bits-mod}
-use Rattle.fire_code.proofs.Lemmas.{low_bits-number_of, low_bits-suc, low_bits-xor, low_bits-zero, lowest_of_xor, number_of_within}
-use Rattle.fire_code.proofs.Lemmas.{number_of, one_xcch_crc, passed, register_bits_split, remainder_more, same_register, some_xcch_crc}
-use Rattle.fire_code.proofs.{Lemmas.{taps_of_g40, tested}, bit_blocks.Lemmas.{AllBits-back, AllBits-xor_bits, IsDivisibleBy-zeros}}
-use Rattle.fire_code.proofs.bit_blocks.Lemmas.{add_bits_again, bit_xor-bits, divided_more, get_or-xor_bits, length-xor_bits, xor_bits-comm}
-use Rattle.fire_code.{proofs.bit_blocks.Lemmas.xor_bits-zeros, specs.{Registers.low_bits, Words.{IsXcchWord, fire_generator}}}
-use Rattle.fire_code.specs.bit_blocks.{Bits.{AllBits, IsBit, xor_bits}, Polynomials.{IsDivisibleBy, product_coefficient}}
-use Rattle.fire_repair.specs.{Answers.IsRepairResult, Bursts.{error_bits, error_burst_syndrome, lfsr_steps, lfsr_step}, Repairs.IsRepair}
-use Rattle.fire_repair.specs.{Repairs.{IsSpanOfChangedBits, RepairIsUnique}, declared.bursts.ErrorBurst.ErrorBurst}
-use Rattle.fire_repair.specs.declared.repairs.RepairAnswer.{TheVariants.{Holds, NoRepair, Repaired}, RepairAnswer}
-use Rattle.std.proofs.Common.{Bool, List, None, Option, Some, [], add-zero, ap, ap₂, arith, below_more, bit_and, bit_xor, drop, eq-eqb}
-use Rattle.std.proofs.Common.{eqb, false, get_or-set_other, get_or-set_same, get_or, inl, inr, length-append, length, lit≤, min}
-use Rattle.std.proofs.Common.{mul_assoc, ne_eqb, refl, replicate, subst, suc, sym, take, true, zero-add, zero, ℕ, ◌%◌, ◌&&◌}
-use Rattle.std.proofs.Common.{◌*◌, ◌++◌, ◌+◌, ◌-◌, ◌/◌, ◌<◌, ◌^◌, ◌∙◌, ◌∷◌, ◌≡◌, ◌≢◌}
-use Rattle.std.proofs.{Common.{◌≤◌, ◌⊎◌}, Math.{ListN.set, Nat.{lt_of_not-le, mul_comm, pow-le-pow_right, pow-suc}}}
-use Rattle.std.proofs.lemmas.{Bool.Decides.Decides-eqb, Grind.same_number_lists, List.Elements.{All-head, All-set, All-tail, All-take}}
-use Rattle.std.proofs.lemmas.List.{append-nil, get_or_past, length-drop, length-set, length-take-le, take-append-drop}
-use Rattle.std.proofs.lemmas.Nat.Bits.{bit_at-trailing_zeros, bit_at-zero, bit_at_above, bit_at_cat_high, bit_at_cat_low, same_from_bits}
-use Rattle.std.proofs.lemmas.Nat.{Bits.shr_and_one, and_le_r, and_mask, leading_length, mod_low, pow-add, pow_pos, shl-shr, shl_below}
-use Rattle.std.{proofs.lemmas.Nat.{shr-shr, shr_below, shr_high, xor_lt, xor_shr}, specs.Int.Bits.{xor_assoc, xor_self, xor_zero_r}}
-use Rattle.std.specs.Int.{bit_at, leading_zeros, trailing_zeros, w64}
+use Rattle.{
+  fire_code.{
+    proofs.{
+      Lemmas.{AllBits-low_bits, add_after, carry_is, get_or-low_bits, length-low_bits, low_bits-mod, low_bits-number_of, low_bits-suc},
+      Lemmas.{low_bits-xor, low_bits-zero, lowest_of_xor, number_of_within, number_of, one_xcch_crc, passed, register_bits_split},
+      Lemmas.{remainder_more, same_register, some_xcch_crc, taps_of_g40, tested},
+      bit_blocks.Lemmas.{AllBits-back, AllBits-xor_bits, IsDivisibleBy-zeros, add_bits_again, bit_xor-bits, divided_more, get_or-xor_bits},
+      bit_blocks.Lemmas.{length-xor_bits, xor_bits-comm, xor_bits-zeros},
+    },
+    specs.{
+      Registers.low_bits,
+      Words.{IsXcchWord, fire_generator},
+      bit_blocks.{Bits.{AllBits, IsBit, xor_bits}, Polynomials.{IsDivisibleBy, product_coefficient}},
+    },
+  },
+  fire_repair.specs.{
+    Answers.IsRepairResult,
+    Bursts.{error_bits, error_burst_syndrome, lfsr_steps, lfsr_step},
+    Repairs.{IsRepair, IsSpanOfChangedBits, EachWordHasAtMostOneRepair},
+    declared.{bursts.ErrorBurst.ErrorBurst, repairs.RepairAnswer.{TheVariants.{Holds, NoRepair, Repaired}, RepairAnswer}},
+  },
+  std.{
+    proofs.{
+      Common.{Bool, List, None, Option, Some, [], add-zero, ap, ap₂, arith, below_more, bit_and, bit_xor, drop, eq-eqb, eqb, false},
+      Common.{get_or-set_other, get_or-set_same, get_or, inl, inr, length-append, length, lit≤, min, mul_assoc, ne_eqb, refl, replicate},
+      Common.{subst, suc, sym, take, true, zero-add, zero, ℕ, ◌%◌, ◌&&◌, ◌*◌, ◌++◌, ◌+◌, ◌-◌, ◌/◌, ◌<◌},
+      Common.{◌^◌, ◌∙◌, ◌∷◌, ◌≡◌, ◌≢◌, ◌≤◌, ◌⊎◌},
+      Math.{ListN.set, Nat.{lt_of_not-le, mul_comm, pow-le-pow_right, pow-suc}},
+      lemmas.{Bool.Decides.Decides-eqb, Grind.same_number_lists, List.{Elements.{All-head, All-set, All-tail, All-take}, append-nil}},
+      lemmas.{List.{get_or_past, length-drop, length-set, length-take-le, take-append-drop}, Nat.Bits.{bit_at-trailing_zeros, bit_at-zero}},
+      lemmas.Nat.{Bits.{bit_at_above, bit_at_cat_high, bit_at_cat_low, same_from_bits, shr_and_one}, and_le_r, and_mask, leading_length},
+      lemmas.Nat.{mod_low, pow-add, pow_pos, shl-shr, shl_below, shr-shr, shr_below, shr_high, xor_lt, xor_shr},
+    },
+    specs.Int.{Bits.{xor_assoc, xor_self, xor_zero_r}, bit_at, leading_zeros, trailing_zeros, w64},
+  },
+}
 
 -- ## Moves: Multiplication of a register by D modulo the generator is invertible.
 
@@ -903,7 +918,7 @@ burst_of w v r = burst_between w v r.start r.count r.bits r.codeword.count r.cod
 word_of_burst : (w v : List ℕ) → IsRepair w v → (b : IsBurst w v) → IsXcchWord (xor_bits w (error_bits b.start b.shape))
 word_of_burst w v r b = subst IsXcchWord b.sum r.codeword
 
-pub one_repair : RepairIsUnique
+pub one_repair : EachWordHasAtMostOneRepair
 one_repair w v v' r r' =
     let b = burst_of w v r in
     let b' = burst_of w v' r' in

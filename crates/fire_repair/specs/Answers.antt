@@ -7,7 +7,7 @@ use Rattle.fire_repair.specs.declared.repairs.RepairAnswer.TheVariants.{Holds, R
 
 -- the result is correct for a word of 224 bits: `Holds` if the word is a codeword, `Repaired` if changes within twelve consecutive bits
 -- make it one, else `NoRepair`
-abbrev pub IsRepairResult : List ℕ → RepairAnswer → Type 0
+abbrev pub IsRepairResult : (word : List ℕ) (answer : RepairAnswer) → Type 0
 IsRepairResult w Holds = IsXcchWord w
 IsRepairResult w (Repaired word first span) = IsRepair w word × IsSpanOfChangedBits w word first span
 IsRepairResult w NoRepair = (IsXcchWord w → ⊥) × ((v : List ℕ) → IsRepair w v → ⊥)

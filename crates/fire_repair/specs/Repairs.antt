@@ -4,22 +4,23 @@ use Rattle.std.specs.Prelude.{ℕ, ◌≡◌, ◌≢◌, ◌+◌, ◌<◌, ◌�
 use Rattle.fire_code.specs.bit_blocks.Bits.{AllBits}
 use Rattle.fire_code.specs.Words.{IsXcchWord}
 
--- `v` is a repair of `w`: `w` is not a codeword, `v` is one, and they differ only within twelve consecutive bits
-pub record IsRepair (w v : List ℕ) : Type 0 where
-  pub count : length w ≡ 224
-  pub bits : AllBits w
-  pub not_codeword : IsXcchWord w → ⊥
-  pub codeword : IsXcchWord v
+-- `repaired` is a repair of `received`: `received` is not a codeword, `repaired` is one, and they differ only within twelve consecutive
+-- bits
+pub record IsRepair (received repaired : List ℕ) : Type 0 where
+  pub count : length received ≡ 224
+  pub bits : AllBits received
+  pub not_codeword : IsXcchWord received → ⊥
+  pub codeword : IsXcchWord repaired
   pub start : ℕ
-  pub changes_within_12 : (k : ℕ) → slice_index w k ≢ slice_index v k → (start ≤ k) × (k < start + 12)
+  pub changes_within_12 : (k : ℕ) → slice_index received k ≢ slice_index repaired k → (start ≤ k) × (k < start + 12)
 
--- `w` and `v` differ at bit `first` and at the last of the `span` bits that begin there, and nowhere outside these bits
-pub record IsSpanOfChangedBits (w v : List ℕ) (first span : ℕ) : Type 0 where
+-- `received` and `repaired` differ at bit `first` and at the last of the `span` bits that begin there, and nowhere outside these bits
+pub record IsSpanOfChangedBits (received repaired : List ℕ) (first span : ℕ) : Type 0 where
   pub nonzero : 1 ≤ span
-  pub first_differs : slice_index w first ≢ slice_index v first
-  pub last_differs : (last : ℕ) → last + 1 ≡ first + span → slice_index w last ≢ slice_index v last
-  pub none_outside : (k : ℕ) → slice_index w k ≢ slice_index v k → (first ≤ k) × (k < first + span)
+  pub first_differs : slice_index received first ≢ slice_index repaired first
+  pub last_differs : (last : ℕ) → last + 1 ≡ first + span → slice_index received last ≢ slice_index repaired last
+  pub none_outside : (k : ℕ) → slice_index received k ≢ slice_index repaired k → (first ≤ k) × (k < first + span)
 
 -- 224 received bits have at most one repair
-abbrev pub RepairIsUnique : Type 0
-RepairIsUnique = (w v v' : List ℕ) → IsRepair w v → IsRepair w v' → v ≡ v'
+abbrev pub EachWordHasAtMostOneRepair : Type 0
+EachWordHasAtMostOneRepair = (w v v' : List ℕ) → IsRepair w v → IsRepair w v' → v ≡ v'

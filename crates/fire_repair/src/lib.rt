@@ -8,7 +8,7 @@ mod bursts;
 mod laws;
 mod repairs;
 
-pub use laws::law_repair_is_unique;
+pub use laws::law_error_burst_repair_is_unique;
 pub use repairs::{RepairAnswer, repair};
 
 #[cfg(test)]

@@ -1,24 +1,35 @@
 -- Interleaving: the positions of the coded bits, the loops over them, and the columns in vectors.
-use Rattle.bit_blocks.{proofs.Lemmas.{at_passes_below, both_true, passes_below}, specs.{Bits.AllBits, Packed.{AreCodedBitsPacked, bit_of}}}
-use Rattle.bit_blocks.specs.Packed.{packed_bit_index}
-use Rattle.interleave.specs.{Bursts.{AreDeinterleaved, IsBurstDeinterleaved, IsInterleaved}, ColumnPositions.coded_bit_of_column}
-use Rattle.interleave.specs.{ColumnPositions.{coded_index_at, column_bit_position}, Columns.AreColumnsOfCodedBits, Positions.burst_of_bit}
-use Rattle.interleave.specs.{Positions.{burst_position, four_burst_position}, declared.table.TheConstants.HALF_BURST_BITS}
-use Rattle.std.proofs.Common.{All, Bool, Contains, Fits, List, [], ap, ap₂, arith, below_more, bit_and, drop, eqb, get_or-set_other}
-use Rattle.std.proofs.Common.{get_or-set_same, get_or, inl, inr, length-append, length, ltb, map, pos, refl, replicate, rules, subst, suc}
-use Rattle.std.proofs.Common.{sym, take, tests, true, w16, w8, zero-add, zero, ℕ, ℤ, ◌%◌, ◌&&◌, ◌*◌, ◌++◌, ◌+◌}
-use Rattle.std.proofs.Common.{◌-◌, ◌/◌, ◌<◌, ◌^◌, ◌∙◌, ◌∷◌, ◌≡◌, ◌≢◌, ◌≤◌}
-use Rattle.std.proofs.{Math.{Arith.digits_lt, ListN.set, Nat.{mul_comm, pow-suc, pow-zero}}, lemmas.Bool.Decides.{Decides-eqb, nat_tests}}
-use Rattle.std.proofs.lemmas.{Bool.{cases_eq, cases_lt}, List.{Edits.{get_or-between, length-between}, FromFn.get_or-map-range_with_len}}
-use Rattle.std.proofs.lemmas.List.{FromFn.length-map-range_with_len, append-nil, drop_all, drop_at, ext_get_or, get_or-append_right}
-use Rattle.std.proofs.lemmas.List.{get_or-map, get_or-take, get_or_append_left, get_or_default, length-map, length-take, same_lists}
-use Rattle.std.proofs.lemmas.{List.take_at, Nat.{Bits.and_high_mask, and_mask, pow_pos}, Simd.{Each1-chunk, below_from_Fits, chunk-fits}}
-use Rattle.std.proofs.lemmas.Simd.{get_or-chunk, get_or-replicate, get_or-zip2, get_or_wider, length-chunk, length-replicate, length-zip2}
-use Rattle.std.{proofs.lemmas.Simd.put_chunk_is, specs.{List.range_with_len, Prelude.slice_range}}
+use Rattle.{
+  bit_blocks.{
+    proofs.Lemmas.{at_passes_below, both_true, passes_below},
+    specs.{Bits.AllBits, Packed.{AreCodedBitsPacked, bit_of, packed_bit_index}},
+  },
+  interleave.specs.{
+    Bursts.{AreDeinterleaved, IsBurstDeinterleaved, IsInterleaved},
+    ColumnPositions.{coded_bit_of_column, coded_index_at, column_bit_position},
+    Columns.AreColumnsOfCodedBits,
+    Positions.{burst_of_bit, burst_position, four_burst_position},
+    declared.table.TheConstants.HALF_BURST_BITS,
+  },
+  std.{
+    proofs.{
+      Common.{All, Bool, Contains, Fits, List, [], ap, ap₂, arith, below_more, bit_and, drop, eqb, get_or-set_other, get_or-set_same},
+      Common.{get_or, inl, inr, length-append, length, ltb, map, pos, refl, replicate, rules, subst, suc, sym, take, tests, true, w16, w8},
+      Common.{zero-add, zero, ℕ, ℤ, ◌%◌, ◌&&◌, ◌*◌, ◌++◌, ◌+◌, ◌-◌, ◌/◌, ◌<◌, ◌^◌, ◌∙◌},
+      Common.{◌∷◌, ◌≡◌, ◌≢◌, ◌≤◌},
+      Math.{Arith.digits_lt, ListN.set, Nat.{mul_comm, pow-suc, pow-zero}},
+      lemmas.{Bool.{Decides.Decides-eqb, cases_eq, cases_lt}, List.Edits.{get_or-between, length-between}},
+      lemmas.List.{FromFn.{get_or-map-range_with_len, length-map-range_with_len}, append-nil, drop_all, drop_at, ext_get_or},
+      lemmas.List.{get_or-append_right, get_or-map, get_or-take, get_or_append_left, get_or_default, length-map, length-take, same_lists},
+      lemmas.{List.take_at, Nat.{Bits.and_high_mask, and_mask, pow_pos}, Simd.{Each1-chunk, below_from_Fits, chunk-fits, get_or-chunk}},
+      lemmas.Simd.{get_or-replicate, get_or-zip2, get_or_wider, length-chunk, length-replicate, length-zip2, put_chunk_is},
+    },
+    specs.{List.range_with_len, Prelude.slice_range},
+  },
+}
 use borrow.Rule.Slice.PartMut.{mid_of, put_mid}
 use lib.Lanes.{Each1, chunk, digits_l, number_l, pick_l, put_chunk, zip2}
-use mir.Syntax.{Width}
-use mir.Val.{bits}
+use mir.{Syntax.Width, Val.bits}
 
 -- ## Rows: `coded_index_at` is the inverse of `burst_of_bit` and `burst_position`, checked by computation for all 456 coded bits.
 
@@ -33,16 +44,14 @@ is_right b j = ltb (coded_index_at b j) 456 && (eqb (burst_of_bit (coded_index_a
 
 every_place_is_right : passes_below (λ b. passes_below (is_right b) 114) 4 ≡ true
 unfolding coded_index_at coded_bit_of_column burst_of_bit burst_position passes_below
-every_place_is_right = refl
+every_place_is_right = cc
 
 coded_index_at-stands : (b j : ℕ) → b < 4 → j < 114 → StandsAt (coded_index_at b j) b j
 coded_index_at-stands b j hb hj =
-    let row = at_passes_below (λ b. passes_below _ 114) 4 every_place_is_right b hb in
-    let here = at_passes_below _ 114 row j hj in
+    let here = at_passes_below _ 114 (at_passes_below (λ b. passes_below _ 114) 4 every_place_is_right b hb) j hj in
     let burst = eqb _ b in
     let place = eqb _ j in
-    let first = both_true (ltb (coded_index_at b j) 456) (burst && place) here in
-    let rest = both_true burst place first.1 in
+    let rest = both_true burst place (both_true (ltb (coded_index_at b j) 456) (burst && place) here).1 in
     record {
       in_range = search (rules, tests);
       burst = search (rules, tests);
@@ -54,12 +63,12 @@ is_found k = eqb (coded_index_at (burst_of_bit k) (burst_position k)) k
 
 every_coded_bit_is_found : passes_below is_found 456 ≡ true
 unfolding coded_index_at coded_bit_of_column burst_of_bit burst_position passes_below
-every_coded_bit_is_found = refl
+every_coded_bit_is_found = cc
 
 coded_index_at-of : (k : ℕ) → k < 456 → coded_index_at (burst_of_bit k) (burst_position k) ≡ k
 coded_index_at-of k hk =
     let found = at_passes_below _ 456 every_coded_bit_is_found k hk in
-    search (rules, tests)
+    search rules
 
 -- the burst and the position in it determine the coded bit
 pub same_coded_bit : (k l : ℕ) → k < 456 → l < 456 → burst_of_bit k ≡ burst_of_bit l → burst_position k ≡ burst_position l →
@@ -82,13 +91,12 @@ coded_bit_at b j hb hj =
 
 module _ {X : Type 0} where
   -- each value in the bursts is that of a coded bit
-  from_coded : (coded : List X) (bursts : List (List X)) → IsInterleaved coded bursts → (b j : ℕ) (d : X) → b < 4 →
-      j < 114 → (k : ℕ) × (k < 456) × (burst_of_bit k ≡ b) × (burst_position k ≡ j)
-      × (get_or (get_or bursts b []) j d ≡ get_or coded k d)
+  from_coded : (coded : List X) (bursts : List (List X)) → IsInterleaved coded bursts → (b j : ℕ) (d : X) → b < 4 → j < 114 →
+      get_or (get_or bursts b []) j d ≡ get_or coded (coded_index_at b j) d
   from_coded coded bursts whole b j d hb hj =
-      let found = coded_bit_at b j hb hj in
-      let holds = whole.positions _ d found.1 in
-      (found.0, found.1, found.2, found.3, rw (found.2, found.3) at holds)
+      let stands = coded_index_at-stands b j hb hj in
+      let holds = whole.positions (coded_index_at b j) d stands.in_range in
+      rw (stands.burst, stands.place) at holds
 
   pub same_coded : (coded coded' : List X) (bursts : List (List X)) → IsInterleaved coded bursts → IsInterleaved coded' bursts →
       coded ≡ coded'
@@ -106,22 +114,17 @@ module _ {X : Type 0} where
       same_lists _ _ (whole.burst_lengths b d lt ∙ sym (whole'.burst_lengths b d lt'))
       (λ j e le.
       let hj : j < 114 = rw (whole.burst_lengths) at le in
-      let one = from_coded coded bursts whole b j e hb hj in
-      let k = one.0 in
-      let holds' = whole'.positions k e one.1 in
       ap (λ burst. get_or burst j e) (get_or_default bursts b d [] lt)
-      ∙ one.4
-      ∙ sym (rw (one.2, one.3) at holds')
+      ∙ from_coded coded bursts whole b j e hb hj
+      ∙ sym (from_coded coded bursts' whole' b j e hb hj)
       ∙ ap (λ burst. get_or burst j e) (get_or_default bursts' b [] d lt')))
 
 pub AllBits-bursts : (coded : List ℕ) (bursts : List (List ℕ)) → IsInterleaved coded bursts → AllBits coded → All AllBits bursts
 AllBits-bursts coded bursts whole bits b none lt j d le =
     let hb : b < 4 = rw whole.burst_count at lt in
-    let hj : j < 114 = rw (whole.burst_lengths) at le in
-    let one = from_coded _ _ whole b j d hb hj in
-    let same = get_or_default _ b none [] lt in
-    let within : one.0 < length coded = rw whole.coded_count one.1 in
-    rw (same, one.4) (bits one.0 d within)
+    let hj : j < 114 = rw whole.burst_lengths at le in
+    rw (get_or_default bursts b none [] lt, from_coded coded bursts whole b j d hb hj)
+    (bits (coded_index_at b j) d (rw whole.coded_count (coded_index_at-stands b j hb hj).in_range))
 
 -- ## CodedBits: The entries of the table `HALF_BURST_BITS` are what `coded_index_at` gives, checked by computation.
 
@@ -130,7 +133,7 @@ is_entry_right r i = eqb (get_or (get_or HALF_BURST_BITS r []) i 0) (coded_index
 
 every_entry_is_right : passes_below (λ r. passes_below (is_entry_right r) 57) 8 ≡ true
 unfolding coded_index_at coded_bit_of_column passes_below
-every_entry_is_right = refl
+every_entry_is_right = cc
 
 pub entry-is : (b half i : ℕ) → b < 4 → half ≤ 1 → i < 57 → get_or (get_or HALF_BURST_BITS (2 * b + half) []) i 0 ≡
     coded_index_at b
@@ -138,10 +141,9 @@ pub entry-is : (b half i : ℕ) → b < 4 → half ≤ 1 → i < 57 → get_or (
 entry-is b half i hb hh hi =
     let r : ℕ = 2 * b + half in
     let row = at_passes_below (λ r. passes_below (is_entry_right r) 57) 8 every_entry_is_right r (omega arith) in
-    let place : 57 * (r % 2) + i ≡ 57 * half + i = omega arith in
     (Decides-eqb (get_or (get_or HALF_BURST_BITS r []) i 0) (coded_index_at (r / 2) (57 * (r % 2) + i))).0 (at_passes_below
     (is_entry_right r) 57 row i hi)
-    ∙ ap₂ coded_index_at (omega arith) place
+    ∙ ap₂ coded_index_at (omega arith) (omega arith)
 
 -- ## WholeBursts: A burst consists of two halves.
 
@@ -162,20 +164,17 @@ halves-at first second k d value long in_first in_second =
     let within = burst_position-below k in
     elim (cases_lt (burst_position k) 57) [
       | inl lower ↦
-          let here : burst_position k < length first = omega arith in
-          get_or_append_left _ _ d (burst_position k) here ∙ in_first _ lower (omega arith)
+          get_or_append_left _ _ d (burst_position k) (omega arith) ∙ in_first _ lower (omega arith)
       | inr upper ↦
           get_or-append_right first second 57 (burst_position k) d long upper
-          ∙ in_second (burst_position k - 57) (omega arith) (omega arith)
+          ∙ in_second _ (omega arith) (omega arith)
     ]
 
 pub put_mid-halves : {X : Type 0} (first old second : List X) → length first ≡ 57 → length old ≡ 57 → length second ≡ 57 →
     put_mid 57 57 (first ++ old) second ≡ first ++ second
 put_mid-halves first old second f o s =
-    let before : take 57 (first ++ old) ≡ first = take_at _ old 57 f in
-    let behind : drop 57 (drop 57 (first ++ old)) ≡ [] = ap (drop 57) (drop_at _ old 57 f) ∙ drop_all 57 old (omega arith) in
-    ap (λ front. front ++ (second ++ drop 57 (drop 57 (first ++ old)))) before
-    ∙ ap (λ rest. first ++ (second ++ rest)) behind
+    ap (λ front. front ++ (second ++ drop 57 (drop 57 (first ++ old)))) (take_at _ old 57 f)
+    ∙ ap (λ rest. first ++ (second ++ rest)) (ap (drop 57) (drop_at _ old 57 f) ∙ drop_all 57 old (omega arith))
     ∙ ap (λ rest. first ++ rest) (append-nil second)
 
 -- ## HalfBursts: One step of the loops over half a burst, which read or write one more value by the table.
@@ -200,10 +199,8 @@ module _ (b half : ℕ) (hb : b < 4) (hh : half ≤ 1) where
       ext_get_or 0 _ _ (omega (arith, count))
       (λ i lt.
       let here : i < 57 = omega arith in
-      let stands = half-stands i here in
-      let holds = whole.positions (bit_of_half i) 0 stands.in_range in
       read i here
-      ∙ sym (rw (stands.burst, stands.place) at holds)
+      ∙ sym (from_coded coded bursts whole b (57 * half + i) 0 hb (omega arith))
       ∙ sym (get_or-between burst (57 * half) (57 * half + 57) i 0 (omega arith)))
 
   half-differs : (i j : ℕ) → i < 57 → j < 57 → i ≢ j → bit_of_half i ≢ bit_of_half j
@@ -237,57 +234,29 @@ module _ (b half : ℕ) (hb : b < 4) (hh : half ≤ 1) where
 pub four_burst_position-lower : (k : ℕ) → burst_position k < 57 →
     four_burst_position k ≡ 148 * burst_of_bit k + burst_position k + 3
 unfolding four_burst_position
-four_burst_position-lower k h = grind (arith, nat_tests)
+four_burst_position-lower k h = grind arith
 
 -- the second half comes after 28 more bits: two stealing flags and the training sequence
 pub four_burst_position-upper : (k : ℕ) → 57 ≤ burst_position k →
     four_burst_position k ≡ 148 * burst_of_bit k + burst_position k + 31
 unfolding four_burst_position
-four_burst_position-upper k h = grind (arith, nat_tests)
+four_burst_position-upper k h = grind arith
 
 pub four_burst_position-below : (k : ℕ) → four_burst_position k < 592
-four_burst_position-below k =
-    let burst = burst_of_bit-below k in
-    let place = burst_position-below k in
-    elim (cases_lt (burst_position k) 57) [
-      | inl lower ↦ omega (arith, four_burst_position-lower)
-      | inr upper ↦ omega (arith, four_burst_position-upper)
-    ]
-
--- k and l have the same burst and the same position in it
-pub record SameBurstAndPlace (k l : ℕ) : Type 0 where
-  pub burst : burst_of_bit k ≡ burst_of_bit l
-  pub place : burst_position k ≡ burst_position l
-
-same_burst_place : (k l : ℕ) → four_burst_position k ≡ four_burst_position l → SameBurstAndPlace k l
-same_burst_place k l same =
-    let place_k = burst_position-below k in
-    let place_l = burst_position-below l in
-    elim (cases_lt _ 57) [
-      | inl lower ↦
-          let at_k = four_burst_position-lower k lower in
-          elim (cases_lt _ 57) [
-            | inl lower' ↦ let at_l = four_burst_position-lower l lower' in record { burst = omega arith; place = omega arith }
-            | inr upper' ↦ let at_l = four_burst_position-upper l upper' in absurd (omega arith)
-          ]
-      | inr upper ↦
-          let at_k = four_burst_position-upper k upper in
-          elim (cases_lt (burst_position l) 57) [
-            | inl lower' ↦ let at_l = four_burst_position-lower l lower' in absurd (omega arith)
-            | inr upper' ↦ let at_l = four_burst_position-upper l upper' in record { burst = omega arith; place = omega arith }
-          ]
-    ]
+unfolding four_burst_position
+four_burst_position-below k = grind (arith, burst_of_bit-below k, burst_position-below k)
 
 pub four_burst_position-differs : (k l : ℕ) → k < 456 → l < 456 → four_burst_position k ≡ four_burst_position l → k ≡ l
+unfolding four_burst_position
 four_burst_position-differs k l hk hl same =
-    let both = same_burst_place k l same in
-    same_coded_bit k l hk hl both.burst both.place
+    let place_k = burst_position-below k in
+    let place_l = burst_position-below l in
+    same_coded_bit k l hk hl (grind arith) (grind arith)
 
 -- ## Orders: Bursts may be deinterleaved in any order: each writes only its own coded bits.
 
 Contains-tail : (b x : ℕ) (order : List ℕ) → Contains (b ∷ order) x → x ≢ b → Contains order x
-Contains-tail b x order (zero, h, e) other = absurd (other (sym e))
-Contains-tail b x order (suc n, h, e) other = (n, omega arith, e)
+Contains-tail b x _ h other = grind arith
 
 module _ {X : Type 0} (bursts : List (List X)) (k : ℕ) (d : X) (hk : k < 456) where
   -- the value of this coded bit in the bursts
@@ -353,17 +322,16 @@ some_spread c count = (
     coded_count = count;
     burst_count = length-map-range_with_len (part_of c) 0 4;
     burst_lengths = λ b d h.
-        let within : b < 4 = subst (λ n. b < n) (length-map-range_with_len (part_of c) 0 4) h in
+        let within : b < 4 = rw (length-map-range_with_len (part_of c) 0 4) at h in
         ap length (get_or-map-range_with_len (part_of c) 0 4 b b d within (omega arith))
         ∙ length-map-range_with_len (λ j. get_or c (coded_index_at b j) 0) 0 114;
     positions = λ k d within.
         let b = burst_of_bit k in
         let j = burst_position k in
-        let here : k < length c = subst (λ n. k < n) (sym count) within in
         ap (λ bits. get_or bits j d) (get_or-map-range_with_len (part_of c) 0 4 b b [] (burst_of_bit-below k) (omega arith))
         ∙ get_or-map-range_with_len (λ i. get_or c (coded_index_at b i) 0) 0 114 j j d (burst_position-below k) (omega arith)
         ∙ ap (λ i. get_or c i 0) (coded_index_at-of k within)
-        ∙ get_or_default c k 0 d here;
+        ∙ get_or_default c k 0 d (omega arith);
   },
 )
 
@@ -383,10 +351,9 @@ module _ {X : Type 0} (none : X) (parts : List (List X)) (four : length parts �
       burst_count = four;
       burst_lengths = each;
       positions = λ k d h.
-          let within : burst_of_bit k < length parts = subst (λ n. burst_of_bit k < n) (sym four) (burst_of_bit-below k) in
+          let within : burst_of_bit k < length parts = omega (arith, burst_of_bit-below k) in
           let long : length (get_or parts (burst_of_bit k) []) ≡ 114 = each (burst_of_bit k) [] within in
-          let inside : burst_position k < length (get_or parts (burst_of_bit k) []) = subst (λ n. burst_position k < n) (sym long)
-          (burst_position-below k) in
+          let inside : burst_position k < length (get_or parts (burst_of_bit k) []) = omega (arith, burst_position-below k) in
           get_or_default (get_or parts (burst_of_bit k) []) (burst_position k) d none inside
           ∙ sym (get_or-map-range_with_len held_at 0 456 k k d h (omega arith));
     },
@@ -409,10 +376,9 @@ IsInterleaved-map f none c parts spread = record {
       let b = burst_of_bit k in
       let j = burst_position k in
       let within : b < length parts = rw spread.burst_count (burst_of_bit-below k) in
-      let place : j < length (get_or parts b []) = rw (spread.burst_lengths b [] within) (burst_position-below k) in
       let here : k < length c = rw spread.coded_count h in
       ap (λ values. get_or values j d) (get_or-map (map f) parts b [] [] within)
-      ∙ get_or-map f (get_or parts b []) j none d place
+      ∙ get_or-map f (get_or parts b []) j none d (rw (spread.burst_lengths b [] within) (burst_position-below k))
       ∙ ap f (spread.positions k none h)
       ∙ sym (get_or-map f c k none d here);
 }
@@ -439,13 +405,7 @@ pub record IsInColumn (k q r : ℕ) : Type 0 where
 
 pub in_column : (k : ℕ) → k < 456 → IsInColumn k (50 * (k / 8) % 57) (k % 8)
 unfolding coded_bit_of_column column_bit_position burst_of_bit burst_position
-in_column k h = record {
-  column = omega arith;
-  bit = omega arith;
-  coded_bit = omega arith;
-  burst = omega arith;
-  place = omega arith;
-}
+in_column k h = grind arith
 
 -- ## JoinedLanes: Interleaving the lanes of two vectors and reading the result as lanes of twice the width joins lanes in pairs. Three such
 -- steps transpose eight rows of eight octets.
@@ -460,12 +420,14 @@ below_n P zero h k lt = absurd (omega arith)
 below_n P (suc n) h zero lt = h.0
 below_n P (suc n) h (suc k) lt = below_n _ n h.1 k (omega arith)
 
+pub below_8 : (P : ℕ → Type 0) → P 0 → P 1 → P 2 → P 3 → P 4 → P 5 → P 6 → P 7 → (k : ℕ) → k < 8 → P k
+below_8 P a b c d e f g h = below_n P 8 (a, (b, (c, (d, (e, (f, (g, (h, tt))))))))
+
 number-two : (p : ℕ) (xs : List ℕ) (i : ℕ) → suc i < length xs →
     number_l p (chunk i 2 xs) ≡ get_or xs i 0 + p * get_or xs (suc i) 0
-number-two p [] i h = absurd (omega arith)
-number-two p (x ∷ []) i h = absurd (omega arith)
 number-two p (x ∷ y ∷ xs) zero h = grind arith
-number-two p (x ∷ y ∷ xs) (suc i) h = let h' : suc i < length (y ∷ xs) = omega arith in number-two p _ i h'
+number-two p (x ∷ y ∷ xs) (suc i) h = number-two p _ i (omega arith)
+number-two p xs i h = absurd (omega arith)
 
 number-digits : (n x : ℕ) → x < 256 ^ n → number_l 256 (digits_l 256 n x) ≡ x
 number-digits zero x h = omega arith
@@ -481,7 +443,7 @@ number-below p (x ∷ xs) h = omega (arith, digits_lt (number-below p xs h.1) h.
 pub joined_octet : (e : ℕ → ℕ) → ((r : ℕ) → e r < 256) → (r : ℕ) → r < 8 →
     (e 0 + 256 * e 1 + 65536 * (e 2 + 256 * e 3) + 2 ^ 32 * (e 4 + 256 * e 5 + 65536 * (e 6 + 256 * e 7))) / 256 ^ r % 256 ≡ e r
 joined_octet e h = below_n _ 8
-    (omega arith, (omega arith, (omega arith, (omega arith, (omega arith, (omega arith, (omega arith, (omega arith, tt))))))))
+    (omega arith)
 
 -- two adjacent lanes, read as one lane of twice the width
 joined_lane : (p q n : ℕ) (lanes : List ℕ) → q ≡ p ^ 2 → p ^ length lanes ≡ 256 ^ 16 → Each1 (λ x. x < p) lanes →
@@ -510,19 +472,17 @@ module _ (p : ℕ) (some : 0 < p) where
 side_by_side : (p n : ℕ) (x y : List ℕ) → length x ≡ n → (s : ℕ) → s < n →
     get_or (x ++ y) s 0 + p * get_or (x ++ y) (n + s) 0 ≡ get_or x s 0 + p * get_or y s 0
 side_by_side p n x y long s h =
-    let here : s < length x = omega arith in
-    let after : n + s - n ≡ s = omega arith in
-    ap₂ (λ a b. a + p * b) (get_or_append_left x y 0 s here)
-    (get_or-append_right x y n _ 0 long (omega arith) ∙ ap (λ k. get_or y k 0) after)
+    ap₂ (λ a b. a + p * b) (get_or_append_left x y 0 s (omega arith))
+    (get_or-append_right x y n _ 0 long (omega arith) ∙ ap (λ k. get_or y k 0) (omega arith))
 
 -- lane s of both vectors, moved next to each other and read as one lane of twice the width
-pub turned_lane : (w : Width) (q n m : ℕ) (x y : List ℕ) (order : List ℕ) (j s : ℕ) →
-    q ≡ (2 ^ bits w) ^ 2 → (2 ^ bits w) ^ length order ≡ 256 ^ 16 →
-    length x ≡ m → Each1 (Fits w) x → Each1 (Fits w) y → j < n → suc (2 * j) < length order → s < m →
-    get_or order (2 * j) 0 ≡ s → get_or order (suc (2 * j)) 0 ≡ m + s →
+pub turned_lane : (w : Width) (q n m : ℕ) (x y : List ℕ) → q ≡ (2 ^ bits w) ^ 2 → length x ≡ m → Each1 (Fits w) x →
+    Each1 (Fits w) y → (order : List ℕ) (j s : ℕ) → (2 ^ bits w) ^ length order ≡ 256 ^ 16 → j < n
+    → suc (2 * j) < length order →
+    s < m → get_or order (2 * j) 0 ≡ s → get_or order (suc (2 * j)) 0 ≡ m + s →
     get_or (digits_l q n (number_l 256 (digits_l 256 16 (number_l (2 ^ bits w) (pick_l 0 (x ++ y) order))))) j 0
     ≡ get_or x s 0 + 2 ^ bits w * get_or y s 0
-turned_lane w q n m x y order j s square whole long fits_x fits_y h within hs first second =
+turned_lane w q n m x y square long fits_x fits_y order j s whole h within hs first second =
     let p : ℕ = 2 ^ bits w in
     let some : 0 < p = pow_pos _ in
     let lanes : List ℕ = pick_l 0 _ _ in
@@ -605,11 +565,9 @@ pub columns_of_packed : (packed : List ℕ) → length packed ≡ 64 → (q : �
     get_or (pick_l 0 (packed ++ packed) order) q 0 ≡ get_or packed (8 * q % 57) 0
 columns_of_packed packed long q hq =
     let at : get_or order q 0 ≡ 8 * q % 57 = get_or-map-range_with_len (λ q. 8 * q % 57) 0 64 q q 0 hq (omega arith) in
-    let within : 8 * q % 57 < length packed = omega arith in
-    let here : q < length order = omega (arith, length-map-range_with_len) in
-    get_or-map (λ k. get_or (packed ++ packed) k 0) order q 0 0 here
+    get_or-map (λ k. get_or (packed ++ packed) k 0) order q 0 0 (omega (arith, length-map-range_with_len))
     ∙ ap (λ k. get_or (packed ++ packed) k 0) at
-    ∙ get_or_append_left packed packed 0 (8 * q % 57) within
+    ∙ get_or_append_left packed packed 0 (8 * q % 57) (omega arith)
 
 -- a list overwritten from index n on
 module _ (n m : ℕ) (first rest second : List ℕ) (within : n ≤ length first) where
@@ -635,19 +593,17 @@ pub AreColumnsOfCodedBits-repeat_columns : (coded packed columns octets : List �
     ((q : ℕ) → q < 64 → get_or octets (57 + q) 0 ≡ get_or columns q 0) → AreColumnsOfCodedBits coded octets
 unfolding coded_bit_of_column
 AreColumnsOfCodedBits-repeat_columns coded packed columns octets are ordered front back = record {
-  each = λ q r hq hr. ap (λ octet. bit_of octet (packed_bit_index r)) (column q hq) ∙ are _ r (omega arith) hr;
+  each_bit = λ q r hq hr. ap (λ octet. bit_of octet (packed_bit_index r)) (column q hq) ∙ are _ r (omega arith) hr;
 } where
   column : (q : ℕ) → q < 121 → get_or octets q 0 ≡ get_or packed (8 * q % 57) 0
   column q hq =
       elim (cases_lt q 57) [
         | inl lower ↦ front q lower ∙ ordered q (omega arith)
         | inr upper ↦
-            let same : 57 + (q - 57) ≡ q = omega arith in
-            let turn : 8 * (q - 57) % 57 ≡ 8 * q % 57 = omega arith in
-            ap (λ n. get_or octets n 0) (sym same)
+            ap (λ n. get_or octets n 0) (sym (omega arith))
             ∙ back _ (omega arith)
             ∙ ordered (q - 57) (omega arith)
-            ∙ ap (λ n. get_or packed n 0) turn
+            ∙ ap (λ n. get_or packed n 0) (omega arith)
       ]
 
 -- ---- the bits of a burst, read from the columns
@@ -657,11 +613,7 @@ pub row_bit : (coded columns : List ℕ) (b place p : ℕ) → AreColumnsOfCoded
     let row = b + 4 * (place % 2) in
     bit_of (get_or columns (8 * row + place / 2 + p) 0) (packed_bit_index row) ≡ get_or coded (coded_index_at b (place + 2 * p)) 0
 unfolding coded_index_at
-row_bit coded columns b place p are hb hj hp =
-    let row : ℕ = b + 4 * (place % 2) in
-    let same : row ≡ b + 4 * ((place + 2 * p) % 2) = omega arith in
-    let column : 8 * row + place / 2 + p ≡ 8 * (b + 4 * ((place + 2 * p) % 2)) + (place + 2 * p) / 2 = omega arith in
-    are.each _ row (omega arith) (omega arith) ∙ ap (λ k. get_or coded k 0) (ap₂ coded_bit_of_column column same)
+row_bit _ _ b _ p are hb hj hp = grind arith
 
 -- bit i of each of sixteen octets
 module _ (octets : List ℕ) (i : ℕ) (long : length octets ≡ 16) where
@@ -693,7 +645,7 @@ turns = map (λ i. i / 2 + 16 * (i % 2)) (range_with_len 0 32)
 pub interleave_lanes : (first second : List ℕ) (i : ℕ) → i < 32 →
     get_or (pick_l 0 (first ++ second) turns) i 0 ≡ get_or (first ++ second) (i / 2 + 16 * (i % 2)) 0
 interleave_lanes first second i hi =
-    let at : get_or turns i 0 ≡ i / 2 + 16 * (i % 2) = get_or-map-range_with_len (λ i. i / 2 + 16 * (i % 2)) 0 32 i i 0 hi
+    let at = get_or-map-range_with_len (λ i. i / 2 + 16 * (i % 2)) 0 32 i i 0 hi
     (omega arith) in
     get_or-map (λ k. get_or (first ++ second) k 0) turns i 0 0 (omega (arith, length-map-range_with_len))
     ∙ ap (λ k. get_or (first ++ second) k 0) at
@@ -713,19 +665,15 @@ turned_places coded first second b from i long hi even odd =
     let half : i / 2 < 16 = omega arith in
     elim (cases_lt (i % 2) 1) [
       | inl lower ↦
-          let here : i / 2 + 16 * (i % 2) ≡ i / 2 = omega arith in
-          let place : from + 2 * (i / 2) ≡ from + i = omega arith in
-          ap (λ k. get_or (first ++ second) k 0) here
+          ap (λ k. get_or (first ++ second) k 0) (omega arith)
           ∙ get_or_append_left _ second 0 (i / 2) (omega arith)
           ∙ even (i / 2) half
-          ∙ ap (λ j. get_or coded (coded_index_at b j) 0) place
+          ∙ ap (λ j. get_or coded (coded_index_at b j) 0) (omega arith)
       | inr upper ↦
-          let here : i / 2 + 16 * (i % 2) - 16 ≡ i / 2 = omega arith in
-          let place : from + 1 + 2 * (i / 2) ≡ from + i = omega arith in
           get_or-append_right first second 16 (i / 2 + 16 * (i % 2)) 0 long (omega arith)
-          ∙ ap (λ k. get_or second k 0) here
+          ∙ ap (λ k. get_or second k 0) (omega arith)
           ∙ odd (i / 2) half
-          ∙ ap (λ j. get_or coded (coded_index_at b j) 0) place
+          ∙ ap (λ j. get_or coded (coded_index_at b j) 0) (omega arith)
     ]
 
 -- half a burst is written in two parts: positions 0 to 31, and from position 32 on
@@ -737,10 +685,8 @@ half_place coded front rest back b half m i long long' hi first second =
     elim (cases_lt i 32) [
       | inl lower ↦ written_before 32 m _ _ _ (omega arith) i lower ∙ first i (omega arith)
       | inr upper ↦
-          let same : 32 + (i - 32) ≡ i = omega arith in
-          let place : 57 * half + 32 + (i - 32) ≡ 57 * half + i = omega arith in
-          ap (λ k. get_or (put_mid 32 m (front ++ rest) back) k 0) (sym same)
+          ap (λ k. get_or (put_mid 32 m (front ++ rest) back) k 0) (sym (omega arith))
           ∙ written_behind 32 m front rest back (omega arith) (i - 32) (omega arith)
           ∙ second (i - 32) (omega arith)
-          ∙ ap (λ j. get_or coded (coded_index_at b j) 0) place
+          ∙ ap (λ j. get_or coded (coded_index_at b j) 0) (omega arith)
     ]

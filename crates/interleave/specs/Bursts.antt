@@ -10,16 +10,17 @@ pub record IsInterleaved {X : Type 0} (coded : List X) (bursts : List (List X)) 
   pub positions : (k : ℕ) (d : X) → k < 456 →
       slice_index_or (slice_index_or bursts (burst_of_bit k) []) (burst_position k) d ≡ slice_index_or coded k d
 
--- `new` results from `old` by deinterleaving burst number `b`: each of the 114 values of `burst` is written to the index of its coded bit,
--- and all other values are unchanged
-pub record IsBurstDeinterleaved {X : Type 0} (b : ℕ) (burst old new : List X) : Type 0 where
+-- `new` results from `old` by deinterleaving burst number `burst_number`: each of the 114 values of `burst` is written to the index of its
+-- coded bit, and all other values are unchanged
+pub record IsBurstDeinterleaved {X : Type 0} (burst_number : ℕ) (burst old new : List X) : Type 0 where
   pub count : length new ≡ length old
-  pub updated_bits : (k : ℕ) (d : X) → k < 456 → burst_of_bit k ≡ b →
+  pub updated_bits : (k : ℕ) (d : X) → k < 456 → burst_of_bit k ≡ burst_number →
       slice_index_or new k d ≡ slice_index_or burst (burst_position k) d
-  pub unchanged_bits : (k : ℕ) (d : X) → k < 456 → burst_of_bit k ≢ b → slice_index_or new k d ≡ slice_index_or old k d
+  pub unchanged_bits : (k : ℕ) (d : X) → k < 456 → burst_of_bit k ≢ burst_number → slice_index_or new k d ≡ slice_index_or old
+      k d
 
 -- deinterleaving the bursts in the order of these burst numbers turns the first list of coded values into the second
-abbrev pub AreDeinterleaved : {X : Type 0} → List (List X) → List ℕ → List X → List X → Type 0
+abbrev pub AreDeinterleaved : {X : Type 0} (bursts : List (List X)) (order : List ℕ) (old new : List X) → Type 0
 AreDeinterleaved bursts [] old new = old ≡ new
 AreDeinterleaved {X} bursts (b ∷ order) old new =
     (next : List X) × IsBurstDeinterleaved b (slice_index_or bursts b []) old next × AreDeinterleaved bursts order next new

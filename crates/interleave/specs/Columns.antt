@@ -6,5 +6,5 @@ use Rattle.interleave.specs.ColumnPositions.{coded_bit_of_column}
 -- each of the first 121 octets of `columns` holds the eight bits of one column of `coded`: columns 0 to 56, then columns 0 to 63, where
 -- columns 57 to 63 repeat columns 0 to 6
 pub record AreColumnsOfCodedBits (coded columns : List ℕ) : Type 0 where
-  pub each : (q r : ℕ) → q < 121 → r < 8 → bit_of (slice_index columns q) (packed_bit_index r) ≡
+  pub each_bit : (q r : ℕ) → q < 121 → r < 8 → bit_of (slice_index columns q) (packed_bit_index r) ≡
       slice_index coded (coded_bit_of_column q r)

@@ -40,44 +40,44 @@ impl Columns {
     }
 
     /// Writes one half of burst `b`, 57 bits: positions 0 to 56 if `half` is 0, and 57 to 113 if it is 1.
-    pub fn write_half_burst(&self, b: usize, half: usize, out: &mut [u8])
-        requires burst { b < 4 }
+    pub fn write_half_burst(&self, burst_number: usize, half: usize, out: &mut [u8])
+        requires burst { burst_number < 4 }
         requires half { half ≤ 1 }
         requires count { length out.old ≡ 57 }
         ensures { (coded : List ℕ) (bursts : List (List ℕ)) → AreColumnsOfCodedBits coded self.now.octets →
-            IsInterleaved coded bursts → out.new ≡ slice_range (slice_index_or bursts b []) (57 * half) (57 * half + 57) }
+            IsInterleaved coded bursts → out.new ≡ slice_range (slice_index_or bursts burst_number []) (57 * half) (57 * half + 57) }
     {
         // `bits` has room for whole vectors; its last seven bits are not used.
         let mut bits = [0; 64];
-        self.write_32_positions(b, 57 * half, &mut bits[..32]);
-        self.write_32_positions(b, 57 * half + 32, &mut bits[32..]);
+        self.write_32_positions(burst_number, 57 * half, &mut bits[..32]);
+        self.write_32_positions(burst_number, 57 * half + 32, &mut bits[32..]);
         out.copy_from_slice(&bits[..57]);
     }
 
-    /// Writes the bits at 32 positions of burst `b`, starting at position `from`.
-    fn write_32_positions(&self, b: usize, from: usize, out: &mut [u8])
-        requires burst { b < 4 }
-        requires from { from ≤ 89 }
+    /// Writes the bits at 32 positions of a burst, starting at position `first_position`.
+    fn write_32_positions(&self, burst_number: usize, first_position: usize, out: &mut [u8])
+        requires burst { burst_number < 4 }
+        requires from { first_position ≤ 89 }
         requires count { length out.old ≡ 32 }
         ensures { (coded : List ℕ) (i : ℕ) → AreColumnsOfCodedBits coded self.now.octets → i < 32 →
-            slice_index out.new i ≡ slice_index coded (coded_index_at b (from + i)) }
+            slice_index out.new i ≡ slice_index coded (coded_index_at burst_number (first_position + i)) }
     {
         interleave_lanes(
-            self.sixteen_row_bits(b, from),
-            self.sixteen_row_bits(b, from + 1),
+            self.sixteen_row_bits(burst_number, first_position),
+            self.sixteen_row_bits(burst_number, first_position + 1),
         )
         .copy_to_slice(out);
     }
 
-    /// Returns sixteen bits of burst `b`, at every other position starting at `place`: one bit of each of sixteen consecutive columns.
-    fn sixteen_row_bits(&self, b: usize, place: usize) -> u8x16
-        requires burst { b < 4 }
+    /// Returns sixteen bits of a burst, at every other position starting at `place`: one bit of each of sixteen consecutive columns.
+    fn sixteen_row_bits(&self, burst_number: usize, place: usize) -> u8x16
+        requires burst { burst_number < 4 }
         requires place { place ≤ 90 }
         ensures count { length result ≡ 16 }
         ensures each { (coded : List ℕ) (p : ℕ) → AreColumnsOfCodedBits coded self.now.octets → p < 16 →
-            slice_index result p ≡ slice_index coded (coded_index_at b (place + 2 * p)) }
+            slice_index result p ≡ slice_index coded (coded_index_at burst_number (place + 2 * p)) }
     {
-        let row = b + 4 * (place % 2);
+        let row = burst_number + 4 * (place % 2);
         let column = 8 * row + place / 2;
         let bit = row / 2 + 4 * (row % 2);
         bit_of_each_octet(&self.octets[column..column + 16], bit)
@@ -103,14 +103,14 @@ fn repeat_columns(columns: &[u8; 64]) -> [u8; 128]
     octets
 }
 
-/// Returns bit `i` of each of sixteen octets.
-fn bit_of_each_octet(octets: &[u8], i: usize) -> u8x16
+/// Returns bit `bit_index` of each of sixteen octets.
+fn bit_of_each_octet(octets: &[u8], bit_index: usize) -> u8x16
     requires count { length octets.now ≡ 16 }
-    requires bit { i < 8 }
+    requires bit { bit_index < 8 }
     ensures count { length result ≡ 16 }
-    ensures each { (p : ℕ) → p < 16 → slice_index result p ≡ bit_of (slice_index octets.now p) i }
+    ensures each { (p : ℕ) → p < 16 → slice_index result p ≡ bit_of (slice_index octets.now p) bit_index }
 {
-    (u8x16::from_slice(octets) >> u8x16::splat(i as u8)) & u8x16::splat(1)
+    (u8x16::from_slice(octets) >> u8x16::splat(bit_index as u8)) & u8x16::splat(1)
 }
 
 /// Interleaves the lanes of both vectors: lane 0 of `first`, lane 0 of `second`, lane 1 of `first`, and so on.

@@ -16,10 +16,10 @@ pub fn gather(parts: &[[i8; 114]; 4]) -> [i8; CODED_BITS]
     ensures only { (coded : List ℤ) → IsInterleaved coded parts.now → coded ≡ result }
 {
     let octets = [
-        as_octets(&parts[0]),
-        as_octets(&parts[1]),
-        as_octets(&parts[2]),
-        as_octets(&parts[3]),
+        soft_bits_as_octets(&parts[0]),
+        soft_bits_as_octets(&parts[1]),
+        soft_bits_as_octets(&parts[2]),
+        soft_bits_as_octets(&parts[3]),
     ];
     let mut soft = [0; CODED_BITS];
     for group in 0..7 {
@@ -30,7 +30,7 @@ pub fn gather(parts: &[[i8; 114]; 4]) -> [i8; CODED_BITS]
 }
 
 /// Reinterprets soft bits as octets, for vector operations.
-fn as_octets(part: &[i8; 114]) -> [u8; 114]
+fn soft_bits_as_octets(part: &[i8; 114]) -> [u8; 114]
     ensures count { length part.now ≡ 114 }
     ensures value { map (cast_signed w8) result ≡ part.now }
 {
@@ -42,19 +42,19 @@ fn as_octets(part: &[i8; 114]) -> [u8; 114]
 }
 
 /// Returns the soft bits of column 56, the only column outside the groups of eight.
-fn last_column(parts: &[[u8; 114]; 4]) -> [u8; 8]
+fn last_column(bursts: &[[u8; 114]; 4]) -> [u8; 8]
     ensures { (r : ℕ) → r < 8 →
-        slice_index result r ≡ slice_index (slice_index_or parts.now (r % 4) []) (column_bit_position 56 r) }
+        slice_index result r ≡ slice_index (slice_index_or bursts.now (r % 4) []) (column_bit_position 56 r) }
 {
     [
-        parts[0][112],
-        parts[1][96],
-        parts[2][80],
-        parts[3][64],
-        parts[0][49],
-        parts[1][33],
-        parts[2][17],
-        parts[3][1],
+        bursts[0][112],
+        bursts[1][96],
+        bursts[2][80],
+        bursts[3][64],
+        bursts[0][49],
+        bursts[1][33],
+        bursts[2][17],
+        bursts[3][1],
     ]
 }
 

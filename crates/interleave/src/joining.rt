@@ -6,31 +6,31 @@ ghost use Rattle.interleave.specs.ColumnPositions.{column_bit_position};
 
 use std::simd::prelude::*;
 
-/// Returns eight columns, starting at column `8 * group`. Each is one number whose least significant octet belongs to row 0.
-pub(crate) fn eight_columns(parts: &[[u8; 114]; 4], group: usize) -> [u64; 8]
-    requires { group < 7 }
+/// Returns eight columns, starting at column `8 * column_group`. Each is one number whose least significant octet belongs to row 0.
+pub(crate) fn eight_columns(bursts: &[[u8; 114]; 4], column_group: usize) -> [u64; 8]
+    requires { column_group < 7 }
     ensures { (s r : ℕ) → s < 8 → r < 8 →
         slice_index result s / 256 ^ r % 256
-        ≡ slice_index (slice_index_or parts.now (r % 4) []) (column_bit_position (8 * group + s) r) }
+        ≡ slice_index (slice_index_or bursts.now (r % 4) []) (column_bit_position (8 * column_group + s) r) }
 {
     let (a, b) = join_octet_pairs(
         join_lower_octets(
-            octet_pairs(&parts[0], column_in_row(group, 0)),
-            octet_pairs(&parts[1], column_in_row(group, 1)),
+            octet_pairs(&bursts[0], column_in_row(column_group, 0)),
+            octet_pairs(&bursts[1], column_in_row(column_group, 1)),
         ),
         join_lower_octets(
-            octet_pairs(&parts[2], column_in_row(group, 2)),
-            octet_pairs(&parts[3], column_in_row(group, 3)),
+            octet_pairs(&bursts[2], column_in_row(column_group, 2)),
+            octet_pairs(&bursts[3], column_in_row(column_group, 3)),
         ),
     );
     let (c, d) = join_octet_pairs(
         join_upper_octets(
-            octet_pairs(&parts[0], column_in_row(group, 4)),
-            octet_pairs(&parts[1], column_in_row(group, 5)),
+            octet_pairs(&bursts[0], column_in_row(column_group, 4)),
+            octet_pairs(&bursts[1], column_in_row(column_group, 5)),
         ),
         join_upper_octets(
-            octet_pairs(&parts[2], column_in_row(group, 6)),
-            octet_pairs(&parts[3], column_in_row(group, 7)),
+            octet_pairs(&bursts[2], column_in_row(column_group, 6)),
+            octet_pairs(&bursts[3], column_in_row(column_group, 7)),
         ),
     );
     let [first, second, third, fourth] = join_octet_fours(a, c);
@@ -39,16 +39,16 @@ pub(crate) fn eight_columns(parts: &[[u8; 114]; 4], group: usize) -> [u64; 8]
 }
 
 /// The index of column `8 * group` in a row.
-fn column_in_row(group: usize, row: usize) -> usize
-    requires group { group < 7 }
+fn column_in_row(column_group: usize, row: usize) -> usize
+    requires group { column_group < 7 }
     requires row { row < 8 }
-    ensures place { result ≡ (8 * group + 49 * row) % 57 }
+    ensures place { result ≡ (8 * column_group + 49 * row) % 57 }
     ensures space { result ≤ 49 }
 {
-    if group >= row {
-        8 * (group - row)
+    if column_group >= row {
+        8 * (column_group - row)
     } else {
-        57 - 8 * (row - group)
+        57 - 8 * (row - column_group)
     }
 }
 

@@ -7,7 +7,7 @@ use bit_blocks::CODED_BITS;
 
 /// Law: the 456 coded bits correspond one to one to the positions of the four bursts, 114 in each, and no two coded bits share one of the
 /// 592 bits of these bursts.
-pub fn law_positions_are_one_to_one()
+pub fn law_interleaver_positions_are_one_to_one()
     ensures onto { (b i : ℕ) → b < 4 → i < 114 → (k : ℕ) × (k < CODED_BITS) × (burst_of_bit k ≡ b)
         × (burst_position k ≡ i) }
     ensures one_to_one { (k l : ℕ) → k < CODED_BITS → l < CODED_BITS → burst_of_bit k ≡ burst_of_bit l →
@@ -17,7 +17,7 @@ pub fn law_positions_are_one_to_one()
 {}
 
 /// Law: deinterleaving the four bursts in any order produces the soft bits of the whole block.
-pub fn law_deinterleave_any_order()
+pub fn law_bursts_deinterleave_in_any_order()
     ensures { (bursts : List (List ℤ)) (order : List ℕ) (old new : List ℤ) →
         length old ≡ CODED_BITS → length bursts ≡ 4 → All (λ burst. length burst ≡ 114) bursts →
         ((b : ℕ) → b < 4 → Contains order b) → AreDeinterleaved bursts order old new →

@@ -11,7 +11,7 @@ mod table;
 
 pub use columns::Columns;
 pub use gathering::{gather, gather_burst};
-pub use laws::{law_deinterleave_any_order, law_positions_are_one_to_one};
+pub use laws::{law_bursts_deinterleave_in_any_order, law_interleaver_positions_are_one_to_one};
 pub use spreading::{spread, spread_burst};
 
 #[cfg(test)]

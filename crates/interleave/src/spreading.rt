@@ -37,14 +37,14 @@ pub fn spread_burst(coded: &[u8; CODED_BITS], b: usize, half: usize, out: &mut [
     }
 }
 
-/// The 114 coded bits of burst `b`, in order of position.
-fn burst_of_block(coded: &[u8; CODED_BITS], b: usize) -> [u8; 114]
-    requires { b < 4 }
-    ensures places { (k : ℕ) → k < CODED_BITS → burst_of_bit k ≡ b →
+/// The 114 coded bits of burst number `burst_number`, in order of position.
+fn burst_of_block(coded: &[u8; CODED_BITS], burst_number: usize) -> [u8; 114]
+    requires { burst_number < 4 }
+    ensures places { (k : ℕ) → k < CODED_BITS → burst_of_bit k ≡ burst_number →
         slice_index result (burst_position k) ≡ slice_index coded.now k }
 {
     let mut burst = [0; 114];
-    spread_burst(coded, b, 0, &mut burst[..57]);
-    spread_burst(coded, b, 1, &mut burst[57..]);
+    spread_burst(coded, burst_number, 0, &mut burst[..57]);
+    spread_burst(coded, burst_number, 1, &mut burst[57..]);
     burst
 }

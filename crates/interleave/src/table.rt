@@ -50,12 +50,12 @@ static HALF_BURST_BITS: [[u16; 57]; 8] = [
     ],
 ];
 
-/// The numbers of the coded bits in one half of burst `b`, in order of transmission.
-pub fn coded_bit_numbers(b: usize, half: usize) -> &'static [u16; 57]
-    requires burst { b < 4 }
+/// The numbers of the coded bits in one half of burst number `burst_number`, in order of transmission.
+pub fn coded_bit_numbers(burst_number: usize, half: usize) -> &'static [u16; 57]
+    requires burst { burst_number < 4 }
     requires half { half ≤ 1 }
-    ensures value { (i : ℕ) → i < 57 → slice_index result.now i ≡ coded_index_at b (57 * half + i) }
+    ensures value { (i : ℕ) → i < 57 → slice_index result.now i ≡ coded_index_at burst_number (57 * half + i) }
     ensures within { (i : ℕ) → i < 57 → slice_index result.now i < CODED_BITS }
 {
-    &HALF_BURST_BITS[2 * b + half]
+    &HALF_BURST_BITS[2 * burst_number + half]
 }

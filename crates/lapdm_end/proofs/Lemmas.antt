@@ -1,25 +1,42 @@
 -- What an `Endpoint` and a `Side` represent, and the rules that their calls follow.
-use Rattle.lapdm_end.specs.{Abstraction.{RepresentsInState, Represents}, Addresses.{IsAddressOf, role_of}, Parts.AreConsistent}
-use Rattle.lapdm_end.specs.{Parts.{EndpointValues, IsInitialBeforeOpen, IsInitialWindow, values_of}, Refinement.AppendsOutcome}
-use Rattle.lapdm_end.specs.Sides.{CarriesOutStep, Represents as SideRepresents, StepRefines, channel_of, endpoint_of, other}
-use Rattle.lapdm_end.specs.Windows.{AppendsOutcomeInOpen, RepresentsOpenEndpoint, refuses_segment, sends_outstanding, takes_segment}
-use Rattle.lapdm_end.specs.declared.{ends.Endpoint.Endpoint, link.Address.Address, sides.Side.Side}
-use Rattle.lapdm_frame.specs.{Content.Frame, Frames.octets_of, Layout.n201}
-use Rattle.lapdm_window.proofs.Lemmas.{HasSameVariables-values, by_sapi, counted, evaluates_nr-is}
-use Rattle.lapdm_window.{proofs.segmenting.Lemmas.{latest_message_after-last, within_some}, specs.Abstraction.HasSameVariables}
-use Rattle.lapdm_window.specs.{Abstraction.{HoldsUnackedMessages, Represents as WindowRepresents}, Answers.{acked_by_nr, t200_result}}
-use Rattle.lapdm_window.specs.{Calls.{Call, repeated_frame, t200_expiry}, Ends.{EndpointState, IsBeforeOpen, IsValidEndpoint, Outcome}}
-use Rattle.lapdm_window.specs.{Ends.{Role, awaits_ack, n200, sends_frame, vr, ◌then◌}, Rules.{accepts_segment, answers_segment}}
-use Rattle.lapdm_window.specs.Rules.{evaluates_nr, has_segment_to_send, reject_is_due, segment_notices, sends_next, sends_segment}
-use Rattle.lapdm_window.specs.{Rules.{takes_i_frame, with_reject_condition, with_segment_sent}, Sides.{SideState, endpoint_on}}
-use Rattle.lapdm_window.specs.{Sides.{endpoint_step, layer3_call_step, takes}, Steps.HasEffects, Tables.{closes_and_reports, frame_outcome}}
-use Rattle.lapdm_window.specs.declared.{Info.Info, Notice.Notice, Sapi.{TheVariants.{Three, Zero}, Sapi}, State.TheVariants.Closed}
-use Rattle.lapdm_window.specs.declared.{State.{TheVariants.{Closing, Idle, Opening, Open}, State}, effects.Effects.Effects}
-use Rattle.lapdm_window.specs.{declared.window.Window.Window, segmenting.Joining.{latest_message, partial_message, reassembly_result}}
-use Rattle.lapdm_window.specs.segmenting.{Segments.{Message, Segment, max_message_octets}, declared.joiner.Joined.Joined}
-use Rattle.std.proofs.Common.{Bool, IsTrue, List, [], append_assoc, ap, arith, false, if◌then◌else◌, length, map, nat_eq, nat_lt}
-use Rattle.std.proofs.Common.{refl, subst, sym, true, unwrap_or, ℕ, ◌++◌, ◌+◌, ◌<◌, ◌∙◌, ◌∷◌, ◌≡◌}
-use Rattle.std.proofs.{Common.{◌≢◌, ◌≤◌}, lemmas.{Bool.Decides.nat_tests, List.{append-nil, map-append}}}
+use Rattle.{
+  lapdm_end.specs.{
+    Abstraction.{RepresentsInState, Represents},
+    Addresses.{IsAddressOf, spec_role_of},
+    Parts.{AreConsistent, EndpointValues, IsInitialBeforeOpen, IsInitialWindow, values_of},
+    Refinement.AppendsOutcome,
+    Sides.{CarriesOutStep, Represents as SideRepresents, StepRefines, channel_of, endpoint_of, other},
+    Windows.{AppendsOutcomeInOpen, RepresentsOpenEndpoint, refuses_segment, sends_outstanding_segment, takes_segment},
+    declared.{ends.Endpoint.Endpoint, link.Address.Address, sides.Side.Side},
+  },
+  lapdm_frame.specs.{Content.Frame, Frames.octets_of, Layout.n201},
+  lapdm_window.{
+    proofs.{
+      Lemmas.{HasSameVariables-values, by_sapi, counted, evaluates_nr-is},
+      segmenting.Lemmas.{latest_message_after-last, within_some},
+    },
+    specs.{
+      Abstraction.{HasSameVariables, HoldsUnackedMessages, Represents as WindowRepresents},
+      Answers.{acked_by_nr, t200_result},
+      Calls.{frame_to_retransmit, t200_expiry},
+      Ends.{EndpointState, IsBeforeOpen, IsValidEndpoint, Outcome, Role, awaits_ack, n200, sends_frame, vr, ◌then◌},
+      Rules.{accepts_segment, answers_segment, evaluates_nr, has_segment_to_send, reject_is_due, segment_notices, sends_next_segment},
+      Rules.{sends_segment, takes_i_frame, with_reject_condition, with_segment_sent},
+      Sides.{SideState, endpoint_on, endpoint_step, step_for_frame},
+      Steps.HasEffects,
+      Tables.{closes_and_reports, frame_outcome},
+      declared.{Notice.Notice, Sapi.{TheVariants.{Three, Zero}, Sapi}, State.{TheVariants.{Closed, Closing, Idle, Opening, Open}, State}},
+      declared.{effects.Effects.Effects, window.Window.Window},
+      segmenting.{Joining.{latest_message, partial_message, reassembly_result}, Segments.{Message, Segment, max_message_octets}},
+      segmenting.declared.joiner.Joined.Joined,
+    },
+  },
+  std.proofs.{
+    Common.{Bool, IsTrue, List, [], append_assoc, ap, arith, false, if◌then◌else◌, length, map, nat_eq, nat_lt, refl, subst, sym},
+    Common.{true, unwrap_or, ℕ, ◌++◌, ◌+◌, ◌<◌, ◌∙◌, ◌∷◌, ◌≡◌, ◌≢◌, ◌≤◌},
+    lemmas.{Bool.Decides.nat_tests, List.{append-nil, map-append}},
+  },
+}
 use Rattle.lapdm_window.specs.segmenting.declared.joiner.Joined.TheVariants as J
 use Rattle.lapdm_window.specs.declared.Info.TheVariants as I
 use Rattle.lapdm_window.specs.declared.Acked as A
@@ -38,30 +55,12 @@ pub takes_i_frame-is : (ns nr : ℕ) (p : Bool) (segment : Segment) (e : Endpoin
     takes_i_frame ns nr p segment e ≡ (evaluates_nr nr e then takes_segment ns p segment)
 takes_i_frame-is ns nr p segment e = grind arith
 
--- what the window's answer says about a segment that it accepts
-abbrev joined_in : Info → Joined
-joined_in (I.Accepted joined) = joined
-joined_in (I.OutOfSequence due) = J.More
-
-abbrev due_in : Info → Bool
-due_in (I.Accepted joined) = false
-due_in (I.OutOfSequence due) = due
-
-pub record IsAccepted (b : Bool) (j answer : Joined) : Type 0 where
-  pub is_true : b ≡ true
-  pub joined : j ≡ answer
-
-pub record IsRefused (b d answer : Bool) : Type 0 where
-  pub is_false : b ≡ false
-  pub due : d ≡ answer
-
 pub is_accepted : (same due : Bool) (joined answer : Joined) →
-    I.Accepted joined ≡ (if same then I.Accepted answer else I.OutOfSequence due)
-    → IsAccepted same joined answer
+    I.Accepted joined ≡ (if same then I.Accepted answer else I.OutOfSequence due) → (same ≡ true) × (joined ≡ answer)
 is_accepted same due joined answer h = grind arith
 
-pub is_refused : (same due reject : Bool) (answer : Joined) → I.OutOfSequence reject
-    ≡ (if same then I.Accepted answer else I.OutOfSequence due) → IsRefused same reject due
+pub is_refused : (same due reject : Bool) (answer : Joined) →
+    I.OutOfSequence reject ≡ (if same then I.Accepted answer else I.OutOfSequence due) → (same ≡ false) × (reject ≡ due)
 is_refused same due reject answer h = grind arith
 
 pub takes_segment-same : (ns : ℕ) (p : Bool) (segment : Segment) (e : EndpointState) → nat_eq ns (vr e) ≡ true →
@@ -85,12 +84,7 @@ reported : (over : Bool) (ps : List Segment) (octets : List ℕ) (more : Bool) �
     over ≡ nat_lt max_message_octets (length (partial_message ps ++ octets)) →
     segment_notices (answered over more) more (latest_message (ps ++ (octets, more) ∷ []))
     ≡ segment_notices (answered over more) more (partial_message ps ++ octets)
-reported true ps octets true h = refl
-reported true ps octets false h = refl
-reported false ps octets true h = refl
-reported false ps octets false h =
-    let fits : length (partial_message ps ++ octets) ≤ max_message_octets = grind (arith, nat_tests) in
-    ap (λ m. segment_notices J.Whole false m) (whole-latest_message ps octets fits)
+reported over ps octets more h = grind (arith, nat_tests, whole-latest_message ps octets)
 
 pub notices-latest_message : (ps : List Segment) (octets : List ℕ) (more : Bool) (joined : Joined) →
     joined ≡ reassembly_result ps (octets, more) →
@@ -98,18 +92,18 @@ pub notices-latest_message : (ps : List Segment) (octets : List ℕ) (more : Boo
     more
     (partial_message ps ++ octets)
 notices-latest_message ps octets more joined h =
-    ap (λ j. segment_notices j more (latest_message (ps ++ (octets, more) ∷ []))) h
-    ∙ reported (nat_lt max_message_octets (length (partial_message ps ++ octets))) ps octets more refl
+    rw h (reported (nat_lt max_message_octets (length (partial_message ps ++ octets))) ps octets more refl)
 
 -- what holds after the next segment becomes outstanding
 awaits_ack-next : (e : EndpointState) → has_segment_to_send e ≡ true → awaits_ack (with_segment_sent e) ≡ true
 awaits_ack-next e h = grind arith
 
-pub sends_next-yes : (e : EndpointState) → e.state ≡ Open → has_segment_to_send e ≡ true → sends_next e ≡ sends_segment e
-sends_next-yes e o h = rw (o, h)
+pub sends_next_segment-yes : (e : EndpointState) → e.state ≡ Open → has_segment_to_send e ≡ true
+    → sends_next_segment e ≡ sends_segment e
+sends_next_segment-yes e o h = rw (o, h)
 
 sends_segment-is : (e : EndpointState) → has_segment_to_send e ≡ true →
-    sends_segment e ≡ sends_outstanding false (with_segment_sent e)
+    sends_segment e ≡ sends_outstanding_segment false (with_segment_sent e)
 sends_segment-is e h = rw (awaits_ack-next e h)
 
 pub answers-next : (e : EndpointState) → e.state ≡ Open → has_segment_to_send e ≡ true →
@@ -119,25 +113,21 @@ answers-next e o h = rw (o, h)
 -- ## RulesInSequence: If several calls each follow a rule of state Open, then the calls one after another follow the rules one after
 -- another.
 
-pub Gives-as : {l : Address} {w : Window} {a b : Effects} {e : EndpointState} {o : Outcome} (p : Outcome) → p ≡ o →
+pub Gives-as : {l : Address} {w : Window} {a b : Effects} {e : EndpointState} {o p : Outcome} → p ≡ o →
     AppendsOutcomeInOpen l w a b e o → AppendsOutcomeInOpen l w a b e p
-Gives-as {l} {w} {a} {b} {e} p same g = subst (AppendsOutcomeInOpen l w a b e) (sym same) g
+Gives-as same g = rw same g
 
 pub Gives-then : {l : Address} {w v : Window} {a b d : Effects} {e : EndpointState} {o : Outcome} (rule : EndpointState → Outcome) →
     AppendsOutcomeInOpen l w a b e o →
     ((f : EndpointState) → RepresentsOpenEndpoint l w f → AppendsOutcomeInOpen l v b d f (rule f)) →
     AppendsOutcomeInOpen l v a d e (o then rule)
-Gives-then {l} {w} {v} {a} {b} {d} {e} {o} rule g obeys =
-    let h : AppendsOutcomeInOpen l v b d o.new_state (rule o.new_state) = obeys o.new_state g.still_open in
-    let fs = (rule o.new_state).frames in
-    let ns = (rule o.new_state).notices in
+Gives-then {o} rule g obeys =
+    let h = obeys o.new_state g.still_open in
     record {
       still_open = h.still_open;
       sabm_info = h.sabm_info ∙ g.sabm_info;
-      frames = h.frames ∙ ap (λ bs. bs ++ map (octets_of l.channel) fs) g.frames
-          ∙ append_assoc a.frames (map (octets_of l.channel) o.frames) (map (octets_of l.channel) fs) ∙ ap
-          (λ bs. a.frames ++ bs) (sym (map-append (octets_of l.channel) o.frames fs));
-      notices = h.notices ∙ ap (λ ms. ms ++ ns) g.notices ∙ append_assoc a.notices o.notices ns;
+      frames = rw (h.frames, g.frames, map-append, append_assoc);
+      notices = rw (h.notices, g.notices, append_assoc);
     }
 
 -- the notices that the endpoint reports after the window evaluates an N(R)
@@ -148,25 +138,7 @@ notices_for other = []
 by-answer : (l : Address) (v : Window) (a b : Effects) (e : EndpointState) (r : A.Acked) → IsAddressOf l e → e.state ≡ Open →
     WindowRepresents v (counted r e).new_state → b.frames ≡ a.frames → b.notices ≡ a.notices ++ notices_for r →
     AppendsOutcomeInOpen l v a b e (counted r e)
-by-answer l v a b e V.Nothing link open_now h fs ns = record {
-  still_open = record { address = link; state = open_now; window = h };
-  sabm_info = refl;
-  frames = fs ∙ sym (append-nil a.frames);
-  notices = ns;
-}
-by-answer l v a b e V.Piece link open_now h fs ns = record {
-  still_open = record
-      { address = record { role = link.role; sapi = link.sapi; channel = link.channel }; state = open_now; window = h };
-  sabm_info = refl;
-  frames = fs ∙ sym (append-nil a.frames);
-  notices = ns;
-}
-by-answer l v a b e (V.Message number) link open_now h fs ns = record {
-  still_open = record { address = record { role = link.role; sapi = link.sapi; channel = link.channel }; state = open_now; window = h };
-  sabm_info = refl;
-  frames = fs ∙ sym (append-nil a.frames);
-  notices = ns;
-}
+by-answer l v a b e r link open_now h fs ns = grind (arith, append-nil a.frames)
 
 pub Gives-counted : {l : Address} {w v : Window} {a b : Effects} {e : EndpointState} (nr : ℕ) (r : A.Acked) →
     RepresentsOpenEndpoint l w e →
@@ -174,10 +146,8 @@ pub Gives-counted : {l : Address} {w v : Window} {a b : Effects} {e : EndpointSt
     WindowRepresents v (evaluates_nr nr e).new_state → b.frames ≡ a.frames → b.notices ≡ a.notices ++ notices_for r →
     AppendsOutcomeInOpen l v a b e (evaluates_nr nr e)
 Gives-counted {l} {w} {v} {a} {b} {e} nr r h is represents fs ns =
-    let same : evaluates_nr nr e ≡ counted r e = evaluates_nr-is nr e ∙ ap (λ x. counted x e) (sym is) in
-    Gives-as (evaluates_nr nr e) same
-    (by-answer l v a b e r h.address h.state (subst (λ (o : Outcome). WindowRepresents v o.new_state) same represents)
-    fs ns)
+    let same : evaluates_nr nr e ≡ counted r e = rw is (evaluates_nr-is nr e) in
+    Gives-as same (by-answer l v a b e r h.address h.state (subst (λ (o : Outcome). WindowRepresents v o.new_state) same represents) fs ns)
 
 pub Gives-from : {l : Address} {w : Window} {a b : Effects} {f : EndpointState} {o : Outcome} (e : EndpointState) →
     f.sabm_info ≡ e.sabm_info →
@@ -186,32 +156,20 @@ pub Gives-from : {l : Address} {w : Window} {a b : Effects} {f : EndpointState} 
 Gives-from e same g = record { still_open = g.still_open; sabm_info = g.sabm_info ∙ same; frames = g.frames; notices = g.notices }
 
 -- `RepresentsOpenEndpoint` also holds for the window v and an endpoint f that v represents, if f has the role, SAPI, channel and state of e
-pub same_rules_in_open : {l : Address} {w : Window} {e : EndpointState} (v : Window) (f : EndpointState) →
-    RepresentsOpenEndpoint l w e →
+pub same_rules_in_open : {l : Address} {w v : Window} {e f : EndpointState} → RepresentsOpenEndpoint l w e →
     f.role ≡ e.role → f.sapi ≡ e.sapi →
     f.channel ≡ e.channel → f.state ≡ e.state → WindowRepresents v f → RepresentsOpenEndpoint l v f
-same_rules_in_open v f h role sapi channel same window =
-    record {
-      address = record {
-        role = h.address.role ∙ sym role;
-        sapi = h.address.sapi ∙ sym sapi;
-        channel = h.address.channel
-            ∙ sym channel;
-      };
-      state = same ∙ h.state;
-      window = window;
-    }
+same_rules_in_open h role sapi channel same window = grind arith
 
 -- the window and the effects after the next segment is sent
 pub Gives-next : {l : Address} {w v : Window} {a b : Effects} (e : EndpointState) → RepresentsOpenEndpoint l w e →
     has_segment_to_send e ≡ true →
     WindowRepresents v (with_segment_sent e) →
-    ((f : EndpointState) → RepresentsOpenEndpoint l v f → AppendsOutcomeInOpen l v a b f (sends_outstanding false f)) →
+    ((f : EndpointState) → RepresentsOpenEndpoint l v f → AppendsOutcomeInOpen l v a b f (sends_outstanding_segment false f)) →
     AppendsOutcomeInOpen l v a b e (sends_segment e)
-Gives-next {l} {w} {v} {a} {b} e h has represents obeys =
-    let still_open : RepresentsOpenEndpoint l v (with_segment_sent e) =
-    same_rules_in_open v (with_segment_sent e) h refl refl refl refl represents in
-    Gives-as (sends_segment e) (sends_segment-is e has) (Gives-from e refl (obeys (with_segment_sent e) still_open))
+Gives-next e h has represents obeys =
+    Gives-as (sends_segment-is e has)
+    (Gives-from e refl (obeys (with_segment_sent e) (same_rules_in_open h refl refl refl refl represents)))
 
 -- ## Moves: What an `Endpoint` represents after its state, kept information or retry count changes.
 
@@ -232,7 +190,7 @@ module _ {role : Role} {sapi : Sapi} {s : State} {k : Message} {r : ℕ} {e : En
       W.Represents w (with_fields role sapi s k r e)
   Window-other same h = grind arith
 
--- another state, with_fields kept information and another retry count
+-- another state, other kept information and another retry count
 pub Represents-moved : {m : Endpoint} {s : State} {k : Message} {r : ℕ} {e : EndpointState} → IsValidEndpoint e →
     IsAddressOf m.address e →
     HasSameVariables m.window e → m.state ≡ s → m.sabm_info ≡ k → length k ≤ n201 e.channel →
@@ -245,29 +203,17 @@ pub unopened-moved : {w : Window} {s : State} {k : Message} {r : ℕ} {e : Endpo
     W.Represents w (moved s k r e)
 unopened-moved taken h = grind arith
 
-pub unopened : (e : EndpointState) (s : State) → e.state ≡ s → IsBeforeOpen s → IsBeforeOpen e.state
-unopened e s is h = subst IsBeforeOpen (sym is) h
-
 -- the kept information is empty on SAPI 3, and fits in a frame
 pub kept_is_empty_on_sapi3 : {m : Endpoint} {e : EndpointState} → Represents m e → m.address.sapi ≡ Three → e.sabm_info ≡ []
 kept_is_empty_on_sapi3 h three = grind arith
-
-pub fits_on : {l : Address} (e : EndpointState) (info : Message) → IsAddressOf l e → length info ≤ n201 l.channel →
-    length info ≤ n201 e.channel
-fits_on e info link fits = grind arith
 
 -- A, and B if A holds, imply A and B
 pub both : {A B : Type 0} → A → (A → B) → A × B
 both a f = (a, f a)
 
-pub as_outcome : (m : Endpoint) (effects : Effects) (e : EndpointState) (o p : Outcome) → o ≡ p → Represents m p.new_state
-    × HasEffects effects e.channel p →
-    Represents m o.new_state × HasEffects effects e.channel o
-as_outcome m effects e o p same h = grind arith
-
-pub reply_in_state : (w : Window) (r : ℕ) (e : EndpointState) (s t : State) → s ≡ t → RepresentsInState s w r e →
-    RepresentsInState t w r e
-reply_in_state w r e s t same h = grind arith
+pub as_outcome : {m : Endpoint} {effects : Effects} (e : EndpointState) {o p : Outcome} → o ≡ p →
+    Represents m p.new_state × HasEffects effects e.channel p → Represents m o.new_state × HasEffects effects e.channel o
+as_outcome e same h = grind arith
 
 -- in every state, the window holds the unacknowledged messages
 pub window_holds_unacked : (w : Window) (r : ℕ) (e : EndpointState) (s : State) → RepresentsInState s w r e →
@@ -278,27 +224,20 @@ window_holds_unacked w r e s h = grind arith
 pub Runs-open : {m : Endpoint} {e : EndpointState} → m.state ≡ Open → Represents m e → RepresentsOpenEndpoint m.address m.window e
 Runs-open {m} {e} is_now h = grind arith
 
-pub Represents-open : {a b : Effects} {e : EndpointState} {o : Outcome} (m : Endpoint) → m.state ≡ Open →
-    m.sabm_info ≡ e.sabm_info →
-    (m.address.sapi ≡ Three → e.sabm_info ≡ []) → AppendsOutcomeInOpen m.address m.window a b e o → Represents m o.new_state
-Represents-open {a} {b} {e} {o} m is_now kept empty_on_sapi3 g = grind arith
-
-pub Accepts-open : {l : Address} {w : Window} {a b : Effects} {e : EndpointState} {o : Outcome} → a.frames ≡ [] → a.notices ≡ [] →
-    l.channel ≡ e.channel → AppendsOutcomeInOpen l w a b e o → HasEffects b e.channel o
-Accepts-open {l} {w} {a} {b} {e} {o} fs ns channel g = grind arith
-
-pub Adds-as : (m : Endpoint) (a b : Effects) (o p : Outcome) → o ≡ p → AppendsOutcome m a b p → AppendsOutcome m a b o
-Adds-as m a b o p same h = grind arith
+pub refines-open : {a b : Effects} {e : EndpointState} {o : Outcome} (m : Endpoint) → m.state ≡ Open → m.sabm_info ≡ e.sabm_info →
+    (m.address.sapi ≡ Three → e.sabm_info ≡ []) → a.frames ≡ [] → a.notices ≡ [] → m.address.channel ≡ e.channel →
+    AppendsOutcomeInOpen m.address m.window a b e o → Represents m o.new_state × HasEffects b e.channel o
+refines-open m is_now kept empty_on_sapi3 fs ns channel g = (grind arith, grind arith)
 
 pub Adds-open : {a b : Effects} {e : EndpointState} {o : Outcome} (m : Endpoint) → m.state ≡ Open → m.sabm_info ≡ e.sabm_info →
     (m.address.sapi ≡ Three → e.sabm_info ≡ []) → AppendsOutcomeInOpen m.address m.window a b e o → AppendsOutcome m a b o
 Adds-open m is_now kept empty_on_sapi3 g = grind arith
 
 -- `AppendsOutcome`, if the equation of the frames needs `Represents`
-pub Adds-by : (m : Endpoint) (a b : Effects) (o : Outcome) →
+pub Adds-by : {m : Endpoint} {a b : Effects} {o : Outcome} →
     (Represents m o.new_state → b.frames ≡ a.frames ++ map (octets_of m.address.channel) o.frames)
     → b.notices ≡ a.notices ++ o.notices → Represents m o.new_state → AppendsOutcome m a b o
-Adds-by m a b o frames notices represents = grind arith
+Adds-by frames notices represents = grind arith
 
 -- what T200 expiry does, by retry count and state
 pub t200_expiry-closes : (n : ℕ) (e : EndpointState) → n200 e.channel e.state ≡ n → n ≤ e.retries →
@@ -306,21 +245,17 @@ pub t200_expiry-closes : (n : ℕ) (e : EndpointState) → n200 e.channel e.stat
 t200_expiry-closes n e h most = grind (arith, nat_tests)
 
 pub t200_expiry-again : (n : ℕ) (e : EndpointState) (s : State) → e.state ≡ s → n ≡ n200 e.channel s → e.retries < n →
-    t200_expiry e ≡ sends_frame (repeated_frame s e) (record e { retries = e.retries + 1 })
+    t200_expiry e ≡ sends_frame (frame_to_retransmit s e) (record e { retries = e.retries + 1 })
 t200_expiry-again n e s is h below = grind arith
 
 pub is_spent : (e : EndpointState) → T.Spent ≡ t200_result e → n200 e.channel Open ≤ e.retries
 is_spent e is = grind (arith, nat_tests)
 
-pub record IsAgain (e : EndpointState) : Type 0 where
-  pub waiting : awaits_ack e ≡ true
-  pub below_n200 : e.retries < n200 e.channel Open
-
-pub is_again : (e : EndpointState) → T.Again ≡ t200_result e → IsAgain e
+pub is_again : (e : EndpointState) → T.Again ≡ t200_result e → (awaits_ack e ≡ true) × (e.retries < n200 e.channel Open)
 is_again e is = grind arith
 
 pub t200_expiry-open : (e : EndpointState) → e.state ≡ Open → awaits_ack e ≡ true → e.retries < n200 e.channel Open →
-    t200_expiry e ≡ sends_outstanding true (record e { retries = e.retries + 1 })
+    t200_expiry e ≡ sends_outstanding_segment true (record e { retries = e.retries + 1 })
 t200_expiry-open e is waiting below = grind arith
 
 -- ## PartsOfEnds: Two `Endpoint`s with equal values represent the same endpoints, and values that represent an endpoint satisfy
@@ -334,19 +269,14 @@ pub Represents-same_values : (m n : Endpoint) (e : EndpointState) → values_of 
 Represents-same_values m n e same h =
     let window : P.values_of m.window ≡ P.values_of n.window = ap (λ (x : EndpointValues). x.window) same in
     let state : m.state ≡ n.state = ap (λ (x : EndpointValues). x.state) same in
-    let retries : m.retries ≡ n.retries = ap (λ (x : EndpointValues). x.retries) same in
     record {
       valid = h.valid;
-      address = record {
-        role = ap (λ (x : EndpointValues). role_of x.role) (sym same) ∙ h.address.role;
-        sapi = ap (λ (x : EndpointValues). x.sapi) (sym same) ∙ h.address.sapi;
-        channel = sym n.one_channel ∙ ap (λ (x : EndpointValues). x.window.channel) (sym same) ∙ h.variables.channel;
-      };
+      address = grind (arith, n.one_channel);
       state = sym state ∙ h.state;
-      sabm_info = ap (λ (x : EndpointValues). x.sabm_info) (sym same) ∙ h.sabm_info;
+      sabm_info = grind arith;
       variables = HasSameVariables-values window h.variables;
-      now = RepresentsInState-values n.state m.window n.window m.retries n.retries e window retries
-          (reply_in_state m.window m.retries e m.state n.state state h.now);
+      now = rw (← state) (RepresentsInState-values m.state m.window n.window m.retries n.retries e window
+          (ap (λ (x : EndpointValues). x.retries) same) h.now);
     }
 
 -- the values of an `Endpoint` that represents an endpoint satisfy `AreConsistent`
@@ -386,7 +316,7 @@ RepresentsOne m = (e : EndpointState) × Represents m e
 -- the endpoint that is represented before Open
 abbrev before : Endpoint → State → EndpointState
 before m s = record {
-  role = role_of m.address.role;
+  role = spec_role_of m.address.role;
   sapi = m.address.sapi;
   channel = m.address.channel;
   state = s;
@@ -408,29 +338,22 @@ before_open m s is h unused now = grind arith
 
 -- the endpoint that is represented from Open on
 abbrev since : Endpoint → State → ℕ → EndpointState → EndpointState
-since m s retries e = with_fields (role_of m.address.role) m.address.sapi s m.sabm_info retries e
+since m s retries e = with_fields (spec_role_of m.address.role) m.address.sapi s m.sabm_info retries e
 
 from_open : (m : Endpoint) (s : State) (retries : ℕ) (e : EndpointState) → m.state ≡ s → (IsBeforeOpen s → ⊥) →
     AreConsistent (values_of m) → W.Represents m.window e → RepresentsInState s m.window m.retries (since m s retries e) →
     RepresentsOne m
 from_open m s retries e is opened h window now = grind arith
 
-holds_since : (m : Endpoint) (s : State) (retries : ℕ) (e : EndpointState) → W.Represents m.window e →
-    W.HoldsUnackedMessages m.window.held.items m.window.segment_index (since m s retries e)
-holds_since m s retries e window = Holds-other window.unacked_messages
-
-represents_since : (m : Endpoint) (e : EndpointState) → W.Represents m.window e → W.Represents m.window (since m Open e.retries e)
-represents_since m e window = Window-other (λ t. refl) window
-
 by_state : (m : Endpoint) (s : State) (e : EndpointState) → m.state ≡ s → AreConsistent (values_of m) → W.Represents m.window e →
     IsInitialBeforeOpen s (P.values_of m.window) → RepresentsOne m
 by_state m Idle e is h window now = before_open m Idle is h now (unused_end m Idle now)
 by_state m Opening e is h window now = before_open m Opening is h now (record { window = unused_end m Opening now; retry_count = refl })
-by_state m Open e is h window now = from_open m Open e.retries e is (λ u. u) h window (represents_since m e window)
+by_state m Open e is h window now = from_open m Open e.retries e is (λ u. u) h window (Window-other (λ t. refl) window)
 by_state m Closing e is h window now =
     from_open m Closing m.retries e is (λ u. u) h window
-    (record { unacked_messages = holds_since m Closing m.retries e window; retry_count = refl })
-by_state m Closed e is h window now = from_open m Closed m.retries e is (λ u. u) h window (holds_since m Closed m.retries e window)
+    (record { unacked_messages = Holds-other window.unacked_messages; retry_count = refl })
+by_state m Closed e is h window now = from_open m Closed m.retries e is (λ u. u) h window (Holds-other window.unacked_messages)
 
 pub represents_one : (m : Endpoint) (e : EndpointState) → AreConsistent (values_of m) → W.Represents m.window e → RepresentsOne m
 represents_one m e h window = by_state m m.state e refl h window h.now
@@ -447,21 +370,18 @@ pub does_at : (sapi : Sapi) (old new : Side) (effects : Effects) (rule : Endpoin
     StepRefines (λ a. endpoint_step sapi (rule (endpoint_on sapi a)) a) old sapi effects new
 does_at sapi old new effects rule h g k l m = grind arith
 
-pub asks_at : (sapi sapi' : Sapi) (call : Call) (old new : Side) (effects : Effects) → sapi ≡ sapi' →
-    StepRefines (layer3_call_step sapi' call) old sapi' effects new → StepRefines (layer3_call_step sapi call) old sapi effects new
-asks_at sapi sapi' call old new effects e h = grind arith
-
 pub zero_takes : (f : Frame) (old new : Side) (effects : Effects) → f.sapi ≡ 0 →
-    StepRefines (λ a. endpoint_step Zero (frame_outcome f a.link0) a) old Zero effects new → StepRefines (takes f) old Zero effects new
+    StepRefines (λ a. endpoint_step Zero (frame_outcome f a.link0) a) old Zero effects new
+    → StepRefines (step_for_frame f) old Zero effects new
 zero_takes f old new effects z h a st = grind arith
 
 pub three_takes : (f : Frame) (old new : Side) (effects : Effects) → f.sapi ≡ 3 →
     StepRefines (λ a. endpoint_step Three (frame_outcome f a.link3) a) old Three effects new →
-    StepRefines (takes f) old Three effects new
+    StepRefines (step_for_frame f) old Three effects new
 three_takes f old new effects t h a st = grind arith
 
 pub none_takes : (f : Frame) (old : Side) (effects : Effects) → f.sapi ≢ 0 → f.sapi ≢ 3 → effects.frames ≡ [] →
-    effects.notices ≡ [] → StepRefines (takes f) old Zero effects old
+    effects.notices ≡ [] → StepRefines (step_for_frame f) old Zero effects old
 none_takes f old effects z t frames notices a st =
     by_sapi f a (λ d. CarriesOutStep (channel_of old) d Zero effects old) (λ q. absurd (z q)) (λ q. absurd (t q))
     (λ q r. record { represents = st; sapi_matches = refl; frames = frames; notices = notices })

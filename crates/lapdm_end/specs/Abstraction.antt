@@ -36,7 +36,7 @@ pub record RepresentsClosing (w : Window) (retries : ℕ) (e : EndpointState) : 
 
 -- the window and the retry count represent an endpoint in this link state: in Open, the window counts the retries; in Closing and Closed,
 -- it still holds the unacknowledged messages
-abbrev pub RepresentsInState : State → Window → ℕ → EndpointState → Type 0
+abbrev pub RepresentsInState : (state : State) (window : Window) (retries : ℕ) (endpoint : EndpointState) → Type 0
 RepresentsInState Idle w retries e = W.Represents w e
 RepresentsInState Opening w retries e = RepresentsOpening w retries e
 RepresentsInState Open w retries e = W.Represents w e

@@ -8,24 +8,24 @@ use Rattle.lapdm_end.specs.declared.Role.TheVariants.{Mobile, Network}
 use Rattle.lapdm_end.specs.declared.link.Address.{Address}
 
 -- the specification's `Role` for this Rust `Role`
-abbrev pub role_of : Role → E.Role
-role_of Mobile = E.Mobile
-role_of Network = E.Network
+abbrev pub spec_role_of : Role → E.Role
+spec_role_of Mobile = E.Mobile
+spec_role_of Network = E.Network
 
 -- a frame with the SAPI of this address, this C/R bit and this content
-abbrev pub frame_with_cr : Address → Bool → Content → Frame
+abbrev pub frame_with_cr : (address : Address) (cr : Bool) (content : Content) → Frame
 frame_with_cr l cr content = record { sapi = sapi_number l.sapi; cr = cr; content = content }
 
 -- a command frame that the endpoint with this address sends
 abbrev pub command_frame_from : Address → Content → Frame
-command_frame_from l content = frame_with_cr l (command_cr (role_of l.role)) content
+command_frame_from l content = frame_with_cr l (command_cr (spec_role_of l.role)) content
 
 -- a response frame that the endpoint with this address sends
 abbrev pub response_frame_from : Address → Content → Frame
-response_frame_from l content = frame_with_cr l (not (command_cr (role_of l.role))) content
+response_frame_from l content = frame_with_cr l (not (command_cr (spec_role_of l.role))) content
 
 -- `l` is the address of endpoint `e`: its role, SAPI and channel
 pub record IsAddressOf (l : Address) (e : EndpointState) : Type 0 where
-  pub role : role_of l.role ≡ e.role
+  pub role : spec_role_of l.role ≡ e.role
   pub sapi : l.sapi ≡ e.sapi
   pub channel : l.channel ≡ e.channel

@@ -12,7 +12,7 @@ use Rattle.lapdm_window.specs.Parts.{WindowValues}
 use Rattle.lapdm_window.specs.Parts as W
 use Rattle.lapdm_end.specs.declared.Role.{Role}
 use Rattle.lapdm_end.specs.declared.ends.Endpoint.{Endpoint}
-use Rattle.lapdm_end.specs.declared.parts.EndpointParts.{EndpointParts}
+use Rattle.lapdm_end.specs.declared.parts.EndpointView.{EndpointView}
 use Rattle.lapdm_end.specs.Abstraction.{Represents}
 
 -- the state of an `Endpoint` as plain data: its own fields and the state of its window
@@ -35,8 +35,8 @@ values_of m = record {
   window = W.values_of m.window;
 }
 
--- the endpoint state in a Rust `EndpointParts`
-abbrev pub values_of_parts : EndpointParts → EndpointValues
+-- the endpoint state in a Rust `EndpointView`
+abbrev pub values_of_parts : EndpointView → EndpointValues
 values_of_parts p = record {
   role = p.role;
   sapi = p.sapi;
@@ -53,8 +53,8 @@ pub record ValuesRepresent (x : EndpointValues) (e : EndpointState) : Type 0 whe
   pub represents : Represents endpoint e
 
 -- some Rust endpoint has these values and represents some abstract endpoint
-abbrev pub EndpointExists : EndpointValues → Type 0
-EndpointExists x = (e : EndpointState) × ValuesRepresent x e
+abbrev pub SomeEndpointHasValues : EndpointValues → Type 0
+SomeEndpointHasValues x = (e : EndpointState) × ValuesRepresent x e
 
 -- the window is in its initial state: it holds no message, its variables are 0, and nothing has been reassembled
 pub record IsInitialWindow (x : WindowValues) : Type 0 where
@@ -66,7 +66,7 @@ pub record IsInitialWindow (x : WindowValues) : Type 0 where
   pub reassembly : HoldsReassemblyOf x.joiner.part x.joiner.octets []
 
 -- before state Open, the window is in its initial state; from Open on, there is no condition
-abbrev pub IsInitialBeforeOpen : State → WindowValues → Type 0
+abbrev pub IsInitialBeforeOpen : (state : State) (values : WindowValues) → Type 0
 IsInitialBeforeOpen Idle x = IsInitialWindow x
 IsInitialBeforeOpen Opening x = IsInitialWindow x
 IsInitialBeforeOpen Open x = Unit {0}

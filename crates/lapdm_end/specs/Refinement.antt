@@ -12,12 +12,12 @@ use Rattle.lapdm_end.specs.Abstraction.{Represents}
 
 -- for every state that the old `Endpoint` represents, the new `Endpoint` represents the state after this rule, and the effects are exactly
 -- the frames and notices of the rule
-abbrev pub StepRefines : (EndpointState → Outcome) → Endpoint → Effects → Endpoint → Type 0
+abbrev pub StepRefines : (rule : (EndpointState → Outcome)) (old : Endpoint) (effects : Effects) (new : Endpoint) → Type 0
 StepRefines rule old effects new = (e : EndpointState) → Represents old e →
     Represents new (rule e).new_state × HasEffects effects e.channel (rule e)
 
 -- for every state that the `Endpoint` represents, the call is refused if and only if the specification refuses it, and for the same reason
-abbrev pub RefusesAsSpecified : {A : Type 0} → Call → Endpoint → Result A Refused → Type 0
+abbrev pub RefusesAsSpecified : {A : Type 0} (call : Call) (old : Endpoint) (result : Result A Refused) → Type 0
 RefusesAsSpecified call old result = (e : EndpointState) → Represents old e → result_err result ≡ refusal_of call e
 
 -- endpoint `m` represents the state after outcome `o`, and appending the frames and notices of `o` to `old` yields `new`
@@ -28,5 +28,5 @@ pub record AppendsOutcome (m : Endpoint) (old new : Effects) (o : Outcome) : Typ
 
 -- for every state that the old `Endpoint` represents, the new `Endpoint` represents the state after this rule, and the frames and notices
 -- of the rule are appended to the effects
-abbrev pub StepRefinesByAppending : (EndpointState → Outcome) → Endpoint → Endpoint → Effects → Effects → Type 0
+abbrev pub StepRefinesByAppending : (rule : (EndpointState → Outcome)) (endpoint new_endpoint : Endpoint) (old new : Effects) → Type 0
 StepRefinesByAppending rule m n old new = (e : EndpointState) → Represents m e → AppendsOutcome n old new (rule e)

@@ -11,18 +11,18 @@ use Rattle.lapdm_end.specs.declared.replies.Reply.{Reply}
 use Rattle.lapdm_end.specs.declared.replies.Reply.TheVariants as C
 
 -- the specification's `Reply` for this Rust `Reply`
-abbrev pub reply_of : Reply → T.Reply
-reply_of C.Nothing = T.Nothing
-reply_of C.Dm = T.SendsDm
-reply_of (C.Ua info) = T.SendsUa info.now
-reply_of (C.AcceptSabm info) = T.AcceptsSabm info.now
-reply_of (C.Opened info) = T.ConfirmsEstablishment info.now
-reply_of (C.Closed reason) = T.ClosesLink reason
-reply_of C.Released = T.AcceptsDisc
-reply_of (C.Unit info) = T.TakesUi info.now
-reply_of (C.I ns nr p more info) = T.TakesI ns nr p (info.now, more)
-reply_of (C.Rr nr poll) = T.TakesRr nr poll
-reply_of (C.Rej nr poll) = T.TakesRej nr poll
+abbrev pub spec_reply_of : Reply → T.Reply
+spec_reply_of C.Nothing = T.Nothing
+spec_reply_of C.Dm = T.SendsDm
+spec_reply_of (C.Ua info) = T.SendsUa info.now
+spec_reply_of (C.AcceptSabm info) = T.AcceptsSabm info.now
+spec_reply_of (C.Opened info) = T.ConfirmsEstablishment info.now
+spec_reply_of (C.Closed reason) = T.ClosesLink reason
+spec_reply_of C.Released = T.AcceptsDisc
+spec_reply_of (C.Unit info) = T.TakesUi info.now
+spec_reply_of (C.I ns nr p more info) = T.TakesI ns nr p (info.now, more)
+spec_reply_of (C.Rr nr poll) = T.TakesRr nr poll
+spec_reply_of (C.Rej nr poll) = T.TakesRej nr poll
 
 -- endpoint `m` is in Idle, and a SABM with this information can establish its link: the information fits in a frame, and is empty on SAPI 3
 pub record MayAcceptSabmWith (m : Endpoint) (info : Message) : Type 0 where
@@ -31,7 +31,7 @@ pub record MayAcceptSabmWith (m : Endpoint) (info : Message) : Type 0 where
   pub empty_on_sapi3 : sapi_of m ≡ Three → info ≡ []
 
 -- the endpoint can choose this reply in its state, and the sequence numbers and information in the reply are in range
-abbrev pub IsPossibleReply : Endpoint → Reply → Type 0
+abbrev pub IsPossibleReply : (endpoint : Endpoint) (reply : Reply) → Type 0
 IsPossibleReply m (C.Ua info) = length info.now ≤ n201 (channel_of m)
 IsPossibleReply m (C.AcceptSabm info) = MayAcceptSabmWith m info.now
 IsPossibleReply m (C.Opened info) = (state_of m ≡ S.Opening) × (length info.now ≤ n201 (channel_of m))

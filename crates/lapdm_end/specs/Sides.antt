@@ -37,6 +37,6 @@ pub record CarriesOutStep (channel : Channel) (d : SideStep) (sapi : Sapi) (effe
   pub notices : effects.notices ≡ d.notices
 
 -- for every state that the old `Side` represents, the SAPI, the effects and the new `Side` are those of this step
-abbrev pub StepRefines : (SideState → SideStep) → Side → Sapi → Effects → Side → Type 0
+abbrev pub StepRefines : (side_step : (SideState → SideStep)) (old : Side) (sapi : Sapi) (effects : Effects) (new : Side) → Type 0
 StepRefines side_step old sapi effects new = (a : SideState) → Represents old a →
     CarriesOutStep (channel_of old) (side_step a) sapi effects new

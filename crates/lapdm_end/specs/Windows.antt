@@ -8,7 +8,7 @@ use Rattle.lapdm_window.specs.declared.State.TheVariants.{Open}
 use Rattle.lapdm_window.specs.declared.window.Window.{Window}
 use Rattle.lapdm_window.specs.declared.effects.Effects.{Effects}
 use Rattle.lapdm_window.specs.Ends.{EndpointState, Outcome, no_effect, sends_frame, ◌then◌, response_frame, awaits_ack, vr}
-use Rattle.lapdm_window.specs.Rules.{outstanding_frame, accepts_segment, answers_segment, rejects_segment, sends_next}
+use Rattle.lapdm_window.specs.Rules.{outstanding_frame, accepts_segment, answers_segment, rejects_segment, sends_next_segment}
 use Rattle.lapdm_window.specs.Abstraction.{Represents}
 use Rattle.lapdm_end.specs.declared.link.Address.{Address}
 use Rattle.lapdm_end.specs.Addresses.{IsAddressOf}
@@ -29,22 +29,23 @@ pub record AppendsOutcomeInOpen (l : Address) (w : Window) (old new : Effects) (
 
 -- for every endpoint in Open with this address that the old window represents, the new window and the appended effects are those of this
 -- rule
-abbrev pub StepRefinesInOpen : (EndpointState → Outcome) → Address → Window → Window → Effects → Effects → Type 0
+abbrev pub StepRefinesInOpen : (rule : (EndpointState → Outcome)) (address : Address) (window new_window : Window) (old new : Effects)
+    → Type 0
 StepRefinesInOpen rule l w v old new = (e : EndpointState) → RepresentsOpenEndpoint l w e → AppendsOutcomeInOpen l v old new e (rule e)
 
 -- the endpoint sends the outstanding segment with this P bit, if there is one
-abbrev pub sends_outstanding : Bool → EndpointState → Outcome
-sends_outstanding p e = if awaits_ack e then sends_frame (outstanding_frame p e) e else no_effect e
+abbrev pub sends_outstanding_segment : (poll_bit : Bool) (endpoint : EndpointState) → Outcome
+sends_outstanding_segment p e = if awaits_ack e then sends_frame (outstanding_frame p e) e else no_effect e
 
 -- the endpoint sends a REJ with this F bit, if one is due
-abbrev pub sends_rej : Bool → Bool → EndpointState → Outcome
+abbrev pub sends_rej : (due final_bit : Bool) (endpoint : EndpointState) → Outcome
 sends_rej due p e = if due then sends_frame (response_frame e (Rej (vr e) p)) e else no_effect e
 
 -- the endpoint answers an out-of-sequence segment: with a REJ if one is due, then with its next I frame if it may send one
-abbrev pub refuses_segment : Bool → Bool → EndpointState → Outcome
-refuses_segment due p e = sends_rej due p e then sends_next
+abbrev pub refuses_segment : (due final_bit : Bool) (endpoint : EndpointState) → Outcome
+refuses_segment due p e = sends_rej due p e then sends_next_segment
 
 -- the endpoint accepts or discards the segment of a received I frame and answers it, after the N(R) has been evaluated
-abbrev pub takes_segment : ℕ → Bool → Segment → EndpointState → Outcome
+abbrev pub takes_segment : (ns : ℕ) (poll : Bool) (segment : Segment) (endpoint : EndpointState) → Outcome
 takes_segment ns p segment e =
-    if nat_eq ns (vr e) then (accepts_segment segment e then answers_segment p) else (rejects_segment p e then sends_next)
+    if nat_eq ns (vr e) then (accepts_segment segment e then answers_segment p) else (rejects_segment p e then sends_next_segment)

@@ -3,7 +3,7 @@
 ghost use Rattle.std.specs.Prelude.{◌≡◌, OnErr, OnOk, IfOk};
 ghost use Rattle.lapdm_frame.specs.Content.{frame_of};
 ghost use Rattle.lapdm_frame.specs.Frames.{FrameFits};
-ghost use Rattle.lapdm_window.specs.Calls.{call_of, IsCallOfSapi, SendsUiFrame, call_outcome, SendsFill};
+ghost use Rattle.lapdm_window.specs.Calls.{endpoint_call_of, IsCallOfSapi, SendsUiFrame, call_outcome, SendsFill};
 ghost use Rattle.lapdm_window.specs.Tables.{frame_outcome};
 
 use crate::ends::Endpoint;
@@ -18,13 +18,13 @@ impl Endpoint {
     // Inlined because most callers pass a constant call, which leaves only one arm of the match.
     #[inline(always)]
     pub fn call(&mut self, call: &Call<'_>, effects: &mut Effects) -> Result<(), Refused>
-        requires { IsCallOfSapi (sapi_of self.old) (call_of call.now) }
-        ensures refusal { RefusesAsSpecified (call_of call.now) self.old result }
+        requires { IsCallOfSapi (sapi_of self.old) (endpoint_call_of call.now) }
+        ensures refusal { RefusesAsSpecified (endpoint_call_of call.now) self.old result }
         ensures refines { OnOk result
-            (StepRefines (call_outcome (call_of call.now)) self.old effects.new self.new) }
+            (StepRefines (call_outcome (endpoint_call_of call.now)) self.old effects.new self.new) }
         ensures refused { OnErr result (self.new ≡ self.old) }
         ensures out_unchanged { OnErr result (effects.new ≡ effects.old) }
-        ensures unchanged { SendsUiFrame (call_of call.now) → self.new ≡ self.old }
+        ensures unchanged { SendsUiFrame (endpoint_call_of call.now) → self.new ≡ self.old }
         ensures sapi { sapi_of self.new ≡ sapi_of self.old }
         ensures channel { channel_of self.new ≡ channel_of self.old }
     {
@@ -44,12 +44,12 @@ impl Endpoint {
 
     /// Carries out a layer 3 call and returns its frames and notices.
     pub fn call_returning_effects(&mut self, call: &Call<'_>) -> Result<Effects, Refused>
-        requires { IsCallOfSapi (sapi_of self.old) (call_of call.now) }
-        ensures refusal { RefusesAsSpecified (call_of call.now) self.old result }
+        requires { IsCallOfSapi (sapi_of self.old) (endpoint_call_of call.now) }
+        ensures refusal { RefusesAsSpecified (endpoint_call_of call.now) self.old result }
         ensures refines { IfOk result
-            (λ effects. StepRefines (call_outcome (call_of call.now)) self.old effects self.new) }
+            (λ effects. StepRefines (call_outcome (endpoint_call_of call.now)) self.old effects self.new) }
         ensures refused { OnErr result (self.new ≡ self.old) }
-        ensures unchanged { SendsUiFrame (call_of call.now) → self.new ≡ self.old }
+        ensures unchanged { SendsUiFrame (endpoint_call_of call.now) → self.new ≡ self.old }
         ensures sapi { sapi_of self.new ≡ sapi_of self.old }
         ensures channel { channel_of self.new ≡ channel_of self.old }
     {

@@ -27,19 +27,19 @@ impl Endpoint {
     ghost use Rattle.std.specs.Prelude.{[], ◌∷◌, OnErr, OnOk, IfNone};
     ghost use Rattle.lapdm_frame.specs.Frames.{octets_of};
     ghost use Rattle.lapdm_window.specs.declared.State.TheVariants as S;
-    ghost use Rattle.lapdm_window.specs.Ends.{EndpointState, start};
+    ghost use Rattle.lapdm_window.specs.Ends.{EndpointState, initial_endpoint};
     ghost use Rattle.lapdm_window.specs.Calls.{first_refusal, frame_refusals, call_outcome, sends_sabm, sabm, disc, t200_expiry, Opens};
     ghost use Rattle.lapdm_window.specs.Calls.{OpensWithoutInfo};
     ghost use Rattle.lapdm_window.specs.Calls.{Sends};
     ghost use Rattle.lapdm_window.specs.Calls.{SendsUi, Closes, T200Expires, SendsFill};
     ghost use Rattle.lapdm_window.specs.Tables.{closes_and_reports};
-    ghost use Rattle.lapdm_end.specs.Addresses.{role_of};
+    ghost use Rattle.lapdm_end.specs.Addresses.{spec_role_of};
     ghost use Rattle.lapdm_end.specs.Abstraction.{Represents, channel_of, sapi_of, state_of};
     ghost use Rattle.lapdm_end.specs.Refinement.{StepRefines, RefusesAsSpecified};
 
     /// Creates an endpoint in Idle, with this role, SAPI and channel.
     pub fn new_on(role: Role, sapi: Sapi, channel: Channel) -> Endpoint
-        ensures represents { Represents result (start (role_of role) sapi channel) }
+        ensures represents { Represents result (initial_endpoint (spec_role_of role) sapi channel) }
         ensures sapi { sapi_of result ≡ sapi }
         ensures channel { channel_of result ≡ channel }
     {
@@ -167,7 +167,7 @@ impl Endpoint {
         }
         self.state = State::Closing;
         self.retries = 0;
-        self.disc(effects);
+        self.send_disc(effects);
         Ok(())
     }
 
@@ -184,14 +184,14 @@ impl Endpoint {
         match self.state {
             State::Idle | State::Closed => Err(Refused::NotRunning),
             State::Opening => {
-                self.t200_in_opening(effects);
+                self.t200_expiry_in_opening(effects);
                 Ok(())
             }
             State::Closing => {
-                self.t200_in_closing(effects);
+                self.t200_expiry_in_closing(effects);
                 Ok(())
             }
-            State::Open => self.t200_in_open(effects),
+            State::Open => self.t200_expiry_in_open(effects),
         }
     }
 
@@ -228,10 +228,10 @@ impl Endpoint {
         self.state = State::Opening;
         self.sabm_info = Message::new(info);
         self.retries = 0;
-        self.sabm(effects);
+        self.send_sabm(effects);
     }
 
-    fn sabm(&self, effects: &mut Effects)
+    fn send_sabm(&self, effects: &mut Effects)
         ensures frames { (e : EndpointState) → Represents self.now e
             → effects.new.frames ≡ octets_of e.channel (sabm e) ∷ [] }
         ensures notices { effects.new.notices ≡ [] }
@@ -243,7 +243,7 @@ impl Endpoint {
         self.address.send_only_command(body, effects);
     }
 
-    fn disc(&self, effects: &mut Effects)
+    fn send_disc(&self, effects: &mut Effects)
         ensures frames { (e : EndpointState) → Represents self.now e
             → effects.new.frames ≡ octets_of e.channel (disc e) ∷ [] }
         ensures notices { effects.new.notices ≡ [] }
@@ -261,7 +261,7 @@ impl Endpoint {
         self.close_and_report(reason, effects);
     }
 
-    fn t200_in_opening(&mut self, effects: &mut Effects)
+    fn t200_expiry_in_opening(&mut self, effects: &mut Effects)
         requires opening { state_of self.old ≡ S.Opening }
         ensures refines { StepRefines t200_expiry self.old effects.new self.new }
         ensures sapi { sapi_of self.new ≡ sapi_of self.old }
@@ -272,10 +272,10 @@ impl Endpoint {
             return;
         }
         self.retries += 1;
-        self.sabm(effects);
+        self.send_sabm(effects);
     }
 
-    fn t200_in_closing(&mut self, effects: &mut Effects)
+    fn t200_expiry_in_closing(&mut self, effects: &mut Effects)
         requires closing { state_of self.old ≡ S.Closing }
         ensures refines { StepRefines t200_expiry self.old effects.new self.new }
         ensures sapi { sapi_of self.new ≡ sapi_of self.old }
@@ -286,10 +286,10 @@ impl Endpoint {
             return;
         }
         self.retries += 1;
-        self.disc(effects);
+        self.send_disc(effects);
     }
 
-    fn t200_in_open(&mut self, effects: &mut Effects) -> Result<(), Refused>
+    fn t200_expiry_in_open(&mut self, effects: &mut Effects) -> Result<(), Refused>
         requires open { state_of self.old ≡ S.Open }
         ensures refusal { RefusesAsSpecified T200Expires self.old result }
         ensures refines { OnOk result (StepRefines t200_expiry self.old effects.new self.new) }

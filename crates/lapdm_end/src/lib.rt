@@ -13,10 +13,10 @@ mod taking;
 pub use ends::Endpoint;
 pub use lapdm_frame::{Body, Channel, FrameView, fits, fits_on, read};
 pub use lapdm_window::{
-    Call, Effects, Frames, Message, MessageBuffer, Notice, Notices, Part, Reason, Refused, Sapi,
-    State, WindowParts,
+    Call, Effects, Frames, LapdmWindowView, Message, MessageBuffer, Notice, Notices, Reason,
+    ReassemblyState, Refused, Sapi, State,
 };
-pub use parts::EndpointParts;
+pub use parts::EndpointView;
 pub use sides::Side;
 
 /// The side of an endpoint.

@@ -1,7 +1,7 @@
 //! Encodes the frames that an endpoint sends.
 
 ghost use Rattle.std.specs.Prelude.{◌≡◌, ◌<◌, ◌≤◌, [], ◌∷◌, ◌++◌, not, length};
-ghost use Rattle.lapdm_frame.specs.Content.{content_of, fill};
+ghost use Rattle.lapdm_frame.specs.Content.{content_of, fill_frame};
 ghost use Rattle.lapdm_frame.specs.Frames.{NsAndNrFit, InformationFits, octets_of};
 ghost use Rattle.lapdm_window.specs.Ends.{command_cr, sapi_number};
 
@@ -18,10 +18,10 @@ pub(crate) struct Address {
 }
 
 impl Address {
-    ghost use Rattle.lapdm_end.specs.Addresses.{role_of, frame_with_cr, command_frame_from, response_frame_from};
+    ghost use Rattle.lapdm_end.specs.Addresses.{spec_role_of, frame_with_cr, command_frame_from, response_frame_from};
 
     pub(crate) fn command_cr(self) -> bool
-        ensures { result ≡ command_cr (role_of self.role) }
+        ensures { result ≡ command_cr (spec_role_of self.role) }
     {
         match self.role {
             Role::Mobile => false,
@@ -90,7 +90,7 @@ impl Address {
     // Replaces the effects with the fill frame and no notices.
     pub(crate) fn send_only_fill(self, effects: &mut Effects)
         ensures frames { effects.new.frames
-            ≡ octets_of self.channel (fill (command_cr (role_of self.role))) ∷ [] }
+            ≡ octets_of self.channel (fill_frame (command_cr (spec_role_of self.role))) ∷ [] }
         ensures notices { effects.new.notices ≡ [] }
     {
         effects.clear();

@@ -4,8 +4,8 @@ ghost use Rattle.std.specs.Prelude.{◌≡◌, ◌+◌, ◌≤◌, [], ◌++◌,
 ghost use Rattle.lapdm_frame.specs.Layout.{n201};
 ghost use Rattle.lapdm_window.specs.segmenting.Joining.{latest_message};
 ghost use Rattle.lapdm_window.specs.Ends.{EndpointState};
-ghost use Rattle.lapdm_window.specs.Rules.{sends_next, evaluates_nr, segment_notices, sends_rr, answers_segment, answers_poll};
-ghost use Rattle.lapdm_window.specs.Rules.{resends_outstanding};
+ghost use Rattle.lapdm_window.specs.Rules.{sends_next_segment, evaluates_nr, segment_notices, sends_rr, answers_segment, answers_poll};
+ghost use Rattle.lapdm_window.specs.Rules.{resends_outstanding_segment};
 ghost use Rattle.lapdm_window.specs.Rules.{takes_i_frame};
 ghost use Rattle.lapdm_window.specs.Rules.{takes_rr, takes_rej};
 ghost use Rattle.lapdm_window.specs.Abstraction.{Represents, channel_of};
@@ -35,14 +35,14 @@ fn report_message(joined: Joined, more: bool, window: &Window, effects: &mut Eff
 }
 
 impl Address {
-    ghost use Rattle.lapdm_end.specs.Windows.{StepRefinesInOpen, sends_outstanding, sends_rej, refuses_segment, takes_segment};
+    ghost use Rattle.lapdm_end.specs.Windows.{StepRefinesInOpen, sends_outstanding_segment, sends_rej, refuses_segment, takes_segment};
 
     // Sends the outstanding segment with P bit `p`, if there is one.
     pub(crate) fn send_outstanding(self, p: bool, window: &Window, effects: &mut Effects)
         requires channel { channel_of window.now ≡ self.channel }
         requires space { length effects.old.frames ≤ 1 }
         ensures most { length effects.new.frames ≤ length effects.old.frames + 1 }
-        ensures refines { StepRefinesInOpen (sends_outstanding p) self window.now window.now
+        ensures refines { StepRefinesInOpen (sends_outstanding_segment p) self window.now window.now
             effects.old effects.new }
     {
         let Some(piece) = window.waiting() else {
@@ -63,7 +63,7 @@ impl Address {
         requires space { length effects.old.frames ≤ 1 }
         ensures channel { channel_of window.new ≡ channel_of window.old }
         ensures most { length effects.new.frames ≤ length effects.old.frames + 1 }
-        ensures refines { StepRefinesInOpen sends_next self window.old window.new
+        ensures refines { StepRefinesInOpen sends_next_segment self window.old window.new
             effects.old effects.new }
     {
         if !window.send_next() {
@@ -88,14 +88,14 @@ impl Address {
         }
     }
 
-    fn send_rr(self, f: bool, window: &Window, effects: &mut Effects)
+    fn send_rr(self, final_bit: bool, window: &Window, effects: &mut Effects)
         requires space { length effects.old.frames ≤ 1 }
         ensures most { length effects.new.frames ≤ length effects.old.frames + 1 }
-        ensures refines { StepRefinesInOpen (sends_rr f) self window.now window.now
+        ensures refines { StepRefinesInOpen (sends_rr final_bit) self window.now window.now
             effects.old effects.new }
     {
         let nr = window.vr();
-        self.send_response(Body::Rr { nr, pf: f }, effects);
+        self.send_response(Body::Rr { nr, pf: final_bit }, effects);
     }
 
     // Acknowledges an accepted segment with an RR, or with the next I frame if P = 0 and one may be sent.
@@ -118,28 +118,28 @@ impl Address {
         self.send_rr(false, window, effects);
     }
 
-    fn send_rej(self, due: bool, p: bool, window: &Window, effects: &mut Effects)
+    fn send_rej(self, rej_due: bool, poll: bool, window: &Window, effects: &mut Effects)
         requires space { length effects.old.frames ≤ 1 }
         ensures most { length effects.new.frames ≤ length effects.old.frames + 1 }
-        ensures refines { StepRefinesInOpen (sends_rej due p) self window.now window.now
+        ensures refines { StepRefinesInOpen (sends_rej rej_due poll) self window.now window.now
             effects.old effects.new }
     {
-        if !due {
+        if !rej_due {
             return;
         }
         let nr = window.vr();
-        self.send_response(Body::Rej { nr, pf: p }, effects);
+        self.send_response(Body::Rej { nr, pf: poll }, effects);
     }
 
     // Answers an out-of-sequence segment: sends a REJ if one is due, then the next I frame if there is one.
-    fn refuse_segment(self, due: bool, p: bool, window: &mut Window, effects: &mut Effects)
+    fn refuse_segment(self, rej_due: bool, poll: bool, window: &mut Window, effects: &mut Effects)
         requires channel { channel_of window.old ≡ self.channel }
         requires space { effects.old.frames ≡ [] }
         ensures channel { channel_of window.new ≡ channel_of window.old }
-        ensures refines { StepRefinesInOpen (refuses_segment due p) self window.old window.new
+        ensures refines { StepRefinesInOpen (refuses_segment rej_due poll) self window.old window.new
             effects.old effects.new }
     {
-        self.send_rej(due, p, window, effects);
+        self.send_rej(rej_due, poll, window, effects);
         self.send_next(window, effects);
     }
 
@@ -160,7 +160,7 @@ impl Address {
         requires channel { channel_of window.old ≡ self.channel }
         requires space { length effects.old.frames ≤ 1 }
         ensures channel { channel_of window.new ≡ channel_of window.old }
-        ensures refines { StepRefinesInOpen resends_outstanding self window.old window.new
+        ensures refines { StepRefinesInOpen resends_outstanding_segment self window.old window.new
             effects.old effects.new }
     {
         if window.on_reject() {
@@ -202,27 +202,27 @@ impl Address {
     fn take_segment(
         self,
         ns: u8,
-        p: bool,
-        piece: Piece<'_>,
+        poll: bool,
+        segment: Piece<'_>,
         window: &mut Window,
         effects: &mut Effects,
     )
         requires number { ns ≤ 7 }
-        requires some { 1 ≤ length piece.octets.now }
-        requires size { length piece.octets.now ≤ n201 self.channel }
+        requires some { 1 ≤ length segment.octets.now }
+        requires size { length segment.octets.now ≤ n201 self.channel }
         requires channel { channel_of window.old ≡ self.channel }
         requires no_frames { effects.old.frames ≡ [] }
         requires space { length effects.old.notices ≤ 1 }
         ensures channel { channel_of window.new ≡ channel_of window.old }
-        ensures refines { StepRefinesInOpen (takes_segment ns p (piece.entry.octets.now, piece.entry.more))
+        ensures refines { StepRefinesInOpen (takes_segment ns poll (segment.entry.octets.now, segment.entry.more))
             self window.old window.new effects.old effects.new }
     {
-        match window.on_info(ns, p, piece.octets, piece.more) {
+        match window.on_info(ns, poll, segment.octets, segment.more) {
             Info::Accepted(joined) => {
-                report_message(joined, piece.more, window, effects);
-                self.answer_segment(p, window, effects);
+                report_message(joined, segment.more, window, effects);
+                self.answer_segment(poll, window, effects);
             }
-            Info::OutOfSequence { reject } => self.refuse_segment(reject, p, window, effects),
+            Info::OutOfSequence { reject } => self.refuse_segment(reject, poll, window, effects),
         }
     }
 
@@ -230,23 +230,23 @@ impl Address {
         self,
         ns: u8,
         nr: u8,
-        p: bool,
-        piece: Piece<'_>,
+        poll: bool,
+        segment: Piece<'_>,
         window: &mut Window,
         effects: &mut Effects,
     )
         requires ns { ns ≤ 7 }
         requires nr { nr ≤ 7 }
-        requires some { 1 ≤ length piece.octets.now }
-        requires size { length piece.octets.now ≤ n201 self.channel }
+        requires some { 1 ≤ length segment.octets.now }
+        requires size { length segment.octets.now ≤ n201 self.channel }
         requires channel { channel_of window.old ≡ self.channel }
         requires no_frames { effects.old.frames ≡ [] }
         requires no_notices { effects.old.notices ≡ [] }
         ensures channel { channel_of window.new ≡ channel_of window.old }
-        ensures refines { StepRefinesInOpen (takes_i_frame ns nr p (piece.entry.octets.now, piece.entry.more))
+        ensures refines { StepRefinesInOpen (takes_i_frame ns nr poll (segment.entry.octets.now, segment.entry.more))
             self window.old window.new effects.old effects.new }
     {
         self.evaluate_nr(nr, window, effects);
-        self.take_segment(ns, p, piece, window, effects);
+        self.take_segment(ns, poll, segment, window, effects);
     }
 }

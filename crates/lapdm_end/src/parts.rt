@@ -6,8 +6,9 @@ ghost use Rattle.lapdm_window.specs.segmenting.Joiners.{HoldsReassemblyOf};
 ghost use Rattle.lapdm_window.specs.segmenting.Segments.{max_message_octets, max_segments_per_message};
 ghost use Rattle.lapdm_window.specs.Ends.{EndpointState};
 ghost use Rattle.lapdm_window.specs.Parts.{values_of_parts as window_by};
-ghost use Rattle.lapdm_end.specs.Addresses.{role_of};
-ghost use Rattle.lapdm_end.specs.Parts.{values_of, values_of_parts, ValuesRepresent, EndpointExists, IsInitialWindow, IsInitialBeforeOpen};
+ghost use Rattle.lapdm_end.specs.Addresses.{spec_role_of};
+ghost use Rattle.lapdm_end.specs.Parts.{values_of, values_of_parts, ValuesRepresent, SomeEndpointHasValues, IsInitialWindow};
+ghost use Rattle.lapdm_end.specs.Parts.{IsInitialBeforeOpen};
 ghost use Rattle.lapdm_end.specs.Parts.{AreConsistent};
 ghost use Rattle.lapdm_end.specs.Abstraction.{Represents, channel_of};
 
@@ -15,11 +16,11 @@ use crate::Role;
 use crate::ends::Endpoint;
 use crate::link::Address;
 use lapdm_frame::Channel;
-use lapdm_window::{Part, Sapi, State, WindowParts};
+use lapdm_window::{LapdmWindowView, ReassemblyState, Sapi, State};
 
 /// The state of an endpoint as plain data, with borrowed messages and octets. The endpoint has the channel of its window.
 #[derive(Clone, Copy, Debug)]
-pub struct EndpointParts<'a> {
+pub struct EndpointView<'a> {
     pub role: Role,
     pub sapi: Sapi,
     pub state: State,
@@ -27,10 +28,10 @@ pub struct EndpointParts<'a> {
     pub sabm_info: &'a [u8],
     /// How many times the SABM or DISC that awaits an answer has been repeated.
     pub retries: u8,
-    pub window: WindowParts<'a>,
+    pub window: LapdmWindowView<'a>,
 }
 
-impl EndpointParts<'_> {
+impl EndpointView<'_> {
     // Returns whether an endpoint can have this state, provided that its window can have its state.
     fn are_consistent(&self) -> bool
         ensures { IsTrue result ↔ AreConsistent (values_of_parts self.now) }
@@ -52,7 +53,7 @@ impl EndpointParts<'_> {
     }
 }
 
-fn is_initial_before_open(state: State, window: &WindowParts<'_>) -> bool
+fn is_initial_before_open(state: State, window: &LapdmWindowView<'_>) -> bool
     ensures { IsTrue result ↔ IsInitialBeforeOpen state (window_by window.now) }
 {
     match state {
@@ -61,7 +62,7 @@ fn is_initial_before_open(state: State, window: &WindowParts<'_>) -> bool
     }
 }
 
-fn is_initial_window(window: &WindowParts<'_>) -> bool
+fn is_initial_window(window: &LapdmWindowView<'_>) -> bool
     ensures { IsTrue result ↔ IsInitialWindow (window_by window.now) }
 {
     window.held.is_empty()
@@ -72,18 +73,18 @@ fn is_initial_window(window: &WindowParts<'_>) -> bool
         && has_reassembled_nothing(window.part, window.reassembly)
 }
 
-fn has_reassembled_nothing(part: Part, octets: &[u8]) -> bool
-    ensures { IsTrue result ↔ HoldsReassemblyOf part octets.now [] }
+fn has_reassembled_nothing(reassembly: ReassemblyState, octets: &[u8]) -> bool
+    ensures { IsTrue result ↔ HoldsReassemblyOf reassembly octets.now [] }
 {
-    match part {
-        Part::Open | Part::Whole => octets.is_empty(),
-        Part::Discarding => false,
+    match reassembly {
+        ReassemblyState::Open | ReassemblyState::Whole => octets.is_empty(),
+        ReassemblyState::Discarding => false,
     }
 }
 
 impl Endpoint {
     pub fn role(&self) -> Role
-        ensures { (e : EndpointState) → Represents self.now e → role_of result ≡ e.role }
+        ensures { (e : EndpointState) → Represents self.now e → spec_role_of result ≡ e.role }
     {
         self.address.role
     }
@@ -95,14 +96,14 @@ impl Endpoint {
         self.address.channel
     }
 
-    pub fn parts(&self) -> EndpointParts<'_>
+    pub fn parts(&self) -> EndpointView<'_>
         ensures values { values_of_parts result ≡ values_of self.now }
         ensures sabm_info { length result.sabm_info.now ≤ largest_n201 }
         ensures size { length result.window.held.now ≤ 8 }
         ensures place { result.window.segment_index < max_segments_per_message result.window.channel }
         ensures most { length result.window.reassembly.now ≤ max_message_octets }
     {
-        EndpointParts {
+        EndpointView {
             role: self.address.role,
             sapi: self.address.sapi,
             state: self.state,
@@ -113,11 +114,11 @@ impl Endpoint {
     }
 
     /// Restores an endpoint from its state. Returns false and changes nothing if no endpoint can have this state.
-    pub fn restore(&mut self, parts: &EndpointParts<'_>) -> bool
+    pub fn restore(&mut self, parts: &EndpointView<'_>) -> bool
         ensures same { IsTrue result → values_of self.new ≡ values_of_parts parts.now }
         ensures represents { IsTrue result → (e : EndpointState) → ValuesRepresent (values_of_parts parts.now) e
             → Represents self.new e }
-        ensures known { IsTrue result ↔ EndpointExists (values_of_parts parts.now) }
+        ensures known { IsTrue result ↔ SomeEndpointHasValues (values_of_parts parts.now) }
         ensures unknown { result ≡ false → self.new ≡ self.old }
     {
         if !parts.are_consistent() || !self.window.restore(&parts.window) {
@@ -135,11 +136,11 @@ impl Endpoint {
     }
 
     /// Returns the endpoint with this state, or `None` if no endpoint can have it.
-    pub fn from_parts(parts: &EndpointParts<'_>) -> Option<Endpoint>
+    pub fn from_parts(parts: &EndpointView<'_>) -> Option<Endpoint>
         ensures same { IfSome result (λ end. values_of end ≡ values_of_parts parts.now) }
         ensures represents { IfSome result
             (λ end. (e : EndpointState) → ValuesRepresent (values_of_parts parts.now) e → Represents end e) }
-        ensures known { IsSome result ↔ EndpointExists (values_of_parts parts.now) }
+        ensures known { IsSome result ↔ SomeEndpointHasValues (values_of_parts parts.now) }
     {
         let mut end = Endpoint::new_on(parts.role, parts.sapi, parts.window.channel);
         if end.restore(parts) { Some(end) } else { None }

@@ -7,7 +7,7 @@ ghost use Rattle.lapdm_frame.specs.Frames.{InformationFits};
 ghost use Rattle.lapdm_window.specs.Ends.{EndpointState};
 ghost use Rattle.lapdm_window.specs.Tables.{is_accepted_kind, is_poll, dm_if_polled, reply_to_ui};
 ghost use Rattle.lapdm_end.specs.declared.ends.Endpoint.{Endpoint as LinkEnd};
-ghost use Rattle.lapdm_end.specs.Replies.{reply_of, IsPossibleReply};
+ghost use Rattle.lapdm_end.specs.Replies.{spec_reply_of, IsPossibleReply};
 
 use crate::Role;
 use crate::ends::Endpoint;
@@ -46,29 +46,29 @@ pub(crate) enum Reply<'a> {
 }
 
 // Whether an endpoint accepts this kind of frame as a command or as a response; RNR is never accepted.
-pub(crate) fn is_accepted_kind(command: bool, body: &Body<'_>) -> bool
-    ensures { result ≡ is_accepted_kind command (content_of body.now) }
+pub(crate) fn is_accepted_kind(is_command: bool, body: &Body<'_>) -> bool
+    ensures { result ≡ is_accepted_kind is_command (content_of body.now) }
 {
     match *body {
-        Body::I { .. } | Body::Sabm { .. } | Body::Ui { .. } | Body::Disc { .. } => command,
+        Body::I { .. } | Body::Sabm { .. } | Body::Ui { .. } | Body::Disc { .. } => is_command,
         Body::Rr { .. } | Body::Rej { .. } => true,
         Body::Rnr { .. } => false,
-        Body::Dm { .. } | Body::Ua { .. } => !command,
+        Body::Dm { .. } | Body::Ua { .. } => !is_command,
     }
 }
 
-fn is_poll(command: bool, body: &Body<'_>) -> bool
-    ensures { result ≡ is_poll command (content_of body.now) }
+fn is_poll(is_command: bool, body: &Body<'_>) -> bool
+    ensures { result ≡ is_poll is_command (content_of body.now) }
 {
     match *body {
-        Body::I { p, .. } => command && p,
-        Body::Rr { pf, .. } | Body::Rej { pf, .. } => command && pf,
+        Body::I { p, .. } => is_command && p,
+        Body::Rr { pf, .. } | Body::Rej { pf, .. } => is_command && pf,
         _ => false,
     }
 }
 
 fn dm_if_polled<'a>(poll: bool) -> Reply<'a>
-    ensures reply { reply_of result ≡ dm_if_polled poll }
+    ensures reply { spec_reply_of result ≡ dm_if_polled poll }
     ensures ready { (m : LinkEnd) → IsPossibleReply m result }
 {
     if poll { Reply::Dm } else { Reply::Nothing }
@@ -77,7 +77,7 @@ fn dm_if_polled<'a>(poll: bool) -> Reply<'a>
 // The reply to a UI frame, in every state: its information is reported to layer 3 if it is not empty.
 fn reply_to_ui<'a>(info: &'a [u8]) -> Reply<'a>
     requires information { length info.now ≤ largest_n201 }
-    ensures reply { reply_of result ≡ reply_to_ui info.now }
+    ensures reply { spec_reply_of result ≡ reply_to_ui info.now }
     ensures ready { (m : LinkEnd) → IsPossibleReply m result }
 {
     if info.is_empty() {
@@ -108,7 +108,7 @@ impl Endpoint {
         requires idle { state_of self.now ≡ S.Idle }
         requires information { length info.now ≤ n201 (channel_of self.now) }
         ensures reply { (e : EndpointState) → Represents self.now e
-            → reply_of result ≡ reply_to_sabm_in_idle e.sapi e.role info.now }
+            → spec_reply_of result ≡ reply_to_sabm_in_idle e.sapi e.role info.now }
         ensures ready { IsPossibleReply self.now result }
     {
         match (self.address.sapi, self.address.role) {
@@ -134,7 +134,7 @@ impl Endpoint {
         requires idle { state_of self.now ≡ S.Idle }
         requires information { InformationFits (channel_of self.now) (content_of body.now) }
         ensures reply { (e : EndpointState) → Represents self.now e
-            → reply_of result ≡ reply_in_idle poll (content_of body.now) e }
+            → spec_reply_of result ≡ reply_in_idle poll (content_of body.now) e }
         ensures ready { IsPossibleReply self.now result }
     {
         match *body {
@@ -147,7 +147,7 @@ impl Endpoint {
     fn reply_to_sabm_in_opening<'a>(&self, info: &'a [u8]) -> Reply<'a>
         requires information { length info.now ≤ n201 (channel_of self.now) }
         ensures reply { (e : EndpointState) → Represents self.now e
-            → reply_of result ≡ reply_to_sabm_in_opening e.sapi info.now }
+            → spec_reply_of result ≡ reply_to_sabm_in_opening e.sapi info.now }
         ensures ready { IsPossibleReply self.now result }
     {
         match self.address.sapi {
@@ -167,7 +167,7 @@ impl Endpoint {
         requires opening { state_of self.now ≡ S.Opening }
         requires information { length info.now ≤ n201 (channel_of self.now) }
         ensures reply { (e : EndpointState) → Represents self.now e
-            → reply_of result ≡ reply_to_ua_in_opening info.now e }
+            → spec_reply_of result ≡ reply_to_ua_in_opening info.now e }
         ensures ready { IsPossibleReply self.now result }
     {
         if self.equals_sabm_information(info) {
@@ -183,7 +183,7 @@ impl Endpoint {
         requires opening { state_of self.now ≡ S.Opening }
         requires information { InformationFits (channel_of self.now) (content_of body.now) }
         ensures reply { (e : EndpointState) → Represents self.now e
-            → reply_of result ≡ reply_in_opening (content_of body.now) e }
+            → spec_reply_of result ≡ reply_in_opening (content_of body.now) e }
         ensures ready { IsPossibleReply self.now result }
     {
         match *body {
@@ -198,7 +198,7 @@ impl Endpoint {
     fn reply_to_sabm_in_open<'a>(&self, info: &'a [u8]) -> Reply<'a>
         requires information { length info.now ≤ n201 (channel_of self.now) }
         ensures reply { (e : EndpointState) → Represents self.now e
-            → reply_of result ≡ reply_to_sabm_in_open info.now e }
+            → spec_reply_of result ≡ reply_to_sabm_in_open info.now e }
         ensures ready { IsPossibleReply self.now result }
     {
         if let (Sapi::Zero, Role::Mobile) = (self.address.sapi, self.address.role) {
@@ -216,7 +216,7 @@ impl Endpoint {
         requires numbers { NsAndNrFit (content_of body.now) }
         requires information { InformationFits (channel_of self.now) (content_of body.now) }
         ensures reply { (e : EndpointState) → Represents self.now e
-            → reply_of result ≡ reply_in_open command (content_of body.now) e }
+            → spec_reply_of result ≡ reply_in_open command (content_of body.now) e }
         ensures ready { IsPossibleReply self.now result }
     {
         match *body {
@@ -249,7 +249,7 @@ impl Endpoint {
     }
 
     fn reply_in_closing<'a>(&self, body: &Body<'a>) -> Reply<'a>
-        ensures reply { reply_of result ≡ reply_in_closing (content_of body.now) }
+        ensures reply { spec_reply_of result ≡ reply_in_closing (content_of body.now) }
         ensures ready { IsPossibleReply self.now result }
     {
         match *body {
@@ -267,7 +267,7 @@ impl Endpoint {
     }
 
     fn reply_in_closed<'a>(&self, poll: bool, body: &Body<'a>) -> Reply<'a>
-        ensures reply { reply_of result ≡ reply_in_closed poll (content_of body.now) }
+        ensures reply { spec_reply_of result ≡ reply_in_closed poll (content_of body.now) }
         ensures ready { IsPossibleReply self.now result }
     {
         match *body {
@@ -280,7 +280,7 @@ impl Endpoint {
         requires numbers { NsAndNrFit (content_of body.now) }
         requires information { InformationFits (channel_of self.now) (content_of body.now) }
         ensures reply { (e : EndpointState) → Represents self.now e
-            → reply_of result ≡ reply_in_state e.state command (content_of body.now) e }
+            → spec_reply_of result ≡ reply_in_state e.state command (content_of body.now) e }
         ensures ready { IsPossibleReply self.now result }
     {
         match self.state {
@@ -297,7 +297,7 @@ impl Endpoint {
         requires numbers { NsAndNrFit (content_of body.now) }
         requires information { InformationFits (channel_of self.now) (content_of body.now) }
         ensures reply { (e : EndpointState) → Represents self.now e
-            → reply_of result ≡ reply command (content_of body.now) e }
+            → spec_reply_of result ≡ reply command (content_of body.now) e }
         ensures ready { IsPossibleReply self.now result }
     {
         if let Body::Ui { info, .. } = *body {

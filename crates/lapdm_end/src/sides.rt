@@ -4,9 +4,9 @@ ghost use Rattle.std.specs.Prelude.{◌≡◌, ◌≢◌, OnOk, OnErr};
 ghost use Rattle.lapdm_frame.specs.Content.{frame_of};
 ghost use Rattle.lapdm_frame.specs.Frames.{FrameFits};
 ghost use Rattle.lapdm_window.specs.declared.Sapi.TheVariants as S;
-ghost use Rattle.lapdm_window.specs.Calls.{call_of, IsCallOfSapi};
-ghost use Rattle.lapdm_window.specs.Sides.{idle_side, layer3_call_step, takes};
-ghost use Rattle.lapdm_end.specs.Addresses.{role_of};
+ghost use Rattle.lapdm_window.specs.Calls.{endpoint_call_of, IsCallOfSapi};
+ghost use Rattle.lapdm_window.specs.Sides.{idle_side, layer3_call_step, step_for_frame};
+ghost use Rattle.lapdm_end.specs.Addresses.{spec_role_of};
 ghost use Rattle.lapdm_end.specs.Abstraction.{channel_of as end_channel, sapi_of};
 ghost use Rattle.lapdm_end.specs.Refinement.{RefusesAsSpecified};
 
@@ -30,7 +30,7 @@ impl Side {
 
     /// Creates a side with both endpoints in Idle.
     pub fn new_on(role: Role, channel: Channel) -> Side
-        ensures represents { Represents result (idle_side (role_of role) channel) }
+        ensures represents { Represents result (idle_side (spec_role_of role) channel) }
         ensures channel { channel_of result ≡ channel }
     {
         Side {
@@ -48,10 +48,10 @@ impl Side {
         call: &Call<'_>,
         effects: &mut Effects,
     ) -> Result<(), Refused>
-        requires { IsCallOfSapi sapi (call_of call.now) }
-        ensures refusal { RefusesAsSpecified (call_of call.now) (endpoint_of sapi self.old) result }
+        requires { IsCallOfSapi sapi (endpoint_call_of call.now) }
+        ensures refusal { RefusesAsSpecified (endpoint_call_of call.now) (endpoint_of sapi self.old) result }
         ensures refines { OnOk result
-            (StepRefines (layer3_call_step sapi (call_of call.now)) self.old sapi effects.new self.new) }
+            (StepRefines (layer3_call_step sapi (endpoint_call_of call.now)) self.old sapi effects.new self.new) }
         ensures others { endpoint_of (other sapi) self.new ≡ endpoint_of (other sapi) self.old }
         ensures refused { OnErr result (self.new ≡ self.old) }
         ensures out_unchanged { OnErr result (effects.new ≡ effects.old) }
@@ -67,7 +67,7 @@ impl Side {
     /// endpoint has it.
     pub fn take(&mut self, frame: &FrameView<'_>, effects: &mut Effects) -> Sapi
         requires { FrameFits (channel_of self.old) (frame_of frame.now) }
-        ensures refines { StepRefines (takes (frame_of frame.now)) self.old result effects.new self.new }
+        ensures refines { StepRefines (step_for_frame (frame_of frame.now)) self.old result effects.new self.new }
         ensures others { endpoint_of (other result) self.new ≡ endpoint_of (other result) self.old }
         ensures unknown { frame.now.sapi ≢ 0 → frame.now.sapi ≢ 3 → self.new ≡ self.old }
         ensures channel { channel_of self.new ≡ channel_of self.old }

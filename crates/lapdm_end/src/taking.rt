@@ -6,7 +6,8 @@ ghost use Rattle.lapdm_frame.specs.Content.{content_of, frame_of};
 ghost use Rattle.lapdm_frame.specs.Frames.{NsAndNrFit, InformationFits, FrameFits, octets_of};
 ghost use Rattle.lapdm_window.specs.declared.State.TheVariants as S;
 ghost use Rattle.lapdm_window.specs.Ends.{EndpointState, response_frame};
-ghost use Rattle.lapdm_window.specs.Tables.{AcceptsDisc, AcceptsSabm, opens_and_reports, closes_and_reports, outcome_of, frame_outcome};
+ghost use Rattle.lapdm_window.specs.Tables.{AcceptsDisc, AcceptsSabm, opens_and_reports, closes_and_reports, outcome_of_reply};
+ghost use Rattle.lapdm_window.specs.Tables.{frame_outcome};
 
 use crate::ends::Endpoint;
 use crate::replies::{Reply, is_accepted_kind};
@@ -14,7 +15,7 @@ use lapdm_frame::{Body, FrameView};
 use lapdm_window::{Effects, Message, Notice, Piece, Reason, State};
 
 impl Endpoint {
-    ghost use Rattle.lapdm_end.specs.Replies.{reply_of, IsPossibleReply, MayAcceptSabmWith};
+    ghost use Rattle.lapdm_end.specs.Replies.{spec_reply_of, IsPossibleReply, MayAcceptSabmWith};
     ghost use Rattle.lapdm_end.specs.Abstraction.{Represents, channel_of, sapi_of, state_of};
     ghost use Rattle.lapdm_end.specs.Refinement.{StepRefines, StepRefinesByAppending};
 
@@ -38,7 +39,7 @@ impl Endpoint {
         requires ready { IsPossibleReply self.old reply }
         requires no_frames { effects.old.frames ≡ [] }
         requires no_notices { effects.old.notices ≡ [] }
-        ensures refines { StepRefinesByAppending (outcome_of (reply_of reply.entry)) self.old self.new effects.old effects.new }
+        ensures refines { StepRefinesByAppending (outcome_of_reply (spec_reply_of reply.entry)) self.old self.new effects.old effects.new }
         ensures sapi { sapi_of self.new ≡ sapi_of self.old }
         ensures channel { channel_of self.new ≡ channel_of self.old }
     {
@@ -85,7 +86,7 @@ impl Endpoint {
         requires may { MayAcceptSabmWith self.old info.now }
         requires no_frames { effects.old.frames ≡ [] }
         requires no_notices { effects.old.notices ≡ [] }
-        ensures refines { StepRefinesByAppending (outcome_of (AcceptsSabm info.now)) self.old self.new effects.old effects.new }
+        ensures refines { StepRefinesByAppending (outcome_of_reply (AcceptsSabm info.now)) self.old self.new effects.old effects.new }
         ensures sapi { sapi_of self.new ≡ sapi_of self.old }
         ensures channel { channel_of self.new ≡ channel_of self.old }
     {
@@ -123,7 +124,7 @@ impl Endpoint {
     fn accept_disc(&mut self, effects: &mut Effects)
         requires no_frames { effects.old.frames ≡ [] }
         requires no_notices { effects.old.notices ≡ [] }
-        ensures refines { StepRefinesByAppending (outcome_of AcceptsDisc) self.old self.new effects.old effects.new }
+        ensures refines { StepRefinesByAppending (outcome_of_reply AcceptsDisc) self.old self.new effects.old effects.new }
         ensures sapi { sapi_of self.new ≡ sapi_of self.old }
         ensures channel { channel_of self.new ≡ channel_of self.old }
     {

@@ -1,19 +1,28 @@
 -- Frames and their 23 octets: existence, uniqueness, canonical octets.
-use Rattle.lapdm_frame.specs.Content.{Content, Fields, Frame, I, Rr, content_of_fields, content_with_fields, fields_of, fill, information}
-use Rattle.lapdm_frame.specs.{Content.{kind_number, kinds, more_follows}, Frames.{FrameFits, InformationFits, IsCanonicalCoding}}
-use Rattle.lapdm_frame.specs.{Frames.{IsFrameCoding, NsAndNrFit, address, bit, control, length_octet, octets_of}, Layout.address_in_block}
-use Rattle.lapdm_frame.specs.Layout.{control_in_block, information_in_block, layer1_octets, length_in_block, n201}
-use Rattle.lapdm_frame.specs.{Lengths.{HasNoLengthFault, IsAllowedLengthOctet, IsLengthFault}, Readings.HasUniqueReading}
-use Rattle.lapdm_frame.specs.{Readings.{IsOnlyCanonicalCoding, IsOnlyFrame, IsOnlyRefusal}, Refusals.{HasNoInformation, IsControlOctetOf}}
-use Rattle.lapdm_frame.specs.Refusals.{IsInformationFrame, IsRefused, RefusalAppliesToBlock, el_bit, lacks_information, length_field, m_bit}
-use Rattle.lapdm_frame.specs.{Refusals.refusal_order, declared.{Channel.{TheVariants.{Sacch, Sdcch}, Channel}, Kind.Kind}}
-use Rattle.lapdm_frame.specs.declared.Refusal.{TheVariants.{Control, Ea, El, Empty, Length, Lpd, More}, Refusal}
-use Rattle.std.proofs.Common.{Bool, List, Some, [], ap, arith, drop, false, get_or, inl, inr, length, nat_eq, refl, replicate, rules, set}
-use Rattle.std.proofs.Common.{subst, suc, sym, take, true, zero, ℕ, ◌%◌, ◌++◌, ◌+◌, ◌-◌, ◌/◌, ◌<◌, ◌∙◌}
-use Rattle.std.proofs.{Common.{◌∷◌, ◌≡◌, ◌≢◌, ◌≤◌, ◌⊎◌}, lemmas.Bool.{cases_Bool, cases_eq, cases_lt}}
-use Rattle.std.proofs.lemmas.List.{drop-replicate, ext_get_or, get_or-append_right, get_or-drop, get_or-replicate, get_or-take}
-use Rattle.std.{proofs.lemmas.List.{length-append, length-drop, length-replicate, length-take, take_at}, specs.List.AllByRecursion}
-use Rattle.std.specs.Prelude.{slice_get, slice_range}
+use Rattle.{
+  lapdm_frame.specs.{
+    Content.{Content, Fields, Frame, I, Rr, content_of_fields, content_with_fields, fields_of, fill_frame, information, kind_number},
+    Content.{all_frame_kinds, more_follows},
+    Frames.{FrameFits, InformationFits, IsCanonicalCoding, IsFrameCoding, NsAndNrFit, address_octet, bit_of_bool, control_octet},
+    Frames.{length_octet, octets_of},
+    Layout.{address_in_block, control_in_block, information_in_block, layer1_octet_count, length_in_block, n201},
+    Lengths.{HasNoLengthFault, IsAllowedLengthOctet, IsLengthFault},
+    Readings.{HasUniqueReading, IsOnlyCanonicalCoding, IsOnlyFrame, IsOnlyRefusal},
+    Refusals.{HasNoInformation, IsControlOctetOf, IsInformationFrame, IsRefused, RefusalAppliesToBlock, el_bit, length_field, m_bit},
+    Refusals.refusal_order,
+    declared.{Channel.{TheVariants.{Sacch, Sdcch}, Channel}, Kind.Kind, Refusal.TheVariants.{Control, Ea, El, Empty, Length, Lpd, More}},
+    declared.Refusal.Refusal,
+  },
+  std.{
+    proofs.{
+      Common.{Bool, List, [], ap, arith, drop, false, get_or, inl, inr, length, nat_eq, refl, replicate, set, suc, sym, take, true, zero},
+      Common.{ℕ, ◌%◌, ◌++◌, ◌+◌, ◌-◌, ◌/◌, ◌<◌, ◌∙◌, ◌∷◌, ◌≡◌, ◌≢◌, ◌≤◌, ◌⊎◌},
+      lemmas.{Bool.{cases_eq, cases_lt}, List.{drop-replicate, ext_get_or, get_or-append_right, get_or-drop, get_or-replicate}},
+      lemmas.List.{get_or-take, length-append, length-drop, length-replicate, length-take, take_at},
+    },
+    specs.{List.AllByRecursion, Prelude.slice_range},
+  },
+}
 use borrow.Rule.Slice.PartMut.{put_mid}
 use Rattle.lapdm_frame.specs.declared.Kind.TheVariants as K
 
@@ -23,47 +32,8 @@ use Rattle.lapdm_frame.specs.declared.Kind.TheVariants as K
 abbrev pub with_information : Content → Bool → List ℕ → Content
 with_information a goes info = let f = fields_of a in content_with_fields f.kind f.ns f.nr f.pf goes info
 
-pub bit_bound : (b : Bool) → bit b ≤ 1
+pub bit_bound : (b : Bool) → bit_of_bool b ≤ 1
 bit_bound x = grind arith
-
-bit_injective : (a b : Bool) → bit a ≡ bit b → a ≡ b
-bit_injective x y e = grind arith
-
-record SameFields (f g : Fields) : Type 0 where
-  pub number : kind_number f.kind ≡ kind_number g.kind
-  pub sent : f.ns ≡ g.ns
-  pub received : f.nr ≡ g.nr
-  pub final : bit f.pf ≡ bit g.pf
-
--- by cases on the kinds of both contents
-same_fields : (octet : ℕ) (a b : Content) → IsControlOctetOf octet a → IsControlOctetOf octet b →
-    SameFields (fields_of a) (fields_of b)
-same_fields _ x y h h' = grind arith
-
-number_kind : (kind : Kind) → slice_get kinds (kind_number kind) ≡ Some kind
-number_kind x = grind arith
-
-same_kind : (octet : ℕ) (a b : Content) → IsControlOctetOf octet a → IsControlOctetOf octet b →
-    (fields_of a).kind ≡ (fields_of b).kind
-same_kind _ a b h h' = grind arith
-
--- two contents with the same control octet differ only in their information and M bit
-same_control : (octet : ℕ) (a b : Content) → IsControlOctetOf octet a → IsControlOctetOf octet b →
-    (goes : Bool) (info : List ℕ) → with_information a goes info ≡ with_information b goes info
-same_control _ a b h h' _ _ = grind arith
-
-with_own_information : (a : Content) → with_information a (more_follows a) (information a) ≡ a
-with_own_information x = grind arith
-
--- two contents with the same control octet, information and M bit are equal
-same_content : (octet : ℕ) (a b : Content) → IsControlOctetOf octet a → IsControlOctetOf octet b →
-    more_follows a ≡ more_follows b → information a ≡ information b → a ≡ b
-same_content _ a b h h' going informing = grind arith
-
--- if one content of a control octet has no information, no content of that octet has any
-no_information : (octet : ℕ) (a b : Content) → IsControlOctetOf octet a → IsControlOctetOf octet b → HasNoInformation a →
-    HasNoInformation b
-no_information _ a b h h' none = grind arith
 
 -- if one content of a control octet is an I frame, every content of that octet is an I frame
 information_frame : (octet : ℕ) (a b : Content) → IsControlOctetOf octet a → IsControlOctetOf octet b → IsInformationFrame a →
@@ -72,10 +42,6 @@ information_frame _ a x h h' is_i = grind arith
 
 nothing_informed : (a : Content) → HasNoInformation a → information a ≡ []
 nothing_informed x none = grind arith
-
-something_informed : (a : Content) → lacks_information (fields_of a).kind ≡ false → (goes : Bool) (info : List ℕ)
-    → information (with_information a goes info) ≡ info
-something_informed x some _ _ = grind arith
 
 -- ## FieldLaws: Lemmas about frames that are given by their kind and fields.
 
@@ -98,11 +64,6 @@ ns_and_nr_fit : (kind : Kind) (ns nr : ℕ) (pf more : Bool) (info : List ℕ) �
     → NsAndNrFit (content_with_fields kind ns nr pf more info)
 ns_and_nr_fit x ns nr pf _ _ sent received = grind arith
 
-information_of_kind_fits : (channel : Channel) (kind : Kind) (ns nr : ℕ) (pf more : Bool) (info : List ℕ) →
-    (kind ≡ K.I → 1 ≤ length info)
-    → length info ≤ n201 channel → InformationFits channel (content_with_fields kind ns nr pf more info)
-information_of_kind_fits _ x ns nr pf _ _ some most = grind arith
-
 pub content_fits : (channel : Channel) (f : Fields) → FieldsFit channel f
     → NsAndNrFit (content_of_fields f) × InformationFits channel (content_of_fields f)
 content_fits _ f fit = grind arith
@@ -117,23 +78,13 @@ pub same_frame : (channel : Channel) (octets : List ℕ) (f g : Frame) → IsFra
     IsFrameCoding channel g octets → f ≡ g
 same_frame _ _ f g is_f is_g = grind arith
 
-some_information : (channel : Channel) (content : Content) → InformationFits channel content → IsInformationFrame content →
-    1 ≤ length (information content)
-some_information _ x fits is_i = grind arith
-
 pub information_bound : (channel : Channel) (content : Content) → InformationFits channel content →
     length (information content) ≤ n201 channel
 information_bound _ x fits = grind arith
 
-not_on : (content : Content) → ¬ IsInformationFrame content → bit (more_follows content) ≡ 0
-not_on x differs = grind arith
-
 pub never_refused : (channel : Channel) (octets : List ℕ) (f : Frame) → IsFrameCoding channel f octets → (reason : Refusal) →
     ¬ RefusalAppliesToBlock channel octets reason
 never_refused _ _ f is_f x applies = grind arith
-
-same_place : (a b : Refusal) → refusal_order a ≡ refusal_order b → a ≡ b
-same_place x y e = grind arith
 
 pub same_reason : (channel : Channel) (octets : List ℕ) (a b : Refusal) → IsRefused channel octets a → IsRefused channel octets b →
     a ≡ b
@@ -201,7 +152,7 @@ module _ (channel : Channel) (octets : List ℕ) where
           refused More past_empty (fault.2, λ (other, is_other, is_i). fault.3 (information_frame _ other content is_other known is_i))
       fault_refuses other fault = absurd fault
 
-pub bit_of : (n : ℕ) → n < 2 → bit (nat_eq n 1) ≡ n
+pub bit_of : (n : ℕ) → n < 2 → bit_of_bool (nat_eq n 1) ≡ n
 bit_of x below = grind arith
 
 information_fits : (channel : Channel) (content : Content) → length (information content) ≤ n201 channel →
@@ -211,7 +162,7 @@ information_fits _ x length_bound i_frame_not_empty = grind arith
 kind_known : (content : Content) → IsInformationFrame content ⊎ ¬ IsInformationFrame content
 kind_known x = grind arith
 
-room_is_whole : (channel : Channel) → layer1_octets channel + 3 + n201 channel ≡ 23
+room_is_whole : (channel : Channel) → layer1_octet_count channel + 3 + n201 channel ≡ 23
 room_is_whole x = grind arith
 
 -- no reason applies to the octets, and `content` is what their control octet and their information encode
@@ -238,14 +189,14 @@ module _ (channel : Channel) (octets : List ℕ) (content : Content) (passes : P
         (omega (arith, passes.count, passes.no_length_fault.allowed_length.length_bound, room_is_whole channel))
   ]
 
-  more_found : bit (more_follows content) ≡ m_bit (length_in_block channel octets)
+  more_found : bit_of_bool (more_follows content) ≡ m_bit (length_in_block channel octets)
   more_found = grind arith
 
   information_found : information_in_block channel octets (length (information content)) ≡ information content
   information_found = elim passes.carried [
     | inl kind_allows ↦
         let nothing = nothing_informed content kind_allows in
-        let empty : layer1_octets channel + 3 + length (information content) - (layer1_octets channel + 3) ≡ 0 = omega
+        let empty : layer1_octet_count channel + 3 + length (information content) - (layer1_octet_count channel + 3) ≡ 0 = omega
         (arith, ap length nothing) in
         rw empty (sym nothing)
     | inr e ↦ ap (information_in_block channel octets) size_found ∙ sym e
@@ -276,7 +227,7 @@ module _ (k : ℕ) where
   abbrev final : Bool
   final = nat_eq (k / 16 % 2) 1
 
-  final_is : bit final ≡ k / 16 % 2
+  final_is : bit_of_bool final ≡ k / 16 % 2
   final_is = grind arith
 
   -- the content of this kind with the numbers and the P or F bit that the control octet k would encode
@@ -284,23 +235,24 @@ module _ (k : ℕ) where
   candidate kind = content_with_fields kind (k / 2 % 8) (k / 32) final false []
 
   -- if k is the control octet of none of the candidates, it is the control octet of no content
-  unknown : ((kind : Kind) → k ≢ control (candidate kind)) → (content : Content) → ¬ IsControlOctetOf k content
+  unknown : ((kind : Kind) → k ≢ control_octet (candidate kind)) → (content : Content) → ¬ IsControlOctetOf k content
   unknown none (I ns nr p more info) is_k = none K.I (omega (arith, final_is, bit_bound p))
   unknown none other is_k = none (fields_of other).kind (omega (arith, final_is, bit_bound (fields_of other).pf))
 
   candidate_of : (ks : List Kind)
-      → ((kind : Kind) × (k ≡ control (candidate kind))) ⊎ AllByRecursion (λ kind. k ≢ control (candidate kind)) ks
+      → ((kind : Kind) × (k ≡ control_octet (candidate kind))) ⊎ AllByRecursion (λ kind. k ≢ control_octet (candidate kind)) ks
   candidate_of [] = inr tt
   candidate_of (kind ∷ ks) = elim (cases_eq k _) [
     | inl e ↦ inl (kind, e)
     | inr not ↦ elim (candidate_of ks) [ inl found ↦ inl found | inr rest ↦ inr (not, rest) ]
   ]
 
-  each_kind : (kind : Kind) → AllByRecursion (λ kind. k ≢ control (candidate kind)) kinds → k ≢ control (candidate kind)
+  each_kind : (kind : Kind) → AllByRecursion (λ kind. k ≢ control_octet (candidate kind)) all_frame_kinds
+      → k ≢ control_octet (candidate kind)
   each_kind x none = grind arith
 
   known_or_not : k < 256 → ((content : Content) × IsControlOctetOf k content) ⊎ ((content : Content) → ¬ IsControlOctetOf k content)
-  known_or_not small = elim (candidate_of kinds) [
+  known_or_not small = elim (candidate_of all_frame_kinds) [
     | inl (kind, e) ↦
         inl (candidate kind, (ns_and_nr_fit kind (k / 2 % 8) (k / 32) final false [] (omega arith) (omega arith), e))
     | inr none ↦ inr (unknown (λ kind. each_kind kind none))
@@ -317,10 +269,6 @@ control_known k = elim (cases_lt k 256) [ inl small ↦ known_or_not k small | i
 still_control : (k : ℕ) (a : Content) (goes : Bool) (info : List ℕ) → IsControlOctetOf k a →
     IsControlOctetOf k (with_information a goes info)
 still_control k x _ _ is_k = grind arith
-
-own_kind : (a : Content) (goes : Bool) (info : List ℕ) → lacks_information (fields_of (with_information a goes info)).kind ≡ false
-    → lacks_information (fields_of a).kind ≡ false
-own_kind x _ _ some = grind arith
 
 carried : (a : Content) (goes : Bool) (info : List ℕ) → HasNoInformation (with_information a goes info) ⊎
     (information (with_information a goes info) ≡ info)
@@ -422,10 +370,10 @@ information_at : (o : List ℕ) (start n k : ℕ) → k < n → get_or (slice_ra
 information_at o start n k below = let within : k < start + n - start = omega arith in rw (get_or-take, get_or-drop)
 
 same_information : (channel : Channel) (f : Frame) (o p : List ℕ) → IsFrameCoding channel f o → IsFrameCoding channel f p →
-    (k : ℕ) → layer1_octets channel + 3 ≤ k → k < layer1_octets channel + 3 + length (information f.content) →
+    (k : ℕ) → layer1_octet_count channel + 3 ≤ k → k < layer1_octet_count channel + 3 + length (information f.content) →
     get_or o k 0 ≡ get_or p k 0
 same_information channel f o p is_o is_p k low high =
-    let start = layer1_octets channel + 3 in
+    let start = layer1_octet_count channel + 3 in
     let n = length (information f.content) in
     let i = k - start in
     let within : i < n = omega arith in
@@ -438,7 +386,7 @@ same_information channel f o p is_o is_p k low high =
 same_octet : (channel : Channel) (f : Frame) (o p : List ℕ) → IsCanonicalCoding channel f o → IsCanonicalCoding channel f p →
     (k : ℕ) → k < length o → get_or o k 0 ≡ get_or p k 0
 same_octet channel f o p is_o is_p k within =
-    let start = layer1_octets channel in
+    let start = layer1_octet_count channel in
     elim (cases_lt k start) [
       | inl before ↦ is_o.layer1_is_zero k before ∙ sym (is_p.layer1_is_zero k before)
       | inr from ↦ elim (cases_lt k (start + 3)) [
@@ -507,7 +455,7 @@ octets_canonical Sdcch f fits =
           let there : length info ≤ k - 3 = omega arith in
           let within : k - 3 < 20 = omega arith in
           let past : 3 ≤ k = omega arith in
-          past_sdcch (address f) (control f.content) (length_octet f.content) (filled 20 info) k past
+          past_sdcch (address_octet f) (control_octet f.content) (length_octet f.content) (filled 20 info) k past
           ∙ filled_after 20 info length_bound (k - 3) there within;
     }
 octets_canonical Sacch f fits =
@@ -527,7 +475,7 @@ octets_canonical Sacch f fits =
           let there : length info ≤ k - 5 = omega arith in
           let within : k - 5 < 18 = omega arith in
           let past : 5 ≤ k = omega arith in
-          past_sacch 0 0 (address f) (control f.content) (length_octet f.content) (filled 18 info) k past
+          past_sacch 0 0 (address_octet f) (control_octet f.content) (length_octet f.content) (filled 18 info) k past
           ∙ filled_after 18 info length_bound (k - 5) there within;
     }
   where
@@ -555,8 +503,8 @@ fill_left : (size before : ℕ) (info : List ℕ) → drop (before + length info
 fill_left _ before info = let e : before + length info - before ≡ length info = omega arith in rw (e, drop-replicate)
 
 pub written : (channel : Channel) (a k l : ℕ) (info : List ℕ) →
-    overwritten (layer1_octets channel) a k l (replicate (layer1_octets channel) 0) info
-    ≡ replicate (layer1_octets channel) 0 ++ a ∷ k ∷ l ∷ [] ++ info ++ replicate (n201 channel - length info) 0x2b
+    overwritten (layer1_octet_count channel) a k l (replicate (layer1_octet_count channel) 0) info
+    ≡ replicate (layer1_octet_count channel) 0 ++ a ∷ k ∷ l ∷ [] ++ info ++ replicate (n201 channel - length info) 0x2b
 written Sdcch a k l info = ap (λ xs. a ∷ k ∷ l ∷ (info ++ xs)) (fill_left 20 3 info)
 written Sacch a k l info = ap (λ xs. 0 ∷ 0 ∷ a ∷ k ∷ l ∷ (info ++ xs)) (fill_left 18 5 info)
 
@@ -569,8 +517,8 @@ numbered = refl
 ready : octets_of Sdcch (record { sapi = 0; cr = true; content = Rr 7 false }) ≡ 0x03 ∷ 0xe1 ∷ 0x01 ∷ replicate 20 0x2b
 ready = refl
 
-fill_of_the_network : octets_of Sdcch (fill true) ≡ 0x03 ∷ 0x03 ∷ 0x01 ∷ replicate 20 0x2b
+fill_of_the_network : octets_of Sdcch (fill_frame true) ≡ 0x03 ∷ 0x03 ∷ 0x01 ∷ replicate 20 0x2b
 fill_of_the_network = refl
 
-fill_of_the_mobile_on_sacch : octets_of Sacch (fill false) ≡ 0x00 ∷ 0x00 ∷ 0x01 ∷ 0x03 ∷ 0x01 ∷ replicate 18 0x2b
+fill_of_the_mobile_on_sacch : octets_of Sacch (fill_frame false) ≡ 0x00 ∷ 0x00 ∷ 0x01 ∷ 0x03 ∷ 0x01 ∷ replicate 18 0x2b
 fill_of_the_mobile_on_sacch = refl

@@ -65,8 +65,8 @@ more_follows (I ns nr p more info) = more
 more_follows other = false
 
 -- all frame kinds; the number of a kind in the C API is its index in this list
-abbrev pub kinds : List Kind
-kinds = K.I ∷ K.Rr ∷ K.Rnr ∷ K.Rej ∷ K.Sabm ∷ K.Dm ∷ K.Ui ∷ K.Disc ∷ K.Ua ∷ []
+abbrev pub all_frame_kinds : List Kind
+all_frame_kinds = K.I ∷ K.Rr ∷ K.Rnr ∷ K.Rej ∷ K.Sabm ∷ K.Dm ∷ K.Ui ∷ K.Disc ∷ K.Ua ∷ []
 
 abbrev pub kind_number : Kind → ℕ
 kind_number K.I = 0
@@ -88,7 +88,7 @@ pub record Fields : Type 0 where
   pub more : Bool
   pub info : List ℕ
 
-abbrev pub fields : Kind → (ns nr : ℕ) → (pf more : Bool) → List ℕ → Fields
+abbrev pub fields : (kind : Kind) (ns nr : ℕ) (pf more : Bool) (info : List ℕ) → Fields
 fields kind ns nr pf more info = record { kind = kind; ns = ns; nr = nr; pf = pf; more = more; info = info }
 
 -- the kind and fields of a content; fields of other kinds are 0, false or empty
@@ -104,7 +104,7 @@ fields_of (Disc p) = fields K.Disc 0 0 p false []
 fields_of (Ua f info) = fields K.Ua 0 0 f false info
 
 -- the content of a given kind with the given fields; fields of other kinds are ignored
-abbrev pub content_with_fields : Kind → (ns nr : ℕ) → (pf more : Bool) → (info : List ℕ) → Content
+abbrev pub content_with_fields : (kind : Kind) (ns nr : ℕ) (pf more : Bool) (info : List ℕ) → Content
 content_with_fields K.I ns nr pf more info = I ns nr pf more info
 content_with_fields K.Rr ns nr pf more info = Rr nr pf
 content_with_fields K.Rnr ns nr pf more info = Rnr nr pf
@@ -123,5 +123,5 @@ abbrev pub content_of_fields : Fields → Content
 content_of_fields f = content_with_fields f.kind f.ns f.nr f.pf f.more f.info
 
 -- the fill frame: a UI frame of SAPI 0 without information, sent when there is nothing else to send
-abbrev pub fill : Bool → Frame
-fill cr = record { sapi = 0; cr = cr; content = Ui false [] }
+abbrev pub fill_frame : Bool → Frame
+fill_frame cr = record { sapi = 0; cr = cr; content = Ui false [] }

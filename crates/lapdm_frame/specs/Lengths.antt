@@ -13,7 +13,7 @@ pub record IsAllowedLengthOctet (most : ℕ) (content : Content) (octet : ℕ) :
   pub kind_has_information : 0 < length_field octet → ¬ HasNoInformation content
 
 -- the reason is the first of `El`, `Length`, `Empty` and `More` that applies to the length octet
-abbrev pub IsLengthFault : ℕ → Content → ℕ → Refusal → Type 0
+abbrev pub IsLengthFault : (most : ℕ) (content : Content) (octet : ℕ) (refusal : Refusal) → Type 0
 IsLengthFault most content octet El = el_bit octet ≡ 0
 IsLengthFault most content octet Length = (el_bit octet ≢ 0) × ((most < length_field octet) ⊎ ((0 < length_field octet) ×
     HasNoInformation content))

@@ -4,7 +4,7 @@ use Rattle.std.specs.Borrow.{Bor}
 use Rattle.lapdm_frame.specs.declared.Channel.{Channel}
 use Rattle.lapdm_frame.specs.declared.Refusal.{Refusal}
 use Rattle.lapdm_frame.specs.declared.Body.{Body}
-use Rattle.lapdm_frame.specs.Layout.{layer1_octets}
+use Rattle.lapdm_frame.specs.Layout.{layer1_octet_count}
 use Rattle.lapdm_frame.specs.Content.{Frame, borrowed_information}
 use Rattle.lapdm_frame.specs.Frames.{IsFrameCoding, IsCanonicalCoding}
 use Rattle.lapdm_frame.specs.Refusals.{IsRefused}
@@ -28,11 +28,11 @@ pub record IsOnlyCanonicalCoding (channel : Channel) (f : Frame) (octets : List 
   pub reads_back : IsOnlyFrame channel f octets
 
 -- the octets either encode exactly one frame or are refused for exactly one reason, but not both
-abbrev pub HasUniqueReading : Channel → List ℕ → Type 0
+abbrev pub HasUniqueReading : (channel : Channel) (octets : List ℕ) → Type 0
 HasUniqueReading channel octets = ((f : Frame) × IsOnlyFrame channel f octets) ⊎ ((reason : Refusal) ×
     IsOnlyRefusal channel octets reason)
 
 -- the information of a frame body, if its kind has any, is a borrowed slice of the block that begins directly after the length octet
-abbrev pub InformationIsBorrowed : Channel → Bor (List ℕ) → Body → Type 0
+abbrev pub InformationIsBorrowed : (channel : Channel) (block : Bor (List ℕ)) (body : Body) → Type 0
 InformationIsBorrowed channel block body = IfSome (borrowed_information body) (λ info. (info.ref_ptr.0 ≡ block.ref_ptr.0)
-    × (info.ref_ptr.1 ≡ block.ref_ptr.1 + layer1_octets channel + 3))
+    × (info.ref_ptr.1 ≡ block.ref_ptr.1 + layer1_octet_count channel + 3))

@@ -7,11 +7,11 @@ use Rattle.lapdm_frame.specs.Layout.{n201, address_in_block, control_in_block, l
 use Rattle.lapdm_frame.specs.declared.Kind.{Kind}
 use Rattle.lapdm_frame.specs.declared.Kind.TheVariants as K
 use Rattle.lapdm_frame.specs.Content.{Content, I, fields_of}
-use Rattle.lapdm_frame.specs.Frames.{control, NsAndNrFit}
+use Rattle.lapdm_frame.specs.Frames.{control_octet, NsAndNrFit}
 
 -- the octet is the control octet of a frame with the given content
-abbrev pub IsControlOctetOf : ℕ → Content → Type 0
-IsControlOctetOf octet content = NsAndNrFit content × (octet ≡ control content)
+abbrev pub IsControlOctetOf : (octet : ℕ) (content : Content) → Type 0
+IsControlOctetOf octet content = NsAndNrFit content × (octet ≡ control_octet content)
 
 -- the content is an I frame, the one kind that must have information
 abbrev pub IsInformationFrame : Content → Type 0
@@ -30,21 +30,21 @@ abbrev pub HasNoInformation : Content → Type 0
 HasNoInformation content = lacks_information (fields_of content).kind ≡ true
 
 -- the octet is the control octet of some content that meets a given condition
-abbrev pub IsControlOctetOfKind : (Content → Type 0) → ℕ → Type 0
+abbrev pub IsControlOctetOfKind : (HasKind : (Content → Type 0)) (octet : ℕ) → Type 0
 IsControlOctetOfKind Kind octet = (content : Content) × IsControlOctetOf octet content × Kind content
 
 -- the length L in a length octet (GSM 04.06, section 3.7.3), which also has the M bit (3.7.2) and the EL bit (3.7.1)
-abbrev pub length_field : ℕ → ℕ
+abbrev pub length_field : (octet : ℕ) → ℕ
 length_field octet = octet / 4
 
-abbrev pub m_bit : ℕ → ℕ
+abbrev pub m_bit : (octet : ℕ) → ℕ
 m_bit octet = octet / 2 % 2
 
-abbrev pub el_bit : ℕ → ℕ
+abbrev pub el_bit : (octet : ℕ) → ℕ
 el_bit octet = octet % 2
 
 -- the reason for refusal applies to the given address, control and length octets. An address octet below 32 has 0 in bits 8, 7 and 6
-abbrev pub RefusalApplies : Channel → (address control length : ℕ) → Refusal → Type 0
+abbrev pub RefusalApplies : (channel : Channel) (address control length : ℕ) (refusal : Refusal) → Type 0
 RefusalApplies channel address control length Lpd = 32 ≤ address
 RefusalApplies channel address control length Ea = address % 2 ≡ 0
 RefusalApplies channel address control length Control = (content : Content) → ¬ IsControlOctetOf control content
@@ -55,7 +55,7 @@ RefusalApplies channel address control length Empty = (length_field length ≡ 0
 RefusalApplies channel address control length More = (m_bit length ≡ 1) × ¬ IsControlOctetOfKind IsInformationFrame control
 
 -- the reason for refusal applies to the address, control and length octets of the block
-abbrev pub RefusalAppliesToBlock : Channel → List ℕ → Refusal → Type 0
+abbrev pub RefusalAppliesToBlock : (channel : Channel) (octets : List ℕ) (refusal : Refusal) → Type 0
 RefusalAppliesToBlock channel octets = RefusalApplies channel (address_in_block channel octets) (control_in_block channel octets)
     (length_in_block channel octets)
 

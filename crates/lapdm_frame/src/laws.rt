@@ -9,13 +9,13 @@ ghost use Rattle.lapdm_frame.specs.Readings.{IsOnlyCanonicalCoding, HasUniqueRea
 use bit_blocks::BLOCK_OCTETS;
 
 /// Law: any 23 octets either encode exactly one frame or are refused for exactly one reason.
-pub fn law_reading_is_unique()
+pub fn law_frame_reading_is_unique()
     ensures { (channel : Channel) (octets : List ℕ) → length octets ≡ BLOCK_OCTETS
         → HasUniqueReading channel octets }
 {}
 
 /// Law: every frame that fits the channel has exactly one canonical coding, and the reader reads exactly this frame from it.
-pub fn law_canonical_coding_is_unique()
+pub fn law_canonical_frame_coding_is_unique()
     ensures { (channel : Channel) (f : Frame) → FrameFits channel f
         → IsOnlyCanonicalCoding channel f (octets_of channel f) }
 {}

@@ -10,7 +10,7 @@ mod reader;
 mod writer;
 
 pub use bit_blocks::BLOCK_OCTETS;
-pub use laws::{law_canonical_coding_is_unique, law_reading_is_unique};
+pub use laws::{law_canonical_frame_coding_is_unique, law_frame_reading_is_unique};
 pub use reader::{read, read_on};
 use thiserror::Error;
 pub use writer::{fill, fill_on, fits, fits_on, write, write_on};
@@ -25,7 +25,7 @@ pub enum Channel {
 }
 
 impl Channel {
-    ghost use Rattle.lapdm_frame.specs.Layout.{layer1_octets, n201};
+    ghost use Rattle.lapdm_frame.specs.Layout.{layer1_octet_count, n201};
 
     /// N201 of GSM 04.06: the maximum number of information octets in a frame, 20 or 18.
     pub fn n201(self) -> usize
@@ -38,8 +38,8 @@ impl Channel {
     }
 
     // The number of layer 1 octets, which is the index of the address octet in a block.
-    fn layer1_octets(self) -> usize
-        ensures value { result ≡ layer1_octets self }
+    fn layer1_octet_count(self) -> usize
+        ensures value { result ≡ layer1_octet_count self }
         ensures space { result + 3 + n201 self ≡ BLOCK_OCTETS }
     {
         match self {
@@ -130,7 +130,7 @@ const KINDS: [Kind; 9] = [
 ];
 
 impl Kind {
-    ghost use Rattle.lapdm_frame.specs.Content.{kinds, kind_number};
+    ghost use Rattle.lapdm_frame.specs.Content.{all_frame_kinds, kind_number};
 
     /// The number of the frame kind, 0 to 8.
     pub fn number(self) -> u8
@@ -141,7 +141,7 @@ impl Kind {
 
     /// The kind with this number, or `None` if the number is above 8.
     pub fn from_number(number: u8) -> Option<Kind>
-        ensures { result ≡ slice_get kinds number }
+        ensures { result ≡ slice_get all_frame_kinds number }
     {
         KINDS.get(usize::from(number)).copied()
     }
@@ -243,15 +243,15 @@ impl<'a> Body<'a> {
 }
 
 // The fields of an I frame.
-fn i_frame_fields(ns: u8, nr: u8, p: bool, more: bool, info: &[u8]) -> FrameFields<'_>
-    ensures { abstract_fields result ≡ fields Kind.I ns nr p more info.now }
+fn i_frame_fields(ns: u8, nr: u8, poll: bool, more: bool, info: &[u8]) -> FrameFields<'_>
+    ensures { abstract_fields result ≡ fields Kind.I ns nr poll more info.now }
 {
     FrameFields {
         ns,
         nr,
         more,
         info,
-        ..fields_with_only_pf(Kind::I, p)
+        ..fields_with_only_pf(Kind::I, poll)
     }
 }
 

@@ -11,7 +11,7 @@ use bit_blocks::BLOCK_OCTETS;
 
 // Returns the frame body that the control octet encodes, or `None` if it encodes none. Uses `more` and `info` only if the kind has these
 // fields.
-fn body_of<'a>(control: u8, more: bool, info: &'a [u8]) -> Option<Body<'a>>
+fn body_from_control<'a>(control: u8, more: bool, info: &'a [u8]) -> Option<Body<'a>>
     ensures known { IfSome result (λ body. IsControlOctetOf control (content_of body)) }
     ensures unknown { IfNone result ((content : Content) → ¬ IsControlOctetOf control content) }
     ensures carried { IfSome result
@@ -69,16 +69,16 @@ fn has_no_information(body: &Body<'_>) -> bool
 }
 
 // Returns the first reason why a frame of this kind cannot have the length octet `length`, or `None` if it can.
-fn length_fault(body: &Body<'_>, length: u8, most: usize) -> Option<Refusal>
-    ensures fault { IfSome result (IsLengthFault most (content_of body.now) length) }
-    ensures none { IfNone result (HasNoLengthFault most (content_of body.now) length) }
+fn length_fault(body: &Body<'_>, length: u8, max_length: usize) -> Option<Refusal>
+    ensures fault { IfSome result (IsLengthFault max_length (content_of body.now) length) }
+    ensures none { IfNone result (HasNoLengthFault max_length (content_of body.now) length) }
 {
     let size = usize::from(length / 4);
     let more = length / 2 % 2 == 1;
     if length % 2 == 0 {
         return Some(Refusal::El);
     }
-    if size > most {
+    if size > max_length {
         return Some(Refusal::Length);
     }
     if size > 0 && has_no_information(body) {
@@ -103,7 +103,7 @@ pub fn read_on<'a>(
     ensures borrowed { IfOk result (λ f. InformationIsBorrowed channel octets.entry f.body) }
     ensures refusal { IfErr result (λ reason. IsOnlyRefusal channel octets.now reason) }
 {
-    let start = channel.layer1_octets();
+    let start = channel.layer1_octet_count();
     let most = channel.n201();
     let address = octets[start];
     let length = octets[start + 2];
@@ -117,7 +117,7 @@ pub fn read_on<'a>(
     if address % 2 == 0 {
         return Err(Refusal::Ea);
     }
-    let Some(body) = body_of(octets[start + 1], more, info) else {
+    let Some(body) = body_from_control(octets[start + 1], more, info) else {
         return Err(Refusal::Control);
     };
     if let Some(reason) = length_fault(&body, length, most) {

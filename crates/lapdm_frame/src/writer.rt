@@ -2,8 +2,8 @@
 
 ghost use Rattle.std.specs.Prelude.{◌≡◌, ◌≤◌, ◌↔◌, IsTrue, length};
 ghost use Rattle.lapdm_frame.specs.Layout.{n201, largest_n201};
-ghost use Rattle.lapdm_frame.specs.Content.{content_of, frame_of, information, more_follows, fill};
-ghost use Rattle.lapdm_frame.specs.Frames.{address, control, length_octet, NsAndNrFit, InformationFits, FrameFits, octets_of};
+ghost use Rattle.lapdm_frame.specs.Content.{content_of, frame_of, information, more_follows, fill_frame};
+ghost use Rattle.lapdm_frame.specs.Frames.{address_octet, control_octet, length_octet, NsAndNrFit, InformationFits, FrameFits, octets_of};
 ghost use Rattle.lapdm_frame.specs.Readings.{IsOnlyCanonicalCoding};
 
 use crate::{Body, Channel, FrameView};
@@ -28,11 +28,11 @@ fn information_of<'a>(body: &Body<'a>) -> &'a [u8]
     }
 }
 
-fn address_octet_of(f: &FrameView<'_>) -> u8
-    requires { f.now.sapi ≤ 7 }
-    ensures { result ≡ address (frame_of f.now) }
+fn address_octet_of(frame: &FrameView<'_>) -> u8
+    requires { frame.now.sapi ≤ 7 }
+    ensures { result ≡ address_octet (frame_of frame.now) }
 {
-    4 * f.sapi + 2 * u8::from(f.cr) + 1
+    4 * frame.sapi + 2 * u8::from(frame.cr) + 1
 }
 
 fn ns_and_nr_fit(body: &Body<'_>) -> bool
@@ -47,7 +47,7 @@ fn ns_and_nr_fit(body: &Body<'_>) -> bool
 
 fn control_octet_of(body: &Body<'_>) -> u8
     requires { NsAndNrFit (content_of body.now) }
-    ensures { result ≡ control (content_of body.now) }
+    ensures { result ≡ control_octet (content_of body.now) }
 {
     match *body {
         Body::I { ns, nr, p, .. } => 32 * nr + 16 * u8::from(p) + 2 * ns,
@@ -91,7 +91,7 @@ pub fn write_on(f: &FrameView<'_>, channel: Channel) -> [u8; BLOCK_OCTETS]
     ensures canonical { IsOnlyCanonicalCoding channel (frame_of f.now) result }
 {
     let mut octets = [FILL_OCTET; BLOCK_OCTETS];
-    let start = channel.layer1_octets();
+    let start = channel.layer1_octet_count();
     octets[..start].fill(0);
     octets[start] = address_octet_of(f);
     octets[start + 1] = control_octet_of(&f.body);
@@ -104,8 +104,8 @@ pub fn write_on(f: &FrameView<'_>, channel: Channel) -> [u8; BLOCK_OCTETS]
 /// Writes the fill frame of GSM 04.06, a UI frame of SAPI 0 without information. If `cr` is true, writes the fill frame of the network,
 /// otherwise that of the mobile.
 pub fn fill_on(cr: bool, channel: Channel) -> [u8; BLOCK_OCTETS]
-    ensures octets { result ≡ octets_of channel (fill cr) }
-    ensures canonical { IsOnlyCanonicalCoding channel (fill cr) result }
+    ensures octets { result ≡ octets_of channel (fill_frame cr) }
+    ensures canonical { IsOnlyCanonicalCoding channel (fill_frame cr) result }
 {
     let body = Body::Ui {
         p: false,
@@ -132,8 +132,8 @@ pub fn write(f: &FrameView<'_>) -> [u8; BLOCK_OCTETS]
 
 /// Writes the fill frame to an SDCCH block (see `fill_on`).
 pub fn fill(cr: bool) -> [u8; BLOCK_OCTETS]
-    ensures octets { result ≡ octets_of Channel.Sdcch (fill cr) }
-    ensures canonical { IsOnlyCanonicalCoding Channel.Sdcch (fill cr) result }
+    ensures octets { result ≡ octets_of Channel.Sdcch (fill_frame cr) }
+    ensures canonical { IsOnlyCanonicalCoding Channel.Sdcch (fill_frame cr) result }
 {
     fill_on(cr, Channel::Sdcch)
 }

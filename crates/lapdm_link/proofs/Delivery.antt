@@ -1,30 +1,12 @@
 -- Delivery in benign sessions: both directions, UI frames, causes of establishment, each link by itself.
-use Rattle.lapdm_link.proofs.Events.{AllFrames, AllOf, Holds, IsForSapi, IsPlaced, KnowsBy, acted, by_kind, by_link, calls_in_log-else}
-use Rattle.lapdm_link.proofs.Events.{calls_in_log-own, climbs-le, content_of, contents-else, contents-own, contents_on, contents}
-use Rattle.lapdm_link.proofs.Events.{end_does-else, end_does, end_of, frames-own, frames-say, holds-step, is_end, is_on, lines_of_step}
-use Rattle.lapdm_link.proofs.Events.{link_else, notices-at, notices-else, notices-own, number_as_rr, of-append, of-as, other_is, rest}
-use Rattle.lapdm_link.proofs.{Events.{segment_as_rr, start-direction, way_does, way, without_first}, Steps.{AllOccur, AllReported}}
-use Rattle.lapdm_link.proofs.Steps.{BothHold, Goes, IsCalled, IsDone, IsOpening, IsReported, IsTaken, OpensBy, ReportsUnit, Says, begins}
-use Rattle.lapdm_link.proofs.Steps.{closes, ending_in, ends, gone, in_order-step, is_called, occur-append, opens, order_claims, remains}
-use Rattle.lapdm_link.proofs.{Steps.{sends_plain, stands, start-reported, taken-frame, unit_in}, Words.{AckedAtMostDelivered, All-append}}
-use Rattle.lapdm_link.proofs.Words.{All-cons, All-drop, All-head, All-nil, All-tail, All-take, All, Asked, Bool, Call, Channel, Claims}
-use Rattle.lapdm_link.proofs.Words.{Contains-append_left, Contains-push, Contains, Content, EndpointState, EventRefusal, Event, Frame}
-use Rattle.lapdm_link.proofs.Words.{HasEstablishmentTrigger, HasWindowOfOne, IsBenignEvent, IsBenign, IsOldestSentOrNone, IsOpenEndpoint}
-use Rattle.lapdm_link.proofs.Words.{IsOrderedLog, IsPrefix, IsSubsequence, IsValidMessage, I, List, LogLine, MayOpen, Message, Mobile}
-use Rattle.lapdm_link.proofs.Words.{Network, None, Notice, Notified, OccursAfter, OpensWithoutInfo, Opens, Option, Outcome, QueueCapacity}
-use Rattle.lapdm_link.proofs.Words.{Rej, RivalSabm, Role, Rr, Sabm, Sapi, Segment, SendsUi, Sends, Some, State, Three, Ua, Ui, World, Zero}
-use Rattle.lapdm_link.proofs.Words.{[], acked_message_numbers, all_segments, answer_log_lines, answers, answer, append-nil, append_assoc}
-use Rattle.lapdm_link.proofs.Words.{ap, arith, call_in_line, call_outcome, calls_in_log, cons_option, cut_segments, got_message}
-use Rattle.lapdm_link.proofs.Words.{delivered_messages, drop, ended-ended_messages, ended-take, ended_messages-all, ended_messages-append}
-use Rattle.lapdm_link.proofs.Words.{ended_messages, false, filter_map-append, filter_map, flat_map, frame_outcome, get_or}
-use Rattle.lapdm_link.proofs.Words.{if◌then◌else◌, information, initial_world, inl, inr, is_same_sapi, length-append, length, map}
-use Rattle.lapdm_link.proofs.Words.{message_count, message_sent_by_call, messages_of, messages, n201, nat_eq, notice_in_line, notices}
-use Rattle.lapdm_link.proofs.Words.{opened_info_in_notice, other, partial_message_after, refl, refusal_of, refusal, rival_sabm, sapi_number}
-use Rattle.lapdm_link.proofs.Words.{segments, sent_messages, start, subst, suc, sym, take-append-drop, take, true, ui_message_in_notice}
-use Rattle.lapdm_link.proofs.Words.{ui_message_of_call, world_after, zero, ℕ, ◌++◌, ◌+◌, ◌<◌, ◌∙◌, ◌∷◌, ◌≡◌}
-use Rattle.lapdm_link.{proofs.Words.{◌≤◌, ◌⊎◌}, specs.{Claims.{is_log_line_of_sapi, log_lines_of_sapi}, Worlds.AllowsRrForRej}}
-use Rattle.lapdm_link.specs.Worlds.{EventAllowsRrForRej, IsOldestSentOrRr, rr_for_rej}
-use Rattle.std.proofs.lemmas.List.Elements.{Contains-append_cases, Contains-append_right}
+pub use Steps.*
+pub mod Steps
+use Rattle.{
+  lapdm_link.specs.{
+    Claims.{is_log_line_of_sapi, log_lines_of_sapi},
+    Worlds.{AllowsRrForRej, EventAllowsRrForRej, IsOldestSentOrRr, rr_for_rej},
+  },
+}
 use Rattle.lapdm_window.specs.declared.Notice.TheVariants as N
 use Rattle.lapdm_window.specs.declared.State.TheVariants as S
 use Rattle.lapdm_link.specs.Claims as C
@@ -43,8 +25,7 @@ side r s w ls = record {
   endpoint = end_of r s w;
   outgoing = contents_on s (way r w);
   calls = calls_in_log r s ls;
-  notified =
-      notices r s ls;
+  notified = notices_in_log r s ls;
 }
 
 -- a step of one endpoint: the SABM frames that other mobiles send with it, the endpoint's call, its outcome, and the frames that remain in
@@ -63,9 +44,7 @@ act r s cs o left = record { role = r; sapi = s; rivals = []; layer3_call_step =
 -- the step in which another mobile sends a SABM and the mobile's endpoint stays unchanged
 abbrev pub rivals : Message → Side → Side → Act
 rivals info x y = record (act Mobile Zero [] (record { new_state = x.endpoint; frames = rival_sabm info ∷ []; notices = [] })
-    y.outgoing) {
-      rivals = info ∷ [];
-    }
+    y.outgoing) { rivals = info ∷ [] }
 
 abbrev pub lines : Act → List LogLine
 lines a = lines_of_step a.role a.sapi a.rivals a.layer3_call_step a.endpoint_step.notices
@@ -131,8 +110,7 @@ module _ (n : ℕ) (ms : List Message) (good : All IsValidMessage ms) (r : ℕ) 
     delivered_prefix : (more : List (Option Message)) × (ended_messages [] qs ++ more ≡ map (λ m. Some m) ms)
     delivered_prefix =
         let left = drop r (flat_map (segments n) ms) in
-        let whole = ap (λ ps. ps ++ left) accepted
-        ∙ take-append-drop r _ in (
+        let whole = ap (λ ps. ps ++ left) accepted ∙ take-append-drop r _ in (
           ended_messages (partial_message_after [] qs) left,
           sym (ended_messages-append [] qs _) ∙ ap (ended_messages []) whole ∙ ended_messages-all n ms good,
         )
@@ -153,33 +131,32 @@ module _ (n : ℕ) (ms : List Message) (good : All IsValidMessage ms) (r : ℕ) 
       prefix_is_complete (ended_messages [] qs) delivered_prefix.0 ms delivered_prefix.1,
     )
 
-got-messages : (ns : List Notice) → filter_map got_message ns ≡ filter_map (λ x. x) (filter_map ending_in ns)
+got-messages : (ns : List Notice) → filter_map message_in_got_notice ns ≡ filter_map (λ x. x) (filter_map ending_in ns)
 got-messages [] = refl
-got-messages (N.Got m ∷ ns) = ap (λ ms. m ∷ ms) (got-messages ns)
-got-messages (n ∷ ns) = got-messages ns
+got-messages (n ∷ ns) = grind (arith, got-messages ns)
 
 -- below, x and y are the endpoints of a link in some state of a benign session
 module _ {r q : Role} {s : Sapi} {x y : EndpointState} {ls : List LogLine} {out comes hears : List Content} (here : IsReported r s x ls)
     (there : IsReported q s y ls) (both : BothHold x y out comes hears) where
   delivered_is : delivered_messages q s ls ≡ messages y.accepted
-  delivered_is = got-messages (notices q s ls) ∙ ap (filter_map (λ x. x)) there.notified.got
+  delivered_is = got-messages (notices_in_log q s ls) ∙ ap (filter_map (λ x. x)) there.notified.got
 
   delivered_in_order : IsPrefix (delivered_messages q s ls) (sent_messages r s ls)
-  delivered_in_order = rw (delivered_is, here.notified.taken)
-      (prefix (n201 x.channel) _ here.window_of_one.messages _ y.accepted both.forward.in_order)
+  delivered_in_order = rw (delivered_is, here.notified.taken) (prefix _ _ here.window_of_one.messages _ _ both.forward.in_order)
 
   acked_most : length (acked_message_numbers r s ls) ≤ length (delivered_messages q s ls)
-  acked_most =
-      let most = counted (n201 x.channel) x.taken here.window_of_one.messages _ y.accepted both.forward.in_order x.acked
-      (climbs-le both.forward.acknowledged) in omega (arith, most, here.notified.acked, ap length delivered_is)
+  acked_most = omega (
+    arith,
+    counted _ _ here.window_of_one.messages _ _ both.forward.in_order _ (climbs-le both.forward.acknowledged),
+    here.notified.acked,
+    ap length delivered_is,
+  )
 
   none_oversize : (before : List LogLine) → ¬ OccursAfter before (Notified q s N.Oversize) ls
   none_oversize before place =
-      let all = delivered_prefix (n201 x.channel) x.taken here.window_of_one.messages _ y.accepted both.forward.in_order in
-      no_oversize (filter_map ending_in (notices q s before)) (filter_map ending_in (notices q s place.0)) all.0 x.taken
-      (ap (λ es. es ++ all.0) (sym (filter_map-append ending_in (notices q s before) (N.Oversize ∷ notices q s place.0))
-      ∙ ap (filter_map ending_in) (sym (notices-at q s before N.Oversize place.0) ∙ ap (notices q s) place.1) ∙ there.notified.got)
-      ∙ all.1)
+      let all = delivered_prefix _ _ here.window_of_one.messages _ _ both.forward.in_order in
+      no_oversize (filter_map ending_in (notices_in_log q s before)) _ all.0 _
+      (rw (← there.notified.got, ← place.1, notices_in_log-at q s before N.Oversize _, filter_map-append) at all.1)
 
 -- ## Units: UI frames arrive in order or are lost: the messages reported, followed by those in transit, are a subsequence of those sent.
 
@@ -249,8 +226,7 @@ taken rival = all _
 
 ui_in_order-here : {x y : Side} {a : Act} → IsActed x y a → HasUnits x y → HasUnits (after a x) (other_after a y)
 ui_in_order-here a h = record {
-  units_sent =
-      rw (filter_map-append, filter_map-append, sent a, ← append_assoc) (append h.units_sent (all _));
+  units_sent = rw (filter_map-append, filter_map-append, sent a, ← append_assoc) (append h.units_sent (all _));
 }
 
 ui_in_order-there : {x y : Side} {a : Act} → IsActed x y a → HasUnits y x → HasUnits (other_after a y) (after a x)
@@ -317,7 +293,7 @@ all-octets n (m ∷ ms) h =
 
 octets_carried : (x : EndpointState) (info : List ℕ) (more : Bool) (i : ℕ) → EndOctets x → i < length (all_segments x) →
     get_or (all_segments x) i ([], false) ≡ (info, more) → AreOctets info
-octets_carried x info more i h l e = subst AreOctets (ap (λ p. p.0) e) (all-octets (n201 x.channel) x.taken h.taken i ([], false) l)
+octets_carried x info more i h l e = rw e at (all-octets (n201 x.channel) x.taken h.taken i ([], false) l)
 
 -- ---- frames sent
 abbrev OctetsBy : Option Call → Type 0
@@ -327,11 +303,11 @@ OctetsBy (Some call) = CallOctets call
 said-octets : (call : Option Call) (x z : EndpointState) → OctetsBy call → EndOctets z → (c : Content) → Says call x z c →
     AreOctets (information c)
 said-octets call x z said h (I ns nr p more info) a = octets_carried z _ _ a.0 h a.1 a.2
-said-octets call x z said h (Sabm p info) a = subst AreOctets a.1 h.sabm_info
-said-octets call x z said h (Ui p info) (inl e) = subst OctetsBy e said
-said-octets call x z said h (Ui p info) (inr e) = subst AreOctets (sym e.1) none
-said-octets call x z said h (Ua f info) (inl e) = subst AreOctets e.1 h.sabm_info
-said-octets call x z said h (Ua f info) (inr e) = subst AreOctets (sym e.0) none
+said-octets call x z said h (Sabm p info) a = rw a.1 at h.sabm_info
+said-octets call x z said h (Ui p info) (inl e) = rw e at said
+said-octets call x z said h (Ui p info) (inr e) = rw e.1 none
+said-octets call x z said h (Ua f info) (inl e) = rw e.1 at h.sabm_info
+said-octets call x z said h (Ua f info) (inr e) = rw e.0 none
 said-octets call x z said h other a = subst AreOctets (sym a) none
 
 frames-octets : (Says : Content → Type 0) → ((c : Content) → Says c → AreOctets (information c)) →
@@ -355,22 +331,16 @@ pub record OutcomeOctets (o : Outcome) : Type 0 where
 done-octets : (call : Option Call) (c : Content) (x : EndpointState) (o : Outcome) → IsDone call c x o → OctetsBy call →
     AreOctets (information c) → EndOctets x → OutcomeOctets o
 done-octets call c x o d said octets h =
-    let taken = subst AllMessages (sym d.taken) (All-append AreOctets x.taken _ h.taken
-    (sent-octets call said)) in
+    let taken : AllMessages o.new_state.taken = rw d.taken (All-append AreOctets x.taken _ h.taken (sent-octets call said)) in
     let end : EndOctets o.new_state = record { sabm_info = kept-octets _ c x o said octets h.sabm_info d.goes; taken = taken } in
-    record {
-      end_octets = end;
-      frames =
-          frames-octets (Says call x o.new_state) (said-octets call x o.new_state said end) x.sapi o.frames d.frames;
-    }
+    record { end_octets = end; frames = frames-octets _ (said-octets call x o.new_state said end) x.sapi _ d.frames }
 
 pub frame-octets : (f : Frame) (x : EndpointState) → AreOctets (information f.content) → HasWindowOfOne x → EndOctets x →
     OutcomeOctets (frame_outcome f x)
 frame-octets f x octets e h = done-octets None f.content x _ (taken-frame x e f) tt octets h
 
 pub call-octets : (call : Call) (x : EndpointState) → CallOctets call → refusal_of call x ≡ None → HasWindowOfOne x →
-    EndOctets x →
-    OutcomeOctets (call_outcome call x)
+    EndOctets x → OutcomeOctets (call_outcome call x)
 call-octets call x said ok e h = done-octets (Some call) (Ui false []) x _ (is_called x e _ ok) said none h
 
 pub octets-step : (w : World) (ls : List LogLine) (event : Event) → AllReported w ls →
@@ -378,16 +348,17 @@ pub octets-step : (w : World) (ls : List LogLine) (event : Event) → AllReporte
     LineOctets (answer_log_lines event (answer event w)) → WorldOctets (world_after event w)
 octets-step w ls event reported known h said = (
   h.0,
-  holds-step (λ s e. EndOctets e) SaysOctets LineOctets (λ sender f. AreOctets (information f.content)) h.0 w h.1
-      (λ r s call placed ok l. (let g = call-octets call (end_of r s w) l.0 ok (reported r s).window_of_one (h.1.ends r s) in
-      (g.end_octets, g.frames)))
-      (λ r s f octets. (let g = frame-octets f (end_of r s w) octets (reported r s).window_of_one (h.1.ends r s) in
-      (g.end_octets, g.frames)))
+  holds-step (λ s e. EndOctets e) SaysOctets LineOctets (λ sender. SaysOctets) h.0 w h.1
+      (λ r s call placed ok l. pair (call-octets call (end_of r s w) l.0 ok (reported r s).window_of_one (h.1.ends r s)))
+      (λ r s f octets. pair (frame-octets f (end_of r s w) octets (reported r s).window_of_one (h.1.ends r s)))
       (λ info ok l. l.0) event known said,
 )
+  where
+    pair : {o : Outcome} → OutcomeOctets o → EndOctets o.new_state × AllSay o.frames
+    pair g = (g.end_octets, g.frames)
 
-pub start-octets : (capacity : QueueCapacity) (channel : Channel) → WorldOctets (initial_world capacity channel)
-start-octets capacity channel = grind arith
+pub initial_endpoint-octets : (capacity : QueueCapacity) (channel : Channel) → WorldOctets (initial_world capacity channel)
+initial_endpoint-octets capacity channel = grind arith
 
 -- ## Openings: Each establishment is reported after its cause. The invariant says why each SABM or UA in transit was sent and how each
 -- endpoint reached its state.
@@ -447,10 +418,7 @@ module _ (r : Role) (s : Sapi) (ls new : List LogLine) where
   caused-more c h = tt
 
   reached-more : (state : State) (k : Message) → IsReached r s ls state k → IsReached r s (ls ++ new) state k
-  reached-more S.Opening k h = asked-more k h
-  reached-more S.Open k h = opened-more k h
-  reached-more S.Closing k h = opened-more k h
-  reached-more state k h = tt
+  reached-more state k h = grind (arith, asked-more, opened-more)
 
   establishment_infos-more : (x : Side) → HasOpenings r s x ls → HasOpenings r s x (ls ++ new)
   establishment_infos-more x h = (of-as _ _ caused-more _ h.0, reached-more _ _ h.1)
@@ -485,8 +453,7 @@ module _ (r : Role) (s : Sapi) where
   was-asked ls call k h g = grind arith
 
   said-caused : (ls : List LogLine) (call : Option Call) (x z : EndpointState) → HasReached r s ls x → HasReached r s ls z →
-      (c : Content) →
-      Says call x z c → IsCaused r s ls c
+      (c : Content) → Says call x z c → IsCaused r s ls c
   said-caused ls call x z c h g k = grind arith
 
   module _ (ls : List LogLine) (x : Side) (role : x.endpoint.role ≡ r) (same : x.endpoint.sapi ≡ s) (h : HasOpenings r s x ls)
@@ -506,10 +473,8 @@ module _ (r : Role) (s : Sapi) where
         goes-on : Goes call c x.endpoint o → HasReached r s (ls ++ notified) o.new_state × AllOccur IsOpenedAfter ls notified
         goes-on (remains same e n) = (rw (same, e) (reached-more r s ls _ _ _ h.1), none-opened _ ls n)
         goes-on (ends over e n) = (rw over tt, none-opened _ ls n)
-        goes-on (closes now closing e n) =
-            (rw (closing, e) (opened-more r s ls _ _ (rw now at h.1)), none-opened _ ls n)
-        goes-on (begins opening a n) =
-            (rw opening (asked-more r s ls _ _ (was-asked ls _ _ a asked)), none-opened _ ls n)
+        goes-on (closes now closing e n) = (rw (closing, e) (opened-more r s ls _ _ (rw now at h.1)), none-opened _ ls n)
+        goes-on (begins opening a n) = (rw opening (asked-more r s ls _ _ (was-asked ls _ _ a asked)), none-opened _ ls n)
         goes-on (opens {info} n now e by) =
             let cause = opening-cause c _ by sent in rw (now, e, n) ((Contains-push ls _, cause.1), (cause.0, tt))
 
@@ -524,8 +489,7 @@ module _ (r : Role) (s : Sapi) where
             )
 
 establishment_infos-here : {x y : Side} {a : Act} (ls : List LogLine) → IsActed x y a → x.endpoint.role ≡ a.role → x.endpoint.sapi
-    ≡ a.sapi →
-    HasOpenings a.role a.sapi x ls → HasOpenings (other a.role) a.sapi y ls →
+    ≡ a.sapi → HasOpenings a.role a.sapi x ls → HasOpenings (other a.role) a.sapi y ls →
     HasOpenings a.role a.sapi (after a x) (ls ++ lines a) × AllOccur IsOpenedAfter ls (lines a)
 establishment_infos-here {x} {y} {a} ls (called {r} {s} {call} p c) role same h g =
     let asked = Asked r s call ∷ [] in
@@ -631,8 +595,7 @@ sides h g k l = grind arith
 module _ (v : World) (ls : List LogLine) (a : Act) (own : AllOf (IsForSapi a.sapi) a.endpoint_step.frames) where
   here : side a.role a.sapi (acted_by a v) (ls ++ lines a) ≡ after a (side a.role a.sapi v ls)
   here = sides (end_does _ _ a.endpoint_step v) (rw (way_does _ _ _ v, filter_map-append, contents-own _ _ own) refl)
-      (calls_in_log-own _ _ ls _ _ _)
-      (notices-own _ _ ls _ _ _)
+      (calls_in_log-own _ _ ls _ _ _) (notices_in_log-own _ _ ls _ _ _)
 
   out-else : (r' r : Role) (s : Sapi) → is_end r s r' a.sapi ≡ false →
       contents_on s (way r (acted r' a.sapi a.endpoint_step v)) ≡ contents_on s (way r v)
@@ -642,7 +605,7 @@ module _ (v : World) (ls : List LogLine) (a : Act) (own : AllOf (IsForSapi a.sap
 
   elsewhere : (r : Role) (s : Sapi) → is_end r s a.role a.sapi ≡ false → side r s (acted_by a v) (ls ++ lines a) ≡ side r s v ls
   elsewhere r s n = sides (end_does-else _ _ a.endpoint_step v r s n) (out-else _ r s n) (calls_in_log-else _ _ ls _ _ _ r s n)
-      (notices-else _ _ ls _ _ _ r s n)
+      (notices_in_log-else _ _ ls _ _ _ r s n)
 
   links-act : {x y : Side} → side a.role a.sapi v ls ≡ x → side (other a.role) a.sapi v ls ≡ y →
       IsLink a.role (other a.role) a.sapi (after a x) y (ls ++ lines a) →
@@ -666,7 +629,7 @@ notified-after : (r : Role) (s : Sapi) (is : List Message) (cs : List Call) (ns 
 notified-after r s (i ∷ is) cs ns ls h = (tt, notified-after r s is cs ns _ (rw append_assoc h))
 notified-after r s [] (c ∷ cs) ns ls h = (tt, notified-after r s [] cs ns (ls ++ Asked r s c ∷ []) (rw append_assoc h))
 notified-after r s [] [] (N.Acked i ∷ ns) ls h =
-    let g = rw (notices-own r s ls [] [] (N.Acked i ∷ ns), notices-else r s ls [] [] _ _ s (other_is r s)) at h in
+    let g = rw (notices_in_log-own r s ls [] [] (N.Acked i ∷ ns), notices_in_log-else r s ls [] [] _ _ s (other_is r s)) at h in
     let later = notified-after r s [] [] ns (ls ++ Notified r s (N.Acked i) ∷ []) (rw append_assoc h) in
     (omega (arith, simp (filter_map-append, length-append) at g), later)
 notified-after r s [] [] (n ∷ ns) ls h = (tt, notified-after r s [] [] ns (ls ++ Notified r s n ∷ []) (rw append_assoc h))
@@ -712,20 +675,12 @@ lost Network w ls h = seen_by Mobile (without_first Network w) ls (λ s. first_l
 
 -- the arriving frame is the one that was sent, or an RR in place of a REJ
 came : (r : Role) (s : Sapi) (w : World) (ls : List LogLine) (f : Frame) (fs : List Frame) → way (other r) w ≡ fs →
-    is_on s f ≡ true → IsOldestSentOrRr (Some f) fs → Links r s w ls →
-    IsLink r (other r) s (side r s w ls)
+    is_on s f ≡ true → IsOldestSentOrRr (Some f) fs → Links r s w ls → IsLink r (other r) s (side r s w ls)
     (record (side (other r) s w ls) { outgoing = cons_option (content_of f.content) (contents_on s (rest fs)) }) ls
-came r s w ls f (g ∷ gs) is on (inl same) h =
-    subst (λ cs. IsLink r (other r) s (side r s w ls) (record (side (other r) s w ls) { outgoing = cs }) ls)
-    (ap (contents_on s) is ∙ comes-first s f (g ∷ gs) on same) h
+came r s w ls f (g ∷ gs) is on (inl same) h = rw (ap (contents_on s) is ∙ comes-first s f (g ∷ gs) on same) at h
 came r s w ls f (g ∷ gs) is on (inr same) h =
-    let x = side r s w ls in
-    let y = side (other r) s w ls in
-    let on' = ap (λ n. nat_eq n (sapi_number s)) (ap (λ k. k.sapi) (sym same)) ∙ on in
-    let out = ap (contents_on s) is ∙ comes-first s g (g ∷ gs) on' refl in
-    let as_sent = subst (λ cs. IsLink r (other r) s x (record y { outgoing = cs }) ls) out h in
-    subst (λ c. IsLink r (other r) s x (record y { outgoing = cons_option (content_of c) (contents_on s gs) }) ls)
-    (ap (λ k. k.content) (sym same)) (first-rr x y g.content (contents_on s gs) as_sent)
+    let as_sent = rw (ap (contents_on s) is ∙ comes-first s g (g ∷ gs) (rw same at on) refl) at h in
+    rw same (first-rr (side r s w ls) (side (other r) s w ls) g.content (contents_on s gs) as_sent)
 came r s w ls f [] is on sent h = absurd sent
 
 as_sent : (o : Option EventRefusal) (event : Event) (w : World) → EventAllowsRrForRej o event w →
@@ -734,16 +689,13 @@ as_sent o event w h = grind arith
 
 goes : (w : World) (ls : List LogLine) (event : Event) → EventAllowsRrForRej (refusal event w) event w → IsSession w ls →
     GoesInSession ls (world_after event w) (answer_log_lines event (answer event w))
-goes w ls event benign h =
-    by_kind w (GoesInSession ls) (λ sender f. IsOldestSentOrRr (Some f) (way sender w))
-    (λ g. (rw append-nil h.links, tt, tt))
-    (λ r s call placed ok. (let x = h.reported r s in
+goes w ls event benign h = by_kind w (GoesInSession ls) (λ sender f. IsOldestSentOrRr (Some f) (way sender w))
+    (λ g. (rw append-nil h.links, tt, tt)) (λ r s call placed ok. (let x = h.reported r s in
     acts ls w (called placed (is_called _ x.window_of_one _ ok)) x.role x.sapi refl refl (h.links r s) (λ t n. h.links r t)))
     (λ r s f on known. (let x = h.reported r s in
     acts ls (without_first (other r) w) (took refl (taken-frame _ x.window_of_one f)) x.role
     x.sapi (left-here r s w ls) (left-there r s w ls) (came r s w ls f (way (other r) w) refl on known (h.links r s))
-    (λ t n. first_lost r t w ls (h.links r t))))
-    (λ sender g. (rw append-nil (lost sender w ls h.links), tt, tt))
+    (λ t n. first_lost r t w ls (h.links r t)))) (λ sender g. (rw append-nil (lost sender w ls h.links), tt, tt))
     (λ info ok. (let x = h.reported Mobile Zero in acts ls w rival x.role x.sapi refl refl (h.links _ _) (λ t n. h.links Mobile t)))
     _ (as_sent _ _ w benign)
 
@@ -757,53 +709,10 @@ session-step w ls event benign h =
     record { reported = reported; links = g.0; after_delivered = after_delivered; after_cause = occur-append _ [] ls new h.after_cause g.2 }
 
 session-run : (events : List Event) (w : World) (ls : List LogLine) → AllowsRrForRej events w → IsSession w ls →
-    ((z : World) × IsSession z (ls ++ C.lines events (answers events w)))
+    ((z : World) × IsSession z (ls ++ C.session_log events (answers events w)))
 session-run [] w ls benign h = (w, rw append-nil h)
 session-run (event ∷ events) w ls benign h =
     rw (← append_assoc) (session-run events (world_after event w) _ benign.1 (session-step w ls event benign.0 h))
-
-abbrev first_side : Role → Sapi → Channel → Side
-first_side r s channel = record { endpoint = start r s channel; outgoing = []; calls = []; notified = [] }
-
-start-link : (r q : Role) (s : Sapi) (channel : Channel) → IsLink r q s (first_side r s channel) (first_side q s channel) []
-start-link r q s channel = link (record { forward = start-direction; backward = start-direction }) (record { units_sent = empty })
-    (record { units_sent = empty }) _ _
-
-start-links : (capacity : QueueCapacity) (channel : Channel) → AllLinks (initial_world capacity channel) []
-start-links capacity channel Mobile Zero = start-link _ _ _ _
-start-links capacity channel Mobile Three = start-link _ _ _ _
-start-links capacity channel Network Zero = start-link _ _ _ _
-start-links capacity channel Network Three = start-link _ _ _ _
-
-started : (capacity : QueueCapacity) (channel : Channel) → IsSession (initial_world capacity channel) []
-started capacity channel =
-    record { reported = start-reported capacity _; links = start-links capacity _; after_delivered = tt; after_cause = tt }
-
-pub counts_with_rr : (capacity : QueueCapacity) (channel : Channel) (events : List Event) →
-    AllowsRrForRej events (initial_world capacity channel) →
-    AckedAtMostDelivered (C.lines events (answers events (initial_world capacity channel)))
-counts_with_rr capacity channel events benign r s =
-    let (z, h) = session-run events (initial_world capacity channel) [] benign (started capacity channel) in
-    acked_most (h.reported r s) (h.reported (other r) s) (carried_by_link (h.links r s))
-
-pub claims_with_rr : (capacity : QueueCapacity) (channel : Channel) (events : List Event) →
-    AllowsRrForRej events (initial_world capacity channel) →
-    Claims (C.lines events (answers events (initial_world capacity channel)))
-claims_with_rr capacity channel events benign =
-    let ls : List LogLine = C.lines events (answers events (initial_world capacity channel)) in
-    let in_order : IsOrderedLog ls = order_claims capacity channel events in
-    let (z, h) = session-run events (initial_world capacity channel) [] benign (started capacity channel) in
-    record {
-      in_order = λ r s. delivered_in_order (h.reported r s) (h.reported (other r) s) (carried_by_link (h.links r s));
-      acked_in_order = λ r s n before place. (
-        (in_order.acked_in_order r s n before place).0,
-        stands IsAfterDelivered ls before (Notified r s (N.Acked n)) h.after_delivered place,
-      );
-      ui_in_order = λ r s. ui_in_order-claim (side r s z ls) (side (other r) s z ls) (ui_in_order (h.links r s));
-      establishment_trigger = λ r s info before place. stands IsOpenedAfter ls before (Notified r s (N.Opened info)) h.after_cause place;
-      established_once = in_order.established_once;
-      no_oversize = λ r s. none_oversize (h.reported (other r) s) (h.reported r s) (carried_by_link (swapped (h.links r s)));
-    }
 
 -- a frame that arrives as it was sent also satisfies `EventAllowsRrForRej`
 benign_allows_rr : (o : Option EventRefusal) (event : Event) (w : World) → IsBenignEvent o event w → EventAllowsRrForRej o event w
@@ -813,96 +722,105 @@ at_all : (events : List Event) (w : World) → IsBenign events w → AllowsRrFor
 at_all [] w h = tt
 at_all (event ∷ events) w h = (benign_allows_rr (refusal event w) event w h.0, at_all events _ h.1)
 
-pub acked_at_most_delivered : (capacity : QueueCapacity) (channel : Channel) (events : List Event) →
-    IsBenign events (initial_world capacity channel) → AckedAtMostDelivered
-    (C.lines events (answers events (initial_world capacity channel)))
-acked_at_most_delivered capacity channel events benign = counts_with_rr capacity channel events (at_all events
-    (initial_world capacity channel) benign)
+module _ (capacity : QueueCapacity) (channel : Channel) where
+  abbrev pub origin : World
+  origin = initial_world capacity channel
 
-pub claims : (capacity : QueueCapacity) (channel : Channel) (events : List Event) → IsBenign events (initial_world capacity channel) →
-    Claims (C.lines events (answers events (initial_world capacity channel)))
-claims capacity channel events benign = claims_with_rr capacity channel events (at_all events
-    (initial_world capacity channel) benign)
+  abbrev first_side : Role → Sapi → Side
+  first_side r s = record { endpoint = initial_endpoint r s channel; outgoing = []; calls = []; notified = [] }
+
+  initial_endpoint-link : (r q : Role) (s : Sapi) → IsLink r q s (first_side r s) (first_side q s) []
+  initial_endpoint-link r q s =
+      link (record { forward = initial_endpoint-direction; backward = initial_endpoint-direction }) (record { units_sent = empty })
+      (record { units_sent = empty }) _ _
+
+  initial_endpoint-links : AllLinks origin []
+  initial_endpoint-links Mobile Zero = initial_endpoint-link _ _ _
+  initial_endpoint-links Network Zero = initial_endpoint-link _ _ _
+  initial_endpoint-links r s = initial_endpoint-link _ _ _
+
+  started : IsSession origin []
+  started = record {
+    reported = initial_endpoint-reported capacity _;
+    links = initial_endpoint-links;
+    after_delivered = tt;
+    after_cause =
+        tt;
+  }
+
+  module _ (events : List Event) where
+    abbrev pub log : List LogLine
+    log = C.session_log events (answers events origin)
+
+    pub counts_with_rr : AllowsRrForRej events origin → AckedAtMostDelivered log
+    counts_with_rr benign r s =
+        let (z, h) = session-run events origin [] benign started in
+        acked_most (h.reported r s) (h.reported (other r) s) (carried_by_link (h.links r s))
+
+    pub claims_with_rr : AllowsRrForRej events origin → Claims log
+    claims_with_rr benign =
+        let in_order : HasNoticesInOrder log = order_claims capacity channel events in
+        let (z, h) = session-run events origin [] benign started in
+        record {
+          in_order = λ r s. delivered_in_order (h.reported r s) (h.reported (other r) s) (carried_by_link (h.links r s));
+          acked_in_order = λ r s n before place.
+              ((in_order.acked_in_order r s n before place).0, stands IsAfterDelivered log before _ h.after_delivered place);
+          ui_in_order = λ r s. ui_in_order-claim (side r s z log) (side (other r) s z log) (ui_in_order (h.links r s));
+          establishment_trigger = λ r s info before place. stands IsOpenedAfter log before _ h.after_cause place;
+          established_once = in_order.established_once;
+          no_oversize = λ r s. none_oversize (h.reported (other r) s) (h.reported r s) (carried_by_link (swapped (h.links r s)));
+        }
+
+    pub acked_at_most_delivered : IsBenign events origin → AckedAtMostDelivered log
+    acked_at_most_delivered benign = counts_with_rr (at_all events origin benign)
+
+    pub claims : IsBenign events origin → Claims log
+    claims benign = claims_with_rr (at_all events origin benign)
 
 -- ## ByLink: Each claim depends only on the log lines of one link, so it can be proved for each link separately.
-
-first-is : {X : Type 0} (x y : X) → Contains (x ∷ []) y → x ≡ y
-first-is x y h = grind arith
 
 module _ (s : Sapi) where
   abbrev chosen : Bool → LogLine → Option LogLine
   chosen b l = if b then Some l else None
 
-  -- a list that is read from the log and has nothing from lines of other links is the same if read from the lines of this link alone
-  kept_by_link : {A : Type 0} (h : LogLine → Option A) → ((l : LogLine) → is_log_line_of_sapi s l ≡ false → h l ≡ None) →
-      (ls : List LogLine) → filter_map h (log_lines_of_sapi s ls) ≡ filter_map h ls
-  kept_by_link h none [] = refl
-  kept_by_link {A} h none (l ∷ ls) = by (kept_by_link h none ls) (is_log_line_of_sapi s l) refl
-    where
-      by : filter_map h (log_lines_of_sapi s ls) ≡ filter_map h ls → (b : Bool) → is_log_line_of_sapi s l ≡ b →
-          filter_map h (cons_option (chosen (is_log_line_of_sapi s l) l) (log_lines_of_sapi s ls)) ≡ cons_option (h l) (filter_map h ls)
-      by rest true on = rw on (ap (cons_option (h l)) rest)
-      by rest false off = rw (off, none l off) rest
-
+  -- the calls and the notices of a link are the same if read from the lines of this link alone
   calls_in_log-kept : (r : Role) (ls : List LogLine) → calls_in_log r s (log_lines_of_sapi s ls) ≡ calls_in_log r s ls
-  calls_in_log-kept r ls = kept_by_link (call_in_line r s) (λ l off. none l off) ls
-    where
-      none : (l : LogLine) → is_log_line_of_sapi s l ≡ false → call_in_line r s l ≡ None
-      none l off = grind arith
+  calls_in_log-kept r [] = refl
+  calls_in_log-kept r (l ∷ ls) = grind (arith, calls_in_log-kept r ls)
 
-  notices-kept : (r : Role) (ls : List LogLine) → notices r s (log_lines_of_sapi s ls) ≡ notices r s ls
-  notices-kept r ls = kept_by_link (notice_in_line r s) (λ l off. none l off) ls
-    where
-      none : (l : LogLine) → is_log_line_of_sapi s l ≡ false → notice_in_line r s l ≡ None
-      none l off = grind arith
+  notices_in_log-kept : (r : Role) (ls : List LogLine) → notices_in_log r s (log_lines_of_sapi s ls) ≡ notices_in_log r s ls
+  notices_in_log-kept r [] = refl
+  notices_in_log-kept r (l ∷ ls) = grind (arith, notices_in_log-kept r ls)
 
   stands-kept : (before ls : List LogLine) (l : LogLine) → is_log_line_of_sapi s l ≡ true → OccursAfter before l ls →
       OccursAfter (log_lines_of_sapi s before) l (log_lines_of_sapi s ls)
   stands-kept before ls l on place =
-      let h : LogLine → Option LogLine = λ x. chosen (is_log_line_of_sapi s x) x in
-      let here : log_lines_of_sapi s (l ∷ place.0) ≡ l ∷ log_lines_of_sapi s place.0 = rw on refl in
-      let whole = ap (λ xs. log_lines_of_sapi s before ++ xs) (sym here) ∙ sym (filter_map-append h _ _)
-      ∙ ap (log_lines_of_sapi s) place.1 in
-      (log_lines_of_sapi s place.0, whole)
+      let e : log_lines_of_sapi s before ++ log_lines_of_sapi s (l ∷ place.0) ≡ log_lines_of_sapi s ls =
+      sym (filter_map-append _ before _) ∙ ap (log_lines_of_sapi s) place.1 in (log_lines_of_sapi s place.0, rw on at e)
 
   contains-back : (ls : List LogLine) (x : LogLine) → Contains (log_lines_of_sapi s ls) x → Contains ls x
   contains-back [] x h = h
   contains-back (l ∷ ls) x h =
-      by (λ later. Contains-append_right (l ∷ []) ls x (contains-back ls x later)) (is_log_line_of_sapi s l) h
+      by (λ later. (let c = contains-back ls x later in (suc c.0, omega (arith, c.1), c.2))) (is_log_line_of_sapi s l) h
     where
       by : (Contains (log_lines_of_sapi s ls) x → Contains (l ∷ ls) x) → (b : Bool) →
-          Contains (cons_option (chosen b l) (log_lines_of_sapi s ls)) x →
-          Contains (l ∷ ls) x
-      by later true h = elim (Contains-append_cases (l ∷ []) (log_lines_of_sapi s ls) x h) [
-        | inl here ↦ Contains-append_left (l ∷ []) ls x here
-        | inr behind ↦ later behind
-      ]
+          Contains (cons_option (chosen b l) (log_lines_of_sapi s ls)) x → Contains (l ∷ ls) x
+      by later true (zero, low, e) = (zero, omega arith, e)
+      by later true (suc i, low, e) = later (i, omega (arith, low), e)
       by later false h = later h
 
   contains-kept : (ls : List LogLine) (x : LogLine) → is_log_line_of_sapi s x ≡ true → Contains ls x →
       Contains (log_lines_of_sapi s ls) x
   contains-kept [] x on h = h
-  contains-kept (l ∷ ls) x on h = elim (Contains-append_cases (l ∷ []) ls x h) [
-    | inl here ↦ by _ (ap (is_log_line_of_sapi s) (first-is l x here) ∙ on)
-        (Contains-append_left (l ∷ []) (log_lines_of_sapi s ls) x here)
-    | inr behind ↦ either (is_log_line_of_sapi s l) (contains-kept ls x on behind)
-  ] where
-    by : (b : Bool) → b ≡ true → Contains (l ∷ log_lines_of_sapi s ls) x →
-        Contains (cons_option (chosen b l) (log_lines_of_sapi s ls)) x
-    by true e h = h
-    by false e h = absurd (cc e)
-
-    either : (b : Bool) → Contains (log_lines_of_sapi s ls) x → Contains (cons_option (chosen b l) (log_lines_of_sapi s ls)) x
-    either true h = Contains-append_right (l ∷ []) _ x h
-    either false h = h
-
-itself : (s : Sapi) → is_same_sapi s s ≡ true
-itself Zero = refl
-itself Three = refl
+  contains-kept (l ∷ ls) x on (zero, low, e) = rw (e, on) (zero, omega arith, refl)
+  contains-kept (l ∷ ls) x on (suc i, low, e) = either (is_log_line_of_sapi s l) (contains-kept ls x on (i, omega (arith, low), e))
+    where
+      either : (b : Bool) → Contains (log_lines_of_sapi s ls) x → Contains (cons_option (chosen b l) (log_lines_of_sapi s ls)) x
+      either true h = (suc h.0, omega (arith, h.1), h.2)
+      either false h = h
 
 cause-back : (r : Role) (s : Sapi) (info : Message) (before : List LogLine) →
-    HasEstablishmentTrigger r s info (log_lines_of_sapi s before) →
-    HasEstablishmentTrigger r s info before
+    HasEstablishmentTrigger r s info (log_lines_of_sapi s before) → HasEstablishmentTrigger r s info before
 cause-back Mobile Zero info before h = (contains-back Zero _ _ h.0, contains-back Zero _ _ h.1)
 cause-back Network Zero info before (inl h) = inl (contains-back Zero _ _ h)
 cause-back Network Zero info before (inr h) = inr (contains-back Zero _ _ h)
@@ -910,12 +828,11 @@ cause-back r Three info before (inl h) = inl (contains-back Three _ _ h)
 cause-back r Three info before (inr h) = inr (contains-back Three _ _ h.0, contains-back Three _ _ h.1)
 
 open-kept : (r : Role) (s : Sapi) (before : List LogLine) → IsOpenEndpoint r s (log_lines_of_sapi s before) → IsOpenEndpoint r s before
-open-kept r s before h =
-    record {
-      opened_once = rw (notices-kept s r _) at h.opened_once;
-      not_closed = λ reason c. h.not_closed reason (contains-kept s _ _ (itself s) c);
-      release_not_requested = λ c. h.release_not_requested (contains-kept s _ _ (itself s) c);
-    }
+open-kept r s before h = record {
+  opened_once = rw (notices_in_log-kept s r _) at h.opened_once;
+  not_closed = λ reason c. h.not_closed reason (contains-kept s _ _ (own_sapi s) c);
+  release_not_requested = λ c. h.release_not_requested (contains-kept s _ _ (own_sapi s) c);
+}
 
 each_link : (P : List LogLine → Type 0) (ls : List LogLine) → P (log_lines_of_sapi Zero ls) → P (log_lines_of_sapi Three ls) →
     (s : Sapi) → P (log_lines_of_sapi s ls)
@@ -925,31 +842,32 @@ each_link P ls of_0 of_3 Three = of_3
 module _ (ls : List LogLine) where
   notified-kept : (r : Role) (s : Sapi) (n : Notice) (before : List LogLine) → OccursAfter before (Notified r s n) ls →
       OccursAfter (log_lines_of_sapi s before) (Notified r s n) (log_lines_of_sapi s ls)
-  notified-kept r s n before place = stands-kept s _ ls _ (itself s) place
+  notified-kept r s n before place = stands-kept s _ ls _ (own_sapi s) place
 
   pub delivery_by_link : Claims (log_lines_of_sapi Zero ls) → Claims (log_lines_of_sapi Three ls) → Claims ls
   delivery_by_link of_0 of_3 =
       let h = each_link Claims ls of_0 of_3 in
       record {
-        in_order = λ r s. rw (notices-kept s (other r) ls, calls_in_log-kept s r ls) at ((h s).in_order r s);
-        acked_in_order = λ r s n before place. rw (notices-kept s r _, notices-kept s _ _)
+        in_order = λ r s. rw (notices_in_log-kept s (other r) ls, calls_in_log-kept s r ls) at ((h s).in_order r s);
+        acked_in_order = λ r s n before place. rw (notices_in_log-kept s r _, notices_in_log-kept s _ _)
             at ((h s).acked_in_order r s n (log_lines_of_sapi s before) (notified-kept r s _ _ place));
-        ui_in_order = λ r s. rw (notices-kept s _ ls, calls_in_log-kept s r ls) at ((h s).ui_in_order r s);
+        ui_in_order = λ r s. rw (notices_in_log-kept s _ ls, calls_in_log-kept s r ls) at ((h s).ui_in_order r s);
         establishment_trigger = λ r s info before place.
             cause-back r s _ before ((h s).establishment_trigger r s info (log_lines_of_sapi s before)
             (notified-kept r s (N.Opened info) before place));
-        established_once = λ r s. rw (notices-kept s r ls) at ((h s).established_once r s);
+        established_once = λ r s. rw (notices_in_log-kept s r ls) at ((h s).established_once r s);
         no_oversize = λ r s before place. (h s).no_oversize r s (log_lines_of_sapi s before) (notified-kept r s N.Oversize before place);
       }
 
-  pub order_by_link : IsOrderedLog (log_lines_of_sapi Zero ls) → IsOrderedLog (log_lines_of_sapi Three ls) → IsOrderedLog ls
+  pub order_by_link : HasNoticesInOrder (log_lines_of_sapi Zero ls) → HasNoticesInOrder (log_lines_of_sapi Three ls)
+      → HasNoticesInOrder ls
   order_by_link of_0 of_3 =
-      let h = each_link IsOrderedLog ls of_0 of_3 in
+      let h = each_link HasNoticesInOrder ls of_0 of_3 in
       record {
-        acked_in_order = λ r s n before place. rw (notices-kept s r before, calls_in_log-kept s r before)
+        acked_in_order = λ r s n before place. rw (notices_in_log-kept s r before, calls_in_log-kept s r before)
             at ((h s).acked_in_order r s n (log_lines_of_sapi s before) (notified-kept r s _ _ place));
-        established_once = λ r s. rw (notices-kept s r ls) at ((h s).established_once r s);
-        closed_once = λ r s. rw (notices-kept s r ls) at ((h s).closed_once r s);
+        established_once = λ r s. rw (notices_in_log-kept s r ls) at ((h s).established_once r s);
+        closed_once = λ r s. rw (notices_in_log-kept s r ls) at ((h s).closed_once r s);
         only_while_open = λ r s n before of place.
             open-kept r s before ((h s).only_while_open r s n (log_lines_of_sapi s before) of (notified-kept r s n before place));
       }
@@ -958,4 +876,4 @@ module _ (ls : List LogLine) where
       AckedAtMostDelivered ls
   counts_by_link of_0 of_3 r s =
       let h = each_link AckedAtMostDelivered ls of_0 of_3 in
-      rw (notices-kept s r ls, notices-kept s (other r) ls) at (h s r s)
+      rw (notices_in_log-kept s r ls, notices_in_log-kept s (other r) ls) at (h s r s)

@@ -1,10 +1,14 @@
 -- Worked examples of sessions, and for each claim a log that violates it.
-use Rattle.lapdm_link.proofs.Words.{◌≡◌, refl, arith, ℕ, false, List, [], ◌∷◌, ◌++◌, replicate, inl, inr, Option, Some}
-use Rattle.lapdm_link.proofs.Words.{None, Sdcch, I, Ui, Frame, Message, zero, suc, Contains, Zero, Three, Role, Mobile, Network, Opens}
-use Rattle.lapdm_link.proofs.Words.{OpensWithoutInfo, Sends, SendsUi, Closes, T200Expires, queue_of, Event, Send, Close, T200Expiry, Open}
-use Rattle.lapdm_link.proofs.Words.{OpenBare, Ask, Deliver, Lose, Rival, World, initial_world, initial_session, world_after, answers}
-use Rattle.lapdm_link.proofs.Words.{IsBenign, LogLine, Asked, RivalSabm, Notified, lines, Claims, IsOrderedLog, IsSubsequence}
-use Rattle.lapdm_link.specs.Events.{SendUi, unbounded_capacity}
+use Rattle.{
+  lapdm_link.{
+    proofs.Delivery.Steps.Events.Words.{◌≡◌, refl, arith, ℕ, false, List, [], ◌∷◌, ◌++◌, replicate, Option, Some, None},
+    proofs.Delivery.Steps.Events.Words.{Sdcch, I, Ui, Frame, Message, Zero, Three, Role, Mobile, Network, Opens, OpensWithoutInfo, Sends},
+    proofs.Delivery.Steps.Events.Words.{SendsUi, Closes, T200Expires, queue_of, Event, Send, Close, T200Expiry, Open, OpenBare, Ask},
+    proofs.Delivery.Steps.Events.Words.{Deliver, Lose, Rival, World, initial_world, initial_session, world_after, answers, IsBenign},
+    proofs.Delivery.Steps.Events.Words.{LogLine, Asked, RivalSabm, Notified, session_log, Claims, HasNoticesInOrder},
+    specs.Events.{SendUi, unbounded_capacity},
+  },
+}
 use Rattle.lapdm_window.specs.declared.Notice.TheVariants as N
 use Rattle.lapdm_window.specs.declared.Reason.TheVariants as R
 
@@ -26,7 +30,7 @@ played [] w = []
 played (move ∷ moves) w = event_of move w ∷ played moves (world_after (event_of move w) w)
 
 abbrev lines_of : List Event → List LogLine
-lines_of events = lines events (answers events (initial_session Sdcch))
+lines_of events = session_log events (answers events (initial_session Sdcch))
 
 abbrev notified : List Move → List LogLine
 notified moves = lines_of (played moves (initial_session Sdcch))
@@ -34,10 +38,8 @@ notified moves = lines_of (played moves (initial_session Sdcch))
 -- ---- contention: another mobile's SABM arrives first, so the UA has other information and this mobile gives up
 
 contention : notified (Happens (Rival (7 ∷ [])) ∷ Happens (Open (1 ∷ [])) ∷ Arrives Mobile ∷ Arrives Mobile ∷ Arrives Network
-    ∷ [])
-    ≡ RivalSabm (7 ∷ []) ∷ Asked Mobile Zero (Opens (1 ∷ [])) ∷ Notified Network Zero (N.Opened (7 ∷ []))
-    ∷ Notified Mobile Zero
-    (N.Closed R.Contention) ∷ []
+    ∷ []) ≡ RivalSabm (7 ∷ []) ∷ Asked Mobile Zero (Opens (1 ∷ [])) ∷ Notified Network Zero (N.Opened (7 ∷ []))
+    ∷ Notified Mobile Zero (N.Closed R.Contention) ∷ []
 contention = refl
 
 abbrev opening : List Move
@@ -53,11 +55,9 @@ abbrev long : Message
 long = replicate 41 9
 
 segments : notified (opening ++ Happens (Ask Mobile Zero (Send long)) ∷ Arrives Mobile ∷ Arrives Network ∷ Happens (Lose Mobile)
-    ∷ Happens
-    (Ask Mobile Zero T200Expiry) ∷ Arrives Mobile ∷ Arrives Network ∷ Arrives Mobile ∷ Arrives Network ∷ [])
+    ∷ Happens (Ask Mobile Zero T200Expiry) ∷ Arrives Mobile ∷ Arrives Network ∷ Arrives Mobile ∷ Arrives Network ∷ [])
     ≡ opened ++ Asked Mobile Zero (Sends long) ∷ Asked Mobile Zero T200Expires ∷ Notified Network Zero (N.Got long)
-    ∷ Notified Mobile Zero
-    (N.Acked 1) ∷ []
+    ∷ Notified Mobile Zero (N.Acked 1) ∷ []
 segments = refl
 
 -- ---- T200 expires too early: each segment arrives twice; the second arrival is answered by a REJ, which makes the sender repeat the next
@@ -68,20 +68,16 @@ crossing : notified (opening
     Happens (Ask Mobile Zero (Send (6 ∷ []))) ∷ Arrives Network ∷ Arrives Network
     ∷ Arrives Mobile ∷ Arrives Mobile ∷ Arrives Network ∷ Arrives Network ∷ [])
     ≡ opened ++ Asked Mobile Zero (Sends (5 ∷ [])) ∷ Asked Mobile Zero T200Expires ∷ Notified Network Zero (N.Got (5 ∷ []))
-    ∷ Asked Mobile
-    Zero
-    (Sends (6 ∷ [])) ∷ Notified Mobile Zero (N.Acked 1)
+    ∷ Asked Mobile Zero (Sends (6 ∷ [])) ∷ Notified Mobile Zero (N.Acked 1)
     ∷ Notified Network Zero (N.Got (6 ∷ [])) ∷ Notified Mobile Zero (N.Acked 2) ∷ []
 crossing = refl
 
 -- ---- both sides establish SAPI 3 at the same time
 
 collision : notified (Happens (OpenBare Mobile) ∷ Happens (OpenBare Network) ∷ Arrives Mobile ∷ Arrives Network ∷ Arrives Mobile
-    ∷ Arrives
-    Network ∷ Happens (Ask Mobile Three (Send (5 ∷ []))) ∷ Arrives Mobile ∷ Arrives Network ∷ [])
+    ∷ Arrives Network ∷ Happens (Ask Mobile Three (Send (5 ∷ []))) ∷ Arrives Mobile ∷ Arrives Network ∷ [])
     ≡ Asked Mobile Three OpensWithoutInfo ∷ Asked Network Three OpensWithoutInfo ∷ Notified Network Three (N.Opened []) ∷ Notified
-    Mobile Three
-    (N.Opened []) ∷ Asked Mobile Three (Sends (5 ∷ []))
+    Mobile Three (N.Opened []) ∷ Asked Mobile Three (Sends (5 ∷ []))
     ∷ Notified Network Three (N.Got (5 ∷ [])) ∷ Notified Mobile Three (N.Acked 1) ∷ []
 collision = refl
 
@@ -105,15 +101,11 @@ is_harmless : IsBenign (sending ++ Deliver Mobile (Some (segment 2)) ∷ []) (in
 is_harmless = (tt, (refl, (refl, (tt, (refl, tt)))))
 
 forged : lines_of (sending ++ Deliver Mobile (Some (segment 3)) ∷ []) ≡ opened ++ Asked Mobile Zero (Sends (2 ∷ []))
-    ∷ Notified Network Zero
-    (N.Got (3 ∷ [])) ∷ []
+    ∷ Notified Network Zero (N.Got (3 ∷ [])) ∷ []
 forged = refl
 
 forged_breaks : Claims (lines_of (sending ++ Deliver Mobile (Some (segment 3)) ∷ [])) → ⊥
-forged_breaks h = other_message (h.in_order Mobile Zero).0 (h.in_order Mobile Zero).1
-  where
-    other_message : (more : List Message) → (3 ∷ []) ∷ more ≡ (2 ∷ []) ∷ [] → ⊥
-    other_message more e = cc e
+forged_breaks h = let e : (3 ∷ []) ∷ (h.in_order Mobile Zero).0 ≡ (2 ∷ []) ∷ [] = (h.in_order Mobile Zero).1 in cc e
 
 -- ---- each premise is needed: the claims fail if a frame arrives twice, or before an older one (queues of unlimited length allow this), or
 -- if frames were in transit or links open before the session
@@ -123,7 +115,7 @@ moved [] w = w
 moved (move ∷ moves) w = moved moves (world_after (event_of move w) w)
 
 abbrev notified_from : World → List Move → List LogLine
-notified_from w moves = let events = played moves w in lines events (answers events w)
+notified_from w moves = let events = played moves w in session_log events (answers events w)
 
 abbrev unbounded_world : World
 unbounded_world = initial_world unbounded_capacity Sdcch
@@ -135,16 +127,11 @@ abbrev given : ℕ → Move
 given octet = Happens (Deliver Mobile (Some (record { sapi = 0; cr = false; content = Ui false (octet ∷ []) })))
 
 given_twice : notified_from unbounded_world (sends_unit 4 ∷ given 4 ∷ given 4 ∷ []) ≡ Asked Mobile Zero (SendsUi
-    (4 ∷ [])) ∷ Notified Network Zero
-    (N.Unit (4 ∷ [])) ∷ Notified Network Zero (N.Unit (4 ∷ [])) ∷ []
+    (4 ∷ [])) ∷ Notified Network Zero (N.Unit (4 ∷ [])) ∷ Notified Network Zero (N.Unit (4 ∷ [])) ∷ []
 given_twice = refl
 
 given_twice_breaks : Claims (notified_from unbounded_world (sends_unit 4 ∷ given 4 ∷ given 4 ∷ [])) → ⊥
-given_twice_breaks h = none (h.ui_in_order Mobile Zero)
-  where
-    none : IsSubsequence ((4 ∷ []) ∷ (4 ∷ []) ∷ []) ((4 ∷ []) ∷ []) → ⊥
-    none (inl same) = let e = same.1 in cc e
-    none (inr e) = cc e
+given_twice_breaks h = grind (arith, h.ui_in_order Mobile Zero)
 
 out_of_order : notified_from unbounded_world (sends_unit 4 ∷ sends_unit 5 ∷ given 5 ∷ given 4 ∷ []) ≡
     Asked Mobile Zero (SendsUi (4 ∷ []))
@@ -153,51 +140,36 @@ out_of_order : notified_from unbounded_world (sends_unit 4 ∷ sends_unit 5 ∷ 
 out_of_order = refl
 
 out_of_order_breaks : Claims (notified_from unbounded_world (sends_unit 4 ∷ sends_unit 5 ∷ given 5 ∷ given 4 ∷ [])) → ⊥
-out_of_order_breaks h = none (h.ui_in_order Mobile Zero)
-  where
-    none : IsSubsequence ((5 ∷ []) ∷ (4 ∷ []) ∷ []) ((4 ∷ []) ∷ (5 ∷ []) ∷ []) → ⊥
-    none (inl same) = let e = same.0 in cc e
-    none (inr (inl same)) = let e = same.1 in cc e
-    none (inr (inr e)) = cc e
+out_of_order_breaks h = grind (arith, h.ui_in_order Mobile Zero)
 
 -- a state in which the network's UA from an earlier establishment is still in transit
 abbrev with_old_ua : World
 with_old_ua = record (initial_session Sdcch) {
-  queues = (moved (Happens (Open (1 ∷ [])) ∷ Arrives Mobile ∷ [])
-      (initial_session Sdcch)).queues;
+  queues = (moved (Happens (Open (1 ∷ [])) ∷ Arrives Mobile ∷ []) (initial_session Sdcch)).queues;
 }
 
 stale_answer : notified_from with_old_ua (Happens (Open (1 ∷ [])) ∷ Arrives Network ∷ []) ≡ Asked Mobile Zero (Opens
-    (1 ∷ [])) ∷ Notified Mobile
-    Zero
-    (N.Opened (1 ∷ [])) ∷ []
+    (1 ∷ [])) ∷ Notified Mobile Zero (N.Opened (1 ∷ [])) ∷ []
 stale_answer = refl
 
 stale_answer_breaks : Claims (notified_from with_old_ua (Happens (Open (1 ∷ [])) ∷ Arrives Network ∷ [])) → ⊥
 stale_answer_breaks h =
-    let cause = h.establishment_trigger Mobile Zero (1 ∷ []) (Asked Mobile Zero (Opens (1 ∷ [])) ∷ []) ([], refl) in
-    not_notified cause.0
-  where
-    not_notified : Contains (Asked Mobile Zero (Opens (1 ∷ [])) ∷ []) (Notified Network Zero (N.Opened (1 ∷ []))) → ⊥
-    not_notified (zero, few, e) = cc e
-    not_notified (suc k, few, e) = omega (arith, few)
+    grind (arith, (h.establishment_trigger Mobile Zero (1 ∷ []) (Asked Mobile Zero (Opens (1 ∷ [])) ∷ []) ([], refl)).0)
 
 -- a state in which both endpoints are open before the session begins
 abbrev restored : World
 restored = record (initial_session Sdcch) { ends = (moved opening (initial_session Sdcch)).ends }
 
 open_before : notified_from restored (Happens (Ask Mobile Zero (Send (2 ∷ []))) ∷ Arrives Mobile ∷ []) ≡
-    Asked Mobile Zero (Sends (2 ∷ []))
-    ∷ Notified Network Zero (N.Got (2 ∷ [])) ∷ []
+    Asked Mobile Zero (Sends (2 ∷ [])) ∷ Notified Network Zero (N.Got (2 ∷ [])) ∷ []
 open_before = refl
 
-open_before_breaks : IsOrderedLog (notified_from restored (Happens (Ask Mobile Zero (Send (2 ∷ []))) ∷ Arrives Mobile ∷ [])) → ⊥
-open_before_breaks h =
-    omega (
-      arith,
-      (h.only_while_open Network Zero (N.Got (2 ∷ [])) (Asked Mobile Zero (Sends (2 ∷ [])) ∷ []) tt
-          ([], refl)).opened_once,
-    )
+open_before_breaks : HasNoticesInOrder (notified_from restored (Happens (Ask Mobile Zero (Send (2 ∷ []))) ∷ Arrives Mobile ∷ []))
+    → ⊥
+open_before_breaks h = omega (
+  arith,
+  (h.only_while_open Network Zero (N.Got (2 ∷ [])) (Asked Mobile Zero (Sends (2 ∷ [])) ∷ []) tt ([], refl)).opened_once,
+)
 
 -- ---- logs that violate the other claims about delivery
 
@@ -205,25 +177,16 @@ early_acknowledgement : Claims (Notified Mobile Zero (N.Acked 1) ∷ []) → ⊥
 early_acknowledgement h = omega (arith, (h.acked_in_order Mobile Zero 1 [] ([], refl)).1)
 
 unit_from_nowhere : Claims (Notified Network Zero (N.Unit (3 ∷ [])) ∷ []) → ⊥
-unit_from_nowhere h = no_such ((3 ∷ []) ∷ []) refl (h.ui_in_order Mobile Zero)
-  where
-    no_such : (ms : List Message) → ms ≡ (3 ∷ []) ∷ [] → ms ≡ [] → ⊥
-    no_such ms e g = cc (e, g)
+unit_from_nowhere h = let e : (3 ∷ []) ∷ [] ≡ [] = h.ui_in_order Mobile Zero in cc e
 
 opened_alone : Claims (Notified Mobile Zero (N.Opened (1 ∷ [])) ∷ []) → ⊥
 opened_alone h = (let cause = h.establishment_trigger _ _ _ [] ([], refl) in omega (arith, cause.0.1))
 
 opened_by_nobody : Claims (Notified Network Zero (N.Opened (1 ∷ [])) ∷ []) → ⊥
-opened_by_nobody h = elim (h.establishment_trigger Network Zero (1 ∷ []) [] ([], refl)) [
-  | inl asked ↦ omega (arith, asked.1)
-  | inr rival ↦ omega (arith, rival.1)
-]
+opened_by_nobody h = grind (arith, h.establishment_trigger Network Zero (1 ∷ []) [] ([], refl))
 
 opened_unasked : Claims (Notified Mobile Three (N.Opened []) ∷ []) → ⊥
-opened_unasked h = elim (h.establishment_trigger Mobile Three [] [] ([], refl)) [
-  | inl asked ↦ omega (arith, asked.1)
-  | inr own ↦ omega (arith, own.0.1)
-]
+opened_unasked h = grind (arith, h.establishment_trigger Mobile Three [] [] ([], refl))
 
 opened_twice : Claims (Notified Mobile Zero (N.Opened []) ∷ Notified Mobile Zero (N.Opened []) ∷ []) → ⊥
 opened_twice h = omega (arith, h.established_once Mobile Zero)
@@ -233,34 +196,31 @@ too_long h = h.no_oversize Mobile Zero [] ([], refl)
 
 -- ---- logs that violate the claims about order
 
-acknowledged_unsent : IsOrderedLog (Notified Mobile Zero (N.Acked 1) ∷ []) → ⊥
+acknowledged_unsent : HasNoticesInOrder (Notified Mobile Zero (N.Acked 1) ∷ []) → ⊥
 acknowledged_unsent h = omega (arith, (h.acked_in_order Mobile Zero 1 [] ([], refl)).1)
 
-wrong_number : IsOrderedLog (Asked Mobile Zero (Sends []) ∷ Notified Mobile Zero (N.Acked 2) ∷ []) → ⊥
-wrong_number h = not_one 2 (h.acked_in_order Mobile Zero 2 (Asked Mobile Zero (Sends []) ∷ []) ([], refl)).0 refl
-  where
-    not_one : (n : ℕ) → n ≡ 1 → n ≡ 2 → ⊥
-    not_one n h g = omega (arith, h, g)
+wrong_number : HasNoticesInOrder (Asked Mobile Zero (Sends []) ∷ Notified Mobile Zero (N.Acked 2) ∷ []) → ⊥
+wrong_number h = cc (h.acked_in_order Mobile Zero 2 (Asked Mobile Zero (Sends []) ∷ []) ([], refl)).0
 
-opened_again : IsOrderedLog (Notified Mobile Zero (N.Opened []) ∷ Notified Mobile Zero (N.Opened []) ∷ []) → ⊥
+opened_again : HasNoticesInOrder (Notified Mobile Zero (N.Opened []) ∷ Notified Mobile Zero (N.Opened []) ∷ []) → ⊥
 opened_again h = omega (arith, h.established_once Mobile Zero)
 
-closed_again : IsOrderedLog (Notified Mobile Zero (N.Closed R.Failed) ∷ Notified Mobile Zero (N.Closed R.Failed) ∷ []) → ⊥
+closed_again : HasNoticesInOrder (Notified Mobile Zero (N.Closed R.Failed) ∷ Notified Mobile Zero (N.Closed R.Failed) ∷ []) → ⊥
 closed_again h = omega (arith, h.closed_once Mobile Zero)
 
-delivered_unopened : IsOrderedLog (Notified Mobile Zero (N.Got []) ∷ []) → ⊥
+delivered_unopened : HasNoticesInOrder (Notified Mobile Zero (N.Got []) ∷ []) → ⊥
 delivered_unopened h = omega (arith, (h.only_while_open Mobile Zero (N.Got []) [] tt ([], refl)).opened_once)
 
 abbrev an_open_end : List LogLine
 an_open_end = Notified Mobile Zero (N.Opened []) ∷ []
 
-delivered_when_closed : IsOrderedLog (an_open_end ++ Notified Mobile Zero (N.Closed R.Failed) ∷ Notified Mobile Zero (N.Got [])
+delivered_when_closed : HasNoticesInOrder (an_open_end ++ Notified Mobile Zero (N.Closed R.Failed) ∷ Notified Mobile Zero (N.Got [])
     ∷ []) → ⊥
 delivered_when_closed h =
     let before = an_open_end ++ Notified Mobile Zero (N.Closed R.Failed) ∷ [] in
     (h.only_while_open _ _ _ before tt ([], refl)).not_closed R.Failed (1, omega arith, refl)
 
-delivered_when_closing : IsOrderedLog (an_open_end ++ Asked Mobile Zero Closes ∷ Notified Mobile Zero (N.Got []) ∷ []) → ⊥
+delivered_when_closing : HasNoticesInOrder (an_open_end ++ Asked Mobile Zero Closes ∷ Notified Mobile Zero (N.Got []) ∷ []) → ⊥
 delivered_when_closing h =
     let before = an_open_end ++ Asked Mobile Zero Closes ∷ [] in
     (h.only_while_open _ _ _ before tt ([], refl)).release_not_requested (1, omega arith, refl)

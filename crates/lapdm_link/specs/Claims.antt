@@ -10,9 +10,9 @@ use Rattle.lapdm_window.specs.declared.Reason.{Reason}
 use Rattle.lapdm_window.specs.declared.Notice.{Notice}
 use Rattle.lapdm_window.specs.declared.Notice.TheVariants as N
 use Rattle.lapdm_window.specs.Ends.{Role, Mobile, Network, sapi_number, capped_at_64_bits}
-pub use Rattle.lapdm_window.specs.Steps.{got_message}
+pub use Rattle.lapdm_window.specs.Steps.{message_in_got_notice}
 use Rattle.lapdm_window.specs.Calls.{Call, Opens, OpensWithoutInfo, Sends, SendsUi, Closes}
-use Rattle.lapdm_link.specs.Events.{EventWith, Open, OpenBare, Ask, Rival, Answer, Refuses, Accepts, Who, BySide, call_of, other}
+use Rattle.lapdm_link.specs.Events.{EventWith, Open, OpenBare, Ask, Rival, Answer, Refuses, Accepts, Who, BySide, endpoint_call_of, other}
 
 -- a line of the log: a call that was not refused, a SABM sent by another mobile, or a notice that an endpoint reported
 pub data LogLine : Type 0 where
@@ -24,12 +24,12 @@ pub data LogLine : Type 0 where
 abbrev pub event_log_lines : {Arrival : Type 0} → EventWith Arrival → List LogLine
 event_log_lines (Open info) = Asked Mobile Zero (Opens info) ∷ []
 event_log_lines (OpenBare role) = Asked role Three OpensWithoutInfo ∷ []
-event_log_lines (Ask role sapi request) = Asked role sapi (call_of request) ∷ []
+event_log_lines (Ask role sapi request) = Asked role sapi (endpoint_call_of request) ∷ []
 event_log_lines (Rival info) = RivalSabm info ∷ []
 event_log_lines other = []
 
 -- the log lines of the notices that a side reports in a step; if another mobile or nobody acts, there are none
-abbrev pub notice_log_lines : Who → Sapi → List Notice → List LogLine
+abbrev pub notice_log_lines : (who : Who) (sapi : Sapi) (notices : List Notice) → List LogLine
 notice_log_lines (BySide role) sapi ns = map (Notified role sapi) ns
 notice_log_lines who sapi ns = []
 
@@ -39,18 +39,18 @@ answer_log_lines event (Refuses why) = []
 answer_log_lines event (Accepts who sapi frames notices) = event_log_lines event ++ notice_log_lines who sapi notices
 
 -- the log of a session with these events and answers
-abbrev pub lines : {Arrival : Type 0} → List (EventWith Arrival) → List Answer → List LogLine
-lines (event ∷ events) (answer ∷ answers) = answer_log_lines event answer ++ lines events answers
-lines events answers = []
+abbrev pub session_log : {Arrival : Type 0} (events : List (EventWith Arrival)) (answers : List Answer) → List LogLine
+session_log (event ∷ events) (answer ∷ answers) = answer_log_lines event answer ++ session_log events answers
+session_log events answers = []
 
 -- whether two roles are equal
-abbrev pub is_same_role : Role → Role → Bool
+abbrev pub is_same_role : (role other_role : Role) → Bool
 is_same_role Mobile Mobile = true
 is_same_role Network Network = true
 is_same_role r r' = false
 
 -- whether two SAPIs are equal
-abbrev pub is_same_sapi : Sapi → Sapi → Bool
+abbrev pub is_same_sapi : (sapi other_sapi : Sapi) → Bool
 is_same_sapi s s' = nat_eq (sapi_number s') (sapi_number s)
 
 -- the call in this log line, if it is a call to the endpoint with this role and SAPI
@@ -64,12 +64,12 @@ notice_in_line r s (Notified role sapi notice) = if is_same_role r role && is_sa
 notice_in_line r s other = None
 
 -- all calls in the log to the endpoint with this role and SAPI, in order
-abbrev pub calls_in_log : Role → Sapi → List LogLine → List Call
+abbrev pub calls_in_log : (role : Role) (sapi : Sapi) (log : List LogLine) → List Call
 calls_in_log r s ls = filter_map (call_in_line r s) ls
 
 -- all notices in the log from the endpoint with this role and SAPI, in order
-abbrev pub notices : Role → Sapi → List LogLine → List Notice
-notices r s ls = filter_map (notice_in_line r s) ls
+abbrev pub notices_in_log : (role : Role) (sapi : Sapi) (log : List LogLine) → List Notice
+notices_in_log r s ls = filter_map (notice_in_line r s) ls
 
 -- the message that a call sends in I frames, or `None` for any other call
 abbrev pub message_sent_by_call : Call → Option Message
@@ -108,55 +108,55 @@ is_log_line_of_sapi s (RivalSabm info) = is_same_sapi s Zero
 is_log_line_of_sapi s (Notified role sapi notice) = is_same_sapi s sapi
 
 -- the log lines that belong to the link with this SAPI
-abbrev pub log_lines_of_sapi : Sapi → List LogLine → List LogLine
+abbrev pub log_lines_of_sapi : (sapi : Sapi) (log : List LogLine) → List LogLine
 log_lines_of_sapi s ls = filter_map (λ l. if is_log_line_of_sapi s l then Some l else None) ls
 
 -- the messages that layer 3 sends in I frames at the endpoint with this role and SAPI, in order
-abbrev pub sent_messages : Role → Sapi → List LogLine → List Message
+abbrev pub sent_messages : (role : Role) (sapi : Sapi) (log : List LogLine) → List Message
 sent_messages r s ls = filter_map message_sent_by_call (calls_in_log r s ls)
 
 -- the messages from I frames that the endpoint with this role and SAPI delivers to layer 3, in order
-abbrev pub delivered_messages : Role → Sapi → List LogLine → List Message
-delivered_messages r s ls = filter_map got_message (notices r s ls)
+abbrev pub delivered_messages : (role : Role) (sapi : Sapi) (log : List LogLine) → List Message
+delivered_messages r s ls = filter_map message_in_got_notice (notices_in_log r s ls)
 
 -- the messages that layer 3 sends in UI frames at the endpoint with this role and SAPI, in order
-abbrev pub ui_messages_sent : Role → Sapi → List LogLine → List Message
+abbrev pub ui_messages_sent : (role : Role) (sapi : Sapi) (log : List LogLine) → List Message
 ui_messages_sent r s ls = filter_map ui_message_of_call (calls_in_log r s ls)
 
 -- the messages from UI frames that the endpoint with this role and SAPI delivers to layer 3, in order
-abbrev pub ui_messages_delivered : Role → Sapi → List LogLine → List Message
-ui_messages_delivered r s ls = filter_map ui_message_in_notice (notices r s ls)
+abbrev pub ui_messages_delivered : (role : Role) (sapi : Sapi) (log : List LogLine) → List Message
+ui_messages_delivered r s ls = filter_map ui_message_in_notice (notices_in_log r s ls)
 
 -- the numbers of the messages that the endpoint with this role and SAPI reports as acknowledged, in order
-abbrev pub acked_message_numbers : Role → Sapi → List LogLine → List ℕ
-acked_message_numbers r s ls = filter_map acked_number_in_notice (notices r s ls)
+abbrev pub acked_message_numbers : (role : Role) (sapi : Sapi) (log : List LogLine) → List ℕ
+acked_message_numbers r s ls = filter_map acked_number_in_notice (notices_in_log r s ls)
 
 -- the information in each establishment that the endpoint with this role and SAPI reports, in order
-abbrev pub establishment_infos : Role → Sapi → List LogLine → List Message
-establishment_infos r s ls = filter_map opened_info_in_notice (notices r s ls)
+abbrev pub establishment_infos : (role : Role) (sapi : Sapi) (log : List LogLine) → List Message
+establishment_infos r s ls = filter_map opened_info_in_notice (notices_in_log r s ls)
 
 -- the notices that report a closed link, from the endpoint with this role and SAPI, in order
-abbrev pub close_notices : Role → Sapi → List LogLine → List Notice
-close_notices r s ls = filter_map as_close_notice (notices r s ls)
+abbrev pub close_notices : (role : Role) (sapi : Sapi) (log : List LogLine) → List Notice
+close_notices r s ls = filter_map as_close_notice (notices_in_log r s ls)
 
 -- the first list is a prefix of the second
-abbrev pub IsPrefix : {T : Type 0} → List T → List T → Type 0
+abbrev pub IsPrefix : {T : Type 0} (front whole : List T) → Type 0
 IsPrefix {T} xs ys = (more : List T) × (xs ++ more ≡ ys)
 
 -- the first list is a subsequence of the second, that is, the second list, perhaps without some of its elements
-abbrev pub IsSubsequence : List Message → List Message → Type 0
+abbrev pub IsSubsequence : (xs ys : List Message) → Type 0
 IsSubsequence xs [] = xs ≡ []
 IsSubsequence [] (y ∷ ys) = Unit {0}
 IsSubsequence (x ∷ xs) (y ∷ ys) = ((x ≡ y) × IsSubsequence xs ys) ⊎ IsSubsequence (x ∷ xs) ys
 
 -- the line occurs in the log, directly after the lines `before` and no others
-abbrev pub OccursAfter : List LogLine → LogLine → List LogLine → Type 0
+abbrev pub OccursAfter : (before : List LogLine) (line : LogLine) (log : List LogLine) → Type 0
 OccursAfter before line ls = (more : List LogLine) × (before ++ line ∷ more ≡ ls)
 
 -- what must precede a reported establishment in the log. On the mobile, SAPI 0: its own call and the network's report of the same
 -- establishment (section 5.4.1.4). On the network, SAPI 0: the mobile's call or the SABM of another mobile. On SAPI 3: the peer's call, or
 -- the endpoint's own call and the peer's report.
-abbrev pub HasEstablishmentTrigger : Role → Sapi → Message → List LogLine → Type 0
+abbrev pub HasEstablishmentTrigger : (role : Role) (sapi : Sapi) (info : Message) (before : List LogLine) → Type 0
 HasEstablishmentTrigger Mobile Zero info before = Contains before (Notified Network Zero (N.Opened info))
     × Contains before (Asked Mobile Zero (Opens info))
 HasEstablishmentTrigger Network Zero info before = Contains before (Asked Mobile Zero (Opens info)) ⊎ Contains before (RivalSabm info)
@@ -198,7 +198,7 @@ pub record IsOpenEndpoint (r : Role) (s : Sapi) (before : List LogLine) : Type 0
 -- The claims about order, for all sessions, whatever frames arrive. For each endpoint, acknowledgements are numbered 1, 2, ..., and each
 -- message is sent before it is acknowledged; the link is established at most once and closed at most once; and deliveries, acknowledgements
 -- and oversize messages are reported only while the link is open.
-pub record IsOrderedLog (ls : List LogLine) : Type 0 where
+pub record HasNoticesInOrder (ls : List LogLine) : Type 0 where
   pub acked_in_order : (r : Role) (s : Sapi) (n : ℕ) (before : List LogLine) → OccursAfter before (Notified r s (N.Acked n)) ls →
       (n ≡ capped_at_64_bits (length (acked_message_numbers r s before) + 1))
       × (length (acked_message_numbers r s before) + 1 ≤ length (sent_messages r s before))

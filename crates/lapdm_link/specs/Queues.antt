@@ -18,7 +18,7 @@ queue_of Mobile ws = ws.up
 queue_of Network ws = ws.down
 
 -- the queues, with the queue of this side replaced by the given items
-abbrev pub with_queue : {T : Type 0} → Role → List T → Queues T → Queues T
+abbrev pub with_queue : {T : Type 0} (role : Role) (items : List T) (queues : Queues T) → Queues T
 with_queue Mobile xs ws = record ws { up = xs }
 with_queue Network xs ws = record ws { down = xs }
 
@@ -27,15 +27,15 @@ abbrev pub without_first : {T : Type 0} → Role → Queues T → Queues T
 without_first sender ws = with_queue sender (drop 1 (queue_of sender ws)) ws
 
 -- the queues, with the given items appended to the queue of this side
-abbrev pub with_appended : {T : Type 0} → Role → List T → Queues T → Queues T
+abbrev pub with_appended : {T : Type 0} (sender : Role) (items : List T) (queues : Queues T) → Queues T
 with_appended sender xs ws = with_queue sender (queue_of sender ws ++ xs) ws
 
 -- the number of items in the queue of this side
-abbrev pub count : {T : Type 0} → Queues T → Role → ℕ
-count ws sender = length (queue_of sender ws)
+abbrev pub queue_length : {T : Type 0} → Queues T → Role → ℕ
+queue_length ws sender = length (queue_of sender ws)
 
 -- the arriving item, if there is one, is the first in this list, that is, the oldest item in transit
-abbrev pub IsOldestSentOrNone : {T : Type 0} → Option T → List T → Type 0
+abbrev pub IsOldestSentOrNone : {T : Type 0} (arrived : Option T) (sent : List T) → Type 0
 IsOldestSentOrNone None sent = Unit {0}
 IsOldestSentOrNone (Some x) [] = ⊥
 IsOldestSentOrNone (Some x) (first ∷ others) = x ≡ first

@@ -3,7 +3,7 @@ use Rattle.std.specs.Prelude.{◌≡◌, ◌≤◌, ◌⊎◌, All, List, [], �
 use Rattle.lapdm_window.specs.lapdm_frame.declared.Channel.{Channel}
 use Rattle.lapdm_window.specs.lapdm_frame.Content.{Content, Rr, Rej, Frame}
 use Rattle.lapdm_window.specs.lapdm_frame.Frames.{FrameFits}
-use Rattle.lapdm_link.specs.Queues.{Queues, empty_queues, queue_of, with_appended, count, IsOldestSentOrNone}
+use Rattle.lapdm_link.specs.Queues.{Queues, empty_queues, queue_of, with_appended, queue_length, IsOldestSentOrNone}
 use Rattle.lapdm_link.specs.Events.{Event, Deliver, BothSides, idle_endpoints, sending_role, SideStep}
 use Rattle.lapdm_link.specs.Events.{event_step, queues_after_removal, QueueCapacity}
 use Rattle.lapdm_link.specs.Events.{bounded_capacity}
@@ -33,10 +33,10 @@ initial_session channel = initial_world bounded_capacity channel
 
 -- the reason why the event is refused in this state, or `None` if it is carried out
 abbrev pub refusal : Event → World → Option EventRefusal
-refusal event w = refusal_with_capacity w.capacity w.channel (count w.queues) event w.ends
+refusal event w = refusal_with_capacity w.capacity w.channel (queue_length w.queues) event w.ends
 
 -- the answer to an event, given the reason for its refusal, if any, and the step that it would otherwise cause
-abbrev pub answer_unless_refused : Option EventRefusal → SideStep → Answer
+abbrev pub answer_unless_refused : (refused : Option EventRefusal) (step : SideStep) → Answer
 answer_unless_refused (Some why) d = Refuses why
 answer_unless_refused None d = Accepts d.who d.sapi d.frames d.notices
 
@@ -49,7 +49,7 @@ abbrev pub world_after_step : SideStep → World → World
 world_after_step d w = record w { ends = d.new_state; queues = with_appended (sending_role d.who) d.frames w.queues }
 
 -- the state after an event, given the reason for its refusal, if any
-abbrev pub world_unless_refused : Option EventRefusal → Event → World → World
+abbrev pub world_unless_refused : (refused : Option EventRefusal) (event : Event) (world : World) → World
 world_unless_refused (Some why) event w = w
 world_unless_refused None event w = world_after_step (event_step event w.ends) (record w { queues = queues_after_removal event w.queues })
 
@@ -58,17 +58,17 @@ abbrev pub world_after : Event → World → World
 world_after event w = world_unless_refused (refusal event w) event w
 
 -- the answers to a list of events, in order
-abbrev pub answers : List Event → World → List Answer
+abbrev pub answers : (events : List Event) (world : World) → List Answer
 answers [] w = []
 answers (event ∷ events) w = answer event w ∷ answers events (world_after event w)
 
 -- if the event delivers a frame and is not refused, the receiver reads the oldest frame in transit, or none
-abbrev pub IsBenignEvent : Option EventRefusal → Event → World → Type 0
+abbrev pub IsBenignEvent : (refused : Option EventRefusal) (event : Event) (world : World) → Type 0
 IsBenignEvent None (Deliver sender read) w = IsOldestSentOrNone read (queue_of sender w.queues)
 IsBenignEvent refused event w = Unit {0}
 
 -- the session is benign: each frame arrives in order and unchanged, or not at all
-abbrev pub IsBenign : List Event → World → Type 0
+abbrev pub IsBenign : (events : List Event) (world : World) → Type 0
 IsBenign [] w = Unit {0}
 IsBenign (event ∷ events) w = IsBenignEvent (refusal event w) event w × IsBenign events (world_after event w)
 
@@ -78,28 +78,28 @@ rr_for_rej (Rej nr pf) = Rr nr pf
 rr_for_rej c = c
 
 -- the frame read, if any, is the oldest frame sent; an RR with the same N(R) may replace a REJ
-abbrev pub IsOldestSentOrRr : Option Frame → List Frame → Type 0
+abbrev pub IsOldestSentOrRr : (arrived : Option Frame) (sent : List Frame) → Type 0
 IsOldestSentOrRr None sent = Unit {0}
 IsOldestSentOrRr (Some f) [] = ⊥
 IsOldestSentOrRr (Some f) (first ∷ others) = (f ≡ first) ⊎ (f ≡ record first { content = rr_for_rej first.content })
 
 -- if the event delivers a frame and is not refused, the receiver reads the oldest frame in transit, or none, or an RR in place of a REJ
 -- with the same N(R)
-abbrev pub EventAllowsRrForRej : Option EventRefusal → Event → World → Type 0
+abbrev pub EventAllowsRrForRej : (refused : Option EventRefusal) (event : Event) (world : World) → Type 0
 EventAllowsRrForRej None (Deliver sender read) w = IsOldestSentOrRr read (queue_of sender w.queues)
 EventAllowsRrForRej refused event w = Unit {0}
 
 -- the session is benign, except that an RR may be read where a REJ with the same N(R) was sent
-abbrev pub AllowsRrForRej : List Event → World → Type 0
+abbrev pub AllowsRrForRej : (events : List Event) (world : World) → Type 0
 AllowsRrForRej [] w = Unit {0}
 AllowsRrForRej (event ∷ events) w = EventAllowsRrForRej (refusal event w) event w × AllowsRrForRej events (world_after event w)
 
 -- if the event delivers a frame, the frame fits in a block of the channel, as does every frame read from a block
-abbrev pub ArrivingFrameFits : Channel → Event → Type 0
+abbrev pub ArrivingFrameFits : (channel : Channel) (event : Event) → Type 0
 ArrivingFrameFits channel (Deliver sender (Some f)) = FrameFits channel f
 ArrivingFrameFits channel event = Unit {0}
 
 -- the answer has at most two frames, each of which fits in a block of the channel, and at most two notices
-abbrev pub SentFramesFit : Channel → Answer → Type 0
+abbrev pub SentFramesFit : (channel : Channel) (answer : Answer) → Type 0
 SentFramesFit channel (Refuses why) = Unit {0}
 SentFramesFit channel (Accepts who sapi frames notices) = (length frames ≤ 2) × All (FrameFits channel) frames × (length notices ≤ 2)

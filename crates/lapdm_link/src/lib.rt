@@ -7,15 +7,15 @@ ghost use Rattle.lapdm_window.specs.declared.Sapi.TheVariants.{Zero, Three};
 ghost use Rattle.lapdm_window.specs.lapdm_frame.declared.Channel.{Channel};
 ghost use Rattle.lapdm_link.specs.Events.{QueueCapacity, Event};
 ghost use Rattle.lapdm_link.specs.Worlds.{initial_world, answers, IsBenign, AllowsRrForRej, ArrivingFrameFits, SentFramesFit};
-ghost use Rattle.lapdm_link.specs.Claims.{LogLine, log_lines_of_sapi, lines, Claims, IsOrderedLog, AckedAtMostDelivered};
+ghost use Rattle.lapdm_link.specs.Claims.{LogLine, log_lines_of_sapi, session_log, Claims, HasNoticesInOrder, AckedAtMostDelivered};
 
 /// Law: if each frame arrives in order and unchanged, or is lost, each endpoint delivers a prefix of the messages that its peer sent, and
 /// each message is delivered before it is reported as acknowledged. The queues may have any capacity, and other mobiles may send SABM
 /// frames at any time.
 #[tactic(auto, using(crate::proofs::Delivery::claims))]
-pub fn law_delivers_in_order()
+pub fn law_lapdm_delivers_in_order()
     ensures { (capacity : QueueCapacity) (channel : Channel) (events : List Event) → IsBenign events (initial_world capacity channel)
-        → Claims (lines events (answers events (initial_world capacity channel))) }
+        → Claims (session_log events (answers events (initial_world capacity channel))) }
 {}
 
 /// Law: messages are delivered in order, and before they are reported as acknowledged, even if an RR arrives in place of a REJ with the
@@ -23,39 +23,40 @@ pub fn law_delivers_in_order()
 pub fn law_rr_may_replace_rej()
     ensures delivery { (capacity : QueueCapacity) (channel : Channel) (events : List Event) →
         AllowsRrForRej events (initial_world capacity channel)
-        → Claims (lines events (answers events (initial_world capacity channel))) }
+        → Claims (session_log events (answers events (initial_world capacity channel))) }
     ensures acked_at_most_delivered { (capacity : QueueCapacity) (channel : Channel) (events : List Event) →
         AllowsRrForRej events (initial_world capacity channel)
-        → AckedAtMostDelivered (lines events (answers events (initial_world capacity channel))) }
+        → AckedAtMostDelivered (session_log events (answers events (initial_world capacity channel))) }
 {}
 
 /// Law: whatever frames arrive, an endpoint reports a message as acknowledged only after the message was sent. Its link is established at
 /// most once, and it reports deliveries and acknowledgements only while the link is open.
 #[tactic(auto, using(crate::proofs::Steps::order_claims))]
-pub fn law_log_is_ordered()
+pub fn law_lapdm_log_is_ordered()
     ensures { (capacity : QueueCapacity) (channel : Channel) (events : List Event)
-        → IsOrderedLog (lines events (answers events (initial_world capacity channel))) }
+        → HasNoticesInOrder (session_log events (answers events (initial_world capacity channel))) }
 {}
 
 /// Law: if each frame arrives in order and unchanged, or is lost, no endpoint has more messages acknowledged than its peer has delivered.
-pub fn law_acked_at_most_delivered()
+pub fn law_lapdm_acked_at_most_delivered()
     ensures { (capacity : QueueCapacity) (channel : Channel) (events : List Event) → IsBenign events (initial_world capacity channel)
-        → AckedAtMostDelivered (lines events (answers events (initial_world capacity channel))) }
+        → AckedAtMostDelivered (session_log events (answers events (initial_world capacity channel))) }
 {}
 
 /// Law: if each arriving frame fits in a block, each step sends at most two frames, which also fit in blocks, and reports at most two
 /// notices.
 #[tactic(auto, using(crate::proofs::Events::small_answers))]
-pub fn law_sent_frames_fit_blocks()
+pub fn law_session_frames_fit_blocks()
     ensures { (capacity : QueueCapacity) (channel : Channel) (events : List Event) → All (ArrivingFrameFits channel) events
         → All (SentFramesFit channel) (answers events (initial_world capacity channel)) }
 {}
 
 /// Law: claims that hold for the log lines of each SAPI hold for the whole log, so each link may have its own channel or queue.
-pub fn law_claims_combine_by_link()
+pub fn law_claims_per_sapi_hold_for_whole_log()
     ensures delivery { (ls : List LogLine) → Claims (log_lines_of_sapi Zero ls) → Claims (log_lines_of_sapi Three ls) → Claims ls }
-    ensures order { (ls : List LogLine) → IsOrderedLog (log_lines_of_sapi Zero ls) → IsOrderedLog (log_lines_of_sapi Three ls) →
-        IsOrderedLog ls }
+    ensures order { (ls : List LogLine) → HasNoticesInOrder (log_lines_of_sapi Zero ls)
+        → HasNoticesInOrder (log_lines_of_sapi Three ls) →
+        HasNoticesInOrder ls }
     ensures acked_at_most_delivered { (ls : List LogLine) →
         AckedAtMostDelivered (log_lines_of_sapi Zero ls) → AckedAtMostDelivered (log_lines_of_sapi Three ls) → AckedAtMostDelivered ls }
 {}

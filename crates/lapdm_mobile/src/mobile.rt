@@ -5,7 +5,7 @@ ghost use Rattle.lapdm_end.specs.lapdm_frame.declared.Channel.TheVariants as C;
 ghost use Rattle.lapdm_end.specs.lapdm_frame.Content.{frame_of};
 ghost use Rattle.lapdm_end.specs.lapdm_frame.Frames.{FrameFits};
 ghost use Rattle.lapdm_end.specs.lapdm_window.declared.Sapi.TheVariants as S;
-ghost use Rattle.lapdm_end.specs.lapdm_window.Ends.{EndpointState, start};
+ghost use Rattle.lapdm_end.specs.lapdm_window.Ends.{EndpointState, initial_endpoint};
 ghost use Rattle.lapdm_end.specs.lapdm_window.Ends as E;
 ghost use Rattle.lapdm_end.specs.lapdm_window.Calls.{call_outcome, Opens, OpensWithoutInfo, Sends, SendsUi, Closes, T200Expires, SendsFill};
 ghost use Rattle.lapdm_end.specs.lapdm_window.Tables.{frame_outcome};
@@ -25,7 +25,7 @@ impl Mobile {
 
     /// Creates an endpoint in Idle, for SAPI 0 on SDCCH.
     pub fn new() -> Mobile
-        ensures represents { Represents (endpoint_of result) (start E.Mobile S.Zero C.Sdcch) }
+        ensures represents { Represents (endpoint_of result) (initial_endpoint E.Mobile S.Zero C.Sdcch) }
         ensures sapi { sapi_of (endpoint_of result) ≡ S.Zero }
         ensures channel { channel_of (endpoint_of result) ≡ C.Sdcch }
     {
@@ -34,7 +34,7 @@ impl Mobile {
 
     /// Creates an endpoint in Idle, for this SAPI on SDCCH.
     pub fn with_sapi(sapi: Sapi) -> Mobile
-        ensures represents { Represents (endpoint_of result) (start E.Mobile sapi C.Sdcch) }
+        ensures represents { Represents (endpoint_of result) (initial_endpoint E.Mobile sapi C.Sdcch) }
         ensures sapi { sapi_of (endpoint_of result) ≡ sapi }
         ensures channel { channel_of (endpoint_of result) ≡ C.Sdcch }
     {
@@ -43,7 +43,7 @@ impl Mobile {
 
     /// Creates an endpoint in Idle, for this SAPI on this channel.
     pub fn new_on(sapi: Sapi, channel: Channel) -> Mobile
-        ensures represents { Represents (endpoint_of result) (start E.Mobile sapi channel) }
+        ensures represents { Represents (endpoint_of result) (initial_endpoint E.Mobile sapi channel) }
         ensures sapi { sapi_of (endpoint_of result) ≡ sapi }
         ensures channel { channel_of (endpoint_of result) ≡ channel }
     {

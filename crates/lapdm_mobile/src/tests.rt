@@ -128,7 +128,7 @@ fn mobile_in_opening(rt: &impl Abort) -> Session {
     session
 }
 
-fn opened(rt: &impl Abort) -> Session {
+fn session_with_open_link(rt: &impl Abort) -> Session {
     let mut session = mobile_in_opening(rt);
     let expected_notice = Some(Notice::Opened(Message::new(&[1, 2])));
     let ua = Body::Ua {
@@ -167,7 +167,7 @@ fn is_refused_by_dm(rt: HostRuntime) {
 
 #[test]
 fn fails_after_23_repetitions(rt: HostRuntime) {
-    let mut session = opened(&rt);
+    let mut session = session_with_open_link(&rt);
     assert!(rt; sends_and_reports(&session.end.send(&[0xaa]), &[0x01, 0x00, 0x05, 0xaa], None));
     for _ in 0..23 {
         assert!(rt; sends_and_reports(&session.end.timer(), &[0x01, 0x10, 0x05, 0xaa], None));
@@ -191,7 +191,7 @@ fn fails_after_5_repetitions_on_sacch(rt: HostRuntime) {
 
 #[test]
 fn closes_the_link(rt: HostRuntime) {
-    let mut session = opened(&rt);
+    let mut session = session_with_open_link(&rt);
     assert!(rt; sends_and_reports(&session.end.close(), &[0x01, 0x53, 0x01], None));
     open_is_refused(&rt, &mut session);
     send_and_close_are_refused(&rt, &mut session);

@@ -87,7 +87,7 @@ fn i_frame<'a>(ns: u8, nr: u8, more: bool, info: &'a [u8]) -> Body<'a> {
     }
 }
 
-fn opened(rt: &impl Abort) -> Session {
+fn session_with_open_link(rt: &impl Abort) -> Session {
     let mut session = Session::new(Sapi::Zero, Channel::Sdcch);
     let sabm = Body::Sabm {
         p: true,
@@ -100,7 +100,7 @@ fn opened(rt: &impl Abort) -> Session {
 
 #[test]
 fn answers_a_repeated_sabm_and_rejects_a_repeated_segment_once(rt: HostRuntime) {
-    let mut session = opened(&rt);
+    let mut session = session_with_open_link(&rt);
     let sabm = |info| Body::Sabm { p: true, info };
     let got = Some(Notice::Got(Message::new(&[0xaa])));
     session.take_and_check(
@@ -126,7 +126,7 @@ fn answers_a_repeated_sabm_and_rejects_a_repeated_segment_once(rt: HostRuntime) 
 
 #[test]
 fn discards_a_message_that_its_last_segment_makes_too_long(rt: HostRuntime) {
-    let mut session = opened(&rt);
+    let mut session = session_with_open_link(&rt);
     for i in 0..13u8 {
         let ready = [0x01, 32 * ((i + 1) % 8) + 1, 0x01];
         session.take_and_check(&rt, false, i_frame(i % 8, 0, true, &[7; 20]), &ready, None);
@@ -150,7 +150,7 @@ fn discards_a_message_that_its_last_segment_makes_too_long(rt: HostRuntime) {
 
 #[test]
 fn ignores_what_the_mobile_does_not_send(rt: HostRuntime) {
-    let mut session = opened(&rt);
+    let mut session = session_with_open_link(&rt);
     session.take_and_check(&rt, true, i_frame(0, 0, false, &[0xaa]), &[], None);
     let other = FrameView {
         sapi: 5,
@@ -183,7 +183,7 @@ fn ignores_other_nr(rt: &impl Abort, session: &mut Session, number: u8) {
 
 #[test]
 fn ignores_every_wrong_nr_in_any_state_of_the_window(rt: HostRuntime) {
-    let mut session = opened(&rt);
+    let mut session = session_with_open_link(&rt);
     for round in 0..9u8 {
         let va = round % 8;
         ignores_other_nr(&rt, &mut session, 8);

@@ -1,9 +1,18 @@
 -- Worked examples of sessions of two endpoints whose frames arrive in order or are lost.
-use Rattle.std.proofs.Common.{◌≡◌, ℕ, true, false, List, [], ◌∷◌, ◌++◌, map, drop, replicate, refl, Ok, Err, Result}
-use Rattle.segmenting.specs.lapdm_frame.{declared.Channel.{Channel, TheVariants.{Sdcch, Sacch}}, Content.{Sabm, Frame}, Frames.octets_of}
-use Rattle.segmenting.specs.Segments.{Message}
-use Rattle.lapdm_window.specs.{declared.{Sapi.TheVariants.Zero, Notice.Notice, Refused.Refused}, Ends.{EndpointState, start, Mobile}}
-use Rattle.lapdm_window.specs.{Ends.{Network, Outcome}, Calls.{Call, Opens, Sends, Closes, T200Expires}, Steps.{Asked, Received, step}}
+use Rattle.{
+  std.proofs.Common.{Err, List, Ok, Result, [], drop, false, map, refl, replicate, suc, true, zero, ℕ, ◌%◌, ◌++◌, ◌-◌},
+  std.proofs.Common.{◌/◌, ◌^◌, ◌∷◌, ◌≡◌},
+  segmenting.specs.{
+    lapdm_frame.{declared.Channel.{Channel, TheVariants.{Sdcch, Sacch}}, Content.{Sabm, Frame}, Frames.octets_of},
+    Segments.Message,
+  },
+  lapdm_window.specs.{
+    declared.{Sapi.TheVariants.Zero, Notice.Notice, Refused.Refused},
+    Ends.{EndpointState, initial_endpoint, Mobile, Network, Outcome},
+    Calls.{Call, Opens, Sends, Closes, T200Expires},
+    Steps.{Asked, Received, step},
+  },
+}
 use Rattle.lapdm_window.specs.declared.Notice.TheVariants as N
 use Rattle.lapdm_window.specs.declared.Reason.TheVariants as R
 use Rattle.lapdm_window.specs.declared.Refused.TheVariants as No
@@ -74,7 +83,13 @@ session p [] = []
 session p (event ∷ events) = seen_at event p ∷ session (after_event event p) events
 
 abbrev idle_on : Channel → Pair
-idle_on channel = record { mobile = start Mobile Zero channel; network = start Network Zero channel; up = []; down = [] }
+idle_on channel = record {
+  mobile = initial_endpoint Mobile Zero channel;
+  network = initial_endpoint Network Zero channel;
+  up = [];
+  down =
+      [];
+}
 
 -- both endpoints in Open; the link was established with information 01
 abbrev open_pair : Pair
@@ -85,20 +100,26 @@ open_pair =
       network = record idle.network { state = S.Open; sabm_info = 0x01 ∷ [] };
     }
 
-abbrev block : List ℕ → ℕ → List ℕ
-block octets fill = octets ++ replicate fill 0x2b
+-- the n octets of this number, most significant first
+abbrev hex : ℕ → ℕ → List ℕ
+hex zero value = []
+hex (suc n) value = value / 256 ^ n % 256 ∷ hex n value
 
-abbrev sent : List ℕ → ℕ → Seen
-sent octets fill = Ok ([], block octets fill ∷ [])
+-- a block: the n octets of this number, then fill octets 2b
+abbrev block : ℕ → ℕ → List ℕ
+block n value = hex n value ++ replicate (23 - n) 0x2b
+
+abbrev sent : ℕ → ℕ → Seen
+sent n value = Ok ([], block n value ∷ [])
 
 -- another mobile establishes the link at the network first
 contention : session (idle_on Sdcch)
     (Rival (0x02 ∷ []) ∷ Mob (Opens (0x01 ∷ [])) ∷ Up ∷ Net (Sends (0xaa ∷ [])) ∷ Net T200Expires ∷ Up ∷ Down ∷ Down
     ∷ Down ∷ Up ∷ [])
-    ≡ sent (0x01 ∷ 0x3f ∷ 0x05 ∷ 0x02 ∷ []) 19 ∷ sent (0x01 ∷ 0x3f ∷ 0x05 ∷ 0x01 ∷ []) 19
-    ∷ Ok (N.Opened (0x02 ∷ []) ∷ [], block (0x01 ∷ 0x73 ∷ 0x05 ∷ 0x02 ∷ []) 19 ∷ [])
-    ∷ sent (0x03 ∷ 0x00 ∷ 0x05 ∷ 0xaa ∷ []) 19 ∷ sent (0x03 ∷ 0x10 ∷ 0x05 ∷ 0xaa ∷ []) 19 ∷ nothing
-    ∷ Ok (N.Closed R.Contention ∷ [], []) ∷ nothing ∷ sent (0x03 ∷ 0x1f ∷ 0x01 ∷ []) 20 ∷ Ok (N.Closed R.Failed ∷ [], [])
+    ≡ sent 4 0x013f0502 ∷ sent 4 0x013f0501
+    ∷ Ok (N.Opened (0x02 ∷ []) ∷ [], block 4 0x01730502 ∷ [])
+    ∷ sent 4 0x030005aa ∷ sent 4 0x031005aa ∷ nothing
+    ∷ Ok (N.Closed R.Contention ∷ [], []) ∷ nothing ∷ sent 3 0x031f01 ∷ Ok (N.Closed R.Failed ∷ [], [])
     ∷ []
 contention = refl
 
@@ -106,27 +127,27 @@ contention = refl
 both_ways : session open_pair
     (Mob (Sends (0xaa ∷ [])) ∷ Mob (Sends (0xcc ∷ [])) ∷ Up ∷ LoseDown ∷ Net (Sends (0xbb ∷ [])) ∷ Down ∷ Up ∷ Down
     ∷ [])
-    ≡ sent (0x01 ∷ 0x00 ∷ 0x05 ∷ 0xaa ∷ []) 19 ∷ nothing
-    ∷ Ok (N.Got (0xaa ∷ []) ∷ [], block (0x01 ∷ 0x21 ∷ 0x01 ∷ []) 20 ∷ []) ∷ nothing
-    ∷ sent (0x03 ∷ 0x20 ∷ 0x05 ∷ 0xbb ∷ []) 19
-    ∷ Ok (N.Acked 1 ∷ N.Got (0xbb ∷ []) ∷ [], block (0x01 ∷ 0x22 ∷ 0x05 ∷ 0xcc ∷ []) 19 ∷ [])
-    ∷ Ok (N.Acked 1 ∷ N.Got (0xcc ∷ []) ∷ [], block (0x01 ∷ 0x41 ∷ 0x01 ∷ []) 20 ∷ []) ∷ Ok (N.Acked 2 ∷ [], []) ∷ []
+    ≡ sent 4 0x010005aa ∷ nothing
+    ∷ Ok (N.Got (0xaa ∷ []) ∷ [], block 3 0x012101 ∷ []) ∷ nothing
+    ∷ sent 4 0x032005bb
+    ∷ Ok (N.Acked 1 ∷ N.Got (0xbb ∷ []) ∷ [], block 4 0x012205cc ∷ [])
+    ∷ Ok (N.Acked 1 ∷ N.Got (0xcc ∷ []) ∷ [], block 3 0x014101 ∷ []) ∷ Ok (N.Acked 2 ∷ [], []) ∷ []
 both_ways = refl
 
 crossing_rej : session open_pair
     (Mob (Sends (0xaa ∷ [])) ∷ Mob T200Expires ∷ Up ∷ Up ∷ Mob (Sends (0xdd ∷ [])) ∷ Down ∷ Down ∷ Up ∷ Up ∷ Down
     ∷ Down ∷ [])
-    ≡ sent (0x01 ∷ 0x00 ∷ 0x05 ∷ 0xaa ∷ []) 19 ∷ sent (0x01 ∷ 0x10 ∷ 0x05 ∷ 0xaa ∷ []) 19
-    ∷ Ok (N.Got (0xaa ∷ []) ∷ [], block (0x01 ∷ 0x21 ∷ 0x01 ∷ []) 20 ∷ []) ∷ sent (0x01 ∷ 0x39 ∷ 0x01 ∷ []) 20
+    ≡ sent 4 0x010005aa ∷ sent 4 0x011005aa
+    ∷ Ok (N.Got (0xaa ∷ []) ∷ [], block 3 0x012101 ∷ []) ∷ sent 3 0x013901
     ∷ nothing
-    ∷ Ok (N.Acked 1 ∷ [], block (0x01 ∷ 0x02 ∷ 0x05 ∷ 0xdd ∷ []) 19 ∷ []) ∷ sent (0x01 ∷ 0x02 ∷ 0x05 ∷ 0xdd ∷ []) 19
-    ∷ Ok (N.Got (0xdd ∷ []) ∷ [], block (0x01 ∷ 0x41 ∷ 0x01 ∷ []) 20 ∷ []) ∷ sent (0x01 ∷ 0x49 ∷ 0x01 ∷ []) 20
+    ∷ Ok (N.Acked 1 ∷ [], block 4 0x010205dd ∷ []) ∷ sent 4 0x010205dd
+    ∷ Ok (N.Got (0xdd ∷ []) ∷ [], block 3 0x014101 ∷ []) ∷ sent 3 0x014901
     ∷ Ok (N.Acked 2 ∷ [], []) ∷ nothing ∷ []
 crossing_rej = refl
 
 -- on SDCCH the mobile repeats an I frame 23 times and then gives up
 unanswered_message : session open_pair (Mob (Sends (0xaa ∷ [])) ∷ replicate 25 (Mob T200Expires))
-    ≡ sent (0x01 ∷ 0x00 ∷ 0x05 ∷ 0xaa ∷ []) 19 ∷ replicate 23 (sent (0x01 ∷ 0x10 ∷ 0x05 ∷ 0xaa ∷ []) 19)
+    ≡ sent 4 0x010005aa ∷ replicate 23 (sent 4 0x011005aa)
     ++ Ok (N.Closed R.Failed ∷ [], []) ∷ Err No.NotRunning ∷ []
 unanswered_message = refl
 
@@ -134,37 +155,34 @@ unanswered_message = refl
 release : session open_pair
     (Mob (Sends (0xaa ∷ [])) ∷ Mob (Sends (0xbb ∷ [])) ∷ Mob (Sends (0xcc ∷ [])) ∷ Mob Closes ∷ Up ∷ Up ∷ Down ∷ Down
     ∷ Mob Closes ∷ [])
-    ≡ sent (0x01 ∷ 0x00 ∷ 0x05 ∷ 0xaa ∷ []) 19 ∷ nothing ∷ nothing ∷ sent (0x01 ∷ 0x53 ∷ 0x01 ∷ []) 20
-    ∷ Ok (N.Got (0xaa ∷ []) ∷ [], block (0x01 ∷ 0x21 ∷ 0x01 ∷ []) 20 ∷ [])
-    ∷ Ok (N.Closed R.Released ∷ [], block (0x01 ∷ 0x73 ∷ 0x01 ∷ []) 20 ∷ []) ∷ nothing ∷ Ok
+    ≡ sent 4 0x010005aa ∷ nothing ∷ nothing ∷ sent 3 0x015301
+    ∷ Ok (N.Got (0xaa ∷ []) ∷ [], block 3 0x012101 ∷ [])
+    ∷ Ok (N.Closed R.Released ∷ [], block 3 0x017301 ∷ []) ∷ nothing ∷ Ok
     (N.Closed R.Released ∷ [], []) ∷ Err No.NotOpen ∷ []
 release = refl
 
 release_at_once : session open_pair (Mob Closes ∷ Net Closes ∷ Up ∷ Down ∷ Down ∷ Up ∷ [])
-    ≡ sent (0x01 ∷ 0x53 ∷ 0x01 ∷ []) 20 ∷ sent (0x03 ∷ 0x53 ∷ 0x01 ∷ []) 20 ∷ sent (0x01 ∷ 0x73 ∷ 0x01 ∷ []) 20
-    ∷ sent
-    (0x03 ∷ 0x73 ∷ 0x01 ∷ []) 20
+    ≡ sent 3 0x015301 ∷ sent 3 0x035301 ∷ sent 3 0x017301
+    ∷ sent 3 0x037301
     ∷ Ok (N.Closed R.Released ∷ [], []) ∷ Ok (N.Closed R.Released ∷ [], []) ∷ []
 release_at_once = refl
 
 eight_messages : session open_pair (replicate 9 (Mob (Sends (0xaa ∷ []))))
-    ≡ sent (0x01 ∷ 0x00 ∷ 0x05 ∷ 0xaa ∷ []) 19 ∷ replicate 7 nothing ++ Err No.Full ∷ []
+    ≡ sent 4 0x010005aa ∷ replicate 7 nothing ++ Err No.Full ∷ []
 eight_messages = refl
 
 -- on SACCH a message of 19 octets has two segments
 abbrev message_of_19_octets : Message
-message_of_19_octets = 0 ∷ 1 ∷ 2 ∷ 3 ∷ 4 ∷ 5 ∷ 6 ∷ 7 ∷ 8 ∷ 9 ∷ 10 ∷ 11 ∷ 12 ∷ 13 ∷ 14 ∷ 15 ∷ 16 ∷ 17
-    ∷ 18 ∷ []
+message_of_19_octets = hex 19 0x000102030405060708090a0b0c0d0e0f101112
 
 two_segments_on_sacch : session (idle_on Sacch)
     (Mob (Opens (replicate 19 0)) ∷ Mob (Opens (0x01 ∷ [])) ∷ Up ∷ Down ∷ Mob (Sends message_of_19_octets) ∷ Up ∷ Down ∷ Up
     ∷ Down ∷ [])
-    ≡ Err No.TooLong ∷ sent (0x00 ∷ 0x00 ∷ 0x01 ∷ 0x3f ∷ 0x05 ∷ 0x01 ∷ []) 17
-    ∷ Ok (N.Opened (0x01 ∷ []) ∷ [], block (0x00 ∷ 0x00 ∷ 0x01 ∷ 0x73 ∷ 0x05 ∷ 0x01 ∷ []) 17 ∷ [])
+    ≡ Err No.TooLong ∷ sent 6 0x0000013f0501
+    ∷ Ok (N.Opened (0x01 ∷ []) ∷ [], block 6 0x000001730501 ∷ [])
     ∷ Ok (N.Opened (0x01 ∷ []) ∷ [], [])
-    ∷ sent (0x00 ∷ 0x00 ∷ 0x01 ∷ 0x00 ∷ 0x4b ∷ 0 ∷ 1 ∷ 2 ∷ 3 ∷ 4 ∷ 5 ∷ 6 ∷ 7 ∷ 8 ∷ 9 ∷ 10 ∷ 11 ∷ 12
-    ∷ 13 ∷ 14 ∷ 15 ∷ 16 ∷ 17 ∷ []) 0
-    ∷ sent (0x00 ∷ 0x00 ∷ 0x01 ∷ 0x21 ∷ 0x01 ∷ []) 18 ∷ sent (0x00 ∷ 0x00 ∷ 0x01 ∷ 0x02 ∷ 0x05 ∷ 0x12 ∷ []) 17
-    ∷ Ok (N.Got message_of_19_octets ∷ [], block (0x00 ∷ 0x00 ∷ 0x01 ∷ 0x41 ∷ 0x01 ∷ []) 18 ∷ [])
+    ∷ sent 23 0x000001004b000102030405060708090a0b0c0d0e0f1011
+    ∷ sent 5 0x0000012101 ∷ sent 6 0x000001020512
+    ∷ Ok (N.Got message_of_19_octets ∷ [], block 5 0x0000014101 ∷ [])
     ∷ Ok (N.Acked 1 ∷ [], []) ∷ []
 two_segments_on_sacch = refl

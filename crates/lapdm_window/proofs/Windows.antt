@@ -1,24 +1,34 @@
 -- The window of outstanding segments: its counts, its parts and its moves.
-use Rattle.lapdm_window.specs.{Abstraction.{HasSameVariables, HoldsUnackedMessages, Represents}, Answers.{acked_by_nr, outstanding_segment}}
-use Rattle.lapdm_window.specs.{Calls.with_queued_message, Ends.{EndpointState, HasWindowOfOne, Mobile, Outcome, acked_message_count}}
-use Rattle.lapdm_window.specs.Ends.{all_segments, awaits_ack, capped_at_64_bits, next_segment, no_effect, reports_notice, response_frame}
-use Rattle.lapdm_window.specs.{Ends.{sends_frame, va, vr, vs}, Parts.{AreConsistent, WindowValues, values_of}, Rules.acked_message_number}
-use Rattle.lapdm_window.specs.Rules.{nr_acknowledges, evaluates_nr, has_segment_to_send, reject_is_due, rejects_segment, marks_acked}
-use Rattle.lapdm_window.specs.{Rules.{with_ack, with_reject_condition, with_segment_sent}, declared.Sapi.TheVariants.Zero}
-use Rattle.lapdm_window.specs.declared.{State.TheVariants.Open, window.Window.Window}
-use Rattle.segmenting.proofs.Lemmas.{begins_within, ended-all, ended-append, ended-whole, joiner_past, length-segments, room_of, segment_is}
-use Rattle.segmenting.specs.{Joiners.HoldsReassemblyOf, Joining.message_count, Parts.JoinerValues, Segments.{IsValidMessage, Message}}
-use Rattle.segmenting.specs.{Segments.{Segment, cut_segments, number_of_segments, segments}, lapdm_frame.{Content.Rej, Layout.n201}}
-use Rattle.segmenting.specs.lapdm_frame.declared.Channel.{Channel}
-use Rattle.std.proofs.Common.{All, Bool, IsTrue, List, None, Option, Some, [], ap, arith, drop, false, get_or, if◌then◌else◌, inl}
-use Rattle.std.proofs.Common.{inr, length, min, not, refl, replicate, slice_get, subst, suc, sym, take, true, zero, ℕ, ◌%◌, ◌*◌}
-use Rattle.std.proofs.Common.{◌++◌, ◌+◌, ◌-◌, ◌/◌, ◌<◌, ◌^◌, ◌∙◌, ◌∷◌, ◌≡◌, ◌≢◌, ◌≤◌}
-use Rattle.std.proofs.{Common.◌⊎◌, Math.{ListN.get_or-append, Nat.mul-div_cancel, Seq.{drop-append-add, drop-append_seam}}}
-use Rattle.std.proofs.{Math.Seq.take-append-add, lemmas.{Bool.{Decides.nat_tests, cases_lt, false≢true}, List.Concat.flat_map-append}}
-use Rattle.std.proofs.lemmas.List.{Elements.{All-append, All-cons, All-nil, All-push}, Sums.{count_by_more_no, count_by_more_yes}}
-use Rattle.std.proofs.lemmas.List.{append-nil, drop-append-le, drop-drop, get_or-drop, length-append, length-drop, length-replicate}
-use Rattle.std.proofs.lemmas.{List.{length-take-le, length-take, take-append-drop, take-append-le}, Option.get_or_from_slice_get}
-use Rattle.std.specs.List.{flat_map}
+use Rattle.{
+  lapdm_window.specs.{
+    Abstraction.{HasSameVariables, HoldsUnackedMessages, Represents},
+    Answers.{acked_by_nr, outstanding_segment},
+    Calls.with_queued_message,
+    Ends.{EndpointState, HasWindowOfOne, Mobile, Outcome, acked_message_count, all_segments, awaits_ack, capped_at_64_bits, next_segment},
+    Ends.{no_effect, reports_notice, va, vr, vs},
+    Parts.{AreConsistent, WindowValues, values_of},
+    Rules.{acked_message_number, nr_acknowledges, evaluates_nr, has_segment_to_send, with_segment_acked, with_segment_sent},
+    declared.{Sapi.TheVariants.Zero, State.TheVariants.Open, window.Window.Window},
+  },
+  segmenting.{
+    proofs.Lemmas.{begins_within, ended-all, ended-append, ended-whole, joiner_past, length-segments, room_of, segment_is},
+    specs.{Joiners.HoldsReassemblyOf, Joining.message_count, Parts.JoinerValues, Segments.{IsValidMessage, Message, Segment, cut_segments}},
+    specs.{Segments.{number_of_segments, segments}, lapdm_frame.Layout.n201},
+  },
+  std.{
+    proofs.{
+      Common.{All, Bool, IsTrue, List, None, Option, Some, [], ap, arith, drop, false, get_or, inl, inr, length, min, not, refl, replicate},
+      Common.{slice_get, subst, suc, sym, take, true, zero, ℕ, ◌%◌, ◌*◌, ◌++◌, ◌+◌, ◌-◌, ◌/◌, ◌<◌, ◌^◌},
+      Common.{◌∙◌, ◌∷◌, ◌≡◌, ◌≢◌, ◌≤◌, ◌⊎◌},
+      Math.{ListN.get_or-append, Nat.mul-div_cancel, Seq.{drop-append-add, drop-append_seam, take-append-add}},
+      lemmas.{Bool.{Decides.nat_tests, cases_lt, false≢true}, List.{Concat.flat_map-append, Elements.{All-append, All-cons, All-nil}}},
+      lemmas.List.{Elements.All-push, Sums.{count_by_more_no, count_by_more_yes}, append-nil, drop-append-le, drop-drop, get_or-drop},
+      lemmas.List.{length-append, length-drop, length-replicate, length-take-le, length-take, take-append-drop, take-append-le},
+      lemmas.Option.get_or_from_slice_get,
+    },
+    specs.List.flat_map,
+  },
+}
 use Rattle.lapdm_window.specs.declared.Acked as A
 use Rattle.lapdm_window.specs.declared.Acked.TheVariants as V
 use Rattle.lapdm_window.specs.declared.Notice.TheVariants as N
@@ -28,9 +38,6 @@ use Rattle.lapdm_window.specs.declared.Notice.TheVariants as N
 -- one segment is outstanding if V(S) ≠ V(A)
 pub one_sent : (e : EndpointState) → HasWindowOfOne e → vs e ≢ va e → e.sent ≡ e.acked + 1
 one_sent e h other = grind (arith, h.acked_at_most_sent, h.window)
-
-pub awaits_ack-nothing : (e : EndpointState) → e.sent ≡ e.acked → awaits_ack e ≡ false
-awaits_ack-nothing e h = grind (arith, nat_tests)
 
 pub awaits_ack-one : (e : EndpointState) → e.sent ≡ e.acked + 1 → awaits_ack e ≡ true
 awaits_ack-one e h = grind (arith, nat_tests)
@@ -55,29 +62,27 @@ acked_message_count-most e =
 
 -- how the count of wholly acknowledged messages changes when one more segment is acknowledged
 pub acked_message_count-more : (e : EndpointState) → e.sent ≡ e.acked + 1 → e.acked < length (all_segments e) →
-    (next_segment e).1 ≡ true → acked_message_count (with_ack e) ≡ acked_message_count e
+    (next_segment e).1 ≡ true → acked_message_count (with_segment_acked e) ≡ acked_message_count e
 acked_message_count-more e one within more =
-    ap (λ i. message_count (take i (all_segments e))) one
-    ∙ count_by_more_no (λ p. not p.1) (all_segments e) e.acked ([], false) within (ap not more)
+    rw one (count_by_more_no (λ p. not p.1) (all_segments e) e.acked ([], false) within (ap not more))
 
 pub acked_message_count-last : (e : EndpointState) → e.sent ≡ e.acked + 1 → e.acked < length (all_segments e) →
-    (next_segment e).1 ≡ false → acked_message_count (with_ack e) ≡ acked_message_count e + 1
+    (next_segment e).1 ≡ false → acked_message_count (with_segment_acked e) ≡ acked_message_count e + 1
 acked_message_count-last e one within more =
-    ap (λ i. message_count (take i (all_segments e))) one
-    ∙ count_by_more_yes (λ p. not p.1) (all_segments e) e.acked ([], false) within (ap not more)
+    rw one (count_by_more_yes (λ p. not p.1) (all_segments e) e.acked ([], false) within (ap not more))
 
 -- how the segments and counts change when layer 3 sends one more message
 pub all_segments-taken : (e : EndpointState) (m : Message) →
     all_segments (with_queued_message m e) ≡ all_segments e ++ segments (n201 e.channel) m
-all_segments-taken e m =
-    let n = n201 e.channel in
-    flat_map-append (segments n) e.taken (m ∷ []) ∙ ap (λ ps. all_segments e ++ ps) (append-nil (segments n m))
+all_segments-taken e m = rw (flat_map-append, append-nil)
 
 pub acked_message_count-taken : (e : EndpointState) (m : Message) → HasWindowOfOne e →
     acked_message_count (with_queued_message m e) ≡ acked_message_count e
 acked_message_count-taken e m h =
-    ap (λ ps. message_count (take e.acked ps)) (all_segments-taken e m) ∙ ap message_count
-    (take-append-le e.acked (all_segments e) (segments (n201 e.channel) m) (omega (arith, h.acked_at_most_sent, h.sent)))
+    rw (
+      all_segments-taken e m,
+      take-append-le e.acked (all_segments e) (segments (n201 e.channel) m) (omega (arith, h.acked_at_most_sent, h.sent)),
+    )
 
 -- ## FirstSegments: The next segment has two indices: one among the segments of the first message held, and one among all segments. These
 -- lemmas relate them.
@@ -161,72 +166,32 @@ within-same xs ys i j h below = omega (arith, length-drop i xs, length-drop j ys
 -- what the rule for a received N(R) does, given the window's answer about what it acknowledges
 abbrev pub counted : A.Acked → EndpointState → Outcome
 counted V.Nothing e = no_effect e
-counted V.Piece e = no_effect (with_ack e)
-counted (V.Message number) e = reports_notice (N.Acked number) (with_ack e)
+counted V.Piece e = no_effect (with_segment_acked e)
+counted (V.Message number) e = reports_notice (N.Acked number) (with_segment_acked e)
 
 pub evaluates_nr-is : (nr : ℕ) (e : EndpointState) → evaluates_nr nr e ≡ counted (acked_by_nr nr e) e
 evaluates_nr-is nr e = grind arith
 
-pub rejects_segment-due : (p : Bool) (e : EndpointState) → reject_is_due p e ≡ true →
-    rejects_segment p e ≡ sends_frame (response_frame e (Rej (vr e) p)) (with_reject_condition e)
-rejects_segment-due p e h = rw h
-
-pub rejects_segment-not_due : (p : Bool) (e : EndpointState) → reject_is_due p e ≡ false →
-    rejects_segment p e ≡ no_effect (with_reject_condition e)
-rejects_segment-not_due p e h = grind arith
-
--- the segment in the option, or an empty one if there is none
-abbrev segment_in : Option Segment → Segment
-segment_in None = ([], false)
-segment_in (Some segment) = segment
-
-waiting_segment : (waiting : Bool) (next segment : Segment) → Some segment ≡ (if waiting then Some next else None) → next ≡ segment
-waiting_segment waiting next segment h = grind arith
-
 -- ## Moves: After each call a window still holds the unacknowledged segments, and it gives the answer that the rules define.
 
--- x is the segment with index `place` among the segments of the first message held
-pub record IsFirst (channel : Channel) (held : List Message) (place : ℕ) (x : Segment) : Type 0 where
-  pub nonempty : 1 ≤ length held
-  pub in_range : place < number_of_segments (n201 channel) (get_or held 0 [])
-  pub piece : slice_get (segments (n201 channel) (get_or held 0 [])) place ≡ Some x
+module _ {w : Window} {e : EndpointState} (h : Represents w e) (some_held : 1 ≤ length w.held.items) where
+  within_first : w.segment_index < length (segments (n201 e.channel) (get_or w.held.items 0 []))
+  within_first =
+      rw (← h.variables.channel) (omega (arith, w.in_range, length-segments (n201 w.channel) (get_or w.held.items 0 [])))
 
--- x is the next segment that the endpoint sends
-pub record IsNext (e : EndpointState) (x : Segment) : Type 0 where
-  pub in_range : e.acked < length (all_segments e)
-  pub piece : next_segment e ≡ x
+  pub is_left : e.acked < length (all_segments e)
+  is_left =
+      within-same (flat_map (segments (n201 e.channel)) w.held.items) (all_segments e) w.segment_index e.acked
+      h.unacked_messages.unacked_segments (within_all _ _ w.held.items some_held within_first)
 
-pub next_is : (e : EndpointState) (channel : Channel) (held : List Message) (place : ℕ) (x : Segment) → channel ≡ e.channel →
-    HoldsUnackedMessages held place e →
-    IsFirst channel held place x → IsNext e x
-next_is e channel held place x same h first =
-    let n = n201 e.channel in
-    let r : n201 channel ≡ n = ap n201 same in
-    let below : place < length (segments n (get_or held 0 [])) = subst
-    (λ (i : ℕ). place < length (segments i (get_or held 0 []))) r
-    (omega (arith, first.in_range, length-segments (n201 channel) (get_or held 0 []))) in
-    let at : slice_get (segments n (get_or held 0 [])) place ≡ Some x = subst
-    (λ (i : ℕ). slice_get (segments i (get_or held 0 [])) place ≡ Some x) r first.piece in
-    record {
-      in_range = within-same (flat_map (segments n) held) (all_segments e) place e.acked h.unacked_segments
-          (within_all n place held first.nonempty below);
-      piece = sym (get_or-same (flat_map (segments n) held) (all_segments e) place e.acked ([], false) h.unacked_segments)
-          ∙ first_message_segment_count n place held ([], false) first.nonempty below ∙ get_or_from_slice_get _ place x ([], false) at;
-    }
-
-pub is_left : (e : EndpointState) (channel : Channel) (held : List Message) (place : ℕ) → channel ≡ e.channel →
-    HoldsUnackedMessages held place e → 1 ≤ length held → place < number_of_segments (n201 channel) (get_or held 0 []) →
-    e.acked < length (all_segments e)
-is_left e channel held place same h some_held within =
-    let n = n201 e.channel in
-    let below : place < length (segments n (get_or held 0 [])) = subst
-    (λ (i : ℕ). place < length (segments i (get_or held 0 []))) (ap n201 same)
-    (omega (arith, within, length-segments (n201 channel) (get_or held 0 []))) in
-    within-same (flat_map (segments n) held) (all_segments e) place e.acked h.unacked_segments (within_all n place held some_held below)
-
-none_left : (e : EndpointState) (held : List Message) (place : ℕ) → HoldsUnackedMessages held place e → held ≡ [] →
-    length (all_segments e) ≤ e.acked
-none_left e held place h none = grind (arith, length-drop e.acked (all_segments e))
+  -- the segment with the window's index in the first message held is the next segment that the endpoint sends
+  pub next_is : {x : Segment} → slice_get (segments (n201 w.channel) (get_or w.held.items 0 [])) w.segment_index ≡ Some x →
+      next_segment e ≡ x
+  next_is at =
+      sym (get_or-same (flat_map (segments (n201 e.channel)) w.held.items) (all_segments e) w.segment_index e.acked ([], false)
+      h.unacked_messages.unacked_segments)
+      ∙ first_message_segment_count _ _ w.held.items ([], false) some_held within_first
+      ∙ get_or_from_slice_get _ w.segment_index _ ([], false) (rw h.variables.channel at at)
 
 -- ---- layer 3 sends a message
 zero-div : (n : ℕ) → 0 < n → 0 / n ≡ 0
@@ -255,17 +220,20 @@ pub Holds-taken : (e : EndpointState) (m : Message) (held : List Message) (place
     place ≤ length (flat_map (segments (n201 e.channel)) held) → HoldsUnackedMessages (held ++ m ∷ []) place (with_queued_message m e)
 Holds-taken e m held place end h within =
     let n = n201 e.channel in
-    let parts : flat_map (segments n) (held ++ m ∷ []) ≡ flat_map (segments n) held ++ segments n m =
-    flat_map-append (segments n) held (m ∷ [])
-    ∙ ap (λ ps. flat_map (segments n) held ++ ps) (append-nil (segments n m)) in
     record {
-      messages = ap (λ ms. ms ++ m ∷ []) h.messages ∙ sym (drop-append-le (acked_message_count e) e.taken (m ∷ [])
-          (acked_message_count-most e)) ∙ ap
-          (λ i. drop i (e.taken ++ m ∷ [])) (sym (acked_message_count-taken e m end));
-      unacked_segments = ap (drop place) parts ∙ drop-append-le place (flat_map (segments n) held) (segments n m) within ∙ ap
-          (λ ps. ps ++ segments n m) h.unacked_segments
-          ∙ sym (drop-append-le e.acked (all_segments e) (segments n m) (omega (arith, end.acked_at_most_sent, end.sent)))
-          ∙ ap (drop e.acked) (sym (all_segments-taken e m));
+      messages = rw (
+        h.messages,
+        acked_message_count-taken e m end,
+        drop-append-le (acked_message_count e) e.taken (m ∷ []) (acked_message_count-most e),
+      );
+      unacked_segments = rw (
+        flat_map-append (segments n) held (m ∷ []),
+        flat_map-append (segments n) e.taken (m ∷ []),
+        append-nil (segments n m),
+        drop-append-le place (flat_map (segments n) held) (segments n m) within,
+        drop-append-le e.acked (all_segments e) (segments n m) (omega (arith, end.acked_at_most_sent, end.sent)),
+        h.unacked_segments,
+      );
     }
 
 -- ---- the next segment becomes outstanding
@@ -279,32 +247,27 @@ pub HasWindowOfOne-next : (e : EndpointState) → HasWindowOfOne e → vs e ≡ 
 HasWindowOfOne-next e h same left = grind arith
 
 -- ---- the outstanding segment is acknowledged
-pub HasWindowOfOne-acked : (e : EndpointState) → HasWindowOfOne e → HasWindowOfOne (with_ack e)
+pub HasWindowOfOne-acked : (e : EndpointState) → HasWindowOfOne e → HasWindowOfOne (with_segment_acked e)
 HasWindowOfOne-acked e h = grind arith
 
 pub Holds-more : (e : EndpointState) (held : List Message) (place : ℕ) → e.sent ≡ e.acked + 1 →
     HoldsUnackedMessages held place e →
-    e.acked < length (all_segments e) → (next_segment e).1 ≡ true → HoldsUnackedMessages held (place + 1) (with_ack e)
-Holds-more e held place one h within more =
-    let n = n201 e.channel in
-    record {
-      messages = h.messages ∙ ap (λ i. drop i e.taken) (sym (acked_message_count-more e one within more));
-      unacked_segments = drop-next (flat_map (segments n) held) (all_segments e) place e.acked h.unacked_segments
-          ∙ ap (λ i. drop i (all_segments e)) (sym one);
-    }
+    e.acked < length (all_segments e) → (next_segment e).1 ≡ true → HoldsUnackedMessages held (place + 1) (with_segment_acked e)
+Holds-more e held place one h within more = record {
+  messages = rw (acked_message_count-more e one within more) h.messages;
+  unacked_segments = rw one (drop-next (flat_map (segments (n201 e.channel)) held) (all_segments e) place e.acked h.unacked_segments);
+}
 
 pub Holds-last : (e : EndpointState) (held : List Message) (place : ℕ) → e.sent ≡ e.acked + 1 →
     HoldsUnackedMessages held place e →
     e.acked < length (all_segments e) → (next_segment e).1 ≡ false → 1 ≤ length held →
-    place + 1 ≡ length (segments (n201 e.channel) (get_or held 0 [])) → HoldsUnackedMessages (drop 1 held) 0 (with_ack e)
+    place + 1 ≡ length (segments (n201 e.channel) (get_or held 0 [])) → HoldsUnackedMessages (drop 1 held) 0 (with_segment_acked e)
 Holds-last e held place one h within last some_held ends =
     let n = n201 e.channel in
     record {
-      messages = ap (drop 1) h.messages ∙ drop-drop 1 (acked_message_count e) e.taken ∙ ap
-          (λ i. drop i e.taken) (sym (acked_message_count-last e one within last));
-      unacked_segments = sym (other_segments n (place + 1) held some_held ends)
-          ∙ drop-next (flat_map (segments n) held) (all_segments e) place e.acked h.unacked_segments
-          ∙ ap (λ i. drop i (all_segments e)) (sym one);
+      messages = rw (acked_message_count-last e one within last, h.messages) (drop-drop 1 (acked_message_count e) e.taken);
+      unacked_segments = rw one (sym (other_segments n (place + 1) held some_held ends)
+          ∙ drop-next (flat_map (segments n) held) (all_segments e) place e.acked h.unacked_segments);
     }
 
 -- ---- what an N(R) acknowledges
@@ -322,12 +285,8 @@ pub evaluates_nr-nothing : (e : EndpointState) (nr : ℕ) → nr_acknowledges nr
 evaluates_nr-nothing e nr h = rw h
 
 pub evaluates_nr-something : (e : EndpointState) (nr : ℕ) → nr_acknowledges nr e ≡ true →
-    (evaluates_nr nr e).new_state ≡ with_ack e
-evaluates_nr-something e nr h = rw h (after-reports_notice (next_segment e).1 e)
-  where
-    after-reports_notice : (more : Bool) (e : EndpointState) → (marks_acked more e).new_state ≡ with_ack e
-    after-reports_notice true e = refl
-    after-reports_notice false e = refl
+    (evaluates_nr nr e).new_state ≡ with_segment_acked e
+evaluates_nr-something e nr h = grind arith
 
 pub acked_by_nr-segment : (e : EndpointState) (nr : ℕ) → nr_acknowledges nr e ≡ true → (next_segment e).1 ≡ true →
     acked_by_nr nr e ≡ V.Piece
@@ -337,14 +296,34 @@ pub acked_by_nr-message : (e : EndpointState) (nr : ℕ) → nr_acknowledges nr 
     acked_by_nr nr e ≡ V.Message (acked_message_number e)
 acked_by_nr-message e nr h more = rw (h, more)
 
-pub waiting_is : (e : EndpointState) (x : Segment) → awaits_ack e ≡ true → IsNext e x → Some x ≡ outstanding_segment e
-waiting_is e x waiting next = grind arith
+pub waiting_is : (e : EndpointState) (x : Segment) → awaits_ack e ≡ true → next_segment e ≡ x → Some x ≡ outstanding_segment e
+waiting_is e x waiting next = rw (waiting, next)
 
-pub acked-awaits_ack : (e : EndpointState) → IsTrue (awaits_ack (with_ack e)) → ⊥
+pub acked-awaits_ack : (e : EndpointState) → IsTrue (awaits_ack (with_segment_acked e)) → ⊥
 acked-awaits_ack e t = grind arith
 
-pub Represents-same : (w : Window) (e f : EndpointState) → f ≡ e → Represents w e → Represents w f
-Represents-same w e f same h = grind arith
+-- a window whose outstanding segment is acknowledged
+module _ {w : Window} {e : EndpointState} (h : Represents w e) (waits : w.vs ≢ w.va) where
+  differ : vs e ≢ va e
+  differ same = waits (h.variables.vs ∙ same ∙ sym h.variables.va)
+
+  pub one_outstanding : e.sent ≡ e.acked + 1
+  one_outstanding = one_sent e h.window_of_one differ
+
+  pub acks : (nr : ℕ) → nr ≡ w.vs → nr_acknowledges nr e ≡ true
+  acks nr same = nr_acknowledges-waiting e nr h.window_of_one differ (same ∙ h.variables.vs)
+
+  pub acked-represents : {v : Window} {done place : ℕ} {held : List Message} (nr : ℕ) → nr ≡ w.vs →
+      values_of v ≡ record (values_of w) { held = held; segment_index = place; va = w.vs; acked_messages = done } →
+      done ≡ capped_at_64_bits (acked_message_count (with_segment_acked e)) → HoldsUnackedMessages held place (with_segment_acked e) →
+      Represents v (evaluates_nr nr e).new_state
+  acked-represents {v} nr same values count holds =
+      subst (Represents v) (sym (evaluates_nr-something e nr (acks nr same))) (record {
+        window_of_one = HasWindowOfOne-acked e h.window_of_one;
+        variables = grind arith;
+        unacked_messages = grind arith;
+        retries = λ t. absurd (acked-awaits_ack e t);
+      })
 
 -- ## Histories: Constructs a history that leads to given contents of a window: first `done` acknowledged messages, of which the first is
 -- long enough to bring V(A) to the value given, then the messages held.
@@ -463,13 +442,10 @@ history_of n done va place sent held room most few messages below within none =
         messages = All-append IsValidMessage f.front held f.messages messages;
         in_range = omega (arith, ap length all, length-append p q, within);
         number = f.number;
-        acked_count = ap (λ ps. message_count (take acked ps)) all ∙ ap message_count (take-append-add p q place)
-            ∙ ended-append p (take place q)
-            ∙ ap
-            (λ i. message_count p + i) (ended_before n place held room below)
-            ∙ (let e : message_count p + 0 ≡ done = omega (arith, ended-all n f.front, f.count) in e);
+        acked_count = rw (all, take-append-add p q place, ended-append p (take place q), ended_before n place held room below)
+            (omega (arith, ended-all n f.front, f.count));
         held_rest = sym (ap (λ i. drop i (f.front ++ held)) (sym f.count) ∙ drop-append_seam f.front held);
-        next_segments = sym (ap (drop acked) all ∙ drop-append-add p q place);
+        next_segments = rw all (sym (drop-append-add p q place));
       };
     }
 
@@ -480,17 +456,9 @@ history_of n done va place sent held room most few messages below within none =
 abbrev Joins : JoinerValues → List Segment → Type 0
 Joins j taken = HoldsReassemblyOf j.part j.octets taken
 
-abbrev HoldsIn : WindowValues → EndpointState → Type 0
-HoldsIn x e = HoldsUnackedMessages x.held x.segment_index e
-
 pub HasSameVariables-values : {w v : Window} {e : EndpointState} → values_of w ≡ values_of v → HasSameVariables w e →
     HasSameVariables v e
 HasSameVariables-values {w} {v} {e} same h = grind arith
-
-pub Holds-values : (w v : Window) (e : EndpointState) → values_of w ≡ values_of v →
-    HoldsUnackedMessages w.held.items w.segment_index e →
-    HoldsUnackedMessages v.held.items v.segment_index e
-Holds-values w v e same h = grind arith
 
 pub Represents-values : {w v : Window} {e : EndpointState} → values_of w ≡ values_of v → Represents w e → Represents v e
 Represents-values {w} {v} {e} same h = grind arith
@@ -556,9 +524,6 @@ record OutstandingCount (x : WindowValues) : Type 0 where
   pub at_most_1 : sent ≤ 1
   pub number : x.vs ≡ (x.va + sent) % 8
   pub held : (sent ≡ 0) ⊎ (1 ≤ length x.held)
-
-none_waits : (vs va : ℕ) → va ≤ 7 → vs ≡ va → vs ≡ (va + 0) % 8
-none_waits vs va fits same = grind arith
 
 waits_of : (x : WindowValues) → x.va ≤ 7 → (x.vs ≡ x.va) ⊎ ((x.vs ≡ (x.va + 1) % 8) × (1 ≤ length x.held)) →
     OutstandingCount x

@@ -23,14 +23,14 @@ abbrev pub outstanding_segment : EndpointState → Option Segment
 outstanding_segment e = if awaits_ack e then Some (next_segment e) else None
 
 -- the result of a received N(R): it acknowledges nothing, the last segment of a message, or an earlier segment
-abbrev pub acked_by_nr : ℕ → EndpointState → A.Acked
+abbrev pub acked_by_nr : (nr : ℕ) (endpoint : EndpointState) → A.Acked
 acked_by_nr nr e =
     if nr_acknowledges nr e
     then (if (next_segment e).1 then V.Piece else V.Message (acked_message_number e))
     else V.Nothing
 
 -- whether the segment of a received I frame with this N(S) and P bit is accepted and, if not, whether a REJ must be sent
-abbrev pub received_segment_result : ℕ → Bool → Segment → EndpointState → Info
+abbrev pub received_segment_result : (ns : ℕ) (poll : Bool) (segment : Segment) (endpoint : EndpointState) → Info
 received_segment_result ns p segment e =
     if nat_eq ns (vr e) then Accepted (reassembly_result e.accepted segment) else OutOfSequence (reject_is_due p e)
 

@@ -3,7 +3,7 @@ use Rattle.std.specs.Prelude.{◌≡◌, ◌+◌, Bool, true, false, not, if◌t
 use Rattle.std.specs.Prelude.{◌∷◌, ◌++◌, length, Option}
 use Rattle.std.specs.Prelude.{Some, None}
 use Rattle.segmenting.specs.lapdm_frame.Layout.{n201}
-use Rattle.segmenting.specs.lapdm_frame.Content.{Sabm, Ui, Disc, Frame, fill}
+use Rattle.segmenting.specs.lapdm_frame.Content.{Sabm, Ui, Disc, Frame, fill_frame}
 use Rattle.segmenting.specs.Segments.{Message, max_message_octets}
 use Rattle.lapdm_window.specs.declared.Call.{Call as Asked}
 use Rattle.lapdm_window.specs.declared.Call.TheVariants as A
@@ -16,7 +16,7 @@ use Rattle.lapdm_window.specs.declared.Refused.{Refused}
 use Rattle.lapdm_window.specs.declared.Refused.TheVariants as No
 use Rattle.lapdm_window.specs.Ends.{EndpointState, Outcome, sends_frame, command_frame, command_cr, unacked_message_count, awaits_answer}
 use Rattle.lapdm_window.specs.Ends.{n200}
-use Rattle.lapdm_window.specs.Rules.{is_open, sends_next, outstanding_frame}
+use Rattle.lapdm_window.specs.Rules.{is_open, sends_next_segment, outstanding_frame}
 use Rattle.lapdm_window.specs.Tables.{closes_and_reports}
 
 -- a call to an endpoint: layer 3 establishes the link with or without information, sends a message in I frames or in a UI frame, or
@@ -31,23 +31,23 @@ pub data Call : Type 0 where
   SendsFill : Call
 
 -- the specification's `Call` for this Rust `Call`
-abbrev pub call_of : Asked → Call
-call_of (A.Open info) = Opens info.now
-call_of A.OpenBare = OpensWithoutInfo
-call_of (A.Send m) = Sends m.now
-call_of (A.Unit m) = SendsUi m.now
-call_of A.Close = Closes
-call_of A.Timer = T200Expires
-call_of A.Idle = SendsFill
+abbrev pub endpoint_call_of : Asked → Call
+endpoint_call_of (A.Open info) = Opens info.now
+endpoint_call_of A.OpenBare = OpensWithoutInfo
+endpoint_call_of (A.Send m) = Sends m.now
+endpoint_call_of (A.Unit m) = SendsUi m.now
+endpoint_call_of A.Close = Closes
+endpoint_call_of A.Timer = T200Expires
+endpoint_call_of A.Idle = SendsFill
 
 -- an endpoint with this SAPI has this call: `Opens` exists only on SAPI 0, `OpensWithoutInfo` only on SAPI 3, every other call on both
-abbrev pub IsCallOfSapi : Sapi → Call → Type 0
+abbrev pub IsCallOfSapi : (sapi : Sapi) (call : Call) → Type 0
 IsCallOfSapi sapi (Opens info) = sapi ≡ Zero
 IsCallOfSapi sapi OpensWithoutInfo = sapi ≡ Three
 IsCallOfSapi sapi other = Unit {0}
 
 -- this call exists for the SAPI of this endpoint
-abbrev pub IsCallOfEndpoint : EndpointState → Call → Type 0
+abbrev pub IsCallOfEndpoint : (endpoint : EndpointState) (call : Call) → Type 0
 IsCallOfEndpoint e call = IsCallOfSapi e.sapi call
 
 -- the call sends a UI frame and leaves the endpoint state unchanged
@@ -61,8 +61,8 @@ abbrev pub is_idle : State → Bool
 is_idle Idle = true
 is_idle other = false
 
--- the refusal in the first pair whose condition is true, or `None` if no condition is true
-abbrev pub first_refusal : List (Bool × Refused) → Option Refused
+-- the refusal of the first pair whose condition holds, or `None` if none holds
+abbrev pub first_refusal : (checks : List (Bool × Refused)) → Option Refused
 first_refusal [] = None
 first_refusal ((true, refusal) ∷ others) = Some refusal
 first_refusal ((false, refusal) ∷ others) = first_refusal others
@@ -114,25 +114,25 @@ abbrev pub with_queued_message : Message → EndpointState → EndpointState
 with_queued_message m e = record e { taken = e.taken ++ m ∷ [] }
 
 -- the frame that is repeated at T200 expiry: the SABM in Opening, the DISC in Closing, otherwise the outstanding I frame with P = 1
-abbrev pub repeated_frame : State → EndpointState → Frame
-repeated_frame Opening e = sabm e
-repeated_frame Closing e = disc e
-repeated_frame other e = outstanding_frame true e
+abbrev pub frame_to_retransmit : State → EndpointState → Frame
+frame_to_retransmit Opening e = sabm e
+frame_to_retransmit Closing e = disc e
+frame_to_retransmit other e = outstanding_frame true e
 
 -- the outcome of T200 expiry: the frame that awaits an answer is repeated or, after N200 repetitions, the link is closed as failed (section
 -- 5.5.7 for state Open)
 abbrev pub t200_expiry : EndpointState → Outcome
 t200_expiry e =
     if nat_lt e.retries (n200 e.channel e.state)
-    then sends_frame (repeated_frame e.state e) (record e { retries = e.retries + 1 })
+    then sends_frame (frame_to_retransmit e.state e) (record e { retries = e.retries + 1 })
     else closes_and_reports R.Failed e
 
 -- the outcome of an accepted call: the new state, the frames sent and the notices reported
 abbrev pub call_outcome : Call → EndpointState → Outcome
 call_outcome (Opens info) e = sends_sabm info e
 call_outcome OpensWithoutInfo e = sends_sabm [] e
-call_outcome (Sends m) e = sends_next (with_queued_message m e)
+call_outcome (Sends m) e = sends_next_segment (with_queued_message m e)
 call_outcome (SendsUi m) e = sends_frame (command_frame e (Ui false m)) e
 call_outcome Closes e = sends_frame (disc e) (record e { state = Closing; retries = 0 })
 call_outcome T200Expires e = t200_expiry e
-call_outcome SendsFill e = sends_frame (fill (command_cr e.role)) e
+call_outcome SendsFill e = sends_frame (fill_frame (command_cr e.role)) e

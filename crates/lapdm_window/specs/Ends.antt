@@ -42,8 +42,8 @@ pub record EndpointState : Type 0 where
   pub retries : ℕ
 
 -- the initial state of an endpoint
-abbrev pub start : Role → Sapi → Channel → EndpointState
-start role sapi channel = record {
+abbrev pub initial_endpoint : Role → Sapi → Channel → EndpointState
+initial_endpoint role sapi channel = record {
   role = role;
   sapi = sapi;
   channel = channel;
@@ -112,7 +112,7 @@ abbrev pub unacked_message_count : EndpointState → ℕ
 unacked_message_count e = length e.taken - acked_message_count e
 
 -- a message number limited to 2^64 - 1, as notices report it (this project's own rule)
-abbrev pub capped_at_64_bits : ℕ → ℕ
+abbrev pub capped_at_64_bits : (number : ℕ) → ℕ
 capped_at_64_bits n = min n (2 ^ 64 - 1)
 
 -- N200 (section 5.8.2): how many times a frame is repeated before the link fails, for this channel and link state
@@ -122,7 +122,7 @@ n200 channel state = 5
 
 -- whether a frame awaits an answer, given the link state and whether an I frame is outstanding: the SABM in Opening, the DISC in Closing,
 -- or the outstanding I frame in Open
-abbrev pub awaits_answer_in_state : State → Bool → Bool
+abbrev pub awaits_answer_in_state : (state : State) (waiting : Bool) → Bool
 awaits_answer_in_state Opening waiting = true
 awaits_answer_in_state Closing waiting = true
 awaits_answer_in_state Open waiting = waiting

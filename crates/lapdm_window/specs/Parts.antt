@@ -8,7 +8,7 @@ use Rattle.segmenting.specs.Buffers.{octets_in}
 use Rattle.segmenting.specs.Parts.{JoinerValues}
 use Rattle.segmenting.specs.Parts as J
 use Rattle.lapdm_window.specs.declared.window.Window.{Window}
-use Rattle.lapdm_window.specs.declared.window.parts.WindowParts.{WindowParts}
+use Rattle.lapdm_window.specs.declared.window.parts.LapdmWindowView.{LapdmWindowView}
 use Rattle.lapdm_window.specs.Ends.{EndpointState}
 use Rattle.lapdm_window.specs.Abstraction.{Represents}
 
@@ -40,8 +40,8 @@ values_of w = record {
   joiner = J.values_of w.joiner;
 }
 
--- the window state in a Rust `WindowParts`
-abbrev pub values_of_parts : WindowParts → WindowValues
+-- the window state in a Rust `LapdmWindowView`
+abbrev pub values_of_parts : LapdmWindowView → WindowValues
 values_of_parts p = record {
   channel = p.channel;
   held = map octets_in p.held.now;
@@ -62,8 +62,8 @@ pub record ValuesRepresent (x : WindowValues) (e : EndpointState) : Type 0 where
   pub represents : Represents window e
 
 -- some window has these values and represents some endpoint
-abbrev pub WindowExists : WindowValues → Type 0
-WindowExists x = (e : EndpointState) × ValuesRepresent x e
+abbrev pub SomeWindowHasValues : WindowValues → Type 0
+SomeWindowHasValues x = (e : EndpointState) × ValuesRepresent x e
 
 -- a window can hold these messages: at most eight, each of 1 to 251 octets
 pub record AreValidHeldMessages (held : List Message) : Type 0 where

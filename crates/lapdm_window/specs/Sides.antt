@@ -5,7 +5,7 @@ use Rattle.segmenting.specs.lapdm_frame.Content.{Frame}
 use Rattle.lapdm_window.specs.declared.Sapi.{Sapi}
 use Rattle.lapdm_window.specs.declared.Sapi.TheVariants.{Zero, Three}
 use Rattle.lapdm_window.specs.declared.Notice.{Notice}
-use Rattle.lapdm_window.specs.Ends.{Role, EndpointState, Outcome, start}
+use Rattle.lapdm_window.specs.Ends.{Role, EndpointState, Outcome, initial_endpoint}
 use Rattle.lapdm_window.specs.Calls.{Call, call_outcome}
 use Rattle.lapdm_window.specs.Tables.{frame_outcome}
 
@@ -16,7 +16,7 @@ pub record SideState : Type 0 where
 
 -- the initial state of a side: both endpoints in Idle
 abbrev pub idle_side : Role → Channel → SideState
-idle_side role channel = record { link0 = start role Zero channel; link3 = start role Three channel }
+idle_side role channel = record { link0 = initial_endpoint role Zero channel; link3 = initial_endpoint role Three channel }
 
 -- the endpoint of the side with this SAPI
 abbrev pub endpoint_on : Sapi → SideState → EndpointState
@@ -49,12 +49,12 @@ abbrev pub layer3_call_step : Sapi → Call → SideState → SideStep
 layer3_call_step sapi call a = endpoint_step sapi (call_outcome call (endpoint_on sapi a)) a
 
 -- the step of a side that receives a frame: the frame goes to the endpoint with its SAPI, and is ignored if its SAPI is not 0 or 3
-abbrev pub takes : Frame → SideState → SideStep
-takes f a =
+abbrev pub step_for_frame : Frame → SideState → SideStep
+step_for_frame f a =
     if nat_eq f.sapi 0 then endpoint_step Zero (frame_outcome f a.link0) a
     else (if nat_eq f.sapi 3 then endpoint_step Three (frame_outcome f a.link3) a else no_op_step a)
 
 -- the step of a side that receives a block: the side receives the frame read from the block, or does nothing if no frame could be read
-abbrev pub step_for_read_frame : Option Frame → SideState → SideStep
-step_for_read_frame (Some f) a = takes f a
+abbrev pub step_for_read_frame : (read : Option Frame) (state : SideState) → SideStep
+step_for_read_frame (Some f) a = step_for_frame f a
 step_for_read_frame None a = no_op_step a

@@ -18,12 +18,12 @@ pub data StepInput : Type 0 where
   Received : Frame → StepInput
 
 -- an endpoint may receive this input: a call that its SAPI has, or any frame that fits in a block of its channel
-abbrev pub IsPossibleInput : EndpointState → StepInput → Type 0
+abbrev pub IsPossibleInput : (endpoint : EndpointState) (input : StepInput) → Type 0
 IsPossibleInput e (Asked call) = IsCallOfEndpoint e call
 IsPossibleInput e (Received f) = FrameFits e.channel f
 
 -- the refusal if there is one, otherwise the outcome
-abbrev pub outcome_unless_refused : Option Refused → Outcome → Result Outcome Refused
+abbrev pub outcome_unless_refused : (refused : Option Refused) (outcome : Outcome) → Result Outcome Refused
 outcome_unless_refused None o = Ok o
 outcome_unless_refused (Some refusal) o = Err refusal
 
@@ -33,9 +33,9 @@ step (Asked call) e = outcome_unless_refused (refusal_of call e) (call_outcome c
 step (Received f) e = Ok (frame_outcome f e)
 
 -- the message that a `Got` notice delivers to layer 3, or `None` for any other notice
-abbrev pub got_message : Notice → Option Message
-got_message (Got m) = Some m
-got_message other = None
+abbrev pub message_in_got_notice : Notice → Option Message
+message_in_got_notice (Got m) = Some m
+message_in_got_notice other = None
 
 -- both endpoints have the same side, SAPI and channel
 pub record IsSameEndpoint (e f : EndpointState) : Type 0 where

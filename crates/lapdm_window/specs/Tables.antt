@@ -23,7 +23,7 @@ abbrev pub is_command : EndpointState → Frame → Bool
 is_command e f = not (beq f.cr (command_cr e.role))
 
 -- whether an endpoint accepts this kind of frame as a command or as a response; RNR is never accepted
-abbrev pub is_accepted_kind : Bool → Content → Bool
+abbrev pub is_accepted_kind : (is_command : Bool) (content : Content) → Bool
 is_accepted_kind is_command (I ns nr p more info) = is_command
 is_accepted_kind is_command (Rr nr pf) = true
 is_accepted_kind is_command (Rnr nr pf) = false
@@ -35,7 +35,7 @@ is_accepted_kind is_command (Disc p) = is_command
 is_accepted_kind is_command (Ua f info) = not is_command
 
 -- whether the frame is a poll, that is, an I, RR or REJ command with P = 1
-abbrev pub is_poll : Bool → Content → Bool
+abbrev pub is_poll : (is_command : Bool) (content : Content) → Bool
 is_poll is_command (I ns nr p more info) = is_command && p
 is_poll is_command (Rr nr pf) = is_command && pf
 is_poll is_command (Rej nr pf) = is_command && pf
@@ -75,18 +75,18 @@ abbrev pub closes_and_reports : Reason → EndpointState → Outcome
 closes_and_reports reason e = reports_notice (N.Closed reason) (record e { state = Closed })
 
 -- the outcome of carrying out a reply; every DM and UA sent has F = 1, and the information of an accepted SABM is kept
-abbrev pub outcome_of : Reply → EndpointState → Outcome
-outcome_of Nothing e = no_effect e
-outcome_of SendsDm e = sends_frame (response_frame e (Dm true)) e
-outcome_of (SendsUa info) e = sends_ua info e
-outcome_of (AcceptsSabm info) e = opens_and_reports info (record e { sabm_info = info }) then sends_ua info
-outcome_of (ConfirmsEstablishment info) e = opens_and_reports info e
-outcome_of (ClosesLink reason) e = closes_and_reports reason e
-outcome_of AcceptsDisc e = closes_and_reports R.Released e then sends_ua []
-outcome_of (TakesUi info) e = reports_notice (N.Unit info) e
-outcome_of (TakesI ns nr p segment) e = takes_i_frame ns nr p segment e
-outcome_of (TakesRr nr poll) e = takes_rr nr poll e
-outcome_of (TakesRej nr poll) e = takes_rej nr poll e
+abbrev pub outcome_of_reply : Reply → EndpointState → Outcome
+outcome_of_reply Nothing e = no_effect e
+outcome_of_reply SendsDm e = sends_frame (response_frame e (Dm true)) e
+outcome_of_reply (SendsUa info) e = sends_ua info e
+outcome_of_reply (AcceptsSabm info) e = opens_and_reports info (record e { sabm_info = info }) then sends_ua info
+outcome_of_reply (ConfirmsEstablishment info) e = opens_and_reports info e
+outcome_of_reply (ClosesLink reason) e = closes_and_reports reason e
+outcome_of_reply AcceptsDisc e = closes_and_reports R.Released e then sends_ua []
+outcome_of_reply (TakesUi info) e = reports_notice (N.Unit info) e
+outcome_of_reply (TakesI ns nr p segment) e = takes_i_frame ns nr p segment e
+outcome_of_reply (TakesRr nr poll) e = takes_rr nr poll e
+outcome_of_reply (TakesRej nr poll) e = takes_rej nr poll e
 
 -- the reply to a SABM in Idle (section 5.4.1.2): on SAPI 0, the mobile refuses it with a DM, and the network accepts it only with
 -- information; on SAPI 3, either side accepts it only without information
@@ -102,7 +102,7 @@ abbrev pub dm_if_polled : Bool → Reply
 dm_if_polled poll = if poll then SendsDm else Nothing
 
 -- the reply to a frame in Idle; a DISC or a poll is answered with a DM (section 5.4.5)
-abbrev pub reply_in_idle : Bool → Content → EndpointState → Reply
+abbrev pub reply_in_idle : (poll : Bool) (content : Content) (endpoint : EndpointState) → Reply
 reply_in_idle poll (Sabm p info) e = reply_to_sabm_in_idle e.sapi e.role info
 reply_in_idle poll (Disc p) e = SendsDm
 reply_in_idle poll other e = dm_if_polled poll
@@ -144,7 +144,7 @@ reply_to_sabm_in_open info e = if answers_repeated_sabm e.sapi e.role && bytes_e
 
 -- the reply to a frame in Open: I, RR and REJ follow the window rules, a DISC releases the link (section 5.4.4.2), and a DM closes it as
 -- failed
-abbrev pub reply_in_open : Bool → Content → EndpointState → Reply
+abbrev pub reply_in_open : (is_command : Bool) (content : Content) (endpoint : EndpointState) → Reply
 reply_in_open is_command (I ns nr p more info) e = TakesI ns nr p (info, more)
 reply_in_open is_command (Rr nr pf) e = TakesRr nr (is_command && pf)
 reply_in_open is_command (Rej nr pf) e = TakesRej nr (is_command && pf)
@@ -161,13 +161,13 @@ reply_in_closing (Disc p) = SendsUa []
 reply_in_closing other = Nothing
 
 -- the reply to a frame in Closed, which an endpoint never leaves: a DM to a SABM, a DISC or a poll, otherwise nothing
-abbrev pub reply_in_closed : Bool → Content → Reply
+abbrev pub reply_in_closed : (poll : Bool) (content : Content) → Reply
 reply_in_closed poll (Sabm p info) = SendsDm
 reply_in_closed poll (Disc p) = SendsDm
 reply_in_closed poll other = dm_if_polled poll
 
 -- the reply to a frame other than UI, depending on the state of the endpoint
-abbrev pub reply_in_state : State → Bool → Content → EndpointState → Reply
+abbrev pub reply_in_state : (state : State) (is_command : Bool) (content : Content) (endpoint : EndpointState) → Reply
 reply_in_state Idle is_command content e = reply_in_idle (is_poll is_command content) content e
 reply_in_state Opening is_command content e = reply_in_opening content e
 reply_in_state Open is_command content e = reply_in_open is_command content e
@@ -180,7 +180,7 @@ reply_to_ui [] = Nothing
 reply_to_ui (x ∷ xs) = TakesUi (x ∷ xs)
 
 -- the reply to a frame that has the endpoint's SAPI and an accepted kind
-abbrev pub reply : Bool → Content → EndpointState → Reply
+abbrev pub reply : (is_command : Bool) (content : Content) (endpoint : EndpointState) → Reply
 reply is_command (Ui p info) e = reply_to_ui info
 reply is_command content e = reply_in_state e.state is_command content e
 
@@ -193,4 +193,4 @@ reply_to_frame f e =
 
 -- the outcome when an endpoint receives this frame
 abbrev pub frame_outcome : Frame → EndpointState → Outcome
-frame_outcome f e = outcome_of (reply_to_frame f e) e
+frame_outcome f e = outcome_of_reply (reply_to_frame f e) e

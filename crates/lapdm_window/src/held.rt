@@ -9,13 +9,13 @@ use std::marker::Model;
 
 /// A list of at most eight messages, in the order in which layer 3 sent them.
 #[derive(Debug, Drop)]
-pub(crate) struct Held {
+pub(crate) struct HeldMessageBuffers {
     buffers: [MessageBuffer; 8],
     len: usize,
 }
 
-// In contracts, a `Held` is a list of messages.
-impl Model for Held {
+// In contracts, a `HeldMessageBuffers` is a list of messages.
+impl Model for HeldMessageBuffers {
     ghost use Rattle.std.specs.Prelude.{◌≤◌, map, take};
     ghost use Rattle.segmenting.specs.Buffers.{octets_in};
     ghost use Rattle.lapdm_window.specs.Held.{HeldMessages};
@@ -27,11 +27,11 @@ impl Model for Held {
     ghost invariant = { λ h. h.len ≤ 8 };
 }
 
-impl Held {
-    pub(crate) fn new() -> Held
+impl HeldMessageBuffers {
+    pub(crate) fn new() -> HeldMessageBuffers
         ensures { result.items ≡ [] }
     {
-        Held {
+        HeldMessageBuffers {
             buffers: [MessageBuffer::empty(); 8],
             len: 0,
         }

@@ -9,13 +9,13 @@ ghost use Rattle.segmenting.specs.lapdm_frame.Readings.{IsOnlyCanonicalCoding};
 ghost use Rattle.segmenting.specs.Segments.{segments};
 ghost use Rattle.segmenting.specs.Joining.{messages};
 ghost use Rattle.lapdm_window.specs.declared.Sapi.{Sapi};
-ghost use Rattle.lapdm_window.specs.Ends.{Role, EndpointState, IsValidEndpoint, start, acked_message_count};
-ghost use Rattle.lapdm_window.specs.Steps.{StepInput, IsPossibleInput, step, got_message, IsSameEndpoint};
+ghost use Rattle.lapdm_window.specs.Ends.{Role, EndpointState, IsValidEndpoint, initial_endpoint, acked_message_count};
+ghost use Rattle.lapdm_window.specs.Steps.{StepInput, IsPossibleInput, step, message_in_got_notice, IsSameEndpoint};
 
 /// The initial endpoint satisfies the invariant `IsValidEndpoint`, and every step preserves it and the endpoint's role, SAPI and channel.
 pub fn law_endpoint_stays_valid()
     ensures start { (role : Role) (sapi : Sapi) (channel : Channel)
-        → IsValidEndpoint (start role sapi channel) }
+        → IsValidEndpoint (initial_endpoint role sapi channel) }
     ensures step { (input : StepInput) (e : EndpointState) → IsValidEndpoint e → IsPossibleInput e input
         → IfOk (step input e) (λ o. IsValidEndpoint o.new_state) }
     ensures link { (input : StepInput) (e : EndpointState) → IsValidEndpoint e → IsPossibleInput e input
@@ -23,27 +23,27 @@ pub fn law_endpoint_stays_valid()
 {}
 
 /// Every frame that an endpoint sends fits in a block of its channel, and the reader reads exactly this frame from its canonical octets.
-pub fn law_sent_frames_fit()
+pub fn law_endpoint_frames_fit_blocks()
     ensures { (input : StepInput) (e : EndpointState) → IsValidEndpoint e → IsPossibleInput e input
         → IfOk (step input e)
         (λ o. All (λ f. IsOnlyCanonicalCoding e.channel f (octets_of e.channel f)) o.frames) }
 {}
 
 /// A step of an endpoint produces at most two frames and two notices.
-pub fn law_at_most_two_effects()
+pub fn law_at_most_two_frames_and_notices()
     ensures { (input : StepInput) (e : EndpointState)
         → IfOk (step input e) (λ o. (length o.frames ≤ 2) × (length o.notices ≤ 2)) }
 {}
 
 /// The notices of a step deliver exactly the messages that its accepted segments complete.
-pub fn law_notices_deliver_messages()
+pub fn law_notices_deliver_completed_messages()
     ensures { (input : StepInput) (e : EndpointState) → IfOk (step input e) (λ o.
-        messages o.new_state.accepted ≡ messages e.accepted ++ filter_map got_message o.notices) }
+        messages o.new_state.accepted ≡ messages e.accepted ++ filter_map message_in_got_notice o.notices) }
 {}
 
 /// The first `k` messages sent count as acknowledged if and only if all their segments are acknowledged; the number of messages that count
 /// as acknowledged never exceeds the number sent.
-pub fn law_acked_messages_are_whole()
+pub fn law_message_acked_iff_segments_acked()
     ensures most { (e : EndpointState) → acked_message_count e ≤ length e.taken }
     ensures whole { (e : EndpointState) (k : ℕ) → k ≤ length e.taken
         → (k ≤ acked_message_count e)

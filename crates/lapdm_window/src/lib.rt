@@ -13,14 +13,14 @@ mod window;
 
 pub use effects::{Effects, Frames, Notices};
 pub use laws::{
-    law_acked_messages_are_whole, law_at_most_two_effects, law_endpoint_stays_valid,
-    law_notices_deliver_messages, law_sent_frames_fit,
+    law_at_most_two_frames_and_notices, law_endpoint_frames_fit_blocks, law_endpoint_stays_valid,
+    law_message_acked_iff_segments_acked, law_notices_deliver_completed_messages,
 };
 pub use message::Message;
 use segmenting::Channel;
-pub use segmenting::{Joined, MessageBuffer, Part, Piece};
+pub use segmenting::{Joined, MessageBuffer, Piece, ReassemblyState};
 use thiserror::Error;
-pub use window::{Window, WindowParts};
+pub use window::{LapdmWindowView, Window};
 
 /// N200 of GSM 04.06: how many times a frame is repeated before the link fails, for this channel and link state.
 pub fn n200(channel: Channel, state: State) -> u8

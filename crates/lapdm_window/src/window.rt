@@ -5,18 +5,18 @@ ghost use Rattle.std.specs.Prelude.{IsTrue, IsSome, IfSome};
 ghost use Rattle.segmenting.specs.lapdm_frame.Layout.{n201, largest_n201};
 ghost use Rattle.segmenting.specs.Segments.{IsValidMessage, max_message_octets, number_of_segments};
 
-use crate::held::Held;
+use crate::held::HeldMessageBuffers;
 use crate::{Acked, Info, Refused, State, Timer, n200};
 use segmenting::{Channel, Joiner, LONGEST_MESSAGE, Piece, Pieces};
 
 mod parts;
 
-pub use parts::WindowParts;
+pub use parts::LapdmWindowView;
 
 /// The window of an endpoint: the messages not yet fully acknowledged, the outstanding segment, and the reassembly of received segments.
 #[derive(Debug, Drop)]
 pub struct Window {
-    held: Held,
+    held: HeldMessageBuffers,
     joiner: Joiner,
     // The index, within the first held message, of the outstanding segment or, if none is outstanding, of the next segment.
     segment_index: usize,
@@ -44,7 +44,7 @@ impl Window {
     ghost use Rattle.segmenting.specs.Segments.{segments};
     ghost use Rattle.segmenting.specs.Joining.{latest_message};
     ghost use Rattle.lapdm_window.specs.declared.Sapi.{Sapi};
-    ghost use Rattle.lapdm_window.specs.Ends.{EndpointState, Role, start, awaits_ack, vs, va, vr};
+    ghost use Rattle.lapdm_window.specs.Ends.{EndpointState, Role, initial_endpoint, awaits_ack, vs, va, vr};
     ghost use Rattle.lapdm_window.specs.Rules.{has_segment_to_send, with_segment_sent, evaluates_nr};
     ghost use Rattle.lapdm_window.specs.Calls.{with_queued_message};
     ghost use Rattle.lapdm_window.specs.Answers.{
@@ -60,7 +60,7 @@ impl Window {
     /// Creates a window for SDCCH in its initial state.
     pub fn new() -> Window
         ensures represents { (role : Role) (sapi : Sapi)
-            → Represents result (start role sapi Channel.Sdcch) }
+            → Represents result (initial_endpoint role sapi Channel.Sdcch) }
         ensures channel { channel_of result ≡ Channel.Sdcch }
     {
         Window::new_on(Channel::Sdcch)
@@ -68,11 +68,11 @@ impl Window {
 
     /// Creates a window for this channel in its initial state.
     pub fn new_on(channel: Channel) -> Window
-        ensures represents { (role : Role) (sapi : Sapi) → Represents result (start role sapi channel) }
+        ensures represents { (role : Role) (sapi : Sapi) → Represents result (initial_endpoint role sapi channel) }
         ensures channel { channel_of result ≡ channel }
     {
         Window {
-            held: Held::new(),
+            held: HeldMessageBuffers::new(),
             joiner: Joiner::new(),
             segment_index: 0,
             acked_messages: 0,

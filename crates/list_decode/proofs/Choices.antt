@@ -1,27 +1,37 @@
 -- The choice of the next word among the branches, and how words are stored.
-use Rattle.list_decode.proofs.{DeviatingWords.{before_tested, behind_tested, test}, Deviations.{IsFollowed, RanksAfter-trans}}
-use Rattle.list_decode.proofs.{Deviations.{follows_behind, in_class_short, is_deviation}, Rankings.{Disjoint, Part, begins_ranked}}
-use Rattle.list_decode.proofs.Rankings.{behind-place, departs_before, departs_once, free-without_position, goes_on_ranked, narrow_covers}
-use Rattle.list_decode.proofs.{Rankings.{place-behind, split_covers, without_position-free}, Spans.{between_from, between_to, is_between}}
-use Rattle.list_decode.specs.Branches.{IsBranchOfReturnedWord, IsDeviation, IsMostLikelyDeviation, deviations_in_span, word_of_deviation}
-use Rattle.list_decode.specs.Choices.{DecidesLexicographicOrder, DeviatesFromReturnedWord, HasMetrics, IsFirstRankedBranch, RanksNotBefore}
-use Rattle.list_decode.specs.{Choices.{deviating_word, no_branch}, Classes.{DeviatesAt, DeviationClass, IsInClass}}
-use Rattle.list_decode.specs.Classes.{PartitionsUnreturnedWords, behind, deviations_anywhere, without_position}
-use Rattle.list_decode.specs.{DeviatingWords.FollowsSurvivors, WordStorage.{DeviatesAtSamePosition, IsChainOfDeviations, IsDeviationTree}}
-use Rattle.list_decode.specs.{WordStorage.{IsMadeByDeviation, no_deviation, stored_words, with_deviating_words}, Passes.IsCompletePass}
-use Rattle.list_decode.specs.{Passes.{decision_rows, losses_of_pass, soft_bits_of_pass}, Ranking.{IsCandidate, IsRanked}}
-use Rattle.list_decode.specs.declared.branch.{Deviation.Deviation, WordBranch.WordBranch, WordSpan.WordSpan}
-use Rattle.list_decode.specs.declared.{choice.BranchChoice.BranchChoice, lists.StoredWords.StoredWords, pass.ViterbiPass.ViterbiPass}
-use Rattle.std.proofs.Common.{Bool, FitsSigned, List, None, Option, Some, [], append_assoc, ap, arith, drop, false, get_or, inl, inr}
-use Rattle.std.proofs.Common.{length, negsuc, of_z, pos, refl, set, subst, suc, sym, take, to_z, true, w32, zero, ℕ, ℤ, ◌*◌}
-use Rattle.std.proofs.Common.{◌++◌, ◌+◌, ◌-◌, ◌<◌, ◌∙◌, ◌∷◌, ◌≡◌, ◌≢◌, ◌≤◌, ◌⊎◌}
-use Rattle.std.proofs.lemmas.{Bool.cases_lt, Grind.get_or-set_at, Int.{ints, to_z-of_z}, List.Elements.{All-append, All-cons, All-head}}
-use Rattle.std.proofs.lemmas.List.{Elements.{All-nil, All-tail, All-weaker}, get_or-set_other, get_or-take, get_or_append_left, get_or_push}
-use Rattle.std.{proofs.lemmas.List.{length-append, length-set, length-take, take_all, take_more_set}, specs.List.{All, Contains, slice_get}}
-use Rattle.std.specs.Prelude.{IfSome, nat_eq, ◌<ℤ◌, ◌≤ℤ◌}
-use Rattle.trellis_decode.proofs.Lemmas.{HasTailBits-from_tail, IsEncoderInput-ends}
-use Rattle.weight_bound.{proofs.conv_code.Lemmas.{bit_at-most_1, same_list, same_number}, specs.bit_blocks.Bits.AllBits}
-use Rattle.weight_bound.specs.conv_code.Likelihood.{IsLexicographicallyBefore, IsMostLikely, RanksAfter}
+use Rattle.{
+  list_decode.{
+    proofs.{DeviatingWords.decided, Deviations.{IsFollowed, follows_behind, in_class_short, is_deviation}, Rankings.Disjoint},
+    proofs.Rankings.{begins_with, deviations_after_place-place, departs_before, departs_once, parted, parts, IsPartWithout, fork_before},
+    proofs.{Rankings.{fork_behind, RanksAfter-trans, without_position-free}, Spans.{between_from, between_to, is_between}},
+    specs.{
+      DeviatingWords.{is_in_range, FollowsSurvivors},
+      Branches.{IsBranchOfReturnedWord, IsDeviation, IsMostLikelyDeviation, deviations_in_span, word_of_deviation},
+      Choices.{DecidesLexicographicOrder, DeviatesFromReturnedWord, HasMetrics, IsFirstRankedBranch, RanksNotBefore, deviating_word},
+      Choices.placeholder_branch,
+      Classes.{DeviatesAt, DeviationClass, IsInClass, PartitionsUnreturnedWords, deviations_after_place, deviations_anywhere},
+      WordStorage.{DeviatesAtSamePosition, IsChainOfDeviations, IsDeviationTree, IsMadeByDeviation, placeholder_deviation, stored_words},
+      WordStorage.with_deviating_words,
+      Passes.{IsCompletePass, decision_rows, losses_of_pass, soft_bits_of_pass},
+      Ranking.{IsCandidate, IsRanked},
+      declared.{branch.{Deviation.Deviation, WordBranch.WordBranch, WordSpan.WordSpan}, choice.BranchChoice.BranchChoice},
+      declared.{lists.StoredWords.StoredWords, pass.ViterbiPass.ViterbiPass},
+    },
+  },
+  std.{
+    proofs.{
+      lemmas.List.{get_or-set_same, drop-set-lt, Elements.{All-from_recursion, All-push, All-cons, All-nil}, get_or-set_other, get_or-take},
+      lemmas.{List.{get_or_append_left, get_or_push, length-append, length-set, length-take, take_all, take_more_set}, Bool.cases_lt},
+      lemmas.{Grind.get_or-set_at, Int.{ints, to_z-of_z}, Option.{get_or_from_slice_get, slice_get_within}},
+      Common.{add-one, drop-cons, FitsSigned, List, None, Option, Some, [], append_assoc, ap, arith, drop, get_or, inl, inr, length},
+      Common.{negsuc, of_z, pos, refl, set, subst, suc, sym, take, to_z, true, w32, zero, ℕ, ℤ, ◌++◌, ◌+◌, ◌-◌, ◌<◌},
+      Common.{◌∙◌, ◌∷◌, ◌≡◌, ◌≢◌, ◌≤◌, ◌⊎◌},
+    },
+    specs.{List.{All, Contains, slice_get}, Prelude.{IfSome, nat_eq, ◌<ℤ◌, ◌≤ℤ◌}},
+  },
+  trellis_decode.proofs.Lemmas.{HasTailBits-from_tail, IsEncoderInput-ends},
+  weight_bound.{proofs.conv_code.Lemmas.{bit_at-most_1, same_list, same_number}, specs.conv_code.Likelihood.{IsMostLikely, RanksAfter}},
+}
 
 -- ## Choices: The choice of the branch whose most likely word ranks first.
 
@@ -35,10 +45,10 @@ deviation_is pass u x is candidate deviation =
     let i = deviation.in_range in
     let made = is_deviation _ u _ _ _ 0 _ is.decisions (omega arith)
     (HasTailBits-from_tail u candidate.information.bits candidate.information.tail) deviation.follows (omega arith) (omega arith) in
+    let c = made.count in
     record {
-      information = IsEncoderInput-ends (word_of_deviation pass u x) (let c = made.count in let five = is.at_least in omega arith)
-          made.tail_bits;
-      count = m ∙ ap (λ n. 2 * n) (sym (made.count ∙ p));
+      information = IsEncoderInput-ends (word_of_deviation pass u x) (let five = is.at_least in omega arith) made.tail_bits;
+      count = omega arith;
     }
 
 pub deviation_list_is : (pass : ViterbiPass) (us : List (List ℕ)) (x : Deviation) → IsCompletePass pass →
@@ -54,12 +64,6 @@ deviation_departs_at pass u x is candidate deviation =
     (is_deviation _ u _ _ _ 0 _ is.decisions (omega arith)
     (HasTailBits-from_tail u candidate.information.bits candidate.information.tail) deviation.follows (omega arith) (omega arith)).deviates
 
--- the comparison of two slices tells the lexicographic order of the two words
-pub order_tested : (u v : List ℕ) (before : Bool) → AllBits u → AllBits v → length v ≡ length u → before ≡ test u v →
-    DecidesLexicographicOrder u v before
-order_tested u v true bits bits' same is = before_tested u v bits' same (sym is)
-order_tested u v false bits bits' same is = behind_tested u v bits same (sym is)
-
 -- ---- one step of the loop: the most likely word of one more branch
 
 slice_get-last : (bs : List WordBranch) (b : WordBranch) (k : ℕ) → k ≡ length bs → slice_get (bs ++ b ∷ []) k ≡ Some b
@@ -71,9 +75,18 @@ pub None-is_not : {X : Type 0} {x : X} → None ≡ Some x → ⊥
 None-is_not e = cc
 
 slice_get-early : (bs cs : List WordBranch) (b : WordBranch) (k : ℕ) → slice_get bs k ≡ Some b → slice_get (bs ++ cs) k ≡ Some b
-slice_get-early [] cs b k at = absurd (None-is_not at)
+slice_get-early [] cs b k at = absurd cc
 slice_get-early (c ∷ bs) cs b zero at = at
 slice_get-early (c ∷ bs) cs b (suc k) at = slice_get-early bs cs b k at
+
+pub branch_deviation : (pass : ViterbiPass) (us : List (List ℕ)) (branch : WordBranch) (x : Deviation) →
+    IsBranchOfReturnedWord pass us branch → branch.best ≡ Some x → DeviatesFromReturnedWord pass us x
+branch_deviation pass us branch x is at =
+    let best = rw at at is.is_branch.best in
+    record {
+      in_range = rw best.1 is.in_range;
+      deviation = subst (λ i. IsDeviation pass (get_or us i []) x) (sym best.1) best.0;
+    }
 
 module _ (pass : ViterbiPass) (us : List (List ℕ)) (branches : List WordBranch) (branch : WordBranch) where
   abbrev AtMost : Deviation → WordBranch → Type 0
@@ -82,11 +95,10 @@ module _ (pass : ViterbiPass) (us : List (List ℕ)) (branches : List WordBranch
   -- a branch without a word changes nothing
   pub first_kept : (first : Option BranchChoice) → IsFirstRankedBranch pass us branches first → branch.best ≡ None →
       IsFirstRankedBranch pass us (branches ++ branch ∷ []) first
-  first_kept None all none = All-append (λ b. b.best ≡ None) _ _ all (All-cons (λ b. b.best ≡ None) branch [] none (All-nil _))
+  first_kept None all none = All-push (λ b. b.best ≡ None) branches branch all none
   first_kept (Some choice) old none = (
     (old.0.0, slice_get-early branches (branch ∷ []) _ choice.branch old.0.1, old.0.2),
-    All-append (AtMost choice.deviation) branches (branch ∷ []) old.1
-        (All-cons (AtMost choice.deviation) branch [] (rw none tt) (All-nil _)),
+    All-push (AtMost choice.deviation) branches branch old.1 (rw none tt),
   )
 
   -- the most likely word of the branch ranks before all words found so far
@@ -96,16 +108,15 @@ module _ (pass : ViterbiPass) (us : List (List ℕ)) (branches : List WordBranch
       IsFirstRankedBranch pass us (branches ++ branch ∷ []) (Some new)
   first_taken old new first best at before = (
     (branch, slice_get-last branches branch new.branch at, best),
-    All-append (AtMost new.deviation) branches (branch ∷ [])
-        (All-weaker (AtMost old.deviation) (AtMost new.deviation) (λ b most. over b.best most) branches first.1)
-        (All-cons (AtMost new.deviation) branch [] (rw best (inl refl)) (All-nil (AtMost new.deviation))),
+    All-push (AtMost new.deviation) branches branch (λ k d lt. over _ (first.1 k d lt)) (rw best (inl refl)),
   ) where
     over : (best : Option Deviation) → RanksNotBefore pass us old.deviation best → RanksNotBefore pass us new.deviation best
     over None most = tt
     over (Some y) most = elim most [
       | inl same ↦ inr (rw same before)
-      | inr behind ↦ inr (RanksAfter-trans (soft_bits_of_pass pass) (deviating_word pass us y) (deviating_word pass us old.deviation)
-          (deviating_word pass us new.deviation) behind before)
+      | inr deviations_after_place ↦
+          inr (RanksAfter-trans (soft_bits_of_pass pass) (deviating_word pass us y) (deviating_word pass us old.deviation)
+          (deviating_word pass us new.deviation) deviations_after_place before)
     ]
 
   -- the most likely word of the branch does not rank before the first word so far
@@ -113,22 +124,27 @@ module _ (pass : ViterbiPass) (us : List (List ℕ)) (branches : List WordBranch
       (deviating_word pass us new.deviation ≡ deviating_word pass us old.deviation)
       ⊎ RanksAfter (soft_bits_of_pass pass) (deviating_word pass us new.deviation) (deviating_word pass us old.deviation) →
       IsFirstRankedBranch pass us (branches ++ branch ∷ []) (Some old)
-  first_stays old new first best behind = (
+  first_stays old new first best deviations_after_place = (
     (first.0.0, slice_get-early branches (branch ∷ []) _ old.branch first.0.1, first.0.2),
-    All-append (AtMost old.deviation) branches (branch ∷ []) first.1
-        (All-cons (AtMost old.deviation) branch [] (rw best behind) (All-nil _)),
+    All-push (AtMost old.deviation) branches branch first.1 (rw best deviations_after_place),
   )
 
-  -- the most likely word of the branch is less likely than the first word so far
-  first_below : (first : Option BranchChoice) (x : Deviation) (least : ℤ) → IsFirstRankedBranch pass us branches first →
+  -- a branch is passed over because its path metric is below that of the first word so far
+  pub first_skipped : (first : Option BranchChoice) (metric least : ℤ) → IsFirstRankedBranch pass us branches first →
       IfSome first (λ choice. DeviatesFromReturnedWord pass us choice.deviation) →
-      IfSome first (λ choice. least ≤ℤ choice.deviation.likelihood) → (first ≡ None → least ≤ℤ x.likelihood) →
-      branch.best ≡ Some x → DeviatesFromReturnedWord pass us x → x.likelihood <ℤ least →
+      IfSome first (λ choice. least ≤ℤ choice.deviation.likelihood) → (first ≡ None → least ≤ℤ metric) →
+      IsBranchOfReturnedWord pass us branch → IfSome branch.best (λ best. metric ≡ best.likelihood) → metric <ℤ least →
       IsFirstRankedBranch pass us (branches ++ branch ∷ []) first
-  first_below None x least first deviates most lowest best is less = absurd (let l = lowest refl in omega (arith, ints))
-  first_below (Some old) x least first deviates most lowest best is less =
-      first_stays old (record { branch = 0; deviation = x }) first best
-      (inr (inl (let a = is.deviation.value in let b = deviates.deviation.value in omega (arith, ints))))
+  first_skipped None metric least old deviates most lowest is same less = absurd (let l = lowest refl in omega (arith, ints))
+  first_skipped (Some choice) metric least old deviates most lowest is same less = go branch.best refl same
+    where
+      go : (best : Option Deviation) → branch.best ≡ best → IfSome best (λ best. metric ≡ best.likelihood) →
+          IsFirstRankedBranch pass us (branches ++ branch ∷ []) (Some choice)
+      go None e same = first_kept (Some choice) old e
+      go (Some x) e same =
+          let a = (branch_deviation pass us branch x is e).deviation.value in
+          let b = deviates.deviation.value in
+          first_stays choice (record { branch = 0; deviation = x }) old e (inr (inl (omega (arith, ints))))
 
 pub lowest : (x : ℤ) → FitsSigned w32 x → negsuc 2147483647 ≤ℤ x
 lowest (pos n) fits = omega (arith, ints)
@@ -136,27 +152,9 @@ lowest (negsuc n) fits = let s = fits.sfits in omega (arith, ints)
 
 -- ---- the most likely word of a branch
 
-abbrev the_some : {X : Type 0} → X → Option X → X
-the_some x None = x
-the_some x (Some y) = y
-
-same_some : {X : Type 0} {x y : X} → Some x ≡ Some y → x ≡ y
-same_some {x = x} e = ap (the_some x) e
-
 -- an element has every property that all elements have
 pub all_at : {X : Type 0} (P : X → Type 0) (xs : List X) (x : X) (k : ℕ) → All P xs → slice_get xs k ≡ Some x → P x
-all_at P [] x k all at = absurd (None-is_not at)
-all_at P (y ∷ xs) x zero all at = subst P (same_some at) (All-head P y xs all)
-all_at P (y ∷ xs) x (suc k) all at = all_at P xs x k (All-tail P y xs all) at
-
-pub branch_deviation : (pass : ViterbiPass) (us : List (List ℕ)) (branch : WordBranch) (x : Deviation) →
-    IsBranchOfReturnedWord pass us branch → branch.best ≡ Some x → DeviatesFromReturnedWord pass us x
-branch_deviation pass us branch x is at =
-    let best = subst (IsMostLikelyDeviation pass (get_or us branch.span.word_index []) branch.span) at is.is_branch.best in
-    record {
-      in_range = subst (λ i. i < length us) (sym best.1) is.in_range;
-      deviation = subst (λ i. IsDeviation pass (get_or us i []) x) (sym best.1) best.0;
-    }
+all_at P xs x k all at = subst P (get_or_from_slice_get xs k x x at) (all k x (slice_get_within xs k x at))
 
 pub first_deviation : (pass : ViterbiPass) (us : List (List ℕ)) (branches : List WordBranch) (first : Option BranchChoice) →
     All (IsBranchOfReturnedWord pass us) branches →
@@ -165,37 +163,21 @@ first_deviation pass us branches None all first = tt
 first_deviation pass us branches (Some choice) all first =
     branch_deviation _ us first.0.0 _ (all_at (IsBranchOfReturnedWord _ us) _ first.0.0 choice.branch all first.0.1) first.0.2
 
--- a branch is passed over because its path metric is below that of the first word so far
-pub first_skipped : (pass : ViterbiPass) (us : List (List ℕ)) (branches : List WordBranch) (branch : WordBranch)
-    (first : Option BranchChoice) (metric least : ℤ) → IsFirstRankedBranch pass us branches first →
-    IfSome first (λ choice. DeviatesFromReturnedWord pass us choice.deviation) →
-    IfSome first (λ choice. least ≤ℤ choice.deviation.likelihood) → (first ≡ None → least ≤ℤ metric) →
-    IsBranchOfReturnedWord pass us branch → IfSome branch.best (λ best. metric ≡ best.likelihood) → metric <ℤ least →
-    IsFirstRankedBranch pass us (branches ++ branch ∷ []) first
-first_skipped pass us branches branch first metric least old deviates most lowest is same less = go branch.best refl same
-  where
-    go : (best : Option Deviation) → branch.best ≡ best → IfSome best (λ best. metric ≡ best.likelihood) →
-        IsFirstRankedBranch pass us (branches ++ branch ∷ []) first
-    go None e same = first_kept pass us branches branch first old e
-    go (Some x) e same = first_below pass us branches branch first x least old deviates most
-        (λ none. subst (λ m. least ≤ℤ m) same (lowest none)) e (branch_deviation pass us branch x is e)
-        (subst (λ m. m <ℤ least) same less)
-
 -- ---- the path metrics of the branches
 
 pub metric_stored : (branch : WordBranch) (metric : ℤ) → FitsSigned w32 metric →
     IfSome branch.best (λ best. metric ≡ best.likelihood) →
     IfSome branch.best (λ best. to_z w32 (of_z w32 metric) ≡ best.likelihood)
-metric_stored branch metric fits is = subst (λ m. IfSome branch.best (λ best. m ≡ best.likelihood)) (sym (to_z-of_z w32 metric fits)) is
+metric_stored branch metric fits is = rw (to_z-of_z w32 metric fits) is
 
 pub metrics_set : (branches : List WordBranch) (metrics : List ℤ) (i : ℕ) (branch : WordBranch) (metric : ℤ) →
     i < length branches → i < length metrics → HasMetrics branches metrics →
     IfSome branch.best (λ best. metric ≡ best.likelihood) →
     HasMetrics (set branches i branch) (set metrics i metric)
 metrics_set branches metrics i branch metric in_branches in_metrics old new k lt = elim (same_number k i) [
-  | inl here ↦ rw (get_or-set_at branches i k branch no_branch here in_branches)
+  | inl here ↦ rw (get_or-set_at branches i k branch placeholder_branch here in_branches)
       (rw (get_or-set_at metrics i k metric (pos 0) here in_metrics) new)
-  | inr other ↦ rw (get_or-set_other branches i k branch no_branch other)
+  | inr other ↦ rw (get_or-set_other branches i k branch placeholder_branch other)
       (rw (get_or-set_other metrics i k metric (pos 0) other) (old k (omega (arith, length-set branches i branch))))
 ]
 
@@ -203,7 +185,7 @@ pub metrics_taken : (branches : List WordBranch) (metrics : List ℤ) (n : ℕ) 
     HasMetrics (take n branches) (take n metrics)
 metrics_taken branches metrics n old k lt =
     let within : k < n = omega (arith, length-take n branches) in
-    rw (get_or-take n branches k no_branch within) (rw (get_or-take n metrics k (pos 0) within)
+    rw (get_or-take n branches k placeholder_branch within) (rw (get_or-take n metrics k (pos 0) within)
     (old k (omega (arith, length-take n branches))))
 
 -- a default value for an index out of range
@@ -241,6 +223,11 @@ with_deviating_words-first pass us (x ∷ xs) some =
     ))
     ∙ get_or_append_left us (deviating_word pass us x ∷ []) [] 0 some
 
+-- the stored words and one more, which deviates from one of them
+abbrev pub one_more_word : StoredWords → Deviation → StoredWords
+one_more_word lists x =
+    record { first_word = lists.first_word; deviations = set lists.deviations (lists.count - 1) x; count = lists.count + 1 }
+
 module _ (pass : ViterbiPass) (lists : StoredWords) (many : length lists.deviations ≡ 63) (most : lists.count ≤ 64) where
   pub length-lists : length (stored_words pass lists) ≡ lists.count
   length-lists =
@@ -250,54 +237,31 @@ module _ (pass : ViterbiPass) (lists : StoredWords) (many : length lists.deviati
 
   pub first-list : 0 < lists.count → get_or (stored_words pass lists) 0 [] ≡ take pass.bits lists.first_word
   first-list some =
-      let one = take_all _ (take pass.bits lists.first_word ∷ []) (omega arith) in
-      with_deviating_words-first pass (take lists.count (take pass.bits lists.first_word ∷ [])) (take (lists.count - 1) lists.deviations)
-      (omega (arith, length-take lists.count (take pass.bits lists.first_word ∷ [])))
-      ∙ ap (λ us. get_or us 0 []) one
-
-  abbrev more : Deviation → StoredWords
-  more x = record { first_word = lists.first_word; deviations = set lists.deviations (lists.count - 1) x; count = lists.count + 1 }
+      rw (take_all lists.count (take pass.bits lists.first_word ∷ []) (omega arith))
+      (with_deviating_words-first pass (take pass.bits lists.first_word ∷ []) (take (lists.count - 1) lists.deviations) (omega arith))
 
   pub lists-push : (x : Deviation) → 0 < lists.count → lists.count < 64 →
-      stored_words pass (record {
-        first_word = lists.first_word;
-        deviations = set lists.deviations (lists.count - 1) x;
-        count =
-            lists.count + 1;
-      }) ≡
-      stored_words pass lists ++ deviating_word pass (stored_words pass lists) x ∷ []
+      stored_words pass (one_more_word lists x) ≡ stored_words pass lists ++ deviating_word pass (stored_words pass lists) x ∷ []
   lists-push x some few =
-      let one =
-      take_all _ _ (omega arith)
-      ∙ sym (take_all lists.count (take pass.bits lists.first_word ∷ []) (omega arith)) in
-      ap (λ us. with_deviating_words pass us (take (lists.count + 1 - 1) (set lists.deviations (lists.count - 1) x))) one
-      ∙ ap (λ n. with_deviating_words pass (take lists.count (take pass.bits lists.first_word ∷ [])) (take n (set lists.deviations
-      (lists.count - 1) x))) (omega arith)
-      ∙ ap (with_deviating_words pass (take lists.count (take pass.bits lists.first_word ∷ [])))
-      (take_more_set lists.deviations (lists.count - 1) x (omega arith))
-      ∙ with_deviating_words-push pass (take lists.count (take pass.bits lists.first_word ∷ []))
-      (take (lists.count - 1) lists.deviations) x
+      let first = take pass.bits lists.first_word ∷ [] in
+      let more : lists.count + 1 - 1 ≡ lists.count - 1 + 1 = omega arith in
+      rw (
+        take_all (lists.count + 1) first (omega arith),
+        take_all lists.count first (omega arith),
+        more,
+        take_more_set lists.deviations (lists.count - 1) x (omega arith),
+      )
+      (with_deviating_words-push pass first (take (lists.count - 1) lists.deviations) x)
 
 -- ---- one more word is stored as a deviation
-
-get_or-set : (xs : List Deviation) (k : ℕ) (x : Deviation) → k < length xs → get_or (set xs k x) k no_deviation ≡ x
-get_or-set [] k x within = absurd (omega arith)
-get_or-set (y ∷ xs) zero x within = refl
-get_or-set (y ∷ xs) (suc k) x within = get_or-set xs k x (omega arith)
-
-get_or-other : (xs : List Deviation) (k j : ℕ) (x : Deviation) → j < k →
-    get_or (set xs k x) j no_deviation ≡ get_or xs j no_deviation
-get_or-other (y ∷ xs) zero j x before = absurd (omega arith)
-get_or-other (y ∷ xs) (suc k) (suc j) x before = get_or-other xs k j x (omega arith)
-get_or-other xs k j x before = refl
 
 given_kept : (pass : ViterbiPass) (us : List (List ℕ)) (w : List ℕ) (i : ℕ) (x : Deviation) → i < length us →
     IsMadeByDeviation pass us i x → IsMadeByDeviation pass (us ++ w ∷ []) i x
 given_kept pass us w i x within returned =
-    let parent = get_or_append_left us _ [] _ (omega arith) in record {
+    let parent = get_or_append_left us (w ∷ []) [] x.word_index (let h = returned.higher_ranked in omega arith) in record {
       higher_ranked = returned.higher_ranked;
       deviation = rw parent returned.deviation;
-      word_is = get_or_append_left us _ [] i within ∙ returned.word_is ∙ ap (λ u. word_of_deviation pass u x) (sym parent);
+      word_is = rw parent (get_or_append_left us _ [] i within ∙ returned.word_is);
     }
 
 given_new : (pass : ViterbiPass) (us : List (List ℕ)) (i : ℕ) (x : Deviation) → i ≡ length us →
@@ -306,42 +270,30 @@ given_new pass us i x end is =
     let parent = get_or_append_left us (deviating_word pass us x ∷ []) [] _ is.in_range in record {
       higher_ranked = omega arith;
       deviation = rw parent is.deviation;
-      word_is = get_or_push us _ [] i (sym end) ∙ ap (λ u. word_of_deviation pass u x) (sym parent);
+      word_is = rw parent (get_or_push us _ [] i (sym end));
     }
 
 pub tree_more : (pass : ViterbiPass) (lists : StoredWords) (x : Deviation) → length lists.deviations ≡ 63 →
     IsDeviationTree pass lists →
     0 < lists.count → lists.count < 64 → DeviatesFromReturnedWord pass (stored_words pass lists) x →
-    IsDeviationTree pass (record {
-      first_word = lists.first_word;
-      deviations = set lists.deviations (lists.count - 1) x;
-      count =
-          lists.count + 1;
-    })
+    IsDeviationTree pass (one_more_word lists x)
 tree_more pass lists x many tree some few is = record {
   at_most = omega arith;
-  each = (λ k within. rw (lists-push pass lists many tree.at_most x some few) (one k within));
+  made_by_deviation = (λ k within. rw (lists-push pass lists many tree.at_most x some few) (one k within));
 } where
   us : List (List ℕ)
   us = stored_words pass lists
 
   one : (k : ℕ) → k + 1 < lists.count + 1 →
       IsMadeByDeviation pass (stored_words pass lists ++ deviating_word pass (stored_words pass lists) x ∷ []) (k + 1)
-      (get_or (set lists.deviations (lists.count - 1) x) k no_deviation)
+      (get_or (set lists.deviations (lists.count - 1) x) k placeholder_deviation)
   one k within = elim (cases_lt (k + 1) lists.count) [
-    | inl early ↦ rw (get_or-other lists.deviations (lists.count - 1) k x (omega arith))
-        (given_kept pass us (deviating_word pass us x) (k + 1) (get_or lists.deviations k no_deviation)
-        (let n = length-lists pass lists many tree.at_most in omega arith) (tree.each k early))
-    | inr late ↦
-        let here : lists.count - 1 ≡ k = omega arith in
-        subst (λ y. IsMadeByDeviation pass (us ++ deviating_word pass us x ∷ []) (k + 1) y)
-        (sym (ap (λ j. get_or (set lists.deviations j x) k no_deviation) here ∙ get_or-set lists.deviations k x (omega arith)))
+    | inl early ↦ rw (get_or-set_other lists.deviations (lists.count - 1) k x placeholder_deviation (λ e. omega arith))
+        (given_kept pass us (deviating_word pass us x) (k + 1) (get_or lists.deviations k placeholder_deviation)
+        (let n = length-lists pass lists many tree.at_most in omega arith) (tree.made_by_deviation k early))
+    | inr late ↦ rw (get_or-set_at lists.deviations (lists.count - 1) k x placeholder_deviation (omega arith) (omega arith))
         (given_new pass us (k + 1) x (let n = length-lists pass lists many tree.at_most in omega arith) is)
   ]
-
-pub tree_first : (pass : ViterbiPass) (first : List ℕ) (deviations : List Deviation) →
-    IsDeviationTree pass (record { first_word = first; deviations = deviations; count = 1 })
-tree_first pass first deviations = record { at_most = omega arith; each = (λ k within. absurd (omega arith)) }
 
 -- ---- the lexicographic order of two words that deviate from a common word
 
@@ -370,49 +322,6 @@ forks_first pass us x is all deviation = record {
   bit = deviation.deviation.bit;
 }
 
--- of two different bits, if one is 1 the other is 0
-other_bit : (a b : ℕ) → b ≤ 1 → a ≡ 1 → a ≢ b → b ≡ 0
-other_bit a zero small one other = refl
-other_bit a (suc b) small one other = absurd (other (omega arith))
-
-other_zero : (a b : ℕ) → a ≡ 0 → a ≢ b → b ≢ 0
-other_zero a b none other e = other (none ∙ sym e)
-
--- if v deviates from u where w still agrees with u, then v and w first differ there
-module _ (u v w : List ℕ) (p q : ℕ) (lv : DeviatesAt u v p) (lw : DeviatesAt u w q) (early : p < q) (bits_v : AllBits v)
-    (long_v : length v ≡ length u) (long_w : length w ≡ length u) where
-  fork_before : get_or u p 0 ≡ 1 → IsLexicographicallyBefore v w
-  fork_before one =
-      record {
-        place = p;
-        in_range = omega arith;
-        equal_before = (λ j lt. sym (lv.equal_before j lt) ∙ lw.equal_before j (omega arith));
-        zero = other_bit (get_or u p 0) (get_or v p 0) (bit_at-most_1 v p bits_v) one lv.differs;
-        differs = (λ e. omega arith);
-      }
-
-  fork_behind : get_or u p 0 ≡ 0 → IsLexicographicallyBefore w v
-  fork_behind none =
-      record {
-        place = p;
-        in_range = omega arith;
-        equal_before = (λ j lt. sym (lw.equal_before j (omega arith)) ∙ lv.equal_before j lt);
-        zero = sym (lw.equal_before p early) ∙ none;
-        differs = other_zero (get_or u p 0) (get_or v p 0) none lv.differs;
-      }
-
-by_one : (v w : List ℕ) (b : ℕ) → b ≤ 1 → (b ≡ 1 → IsLexicographicallyBefore v w) →
-    (b ≡ 0 → IsLexicographicallyBefore w v) → DecidesLexicographicOrder v w (nat_eq b 1)
-by_one v w zero small one none = inr (none refl)
-by_one v w (suc zero) small one none = one refl
-by_one v w (suc (suc b)) small one none = absurd (omega arith)
-
-by_zero : (v w : List ℕ) (b : ℕ) → b ≤ 1 → (b ≡ 0 → IsLexicographicallyBefore v w) →
-    (b ≡ 1 → IsLexicographicallyBefore w v) → DecidesLexicographicOrder v w (nat_eq b 0)
-by_zero v w zero small none one = none refl
-by_zero v w (suc zero) small none one = inr (one refl)
-by_zero v w (suc (suc b)) small none one = absurd (omega arith)
-
 module _ (pass : ViterbiPass) (us : List (List ℕ)) (v w : List ℕ) (x y : Deviation)
     (all : All (IsCandidate (soft_bits_of_pass pass)) us)
     (is_v : IsCandidate (soft_bits_of_pass pass) v) (is_w : IsCandidate (soft_bits_of_pass pass) w) (fx : DeviatesAtSamePosition us v x)
@@ -420,53 +329,55 @@ module _ (pass : ViterbiPass) (us : List (List ℕ)) (v w : List ℕ) (x y : Dev
   abbrev here : List ℕ
   here = get_or us x.word_index []
 
-  is_u : IsCandidate (soft_bits_of_pass pass) (get_or us x.word_index [])
+  is_u : IsCandidate (soft_bits_of_pass pass) here
   is_u = all _ [] fx.in_range
 
-  as_long : (t : List ℕ) → IsCandidate (soft_bits_of_pass pass) t → length t ≡ length (get_or us x.word_index [])
+  as_long : (t : List ℕ) → IsCandidate (soft_bits_of_pass pass) t → length t ≡ length here
   as_long t is_t = let n = is_u.count in let m = is_t.count in omega arith
 
-  left_y : DeviatesAt (get_or us x.word_index []) w y.departure.place
+  left_y : DeviatesAt here w y.departure.place
   left_y = rw same fy.deviates
 
-  bit_y : y.departure.bit ≡ get_or (get_or us x.word_index []) y.departure.place 0
-  bit_y = fy.bit ∙ ap (λ k. get_or (get_or us k []) y.departure.place 0) (sym same)
+  bit_y : y.departure.bit ≡ get_or here y.departure.place 0
+  bit_y = rw same fy.bit
 
   pub order_first : x.departure.place < y.departure.place → DecidesLexicographicOrder v w (nat_eq x.departure.bit 1)
   order_first early =
-      by_one v w _ (rw fx.bit (bit_at-most_1 here x.departure.place is_u.information.bits))
-      (λ one. fork_before _ v w _ _ fx.deviates left_y early is_v.information.bits (as_long v is_v) (as_long w is_w) (sym fx.bit ∙ one))
-      (λ none. fork_behind here v w x.departure.place y.departure.place fx.deviates left_y early is_v.information.bits (as_long v is_v)
-      (as_long w is_w) (sym fx.bit ∙ none))
+      let bit = bit_at-most_1 here x.departure.place is_u.information.bits in
+      let is = fx.bit in
+      decided v w _
+      (λ on. fork_before here v w _ _ fx.deviates left_y early is_v.information.bits (as_long v is_v) (as_long w is_w) (grind arith))
+      (λ off. inr (fork_behind here v w _ _ fx.deviates left_y early is_v.information.bits (as_long v is_v) (as_long w is_w)
+      (grind arith)))
 
   pub order_second : y.departure.place < x.departure.place → DecidesLexicographicOrder v w (nat_eq y.departure.bit 0)
   order_second early =
-      by_zero v w _ (rw bit_y (bit_at-most_1 here y.departure.place is_u.information.bits))
-      (λ none. fork_behind _ w v _ _ left_y fx.deviates early is_w.information.bits (as_long w is_w) (as_long v is_v) (sym bit_y ∙ none))
-      (λ one. fork_before here w v y.departure.place x.departure.place left_y fx.deviates early is_w.information.bits (as_long w is_w)
-      (as_long v is_v) (sym bit_y ∙ one))
+      let bit = bit_at-most_1 here y.departure.place is_u.information.bits in
+      let is = bit_y in
+      decided v w _
+      (λ on. fork_behind here w v _ _ left_y fx.deviates early is_w.information.bits (as_long w is_w) (as_long v is_v) (grind arith))
+      (λ off. inr (fork_before here w v _ _ left_y fx.deviates early is_w.information.bits (as_long w is_w) (as_long v is_v)
+      (grind arith)))
 
 -- ---- writing out a word along its chain of deviations
 
+drop-at : (xs : List ℕ) (k : ℕ) → k < length xs → drop k xs ≡ get_or xs k 0 ∷ drop (k + 1) xs
+drop-at xs k within = rw (add-one, drop-cons xs k 0)
+
 drop-set : (xs : List ℕ) (k x : ℕ) → k < length xs → drop k (set xs k x) ≡ x ∷ drop (k + 1) xs
-drop-set [] k x within = absurd (omega arith)
-drop-set (y ∷ xs) zero x within = refl
-drop-set (y ∷ xs) (suc k) x within =
-    let more : suc k + 1 ≡ suc (k + 1) = omega arith in
-    rw more (drop-set xs k x (omega arith))
+drop-set xs k x within =
+    rw (
+      drop-at (set xs k x) k (omega (arith, length-set xs k x)),
+      get_or-set_same xs k x 0 within,
+      drop-set-lt (k + 1) xs k x
+          (omega arith),
+    ) refl
 
 pub leads_more : (lists : StoredWords) (xs : List ℕ) (start at i : ℕ) → start < length xs → 0 < at → at < lists.count →
     IsChainOfDeviations lists (drop (start + 1) xs) at i →
-    IsChainOfDeviations lists (drop start (set xs start at)) (get_or lists.deviations (at - 1) no_deviation).word_index i
+    IsChainOfDeviations lists (drop start (set xs start at)) (get_or lists.deviations (at - 1) placeholder_deviation).word_index i
 leads_more lists xs start at i within some small leads =
     rw drop-set (some, small, refl, leads)
-
-drop-at : (xs : List ℕ) (k : ℕ) → k < length xs → drop k xs ≡ get_or xs k 0 ∷ drop (k + 1) xs
-drop-at [] k within = absurd (omega arith)
-drop-at (x ∷ xs) zero within = refl
-drop-at (x ∷ xs) (suc k) within =
-    let more : suc k + 1 ≡ suc (k + 1) = omega arith in
-    rw more (drop-at xs k (omega arith))
 
 -- u is the word that has been reached along the chain, and cs is the rest of the chain
 abbrev pub OnTheWay : ViterbiPass → StoredWords → List ℕ → ℕ → List ℕ → Type 0
@@ -478,31 +389,31 @@ pub record Further (pass : ViterbiPass) (lists : StoredWords) (cs : List ℕ) (i
   pub positive : 0 < c
   pub in_range : c < lists.count
   pub candidate : IsCandidate (soft_bits_of_pass pass) u
-  pub deviation : IsDeviation pass u (get_or lists.deviations (c - 1) no_deviation)
-  pub next : (v : List ℕ) → v ≡ word_of_deviation pass u (get_or lists.deviations (c - 1) no_deviation) → OnTheWay pass lists cs i v
+  pub deviation : IsDeviation pass u (get_or lists.deviations (c - 1) placeholder_deviation)
+  pub next : (v : List ℕ) → v ≡ word_of_deviation pass u (get_or lists.deviations (c - 1) placeholder_deviation)
+      → OnTheWay pass lists cs i v
 
 pub further : (pass : ViterbiPass) (lists : StoredWords) (xs : List ℕ) (k i : ℕ) (u : List ℕ) → length lists.deviations ≡ 63 →
     IsDeviationTree pass lists →
     All (IsCandidate (soft_bits_of_pass pass)) (stored_words pass lists) → k < length xs → OnTheWay pass lists (drop k xs) i u →
     Further pass lists (drop (k + 1) xs) i (get_or xs k 0) u
 further pass lists xs k i u many tree all within path =
-    from path.0 path.1 path.2 (subst (λ cs. IsChainOfDeviations lists cs path.0 i) (drop-at xs k within) path.3)
+    from path.0 path.1 path.2 (rw (drop-at xs k within) at path.3)
   where
     from : (at : ℕ) → u ≡ get_or (stored_words pass lists) at [] → at < lists.count →
         IsChainOfDeviations lists (get_or xs k 0 ∷ drop (k + 1) xs) at i → Further pass lists (drop (k + 1) xs) i (get_or xs k 0) u
     from at is small leads =
         let c = get_or xs k 0 in
         let back : c - 1 + 1 ≡ c = let s = leads.0 in omega arith in
-        let x = get_or lists.deviations (c - 1) no_deviation in
+        let x = get_or lists.deviations (c - 1) placeholder_deviation in
         let returned : IsMadeByDeviation pass (stored_words pass lists) c x =
-        subst (λ i. IsMadeByDeviation pass (stored_words pass lists) i x) back (tree.each (c - 1) (let s = leads.1 in omega arith)) in
+        rw back at (tree.made_by_deviation (c - 1) (let s = leads.1 in omega arith)) in
         let here : get_or (stored_words pass lists) x.word_index [] ≡ u = ap (λ k. get_or (stored_words pass lists) k []) leads.2
         ∙ sym is in record {
           positive = leads.0;
           in_range = leads.1;
-          candidate = subst (IsCandidate (soft_bits_of_pass pass)) (sym is)
-              (all at [] (let n = length-lists pass lists many tree.at_most in omega arith));
-          deviation = subst (λ u. IsDeviation pass u x) here returned.deviation;
+          candidate = rw is (all at [] (let n = length-lists pass lists many tree.at_most in omega arith));
+          deviation = rw here at returned.deviation;
           next = (λ v written. (c, written ∙ sym (returned.word_is ∙ ap (λ u. word_of_deviation pass u x) here), leads.1, leads.3));
         }
 
@@ -543,7 +454,7 @@ before_the_last pass c from w is candidate follows later is_w at =
     let followed : IsFollowed _ _ _ c _ =
     record {
       decisions = is.decisions;
-      pairs = is.soft_bit_count ∙ ap (λ n. 2 * n) (sym places);
+      pairs = omega arith;
       candidate = candidate;
       follows = follows;
       later =
@@ -558,16 +469,11 @@ pub begins : (pass : ViterbiPass) (u : List ℕ) (span : WordSpan) → IsComplet
     IsRanked (soft_bits_of_pass pass) (u ∷ []) ×
     PartitionsUnreturnedWords (soft_bits_of_pass pass) (u ∷ []) (deviations_in_span u span ∷ [])
 begins pass u span is best follows from to =
-    let s = soft_bits_of_pass pass in
-    let first = begins_ranked s u best in
-    let candidate : IsCandidate s u = record { information = best.information; count = best.count } in (
-      first.0,
-      narrow_covers s _ [] [] (deviations_anywhere u) first.1 _ candidate
-          (λ w at. record { place = at.place; deviates = at.deviates; allowed = refl })
-          (λ w is_w at.
-          let short = before_the_last _ _ 0 w is candidate follows (λ k free. omega arith) is_w at in
-          record { place = at.place; deviates = at.deviates; allowed = is_between span.from span.to at.place (omega arith) (omega arith) }),
-    )
+    begins_with (soft_bits_of_pass pass) u (is_in_range span.from span.to) best (λ w place is_w at.
+    let candidate : IsCandidate (soft_bits_of_pass pass) u = record { information = best.information; count = best.count } in
+    let short = before_the_last pass (deviations_anywhere u) 0 w is candidate follows (λ k free. omega arith) is_w
+    (record { place = place; deviates = at; allowed = refl }) in
+    is_between span.from span.to place (omega arith) (omega arith))
 
 module _ (pass : ViterbiPass) (us : List (List ℕ)) (u : List ℕ) (span : WordSpan) (x : Deviation) (is : IsCompletePass pass)
     (candidate : IsCandidate (soft_bits_of_pass pass) u)
@@ -579,16 +485,8 @@ module _ (pass : ViterbiPass) (us : List (List ℕ)) (u : List ℕ) (span : Word
   abbrev v : List ℕ
   v = word_of_deviation pass u x
 
-  u_long : length u ≡ length (decision_rows pass)
-  u_long = omega arith
-
-  pub left : DeviatesAt u (word_of_deviation pass u x) x.departure.place
-  left =
-      (is_deviation _ u _ _ _ 0 _ is.decisions (omega arith)
-      (HasTailBits-from_tail u candidate.information.bits candidate.information.tail) is_x.follows (omega arith) (omega arith)).deviates
-
-  v_follows : FollowsSurvivors (x.departure.place + 1) (word_of_deviation pass u x) (decision_rows pass) 0
-  v_follows = follows_behind u _ 0 _ u_long (omega arith)
+  left : DeviatesAt u v place
+  left = deviation_departs_at pass u x is candidate is_x
 
   module _ (before after : List DeviationClass) (first behind_v rest : WordSpan) (ranked : IsRanked (soft_bits_of_pass pass) us)
       (covers : PartitionsUnreturnedWords (soft_bits_of_pass pass) us (before ++ deviations_in_span u span ∷ after))
@@ -608,95 +506,94 @@ module _ (pass : ViterbiPass) (us : List (List ℕ)) (u : List ℕ) (span : Word
     a = deviations_in_span u first
 
     abbrev b : DeviationClass
-    b = deviations_in_span (word_of_deviation pass u x) behind_v
+    b = deviations_in_span v behind_v
 
-    next : IsRanked (soft_bits_of_pass pass) (us ++ word_of_deviation pass u x ∷ []) ×
-        PartitionsUnreturnedWords (soft_bits_of_pass pass) (us ++ word_of_deviation pass u x ∷ [])
-        ((before ++ without_position (deviations_in_span u span) x.departure.place ∷ after) ++ behind
-        (word_of_deviation pass u x) x.departure.place ∷ [])
-    next = goes_on_ranked s us before after c v place ranked covers v_is left (is_between span.from span.to place from to) best
+    abbrev r : DeviationClass
+    r = deviations_in_span u rest
 
-    narrowed : PartitionsUnreturnedWords (soft_bits_of_pass pass) (us ++ word_of_deviation pass u x ∷ [])
-        ((before ++ without_position (deviations_in_span u span) x.departure.place ∷ after) ++ deviations_in_span
-        (word_of_deviation pass u x) behind_v ∷ [])
-    narrowed = narrow_covers s (us ++ v ∷ []) (before ++ without_position c place ∷ after) [] (behind v place) next.1 b v_is
-        (λ w at. record {
-          place = at.place;
-          deviates = at.deviates;
-          allowed = place-behind v place at.place (let f = between_from behind_v.from behind_v.to at.place at.allowed in omega arith);
-        })
-        (λ w is_w at.
-        let short = before_the_last pass (behind v place) (place + 1) w is v_is v_follows
-        (λ k free. let l = behind-place v place k free in omega arith) is_w at in
-        let later = behind-place v place at.place at.allowed in
-        record {
-          place = at.place;
-          deviates = at.deviates;
-          allowed =
-              is_between behind_v.from behind_v.to at.place (omega arith) (omega arith);
-        })
+    in_span : (t : List ℕ) (part : WordSpan) (w : List ℕ) (k : ℕ) → DeviatesAt t w k → part.from ≤ k → k < part.to →
+        IsInClass (deviations_in_span t part) w
+    in_span t part w k at f l = record { place = k; deviates = at; allowed = is_between part.from part.to k f l }
 
-    in_part : (part : WordSpan) → span.from ≤ part.from → part.to ≤ span.to → (part.to ≤ place) ⊎ (place < part.from) →
-        Part (deviations_in_span u part) (without_position (deviations_in_span u span) x.departure.place)
-    in_part part from_in to_in aside w at =
-        let t = between_to part.from part.to at.place at.allowed in
-        let f = between_from part.from part.to at.place at.allowed in
-        record {
-          place = at.place;
-          deviates = at.deviates;
-          allowed = free-without_position c place at.place (λ e. elim aside [ inl before ↦ omega arith | inr behind ↦ omega arith ])
-              (is_between span.from span.to at.place (omega arith) (omega arith));
-        }
-
-    in_first : Part (deviations_in_span u first) (without_position (deviations_in_span u span) x.departure.place)
-    in_first = in_part first (omega arith) (omega arith) (inl (omega arith))
-
-    in_rest : Part (deviations_in_span u rest) (without_position (deviations_in_span u span) x.departure.place)
-    in_rest = in_part rest (omega arith) (omega arith) (inr (omega arith))
-
-    not_both : Disjoint (deviations_in_span u first) (deviations_in_span u rest)
-    not_both w at at' =
+    -- where the words of the three parts deviate from u: before the position of v, after it, or there
+    in_first : (w : List ℕ) → IsInClass a w → (k : ℕ) × DeviatesAt u w k × (span.from ≤ k) × (k < place)
+    in_first w at =
+        let f = between_from _ _ at.place at.allowed in
         let t = between_to _ _ at.place at.allowed in
-        let f = between_from rest.from rest.to at'.place at'.allowed in
-        let same = departs_once u w at.place at'.place at.deviates at'.deviates in
-        omega arith
+        (at.place, at.deviates, omega arith, omega arith)
 
-    in_one : (w : List ℕ) → IsInClass (without_position (deviations_in_span u span) x.departure.place) w →
-        IsInClass (deviations_in_span u first) w ⊎ IsInClass (deviations_in_span u rest) w
-    in_one w at =
-        let open_at = without_position-free c place at.place at.allowed in
-        let t = between_to span.from span.to at.place open_at.1 in
-        let f = between_from span.from span.to at.place open_at.1 in
-        elim (cases_lt at.place place) [
-          | inl early ↦ inl
-              (record {
-                place = at.place;
-                deviates = at.deviates;
-                allowed = is_between first.from first.to at.place (omega arith) (omega arith);
-              })
-          | inr not_early ↦
-              let late : place < at.place = elim (cases_lt place at.place) [
-                | inl lt ↦ lt
-                | inr not_late ↦ absurd (open_at.0 (omega arith))
-              ] in
-              inr (record {
-                place = at.place;
-                deviates = at.deviates;
-                allowed = is_between rest.from rest.to at.place (omega arith) (omega arith);
-              })
-        ]
+    in_rest : (w : List ℕ) → IsInClass r w → (k : ℕ) × DeviatesAt u w k × (place < k) × (k < span.to)
+    in_rest w at =
+        let f = between_from _ _ at.place at.allowed in
+        let t = between_to _ _ at.place at.allowed in
+        (at.place, at.deviates, omega arith, omega arith)
+
+    in_behind : (w : List ℕ) → IsInClass b w → DeviatesAt u w place
+    in_behind w at =
+        let f = between_from _ _ at.place at.allowed in
+        departs_before u v w place at.place (let n = v_is.count in let m = candidate.count in omega arith) left at.deviates (omega arith)
+
+    is_first : IsPartWithout s c v a
+    is_first = record {
+      candidate = candidate;
+      part = λ w at. let h = in_first w at in in_span u span w h.0 h.1 h.2 (omega arith);
+      without = λ at. let h = in_first v at in let same = departs_once u v _ _ h.1 left in omega arith;
+    }
+
+    is_rest : IsPartWithout s c v r
+    is_rest = record {
+      candidate = candidate;
+      part = λ w at. let h = in_rest w at in in_span u span w h.0 h.1 (omega arith) h.3;
+      without = λ at. let h = in_rest v at in let same = departs_once u v _ _ h.1 left in omega arith;
+    }
+
+    is_behind : IsPartWithout s c v b
+    is_behind = record {
+      candidate = v_is;
+      part = λ w at. in_span u span w place (in_behind w at) from to;
+      without = λ at. at.deviates.differs refl;
+    }
+
+    first_behind : Disjoint a b
+    first_behind w at at' = let h = in_first w at in let same = departs_once u w _ _ h.1 (in_behind w at') in omega arith
+
+    first_rest : Disjoint a r
+    first_rest w at at' =
+        let h = in_first w at in
+        let g = in_rest w at' in
+        let same = departs_once u w _ _ h.1 g.1 in omega arith
+
+    behind_rest : Disjoint b r
+    behind_rest w at at' = let g = in_rest w at' in let same = departs_once u w _ _ (in_behind w at) g.1 in omega arith
+
+    -- a candidate of the class other than v belongs to one of the parts
+    in_one : (w : List ℕ) → IsCandidate s w → IsInClass c w → w ≢ v
+        → (p : DeviationClass) × Contains (a ∷ b ∷ r ∷ []) p × IsInClass p w
+    in_one w is_w at ne = elim (parts s c v place candidate v_is left (is_between span.from span.to place from to) w is_w at ne) [
+      | inl still ↦
+          let open_at = without_position-free c place still.place still.allowed in
+          let other = open_at.0 in
+          let f = between_from span.from span.to still.place open_at.1 in
+          let t = between_to span.from span.to still.place open_at.1 in
+          elim (cases_lt still.place place) [
+            | inl early ↦ (a, (0, omega arith, refl), in_span u first w still.place still.deviates (omega arith) (omega arith))
+            | inr late ↦ (r, (2, omega arith, refl), in_span u rest w still.place still.deviates (omega arith) (omega arith))
+          ]
+      | inr now ↦
+          let later = deviations_after_place-place v place now.place now.allowed in
+          let follows : FollowsSurvivors (place + 1) v (decision_rows pass) 0 = follows_behind u _ 0 _ (omega arith) (omega arith) in
+          let short = before_the_last pass (deviations_after_place v place) (place + 1) w is v_is follows
+          (λ k free. let l = deviations_after_place-place v place k free in omega arith) is_w now in
+          (b, (1, omega arith, refl), in_span v behind_v w now.place now.deviates (omega arith) (omega arith))
+    ]
 
     -- three spans replace the span: the positions of u before and after the deviation, and those of the new word after it
     pub goes_on : IsRanked (soft_bits_of_pass pass) (us ++ word_of_deviation pass u x ∷ []) ×
         PartitionsUnreturnedWords (soft_bits_of_pass pass) (us ++ word_of_deviation pass u x ∷ [])
         (((before ++ deviations_in_span u first ∷ after) ++ deviations_in_span
         (word_of_deviation pass u x) behind_v ∷ []) ++ deviations_in_span u rest ∷ [])
-    goes_on = (
-      next.0,
-      subst (λ cs. PartitionsUnreturnedWords s (us ++ v ∷ []) (cs ++ deviations_in_span u rest ∷ [])) (sym (append_assoc before
-          (a ∷ after) (b ∷ [])))
-          (split_covers s (us ++ v ∷ []) before (after ++ b ∷ []) (without_position c place)
-          (subst (PartitionsUnreturnedWords s (us ++ v ∷ [])) (append_assoc before (without_position c place ∷ after) (b ∷ []))
-          narrowed)
-          a (deviations_in_span u rest) candidate candidate in_first in_rest not_both (λ w is_w at. in_one w at)),
-    )
+    goes_on = rw append_assoc (parted s us before after c v ranked covers v_is (in_span u span v place left from to) best a (b ∷ r ∷ [])
+        (All-from_recursion (IsPartWithout s c v) (a ∷ b ∷ r ∷ []) (is_first, (is_behind, (is_rest, tt)))) (
+          All-from_recursion (Disjoint a) (b ∷ r ∷ []) (first_behind, (first_rest, tt)),
+          (All-cons (Disjoint b) r [] behind_rest (All-nil _), (All-nil _, tt)),
+        ) in_one)

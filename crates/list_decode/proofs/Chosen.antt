@@ -1,42 +1,47 @@
 -- After a word is returned: its branches, and the invariant of `ListDecoder`.
-use Rattle.list_decode.proofs.Choices.{all_at, begins, below_best, blank, branch_deviation, deviation_is, goes_on, length-lists, lists-push}
-use Rattle.list_decode.proofs.{Choices.{metrics_set, tree_first, tree_more}, DeviatingWords.kept_best, Rankings.Contains-here}
-use Rattle.list_decode.{proofs.Rankings.{ends_ranked, not_given}, specs.Branches.{IsBranchOfReturnedWord, IsBranch, IsDeviation}}
-use Rattle.list_decode.specs.Branches.{IsMostLikelyDeviation, IsSpanOfWord, class_of_branch, deviations_in_span, word_of_deviation}
-use Rattle.list_decode.specs.Choices.{DeviatesFromReturnedWord, HasMetrics, IsFirstRankedBranch, RanksNotBefore, deviating_word}
-use Rattle.list_decode.specs.{Classes.{DeviationClass, IsInClass, PartitionsUnreturnedWords}, DeviatingWords.state_after_bits}
-use Rattle.list_decode.specs.{WordStorage.{IsDeviationTree, stored_words}, Partitioning.{IsNextRankedWord, NoBranchHasWord}}
-use Rattle.list_decode.specs.{Partitioning.branches_after_word, Passes.{HasSoftBits, IsCompletePass, decision_rows, losses_of_pass}}
-use Rattle.list_decode.specs.{Passes.soft_bits_of_pass, DecoderInvariant.{IsSoundRanking, branches_in_use, ranking_of, returned_words}}
-use Rattle.list_decode.specs.{Ranking.{IsCandidate, IsRanked, IsRankingDone, Ranking}, declared.branch.Deviation.Deviation}
-use Rattle.list_decode.specs.declared.{branch.{WordBranch.WordBranch, WordSpan.WordSpan}, choice.BranchChoice.BranchChoice}
-use Rattle.list_decode.specs.declared.{partitioning.NextWord.NextWord, pass.ViterbiPass.ViterbiPass, ranked.ListDecoder.TheInside.Inside}
-use Rattle.std.proofs.Common.{List, None, Option, Some, [], ap, ap₂, arith, drop, get_or, inl, inr, length, map, refl, set, subst, suc}
-use Rattle.std.proofs.Common.{sym, take, zero, ℕ, ℤ, ◌*◌, ◌++◌, ◌+◌, ◌-◌, ◌<◌, ◌∙◌, ◌∷◌, ◌≡◌}
-use Rattle.std.proofs.{Common.{◌≢◌, ◌≤◌}, Math.Seq.take-set-lt, lemmas.{Grind.take-set_at, List.Elements.All-append}}
-use Rattle.std.proofs.lemmas.List.Elements.{All-cons, All-contains, All-drop, All-head, All-nil, All-set, All-tail, All-take, All-weaker}
-use Rattle.std.proofs.lemmas.List.{Elements.Contains-append_right, get_or_append_left, get_or_push, length-append, length-set, length-take}
-use Rattle.std.{proofs.lemmas.List.{map-append, set-get_or, set_split, take_more_set}, specs.List.{All, Contains, slice_get}}
-use Rattle.std.specs.Prelude.{IfSome, MatchOption}
-use Rattle.trellis_decode.{proofs.Lemmas.{IsMostLikely-best, length-traceback}, specs.Trellis.traceback}
-use Rattle.weight_bound.{proofs.conv_code.Lemmas.IsMostLikely-only, specs.conv_code.Code.{IsEncoderInput, encoding}}
-use Rattle.weight_bound.specs.conv_code.Likelihood.{IsMostLikely, RanksAfter, likelihood}
+use Rattle.{
+  list_decode.{
+    proofs.Choices.{begins, below_best, blank, branch_deviation, deviation_is, goes_on, length-lists, lists-push, metrics_set, tree_more},
+    proofs.{DeviatingWords.kept_best, Rankings.{ends_ranked, most_likely_is_ranked, not_given}},
+    specs.{
+      Branches.{IsBranchOfReturnedWord, IsBranch, IsDeviation, IsMostLikelyDeviation, IsSpanOfWord, class_of_branch, deviations_in_span},
+      Branches.word_of_deviation,
+      Choices.{HasMetrics, IsFirstRankedBranch, RanksNotBefore},
+      Classes.{DeviationClass, IsInClass, PartitionsUnreturnedWords},
+      WordStorage.{stored_words, with_deviating_words},
+      Partitioning.{IsNextRankedWord, NoBranchHasUnreturnedWord, branches_after_word},
+      Passes.{HasSoftBits, IsCompletePass, decision_rows, losses_of_pass, soft_bits_of_pass},
+      DecoderInvariant.{HasBranches, IsSoundRanking, ranking_of, returned_words},
+      Ranking.{IsCandidate, IsRanked, IsRankingDone, Ranking},
+      declared.{branch.{Deviation.Deviation, WordBranch.WordBranch, WordSpan.WordSpan}, choice.BranchChoice.BranchChoice},
+      declared.{lists.StoredWords.StoredWords, partitioning.NextWord.NextWord, pass.ViterbiPass.ViterbiPass},
+      declared.ranked.ListDecoder.TheInside.Inside,
+    },
+  },
+  std.{
+    proofs.{
+      Common.{List, None, Option, Some, [], ap, ap₂, arith, drop, get_or, inl, inr, length, map, refl, set, subst, suc, sym, take, zero},
+      Common.{ℕ, ℤ, ◌*◌, ◌++◌, ◌+◌, ◌-◌, ◌<◌, ◌∙◌, ◌∷◌, ◌≡◌, ◌≢◌, ◌≤◌},
+      Math.Seq.take-set-lt,
+      lemmas.{
+        Grind.take-set_at,
+        Option.{get_or_from_slice_get, slice_get_within},
+        List.Elements.{All-push, All-cons, All-contains, All-drop, All-nil, All-set, All-tail, All-take, Contains-push},
+        List.{get_or_append_left, get_or_push, length-append, length-set, length-take, map-append, set-get_or, set_split, take_more_set},
+      },
+    },
+    specs.{List.{All, Contains}, Prelude.{IfSome, MatchOption}},
+  },
+  trellis_decode.{proofs.Lemmas.{IsMostLikely-best, length-traceback}, specs.Trellis.traceback},
+  weight_bound.{
+    proofs.conv_code.Lemmas.IsMostLikely-only,
+    specs.conv_code.{Code.{IsEncoderInput, encoding}, Likelihood.{IsMostLikely, RanksAfter, likelihood}},
+  },
+}
 
 -- ## Chosen: The branch whose most likely word is the next word, and the branches after this word is returned.
 
 -- ---- the chosen branch
-
-slice_get-is : (bs : List WordBranch) (b d : WordBranch) (k : ℕ) → slice_get bs k ≡ Some b →
-    (k < length bs) × (get_or bs k d ≡ b)
-slice_get-is [] b d k at = absurd (none_some at)
-  where
-    none_some : {x : WordBranch} → None ≡ Some x → ⊥
-    none_some e = cc
-slice_get-is (c ∷ bs) b d zero at = (omega arith, same at)
-  where
-    same : Some c ≡ Some b → c ≡ b
-    same e = all_at (λ x. c ≡ x) (c ∷ []) b zero (All-cons (λ x. c ≡ x) c [] refl (All-nil (λ x. c ≡ x))) e
-slice_get-is (c ∷ bs) b d (suc k) at = let rest = slice_get-is bs b d k at in (omega arith, rest.1)
 
 -- u is a candidate, `span` a span of u, and x makes the most likely word that deviates from u there
 pub record IsChosen (pass : ViterbiPass) (u : List ℕ) (span : WordSpan) (x : Deviation) : Type 0 where
@@ -50,20 +55,17 @@ module _ (pass : ViterbiPass) (us : List (List ℕ)) (branches : List WordBranch
     (soft_bits_of_pass pass)) us)
     (all : All (IsBranchOfReturnedWord pass us) branches) (first : IsFirstRankedBranch pass us branches (Some choice)) where
   pub within : choice.branch < length branches
-  within = (slice_get-is _ first.0.0 blank _ first.0.1).0
+  within = slice_get_within branches choice.branch first.0.0 first.0.1
 
   pub chosen_branch : IsBranchOfReturnedWord pass us (get_or branches choice.branch blank)
   chosen_branch = all _ _ within
 
   best_is : (get_or branches choice.branch blank).best ≡ Some choice.deviation
-  best_is = ap (λ (b : WordBranch). b.best) (slice_get-is _ _ _ choice.branch first.0.1).1 ∙ first.0.2
+  best_is = ap (λ (b : WordBranch). b.best) (get_or_from_slice_get branches choice.branch first.0.0 blank first.0.1) ∙ first.0.2
 
   best_chosen : IsMostLikelyDeviation pass (get_or us (get_or branches choice.branch blank).span.word_index [])
       (get_or branches choice.branch blank).span (Some choice.deviation)
-  best_chosen =
-      subst (IsMostLikelyDeviation pass (get_or us (get_or branches choice.branch blank).span.word_index [])
-      (get_or branches choice.branch blank).span)
-      best_is chosen_branch.is_branch.best
+  best_chosen = rw best_is at chosen_branch.is_branch.best
 
   pub chosen : IsChosen pass (get_or us (get_or branches choice.branch blank).span.word_index [])
       (get_or branches choice.branch blank).span choice.deviation
@@ -91,14 +93,14 @@ classes_kept : (pass : ViterbiPass) (us : List (List ℕ)) (u : List ℕ) (bs : 
     All (IsBranchOfReturnedWord pass us) bs → map (class_of_branch us) bs ≡ map (class_of_branch (us ++ u ∷ [])) bs
 classes_kept pass us u [] all = refl
 classes_kept pass us u (b ∷ bs) all =
-    ap₂ (λ c cs. c ∷ cs) (ap (λ chosen_word. deviations_in_span chosen_word b.span) (get_or-kept us u _ (All-head
-    (IsBranchOfReturnedWord pass us) b bs all).in_range)) (classes_kept pass us u bs (All-tail (IsBranchOfReturnedWord pass us) b bs all))
+    ap₂ (λ c cs. c ∷ cs) (ap (λ chosen_word. deviations_in_span chosen_word b.span) (get_or-kept us u _ (all 0 b
+    (omega arith)).in_range)) (classes_kept pass us u bs (All-tail (IsBranchOfReturnedWord pass us) b bs all))
 
 -- each of the classes is the class of one of the branches
 class_at : (us : List (List ℕ)) (bs : List WordBranch) (P : WordBranch → Type 0) (e : DeviationClass) → All P bs →
     Contains (map (class_of_branch us) bs) e → (b : WordBranch) × P b × (class_of_branch us b ≡ e)
 class_at us [] P e all found = absurd (omega arith)
-class_at us (b ∷ bs) P e all (zero, lt, is) = (b, All-head P b bs all, is)
+class_at us (b ∷ bs) P e all (zero, lt, is) = (b, all 0 b (omega arith), is)
 class_at us (b ∷ bs) P e all (suc k, lt, is) = class_at us bs P e (All-tail P b bs all) (k, omega arith, is)
 
 module _ (pass : ViterbiPass) (us : List (List ℕ)) (branches : List WordBranch) (choice : BranchChoice) (is : IsCompletePass pass)
@@ -163,13 +165,22 @@ module _ (pass : ViterbiPass) (us : List (List ℕ)) (branches : List WordBranch
       (after_span : (next.parts.branch_after.span.word_index ≡ b.span.word_index)
       × (next.parts.branch_after.span.from ≡ choice.deviation.departure.place + 1)
       × (next.parts.branch_after.span.to ≡ b.span.to)) where
+    abbrev first_part : WordBranch
+    first_part = next.parts.branch_before
+
+    abbrev new_part : WordBranch
+    new_part = next.parts.branch_of_new_word
+
+    abbrev last_part : WordBranch
+    last_part = next.parts.branch_after
+
     abbrev us' : List (List ℕ)
     us' = us ++ chosen_word ∷ []
 
     abbrev f : WordBranch → DeviationClass
     f = class_of_branch (us ++ chosen_word ∷ [])
 
-    -- the words that were returned before the new word chosen_word are unchanged
+    -- the words that were returned before the new word v are unchanged
     same_u : (k : ℕ) → k ≡ b.span.word_index → get_or us' k [] ≡ u
     same_u k same = ap (λ k. get_or us' k []) same ∙ sym (get_or-kept us chosen_word b.span.word_index u_within)
 
@@ -179,102 +190,64 @@ module _ (pass : ViterbiPass) (us : List (List ℕ)) (branches : List WordBranch
     old_branch : (p : WordBranch) → p.span.word_index ≡ b.span.word_index → IsBranch pass u p → IsBranchOfReturnedWord pass us' p
     old_branch p same is_p = record {
       in_range = let k = u_within in omega (arith, length-append us (chosen_word ∷ []));
-      is_branch = subst (λ u. IsBranch pass u p) (sym (same_u p.span.word_index same)) is_p;
+      is_branch = rw (same_u p.span.word_index same) is_p;
     }
 
-    new_branch : IsBranchOfReturnedWord pass us' next.parts.branch_of_new_word
+    new_branch : IsBranchOfReturnedWord pass us' new_part
     new_branch = record {
       in_range = let k = behind_span.0 in omega (arith, length-append us (chosen_word ∷ []));
-      is_branch = subst (λ u. IsBranch pass u next.parts.branch_of_new_word)
-          (sym (same_v next.parts.branch_of_new_word.span.word_index behind_span.0)) behind_v;
+      is_branch = rw (same_v new_part.span.word_index behind_span.0) behind_v;
     }
 
-    each : All (IsBranchOfReturnedWord pass us')
-        ((set branches i next.parts.branch_before ++ next.parts.branch_of_new_word ∷ []) ++ next.parts.branch_after ∷ [])
-    each = All-append (IsBranchOfReturnedWord pass us') (set branches i next.parts.branch_before ++ next.parts.branch_of_new_word ∷ [])
-        (next.parts.branch_after
-        ∷ [])
-        (All-append (IsBranchOfReturnedWord pass us') (set branches i next.parts.branch_before) (next.parts.branch_of_new_word ∷ [])
-        (All-set (IsBranchOfReturnedWord pass us') branches i next.parts.branch_before
-        (old_branch next.parts.branch_before before_span.0 before)
-        (All-weaker (IsBranchOfReturnedWord pass us) (IsBranchOfReturnedWord pass us')
-        (λ b is_b. branch_kept pass us chosen_word b is_b) branches all))
-        (All-cons (IsBranchOfReturnedWord pass us') next.parts.branch_of_new_word [] new_branch
-        (All-nil (IsBranchOfReturnedWord pass us'))))
-        (All-cons (IsBranchOfReturnedWord pass us') next.parts.branch_after [] (old_branch next.parts.branch_after after_span.0 after)
-        (All-nil (IsBranchOfReturnedWord pass us')))
+    all_branches : All (IsBranchOfReturnedWord pass us')
+        ((set branches i first_part ++ new_part ∷ []) ++ last_part ∷ [])
+    all_branches = All-push (IsBranchOfReturnedWord pass us') (set branches i first_part ++ new_part ∷ []) last_part
+        (All-push (IsBranchOfReturnedWord pass us') (set branches i first_part) new_part
+        (All-set (IsBranchOfReturnedWord pass us') branches i first_part
+        (old_branch first_part before_span.0 before)
+        (λ k d lt. branch_kept pass us chosen_word (get_or branches k d) (all k d lt))) new_branch)
+        (old_branch last_part after_span.0 after)
 
-    classes : ((map (class_of_branch us) (take i branches) ++ deviations_in_span u next.parts.branch_before.span ∷ map
+    classes : ((map (class_of_branch us) (take i branches) ++ deviations_in_span u first_part.span ∷ map
         (class_of_branch us)
-        (drop (suc i) branches)) ++ deviations_in_span chosen_word next.parts.branch_of_new_word.span ∷ []) ++ deviations_in_span u
-        next.parts.branch_after.span
+        (drop (suc i) branches)) ++ deviations_in_span chosen_word new_part.span ∷ []) ++ deviations_in_span u
+        last_part.span
         ∷ [] ≡
-        map f ((set branches i next.parts.branch_before ++ next.parts.branch_of_new_word ∷ []) ++ next.parts.branch_after ∷ [])
+        map f ((set branches i first_part ++ new_part ∷ []) ++ last_part ∷ [])
     classes =
         let early = classes_kept pass us chosen_word (take i branches) (All-take (IsBranchOfReturnedWord pass us) i branches all) in
         let late = classes_kept pass us chosen_word (drop (suc i) branches) (All-drop (IsBranchOfReturnedWord pass us) (suc i) branches all)
         in
-        let one = ap (λ u. deviations_in_span u next.parts.branch_before.span)
-        (sym (same_u next.parts.branch_before.span.word_index before_span.0)) in
-        let two = ap (λ u. deviations_in_span u next.parts.branch_of_new_word.span)
-        (sym (same_v next.parts.branch_of_new_word.span.word_index behind_span.0)) in
-        let three = ap (λ u. deviations_in_span u next.parts.branch_after.span)
-        (sym (same_u next.parts.branch_after.span.word_index after_span.0)) in
-        let old : map (class_of_branch us) (take i branches)
-        ++ deviations_in_span u next.parts.branch_before.span ∷ map (class_of_branch us) (drop (suc i) branches) ≡
-        map f (set branches i next.parts.branch_before) =
-        ap₂ (λ xs ys. xs ++ ys) early (ap₂ (λ c cs. c ∷ cs) one late)
-        ∙ sym (map-append f (take i branches) (next.parts.branch_before ∷ drop (suc i) branches))
-        ∙ ap (map f) (sym (set_split branches i next.parts.branch_before inside)) in
-        ap₂ (λ xs c. xs ++ c ∷ [])
-        (ap₂ (λ xs c. xs ++ c ∷ []) old two
-        ∙ sym (map-append f (set branches i next.parts.branch_before) (next.parts.branch_of_new_word ∷ []))) three
-        ∙ sym (map-append f (set branches i next.parts.branch_before ++ next.parts.branch_of_new_word ∷ [])
-        (next.parts.branch_after ∷ []))
+        let one = ap (λ u. deviations_in_span u first_part.span)
+        (sym (same_u first_part.span.word_index before_span.0)) in
+        let two = ap (λ u. deviations_in_span u new_part.span)
+        (sym (same_v new_part.span.word_index behind_span.0)) in
+        let three = ap (λ u. deviations_in_span u last_part.span)
+        (sym (same_u last_part.span.word_index after_span.0)) in
+        rw (set_split branches i first_part inside) (simp map-append (cc (early, late, one, two, three)))
 
     is_next_deviation : IsNextRankedWord pass us branches chosen_word next
     is_next_deviation = record {
-      in_range = subst (λ k. k < length branches) (sym at) inside;
+      in_range = rw at inside;
       value = ap (λ (x : Deviation). x.likelihood) left ∙ has.deviation.value;
-      deviation = subst (DeviatesFromReturnedWord pass us) (sym left)
-          (branch_deviation pass us b choice.deviation chosen_here best_here);
-      word_is = ap (λ k. word_of_deviation pass (get_or us k []) choice.deviation) (sym
-          (best_chosen pass us branches choice lists all first).1)
-          ∙ ap (deviating_word pass us) (sym left);
-      each = subst (λ k. All (IsBranchOfReturnedWord pass us')
-          ((set branches k next.parts.branch_before ++ next.parts.branch_of_new_word ∷ []) ++ next.parts.branch_after ∷ [])) (sym at)
-          each;
+      deviation = rw left (branch_deviation pass us b choice.deviation chosen_here best_here);
+      word_is = rw (left, (best_chosen pass us branches choice lists all first).1) refl;
+      all_branches = rw at all_branches;
       ranking_continues = (λ ranked covers.
           let went = goes_on pass us u b.span choice.deviation is has.candidate has.deviation v_is has.from has.to
-          (map (class_of_branch us) (take i branches)) (map (class_of_branch us) (drop
-          (suc i) branches)) next.parts.branch_before.span next.parts.branch_of_new_word.span next.parts.branch_after.span
-          ranked (subst (PartitionsUnreturnedWords (soft_bits_of_pass pass) us) split covers) (λ e w member. best e w (subst
-          (λ cs. Contains cs e) (sym split) member))
-          before_span.1 before_span.2 behind_span.1 behind_span.2 after_span.1 after_span.2 in (
-            went.0,
-            subst (PartitionsUnreturnedWords (soft_bits_of_pass pass) us') (classes
-                ∙ ap (λ k. map f ((set branches k next.parts.branch_before ++ next.parts.branch_of_new_word ∷ []) ++
-                next.parts.branch_after
-                ∷ [])) (sym at))
-                went.1,
-          ));
+          (map (class_of_branch us) (take i branches)) (map (class_of_branch us) (drop (suc i) branches))
+          first_part.span new_part.span last_part.span
+          ranked (rw split at covers) (λ e w member. best e w (rw split member))
+          before_span.1 before_span.2 behind_span.1 behind_span.2 after_span.1 after_span.2 in
+          (went.0, rw (at, ← classes) went.1));
     }
 
     pub is_next : (written : List ℕ) → written ≡ chosen_word → IsNextRankedWord pass us branches written next
-    is_next written same = subst (λ chosen_word. IsNextRankedWord pass us branches chosen_word next) (sym same) is_next_deviation
+    is_next written same = rw same is_next_deviation
 
 -- The invariant of `ListDecoder` holds after one more word is returned.
 
 -- ---- after the first word is returned
-
-ready_pass : (pass : ViterbiPass) → IsCompletePass pass → HasSoftBits pass
-ready_pass pass is = record {
-  at_least = is.at_least;
-  at_most = is.at_most;
-  soft_bit_count = is.soft_bit_count;
-  row_count = is.row_count;
-  soft = is.soft;
-}
 
 first_chosen : (pass : ViterbiPass) (u : List ℕ) → IsCompletePass pass → IsMostLikely (soft_bits_of_pass pass) u →
     u ≡ traceback (decision_rows pass) 0
@@ -298,124 +271,202 @@ first_span pass u span is best value from to state =
       order = omega arith;
       before_tail = omega arith;
       state_in_range = omega arith;
-      state = state ∙ ap (λ from. state_after_bits 0 (take from u)) (sym from);
+      state = rw from state;
     }
 
-module _ (pass : ViterbiPass) (is_pass : IsCompletePass pass) (deviations : List Deviation) (branches : List WordBranch)
-    (metrics : List ℤ) (room : length branches ≡ 127)
-    (u row : List ℕ) (reads : take pass.bits row ≡ u) (b : WordBranch) where
-  abbrev started : Inside
-  started = record {
-    pass = pass;
-    lists = record { first_word = row; deviations = deviations; count = 1 };
-    branches = set branches 0 b;
-    metrics = metrics;
-  }
+pub one_word : (pass : ViterbiPass) (lists : StoredWords) → lists.count ≡ 1 →
+    stored_words pass lists ≡ take pass.bits lists.first_word ∷ []
+one_word pass lists one = ap (λ n. with_deviating_words pass (take n (take pass.bits lists.first_word ∷ [])) (take
+    (n - 1) lists.deviations)) one
 
-  pub first_given : stored_words pass (record { first_word = row; deviations = deviations; count = 1 }) ≡ u ∷ []
-  first_given = ap (λ u. u ∷ []) reads
+module _ (pass : ViterbiPass) (lists : StoredWords) (one : lists.count ≡ 1) (branches : List WordBranch) (metrics : List ℤ)
+    (room : length branches ≡ 127) (is_pass : IsCompletePass pass)
+    (best : IsMostLikely (soft_bits_of_pass pass) (take pass.bits lists.first_word)) (b : WordBranch) where
+  abbrev first : List ℕ
+  first = take pass.bits lists.first_word
 
-  one_branch : branches_in_use started ≡ b ∷ []
-  one_branch = take-set_at _ 0 (2 * 1 - 1) b (omega arith) (omega arith)
+  one_branch : take (2 * lists.count - 1) (set branches 0 b) ≡ b ∷ []
+  one_branch = take-set_at _ 0 (2 * lists.count - 1) b (omega arith) (omega arith)
 
-  pub sound_first : IsMostLikely (soft_bits_of_pass pass) u → IsBranch pass u b → b.span.word_index ≡ 0 → b.span.from ≡ 0 →
-      b.span.to + 4 ≡ pass.bits → HasMetrics (set branches 0 b) metrics →
-      IsSoundRanking (record {
-        pass = pass;
-        lists = record { first_word = row; deviations = deviations; count = 1 };
-        branches = set branches 0 b;
-        metrics = metrics;
-      })
-  sound_first best is_b list from to has =
-      let first = begins pass u b.span is_pass best (first_chosen pass u is_pass best) from to in
-      let read : get_or (u ∷ []) b.span.word_index [] ≡ u = ap (λ k. get_or (u ∷ []) k []) list in
+  pub first_branch : IsBranch pass first b → b.span.word_index ≡ 0 → b.span.from ≡ 0 → b.span.to + 4 ≡ pass.bits →
+      HasMetrics (set branches 0 b) metrics → HasBranches pass lists (set branches 0 b) metrics
+  first_branch is_b list from to has =
+      let begun = begins pass first b.span is_pass best (first_chosen pass first is_pass best) from to in
+      let read : get_or (first ∷ []) b.span.word_index [] ≡ first = ap (λ k. get_or (first ∷ []) k []) list in
       record {
-        has_soft_bits = ready_pass pass is_pass;
-        pass = λ some. is_pass;
-        tree = tree_first pass row deviations;
-        ranked = subst (IsRanked (soft_bits_of_pass pass)) (sym first_given) first.0;
-        metrics = has;
-        branches = subst (λ us. All (IsBranchOfReturnedWord pass us) (branches_in_use started)) (sym first_given)
-            (subst (All (IsBranchOfReturnedWord pass (u ∷ []))) (sym one_branch)
-            (All-cons (IsBranchOfReturnedWord pass (u ∷ [])) b []
+        complete = is_pass;
+        tree = record { at_most = omega arith; made_by_deviation = (λ k within. absurd (omega arith)) };
+        values = has;
+        each = subst (λ us. All (IsBranchOfReturnedWord pass us) (take (2 * lists.count - 1) (set branches 0 b))) (sym
+            (one_word pass lists one))
+            (subst (All (IsBranchOfReturnedWord pass (first ∷ []))) (sym one_branch)
+            (All-cons (IsBranchOfReturnedWord pass (first ∷ [])) b []
             (record { in_range = omega arith; is_branch = subst (λ u. IsBranch pass u b) (sym read) is_b })
-            (All-nil (IsBranchOfReturnedWord pass (u ∷ [])))));
-        partition = (λ some. subst (λ us. PartitionsUnreturnedWords (soft_bits_of_pass pass) us (map (class_of_branch us)
-            (branches_in_use started))) (sym first_given)
-            (subst (λ bs. PartitionsUnreturnedWords (soft_bits_of_pass pass) (u ∷ []) (map (class_of_branch (u ∷ [])) bs))
+            (All-nil (IsBranchOfReturnedWord pass (first ∷ [])))));
+        partition = subst (λ us. PartitionsUnreturnedWords (soft_bits_of_pass pass) us (map (class_of_branch us)
+            (take (2 * lists.count - 1) (set branches 0 b)))) (sym (one_word pass lists one))
+            (subst (λ bs. PartitionsUnreturnedWords (soft_bits_of_pass pass) (first ∷ []) (map (class_of_branch (first ∷ [])) bs))
             (sym one_branch)
-            (subst (λ u'. PartitionsUnreturnedWords (soft_bits_of_pass pass) (u ∷ []) (deviations_in_span u' b.span ∷ []))
-            (sym read) first.1)));
+            (subst (λ u'. PartitionsUnreturnedWords (soft_bits_of_pass pass) (first ∷ []) (deviations_in_span u' b.span ∷ []))
+            (sym read) begun.1));
       }
+
+-- the ranking of a pass and its stored words
+abbrev pub ranking : ViterbiPass → StoredWords → Ranking
+ranking pass lists = record { soft = soft_bits_of_pass pass; returned = stored_words pass lists }
+
+pub same_soft : (old new : ViterbiPass) → new.soft ≡ old.soft → new.bits ≡ old.bits →
+    soft_bits_of_pass new ≡ soft_bits_of_pass old
+same_soft old new soft bits = ap₂ (λ n xs. take (2 * n) xs) bits soft
+
+pub same_ranking : (old new : ViterbiPass) (lists : StoredWords) → new.soft ≡ old.soft → new.bits ≡ old.bits →
+    stored_words new lists ≡ stored_words old lists → ranking new lists ≡ ranking old lists
+same_ranking old new lists soft bits words =
+    ap₂ (λ s us. record { soft = s; returned = us }) (same_soft old new soft bits) words
+
+pub first_is_best : (old new : ViterbiPass) (lists : StoredWords) → lists.count ≡ 1 → new.soft ≡ old.soft →
+    new.bits ≡ old.bits → IsRanked (soft_bits_of_pass old) (stored_words old lists) →
+    IsMostLikely (soft_bits_of_pass new) (take new.bits lists.first_word)
+first_is_best old new lists one soft bits ranked =
+    subst (λ n. IsMostLikely (soft_bits_of_pass new) (take n lists.first_word)) (sym bits)
+    (subst (λ s. IsMostLikely s (take old.bits lists.first_word)) (sym (same_soft old new soft bits))
+    ((most_likely_is_ranked _ _).1 (subst (IsRanked (soft_bits_of_pass old)) (one_word old lists one) ranked)))
+
+pub first_value : (old new : ViterbiPass) (first : List ℕ) (metric : ℤ) → new.soft ≡ old.soft → new.bits ≡ old.bits →
+    metric ≡ likelihood (soft_bits_of_pass old) (encoding (take old.bits first)) →
+    metric ≡ likelihood (soft_bits_of_pass new) (encoding (take new.bits first))
+first_value old new first metric soft bits value =
+    value ∙ ap₂ (λ s n. likelihood s (encoding (take n first))) (sym (same_soft old new soft bits)) (sym bits)
+
+pub sound_first : (pass : ViterbiPass) (row u : List ℕ) (deviations : List Deviation) (branches : List WordBranch) (metrics : List ℤ)
+    (metric : ℤ) → HasSoftBits pass → take pass.bits row ≡ u → IsMostLikely (soft_bits_of_pass pass) u →
+    metric ≡ likelihood (soft_bits_of_pass pass) (encoding u) → HasMetrics branches metrics →
+    IsSoundRanking (record {
+      pass = pass;
+      lists = record { first_word = row; deviations = deviations; count = 1 };
+      branches = branches;
+      metrics = metrics;
+      first_metric = metric;
+    })
+sound_first pass row u deviations branches metrics metric has reads best value has_metrics = record {
+  has_soft_bits = has;
+  at_most = omega arith;
+  ranked = subst (IsRanked (soft_bits_of_pass pass)) (sym (ap (λ u. u ∷ []) reads)) ((most_likely_is_ranked _ u).0 best);
+  first_metric = λ some. value ∙ ap (λ u. likelihood (soft_bits_of_pass pass) (encoding u)) (sym reads);
+  metrics = has_metrics;
+  later = λ more. absurd (omega arith);
+}
+
+-- the invariant after the branches are prepared
+pub sound_prepared : (r : Inside) (pass : ViterbiPass) (branches : List WordBranch) (metrics : List ℤ) → IsSoundRanking r →
+    pass.soft ≡ r.pass.soft → pass.bits ≡ r.pass.bits → stored_words pass r.lists ≡ stored_words r.pass r.lists →
+    HasBranches pass r.lists branches metrics →
+    IsSoundRanking (record {
+      pass = pass;
+      lists = r.lists;
+      branches = branches;
+      metrics = metrics;
+      first_metric = r.first_metric;
+    })
+sound_prepared r pass branches metrics sound soft bits words has = record {
+  has_soft_bits = record {
+    at_least = has.complete.at_least;
+    at_most = has.complete.at_most;
+    soft_bit_count = has.complete.soft_bit_count;
+    row_count = has.complete.row_count;
+    soft = has.complete.soft;
+  };
+  at_most = sound.at_most;
+  ranked = subst (λ (x : Ranking). IsRanked x.soft x.returned) (sym (same_ranking r.pass pass r.lists soft bits words)) sound.ranked;
+  first_metric = λ some. first_value r.pass pass r.lists.first_word r.first_metric soft bits (sound.first_metric some);
+  metrics = has.values;
+  later = λ more. has;
+}
 
 -- ---- after each further word is returned
 
-module _ (r : Inside) (sound : IsSoundRanking r) (some : 0 < r.lists.count) (few : r.lists.count < 64) (many : length r.lists.deviations
-    ≡ 63)
-    (room : length r.branches ≡ 127) (u : List ℕ) (next : NextWord) (is : IsNextRankedWord r.pass (returned_words r)
-    (branches_in_use r) u next) (metrics : List ℤ) where
-  abbrev after : Inside
-  after = record {
-    pass = r.pass;
-    lists = record {
-      first_word = r.lists.first_word;
-      deviations = set r.lists.deviations (r.lists.count - 1) next.deviation;
-      count = r.lists.count + 1;
-    };
-    branches = set (set (set r.branches next.branch next.parts.branch_before) (2 * r.lists.count - 1) next.parts.branch_of_new_word)
-        (2 * r.lists.count - 1 + 1) next.parts.branch_after;
-    metrics = metrics;
+module _ (pass : ViterbiPass) (lists : StoredWords) (branches : List WordBranch) (metrics : List ℤ) (has : HasBranches pass lists
+    branches metrics) (some : 0 < lists.count) (few : lists.count < 64) (many : length lists.deviations ≡ 63)
+    (room : length branches ≡ 127) (u : List ℕ) (next : NextWord)
+    (is : IsNextRankedWord pass (stored_words pass lists) (take (2 * lists.count - 1) branches) u next) where
+  abbrev lists' : StoredWords
+  lists' = record {
+    first_word = lists.first_word;
+    deviations = set lists.deviations (lists.count - 1) next.deviation;
+    count = lists.count + 1;
   }
 
-  pub next_given : stored_words r.pass (record {
-    first_word = r.lists.first_word;
-    deviations = set r.lists.deviations (r.lists.count - 1) next.deviation;
-    count = r.lists.count + 1;
-  }) ≡ returned_words r ++ u ∷ []
-  next_given =
-      lists-push r.pass _ many sound.tree.at_most _ some few
-      ∙ ap (λ u. returned_words r ++ u ∷ []) (sym is.word_is)
+  abbrev branches' : List WordBranch
+  branches' = set (set (set branches next.branch next.parts.branch_before) (2 * lists.count - 1) next.parts.branch_of_new_word)
+      (2 * lists.count - 1 + 1) next.parts.branch_after
 
-  next_branches : branches_in_use after ≡ branches_after_word (branches_in_use r) next
+  pub next_given : stored_words pass (record {
+    first_word = lists.first_word;
+    deviations = set lists.deviations (lists.count - 1) next.deviation;
+    count = lists.count + 1;
+  }) ≡ stored_words pass lists ++ u ∷ []
+  next_given =
+      lists-push pass _ many has.tree.at_most _ some few
+      ∙ ap (λ u. stored_words pass lists ++ u ∷ []) (sym is.word_is)
+
+  next_branches : take (2 * lists'.count - 1) branches' ≡ branches_after_word (take (2 * lists.count - 1) branches) next
   next_branches =
-      let n = 2 * r.lists.count - 1 in
+      let n = 2 * lists.count - 1 in
       let one = set _ _ next.parts.branch_before in
-      let within : next.branch < n = omega (arith, length-take n r.branches) in
-      let long : length one ≡ 127 = length-set r.branches next.branch next.parts.branch_before ∙ room in
-      take-set_at (set one n next.parts.branch_of_new_word) (n + 1) (2 * (r.lists.count + 1) - 1) next.parts.branch_after (omega arith)
+      let within : next.branch < n = omega (arith, length-take n branches) in
+      let long : length one ≡ 127 = length-set branches next.branch next.parts.branch_before ∙ room in
+      take-set_at (set one n next.parts.branch_of_new_word) (n + 1) (2 * (lists.count + 1) - 1) next.parts.branch_after (omega arith)
       (omega (arith, length-set one n next.parts.branch_of_new_word))
       ∙ ap (λ bs. bs ++ next.parts.branch_after ∷ []) (
       take_more_set one n next.parts.branch_of_new_word (omega arith)
-      ∙ ap (λ bs. bs ++ next.parts.branch_of_new_word ∷ []) (take-set-lt n r.branches next.branch next.parts.branch_before within))
+      ∙ ap (λ bs. bs ++ next.parts.branch_of_new_word ∷ []) (take-set-lt n branches next.branch next.parts.branch_before within))
 
-  pub sound_next : HasMetrics (set
-      (set (set r.branches next.branch next.parts.branch_before) (2 * r.lists.count - 1) next.parts.branch_of_new_word)
-      (2 * r.lists.count - 1 + 1) next.parts.branch_after) metrics → IsSoundRanking (record {
-        pass = r.pass;
-        lists = record {
-          first_word = r.lists.first_word;
-          deviations = set r.lists.deviations (r.lists.count - 1) next.deviation;
-          count = r.lists.count + 1;
-        };
-        branches = set (set (set r.branches next.branch next.parts.branch_before) (2 * r.lists.count - 1) next.parts.branch_of_new_word)
-            (2 * r.lists.count - 1 + 1) next.parts.branch_after;
-        metrics = metrics;
-      })
-  sound_next has =
-      let went = is.ranking_continues sound.ranked (sound.partition some) in
-      record {
-        has_soft_bits = sound.has_soft_bits;
-        pass = λ more. sound.pass some;
-        tree = tree_more r.pass r.lists next.deviation many sound.tree some few is.deviation;
-        metrics = has;
-        ranked = subst (IsRanked (soft_bits_of_pass r.pass)) (sym next_given) went.0;
-        branches = subst (λ us. All (IsBranchOfReturnedWord r.pass us) (branches_in_use after)) (sym next_given)
-            (subst (All (IsBranchOfReturnedWord r.pass (returned_words r ++ u ∷ []))) (sym next_branches) is.each);
-        partition = (λ some. subst (λ us. PartitionsUnreturnedWords (soft_bits_of_pass r.pass) us (map (class_of_branch us)
-            (branches_in_use after))) (sym next_given)
-            (subst (λ bs. PartitionsUnreturnedWords (soft_bits_of_pass r.pass) (returned_words r ++ u ∷ []) (map (class_of_branch
-            (returned_words r ++ u ∷ [])) bs)) (sym next_branches) went.1));
-      }
+  pub next_ranked : IsRanked (soft_bits_of_pass pass) (stored_words pass lists) →
+      IsRanked (soft_bits_of_pass pass) (stored_words pass lists')
+  next_ranked ranked = subst (IsRanked (soft_bits_of_pass pass)) (sym next_given) (is.ranking_continues ranked has.partition).0
+
+  pub next_has_branches : IsRanked (soft_bits_of_pass pass) (stored_words pass lists) → (metrics' : List ℤ) →
+      HasMetrics (set
+      (set (set branches next.branch next.parts.branch_before) (2 * lists.count - 1) next.parts.branch_of_new_word)
+      (2 * lists.count - 1 + 1) next.parts.branch_after) metrics' → HasBranches pass lists' branches' metrics'
+  next_has_branches ranked metrics' values = record {
+    complete = has.complete;
+    tree = tree_more pass lists next.deviation many has.tree some few is.deviation;
+    values = values;
+    each = subst (λ us. All (IsBranchOfReturnedWord pass us) (take (2 * lists'.count - 1) branches')) (sym next_given)
+        (subst (All (IsBranchOfReturnedWord pass (stored_words pass lists ++ u ∷ []))) (sym next_branches) is.all_branches);
+    partition = subst (λ us. PartitionsUnreturnedWords (soft_bits_of_pass pass) us (map (class_of_branch us)
+        (take (2 * lists'.count - 1) branches'))) (sym next_given)
+        (subst (λ bs. PartitionsUnreturnedWords (soft_bits_of_pass pass) (stored_words pass lists ++ u ∷ []) (map (class_of_branch
+        (stored_words pass lists ++ u ∷ [])) bs)) (sym next_branches) (is.ranking_continues ranked has.partition).1);
+  }
+
+-- the invariant after a further word is returned
+pub sound_next : (r : Inside) (sound : IsSoundRanking r) (has : HasBranches r.pass r.lists r.branches r.metrics) → 0 < r.lists.count →
+    r.lists.count < 64 → length r.lists.deviations ≡ 63 → length r.branches ≡ 127 → (u : List ℕ) (next : NextWord) →
+    IsNextRankedWord r.pass (stored_words r.pass r.lists) (take (2 * r.lists.count - 1) r.branches) u next → (metrics : List ℤ) →
+    HasMetrics (set (set (set r.branches next.branch next.parts.branch_before) (2 * r.lists.count - 1) next.parts.branch_of_new_word)
+    (2 * r.lists.count - 1 + 1) next.parts.branch_after) metrics →
+    IsSoundRanking (record {
+      pass = r.pass;
+      lists = record {
+        first_word = r.lists.first_word;
+        deviations = set r.lists.deviations (r.lists.count - 1) next.deviation;
+        count = r.lists.count + 1;
+      };
+      branches = set (set (set r.branches next.branch next.parts.branch_before) (2 * r.lists.count - 1) next.parts.branch_of_new_word)
+          (2 * r.lists.count - 1 + 1) next.parts.branch_after;
+      metrics = metrics;
+      first_metric = r.first_metric;
+    })
+sound_next r sound has some few many room u next is metrics values = record {
+  has_soft_bits = sound.has_soft_bits;
+  at_most = omega arith;
+  ranked = next_ranked r.pass r.lists r.branches r.metrics has some few many room u next is sound.ranked;
+  first_metric = λ more. sound.first_metric some;
+  metrics = values;
+  later = λ more. next_has_branches r.pass r.lists r.branches r.metrics has some few many room u next is sound.ranked metrics values;
+}
 
 -- the branches and their path metrics after a further word is returned
 pub metrics_more : (branches : List WordBranch) (metrics : List ℤ) (i n : ℕ) (before behind after : WordBranch) (a b c : ℤ) →
@@ -437,22 +488,22 @@ metrics_more branches metrics i n before behind after a b c within room same has
 -- ---- when no word is left
 
 -- if no branch has a word left, all words were returned
-pub all_given : (r : Inside) → IsSoundRanking r → 0 < r.lists.count → NoBranchHasWord (branches_in_use r) → (w : List ℕ) →
-    IsCandidate (soft_bits_of_pass r.pass) w → Contains (returned_words r) w
-all_given r sound some none w is_w =
-    ends_ranked (soft_bits_of_pass r.pass) _ (map _ _) (sound.partition some)
+pub all_given : (pass : ViterbiPass) (lists : StoredWords) (branches : List WordBranch) (metrics : List ℤ) →
+    HasBranches pass lists branches metrics → NoBranchHasUnreturnedWord (take (2 * lists.count - 1) branches) → (w : List ℕ) →
+    IsCandidate (soft_bits_of_pass pass) w → Contains (stored_words pass lists) w
+all_given pass lists branches metrics has none w is_w =
+    ends_ranked (soft_bits_of_pass pass) _ (map _ _) has.partition
     (λ e w member is_w in_class.
-    let found = class_at (returned_words r) (branches_in_use r) (λ b. IsBranchOfReturnedWord r.pass (returned_words r) b
-    × (b.best ≡ None)) e
-    (λ k d lt. (sound.branches k d lt, none k d lt)) member in
-    let u = get_or (returned_words r) found.0.span.word_index [] in
-    subst (IsMostLikelyDeviation r.pass u found.0.span) found.1.1 found.1.0.is_branch.best w is_w
+    let found = class_at (stored_words pass lists) (take (2 * lists.count - 1) branches)
+    (λ b. IsBranchOfReturnedWord pass (stored_words pass lists) b × (b.best ≡ None)) e
+    (λ k d lt. (has.each k d lt, none k d lt)) member in
+    let u = get_or (stored_words pass lists) found.0.span.word_index [] in
+    subst (IsMostLikelyDeviation pass u found.0.span) found.1.1 found.1.0.is_branch.best w is_w
     (subst (λ e. IsInClass e w) (sym found.2) in_class))
     w is_w
 
 candidate_last : (s : List ℤ) (us : List (List ℕ)) (u : List ℕ) → IsRanked s (us ++ u ∷ []) → IsCandidate s u
-candidate_last s us u ranked =
-    All-contains (IsCandidate s) (us ++ u ∷ []) u ranked.each (Contains-append_right us _ u (Contains-here u []))
+candidate_last s us u ranked = All-contains (IsCandidate s) (us ++ u ∷ []) u ranked.all_candidates (Contains-push us u)
 
 -- if another word is returned, not all words were returned before
 not_done : (old : Ranking) (u : List ℕ) → length old.returned < 64 → IsRanked old.soft (old.returned ++ u ∷ []) →
@@ -470,8 +521,8 @@ module _ (r : Inside) (view : Ranking) (is : ranking_of r ≡ view) where
   pub given_is : returned_words r ≡ view.returned
   given_is = ap (λ (v : Ranking). v.returned) is
 
-  pub count_is : length r.lists.deviations ≡ 63 → IsDeviationTree r.pass r.lists → length view.returned ≡ r.lists.count
-  count_is many tree = sym (ap length given_is) ∙ length-lists r.pass r.lists many tree.at_most
+  pub count_is : length r.lists.deviations ≡ 63 → r.lists.count ≤ 64 → length view.returned ≡ r.lists.count
+  count_is many most = sym (ap length given_is) ∙ length-lists r.pass r.lists many most
 
   pub bits_is : HasSoftBits r.pass → (n : ℕ) → length view.soft ≡ 2 * n → n ≡ r.pass.bits
   bits_is pass n count = let s = ap length soft_is in omega arith

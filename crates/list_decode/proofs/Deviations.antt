@@ -1,92 +1,67 @@
 -- The most likely word that deviates from a returned word at a free position, where the returned word follows the survivors.
-use Rattle.std.proofs.Common.{◌≡◌, ◌≢◌, ◌⊎◌, ℕ, zero, suc, ◌+◌, ◌-◌, ◌*◌, ◌/◌, ◌%◌, ◌^◌}
-use Rattle.std.proofs.Common.{◌<◌, ◌≤◌, true, inl, inr, ℤ, ◌-ℤ◌, List, [], ◌∷◌, ◌++◌, length, get_or, take}
-use Rattle.std.proofs.{Common.{drop, refl, ap, sym, ◌∙◌, subst, arith}, lemmas.{Bool.cases_lt, Int.{ints, by_lt_z}}}
-use Rattle.std.specs.Prelude.{◌<ℤ◌}
-use Rattle.weight_bound.specs.conv_code.{Code.encoding, Likelihood.{likelihood, IsLexicographicallyBefore, RanksAfter}}
-use Rattle.weight_bound.proofs.conv_code.Lemmas.{bit_at-most_1, same_number}
-use Rattle.trellis_decode.specs.Trellis.{next, metric_from_state, HasTailBits, IsNotLexicographicallyAfter, traceback, AreDecisions}
-use Rattle.trellis_decode.proofs.Lemmas.{HasTailBits-bits, HasTailBits-from_tail, IsLexicographicallyBefore-not_after}
-use Rattle.trellis_decode.proofs.Lemmas.{metric_from_state-start, length-traceback}
-use Rattle.list_decode.specs.{Classes.{DeviatesAt, DeviationClass, IsInClass}, DeviatingWords.{state_after_bits, deviation_loss}}
-use Rattle.list_decode.specs.DeviatingWords.{survivor_with_deviation, FollowsSurvivors, deviation, IsLeastLossFreePosition}
-use Rattle.list_decode.{specs.Ranking.IsCandidate, proofs.{Rankings.departs_once, DeviatingWords.metric_from_state-more}}
-use Rattle.list_decode.proofs.DeviatingWords.{is_deviation_from, agree-cons, left}
-
--- ---- the order of rank is transitive
-
-IsLexicographicallyBefore-trans : (u v w : List ℕ) → IsLexicographicallyBefore u v → IsLexicographicallyBefore v w →
-    IsLexicographicallyBefore u w
-IsLexicographicallyBefore-trans u v w h g = elim (cases_lt _ _) [
-  | inl early ↦ record {
-    place = h.place;
-    in_range = h.in_range;
-    equal_before = (λ j lt. h.equal_before j lt ∙ g.equal_before j (omega arith));
-    zero = h.zero;
-    differs = (λ e. h.differs (g.equal_before h.place early ∙ e));
-  }
-  | inr not_early ↦ elim (cases_lt g.place h.place) [
-    | inl late ↦ record {
-      place = g.place;
-      in_range = (omega arith);
-      equal_before = (λ j lt. h.equal_before j (omega arith) ∙ g.equal_before j lt);
-      zero = h.equal_before g.place late ∙ g.zero;
-      differs = g.differs;
-    }
-    | inr not_late ↦
-        let at : g.place ≡ h.place = omega arith in
-        absurd (h.differs (rw (← at) g.zero))
-  ]
-]
-
-pub RanksAfter-trans : (s : List ℤ) (w v u : List ℕ) → RanksAfter s w v → RanksAfter s v u → RanksAfter s w u
-RanksAfter-trans s w v u (inl less) (inl less') = inl (omega (arith, ints))
-RanksAfter-trans s w v u (inl less) (inr tie) = inl (omega (arith, ints))
-RanksAfter-trans s w v u (inr tie) (inl less) = inl (omega (arith, ints))
-RanksAfter-trans s w v u (inr tie) (inr tie') = inr (tie.0 ∙ tie'.0, IsLexicographicallyBefore-trans u v w tie'.1 tie.1)
+use Rattle.{
+  std.proofs.Common.{◌≡◌, ◌≢◌, ◌⊎◌, ℕ, zero, suc, ◌+◌, ◌-◌, ◌*◌, ◌/◌, ◌%◌, ◌^◌, ◌<◌},
+  std.proofs.Common.{◌≤◌, true, inl, inr, ℤ, ◌-ℤ◌, List, ◌∷◌, ◌++◌, length, get_or, take, drop, refl, ap, sym},
+  std.{proofs.{Common.{◌∙◌, arith}, lemmas.{Bool.cases_lt, Int.{ints, by_lt_z}}}, specs.Prelude.◌<ℤ◌},
+  weight_bound.specs.conv_code.{Code.encoding, Likelihood.{likelihood, IsLexicographicallyBefore, RanksAfter, IsMostLikely}},
+  weight_bound.{specs.bit_blocks.Bits.AllBits, proofs.conv_code.Lemmas.same_number},
+  trellis_decode.{
+    specs.Trellis.{next_trellis_state, metric_from_state, HasTailBits, IsNotLexicographicallyAfter, traceback, AreDecisions, LessMetric},
+    specs.Trellis.EqualMetricButLater,
+    proofs.Lemmas.{HasTailBits-bits, HasTailBits-from_tail, IsLexicographicallyBefore-not_after, metric_from_state-start, length-traceback},
+    proofs.Lemmas.{IsEncoderInput-ends, IsMostLikely-best},
+  },
+  list_decode.{
+    specs.{
+      Classes.{DeviatesAt, DeviationClass, IsInClass, deviations_anywhere},
+      DeviatingWords.{state_after_bits, deviation_loss, FollowsSurvivors, word_deviating_at, IsLeastLossFreePosition, IsLeastLossPosition},
+      Ranking.{IsCandidate, IsSecondMostLikely},
+    },
+    proofs.{
+      DeviatingWords.{metric_from_state-more, length-follows, kept_best, IsNoBetterPath-more},
+      Rankings.{deviates, agree-cons, agree-tail, fork_before, fork_behind},
+    },
+  },
+}
 
 -- ---- the word that deviates from another
 
-length-follows : (from : ℕ) (u rows : List ℕ) (state : ℕ) → FollowsSurvivors from u rows state → length u ≡ length rows
-length-follows zero u rows state h = ap length h ∙ length-traceback _ _
-length-follows (suc from) (x ∷ u) (row ∷ rows) state h = ap suc (length-follows from u _ _ h)
-length-follows from u rows state h = absurd h
-
-deviation-survivor_with_deviation : (rows : List ℕ) (state place : ℕ) →
-    deviation (traceback rows state) rows state place ≡ survivor_with_deviation rows state place
-deviation-survivor_with_deviation (row ∷ rows) state (suc place) =
-    ap (λ rest. (row / 2 ^ state % 2) ∷ rest) (deviation-survivor_with_deviation rows _ _)
-deviation-survivor_with_deviation rows state place = refl
+-- one step further, the rest of the word follows the survivors
+follows_next : (from x : ℕ) (u : List ℕ) (row : ℕ) (rows : List ℕ) (state : ℕ)
+    → FollowsSurvivors from (x ∷ u) (row ∷ rows) state →
+    FollowsSurvivors (from - 1) u rows (next_trellis_state state x)
+follows_next zero x u row rows state follows =
+    let is : x ≡ row / 2 ^ state % 2 = cc in
+    let rest : u ≡ traceback rows (next_trellis_state state (row / 2 ^ state % 2)) = cc in
+    rw is rest
+follows_next (suc from) x u row rows state follows = let e : suc from - 1 ≡ from = omega arith in rw e follows
 
 pub record IsDeviation (u rows : List ℕ) (losses : List (List ℤ)) (soft : List ℤ) (state place : ℕ) : Type 0 where
-  pub has_metric : metric_from_state state (deviation u rows state place) soft ≡
+  pub has_metric : metric_from_state state (word_deviating_at u rows state place) soft ≡
       metric_from_state state u soft -ℤ deviation_loss state u losses place
-  pub tail_bits : HasTailBits (deviation u rows state place)
-  pub count : length (deviation u rows state place) ≡ length rows
-  pub deviates : DeviatesAt u (deviation u rows state place) place
+  pub tail_bits : HasTailBits (word_deviating_at u rows state place)
+  pub count : length (word_deviating_at u rows state place) ≡ length rows
+  pub deviates : DeviatesAt u (word_deviating_at u rows state place) place
 
 pub is_deviation : (from : ℕ) (u rows : List ℕ) (losses : List (List ℤ)) (soft : List ℤ) (state place : ℕ) →
     AreDecisions rows losses soft → state < 16 → HasTailBits u → FollowsSurvivors from u rows state → from ≤ place →
     place + 4 < length rows →
     IsDeviation u rows losses soft state place
-is_deviation zero u rows losses soft state place kept lt ends follows le within =
-    let d = is_deviation_from rows losses soft state place kept lt within in
-    subst (λ u. IsDeviation u rows losses soft state place) (sym follows) (record {
-      has_metric = ap (λ w. metric_from_state state w soft) (deviation-survivor_with_deviation rows state place) ∙ d.has_metric;
-      tail_bits = subst HasTailBits (sym (deviation-survivor_with_deviation rows state place)) d.tail_bits;
-      count = ap length (deviation-survivor_with_deviation rows state place) ∙ d.count;
-      deviates = subst (λ w. DeviatesAt (traceback rows state) w place) (sym (deviation-survivor_with_deviation rows state place))
-          d.deviates;
+is_deviation zero (x ∷ u) (row ∷ rows) (lost ∷ losses) soft state zero kept lt ends follows le within =
+    let bit = row / 2 ^ state % 2 in
+    let best = kept_best rows losses (drop 2 soft) kept.2 (omega arith) (next_trellis_state state (1 - bit)) (omega arith) in
+    let loss = kept.1.each_loss state lt (omega arith) in
+    rw follows (record {
+      has_metric = omega (arith, ints);
+      tail_bits = (omega arith, (λ short. absurd (omega (arith, length-traceback))), best.tail_bits);
+      count = ap suc (length-traceback rows _);
+      deviates = record { in_range = omega arith; equal_before = (λ j lt. absurd (omega arith)); differs = (λ e. omega arith) };
     })
-is_deviation (suc from) [] rows losses soft state place kept lt ends follows le within = absurd follows
-is_deviation (suc from) (x ∷ u) [] losses soft state place kept lt ends follows le within = absurd follows
-is_deviation (suc from) (x ∷ u) (row ∷ rows) [] soft state place kept lt ends follows le within = absurd kept
-is_deviation (suc from) (x ∷ u) (row ∷ rows) (lost ∷ losses) soft state zero kept lt ends follows le within = absurd (omega arith)
-is_deviation (suc from) (x ∷ u) (row ∷ rows) (lost ∷ losses) soft state (suc place) kept lt ends follows le within =
-    let rest = is_deviation from u rows losses (drop 2 soft) (next state x) place kept.2 (omega arith) ends.2 follows (omega arith)
-    (omega arith) in
+is_deviation from (x ∷ u) (row ∷ rows) (lost ∷ losses) soft state (suc place) kept lt ends follows le within =
+    let rest = is_deviation (from - 1) u rows losses (drop 2 soft) (next_trellis_state state x) place kept.2 (omega arith) ends.2
+    (follows_next from x u row rows state follows) (omega arith) (omega arith) in
     let gu = metric_from_state-more state x u soft kept.0 in
-    let gv = metric_from_state-more state x (deviation u rows (next state x) place) soft kept.0 in
+    let gv = metric_from_state-more state x (word_deviating_at u rows (next_trellis_state state x) place) soft kept.0 in
     let is = rest.has_metric in
     record {
       has_metric = omega (arith, ints);
@@ -94,55 +69,48 @@ is_deviation (suc from) (x ∷ u) (row ∷ rows) (lost ∷ losses) soft state (s
       count = ap suc rest.count;
       deviates = agree-cons x _ _ place rest.deviates;
     }
+is_deviation from u rows losses soft state place kept lt ends follows le within =
+    absurd (let n = length-follows from u rows state follows in omega arith)
 
 -- a word that deviates from u where u follows the survivors loses at least the loss stored there
 pub record FallsShort (u rows : List ℕ) (losses : List (List ℤ)) (soft : List ℤ) (state place : ℕ) (w : List ℕ) : Type 0 where
   pub in_range : place + 4 < length rows
   pub short : (metric_from_state state w soft <ℤ (metric_from_state state u soft -ℤ deviation_loss state u losses place)) ⊎
       ((metric_from_state state w soft ≡ (metric_from_state state u soft -ℤ deviation_loss state u losses place)) ×
-      IsNotLexicographicallyAfter (deviation u rows state place) w)
+      IsNotLexicographicallyAfter (word_deviating_at u rows state place) w)
 
 falls_short : (from : ℕ) (u rows : List ℕ) (losses : List (List ℤ)) (soft : List ℤ) (state place : ℕ) (w : List ℕ) →
     AreDecisions rows losses soft → state < 16 → HasTailBits u → HasTailBits w → length w ≡ length rows →
     FollowsSurvivors from u rows state → from ≤ place → DeviatesAt u w place → FallsShort u rows losses soft state place w
-falls_short zero u rows losses soft state place w kept lt ends wends same follows le deviates =
-    rw follows (chosen (rw (← follows) deviates))
+falls_short zero (x ∷ u) (row ∷ rows) (lost ∷ losses) soft state zero (y ∷ w) kept lt ends wends same follows le at =
+    let bit = row / 2 ^ state % 2 in
+    let is : x ≡ bit = cc in
+    let n = length-follows zero (x ∷ u) (row ∷ rows) state follows in
+    let other = at.differs in
+    -- the last four bits of every word are 0, so no word deviates there
+    let four : 4 ≤ length rows = elim (cases_lt (length rows) 4) [
+      | inl short ↦ absurd (other (ends.1 (omega arith) ∙ sym (wends.1 (omega arith))))
+      | inr enough ↦ enough
+    ] in
+    let flipped : y ≡ 1 - bit = omega arith in
+    let best = kept_best rows losses (drop 2 soft) kept.2 (omega arith) (next_trellis_state state (1 - bit)) (omega arith) in
+    let loss = kept.1.each_loss state lt four in
+    let worse = IsNoBetterPath-more state (1 - bit) w _ soft kept.0
+    (best.beats_others w wends.2 (let m = length-traceback rows (next_trellis_state state (1 - bit)) in omega arith)) in
+    rw (flipped, follows) (record {
+      in_range = omega arith;
+      short = elim worse [
+        | LessMetric h ↦ inl (omega (arith, ints))
+        | EqualMetricButLater h after ↦ inr (omega (arith, ints), after)
+      ];
+    })
+falls_short from (x ∷ u) (row ∷ rows) (lost ∷ losses) soft state (suc place) (y ∷ w) kept lt ends wends same follows le at =
+    rw (← at.equal_before 0 (omega arith))
+    (later (falls_short (from - 1) u rows losses (drop 2 soft) (next_trellis_state state x) place w kept.2 (omega arith) ends.2 wends.2
+    (omega arith)
+    (follows_next from x u row rows state follows) (omega arith) (agree-tail x y u w place at)))
   where
-    chosen : DeviatesAt (traceback rows state) w place → FallsShort (traceback rows state) rows losses soft state place w
-    chosen at =
-        let l = left rows losses soft state w kept lt wends same (λ e. at.differs (ap (λ v. get_or v place 0) e)) in
-        let here = departs_once (traceback rows state) w l.place place l.deviates at in
-        rw (← here) (record {
-          in_range = l.in_range;
-          short = elim l.behind [
-            | inl less ↦ inl less
-            | inr tie ↦ inr (
-              tie.0,
-              rw (← sym (deviation-survivor_with_deviation rows state l.place)) tie.1,
-            )
-          ];
-        })
-falls_short (suc from) [] rows losses soft state place w kept lt ends wends same follows le deviates = absurd follows
-falls_short (suc from) (x ∷ u) [] losses soft state place w kept lt ends wends same follows le deviates = absurd follows
-falls_short (suc from) (x ∷ u) (row ∷ rows) [] soft state place w kept lt ends wends same follows le deviates = absurd kept
-falls_short (suc from) (x ∷ u) (row ∷ rows) (lost ∷ losses) soft state zero w kept lt ends wends same follows le deviates =
-    absurd (omega arith)
-falls_short (suc from) (x ∷ u) (row ∷ rows) (lost ∷ losses) soft state (suc place) [] kept lt ends wends same follows le deviates =
-    absurd (omega arith)
-falls_short (suc from) (x ∷ u) (row ∷ rows) (lost ∷ losses) soft state (suc place) (y ∷ w) kept lt ends wends same follows le
-    deviates =
-    rw (← deviates.equal_before 0 (omega arith))
-    (later (falls_short from u rows losses (drop 2 soft) (next state x) place w kept.2 (omega arith) ends.2 wends.2 (omega arith) follows
-    (omega arith) behind))
-  where
-    behind : DeviatesAt u w place
-    behind = record {
-      in_range = (omega arith);
-      equal_before = (λ j lt. deviates.equal_before (suc j) (omega arith));
-      differs = deviates.differs;
-    }
-
-    later : FallsShort u rows losses (drop 2 soft) (next state x) place w →
+    later : FallsShort u rows losses (drop 2 soft) (next_trellis_state state x) place w →
         FallsShort (x ∷ u) (row ∷ rows) (lost ∷ losses) soft state (suc place) (x ∷ w)
     later rest =
         let gu = metric_from_state-more state x u soft kept.0 in
@@ -154,10 +122,12 @@ falls_short (suc from) (x ∷ u) (row ∷ rows) (lost ∷ losses) soft state (su
             | inr tie ↦ inr ((let e = tie.0 in omega (arith, ints)), inr (refl, tie.1))
           ];
         }
+falls_short from u rows losses soft state place w kept lt ends wends same follows le at =
+    absurd (let n = length-follows from u rows state follows in let i = at.in_range in omega arith)
 
 -- a word follows the survivors after the position of its deviation
 pub follows_behind : (u rows : List ℕ) (state place : ℕ) → length u ≡ length rows → place < length rows →
-    FollowsSurvivors (place + 1) (deviation u rows state place) rows state
+    FollowsSurvivors (place + 1) (word_deviating_at u rows state place) rows state
 follows_behind (x ∷ u) (row ∷ rows) state zero same within = refl
 follows_behind (x ∷ u) (row ∷ rows) state (suc place) same within =
     let more : suc place + 1 ≡ suc (place + 1) = omega arith in
@@ -167,7 +137,7 @@ follows_behind u rows state place same within = absurd (omega arith)
 -- the deviating word consists of the word up to the position, the other bit, and then the survivor from the next state
 pub deviation_written : (u rows : List ℕ) (state place : ℕ) → place < length u → length rows ≡ length u →
     take place u ++ (1 - get_or u place 0) ∷ traceback (drop (place + 1) rows)
-    (next (state_after_bits state (take place u)) (1 - get_or u place 0)) ≡ deviation u rows state place
+    (next_trellis_state (state_after_bits state (take place u)) (1 - get_or u place 0)) ≡ word_deviating_at u rows state place
 deviation_written (x ∷ u) (row ∷ rows) state zero within same = refl
 deviation_written (x ∷ u) (row ∷ rows) state (suc place) within same =
     let more : suc place + 1 ≡ suc (place + 1) = omega arith in
@@ -201,7 +171,7 @@ module _ (soft : List ℤ) (rows : List ℕ) (losses : List (List ℤ)) (c : Dev
 
   module _ (place : ℕ) (least : IsLeastLossFreePosition c.word losses c.can_deviate (length c.word - 4) place) where
     abbrev v : List ℕ
-    v = deviation c.word rows 0 place
+    v = word_deviating_at c.word rows 0 place
 
     inside : place + 4 < length rows
     inside = let i = least.in_range in let n = same_length in let five = followed.candidate.information.count in omega arith
@@ -218,33 +188,19 @@ module _ (soft : List ℤ) (rows : List ℕ) (losses : List (List ℤ)) (c : Dev
         omega (arith, ints)
 
     -- an equally likely word that deviates at another position comes later in lexicographic order
-    before_at : (w : List ℕ) (k : ℕ) → k + 4 < length rows → DeviatesAt c.word w k → c.can_deviate k ≡ true →
+    before_at : (w : List ℕ)
+        (k : ℕ) → AllBits w → length w ≡ length c.word → k + 4 < length rows → DeviatesAt c.word w k
+        → c.can_deviate k ≡ true →
         deviation_loss 0 c.word losses k ≡ deviation_loss 0 c.word losses place → k ≢ place → IsLexicographicallyBefore v w
-    before_at w k within at free tie other = elim (cases_lt k place) [
-      | inl early ↦
-          let zero_bit = least.tie_before k early free tie in
-          record {
-            place = k;
-            in_range = let n = here.count in omega arith;
-            equal_before = (λ j lt. sym (here.deviates.equal_before j (omega arith)) ∙ at.equal_before j lt);
-            zero = sym (here.deviates.equal_before k early) ∙ zero_bit;
-            differs = (λ e. at.differs (zero_bit ∙ sym e));
-          }
-      | inr not_early ↦
-          let late : place < k = elim (cases_lt place k) [ inl lt ↦ lt | inr not_late ↦ absurd (other (omega arith)) ] in
-          let one_bit = least.tie_after k late (let n = same_length in omega arith) free tie in
-          record {
-            place = place;
-            in_range = let n = here.count in omega arith;
-            equal_before = (λ j lt. sym (here.deviates.equal_before j lt) ∙ at.equal_before j (omega arith));
-            zero = zero_of (get_or v place 0) (bit_at-most_1 v place (HasTailBits-bits v here.tail_bits))
-                (λ e. here.deviates.differs (one_bit ∙ sym e));
-            differs = (λ e. let s = at.equal_before place late in omega arith);
-          }
-    ] where
-      zero_of : (x : ℕ) → x ≤ 1 → x ≢ 1 → x ≡ 0
-      zero_of zero le ne = refl
-      zero_of (suc x) le ne = absurd (ne (omega arith))
+    before_at w k bits long_w within at free tie other =
+        let n = here.count in
+        let m = same_length in elim (cases_lt k place) [
+          | inl early ↦ fork_behind c.word w v k place at here.deviates early bits long_w (omega arith)
+              (least.tie_before k early free tie)
+          | inr not_early ↦ let late : place < k = omega arith in
+              fork_before c.word v w place k here.deviates at late (HasTailBits-bits v here.tail_bits) (omega arith) long_w
+              (least.tie_after k late (omega arith) free tie)
+        ]
 
     -- every other candidate of the class ranks after the best deviating word v
     pub deviation_best : (w : List ℕ) → IsCandidate soft w → IsInClass c w → w ≢ v → RanksAfter soft w v
@@ -265,8 +221,57 @@ module _ (soft : List ℤ) (rows : List ℕ) (losses : List (List ℤ)) (c : Dev
                 omega (arith, ints),
                 elim (same_number at.place place) [
                   | inl there ↦ IsLexicographicallyBefore-not_after v w candidate.information.bits count
-                      (subst (λ k. IsNotLexicographicallyAfter (deviation c.word rows 0 k) w) there tie.1) ne
-                  | inr elsewhere ↦ before_at w at.place short.in_range at.deviates at.allowed equal elsewhere
+                      (rw there at tie.1) ne
+                  | inr elsewhere ↦ before_at w at.place candidate.information.bits (let n = same_length in let m =
+                      here.count in omega arith) short.in_range at.deviates at.allowed equal elsewhere
                 ],
               ))
         ]
+
+-- ---- the two words that `margin` writes
+
+pub record AreFirstTwo (soft : List ℤ) (u v : List ℕ) (margin : ℤ) : Type 0 where
+  pub best : IsMostLikely soft u
+  pub second : IsSecondMostLikely soft u v
+  pub value : margin ≡ likelihood soft (encoding u) -ℤ likelihood soft (encoding v)
+
+pub first_two : (soft : List ℤ) (rows : List ℕ) (losses : List (List ℤ)) (u v : List ℕ) (place state : ℕ) (loss : ℤ) →
+    AreDecisions rows losses soft → length soft ≡ 2 * length rows → 5 ≤ length rows → u ≡ traceback rows 0 →
+    IsLeastLossPosition u losses (length u - 4) place loss → place + 4 < length u → state ≡ state_after_bits 0 (take place u) →
+    v ≡ take place u ++ (1 - get_or u place 0) ∷ traceback (drop (place + 1) rows) (next_trellis_state state (1 - get_or u place 0)) →
+    AreFirstTwo soft u v loss
+first_two soft rows losses u v place state loss kept pairs five is least within known written =
+    let n = length-follows 0 u rows 0 is in
+    let best : IsMostLikely soft u = rw is (IsMostLikely-best soft (traceback rows 0) _ (omega (arith, length-traceback)) (omega
+    (arith, length-traceback))
+    (kept_best rows losses soft kept (omega arith) 0 (omega arith))) in
+    let followed : IsFollowed soft rows losses (deviations_anywhere u) 0 = record {
+      decisions = kept;
+      pairs = pairs;
+      candidate = record { information = best.information; count = best.count };
+      follows = is;
+      later = λ k free. omega arith;
+    } in
+    let free : IsLeastLossFreePosition u losses (λ k. true) (length u - 4) place = record {
+      in_range = omega arith;
+      place_is_free = refl;
+      least = λ k lt free. rw (← least.value) (least.least k lt);
+      tie_before = λ k lt free tie. least.tie_before k lt (tie ∙ sym least.value);
+      tie_after = λ k late lt free tie. least.tie_after k late lt (tie ∙ sym least.value);
+    } in
+    let here = here soft rows losses (deviations_anywhere u) 0 followed place free in
+    let value = deviation_value soft rows losses (deviations_anywhere u) 0 followed place free in
+    rw (written, known, deviation_written u rows 0 place (omega arith) (sym n)) (record {
+      best = best;
+      second = record {
+        candidate = record {
+          information = IsEncoderInput-ends _ (let m = here.count in omega arith) here.tail_bits;
+          count = (let m = here.count in omega arith);
+        };
+        differs = λ e. here.deviates.differs (ap (λ w. get_or w place 0) (sym e));
+        others = λ w is_w other. let at = deviates u w (let m = is_w.count in omega arith) other in
+            deviation_best soft rows losses (deviations_anywhere u) 0 followed place free w is_w
+            (record { place = at.0; deviates = at.1; allowed = refl });
+      };
+      value = let is = least.value in omega (arith, ints);
+    })

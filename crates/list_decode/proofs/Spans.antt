@@ -1,21 +1,36 @@
 -- Spans of a word, and the deviation in a span that loses least.
-use Rattle.list_decode.proofs.DeviatingWords.{below_limit, bit_small, chosen_bit, chosen_from, not_below_limit, reached_more, reached_small}
-use Rattle.list_decode.proofs.Deviations.{IsFollowed, deviation_best, deviation_value, deviation_written, follows_behind}
-use Rattle.list_decode.specs.Branches.{IsDeviation, IsMostLikelyDeviation, IsSpanOfWord, deviations_in_span, word_of_deviation}
-use Rattle.list_decode.specs.DeviatingWords.{FollowsSurvivors, IsLeastLossFreePosition, deviation_loss, deviation, is_in_range}
-use Rattle.list_decode.specs.{DeviatingWords.state_after_bits, LeastLosses.{IsLeastLossDeviationOrNone, IsLeastLossSoFar}}
-use Rattle.list_decode.specs.{LeastLosses.IsPossibleDeviation, Passes.{IsCompletePass, decision_rows, losses_of_pass, soft_bits_of_pass}}
-use Rattle.list_decode.specs.{Ranking.IsCandidate, declared.branch.{Deviation.Deviation, LeastLossSoFar.LeastLossSoFar, WordSpan.WordSpan}}
-use Rattle.list_decode.specs.declared.departure.{DeviationPoint.DeviationPoint, PossibleDeviation.PossibleDeviation}
-use Rattle.list_decode.specs.declared.pass.ViterbiPass.{ViterbiPass}
-use Rattle.std.proofs.Common.{FitsSigned, List, Some, [], ap, ap₂, arith, drop, get_or, inl, inr, length, negsuc, pos, refl, subst, suc}
-use Rattle.std.proofs.Common.{sym, take, true, w32, zero, ℕ, ℤ, ◌%◌, ◌*◌, ◌++◌, ◌+ℤ◌, ◌+◌, ◌-ℤ◌, ◌-◌}
-use Rattle.std.proofs.Common.{◌/◌, ◌<◌, ◌^◌, ◌∙◌, ◌∷◌, ◌≡◌, ◌≢◌, ◌≤◌, ◌⊎◌}
-use Rattle.std.{proofs.lemmas.{Bool.cases_lt, Int.ints, List.{Elements.{All-head, All-tail}, get_or-drop}}, specs.Prelude.◌<ℤ◌}
-use Rattle.std.specs.Prelude.{◌≤ℤ◌}
-use Rattle.trellis_decode.{proofs.Lemmas.{bit_metric-one, bit_metric-zero, length-traceback}, specs.Trellis.{next, traceback}}
-use Rattle.weight_bound.{proofs.conv_code.Lemmas.{AllBits-coded, bit_at-most_1}, specs.bit_blocks.{Bits.AllBits, SoftValues.IsSoftBit}}
-use Rattle.weight_bound.specs.{bit_blocks.SoftValues.bit_metric, conv_code.{Code.encoding, Likelihood.{AllSoftBits, likelihood}}}
+use Rattle.{
+  list_decode.{
+    proofs.{
+      DeviatingWords.{below_limit, bit_small, chosen_bit, chosen_from, not_below_limit, reached_more, reached_small, follows_past},
+      DeviatingWords.{follows_later, chosen_after, zero_at},
+      Deviations.{IsFollowed, deviation_best, deviation_value, deviation_written, follows_behind},
+    },
+    specs.{
+      Branches.{IsDeviation, IsMostLikelyDeviation, IsSpanOfWord, deviations_in_span, word_of_deviation},
+      DeviatingWords.{IsLeastLossFreePosition, deviation_loss, word_deviating_at, is_in_range, state_after_bits},
+      LeastLosses.{IsLeastLossDeviationOrNone, IsLeastLossSoFar, IsPossibleDeviation},
+      Passes.{IsCompletePass, decision_rows, losses_of_pass, soft_bits_of_pass},
+      Ranking.IsCandidate,
+      declared.branch.{Deviation.Deviation, LeastLossSoFar.LeastLossSoFar, WordSpan.WordSpan},
+      declared.{departure.PossibleDeviation.PossibleDeviation, pass.ViterbiPass.ViterbiPass},
+    },
+  },
+  std.{
+    proofs.{
+      Common.{FitsSigned, List, Some, [], ap, ap₂, arith, drop, get_or, inl, inr, length, negsuc, pos, refl, suc, sym, take, true, w32},
+      Common.{zero, ℕ, ℤ, ◌%◌, ◌*◌, ◌++◌, ◌+◌, ◌-ℤ◌, ◌-◌, ◌/◌, ◌<◌, ◌^◌, ◌∙◌, ◌∷◌},
+      Common.{◌≡◌, ◌≢◌, ◌≤◌, ◌⊎◌},
+      lemmas.{Bool.cases_lt, Int.ints, List.{Elements.{All-head, All-tail}, get_or-drop}},
+    },
+    specs.Prelude.{◌<ℤ◌, ◌≤ℤ◌},
+  },
+  trellis_decode.{proofs.Lemmas.{bit_metric-one, bit_metric-zero, length-traceback}, specs.Trellis.{next_trellis_state, traceback}},
+  weight_bound.{
+    proofs.conv_code.Lemmas.{AllBits-coded, bit_at-most_1},
+    specs.{bit_blocks.{Bits.AllBits, SoftValues.{IsSoftBit, bit_metric}}, conv_code.{Code.encoding, Likelihood.{AllSoftBits, likelihood}}},
+  },
+}
 
 -- ## Spans: A span of a word, and the most likely word that deviates in it.
 
@@ -30,32 +45,6 @@ between_from from to k h = grind (arith)
 pub between_to : (from to k : ℕ) → is_in_range from to k ≡ true → k < to
 between_to from to k h = grind (arith)
 
--- ---- words that follow the survivors
-
-follows_all : (n : ℕ) (rows : List ℕ) (state : ℕ) → n ≤ length rows → FollowsSurvivors n (traceback rows state) rows state
-follows_all zero rows state within = refl
-follows_all (suc n) [] state within = absurd (omega arith)
-follows_all (suc n) (row ∷ rows) state within = follows_all n _ _ (omega arith)
-
--- a word that follows the survivors from a position on follows them from later positions on
-follows_later : (from n : ℕ) (u rows : List ℕ) (state : ℕ) → FollowsSurvivors from u rows state → from ≤ n →
-    n ≤ length rows → FollowsSurvivors n u rows state
-follows_later zero n u rows state follows le within =
-    rw follows (follows_all n _ _ within)
-follows_later (suc from) zero u rows state follows le within = absurd (omega arith)
-follows_later (suc from) (suc n) [] rows state follows le within = absurd follows
-follows_later (suc from) (suc n) (x ∷ u) [] state follows le within = absurd follows
-follows_later (suc from) (suc n) (x ∷ u) (row ∷ rows) state follows le within =
-    follows_later from n u _ _ follows (omega arith) (omega arith)
-
--- from that position on, the word is what traceback reads from the state reached there
-chosen_after : (n : ℕ) (u rows : List ℕ) (state : ℕ) → FollowsSurvivors n u rows state →
-    drop n u ≡ traceback (drop n rows) (state_after_bits state (take n u))
-chosen_after zero u rows state follows = follows
-chosen_after (suc n) [] rows state follows = absurd follows
-chosen_after (suc n) (x ∷ u) [] state follows = absurd follows
-chosen_after (suc n) (x ∷ u) (row ∷ rows) state follows = chosen_after n u rows _ follows
-
 module _ (pass : ViterbiPass) (u : List ℕ) (x : Deviation) (complete : IsCompletePass pass)
     (list : IsCandidate (soft_bits_of_pass pass) u)
     (is : IsDeviation pass u x) where
@@ -66,46 +55,32 @@ module _ (pass : ViterbiPass) (u : List ℕ) (x : Deviation) (complete : IsCompl
   as_long = omega arith
 
   -- after the position of the deviation, the word follows the survivors
-  pub chosen_behind : drop (place + 1) u ≡ traceback (drop (place + 1) (decision_rows pass)) (next x.departure.state (get_or u place 0))
-  chosen_behind =
-      chosen_after _ u _ 0 (follows_later _ _ u _ 0 is.follows (omega arith) (omega arith))
-      ∙ ap (traceback (drop (place + 1) (decision_rows pass)))
-      (reached_more u place 0 (omega arith) ∙ ap (λ state. next state (get_or u place 0)) (sym is.state))
+  pub chosen_behind : drop (place + 1) u ≡ traceback (drop (place + 1) (decision_rows pass))
+      (next_trellis_state x.departure.state (get_or u place 0))
+  chosen_behind = follows_past u _ place _ is.follows (omega arith) is.state
 
   pub word_written : take place u ++ (1 - get_or u place 0) ∷
-      traceback (drop (place + 1) (decision_rows pass)) (next x.departure.state (1 - get_or u place 0)) ≡ word_of_deviation pass u x
+      traceback (drop (place + 1) (decision_rows pass)) (next_trellis_state x.departure.state (1 - get_or u place 0)) ≡
+      word_of_deviation pass u x
   word_written = rw is.state (deviation_written u _ 0 _ (omega arith) as_long)
 
 -- ---- path metrics fit in an `i32`
 
-agreement_low : (p : ℤ) (x : ℕ) → IsSoftBit p → x ≤ 1 → negsuc 126 ≤ℤ bit_metric p x
-agreement_low p zero soft bit = rw bit_metric-zero soft.0
-agreement_low p (suc zero) soft bit = rw (bit_metric-one p) (omega (arith, ints))
-agreement_low p (suc (suc x)) soft bit = absurd (omega arith)
+agreement : (p : ℤ) (x : ℕ) → IsSoftBit p → x ≤ 1 → IsSoftBit (bit_metric p x)
+agreement p zero soft bit = rw bit_metric-zero soft
+agreement p (suc zero) soft bit = rw (bit_metric-one p) (omega (arith, ints), omega (arith, ints))
+agreement p x soft bit = absurd (omega arith)
 
-agreement_high : (p : ℤ) (x : ℕ) → IsSoftBit p → x ≤ 1 → bit_metric p x ≤ℤ pos 127
-agreement_high p zero soft bit = rw bit_metric-zero soft.1
-agreement_high p (suc zero) soft bit = rw (bit_metric-one p) (omega (arith, ints))
-agreement_high p (suc (suc x)) soft bit = absurd (omega arith)
-
-likelihood_low : (s : List ℤ) (c : List ℕ) → AllSoftBits s → AllBits c → (pos 0 -ℤ pos (127 * length s)) ≤ℤ likelihood s c
-likelihood_low [] c soft bits = omega arith
-likelihood_low (p ∷ s) [] soft bits = omega (arith, ints)
-likelihood_low (p ∷ s) (x ∷ c) soft bits =
-    let here = agreement_low p x (All-head IsSoftBit p s soft) (All-head (λ b. b ≤ 1) x c bits) in
-    let rest = likelihood_low s c (All-tail IsSoftBit p s soft) (All-tail (λ b. b ≤ 1) x c bits) in
-    omega (arith, ints)
-
-likelihood_high : (s : List ℤ) (c : List ℕ) → AllSoftBits s → AllBits c → likelihood s c ≤ℤ pos (127 * length s)
-likelihood_high [] c soft bits = omega arith
-likelihood_high (p ∷ s) [] soft bits = omega (arith, ints)
-likelihood_high (p ∷ s) (x ∷ c) soft bits =
-    let here = agreement_high p x (All-head IsSoftBit p s soft) (All-head (λ b. b ≤ 1) x c bits) in
-    let rest = likelihood_high s c (All-tail IsSoftBit p s soft) (All-tail (λ b. b ≤ 1) x c bits) in
-    omega (arith, ints)
+likelihood_within : (s : List ℤ) (c : List ℕ) → AllSoftBits s → AllBits c →
+    ((pos 0 -ℤ pos (127 * length s)) ≤ℤ likelihood s c) × (likelihood s c ≤ℤ pos (127 * length s))
+likelihood_within (p ∷ s) (x ∷ c) soft bits =
+    let here = agreement p x (All-head IsSoftBit p s soft) (All-head (λ b. b ≤ 1) x c bits) in
+    let rest = likelihood_within s c (All-tail IsSoftBit p s soft) (All-tail (λ b. b ≤ 1) x c bits) in
+    (omega (arith, ints), omega (arith, ints))
+likelihood_within s c soft bits = (omega (arith, ints), omega (arith, ints))
 
 likelihood_fits : (s : List ℤ) (c : List ℕ) → AllSoftBits s → AllBits c → length s ≤ 456 → FitsSigned w32 (likelihood s c)
-likelihood_fits s c soft bits few = fits_wide _ _ few (likelihood_low s c soft bits) (likelihood_high s c soft bits)
+likelihood_fits s c soft bits few = let within = likelihood_within s c soft bits in fits_wide _ _ few within.0 within.1
   where
     fits_wide : (x : ℤ) (n : ℕ) → n ≤ 456 → (pos 0 -ℤ pos (127 * n)) ≤ℤ x → x ≤ℤ pos (127 * n) → FitsSigned w32 x
     fits_wide (pos m) n few low high = record { sfits = omega (arith, ints) }
@@ -113,20 +88,13 @@ likelihood_fits s c soft bits few = fits_wide _ _ few (likelihood_low s c soft b
 
 -- ---- the most likely word that deviates from u in a span
 
-same_deviation : (d : DeviationPoint) (place state bit : ℕ) → d.place ≡ place → d.state ≡ state → d.bit ≡ bit →
-    d ≡ record { place = place; state = state; bit = bit }
-same_deviation d place state bit p s b =
-    ap (λ place. record { place = place; state = d.state; bit = d.bit }) p
-    ∙ ap (λ state. record { place = place; state = state; bit = d.bit }) s
-    ∙ ap (λ bit. record { place = place; state = state; bit = bit }) b
-
 module _ (pass : ViterbiPass) (u : List ℕ) (span : WordSpan) (is : IsCompletePass pass)
     (candidate : IsCandidate (soft_bits_of_pass pass) u)
     (is_span : IsSpanOfWord pass u span) where
   followed : IsFollowed (soft_bits_of_pass pass) (decision_rows pass) (losses_of_pass pass) (deviations_in_span u span) span.from
   followed = record {
     decisions = is.decisions;
-    pairs = is.soft_bit_count ∙ ap (λ n. 2 * n) (sym is.row_count);
+    pairs = omega arith;
     candidate = candidate;
     follows = is_span.follows;
     later = λ k h. between_from _ _ k h;
@@ -149,10 +117,10 @@ module _ (pass : ViterbiPass) (u : List ℕ) (span : WordSpan) (is : IsCompleteP
           tie_after = (λ k late lt free tie. old.tie_after k late (between_to span.from span.to k free) free tie);
         }
 
-    v : List ℕ
-    v = deviation u (decision_rows pass) 0 departure.place
+    abbrev v : List ℕ
+    v = word_deviating_at u (decision_rows pass) 0 departure.place
 
-    pub value_is : likelihood (soft_bits_of_pass pass) (encoding (deviation u (decision_rows pass) 0 departure.place))
+    pub value_is : likelihood (soft_bits_of_pass pass) (encoding v)
         ≡ span.likelihood -ℤ departure.loss
     value_is =
         let value = deviation_value (soft_bits_of_pass pass) (decision_rows pass) (losses_of_pass pass) (deviations_in_span u span)
@@ -163,9 +131,9 @@ module _ (pass : ViterbiPass) (u : List ℕ) (span : WordSpan) (is : IsCompleteP
         omega (arith, ints)
 
     pub value_fits : FitsSigned w32 (span.likelihood -ℤ departure.loss)
-    value_fits = subst (FitsSigned w32) value_is
-        (likelihood_fits (soft_bits_of_pass pass) (encoding (deviation u (decision_rows pass) 0 departure.place)) is.soft
-        (AllBits-coded (deviation u (decision_rows pass) 0 departure.place))
+    value_fits = rw (← value_is)
+        (likelihood_fits (soft_bits_of_pass pass) (encoding v) is.soft
+        (AllBits-coded v)
         (let p = is.soft_bit_count in let m = is.at_most in omega arith))
 
     pub best_deviation : (x : Deviation) → x.word_index ≡ span.word_index → x.departure.place ≡ departure.place →
@@ -173,30 +141,29 @@ module _ (pass : ViterbiPass) (u : List ℕ) (span : WordSpan) (is : IsCompleteP
         x.likelihood ≡ span.likelihood -ℤ departure.loss →
         IsMostLikelyDeviation pass u span (Some x)
     best_deviation x list place state bit likely =
-        subst (λ departure. IsMostLikelyDeviation pass u span
-        (Some (record { word_index = x.word_index; departure = departure; likelihood = x.likelihood })))
-        (sym (same_deviation x.departure departure.place departure.state (get_or u departure.place 0) place state bit)) (
+        let within = best.1.in_range in
+        let after = between_from span.from span.to departure.place best.1.place_is_free in
+        let end = is_span.before_tail in
+        let n = long in (
           record {
-            in_range = let i = best.1.in_range in let e = is_span.before_tail in omega arith;
-            follows = follows_later span.from departure.place u (decision_rows pass) 0 is_span.follows
-                (between_from span.from span.to departure.place best.1.place_is_free)
-                (let i = best.1.in_range in let e = is_span.before_tail in let n = long in omega arith);
-            value = likely ∙ sym value_is;
-            state_in_range = subst (λ state. state < 16) (sym best.0.state) (reached_small 0 (take departure.place u) (omega arith));
-            state = best.0.state;
-            bit = refl;
+            in_range = omega arith;
+            follows = follows_later span.from x.departure.place u (decision_rows pass) 0 is_span.follows (omega arith) (omega arith);
+            value = rw place (likely ∙ sym value_is);
+            state_in_range = rw (state, best.0.state) (reached_small 0 (take departure.place u) (omega arith));
+            state = rw place (state ∙ best.0.state);
+            bit = rw place bit;
           },
           list,
-          between_from span.from span.to departure.place best.1.place_is_free,
-          between_to span.from span.to departure.place best.1.place_is_free,
-          deviation_best (soft_bits_of_pass pass) (decision_rows pass) (losses_of_pass pass)
-              (deviations_in_span u span) span.from followed departure.place least,
+          omega arith,
+          omega arith,
+          rw place (deviation_best (soft_bits_of_pass pass) (decision_rows pass) (losses_of_pass pass)
+              (deviations_in_span u span) span.from followed departure.place least),
         )
 
 -- ---- the spans after the position of a deviation from u
 
 apply_deviation : (u rows : List ℕ) (state place : ℕ) → length rows ≡ length u →
-    take place (deviation u rows state place) ≡ take place u
+    take place (word_deviating_at u rows state place) ≡ take place u
 apply_deviation (x ∷ u) [] state place same = absurd (omega arith)
 apply_deviation (x ∷ u) (row ∷ rows) state (suc place) same =
     ap (λ rest. x ∷ rest) (apply_deviation u _ _ _ (omega arith))
@@ -210,7 +177,7 @@ module _ (pass : ViterbiPass) (u : List ℕ) (x : Deviation) (is : IsCompletePas
   -- the rest of the span of u after the position of the deviation is a span of u
   pub span_after : (old span : WordSpan) → IsSpanOfWord pass u old → x.departure.place < old.to →
       span.from ≡ x.departure.place + 1 → span.to ≡ old.to →
-      span.likelihood ≡ old.likelihood → span.state ≡ next x.departure.state (get_or u x.departure.place 0) →
+      span.likelihood ≡ old.likelihood → span.state ≡ next_trellis_state x.departure.state (get_or u x.departure.place 0) →
       IsSpanOfWord pass u span
   span_after old span old_is within from to likely state =
       let end = old_is.before_tail in record {
@@ -219,31 +186,28 @@ module _ (pass : ViterbiPass) (u : List ℕ) (x : Deviation) (is : IsCompletePas
         order = omega arith;
         before_tail = omega arith;
         state_in_range = omega arith;
-        state = state ∙ ap (λ s. next s (get_or u x.departure.place 0)) is_deviation.state
-            ∙ sym (reached_more u x.departure.place 0 (omega arith))
-            ∙ ap (λ from. state_after_bits 0 (take from u)) (sym from);
+        state = rw (from, reached_more u x.departure.place 0 (omega arith), ← is_deviation.state) state;
       }
 
   -- the positions of the deviating word after the deviation are a span of that word
   pub span_behind : (v : List ℕ) (span : WordSpan) → v ≡ word_of_deviation pass u x → IsCandidate (soft_bits_of_pass pass) v →
       span.from ≡ x.departure.place + 1 →
       span.to + 4 ≡ pass.bits → span.likelihood ≡ x.likelihood →
-      span.state ≡ next x.departure.state (get_or v x.departure.place 0) →
+      span.state ≡ next_trellis_state x.departure.state (get_or v x.departure.place 0) →
       IsSpanOfWord pass v span
   span_behind v span written v_is from to likely state =
       let n = u_long in
       record {
         follows = rw from (rw written (follows_behind u (decision_rows pass) 0 x.departure.place n (omega arith)));
-        value = likely ∙ is_deviation.value ∙ ap (λ v. likelihood (soft_bits_of_pass pass) (encoding v)) (sym written);
+        value = rw written (likely ∙ is_deviation.value);
         order = omega arith;
         before_tail = omega arith;
         state_in_range = omega arith;
         state = state
-            ∙ ap (λ s. next s (get_or v x.departure.place 0))
+            ∙ ap (λ s. next_trellis_state s (get_or v x.departure.place 0))
             (is_deviation.state ∙ ap (state_after_bits 0)
             (sym (ap (take x.departure.place) written ∙ apply_deviation u (decision_rows pass) 0 x.departure.place (sym n))))
-            ∙ sym (reached_more v x.departure.place 0 (omega arith))
-            ∙ ap (λ from. state_after_bits 0 (take from v)) (sym from);
+            ∙ rw from (sym (reached_more v x.departure.place 0 (omega arith)));
       }
 
 -- The free position with the least loss: of two ranges, one behind the other, and when one more position is examined.
@@ -252,12 +216,12 @@ module _ (pass : ViterbiPass) (u : List ℕ) (x : Deviation) (is : IsCompletePas
 pub is_departure : (u : List ℕ) (losses : List (List ℤ)) (k state : ℕ) (lost : ℤ) (departure : PossibleDeviation) → AllBits u →
     state ≡ state_after_bits 0 (take k u) → lost ≡ deviation_loss 0 u losses k → departure.place ≡ k →
     departure.state ≡ state → departure.loss ≡ lost →
-    departure.loss_limit ≡ lost +ℤ pos 1 -ℤ pos (get_or u k 0) → IsPossibleDeviation u losses departure
+    departure.loss_limit ≡ lost -ℤ pos (get_or u k 0) → IsPossibleDeviation u losses departure
 is_departure u losses k state lost departure bits found is_lost at s l m = record {
   bit = bit_at-most_1 u _ bits;
-  state = s ∙ found ∙ ap (λ k. state_after_bits 0 (take k u)) (sym at);
-  loss = l ∙ is_lost ∙ ap (deviation_loss 0 u losses) (sym at);
-  loss_limit = m ∙ ap₂ (λ lost place. lost +ℤ pos 1 -ℤ pos (get_or u place 0)) (sym l) (sym at);
+  state = rw at (s ∙ found);
+  loss = rw at (l ∙ is_lost);
+  loss_limit = rw (at, l) m;
 }
 
 -- ---- two ranges, one behind the other
@@ -280,10 +244,6 @@ module _ (u : List ℕ) (losses : List (List ℤ)) (from k n place other : ℕ) 
   low : (j : ℕ) → k ≤ j → j < n → loss other ≤ℤ loss j
   low j le lt = later.least j lt (is_between k n j le lt)
 
-  one : (x : ℕ) → x ≤ 1 → x ≢ 0 → x ≡ 1
-  one zero le ne = absurd (ne refl)
-  one (suc x) le ne = omega arith
-
   pub early_kept : (loss place <ℤ loss other) ⊎ ((loss other ≡ loss place) × (get_or u place 0 ≢ 0)) →
       IsLeastLossFreePosition u losses (is_in_range from n) n place
   early_kept more =
@@ -303,7 +263,7 @@ module _ (u : List ℕ) (losses : List (List ℤ)) (from k n place other : ℕ) 
         tie_after = (λ j late lt is_free equal. elim (cases_lt j k) [
           | inl before ↦ early.tie_after j late before (free_early j before is_free) equal
           | inr behind ↦ let l = low j (omega arith) lt in
-              elim more [ inl less ↦ absurd (omega (arith, ints)) | inr tie ↦ one _ bit tie.1 ]
+              elim more [ inl less ↦ absurd (omega (arith, ints)) | inr tie ↦ let ne = tie.1 in omega arith ]
         ]);
       }
 
@@ -324,14 +284,10 @@ module _ (u : List ℕ) (losses : List (List ℤ)) (from k n place other : ℕ) 
         tie_before = (λ j lt is_free equal. elim (cases_lt j k) [
           | inl before ↦ elim less [
             | inl less ↦ absurd (let l = early.least j before (free_early j before is_free) in omega (arith, ints))
-            | inr tie ↦ elim (cases_lt j place) [
-              | inl ahead ↦ early.tie_before j ahead (free_early j before is_free) (equal ∙ tie.0)
-              | inr not_ahead ↦ elim (cases_lt place j) [
-                | inl late ↦ absurd (let one = early.tie_after j late before (free_early j before is_free) (equal ∙ tie.0) in
-                    let zero = tie.1 in omega arith)
-                | inr not_late ↦ let here : j ≡ place = omega arith in subst (λ j. get_or u j 0 ≡ 0) (sym here) tie.1
-              ]
-            ]
+            | inr tie ↦
+                let is_free = free_early j before is_free in
+                zero_at u place j tie.1 (λ ahead. early.tie_before j ahead is_free (equal ∙ tie.0))
+                (λ late. early.tie_after j late before is_free (equal ∙ tie.0))
           ]
           | inr behind ↦ later.tie_before j lt (is_between k n j (omega arith) (omega arith)) equal
         ]);
@@ -351,11 +307,11 @@ alone u losses k = record {
 }
 
 pub spot_first : (u : List ℕ) (losses : List (List ℤ)) (k : ℕ) (new : LeastLossSoFar) → new.place ≡ k →
-    new.state ≡ state_after_bits 0 (take k u) → new.loss_limit ≡ deviation_loss 0 u losses k +ℤ pos 1 -ℤ pos (get_or u k 0) →
+    new.state ≡ state_after_bits 0 (take k u) → new.loss_limit ≡ deviation_loss 0 u losses k -ℤ pos (get_or u k 0) →
     IsLeastLossSoFar u losses (is_in_range k (k + 1)) (k + 1) new
 spot_first u losses k new at state loss_limit = record {
-  state = state ∙ ap (λ k. state_after_bits 0 (take k u)) (sym at);
-  loss_limit = loss_limit ∙ ap (λ k. deviation_loss 0 u losses k +ℤ pos 1 -ℤ pos (get_or u k 0)) (sym at);
+  state = rw at state;
+  loss_limit = rw at loss_limit;
   least = rw at (alone u losses k);
 }
 
@@ -363,19 +319,19 @@ spot_first u losses k new at state loss_limit = record {
 module _ (u : List ℕ) (losses : List (List ℤ)) (from k : ℕ) where
   pub spot_taken : (best new : LeastLossSoFar) → AllBits u → IsLeastLossSoFar u losses (is_in_range from k) k best →
       new.place ≡ k → new.state ≡ state_after_bits 0 (take k u) →
-      new.loss_limit ≡ deviation_loss 0 u losses k +ℤ pos 1 -ℤ pos (get_or u k 0) →
-      deviation_loss 0 u losses k <ℤ best.loss_limit →
+      new.loss_limit ≡ deviation_loss 0 u losses k -ℤ pos (get_or u k 0) →
+      deviation_loss 0 u losses k ≤ℤ best.loss_limit →
       IsLeastLossSoFar u losses (is_in_range from (k + 1)) (k + 1) new
   spot_taken best new bits old at state loss_limit less =
       let bit = bit_at-most_1 u best.place bits in record {
-        state = state ∙ ap (λ k. state_after_bits 0 (take k u)) (sym at);
-        loss_limit = loss_limit ∙ ap (λ k. deviation_loss 0 u losses k +ℤ pos 1 -ℤ pos (get_or u k 0)) (sym at);
+        state = rw at state;
+        loss_limit = rw at loss_limit;
         least = rw at (later_taken u losses from k (k + 1) best.place k bit old.least (alone u losses k)
             (below_limit _ _ (get_or u best.place 0) bit (rw (← old.loss_limit) less)));
       }
 
   pub spot_kept : (best : LeastLossSoFar) → AllBits u → IsLeastLossSoFar u losses (is_in_range from k) k best →
-      best.loss_limit ≤ℤ deviation_loss 0 u losses k → IsLeastLossSoFar u losses (is_in_range from (k + 1)) (k + 1) best
+      best.loss_limit <ℤ deviation_loss 0 u losses k → IsLeastLossSoFar u losses (is_in_range from (k + 1)) (k + 1) best
   spot_kept best bits old most =
       let bit = bit_at-most_1 u best.place bits in record {
         state = old.state;
@@ -396,13 +352,12 @@ states_agree (suc k) zero u w s t rest state a b le = absurd (omega arith)
 states_agree (suc k) (suc j) [] w s t rest state a b le = absurd (omega arith)
 states_agree (suc k) (suc j) (x ∷ u) [] s t rest state a b le = absurd (omega arith)
 states_agree (suc k) (suc j) (x ∷ u) (y ∷ w) s t rest state a b le =
-    states_agree k j u w (next s x) (next t y) rest state (omega arith) (omega arith) (omega arith)
+    states_agree k j u w (next_trellis_state s x) (next_trellis_state t y) rest state (omega arith) (omega arith) (omega arith)
 
 bits_agree : (k j : ℕ) (u w : List ℕ) → drop k u ≡ drop k w → k ≤ j → get_or u j 0 ≡ get_or w j 0
 bits_agree k j u w rest le =
     let at : k + (j - k) ≡ j = omega arith in
-    subst (λ j. get_or u j 0 ≡ get_or w j 0) at
-    (sym (get_or-drop k u (j - k) 0) ∙ ap (λ l. get_or l (j - k) 0) rest ∙ get_or-drop k w (j - k) 0)
+    rw at at (sym (get_or-drop k u (j - k) 0) ∙ ap (λ l. get_or l (j - k) 0) rest ∙ get_or-drop k w (j - k) 0)
 
 module _ (u w : List ℕ) (losses : List (List ℤ)) (k n : ℕ) (rest : drop k u ≡ drop k w)
     (state : state_after_bits 0 (take k u) ≡ state_after_bits 0 (take k w)) (in_u : k ≤ length u) (in_w : k ≤ length w) where
@@ -422,10 +377,10 @@ module _ (u w : List ℕ) (losses : List (List ℤ)) (k n : ℕ) (rest : drop k 
   moved x is best =
       let le = between_from k n x.place best.place_is_free in (
         record {
-          bit = subst (λ b. b ≤ 1) (sym (same_bit x.place le)) is.bit;
+          bit = rw (same_bit x.place le) is.bit;
           state = is.state ∙ sym (same_state x.place le);
           loss = is.loss ∙ sym (same_loss x.place le);
-          loss_limit = is.loss_limit ∙ ap (λ b. x.loss +ℤ pos 1 -ℤ pos b) (sym (same_bit x.place le));
+          loss_limit = rw (same_bit x.place le) is.loss_limit;
         },
         record {
           in_range = best.in_range;
@@ -448,15 +403,13 @@ module _ (u w : List ℕ) (losses : List (List ℤ)) (k n : ℕ) (rest : drop k 
 pub survivor_departure : (rows : List ℕ) (losses : List (List ℤ)) (k state bit : ℕ) (lost : ℤ) (x : PossibleDeviation) →
     k < length rows → state ≡ state_after_bits 0 (take k (traceback rows 0)) → lost ≡ get_or (get_or losses k []) state (pos 0) →
     bit ≡ get_or rows k 0 / 2 ^ state % 2 → x.place ≡ k → x.state ≡ state → x.loss ≡ lost →
-    x.loss_limit ≡ lost +ℤ pos 1 -ℤ pos bit → IsPossibleDeviation (traceback rows 0) losses x
+    x.loss_limit ≡ lost -ℤ pos bit → IsPossibleDeviation (traceback rows 0) losses x
 survivor_departure rows losses k state bit lost x within reached is_lost is_bit at s l m =
     let u = traceback rows 0 in record {
       bit = bit_small rows 0 x.place;
-      state = s ∙ reached ∙ ap (λ k. state_after_bits 0 (take k u)) (sym at);
-      loss = l ∙ is_lost ∙ ap (λ s. get_or (get_or losses k []) s (pos 0)) reached ∙ ap (deviation_loss 0 u losses) (sym at);
-      loss_limit = m ∙ ap₂ (λ lost bit. lost +ℤ pos 1 -ℤ pos bit) (sym l)
-          (is_bit ∙ ap (λ s. get_or rows k 0 / 2 ^ s % 2) reached ∙ sym (chosen_bit rows 0 k within)
-          ∙ ap (λ k. get_or u k 0) (sym at));
+      state = rw at (s ∙ reached);
+      loss = rw (at, ← reached) (l ∙ is_lost);
+      loss_limit = rw (at, l, chosen_bit rows 0 k within, ← reached, ← is_bit) m;
     }
 
 -- where a word that follows the survivors is in a state of the most likely word, the best later deviation from one is that from the other
@@ -481,7 +434,6 @@ merged_tail pass u span m x is candidate is_span last from to state place possib
     let rest : drop m u ≡ drop m w =
     chosen_after m u rows 0 (follows_later span.from m u rows 0 is_span.follows from (omega arith))
     ∙ ap (traceback (drop m rows)) states ∙ sym (chosen_from rows 0 m (omega arith)) in
-    let best = subst (IsLeastLossFreePosition w losses (is_in_range m (length rows - 4)) (length rows - 4)) (sym place)
-    (is.tails.places m (omega arith)) in
-    subst (λ n. IsLeastLossDeviationOrNone u losses (is_in_range m n) n (Some x)) n
-    (moved u w losses m (length rows - 4) rest states (omega arith) (omega arith) x possible best)
+    let best : IsLeastLossFreePosition w losses (is_in_range m (length rows - 4)) (length rows - 4) x.place =
+    rw place (is.tails.places m (omega arith)) in
+    rw (← n) (moved u w losses m (length rows - 4) rest states (omega arith) (omega arith) x possible best)

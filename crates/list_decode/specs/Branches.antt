@@ -5,7 +5,7 @@ use Rattle.std.specs.Prelude.{take, slice_index, slice_index_or, Option, Some, N
 use Rattle.weight_bound.specs.conv_code.Code.{encoding}
 use Rattle.weight_bound.specs.conv_code.Likelihood.{likelihood, RanksAfter}
 use Rattle.list_decode.specs.Classes.{DeviationClass, IsInClass}
-use Rattle.list_decode.specs.DeviatingWords.{FollowsSurvivors, state_after_bits, deviation}
+use Rattle.list_decode.specs.DeviatingWords.{FollowsSurvivors, state_after_bits, word_deviating_at}
 pub use Rattle.list_decode.specs.DeviatingWords.{is_in_range}
 use Rattle.list_decode.specs.Passes.{soft_bits_of_pass, decision_rows}
 use Rattle.list_decode.specs.Ranking.{IsCandidate}
@@ -15,33 +15,33 @@ use Rattle.list_decode.specs.declared.branch.Deviation.{Deviation}
 use Rattle.list_decode.specs.declared.pass.ViterbiPass.{ViterbiPass}
 
 -- the class of words whose first difference from a given word lies in a span
-abbrev pub deviations_in_span : List ℕ → WordSpan → DeviationClass
+abbrev pub deviations_in_span : (word : List ℕ) (span : WordSpan) → DeviationClass
 deviations_in_span u span = record { word = u; can_deviate = is_in_range span.from span.to }
 
 -- the word that results from applying a deviation to a given word
-abbrev pub word_of_deviation : ViterbiPass → List ℕ → Deviation → List ℕ
-word_of_deviation pass u x = deviation u (decision_rows pass) 0 x.departure.place
+abbrev pub word_of_deviation : (pass : ViterbiPass) (word : List ℕ) (deviation : Deviation) → List ℕ
+word_of_deviation pass u x = word_deviating_at u (decision_rows pass) 0 x.departure.place
 
--- `span` is a span of the word `u`, and `u` follows the survivors from the start of the span
-pub record IsSpanOfWord (pass : ViterbiPass) (u : List ℕ) (span : WordSpan) : Type 0 where
-  pub follows : FollowsSurvivors span.from u (decision_rows pass) 0
-  pub value : span.likelihood ≡ likelihood (soft_bits_of_pass pass) (encoding u)
+-- `span` is a span of the word `word`, and `word` follows the survivors from the start of the span
+pub record IsSpanOfWord (pass : ViterbiPass) (word : List ℕ) (span : WordSpan) : Type 0 where
+  pub follows : FollowsSurvivors span.from word (decision_rows pass) 0
+  pub value : span.likelihood ≡ likelihood (soft_bits_of_pass pass) (encoding word)
   pub order : span.from ≤ span.to
-  pub before_tail : span.to + 4 ≤ length u
+  pub before_tail : span.to + 4 ≤ length word
   pub state_in_range : span.state < 16
-  pub state : span.state ≡ state_after_bits 0 (take span.from u)
+  pub state : span.state ≡ state_after_bits 0 (take span.from word)
 
--- `x` is a deviation from the word `u`, and `u` follows the survivors from its position
-pub record IsDeviation (pass : ViterbiPass) (u : List ℕ) (x : Deviation) : Type 0 where
-  pub in_range : x.departure.place + 4 < length u
-  pub follows : FollowsSurvivors x.departure.place u (decision_rows pass) 0
-  pub value : x.likelihood ≡ likelihood (soft_bits_of_pass pass) (encoding (word_of_deviation pass u x))
-  pub state_in_range : x.departure.state < 16
-  pub state : x.departure.state ≡ state_after_bits 0 (take x.departure.place u)
-  pub bit : x.departure.bit ≡ slice_index u x.departure.place
+-- `deviation` is a deviation from the word `word`, and `word` follows the survivors from its position
+pub record IsDeviation (pass : ViterbiPass) (word : List ℕ) (deviation : Deviation) : Type 0 where
+  pub in_range : deviation.departure.place + 4 < length word
+  pub follows : FollowsSurvivors deviation.departure.place word (decision_rows pass) 0
+  pub value : deviation.likelihood ≡ likelihood (soft_bits_of_pass pass) (encoding (word_of_deviation pass word deviation))
+  pub state_in_range : deviation.departure.state < 16
+  pub state : deviation.departure.state ≡ state_after_bits 0 (take deviation.departure.place word)
+  pub bit : deviation.departure.bit ≡ slice_index word deviation.departure.place
 
 -- the deviation produces the most likely word that deviates from a given word within a span; it is `None` if no candidate deviates there
-abbrev pub IsMostLikelyDeviation : ViterbiPass → List ℕ → WordSpan → Option Deviation → Type 0
+abbrev pub IsMostLikelyDeviation : (pass : ViterbiPass) (word : List ℕ) (span : WordSpan) (best : Option Deviation) → Type 0
 IsMostLikelyDeviation pass u span None = (w : List ℕ) → IsCandidate (soft_bits_of_pass pass) w →
     IsInClass (deviations_in_span u span) w → ⊥
 IsMostLikelyDeviation pass u span (Some x) =
@@ -50,16 +50,16 @@ IsMostLikelyDeviation pass u span (Some x) =
     w ≢ word_of_deviation pass u x →
     RanksAfter (soft_bits_of_pass pass) w (word_of_deviation pass u x))
 
--- `branch` consists of a span of `u` and the most likely word that deviates from `u` within it
-pub record IsBranch (pass : ViterbiPass) (u : List ℕ) (branch : WordBranch) : Type 0 where
-  pub span : IsSpanOfWord pass u branch.span
-  pub best : IsMostLikelyDeviation pass u branch.span branch.best
+-- `branch` consists of a span of `word` and the most likely word that deviates from `word` within it
+pub record IsBranch (pass : ViterbiPass) (word : List ℕ) (branch : WordBranch) : Type 0 where
+  pub span : IsSpanOfWord pass word branch.span
+  pub best : IsMostLikelyDeviation pass word branch.span branch.best
 
--- `branch` is a branch of one of the returned words `us`
-pub record IsBranchOfReturnedWord (pass : ViterbiPass) (us : List (List ℕ)) (branch : WordBranch) : Type 0 where
-  pub in_range : branch.span.word_index < length us
-  pub is_branch : IsBranch pass (slice_index_or us branch.span.word_index []) branch
+-- `branch` is a branch of one of the returned words `returned`
+pub record IsBranchOfReturnedWord (pass : ViterbiPass) (returned : List (List ℕ)) (branch : WordBranch) : Type 0 where
+  pub in_range : branch.span.word_index < length returned
+  pub is_branch : IsBranch pass (slice_index_or returned branch.span.word_index []) branch
 
 -- the class of words that deviate from a returned word within the span of a branch
-abbrev pub class_of_branch : List (List ℕ) → WordBranch → DeviationClass
+abbrev pub class_of_branch : (returned : List (List ℕ)) (branch : WordBranch) → DeviationClass
 class_of_branch us branch = deviations_in_span (slice_index_or us branch.span.word_index []) branch.span

@@ -11,36 +11,37 @@ use Rattle.list_decode.specs.declared.choice.BranchChoice.{BranchChoice}
 use Rattle.list_decode.specs.declared.pass.ViterbiPass.{ViterbiPass}
 
 -- the returned word of a deviation, with the deviation applied
-abbrev pub deviating_word : ViterbiPass → List (List ℕ) → Deviation → List ℕ
+abbrev pub deviating_word : (pass : ViterbiPass) (returned : List (List ℕ)) (deviation : Deviation) → List ℕ
 deviating_word pass us x = word_of_deviation pass (slice_index_or us x.word_index []) x
 
--- `x` is a deviation from one of the returned words `us`
-pub record DeviatesFromReturnedWord (pass : ViterbiPass) (us : List (List ℕ)) (x : Deviation) : Type 0 where
-  pub in_range : x.word_index < length us
-  pub deviation : IsDeviation pass (slice_index_or us x.word_index []) x
+-- `x` is a deviation from one of the returned words `returned`
+pub record DeviatesFromReturnedWord (pass : ViterbiPass) (returned : List (List ℕ)) (x : Deviation) : Type 0 where
+  pub in_range : x.word_index < length returned
+  pub deviation : IsDeviation pass (slice_index_or returned x.word_index []) x
 
 -- the second deviation, if there is one, produces the word of the first or a word that ranks after it
-abbrev pub RanksNotBefore : ViterbiPass → List (List ℕ) → Deviation → Option Deviation → Type 0
+abbrev pub RanksNotBefore : (pass : ViterbiPass) (returned : List (List ℕ)) (deviation : Deviation) (best : Option Deviation) → Type 0
 RanksNotBefore pass us x None = Unit {0}
 RanksNotBefore pass us x (Some y) = (deviating_word pass us y ≡ deviating_word pass us x) ⊎
     RanksAfter (soft_bits_of_pass pass) (deviating_word pass us y) (deviating_word pass us x)
 
 -- the flag is true if and only if the first list comes before the second in lexicographic order
-abbrev pub DecidesLexicographicOrder : List ℕ → List ℕ → Bool → Type 0
+abbrev pub DecidesLexicographicOrder : (first second : List ℕ) (answer : Bool) → Type 0
 DecidesLexicographicOrder u v true = IsLexicographicallyBefore u v
 DecidesLexicographicOrder u v false = (u ≡ v) ⊎ IsLexicographicallyBefore v u
 
 -- a branch without a word, used when an index is out of range
-abbrev pub no_branch : WordBranch
-no_branch = record { span = record { likelihood = pos 0; word_index = 0; from = 0; to = 0; state = 0 }; best = None }
+abbrev pub placeholder_branch : WordBranch
+placeholder_branch = record { span = record { likelihood = pos 0; word_index = 0; from = 0; to = 0; state = 0 }; best = None }
 
 -- the list holds the path metric of the most likely word of each branch that has one
-abbrev pub HasMetrics : List WordBranch → List ℤ → Type 0
+abbrev pub HasMetrics : (branches : List WordBranch) (metrics : List ℤ) → Type 0
 HasMetrics branches metrics = (k : ℕ) → k < length branches →
-    IfSome (slice_index_or branches k no_branch).best (λ best. slice_index_or metrics k (pos 0) ≡ best.likelihood)
+    IfSome (slice_index_or branches k placeholder_branch).best (λ best. slice_index_or metrics k (pos 0) ≡ best.likelihood)
 
 -- the choice is the branch whose most likely word ranks first; it is `None` if no branch has a word
-abbrev pub IsFirstRankedBranch : ViterbiPass → List (List ℕ) → List WordBranch → Option BranchChoice → Type 0
+abbrev pub IsFirstRankedBranch : (pass : ViterbiPass) (returned : List (List ℕ)) (branches : List WordBranch)
+    (choice : Option BranchChoice) → Type 0
 IsFirstRankedBranch pass us branches None = All (λ branch. branch.best ≡ None) branches
 IsFirstRankedBranch pass us branches (Some choice) =
     ((branch : WordBranch) × (slice_get branches choice.branch ≡ Some branch) × (branch.best ≡ Some choice.deviation)) ×

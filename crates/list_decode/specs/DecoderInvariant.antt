@@ -1,6 +1,8 @@
 -- The invariant of the list decoder `ListDecoder`.
-use Rattle.std.specs.Prelude.{ℕ, ◌<◌, ◌*◌, ◌-◌, List, map, take}
+use Rattle.std.specs.Prelude.{ℕ, ◌≡◌, ◌<◌, ◌≤◌, ◌*◌, ◌-◌, ℤ, List, map, take}
 use Rattle.std.specs.List.{All}
+use Rattle.weight_bound.specs.conv_code.Code.{encoding}
+use Rattle.weight_bound.specs.conv_code.Likelihood.{likelihood}
 use Rattle.list_decode.specs.Branches.{IsBranchOfReturnedWord, class_of_branch}
 use Rattle.list_decode.specs.Choices.{HasMetrics}
 use Rattle.list_decode.specs.Classes.{PartitionsUnreturnedWords}
@@ -8,6 +10,8 @@ use Rattle.list_decode.specs.WordStorage.{IsDeviationTree, stored_words}
 use Rattle.list_decode.specs.Passes.{IsCompletePass, HasSoftBits, soft_bits_of_pass}
 use Rattle.list_decode.specs.Ranking.{IsRanked, Ranking}
 use Rattle.list_decode.specs.declared.branch.WordBranch.{WordBranch}
+use Rattle.list_decode.specs.declared.lists.StoredWords.{StoredWords}
+use Rattle.list_decode.specs.declared.pass.ViterbiPass.{ViterbiPass}
 use Rattle.list_decode.specs.declared.ranked.ListDecoder.TheInside.{Inside}
 
 -- the words returned so far, in order of rank
@@ -18,16 +22,20 @@ returned_words r = stored_words r.pass r.lists
 abbrev pub ranking_of : Inside → Ranking
 ranking_of r = record { soft = soft_bits_of_pass r.pass; returned = returned_words r }
 
--- the branches in use: one for the first returned word, and two more for each word after it
-abbrev pub branches_in_use : Inside → List WordBranch
-branches_in_use r = take (2 * r.lists.count - 1) r.branches
+-- the backward pass has run, and the branches partition the words not returned yet
+pub record HasBranches (pass : ViterbiPass) (lists : StoredWords) (branches : List WordBranch) (metrics : List ℤ) : Type 0 where
+  pub complete : IsCompletePass pass
+  pub tree : IsDeviationTree pass lists
+  pub values : HasMetrics branches metrics
+  pub each : All (IsBranchOfReturnedWord pass (stored_words pass lists)) (take (2 * lists.count - 1) branches)
+  pub partition : PartitionsUnreturnedWords (soft_bits_of_pass pass) (stored_words pass lists) (map (class_of_branch
+      (stored_words pass lists)) (take (2 * lists.count - 1) branches))
 
-pub record IsSoundRanking (r : Inside) : Type 0 where
-  pub has_soft_bits : HasSoftBits r.pass
-  pub pass : 0 < r.lists.count → IsCompletePass r.pass
-  pub tree : IsDeviationTree r.pass r.lists
-  pub ranked : IsRanked (soft_bits_of_pass r.pass) (returned_words r)
-  pub metrics : HasMetrics r.branches r.metrics
-  pub branches : All (IsBranchOfReturnedWord r.pass (returned_words r)) (branches_in_use r)
-  pub partition : 0 < r.lists.count → PartitionsUnreturnedWords (soft_bits_of_pass r.pass) (returned_words r) (map (class_of_branch
-      (returned_words r)) (branches_in_use r))
+pub record IsSoundRanking (decoder : Inside) : Type 0 where
+  pub has_soft_bits : HasSoftBits decoder.pass
+  pub at_most : decoder.lists.count ≤ 64
+  pub ranked : IsRanked (soft_bits_of_pass decoder.pass) (returned_words decoder)
+  pub first_metric : 0 < decoder.lists.count → decoder.first_metric ≡ likelihood (soft_bits_of_pass decoder.pass) (encoding
+      (take decoder.pass.bits decoder.lists.first_word))
+  pub metrics : HasMetrics decoder.branches decoder.metrics
+  pub later : 1 < decoder.lists.count → HasBranches decoder.pass decoder.lists decoder.branches decoder.metrics

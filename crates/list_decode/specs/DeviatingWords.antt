@@ -3,58 +3,61 @@ use Rattle.std.specs.Prelude.{ℕ, ◌≡◌, Bool, ◌&&◌, nat_le, nat_lt, tr
 use Rattle.std.specs.Prelude.{◌≤ℤ◌, List, []}
 use Rattle.std.specs.Prelude.{◌∷◌, slice_index, slice_index_or, take}
 use Rattle.std.proofs.Common.{zero, suc}
-use Rattle.trellis_decode.specs.Trellis.{next, traceback}
+use Rattle.trellis_decode.specs.Trellis.{next_trellis_state, traceback}
 
 -- the trellis state that a list of bits reaches from a given state
-abbrev pub state_after_bits : ℕ → List ℕ → ℕ
+abbrev pub state_after_bits : (state : ℕ) (bits : List ℕ) → ℕ
 state_after_bits state [] = state
-state_after_bits state (x ∷ u) = state_after_bits (next state x) u
+state_after_bits state (x ∷ u) = state_after_bits (next_trellis_state state x) u
 
 -- the loss of a deviation from a word at a given position: how much smaller the path metric of the deviating word is
-abbrev pub deviation_loss : ℕ → List ℕ → List (List ℤ) → ℕ → ℤ
+abbrev pub deviation_loss : (state : ℕ) (word : List ℕ) (losses : List (List ℤ)) (place : ℕ) → ℤ
 deviation_loss state u losses place = slice_index_or (slice_index_or losses place []) (state_after_bits state (take place u)) (pos 0)
 
 -- the word that follows the survivors from a given state, but takes the other bit at one position
-abbrev pub survivor_with_deviation : List ℕ → ℕ → ℕ → List ℕ
+abbrev pub survivor_with_deviation : (rows : List ℕ) (state place : ℕ) → List ℕ
 survivor_with_deviation [] state place = []
-survivor_with_deviation (row ∷ rows) state zero = (1 - row / 2 ^ state % 2) ∷ traceback rows (next state (1 - row / 2 ^ state % 2))
-survivor_with_deviation (row ∷ rows) state (suc place) = (row / 2 ^ state % 2) ∷ survivor_with_deviation rows (next state
+survivor_with_deviation (row ∷ rows) state zero =
+    (1 - row / 2 ^ state % 2) ∷ traceback rows (next_trellis_state state (1 - row / 2 ^ state % 2))
+survivor_with_deviation (row ∷ rows) state (suc place) = (row / 2 ^ state % 2) ∷ survivor_with_deviation rows (next_trellis_state state
     (row / 2 ^ state % 2)) place
 
--- among positions before `n`, a deviation from `u` at `place` has the least `loss`; on a tie, its word comes first in lexicographic order
-pub record IsLeastLossPosition (u : List ℕ) (losses : List (List ℤ)) (n place : ℕ) (loss : ℤ) : Type 0 where
-  pub value : loss ≡ deviation_loss 0 u losses place
-  pub least : (k : ℕ) → k < n → loss ≤ℤ deviation_loss 0 u losses k
-  pub tie_before : (k : ℕ) → k < place → deviation_loss 0 u losses k ≡ loss → slice_index u k ≡ 0
-  pub tie_after : (k : ℕ) → place < k → k < n → deviation_loss 0 u losses k ≡ loss → slice_index u place ≡ 1
+-- among positions before `limit`, a deviation from `word` at `place` has the least `loss`; on a tie, its word comes first in lexicographic
+-- order
+pub record IsLeastLossPosition (word : List ℕ) (losses : List (List ℤ)) (limit place : ℕ) (loss : ℤ) : Type 0 where
+  pub value : loss ≡ deviation_loss 0 word losses place
+  pub least : (k : ℕ) → k < limit → loss ≤ℤ deviation_loss 0 word losses k
+  pub tie_before : (k : ℕ) → k < place → deviation_loss 0 word losses k ≡ loss → slice_index word k ≡ 0
+  pub tie_after : (k : ℕ) → place < k → k < limit → deviation_loss 0 word losses k ≡ loss → slice_index word place ≡ 1
 
 -- the word, starting in a given state, follows the survivors from position `from`
-abbrev pub FollowsSurvivors : (from : ℕ) → List ℕ → List ℕ → ℕ → Type 0
+abbrev pub FollowsSurvivors : (from : ℕ) (word rows : List ℕ) (state : ℕ) → Type 0
 FollowsSurvivors zero u rows state = u ≡ traceback rows state
 FollowsSurvivors (suc from) [] rows state = ⊥
 FollowsSurvivors (suc from) (x ∷ u) [] state = ⊥
-FollowsSurvivors (suc from) (x ∷ u) (row ∷ rows) state = FollowsSurvivors from u rows (next state x)
+FollowsSurvivors (suc from) (x ∷ u) (row ∷ rows) state = FollowsSurvivors from u rows (next_trellis_state state x)
 
 -- the word that agrees with a given word before a given position, differs there, and then follows the survivors; both words start in a
 -- given state
-abbrev pub deviation : List ℕ → List ℕ → ℕ → ℕ → List ℕ
-deviation [] rows state place = []
-deviation (x ∷ u) [] state place = []
-deviation (x ∷ u) (row ∷ rows) state zero = (1 - x) ∷ traceback rows (next state (1 - x))
-deviation (x ∷ u) (row ∷ rows) state (suc place) = x ∷ deviation u rows (next state x) place
+abbrev pub word_deviating_at : (word rows : List ℕ) (state place : ℕ) → List ℕ
+word_deviating_at [] rows state place = []
+word_deviating_at (x ∷ u) [] state place = []
+word_deviating_at (x ∷ u) (row ∷ rows) state zero = (1 - x) ∷ traceback rows (next_trellis_state state (1 - x))
+word_deviating_at (x ∷ u) (row ∷ rows) state (suc place) = x ∷ word_deviating_at u rows (next_trellis_state state x) place
 
 -- whether a position lies in the range from a first index up to, but not including, an end index
-abbrev pub is_in_range : ℕ → ℕ → ℕ → Bool
+abbrev pub is_in_range : (from to place : ℕ) → Bool
 is_in_range from to k = nat_le from k && nat_lt k to
 
--- among free positions before `n`, a deviation from `u` at `place` has the least loss; on a tie, its word comes first in lexicographic
--- order
-pub record IsLeastLossFreePosition (u : List ℕ) (losses : List (List ℤ)) (free : ℕ → Bool) (n place : ℕ) : Type 0 where
-  pub in_range : place < n
+-- among free positions before `limit`, a deviation from `word` at `place` has the least loss; on a tie, its word comes first in
+-- lexicographic order
+pub record IsLeastLossFreePosition (word : List ℕ) (losses : List (List ℤ)) (free : ℕ → Bool) (limit place : ℕ) : Type 0 where
+  pub in_range : place < limit
   pub place_is_free : free place ≡ true
-  pub least : (k : ℕ) → k < n → free k ≡ true → deviation_loss 0 u losses place ≤ℤ deviation_loss 0 u losses k
-  pub tie_before : (k : ℕ) → k < place → free k ≡ true → deviation_loss 0 u losses k ≡ deviation_loss 0 u losses place →
-      slice_index u k ≡ 0
-  pub tie_after : (k : ℕ) → place < k → k < n → free k ≡ true → deviation_loss 0 u losses k
-      ≡ deviation_loss 0 u losses place →
-      slice_index u place ≡ 1
+  pub least : (k : ℕ) → k < limit → free k ≡ true → deviation_loss 0 word losses place ≤ℤ deviation_loss 0 word losses k
+  pub tie_before : (k : ℕ) → k < place → free k ≡ true → deviation_loss 0 word losses k ≡ deviation_loss 0 word losses place
+      →
+      slice_index word k ≡ 0
+  pub tie_after : (k : ℕ) → place < k → k < limit → free k ≡ true → deviation_loss 0 word losses k
+      ≡ deviation_loss 0 word losses place →
+      slice_index word place ≡ 1

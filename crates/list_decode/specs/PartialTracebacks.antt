@@ -1,18 +1,18 @@
 -- The traceback of a word, position by position, and the best position found so far for a deviation.
-use Rattle.std.specs.Prelude.{ℕ, ◌≡◌, ◌+◌, ◌<◌, ◌≤◌, ℤ, pos, ◌+ℤ◌, ◌-ℤ◌, List, length, slice_index}
+use Rattle.std.specs.Prelude.{ℕ, ◌≡◌, ◌+◌, ◌<◌, ◌≤◌, ℤ, pos, ◌-ℤ◌, List, length, slice_index}
 use Rattle.std.specs.Prelude.{take}
 use Rattle.trellis_decode.specs.Trellis.{traceback}
 use Rattle.list_decode.specs.DeviatingWords.{state_after_bits, IsLeastLossPosition}
 use Rattle.list_decode.specs.declared.departure.PossibleDeviation.{PossibleDeviation}
 use Rattle.list_decode.specs.declared.departure.PartialTraceback.{PartialTraceback}
 
--- `best` is the position before `k` with the least loss for a deviation from `u` (position 0 if `k` is 0)
-pub record IsLeastLossDeviation (u : List ℕ) (losses : List (List ℤ)) (k : ℕ) (best : PossibleDeviation) : Type 0 where
-  pub at_most_k : best.place ≤ k
-  pub in_range : best.place + 4 < length u
-  pub state : best.state ≡ state_after_bits 0 (take best.place u)
-  pub least : IsLeastLossPosition u losses k best.place best.loss
-  pub loss_limit : best.loss_limit ≡ best.loss +ℤ pos 1 -ℤ pos (slice_index u best.place)
+-- `best` is the position before `limit` with the least loss for a deviation from `word` (position 0 if `limit` is 0)
+pub record IsLeastLossDeviation (word : List ℕ) (losses : List (List ℤ)) (limit : ℕ) (best : PossibleDeviation) : Type 0 where
+  pub at_most_k : best.place ≤ limit
+  pub in_range : best.place + 4 < length word
+  pub state : best.state ≡ state_after_bits 0 (take best.place word)
+  pub least : IsLeastLossPosition word losses limit best.place best.loss
+  pub loss_limit : best.loss_limit ≡ best.loss -ℤ pos (slice_index word best.place)
 
 -- traceback has written the bits of `u` before position `k`, and `reading` holds the best position before `k` for a deviation
 pub record IsPartialTraceback (rows : List ℕ) (losses : List (List ℤ)) (u : List ℕ) (k : ℕ) (reading : PartialTraceback) : Type 0

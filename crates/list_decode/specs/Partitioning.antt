@@ -13,23 +13,24 @@ use Rattle.list_decode.specs.declared.partitioning.NextWord.{NextWord}
 use Rattle.list_decode.specs.declared.pass.ViterbiPass.{ViterbiPass}
 
 -- no branch has a word left
-abbrev pub NoBranchHasWord : List WordBranch → Type 0
-NoBranchHasWord branches = All (λ branch. branch.best ≡ None) branches
+abbrev pub NoBranchHasUnreturnedWord : List WordBranch → Type 0
+NoBranchHasUnreturnedWord branches = All (λ branch. branch.best ≡ None) branches
 
 -- the branches after the next word has been returned: one branch is replaced, and two are added
-abbrev pub branches_after_word : List WordBranch → NextWord → List WordBranch
+abbrev pub branches_after_word : (branches : List WordBranch) (next : NextWord) → List WordBranch
 branches_after_word branches next =
     (slice_set branches next.branch next.parts.branch_before ++ next.parts.branch_of_new_word ∷ []) ++ next.parts.branch_after ∷ []
 
--- `u` is the next word in the ranking after the words `us`, and `next` describes it
-pub record IsNextRankedWord (pass : ViterbiPass) (us : List (List ℕ)) (branches : List WordBranch) (u : List ℕ) (next : NextWord) : Type
+-- `word` is the next word in the ranking after the words `returned`, and `next` describes it
+pub record IsNextRankedWord (pass : ViterbiPass) (returned : List (List ℕ)) (branches : List WordBranch) (word : List ℕ) (next :
+    NextWord) : Type
     0 where
   pub in_range : next.branch < length branches
-  pub value : next.deviation.likelihood ≡ likelihood (soft_bits_of_pass pass) (encoding u)
-  pub deviation : DeviatesFromReturnedWord pass us next.deviation
-  pub word_is : u ≡ deviating_word pass us next.deviation
-  pub each : All (IsBranchOfReturnedWord pass (us ++ u ∷ [])) (branches_after_word branches next)
-  pub ranking_continues : IsRanked (soft_bits_of_pass pass) us → PartitionsUnreturnedWords (soft_bits_of_pass pass) us
-      (map (class_of_branch us) branches) → IsRanked (soft_bits_of_pass pass) (us ++ u ∷ []) ×
-      PartitionsUnreturnedWords (soft_bits_of_pass pass) (us ++ u ∷ [])
-      (map (class_of_branch (us ++ u ∷ [])) (branches_after_word branches next))
+  pub value : next.deviation.likelihood ≡ likelihood (soft_bits_of_pass pass) (encoding word)
+  pub deviation : DeviatesFromReturnedWord pass returned next.deviation
+  pub word_is : word ≡ deviating_word pass returned next.deviation
+  pub all_branches : All (IsBranchOfReturnedWord pass (returned ++ word ∷ [])) (branches_after_word branches next)
+  pub ranking_continues : IsRanked (soft_bits_of_pass pass) returned → PartitionsUnreturnedWords (soft_bits_of_pass pass) returned
+      (map (class_of_branch returned) branches) → IsRanked (soft_bits_of_pass pass) (returned ++ word ∷ []) ×
+      PartitionsUnreturnedWords (soft_bits_of_pass pass) (returned ++ word ∷ [])
+      (map (class_of_branch (returned ++ word ∷ [])) (branches_after_word branches next))

@@ -1,6 +1,6 @@
 //! Spans of returned words, and the best deviation from the word in each span.
 
-ghost use Rattle.std.specs.Prelude.{◌≡◌, ◌≤◌, ◌+◌, ℕ, ◌<◌, ℤ, pos, ◌+ℤ◌, ◌-ℤ◌, List};
+ghost use Rattle.std.specs.Prelude.{◌≡◌, ◌≤◌, ◌+◌, ℕ, ◌<◌, ℤ, pos, ◌-ℤ◌, List};
 ghost use Rattle.std.specs.Prelude.{IfSome, length, slice_index, take};
 ghost use Rattle.weight_bound.specs.bit_blocks.Bits.{AllBits};
 ghost use Rattle.list_decode.specs.Branches.{IsBranch, IsSpanOfWord, IsDeviation, is_in_range, word_of_deviation};
@@ -9,7 +9,7 @@ ghost use Rattle.list_decode.specs.LeastLosses.{IsLeastLossDeviationOrNone, IsLe
 ghost use Rattle.list_decode.specs.Passes.{IsCompletePass, losses_of_pass, soft_bits_of_pass};
 ghost use Rattle.list_decode.specs.Ranking.{IsCandidate};
 
-use crate::departure::{DeviationPoint, PossibleDeviation, apply_deviation, write_deviation};
+use crate::departure::{DeviationPoint, PossibleDeviation, apply_deviation};
 use crate::pass::ViterbiPass;
 use crate::tails::{find_merging_place, survivor_deviation};
 use trellis_decode::ENCODER_INPUT_BITS;
@@ -77,17 +77,6 @@ impl WordBranch {
 }
 
 impl Deviation {
-    /// Writes to `v` the word that results from applying this deviation to `u`.
-    pub(crate) fn write_word(&self, pass: &ViterbiPass, u: &[u8], v: &mut [u8])
-        requires pass { IsCompletePass pass.now }
-        requires list { IsCandidate (soft_bits_of_pass pass.now) u.now }
-        requires deviation { IsDeviation pass.now u.now self.now }
-        requires count { length v.old ≡ length u.now }
-        ensures { v.new ≡ word_of_deviation pass.now u.now self.now }
-    {
-        write_deviation(u, &pass.decisions[..pass.bits], self.departure, v);
-    }
-
     /// Applies this deviation to `u` in place.
     pub(crate) fn apply(&self, pass: &ViterbiPass, u: &mut [u8])
         requires pass { IsCompletePass pass.now }
@@ -131,7 +120,7 @@ fn find_least_loss(pass: &ViterbiPass, u: &[u8], span: &WordSpan) -> Option<Poss
     );
     match early {
         None => Some(later),
-        Some(early) => Some(early.or_later(later)),
+        Some(early) => Some(early.or_better_later(later)),
     }
 }
 
@@ -171,7 +160,7 @@ fn find_least_loss_in_span(
     ))
 }
 
-/// The best position so far, the trellis state before it, and a limit: a later position is better if its loss is below this limit.
+/// The best position so far, the trellis state before it, and a limit: a later position is better if its loss is at most this limit.
 #[derive(Clone, Copy)]
 struct LeastLossSoFar {
     place: usize,
@@ -184,12 +173,12 @@ impl LeastLossSoFar {
         requires { bit ≤ 1 }
         ensures place { result.place ≡ place }
         ensures state { result.state ≡ state }
-        ensures loss_limit { result.loss_limit ≡ loss +ℤ pos 1 -ℤ pos bit }
+        ensures loss_limit { result.loss_limit ≡ loss -ℤ pos bit }
     {
         LeastLossSoFar {
             place,
             state,
-            loss_limit: i32::from(loss) + 1 - i32::from(bit),
+            loss_limit: i32::from(loss) - i32::from(bit),
         }
     }
 
@@ -202,7 +191,7 @@ impl LeastLossSoFar {
             AllBits u →
             IsLeastLossSoFar u losses (is_in_range from (place + 1)) (place + 1) result }
     {
-        if i32::from(loss) < self.loss_limit {
+        if i32::from(loss) <= self.loss_limit {
             LeastLossSoFar::new(place, state, loss, bit)
         } else {
             self

@@ -54,13 +54,13 @@ pub(crate) fn find_first_ranked_branch(
     first
 }
 
-/// Returns the higher-ranking of two choices: `first`, the best so far, and branch `number`, whose most likely word results from
+/// Returns the higher-ranking of two choices: `first`, the best so far, and branch `branch_index`, whose most likely word results from
 /// `deviation`.
 fn higher_ranked(
     pass: &ViterbiPass,
     lists: &StoredWords,
     first: Option<BranchChoice>,
-    number: usize,
+    branch_index: usize,
     deviation: &Deviation,
 ) -> Option<BranchChoice>
     requires pass { IsCompletePass pass.now }
@@ -71,18 +71,18 @@ fn higher_ranked(
     ensures least { MatchOption result ⊥ (λ x. deviation.now.likelihood ≤ℤ x.deviation.likelihood) }
     ensures first { (branches : List TheBranch) (branch : TheBranch) →
         IsFirstRankedBranch pass.now (stored_words pass.now lists.now) branches first →
-        branch.best ≡ Some deviation.now → number ≡ length branches →
+        branch.best ≡ Some deviation.now → branch_index ≡ length branches →
         IsFirstRankedBranch pass.now (stored_words pass.now lists.now) (branches ++ branch ∷ []) result }
 {
     match first {
         None => Some(BranchChoice {
-            branch: number,
+            branch: branch_index,
             deviation: *deviation,
         }),
         Some(old) => {
             if ranks_before(pass, lists, deviation, &old.deviation) {
                 Some(BranchChoice {
-                    branch: number,
+                    branch: branch_index,
                     deviation: *deviation,
                 })
             } else {

@@ -1,6 +1,6 @@
 //! The best position for a deviation from a word, and the word that deviates there.
 
-ghost use Rattle.std.specs.Prelude.{◌≡◌, true, false, pos, ℤ, ◌+ℤ◌, ◌-ℤ◌, ◌<ℤ◌, ◌≤ℤ◌, List, Some};
+ghost use Rattle.std.specs.Prelude.{◌≡◌, true, false, pos, ℤ, ◌-ℤ◌, ◌<ℤ◌, ◌≤ℤ◌, List, Some};
 ghost use Rattle.std.specs.Prelude.{ℕ, ◌+◌, ◌-◌};
 ghost use Rattle.std.specs.Prelude.{◌*◌, ◌%◌, ◌<◌, ◌≤◌, length, slice_index, ◌++◌, ◌∷◌};
 ghost use Rattle.std.proofs.Common.{take, drop};
@@ -8,7 +8,7 @@ ghost use Rattle.weight_bound.specs.bit_blocks.Bits.{AllBits};
 ghost use Rattle.list_decode.specs.DeviatingWords.{IsLeastLossPosition, is_in_range, state_after_bits};
 ghost use Rattle.list_decode.specs.LeastLosses.{IsLeastLossDeviationOrNone};
 ghost use Rattle.list_decode.specs.PartialTracebacks.{IsPartialTraceback};
-ghost use Rattle.trellis_decode.specs.Trellis.{next, traceback};
+ghost use Rattle.trellis_decode.specs.Trellis.{next_trellis_state, traceback};
 
 use trellis_decode::{ENCODER_INPUT_BITS, trace_back};
 
@@ -44,8 +44,8 @@ pub(crate) struct PossibleDeviation {
     pub(crate) place: usize,
     pub(crate) state: usize,
     pub(crate) loss: i32,
-    /// A later position is better if its loss is below this limit: the loss here, plus 1 if the word has a 0 here. Changing a 0 to a 1
-    /// moves the word later in lexicographic order, so if the losses are equal, the later position is then better.
+    /// A later position is better if its loss is at most this limit: the loss here, minus 1 if the word has a 1 here. Changing a 0 to a 1
+    /// moves the word later in lexicographic order, so if the losses are equal, the later position is better than a 0.
     pub(crate) loss_limit: i32,
 }
 
@@ -55,27 +55,27 @@ impl PossibleDeviation {
         ensures place { result.place ≡ place }
         ensures state { result.state ≡ state }
         ensures loss { result.loss ≡ loss }
-        ensures loss_limit { result.loss_limit ≡ loss +ℤ pos 1 -ℤ pos bit }
+        ensures loss_limit { result.loss_limit ≡ loss -ℤ pos bit }
     {
         let loss = i32::from(loss);
         PossibleDeviation {
             place,
             state,
             loss,
-            loss_limit: loss + 1 - i32::from(bit),
+            loss_limit: loss - i32::from(bit),
         }
     }
 
     /// Whether a later position with the loss `loss` is better for a deviation than this position.
     pub(crate) fn is_improved_by(&self, loss: i32) -> bool
-        ensures after { result ≡ true → loss <ℤ self.now.loss_limit }
-        ensures not_after { result ≡ false → self.now.loss_limit ≤ℤ loss }
+        ensures after { result ≡ true → loss ≤ℤ self.now.loss_limit }
+        ensures not_after { result ≡ false → self.now.loss_limit <ℤ loss }
     {
-        loss < self.loss_limit
+        loss <= self.loss_limit
     }
 
     /// Returns the better of this position, the best of a range, and `later`, the best of the range that follows.
-    pub(crate) fn or_later(self, later: PossibleDeviation) -> PossibleDeviation
+    pub(crate) fn or_better_later(self, later: PossibleDeviation) -> PossibleDeviation
         ensures { (u : List ℕ) (losses : List (List ℤ)) (from k n : ℕ) →
             IsLeastLossDeviationOrNone u losses (is_in_range from k) k (Some self) →
             IsLeastLossDeviationOrNone u losses (is_in_range k n) n (Some later) →
@@ -179,20 +179,20 @@ fn trace_back_groups_of_four(
     reading
 }
 
-/// Writes to `v` the word that deviates from `u` at the given position and then follows the survivors. After that position, `u` must follow
+/// Writes to `v` the word that deviates from `word` at the given position and then follows the survivors. After it, `word` must follow
 /// the survivors too.
-pub(crate) fn write_deviation(u: &[u8], rows: &[u16], departure: DeviationPoint, v: &mut [u8])
-    requires bits { AllBits u.now }
-    requires rows { length rows.now ≡ length u.now }
-    requires chosen { drop (departure.place + 1) u.now ≡
-        traceback (drop (departure.place + 1) rows.now) (next departure.state (slice_index u.now departure.place)) }
-    requires count { length v.old ≡ length u.now }
-    requires within { departure.place < length u.now }
+pub(crate) fn write_deviation(word: &[u8], rows: &[u16], departure: DeviationPoint, v: &mut [u8])
+    requires bits { AllBits word.now }
+    requires rows { length rows.now ≡ length word.now }
+    requires chosen { drop (departure.place + 1) word.now ≡
+        traceback (drop (departure.place + 1) rows.now) (next_trellis_state departure.state (slice_index word.now departure.place)) }
+    requires count { length v.old ≡ length word.now }
+    requires within { departure.place < length word.now }
     requires state { departure.state < 16 }
-    ensures { v.new ≡ take departure.place u.now ++ (1 - slice_index u.now departure.place) ∷
-        traceback (drop (departure.place + 1) rows.now) (next departure.state (1 - slice_index u.now departure.place)) }
+    ensures { v.new ≡ take departure.place word.now ++ (1 - slice_index word.now departure.place) ∷
+        traceback (drop (departure.place + 1) rows.now) (next_trellis_state departure.state (1 - slice_index word.now departure.place)) }
 {
-    v.copy_from_slice(u);
+    v.copy_from_slice(word);
     apply_deviation(rows, departure, v);
 }
 
@@ -202,11 +202,11 @@ pub(crate) fn apply_deviation(rows: &[u16], departure: DeviationPoint, u: &mut [
     requires bits { AllBits u.old }
     requires rows { length rows.now ≡ length u.old }
     requires chosen { drop (departure.place + 1) u.old ≡
-        traceback (drop (departure.place + 1) rows.now) (next departure.state (slice_index u.old departure.place)) }
+        traceback (drop (departure.place + 1) rows.now) (next_trellis_state departure.state (slice_index u.old departure.place)) }
     requires within { departure.place < length u.old }
     requires state { departure.state < 16 }
     ensures { u.new ≡ take departure.place u.old ++ (1 - slice_index u.old departure.place) ∷
-        traceback (drop (departure.place + 1) rows.now) (next departure.state (1 - slice_index u.old departure.place)) }
+        traceback (drop (departure.place + 1) rows.now) (next_trellis_state departure.state (1 - slice_index u.old departure.place)) }
 {
     let place = usize::from(departure.place);
     let old = u[place];

@@ -22,7 +22,7 @@ pub(crate) struct StoredWords {
     pub(crate) count: usize,
 }
 
-/// A chain of word numbers, in `lists` starting at index `start`. Each word deviates from its predecessor, and the first from word 0.
+/// A chain of word numbers, in `word_indices` from index `start` on. Each word deviates from its predecessor, and the first from word 0.
 #[derive(Clone, Copy)]
 struct DeviationChain {
     word_indices: [u8; MAX_RANK],
@@ -30,41 +30,40 @@ struct DeviationChain {
 }
 
 impl StoredWords {
-    /// Writes the word with the number `list` to `u`.
-    pub(crate) fn write_word(&self, pass: &ViterbiPass, list: u8, u: &mut [u8])
+    /// Writes word number `word_index` to `u`.
+    pub(crate) fn write_word(&self, pass: &ViterbiPass, word_index: u8, u: &mut [u8])
         requires pass { IsCompletePass pass.now }
         requires tree { IsDeviationTree pass.now self.now }
         requires lists { All (IsCandidate (soft_bits_of_pass pass.now)) (stored_words pass.now self.now) }
-        requires within { list < self.now.count }
+        requires within { word_index < self.now.count }
         requires count { length u.old ≡ pass.now.bits }
-        ensures { u.new ≡ slice_index_or (stored_words pass.now self.now) list [] }
+        ensures { u.new ≡ slice_index_or (stored_words pass.now self.now) word_index [] }
     {
-        let chain = self.chain_to_word(pass, list);
+        let chain = self.chain_to_word(pass, word_index);
         u.copy_from_slice(&self.first_word[..pass.bits]);
         for k in chain.start..MAX_RANK {
             self.deviations[usize::from(chain.word_indices[k]) - 1].apply(pass, u);
         }
     }
 
-    /// Returns the chain of words from word 0 to the word with the number `list`.
-    fn chain_to_word(&self, pass: &ViterbiPass, list: u8) -> DeviationChain
+    /// Returns the chain of words from word 0 to word number `word_index`.
+    fn chain_to_word(&self, pass: &ViterbiPass, word_index: u8) -> DeviationChain
         requires tree { IsDeviationTree pass.now self.now }
-        requires within { list < self.now.count }
+        requires within { word_index < self.now.count }
         ensures start { result.start ≤ MAX_RANK }
-        ensures chain { IsChainOfDeviations self.now (drop result.start result.word_indices) 0 list }
+        ensures chain { IsChainOfDeviations self.now (drop result.start result.word_indices) 0 word_index }
     {
-        let mut lists = [0; MAX_RANK];
-        let mut start = MAX_RANK;
-        let mut at = list;
+        let mut chain = DeviationChain {
+            word_indices: [0; MAX_RANK],
+            start: MAX_RANK,
+        };
+        let mut at = word_index;
         while at != 0 {
-            start -= 1;
-            lists[start] = at;
+            chain.start -= 1;
+            chain.word_indices[chain.start] = at;
             at = self.deviations[usize::from(at) - 1].word_index;
         }
-        DeviationChain {
-            word_indices: lists,
-            start,
-        }
+        chain
     }
 
     /// Returns the deviation that produced the word from which `deviation` starts. Returns `None` if its position is not before that of

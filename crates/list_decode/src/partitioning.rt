@@ -5,7 +5,7 @@ ghost use Rattle.std.specs.List.{All};
 ghost use Rattle.list_decode.specs.Branches.{IsBranch, IsBranchOfReturnedWord, IsSpanOfWord, IsDeviation, word_of_deviation};
 ghost use Rattle.list_decode.specs.Choices.{HasMetrics};
 ghost use Rattle.list_decode.specs.WordStorage.{IsDeviationTree, stored_words};
-ghost use Rattle.list_decode.specs.Partitioning.{NoBranchHasWord, IsNextRankedWord};
+ghost use Rattle.list_decode.specs.Partitioning.{NoBranchHasUnreturnedWord, IsNextRankedWord};
 ghost use Rattle.list_decode.specs.Passes.{IsCompletePass, soft_bits_of_pass};
 ghost use Rattle.list_decode.specs.Ranking.{IsCandidate};
 
@@ -13,7 +13,6 @@ use crate::branch::{Deviation, WordBranch, WordSpan};
 use crate::choice::find_first_ranked_branch;
 use crate::lists::StoredWords;
 use crate::pass::ViterbiPass;
-use trellis_decode::ENCODER_INPUT_BITS;
 
 /// The next word in the ranking.
 #[derive(Clone, Copy)]
@@ -48,16 +47,13 @@ pub(crate) fn find_next_word(
     requires same { length metrics.now ≡ length branches.now }
     requires metrics { HasMetrics branches.now metrics.now }
     requires count { length u.old ≡ pass.now.bits }
-    ensures next { MatchOption result (NoBranchHasWord branches.now × (u.new ≡ u.old))
+    ensures next { MatchOption result (NoBranchHasUnreturnedWord branches.now × (u.new ≡ u.old))
         (IsNextRankedWord pass.now (stored_words pass.now lists.now) branches.now u.new) }
 {
     let choice = find_first_ranked_branch(pass, lists, branches, metrics)?;
     let span = branches[choice.branch].span;
-    let mut word = [0; ENCODER_INPUT_BITS];
-    let list = &mut word[..pass.bits];
-    lists.write_word(pass, span.word_index, list);
-    choice.deviation.write_word(pass, list, u);
-    let parts = partition(pass, list, u, span, &choice.deviation, lists.count as u8);
+    lists.write_word(pass, span.word_index, u);
+    let parts = partition(pass, u, span, &choice.deviation, lists.count as u8);
     Some(NextWord {
         branch: choice.branch,
         deviation: choice.deviation,
@@ -65,27 +61,26 @@ pub(crate) fn find_next_word(
     })
 }
 
-/// Splits a span of `u` at the position where its most likely deviating word, `v`, deviates. In the result, `before` and `after` cover the
-/// parts of the span before and after that position, and `behind` covers the positions of `v` after it. The number of `v` is `new`.
+/// Splits a span of `u` at the position where its most likely deviating word deviates, and replaces `u` by this word. In the result,
+/// `before` and `after` cover the parts of the span before and after that position, and `behind` covers the positions of the new word after
+/// it. The number of the new word is `new`.
 fn partition(
     pass: &ViterbiPass,
-    u: &[u8],
-    v: &[u8],
+    u: &mut [u8],
     span: WordSpan,
     deviation: &Deviation,
     new: u8,
 ) -> BranchParts
     requires pass { IsCompletePass pass.now }
-    requires list { IsCandidate (soft_bits_of_pass pass.now) u.now }
-    requires deviating_word { IsCandidate (soft_bits_of_pass pass.now) v.now }
-    requires span { IsSpanOfWord pass.now u.now span }
-    requires deviation { IsDeviation pass.now u.now deviation.now }
-    requires written { v.now ≡ word_of_deviation pass.now u.now deviation.now }
+    requires list { IsCandidate (soft_bits_of_pass pass.now) u.old }
+    requires span { IsSpanOfWord pass.now u.old span }
+    requires deviation { IsDeviation pass.now u.old deviation.now }
     requires from { span.from ≤ deviation.now.departure.place }
     requires to { deviation.now.departure.place < span.to }
-    ensures before { IsBranch pass.now u.now result.branch_before }
-    ensures behind { IsBranch pass.now v.now result.branch_of_new_word }
-    ensures after { IsBranch pass.now u.now result.branch_after }
+    ensures written { u.new ≡ word_of_deviation pass.now u.old deviation.now }
+    ensures before { IsBranch pass.now u.old result.branch_before }
+    ensures behind { IsBranch pass.now u.new result.branch_of_new_word }
+    ensures after { IsBranch pass.now u.old result.branch_after }
     ensures before_span { (result.branch_before.span.word_index ≡ span.word_index) × (result.branch_before.span.from ≡ span.from) ×
         (result.branch_before.span.to ≡ deviation.now.departure.place) }
     ensures behind_span { (result.branch_of_new_word.span.word_index ≡ new)
@@ -97,21 +92,24 @@ fn partition(
 {
     let place = deviation.departure.place;
     let before = WordSpan { to: place, ..span };
-    let behind = WordSpan {
-        likelihood: deviation.likelihood,
-        word_index: new,
-        from: place + 1,
-        to: (pass.bits - 4) as u8,
-        state: (2 * deviation.departure.state + v[usize::from(place)]) % 16,
-    };
     let after = WordSpan {
         from: place + 1,
         state: (2 * deviation.departure.state + u[usize::from(place)]) % 16,
         ..span
     };
+    let branch_before = WordBranch::new(pass, u, before);
+    let branch_after = WordBranch::new(pass, u, after);
+    deviation.apply(pass, u);
+    let behind = WordSpan {
+        likelihood: deviation.likelihood,
+        word_index: new,
+        from: place + 1,
+        to: (pass.bits - 4) as u8,
+        state: (2 * deviation.departure.state + u[usize::from(place)]) % 16,
+    };
     BranchParts {
-        branch_before: WordBranch::new(pass, u, before),
-        branch_of_new_word: WordBranch::new(pass, v, behind),
-        branch_after: WordBranch::new(pass, u, after),
+        branch_before,
+        branch_of_new_word: WordBranch::new(pass, u, behind),
+        branch_after,
     }
 }

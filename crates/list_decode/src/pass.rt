@@ -4,7 +4,7 @@ ghost use Rattle.std.specs.Prelude.{◌≡◌, ◌≤◌, ◌%◌, length};
 ghost use Rattle.weight_bound.specs.conv_code.Likelihood.{AllSoftBits};
 ghost use Rattle.list_decode.specs.Passes.{IsCompletePass, HasSoftBits, soft_bits_of_pass};
 
-use crate::tails::Tails;
+use crate::tails::BestLaterDeviations;
 use trellis_decode::{CODED_BITS, ENCODER_INPUT_BITS, fill_decisions};
 
 /// The soft bits, two for each information bit, and for each position the decision of every state (`rows`) and how much path metric the
@@ -15,11 +15,11 @@ pub(crate) struct ViterbiPass {
     pub(crate) bits: usize,
     pub(crate) decisions: [u16; ENCODER_INPUT_BITS],
     pub(crate) losses: [[i16; 16]; ENCODER_INPUT_BITS],
-    pub(crate) tails: Tails,
+    pub(crate) tails: BestLaterDeviations,
 }
 
 impl ViterbiPass {
-    /// Copies the soft bits. The rest is computed later, by `run`.
+    /// Copies the soft bits. `run_backward_pass` computes the other fields.
     pub(crate) fn new(soft: &[i8]) -> ViterbiPass
         requires at_least { 10 ≤ length soft.now }
         requires at_most { length soft.now ≤ CODED_BITS }
@@ -36,15 +36,15 @@ impl ViterbiPass {
             bits,
             decisions: [0; ENCODER_INPUT_BITS],
             losses: [[0; 16]; ENCODER_INPUT_BITS],
-            tails: Tails {
+            tails: BestLaterDeviations {
                 states: [0; ENCODER_INPUT_BITS],
                 places: [0; ENCODER_INPUT_BITS],
             },
         }
     }
 
-    /// Runs the backward pass: computes the decisions, the losses and the tails.
-    pub(crate) fn run(&mut self)
+    /// Runs the backward pass: computes the decisions, their losses, and the best later deviations.
+    pub(crate) fn run_backward_pass(&mut self)
         requires has_soft_bits { HasSoftBits self.old }
         ensures soft { self.new.soft ≡ self.old.soft }
         ensures bits { self.new.bits ≡ self.old.bits }
@@ -58,7 +58,8 @@ impl ViterbiPass {
             &mut rows[..bits],
             &mut self.losses[..bits],
         );
-        self.tails.fill(&rows[..bits], &self.losses[..bits]);
+        self.tails
+            .fill_best_later_deviations(&rows[..bits], &self.losses[..bits]);
         self.decisions = rows;
     }
 }

@@ -1,4 +1,4 @@
-//! The information lists (words) in order of rank, the most likely first.
+//! The encoder inputs (words) in order of rank, the most likely first.
 //!
 //! The algorithm is list Viterbi decoding (Seshadri and Sundberg, 1994) with Lawler's partition (1972). A backward pass stores the
 //! decisions and losses of all states. Every word not yet returned deviates from a returned word at a position in one of its spans; the
@@ -9,8 +9,12 @@
 ghost use Rattle.std.specs.Prelude.{◌≡◌, ◌↔◌, ◌≤◌, ◌+◌, ◌-◌, ◌*◌, ◌%◌, ◌<◌, ◌++◌, ◌∷◌};
 ghost use Rattle.std.specs.Prelude.{[], length, take, None, IfSome, MatchOption};
 ghost use Rattle.weight_bound.specs.conv_code.Code.{encoding, IsEncoderInput};
-ghost use Rattle.weight_bound.specs.conv_code.Likelihood.{AllSoftBits, likelihood};
+ghost use Rattle.weight_bound.specs.conv_code.Likelihood.{AllSoftBits, IsMostLikely, likelihood};
+ghost use Rattle.list_decode.specs.Choices.{HasMetrics};
+ghost use Rattle.list_decode.specs.DecoderInvariant.{HasBranches};
+ghost use Rattle.list_decode.specs.Passes.{HasSoftBits, soft_bits_of_pass};
 ghost use Rattle.list_decode.specs.Ranking.{IsRankingDone, IsRanked};
+ghost use Rattle.list_decode.specs.WordStorage.{stored_words};
 
 use crate::MAX_RANK;
 use crate::branch::{Deviation, WordBranch, WordSpan};
@@ -21,8 +25,8 @@ use crate::pass::ViterbiPass;
 use std::marker::Model;
 use trellis_decode::{CODED_BITS, ENCODER_INPUT_BITS, decode};
 
-/// A list decoder: returns the information lists for given soft bits in order of rank, at most 64. A list with a greater path metric ranks
-/// first; lists with equal metrics are in lexicographic order.
+/// A list decoder: returns the encoder inputs for given soft bits in order of rank, at most 64. An input with a greater path metric ranks
+/// first; words with equal metrics are in lexicographic order.
 #[derive(Drop)]
 pub struct ListDecoder {
     pass: ViterbiPass,
@@ -31,6 +35,8 @@ pub struct ListDecoder {
     branches: [WordBranch; 127],
     /// The path metrics of the best deviations of the branches.
     metrics: [i32; 127],
+    /// The path metric of the first word.
+    first_metric: i32,
 }
 
 impl Model for ListDecoder {
@@ -76,6 +82,48 @@ impl ListDecoder {
             },
             branches: [WordBranch { span, best: None }; 127],
             metrics: [0; 127],
+            first_metric: 0,
+        }
+    }
+
+    /// Starts a ranking after its first word: `u` is the most likely word, and `metric` its path metric.
+    pub fn after_first(soft: &[i8], u: &[u8], metric: i32) -> ListDecoder
+        requires at_least { 10 ≤ length soft.now }
+        requires at_most { length soft.now ≤ CODED_BITS }
+        requires soft { AllSoftBits soft.now }
+        requires best { IsMostLikely soft.now u.now }
+        requires metric { metric ≡ likelihood soft.now (encoding u.now) }
+        ensures soft { result.soft ≡ soft.now }
+        ensures ranked { IsRanked result.soft result.returned }
+        ensures returned { result.returned ≡ u.now ∷ [] }
+    {
+        let span = WordSpan {
+            likelihood: 0,
+            word_index: 0,
+            from: 0,
+            to: 0,
+            state: 0,
+        };
+        let departure = DeviationPoint {
+            place: 0,
+            state: 0,
+            bit: 0,
+        };
+        let deviation = Deviation {
+            likelihood: 0,
+            departure,
+            word_index: 0,
+        };
+        ListDecoder {
+            pass: ViterbiPass::new(soft),
+            lists: StoredWords {
+                first_word: pad_with_zeros(u),
+                deviations: [deviation; 63],
+                count: 1,
+            },
+            branches: [WordBranch { span, best: None }; 127],
+            metrics: [0; 127],
+            first_metric: metric,
         }
     }
 
@@ -107,22 +155,12 @@ impl ListDecoder {
         ensures returned { self.new.returned ≡ u.new ∷ [] }
         ensures value { result ≡ likelihood self.old.soft (encoding u.new) }
     {
-        self.pass.run();
         let bits = self.pass.bits;
-        let likelihood = decode(&self.pass.soft[..2 * bits], u);
+        let metric = decode(&self.pass.soft[..2 * bits], u);
         self.lists.first_word = pad_with_zeros(u);
-        let span = WordSpan {
-            likelihood,
-            word_index: 0,
-            from: 0,
-            to: (bits - 4) as u8,
-            state: 0,
-        };
-        let branch = WordBranch::new(&self.pass, u, span);
-        self.branches[0] = branch;
-        self.metrics[0] = branch.metric();
         self.lists.count = 1;
-        likelihood
+        self.first_metric = metric;
+        metric
     }
 
     /// Writes the most likely word not returned yet to `u` and returns its path metric, or `None` if no word is left.
@@ -137,6 +175,13 @@ impl ListDecoder {
     {
         let returned = self.lists.count;
         let count = 2 * returned - 1;
+        prepare_branches(
+            &mut self.pass,
+            &self.lists,
+            self.first_metric,
+            &mut self.branches,
+            &mut self.metrics,
+        );
         let next = find_next_word(
             &self.pass,
             &self.lists,
@@ -156,12 +201,48 @@ impl ListDecoder {
     }
 }
 
+/// If only the first word has been returned, runs the backward pass and finds the best deviation from this word.
+fn prepare_branches(
+    pass: &mut ViterbiPass,
+    lists: &StoredWords,
+    first_metric: i32,
+    branches: &mut [WordBranch; 127],
+    metrics: &mut [i32; 127],
+)
+    requires some { 0 < lists.now.count }
+    requires has_soft_bits { HasSoftBits pass.old }
+    requires ranked { IsRanked (soft_bits_of_pass pass.old) (stored_words pass.old lists.now) }
+    requires metric { first_metric ≡ likelihood (soft_bits_of_pass pass.old) (encoding (take pass.old.bits lists.now.first_word)) }
+    requires metrics { HasMetrics branches.old metrics.old }
+    requires later { 1 < lists.now.count → HasBranches pass.old lists.now branches.old metrics.old }
+    ensures soft { pass.new.soft ≡ pass.old.soft }
+    ensures bits { pass.new.bits ≡ pass.old.bits }
+    ensures words { stored_words pass.new lists.now ≡ stored_words pass.old lists.now }
+    ensures branches { HasBranches pass.new lists.now branches.new metrics.new }
+{
+    if lists.count > 1 {
+        return;
+    }
+    pass.run_backward_pass();
+    let bits = pass.bits;
+    let span = WordSpan {
+        likelihood: first_metric,
+        word_index: 0,
+        from: 0,
+        to: (bits - 4) as u8,
+        state: 0,
+    };
+    let branch = WordBranch::new(pass, &lists.first_word[..bits], span);
+    branches[0] = branch;
+    metrics[0] = branch.metric();
+}
+
 /// Pads a word with zeros to 228 bits.
-fn pad_with_zeros(u: &[u8]) -> [u8; ENCODER_INPUT_BITS]
-    requires { length u.now ≤ ENCODER_INPUT_BITS }
-    ensures { take (length u.now) result ≡ u.now }
+fn pad_with_zeros(word: &[u8]) -> [u8; ENCODER_INPUT_BITS]
+    requires { length word.now ≤ ENCODER_INPUT_BITS }
+    ensures { take (length word.now) result ≡ word.now }
 {
     let mut list = [0; ENCODER_INPUT_BITS];
-    list[..u.len()].copy_from_slice(u);
+    list[..word.len()].copy_from_slice(word);
     list
 }

@@ -13,16 +13,16 @@ use crate::branch::WordSpan;
 use crate::departure::PossibleDeviation;
 use trellis_decode::ENCODER_INPUT_BITS;
 
-/// For each position of the most likely word, the trellis state before it, and the position from there on at which a deviation loses least.
+/// For each position of the most likely word: the trellis state before it, and the best position at or after it for a deviation.
 #[derive(Clone, Copy)]
-pub(crate) struct Tails {
+pub(crate) struct BestLaterDeviations {
     pub(crate) states: [u8; ENCODER_INPUT_BITS],
     pub(crate) places: [u8; ENCODER_INPUT_BITS],
 }
 
-impl Tails {
+impl BestLaterDeviations {
     /// Fills in the states of the most likely word and its best deviations.
-    pub(crate) fn fill(&mut self, rows: &[u16], losses: &[[i16; 16]])
+    pub(crate) fn fill_best_later_deviations(&mut self, rows: &[u16], losses: &[[i16; 16]])
         requires same { length losses.now ≡ length rows.now }
         requires at_least { 5 ≤ length rows.now }
         requires at_most { length rows.now ≤ ENCODER_INPUT_BITS }
@@ -46,7 +46,7 @@ fn fill_survivor_states(rows: &[u16], states: &mut [u8; ENCODER_INPUT_BITS])
     }
 }
 
-/// Writes, for each position of the survivor of state 0, the position from there on at which a deviation loses least.
+/// Writes, for each position of the survivor of state 0, the position at or after it where a deviation has the least loss.
 fn fill_best_later_places(
     rows: &[u16],
     losses: &[[i16; 16]],
@@ -63,7 +63,7 @@ fn fill_best_later_places(
     let mut best = survivor_deviation(rows, losses, states, last);
     places[last] = best.place as u8;
     for k in (0..last).rev() {
-        best = survivor_deviation(rows, losses, states, k).or_later(best);
+        best = survivor_deviation(rows, losses, states, k).or_better_later(best);
         places[k] = best.place as u8;
     }
 }

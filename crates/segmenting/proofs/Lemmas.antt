@@ -1,44 +1,43 @@
 -- Segmentation and reassembly of messages.
-use Rattle.lapdm_frame.specs.{Layout.n201, declared.Channel.{TheVariants.{Sacch, Sdcch}, Channel}}
-use Rattle.segmenting.specs.{Joiners.HoldsReassemblyOf, Joining.{delivered_by_segment, ended_messages, latest_message_after}}
-use Rattle.segmenting.specs.Joining.{latest_message, message_count, message_if_fits, message_if_whole, messages, partial_message_after}
-use Rattle.segmenting.specs.{Joining.{partial_message, reassembly_result}, Segments.{AreFullExceptLast, AreSegments, IsFullSegment}}
-use Rattle.segmenting.specs.Segments.{IsValidMessage, Message, Segment, cut_segments, max_message_octets, max_segments_per_message}
-use Rattle.segmenting.specs.{Segments.{reassembled_octets, segments}, declared.joiner.Joined.TheVariants.{More, Oversize, Whole}}
-use Rattle.segmenting.specs.declared.joiner.{Joiner.Joiner, Part.Part}
-use Rattle.std.proofs.Common.{All, Bool, List, None, Some, [], ap, arith, cond, drop, false, inl, inr, length, map, min, nat_lt, not, refl}
-use Rattle.std.proofs.Common.{replicate, slice_get, subst, suc, sym, take, true, unwrap_or, zero, ℕ, ◌%◌, ◌*◌, ◌++◌, ◌+◌}
-use Rattle.std.proofs.{Common.{◌-◌, ◌/◌, ◌<◌, ◌↔◌, ◌∙◌, ◌∷◌, ◌≡◌, ◌≤◌}, Math.Nat.eq-or-lt_of_le}
-use Rattle.std.proofs.Math.{Nat.{mul-le-mul_right, suc-mul}, Seq.{drop-append_seam, take-append-add, take-append_seam, take-length}}
-use Rattle.std.proofs.lemmas.{Bool.{Decides.nat_tests, cases_lt}, List.Elements.{All-head, All-tail, filter_map-append}}
-use Rattle.std.proofs.lemmas.List.{Recursion.is_count_by, Sums.sum_by-append, append-nil, append_assoc, drop-drop, length-append}
-use Rattle.std.proofs.lemmas.List.{length-drop, length-replicate, length-take-le, length-take, take-append-drop, take-map, take-take}
-use Rattle.std.{proofs.lemmas.Slice.take-put_mid, specs.List.{filter_map, flat_map}}
+use Rattle.{
+  lapdm_frame.specs.{Layout.n201, declared.Channel.Channel},
+  segmenting.specs.{
+    Joiners.HoldsReassemblyOf,
+    Joining.{delivered_by_segment, ended_messages, latest_message_after, latest_message, message_count, message_if_fits, message_if_whole},
+    Joining.{messages, partial_message_after, partial_message, reassembly_result},
+    Segments.{AreFullExceptLast, AreSegments, IsFullSegment, IsValidMessage, Message, Segment, cut_segments, max_message_octets},
+    Segments.{max_segments_per_message, reassembled_octets, segments},
+    declared.joiner.{Joined.TheVariants.{More, Oversize, Whole}, Joiner.Joiner, ReassemblyState.ReassemblyState},
+  },
+  std.{
+    proofs.{
+      Common.{All, Bool, List, None, Some, [], ap, arith, cond, drop, false, inl, inr, length, map, min, nat_lt, not, refl, replicate},
+      Common.{slice_get, subst, suc, sym, take, true, unwrap_or, zero, ℕ, ◌%◌, ◌*◌, ◌++◌, ◌+◌, ◌-◌, ◌/◌, ◌<◌},
+      Common.{◌↔◌, ◌∙◌, ◌∷◌, ◌≡◌, ◌≤◌},
+      Math.{Nat.{eq-or-lt_of_le, mul-le-mul_right, suc-mul}, Seq.{drop-append_seam, take-append-add, take-append_seam, take-length}},
+      lemmas.{Bool.{Decides.nat_tests, cases_lt}, List.{Elements.{All-head, All-tail, filter_map-append}, Recursion.is_count_by}},
+      lemmas.List.{Sums.sum_by-append, append-nil, append_assoc, drop-drop, length-append, length-drop, length-replicate, length-take-le},
+      lemmas.{List.{length-take, take-append-drop, take-map, take-take}, Slice.take-put_mid},
+    },
+    specs.List.{filter_map, flat_map},
+  },
+}
 use borrow.Rule.Slice.PartMut.{put_mid}
-use Rattle.segmenting.specs.declared.joiner.Part.TheVariants as P
+use Rattle.segmenting.specs.declared.joiner.ReassemblyState.TheVariants as P
 
 -- ## Joins: Reassembling the segments of messages gives these messages, and one more segment adds the message that it completes.
 
 pub within_some : (m : List ℕ) → length m ≤ max_message_octets → message_if_fits m ≡ Some m
-within_some m h = grind (arith, nat_tests)
+within_some m h = grind arith
 
 within_none : (m : List ℕ) → max_message_octets < length m → message_if_fits m ≡ None
-within_none m h = grind (arith, nat_tests)
+within_none m h = grind arith
 
 ended_messages-cut_segments : (n k : ℕ) (partial m : List ℕ) (ps : List Segment) →
     ended_messages partial (cut_segments n k m ++ ps) ≡ message_if_fits (partial ++ m) ∷ ended_messages [] ps
 ended_messages-cut_segments n zero partial m ps = refl
 ended_messages-cut_segments n (suc k) partial m ps =
-    ended_messages-cut_segments n k _ _ ps ∙ ap (λ whole. message_if_fits whole ∷ ended_messages [] ps)
-    (append_assoc partial _ _ ∙ ap (λ rest. partial ++ rest) (take-append-drop n m))
-
-pub messages_come_back : (n : ℕ) (ms : List Message) → All IsValidMessage ms → messages (flat_map (segments n) ms) ≡ ms
-messages_come_back n [] h = refl
-messages_come_back n (m ∷ ms) h =
-    let first = All-head IsValidMessage m ms h in
-    let rest = messages_come_back n ms (All-tail IsValidMessage m ms h) in
-    ap (filter_map (λ ending. ending)) (ended_messages-cut_segments n ((length m - 1) / n) [] m _ ∙ ap
-    (λ e. e ∷ ended_messages [] (flat_map (segments n) ms)) (within_some m first.at_most)) ∙ ap (λ others. m ∷ others) rest
+    rw (ended_messages-cut_segments n k (partial ++ take n m) (drop n m) ps, append_assoc, take-append-drop n m) refl
 
 -- how `partial_message_after`, `ended_messages` and `latest_message_after` change when one segment is appended
 partial_message_after-more : (partial : List ℕ) (ps : List Segment) (octets : List ℕ) →
@@ -57,16 +56,14 @@ pub ended_messages-more : (partial : List ℕ) (ps : List Segment) (octets : Lis
     ended_messages partial (ps ++ (octets, true) ∷ []) ≡ ended_messages partial ps
 ended_messages-more partial [] octets = refl
 ended_messages-more partial ((o, true) ∷ ps) octets = ended_messages-more _ ps _
-ended_messages-more partial ((o, false) ∷ ps) octets = ap (λ others. message_if_fits (partial ++ o) ∷ others)
-    (ended_messages-more [] ps _)
+ended_messages-more partial ((o, false) ∷ ps) octets = rw (ended_messages-more [] ps octets)
 
 pub ended_messages-last : (partial : List ℕ) (ps : List Segment) (octets : List ℕ) →
     ended_messages partial (ps ++ (octets, false) ∷ []) ≡ ended_messages partial ps ++ message_if_fits
     (partial_message_after partial ps ++ octets) ∷ []
 ended_messages-last partial [] octets = refl
 ended_messages-last partial ((o, true) ∷ ps) octets = ended_messages-last _ ps _
-ended_messages-last partial ((o, false) ∷ ps) octets = ap (λ others. message_if_fits (partial ++ o) ∷ others)
-    (ended_messages-last [] ps _)
+ended_messages-last partial ((o, false) ∷ ps) octets = rw (ended_messages-last [] ps octets)
 
 latest_message_after-more : (partial : List ℕ) (ps : List Segment) (octets : List ℕ) →
     latest_message_after partial (ps ++ (octets, true) ∷ []) ≡ []
@@ -83,15 +80,6 @@ latest_message_after-last partial ((o, true) ∷ ps) octets = latest_message_aft
 latest_message_after-last partial ((o, false) ∷ []) octets = refl
 latest_message_after-last partial ((o, false) ∷ p ∷ ps) octets = latest_message_after-last [] (p ∷ ps) _
 
--- the answer to a segment that makes the message too long, and to one that does not
-reassembly_result-over : (ps : List Segment) (p : Segment) → max_message_octets < length (partial_message ps ++ p.0) →
-    reassembly_result ps p ≡ Oversize
-reassembly_result-over ps p h = grind (arith, nat_tests)
-
-reassembly_result-fits : (ps : List Segment) (p : Segment) → length (partial_message ps ++ p.0) ≤ max_message_octets →
-    reassembly_result ps p ≡ cond p.1 More Whole
-reassembly_result-fits ps p h = grind (arith, nat_tests)
-
 nothing_yet : (ps : List Segment) (octets : List ℕ) → delivered_by_segment ps (octets, true) ≡ []
 nothing_yet ps octets = grind arith
 
@@ -100,37 +88,15 @@ at_the_last : (ps : List Segment) (octets : List ℕ) → delivered_by_segment p
 at_the_last ps octets = grind arith
 
 pub messages-push : (ps : List Segment) (p : Segment) → messages (ps ++ p ∷ []) ≡ messages ps ++ delivered_by_segment ps p
-messages-push ps (octets, true) =
-    ap (filter_map (λ ending. ending)) (ended_messages-more [] ps _) ∙ sym (append-nil _) ∙ ap
-    (λ ms. messages ps ++ ms) (sym (nothing_yet ps _))
-messages-push ps (octets, false) =
-    ap (filter_map (λ ending. ending)) (ended_messages-last [] ps _) ∙ filter_map-append
-    (λ ending. ending) (ended_messages [] ps) _ ∙ ap
-    (λ ms. messages ps ++ ms) (sym (at_the_last ps _))
+messages-push ps (octets, true) = rw (ended_messages-more [] ps octets, nothing_yet ps octets, append-nil (messages ps))
+messages-push ps (octets, false) = rw (ended_messages-last [] ps octets, filter_map-append, at_the_last ps octets)
 
 -- the message delivered is the one that `latest_message` gives
 pub delivered_is_latest : (ps : List Segment) (p : Segment) → delivered_by_segment ps p ≡ message_if_whole (reassembly_result ps p)
     (latest_message (ps ++ p ∷ []))
-delivered_is_latest ps (octets, true) =
-    let m = partial_message ps ++ octets in
-    elim (cases_lt max_message_octets (length m)) [
-      | inl over ↦ ap (λ j. message_if_whole j m) (reassembly_result-over ps (octets, true) over)
-          ∙ ap (λ j. message_if_whole j (latest_message (ps ++ (octets, true) ∷ []))) (sym (reassembly_result-over ps
-          (octets, true) over))
-      | inr fits ↦ ap (λ j. message_if_whole j m) (reassembly_result-fits ps (octets, true) fits)
-          ∙ ap (λ j. message_if_whole j (latest_message (ps ++ (octets, true) ∷ []))) (sym (reassembly_result-fits ps
-          (octets, true) fits))
-    ]
+delivered_is_latest ps (octets, true) = grind arith
 delivered_is_latest ps (octets, false) =
-    let m = partial_message ps ++ octets in
-    elim (cases_lt max_message_octets (length m)) [
-      | inl over ↦ ap (λ j. message_if_whole j m) (reassembly_result-over ps (octets, false) over)
-          ∙ ap (λ j. message_if_whole j (latest_message (ps ++ (octets, false) ∷ []))) (sym (reassembly_result-over ps
-          (octets, false) over))
-      | inr fits ↦
-          let whole = latest_message_after-last [] ps octets ∙ ap (λ o. unwrap_or o []) (within_some m fits) in
-          ap (message_if_whole (reassembly_result ps (octets, false))) (sym whole)
-    ]
+    grind (arith, latest_message_after-last [] ps octets, within_some (partial_message ps ++ octets))
 
 -- ## Cutting: `segments` is the only correct segmentation of a message, and each segment can be computed from its index. The proofs are by
 -- induction on the number of full segments.
@@ -144,7 +110,7 @@ fills : (n : ℕ) (m : Message) → 0 < n → IsValidMessage m → Fills n ((len
 fills n m some_room h = grind arith
 
 fills_rest : (n k : ℕ) (m : List ℕ) → Fills n (suc k) m → Fills n k (drop n m)
-fills_rest n k m h = grind (arith, suc-mul k n, length-drop n m)
+fills_rest n k m h = grind (arith, length-drop n m)
 
 AreFullExceptLast-cons : (n : ℕ) (p : Segment) (ps : List Segment) → IsFullSegment n p → AreFullExceptLast n ps →
     AreFullExceptLast n (p ∷ ps)
@@ -158,15 +124,13 @@ AreFullExceptLast-cut_segments n (suc k) m h =
 
 reassembled_octets-cut_segments : (n k : ℕ) (m : List ℕ) → reassembled_octets (cut_segments n k m) ≡ m
 reassembled_octets-cut_segments n zero m = append-nil m
-reassembled_octets-cut_segments n (suc k) m = ap (λ rest. take n m ++ rest) (reassembled_octets-cut_segments n k _)
-    ∙ take-append-drop n m
+reassembled_octets-cut_segments n (suc k) m = rw (reassembled_octets-cut_segments n k (drop n m), take-append-drop n m)
 
 pub are_segments : (n : ℕ) (m : Message) → 0 < n → IsValidMessage m → AreSegments n m (segments n m)
 are_segments n m some_room h =
     record {
       octets = reassembled_octets-cut_segments n _ m;
-      full_except_last =
-          AreFullExceptLast-cut_segments n _ m (fills n m some_room h);
+      full_except_last = AreFullExceptLast-cut_segments n _ m (fills n m some_room h);
     }
 
 -- if the octets of the segments ps are joined, `cut_segments` makes ps of them again: k full segments and the last one
@@ -180,7 +144,6 @@ one_more n k octets ps size h =
     let rest = reassembled_octets ps in
     let first = ap (λ i. take i (octets ++ rest)) (sym size) ∙ take-append_seam _ _ in
     let others = ap (λ i. drop i (octets ++ rest)) (sym size) ∙ drop-append_seam octets _ in
-    let tail = h.is_cut ∙ ap (cut_segments n k) (sym others) in
     record {
       is_cut = cc;
       fill = record {
@@ -200,14 +163,13 @@ counted n ((octets, more) ∷ q ∷ ps) h =
     )
 
 count_is : (n k : ℕ) (m : List ℕ) → 0 < n → Fills n k m → (length m - 1) / n ≡ k
-count_is n k m some_room h = grind arith
+count_is n k m _ h = grind arith
 
 only_segments : (n : ℕ) (m : Message) (ps : List Segment) → 0 < n → AreSegments n m ps → ps ≡ segments n m
 only_segments n m ps some_room h =
     let c = counted n ps h.full_except_last in
-    let e = h.octets in
     let k = count_is n _ _ some_room c.1.fill in
-    c.1.is_cut ∙ ap (λ i. cut_segments n i (reassembled_octets ps)) (sym k) ∙ ap (segments n) e
+    c.1.is_cut ∙ ap (λ i. cut_segments n i (reassembled_octets ps)) (sym k) ∙ ap (segments n) (h.octets)
 
 pub one_cutting : (n : ℕ) (m : Message) (ps : List Segment) → 0 < n → IsValidMessage m →
     AreSegments n m ps ↔ (ps ≡ segments n m)
@@ -221,7 +183,7 @@ pub length-segments : (n : ℕ) (m : Message) → length (segments n m) ≡ (len
 length-segments n m = length-cut_segments n _ m
 
 drop-drop_next : (n i : ℕ) (m : List ℕ) → drop (i * n) (drop n m) ≡ drop (suc i * n) m
-drop-drop_next n i m = drop-drop _ n m ∙ ap (λ j. drop j m) (omega (arith, suc-mul i n))
+drop-drop_next n i m = drop-drop _ n m ∙ ap (λ j. drop j m) (omega arith)
 
 -- the segment with index i: full if i < k, otherwise the rest of the message
 slice_get-cut_full : (n k i : ℕ) (m : List ℕ) → i < k →
@@ -245,7 +207,7 @@ room_of channel = grind arith
 
 -- the segment with index i begins before the end of the message
 pub begins_within : (n i : ℕ) (m : Message) → 1 ≤ n → 1 ≤ length m → i < length (segments n m) → i * n < length m
-begins_within n i m room some_octets h = grind (arith, length-segments n m)
+begins_within n i m _ some_octets h = grind (arith, length-segments n m)
 
 -- the segment with index i has the octets of the message from position i * n on
 pub segment_is : (n i : ℕ) (m : Message) → 0 < n → IsValidMessage m → i < length (segments n m) →
@@ -253,15 +215,13 @@ pub segment_is : (n i : ℕ) (m : Message) → 0 < n → IsValidMessage m → i 
 segment_is n i m room h within =
     let k = (length m - 1) / n in
     let f = fills n m room h in
-    let at_most : i ≤ k = omega (arith, length-segments n m) in
-    elim (eq-or-lt_of_le at_most) [
+    elim (eq-or-lt_of_le (omega (arith, length-segments n m))) [
       | inr below ↦
           let more : n < length m - i * n = omega (arith, f.above, mul-le-mul_right n below, suc-mul i n) in
           slice_get-cut_full n k i m below ∙ ap (λ p. Some p) (grind (arith, nat_tests))
       | inl same ↦
-          let size = length-drop (i * n) m in
           let all = ap
-          (λ j. take j (drop (i * n) m)) (sym size) ∙ take-length _ in
+          (λ j. take j (drop (i * n) m)) (sym (length-drop (i * n) m)) ∙ take-length _ in
           let last = subst (λ j. length m - j * n ≤ n) (sym same) (omega (arith, f.below)) in
           ap (λ j. slice_get (cut_segments n k m) j) same ∙ slice_get-cut_last n k m
           ∙ ap (λ j. Some (drop (j * n) m, false)) (sym same) ∙ ap
@@ -272,22 +232,18 @@ segment_is n i m room h within =
 pub begins_at : (channel : Channel) (r i : ℕ) (m : Message) → r ≡ n201 channel → 1 ≤ length m →
     i < length (segments (n201 channel) m) → i * r < length m
 begins_at channel r i m same some_octets h =
-    subst (λ n. i * n < length m) (sym same) (begins_within _ i m (room_of _).positive some_octets h)
+    rw same (begins_within _ i m (room_of _).positive some_octets h)
 
 pub segment_at : (channel : Channel) (r i l : ℕ) (m : Message) → r ≡ n201 channel → l ≡ min (length m - i * r) r →
     IsValidMessage m → i < length (segments (n201 channel) m) → slice_get (segments (n201 channel) m) i
     ≡ Some (take (i * r + l - i * r) (drop (i * r) m), nat_lt r (length m - i * r))
 segment_at channel r i l m same size h within =
-    let e : min (length m - i * r) r ≡ i * r + l - i * r = omega arith in
-    subst (λ n. slice_get (segments (n201 channel) m) i ≡ Some
-    (take (min (length m - i * n) n) (drop (i * n) m), nat_lt n (length m - i * n))) (sym same)
-    (segment_is _ i m (room_of _).positive h within) ∙ ap
-    (λ j. Some (take j (drop (i * r) m), nat_lt r (length m - i * r))) e
+    let octets : i * r + l - i * r ≡ min (length m - i * r) r = omega arith in
+    rw (octets, same) (segment_is _ i m (room_of _).positive h within)
 
 pub few_segments : (channel : Channel) (r l : ℕ) → r ≡ n201 channel → l ≤ 251 →
     (l - 1) / r + 1 ≤ max_segments_per_message channel
-few_segments Sdcch r l same h = subst (λ n. (l - 1) / n + 1 ≤ 13) (sym same) (grind arith)
-few_segments Sacch r l same h = subst (λ n. (l - 1) / n + 1 ≤ 14) (sym same) (grind arith)
+few_segments _ r l same h = grind arith
 
 -- ## Fronts: The first segments of a list of messages complete the first messages of that list: `ended_messages` of a prefix is a prefix of
 -- `ended_messages`.
@@ -297,8 +253,18 @@ pub ended_messages-all : (n : ℕ) (ms : List Message) → All IsValidMessage ms
 ended_messages-all n [] h = refl
 ended_messages-all n (m ∷ ms) h =
     let first = All-head IsValidMessage m ms h in
-    ended_messages-cut_segments n ((length m - 1) / n) [] m _ ∙ ap (λ e. e ∷ ended_messages [] (flat_map (segments n) ms))
-    (within_some m first.at_most) ∙ ap (λ es. Some m ∷ es) (ended_messages-all n ms (All-tail IsValidMessage m ms h))
+    rw (
+      ended_messages-cut_segments n ((length m - 1) / n) [] m (flat_map (segments n) ms),
+      within_some m first.at_most,
+      ended_messages-all n ms (All-tail IsValidMessage m ms h),
+    )
+
+pub messages_of : (ms : List Message) → filter_map (λ ending. ending) (map (λ m. Some m) ms) ≡ ms
+messages_of [] = refl
+messages_of (m ∷ ms) = rw (messages_of ms)
+
+pub messages_come_back : (n : ℕ) (ms : List Message) → All IsValidMessage ms → messages (flat_map (segments n) ms) ≡ ms
+messages_come_back n ms h = rw (ended_messages-all n ms h) (messages_of ms)
 
 pub ended_messages-append : (partial : List ℕ) (ps qs : List Segment) → ended_messages partial (ps ++ qs) ≡ ended_messages partial ps
     ++ ended_messages (partial_message_after partial ps) qs
@@ -326,7 +292,7 @@ pub ended-ended_messages : (ps : List Segment) → message_count ps ≡ length (
 ended-ended_messages ps = ended-is ps ∙ ends_in-ended_messages [] ps
 
 pub ended-append : (ps qs : List Segment) → message_count (ps ++ qs) ≡ message_count ps + message_count qs
-ended-append ps qs = sum_by-append (λ p. cond (is_last p) 1 0) ps qs
+ended-append ps qs = sum_by-append _ ps qs
 
 pub ended-take : (a r : ℕ) (ps : List Segment) → a ≤ r → message_count (take a ps) ≤ message_count (take r ps)
 ended-take a r ps h =
@@ -339,12 +305,12 @@ ends_in-cut_segments n (suc k) m ps = ends_in-cut_segments n k _ ps
 
 none_yet : (n k r : ℕ) (m : List ℕ) (ps : List Segment) → r ≤ k → ends_in (take r (cut_segments n k m ++ ps)) ≡ 0
 none_yet n k zero m ps h = refl
-none_yet n zero (suc r) m ps h = absurd (omega (arith, h))
+none_yet n zero (suc r) m ps h = absurd (omega arith)
 none_yet n (suc k) (suc r) m ps h = none_yet n k r _ ps (omega (arith, h))
 
 ended-segments : (n : ℕ) (m : Message) (ps : List Segment) → message_count (segments n m ++ ps) ≡ 1 + message_count ps
-ended-segments n m ps = ended-is (segments n m ++ ps) ∙ ends_in-cut_segments n ((length m - 1) / n) m ps
-    ∙ ap (λ k. 1 + k) (sym (ended-is ps))
+ended-segments n m ps =
+    rw (ended-is (segments n m ++ ps), ended-is ps) (ends_in-cut_segments n ((length m - 1) / n) m ps)
 
 pub ended-all : (n : ℕ) (ms : List Message) → message_count (flat_map (segments n) ms) ≡ length ms
 ended-all n [] = refl
@@ -370,14 +336,13 @@ completed_by_length n r k m ms h =
           let front = ap (λ i. take i (ps ++ rest)) (sym at) ∙ take-append-add ps _ j in
           let more = ap message_count front
           ∙ ended-segments n m _ in (
-            (λ below. (let fewer : k ≤ message_count (take j rest) = omega (arith, below, more) in omega (
+            (λ below. (omega (
               arith,
-              (h j).0 fewer,
+              (h j).0 (omega (arith, below, more)),
               all,
               at,
             ))),
-            (λ below. (let fewer : length (flat_map (segments n) (take k ms)) ≤ j = omega (arith, below, all, at) in
-                omega (arith, (h j).1 fewer, more))),
+            (λ below. (omega (arith, (h j).1 (omega (arith, below, all, at)), more))),
           )
     ]
 
@@ -389,22 +354,17 @@ ended-whole n r (suc k) (m ∷ ms) h = completed_by_length n r k m ms (λ j. end
 
 -- the first segments complete the first messages, and none is oversize
 prefix_is_take : {T : Type 0} (xs ys zs : List T) → xs ++ ys ≡ zs → xs ≡ take (length xs) zs
-prefix_is_take xs ys zs h = sym (take-append_seam xs ys) ∙ ap (take (length xs)) h
+prefix_is_take xs ys zs h = sym (take-append_seam xs ys) ∙ ap (take _) h
 
 pub ended_messages-front : (n r : ℕ) (ms : List Message) → All IsValidMessage ms →
     ended_messages [] (take r (flat_map (segments n) ms)) ≡ map (λ m. Some m)
     (take (message_count (take r (flat_map (segments n) ms))) ms)
 ended_messages-front n r ms h =
-    let all = flat_map (segments n) ms in
-    let front = take r all in
+    let front = take r (flat_map (segments n) ms) in
     let whole = sym (ended_messages-append [] front _) ∙ ap (ended_messages []) (take-append-drop r _) ∙ ended_messages-all n ms h in
     prefix_is_take _ _ _ whole
     ∙ ap (λ k. take k (map (λ m. Some m) ms)) (sym (ended-ended_messages front))
     ∙ take-map (λ m. Some m) _ ms
-
-pub messages_of : (ms : List Message) → filter_map (λ ending. ending) (map (λ m. Some m) ms) ≡ ms
-messages_of [] = refl
-messages_of (m ∷ ms) = ap (λ rest. m ∷ rest) (messages_of ms)
 
 -- ## Taking: What a joiner represents after it takes one more segment, by cases on the M bit and the length.
 
@@ -416,40 +376,33 @@ too_long ps octets h = grind (arith, length-append (partial_message ps) octets)
 pub goes_on : (ps : List Segment) (octets held : List ℕ) → held ≡ partial_message ps ++ octets →
     length held ≤ max_message_octets → HoldsReassemblyOf P.Open held (ps ++ (octets, true) ∷ [])
 goes_on ps octets held e h =
-    record {
-      partial_octets = sym (within_some _ h) ∙ ap message_if_fits (e ∙ sym (partial_message_after-more [] ps _));
-      completed_message = sym (latest_message_after-more [] ps _);
-      empty_if_discarding = λ over. cc;
-    }
+    grind (arith, within_some held h, partial_message_after-more [] ps octets, latest_message_after-more [] ps octets)
 
 pub completes : (ps : List Segment) (octets held : List ℕ) → held ≡ partial_message ps ++ octets →
     length held ≤ max_message_octets → HoldsReassemblyOf P.Whole held (ps ++ (octets, false) ∷ [])
 completes ps octets held e h =
-    let whole = ap message_if_fits (sym e) ∙ within_some _ h in
-    record {
-      partial_octets = ap message_if_fits (sym (partial_message_after-last [] ps _));
-      completed_message = ap (λ o. unwrap_or o []) (sym whole) ∙ sym (latest_message_after-last [] ps _);
-      empty_if_discarding = λ over. cc;
-    }
+    grind (arith, within_some held h, partial_message_after-last [] ps octets, latest_message_after-last [] ps octets)
 
 -- with this segment, the message is too long
 pub taken_oversize : (ps : List Segment) (octets : List ℕ) → max_message_octets < length (partial_message ps ++ octets) →
     HoldsReassemblyOf P.Discarding [] (ps ++ (octets, true) ∷ [])
 taken_oversize ps octets h =
-    record {
-      partial_octets = sym (within_none _ h) ∙ ap message_if_fits (sym (partial_message_after-more [] ps _));
-      completed_message = sym (latest_message_after-more [] ps _);
-      empty_if_discarding = λ over. refl;
-    }
+    grind (
+      arith,
+      within_none (partial_message ps ++ octets) h,
+      partial_message_after-more [] ps octets,
+      latest_message_after-more [] ps octets,
+    )
 
 pub drops : (ps : List Segment) (octets : List ℕ) → max_message_octets < length (partial_message ps ++ octets) →
     HoldsReassemblyOf P.Open [] (ps ++ (octets, false) ∷ [])
 drops ps octets h =
-    record {
-      partial_octets = ap message_if_fits (sym (partial_message_after-last [] ps _));
-      completed_message = ap (λ o. unwrap_or o []) (sym (within_none _ h)) ∙ sym (latest_message_after-last [] ps _);
-      empty_if_discarding = λ over. cc;
-    }
+    grind (
+      arith,
+      within_none (partial_message ps ++ octets) h,
+      partial_message_after-last [] ps octets,
+      latest_message_after-last [] ps octets,
+    )
 
 -- `held` is the incomplete message with these octets appended, and is not too long
 pub record IsWritten (ps : List Segment) (octets held : List ℕ) : Type 0 where
@@ -467,16 +420,17 @@ written start octets ps buffer part size room same partial =
       fits = omega (arith, ap length e, length-append (take start buffer) part, length-take-le start buffer (omega arith));
     }
 
-pub HoldsReassemblyOf-same : (part part' : Part) (held : List ℕ) (ps : List Segment) (octets : List ℕ) (more more' : Bool) →
+pub HoldsReassemblyOf-same : (part part' : ReassemblyState) (held : List ℕ) (ps : List Segment) (octets : List ℕ) (more more' : Bool)
+    →
     part ≡ part' → more ≡ more' → HoldsReassemblyOf part held (ps ++ (octets, more) ∷ []) →
     HoldsReassemblyOf part' held (ps ++ (octets, more') ∷ [])
-HoldsReassemblyOf-same part part' held ps octets more more' e f h = grind arith
+HoldsReassemblyOf-same _ _ _ ps _ _ _ e f h = grind arith
 
 -- ## Histories: For every state of a joiner, some list of segments leads to it. The length of the list modulo 8 can be chosen: empty
 -- segments with M = 0, then one segment with the octets held.
 
 -- a list of segments that leads a joiner to hold these octets, and whose length modulo 8 is `number`
-pub record HasHistory (part : Part) (held : List ℕ) (number : ℕ) : Type 0 where
+pub record HasHistory (part : ReassemblyState) (held : List ℕ) (number : ℕ) : Type 0 where
   pub taken : List Segment
   pub count : length taken % 8 ≡ number
   pub reassembly : HoldsReassemblyOf part held taken
@@ -502,11 +456,10 @@ number_of r few = grind arith
 
 count_of_empty : (r : ℕ) (segment : Segment) → r ≤ 7 → length (empty_last_segments ((r + 7) % 8) ++ segment ∷ []) % 8 ≡ r
 count_of_empty r segment few =
-    let k = (r + 7) % 8 in
-    ap (λ n. n % 8) (length-append _ _ ∙ ap (λ n. n + 1) (length-empty_last_segments k))
+    ap (λ n. n % 8) (length-append _ _ ∙ ap (λ n. n + 1) (length-empty_last_segments ((r + 7) % 8)))
     ∙ number_of r few
 
-history_of : (part : Part) (held : List ℕ) (r : ℕ) → r ≤ 7 → length held ≤ max_message_octets →
+history_of : (part : ReassemblyState) (held : List ℕ) (r : ℕ) → r ≤ 7 → length held ≤ max_message_octets →
     (part ≡ P.Discarding → held ≡ []) → HasHistory part held r
 history_of P.Open held r few fits empty_if_discarding =
     let k = (r + 7) % 8 in
@@ -533,7 +486,7 @@ history_of P.Discarding held r few fits empty_if_discarding =
           (sym (empty_if_discarding refl)) over;
     }
 
-pub buffer_past : (part : Part) (count : ℕ) (octets : List ℕ) (r : ℕ) → count ≤ max_message_octets →
+pub buffer_past : (part : ReassemblyState) (count : ℕ) (octets : List ℕ) (r : ℕ) → count ≤ max_message_octets →
     (part ≡ P.Discarding → count ≡ 0) → r ≤ 7 → HasHistory part (take count octets) r
 buffer_past part count octets r fits empty_if_discarding few =
     history_of _ _ r few (omega (arith, length-take count octets))

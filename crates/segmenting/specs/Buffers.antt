@@ -7,5 +7,5 @@ abbrev pub octets_in : MessageBuffer → List ℕ
 octets_in m = take m.count m.octets
 
 -- a buffer that holds the given octets, followed by zeros
-abbrev pub message_buffer : List ℕ → MessageBuffer
+abbrev pub message_buffer : (octets : List ℕ) → MessageBuffer
 message_buffer octets = record { count = length octets; octets = octets ++ replicate (255 - length octets) 0 }

@@ -14,5 +14,5 @@ abbrev pub channel_of_pieces : Pieces → Channel
 channel_of_pieces p = p.channel
 
 -- the octets are a borrowed slice of the message that begins where the segment with a given index begins
-abbrev pub SegmentIsBorrowed : Pieces → ℕ → Bor (List ℕ) → Type 0
+abbrev pub SegmentIsBorrowed : (pieces : Pieces) (index : ℕ) (octets : Bor (List ℕ)) → Type 0
 SegmentIsBorrowed p i octets = (octets.ref_ptr.0 ≡ p.message.ref_ptr.0) × (octets.ref_ptr.1 ≡ p.message.ref_ptr.1 + i * n201 p.channel)

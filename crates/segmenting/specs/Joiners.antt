@@ -1,29 +1,29 @@
 -- What a Rust `Joiner` represents: the state of reassembly after some segments.
 use Rattle.std.specs.Prelude.{◌≡◌, ℕ, List, [], Option, Some, None, take}
-use Rattle.segmenting.specs.declared.joiner.Part.{Part}
-use Rattle.segmenting.specs.declared.joiner.Part.TheVariants.{Open, Whole, Discarding}
+use Rattle.segmenting.specs.declared.joiner.ReassemblyState.{ReassemblyState}
+use Rattle.segmenting.specs.declared.joiner.ReassemblyState.TheVariants.{Open, Whole, Discarding}
 use Rattle.segmenting.specs.declared.joiner.Joiner.{Joiner}
 use Rattle.segmenting.specs.Segments.{Message, Segment}
 use Rattle.segmenting.specs.Joining.{message_if_fits, partial_message, latest_message}
 
 -- the octets received so far of the message being reassembled, or `None` if there are more than 251
-abbrev pub partial_joiner_message : Part → List ℕ → Option (List ℕ)
+abbrev pub partial_joiner_message : (part : ReassemblyState) (octets : List ℕ) → Option (List ℕ)
 partial_joiner_message Open octets = Some octets
 partial_joiner_message Whole octets = Some []
 partial_joiner_message Discarding octets = None
 
 -- the message that the last segment completed, or no octets if it completed no message
-abbrev pub completed_joiner_message : Part → List ℕ → Message
+abbrev pub completed_joiner_message : (part : ReassemblyState) (octets : List ℕ) → Message
 completed_joiner_message Whole octets = octets
 completed_joiner_message other octets = []
 
 -- after the segments `taken`, a joiner holds the octets of the incomplete message (`part` is `Open`), the message that the last segment
 -- completed (`Whole`), or no octets while an oversize message is discarded (`Discarding`)
-pub record HoldsReassemblyOf (part : Part) (octets : List ℕ) (taken : List Segment) : Type 0 where
+pub record HoldsReassemblyOf (part : ReassemblyState) (octets : List ℕ) (taken : List Segment) : Type 0 where
   pub partial_octets : partial_joiner_message part octets ≡ message_if_fits (partial_message taken)
   pub completed_message : completed_joiner_message part octets ≡ latest_message taken
   pub empty_if_discarding : part ≡ Discarding → octets ≡ []
 
 -- the joiner is in the state that a new joiner reaches by taking the given segments
-abbrev pub HasTakenSegments : Joiner → List Segment → Type 0
+abbrev pub HasTakenSegments : (joiner : Joiner) (taken : List Segment) → Type 0
 HasTakenSegments j taken = HoldsReassemblyOf j.part (take j.len j.octets) taken

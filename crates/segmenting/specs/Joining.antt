@@ -8,37 +8,37 @@ use Rattle.segmenting.specs.declared.joiner.Joined.TheVariants.{More, Whole, Ove
 use Rattle.segmenting.specs.Segments.{Message, Segment, max_message_octets}
 
 -- the octets of a message, or `None` if there are more than 251
-abbrev pub message_if_fits : List ℕ → Option Message
+abbrev pub message_if_fits : (octets : List ℕ) → Option Message
 message_if_fits octets = if nat_lt max_message_octets (length octets) then None else Some octets
 
 -- the messages that end in the given segments, one for each segment with M = 0; `None` is an oversize message. The first message begins
 -- with the given octets, which earlier segments carried
-abbrev pub ended_messages : List ℕ → List Segment → List (Option Message)
+abbrev pub ended_messages : (partial : List ℕ) (taken : List Segment) → List (Option Message)
 ended_messages partial [] = []
 ended_messages partial ((octets, true) ∷ ps) = ended_messages (partial ++ octets) ps
 ended_messages partial ((octets, false) ∷ ps) = message_if_fits (partial ++ octets) ∷ ended_messages [] ps
 
 -- the messages that a list of segments completes, without oversize messages
-abbrev pub messages : List Segment → List Message
+abbrev pub messages : (taken : List Segment) → List Message
 messages ps = filter_map (λ ending. ending) (ended_messages [] ps)
 
 -- the number of messages that a list of segments completes, oversize ones included: the number of segments with M = 0
-abbrev pub message_count : List Segment → ℕ
+abbrev pub message_count : (taken : List Segment) → ℕ
 message_count ps = count_by (λ p. not p.1) ps
 
 -- the octets of the message that is still incomplete after a list of segments. The first message begins with the given octets, which
 -- earlier segments carried
-abbrev pub partial_message_after : List ℕ → List Segment → List ℕ
+abbrev pub partial_message_after : (partial : List ℕ) (taken : List Segment) → List ℕ
 partial_message_after partial [] = partial
 partial_message_after partial ((octets, true) ∷ ps) = partial_message_after (partial ++ octets) ps
 partial_message_after partial ((octets, false) ∷ ps) = partial_message_after [] ps
 
-abbrev pub partial_message : List Segment → List ℕ
+abbrev pub partial_message : (taken : List Segment) → List ℕ
 partial_message ps = partial_message_after [] ps
 
 -- the result of joining a segment to the given segments: `Oversize` if the message becomes too long, otherwise `More` if M = 1 and `Whole`
 -- if M = 0
-abbrev pub reassembly_result : List Segment → Segment → Joined
+abbrev pub reassembly_result : (taken : List Segment) (segment : Segment) → Joined
 reassembly_result ps p =
     if nat_lt max_message_octets (length (partial_message ps ++ p.0)) then Oversize else (if p.1 then More else Whole)
 
@@ -48,16 +48,16 @@ message_if_whole Whole m = m ∷ []
 message_if_whole other m = []
 
 -- the message, if any, that a segment completes when it follows the given segments
-abbrev pub delivered_by_segment : List Segment → Segment → List Message
+abbrev pub delivered_by_segment : (taken : List Segment) (segment : Segment) → List Message
 delivered_by_segment ps p = message_if_whole (reassembly_result ps p) (partial_message ps ++ p.0)
 
 -- the message that the last segment of a list completes, or no octets if it completes no message. The first message begins with the given
 -- octets, which earlier segments carried
-abbrev pub latest_message_after : List ℕ → List Segment → Message
+abbrev pub latest_message_after : (partial : List ℕ) (taken : List Segment) → Message
 latest_message_after partial [] = []
 latest_message_after partial ((octets, true) ∷ ps) = latest_message_after (partial ++ octets) ps
 latest_message_after partial ((octets, false) ∷ []) = unwrap_or (message_if_fits (partial ++ octets)) []
 latest_message_after partial ((octets, false) ∷ p ∷ ps) = latest_message_after [] (p ∷ ps)
 
-abbrev pub latest_message : List Segment → Message
+abbrev pub latest_message : (taken : List Segment) → Message
 latest_message ps = latest_message_after [] ps

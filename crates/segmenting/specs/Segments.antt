@@ -17,48 +17,48 @@ Segment = List ℕ × Bool
 abbrev pub max_message_octets : ℕ
 max_message_octets = 251
 
--- the message `m` has 1 to 251 octets
-pub record IsValidMessage (m : Message) : Type 0 where
-  pub nonempty : 1 ≤ length m
-  pub at_most : length m ≤ max_message_octets
+-- the message `message` has 1 to 251 octets
+pub record IsValidMessage (message : Message) : Type 0 where
+  pub nonempty : 1 ≤ length message
+  pub at_most : length message ≤ max_message_octets
 
--- the segment `p` has `n` octets, as many as an I frame can carry, and M = 1
-pub record IsFullSegment (n : ℕ) (p : Segment) : Type 0 where
-  pub size : length p.0 ≡ n
-  pub more : p.1 ≡ true
+-- the segment `segment` has `limit` octets, as many as an I frame can carry, and M = 1
+pub record IsFullSegment (limit : ℕ) (segment : Segment) : Type 0 where
+  pub size : length segment.0 ≡ limit
+  pub more : segment.1 ≡ true
 
--- the segment `p` has 1 to `n` octets, and M = 0
-pub record IsLastSegment (n : ℕ) (p : Segment) : Type 0 where
-  pub nonempty : 1 ≤ length p.0
-  pub at_most : length p.0 ≤ n
-  pub more : p.1 ≡ false
+-- the segment `segment` has 1 to `limit` octets, and M = 0
+pub record IsLastSegment (limit : ℕ) (segment : Segment) : Type 0 where
+  pub nonempty : 1 ≤ length segment.0
+  pub at_most : length segment.0 ≤ limit
+  pub more : segment.1 ≡ false
 
 -- every segment but the last has the given full length and M = 1; the last has at least one octet, at most the full length, and M = 0
-abbrev pub AreFullExceptLast : ℕ → List Segment → Type 0
+abbrev pub AreFullExceptLast : (size : ℕ) (taken : List Segment) → Type 0
 AreFullExceptLast n [] = ⊥
 AreFullExceptLast n (p ∷ []) = IsLastSegment n p
 AreFullExceptLast n (p ∷ q ∷ ps) = IsFullSegment n p × AreFullExceptLast n (q ∷ ps)
 
 -- the octets of the segments, one after another
-abbrev pub reassembled_octets : List Segment → List ℕ
+abbrev pub reassembled_octets : (pieces : List Segment) → List ℕ
 reassembled_octets ps = flat_map (λ p. p.0) ps
 
--- `ps` are the segments of the message `m` if each I frame carries at most `n` octets
-pub record AreSegments (n : ℕ) (m : Message) (ps : List Segment) : Type 0 where
-  pub octets : reassembled_octets ps ≡ m
-  pub full_except_last : AreFullExceptLast n ps
+-- `pieces` are the segments of the message `message` if each I frame carries at most `limit` octets
+pub record AreSegments (limit : ℕ) (message : Message) (pieces : List Segment) : Type 0 where
+  pub octets : reassembled_octets pieces ≡ message
+  pub full_except_last : AreFullExceptLast limit pieces
 
 -- a message cut into a given number of full segments, each of a given length, and a last segment with the rest
-abbrev pub cut_segments : ℕ → ℕ → Message → List Segment
+abbrev pub cut_segments : (size full_segments : ℕ) (message : Message) → List Segment
 cut_segments n zero m = (m, false) ∷ []
 cut_segments n (suc k) m = (take n m, true) ∷ cut_segments n k (drop n m)
 
 -- the segments of a message if each I frame carries at most a given number of octets
-abbrev pub segments : ℕ → Message → List Segment
+abbrev pub segments : (size : ℕ) (message : Message) → List Segment
 segments n m = cut_segments n ((length m - 1) / n) m
 
 -- the number of segments of a message if each I frame carries at most a given number of octets
-abbrev pub number_of_segments : ℕ → Message → ℕ
+abbrev pub number_of_segments : (size : ℕ) (message : Message) → ℕ
 number_of_segments n m = (length m - 1) / n + 1
 
 -- the number of segments of the longest message, 251 octets, on each channel

@@ -3,7 +3,7 @@
 ghost use Rattle.std.specs.Prelude.{◌≡◌, ◌≤◌, length};
 ghost use Rattle.lapdm_frame.specs.Layout.{largest_n201};
 ghost use Rattle.segmenting.specs.Segments.{max_message_octets};
-ghost use Rattle.segmenting.specs.declared.joiner.Part.TheVariants.{Discarding};
+ghost use Rattle.segmenting.specs.declared.joiner.ReassemblyState.TheVariants.{Discarding};
 
 use crate::LONGEST_MESSAGE;
 
@@ -22,7 +22,7 @@ pub enum Joined {
 
 /// The part of a message that a `Joiner` holds.
 #[derive(Clone, Copy, PartialEq, Eq, Debug)]
-pub enum Part {
+pub enum ReassemblyState {
     /// The first octets of an incomplete message.
     Open,
     /// A complete message, which has been delivered.
@@ -36,7 +36,7 @@ pub enum Part {
 pub struct Joiner {
     octets: [u8; LONGEST_MESSAGE],
     len: usize,
-    part: Part,
+    part: ReassemblyState,
     ghost in_range: { len ≤ max_message_octets },
     ghost empty_if_discarding: { part ≡ Discarding → len ≡ 0 },
 }
@@ -54,7 +54,7 @@ impl Joiner {
         Joiner {
             octets: [0; LONGEST_MESSAGE],
             len: 0,
-            part: Part::Open,
+            part: ReassemblyState::Open,
         }
     }
 
@@ -70,17 +70,21 @@ impl Joiner {
     {
         let Some(start) = self.write_position_for(piece) else {
             self.len = 0;
-            self.part = if more { Part::Discarding } else { Part::Open };
+            self.part = if more {
+                ReassemblyState::Discarding
+            } else {
+                ReassemblyState::Open
+            };
             return Joined::Oversize;
         };
         let end = start + piece.len();
         self.octets[start..end].copy_from_slice(piece);
         self.len = end;
         if more {
-            self.part = Part::Open;
+            self.part = ReassemblyState::Open;
             return Joined::More;
         }
-        self.part = Part::Whole;
+        self.part = ReassemblyState::Whole;
         Joined::Whole
     }
 
@@ -91,24 +95,24 @@ impl Joiner {
         ensures most { length result.now ≤ max_message_octets }
     {
         match self.part {
-            Part::Whole => &self.octets[..self.len],
-            Part::Open | Part::Discarding => &[],
+            ReassemblyState::Whole => &self.octets[..self.len],
+            ReassemblyState::Open | ReassemblyState::Discarding => &[],
         }
     }
 
     // Returns the write index for the octets of the segment, or `None` if they make the message too long.
-    fn write_position_for(&self, piece: &[u8]) -> Option<usize>
-        ensures space { IfSome result (λ start. start + length piece.now ≤ max_message_octets) }
+    fn write_position_for(&self, segment: &[u8]) -> Option<usize>
+        ensures space { IfSome result (λ start. start + length segment.now ≤ max_message_octets) }
         ensures place { (taken : List Segment) → HasTakenSegments self.now taken → MatchOption result
-            (max_message_octets < length (partial_message taken ++ piece.now))
+            (max_message_octets < length (partial_message taken ++ segment.now))
             (λ start. take start self.now.octets ≡ partial_message taken) }
     {
         let start = match self.part {
-            Part::Open => self.len,
-            Part::Whole => 0,
-            Part::Discarding => return None,
+            ReassemblyState::Open => self.len,
+            ReassemblyState::Whole => 0,
+            ReassemblyState::Discarding => return None,
         };
-        if piece.len() > LONGEST_MESSAGE - start {
+        if segment.len() > LONGEST_MESSAGE - start {
             return None;
         }
         Some(start)

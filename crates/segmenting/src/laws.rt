@@ -24,7 +24,7 @@ pub fn law_messages_are_reassembled()
 
 /// Law: one more segment adds the message that it completes, if any, to the reassembled messages. A `Joiner` holds this message after it
 /// has returned `Whole`.
-pub fn law_next_segment_delivers()
+pub fn law_segment_delivers_completed_message()
     ensures messages { (ps : List Segment) (p : Segment)
         → messages (ps ++ p ∷ []) ≡ messages ps ++ delivered_by_segment ps p }
     ensures delivered_is_latest { (ps : List Segment) (p : Segment)
@@ -33,7 +33,7 @@ pub fn law_next_segment_delivers()
 
 /// Law: the first `r` segments of a list of messages complete the first `c` messages, none of them oversize, where `c` is the number of
 /// segments with M = 0 among them. The first `k` messages are complete if and only if all their segments are among these `r` segments.
-pub fn law_segments_complete_in_order()
+pub fn law_segments_complete_messages_in_order()
     ensures front { (channel : Channel) (ms : List Message) (r : ℕ) → All IsValidMessage ms
         → let front = take r (flat_map (segments (n201 channel)) ms) in
         ended_messages [] front ≡ map (λ (m : Message). Some m) (take (message_count front) ms) }

@@ -8,11 +8,11 @@ mod laws;
 mod pieces;
 
 pub use buffers::MessageBuffer;
-pub use joiner::{Joined, Joiner, Part};
+pub use joiner::{Joined, Joiner, ReassemblyState};
 pub use lapdm_frame::{BLOCK_OCTETS, Channel};
 pub use laws::{
-    law_messages_are_reassembled, law_next_segment_delivers, law_segmentation_is_unique,
-    law_segments_complete_in_order,
+    law_messages_are_reassembled, law_segment_delivers_completed_message,
+    law_segmentation_is_unique, law_segments_complete_messages_in_order,
 };
 pub use pieces::{Piece, Pieces};
 

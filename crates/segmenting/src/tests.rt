@@ -3,7 +3,7 @@ use lapdm_frame::Channel;
 use std::process::Abort;
 
 // The octets 0, 1, 2 and so on up to 251.
-fn counted() -> [u8; 252] {
+fn counting_octets() -> [u8; 252] {
     let mut octets = [0u8; 252];
     for (i, octet) in octets.iter_mut().enumerate() {
         *octet = i as u8;
@@ -28,7 +28,7 @@ fn take(rt: &impl Abort, joiner: &mut Joiner, piece: &[u8], more: bool) -> Joine
 
 #[test]
 fn segments_example_messages(rt: HostRuntime) {
-    let octets = counted();
+    let octets = counting_octets();
     let two = segments_of(&rt, &octets[..40], Channel::Sdcch);
     assert_eq!(rt; two.count(), 2);
     assert_eq!(rt;
@@ -69,7 +69,7 @@ fn segments_example_messages(rt: HostRuntime) {
 
 #[test]
 fn reassembles_the_segments_of_a_message(rt: HostRuntime) {
-    let octets = counted();
+    let octets = counting_octets();
     let mut joiner = Joiner::new();
     for channel in [Channel::Sdcch, Channel::Sacch] {
         for size in [251, 1, 20, 18, 21] {

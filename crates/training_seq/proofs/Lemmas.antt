@@ -1,13 +1,21 @@
 -- Correlations with the training sequences, and the greatest of them.
-use Rattle.bit_blocks.specs.{Bits.{AllBits, IsBit}, SoftValues.{bit_metric, count_wrong_bits, likelihood}}
-use Rattle.std.proofs.Common.{Bool, FitsSigned, List, [], ap, ap₂, arith, drop, eqb, get_or, inl, inr, leb, length, map, negsuc, of_z}
-use Rattle.std.proofs.Common.{pos, refl, replicate, rules, subst, suc, sym, tests, to_z, w16, zero, ℕ, ℤ, ◌%◌, ◌*ℤ◌, ◌*◌}
-use Rattle.std.proofs.Common.{◌+ℤ◌, ◌+◌, ◌<ℤ◌, ◌<◌, ◌^◌, ◌∙◌, ◌∷◌, ◌≡◌, ◌≢◌, ◌≤ℤ◌}
-use Rattle.std.proofs.{Common.{◌≤◌, ◌⊎◌}, lemmas.{Bool.cases_eq, Int.{by_lt_z, int_wrap_fits, ints, to_z-of_z}}}
-use Rattle.std.proofs.lemmas.{Int.{wrapping_add-bits, wrapping_mul_is}, List.{Elements.{All-head, All-tail}, Sums.AllPass-from_list_all}}
-use Rattle.std.{proofs.lemmas.List.{drop_more, get_or-map}, specs.{Int.int_wrap, List.list_all}}
-use Rattle.training_seq.specs.{Choice.IsFirstMaximum, Ranges.IsMagnitudeWithin, Sequences.{midamble, training_sequences}, Sums.sign_of_bit}
-use Rattle.training_seq.specs.Sums.{signs_of_bits, vector_sum, wrong_bits_at}
+use Rattle.{
+  bit_blocks.specs.{Bits.{AllBits, IsBit}, SoftValues.{bit_metric, count_wrong_bits, likelihood}},
+  std.{
+    proofs.Common.{Bool, List, [], ap, ap₂, arith, drop, eqb, get_or, inl, inr, leb, length, map, negsuc, of_z, pos, refl, replicate},
+    proofs.Common.{rules, suc, sym, tests, to_z, w16, zero, ℕ, ℤ, ◌%◌, ◌*ℤ◌, ◌*◌, ◌+ℤ◌, ◌+◌, ◌<ℤ◌},
+    proofs.Common.{◌<◌, ◌^◌, ◌∙◌, ◌∷◌, ◌≡◌, ◌≢◌, ◌≤ℤ◌, ◌≤◌, ◌⊎◌},
+    proofs.lemmas.{Bool.cases_eq, Int.{by_lt_z, int_wrap_fits, ints, to_z-of_z, wrapping_add-bits, wrapping_mul_is}},
+    proofs.lemmas.List.{Elements.{All-head, All-tail}, Sums.AllPass-from_list_all, drop_more, get_or-map},
+    specs.{Int.int_wrap, List.list_all},
+  },
+  training_seq.specs.{
+    Choice.IsFirstMaximum,
+    Ranges.IsMagnitudeWithin,
+    Sequences.{midamble, training_sequences},
+    Sums.{sign_of_bit, signs_of_bits, vector_sum, wrong_bits_at},
+  },
+}
 use lib.Lanes.{zip2}
 
 -- ## SequenceTable: Properties of the eight training sequences, checked by computation.
@@ -29,9 +37,9 @@ AllBits-midamble tsc h k d lt =
     search (rules, tests)
 
 sign-small : (bit : ℕ) → bit ≤ 1 → IsMagnitudeWithin 1 (sign_of_bit bit)
-sign-small zero h = (omega (arith, ints), omega (arith, ints))
-sign-small (suc zero) h = (omega (arith, ints), omega (arith, ints))
-sign-small (suc (suc bit)) h = absurd (omega arith)
+sign-small zero h = omega (arith, ints)
+sign-small (suc zero) h = omega (arith, ints)
+sign-small bit h = absurd (omega arith)
 
 pub sign_at : (bits : List ℕ) (i : ℕ) → i < length bits → get_or (signs_of_bits bits) i (pos 0) ≡ sign_of_bit (get_or bits i 0)
 sign_at [] i h = absurd (omega (arith, h))
@@ -49,9 +57,7 @@ small_in_row tsc i h lt =
 
 pub small_sign : (tsc i : ℕ) → tsc ≤ 7 → i < 26 → IsMagnitudeWithin 1 (get_or (signs_of_bits (midamble tsc)) i (pos 0))
 small_sign tsc i h lt =
-    let bits = midamble tsc in
-    let there : i < length bits = omega (arith, lt, length-midamble tsc h) in
-    subst (IsMagnitudeWithin 1) (sym (sign_at bits i there)) (sign-small (get_or bits i 0) (AllBits-midamble tsc h i 0 there))
+    rw (sign_at (midamble tsc) i (omega (arith, lt, length-midamble tsc h))) (small_in_row tsc i h lt)
 
 -- The lanes of a vector of totals to which a multiple of eight signs is added.
 
@@ -67,26 +73,21 @@ with_product n totals value signs =
 
 pub product_within : (value sign : ℤ) → IsMagnitudeWithin 512 value → IsMagnitudeWithin 1 sign →
     IsMagnitudeWithin 512 (value *ℤ sign)
-product_within value (pos zero) v s = (omega (arith, ints), omega (arith, ints))
-product_within value (pos (suc zero)) v s = (omega (arith, ints), omega (arith, ints))
-product_within value (pos (suc (suc n))) v s = absurd (omega (arith, ints))
-product_within value (negsuc zero) v s = (omega (arith, ints), omega (arith, ints))
-product_within value (negsuc (suc n)) v s = absurd (omega (arith, ints))
-
-fits : (z : ℤ) → IsMagnitudeWithin 13312 z → FitsSigned w16 z
-fits (pos n) h = record { sfits = omega (arith, ints) }
-fits (negsuc n) h = record { sfits = omega (arith, ints) }
+product_within value (pos zero) v s = omega (arith, ints)
+product_within value (pos (suc zero)) v s = omega (arith, ints)
+product_within value (negsuc zero) v s = omega (arith, ints)
+product_within value sign v s = absurd (omega (arith, ints))
 
 one_lane : (total value sign : ℤ) → IsMagnitudeWithin 12800 total → IsMagnitudeWithin 512 value → IsMagnitudeWithin 1 sign
     → to_z w16 (plus (of_z w16 total) (times (of_z w16 value) (of_z w16 sign))) ≡ total +ℤ value *ℤ sign
 one_lane total value sign t v s =
     let p = product_within value sign v s in
     wrapping_add-bits w16 (of_z w16 total) (times (of_z w16 value) (of_z w16 sign)) (omega (arith, ints)) (omega arith)
-    ∙ ap₂ (λ a b. int_wrap w16 (a +ℤ b)) (to_z-of_z w16 total (fits total (omega (arith, ints), omega (arith, ints))))
-    (wrapping_mul_is w16 value sign (fits value (omega (arith, ints), omega (arith, ints)))
-    (fits sign (omega (arith, ints), omega (arith, ints)))
-    ∙ int_wrap_fits w16 (value *ℤ sign) (fits _ (omega (arith, ints), omega (arith, ints))))
-    ∙ int_wrap_fits w16 (total +ℤ value *ℤ sign) (fits _ (omega (arith, ints), omega (arith, ints)))
+    ∙ ap₂ (λ a b. int_wrap w16 (a +ℤ b)) (to_z-of_z w16 total (omega (arith, ints)))
+    (wrapping_mul_is w16 value sign (omega (arith, ints))
+    (omega (arith, ints))
+    ∙ int_wrap_fits w16 (value *ℤ sign) (omega (arith, ints)))
+    ∙ int_wrap_fits w16 (total +ℤ value *ℤ sign) (omega (arith, ints))
 
 pub length-with_product : (n : ℕ) (totals : List ℤ) (value : ℤ) (signs : List ℤ) → length totals ≡ n → length signs ≡ n
     → length (with_product n totals value signs) ≡ n
@@ -112,7 +113,7 @@ total_with_product totals value signs k e e' lt t v s =
 -- a total is unchanged when it is passed on
 pub passed : (n : ℕ) (totals : List ℤ) (k : ℕ) → length totals ≡ n → k < n → IsMagnitudeWithin 13312 (get_or totals k (pos 0))
     → get_or (map (to_z w16) (map (of_z w16) totals)) k (pos 0) ≡ get_or totals k (pos 0)
-passed (suc n) (total ∷ totals) zero e lt h = to_z-of_z w16 total (fits total h)
+passed (suc n) (total ∷ totals) zero e lt h = to_z-of_z w16 total (omega (arith, ints))
 passed (suc n) (total ∷ totals) (suc k) e lt h = passed n totals k (omega arith) (omega arith) h
 passed n totals k e lt h = absurd (omega arith)
 
@@ -138,36 +139,33 @@ wrong_more soft bits i hs hb = rw (drop_more soft i (pos 0), drop_more bits i 0)
 bit_metric-add : (x y : ℤ) (bit : ℕ) → bit ≤ 1 → bit_metric (x +ℤ y) bit ≡ bit_metric x bit +ℤ bit_metric y bit
 bit_metric-add x y zero h = omega (arith, ints)
 bit_metric-add x y (suc zero) h = omega (arith, ints)
-bit_metric-add x y (suc (suc bit)) h = absurd (omega arith)
+bit_metric-add x y bit h = absurd (omega arith)
 
 pub length-vector_sum : (xs ys : List ℤ) → length xs ≡ length ys → length (vector_sum xs ys) ≡ length xs
 length-vector_sum [] ys e = refl
 length-vector_sum (x ∷ xs) [] e = absurd (omega arith)
 length-vector_sum (x ∷ xs) (y ∷ ys) e =
-    let e' : length xs ≡ length ys = omega arith in
-    ap suc (length-vector_sum xs ys e')
+    ap suc (length-vector_sum xs ys (omega arith))
 
 pub get_or-vector_sum : (xs ys : List ℤ) (k : ℕ) → length xs ≡ length ys →
     get_or (vector_sum xs ys) k (pos 0) ≡ get_or xs k (pos 0) +ℤ get_or ys k (pos 0)
 get_or-vector_sum [] [] k e = refl
-get_or-vector_sum [] (y ∷ ys) k e = absurd (omega arith)
-get_or-vector_sum (x ∷ xs) [] k e = absurd (omega arith)
 get_or-vector_sum (x ∷ xs) (y ∷ ys) zero e = refl
-get_or-vector_sum (x ∷ xs) (y ∷ ys) (suc k) e =
-    let e' : length xs ≡ length ys = omega arith in
-    get_or-vector_sum xs ys k e'
+get_or-vector_sum (x ∷ xs) (y ∷ ys) (suc k) e = get_or-vector_sum xs ys k (omega arith)
+get_or-vector_sum xs ys k e = absurd (omega arith)
 
 pub correlation-vector_sum : (xs ys : List ℤ) (bits : List ℕ) → length xs ≡ length ys → AllBits bits →
     likelihood (vector_sum xs ys) bits ≡ likelihood xs bits +ℤ likelihood ys bits
 correlation-vector_sum [] [] bits e b = refl
-correlation-vector_sum [] (y ∷ ys) bits e b = absurd (omega arith)
-correlation-vector_sum (x ∷ xs) [] bits e b = absurd (omega arith)
 correlation-vector_sum (x ∷ xs) (y ∷ ys) [] e b = refl
 correlation-vector_sum (x ∷ xs) (y ∷ ys) (bit ∷ bits) e b =
-    let e' : length xs ≡ length ys = omega arith in
-    let here = bit_metric-add x y bit (All-head IsBit bit bits b) in
-    let rest = correlation-vector_sum xs ys bits e' (All-tail IsBit bit bits b) in
-    omega (arith, ints, here, rest)
+    omega (
+      arith,
+      ints,
+      bit_metric-add x y bit (All-head IsBit bit bits b),
+      correlation-vector_sum xs ys bits (omega arith) (All-tail IsBit bit bits b),
+    )
+correlation-vector_sum xs ys bits e b = absurd (omega arith)
 
 -- ## Greatest: A loop finds the greatest of several scores, and the first if several are equal.
 
@@ -191,16 +189,13 @@ LeadsBelow-overtaken score end best leads more = record {
 } where
   behind : (n : ℕ) → n < end → (n ≡ best) ⊎ (n ≢ best) → score n <ℤ score end
   behind n h (inl same) = rw same more
-  behind n h (inr other) = elim (leads.others n h other) [
-    | inl less ↦ omega (arith, ints)
-    | inr equal ↦ let e = equal.0 in omega (arith, ints)
-  ]
+  behind n h (inr other) = omega (arith, ints, leads.others n h other)
 
 -- the next index has no greater score
 pub LeadsBelow-kept : (score : ℕ → ℤ) (end best : ℕ) → LeadsBelow score end best → score end ≤ℤ score best →
     LeadsBelow score (end + 1) best
 LeadsBelow-kept score end best leads less = record {
-  in_range = let w = leads.in_range in omega arith;
+  in_range = omega (arith, leads.in_range);
   others = λ n h ne. behind n h ne (cases_eq n end);
 } where
   behind : (n : ℕ) → n < end + 1 → n ≢ best → (n ≡ end) ⊎ (n ≢ end) →
@@ -208,13 +203,12 @@ LeadsBelow-kept score end best leads less = record {
   behind n h ne (inl same) =
       rw same
       (by_lt_z (score end) (score best)
-      (λ under. inl under)
-      (λ over. let w = leads.in_range in inr (omega (arith, ints), omega arith)))
+      inl (λ over. inr (omega (arith, ints), omega (arith, leads.in_range))))
   behind n h ne (inr other) = leads.others n (omega arith) ne
 
 pub IsFirstMaximum-from_LeadsBelow : (score : ℕ → ℤ) (best : ℕ) → LeadsBelow score 8 best → IsFirstMaximum score 7 best
 IsFirstMaximum-from_LeadsBelow score best leads = record {
-  in_range = let w = leads.in_range in omega arith;
+  in_range = omega (arith, leads.in_range);
   others = λ n h ne. leads.others n (omega arith) ne;
 }
 
@@ -228,7 +222,7 @@ IsFirstMaximum-same score total last best same first = record {
       let there = same best first.in_range in
       elim (first.others n h ne) [
         | inl less ↦ inl (omega (arith, ints))
-        | inr equal ↦ let e = equal.0 in let later = equal.1 in inr (omega (arith, ints), later)
+        | inr equal ↦ inr (omega (arith, ints, equal.0), equal.1)
       ];
 }
 
@@ -237,9 +231,8 @@ leads score zero = (0, LeadsBelow-one score)
 leads score (suc n) =
     let before = leads score n in
     let longer : n + 1 + 1 ≡ suc n + 1 = omega arith in
-    by_lt_z (score before.0) (score (n + 1))
-    (λ more. (n + 1, subst (λ k. LeadsBelow score k (n + 1)) longer (LeadsBelow-overtaken score (n + 1) before.0 before.1 more)))
-    (λ less. (before.0, subst (λ k. LeadsBelow score k before.0) longer (LeadsBelow-kept score (n + 1) before.0 before.1 less)))
+    rw (← longer) (by_lt_z (score before.0) (score (n + 1)) (λ more. (n + 1, LeadsBelow-overtaken score (n + 1) before.0 before.1 more))
+    (λ less. (before.0, LeadsBelow-kept score (n + 1) before.0 before.1 less)))
 
 pub some_first_greatest : (score : ℕ → ℤ) → (best : ℕ) × IsFirstMaximum score 7 best
 some_first_greatest score =
@@ -249,16 +242,7 @@ some_first_greatest score =
 pub one_first_greatest : (score : ℕ → ℤ) (last m n : ℕ) → IsFirstMaximum score last m → IsFirstMaximum score last n → m ≡ n
 one_first_greatest score last m n h g = elim (cases_eq m n) [
   | inl same ↦ same
-  | inr other ↦ elim (h.others n g.in_range (λ e. other (sym e))) [
-    | inl less ↦ elim (g.others m h.in_range other) [
-      | inl more ↦ absurd (omega (arith, ints))
-      | inr level ↦ let e = level.0 in absurd (omega (arith, ints))
-    ]
-    | inr behind ↦ elim (g.others m h.in_range other) [
-      | inl more ↦ let e = behind.0 in absurd (omega (arith, ints))
-      | inr ahead ↦ let e = behind.1 in let e' = ahead.1 in absurd (omega arith)
-    ]
-  ]
+  | inr other ↦ absurd (omega (arith, ints, h.others n g.in_range (λ e. other (sym e)), g.others m h.in_range other))
 ]
 
 -- ## Widths: A sum of four soft bits fits in 16 bits.
@@ -267,28 +251,7 @@ one_first_greatest score last m n h g = elim (cases_eq m n) [
 abbrev pub kept : ℤ → ℤ
 kept z = to_z w16 (of_z w16 z)
 
-kept_is : (z : ℤ) → IsMagnitudeWithin 512 z → kept z ≡ z
-kept_is z h = omega (arith, ints)
-
-module _ (a b c d : ℤ) (ha : IsMagnitudeWithin 128 a) (hb : IsMagnitudeWithin 128 b) (hc : IsMagnitudeWithin 128 c)
-    (hd : IsMagnitudeWithin 128 d) where
-  three_kept : kept (kept (kept a +ℤ kept b) +ℤ kept c) ≡ (a +ℤ b) +ℤ c
-  three_kept =
-      let ka = kept_is a (omega (arith, ints), omega (arith, ints)) in
-      let kb = kept_is b (omega (arith, ints), omega (arith, ints)) in
-      let kc = kept_is c (omega (arith, ints), omega (arith, ints)) in
-      let kab = kept_is (a +ℤ b) (omega (arith, ints), omega (arith, ints)) in
-      let kabc = kept_is ((a +ℤ b) +ℤ c) (omega (arith, ints), omega (arith, ints)) in
-      cc
-
-  pub four_fit : FitsSigned w16 (kept (kept (kept a +ℤ kept b) +ℤ kept c) +ℤ kept d)
-  four_fit =
-      let kd = kept_is d (omega (arith, ints), omega (arith, ints)) in
-      rw (three_kept, kd) (omega (arith, ints))
-
-  pub four_kept : kept (kept (kept (kept a +ℤ kept b) +ℤ kept c) +ℤ kept d) ≡ ((a +ℤ b) +ℤ c) +ℤ d
-  four_kept =
-      let kd = kept_is d (omega (arith, ints), omega (arith, ints)) in
-      let all = kept_is (((a +ℤ b) +ℤ c) +ℤ d) (omega (arith, ints), omega (arith, ints)) in
-      let three = three_kept in
-      cc
+pub four_kept : (a b c d : ℤ) → IsMagnitudeWithin 128 a → IsMagnitudeWithin 128 b → IsMagnitudeWithin 128 c
+    → IsMagnitudeWithin 128 d →
+    kept (kept (kept (kept a +ℤ kept b) +ℤ kept c) +ℤ kept d) ≡ ((a +ℤ b) +ℤ c) +ℤ d
+four_kept a b c d ha hb hc hd = omega (arith, ints)

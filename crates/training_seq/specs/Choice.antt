@@ -9,17 +9,17 @@ pub record IsFirstMaximum (score : ℕ → ℤ) (last best : ℕ) : Type 0 where
   pub others : (n : ℕ) → n ≤ last → n ≢ best → (score n <ℤ score best) ⊎ ((score n ≡ score best) × (best < n))
 
 -- the sum of the correlations of four midambles, each of 26 soft bits, with a training sequence
-abbrev pub total_correlation : (a b c d : List ℤ) → ℕ → ℤ
+abbrev pub total_correlation : (first_midamble second_midamble third_midamble fourth_midamble : List ℤ) (tsc : ℕ) → ℤ
 total_correlation a b c d tsc =
     let bits = midamble tsc in
     ((likelihood a bits +ℤ likelihood b bits) +ℤ likelihood c bits) +ℤ likelihood d bits
 
 -- the training sequence code, 0 to 7, has the greatest total correlation with four midambles; on a tie, it is the lowest
-abbrev pub CorrelatesBest : (a b c d : List ℤ) → ℕ → Type 0
+abbrev pub CorrelatesBest : (first_midamble second_midamble third_midamble fourth_midamble : List ℤ) (tsc : ℕ) → Type 0
 CorrelatesBest a b c d tsc = IsFirstMaximum (total_correlation a b c d) 7 tsc
 
 -- the number of soft bits, of the 104 in four midambles, that disagree with a training sequence
-abbrev pub wrong_midamble_bits : (a b c d : List ℤ) → ℕ → ℕ
+abbrev pub wrong_midamble_bits : (first_midamble second_midamble third_midamble fourth_midamble : List ℤ) (tsc : ℕ) → ℕ
 wrong_midamble_bits a b c d tsc =
     let bits = midamble tsc in
     count_wrong_bits a bits + count_wrong_bits b bits + count_wrong_bits c bits + count_wrong_bits d bits

@@ -2,7 +2,7 @@
 use Rattle.std.specs.Prelude.{ℕ, ◌-◌, List, [], ◌∷◌, map, codes, slice_index_or}
 
 -- converts the character codes of the digits 0 and 1 to bits
-abbrev pub bits_of_digits : List ℕ → List ℕ
+abbrev pub bits_of_digits : (digits : List ℕ) → List ℕ
 bits_of_digits digits = map (λ digit. digit - 48) digits
 
 -- the 26 bits of the training sequences with codes 0 to 7
@@ -18,5 +18,5 @@ training_sequences =
     bits_of_digits (codes "11101111000100101110111100") ∷ []
 
 -- the training sequence with a given code, 0 to 7
-abbrev pub midamble : ℕ → List ℕ
+abbrev pub midamble : (tsc : ℕ) → List ℕ
 midamble tsc = slice_index_or training_sequences tsc []

@@ -107,11 +107,11 @@ fn count_wrong_bits_at(a: &[i8], b: &[i8], c: &[i8], d: &[i8], i: usize, sign: i
 
 // Returns 1 if the soft bit at index `i` disagrees with a training bit of this sign, else 0. Results and signs both have 16 bits, so a
 // vector holds eight of either.
-fn wrong_bits_at(values: &[i8], i: usize, sign: i16) -> u16
-    requires within { i < length values.now }
+fn wrong_bits_at(midamble: &[i8], bit_index: usize, sign: i16) -> u16
+    requires within { bit_index < length midamble.now }
     requires sign { IsMagnitudeWithin 1 sign }
-    ensures value { result ≡ wrong_bits_at values.now i sign }
+    ensures value { result ≡ wrong_bits_at midamble.now bit_index sign }
     ensures bit { result ≤ 1 }
 {
-    u16::from(times_sign(i16::from(values[i]), sign) <= 0)
+    u16::from(times_sign(i16::from(midamble[bit_index]), sign) <= 0)
 }

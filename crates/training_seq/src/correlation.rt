@@ -5,7 +5,7 @@ ghost use Rattle.training_seq.specs.Ranges.{IsMagnitudeWithin};
 ghost use Rattle.training_seq.specs.Sequences.{midamble};
 ghost use Rattle.training_seq.specs.Sums.{soft_bit_at};
 
-use crate::sequences::signs_at;
+use crate::sequences::all_tsc_signs_at;
 use std::simd::prelude::*;
 
 /// The correlation of 26 soft bits with a training sequence: the sum of the soft bits, each negated where the sequence has a 1.
@@ -36,25 +36,25 @@ pub(crate) fn correlate_sums(sums: &[i16; 26]) -> [i16; 8]
     ensures value { (tsc : ℕ) → tsc ≤ 7 → soft_bit_at result tsc ≡ likelihood sums.now (midamble tsc) }
     ensures within { (tsc : ℕ) → tsc ≤ 7 → IsMagnitudeWithin 13312 (soft_bit_at result tsc) }
 {
-    let mut totals = Totals {
+    let mut totals = CorrelationTotals {
         lanes: i16x8::splat(0),
     };
     for i in 0..26 {
-        totals = totals.add_product(sums[i], signs_at(i));
+        totals = totals.add_product(sums[i], all_tsc_signs_at(i));
     }
     totals.lanes.to_array()
 }
 
 /// The correlations with the eight training sequences so far.
 #[derive(Clone, Copy)]
-struct Totals {
+struct CorrelationTotals {
     lanes: i16x8,
 }
 
-impl Totals {
+impl CorrelationTotals {
     /// Adds to each total `value` times the sign at the same index.
     #[inline]
-    fn add_product(self, value: i16, signs: &[i16; 8]) -> Totals
+    fn add_product(self, value: i16, signs: &[i16; 8]) -> CorrelationTotals
         requires count { length self.lanes ≡ 8 }
         requires totals { (tsc : ℕ) → tsc ≤ 7 → IsMagnitudeWithin 12800 (soft_bit_at self.lanes tsc) }
         requires value { IsMagnitudeWithin 512 value }
@@ -63,7 +63,7 @@ impl Totals {
         ensures each { (tsc : ℕ) → tsc ≤ 7 →
             soft_bit_at result.lanes tsc ≡ soft_bit_at self.lanes tsc +ℤ value *ℤ soft_bit_at signs.now tsc }
     {
-        Totals {
+        CorrelationTotals {
             lanes: self.lanes + i16x8::splat(value) * i16x8::from_array(*signs),
         }
     }

@@ -26,7 +26,7 @@ mod tests {
         b"11101111000100101110111100",
     ];
 
-    fn received(digits: &[u8; 26]) -> [i8; 26] {
+    fn soft_bits_of_digits(digits: &[u8; 26]) -> [i8; 26] {
         let mut soft = [127; 26];
         for (i, digit) in digits.iter().enumerate() {
             if *digit == b'1' {
@@ -39,7 +39,7 @@ mod tests {
     #[test]
     fn finds_each_sequence_that_was_sent(rt: HostRuntime) {
         for tsc in 0..8 {
-            let part = received(SEQUENCE_DIGITS[tsc as usize]);
+            let part = soft_bits_of_digits(SEQUENCE_DIGITS[tsc as usize]);
             assert_eq!(rt; correlate(&part, tsc), 26 * 127, "code {tsc}");
             assert_eq!(rt; best(&part, &part, &part, &part), (tsc, 0), "code {tsc}");
         }
@@ -54,8 +54,8 @@ mod tests {
     // Sequences 5 and 2 differ in 8 bits, so 24 soft bits of three bursts with sequence 2 disagree with sequence 5.
     #[test]
     fn one_strong_burst_outweighs_three_weak_ones(rt: HostRuntime) {
-        let strong = received(SEQUENCE_DIGITS[5]);
-        let weak = received(SEQUENCE_DIGITS[2]).map(|value| value / 127);
+        let strong = soft_bits_of_digits(SEQUENCE_DIGITS[5]);
+        let weak = soft_bits_of_digits(SEQUENCE_DIGITS[2]).map(|value| value / 127);
         assert_eq!(rt; best(&strong, &weak, &weak, &weak), (5, 24));
     }
 }

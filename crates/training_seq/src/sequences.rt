@@ -111,9 +111,9 @@ pub(crate) fn signs(tsc: u8) -> &'static [i16; 26]
 }
 
 /// The signs of the eight training sequences at index `i`.
-pub(crate) fn signs_at(i: usize) -> &'static [i16; 8]
-    requires { i < 26 }
-    ensures { result.now ≡ map (λ bits. sign_of_bit (slice_index bits i)) training_sequences }
+pub(crate) fn all_tsc_signs_at(bit_index: usize) -> &'static [i16; 8]
+    requires { bit_index < 26 }
+    ensures { result.now ≡ map (λ bits. sign_of_bit (slice_index bits bit_index)) training_sequences }
 {
-    &SIGNS_BY_INDEX[i]
+    &SIGNS_BY_INDEX[bit_index]
 }

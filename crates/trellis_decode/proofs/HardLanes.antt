@@ -1,54 +1,30 @@
 -- What the SIMD operations on sixteen 8-bit lanes do in each lane. The operations themselves are defined on unsigned lanes.
-use Rattle.std.proofs.Common.{◌≡◌, ℕ, zero, suc, ◌+◌, ◌-◌, ◌*◌, ◌/◌, ◌%◌, ◌^◌, ◌<◌, ◌≤◌, Bool}
-use Rattle.std.proofs.Common.{true, false, if◌then◌else◌, ℤ, pos, negsuc, ◌+ℤ◌, ◌-ℤ◌, ◌≤ℤ◌, List, [], ◌∷◌}
-use Rattle.std.proofs.Common.{◌++◌, map, length, get_or, replicate, refl, ap, ap₂, sym, ◌∙◌, arith, int_lt, w8, FitsSigned}
-use Rattle.std.proofs.lemmas.{Int.{ints, to_z-of_z, wrapping_add_is, wrapping_sub_is, int_wrap_fits}, List.{length-map, get_or-map}}
-use Rattle.std.proofs.lemmas.{List.get_or_append_left, Simd.{SwzOk, SwzOk-from_below, Each1-from_get_or, swz_l, get_or-swz_l_below}}
-use Rattle.std.{proofs.lemmas.Simd.length-swz_l, specs.Int.{cast_signed, cast_unsigned}}
-use lib.Lanes.{zip2, sel_l, mask_l, top}
-use Rattle.trellis_decode.specs.{Lanes.lane, Hard.{AreInt8, AreMinusOneToOne, HaveHeadroom8, lane_of_next_state_1, sign_bit_of}}
-use Rattle.trellis_decode.{specs.Hard.lane_of_next_state_0, proofs.{AcsSteps.same_below, AcsVectors.{if_either, if_map, sign_bit}}}
+use Rattle.{
+  std.{
+    proofs.{
+      Common.{◌≡◌, ℕ, ◌+◌, ◌-◌, ◌*◌, ◌/◌, ◌%◌, ◌<◌, Bool, false, if◌then◌else◌, ℤ, pos, ◌+ℤ◌},
+      Common.{◌-ℤ◌, List, [], ◌∷◌, ◌++◌, map, length, get_or, refl, ap, ap₂, sym, ◌∙◌, arith, int_lt, w8},
+      Common.FitsSigned,
+      lemmas.{Int.{ints, wrapping_add_is, wrapping_sub_is, int_wrap_fits}, List.{length-map, get_or-map, get_or_append_left}, Simd.SwzOk},
+      lemmas.Simd.{SwzOk-from_below, Each1-from_get_or, swz_l, get_or-swz_l_below, length-swz_l, length-sel_l, get_or-sel_l},
+    },
+    specs.Int.{cast_signed, cast_unsigned},
+  },
+  trellis_decode.{
+    specs.{Lanes.lane, Hard.{AreInt8, AreMinusOneToOne, HaveHeadroom8, lane_of_next_state_1, lane_of_next_state_0}},
+    proofs.{AcsSteps.same_below, AcsVectors.{FitEach, compared, if_either, if_map, lanewise-at, length-lanewise, tested}},
+  },
+}
+use lib.Lanes.{zip2, sel_l, top}
 
 abbrev bits : List ℤ → List ℕ
 bits = map (cast_unsigned w8)
-
-state_bits : (a : List ℤ) (k : ℕ) → k < length a → get_or (bits a) k 0 ≡ cast_unsigned w8 (lane a k)
-state_bits [] k lt = absurd (omega arith)
-state_bits (x ∷ a) zero lt = refl
-state_bits (x ∷ a) (suc k) lt = state_bits a k (omega arith)
 
 abbrev sum : ℕ → ℕ → ℕ
 sum x y = (x + y) % 256
 
 abbrev difference : ℕ → ℕ → ℕ
 difference x y = (x + (256 - y)) % 256
-
-zip-lane : (f : ℕ → ℕ → ℕ) (xs ys : List ℕ) (k : ℕ) → k < length xs → k < length ys →
-    lane (map (cast_signed w8) (zip2 f xs ys)) k ≡ cast_signed w8 (f (get_or xs k 0) (get_or ys k 0))
-zip-lane f (x ∷ xs) (y ∷ ys) zero lx ly = refl
-zip-lane f (x ∷ xs) (y ∷ ys) (suc k) lx ly =
-    let lx' : k < length xs = omega arith in
-    let ly' : k < length ys = omega arith in
-    zip-lane f xs ys k lx' ly'
-zip-lane f xs ys k lx ly = absurd (omega arith)
-
-length-zip : (f : ℕ → ℕ → ℕ) (xs ys : List ℕ) → length xs ≡ length ys →
-    length (map (cast_signed w8) (zip2 f xs ys)) ≡ length xs
-length-zip f [] ys e = refl
-length-zip f (x ∷ xs) [] e = absurd (omega arith)
-length-zip f (x ∷ xs) (y ∷ ys) e = let e' : length xs ≡ length ys = omega arith in ap suc (length-zip f xs ys e')
-
-fits_between : (x : ℤ) → negsuc 127 ≤ℤ x → x ≤ℤ pos 127 → FitsSigned w8 x
-fits_between (pos n) low high = record { sfits = omega (arith, ints) }
-fits_between (negsuc n) low high = record { sfits = omega (arith, ints) }
-
-AreInt8-headroom : (a : List ℤ) → HaveHeadroom8 a → (k : ℕ) → k < 16 → FitsSigned w8 (lane a k)
-AreInt8-headroom a h k lt = let low = h.lower_bound k lt in let high = h.upper_bound k lt in
-    fits_between _ (omega (arith, ints)) (omega (arith, ints))
-
-AreInt8-units : (a : List ℤ) → AreMinusOneToOne a → (k : ℕ) → k < 16 → FitsSigned w8 (lane a k)
-AreInt8-units a h k lt = let low = h.lower_bound k lt in let high = h.upper_bound k lt in
-    fits_between _ (omega (arith, ints)) (omega (arith, ints))
 
 -- ---- the candidate metrics of bit 0 and of bit 1
 
@@ -74,104 +50,63 @@ next_one-at : (xs : List ℕ) (k : ℕ) → k < 16 → get_or (next_one xs) k 0 
 next_one-at xs = same_below _ _ refl
 
 module _ (a branch_metrics : List ℤ) (ha : HaveHeadroom8 a) (he : AreMinusOneToOne branch_metrics) where
-  twice_at : (i : ℕ) → i < 16 → get_or (bits a ++ bits a) i 0 ≡ cast_unsigned w8 (lane a i)
-  twice_at i lt =
-      let within : i < length (bits a) = omega (arith, length-map a (cast_unsigned w8), ha.count) in
-      get_or_append_left _ _ 0 i within ∙ state_bits a i (omega (arith, ha.count))
+  abbrev twice : List ℕ
+  twice = bits a ++ bits a
 
-  branch_metric_at : (k : ℕ) → k < 16 → get_or (bits branch_metrics) k 0 ≡ cast_unsigned w8 (lane branch_metrics k)
-  branch_metric_at k lt = state_bits _ k (omega (arith, he.count))
+  -- the lanes of a in the order of their places, to which f adds the branch metrics or from which it subtracts them, as h does
+  candidates : (f : ℕ → ℕ → ℕ) (h : ℤ → ℤ → ℤ) (xs : List ℕ) (place : ℕ → ℕ) → length xs ≡ 16 →
+      ((k : ℕ) → k < 16 → get_or xs k 0 ≡ get_or twice (place k) 0) → ((k : ℕ) → k < 16 → place k < 16) →
+      ((x y : ℤ) → FitsSigned w8 x → FitsSigned w8 y → FitsSigned w8 (h x y) →
+      cast_signed w8 (f (cast_unsigned w8 x) (cast_unsigned w8 y)) ≡ h x y) →
+      ((i k : ℕ) → i < 16 → k < 16 → FitsSigned w8 (h (lane a i) (lane branch_metrics k))) →
+      ((k : ℕ) → k < 16 → lane (map (cast_signed w8) (zip2 f xs (bits branch_metrics))) k ≡ h (lane a (place k))
+      (lane branch_metrics k))
+      × AreInt8 (map (cast_signed w8) (zip2 f xs (bits branch_metrics)))
+  candidates f h xs place long at inside is fit =
+      let fits_a : FitEach w8 16 a = grind (arith, ints) in
+      let fits_e : FitEach w8 16 branch_metrics = grind (arith, ints) in
+      let count : length (bits branch_metrics) ≡ 16 = length-map _ _ ∙ he.count in
+      let each : (k : ℕ) → k < 16 → lane (map (cast_signed w8) (zip2 f xs (bits branch_metrics))) k ≡
+      h (lane a (place k)) (lane branch_metrics k) = λ k lt.
+      lanewise-at (λ _ xs ys. map (cast_signed w8) (zip2 f xs ys)) _ refl (λ n x y xs ys. refl) 16 xs (bits branch_metrics) long count k
+      lt
+      0 0 (pos 0)
+      ∙ ap₂ (λ x y. cast_signed w8 (f x y)) (at k lt ∙ twice_at _ (inside k lt)) (metric_at k lt)
+      ∙ is _ _ (fits_a _ (inside k lt)) (fits_e k lt) (fit _ k (inside k lt) lt) in (
+        each,
+        record {
+          count = length-lanewise (λ _ xs ys. map (cast_signed w8) (zip2 f xs ys)) _ refl (λ n x y xs ys. refl) 16 xs
+              (bits branch_metrics)
+              long count;
+          fits = λ k lt. rw (each k lt) (fit _ k (inside k lt) lt);
+        },
+      )
+    where
+      twice_at : (i : ℕ) → i < 16 → get_or twice i 0 ≡ cast_unsigned w8 (lane a i)
+      twice_at i lt =
+          get_or_append_left (bits a) (bits a) 0 i (omega (arith, length-map a (cast_unsigned w8), ha.count))
+          ∙ get_or-map (cast_unsigned w8) a i (pos 0) 0 (omega (arith, ha.count))
 
-  long : (k : ℕ) → k < 16 → k < length (bits branch_metrics)
-  long k lt = omega (arith, length-map branch_metrics (cast_unsigned w8), he.count)
+      metric_at : (k : ℕ) → k < 16 → get_or (bits branch_metrics) k 0 ≡ cast_unsigned w8 (lane branch_metrics k)
+      metric_at k lt = get_or-map (cast_unsigned w8) branch_metrics k (pos 0) 0 (omega (arith, he.count))
 
-  sum_fits : (i k : ℕ) → i < 16 → k < 16 → FitsSigned w8 (lane a i +ℤ lane branch_metrics k)
-  sum_fits i k li lk =
-      let low = ha.lower_bound i li in
-      let high = ha.upper_bound i li in
-      let low' = he.lower_bound k lk in
-      let high' = he.upper_bound k lk in
-      fits_between _ (omega (arith, ints)) (omega (arith, ints))
+  pub zeros_are : ((k : ℕ) → k < 16 → lane (map (cast_signed w8) (zip2 sum (next_zero twice) (bits branch_metrics))) k ≡
+      lane a (lane_of_next_state_0 k) +ℤ lane branch_metrics k)
+      × AreInt8 (map (cast_signed w8) (zip2 sum (next_zero twice) (bits branch_metrics)))
+  zeros_are =
+      candidates sum ◌+ℤ◌ (next_zero twice) lane_of_next_state_0 refl (next_zero-at _) (λ k lt. omega arith)
+      (λ x y hx hy h. wrapping_add_is w8 x y hx hy ∙ int_wrap_fits w8 _ h)
+      (λ i k li lk. omega (arith, ints, ha.lower_bound i, ha.upper_bound i, he.lower_bound k, he.upper_bound k))
 
-  difference_fits : (i k : ℕ) → i < 16 → k < 16 → FitsSigned w8 (lane a i -ℤ lane branch_metrics k)
-  difference_fits i k li lk =
-      let low = ha.lower_bound i li in
-      let high = ha.upper_bound i li in
-      let low' = he.lower_bound k lk in
-      let high' = he.upper_bound k lk in
-      fits_between _ (omega (arith, ints)) (omega (arith, ints))
+  pub ones_are : ((k : ℕ) → k < 16 → lane (map (cast_signed w8) (zip2 difference (next_one twice) (bits branch_metrics))) k ≡
+      lane a (lane_of_next_state_1 k) -ℤ lane branch_metrics k)
+      × AreInt8 (map (cast_signed w8) (zip2 difference (next_one twice) (bits branch_metrics)))
+  ones_are =
+      candidates difference ◌-ℤ◌ (next_one twice) lane_of_next_state_1 refl (next_one-at _) (λ k lt. omega arith)
+      (λ x y hx hy h. wrapping_sub_is w8 x y hx hy ∙ int_wrap_fits w8 _ h)
+      (λ i k li lk. omega (arith, ints, ha.lower_bound i, ha.upper_bound i, he.lower_bound k, he.upper_bound k))
 
-  abbrev pub zeros : List ℤ
-  zeros = map (cast_signed w8) (zip2 sum (next_zero (bits a ++ bits a)) (bits branch_metrics))
-
-  abbrev pub ones : List ℤ
-  ones = map (cast_signed w8) (zip2 difference (next_one (bits a ++ bits a)) (bits branch_metrics))
-
-  pub lane-zeros : (k : ℕ) → k < 16 → lane zeros k ≡ lane a (lane_of_next_state_0 k) +ℤ lane branch_metrics k
-  lane-zeros k lt =
-      let inside : lane_of_next_state_0 k < 16 = omega arith in
-      zip-lane sum (next_zero (bits a ++ bits a)) (bits _) k lt (long k lt)
-      ∙ ap₂ (λ x y. cast_signed w8 (sum x y)) (next_zero-at _ k lt ∙ twice_at _ inside) (branch_metric_at k lt)
-      ∙ wrapping_add_is w8 (lane a _) (lane _ k) (AreInt8-headroom a ha _ inside) (AreInt8-units _ he k lt)
-      ∙ int_wrap_fits w8 _ (sum_fits _ k inside lt)
-
-  pub lane-ones : (k : ℕ) → k < 16 → lane ones k ≡ lane a (lane_of_next_state_1 k) -ℤ lane branch_metrics k
-  lane-ones k lt =
-      let inside : lane_of_next_state_1 k < 16 = omega arith in
-      zip-lane difference (next_one (bits a ++ bits a)) _ k lt (long k lt)
-      ∙ ap₂ (λ x y. cast_signed w8 (difference x y)) (next_one-at _ k lt ∙ twice_at _ inside) (branch_metric_at k lt)
-      ∙ wrapping_sub_is _ _ _ (AreInt8-headroom a ha _ inside) (AreInt8-units _ he k lt)
-      ∙ int_wrap_fits _ _ (difference_fits _ k inside lt)
-
-  counted : 16 ≡ length (bits branch_metrics)
-  counted = omega (arith, length-map branch_metrics (cast_unsigned w8), he.count)
-
-  pub AreInt8-zeros : AreInt8 zeros
-  AreInt8-zeros = record {
-    count = length-zip sum (next_zero (bits a ++ bits a)) (bits _) counted;
-    fits = λ k lt. rw (lane-zeros k lt) (sum_fits _ k (omega arith) lt);
-  }
-
-  pub AreInt8-ones : AreInt8 ones
-  AreInt8-ones = record {
-    count = length-zip difference (next_one (bits a ++ bits a)) (bits _) counted;
-    fits = λ k lt. rw (lane-ones k lt) (difference_fits _ k (omega arith) lt);
-  }
-
--- ---- the greater candidate metric of each lane
-
--- the comparison "less than" of one lane: all bits one if it is true, else 0
-abbrev compared : ℕ → ℕ → ℕ
-compared x y = if int_lt (cast_signed w8 x) (cast_signed w8 y) then 255 else 0
-
-top-compared : (x y : ℕ) → top 7 (compared x y) ≡ int_lt (cast_signed w8 x) (cast_signed w8 y)
-top-compared x y = elim (int_lt (cast_signed w8 x) (cast_signed w8 y)) as (λ t. top 7 (if t then 255 else 0) ≡ t) [
-  | true ↦ refl
-  | false ↦ refl
-]
-
--- in each lane, a comparison selects the lane of one of two vectors
-chosen-at : (a b xs ys : List ℕ) (k : ℕ) → k < length a → k < length b → k < length xs → k < length ys →
-    get_or (sel_l (map (top 7) (zip2 compared a b)) xs ys) k 0
-    ≡ (if int_lt (cast_signed w8 (get_or a k 0)) (cast_signed w8 (get_or b k 0)) then get_or xs k 0 else get_or ys k 0)
-chosen-at (a ∷ rest) (b ∷ bs) (x ∷ xs) (y ∷ ys) zero la lb lx ly = ap (λ t. if t then x else y) (top-compared a b)
-chosen-at (a ∷ rest) (b ∷ bs) (x ∷ xs) (y ∷ ys) (suc k) la lb lx ly =
-    let la' : k < length rest = omega arith in
-    let lb' : k < length bs = omega arith in
-    let lx' : k < length xs = omega arith in
-    let ly' : k < length ys = omega arith in
-    chosen-at rest bs xs ys k la' lb' lx' ly'
-chosen-at a b xs ys k la lb lx ly = absurd (omega arith)
-
-length-chosen : (a b xs ys : List ℕ) → length b ≡ length a → length xs ≡ length a → length ys ≡ length a →
-    length (sel_l (map (top 7) (zip2 compared a b)) xs ys) ≡ length a
-length-chosen [] b xs ys eb ex ey = refl
-length-chosen (a ∷ rest) (b ∷ bs) (x ∷ xs) (y ∷ ys) eb ex ey =
-    let eb' : length bs ≡ length rest = omega arith in
-    let ex' : length xs ≡ length rest = omega arith in
-    let ey' : length ys ≡ length rest = omega arith in
-    ap suc (length-chosen rest bs xs ys eb' ex' ey')
-length-chosen a b xs ys eb ex ey = absurd (omega arith)
+-- ---- the survivor map of the greater candidate metrics
 
 -- for each lane, the lane of the next state after bit 0, and after bit 1
 abbrev zero_places : List ℕ
@@ -186,59 +121,31 @@ zero_places-at = same_below _ _ refl
 one_places-at : (k : ℕ) → k < 16 → get_or one_places k 0 ≡ lane_of_next_state_1 k
 one_places-at = same_below _ _ refl
 
-module _ (bit_0_candidates bit_1_candidates : List ℤ) (hz : AreInt8 bit_0_candidates) (ho : AreInt8 bit_1_candidates) where
+-- whether each candidate metric after bit 1 is the greater
+abbrev tests : ℕ → List ℤ → List ℤ → List Bool
+tests n zeros ones = map (top 7) (zip2 (compared w8) (bits zeros) (bits ones))
+
+module _ (zeros ones : List ℤ) (hz : AreInt8 zeros) (ho : AreInt8 ones) where
   abbrev less : ℕ → Bool
-  less k = int_lt (lane bit_0_candidates k) (lane bit_1_candidates k)
+  less k = int_lt (lane zeros k) (lane ones k)
 
   -- the lanes of xs where the candidate metric after bit 1 is the greater, else those of ys
   abbrev choice : List ℕ → List ℕ → List ℕ
-  choice = sel_l (map (top 7) (zip2 compared (bits bit_0_candidates) (bits bit_1_candidates)))
+  choice = sel_l (tests 16 zeros ones)
 
-  zero_back : (k : ℕ) → k < 16 → cast_signed w8 (get_or (bits bit_0_candidates) k 0) ≡ lane bit_0_candidates k
-  zero_back k lt = ap (cast_signed w8) (state_bits _ k (omega (arith, hz.count)))
-      ∙ to_z-of_z w8 _ (hz.fits k lt)
-
-  one_back : (k : ℕ) → k < 16 → cast_signed w8 (get_or (bits bit_1_candidates) k 0) ≡ lane bit_1_candidates k
-  one_back k lt = ap (cast_signed w8) (state_bits _ k (omega (arith, ho.count)))
-      ∙ to_z-of_z w8 _ (ho.fits k lt)
-
-  zero_long : length (bits bit_0_candidates) ≡ 16
-  zero_long = length-map _ _ ∙ hz.count
-
-  one_long : length (bits bit_1_candidates) ≡ 16
-  one_long = length-map _ _ ∙ ho.count
+  length-tests : length (tests 16 zeros ones) ≡ 16
+  length-tests = length-lanewise tests _ refl (λ n x y xs ys. refl) 16 zeros ones hz.count ho.count
 
   picked : (xs ys : List ℕ) → length xs ≡ 16 → length ys ≡ 16 → (k : ℕ) → k < 16 → get_or (choice xs ys) k 0
       ≡ (if less k then get_or xs k 0 else get_or ys k 0)
   picked xs ys ex ey k lt =
-      let ez = zero_long in
-      let eo = one_long in
-      chosen-at _ _ xs ys k (omega arith) (omega arith) (omega arith) (omega arith)
-      ∙ ap₂ (λ a b. if int_lt a b then get_or xs k 0 else get_or ys k 0) (zero_back k lt) (one_back k lt)
+      get_or-sel_l _ xs ys k 0 (omega (arith, length-tests)) (omega arith) (omega arith)
+      ∙ ap (λ t. if t then get_or xs k 0 else get_or ys k 0)
+      (lanewise-at tests _ refl (λ n x y xs ys. refl) 16 zeros ones hz.count ho.count k lt (pos 0) (pos 0) false
+      ∙ tested w8 _ _ (hz.fits k lt) (ho.fits k lt))
 
   length-picked : (xs ys : List ℕ) → length xs ≡ 16 → length ys ≡ 16 → length (choice xs ys) ≡ 16
-  length-picked xs ys ex ey =
-      length-chosen _ _ xs ys (one_long ∙ sym zero_long) (ex ∙ sym zero_long) (ey ∙ sym zero_long)
-      ∙ zero_long
-
-  abbrev lane_maxima : List ℤ
-  lane_maxima = map (cast_signed w8) (choice (bits bit_1_candidates) (bits bit_0_candidates))
-
-  count-lane_maxima : length lane_maxima ≡ 16
-  count-lane_maxima = length-map _ _ ∙ length-picked _ _ one_long zero_long
-
-  pub lane-lane_maxima : (k : ℕ) → k < 16 → lane lane_maxima k ≡
-      (if less k then lane bit_1_candidates k else lane bit_0_candidates k)
-  lane-lane_maxima k lt =
-      get_or-map _ _ k 0 (pos 0) (let n = length-picked _ _ one_long zero_long in omega arith)
-      ∙ ap (cast_signed w8) (picked _ _ one_long zero_long k lt)
-      ∙ if_map (cast_signed w8) (less k) (one_back k lt) (zero_back k lt)
-
-  pub AreInt8-lane_maxima : AreInt8 lane_maxima
-  AreInt8-lane_maxima = record {
-    count = count-lane_maxima;
-    fits = λ k lt. rw (lane-lane_maxima k lt) (if_either (FitsSigned w8) (less k) (ho.fits k lt) (hz.fits k lt));
-  }
+  length-picked xs ys ex ey = length-sel_l _ xs ys (length-tests ∙ sym ex) (length-tests ∙ sym ey) ∙ length-tests
 
   -- for each lane, the lane of the next state after the bit with the greater candidate metric
   abbrev next_places : List ℕ
@@ -285,13 +192,3 @@ module _ (bit_0_candidates bit_1_candidates : List ℤ) (hz : AreInt8 bit_0_cand
 
   pub length-selected : (xs : List ℕ) → length (selected xs) ≡ 16
   length-selected xs = length-picked _ _ refl refl
-
--- ---- the signs of eight soft bits
-
-abbrev signs_below : ℕ → List ℤ → List Bool
-signs_below n a = map (top 7) (zip2 compared (bits a) (replicate n 0))
-
-pub bit-signs : (a : List ℤ) → length a ≡ 8 → ((k : ℕ) → k < 8 → FitsSigned w8 (lane a k)) → (k : ℕ) → k < 8 →
-    mask_l (signs_below 8 a) % 18446744073709551616 / 2 ^ k % 2 ≡ sign_bit_of (lane a k)
-bit-signs a count fits k lt =
-    sign_bit w8 _ _ (λ x. top-compared x 0) a 8 k (omega arith) count lt (fits k lt)

@@ -1,36 +1,50 @@
 -- Survivors and decisions over many positions.
-use Rattle.conv_code.specs.bit_blocks.Bits.{AllBits, IsBit}
-use Rattle.std.proofs.Common.{List, [], append_assoc, ap, ap₂, arith, drop, get_or, inl, inr, length, lit≤, negsuc, pos, refl}
-use Rattle.std.proofs.Common.{replicate, subst, suc, sym, take, zero, ℕ, ℤ, ◌%◌, ◌*◌, ◌++◌, ◌+ℤ◌, ◌+◌, ◌-ℤ◌}
-use Rattle.std.proofs.Common.{◌-◌, ◌/◌, ◌<◌, ◌^◌, ◌∙◌, ◌∷◌, ◌≡◌, ◌≤ℤ◌, ◌≤◌}
-use Rattle.std.proofs.{Math.{ListN.set, Seq.drop-length}, lemmas.{Int.ints, List.Elements.{All-append, All-cons, All-drop, All-nil}}}
-use Rattle.std.proofs.lemmas.List.{Elements.{All-tail, All-take}, drop-drop, drop-set, length-append, length-drop, length-replicate}
-use Rattle.std.{proofs.lemmas.List.{length-take, take-append-drop}, specs.List.All}
-use Rattle.trellis_decode.proofs.{AcsSteps.{each, even_metric, floor_kept, odd_metric, same_below}, Viterbi.AllBits-encoding_from_state}
-use Rattle.trellis_decode.proofs.Viterbi.{IsNotLexicographicallyAfter-refl, IsSurvivor-bit, IsSurvivor-closing, IsSurvivor-more}
-use Rattle.trellis_decode.proofs.Viterbi.{IsSurvivor-same, candidate_reached, closing_rows, length-traceback, length-to_binary}
-use Rattle.trellis_decode.{proofs.Viterbi.{likelihood_bound, metric_from_state-cons, traceback-zeros}, specs.AcsLanes.DifferByAtMost4096}
-use Rattle.trellis_decode.specs.AcsLanes.{HaveHeadroom16, bit_reversed, lane_metric, lane_of_state, metrics_of_lanes}
-use Rattle.trellis_decode.specs.{Decisions.HasDecisionsAndMetrics, Lanes.{AreSignedOctets, IsSignedOctet, lane}}
-use Rattle.trellis_decode.specs.{SurvivorPaths.{AreMetricsWithin, AreSurvivors, state_after_bits, survivor_traceback}, Trellis.AreDecisions}
-use Rattle.trellis_decode.specs.Trellis.{EqualMetricButLater, HasTailBits, IsDecision, IsSurvivor, LessMetric, branch_metric}
-use Rattle.trellis_decode.specs.Trellis.{candidate_metric, first_coded_bit, metric_from_state, next, second_coded_bit, traceback}
-use Rattle.trellis_decode.specs.Words.{to_binary}
+use Rattle.{
+  std.{
+    proofs.{
+      lemmas.{Bool.cases_lt, Grind.get_or-set_at, List.{get_or-replicate, get_or-set_other, length-set, Elements.{All-append, All-cons}}},
+      lemmas.List.{Elements.{All-drop, All-nil, All-tail, All-take}, drop-drop, drop-set, length-append, length-drop, length-replicate},
+      lemmas.{List.{length-take, take-append-drop}, Int.ints},
+      Common.{List, [], append_assoc, ap, ap₂, arith, drop, get_or, inl, inr, length, lit≤, negsuc, pos, refl, replicate, subst, suc},
+      Common.{sym, take, zero, ℕ, ℤ, ◌%◌, ◌*◌, ◌++◌, ◌+ℤ◌, ◌+◌, ◌-ℤ◌, ◌-◌, ◌/◌, ◌<◌, ◌^◌},
+      Common.{◌∙◌, ◌∷◌, ◌≡◌, ◌≤ℤ◌, ◌≤◌},
+      Math.{ListN.set, Seq.drop-length},
+    },
+    specs.List.All,
+  },
+  conv_code.specs.bit_blocks.Bits.{AllBits, IsBit},
+  trellis_decode.{
+    proofs.{
+      AcsSteps.{each, even_metric, floor_kept, odd_metric, same_below},
+      Viterbi.{AllBits-encoding_from_state, IsNotLexicographicallyAfter-refl, IsSurvivor-bit, IsSurvivor-closing, IsSurvivor-more},
+      Viterbi.{IsSurvivor-same, candidate_reached, closing_rows, length-traceback, length-to_binary, likelihood_bound},
+      Viterbi.{metric_from_state-cons, traceback-zeros},
+    },
+    specs.{
+      AcsLanes.{DifferByAtMost4096, HaveHeadroom16, bit_reversed, lane_metric, lane_of_state, metrics_of_lanes},
+      Decisions.HasDecisionsAndMetrics,
+      Lanes.{AreSignedOctets, IsSignedOctet, lane},
+      SurvivorPaths.{AreMetricsWithin, AreSurvivors, HoldLanesFrom, state_after_bits, survivor_traceback},
+      Trellis.{AreDecisions, EqualMetricButLater, HasTailBits, IsDecision, IsSurvivor, LessMetric, branch_metric, candidate_metric},
+      Trellis.{first_coded_bit, metric_from_state, next_trellis_state, second_coded_bit, traceback},
+      Words.to_binary,
+    },
+  },
+}
 
 -- ## SurvivorPaths: The survivors over a few positions of the trellis, extended by one position at the front, and bounds of the path
 -- metrics.
 
 reached-inside : (s : ℕ) (u : List ℕ) → s < 16 → state_after_bits s u < 16
 reached-inside s [] lt = lt
-reached-inside s (x ∷ u) lt = reached-inside (next s x) u (let inside : next s x < 16 = omega arith in inside)
+reached-inside s (x ∷ u) lt = reached-inside (next_trellis_state s x) u (omega arith)
 
 -- the lists from all states have equal length
 same_lengths : {after values soft : List ℤ} {map : List ℕ} (walk : AreSurvivors after values map soft) (lists : ℕ →
     List ℕ) (n : ℕ) → ((s : ℕ) → s < 16 → length (lists s) ≡ n) → (s : ℕ) → s < 16 →
     2 * length (walk.bits s ++ lists (state_after_bits s (walk.bits s))) ≡ length soft + 2 * n
 same_lengths walk lists n same s lt =
-    let rest = same _ (reached-inside s (walk.bits s) lt) in
-    omega (arith, length-append (walk.bits s) (lists (state_after_bits s (walk.bits s))))
+    omega (arith, same _ (reached-inside s (walk.bits s) lt), length-append (walk.bits s) (lists (state_after_bits s (walk.bits s))))
 
 -- the survivor map over zero positions: each state leads to itself
 pub AreSurvivors-none : (values : List ℤ) →
@@ -44,18 +58,19 @@ AreSurvivors-none values = record {
 
 module _ (after middle values pair soft : List ℤ) (map map' : List ℕ) (bit : ℕ → ℕ) (two : length pair ≡ 2)
     (chosen : (s : ℕ) → s < 16 → IsDecision middle pair s (lane values s) (bit s))
-    (extend_survivor_map : (s : ℕ) → s < 16 → get_or map' (lane_of_state s) 0 ≡ get_or map (lane_of_state (next s (bit s))) 0) where
+    (extend_survivor_map : (s : ℕ) → s < 16
+    → get_or map' (lane_of_state s) 0 ≡ get_or map (lane_of_state (next_trellis_state s (bit s))) 0) where
   pub AreSurvivors-more : AreSurvivors after middle map soft → AreSurvivors after values map' (pair ++ soft)
   AreSurvivors-more walk = record {
     bits = bits;
     count = λ s lt. omega (arith, length-append pair soft);
-    maps_to_end_state = λ s lt. extend_survivor_map s lt ∙ walk.maps_to_end_state (next s (bit s)) (inside s);
+    maps_to_end_state = λ s lt. extend_survivor_map s lt ∙ walk.maps_to_end_state (next_trellis_state s (bit s)) (inside s);
     best = best;
   } where
     bits : ℕ → List ℕ
-    bits s = bit s ∷ walk.bits (next s (bit s))
+    bits s = bit s ∷ walk.bits (next_trellis_state s (bit s))
 
-    inside : (s : ℕ) → next s (bit s) < 16
+    inside : (s : ℕ) → next_trellis_state s (bit s) < 16
     inside s = omega arith
 
     best : (rest : List ℤ) (lists : ℕ → List ℕ) (n : ℕ) → 4 ≤ n → ((s : ℕ) → s < 16 → length (lists s) ≡ n) →
@@ -64,13 +79,11 @@ module _ (after middle values pair soft : List ℤ) (map map' : List ℕ) (bit :
     best rest lists n long same each s lt =
         let longer : ℕ → List ℕ = λ s. walk.bits s ++ lists (state_after_bits s (walk.bits s)) in
         let from = walk.best rest lists n long same each in
-        let zero_in : next s 0 < 16 = omega arith in
-        let one_in : next s 1 < 16 = omega arith in
-        let zero_long = same_lengths walk _ n same _ zero_in in
-        let one_long = same_lengths walk _ n same _ one_in in
+        let zero_long = same_lengths walk _ n same (next_trellis_state s 0) (omega arith) in
+        let one_long = same_lengths walk _ n same (next_trellis_state s 1) (omega arith) in
         rw append_assoc
         (IsSurvivor-bit middle pair (soft ++ rest) s (bit s) longer (lane values s) two (omega arith) (omega arith)
-        (from (next s 0) zero_in) (from (next s 1) one_in) (chosen s lt))
+        (from (next_trellis_state s 0) (omega arith)) (from (next_trellis_state s 1) (omega arith)) (chosen s lt))
 
 -- ---- bounds of the path metrics
 
@@ -79,54 +92,52 @@ branch_metric_bound : (pair : List ℤ) (s bit : ℕ) → length pair ≡ 2 → 
     (negsuc 255 ≤ℤ branch_metric s bit pair) × (branch_metric s bit pair ≤ℤ pos 256)
 unfolding branch_metric
 branch_metric_bound pair s bit two octets =
-    let first : first_coded_bit s bit ≤ 1 = omega arith in
-    let second : second_coded_bit s bit ≤ 1 = omega arith in
     let bits : AllBits (first_coded_bit s bit ∷ second_coded_bit s bit ∷ []) =
-    All-cons IsBit (first_coded_bit s bit) (second_coded_bit s bit ∷ []) first (All-cons _ _ [] second (All-nil IsBit)) in
-    let bound = likelihood_bound pair (first_coded_bit s bit ∷ second_coded_bit s bit ∷ []) octets bits in
-    (omega (arith, ints, bound.0), omega (arith, ints, bound.1))
+    All-cons IsBit (first_coded_bit s bit) (second_coded_bit s bit ∷ []) (omega arith) (All-cons _ _ [] (omega arith) (All-nil IsBit)) in
+    omega (arith, ints, likelihood_bound pair (first_coded_bit s bit ∷ second_coded_bit s bit ∷ []) octets bits)
 
 top_kept : (after pair : List ℤ) (s bit most : ℕ) (value : ℤ) → length pair ≡ 2 → AreSignedOctets pair →
-    lane after (next s 0) ≤ℤ pos most → lane after (next s 1) ≤ℤ pos most → IsDecision after pair s value bit →
+    lane after (next_trellis_state s 0) ≤ℤ pos most → lane after (next_trellis_state s 1) ≤ℤ pos most
+    → IsDecision after pair s value bit →
     value ≤ℤ pos (most + 256)
 unfolding candidate_metric
-top_kept after pair s bit most value two octets high0 high1 (inl zero_taken) =
-    let branch_metric_high = (branch_metric_bound _ s 0 two octets).1 in
-    omega (arith, ints)
-top_kept after pair s bit most value two octets high0 high1 (inr one_taken) =
-    let branch_metric_high = (branch_metric_bound _ s 1 two octets).1 in
-    omega (arith, ints)
+top_kept after pair s bit most value two octets high0 high1 h =
+    omega (arith, ints, branch_metric_bound _ s 0 two octets, branch_metric_bound _ s 1 two octets)
 
 pub AreMetricsWithin-more : (after values pair : List ℤ) (most : ℕ) (bit : ℕ → ℕ) → length pair ≡ 2 →
     AreSignedOctets pair → ((s : ℕ) → s < 16 → IsDecision after pair s (lane values s) (bit s)) → AreMetricsWithin most after →
     AreMetricsWithin (most + 256) values
-AreMetricsWithin-more after values pair most bit two octets chosen within = record { lower_bound = low; upper_bound = high } where
-  low : (s : ℕ) → s < 16 → negsuc 1023 ≤ℤ lane values s
-  low s lt =
-      let zero_in : next s 0 < 16 = omega arith in
-      let one_in : next s 1 < 16 = omega arith in
-      floor_kept _ _ s _ _ _ two lt (within.lower_bound _ zero_in) (within.lower_bound (next s 1) one_in) (chosen s lt)
-
-  high : (s : ℕ) → s < 16 → lane values s ≤ℤ pos (most + 256)
-  high s lt =
-      top_kept _ _ s _ _ _ two octets (within.upper_bound (next s 0) (omega arith)) (within.upper_bound (next s 1) (omega arith))
-      (chosen s lt)
+AreMetricsWithin-more after values pair most bit two octets chosen within = record {
+  lower_bound = λ s lt.
+      floor_kept _ _ s _ _ _ two lt (within.lower_bound (next_trellis_state s 0) (omega arith))
+      (within.lower_bound (next_trellis_state s 1) (omega arith))
+      (chosen s lt);
+  upper_bound = λ s lt.
+      top_kept _ _ s _ _ _ two octets (within.upper_bound (next_trellis_state s 0) (omega arith))
+      (within.upper_bound (next_trellis_state s 1) (omega arith))
+      (chosen s lt);
+}
 
 -- adding a branch metric to a bounded path metric stays within 16 bits
 module _ (even odd : List ℤ) (most : ℕ) (few : most ≤ 63000) (within : AreMetricsWithin most (metrics_of_lanes even odd)) where
   has_headroom : (lanes : List ℤ) (bit : ℕ) → length lanes ≡ 8 →
-      ((k : ℕ) → k < 8 → lane (metrics_of_lanes even odd) (next (bit_reversed k) bit) ≡ lane_metric (lane lanes k)) →
+      ((k : ℕ) → k < 8 → lane (metrics_of_lanes even odd) (next_trellis_state (bit_reversed k) bit) ≡ lane_metric (lane lanes k))
+      →
       HaveHeadroom16 lanes
   has_headroom lanes bit count path_metric = record {
     count = count;
-    lower_bound = λ k lt.
-        let is = path_metric k lt in
-        let low = within.lower_bound (next (bit_reversed k) bit) (omega arith) in
-        omega (arith, ints);
-    upper_bound = λ k lt.
-        let is = path_metric k lt in
-        let high = within.upper_bound (next (bit_reversed k) bit) (omega arith) in
-        omega (arith, ints);
+    lower_bound = λ k lt. omega (
+      arith,
+      ints,
+      path_metric k lt,
+      within.lower_bound (next_trellis_state (bit_reversed k) bit) (omega arith),
+    );
+    upper_bound = λ k lt. omega (
+      arith,
+      ints,
+      path_metric k lt,
+      within.upper_bound (next_trellis_state (bit_reversed k) bit) (omega arith),
+    );
   }
 
   pub HaveHeadroom16-even : length even ≡ 8 → HaveHeadroom16 even
@@ -140,23 +151,25 @@ best_bound : (s : ℕ) (u : List ℕ) (soft : List ℤ) (value : ℤ) → AreSig
     ((pos 0 -ℤ pos (128 * length soft)) ≤ℤ value) × (value ≤ℤ pos (128 * length soft))
 unfolding metric_from_state
 best_bound s u soft value octets best =
-    let bound = likelihood_bound _ _ octets (AllBits-encoding_from_state s u) in
-    (omega (arith, ints, bound.0), omega (arith, ints, bound.1))
+    omega (arith, ints, likelihood_bound soft _ octets (AllBits-encoding_from_state s u))
 
-pub AreMetricsWithin-best : (values soft : List ℤ) (lists : ℕ → List ℕ) → AreSignedOctets soft → length soft ≤ 8 →
-    ((s : ℕ) → s < 16 → IsSurvivor s (lists s) soft (lane values s)) → AreMetricsWithin 1024 values
-AreMetricsWithin-best values soft lists octets few best = record {
-  lower_bound = λ s lt. let bound = (best_bound s _ _ _ octets (best s lt)).0 in omega (arith, ints);
-  upper_bound = λ s lt. let bound = (best_bound s _ _ _ octets (best s lt)).1 in omega (arith, ints);
+-- bounds of the path metrics from position n on, where the soft bits are at most eight
+pub AreMetricsWithin-best : (n : ℕ) (values soft : List ℤ) (lists : ℕ → List ℕ) → AreSignedOctets soft
+    → length soft ≤ n + 8 →
+    ((s : ℕ) → s < 16 → IsSurvivor s (lists s) (drop n soft) (lane values s)) → AreMetricsWithin 1024 values
+AreMetricsWithin-best n values soft lists octets few best = record {
+  lower_bound = λ s lt. omega (arith, ints, length-drop n soft, best_bound s _ _ _ (All-drop IsSignedOctet n _ octets) (best s lt));
+  upper_bound = λ s lt. omega (arith, ints, length-drop n soft, best_bound s _ _ _ (All-drop IsSignedOctet n _ octets) (best s lt));
 }
 
-pub AreMetricsWithin-most : (values soft : List ℤ) (lists : ℕ → List ℕ) → AreSignedOctets soft → length soft ≤ 456 →
+pub AreMetricsWithin-most : (n : ℕ) (values soft : List ℤ) (lists : ℕ → List ℕ) → AreSignedOctets soft → length soft ≤ 456
+    →
     ((s : ℕ) → s < 16 → negsuc 1023 ≤ℤ lane values s) →
-    ((s : ℕ) → s < 16 → IsSurvivor s (lists s) soft (lane values s)) →
-    AreMetricsWithin 58368 values
-AreMetricsWithin-most values soft lists octets few low best = record {
+    ((s : ℕ) → s < 16 → IsSurvivor s (lists s) (drop n soft) (lane values s)) → AreMetricsWithin 58368 values
+AreMetricsWithin-most n values soft lists octets few low best = record {
   lower_bound = low;
-  upper_bound = λ s lt. let bound = (best_bound s _ _ _ octets (best s lt)).1 in omega (arith, ints);
+  upper_bound = λ s lt.
+      omega (arith, ints, length-drop n soft, best_bound s _ _ _ (All-drop IsSignedOctet n _ octets) (best s lt));
 }
 
 pub IsSurvivor-closed : (after values pair soft : List ℤ) (n : ℕ) → length pair ≡ 2 → n < 4 →
@@ -164,15 +177,11 @@ pub IsSurvivor-closed : (after values pair soft : List ℤ) (n : ℕ) → length
     ((s : ℕ) → s < 16 → lane values s ≡ candidate_metric after pair s 0) →
     (s : ℕ) → s < 16 → IsSurvivor s (replicate (suc n) 0) (pair ++ soft) (lane values s)
 IsSurvivor-closed after values pair soft n two few best candidates s lt =
-    let inside : next s 0 < 16 = omega arith in
-    let short : length (replicate {A = ℕ} n 0) < 4 = rw length-replicate (omega arith) in
-    rw (candidates s lt) (IsSurvivor-closing _ _ _ s _ two short (best _ inside))
+    rw (candidates s lt) (IsSurvivor-closing _ _ _ s _ two (omega (arith, length-replicate {A = ℕ} n 0))
+    (best (next_trellis_state s 0) (omega arith)))
 
 -- ## MapLists: The list that traceback reads out of survivor maps of four positions each, extended by one map at the front. A state
 -- consists of the four bits that led to it.
-
-place-inside : (s : ℕ) → s < 16 → lane_of_state s < 16
-place-inside s lt = omega arith
 
 -- `lane_of_state` is its own inverse
 place-back : (s : ℕ) → s < 16 → lane_of_state (lane_of_state s) ≡ s
@@ -183,8 +192,7 @@ length-survivor_traceback : (survivors : List (List ℕ)) (at : ℕ) →
 length-survivor_traceback [] at = refl
 length-survivor_traceback (map ∷ survivors) at =
     let to = get_or map at 0 % 16 in
-    let rest = length-survivor_traceback survivors to in
-    omega (arith, length-append (to_binary 4 (lane_of_state to)) (survivor_traceback survivors to), length-to_binary)
+    omega (arith, length-survivor_traceback survivors to, length-to_binary)
 
 -- the front of a list with tail bits is a list of bits
 HasTailBits-front : (u rest : List ℕ) → HasTailBits (u ++ rest) → AllBits u
@@ -195,9 +203,9 @@ HasTailBits-front (x ∷ u) rest ends = All-cons IsBit x u ends.0 (HasTailBits-f
 four_bits : (s a b c d : ℕ) → s < 16 → a ≤ 1 → b ≤ 1 → c ≤ 1 → d ≤ 1 →
     to_binary 4 (state_after_bits s (a ∷ b ∷ c ∷ d ∷ [])) ≡ a ∷ b ∷ c ∷ d ∷ []
 four_bits s a b c d lt ha hb hc hd =
-    let is : state_after_bits s (a ∷ b ∷ c ∷ d ∷ []) ≡ 8 * a + 4 * b + 2 * c + d = omega arith in
-    ap (to_binary 4) is ∙ ap₂ (λ x u. x ∷ u) (omega arith) (ap₂ (λ x u. x ∷ u) (omega arith)
-    (ap₂ (λ x u. x ∷ u) (omega arith) (ap (λ x. x ∷ []) (omega arith))))
+    let at = state_after_bits s (a ∷ b ∷ c ∷ d ∷ []) in
+    let is : (at / 8 % 2 ≡ a) × (at / 4 % 2 ≡ b) × (at / 2 % 2 ≡ c) × (at / 1 % 2 ≡ d) = omega arith in
+    cc
 
 list_of_four : (s : ℕ) (u : List ℕ) → s < 16 → length u ≡ 4 → AllBits u → to_binary 4 (state_after_bits s u) ≡ u
 list_of_four s (a ∷ b ∷ c ∷ d ∷ []) lt four bits =
@@ -208,26 +216,15 @@ list_of_four s u lt four bits = absurd (omega arith)
 pub list_of_few : (u : List ℕ) → length u < 4 → AllBits u → drop (4 - length u) (to_binary 4 (state_after_bits 0 u)) ≡ u
 list_of_few [] few bits = refl
 list_of_few (a ∷ []) few bits =
-    let ha : a ≤ 1 = bits 0 0 (omega arith) in
-    let last : (2 * 0 + a) % 16 / 1 % 2 ≡ a = omega arith in
-    ap (λ x. x ∷ []) last
+    ap (drop 3) (four_bits 0 0 0 0 a (omega arith) (omega arith) (omega arith) (omega arith) (bits 0 0 (omega arith)))
 list_of_few (a ∷ b ∷ []) few bits =
-    let ha : a ≤ 1 = bits 0 0 (omega arith) in
-    let hb : b ≤ 1 = bits 1 0 (omega arith) in
-    let is : state_after_bits 0 (a ∷ b ∷ []) ≡ 2 * a + b = omega arith in
-    ap (λ r. drop 2 (to_binary 4 r)) is ∙ ap₂ (λ x y. x ∷ y ∷ []) (omega arith) (omega arith)
+    ap (drop 2) (four_bits 0 0 0 a b (omega arith) (omega arith) (omega arith) (bits 0 0 (omega arith)) (bits 1 0 (omega arith)))
 list_of_few (a ∷ b ∷ c ∷ []) few bits =
-    let ha : a ≤ 1 = bits 0 0 (omega arith) in
-    let hb : b ≤ 1 = bits 1 0 (omega arith) in
-    let hc : c ≤ 1 = bits 2 0 (omega arith) in
-    let is : state_after_bits 0 (a ∷ b ∷ c ∷ []) ≡ 4 * a + 2 * b + c = omega arith in
-    let second : (4 * a + 2 * b + c) / 4 % 2 ≡ a = omega arith in
-    let third : (4 * a + 2 * b + c) / 2 % 2 ≡ b = omega arith in
-    let fourth : (4 * a + 2 * b + c) / 1 % 2 ≡ c = omega arith in
-    ap (λ r. drop 1 (to_binary 4 r)) is ∙ ap₂ (λ x u. x ∷ u) second (ap₂ (λ x y. x ∷ y ∷ []) third fourth)
-list_of_few (a ∷ b ∷ c ∷ d ∷ u) few bits = absurd (omega arith)
+    ap (drop 1)
+    (four_bits 0 0 a b c (omega arith) (omega arith) (bits 0 0 (omega arith)) (bits 1 0 (omega arith)) (bits 2 0 (omega arith)))
+list_of_few u few bits = absurd (omega arith)
 
-module _ (after values soft rest : List ℤ) (map : List ℕ) (survivors : List (List ℕ)) (walk : AreSurvivors after values map soft)
+module _ {after values soft rest : List ℤ} {map : List ℕ} (survivors : List (List ℕ)) (walk : AreSurvivors after values map soft)
     (some : 1 ≤ length survivors)
     (best : (s : ℕ) → s < 16 → IsSurvivor s (survivor_traceback survivors (lane_of_state s)) rest (lane after s)) where
   abbrev bits : ℕ → List ℕ
@@ -236,8 +233,7 @@ module _ (after values soft rest : List ℤ) (map : List ℕ) (survivors : List 
   -- the map entry of s is the lane of the state that its bits lead to
   maps_to_end_state : (s : ℕ) → s < 16 → get_or map (lane_of_state s) 0 % 16 ≡ lane_of_state (state_after_bits s (bits s))
   maps_to_end_state s lt =
-      let inside = place-inside _ (reached-inside s (bits s) lt) in
-      omega arith
+      omega (arith, walk.maps_to_end_state s lt, reached-inside s (bits s) lt)
 
   pub walked : (s : ℕ) → s < 16 →
       IsSurvivor s (bits s ++ survivor_traceback survivors (get_or map (lane_of_state s) 0 % 16)) (soft ++ rest) (lane values s)
@@ -254,31 +250,25 @@ module _ (after values soft rest : List ℤ) (map : List ℕ) (survivors : List 
   IsSurvivor-map : length soft ≡ 8 → (s : ℕ) → s < 16 →
       IsSurvivor s (survivor_traceback (map ∷ survivors) (lane_of_state s)) (soft ++ rest) (lane values s)
   IsSurvivor-map eight s lt =
-      let is : to_binary 4 (lane_of_state (get_or map (lane_of_state s) 0 % 16)) ≡ bits s =
-      ap (to_binary 4) (walked_state s lt) ∙ list_of_four s _ lt (omega arith) (walked_bits s lt) in
-      subst (λ u. IsSurvivor s (u ++ survivor_traceback survivors (get_or map (lane_of_state s) 0 % 16)) (soft ++ rest)
-      (lane values s)) (sym is) (walked s lt)
+      IsSurvivor-same s (ap (λ u. u ++ survivor_traceback survivors (get_or map (lane_of_state s) 0 % 16))
+      (sym (ap (to_binary 4) (walked_state s lt) ∙ list_of_four s _ lt (omega arith) (walked_bits s lt)))) refl refl (walked s lt)
 
 -- the map of the tail leads to state 0, so traceback reads four zeros
 read_last : (s : ℕ) → s < 16 →
-    survivor_traceback ((0 ∷ 0 ∷ 0 ∷ 0 ∷ 0 ∷ 0 ∷ 0 ∷ 0 ∷ 0 ∷ 0 ∷ 0 ∷ 0 ∷ 0 ∷ 0 ∷ 0 ∷ 0 ∷ []) ∷ [])
-    (lane_of_state s)
-    ≡ 0 ∷ 0 ∷ 0 ∷ 0 ∷ []
+    survivor_traceback (replicate 16 0 ∷ []) (lane_of_state s) ≡ replicate 4 0
 read_last = same_below _ _ refl
 
 -- ---- survivor maps, filled from the last to the first
 
 pub last_map : (survivors : List (List ℕ)) (soft values : List ℤ) (last : ℕ) → last + 1 ≡ length survivors →
-    ((s : ℕ) → s < 16 → IsSurvivor s (0 ∷ 0 ∷ 0 ∷ 0 ∷ []) soft (lane values s)) → (s : ℕ) → s < 16 →
-    IsSurvivor s (survivor_traceback (drop last (set survivors last
-    (0 ∷ 0 ∷ 0 ∷ 0 ∷ 0 ∷ 0 ∷ 0 ∷ 0 ∷ 0 ∷ 0 ∷ 0 ∷ 0 ∷ 0 ∷ 0 ∷ 0 ∷ 0 ∷ []))) (lane_of_state s)) soft
+    ((s : ℕ) → s < 16 → IsSurvivor s (replicate 4 0) soft (lane values s)) → (s : ℕ) → s < 16 →
+    IsSurvivor s (survivor_traceback (drop last (set survivors last (replicate 16 0))) (lane_of_state s)) soft
     (lane values s)
 last_map survivors soft values last end best s lt =
-    let blank : List ℕ = 0 ∷ 0 ∷ 0 ∷ 0 ∷ 0 ∷ 0 ∷ 0 ∷ 0 ∷ 0 ∷ 0 ∷ 0 ∷ 0 ∷ 0 ∷ 0 ∷ 0 ∷ 0 ∷ [] in
+    let blank : List ℕ = replicate 16 0 in
     let alone : drop last (set survivors last blank) ≡ blank ∷ [] =
     drop-set _ last _ (omega arith) ∙ ap (λ rest. blank ∷ rest) (ap (λ k. drop k survivors) end ∙ drop-length survivors) in
-    IsSurvivor-same s (sym (ap (λ survivors. survivor_traceback survivors (lane_of_state s)) alone
-    ∙ read_last s lt)) refl refl (best s lt)
+    IsSurvivor-same s (sym (cc (alone, read_last s lt))) refl refl (best s lt)
 
 pub more_survivors : (after values soft : List ℤ) (map : List ℕ) (survivors : List (List ℕ)) (before group : ℕ) →
     before + 1 ≡ group → group < length survivors → 8 * group ≤ length soft →
@@ -292,10 +282,13 @@ more_survivors after values soft map survivors before group at inside within wal
     let whole : four ++ drop (8 * group) soft ≡ drop (8 * before) soft =
     ap (λ rest. four ++ rest) (ap (λ k. drop k soft) (sym (omega arith)) ∙ sym (drop-drop 8 (8 * before) soft))
     ∙ take-append-drop 8 (drop (8 * before) soft) in
-    let grown : map ∷ drop group survivors ≡ drop before (set survivors before map) =
-    ap (λ k. map ∷ drop k survivors) (sym at) ∙ sym (drop-set survivors before map (omega arith)) in
+    let grown : map ∷ drop group survivors ≡ drop before (set survivors before map) = cc (
+      at,
+      drop-set survivors before map (omega
+          arith),
+    ) in
     IsSurvivor-same s (ap (λ survivors. survivor_traceback survivors (lane_of_state s)) grown) whole refl
-    (IsSurvivor-map _ _ _ _ _ _ walk (omega (arith, length-drop group survivors)) best
+    (IsSurvivor-map (drop group survivors) walk (omega (arith, length-drop group survivors)) best
     (omega (arith, length-take 8 (drop (8 * before) soft), length-drop (8 * before) soft)) s lt)
 
 -- ## Decisions: `fill_decisions` extends its decisions and costs by one position at a time. Two path metrics differ by at most 2,048, since
@@ -331,7 +324,7 @@ AreDecisions-closing (row ∷ rows) (lost ∷ losses) soft short same pairs blan
   record {
     best = λ s lt. IsSurvivor-short s (traceback (row ∷ rows) s) soft
         (subst HasTailBits (sym (traceback-zeros (row ∷ rows) s blank)) (HasTailBits-zeros (suc (length rows))))
-        (let n = length-traceback (row ∷ rows) s in omega arith);
+        (omega (arith, length-traceback (row ∷ rows) s));
     each_loss = λ s lt four. absurd (omega arith);
   },
   AreDecisions-closing rows losses (drop 2 soft) (omega arith) (omega arith) (omega (arith, length-drop 2 soft))
@@ -349,15 +342,15 @@ module _ (after values lost pair soft : List ℤ) (rows : List ℕ) (losses : Li
     (loses : (s : ℕ) → s < 16 → lane lost s ≡ candidate_metric after pair s (row / 2 ^ s % 2) -ℤ candidate_metric after pair s
     (1 - row / 2 ^ s % 2))
     (old : HasDecisionsAndMetrics rows losses soft after) where
-  inside : (s bit : ℕ) → next s bit < 16
-  inside s bit = omega arith
-
   best_more : (s : ℕ) → s < 16 → IsSurvivor s (traceback (row ∷ rows) s) (pair ++ soft) (lane values s)
-  best_more s lt = IsSurvivor-more after _ _ s row _ _ two old.at_least (old.best _ (inside s 0)) (old.best _ (inside s 1)) (chosen s lt)
+  best_more s lt = IsSurvivor-more after _ _ s row _ _ two old.at_least (old.best (next_trellis_state s 0) (omega arith))
+      (old.best (next_trellis_state s 1)
+      (omega arith))
+      (chosen s lt)
 
   candidate_is : (s bit : ℕ) → candidate_metric after pair s bit
-      ≡ metric_from_state s (bit ∷ traceback rows (next s bit)) (pair ++ soft)
-  candidate_is s bit = candidate_reached _ _ _ s bit _ two (old.best _ (inside s bit))
+      ≡ metric_from_state s (bit ∷ traceback rows (next_trellis_state s bit)) (pair ++ soft)
+  candidate_is s bit = candidate_reached _ _ _ s bit _ two (old.best (next_trellis_state s bit) (omega arith))
 
   pub HasDecisionsAndMetrics-more : HasDecisionsAndMetrics (row ∷ rows) (lost ∷ losses) (pair ++ soft) values
   HasDecisionsAndMetrics-more = record {
@@ -369,11 +362,12 @@ module _ (after values lost pair soft : List ℤ) (rows : List ℕ) (losses : Li
       },
       rw (rest_of pair soft two) old.decisions,
     );
-    count = (let e = old.count in omega (arith, length-append pair soft));
+    count = omega (arith, old.count, length-append pair soft);
     equal_counts = ap suc old.equal_counts;
-    at_least = (let e = old.at_least in omega arith);
+    at_least = omega (arith, old.at_least);
     octets = All-append IsSignedOctet _ _ octets old.octets;
-    lower_bound = λ s lt. floor_kept _ _ s _ _ _ two lt (old.lower_bound (next s 0) (inside s 0)) (old.lower_bound (next s 1) (inside s 1))
+    lower_bound = λ s lt. floor_kept _ _ s _ _ _ two lt (old.lower_bound (next_trellis_state s 0) (omega arith))
+        (old.lower_bound (next_trellis_state s 1) (omega arith))
         (chosen s lt);
     best = best_more;
   }
@@ -381,7 +375,8 @@ module _ (after values lost pair soft : List ℤ) (rows : List ℕ) (losses : Li
 -- ---- how far apart two path metrics can be
 
 metric_from_state-more : (state x : ℕ) (u : List ℕ) (soft : List ℤ) → 2 ≤ length soft →
-    metric_from_state state (x ∷ u) soft ≡ branch_metric state x (take 2 soft) +ℤ metric_from_state (next state x) u (drop 2 soft)
+    metric_from_state state (x ∷ u) soft ≡ branch_metric state x (take 2 soft) +ℤ metric_from_state (next_trellis_state state x) u
+    (drop 2 soft)
 metric_from_state-more state x u soft long =
     ap (metric_from_state state (x ∷ u)) (sym (take-append-drop 2 _))
     ∙ metric_from_state-cons _ x u _ _ (omega (arith, length-take 2 soft))
@@ -395,46 +390,42 @@ unfolding metric_from_state
 near_none n s t soft = omega (arith, ints)
 
 near_more : (n s t x : ℕ) (u : List ℕ) (soft : List ℤ) → 2 ≤ length soft → AreSignedOctets soft →
-    IsNear n (next s x) (next t x) u (drop 2 soft) → IsNear (n + 512) s t (x ∷ u) soft
+    IsNear n (next_trellis_state s x) (next_trellis_state t x) u (drop 2 soft) → IsNear (n + 512) s t (x ∷ u) soft
 near_more n s t x u soft long octets fits_16_bits =
     let two : length (take 2 soft) ≡ 2 = omega (arith, length-take 2 soft) in
     let pair : AreSignedOctets (take 2 soft) = All-take IsSignedOctet 2 _ octets in
-    let from_s = metric_from_state-more s x u soft long in
-    let from_t = metric_from_state-more t x u soft long in
-    let high = (branch_metric_bound (take 2 soft) s x two pair).1 in
-    let low = (branch_metric_bound (take 2 soft) t x two pair).0 in
-    omega (arith, ints)
+    omega (
+      arith,
+      ints,
+      metric_from_state-more s x u soft long,
+      metric_from_state-more t x u soft long,
+      branch_metric_bound (take 2 soft) s x two pair,
+      branch_metric_bound (take 2 soft) t x two pair,
+    )
 
-near_16 : (s t : ℕ) (u : List ℕ) (soft : List ℤ) → s ≡ t → IsNear 0 s t u soft
-near_16 s t u soft e = let same : metric_from_state s u soft ≡ metric_from_state t u soft = ap (λ s. metric_from_state s u soft) e in
-    omega (arith, ints)
+-- states equal modulo m are near, up to n
+abbrev Near : ℕ → ℕ → Type 0
+Near n m = (s t : ℕ) (u : List ℕ) (soft : List ℤ) → length soft ≡ 2 * length u → AreSignedOctets soft → s % m ≡ t % m
+    → IsNear n s t u soft
 
-near_8 : (s t : ℕ) (u : List ℕ) (soft : List ℤ) → length soft ≡ 2 * length u → AreSignedOctets soft → s % 8 ≡ t % 8 →
-    IsNear 512 s t u soft
-near_8 s t [] soft count octets e = near_none _ s t _
-near_8 s t (x ∷ u) soft count octets e = near_more 0 s t x u _ (omega arith) octets (near_16 _ _ u _ (omega arith))
-
-near_4 : (s t : ℕ) (u : List ℕ) (soft : List ℤ) → length soft ≡ 2 * length u → AreSignedOctets soft → s % 4 ≡ t % 4 →
-    IsNear 1024 s t u soft
-near_4 s t [] soft count octets e = near_none _ s t _
-near_4 s t (x ∷ u) soft count octets e =
+near_step : (n m k : ℕ) → ((s t x : ℕ) → s % m ≡ t % m → next_trellis_state s x % k ≡ next_trellis_state t x % k)
+    → Near n k → Near (n + 512) m
+near_step n m k same near s t [] soft count octets e = near_none _ s t _
+near_step n m k same near s t (x ∷ u) soft count octets e =
     near_more _ s t x u _ (omega arith) octets
-    (near_8 _ _ u _ (omega (arith, length-drop 2 soft)) (All-drop IsSignedOctet 2 _ octets) (omega arith))
-
-near_2 : (s t : ℕ) (u : List ℕ) (soft : List ℤ) → length soft ≡ 2 * length u → AreSignedOctets soft → s % 2 ≡ t % 2 →
-    IsNear 1536 s t u soft
-near_2 s t [] soft count octets e = near_none 1536 s t _
-near_2 s t (x ∷ u) soft count octets e =
-    near_more 1024 s t x u _ (omega arith) octets
-    (near_4 _ _ u _ (omega (arith, length-drop 2 soft)) (All-drop IsSignedOctet 2 soft octets) (omega arith))
+    (near _ _ u _ (omega (arith, length-drop 2 soft)) (All-drop IsSignedOctet 2 _ octets) (same s t x e))
 
 -- the path metrics of u from any two states differ by at most 2,048, since four equal bits lead to the same state
-fits_16_bits : (s t : ℕ) (u : List ℕ) (soft : List ℤ) → length soft ≡ 2 * length u → AreSignedOctets soft →
-    IsNear 2048 s t u soft
-fits_16_bits s t [] soft count octets = near_none _ s t _
-fits_16_bits s t (x ∷ u) soft count octets =
-    near_more _ s t x u _ (omega arith) octets
-    (near_2 _ _ u _ (omega (arith, length-drop 2 soft)) (All-drop IsSignedOctet 2 _ octets) (omega arith))
+fits_16_bits : Near 2048 1
+fits_16_bits =
+    near_step 1536 1 2 (λ s t x e. omega arith) (near_step 1024 2 4 (λ s t x e. omega arith) (near_step 512 4 8 (λ s t x e. omega arith)
+    near_8))
+  where
+    near_8 : Near 512 8
+    near_8 s t [] soft count octets e = near_none _ s t _
+    near_8 s t (x ∷ u) soft count octets e =
+        near_more 0 s t x u _ (omega arith) octets
+        (let same : next_trellis_state s x ≡ next_trellis_state t x = omega arith in rw same (omega (arith, ints)))
 
 -- ---- the preconditions of a trellis step
 
@@ -444,7 +435,7 @@ module _ (rows : List ℕ) (losses : List (List ℤ)) (soft even odd : List ℤ)
       (lane (metrics_of_lanes even odd) t +ℤ pos 2048)
   value_near s t hs ht =
       let count : length soft ≡ 2 * length (traceback rows s) = omega (arith, length-traceback) in
-      let apart = fits_16_bits s t (traceback rows s) soft count decided.octets in
+      let apart = fits_16_bits s t (traceback rows s) soft count decided.octets (omega arith) in
       let here = (decided.best s hs).has_metric in
       let there = (decided.best t ht).has_metric in
       elim ((decided.best t ht).beats_others (traceback rows s) (decided.best s hs).tail_bits (length-traceback rows s ∙ sym
@@ -455,21 +446,25 @@ module _ (rows : List ℕ) (losses : List (List ℤ)) (soft even odd : List ℤ)
 
   pub HasDecisionsAndMetrics-close : DifferByAtMost4096 even odd
   HasDecisionsAndMetrics-close = record {
-    lower_bound = λ k lt.
-        let e = even_metric even odd k lt in
-        let o = odd_metric even odd k lt in
-        let bound = value_near (next (bit_reversed k) 1) (next (bit_reversed k) 0) (omega arith) (omega arith) in
-        omega (arith, ints);
-    upper_bound = λ k lt.
-        let e = even_metric even odd k lt in
-        let o = odd_metric even odd k lt in
-        let bound = value_near (next (bit_reversed k) 0) (next (bit_reversed k) 1) (omega arith) (omega arith) in
-        omega (arith, ints);
+    lower_bound = λ k lt. omega (
+      arith,
+      ints,
+      even_metric even odd k lt,
+      odd_metric even odd k lt,
+      value_near (next_trellis_state (bit_reversed k) 1) (next_trellis_state (bit_reversed k) 0) (omega arith) (omega arith),
+    );
+    upper_bound = λ k lt. omega (
+      arith,
+      ints,
+      even_metric even odd k lt,
+      odd_metric even odd k lt,
+      value_near (next_trellis_state (bit_reversed k) 0) (next_trellis_state (bit_reversed k) 1) (omega arith) (omega arith),
+    );
   }
 
   module _ (few : length rows ≤ 228) where
     within : AreMetricsWithin 58368 (metrics_of_lanes even odd)
-    within = AreMetricsWithin-most (metrics_of_lanes even odd) soft (traceback rows) decided.octets (omega arith) decided.lower_bound
+    within = AreMetricsWithin-most 0 (metrics_of_lanes even odd) soft (traceback rows) decided.octets (omega arith) decided.lower_bound
         decided.best
 
     pub HasDecisionsAndMetrics-even : length even ≡ 8 → HaveHeadroom16 even
@@ -484,17 +479,51 @@ pub HasDecisionsAndMetrics-closing : (rows : List ℕ) (losses : List (List ℤ)
     length losses ≡ 4 → length soft ≡ 8 → AreSignedOctets soft → All (λ row. row ≡ 0) rows →
     ((s : ℕ) → s < 16 → IsSurvivor s (replicate 4 0) soft (lane values s)) → HasDecisionsAndMetrics rows losses soft values
 HasDecisionsAndMetrics-closing rows losses soft values four same eight octets blank best = record {
-  decisions = AreDecisions-closing rows losses soft (omega arith) (same ∙ sym four) (omega arith) blank;
+  decisions = AreDecisions-closing rows losses soft (omega arith) (cc (same, four)) (omega arith) blank;
   count = omega arith;
   equal_counts = same ∙ sym four;
   at_least = omega arith;
   octets = octets;
-  lower_bound = (AreMetricsWithin-best values soft (λ s. replicate 4 0) octets (omega arith) best).lower_bound;
+  lower_bound = (AreMetricsWithin-best 0 values soft (λ s. replicate 4 0) octets (omega arith) best).lower_bound;
   best = λ s lt. IsSurvivor-same s (closing_rows rows s four blank) refl refl (best s lt);
 }
 
 pub HasDecisionsAndMetrics-same : {rows rows' : List ℕ} {losses losses' : List (List ℤ)} {soft soft' values : List ℤ} →
     rows ≡ rows' → losses ≡ losses' → soft ≡ soft' → HasDecisionsAndMetrics rows losses soft values →
     HasDecisionsAndMetrics rows' losses' soft' values
-HasDecisionsAndMetrics-same {rows} {rows'} {losses} {losses'} {soft} {soft'} {values} er el es decided =
-    rw (← er) (rw (← el) (rw (← es) decided))
+HasDecisionsAndMetrics-same er el es decided = rw (← er, ← el, ← es) decided
+
+-- ## LanesOfMaps: Every lane of a survivor map holds the number of a lane.
+
+lane_inside : (k : ℕ) → k < 16 → lane_of_state k < 16
+lane_inside k lt = omega arith
+
+lane_back : (k : ℕ) → k < 16 → lane_of_state (lane_of_state k) ≡ k
+lane_back = same_below (λ k. lane_of_state (lane_of_state k)) (λ k. k) refl
+
+pub map_holds_lanes : (after values : List ℤ) (map : List ℕ) (soft : List ℤ) → AreSurvivors after values map soft → (k : ℕ) →
+    k < 16 → get_or map k 0 < 16
+map_holds_lanes after values map soft walk k lt =
+    let s = lane_of_state k in
+    let low : lane_of_state k < 16 = lane_inside k lt in
+    let end : state_after_bits s (walk.bits s) < 16 = reached-inside s (walk.bits s) low in
+    let is : get_or map k 0 ≡ lane_of_state (state_after_bits s (walk.bits s)) =
+    ap (λ k. get_or map k 0) (sym (lane_back k lt)) ∙ walk.maps_to_end_state s low in
+    rw is (lane_inside _ end)
+
+pub one_more_map : (survivors : List (List ℕ)) (map : List ℕ) (before from : ℕ) → before + 1 ≡ from →
+    before < length survivors → ((k : ℕ) → k < 16 → get_or map k 0 < 16) → HoldLanesFrom from survivors →
+    HoldLanesFrom before (set survivors before map)
+one_more_map survivors map before from at within small old group k low member lt = elim (cases_lt before group) [
+  | inl less ↦ rw (get_or-set_other survivors before group map [] (λ e. omega arith)) (old group k (omega arith)
+      (omega (arith, length-set survivors before map)) lt)
+  | inr most ↦ rw (get_or-set_at survivors before group map [] (omega arith) within) (small k lt)
+]
+
+pub last_holds_lanes : (survivors : List (List ℕ)) (last : ℕ) → last + 1 ≡ length survivors →
+    HoldLanesFrom last (set survivors last
+    (0 ∷ 0 ∷ 0 ∷ 0 ∷ 0 ∷ 0 ∷ 0 ∷ 0 ∷ 0 ∷ 0 ∷ 0 ∷ 0 ∷ 0 ∷ 0 ∷ 0 ∷ 0 ∷ []))
+last_holds_lanes survivors last end =
+    let blank : List ℕ = 0 ∷ 0 ∷ 0 ∷ 0 ∷ 0 ∷ 0 ∷ 0 ∷ 0 ∷ 0 ∷ 0 ∷ 0 ∷ 0 ∷ 0 ∷ 0 ∷ 0 ∷ 0 ∷ [] in
+    one_more_map survivors blank last (last + 1) refl (omega arith)
+    (λ k lt. rw (get_or-replicate {A = ℕ} 16 k 0 0 lt) (omega arith)) (λ group k low member lt. absurd (omega arith))

@@ -1,16 +1,28 @@
 -- The Viterbi argument and the exhaustive search.
-use Rattle.conv_code.{proofs.Lemmas.coded_from_start, specs.{Code.{IsEncoderInput, encoding}, Likelihood.IsLexicographicallyBefore}}
-use Rattle.conv_code.specs.{Likelihood.{IsMostLikely, RanksAfter, bit_metric, likelihood}, bit_blocks.Bits.{AllBits, IsBit}}
-use Rattle.std.proofs.Common.{List, [], ap, ap₂, arith, drop, false, get_or, inl, inr, int_lt, length, pos, refl, replicate, subst, suc}
-use Rattle.std.proofs.Common.{sym, take, true, zero, ℕ, ℤ, ◌%◌, ◌*◌, ◌++◌, ◌+ℤ◌, ◌+◌, ◌-ℤ◌, ◌-◌}
-use Rattle.std.proofs.Common.{◌/◌, ◌<ℤ◌, ◌<◌, ◌^◌, ◌∙◌, ◌∷◌, ◌≡◌, ◌≢◌, ◌≤ℤ◌, ◌≤◌}
-use Rattle.std.proofs.Math.Nat.{add-mul-div_left, div-div-eq-div-mul, div-eq_of_lt, div-lt_iff_lt-mul, div-one, eq-or-lt_of_le, pow-succ'}
-use Rattle.std.proofs.{Math.Nat.{pow-suc, zero-div}, lemmas.{Bool.cases_lt, Int.{by_lt_z, ints}, List.Elements.{All-cons, All-head}}}
-use Rattle.std.{proofs.lemmas.{List.{Elements.{All-nil, All-tail}, length-drop, take_all}, Nat.{pow-add, pow_pos}}, specs.List.All}
-use Rattle.trellis_decode.specs.{Lanes.{AreSignedOctets, IsSignedOctet}, Trellis.{EqualMetricButLater, HasTailBits, IsDecision}}
-use Rattle.trellis_decode.specs.Trellis.{IsNoBetterPath, IsNotLexicographicallyAfter, IsSurvivor, LessMetric, branch_metric}
-use Rattle.trellis_decode.specs.Trellis.{candidate_metric, encoding_from_state, first_coded_bit, metric_from_state, next, second_coded_bit}
-use Rattle.trellis_decode.specs.{Trellis.traceback, Words.to_binary}
+use Rattle.{
+  conv_code.{
+    proofs.Lemmas.coded_from_start,
+    specs.{Code.{IsEncoderInput, encoding}, Likelihood.{IsLexicographicallyBefore, IsMostLikely, RanksAfter, bit_metric, likelihood}},
+    specs.bit_blocks.Bits.{AllBits, IsBit},
+  },
+  std.{
+    proofs.{
+      Common.{List, [], ap, ap₂, arith, drop, false, get_or, inl, inr, int_lt, length, pos, refl, replicate, subst, suc, sym, take, true},
+      Common.{zero, ℕ, ℤ, ◌%◌, ◌*◌, ◌++◌, ◌+ℤ◌, ◌+◌, ◌-ℤ◌, ◌-◌, ◌/◌, ◌<ℤ◌, ◌<◌, ◌^◌},
+      Common.{◌∙◌, ◌∷◌, ◌≡◌, ◌≢◌, ◌≤ℤ◌, ◌≤◌},
+      Math.Nat.{add-mul-div_left, div-div-eq-div-mul, div-eq_of_lt, div-lt_iff_lt-mul, eq-or-lt_of_le, pow-succ', pow-suc, zero-div},
+      lemmas.{Bool.{cases_eq, cases_lt}, Int.{by_lt_z, ints}, List.{Elements.{All-cons, All-head, All-nil, All-tail}, length-drop}},
+      lemmas.{List.take_all, Nat.{pow-add, pow_pos}},
+    },
+    specs.List.All,
+  },
+  trellis_decode.{
+    specs.{Lanes.{AreSignedOctets, IsSignedOctet}, Trellis.{EqualMetricButLater, HasTailBits, IsDecision, IsNoBetterPath}},
+    specs.Trellis.{IsNotLexicographicallyAfter, IsSurvivor, LessMetric, branch_metric, candidate_metric, encoding_from_state},
+    specs.{Trellis.{first_coded_bit, metric_from_state, next_trellis_state, second_coded_bit, traceback}, Words.to_binary},
+    proofs.AcsSteps.each,
+  },
+}
 
 -- ## Likelihoods: The path metric of one more soft bit.
 
@@ -18,8 +30,7 @@ pub likelihood-more : (s : List ℤ) (c : List ℕ) (k : ℕ) → k < length s �
     likelihood (take (suc k) s) (take (suc k) c) ≡ likelihood (take k s) (take k c) +ℤ bit_metric (get_or s k (pos 0)) (get_or c k 0)
 likelihood-more (p ∷ s) (x ∷ c) zero hs hc = omega (arith, ints)
 likelihood-more (p ∷ s) (x ∷ c) (suc k) hs hc =
-    let rest = likelihood-more s c k (omega arith) (omega arith) in
-    omega (arith, ints)
+    omega (arith, ints, likelihood-more s c k (omega arith) (omega arith))
 likelihood-more s c k hs hc = absurd (omega arith)
 
 -- ## Paths: Viterbi's argument about survivors, applied backward: the best list from a state is the better of two candidates, each a first
@@ -27,7 +38,8 @@ likelihood-more s c k hs hc = absurd (omega arith)
 
 -- the path metric of a list is the branch metric of its first bit plus the path metric of the rest
 pub metric_from_state-cons : (state x : ℕ) (u : List ℕ) (pair soft : List ℤ) → length pair ≡ 2 →
-    metric_from_state state (x ∷ u) (pair ++ soft) ≡ branch_metric state x pair +ℤ metric_from_state (next state x) u soft
+    metric_from_state state (x ∷ u) (pair ++ soft) ≡ branch_metric state x pair +ℤ metric_from_state (next_trellis_state state x) u
+    soft
 unfolding metric_from_state branch_metric
 metric_from_state-cons state x u (p ∷ q ∷ []) soft e = omega (arith, ints)
 metric_from_state-cons state x u pair soft e = absurd (omega arith)
@@ -42,76 +54,65 @@ IsNotLexicographicallyAfter-refl (x ∷ u) = inr (refl, IsNotLexicographicallyAf
 
 -- an equal first bit keeps the order of two lists
 pub IsNoBetterPath-same : (state x : ℕ) (v u : List ℕ) (pair soft : List ℤ) → length pair ≡ 2 →
-    IsNoBetterPath (next state x) soft v u → IsNoBetterPath state (pair ++ soft) (x ∷ v) (x ∷ u)
+    IsNoBetterPath (next_trellis_state state x) soft v u → IsNoBetterPath state (pair ++ soft) (x ∷ v) (x ∷ u)
 IsNoBetterPath-same state x v u pair soft e (LessMetric h) =
-    let gv = metric_from_state-cons state x v _ soft e in
-    let gu = metric_from_state-cons state x u _ soft e in
-    LessMetric (omega (arith, ints))
+    LessMetric (omega (arith, ints, metric_from_state-cons state x v pair soft e, metric_from_state-cons state x u pair soft e))
 IsNoBetterPath-same state x v u pair soft e (EqualMetricButLater h after) =
-    let gv = metric_from_state-cons state x v _ soft e in
-    let gu = metric_from_state-cons state x u _ soft e in
-    EqualMetricButLater (omega (arith, ints)) (inr (refl, after))
+    EqualMetricButLater (omega (arith, ints, metric_from_state-cons state x v pair soft e, metric_from_state-cons state x u pair soft e))
+    (inr (refl, after))
 
 -- no list that begins with `bit` has a greater path metric than the candidate metric of that bit
 candidate_bounds : (after pair soft : List ℤ) (state bit : ℕ) (u v : List ℕ) → length pair ≡ 2 →
-    IsSurvivor (next state bit) u soft (get_or after (next state bit) (pos 0)) → HasTailBits v → length v ≡ length u →
+    IsSurvivor (next_trellis_state state bit) u soft (get_or after (next_trellis_state state bit) (pos 0)) → HasTailBits v
+    → length v ≡ length u →
     metric_from_state state (bit ∷ v) (pair ++ soft) ≤ℤ candidate_metric after pair state bit
 unfolding candidate_metric
 candidate_bounds after pair soft state bit u v e best ends count =
-    let g = metric_from_state-cons state bit v _ soft e in
+    let g = metric_from_state-cons state bit v pair soft e in
     elim (best.beats_others v ends count) [ LessMetric h ↦ omega (arith, ints) | EqualMetricButLater h later ↦ omega (arith, ints) ]
 
 pub candidate_reached : (after pair soft : List ℤ) (state bit : ℕ) (u : List ℕ) → length pair ≡ 2 →
-    IsSurvivor (next state bit) u soft (get_or after (next state bit) (pos 0)) →
+    IsSurvivor (next_trellis_state state bit) u soft (get_or after (next_trellis_state state bit) (pos 0)) →
     candidate_metric after pair state bit ≡ metric_from_state state (bit ∷ u) (pair ++ soft)
 unfolding candidate_metric
-candidate_reached after pair soft state bit u e best =
-    let g = metric_from_state-cons state bit u _ soft e in
-    omega (arith, ints)
+candidate_reached after pair soft state bit u e best = omega (arith, ints, metric_from_state-cons state bit u pair soft e)
 
 -- given the survivors of both next states: the better candidate is the survivor of the state
 module _ (after pair soft : List ℤ) (state : ℕ) (zeros ones : List ℕ) (e : length pair ≡ 2) (same : length ones ≡ length zeros)
-    (best0 : IsSurvivor (next state 0) zeros soft (get_or after (next state 0) (pos 0)))
-    (best1 : IsSurvivor (next state 1) ones soft (get_or after (next state 1) (pos 0))) where
+    (best0 : IsSurvivor (next_trellis_state state 0) zeros soft (get_or after (next_trellis_state state 0) (pos 0)))
+    (best1 : IsSurvivor (next_trellis_state state 1) ones soft (get_or after (next_trellis_state state 1) (pos 0))) where
   zero_wins : (candidate_metric after pair state 1) ≤ℤ (candidate_metric after pair state 0) → (v : List ℕ) → HasTailBits v →
       length v ≡ suc (length zeros) → IsNoBetterPath state (pair ++ soft) v (0 ∷ zeros)
-  zero_wins h [] ends count = absurd (omega arith)
-  zero_wins h (zero ∷ v) ends count =
-      let count' : length v ≡ length zeros = omega arith in
-      IsNoBetterPath-same _ 0 v _ _ _ e (best0.beats_others v ends.2 count')
+  zero_wins h (zero ∷ v) ends count = IsNoBetterPath-same _ 0 v _ _ _ e (best0.beats_others v ends.2 (omega arith))
   zero_wins h (suc zero ∷ v) ends count =
-      let count' : length v ≡ length ones = omega arith in
-      let bound = candidate_bounds after _ soft state 1 ones v e best1 ends.2 count' in
-      let value = candidate_reached after _ soft state 0 zeros e best0 in
+      let bound = candidate_bounds after pair soft state 1 ones v e best1 ends.2 (omega arith) in
+      let value = candidate_reached after pair soft state 0 zeros e best0 in
       by_lt_z (metric_from_state _ _ _) (metric_from_state _ _ (pair ++ soft))
       LessMetric (λ not_less. EqualMetricButLater (omega (arith, ints)) (inl (omega arith)))
-  zero_wins h (suc (suc x) ∷ v) ends count = absurd (omega (arith, ends.0))
+  zero_wins h v ends count = absurd (omega arith)
 
   one_wins : (candidate_metric after pair state 0) <ℤ (candidate_metric after pair state 1) → (v : List ℕ) → HasTailBits v →
       length v ≡ suc (length ones) → IsNoBetterPath state (pair ++ soft) v (1 ∷ ones)
-  one_wins h [] ends count = absurd (omega arith)
   one_wins h (zero ∷ v) ends count =
-      let count' : length v ≡ length zeros = omega arith in
-      let bound = candidate_bounds _ _ _ _ 0 _ v e best0 ends.2 count' in
-      let value = candidate_reached after pair soft state 1 ones e best1 in
-      LessMetric (omega (arith, ints))
-  one_wins h (suc zero ∷ v) ends count =
-      let count' : length v ≡ length ones = omega arith in
-      IsNoBetterPath-same _ 1 v _ _ _ e (best1.beats_others v ends.2 count')
-  one_wins h (suc (suc x) ∷ v) ends count = absurd (omega (arith, ends.0))
+      let bound = candidate_bounds after pair soft state 0 zeros v e best0 ends.2 (omega arith) in
+      LessMetric (omega (arith, ints, candidate_reached after pair soft state 1 ones e best1))
+  one_wins h (suc zero ∷ v) ends count = IsNoBetterPath-same _ 1 v _ _ _ e (best1.beats_others v ends.2 (omega arith))
+  one_wins h v ends count = absurd (omega arith)
 
 -- the survivor over one more position at the front, before the tail
 pub IsSurvivor-bit : (after pair soft : List ℤ) (state bit : ℕ) (lists : ℕ → List ℕ) (value : ℤ) → length pair ≡ 2 →
-    4 ≤ length (lists (next state 1)) → length (lists (next state 1)) ≡ length (lists (next state 0)) →
-    IsSurvivor (next state 0) (lists (next state 0)) soft (get_or after (next state 0) (pos 0)) →
-    IsSurvivor (next state 1) (lists (next state 1)) soft (get_or after (next state 1) (pos 0)) →
+    4 ≤ length (lists (next_trellis_state state 1))
+    → length (lists (next_trellis_state state 1)) ≡ length (lists (next_trellis_state state 0)) →
+    IsSurvivor (next_trellis_state state 0) (lists (next_trellis_state state 0)) soft (get_or after (next_trellis_state state 0) (pos 0))
+    →
+    IsSurvivor (next_trellis_state state 1) (lists (next_trellis_state state 1)) soft (get_or after (next_trellis_state state 1) (pos 0))
+    →
     IsDecision after pair state value bit →
-    IsSurvivor state (bit ∷ lists (next state bit)) (pair ++ soft) value
+    IsSurvivor state (bit ∷ lists (next_trellis_state state bit)) (pair ++ soft) value
 IsSurvivor-bit after pair soft state bit lists value e free same best0 best1 choice =
     let zeros = lists _ in
-    let ones = lists (next state 1) in
-    let long : length ones < 4 → ◌≡◌ {A = ℕ} 1 0 = λ short. absurd (omega arith) in
-    let BestAt : ℕ → Type 0 = λ bit. IsSurvivor state (bit ∷ lists (next state bit)) (pair ++ soft) value in
+    let ones = lists (next_trellis_state state 1) in
+    let BestAt : ℕ → Type 0 = λ bit. IsSurvivor state (bit ∷ lists (next_trellis_state state bit)) (pair ++ soft) value in
     elim choice [
       | inl h ↦ subst BestAt (sym h.0) (record {
         has_metric = h.1 ∙ candidate_reached after pair soft state 0 zeros e best0;
@@ -120,23 +121,25 @@ IsSurvivor-bit after pair soft state bit lists value e free same best0 best1 cho
       })
       | inr h ↦ subst BestAt (sym h.0) (record {
         has_metric = h.1 ∙ candidate_reached after pair soft state 1 ones e best1;
-        tail_bits = (omega arith, long, best1.tail_bits);
+        tail_bits = (omega arith, (λ short. absurd (omega arith)), best1.tail_bits);
         beats_others = one_wins after pair soft state zeros ones e same best0 best1 h.2;
       })
     ]
 
 pub IsSurvivor-more : (after pair soft : List ℤ) (state row : ℕ) (rows : List ℕ) (value : ℤ) → length pair ≡ 2 →
-    4 ≤ length rows → IsSurvivor (next state 0) (traceback rows (next state 0)) soft (get_or after (next state 0) (pos 0)) →
-    IsSurvivor (next state 1) (traceback rows (next state 1)) soft (get_or after (next state 1) (pos 0)) →
+    4 ≤ length rows → IsSurvivor (next_trellis_state state 0) (traceback rows (next_trellis_state state 0)) soft
+    (get_or after (next_trellis_state state 0) (pos 0)) →
+    IsSurvivor (next_trellis_state state 1) (traceback rows (next_trellis_state state 1)) soft
+    (get_or after (next_trellis_state state 1) (pos 0)) →
     IsDecision after pair state value (row / 2 ^ state % 2) → IsSurvivor state (traceback (row ∷ rows) state) (pair ++ soft) value
 IsSurvivor-more after pair soft state row rows value e free =
-    let count0 = length-traceback rows (next state 0) in
-    let count1 = length-traceback rows (next state 1) in
+    let count0 = length-traceback rows (next_trellis_state state 0) in
+    let count1 = length-traceback rows (next_trellis_state state 1) in
     IsSurvivor-bit after pair soft state (row / 2 ^ state % 2) (traceback rows) value e (omega arith) (count1 ∙ sym count0)
 
 -- the survivor over one more position of the tail, where the bit must be 0
 pub IsSurvivor-closing : (after pair soft : List ℤ) (state : ℕ) (u : List ℕ) → length pair ≡ 2 → length u < 4 →
-    IsSurvivor (next state 0) u soft (get_or after (next state 0) (pos 0)) →
+    IsSurvivor (next_trellis_state state 0) u soft (get_or after (next_trellis_state state 0) (pos 0)) →
     IsSurvivor state (0 ∷ u) (pair ++ soft) (candidate_metric after pair state 0)
 IsSurvivor-closing after pair soft state u e closing best = record {
   has_metric = candidate_reached _ _ _ _ 0 u e best;
@@ -144,9 +147,9 @@ IsSurvivor-closing after pair soft state u e closing best = record {
   beats_others = closing_wins;
 } where
   closing_wins : (v : List ℕ) → HasTailBits v → length v ≡ suc (length u) → IsNoBetterPath state (pair ++ soft) v (0 ∷ u)
-  closing_wins [] ends count = absurd (omega arith)
   closing_wins (x ∷ v) ends count =
       rw (ends.1 (omega arith)) (IsNoBetterPath-same _ 0 v u _ _ e (best.beats_others v ends.2 (omega arith)))
+  closing_wins v ends count = absurd (omega arith)
 
 -- at the end of the trellis each path metric is 0
 pub IsSurvivor-none : (state : ℕ) → IsSurvivor state [] [] (pos 0)
@@ -154,38 +157,39 @@ unfolding metric_from_state
 IsSurvivor-none state = record { has_metric = refl; tail_bits = tt; beats_others = none } where
   none : (v : List ℕ) → HasTailBits v → length v ≡ 0 → IsNoBetterPath state [] v []
   none [] ends count = EqualMetricButLater refl tt
-  none (x ∷ v) ends count = absurd (omega arith)
+  none _ ends count = absurd (omega arith)
 
 -- ---- bounds of the path metric, since soft bits are signed octets
 
 pub likelihood_bound : (soft : List ℤ) (c : List ℕ) → AreSignedOctets soft → AllBits c →
     ((pos 0 -ℤ pos (128 * length soft)) ≤ℤ likelihood soft c) × (likelihood soft c ≤ℤ pos (128 * length soft))
-likelihood_bound [] c octets bits = (omega (arith, ints), omega (arith, ints))
-likelihood_bound (p ∷ s) [] octets bits = (omega (arith, ints), omega (arith, ints))
+likelihood_bound [] c octets bits = omega (arith, ints)
+likelihood_bound (p ∷ s) [] octets bits = omega (arith, ints)
 likelihood_bound (p ∷ s) (zero ∷ c) octets bits =
-    let head = All-head IsSignedOctet p s octets in
-    let rest = likelihood_bound s c (All-tail IsSignedOctet p s octets) (All-tail IsBit 0 c bits) in
-    (omega (arith, ints, head.0, head.1, rest.0, rest.1), omega (arith, ints, head.0, head.1, rest.0, rest.1))
+    omega (
+      arith,
+      ints,
+      All-head IsSignedOctet p s octets,
+      likelihood_bound s c (All-tail IsSignedOctet p s octets) (All-tail IsBit 0 c bits),
+    )
 likelihood_bound (p ∷ s) (suc zero ∷ c) octets bits =
-    let head = All-head IsSignedOctet p s octets in
-    let rest = likelihood_bound s c (All-tail IsSignedOctet p s octets) (All-tail IsBit 1 c bits) in
-    (omega (arith, ints, head.0, head.1, rest.0, rest.1), omega (arith, ints, head.0, head.1, rest.0, rest.1))
-likelihood_bound (p ∷ s) (suc (suc x) ∷ c) octets bits =
-    let head = All-head IsBit _ c bits in
-    absurd (omega arith)
+    omega (
+      arith,
+      ints,
+      All-head IsSignedOctet p s octets,
+      likelihood_bound s c (All-tail IsSignedOctet p s octets) (All-tail IsBit 1 c bits),
+    )
+likelihood_bound (p ∷ s) (suc (suc x) ∷ c) octets bits = absurd (omega (arith, All-head IsBit (suc (suc x)) c bits))
 
 pub AllBits-encoding_from_state : (state : ℕ) (u : List ℕ) → AllBits (encoding_from_state state u)
 AllBits-encoding_from_state state [] = All-nil _
 AllBits-encoding_from_state state (x ∷ u) =
-    let first : first_coded_bit state x ≤ 1 = omega arith in
-    let second : second_coded_bit state x ≤ 1 = omega arith in
-    let rest = AllBits-encoding_from_state (next state x) u in
-    All-cons IsBit (first_coded_bit _ x) (second_coded_bit _ x ∷ encoding_from_state _ u) first
-    (All-cons IsBit (second_coded_bit _ x) _ second rest)
+    All-cons IsBit (first_coded_bit state x) (second_coded_bit state x ∷ encoding_from_state (next_trellis_state state x) u) (omega arith)
+    (All-cons IsBit (second_coded_bit state x) _ (omega arith) (AllBits-encoding_from_state (next_trellis_state state x) u))
 
 pub IsSurvivor-same : (s : ℕ) {u u' : List ℕ} {soft soft' : List ℤ} {value value' : ℤ} → u ≡ u' → soft ≡ soft' →
     value ≡ value' → IsSurvivor s u soft value → IsSurvivor s u' soft' value'
-IsSurvivor-same s {u} {u'} {soft} {soft'} {value} {value'} eu es ev best = rw (← eu) (rw (← es) (rw (← ev) best))
+IsSurvivor-same s eu es ev best = grind arith
 
 -- all soft bits from n on
 pub IsSurvivor-to_end : (s n : ℕ) (u : List ℕ) (soft : List ℤ) (value : ℤ) →
@@ -198,15 +202,13 @@ pub traceback-zeros : (rows : List ℕ) (state : ℕ) → All (λ row. row ≡ 0
 traceback-zeros [] state zeros = refl
 traceback-zeros (row ∷ rows) state zeros =
     let bit : row / 2 ^ state % 2 ≡ 0 = ap (λ row. row / 2 ^ state % 2) (All-head (λ row. row ≡ 0) _ _ zeros)
-    ∙ ap (λ x. x % 2) (zero-div _) in
-    ap (λ bit. bit ∷ traceback rows (next state bit)) bit
-    ∙ ap (λ rest. 0 ∷ rest) (traceback-zeros rows _ (All-tail (λ row. row ≡ 0) row _ zeros))
+    ∙ ap (λ x. x % 2) (zero-div _) in cc (bit, traceback-zeros rows _ (All-tail (λ row. row ≡ 0) row _ zeros))
 
 pub closing_rows : (rows : List ℕ) (state : ℕ) → length rows ≡ 4 → All (λ row. row ≡ 0) rows →
     replicate 4 0 ≡ traceback rows state
-closing_rows rows state four zeros = ap (λ n. replicate n 0) (sym four) ∙ sym (traceback-zeros _ _ zeros)
+closing_rows rows state four zeros = cc (four, traceback-zeros _ _ zeros)
 
--- ## Lists: The best list from state 0 is the most likely information list: the encoder starts in state 0.
+-- ## Lists: The best list from state 0 is the most likely encoder input: the encoder starts in state 0.
 
 pub metric_from_state-start : (soft : List ℤ) (u : List ℕ) → AllBits u → metric_from_state 0 u soft ≡ likelihood soft (encoding u)
 unfolding metric_from_state
@@ -248,27 +250,18 @@ IsEncoderInput-ends u count ends = record { count = count; bits = HasTailBits-bi
 pub IsLexicographicallyBefore-not_after : (u v : List ℕ) → AllBits v → length v ≡ length u → IsNotLexicographicallyAfter u v →
     v ≢ u → IsLexicographicallyBefore u v
 IsLexicographicallyBefore-not_after [] [] bits count h ne = absurd (ne refl)
-IsLexicographicallyBefore-not_after [] (y ∷ v) bits count h ne = absurd (omega arith)
-IsLexicographicallyBefore-not_after (x ∷ u) [] bits count h ne = absurd h
 IsLexicographicallyBefore-not_after (x ∷ u) (y ∷ v) bits count (inl less) ne =
     let bit : y ≤ 1 = All-head IsBit y v bits in
-    record {
-      place = 0;
-      in_range = omega arith;
-      equal_before = (λ j lt. absurd (omega arith));
-      zero = omega arith;
-      differs =
-          (λ e. omega arith);
-    }
+    record { place = 0; in_range = omega arith; equal_before = λ j lt. absurd (omega arith); zero = omega arith; differs = omega arith }
 IsLexicographicallyBefore-not_after (x ∷ u) (y ∷ v) bits count (inr rest) ne =
-    let count' : length v ≡ length u = omega arith in
-    let tail = IsLexicographicallyBefore-not_after u v (All-tail IsBit y v bits) count' rest.1 (λ e. ne (ap₂ (λ z w. z ∷ w)
+    let tail = IsLexicographicallyBefore-not_after u v (All-tail IsBit y v bits) (omega arith) rest.1 (λ e. ne (ap₂ (λ z w. z ∷ w)
     (sym rest.0) e)) in
     record { place = suc tail.place; in_range = omega arith; equal_before = same tail; zero = tail.zero; differs = tail.differs }
   where
     same : (tail : IsLexicographicallyBefore u v) (j : ℕ) → j < suc tail.place → get_or (x ∷ u) j 0 ≡ get_or (y ∷ v) j 0
     same tail zero lt = rest.0
     same tail (suc j) lt = tail.equal_before j (omega arith)
+IsLexicographicallyBefore-not_after u v bits count h ne = absurd (omega arith)
 
 pub IsMostLikely-best : (soft : List ℤ) (u : List ℕ) (value : ℤ) → 5 ≤ length u → length soft ≡ 2 * length u →
     IsSurvivor 0 u soft value → IsMostLikely soft u
@@ -279,10 +272,9 @@ IsMostLikely-best soft u value count pairs best = record {
 } where
   others : (v : List ℕ) → IsEncoderInput v → length v ≡ length u → v ≢ u → RanksAfter soft v u
   others v information count ne =
-      let ends = HasTailBits-from_tail v information.bits information.tail in
       let gu = metric_from_state-start soft u (HasTailBits-bits u best.tail_bits) in
       let gv = metric_from_state-start soft v information.bits in
-      elim (best.beats_others v ends count) [
+      elim (best.beats_others v (HasTailBits-from_tail v information.bits information.tail) count) [
         | LessMetric h ↦ inl (rw (← gu, ← gv) h)
         | EqualMetricButLater h after ↦ inr (sym gv ∙ h ∙ gu, IsLexicographicallyBefore-not_after u v information.bits count after ne)
       ]
@@ -291,7 +283,7 @@ pub likelihood-best : (soft : List ℤ) (u : List ℕ) (value : ℤ) → IsSurvi
     value ≡ likelihood soft (encoding u)
 likelihood-best soft u value best = best.has_metric ∙ metric_from_state-start _ u (HasTailBits-bits u best.tail_bits)
 
--- ## WordLists: All information lists in lexicographic order. The number of a list is the binary number that its bits form.
+-- ## WordLists: All encoder inputs in lexicographic order. The number of a list is the binary number that its bits form.
 
 pub length-to_binary : (n number : ℕ) → length (to_binary n number) ≡ n
 length-to_binary zero number = refl
@@ -310,32 +302,16 @@ drop-to_binary (suc n) number (suc k) m e = drop-to_binary n _ k m (omega arith)
 AllBits-to_binary : (n number : ℕ) → AllBits (to_binary n number)
 AllBits-to_binary zero number = All-nil _
 AllBits-to_binary (suc n) number =
-    let bit : number / 2 ^ n % 2 ≤ 1 = omega arith in
-    All-cons IsBit (number / 2 ^ n % 2) _ bit (AllBits-to_binary n _)
+    All-cons IsBit (number / 2 ^ n % 2) _ (omega arith) (AllBits-to_binary n _)
 
 pub IsEncoderInput-to_binary : (n number : ℕ) → 5 ≤ n → IsEncoderInput (to_binary n (16 * number))
 IsEncoderInput-to_binary n number long = record {
   count = rw length-to_binary long;
   bits = AllBits-to_binary n _;
-  tail = rw length-to_binary (rw (drop-to_binary n (16 * number) (n - 4) 4 (omega arith)) last_four);
+  tail = rw (length-to_binary, drop-to_binary n (16 * number) (n - 4) 4 (omega arith)) last_four;
 } where
-  b8 : 16 * number / 8 % 2 ≡ 0
-  b8 = omega arith
-
-  b4 : 16 * number / 4 % 2 ≡ 0
-  b4 = omega arith
-
-  b2 : 16 * number / 2 % 2 ≡ 0
-  b2 = omega arith
-
-  b1 : 16 * number / 1 % 2 ≡ 0
-  b1 = rw div-one (omega arith)
-
   last_four : All (λ bit. bit ≡ 0) (to_binary 4 (16 * number))
-  last_four =
-      All-cons (λ bit. bit ≡ 0) _ (to_binary 3 _) b8
-      (All-cons (λ bit. bit ≡ 0) _ (to_binary 2 _) b4
-      (All-cons (λ bit. bit ≡ 0) _ (to_binary 1 (16 * number)) b2 (All-cons (λ bit. bit ≡ 0) _ [] b1 (All-nil (λ bit. bit ≡ 0)))))
+  last_four k d = each (λ k. get_or (to_binary 4 (16 * number)) k d ≡ 0) 4 (omega arith) k
 
 -- `word n` ignores the bits of a number from bit n on
 to_binary-high : (n r x : ℕ) → to_binary n (r + 2 ^ n * x) ≡ to_binary n r
@@ -343,8 +319,7 @@ to_binary-high zero r x = refl
 to_binary-high (suc n) r x =
     let doubled : r + 2 ^ suc n * x ≡ r + 2 ^ n * (2 * x) = rw (pow-succ') (omega arith) in
     let half = add-mul-div_left r (2 * x) (pow_pos n) in
-    let bit : (r + 2 ^ n * (2 * x)) / 2 ^ n % 2 ≡ r / 2 ^ n % 2 = rw half (omega arith) in
-    ap (to_binary (suc n)) doubled ∙ ap₂ (λ bit rest. bit ∷ rest) bit (to_binary-high n r _)
+    ap (to_binary (suc n)) doubled ∙ ap₂ (λ bit rest. bit ∷ rest) (rw half (omega arith)) (to_binary-high n r _)
 
 -- the bits of each bit list form a binary number
 spelled : (v : List ℕ) → AllBits v → (number : ℕ) × (number < 2 ^ length v) × (to_binary (length v) number ≡ v)
@@ -364,7 +339,7 @@ spelled (x ∷ v) bits =
     below_twice : (r power x : ℕ) → r < power → x ≤ 1 → r + power * x < 2 * power
     below_twice r power zero small bit = omega arith
     below_twice r power (suc zero) small bit = omega arith
-    below_twice r power (suc (suc x)) small bit = absurd (omega arith)
+    below_twice r power x small bit = absurd (omega arith)
 
 div-le : (a b power : ℕ) → 0 < power → a ≤ b → a / power ≤ b / power
 div-le a b power above le = elim (cases_lt (b / power) (a / power)) [
@@ -380,8 +355,7 @@ pub IsLexicographicallyBefore-to_binary : (n a b : ℕ) → a < b → a / 2 ^ n 
 IsLexicographicallyBefore-to_binary zero a b less same = absurd (omega arith)
 IsLexicographicallyBefore-to_binary (suc n) a b less same =
     let halves : a / 2 ^ n / 2 ≡ b / 2 ^ n / 2 =
-    div-div-eq-div-mul a _ 2 ∙ ap (λ p. a / p) (sym (pow-suc 2 n)) ∙ same ∙ ap (λ p. b / p) (pow-suc 2 n)
-    ∙ sym (div-div-eq-div-mul b _ 2) in
+    cc (div-div-eq-div-mul a _ 2, pow-suc 2 n, same, pow-suc 2 n, div-div-eq-div-mul b _ 2) in
     elim (eq-or-lt_of_le (div-le a b _ (pow_pos n) (omega arith))) [
       | inl equal ↦ later (ap (λ q. q % 2) equal) (IsLexicographicallyBefore-to_binary n a b less equal)
       | inr above ↦
@@ -409,7 +383,7 @@ IsLexicographicallyBefore-to_binary (suc n) a b less same =
       differs = rest.differs;
     }
 
--- the bits of each information list form a multiple of 16, since the last four are 0
+-- the bits of each encoder input form a multiple of 16, since the last four are 0
 pub to_binary-information : (v : List ℕ) → IsEncoderInput v →
     (number : ℕ) × (16 * number < 2 ^ length v) × (to_binary (length v) (16 * number) ≡ v)
 to_binary-information v h =
@@ -418,85 +392,80 @@ to_binary-information v h =
     let last_four : drop (length v - 4) v ≡ to_binary 4 number =
     ap (drop (length v - 4)) (sym spelt.2) ∙ drop-to_binary (length v) number (length v - 4) 4 (omega arith) in
     let zeros : All (λ bit. bit ≡ 0) (to_binary 4 number) = subst (All (λ bit. bit ≡ 0)) last_four h.tail in
-    let b8 : number / 8 % 2 ≡ 0 = zeros 0 0 (omega arith) in
-    let b4 : number / 4 % 2 ≡ 0 = zeros 1 0 (omega arith) in
-    let b2 : number / 2 % 2 ≡ 0 = zeros 2 0 (omega arith) in
-    let b1 : number / 1 % 2 ≡ 0 = zeros 3 0 (omega arith) in
-    let sixteen : 16 * (number / 16) ≡ number = omega arith in
+    let sixteen : 16 * (number / 16) ≡ number =
+    omega (arith, zeros 0 0 (omega arith), zeros 1 0 (omega arith), zeros 2 0 (omega arith), zeros 3 0 (omega arith)) in
     (number / 16, rw sixteen spelt.1, ap (to_binary (length v)) sixteen ∙ spelt.2)
 
 -- ## Searching: The exhaustive search keeps the most likely list so far, and the first of equally likely ones.
 
 -- the result of a comparison, as an inequality of the compared values
 pub less_by_test : (a b x y : ℤ) → a ≡ x → b ≡ y → int_lt a b ≡ true → x <ℤ y
-less_by_test a b x y ex ey test = grind (arith, ints)
+less_by_test a b x y ex ey test = grind arith
 
 pub most_by_test : (a b x y : ℤ) → a ≡ x → b ≡ y → int_lt a b ≡ false → y ≤ℤ x
-most_by_test a b x y ex ey test = grind (arith, ints)
+most_by_test a b x y ex ey test = grind arith
+
+-- list m of the search
+abbrev pub listed : ℕ → ℕ → List ℕ
+listed n m = to_binary n (16 * m)
+
+abbrev pub score : List ℤ → ℕ → ℕ → ℤ
+score soft n m = likelihood soft (encoding (listed n m))
+
+abbrev pub Behind : List ℤ → ℕ → ℕ → ℕ → Type 0
+Behind soft n m k = RanksAfter soft (listed n m) (listed n k)
 
 module _ (soft : List ℤ) (n chosen number : ℕ) (before : chosen < number) (within : 16 * number < 2 ^ n)
-    (others : (m : ℕ) → m < number → m ≢ chosen → RanksAfter soft (to_binary n (16 * m)) (to_binary n (16 * chosen))) where
+    (others : (m : ℕ) → m < number → m ≢ chosen → Behind soft n m chosen) where
   -- a list with a greater path metric becomes the best so far
-  pub new_leads : likelihood soft (encoding (to_binary n (16 * chosen))) <ℤ likelihood soft (encoding (to_binary n (16 * number))) →
-      (m : ℕ) → m < number + 1 → m ≢ number → RanksAfter soft (to_binary n (16 * m)) (to_binary n (16 * number))
+  pub new_leads : score soft n chosen <ℤ score soft n number → (m : ℕ) → m < number + 1 → m ≢ number → Behind soft n m number
   new_leads more m lt ne =
-      let earlier : m < number = omega arith in
-      elim (cases_lt m chosen) [
-        | inl less ↦ behind (others m earlier (omega arith))
-        | inr not_less ↦ elim (cases_lt chosen m) [
-          | inl greater_lane_decisions ↦ behind (others m earlier (omega arith))
-          | inr not_greater ↦ inl
-              (subst (λ m. likelihood soft (encoding (to_binary n (16 * m))) <ℤ likelihood soft (encoding (to_binary n (16 * number))))
-              (sym (omega arith)) more)
-        ]
-      ]
+      elim (cases_eq m chosen) [ inl same ↦ inl (rw same more) | inr other ↦ behind (others m (omega arith) other) ]
     where
-      behind : RanksAfter soft (to_binary n (16 * m)) (to_binary n (16 * chosen)) →
-          RanksAfter soft (to_binary n (16 * m)) (to_binary n (16 * number))
+      behind : Behind soft n m chosen → Behind soft n m number
       behind (inl less) = inl (omega (arith, ints))
       behind (inr same) = inl (omega (arith, ints))
 
   -- if the path metric of a list is not greater, the best list so far stays the best
-  pub old_leads : likelihood soft (encoding (to_binary n (16 * number))) ≤ℤ likelihood soft (encoding (to_binary n (16 * chosen))) →
-      (m : ℕ) → m < number + 1 → m ≢ chosen → RanksAfter soft (to_binary n (16 * m)) (to_binary n (16 * chosen))
+  pub old_leads : score soft n number ≤ℤ score soft n chosen → (m : ℕ) → m < number + 1 → m ≢ chosen
+      → Behind soft n m chosen
   old_leads most m lt ne = elim (cases_lt m number) [
     | inl earlier ↦ others m earlier ne
-    | inr last ↦ subst (λ m. RanksAfter soft (to_binary n (16 * m)) (to_binary n (16 * chosen))) (sym (omega arith)) (by_lt_z
-        (likelihood soft (encoding (to_binary n (16 * number)))) (likelihood soft (encoding (to_binary n (16 * chosen)))) inl
-        (λ not_less. inr (omega (arith, ints), later)))
+    | inr last ↦
+        let e : m ≡ number = omega arith in
+        rw e (by_lt_z (score soft n number) (score soft n chosen) inl (λ not_less. inr (omega (arith, ints), later)))
   ] where
-    later : IsLexicographicallyBefore (to_binary n (16 * chosen)) (to_binary n (16 * number))
+    later : IsLexicographicallyBefore (listed n chosen) (listed n number)
     later =
         let chosen_within : 16 * chosen < 2 ^ n = omega arith in
         IsLexicographicallyBefore-to_binary n _ _ (omega arith) (div-eq_of_lt chosen_within ∙ sym (div-eq_of_lt within))
 
--- the best of all lists that the search tries is the most likely information list
+-- the best of all lists that the search tries is the most likely encoder input
 pub IsMostLikely-chosen : (soft : List ℤ) (n chosen lists : ℕ) → 5 ≤ n → length soft ≡ 2 * n → 16 * lists ≡ 2 ^ n →
-    ((m : ℕ) → m < lists → m ≢ chosen → RanksAfter soft (to_binary n (16 * m)) (to_binary n (16 * chosen))) →
-    IsMostLikely soft (to_binary n (16 * chosen))
+    ((m : ℕ) → m < lists → m ≢ chosen → Behind soft n m chosen) →
+    IsMostLikely soft (listed n chosen)
 IsMostLikely-chosen soft n chosen lists long pairs all others = record {
   information = IsEncoderInput-to_binary n _ long;
   count = rw length-to_binary pairs;
   others = every;
 } where
-  every : (v : List ℕ) → IsEncoderInput v → length v ≡ length (to_binary n (16 * chosen)) → v ≢ to_binary n (16 * chosen) →
-      RanksAfter soft v (to_binary n (16 * chosen))
+  every : (v : List ℕ) → IsEncoderInput v → length v ≡ length (listed n chosen) → v ≢ listed n chosen →
+      RanksAfter soft v (listed n chosen)
   every v information count ne =
       let spelt = to_binary-information v information in
       let m = spelt.0 in
       let long : length v ≡ n = count ∙ length-to_binary n _ in
-      let is : to_binary n (16 * m) ≡ v = ap (λ n. to_binary n (16 * m)) (sym long) ∙ spelt.2 in
+      let is : listed n m ≡ v = ap (λ n. listed n m) (sym long) ∙ spelt.2 in
       let below : 16 * m < 2 ^ n = rw (← long) spelt.1 in
-      let differs : m ≢ chosen = λ same. ne (sym is ∙ ap (λ m. to_binary n (16 * m)) same) in
-      rw (← is) (others m (omega arith) differs)
+      rw (← is) (others m (omega arith) (λ same. ne (sym is ∙ ap (λ m. listed n m) same)))
 
--- ## Existence: For any soft bits, a most likely information list exists: by induction over all lists in lexicographic order.
+-- ## Existence: For any soft bits, a most likely encoder input exists: by induction over all lists in lexicographic order.
 
 -- the best of the first `number` lists, and the first if several are equally likely
 record Leading (soft : List ℤ) (n number : ℕ) : Type 0 where
   chosen : ℕ
   in_range : chosen < number
-  others : (m : ℕ) → m < number → m ≢ chosen → RanksAfter soft (to_binary n (16 * m)) (to_binary n (16 * chosen))
+  others : (m : ℕ) → m < number → m ≢ chosen → Behind soft n m chosen
 
 leading : (soft : List ℤ) (n number : ℕ) → 16 * (number + 1) ≤ 2 ^ n → Leading soft n (number + 1)
 leading soft n zero headroom = record {
@@ -510,7 +479,7 @@ leading soft n (suc number) headroom =
     let within = before.in_range in
     let last : ℕ = number + 1 in
     let inside : 16 * last < 2 ^ n = omega arith in
-    let value : ℕ → ℤ = λ m. likelihood soft (encoding (to_binary n (16 * m))) in
+    let value : ℕ → ℤ = λ m. score soft n m in
     by_lt_z (value chosen) (value last)
     (λ more. record {
       chosen = last;
@@ -527,11 +496,11 @@ pub some_most_likely : (soft : List ℤ) (n : ℕ) → length soft ≡ 2 * n →
     (u : List ℕ) × IsMostLikely soft u × (length u ≡ n)
 some_most_likely soft n pairs long =
     let parted : 2 ^ n ≡ 16 * 2 ^ (n - 4) =
-    ap (λ k. 2 ^ k) (let e : n ≡ 4 + (n - 4) = omega arith in e) ∙ pow-add 2 4 (n - 4) in
+    ap (λ k. 2 ^ k) ((omega arith)) ∙ pow-add 2 4 (n - 4) in
     let some : 0 < 2 ^ (n - 4) = pow_pos (n - 4) in
     let lists : ℕ = 2 ^ (n - 4) in
     let found = leading soft n (lists - 1) (omega arith) in (
-      to_binary n (16 * found.chosen),
+      listed n found.chosen,
       IsMostLikely-chosen soft n found.chosen lists long pairs (sym parted) (λ m h ne. found.others m (omega arith) ne),
       length-to_binary n (16 * found.chosen),
     )

@@ -12,12 +12,12 @@ pub record AreInt16 (lanes : List ℤ) : Type 0 where
   pub fits : (k : ℕ) → k < 8 → FitsSigned w16 (lane lanes k)
 
 -- the path metric that a 16-bit lane represents: a lane holds the path metric minus 31,000
-abbrev pub lane_metric : ℤ → ℤ
+abbrev pub lane_metric : (value : ℤ) → ℤ
 lane_metric value = value +ℤ pos 31000
 
 -- the path metrics of states 0 to 15, from one vector for the even states and one for the odd states. The lanes of each are in the
 -- bit-reversed order of the upper three bits of the state
-abbrev pub metrics_of_lanes : List ℤ → List ℤ → List ℤ
+abbrev pub metrics_of_lanes : (even odd : List ℤ) → List ℤ
 metrics_of_lanes even odd =
     lane_metric (lane even 0) ∷ lane_metric (lane odd 0) ∷ lane_metric (lane even 4) ∷ lane_metric (lane odd 4) ∷
     lane_metric (lane even 2) ∷ lane_metric (lane odd 2) ∷ lane_metric (lane even 6) ∷ lane_metric (lane odd 6) ∷
@@ -34,14 +34,14 @@ pub record HaveHeadroom16 (lanes : List ℤ) : Type 0 where
   pub lower_bound : (k : ℕ) → k < 8 → negsuc 32499 ≤ℤ lane lanes k
   pub upper_bound : (k : ℕ) → k < 8 → lane lanes k ≤ℤ pos 32500
 
--- in each lane, the vectors `a` and `b` differ by at most 4,096
-pub record DifferByAtMost4096 (a b : List ℤ) : Type 0 where
-  pub lower_bound : (k : ℕ) → k < 8 → negsuc 4095 ≤ℤ (lane a k -ℤ lane b k)
-  pub upper_bound : (k : ℕ) → k < 8 → (lane a k -ℤ lane b k) ≤ℤ pos 4096
+-- in each lane, the vectors `first` and `second` differ by at most 4,096
+pub record DifferByAtMost4096 (first second : List ℤ) : Type 0 where
+  pub lower_bound : (k : ℕ) → k < 8 → negsuc 4095 ≤ℤ (lane first k -ℤ lane second k)
+  pub upper_bound : (k : ℕ) → k < 8 → (lane first k -ℤ lane second k) ≤ℤ pos 4096
 
--- in each lane, the difference of the vectors `a` and `b` fits in 16 bits
-pub record DifferencesFit16Bits (a b : List ℤ) : Type 0 where
-  pub fits : (k : ℕ) → k < 8 → FitsSigned w16 (lane a k -ℤ lane b k)
+-- in each lane, the difference of the vectors `first` and `second` fits in 16 bits
+pub record DifferencesFit16Bits (first second : List ℤ) : Type 0 where
+  pub fits : (k : ℕ) → k < 8 → FitsSigned w16 (lane first k -ℤ lane second k)
 
 -- the sixteen lanes are from -32,767 to 32,767, so their absolute values fit in 16 bits
 pub record AbsFit16Bits (lanes : List ℤ) : Type 0 where
@@ -50,7 +50,7 @@ pub record AbsFit16Bits (lanes : List ℤ) : Type 0 where
   pub upper_bound : (s : ℕ) → s < 16 → lane lanes s ≤ℤ pos 32767
 
 -- merges two vectors, for states 0 to 7 and 8 to 15 in bit-reversed order, into sixteen lanes in state order
-abbrev pub lanes_in_state_order : List ℤ → List ℤ → List ℤ
+abbrev pub lanes_in_state_order : (low high : List ℤ) → List ℤ
 lanes_in_state_order low high =
     lane low 0 ∷ lane low 4 ∷ lane low 2 ∷ lane low 6 ∷ lane low 1 ∷ lane low 5 ∷ lane low 3 ∷ lane low 7 ∷
     lane high 0 ∷ lane high 4 ∷ lane high 2 ∷ lane high 6 ∷ lane high 1 ∷ lane high 5 ∷ lane high 3 ∷ lane high 7 ∷ []
@@ -62,16 +62,16 @@ pub record AreBranchMetrics (lanes : List ℤ) : Type 0 where
   pub upper_bound : (k : ℕ) → k < 8 → lane lanes k ≤ℤ pos 256
 
 -- the lanes of two vectors at four given indexes, interleaved: for each index, the lane of the first vector, then the lane of the second
-abbrev pub interleaved_lanes : List ℤ → List ℤ → ℕ → ℕ → ℕ → ℕ → List ℤ
+abbrev pub interleaved_lanes : (first second : List ℤ) (i j k l : ℕ) → List ℤ
 interleaved_lanes a b i j k l = lane a i ∷ lane b i ∷ lane a j ∷ lane b j ∷ lane a k ∷ lane b k ∷ lane a l ∷ lane b l ∷ []
 
 -- the decision that a lane represents: bit 1 if the lane is negative, else bit 0
-abbrev pub lane_decision : ℤ → ℕ
+abbrev pub lane_decision : (difference : ℤ) → ℕ
 lane_decision (pos n) = 0
 lane_decision (negsuc n) = 1
 
 -- a number below 8 with its three bits in reverse order
-abbrev pub bit_reversed : ℕ → ℕ
+abbrev pub bit_reversed : (state : ℕ) → ℕ
 bit_reversed k = 4 * (k % 2) + 2 * (k / 2 % 2) + k / 4
 
 -- `lanes` holds the branch metrics of bit 0 in states 0 to 7, in bit-reversed order, for the `pair` of soft bits
@@ -80,11 +80,11 @@ pub record HasBranchMetrics (lanes pair : List ℤ) : Type 0 where
   pub each : (k : ℕ) → k < 8 → lane lanes k ≡ branch_metric (bit_reversed k) 0 pair
 
 -- the lane of a state in a survivor map: the number of the state with its lower three bits in reverse order
-abbrev pub lane_of_state : ℕ → ℕ
+abbrev pub lane_of_state : (state : ℕ) → ℕ
 lane_of_state s = 8 * (s / 8) + bit_reversed (s % 8)
 
 -- the decisions of states 0 to 15 in state order, read from two vectors (states 0 to 7 and 8 to 15) whose lanes are in bit-reversed order
-abbrev pub lane_decisions : List ℤ → List ℤ → List ℕ
+abbrev pub lane_decisions : (low high : List ℤ) → List ℕ
 lane_decisions low high =
     lane_decision (lane low 0) ∷ lane_decision (lane low 4) ∷ lane_decision (lane low 2) ∷ lane_decision (lane low 6) ∷
     lane_decision (lane low 1) ∷ lane_decision (lane low 5) ∷ lane_decision (lane low 3) ∷ lane_decision (lane low 7) ∷

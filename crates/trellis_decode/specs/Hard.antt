@@ -12,7 +12,7 @@ abbrev pub IsHardBit : ℤ → Type 0
 IsHardBit p = (p ≡ pos 127) ⊎ (p ≡ negsuc 126)
 
 -- the sign bit of a number: 1 if it is negative, else 0
-abbrev pub sign_bit_of : ℤ → ℕ
+abbrev pub sign_bit_of : (soft : ℤ) → ℕ
 sign_bit_of p = if int_lt p (pos 0) then 1 else 0
 
 -- `lanes` consists of sixteen signed 8-bit numbers
@@ -33,11 +33,11 @@ pub record AreMinusOneToOne (lanes : List ℤ) : Type 0 where
   pub upper_bound : (k : ℕ) → k < 16 → lane lanes k ≤ℤ pos 1
 
 -- the path metric that an 8-bit lane represents: a lane holds the path metric divided by 254, minus 120
-abbrev pub metric_of_hard_lane : ℤ → ℤ
+abbrev pub metric_of_hard_lane : (number : ℤ) → ℤ
 metric_of_hard_lane number = pos 254 *ℤ (number +ℤ pos 120)
 
 -- the path metrics of states 0 to 15, from a vector of 8-bit lanes with each state in its lane (`lane_of_state`)
-abbrev pub hard_lane_metrics : List ℤ → List ℤ
+abbrev pub hard_lane_metrics : (lanes : List ℤ) → List ℤ
 hard_lane_metrics lanes =
     metric_of_hard_lane (lane lanes 0) ∷ metric_of_hard_lane (lane lanes 4) ∷ metric_of_hard_lane (lane lanes 2) ∷ metric_of_hard_lane
     (lane lanes 6) ∷
@@ -51,11 +51,11 @@ hard_lane_metrics lanes =
     (lane lanes 15) ∷ []
 
 -- the lane of the next state after bit 0, given the lane of a state
-abbrev pub lane_of_next_state_0 : ℕ → ℕ
+abbrev pub lane_of_next_state_0 : (index : ℕ) → ℕ
 lane_of_next_state_0 k = 8 * (k % 2) + k % 8 / 2
 
 -- the lane of the next state after bit 1, given the lane of a state
-abbrev pub lane_of_next_state_1 : ℕ → ℕ
+abbrev pub lane_of_next_state_1 : (index : ℕ) → ℕ
 lane_of_next_state_1 k = lane_of_next_state_0 k + 4
 
 -- `lanes` holds the branch metrics of bit 0 in all sixteen states, divided by 254, for the `pair` of soft bits

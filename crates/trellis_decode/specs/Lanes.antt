@@ -3,7 +3,7 @@ use Rattle.std.specs.Prelude.{ℕ, ◌≤ℤ◌, ℤ, pos, negsuc, List, slice_i
 use Rattle.std.specs.List.{All}
 
 -- the lane of a vector at a given index, or 0 if the vector has no such lane
-abbrev pub lane : List ℤ → ℕ → ℤ
+abbrev pub lane : (lanes : List ℤ) (index : ℕ) → ℤ
 lane lanes s = slice_index_or lanes s (pos 0)
 
 -- the number is a signed octet, that is, from -128 to 127

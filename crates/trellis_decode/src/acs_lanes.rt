@@ -28,114 +28,119 @@ pub struct SixteenLanes {
 }
 
 /// Adds to each lane its branch metric.
-pub fn add_branch_metrics(a: EightLanes, branch_metrics: EightLanes) -> EightLanes
-    requires headroom16 { HaveHeadroom16 a.lanes }
+pub fn add_branch_metrics(path_metrics: EightLanes, branch_metrics: EightLanes) -> EightLanes
+    requires headroom16 { HaveHeadroom16 path_metrics.lanes }
     requires branch_metrics { AreBranchMetrics branch_metrics.lanes }
-    ensures each { (k : ℕ) → k < 8 → lane result.lanes k ≡ lane a.lanes k +ℤ lane branch_metrics.lanes k }
+    ensures each { (k : ℕ) → k < 8 → lane result.lanes k ≡ lane path_metrics.lanes k +ℤ lane branch_metrics.lanes k }
     ensures lanes { AreInt16 result.lanes }
 {
     EightLanes {
-        lanes: a.lanes + branch_metrics.lanes,
+        lanes: path_metrics.lanes + branch_metrics.lanes,
     }
 }
 
 /// Subtracts from each lane its branch metric.
-pub fn subtract_branch_metrics(a: EightLanes, branch_metrics: EightLanes) -> EightLanes
-    requires headroom16 { HaveHeadroom16 a.lanes }
+pub fn subtract_branch_metrics(path_metrics: EightLanes, branch_metrics: EightLanes) -> EightLanes
+    requires headroom16 { HaveHeadroom16 path_metrics.lanes }
     requires branch_metrics { AreBranchMetrics branch_metrics.lanes }
-    ensures each { (k : ℕ) → k < 8 → lane result.lanes k ≡ lane a.lanes k -ℤ lane branch_metrics.lanes k }
+    ensures each { (k : ℕ) → k < 8 → lane result.lanes k ≡ lane path_metrics.lanes k -ℤ lane branch_metrics.lanes k }
     ensures lanes { AreInt16 result.lanes }
 {
     EightLanes {
-        lanes: a.lanes - branch_metrics.lanes,
+        lanes: path_metrics.lanes - branch_metrics.lanes,
     }
 }
 
 /// Returns the greater of the two lanes at each index.
-pub fn lane_maxima(a: EightLanes, b: EightLanes) -> EightLanes
-    requires a_lanes { AreInt16 a.lanes }
-    requires b_lanes { AreInt16 b.lanes }
+pub fn lane_maxima(first: EightLanes, second: EightLanes) -> EightLanes
+    requires a_lanes { AreInt16 first.lanes }
+    requires b_lanes { AreInt16 second.lanes }
     ensures each { (k : ℕ) → k < 8 →
-        lane result.lanes k ≡ (if int_lt (lane a.lanes k) (lane b.lanes k) then lane b.lanes k else lane a.lanes k) }
+        lane result.lanes k ≡ (if int_lt (lane first.lanes k) (lane second.lanes k) then lane second.lanes k else lane first.lanes k) }
     ensures lanes { AreInt16 result.lanes }
 {
     EightLanes {
-        lanes: a.lanes.simd_max(b.lanes),
+        lanes: first.lanes.simd_max(second.lanes),
     }
 }
 
-/// Interleaves the first four lanes of `a` and `b`.
-pub fn interleave_first_lanes(a: EightLanes, b: EightLanes) -> EightLanes
-    requires a_lanes { AreInt16 a.lanes }
-    requires b_lanes { AreInt16 b.lanes }
-    ensures each { result.lanes ≡ interleaved_lanes a.lanes b.lanes 0 1 2 3 }
+/// Interleaves the first four lanes of `first` and `second`.
+pub fn interleave_first_lanes(first: EightLanes, second: EightLanes) -> EightLanes
+    requires a_lanes { AreInt16 first.lanes }
+    requires b_lanes { AreInt16 second.lanes }
+    ensures each { result.lanes ≡ interleaved_lanes first.lanes second.lanes 0 1 2 3 }
     ensures lanes { AreInt16 result.lanes }
 {
     EightLanes {
-        lanes: a.lanes.shuffle::<8>(b.lanes, [0, 8, 1, 9, 2, 10, 3, 11]),
+        lanes: first
+            .lanes
+            .shuffle::<8>(second.lanes, [0, 8, 1, 9, 2, 10, 3, 11]),
     }
 }
 
-/// Interleaves the last four lanes of `a` and `b`.
-pub fn interleave_last_lanes(a: EightLanes, b: EightLanes) -> EightLanes
-    requires a_lanes { AreInt16 a.lanes }
-    requires b_lanes { AreInt16 b.lanes }
-    ensures each { result.lanes ≡ interleaved_lanes a.lanes b.lanes 4 5 6 7 }
+/// Interleaves the last four lanes of `first` and `second`.
+pub fn interleave_last_lanes(first: EightLanes, second: EightLanes) -> EightLanes
+    requires a_lanes { AreInt16 first.lanes }
+    requires b_lanes { AreInt16 second.lanes }
+    ensures each { result.lanes ≡ interleaved_lanes first.lanes second.lanes 4 5 6 7 }
     ensures lanes { AreInt16 result.lanes }
 {
     EightLanes {
-        lanes: a.lanes.shuffle::<8>(b.lanes, [4, 12, 5, 13, 6, 14, 7, 15]),
+        lanes: first
+            .lanes
+            .shuffle::<8>(second.lanes, [4, 12, 5, 13, 6, 14, 7, 15]),
     }
 }
 
 /// Returns -1 in each lane where `b` is greater than `a`, and 0 in the others.
-pub fn greater_lane_decisions(a: EightLanes, b: EightLanes) -> EightDecisions
-    requires a_lanes { AreInt16 a.lanes }
-    requires b_lanes { AreInt16 b.lanes }
+pub fn greater_lane_decisions(bit_0: EightLanes, bit_1: EightLanes) -> EightDecisions
+    requires a_lanes { AreInt16 bit_0.lanes }
+    requires b_lanes { AreInt16 bit_1.lanes }
     ensures count { length result.lanes ≡ 8 }
-    ensures each { (k : ℕ) → k < 8 → lane result.lanes k ≡ (if int_lt (lane a.lanes k) (lane b.lanes k) then negsuc 0 else pos 0) }
+    ensures each { (k : ℕ) → k < 8 → lane result.lanes k ≡
+        (if int_lt (lane bit_0.lanes k) (lane bit_1.lanes k) then negsuc 0 else pos 0) }
 {
     EightDecisions {
-        lanes: b.lanes.simd_gt(a.lanes).cast::<i8>().to_simd(),
+        lanes: bit_1.lanes.simd_gt(bit_0.lanes).cast::<i8>().to_simd(),
     }
 }
 
-/// The difference `a - b`, lane by lane.
-pub fn subtract_lanes(a: EightLanes, b: EightLanes) -> EightLanes
-    requires a_lanes { AreInt16 a.lanes }
-    requires b_lanes { AreInt16 b.lanes }
-    requires fits_16_bits { DifferencesFit16Bits a.lanes b.lanes }
-    ensures each { (k : ℕ) → k < 8 → lane result.lanes k ≡ lane a.lanes k -ℤ lane b.lanes k }
+/// The difference `minuend - subtrahend`, lane by lane.
+pub fn subtract_lanes(minuend: EightLanes, subtrahend: EightLanes) -> EightLanes
+    requires a_lanes { AreInt16 minuend.lanes }
+    requires b_lanes { AreInt16 subtrahend.lanes }
+    requires fits_16_bits { DifferencesFit16Bits minuend.lanes subtrahend.lanes }
+    ensures each { (k : ℕ) → k < 8 → lane result.lanes k ≡ lane minuend.lanes k -ℤ lane subtrahend.lanes k }
     ensures lanes { AreInt16 result.lanes }
 {
     EightLanes {
-        lanes: a.lanes - b.lanes,
+        lanes: minuend.lanes - subtrahend.lanes,
     }
 }
 
-/// Puts the lanes in state order: `low` holds the states 0 to 7 and `high` the states 8 to 15, both in bit-reversed order.
-pub fn to_state_order(low: EightLanes, high: EightLanes) -> SixteenLanes
-    requires low_lanes { AreInt16 low.lanes }
-    requires high_lanes { AreInt16 high.lanes }
-    ensures { result.lanes ≡ lanes_in_state_order low.lanes high.lanes }
+/// Puts the lanes in state order: `low_states` holds the states 0 to 7 and `high_states` the states 8 to 15, both in bit-reversed order.
+pub fn to_state_order(low_states: EightLanes, high_states: EightLanes) -> SixteenLanes
+    requires low_lanes { AreInt16 low_states.lanes }
+    requires high_lanes { AreInt16 high_states.lanes }
+    ensures { result.lanes ≡ lanes_in_state_order low_states.lanes high_states.lanes }
 {
     SixteenLanes {
-        lanes: low.lanes.shuffle::<16>(
-            high.lanes,
+        lanes: low_states.lanes.shuffle::<16>(
+            high_states.lanes,
             [0, 4, 2, 6, 1, 5, 3, 7, 8, 12, 10, 14, 9, 13, 11, 15],
         ),
     }
 }
 
 /// The absolute value of each lane.
-pub fn absolute_values(a: SixteenLanes) -> SixteenLanes
-    requires { AbsFit16Bits a.lanes }
+pub fn absolute_values(values: SixteenLanes) -> SixteenLanes
+    requires { AbsFit16Bits values.lanes }
     ensures each { (s : ℕ) → s < 16 → lane result.lanes s ≡
-        (if int_lt (lane a.lanes s) (pos 0 -ℤ lane a.lanes s) then pos 0 -ℤ lane a.lanes s else lane a.lanes s) }
+        (if int_lt (lane values.lanes s) (pos 0 -ℤ lane values.lanes s) then pos 0 -ℤ lane values.lanes s else lane values.lanes s) }
     ensures lanes { AbsFit16Bits result.lanes }
 {
     SixteenLanes {
-        lanes: a.lanes.abs(),
+        lanes: values.lanes.abs(),
     }
 }
 

@@ -52,7 +52,7 @@ impl PathMetrics {
     }
 }
 
-/// The candidate metrics of all states: for each state, the path metric of the best list that begins with bit 0, and of the best list that
+/// The candidate metrics of all states: for each state, the path metric of the best word that begins with bit 0 and of the best word that
 /// begins with bit 1, each minus 31,000. The `low_states` vectors hold states 0 to 7 and the `high_states` vectors states 8 to 15, both in
 /// bit-reversed order.
 #[derive(Clone, Copy)]
@@ -116,16 +116,16 @@ impl TrellisStep {
 }
 
 /// The path metrics before a tail bit. A tail bit is always 0, so nothing is compared.
-pub fn tail_step(after: PathMetrics, branch_metrics: EightLanes) -> PathMetrics
-    requires even { HaveHeadroom16 after.even_states.lanes }
+pub fn tail_step(later_metrics: PathMetrics, branch_metrics: EightLanes) -> PathMetrics
+    requires even { HaveHeadroom16 later_metrics.even_states.lanes }
     requires branch_metrics { AreBranchMetrics branch_metrics.lanes }
     ensures each { (pair : List ℤ) → HasBranchMetrics branch_metrics.lanes pair → (s : ℕ) → s < 16 →
-        lane (path_metric result) s ≡ candidate_metric (path_metric after) pair s 0 }
+        lane (path_metric result) s ≡ candidate_metric (path_metric later_metrics) pair s 0 }
     ensures even { AreInt16 result.even_states.lanes }
     ensures odd { AreInt16 result.odd_states.lanes }
 {
-    let low = add_branch_metrics(after.even_states, branch_metrics);
-    let high = subtract_branch_metrics(after.even_states, branch_metrics);
+    let low = add_branch_metrics(later_metrics.even_states, branch_metrics);
+    let high = subtract_branch_metrics(later_metrics.even_states, branch_metrics);
     PathMetrics {
         even_states: interleave_first_lanes(low, high),
         odd_states: interleave_last_lanes(low, high),

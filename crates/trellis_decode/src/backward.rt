@@ -5,7 +5,7 @@ ghost use Rattle.std.specs.Prelude.{◌≡◌, ℕ, ◌*◌, ◌<◌, ◌≤◌,
 ghost use Rattle.trellis_decode.specs.Lanes.{AreSignedOctets, lane};
 ghost use Rattle.trellis_decode.specs.Trellis.{IsSurvivor};
 ghost use Rattle.trellis_decode.specs.AcsLanes.{AreInt16, lane_of_state, path_metric};
-ghost use Rattle.trellis_decode.specs.SurvivorPaths.{AreMetricsWithin, AreSurvivors, survivor_traceback};
+ghost use Rattle.trellis_decode.specs.SurvivorPaths.{AreMetricsWithin, AreSurvivors, HoldLanesFrom, survivor_traceback};
 
 use crate::acs_step::{PathMetrics, tail_step};
 use crate::branch_metrics::four_branch_metrics;
@@ -25,6 +25,7 @@ pub fn fill_survivors(soft: &[i8], survivors: &mut [[u8; 16]]) -> PathMetrics
     ensures even { AreInt16 result.even_states.lanes }
     ensures odd { AreInt16 result.odd_states.lanes }
     ensures at_least { 1 ≤ length survivors.new }
+    ensures maps { HoldLanesFrom 0 survivors.new }
 {
     let last = survivors.len() - 1;
     survivors[last] = [0; 16];

@@ -22,7 +22,7 @@ pub struct DecisionStep {
     /// The path metrics before the bit.
     pub values: PathMetrics,
     /// Bit `s` is the decision in state `s`: the first bit of its survivor.
-    pub row: u16,
+    pub decision_bits: u16,
     /// The cost of each decision: how much path metric the other decision would lose in that state.
     pub losses: SixteenLanes,
 }
@@ -36,11 +36,11 @@ impl DecisionStep {
         requires branch_metrics { AreBranchMetrics branch_metrics.lanes }
         ensures each { (pair : List ℤ) → HasBranchMetrics branch_metrics.lanes pair → (s : ℕ) → s < 16 →
             IsDecision (path_metric after) pair s
-            (lane (path_metric result.values) s) (result.row / 2 ^ s % 2) }
+            (lane (path_metric result.values) s) (result.decision_bits / 2 ^ s % 2) }
         ensures losses { (pair : List ℤ) → HasBranchMetrics branch_metrics.lanes pair → (s : ℕ) → s < 16 →
             lane result.losses.lanes s ≡
-            candidate_metric (path_metric after) pair s (result.row / 2 ^ s % 2)
-            -ℤ candidate_metric (path_metric after) pair s (1 - result.row / 2 ^ s % 2) }
+            candidate_metric (path_metric after) pair s (result.decision_bits / 2 ^ s % 2)
+            -ℤ candidate_metric (path_metric after) pair s (1 - result.decision_bits / 2 ^ s % 2) }
         ensures lanes { AbsFit16Bits result.losses.lanes }
         ensures even { AreInt16 result.values.even_states.lanes }
         ensures odd { AreInt16 result.values.odd_states.lanes }
@@ -57,7 +57,7 @@ impl DecisionStep {
         let leads = to_state_order(low, high);
         DecisionStep {
             values: step.values,
-            row: signs(leads),
+            decision_bits: signs(leads),
             losses: absolute_values(leads),
         }
     }

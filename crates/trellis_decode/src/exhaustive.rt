@@ -1,4 +1,4 @@
-//! Decodes by trying every information list, in direct application of the definition of the most likely list. Tests compare `decode` with
+//! Decodes by trying every encoder input, in direct application of the definition of the most likely input. Tests compare `decode` with
 //! this search.
 
 ghost use Rattle.std.specs.Prelude.{◌≡◌, ℕ, ◌*◌, ◌^◌, ◌<◌, ◌≤◌, pos, ◌-ℤ◌, ◌≤ℤ◌, List, length};
@@ -9,7 +9,7 @@ ghost use Rattle.trellis_decode.specs.Words.{to_binary};
 
 use conv_code::encode;
 
-/// Finds the most likely information list by trying all of them in lexicographic order. Returns the same results as `decode`, but is slow
+/// Finds the most likely encoder input by trying all of them in lexicographic order. Returns the same results as `decode`, but is slow
 /// and therefore limited to 20 bits.
 pub fn search(soft: &[i8], u: &mut [u8]) -> i32
     requires count { length soft.now ≡ 2 * length u.old }
@@ -20,7 +20,7 @@ pub fn search(soft: &[i8], u: &mut [u8]) -> i32
     ensures value { result ≡ likelihood soft.now (encoding u.new) }
     ensures only { (v : List ℕ) → IsMostLikely soft.now v → v ≡ u.new }
 {
-    let lists = count_information_lists(u.len());
+    let lists = count_encoder_inputs(u.len());
     let mut chosen = 0;
     write_bits_and_zero_tail(chosen, u);
     let mut best = path_metric(soft, u);
@@ -36,40 +36,40 @@ pub fn search(soft: &[i8], u: &mut [u8]) -> i32
     best
 }
 
-/// The number of information lists of `bits` bits; the last four bits of each are 0.
-fn count_information_lists(bits: usize) -> u32
-    requires at_least { 5 ≤ bits }
-    requires at_most { bits ≤ 20 }
-    ensures { 16 * result ≡ 2 ^ bits }
+/// The number of encoder inputs of `bit_count` bits; the last four bits of each are 0.
+fn count_encoder_inputs(bit_count: usize) -> u32
+    requires at_least { 5 ≤ bit_count }
+    requires at_most { bit_count ≤ 20 }
+    ensures { 16 * result ≡ 2 ^ bit_count }
 {
-    1 << (bits - 4)
+    1 << (bit_count - 4)
 }
 
-/// Writes `number` in binary, most significant bit first, followed by four zeros.
-fn write_bits_and_zero_tail(number: u32, u: &mut [u8])
+/// Writes `information_bits`, most significant bit first, followed by four zeros.
+fn write_bits_and_zero_tail(information_bits: u32, u: &mut [u8])
     requires at_least { 5 ≤ length u.old }
     requires at_most { length u.old ≤ 20 }
-    requires fits { 16 * number < 2 ^ length u.old }
-    ensures list { u.new ≡ to_binary (length u.old) (16 * number) }
+    requires fits { 16 * information_bits < 2 ^ length u.old }
+    ensures list { u.new ≡ to_binary (length u.old) (16 * information_bits) }
     ensures information { IsEncoderInput u.new }
 {
-    let spelled = 16 * number;
+    let spelled = 16 * information_bits;
     let last = u.len() - 1;
     for k in 0..u.len() {
         u[k] = ((spelled >> (last - k)) & 1) as u8;
     }
 }
 
-/// The path metric of the information list `u` for the soft bits.
-fn path_metric(soft: &[i8], u: &[u8]) -> i32
-    requires count { length soft.now ≡ 2 * length u.now }
-    requires at_most { length u.now ≤ 20 }
-    requires information { IsEncoderInput u.now }
-    ensures { result ≡ likelihood soft.now (encoding u.now) }
+/// The path metric of `input`: the likelihood of its coded bits for the soft bits.
+fn path_metric(soft: &[i8], input: &[u8]) -> i32
+    requires count { length soft.now ≡ 2 * length input.now }
+    requires at_most { length input.now ≤ 20 }
+    requires information { IsEncoderInput input.now }
+    ensures { result ≡ likelihood soft.now (encoding input.now) }
 {
     let mut coded = [0; 40];
     let coded = &mut coded[..soft.len()];
-    encode(u, coded);
+    encode(input, coded);
     sum_of_bit_metrics(soft, coded)
 }
 

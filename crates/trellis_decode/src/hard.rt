@@ -16,7 +16,7 @@ ghost use Rattle.trellis_decode.specs.Hard.{lane_of_next_state_0};
 ghost use Rattle.trellis_decode.specs.Lanes.{AreSignedOctets, lane};
 ghost use Rattle.trellis_decode.specs.Trellis.{IsSurvivor};
 ghost use Rattle.trellis_decode.specs.AcsLanes.{lane_of_state};
-ghost use Rattle.trellis_decode.specs.SurvivorPaths.{AreMetricsWithin, AreSurvivors, survivor_traceback};
+ghost use Rattle.trellis_decode.specs.SurvivorPaths.{AreMetricsWithin, AreSurvivors, HoldLanesFrom, survivor_traceback};
 
 use crate::survivors::trace_back_survivors;
 use conv_code::ENCODER_INPUT_BITS;
@@ -32,16 +32,57 @@ pub struct StateMetrics {
 #[derive(Clone, Copy)]
 pub struct HardSurvivors {
     pub values: StateMetrics,
-    /// The survivor map: the lane of each state holds the lane of its survivor's end state.
+    /// The survivor map: the lane of each state holds the lane of the state that its survivor leads to at the end of these bits.
     pub survivor_map: u8x16,
 }
 
-/// The branch metric of bit 0 in each state, divided by 254, for each of the four combinations of signs of the two soft bits.
-static HARD_BRANCH_METRICS: [[i8; 16]; 4] = [
-    [1, -1, 1, -1, 0, 0, 0, 0, -1, 1, -1, 1, 0, 0, 0, 0],
-    [0, 0, 0, 0, -1, 1, -1, 1, 0, 0, 0, 0, 1, -1, 1, -1],
-    [0, 0, 0, 0, 1, -1, 1, -1, 0, 0, 0, 0, -1, 1, -1, 1],
-    [-1, 1, -1, 1, 0, 0, 0, 0, 1, -1, 1, -1, 0, 0, 0, 0],
+// The branch metric of bit 0 in each state, divided by 254, for each of the four combinations of signs of the two soft bits.
+const BOTH_POSITIVE: [i8; 16] = [1, -1, 1, -1, 0, 0, 0, 0, -1, 1, -1, 1, 0, 0, 0, 0];
+
+const FIRST_NEGATIVE: [i8; 16] = [0, 0, 0, 0, -1, 1, -1, 1, 0, 0, 0, 0, 1, -1, 1, -1];
+
+const SECOND_NEGATIVE: [i8; 16] = [0, 0, 0, 0, 1, -1, 1, -1, 0, 0, 0, 0, -1, 1, -1, 1];
+
+const BOTH_NEGATIVE: [i8; 16] = [-1, 1, -1, 1, 0, 0, 0, 0, 1, -1, 1, -1, 0, 0, 0, 0];
+
+/// The branch metrics of an information bit, for each combination of signs of its soft bits and of those of the next bit.
+static FIRST_BRANCH_METRICS: [[i8; 16]; 16] = [
+    BOTH_POSITIVE,
+    FIRST_NEGATIVE,
+    SECOND_NEGATIVE,
+    BOTH_NEGATIVE,
+    BOTH_POSITIVE,
+    FIRST_NEGATIVE,
+    SECOND_NEGATIVE,
+    BOTH_NEGATIVE,
+    BOTH_POSITIVE,
+    FIRST_NEGATIVE,
+    SECOND_NEGATIVE,
+    BOTH_NEGATIVE,
+    BOTH_POSITIVE,
+    FIRST_NEGATIVE,
+    SECOND_NEGATIVE,
+    BOTH_NEGATIVE,
+];
+
+/// The branch metrics of the next information bit, for the same combinations of signs.
+static SECOND_BRANCH_METRICS: [[i8; 16]; 16] = [
+    BOTH_POSITIVE,
+    BOTH_POSITIVE,
+    BOTH_POSITIVE,
+    BOTH_POSITIVE,
+    FIRST_NEGATIVE,
+    FIRST_NEGATIVE,
+    FIRST_NEGATIVE,
+    FIRST_NEGATIVE,
+    SECOND_NEGATIVE,
+    SECOND_NEGATIVE,
+    SECOND_NEGATIVE,
+    SECOND_NEGATIVE,
+    BOTH_NEGATIVE,
+    BOTH_NEGATIVE,
+    BOTH_NEGATIVE,
+    BOTH_NEGATIVE,
 ];
 
 /// Returns whether all soft bits are 127 or -127. The loop has no early exit, so the compiler can vectorize it.
@@ -63,7 +104,7 @@ fn is_hard_bit(value: i8) -> bool
     value == 127 || value == -127
 }
 
-/// Writes the most likely information list for the hard bits `soft` to `u`, and returns its path metric.
+/// Writes the most likely encoder input for the hard bits `soft` to `u`, and returns its path metric.
 pub fn decode_hard(soft: &[i8], u: &mut [u8]) -> i32
     requires count { length soft.now ≡ 2 * length u.old }
     requires whole { length u.old % 4 ≡ 0 }
@@ -102,6 +143,7 @@ fn fill_hard_survivors(soft: &[i8], survivors: &mut [[u8; 16]]) -> StateMetrics
         (hard_lane_metrics result.lanes) s) }
     ensures lanes { AreInt8 result.lanes }
     ensures at_least { 1 ≤ length survivors.new }
+    ensures maps { HoldLanesFrom 0 survivors.new }
 {
     let last = survivors.len() - 1;
     survivors[last] = [0; 16];
@@ -174,21 +216,21 @@ impl HardSurvivors {
         let one = bit_1_candidates(self.values, branch_metrics);
         HardSurvivors {
             values: larger_lanes(zero, one),
-            survivor_map: extend_map_swizzle_dyn(self.survivor_map, zero, one),
+            survivor_map: extend_survivor_map_swizzle_dyn(self.survivor_map, zero, one),
         }
     }
 }
 
-/// The candidate metrics of bit 0: for each state, the path metric of its best list that begins with bit 0.
+/// The candidate metrics of bit 0: for each state, the path metric of its best word that begins with bit 0.
 #[inline]
-fn bit_0_candidates(after: StateMetrics, branch_metrics: StateMetrics) -> StateMetrics
-    requires headroom { HaveHeadroom8 after.lanes }
+fn bit_0_candidates(later_metrics: StateMetrics, branch_metrics: StateMetrics) -> StateMetrics
+    requires headroom { HaveHeadroom8 later_metrics.lanes }
     requires branch_metrics { AreMinusOneToOne branch_metrics.lanes }
     ensures each { (k : ℕ) → k < 16 → lane result.lanes k ≡
-        lane after.lanes (lane_of_next_state_0 k) +ℤ lane branch_metrics.lanes k }
+        lane later_metrics.lanes (lane_of_next_state_0 k) +ℤ lane branch_metrics.lanes k }
     ensures lanes { AreInt8 result.lanes }
 {
-    let next = after
+    let next = later_metrics
         .lanes
         .swizzle::<16>([0, 8, 1, 9, 2, 10, 3, 11, 0, 8, 1, 9, 2, 10, 3, 11]);
     StateMetrics {
@@ -196,16 +238,16 @@ fn bit_0_candidates(after: StateMetrics, branch_metrics: StateMetrics) -> StateM
     }
 }
 
-/// The candidate metrics of bit 1: for each state, the path metric of its best list that begins with bit 1.
+/// The candidate metrics of bit 1: for each state, the path metric of its best word that begins with bit 1.
 #[inline]
-fn bit_1_candidates(after: StateMetrics, branch_metrics: StateMetrics) -> StateMetrics
-    requires headroom { HaveHeadroom8 after.lanes }
+fn bit_1_candidates(later_metrics: StateMetrics, branch_metrics: StateMetrics) -> StateMetrics
+    requires headroom { HaveHeadroom8 later_metrics.lanes }
     requires branch_metrics { AreMinusOneToOne branch_metrics.lanes }
     ensures each { (k : ℕ) → k < 16 → lane result.lanes k ≡
-        lane after.lanes (lane_of_next_state_1 k) -ℤ lane branch_metrics.lanes k }
+        lane later_metrics.lanes (lane_of_next_state_1 k) -ℤ lane branch_metrics.lanes k }
     ensures lanes { AreInt8 result.lanes }
 {
-    let next = after
+    let next = later_metrics
         .lanes
         .swizzle::<16>([4, 12, 5, 13, 6, 14, 7, 15, 4, 12, 5, 13, 6, 14, 7, 15]);
     StateMetrics {
@@ -229,7 +271,7 @@ fn larger_lanes(zero: StateMetrics, one: StateMetrics) -> StateMetrics
 
 /// Extends a survivor map backward by one bit: in each state, the bit with the greater candidate metric, or bit 0 on a tie.
 #[inline]
-fn extend_map_swizzle_dyn(map: u8x16, zero: StateMetrics, one: StateMetrics) -> u8x16
+fn extend_survivor_map_swizzle_dyn(map: u8x16, zero: StateMetrics, one: StateMetrics) -> u8x16
     requires map { length map ≡ 16 }
     requires zero { AreInt8 zero.lanes }
     requires one { AreInt8 one.lanes }
@@ -242,10 +284,11 @@ fn extend_map_swizzle_dyn(map: u8x16, zero: StateMetrics, one: StateMetrics) -> 
     map.swizzle_dyn(one.lanes.simd_gt(zero.lanes).select(ones, zeros))
 }
 
-/// Computes the result of `extend_map_swizzle_dyn` with two fixed swizzles. In WebAssembly, `swizzle_dyn` takes sixteen loads; on other
+/// Computes the result of `extend_survivor_map_swizzle_dyn` with two fixed swizzles. In WebAssembly, `swizzle_dyn` takes sixteen loads;
+/// on other
 /// targets, it is one instruction.
 #[inline]
-pub fn extend_map_swizzle_fixed(map: u8x16, zero: StateMetrics, one: StateMetrics) -> u8x16
+pub fn extend_survivor_map_swizzle_fixed(map: u8x16, zero: StateMetrics, one: StateMetrics) -> u8x16
     requires map { length map ≡ 16 }
     requires zero { AreInt8 zero.lanes }
     requires one { AreInt8 one.lanes }
@@ -259,7 +302,7 @@ pub fn extend_map_swizzle_fixed(map: u8x16, zero: StateMetrics, one: StateMetric
 }
 
 /// The branch metrics of four information bits, each computed from a pair of hard bits.
-#[inline]
+#[inline(always)]
 fn hard_branch_metrics(soft: &[i8]) -> [StateMetrics; 4]
     requires count { length soft.now ≡ 8 }
     requires hard { All IsHardBit soft.now }
@@ -269,33 +312,50 @@ fn hard_branch_metrics(soft: &[i8]) -> [StateMetrics; 4]
 {
     let signs = signs_of(soft);
     [
-        branch_metrics_of_signs(signs % 4),
-        branch_metrics_of_signs(signs / 4 % 4),
-        branch_metrics_of_signs(signs / 16 % 4),
-        branch_metrics_of_signs(signs / 64 % 4),
+        first_branch_metrics(signs % 16),
+        second_branch_metrics(signs % 16),
+        first_branch_metrics(signs / 16 % 16),
+        second_branch_metrics(signs / 16 % 16),
     ]
 }
 
-/// Bit `k` of the result is 1 if soft bit `k` is negative.
-#[inline]
+/// Bit `k` of the result is 1 if soft bit `k` is negative. With zeros in the other eight lanes, the signs take two instructions, not three.
+#[inline(always)]
 fn signs_of(soft: &[i8]) -> u64
     requires count { length soft.now ≡ 8 }
     requires octets { AreSignedOctets soft.now }
     ensures { (k : ℕ) → k < 8 → result / 2 ^ k % 2 ≡ sign_bit_of (lane soft.now k) }
 {
-    i8x8::from_slice(soft).simd_lt(i8x8::splat(0)).to_bitmask()
+    let mut octets = [0; 16];
+    octets[..8].copy_from_slice(soft);
+    i8x16::from_array(octets)
+        .simd_lt(i8x16::splat(0))
+        .to_bitmask()
 }
 
-/// The branch metrics of an information bit, from the signs of its two soft bits: bit 0 of `signs` is 1 if the first soft bit is negative,
-/// and bit 1 is 1 if the second is.
-#[inline]
-fn branch_metrics_of_signs(signs: u64) -> StateMetrics
-    requires { signs < 4 }
-    ensures has { (p q : ℤ) → IsHardBit p → IsHardBit q → signs ≡ sign_bit_of p + 2 * sign_bit_of q →
+/// The branch metrics of an information bit, from the signs of its two soft bits and of the two soft bits of the next bit: bit `k` of
+/// `signs` is 1 if soft bit `k` is negative.
+#[inline(always)]
+fn first_branch_metrics(signs: u64) -> StateMetrics
+    requires { signs < 16 }
+    ensures has { (p q : ℤ) → IsHardBit p → IsHardBit q → signs % 4 ≡ sign_bit_of p + 2 * sign_bit_of q →
         HasHardBranchMetrics result.lanes (p ∷ q ∷ []) }
     ensures units { AreMinusOneToOne result.lanes }
 {
     StateMetrics {
-        lanes: i8x16::from_array(HARD_BRANCH_METRICS[signs as usize]),
+        lanes: i8x16::from_array(FIRST_BRANCH_METRICS[signs as usize]),
+    }
+}
+
+/// The branch metrics of the next information bit, from the same signs.
+#[inline(always)]
+fn second_branch_metrics(signs: u64) -> StateMetrics
+    requires { signs < 16 }
+    ensures has { (p q : ℤ) → IsHardBit p → IsHardBit q → signs / 4 ≡ sign_bit_of p + 2 * sign_bit_of q →
+        HasHardBranchMetrics result.lanes (p ∷ q ∷ []) }
+    ensures units { AreMinusOneToOne result.lanes }
+{
+    StateMetrics {
+        lanes: i8x16::from_array(SECOND_BRANCH_METRICS[signs as usize]),
     }
 }

@@ -1,7 +1,7 @@
 //! A soft-decision Viterbi decoder for the convolutional code of GSM 05.03 (today 3GPP TS 45.003), section 4.1.3, with SIMD vectors.
 //!
 //! The trellis is processed backward: each step extends the survivors of the sixteen states by one earlier bit. Traceback then reads the
-//! decisions forward, and taking bit 0 on a tie selects the lexicographically first of equally likely lists.
+//! decisions forward, and taking bit 0 on a tie selects the lexicographically first of equally likely words.
 #![tactic(auto)]
 
 mod acs_lanes;
@@ -27,7 +27,7 @@ pub use conv_code::{CODED_BITS, ENCODER_INPUT_BITS};
 pub use exhaustive::search;
 pub use trellis::{fill_decisions, trace_back};
 
-/// Writes the most likely information list for the soft bits to `u` and returns its path metric. If several lists are equally likely, it
+/// Writes the most likely encoder input for the soft bits to `u` and returns its path metric. If several inputs are equally likely, it
 /// takes the first in lexicographic order.
 ///
 /// `soft` must have two soft bits for each bit of `u`. The old content of `u` is ignored.

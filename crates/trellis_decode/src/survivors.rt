@@ -3,16 +3,16 @@
 
 ghost use Rattle.std.specs.Prelude.{◌≡◌, ℕ, ◌+◌, ◌-◌, ◌*◌, ◌<◌, List, [], ◌++◌, ℤ, length, drop, slice_index};
 ghost use Rattle.trellis_decode.specs.Lanes.{AreSignedOctets};
-ghost use Rattle.trellis_decode.specs.Trellis.{next};
+ghost use Rattle.trellis_decode.specs.Trellis.{next_trellis_state};
 ghost use Rattle.trellis_decode.specs.AcsLanes.{AreBranchMetrics, AreInt16, AreDecisionLanes, lane_decisions, HasBranchMetrics};
 ghost use Rattle.trellis_decode.specs.AcsLanes.{HaveHeadroom16, lane_of_state};
 ghost use Rattle.trellis_decode.specs.AcsLanes.{path_metric};
-ghost use Rattle.trellis_decode.specs.SurvivorPaths.{AreMetricsWithin, AreSurvivors, survivor_traceback};
+ghost use Rattle.trellis_decode.specs.SurvivorPaths.{AreMetricsWithin, AreSurvivors, HoldLanesFrom, survivor_traceback};
 ghost use Rattle.trellis_decode.specs.Words.{to_binary};
 
 use crate::acs_lanes::{EightDecisions, EightLanes};
 use crate::acs_step::{PathMetrics, TrellisStep};
-use crate::hard::{StateMetrics, extend_map_swizzle_fixed};
+use crate::hard::{StateMetrics, extend_survivor_map_swizzle_fixed};
 use std::simd::prelude::*;
 
 /// The survivors of all states over a few bits.
@@ -20,7 +20,7 @@ use std::simd::prelude::*;
 pub struct Survivors {
     /// The path metric of each state before the first of the bits.
     pub values: PathMetrics,
-    /// The survivor map: the lane of each state holds the lane of its survivor's end state.
+    /// The survivor map: the lane of each state holds the lane of the state that its survivor leads to at the end of these bits.
     pub survivor_map: u8x16,
 }
 
@@ -71,12 +71,12 @@ impl Survivors {
 /// Extends a survivor map backward by one bit: in each state, the decision of that state.
 ///
 /// A map has a lane for each state: states 0 to 7 in bit-reversed order, then states 8 to 15 in bit-reversed order.
-fn extend_survivor_map(map: u8x16, low: EightDecisions, high: EightDecisions) -> u8x16
-    requires map { length map ≡ 16 }
+fn extend_survivor_map(survivor_map: u8x16, low: EightDecisions, high: EightDecisions) -> u8x16
+    requires map { length survivor_map ≡ 16 }
     requires low { AreDecisionLanes low.lanes }
     requires high { AreDecisionLanes high.lanes }
     ensures each { (s : ℕ) → s < 16 →
-        slice_index result (lane_of_state s) ≡ slice_index map (lane_of_state (next s (slice_index
+        slice_index result (lane_of_state s) ≡ slice_index survivor_map (lane_of_state (next_trellis_state s (slice_index
         (lane_decisions low.lanes high.lanes) s))) }
     ensures count { length result ≡ 16 }
 {
@@ -89,7 +89,7 @@ fn extend_survivor_map(map: u8x16, low: EightDecisions, high: EightDecisions) ->
     let none = StateMetrics {
         lanes: i8x16::splat(0),
     };
-    extend_map_swizzle_fixed(map, taken, none)
+    extend_survivor_map_swizzle_fixed(survivor_map, taken, none)
 }
 
 /// The four bits of the state in each lane of a survivor map, the oldest bit first.
@@ -112,33 +112,34 @@ static STATE_BITS: [[u8; 4]; 16] = [
     [1, 1, 1, 1],
 ];
 
-/// The four bits of the state in lane `at` of a survivor map, the oldest bit first.
-fn state_bits(at: u8) -> [u8; 4]
-    requires { at < 16 }
-    ensures { result ≡ to_binary 4 (lane_of_state at) }
+/// The four bits of the state in lane `lane_index` of a survivor map, the oldest bit first.
+fn bits_of_state_in_lane(lane_index: u8) -> [u8; 4]
+    requires { lane_index < 16 }
+    ensures { result ≡ to_binary 4 (lane_of_state lane_index) }
 {
-    STATE_BITS[usize::from(at)]
+    STATE_BITS[usize::from(lane_index)]
 }
 
 /// Traceback: follows the survivor maps from lane `at`, and writes the four bits of each state that it reaches.
 pub fn trace_back_survivors(survivors: &[[u8; 16]], at: u8, u: &mut [u8])
     requires count { length u.old ≡ 4 * length survivors.now }
     requires at { at < 16 }
+    requires maps { HoldLanesFrom 0 survivors.now }
     ensures { u.new ≡ survivor_traceback survivors.now at }
 {
     let mut at = at;
     for (group, map) in survivors.iter().enumerate() {
-        at = map[usize::from(at)] % 16;
-        u[4 * group..4 * group + 4].copy_from_slice(&state_bits(at));
+        at = map[usize::from(at)];
+        u[4 * group..4 * group + 4].copy_from_slice(&bits_of_state_in_lane(at));
     }
 }
 
 /// Writes the last `few` bits of the state in lane `at`: the bits that lead to it from state 0.
-pub fn write_last_state_bits(at: u8, few: usize, u: &mut [u8])
-    requires count { length u.old ≡ few }
-    requires few { few < 4 }
-    requires at { at < 16 }
-    ensures { u.new ≡ drop (4 - few) (to_binary 4 (lane_of_state at)) }
+pub fn write_last_state_bits(lane_index: u8, bit_count: usize, u: &mut [u8])
+    requires count { length u.old ≡ bit_count }
+    requires few { bit_count < 4 }
+    requires at { lane_index < 16 }
+    ensures { u.new ≡ drop (4 - bit_count) (to_binary 4 (lane_of_state lane_index)) }
 {
-    u.copy_from_slice(&state_bits(at)[4 - few..]);
+    u.copy_from_slice(&bits_of_state_in_lane(lane_index)[4 - bit_count..]);
 }

@@ -3,7 +3,7 @@ use conv_code::{CODED_BITS, ENCODER_INPUT_BITS};
 use std::test::Fail;
 
 // Calls `decode`, or returns `None` if a precondition of its contract does not hold.
-fn decoded(soft: &[i8], u: &mut [u8]) -> Option<i32> {
+fn decode_if_valid(soft: &[i8], u: &mut [u8]) -> Option<i32> {
     if soft.len() != 2 * u.len() || u.len() < 5 || u.len() > ENCODER_INPUT_BITS {
         return None;
     }
@@ -13,7 +13,7 @@ fn decoded(soft: &[i8], u: &mut [u8]) -> Option<i32> {
     Some(decode(soft, u))
 }
 
-fn searched(soft: &[i8], u: &mut [u8]) -> Option<i32> {
+fn search_if_valid(soft: &[i8], u: &mut [u8]) -> Option<i32> {
     if soft.len() != 2 * u.len() || u.len() < 5 || u.len() > 20 {
         return None;
     }
@@ -29,7 +29,10 @@ fn decodes_erased_bits_to_zeros(rt: HostRuntime) -> Result<(), Fail> {
     for length in [5, 6, 7, 8, 17, 18, 39, 127, 227, ENCODER_INPUT_BITS] {
         let mut u = [9; ENCODER_INPUT_BITS];
         assert!(rt; length <= ENCODER_INPUT_BITS);
-        assert_eq!(rt; decoded(&soft[..2 * length], &mut u[..length]), Some(0));
+        assert_eq!(rt;
+            decode_if_valid(&soft[..2 * length], &mut u[..length]),
+            Some(0)
+        );
         assert!(rt; u[..length].iter().all(|bit| *bit == 0));
     }
     Ok(())
@@ -40,7 +43,7 @@ fn lets_a_strong_soft_bit_outweigh_weak_ones(rt: HostRuntime) -> Result<(), Fail
     let mut soft = [1; 36];
     soft[0] = -7;
     let mut u = [9; 18];
-    assert_eq!(rt; decoded(&soft, &mut u), Some(30));
+    assert_eq!(rt; decode_if_valid(&soft, &mut u), Some(30));
     assert_eq!(rt; u, [1, 0, 0, 0, 0, 0, 0, 0, 0, 0, 0, 0, 0, 0, 0, 0, 0, 0]);
     Ok(())
 }
@@ -51,7 +54,7 @@ fn decodes_only_lists_with_zero_tail(rt: HostRuntime) -> Result<(), Fail> {
     soft[34] = -1;
     soft[35] = -1;
     let mut u = [9; 18];
-    assert_eq!(rt; decoded(&soft, &mut u), Some(32));
+    assert_eq!(rt; decode_if_valid(&soft, &mut u), Some(32));
     assert_eq!(rt; u, [0; 18]);
     Ok(())
 }
@@ -73,7 +76,7 @@ fn decodes_a_synchronisation_burst(rt: HostRuntime) -> Result<(), Fail> {
     let mut soft = [0; 78];
     write_hard_bits(&coded, &mut soft);
     let mut u = [9; 39];
-    assert_eq!(rt; decoded(&soft, &mut u), Some(9906));
+    assert_eq!(rt; decode_if_valid(&soft, &mut u), Some(9906));
     let word = [
         0, 0, 0, 0, 0, 0, 0, 0, 0, 0, 0, 0, 0, 0, 0, 0, 0, 0, 0, 0, 0, 0, 0, 0, 0, 1, 1, 1, 1, 1,
         1, 1, 1, 1, 1, 0, 0, 0, 0,
@@ -82,7 +85,7 @@ fn decodes_a_synchronisation_burst(rt: HostRuntime) -> Result<(), Fail> {
     Ok(())
 }
 
-// Pseudo-random soft bits: mostly -1, 0 and 1, so that many lists have equal path metrics, and some of 127.
+// Pseudo-random soft bits: mostly -1, 0 and 1, so that many words have equal path metrics, and some of 127.
 fn fill_with_noise(soft: &mut [i8], start: u32) {
     let mut seed = start;
     for value in soft.iter_mut() {
@@ -108,8 +111,8 @@ fn agrees_with_exhaustive_search(rt: HostRuntime) -> Result<(), Fail> {
             let mut u = [9; 11];
             let mut v = [9; 11];
             assert_eq!(rt;
-                decoded(soft, &mut u[..length]),
-                searched(soft, &mut v[..length])
+                decode_if_valid(soft, &mut u[..length]),
+                search_if_valid(soft, &mut v[..length])
             );
             assert_eq!(rt; u, v);
         }

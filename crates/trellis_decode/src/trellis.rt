@@ -44,39 +44,39 @@ fn prove_octet_range(soft: &[i8])
     }
 }
 
-/// Fills `rows` and `losses` for `places` bits, starting at index `first`. `after` holds the path metrics after these bits, and the result
+/// Fills `rows` and `losses` for `bit_count` bits from index `first` on. `later_metrics` holds the metrics after them, and the result
 /// the metrics before them.
 #[inline]
 fn fill_decision_rows(
-    after: PathMetrics,
+    later_metrics: PathMetrics,
     soft: &[i8],
     first: usize,
-    places: usize,
+    bit_count: usize,
     rows: &mut [u16],
     losses: &mut [[i16; 16]],
 ) -> PathMetrics
-    requires places { places ≤ 4 }
+    requires places { bit_count ≤ 4 }
     requires inside { first + 4 ≤ length rows.old }
     requires count { length soft.now ≡ 2 * length rows.old }
     requires same { length losses.old ≡ length rows.old }
     requires at_most { length rows.old ≤ ENCODER_INPUT_BITS }
     requires octets { AreSignedOctets soft.now }
-    requires decided { HasDecisionsAndMetrics (drop (first + places) rows.old) (drop (first + places) losses.old)
-        (drop (2 * (first + places)) soft.now)
-        (path_metric after) }
-    requires even { AreInt16 after.even_states.lanes }
-    requires odd { AreInt16 after.odd_states.lanes }
+    requires decided { HasDecisionsAndMetrics (drop (first + bit_count) rows.old) (drop (first + bit_count) losses.old)
+        (drop (2 * (first + bit_count)) soft.now)
+        (path_metric later_metrics) }
+    requires even { AreInt16 later_metrics.even_states.lanes }
+    requires odd { AreInt16 later_metrics.odd_states.lanes }
     ensures decided { HasDecisionsAndMetrics (drop first rows.new) (drop first losses.new) (drop (2 * first) soft.now)
         (path_metric result) }
     ensures even { AreInt16 result.even_states.lanes }
     ensures odd { AreInt16 result.odd_states.lanes }
 {
     let branch_metrics = four_branch_metrics(&soft[2 * first..2 * first + 8]);
-    let mut values = after;
-    for k in (0..places).rev() {
+    let mut values = later_metrics;
+    for k in (0..bit_count).rev() {
         let step = DecisionStep::new(values, branch_metrics[k]);
         values = step.values;
-        rows[first + k] = step.row;
+        rows[first + k] = step.decision_bits;
         losses[first + k] = step.losses.lanes.to_array();
     }
     values

@@ -1,30 +1,32 @@
 -- Sessions over blocks: they have answers, one course, and the log of a session of frames.
-use Rattle.um_air.proofs.Words.{Accepts, AckedAtMostDelivered, AirState, All-append, All-cons, All-drop, All-head, All-map, All-nil}
-use Rattle.um_air.proofs.Words.{All-replicate, All-set, All-tail, All-take, AllFit, AllReported, AllSay, AllZip-long, AllZip, All, Answer}
-use Rattle.um_air.proofs.Words.{AreBits, AreCodedFrames, AreOctets, Block, Bool, BothSides, BySide, CarriesOutEvent, Channel, Claims}
-use Rattle.um_air.proofs.Words.{Content, Deliver, EndOctets, EventDelivers, EventInvertsFewBits, EventMessageIsOctets, EventRefusal, Event}
-use Rattle.um_air.proofs.Words.{FrameFits, Frame, IfSome, InvertFewBits, IsAirRun, IsAirStep, IsBenignFrom, IsBenignStep, IsBenign}
-use Rattle.um_air.proofs.Words.{IsCorrectable-equal, IsCorrectable, IsFitting, IsFrameCoding, IsInterleaved, IsOldestSentOrNone}
-use Rattle.um_air.proofs.Words.{IsOrderedLog, IsReceivedBlock, IsRefused, IsSentBlock, KnowsBy, LineOctets, List, LogLine, None, Nothing}
-use Rattle.um_air.proofs.Words.{Notice, NsAndNrFit, Octets, Option, Queues, ReadsFrame, Received, ReceivesBlock, Refusal, Refuses, Role}
-use Rattle.um_air.proofs.Words.{Sapi, SaysOctets, SideStep, Some, Step, Who, WorldOctets, World, [], accepted_count, accepted_octets}
-use Rattle.um_air.proofs.Words.{acked_at_most_delivered, address, answer_log_lines, answer_unless_refused, answer_without_blocks, ap, ap₂}
-use Rattle.um_air.proofs.Words.{arith, bit_bound, bounded_capacity, burst_of_bit-below, burst_of_bit, burst_position, cases_eq, cases_lt}
-use Rattle.um_air.proofs.Words.{claims, clean_gathered, coded_block_bits, coded_soft_bits, control, count_wrong_bits, count, drop}
-use Rattle.um_air.proofs.Words.{empty_queues, event_log_lines, event_step-fits, event_step-holds, event_step, event_with_frame, false}
-use Rattle.um_air.proofs.Words.{few_listed_positions, fits-step, four_burst_position-lower, four_burst_position-upper, four_burst_position}
-use Rattle.um_air.proofs.Words.{get_or-drop, get_or-map, get_or-set_other, get_or-take, get_or_default, get_or, halves-at}
-use Rattle.um_air.proofs.Words.{if◌then◌else◌, in_order-step, information_bound, information, initial_session, inl, inr}
-use Rattle.um_air.proofs.Words.{layer1_octets, length-append, length-map, length-set, length-take, length_octet, length, lines}
-use Rattle.um_air.proofs.Words.{map-set_same, map, more_follows, n201, nat_eq, nat_tests, negsuc, notice_log_lines, octets-step}
-use Rattle.um_air.proofs.Words.{octets_canonical, octets_of, one_reading, one_received_block, one_sent_block, order_claims, pos, queue_of}
-use Rattle.um_air.proofs.Words.{queues_after_event, queues_after_removal, refl, refusal_if, refusal_with_bounded_queues, refusal}
-use Rattle.um_air.proofs.Words.{restored_block, same_frame, sending_role, sent_block_bits, set_past, set, soft_bit_of, soft_bits}
-use Rattle.um_air.proofs.Words.{some_received_block, some_sent_block, start-fits, start-octets, start-reported, subst, sym, take, true}
-use Rattle.um_air.proofs.Words.{unsigned_abs, with_appended, with_bit_inverted, with_bits_inverted, with_queue, world_unless_refused, ℕ}
-use Rattle.um_air.proofs.Words.{ℤ, ◌%◌, ◌*◌, ◌++◌, ◌+◌, ◌-◌, ◌/◌, ◌<◌, ◌==◌, ◌||◌, ◌∙◌}
-use Rattle.um_air.{proofs.Words.{◌∷◌, ◌≡◌, ◌≢◌, ◌≤◌}, specs.Damage.AreLightlyDamaged}
-use Rattle.um_block.proofs.Lemmas.{listed}
+use Rattle.{
+  um_air.{
+    proofs.Words.{Accepts, AckedAtMostDelivered, AirState, All-append, All-cons, All-drop, All-head, All-map, All-nil, All-replicate},
+    proofs.Words.{All-set, All-tail, All-take, AllFit, AllReported, AllSay, AllZip-long, AllZip, All, Answer, AreBits, AreCodedFrames},
+    proofs.Words.{AreOctets, Block, Bool, BothSides, BySide, CarriesOutEvent, Channel, Claims, Content, Deliver, EndOctets, EventDelivers},
+    proofs.Words.{EventInvertsFewBits, EventMessageIsOctets, EventRefusal, Event, FrameFits, Frame, IfSome, AllEventsInvertFewBits},
+    proofs.Words.{IsAirRun, IsAirStep, IsBenignFrom, IsBenignStep, IsBenign, IsCorrectable-equal, IsCorrectable, IsFitting, IsFrameCoding},
+    proofs.Words.{IsInterleaved, IsOldestSentOrNone, HasNoticesInOrder, IsReceivedBlock, IsRefused, IsSentBlock, KnowsBy, LineOctets, List},
+    proofs.Words.{LogLine, None, Nothing, Notice, NsAndNrFit, Octets, Option, Queues, ReadsFrame, Received, ReceivesBlock, Refusal},
+    proofs.Words.{Refuses, Role, Sapi, SaysOctets, SideStep, Some, Step, Who, WorldOctets, World, [], accepted_count, accepted_octets},
+    proofs.Words.{acked_at_most_delivered, address_octet, answer_log_lines, answer_unless_refused, answer_without_blocks, ap, ap₂, arith},
+    proofs.Words.{bit_bound, bounded_capacity, burst_of_bit-below, burst_of_bit, burst_position, cases_eq, cases_lt, claims},
+    proofs.Words.{clean_gathered, coded_block_bits, coded_soft_bits, control_octet, count_wrong_bits, queue_length, drop, empty_queues},
+    proofs.Words.{event_log_lines, event_step-fits, event_step-holds, event_step, event_with_frame, false, few_listed_positions, fits-step},
+    proofs.Words.{four_burst_position-lower, four_burst_position-upper, four_burst_position, get_or-drop, get_or-map, get_or-set_other},
+    proofs.Words.{get_or-take, get_or_default, get_or, halves-at, if◌then◌else◌, in_order-step, information_bound, information},
+    proofs.Words.{initial_session, inl, inr, layer1_octet_count, length-append, length-map, length-set, length-take, length_octet, length},
+    proofs.Words.{session_log, map-set_same, map, more_follows, n201, nat_eq, nat_tests, negsuc, notice_log_lines, octets-step},
+    proofs.Words.{octets_canonical, octets_of, one_reading, one_received_block, one_sent_block, order_claims, pos, queue_of},
+    proofs.Words.{queues_after_event, queues_after_removal, refl, refusal_if, refusal_with_bounded_queues, refusal, restored_block},
+    proofs.Words.{same_frame, sending_role, sent_block_bits, set_past, set, soft_bit_of, soft_bits, some_received_block, some_sent_block},
+    proofs.Words.{initial_endpoint-fits, initial_endpoint-octets, initial_endpoint-reported, subst, sym, take, true, unsigned_abs},
+    proofs.Words.{with_appended, with_bit_inverted, with_bits_inverted, with_queue, world_unless_refused, ℕ, ℤ, ◌%◌, ◌*◌},
+    proofs.Words.{◌++◌, ◌+◌, ◌-◌, ◌/◌, ◌<◌, ◌==◌, ◌||◌, ◌∙◌, ◌∷◌, ◌≡◌, ◌≢◌, ◌≤◌},
+    specs.Damage.AreCorrectableBursts,
+  },
+  um_block.proofs.Lemmas.listed,
+}
 use Rattle.lapdm_link.specs.Events as E
 use Rattle.um_block.specs.burst_map.NormalBurst as N
 use Rattle.lapdm_link.specs as L
@@ -268,7 +270,7 @@ unread read event channel n es = grind arith
 refusal-same : (a : AirState) (fs : Queues Frame) (read : Option Frame) (event : Event) → Coded a.channel a.tsc fs a.queues →
     L.Worlds.refusal (event_with_frame read event) (world_of a fs) ≡ refusal event a
 refusal-same a fs read event h =
-    (unread read event a.channel (count fs) a.ends).0
+    (unread read event a.channel (queue_length fs) a.ends).0
     ∙ (λ i. refusal_with_bounded_queues a.channel (λ r. sym (AllZip-long _ (queue_of r fs) (queue_of r a.queues) (h r)) i) event a.ends)
 
 -- ---- the frame that is read
@@ -279,7 +281,7 @@ pub reads-well : (channel : Channel) (accepted : Option Octets) (f : Frame) → 
     FrameFits channel f × AreOctets (information f.content)
 reads-well channel (Some octets) f all h =
     let small : ℕ → Type 0 = λ octet. octet < 256 in
-    let from : ℕ = layer1_octets channel + 3 in
+    let from : ℕ = layer1_octet_count channel + 3 in
     let size : ℕ = length (information f.content) in (
       h.fits,
       subst AreOctets h.information_matches (All-take small (from + size - from) (drop from octets)
@@ -395,7 +397,8 @@ module _ (a : AirState) (octets : Queues Octets) (h : IsSeenAt a octets) where
           };
           world_is = refl;
           tsc = refl;
-          same_lines = ap (λ ls. ls ++ notice_log_lines d.who d.sapi d.notices) (unread read event a.channel (count h.frames) a.ends).1;
+          same_lines = ap (λ ls. ls ++ notice_log_lines d.who d.sapi d.notices)
+              (unread read event a.channel (queue_length h.frames) a.ends).1;
           event_known = (known-read None a event report read t).1;
           benign = now.0;
           few_inverted = now.1;
@@ -419,17 +422,18 @@ module _ (a : AirState) (octets : Queues Octets) (h : IsSeenAt a octets) where
 
 -- ---- a session
 
-abbrev pub start-seen : (tsc : ℕ) (channel : Channel) → IsSeenAt (initial_session tsc channel) empty_queues
-start-seen tsc channel = (let fit = start-fits bounded_capacity channel in let reported = start-reported bounded_capacity channel in
+abbrev pub initial_endpoint-seen : (tsc : ℕ) (channel : Channel) → IsSeenAt (initial_session tsc channel) empty_queues
+initial_endpoint-seen tsc channel =
+    (let fit = initial_endpoint-fits bounded_capacity channel in let reported = initial_endpoint-reported bounded_capacity channel in
     record { frames = empty_queues; log = []; blocks = λ r. grind arith; written = λ r. grind arith; fit = fit; reported = reported })
 
 -- the session over blocks is also a session of frames
 pub record IsSeen (a : AirState) (octets : Queues Octets) (h : IsSeenAt a octets) (events : List Event) (answers : List Answer) : Type 0
   where
     pub frame_events : List L.Events.Event
-    pub same_lines : lines events answers ≡ L.Claims.lines frame_events (L.Worlds.answers frame_events (world_of a h.frames))
+    pub same_lines : session_log events answers ≡ L.Claims.session_log frame_events (L.Worlds.answers frame_events (world_of a h.frames))
     pub benign : IsBenignFrom octets events answers → L.Worlds.IsBenign frame_events (world_of a h.frames)
-    pub few_inverted : InvertFewBits events → IsBenignFrom octets events answers
+    pub few_inverted : AllEventsInvertFewBits events → IsBenignFrom octets events answers
 
 seen-run : (events : List Event) (answers : List Answer) (a b : AirState) (octets : Queues Octets) (h : IsSeenAt a octets) →
     IsAirRun a events answers b → IsSeen a octets h events answers
@@ -440,7 +444,7 @@ seen-run (event ∷ events) (answer ∷ answers) a b octets h run =
     record {
       frame_events = event_with_frame s.0 event ∷ r.frame_events;
       same_lines = ap₂ (λ xs ys. xs ++ ys) s.1.same_lines
-          (r.same_lines ∙ ap (λ z. L.Claims.lines r.frame_events (L.Worlds.answers r.frame_events z)) (sym s.1.world_is));
+          (r.same_lines ∙ ap (λ z. L.Claims.session_log r.frame_events (L.Worlds.answers r.frame_events z)) (sym s.1.world_is));
       benign = λ q. (s.1.benign q.0, subst (L.Worlds.IsBenign r.frame_events) (sym s.1.world_is) (r.benign q.1));
       few_inverted = λ k. (s.1.few_inverted k.0, r.few_inverted k.2);
     }
@@ -448,21 +452,21 @@ seen-run events answers a b octets h run = absurd assumption
 
 module _ (tsc : ℕ) (channel : Channel) (events : List Event) (answers : List Answer) (b : AirState)
     (run : IsAirRun (initial_session tsc channel) events answers b) where
-  pub seen : IsSeen (initial_session tsc channel) empty_queues (start-seen tsc channel) events answers
-  seen = seen-run events answers (initial_session tsc channel) b empty_queues (start-seen tsc channel) run
+  pub seen : IsSeen (initial_session tsc channel) empty_queues (initial_endpoint-seen tsc channel) events answers
+  seen = seen-run events answers (initial_session tsc channel) b empty_queues (initial_endpoint-seen tsc channel) run
 
-  pub air_claims : IsBenign events answers → Claims (lines events answers)
+  pub air_claims : IsBenign events answers → Claims (session_log events answers)
   air_claims benign = subst Claims (sym seen.same_lines) (claims bounded_capacity channel seen.frame_events (seen.benign benign))
 
-  pub air_counts : IsBenign events answers → AckedAtMostDelivered (lines events answers)
+  pub air_counts : IsBenign events answers → AckedAtMostDelivered (session_log events answers)
   air_counts benign = subst AckedAtMostDelivered (sym seen.same_lines)
       (acked_at_most_delivered bounded_capacity channel seen.frame_events (seen.benign benign))
 
-  pub few_inverted_is_benign : InvertFewBits events → IsBenign events answers
+  pub few_inverted_is_benign : AllEventsInvertFewBits events → IsBenign events answers
   few_inverted_is_benign = seen.few_inverted
 
-  pub air_order : IsOrderedLog (lines events answers)
-  air_order = subst IsOrderedLog (sym seen.same_lines) (order_claims bounded_capacity channel seen.frame_events)
+  pub air_order : HasNoticesInOrder (session_log events answers)
+  air_order = subst HasNoticesInOrder (sym seen.same_lines) (order_claims bounded_capacity channel seen.frame_events)
 
 pub longer_run : (a : AirState) (events : List Event) (answers : List Answer) (b : AirState) (event : Event) (answer : Answer)
     (c : AirState) → IsAirRun a events answers b → IsAirStep b event c answer →
@@ -474,10 +478,10 @@ longer_run a es rs b event answer c run step = absurd assumption
 module _ (tsc : ℕ) (channel : Channel) (events : List Event) (answers : List Answer) (a : AirState) (event : Event) (answer : Answer)
     (b : AirState) (run : IsAirRun (initial_session tsc channel) events answers a) (step : IsAirStep a event b answer) where
   pub step_claims : IsBenign (events ++ event ∷ []) (answers ++ answer ∷ []) →
-      Claims (lines (events ++ event ∷ []) (answers ++ answer ∷ []))
+      Claims (session_log (events ++ event ∷ []) (answers ++ answer ∷ []))
   step_claims = air_claims tsc channel _ _ b (longer_run (initial_session tsc channel) events answers a event answer b run step)
 
-  pub step_order : IsOrderedLog (lines (events ++ event ∷ []) (answers ++ answer ∷ []))
+  pub step_order : HasNoticesInOrder (session_log (events ++ event ∷ []) (answers ++ answer ∷ []))
   step_order = air_order tsc channel _ _ b (longer_run (initial_session tsc channel) events answers a event answer b run step)
 
 -- ## AnswerExists: Every event whose messages consist of octets has an answer, so a session can always continue: every frame can be coded,
@@ -485,7 +489,7 @@ module _ (tsc : ℕ) (channel : Channel) (events : List Event) (answers : List A
 
 -- ---- the octets of a frame
 
-control_small : (c : Content) → NsAndNrFit c → control c < 256
+control_small : (c : Content) → NsAndNrFit c → control_octet c < 256
 control_small c h = grind (arith, bit_bound)
 
 pub octets_small : (channel : Channel) (f : Frame) → FrameFits channel f → AreOctets (information f.content) →
@@ -495,10 +499,11 @@ octets_small channel f h info =
     let most : length (information f.content) ≤ n201 channel = information_bound channel f.content h.information in
     let room : n201 channel ≤ 20 = grind arith in
     let last : length_octet f.content < 256 = omega (arith, most, room, bit_bound (more_follows f.content)) in
-    let head = All-cons small (address f) (control f.content ∷ length_octet f.content ∷ []) (omega (arith, h.sapi, bit_bound f.cr))
-    (All-cons small (control f.content) (length_octet f.content ∷ []) (control_small f.content h.ns_nr_fit)
+    let head = All-cons small (address_octet f) (control_octet f.content ∷ length_octet f.content ∷ [])
+    (omega (arith, h.sapi, bit_bound f.cr))
+    (All-cons small (control_octet f.content) (length_octet f.content ∷ []) (control_small f.content h.ns_nr_fit)
     (All-cons small (length_octet f.content) [] last (All-nil small))) in
-    All-append small _ _ (All-append small _ _ (All-append small _ _ (All-replicate small (layer1_octets channel) 0
+    All-append small _ _ (All-append small _ _ (All-append small _ _ (All-replicate small (layer1_octet_count channel) 0
     (omega arith)) head) info)
     (All-replicate small (n201 channel - length (information f.content)) 0x2b (omega arith))
 
@@ -592,9 +597,15 @@ record IsOctetSession (a : AirState) : Type 0 where
   are_octets : WorldOctets (world_of a seen.frames)
   valid_tsc : a.tsc ≤ 7
 
-start-spoken : (tsc : ℕ) (channel : Channel) → tsc ≤ 7 → IsOctetSession (initial_session tsc channel)
-start-spoken tsc channel known =
-    record { octets = empty_queues; seen = start-seen tsc channel; are_octets = start-octets bounded_capacity channel; valid_tsc = known }
+initial_endpoint-spoken : (tsc : ℕ) (channel : Channel) → tsc ≤ 7 → IsOctetSession (initial_session tsc channel)
+initial_endpoint-spoken tsc channel known =
+    record {
+      octets = empty_queues;
+      seen = initial_endpoint-seen tsc channel;
+      are_octets =
+          initial_endpoint-octets bounded_capacity channel;
+      valid_tsc = known;
+    }
 
 module _ (a : AirState) (h : IsOctetSession a) (event : Event) (says : EventMessageIsOctets event) where
   octets-next : (read : Option Frame) → (let e : L.Events.Event = event_with_frame read event in
@@ -639,25 +650,25 @@ going_on (event ∷ events) a h says =
 pub some_run : (tsc : ℕ) (channel : Channel) (events : List Event) → tsc ≤ 7 → All EventMessageIsOctets events →
     (answers : List Answer) × (b : AirState) × IsAirRun (initial_session tsc channel) events answers b
 some_run tsc channel events known said =
-    let r = going_on events (initial_session tsc channel) (start-spoken tsc channel known) said in (r.0, r.1, r.2)
+    let r = going_on events (initial_session tsc channel) (initial_endpoint-spoken tsc channel known) said in (r.0, r.1, r.2)
 
 -- the session constructed from these events ends in the given state, because the events determine the state
 pub some_answer : (tsc : ℕ) (channel : Channel) (events : List Event) (answers : List Answer) (a : AirState) → tsc ≤ 7 →
     All EventMessageIsOctets events → IsAirRun (initial_session tsc channel) events answers a →
     (event : Event) → EventMessageIsOctets event → (b : AirState) × (answer : Answer) × IsAirStep a event b answer
 some_answer tsc channel events answers a known said run event says =
-    let r = going_on events (initial_session tsc channel) (start-spoken tsc channel known) said in
+    let r = going_on events (initial_session tsc channel) (initial_endpoint-spoken tsc channel known) said in
     let same = one_run (initial_session tsc channel) events r.1 a r.0 answers r.2 run in
     some_answer_at a (subst IsOctetSession same.0 r.3) event says (refusal event a) refl
 
 -- ## Damaged: Lightly damaged bursts are accepted with the octets that were sent, because the decoder corrects them (`weight_bound`).
 
-pub damaged_received : (octets : List ℕ) (bursts : List (List ℤ)) (r : Received) → AreLightlyDamaged octets bursts →
+pub damaged_received : (octets : List ℕ) (bursts : List (List ℤ)) (r : Received) → AreCorrectableBursts octets bursts →
     IsReceivedBlock bursts r → r.accepted ≡ Some octets
 damaged_received octets bursts r h is = restored_block bursts octets h.bits h.soft r h.coded h.deinterleaved h.correctable is
 
 pub flipped_damaged : (octets : List ℕ) (tsc : ℕ) (block : Block) (places : List ℕ) → IsSentBlock octets tsc block →
-    length places ≤ 3 → AreLightlyDamaged octets (map soft_bits (with_bits_inverted places block))
+    length places ≤ 3 → AreCorrectableBursts octets (map soft_bits (with_bits_inverted places block))
 flipped_damaged octets tsc block places sent few =
     let shape = flipped_shape octets tsc block places sent in
     let (r, is) = some_received_block (map soft_bits (with_bits_inverted places block)) shape.0 shape.1 in

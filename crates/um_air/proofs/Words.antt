@@ -17,7 +17,7 @@ pub use Rattle.std.proofs.lemmas.Slice.Zip.{AllZip-long}
 pub use Rattle.lapdm_link.specs.lapdm_frame.declared.Channel.{Channel}
 pub use Rattle.lapdm_link.specs.lapdm_frame.Content.{Frame, information, Content, more_follows}
 pub use Rattle.lapdm_link.specs.lapdm_window.Ends.{Role}
-pub use Rattle.lapdm_link.specs.Queues.{with_appended, Queues, queue_of, IsOldestSentOrNone, empty_queues, count, with_queue}
+pub use Rattle.lapdm_link.specs.Queues.{with_appended, Queues, queue_of, IsOldestSentOrNone, empty_queues, queue_length, with_queue}
 pub use Rattle.lapdm_link.specs.Events.{
   Deliver,
   sending_role,
@@ -30,18 +30,26 @@ pub use Rattle.lapdm_link.specs.Events.{
   refusal_if,
 }
 pub use Rattle.lapdm_link.specs.Events.{bounded_capacity, refusal_with_bounded_queues, Who, Nothing}
-pub use Rattle.lapdm_link.specs.lapdm_frame.Frames.{FrameFits, IsFrameCoding, octets_of, address, control, length_octet, NsAndNrFit}
+pub use Rattle.lapdm_link.specs.lapdm_frame.Frames.{
+  FrameFits,
+  IsFrameCoding,
+  octets_of,
+  address_octet,
+  control_octet,
+  length_octet,
+  NsAndNrFit,
+}
 pub use Rattle.lapdm_link.specs.Worlds.{World, answer_unless_refused, world_unless_refused}
 pub use Rattle.lapdm_link.specs.Claims.{
   LogLine,
   notice_log_lines,
   answer_log_lines,
   Claims,
-  IsOrderedLog,
+  HasNoticesInOrder,
   AckedAtMostDelivered,
   event_log_lines,
 }
-pub use Rattle.lapdm_link.specs.lapdm_frame.Layout.{n201, layer1_octets}
+pub use Rattle.lapdm_link.specs.lapdm_frame.Layout.{n201, layer1_octet_count}
 pub use Rattle.lapdm_link.specs.lapdm_window.declared.Sapi.{Sapi}
 pub use Rattle.lapdm_link.specs.lapdm_window.declared.Notice.{Notice}
 pub use Rattle.lapdm_link.specs.lapdm_frame.declared.Refusal.{Refusal}
@@ -62,17 +70,34 @@ pub use Rattle.um_block.proofs.interleave.Lemmas.{four_burst_position-lower, fou
 pub use Rattle.um_block.specs.weight_bound.Restoring.{IsCorrectable}
 pub use Rattle.um_block.proofs.weight_bound.Lemmas.{IsCorrectable-equal}
 pub use Rattle.um_block.specs.Sent.{IsSentBlock}
-pub use Rattle.lapdm_link.proofs.Lemmas.{KnowsBy, SaysOctets, AllFit, IsFitting, fits-step, AllReported, in_order-step, start-reported}
-pub use Rattle.lapdm_link.proofs.Lemmas.{order_claims, start-fits, claims, acked_at_most_delivered, LineOctets, AllSay, EndOctets}
-pub use Rattle.lapdm_link.proofs.Lemmas.{WorldOctets, octets-step, start-octets, event_step-fits, event_step-holds}
+pub use Rattle.lapdm_link.proofs.Lemmas.{
+  KnowsBy,
+  SaysOctets,
+  AllFit,
+  IsFitting,
+  fits-step,
+  AllReported,
+  in_order-step,
+  initial_endpoint-reported,
+}
+pub use Rattle.lapdm_link.proofs.Lemmas.{
+  order_claims,
+  initial_endpoint-fits,
+  claims,
+  acked_at_most_delivered,
+  LineOctets,
+  AllSay,
+  EndOctets,
+}
+pub use Rattle.lapdm_link.proofs.Lemmas.{WorldOctets, octets-step, initial_endpoint-octets, event_step-fits, event_step-holds}
 pub use Rattle.um_air.specs.Sessions.{
   answer_without_blocks,
   queues_after_event,
   IsBenignStep,
   AreOctets,
   EventInvertsFewBits,
-  lines,
+  session_log,
   IsBenignFrom,
 }
-pub use Rattle.um_air.specs.Sessions.{IsBenign, InvertFewBits, EventMessageIsOctets}
+pub use Rattle.um_air.specs.Sessions.{IsBenign, AllEventsInvertFewBits, EventMessageIsOctets}
 pub use Rattle.lapdm_link.proofs.lapdm_frame.Lemmas.{bit_bound}

@@ -14,7 +14,7 @@ use Rattle.lapdm_link.specs.lapdm_window.Ends.{Role}
 use Rattle.um_block.specs.declared.received.Received.{Received}
 use Rattle.um_block.specs.Sent.{IsSentBlock}
 use Rattle.um_block.specs.Received.{IsReceivedBlock, soft_bits}
-use Rattle.lapdm_link.specs.Queues.{Queues, empty_queues, queue_of, with_appended, count}
+use Rattle.lapdm_link.specs.Queues.{Queues, empty_queues, queue_of, with_appended, queue_length}
 use Rattle.lapdm_link.specs.Events as E
 use Rattle.lapdm_link.specs.Events.{EventWith, Open, OpenBare, Ask, Deliver, Lose, Rival, BothSides, idle_endpoints, Who, sending_role}
 use Rattle.lapdm_link.specs.Events.{SideStep}
@@ -34,7 +34,7 @@ abbrev pub Event : Type 0
 Event = EventWith (List ℕ)
 
 -- the event as the endpoints see it: an arriving block becomes the frame read from it, or `None` if there is none
-abbrev pub event_with_frame : Option Frame → Event → E.Event
+abbrev pub event_with_frame : (read : Option Frame) (event : Event) → E.Event
 event_with_frame read (Open info) = Open info
 event_with_frame read (OpenBare role) = OpenBare role
 event_with_frame read (Ask role sapi request) = Ask role sapi request
@@ -50,22 +50,22 @@ pub record AirState : Type 0 where
   pub queues : Queues Block
 
 -- the initial state of a session: idle endpoints, and no blocks in transit
-abbrev pub initial_session : ℕ → Channel → AirState
+abbrev pub initial_session : (tsc : ℕ) (channel : Channel) → AirState
 initial_session tsc channel = record { tsc = tsc; channel = channel; ends = idle_endpoints channel; queues = empty_queues }
 
 -- the block with the bit at this index inverted, where the bits of the four bursts have the indices 0 to 591
-abbrev pub with_bit_inverted : ℕ → Block → Block
+abbrev pub with_bit_inverted : (place : ℕ) (block : Block) → Block
 with_bit_inverted place block =
     let burst = slice_index_or block (place / 148) [] in
     slice_set block (place / 148) (slice_set burst (place % 148) (1 - slice_index_or burst (place % 148) 0))
 
 -- the block with the bits at these indices inverted; an index that occurs twice leaves its bit unchanged
-abbrev pub with_bits_inverted : List ℕ → Block → Block
+abbrev pub with_bits_inverted : (places : List ℕ) (block : Block) → Block
 with_bits_inverted [] block = block
 with_bits_inverted (place ∷ places) block = with_bits_inverted places (with_bit_inverted place block)
 
 -- the frame in the accepted octets, or `None` if no octets are accepted or they do not encode a frame
-abbrev pub ReadsFrame : Channel → Option Octets → Option Frame → Type 0
+abbrev pub ReadsFrame : (channel : Channel) (accepted : Option Octets) (read : Option Frame) → Type 0
 ReadsFrame channel (Some octets) (Some f) = IsFrameCoding channel f octets
 ReadsFrame channel (Some octets) None = (why : Refusal) × IsRefused channel octets why
 ReadsFrame channel None (Some f) = ⊥
@@ -73,22 +73,22 @@ ReadsFrame channel None None = Unit {0}
 
 -- the oldest block from `sender` arrives with the bits at `places` inverted; the receiver reports `report` and reads the frame `read`, if
 -- any
-pub record ReceivesBlock (a : AirState) (sender : Role) (places : List ℕ) (report : Received) (read : Option Frame) : Type 0 where
+pub record ReceivesBlock (state : AirState) (sender : Role) (places : List ℕ) (report : Received) (read : Option Frame) : Type 0 where
   pub block : Block
   pub later_blocks : List Block
-  pub queue_front : queue_of sender a.queues ≡ block ∷ later_blocks
+  pub queue_front : queue_of sender state.queues ≡ block ∷ later_blocks
   pub received : IsReceivedBlock (map soft_bits (with_bits_inverted places block)) report
-  pub reads_frame : ReadsFrame a.channel report.accepted read
+  pub reads_frame : ReadsFrame state.channel report.accepted read
 
 -- if a block arrives, the receiver gets a report and, if it can read one, a frame; in any other event, it gets neither
-abbrev pub EventDelivers : AirState → Event → Option Received → Option Frame → Type 0
+abbrev pub EventDelivers : (state : AirState) (event : Event) (report : Option Received) (read : Option Frame) → Type 0
 EventDelivers a (Deliver sender places) (Some report) read = ReceivesBlock a sender places report read
 EventDelivers a (Deliver sender places) None read = ⊥
 EventDelivers a event None None = Unit {0}
 EventDelivers a event report read = ⊥
 
 -- the blocks carry these frames, in order, each coded with this training sequence code
-abbrev pub AreCodedFrames : Channel → ℕ → List Frame → List Block → Type 0
+abbrev pub AreCodedFrames : (channel : Channel) (tsc : ℕ) (frames : List Frame) (blocks : List Block) → Type 0
 AreCodedFrames channel tsc fs blocks = AllZip (λ f block. IsSentBlock (octets_of channel f) tsc block) fs blocks
 
 -- the result of an accepted event: who acted, the SAPI, the report on a received block, the octets of the frames sent, and the notices
@@ -105,29 +105,33 @@ pub data Answer : Type 0 where
   Refuses : EventRefusal → Answer
   Accepts : Step → Answer
 
--- the accepted event leads from state `a` to state `b` with result `step`: the endpoints act on the call or on the frame read, and the
--- frames that they send are coded and appended to the queue
-pub record CarriesOutEvent (a : AirState) (event : Event) (b : AirState) (step : Step) : Type 0 where
+-- the accepted event leads from state `before` to state `after` with result `step`: the endpoints act on the call or on the frame read, and
+-- the frames that they send are coded and appended to the queue
+pub record CarriesOutEvent (before : AirState) (event : Event) (after : AirState) (step : Step) : Type 0 where
   pub read : Option Frame
   pub blocks : List Block
-  pub delivery : EventDelivers a event step.received read
-  pub sent : AreCodedFrames a.channel a.tsc (event_step (event_with_frame read event) a.ends).frames blocks
-  pub new_state_is : let d = event_step (event_with_frame read event) a.ends in
-      b ≡ record a { ends = d.new_state; queues = with_appended (sending_role d.who) blocks (queues_after_removal event a.queues) }
-  pub step_matches : let d = event_step (event_with_frame read event) a.ends in
-      step ≡ record step { who = d.who; sapi = d.sapi; frames = map (octets_of a.channel) d.frames; notices = d.notices }
+  pub delivery : EventDelivers before event step.received read
+  pub sent : AreCodedFrames before.channel before.tsc (event_step (event_with_frame read event) before.ends).frames blocks
+  pub new_state_is : let d = event_step (event_with_frame read event) before.ends in
+      after ≡ record before {
+        ends = d.new_state;
+        queues = with_appended (sending_role d.who) blocks (queues_after_removal event
+            before.queues);
+      }
+  pub step_matches : let d = event_step (event_with_frame read event) before.ends in
+      step ≡ record step { who = d.who; sapi = d.sapi; frames = map (octets_of before.channel) d.frames; notices = d.notices }
 
 -- the reason why the event is refused in this state, or `None` if it is accepted
 abbrev pub refusal : Event → AirState → Option EventRefusal
-refusal event a = refusal_with_bounded_queues a.channel (count a.queues) event a.ends
+refusal event a = refusal_with_bounded_queues a.channel (queue_length a.queues) event a.ends
 
 -- the event leads from the first state to the second and has this answer; a refused event leaves the state unchanged
-abbrev pub IsAirStep : AirState → Event → AirState → Answer → Type 0
+abbrev pub IsAirStep : (state : AirState) (event : Event) (after : AirState) (answer : Answer) → Type 0
 IsAirStep a event b (Refuses why) = (refusal event a ≡ Some why) × (b ≡ a)
 IsAirStep a event b (Accepts step) = (refusal event a ≡ None) × CarriesOutEvent a event b step
 
 -- the events lead from the first state to the second and have these answers, in order
-abbrev pub IsAirRun : AirState → List Event → List Answer → AirState → Type 0
+abbrev pub IsAirRun : (state : AirState) (events : List Event) (answers : List Answer) (after : AirState) → Type 0
 IsAirRun a [] [] b = b ≡ a
 IsAirRun a (event ∷ events) (answer ∷ answers) b = (c : AirState) × IsAirStep a event c answer × IsAirRun c events answers b
 IsAirRun a events answers b = ⊥

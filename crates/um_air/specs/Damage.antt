@@ -7,7 +7,7 @@ use Rattle.um_block.specs.Received.{coded_soft_bits}
 
 -- four bursts of 148 soft values that carry the block `octets`: at most three of the 456 coded bits have the wrong sign, and four times the
 -- smallest magnitude among them exceeds three times the largest
-pub record AreLightlyDamaged (octets : List ℕ) (bursts : List (List ℤ)) : Type 0 where
+pub record AreCorrectableBursts (octets : List ℕ) (bursts : List (List ℤ)) : Type 0 where
   pub bits : List ℕ
   pub coded : IsCodedBlock octets bits
   pub four_bursts : length bursts ≡ 4

@@ -14,8 +14,8 @@ answer_without_blocks (Refuses why) = E.Refuses why
 answer_without_blocks (Accepts step) = E.Accepts step.who step.sapi [] step.notices
 
 -- the log of a session: the log lines of all its events and answers
-abbrev pub lines : List Event → List Answer → List LogLine
-lines events answers = C.lines events (map answer_without_blocks answers)
+abbrev pub session_log : (events : List Event) (answers : List Answer) → List LogLine
+session_log events answers = C.session_log events (map answer_without_blocks answers)
 
 -- the octets of the blocks in transit after an event with this answer, given the blocks in transit before it
 abbrev pub queues_after_event : Event → Answer → Queues Octets → Queues Octets
@@ -23,19 +23,19 @@ queues_after_event event (Refuses why) ws = ws
 queues_after_event event (Accepts step) ws = with_appended (sending_role step.who) step.frames (queues_after_removal event ws)
 
 -- if a block arrives, it is accepted with the octets that were sent, or not at all
-abbrev pub IsBenignStep : Event → Answer → Queues Octets → Type 0
+abbrev pub IsBenignStep : (event : Event) (answer : Answer) (queues : Queues Octets) → Type 0
 IsBenignStep (Deliver sender places) (Accepts step) ws = IfSome step.received (λ report. IsOldestSentOrNone report.accepted
     (queue_of sender ws))
 IsBenignStep event answer ws = Unit {0}
 
 -- starting with these queues, each arriving block is accepted with the octets that were sent, or not at all
-abbrev pub IsBenignFrom : Queues Octets → List Event → List Answer → Type 0
+abbrev pub IsBenignFrom : (queues : Queues Octets) (events : List Event) (answers : List Answer) → Type 0
 IsBenignFrom ws (event ∷ events) (answer ∷ answers) =
     IsBenignStep event answer ws × IsBenignFrom (queues_after_event event answer ws) events answers
 IsBenignFrom ws events answers = Unit {0}
 
 -- the session is benign: each block is accepted with the octets that were sent, or not at all
-abbrev pub IsBenign : List Event → List Answer → Type 0
+abbrev pub IsBenign : (events : List Event) (answers : List Answer) → Type 0
 IsBenign events answers = IsBenignFrom empty_queues events answers
 
 -- every element is an octet, 0 to 255
@@ -56,6 +56,6 @@ EventMessageIsOctets (Rival info) = AreOctets info
 EventMessageIsOctets event = Unit {0}
 
 -- in every event, at most three bits of a block are inverted, and messages consist of octets
-abbrev pub InvertFewBits : List Event → Type 0
-InvertFewBits [] = Unit {0}
-InvertFewBits (event ∷ events) = EventInvertsFewBits event × EventMessageIsOctets event × InvertFewBits events
+abbrev pub AllEventsInvertFewBits : List Event → Type 0
+AllEventsInvertFewBits [] = Unit {0}
+AllEventsInvertFewBits (event ∷ events) = EventInvertsFewBits event × EventMessageIsOctets event × AllEventsInvertFewBits events

@@ -7,21 +7,21 @@ ghost use Rattle.lapdm_link.specs.lapdm_frame.declared.Channel.{Channel};
 ghost use Rattle.um_block.specs.Sent.{IsSentBlock};
 ghost use Rattle.um_block.specs.Received.{soft_bits, IsReceivedBlock};
 ghost use Rattle.um_block.specs.declared.received.Received.{Received};
-ghost use Rattle.lapdm_link.specs.Claims.{Claims, IsOrderedLog, AckedAtMostDelivered};
+ghost use Rattle.lapdm_link.specs.Claims.{Claims, HasNoticesInOrder, AckedAtMostDelivered};
 ghost use Rattle.um_air.specs.Air.{Event, Answer, AirState, initial_session, IsAirStep, IsAirRun, Block, with_bits_inverted};
-ghost use Rattle.um_air.specs.Damage.{AreLightlyDamaged};
-ghost use Rattle.um_air.specs.Sessions.{lines, IsBenign, EventMessageIsOctets, InvertFewBits};
+ghost use Rattle.um_air.specs.Damage.{AreCorrectableBursts};
+ghost use Rattle.um_air.specs.Sessions.{session_log, IsBenign, EventMessageIsOctets, AllEventsInvertFewBits};
 
 /// Law: an event has at most one answer, and at most one state can follow it.
 #[tactic(auto, using(crate::proofs::Lemmas::one_answer))]
-pub fn law_answer_is_unique()
+pub fn law_event_answer_is_unique()
     ensures { (a : AirState) (event : Event) (b c : AirState) (x y : Answer) →
         IsAirStep a event b x → IsAirStep a event c y → (b ≡ c) × (x ≡ y) }
 {}
 
 /// Law: at any point of a session, every event whose messages consist of octets has an answer.
 #[tactic(auto, using(crate::proofs::Lemmas::some_answer))]
-pub fn law_answer_exists()
+pub fn law_event_answer_exists()
     ensures { (tsc : ℕ) (channel : Channel) (events : List Event) (answers : List Answer)
         (a : AirState) → tsc ≤ 7 → All EventMessageIsOctets events →
         IsAirRun (initial_session tsc channel) events answers a → (event : Event) → EventMessageIsOctets event →
@@ -30,14 +30,14 @@ pub fn law_answer_exists()
 
 /// Law: the events of a session determine all its answers and its last state.
 #[tactic(auto, using(crate::proofs::Lemmas::one_run))]
-pub fn law_run_is_unique()
+pub fn law_session_answers_are_unique()
     ensures { (a : AirState) (events : List Event) (b c : AirState) (xs ys : List Answer) →
         IsAirRun a events xs b → IsAirRun a events ys c → (b ≡ c) × (xs ≡ ys) }
 {}
 
 /// Law: for any events whose messages consist of octets, a session with these events exists.
 #[tactic(auto, using(crate::proofs::Lemmas::some_run))]
-pub fn law_run_exists()
+pub fn law_session_exists()
     ensures { (tsc : ℕ) (channel : Channel) (events : List Event) → tsc ≤ 7 →
         All EventMessageIsOctets events →
         (answers : List Answer) × (b : AirState) × IsAirRun (initial_session tsc channel) events answers b }
@@ -46,47 +46,47 @@ pub fn law_run_exists()
 /// Law: in a benign session (each block is accepted with the octets that were sent, or not at all), messages are delivered in order and
 /// before they are acknowledged (`Claims`).
 #[tactic(auto, using(crate::proofs::Lemmas::air_claims))]
-pub fn law_run_delivers_in_order()
+pub fn law_session_delivers_in_order()
     ensures { (tsc : ℕ) (channel : Channel) (events : List Event) (answers : List Answer)
         (b : AirState) → IsAirRun (initial_session tsc channel) events answers b →
-        IsBenign events answers → Claims (lines events answers) }
+        IsBenign events answers → Claims (session_log events answers) }
 {}
 
 /// Law: in a benign session (each block is accepted with the octets that were sent, or not at all), no endpoint has more messages
 /// acknowledged than its peer has delivered.
-pub fn law_run_acked_at_most_delivered()
+pub fn law_session_acked_at_most_delivered()
     ensures { (tsc : ℕ) (channel : Channel) (events : List Event) (answers : List Answer)
         (b : AirState) → IsAirRun (initial_session tsc channel) events answers b →
-        IsBenign events answers → AckedAtMostDelivered (lines events answers) }
+        IsBenign events answers → AckedAtMostDelivered (session_log events answers) }
 {}
 
 /// Law: in every session, whatever blocks are accepted, each endpoint numbers its acknowledgements in order, and reports at most one
-/// establishment and one closed link (`IsOrderedLog`).
+/// establishment and one closed link (`HasNoticesInOrder`).
 #[tactic(auto, using(crate::proofs::Lemmas::air_order))]
-pub fn law_run_log_is_ordered()
+pub fn law_session_log_is_ordered()
     ensures { (tsc : ℕ) (channel : Channel) (events : List Event) (answers : List Answer)
         (b : AirState) → IsAirRun (initial_session tsc channel) events answers b →
-        IsOrderedLog (lines events answers) }
+        HasNoticesInOrder (session_log events answers) }
 {}
 
 /// Law: if a session extended by one step is benign, messages are delivered in order and before they are acknowledged in the extended
 /// session (`Claims`).
 #[tactic(auto, using(crate::proofs::Lemmas::step_claims))]
-pub fn law_delivers_in_order()
+pub fn law_step_delivers_in_order()
     ensures { (tsc : ℕ) (channel : Channel) (events : List Event) (answers : List Answer)
         (a : AirState) (event : Event) (answer : Answer) (b : AirState) →
         IsAirRun (initial_session tsc channel) events answers a → IsAirStep a event b answer →
         IsBenign (events ++ event ∷ []) (answers ++ answer ∷ []) →
-        Claims (lines (events ++ event ∷ []) (answers ++ answer ∷ [])) }
+        Claims (session_log (events ++ event ∷ []) (answers ++ answer ∷ [])) }
 {}
 
-/// Law: if a session is extended by one step, whatever blocks are accepted, the extended session has an ordered log (`IsOrderedLog`).
+/// Law: if a session is extended by one step, whatever blocks are accepted, the extended session has an ordered log (`HasNoticesInOrder`).
 #[tactic(auto, using(crate::proofs::Lemmas::step_order))]
-pub fn law_log_is_ordered()
+pub fn law_step_keeps_log_ordered()
     ensures { (tsc : ℕ) (channel : Channel) (events : List Event) (answers : List Answer)
         (a : AirState) (event : Event) (answer : Answer) (b : AirState) →
         IsAirRun (initial_session tsc channel) events answers a → IsAirStep a event b answer →
-        IsOrderedLog (lines (events ++ event ∷ []) (answers ++ answer ∷ [])) }
+        HasNoticesInOrder (session_log (events ++ event ∷ []) (answers ++ answer ∷ [])) }
 {}
 
 /// Law: a block with at most three inverted bits is accepted with the octets that were sent.
@@ -97,11 +97,11 @@ pub fn law_three_inverted_bits_corrected()
 {}
 
 /// Law: lightly damaged bursts are accepted with the octets that were sent; bursts with at most three inverted bits are lightly damaged.
-pub fn law_light_damage_is_corrected()
-    ensures received { (octets : List ℕ) (bursts : List (List ℤ)) (r : Received) → AreLightlyDamaged octets bursts →
+pub fn law_lightly_damaged_block_is_corrected()
+    ensures received { (octets : List ℕ) (bursts : List (List ℤ)) (r : Received) → AreCorrectableBursts octets bursts →
         IsReceivedBlock bursts r → r.accepted ≡ Some octets }
     ensures flipped { (octets : List ℕ) (tsc : ℕ) (block : Block) (places : List ℕ) → IsSentBlock octets tsc block →
-        length places ≤ 3 → AreLightlyDamaged octets (map soft_bits (with_bits_inverted places block)) }
+        length places ≤ 3 → AreCorrectableBursts octets (map soft_bits (with_bits_inverted places block)) }
 {}
 
 /// Law: if at most three bits of each block are inverted, a session is benign: each block is accepted with the octets that were sent.
@@ -109,5 +109,5 @@ pub fn law_light_damage_is_corrected()
 pub fn law_three_inverted_bits_are_benign()
     ensures { (tsc : ℕ) (channel : Channel) (events : List Event) (answers : List Answer)
         (b : AirState) → IsAirRun (initial_session tsc channel) events answers b →
-        InvertFewBits events → IsBenign events answers }
+        AllEventsInvertFewBits events → IsBenign events answers }
 {}

@@ -1,20 +1,32 @@
 -- The report of list decoding exists once.
-use Rattle.list_decode.{proofs.Lemmas.{beginning_is_ranked, most_likely_is_ranked, one_ranking}, specs.Ranking.{IsCandidate, IsRanked}}
-use Rattle.std.proofs.Common.{List, None, Option, Some, [], ap, ap₂, arith, drop, false, get_or, inl, inr, length-append, length, map}
-use Rattle.std.proofs.Common.{refl, subst, suc, sym, take, true, zero, ℕ, ℤ, ◌++◌, ◌+◌, ◌<◌, ◌∙◌, ◌∷◌}
-use Rattle.std.proofs.{Common.{◌≡◌, ◌≢◌, ◌≤◌}, Math.Seq.get_or-append_seam, lemmas.Bool.cases_lt}
-use Rattle.std.proofs.lemmas.List.{Elements.{All-contains, All-nil, All-take, Contains-append_cases, Contains-append_right}, length-take-le}
-use Rattle.std.{proofs.lemmas.List.take-append-drop, specs.{List.{All, Contains}, Prelude.{IsNone, IsSome, MatchOption, ◌↔◌}}}
-use Rattle.um_among.specs.ListDecoding.{IsFirstCrcMatch, IsListDecodedAccess, IsListDecodedBlock, IsListDecodedSync, IsListDecoderChoice}
-use Rattle.um_among.specs.{ListDecoding.NoCrcHolds, ChannelCrcs.{AccessCrcHolds, BlockCrcHolds, SyncCrcHolds}}
-use Rattle.um_among.specs.declared.reports.{ListDecodedAccess.ListDecodedAccess, ListDecodedBlock.ListDecodedBlock}
-use Rattle.um_among.specs.declared.reports.ListDecodedSync.{ListDecodedSync}
-use Rattle.um_block.proofs.{burst_map.training_seq.Lemmas.one_first_greatest, conv_code.Lemmas.IsMostLikely-only}
-use Rattle.um_block.{proofs.interleave.Lemmas.same_coded, specs.Received.{IsReceivedAccess, IsReceivedBlock, IsReceivedSync}}
-use Rattle.um_block.specs.{Received.{access_soft_bits, coded_soft_bits, sync_soft_bits, wrong_training_bits}, bit_blocks.Octets.octets_of}
-use Rattle.um_block.specs.{bit_blocks.SoftValues.likelihood, conv_code.{Code.{IsEncoderInput, encoding}, Likelihood.IsMostLikely}}
-use Rattle.um_block.specs.{conv_code.Likelihood.RanksAfter, declared.received.{Received.Received, ReceivedAccess.ReceivedAccess}}
-use Rattle.um_block.specs.{declared.received.ReceivedSync.ReceivedSync, interleave.Bursts.IsInterleaved}
+use Rattle.{
+  list_decode.{proofs.Lemmas.{beginning_is_ranked, most_likely_is_ranked, one_ranking}, specs.Ranking.{IsCandidate, IsRanked}},
+  std.{
+    proofs.{
+      Common.{List, None, Option, Some, [], ap, ap₂, arith, drop, false, get_or, inl, inr, length-append, length, map, refl, subst, suc},
+      Common.{sym, take, true, zero, ℕ, ℤ, ◌++◌, ◌+◌, ◌<◌, ◌∙◌, ◌∷◌, ◌≡◌, ◌≢◌, ◌≤◌},
+      Math.Seq.get_or-append_seam,
+      lemmas.{Bool.cases_lt, List.Elements.{All-contains, All-cons, All-nil, All-take, Contains-append_cases, Contains-append_right}},
+      lemmas.List.{length-take-le, take-append-drop},
+    },
+    specs.{List.{All, Contains}, Prelude.{IsNone, IsSome, MatchOption, ◌↔◌}},
+  },
+  um_among.specs.{
+    ListDecoding.{IsFirstCrcMatch, IsListDecodedAccess, IsListDecodedBlock, IsListDecodedSync, IsListDecoderChoice, NoCrcHolds},
+    ChannelCrcs.{AccessCrcHolds, BlockCrcHolds, SyncCrcHolds},
+    declared.reports.{ListDecodedAccess.ListDecodedAccess, ListDecodedBlock.ListDecodedBlock, ListDecodedSync.ListDecodedSync},
+  },
+  um_block.{
+    proofs.{burst_map.training_seq.Lemmas.one_first_greatest, conv_code.Lemmas.IsMostLikely-only, interleave.Lemmas.same_coded},
+    specs.{
+      Received.{IsReceivedAccess, IsReceivedBlock, IsReceivedSync, access_soft_bits, coded_soft_bits, sync_soft_bits, wrong_training_bits},
+      bit_blocks.{Octets.octets_of, SoftValues.likelihood},
+      conv_code.{Code.{IsEncoderInput, encoding}, Likelihood.{IsMostLikely, RanksAfter}},
+      declared.received.{Received.Received, ReceivedAccess.ReceivedAccess, ReceivedSync.ReceivedSync},
+      interleave.Bursts.IsInterleaved,
+    },
+  },
+}
 
 -- ## FirstCrcMatch: The first word whose CRC holds is unique, and it is the most likely of all words whose CRC holds.
 
@@ -28,15 +40,6 @@ only_one : (u v : List ℕ) → Contains (u ∷ []) v → v ≡ u
 only_one u v (zero, lt, e) = sym e
 only_one u v (suc k, lt, e) = absurd (omega arith)
 
--- the shorter of two rankings is a prefix of the longer
-All-shorter : (s : List ℤ) (P : List ℕ → Type 0) (us vs : List (List ℕ)) → IsRanked s us → IsRanked s vs →
-    length us ≤ length vs → All P vs → All P us
-All-shorter s P us vs ranked ranked' few all =
-    let n = length us in
-    let begins = beginning_is_ranked s (take n vs) (drop n vs) (subst (IsRanked s) (sym (take-append-drop n vs)) ranked') in
-    let same = one_ranking s us (take n vs) ranked begins (sym (length-take-le n vs few)) in
-    subst (All P) (sym same) (All-take P n vs all)
-
 alone : (s : List ℤ) (earlier_words : List (List ℕ)) (u : List ℕ) → IsRanked s (earlier_words ++ u ∷ []) →
     length earlier_words ≡ 0 → IsMostLikely s u
 alone s [] u ranked none = (most_likely_is_ranked s u).1 ranked
@@ -47,8 +50,13 @@ module _ (CrcHolds : List ℕ → Type 0) (s : List ℤ) (most : ℕ) where
       length earlier_words + 1 ≤ length us → All (λ v. ¬ CrcHolds v) us → CrcHolds u → ⊥
   fails_earlier earlier_words us u ranked ranked' few crcs_fail holds =
       let Fails : List ℕ → Type 0 = λ v. ¬ CrcHolds v in
-      let count = length-append earlier_words (u ∷ []) in
-      All-last Fails earlier_words u (All-shorter s Fails (earlier_words ++ u ∷ []) us ranked ranked' (omega arith) crcs_fail) holds
+      let tried = earlier_words ++ u ∷ [] in
+      let n = length tried in
+      -- the shorter of two rankings is a prefix of the longer
+      let begins = beginning_is_ranked s (take n us) (drop n us) (rw (take-append-drop n us) ranked') in
+      let few_words : n ≤ length us = omega (arith, length-append earlier_words (u ∷ [])) in
+      let same = one_ranking s tried (take n us) ranked begins (sym (length-take-le n us few_words)) in
+      All-last Fails earlier_words u (subst (All Fails) (sym same) (All-take Fails n us crcs_fail)) holds
 
   later : (r r' : ℕ) (u u' : List ℕ) (h : IsFirstCrcMatch CrcHolds s most r u) (g : IsFirstCrcMatch CrcHolds s most r' u') →
       length h.earlier_words < length g.earlier_words → ⊥
@@ -63,32 +71,27 @@ module _ (CrcHolds : List ℕ → Type 0) (s : List ℤ) (most : ℕ) where
     | inl less ↦ absurd (later r r' u u' h g less)
     | inr many ↦ elim (cases_lt (length g.earlier_words) (length h.earlier_words)) [
       | inl less ↦ absurd (later r' r u' u g h less)
-      | inr few ↦ same (omega arith)
+      | inr few ↦
+          let e : length h.earlier_words ≡ length g.earlier_words = omega arith in
+          let whole = one_ranking s (h.earlier_words ++ u ∷ []) (g.earlier_words ++ u' ∷ []) h.ranked g.ranked
+          (simp length-append (ap (λ n. n + 1) e)) in (
+            h.rank_is ∙ ap (λ n. n + 1) e ∙ sym g.rank_is,
+            sym (get_or-append_seam h.earlier_words u [] [])
+                ∙ ap₂ (λ us n. get_or us n []) whole e
+                ∙ get_or-append_seam g.earlier_words u' [] [],
+          )
     ]
-  ] where
-    same : length h.earlier_words ≡ length g.earlier_words → (r ≡ r') × (u ≡ u')
-    same e =
-        let long = length-append h.earlier_words (u ∷ []) in
-        let long' = length-append g.earlier_words (u' ∷ []) in
-        let whole = one_ranking s (h.earlier_words ++ u ∷ []) (g.earlier_words ++ u' ∷ []) h.ranked g.ranked (omega arith) in (
-          h.rank_is ∙ ap (λ n. n + 1) e ∙ sym g.rank_is,
-          sym (get_or-append_seam h.earlier_words u [] [])
-              ∙ ap₂ (λ us n. get_or us n []) whole e
-              ∙ get_or-append_seam g.earlier_words u' [] [],
-        )
+  ]
 
   candidate : (r : ℕ) (u : List ℕ) → IsFirstCrcMatch CrcHolds s most r u → IsCandidate s u
-  candidate r u h = All-last (IsCandidate s) h.earlier_words u h.ranked.each
+  candidate r u h = All-last (IsCandidate s) h.earlier_words u h.ranked.all_candidates
 
   not_both : (r : ℕ) (u : List ℕ) → IsFirstCrcMatch CrcHolds s most r u → NoCrcHolds CrcHolds s most → ⊥
   not_both r u h none = elim none.all_tried [
-    | inl many ↦ fails_earlier h.earlier_words none.tried_words u h.ranked none.ranked (few h.rank_is h.rank_limit many) none.crcs_fail
-        h.crc_holds
+    | inl many ↦ fails_earlier h.earlier_words none.tried_words u h.ranked none.ranked (omega (arith, h.rank_is, h.rank_limit, many))
+        none.crcs_fail h.crc_holds
     | inr all ↦ All-contains (λ v. ¬ CrcHolds v) none.tried_words u none.crcs_fail (all u (candidate r u h)) h.crc_holds
-  ] where
-    few : r ≡ length h.earlier_words + 1 → r ≤ most → length none.tried_words ≡ most →
-        length h.earlier_words + 1 ≤ length none.tried_words
-    few place tried many = omega arith
+  ]
 
   -- the word taken and its report are unique
   taken_once : {X : Type 0} (data_of : List ℕ → X) (r r' : ℕ) (u u' : List ℕ) (a a' : Option X) →
@@ -101,28 +104,11 @@ module _ (CrcHolds : List ℕ → Type 0) (s : List ℤ) (most : ℕ) where
       let same = one_first r r' u u' h.0 g.0 in
       (same.0, same.1, ap Some (h.1 ∙ ap data_of same.1 ∙ sym g.1))
 
-  -- the first word whose CRC holds is the most likely of all words whose CRC holds
-  first_is_best : (r : ℕ) (u : List ℕ) → IsFirstCrcMatch CrcHolds s most r u → (v : List ℕ) → IsCandidate s v →
-      CrcHolds v → v ≢ u → RanksAfter s v u
-  first_is_best r u h v is holds ne = elim (h.ranked.others v is) [
-    | inl returned ↦ elim (Contains-append_cases h.earlier_words _ v returned) [
-      | inl early ↦ absurd (All-contains (λ v. ¬ CrcHolds v) h.earlier_words v h.crcs_fail early holds)
-      | inr here ↦ absurd (ne (only_one u v here))
-    ]
-    | inr behind ↦ All-last (RanksAfter s v) h.earlier_words u behind
-  ]
-
   -- nothing is accepted if and only if no CRC holds
-  taken_lost : {X : Type 0} (data_of : List ℕ → X) (r : ℕ) (u : List ℕ) (a : Option X) →
+  pub taken_lost : {X : Type 0} (data_of : List ℕ → X) (r : ℕ) (u : List ℕ) (a : Option X) →
       IsListDecoderChoice CrcHolds data_of s most r u a → (IsNone a ↔ NoCrcHolds CrcHolds s most)
   taken_lost data_of r u None h = (λ _. h.0, λ _. refl)
   taken_lost data_of r u (Some x) h = (λ e. absurd (never (sym e)), λ none. absurd (not_both r u h.0 none))
-
-  -- the word of rank 1 is the most likely one
-  first_place : (u : List ℕ) → IsFirstCrcMatch CrcHolds s most 1 u → IsMostLikely s u
-  first_place u h = alone s h.earlier_words u h.ranked (none h.rank_is) where
-    none : 1 ≡ length h.earlier_words + 1 → length h.earlier_words ≡ 0
-    none e = omega arith
 
   -- the most likely word is taken if its CRC holds
   most_likely_holds : (u : List ℕ) → 1 ≤ most → IsMostLikely s u → CrcHolds u → IsFirstCrcMatch CrcHolds s most 1 u
@@ -137,25 +123,30 @@ module _ (CrcHolds : List ℕ → Type 0) (s : List ℤ) (most : ℕ) where
 
   -- ---- which word is taken
 
-  taken_best : {X : Type 0} (data_of : List ℕ → X) (r : ℕ) (u : List ℕ) (a : Option X) →
+  -- the first word whose CRC holds is the most likely of all words whose CRC holds
+  pub taken_best : {X : Type 0} (data_of : List ℕ → X) (r : ℕ) (u : List ℕ) (a : Option X) →
       IsListDecoderChoice CrcHolds data_of s most r u a → IsSome a → (v : List ℕ) → IsCandidate s v → CrcHolds v → v ≢ u →
       RanksAfter s v u
-  taken_best data_of r u None h some = absurd (never some)
-  taken_best data_of r u (Some x) h some = first_is_best r u h.0
+  taken_best data_of r u None h some v is holds ne = absurd (never some)
+  taken_best data_of r u (Some x) (h, _) some v is holds ne = elim (h.ranked.others v is) [
+    | inl returned ↦ elim (Contains-append_cases h.earlier_words _ v returned) [
+      | inl early ↦ absurd (All-contains (λ v. ¬ CrcHolds v) h.earlier_words v h.crcs_fail early holds)
+      | inr here ↦ absurd (ne (only_one u v here))
+    ]
+    | inr behind ↦ All-last (RanksAfter s v) h.earlier_words u behind
+  ]
 
-  taken_first : {X : Type 0} (data_of : List ℕ → X) (r : ℕ) (u : List ℕ) (a : Option X) → 1 ≤ most → r ≡ 1 →
+  pub taken_first : {X : Type 0} (data_of : List ℕ → X) (r : ℕ) (u : List ℕ) (a : Option X) → 1 ≤ most → r ≡ 1 →
       IsListDecoderChoice CrcHolds data_of s most r u a → IsMostLikely s u
       × MatchOption a (¬ CrcHolds u) (λ x. CrcHolds u × (x ≡ data_of u))
   taken_first data_of r u None some e h = (h.1, λ holds. not_both 1 u (most_likely_holds u some h.1 holds) h.0)
   taken_first data_of r u (Some x) some e h =
-      (first_place u (subst (λ n. IsFirstCrcMatch CrcHolds s most n u) e h.0), (h.0.crc_holds, h.1))
+      (alone s h.0.earlier_words u h.0.ranked (omega (arith, h.0.rank_is, e)), (h.0.crc_holds, h.1))
 
-  taken_of_one : {X : Type 0} (data_of : List ℕ → X) (r : ℕ) (u : List ℕ) (a : Option X) → most ≡ 1 →
+  pub taken_of_one : {X : Type 0} (data_of : List ℕ → X) (r : ℕ) (u : List ℕ) (a : Option X) → most ≡ 1 →
       IsListDecoderChoice CrcHolds data_of s most r u a → r ≡ 1
   taken_of_one data_of r u None e h = h.2
-  taken_of_one data_of r u (Some x) e h = place h.0.rank_is h.0.rank_limit where
-    place : r ≡ length h.0.earlier_words + 1 → r ≤ most → r ≡ 1
-    place one two = omega arith
+  taken_of_one data_of r u (Some x) e h = omega (arith, h.0.rank_is, h.0.rank_limit)
 
   -- the CRC of the most likely word holds
   taken_at_once : {X : Type 0} (data_of : List ℕ → X) (u : List ℕ) (a : Option X) → 1 ≤ most → IsMostLikely s u →
@@ -165,19 +156,19 @@ module _ (CrcHolds : List ℕ → Type 0) (s : List ℤ) (most : ℕ) where
   taken_at_once data_of u (Some x) some best h is = (most_likely_holds u some best h.0, h.1)
 
   -- a word whose CRC holds was found
-  taken_found : {X : Type 0} (data_of : List ℕ → X) (r : ℕ) (u : List ℕ) (a : Option X) →
-      IsFirstCrcMatch CrcHolds s most r u → MatchOption a (¬ CrcHolds u) (λ x. CrcHolds u × (x ≡ data_of u)) →
-      IsListDecoderChoice CrcHolds data_of s most r u a
-  taken_found data_of r u None first h = absurd (h first.crc_holds)
-  taken_found data_of r u (Some x) first h = (first, h.1)
+  pub taken_found : {X : Type 0} (data_of : List ℕ → X) (r : ℕ) (soft : List ℤ) (u v : List ℕ) (a : Option X) → soft ≡ s →
+      v ≡ u → IsFirstCrcMatch CrcHolds soft most r u → MatchOption a (¬ CrcHolds u) (λ x. CrcHolds u × (x ≡ data_of u)) →
+      IsListDecoderChoice CrcHolds data_of s most r v a
+  taken_found data_of r soft u v None is same first h = absurd (h first.crc_holds)
+  taken_found data_of r soft u v (Some x) is same first h = (rw (same, ← is) first, h.1 ∙ ap data_of (sym same))
 
   -- no CRC holds
-  taken_none : {X : Type 0} (data_of : List ℕ → X) (u : List ℕ) (a : Option X) → NoCrcHolds CrcHolds s most →
-      IsMostLikely s u → ¬ IsSome a → IsListDecoderChoice CrcHolds data_of s most 1 u a
-  taken_none data_of u None none best lacks = (none, best, refl)
-  taken_none data_of u (Some x) none best lacks = absurd (lacks refl)
+  pub taken_none : {X : Type 0} (data_of : List ℕ → X) (soft : List ℤ) (u : List ℕ) (a : Option X) → soft ≡ s →
+      NoCrcHolds CrcHolds soft most → IsMostLikely s u → ¬ IsSome a → IsListDecoderChoice CrcHolds data_of s most 1 u a
+  taken_none data_of soft u None is none best lacks = (rw (← is) none, best, refl)
+  taken_none data_of soft u (Some x) is none best lacks = absurd (lacks refl)
 
-  taken_information : {X : Type 0} (data_of : List ℕ → X) (r : ℕ) (u : List ℕ) (a : Option X) →
+  pub taken_information : {X : Type 0} (data_of : List ℕ → X) (r : ℕ) (u : List ℕ) (a : Option X) →
       IsListDecoderChoice CrcHolds data_of s most r u a → IsEncoderInput u
   taken_information data_of r u None h = h.1.information
   taken_information data_of r u (Some x) h = (candidate r u h.0).information
@@ -193,7 +184,7 @@ same_report make rank u metric tsc wrong accepted = cc
 
 -- ---- the report of a block is unique, and the word taken for it
 
-abbrev octets_if_crc_holds : List ℕ → List ℕ
+abbrev pub octets_if_crc_holds : List ℕ → List ℕ
 octets_if_crc_holds u = octets_of (take 184 u)
 
 module _ (bursts : List (List ℤ)) (most : ℕ) where
@@ -229,25 +220,6 @@ module _ (bursts : List (List ℤ)) (most : ℕ) where
   block_information r h =
       taken_information BlockCrcHolds h.soft most octets_if_crc_holds r.rank _ r.report.accepted h.choice
 
-  -- at rank 1 the report is that of the most likely word alone
-  pub block_alone : (r : ListDecodedBlock) → 1 ≤ most → IsListDecodedBlock bursts most r → r.rank ≡ 1 →
-      IsReceivedBlock bursts r.report
-  block_alone r some h first =
-      let taken = taken_first BlockCrcHolds h.soft most octets_if_crc_holds r.rank r.report.u r.report.accepted some first h.choice in
-      record {
-        soft = h.soft;
-        deinterleaved = h.deinterleaved;
-        best = taken.0;
-        metric = h.metric;
-        tsc = h.tsc;
-        wrong_training = h.wrong_training;
-        accepted = taken.1;
-      }
-
-  pub block_of_one : (r : ListDecodedBlock) → IsListDecodedBlock bursts most r → most ≡ 1 → r.rank ≡ 1
-  block_of_one r h one =
-      taken_of_one BlockCrcHolds h.soft _ octets_if_crc_holds _ r.report.u r.report.accepted one h.choice
-
   -- if the CRC of the most likely word holds, that word is taken
   pub block_at_once : (r : Received) → 1 ≤ most → IsReceivedBlock bursts r → IsSome r.accepted →
       IsListDecodedBlock bursts most (record { report = r; rank = 1 })
@@ -265,40 +237,6 @@ module _ (bursts : List (List ℤ)) (most : ℕ) where
   block_first r some h alone received accepted =
       one_block_among r (record { report = alone; rank = 1 }) h (block_at_once alone some received accepted)
 
-  pub block_lost : (r : Received) (soft : List ℤ) → IsReceivedBlock bursts r → ¬ IsSome r.accepted →
-      IsInterleaved soft (map coded_soft_bits bursts) → NoCrcHolds BlockCrcHolds soft most →
-      IsListDecodedBlock bursts most (record { report = r; rank = 1 })
-  block_lost r soft h lacks deinterleaved none =
-      let same : soft ≡ h.soft = same_coded _ h.soft (map _ _) deinterleaved h.deinterleaved in
-      record {
-        soft = h.soft;
-        deinterleaved = h.deinterleaved;
-        choice = taken_none BlockCrcHolds h.soft most octets_if_crc_holds r.u r.accepted
-            (subst (λ s. NoCrcHolds BlockCrcHolds s most) same none) h.best lacks;
-        metric = h.metric;
-        tsc = h.tsc;
-        wrong_training = h.wrong_training;
-      }
-
-  pub block_found : (rank : ℕ) (r : Received) (soft : List ℤ) (u v : List ℕ) (metric : ℤ) (accepted : Option (List ℕ)) →
-      v ≡ u → IsReceivedBlock bursts r → IsInterleaved soft (map coded_soft_bits bursts) →
-      IsFirstCrcMatch BlockCrcHolds soft most rank u →
-      metric ≡ likelihood soft (encoding u) →
-      MatchOption accepted (¬ BlockCrcHolds u) (λ octets. BlockCrcHolds u × (octets ≡ octets_of (take 184 u))) →
-      IsListDecodedBlock bursts most (record {
-        report = record { u = v; metric = metric; tsc = r.tsc; wrong_training = r.wrong_training; accepted = accepted };
-        rank = rank;
-      })
-  block_found rank r soft u v metric accepted same h deinterleaved first value data_of = record {
-    soft = soft;
-    deinterleaved = deinterleaved;
-    choice = subst (λ w. IsListDecoderChoice BlockCrcHolds octets_if_crc_holds soft most rank w accepted) (sym same)
-        (taken_found BlockCrcHolds soft most octets_if_crc_holds rank u accepted first data_of);
-    metric = value ∙ ap (λ w. likelihood soft (encoding w)) (sym same);
-    tsc = h.tsc;
-    wrong_training = h.wrong_training;
-  }
-
 -- ---- the word taken for an access burst
 
 module _ (burst : List ℤ) (bsic : List ℕ) (most : ℕ) where
@@ -312,67 +250,11 @@ module _ (burst : List ℤ) (bsic : List ℕ) (most : ℕ) where
       same.0 same.1 (h.metric ∙ ap (λ v. likelihood soft (encoding v)) same.1 ∙ sym g.metric)
       (refl {a = 0}) (h.wrong_training ∙ sym g.wrong_training) same.2
 
-  pub access_best : (r : ListDecodedAccess) → IsListDecodedAccess burst bsic most r → IsSome r.report.accepted →
-      (v : List ℕ) → IsCandidate (access_soft_bits burst) v → AccessCrcHolds bsic v → v ≢ r.report.u →
-      RanksAfter (access_soft_bits burst) v r.report.u
-  access_best r h some v =
-      taken_best (AccessCrcHolds _) _ most (take 8) r.rank _ r.report.accepted h.choice some v
-
-  pub access_none : (r : ListDecodedAccess) → IsListDecodedAccess burst bsic most r →
-      (IsNone r.report.accepted ↔ NoCrcHolds (AccessCrcHolds bsic) (access_soft_bits burst) most)
-  access_none r h =
-      taken_lost (AccessCrcHolds bsic) (access_soft_bits burst) most (take 8) r.rank r.report.u r.report.accepted h.choice
-
-  pub access_information : (r : ListDecodedAccess) → IsListDecodedAccess burst bsic most r → IsEncoderInput r.report.u
-  access_information r h =
-      taken_information (AccessCrcHolds _) (access_soft_bits burst) most (take 8) r.rank _ r.report.accepted h.choice
-
-  pub access_alone : (r : ListDecodedAccess) → 1 ≤ most → IsListDecodedAccess burst bsic most r → r.rank ≡ 1 →
-      IsReceivedAccess burst bsic r.report
-  access_alone r some h first =
-      let taken = taken_first (AccessCrcHolds bsic) (access_soft_bits burst) most (take 8) r.rank r.report.u
-      r.report.accepted some first h.choice in
-      record { best = taken.0; metric = h.metric; wrong_training = h.wrong_training; accepted = taken.1 }
-
-  pub access_of_one : (r : ListDecodedAccess) → IsListDecodedAccess burst bsic most r → most ≡ 1 → r.rank ≡ 1
-  access_of_one r h one =
-      taken_of_one (AccessCrcHolds _) (access_soft_bits burst) _ (take 8) _ r.report.u r.report.accepted one h.choice
-
   pub access_at_once : (r : ReceivedAccess) → 1 ≤ most → IsReceivedAccess burst bsic r →
       IsSome r.accepted → IsListDecodedAccess burst bsic most (record { report = r; rank = 1 })
   access_at_once r some h accepted = record {
     choice = taken_at_once _ _ _ (take 8) r.u _ some h.best h.accepted accepted;
     metric = h.metric;
-    wrong_training = h.wrong_training;
-  }
-
-  pub access_first : (r : ListDecodedAccess) → 1 ≤ most → IsListDecodedAccess burst bsic most r → (alone : ReceivedAccess) →
-      IsReceivedAccess burst bsic alone → IsSome alone.accepted → r ≡ record { report = alone; rank = 1 }
-  access_first r some h alone received accepted =
-      one_access_among r (record { report = alone; rank = 1 }) h (access_at_once alone some received accepted)
-
-  pub access_lost : (r : ReceivedAccess) (soft : List ℤ) → soft ≡ access_soft_bits burst →
-      IsReceivedAccess burst bsic r → ¬ IsSome r.accepted → NoCrcHolds (AccessCrcHolds bsic) soft most →
-      IsListDecodedAccess burst bsic most (record { report = r; rank = 1 })
-  access_lost r soft is h lacks none = record {
-    choice = taken_none _ _ _ (take 8) r.u r.accepted (subst (λ s. NoCrcHolds (AccessCrcHolds bsic) s most) is none) h.best lacks;
-    metric = h.metric;
-    wrong_training = h.wrong_training;
-  }
-
-  pub access_found : (rank : ℕ) (r : ReceivedAccess) (soft : List ℤ) (u v : List ℕ) (metric : ℤ)
-      (accepted : Option (List ℕ)) → soft ≡ access_soft_bits burst → v ≡ u → IsReceivedAccess burst bsic r →
-      IsFirstCrcMatch (AccessCrcHolds bsic) soft most rank u → metric ≡ likelihood soft (encoding u) →
-      MatchOption accepted (¬ AccessCrcHolds bsic u) (λ info. AccessCrcHolds bsic u × (info ≡ take 8 u)) →
-      IsListDecodedAccess burst bsic most (record {
-        report = record { u = v; metric = metric; wrong_training = r.wrong_training; accepted = accepted };
-        rank = rank;
-      })
-  access_found rank r soft u v metric accepted is same h first value data_of = record {
-    choice = subst (λ s. IsListDecoderChoice (AccessCrcHolds bsic) (take 8) s most rank v accepted) is
-        (subst (λ w. IsListDecoderChoice (AccessCrcHolds bsic) (take 8) soft most rank w accepted) (sym same)
-        (taken_found (AccessCrcHolds bsic) soft most (take 8) rank u accepted first data_of));
-    metric = value ∙ ap₂ (λ s w. likelihood s (encoding w)) is (sym same);
     wrong_training = h.wrong_training;
   }
 
@@ -388,30 +270,6 @@ module _ (burst : List ℤ) (most : ℕ) where
       same.0 same.1 (h.metric ∙ ap (λ v. likelihood soft (encoding v)) same.1 ∙ sym g.metric)
       (refl {a = 0}) (h.wrong_training ∙ sym g.wrong_training) same.2
 
-  pub sync_best : (r : ListDecodedSync) → IsListDecodedSync burst most r → IsSome r.report.accepted →
-      (v : List ℕ) → IsCandidate (sync_soft_bits burst) v → SyncCrcHolds v → v ≢ r.report.u →
-      RanksAfter (sync_soft_bits burst) v r.report.u
-  sync_best r h some v =
-      taken_best SyncCrcHolds _ most (take 25) r.rank _ r.report.accepted h.choice some v
-
-  pub sync_none : (r : ListDecodedSync) → IsListDecodedSync burst most r →
-      (IsNone r.report.accepted ↔ NoCrcHolds SyncCrcHolds (sync_soft_bits burst) most)
-  sync_none r h = taken_lost SyncCrcHolds (sync_soft_bits burst) most (take 25) r.rank r.report.u r.report.accepted h.choice
-
-  pub sync_information : (r : ListDecodedSync) → IsListDecodedSync burst most r → IsEncoderInput r.report.u
-  sync_information r h =
-      taken_information SyncCrcHolds (sync_soft_bits burst) most (take 25) r.rank _ r.report.accepted h.choice
-
-  pub sync_alone : (r : ListDecodedSync) → 1 ≤ most → IsListDecodedSync burst most r → r.rank ≡ 1 →
-      IsReceivedSync burst r.report
-  sync_alone r some h first =
-      let taken = taken_first SyncCrcHolds (sync_soft_bits burst) most (take 25) r.rank r.report.u r.report.accepted some first h.choice in
-      record { best = taken.0; metric = h.metric; wrong_training = h.wrong_training; accepted = taken.1 }
-
-  pub sync_of_one : (r : ListDecodedSync) → IsListDecodedSync burst most r → most ≡ 1 → r.rank ≡ 1
-  sync_of_one r h one =
-      taken_of_one SyncCrcHolds (sync_soft_bits burst) _ (take 25) _ r.report.u r.report.accepted one h.choice
-
   pub sync_at_once : (r : ReceivedSync) → 1 ≤ most → IsReceivedSync burst r → IsSome r.accepted →
       IsListDecodedSync burst most (record { report = r; rank = 1 })
   sync_at_once r some h accepted = record {
@@ -420,31 +278,18 @@ module _ (burst : List ℤ) (most : ℕ) where
     wrong_training = h.wrong_training;
   }
 
-  pub sync_first : (r : ListDecodedSync) → 1 ≤ most → IsListDecodedSync burst most r → (alone : ReceivedSync) →
-      IsReceivedSync burst alone → IsSome alone.accepted → r ≡ record { report = alone; rank = 1 }
-  sync_first r some h alone received accepted =
-      one_sync_among r (record { report = alone; rank = 1 }) h (sync_at_once alone some received accepted)
+-- ## FirstWords: The search begins after the most likely word, whose CRC fails.
 
-  pub sync_lost : (r : ReceivedSync) (soft : List ℤ) → soft ≡ sync_soft_bits burst → IsReceivedSync burst r →
-      ¬ IsSome r.accepted → NoCrcHolds SyncCrcHolds soft most → IsListDecodedSync burst most (record { report = r; rank = 1 })
-  sync_lost r soft is h lacks none = record {
-    choice = taken_none _ _ _ (take 25) r.u r.accepted (subst (λ s. NoCrcHolds SyncCrcHolds s most) is none) h.best lacks;
-    metric = h.metric;
-    wrong_training = h.wrong_training;
-  }
+pub block_first_word : (bursts : List (List ℤ)) (r : Received) (soft : List ℤ) → IsReceivedBlock bursts r →
+    IsInterleaved soft (map coded_soft_bits bursts) → IsMostLikely soft r.u × (r.metric ≡ likelihood soft (encoding r.u))
+block_first_word bursts r soft h deinterleaved =
+    let same : soft ≡ h.soft = same_coded _ h.soft (map _ _) deinterleaved h.deinterleaved in
+    (subst (λ s. IsMostLikely s r.u) (sym same) h.best, h.metric ∙ ap (λ s. likelihood s (encoding r.u)) (sym same))
 
-  pub sync_found : (rank : ℕ) (r : ReceivedSync) (soft : List ℤ) (u v : List ℕ) (metric : ℤ) (accepted : Option (List ℕ)) →
-      soft ≡ sync_soft_bits burst → v ≡ u → IsReceivedSync burst r → IsFirstCrcMatch SyncCrcHolds soft most rank u →
-      metric ≡ likelihood soft (encoding u) → MatchOption accepted (¬ SyncCrcHolds u) (λ info. SyncCrcHolds u
-      × (info ≡ take 25 u)) →
-      IsListDecodedSync burst most (record {
-        report = record { u = v; metric = metric; wrong_training = r.wrong_training; accepted = accepted };
-        rank = rank;
-      })
-  sync_found rank r soft u v metric accepted is same h first value data_of = record {
-    choice = subst (λ s. IsListDecoderChoice SyncCrcHolds (take 25) s most rank v accepted) is
-        (subst (λ w. IsListDecoderChoice SyncCrcHolds (take 25) soft most rank w accepted) (sym same)
-        (taken_found SyncCrcHolds soft most (take 25) rank u accepted first data_of));
-    metric = value ∙ ap₂ (λ s w. likelihood s (encoding w)) is (sym same);
-    wrong_training = h.wrong_training;
-  }
+pub one_tried : (P : List ℕ → Type 0) (soft : List ℤ) (u : List ℕ) → IsMostLikely soft u → ¬ P u → NoCrcHolds P soft 1
+one_tried P soft u best fails = record {
+  tried_words = u ∷ [];
+  ranked = (most_likely_is_ranked soft u).0 best;
+  all_tried = inl refl;
+  crcs_fail = All-cons (λ v. ¬ P v) u [] fails (All-nil _);
+}

@@ -18,27 +18,27 @@ use um_block::{
     octets_if_crc_holds, receive_deinterleaved,
 };
 
-/// Receives the four bursts of a block: takes the first of the `most` most likely words whose CRC is correct; `most` must be 1 to 64.
+/// Receives the four bursts of a block: takes the first of the `max_rank` most likely words whose CRC is correct. `max_rank` is 1 to 64.
 ///
 /// The CRC of a word that was not sent is correct by chance with probability 2^-40 for each word tried. With 64 words, this happens about
 /// once in 17 billion lost blocks.
-pub fn receive_block_among(bursts: &[[i8; BURST_BITS]; 4], most: u32) -> ListDecodedBlock
+pub fn receive_block_among(bursts: &[[i8; BURST_BITS]; 4], max_rank: u32) -> ListDecodedBlock
     requires soft { All AllSoftBits bursts.now }
-    requires at_least { 1 ≤ most }
-    requires at_most { most ≤ MAX_RANK }
-    ensures received { IsListDecodedBlock bursts.now most result }
-    ensures only { (other : ListDecodedBlock) → IsListDecodedBlock bursts.now most other → other ≡ result }
+    requires at_least { 1 ≤ max_rank }
+    requires at_most { max_rank ≤ MAX_RANK }
+    ensures received { IsListDecodedBlock bursts.now max_rank result }
+    ensures only { (other : ListDecodedBlock) → IsListDecodedBlock bursts.now max_rank other → other ≡ result }
     ensures best { IsSome result.report.accepted → (soft : List ℤ) (v : List ℕ) →
         IsInterleaved soft (map coded_soft_bits bursts.now) → IsCandidate soft v → BlockCrcHolds v → v ≢ result.report.u →
         RanksAfter soft v result.report.u }
     ensures none { (soft : List ℤ) → IsInterleaved soft (map coded_soft_bits bursts.now) →
-        (IsNone result.report.accepted ↔ NoCrcHolds BlockCrcHolds soft most) }
+        (IsNone result.report.accepted ↔ NoCrcHolds BlockCrcHolds soft max_rank) }
     ensures information { IsEncoderInput result.report.u }
     ensures first { (r : Received) → IsReceivedBlock bursts.now r → IsSome r.accepted → result ≡ record { report = r; rank = 1 } }
     ensures alone { result.rank ≡ 1 → IsReceivedBlock bursts.now result.report }
-    ensures one { most ≡ 1 → result.rank ≡ 1 }
+    ensures one { max_rank ≡ 1 → result.rank ≡ 1 }
 {
-    receive_deinterleaved_among(bursts, &deinterleave_block(bursts), most)
+    receive_deinterleaved_among(bursts, &deinterleave_block(bursts), max_rank)
 }
 
 /// Receives a block as `receive_block_among` does, with its coded soft bits already deinterleaved into `soft`. The contract states only
@@ -46,20 +46,22 @@ pub fn receive_block_among(bursts: &[[i8; BURST_BITS]; 4], most: u32) -> ListDec
 pub fn receive_deinterleaved_among(
     bursts: &[[i8; BURST_BITS]; 4],
     soft: &[i8; CODED_BITS],
-    most: u32,
+    max_rank: u32,
 ) -> ListDecodedBlock
     requires soft { AllSoftBits soft.now }
     requires deinterleaved { IsInterleaved soft.now (map coded_soft_bits bursts.now) }
-    requires at_least { 1 ≤ most }
-    requires at_most { most ≤ MAX_RANK }
-    ensures { IsListDecodedBlock bursts.now most result }
+    requires at_least { 1 ≤ max_rank }
+    requires at_most { max_rank ≤ MAX_RANK }
+    ensures { IsListDecodedBlock bursts.now max_rank result }
 {
     let report = receive_deinterleaved(bursts, soft);
     if report.accepted.is_some() {
         return ListDecodedBlock { report, rank: 1 };
     }
     let mut u = [0; ENCODER_INPUT_BITS];
-    let Some(found) = first_crc_match(&ChannelCrc::Block, soft, most, &mut u) else {
+    u.copy_from_slice(report.u.as_slice());
+    let Some(found) = first_crc_match(&ChannelCrc::Block, soft, report.metric, max_rank, &mut u)
+    else {
         return ListDecodedBlock { report, rank: 1 };
     };
     ListDecodedBlock {

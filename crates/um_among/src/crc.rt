@@ -15,28 +15,28 @@ pub(crate) enum ChannelCrc {
 }
 
 impl ChannelCrc {
-    /// Returns whether the CRC of the information list `u` is correct.
-    pub(crate) fn holds(&self, u: &[u8]) -> bool
-        requires word_length { length u.now ≡ word_length self.now }
-        requires bits { AllBits u.now }
-        ensures { IsTrue result ↔ CrcHolds self.now u.now }
+    /// Returns whether the CRC of the encoder input `word` is correct.
+    pub(crate) fn holds(&self, word: &[u8]) -> bool
+        requires word_length { length word.now ≡ word_length self.now }
+        requires bits { AllBits word.now }
+        ensures { IsTrue result ↔ CrcHolds self.now word.now }
     {
         match self {
-            ChannelCrc::Block => xcch_holds(&Bits::from_array(first_bits::<224>(u))),
-            ChannelCrc::Access(bsic) => rach_holds(&Bits::from_array(first_bits::<14>(u)), bsic),
-            ChannelCrc::Sync => sch_holds(&Bits::from_array(first_bits::<35>(u))),
+            ChannelCrc::Block => xcch_holds(&Bits::from_array(first_bits::<224>(word))),
+            ChannelCrc::Access(bsic) => rach_holds(&Bits::from_array(first_bits::<14>(word)), bsic),
+            ChannelCrc::Sync => sch_holds(&Bits::from_array(first_bits::<35>(word))),
         }
     }
 }
 
 /// The first `N` bits of a word.
-fn first_bits<const N: usize>(u: &[u8]) -> [u8; N]
-    requires size { N ≤ length u.now }
-    requires bits { AllBits u.now }
-    ensures value { result ≡ take N u.now }
+fn first_bits<const N: usize>(decoded: &[u8]) -> [u8; N]
+    requires size { N ≤ length decoded.now }
+    requires bits { AllBits decoded.now }
+    ensures value { result ≡ take N decoded.now }
     ensures bits { AllBits result }
 {
     let mut word = [0; N];
-    word.copy_from_slice(&u[..N]);
+    word.copy_from_slice(&decoded[..N]);
     word
 }

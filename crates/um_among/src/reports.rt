@@ -1,8 +1,8 @@
-//! The reports of a receiver that tries more than one word (information list).
+//! The reports of a receiver that tries more than one word (encoder input).
 
 use um_block::{Received, ReceivedAccess, ReceivedSync};
 
-/// The report of a block, and the rank of the word (information list) that was taken.
+/// The report of a block, and the rank of the word (encoder input) that was taken.
 #[derive(Clone, Copy, PartialEq, Eq, Debug)]
 pub struct ListDecodedBlock {
     /// The report for the word that was taken, in the form that `receive_block` returns: the first word whose CRC is correct, or the most
@@ -12,7 +12,7 @@ pub struct ListDecodedBlock {
     pub rank: u32,
 }
 
-/// The report of an access burst, and the rank of the word (information list) that was taken.
+/// The report of an access burst, and the rank of the word (encoder input) that was taken.
 #[derive(Clone, Copy, PartialEq, Eq, Debug)]
 pub struct ListDecodedAccess {
     /// The report for the word that was taken, in the form that `receive_access` returns: the first word whose CRC is correct, or the most
@@ -22,7 +22,7 @@ pub struct ListDecodedAccess {
     pub rank: u32,
 }
 
-/// The report of a synchronisation burst, and the rank of the word (information list) that was taken.
+/// The report of a synchronisation burst, and the rank of the word (encoder input) that was taken.
 #[derive(Clone, Copy, PartialEq, Eq, Debug)]
 pub struct ListDecodedSync {
     /// The report for the word that was taken, in the form that `receive_sync` returns: the first word whose CRC is correct, or the most

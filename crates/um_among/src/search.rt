@@ -2,7 +2,7 @@
 ghost use Rattle.std.specs.Prelude.{◌≡◌, ◌*◌, ◌≤◌, MatchOption, length};
 ghost use Rattle.um_block.specs.bit_blocks.SoftValues.{AllSoftBits};
 ghost use Rattle.um_block.specs.conv_code.Code.{encoding, IsEncoderInput};
-ghost use Rattle.um_block.specs.conv_code.Likelihood.{likelihood};
+ghost use Rattle.um_block.specs.conv_code.Likelihood.{IsMostLikely, likelihood};
 ghost use Rattle.um_among.specs.ChannelCrcs.{CrcHolds, word_length};
 ghost use Rattle.um_among.specs.ListDecoding.{IsFirstCrcMatch, NoCrcHolds};
 
@@ -16,24 +16,33 @@ pub(crate) struct CrcMatch {
     pub(crate) metric: i32,
 }
 
-/// Writes to `u` the first of the `most` most likely words whose CRC is correct. Returns `None` if none of their CRCs is correct.
+/// Replaces `u`, the most likely word, by the first of the `max_rank` most likely words whose CRC is correct. The CRC of the most likely word
+/// must be wrong; `first_metric` is its path metric. Returns `None` if none of the CRCs is correct.
 pub(crate) fn first_crc_match(
     crc: &ChannelCrc,
     soft: &[i8],
-    most: u32,
+    first_metric: i32,
+    max_rank: u32,
     u: &mut [u8],
 ) -> Option<CrcMatch>
     requires word_length { length u.old ≡ word_length crc.now }
     requires pairs { length soft.now ≡ 2 * length u.old }
     requires soft { AllSoftBits soft.now }
-    requires at_most { most ≤ MAX_RANK }
+    requires best { IsMostLikely soft.now u.old }
+    requires metric { first_metric ≡ likelihood soft.now (encoding u.old) }
+    requires fails { ¬ CrcHolds crc.now u.old }
+    requires at_least { 1 ≤ max_rank }
+    requires at_most { max_rank ≤ MAX_RANK }
     ensures { MatchOption result
-        (NoCrcHolds (CrcHolds crc.now) soft.now most)
-        (λ found. IsFirstCrcMatch (CrcHolds crc.now) soft.now most found.rank u.new
+        (NoCrcHolds (CrcHolds crc.now) soft.now max_rank)
+        (λ found. IsFirstCrcMatch (CrcHolds crc.now) soft.now max_rank found.rank u.new
         × (found.metric ≡ likelihood soft.now (encoding u.new)) × IsEncoderInput u.new) }
 {
-    let mut ranked = ListDecoder::new(soft);
-    for tried in 0..most {
+    if max_rank == 1 {
+        return None;
+    }
+    let mut ranked = ListDecoder::after_first(soft, u, first_metric);
+    for tried in 1..max_rank {
         let metric = ranked.next(u)?;
         if crc.holds(u) {
             return Some(CrcMatch {

@@ -38,7 +38,7 @@ fn decode_sync(rt: &impl Abort, burst: &[i8; BURST_BITS], most: u32) -> ListDeco
     receive_sync_among(burst, most)
 }
 
-fn softened(rt: &impl Abort, burst: &[u8; BURST_BITS]) -> [i8; BURST_BITS] {
+fn soften_burst(rt: &impl Abort, burst: &[u8; BURST_BITS]) -> [i8; BURST_BITS] {
     let are_bits = burst.iter().all(|bit| *bit <= 1);
     assert!(rt; are_bits);
     soften(burst)
@@ -56,7 +56,7 @@ fn the_second_most_likely_word_is_the_sent_one(rt: HostRuntime) {
     for (burst, place) in [(0, 3), (0, 131), (1, 115), (1, 129)] {
         sent[burst][place] ^= 1;
     }
-    let bursts = sent.map(|burst| softened(&rt, &burst));
+    let bursts = sent.map(|burst| soften_burst(&rt, &burst));
     let alone = decode_block(&rt, &bursts, 1);
     assert_eq!(rt; alone.report.accepted, None);
     assert_eq!(rt; alone.report.metric, 450 * 127);

@@ -1,37 +1,60 @@
 -- Received bursts: reports exist, once; what was sent is accepted, also with wrong bits.
-use Rattle.bit_blocks.proofs.Lemmas.{AllBits-table, AllOctets-octets_of, at_passes_below, length-octets_of, octets_of-bits_of, passes_below}
-use Rattle.bit_blocks.specs.{Bits.{AllBits, IsBit}, Octets.{AllOctets, bits_of, octets_of}, SoftValues.{AllSoftBits, IsSoftBit}}
-use Rattle.bit_blocks.specs.SoftValues.{count_wrong_bits, is_wrong_bit, likelihood}
-use Rattle.burst_map.specs.Tails.{tail_bits}
-use Rattle.conv_code.proofs.Lemmas.{AllBits-coded, IsMostLikely-only, coded_from_start, length-coded, same_list}
-use Rattle.conv_code.specs.{Code.{IsEncoderInput, encoding}, Likelihood.{IsMostLikely, bit_metric, likelihood as code_likelihood}}
-use Rattle.conv_code.specs.States.{encoding_from_state, next}
-use Rattle.fire_code.proofs.Lemmas.{one_rach_crc, one_sch_crc, one_xcch_crc, some_rach_crc, some_sch_crc, some_xcch_crc}
-use Rattle.fire_code.specs.Words.{IsRachWord, IsSchWord, IsXcchWord}
-use Rattle.interleave.proofs.Lemmas.{All-interleaved, IsInterleaved-map, burst_of_bit-below, four_burst_position-below}
-use Rattle.interleave.proofs.Lemmas.{four_burst_position-differs, four_burst_position-lower, four_burst_position-upper, halves-at}
-use Rattle.interleave.{proofs.Lemmas.{same_coded, some_gathered}, specs.{Bursts.IsInterleaved, Positions.{burst_of_bit, burst_position}}}
-use Rattle.interleave.specs.Positions.{four_burst_position}
-use Rattle.std.proofs.Common.{Bool, Contains, List, None, Option, Some, [], append_assoc, ap, ap₂, arith, drop, eqb, false, get_or}
-use Rattle.std.proofs.Common.{if◌then◌else◌, inl, inr, int_lt, length-append, length, lit<, lit≤, map, nat_eq, negsuc, pos, refl}
-use Rattle.std.proofs.Common.{subst, suc, sym, take, true, zero-add, zero, ℕ, ℤ, ◌%◌, ◌*◌, ◌++◌, ◌+◌, ◌-◌, ◌/◌}
-use Rattle.std.proofs.Common.{◌<ℤ◌, ◌<◌, ◌==◌, ◌||◌, ◌∙◌, ◌∷◌, ◌≡◌, ◌≢◌, ◌≤◌, ◌⊎◌}
-use Rattle.std.proofs.{Math.Seq.take-add, lemmas.{Bool.{Decides.nat_tests, cases_eq, eqb-true, false≢true}, Int.ints}}
-use Rattle.std.proofs.lemmas.List.{Elements.{All-append, All-cons, All-drop, All-head, All-map, All-nil, All-tail, All-take}, append-nil}
-use Rattle.std.proofs.lemmas.List.{drop-map, drop_all, drop_at, get_or-append_right, get_or-drop, get_or-map, get_or-take}
-use Rattle.std.proofs.lemmas.List.{get_or_append_left, length-drop, length-map, length-take-le, length-take, map-append, take-append-drop}
-use Rattle.std.{proofs.lemmas.List.{take-map, take-take, take_at}, specs.{List.All, Prelude.{IfSome, MatchOption, slice_range}}}
-use Rattle.training_seq.proofs.Lemmas.{AllBits-midamble, length-midamble, one_first_greatest, some_first_greatest}
-use Rattle.training_seq.specs.{Choice.{IsFirstMaximum, total_correlation, wrong_midamble_bits}, Sequences.midamble}
-use Rattle.trellis_decode.proofs.Lemmas.{less_by_test, some_most_likely}
-use Rattle.um_block.proofs.SentBursts.{Carried, block_carried, coded_access_bits, coded_block_bits, coded_sync_bits, one_coded_block}
-use Rattle.um_block.{proofs.SentBursts.{rach_carried, sch_carried, sent_block_bits}, specs.Received.{IsReceivedAccess, IsReceivedBlock}}
-use Rattle.um_block.specs.Received.{IsReceivedSync, access_soft_bits, coded_soft_bits, joined_bursts, midamble_of_burst, soft_bit_of}
-use Rattle.um_block.specs.{Received.{soft_bits, sync_soft_bits, wrong_training_bits}, Restored.{IsErrorFreeAccess, IsErrorFreeBlock}}
-use Rattle.um_block.specs.{Restored.IsErrorFreeSync, Sent.{CarriesDataAndCrc, IsCodedAccess, IsCodedBlock, IsCodedSync, IsSentAccess}}
-use Rattle.um_block.specs.{Sent.{IsSentBlock, IsSentSync}, declared.received.{Received.Received, ReceivedAccess.ReceivedAccess}}
-use Rattle.um_block.specs.declared.received.ReceivedSync.{ReceivedSync}
-use Rattle.weight_bound.{proofs.Lemmas.restored, specs.Restoring.IsCorrectable}
+use Rattle.{
+  bit_blocks.{
+    proofs.Lemmas.{AllBits-table, AllOctets-octets_of, at_passes_below, length-octets_of, octets_of-bits_of, passes_below},
+    specs.{Bits.{AllBits, IsBit}, Octets.{AllOctets, bits_of, octets_of}, SoftValues.{AllSoftBits, IsSoftBit, count_wrong_bits}},
+    specs.SoftValues.{is_wrong_bit, likelihood},
+  },
+  burst_map.specs.Tails.tail_bits,
+  conv_code.{
+    proofs.Lemmas.{AllBits-coded, IsMostLikely-only, coded_from_start, length-coded, same_list},
+    specs.{Code.{IsEncoderInput, encoding}, Likelihood.{IsMostLikely, bit_metric, likelihood as code_likelihood}},
+    specs.States.{encoding_from_state, next_trellis_state},
+  },
+  fire_code.{
+    proofs.Lemmas.{one_rach_crc, one_sch_crc, one_xcch_crc, some_rach_crc, some_sch_crc, some_xcch_crc},
+    specs.Words.{IsRachWord, IsSchWord, IsXcchWord},
+  },
+  interleave.{
+    proofs.Lemmas.{All-interleaved, IsInterleaved-map, burst_of_bit-below, four_burst_position-below, four_burst_position-differs},
+    proofs.Lemmas.{four_burst_position-lower, four_burst_position-upper, halves-at, same_coded, some_gathered},
+    specs.{Bursts.IsInterleaved, Positions.{burst_of_bit, burst_position, four_burst_position}},
+  },
+  std.{
+    proofs.{
+      Common.{Bool, Contains, List, None, Option, Some, [], ap, append_assoc, ap₂, arith, drop, eqb, false, get_or, if◌then◌else◌},
+      Common.{inl, inr, int_lt, length, length-append, lit<, lit≤, map, nat_eq, negsuc, pos, refl, subst, suc, sym, take, true, zero},
+      Common.{zero-add, ℕ, ℤ, ◌%◌, ◌*◌, ◌++◌, ◌+◌, ◌-◌, ◌/◌, ◌<ℤ◌, ◌<◌, ◌==◌, ◌||◌},
+      Common.{◌∙◌, ◌∷◌, ◌≡◌, ◌≢◌, ◌≤◌, ◌⊎◌},
+      Math.Seq.take-add,
+      lemmas.{
+        Bool.{cases_eq, eqb-true, false≢true, Decides.nat_tests},
+        Int.ints,
+        List.{append-nil, drop-map, drop_all, drop_at, get_or-append_right, get_or-drop, get_or-map, get_or-take, get_or_append_left},
+        List.{length-drop, length-map, length-take, length-take-le, map-append, take-append-drop, take-map, take-take, take_at},
+        List.Elements.{All-append, All-drop, All-head, All-map, All-tail, All-take},
+      },
+    },
+    specs.{List.All, Prelude.{IfSome, MatchOption, slice_range}},
+  },
+  training_seq.{
+    proofs.Lemmas.{AllBits-midamble, length-midamble, one_first_greatest, some_first_greatest},
+    specs.{Choice.{IsFirstMaximum, total_correlation}, Sequences.midamble},
+  },
+  trellis_decode.proofs.Lemmas.{less_by_test, some_most_likely},
+  um_block.{
+    proofs.SentBursts.{Carried, block_carried, coded_access_bits, coded_block_bits, coded_sync_bits, one_coded_block, rach_carried},
+    proofs.SentBursts.{sch_carried, sent_block_bits},
+    specs.{
+      Received.{IsReceivedAccess, IsReceivedBlock, IsReceivedSync, access_soft_bits, coded_soft_bits, joined_bursts, midamble_of_burst},
+      Received.{soft_bit_of, soft_bits, sync_soft_bits, wrong_training_bits},
+      Restored.{IsErrorFreeAccess, IsErrorFreeBlock, IsErrorFreeSync},
+      Sent.{IsCodedAccess, IsCodedBlock, IsCodedSync, IsSentAccess, IsSentBlock, IsSentSync},
+      declared.received.{Received.Received, ReceivedAccess.ReceivedAccess, ReceivedSync.ReceivedSync},
+    },
+  },
+  weight_bound.{proofs.Lemmas.restored, specs.Restoring.IsCorrectable},
+}
 use borrow.Rule.Slice.PartMut.{put_mid}
 use Rattle.burst_map.specs.AccessBurst as A
 use Rattle.burst_map.specs.SyncBurst as S
@@ -47,12 +70,10 @@ IsSoftBit-soft_bit_of bit =
     ]
 
 pub AllSoftBits-softened : (bits : List ℕ) → AllSoftBits (soft_bits bits)
-AllSoftBits-softened [] = All-nil _
-AllSoftBits-softened (bit ∷ bits) = All-cons IsSoftBit _ _ (IsSoftBit-soft_bit_of bit) (AllSoftBits-softened bits)
+AllSoftBits-softened bits = All-map IsSoftBit _ bits (λ i d h. IsSoftBit-soft_bit_of _)
 
 pub AllSoftBits-all : (block : List (List ℕ)) → All AllSoftBits (map soft_bits block)
-AllSoftBits-all [] = All-nil _
-AllSoftBits-all (burst ∷ block) = All-cons AllSoftBits _ (map _ _) (AllSoftBits-softened burst) (AllSoftBits-all block)
+AllSoftBits-all block = All-map AllSoftBits _ block (λ i d h. AllSoftBits-softened _)
 
 pub softened-more : (bits : List ℕ) (at : ℕ) (old new : List ℤ) → at + 16 ≤ length bits → at + 16 ≤ length old →
     take at old ≡ soft_bits (take at bits) → new ≡ soft_bits (take 16 (drop at bits)) →
@@ -71,17 +92,12 @@ softened-more bits at old new within room before more =
 
 pub length-put : (at : ℕ) (old new : List ℤ) → at + 16 ≤ length old → length new ≡ 16 →
     length (put_mid at 16 old new) ≡ length old
-length-put at old new room few =
-    let rest = length-drop 16 _
-    ∙ ap (λ n. n - 16) (length-drop at old) in
-    length-append _ (new ++ drop 16 (drop at old))
-    ∙ omega (arith, length-take-le at old (omega arith), length-append new (drop 16 (drop at old)), few, rest)
+length-put at old new room few = simp (length-append, length-take, length-drop) (omega arith)
 
 -- if the first n bits are converted to soft bits, so are the first m, for m at most n
 pub softened-before : (bits : List ℕ) (soft : List ℤ) (m n : ℕ) → m ≤ n → take n soft ≡ soft_bits (take n bits) →
     take m soft ≡ soft_bits (take m bits)
-softened-before bits soft m n less is =
-    sym (take-take m n _ less) ∙ ap (take m) is ∙ take-map _ m _ ∙ ap soft_bits (take-take m n bits less)
+softened-before bits soft m n less is = sym (take-take m n _ less) ∙ rw (is, take-map, take-take)
 
 pub AllSoftBits-range : (values : List ℤ) (i j : ℕ) → AllSoftBits values → AllSoftBits (slice_range values i j)
 AllSoftBits-range values i j soft = All-take IsSoftBit _ _ (All-drop IsSoftBit i _ soft)
@@ -108,42 +124,39 @@ put_mid-behind n m first old second f o =
     ∙ ap (λ rest. first ++ (second ++ rest)) behind
     ∙ ap (λ rest. first ++ rest) (append-nil second)
 
+AllBits-front : (n : ℕ) (u : List ℕ) → AllBits u → AllBits (take n u)
+AllBits-front n u bits = All-take IsBit n u bits
+
 -- ## AcceptedOctets: An accepted block consists of 23 octets.
 
-accepted_size : (u : List ℕ) (accepted : Option (List ℕ)) →
-    MatchOption accepted (¬ IsXcchWord (take 224 u)) (λ octets. IsXcchWord (take 224 u) × (octets ≡ octets_of (take 184 u))) →
-    IfSome accepted (λ octets. length octets ≡ 23)
-accepted_size u None h = tt
-accepted_size u (Some octets) h =
-    let word = length-take 224 u in
-    ap length h.1 ∙ length-octets_of 23 (take 184 u) (length-take-le 184 u (omega arith))
+-- what holds of the value to accept holds of an accepted value
+if_accepted : (P : Type 0) (Q : List ℕ → Type 0) (x : List ℕ) (accepted : Option (List ℕ)) →
+    MatchOption accepted (¬ P) (λ octets. P × (octets ≡ x)) → Q x → IfSome accepted Q
+if_accepted P Q x None h q = tt
+if_accepted P Q x (Some octets) h q = subst Q (sym h.1) q
 
 pub accepted_count : (bursts : List (List ℤ)) (r : Received) → IsReceivedBlock bursts r →
     IfSome r.accepted (λ octets. length octets ≡ 23)
-accepted_count bursts r h = accepted_size r.u _ h.accepted
-
-octets_accepted : (u : List ℕ) (accepted : Option (List ℕ)) → AllBits u →
-    MatchOption accepted (¬ IsXcchWord (take 224 u)) (λ octets. IsXcchWord (take 224 u) × (octets ≡ octets_of (take 184 u))) →
-    IfSome accepted AllOctets
-octets_accepted u None bits h = tt
-octets_accepted u (Some octets) bits h =
-    subst AllOctets (sym h.1) (AllOctets-octets_of _ (All-take IsBit 184 u bits))
+accepted_count bursts r h =
+    if_accepted _ (λ octets. length octets ≡ 23) _ r.accepted h.accepted
+    (length-octets_of 23 _ (length-take-le 184 r.u (omega (arith, h.best.count, h.deinterleaved.coded_count))))
 
 pub accepted_octets : (bursts : List (List ℤ)) (r : Received) → IsReceivedBlock bursts r → IfSome r.accepted AllOctets
-accepted_octets bursts r h = octets_accepted r.u _ h.best.information.bits h.accepted
+accepted_octets bursts r h =
+    if_accepted _ AllOctets _ r.accepted h.accepted (AllOctets-octets_of _ (AllBits-front 184 r.u h.best.information.bits))
 
 -- ## ReceivedExists: Every burst and every block has a report: a most likely list exists, and its CRC either holds or does not.
 
 -- ---- a CRC either holds or does not
 
 -- a list is a codeword or not: it is one if it ends in the CRC of its information bits
-decided : (P : List ℕ → Type 0) (n : ℕ) (w p : List ℕ) → P (take n w ++ p) →
-    ((q : List ℕ) → P (take n w ++ p) → P (take n w ++ q) → p ≡ q) → P w ⊎ (¬ P w)
-decided P n w p holds only =
+decided : (P : List ℕ → Type 0) (n : ℕ) (w : List ℕ) → (p : List ℕ) × P (take n w ++ p) →
+    ((p q : List ℕ) → P (take n w ++ p) → P (take n w ++ q) → p ≡ q) → P w ⊎ (¬ P w)
+decided P n w (p, holds) only =
     let whole = take-append-drop n w in
     elim (same_list p (drop n w)) [
       | inl same ↦ inl (subst P (ap (λ x. take n w ++ x) same ∙ whole) holds)
-      | inr other ↦ inr (λ h. other (only (drop n w) holds (subst P (sym whole) h)))
+      | inr other ↦ inr (λ h. other (only p _ holds (subst P (sym whole) h)))
     ]
 
 -- the accepted value if a condition holds, or `None` if it does not
@@ -151,33 +164,21 @@ answered : {X : Type 0} (P : Type 0) (x : X) → P ⊎ (¬ P) → (a : Option X)
 answered P x (inl holds) = (Some x, (holds, refl))
 answered P x (inr fails) = (None, fails)
 
-length-front : (n : ℕ) (u : List ℕ) → n ≤ length u → length (take n u) ≡ n
-length-front n u h = omega (arith, length-take n u)
-
-AllBits-front : (n : ℕ) (u : List ℕ) → AllBits u → AllBits (take n u)
-AllBits-front n u bits = All-take IsBit n u bits
-
 xcch_decided : (w : List ℕ) → length w ≡ 224 → AllBits w → IsXcchWord w ⊎ (¬ IsXcchWord w)
 xcch_decided w count bits =
-    let d = take 184 w in
-    let long = length-front 184 w (omega arith) in
-    let p = some_xcch_crc d long (AllBits-front 184 w bits) in
-    decided IsXcchWord 184 w p.0 p.1 (λ q h g. one_xcch_crc d p.0 q long h g)
+    let long = length-take-le 184 w (omega arith) in
+    decided IsXcchWord 184 w (some_xcch_crc _ long (AllBits-front 184 w bits)) (λ p q. one_xcch_crc _ p q long)
 
 rach_decided : (w b : List ℕ) → length w ≡ 14 → AllBits w → length b ≡ 6 → AllBits b →
     IsRachWord w b ⊎ (¬ IsRachWord w b)
 rach_decided w b count bits code code_bits =
-    let d = take 8 w in
-    let long = length-front 8 w (omega arith) in
-    let p = some_rach_crc d b long (AllBits-front 8 w bits) code code_bits in
-    decided (λ v. IsRachWord v b) 8 w p.0 p.1 (λ q h g. one_rach_crc d p.0 q b long h g)
+    let long = length-take-le 8 w (omega arith) in
+    decided (λ v. IsRachWord v b) 8 w (some_rach_crc _ b long (AllBits-front 8 w bits) code code_bits) (λ p q. one_rach_crc _ p q b long)
 
 sch_decided : (w : List ℕ) → length w ≡ 35 → AllBits w → IsSchWord w ⊎ (¬ IsSchWord w)
 sch_decided w count bits =
-    let d = take 25 w in
-    let long = length-front 25 w (omega arith) in
-    let p = some_sch_crc d long (AllBits-front 25 w bits) in
-    decided IsSchWord 25 w p.0 p.1 (λ q h g. one_sch_crc d p.0 q long h g)
+    let long = length-take-le 25 w (omega arith) in
+    decided IsSchWord 25 w (some_sch_crc _ long (AllBits-front 25 w bits)) (λ p q. one_sch_crc _ p q long)
 
 -- ---- the report of a block
 
@@ -186,9 +187,8 @@ length-range burst i j ordered within = omega (arith, length-take (j - i) (drop 
 
 length-coded_soft_bits : (burst : List ℤ) → length burst ≡ 148 → length (coded_soft_bits burst) ≡ 114
 length-coded_soft_bits burst long =
-    let first = length-range burst 3 60 (lit≤ tt) (omega arith) in
-    let second = length-range burst 88 145 (lit≤ tt) (omega arith) in
-    length-append (slice_range burst 3 60) (slice_range burst 88 145) ∙ ap₂ (λ m n. m + n) first second
+    simp length-append
+    (ap₂ (λ m n. m + n) (length-range burst 3 60 (lit≤ tt) (omega arith)) (length-range burst 88 145 (lit≤ tt) (omega arith)))
 
 some_block_gathered : (bursts : List (List ℤ)) → length bursts ≡ 4 → All (λ burst. length burst ≡ 148) bursts →
     (soft : List ℤ) × IsInterleaved soft (map coded_soft_bits bursts)
@@ -207,7 +207,7 @@ some_received_block bursts four each =
     (total_correlation (midamble_of_burst bursts 0) (midamble_of_burst bursts 1) (midamble_of_burst bursts 2)
     (midamble_of_burst bursts 3)) in
     let answer = answered (IsXcchWord (take 224 u)) (octets_of (take 184 u))
-    (xcch_decided (take 224 u) (length-front 224 u (omega arith)) (AllBits-front 224 u best.1.information.bits)) in (
+    (xcch_decided (take 224 u) (length-take-le 224 u (omega arith)) (AllBits-front 224 u best.1.information.bits)) in (
       record {
         u = u;
         metric = likelihood soft (encoding u);
@@ -235,7 +235,7 @@ some_received_access burst bsic count code code_bits =
     let best = some_most_likely _ 18 (length-range burst 49 85 (lit≤ tt) (omega arith)) (lit≤ tt) in
     let u = best.0 in
     let answer = answered _ _
-    (rach_decided _ _ (length-front 14 u (omega arith)) (AllBits-front 14 u best.1.information.bits) code code_bits) in (
+    (rach_decided _ _ (length-take-le 14 u (omega arith)) (AllBits-front 14 u best.1.information.bits) code code_bits) in (
       record {
         u = u;
         metric = likelihood soft (encoding u);
@@ -248,14 +248,11 @@ some_received_access burst bsic count code code_bits =
 pub some_received_sync : (burst : List ℤ) → length burst ≡ 148 → (r : ReceivedSync) × IsReceivedSync burst r
 some_received_sync burst count =
     let soft = sync_soft_bits burst in
-    let first = length-range burst 3 42 (lit≤ tt) (omega arith) in
-    let second = length-range burst 106 145 (lit≤ tt) (omega arith) in
-    let long =
-    length-append (S.first_coded_half burst) (S.second_coded_half burst) ∙ ap₂ (λ m n. m + n) first second in
+    let long : length soft ≡ 78 = simp (length-append, length-take, length-drop) (omega arith) in
     let best = some_most_likely soft 39 long (lit≤ tt) in
     let u = best.0 in
     let answer = answered (IsSchWord (take 35 u)) (take 25 u)
-    (sch_decided (take 35 u) (length-front 35 u (omega arith)) (AllBits-front 35 u best.1.information.bits)) in (
+    (sch_decided (take 35 u) (length-take-le 35 u (omega arith)) (AllBits-front 35 u best.1.information.bits)) in (
       record {
         u = u;
         metric = likelihood soft (encoding u);
@@ -273,32 +270,30 @@ one_accepted : {X : Type 0} (P : Type 0) (x : X) (a b : Option X) →
 one_accepted P x None None h g = refl
 one_accepted P x None (Some w) h g = absurd (h g.0)
 one_accepted P x (Some v) None h g = absurd (g h.0)
-one_accepted P x (Some v) (Some w) h g = ap Some (h.1 ∙ sym g.1)
+one_accepted P x (Some v) (Some w) h g = cc
 
 same_block : (r r' : Received) → r.u ≡ r'.u → r.metric ≡ r'.metric → r.tsc ≡ r'.tsc →
     r.wrong_training ≡ r'.wrong_training → r.accepted ≡ r'.accepted → r ≡ r'
 same_block r r' u metric tsc wrong accepted =
     let make : List ℕ → ℤ → ℕ → ℕ → Option (List ℕ) → Received =
     λ a b c d e. record { u = a; metric = b; tsc = c; wrong_training = d; accepted = e } in
-    ap₂ (λ a b. make a b r.tsc r.wrong_training r.accepted) u metric
-    ∙ ap₂ (λ c d. make r'.u r'.metric c d r.accepted) tsc wrong
-    ∙ ap (make r'.u r'.metric r'.tsc r'.wrong_training) accepted
+    let same : make r.u r.metric r.tsc r.wrong_training r.accepted ≡ make r'.u r'.metric r'.tsc r'.wrong_training r'.accepted = cc in same
 
 same_access : (r r' : ReceivedAccess) → r.u ≡ r'.u → r.metric ≡ r'.metric → r.wrong_training ≡ r'.wrong_training →
     r.accepted ≡ r'.accepted → r ≡ r'
 same_access r r' u metric wrong accepted =
     let make : List ℕ → ℤ → ℕ → Option (List ℕ) → ReceivedAccess =
     λ a b d e. record { u = a; metric = b; wrong_training = d; accepted = e } in
-    ap₂ (λ a b. make a b r.wrong_training r.accepted) u metric ∙ ap₂ (make r'.u r'.metric) wrong accepted
+    let same : make r.u r.metric r.wrong_training r.accepted ≡ make r'.u r'.metric r'.wrong_training r'.accepted = cc in same
 
 same_sync : (r r' : ReceivedSync) → r.u ≡ r'.u → r.metric ≡ r'.metric → r.wrong_training ≡ r'.wrong_training →
     r.accepted ≡ r'.accepted → r ≡ r'
 same_sync r r' u metric wrong accepted =
     let make : List ℕ → ℤ → ℕ → Option (List ℕ) → ReceivedSync =
     λ a b d e. record { u = a; metric = b; wrong_training = d; accepted = e } in
-    ap₂ (λ a b. make a b r.wrong_training r.accepted) u metric ∙ ap₂ (make r'.u r'.metric) wrong accepted
+    let same : make r.u r.metric r.wrong_training r.accepted ≡ make r'.u r'.metric r'.wrong_training r'.accepted = cc in same
 
--- equal information lists have equal accepted values
+-- equal encoder inputs have equal accepted values
 accepted_once : {X : Type 0} (IsWord : List ℕ → Type 0) (answer : List ℕ → X) (n : ℕ) (u u' : List ℕ) (a b : Option X) →
     u ≡ u' → MatchOption a (¬ IsWord (take n u)) (λ v. IsWord (take n u) × (v ≡ answer u)) →
     MatchOption b (¬ IsWord (take n u')) (λ v. IsWord (take n u') × (v ≡ answer u')) → a ≡ b
@@ -342,12 +337,12 @@ range_at : {X : Type 0} (front part back : List X) (i j : ℕ) → length front 
 range_at front part back i j hf hp = ap (take (j - i)) (drop_at _ _ i hf) ∙ take_at part _ _ hp
 
 softened-range : (bits : List ℕ) (i j : ℕ) → slice_range (soft_bits bits) i j ≡ soft_bits (slice_range bits i j)
-softened-range bits i j = ap (take (j - i)) (drop-map _ i _) ∙ take-map _ _ _
+softened-range bits i j = simp (drop-map, take-map)
 
 -- if a burst consists of a front, a part and a back, its slice between front and back is the part
 part_at : (burst front part back : List ℕ) (i j : ℕ) → burst ≡ front ++ (part ++ back) → length front ≡ i →
     length part ≡ j - i → slice_range burst i j ≡ part
-part_at burst front part back i j whole hf hp = ap (λ b. slice_range b i j) whole ∙ range_at _ _ _ i j hf hp
+part_at burst front part back i j whole hf hp = rw whole (range_at _ _ _ i j hf hp)
 
 -- if a burst consists of a front, a part and a back, the slice of its soft bits consists of the soft bits of the part
 softened_part : (burst front part back : List ℕ) (i j : ℕ) → burst ≡ front ++ (part ++ back) → length front ≡ i →
@@ -355,48 +350,27 @@ softened_part : (burst front part back : List ℕ) (i j : ℕ) → burst ≡ fro
 softened_part burst front part back i j whole hf hp =
     softened-range _ i j ∙ ap soft_bits (part_at _ front part back i j whole hf hp)
 
-module _ (a b c d e f g : List ℕ) where
-  second_of_seven : a ++ b ++ c ++ d ++ e ++ f ++ g ≡ a ++ (b ++ (c ++ d ++ e ++ f ++ g))
-  second_of_seven = simp append_assoc
-
-  fourth_of_seven : a ++ b ++ c ++ d ++ e ++ f ++ g ≡ (a ++ b ++ c) ++ (d ++ (e ++ f ++ g))
-  fourth_of_seven = simp append_assoc
-
-  sixth_of_seven : a ++ b ++ c ++ d ++ e ++ f ++ g ≡ (a ++ b ++ c ++ d ++ e) ++ (f ++ g)
-  sixth_of_seven = simp append_assoc
-
 -- ---- the parts of the normal burst
 
-module _ (first second : List ℕ) (tsc : ℕ) (known : tsc ≤ 7) (hf : length first ≡ 57) (hs : length second ≡ 57) where
-  flag : List ℕ
-  flag = 1 ∷ []
+abbrev flag : List ℕ
+flag = 1 ∷ []
 
+module _ (first second : List ℕ) (tsc : ℕ) (known : tsc ≤ 7) (hf : length first ≡ 57) (hs : length second ≡ 57) where
   normal_first : slice_range (N.normal_burst first second tsc) 3 60 ≡ first
-  unfolding flag
   normal_first =
-      part_at _ tail_bits _ _ 3 60 (second_of_seven tail_bits first flag (midamble tsc) flag second tail_bits) refl hf
+      part_at (N.normal_burst first second tsc) tail_bits _ (flag ++ midamble tsc ++ flag ++ second ++ tail_bits) 3 60
+      (simp append_assoc) refl hf
 
   normal_training : slice_range (N.normal_burst first second tsc) 61 87 ≡ midamble tsc
-  unfolding flag
   normal_training =
-      part_at _ (tail_bits ++ first ++ flag) (midamble tsc) _ 61 87
-      (fourth_of_seven tail_bits first flag (midamble tsc) flag second tail_bits)
-      (omega (arith, length-append (tail_bits ++ first) flag)) (length-midamble tsc known)
+      part_at (N.normal_burst first second tsc) (tail_bits ++ first ++ flag) _ (flag ++ second ++ tail_bits) 61 87
+      (simp append_assoc (ap (λ xs. tail_bits ++ xs) (sym (append_assoc first flag _))))
+      (simp length-append (omega arith)) (length-midamble tsc known)
 
   normal_second : slice_range (N.normal_burst first second tsc) 88 145 ≡ second
-  unfolding flag
   normal_second =
-      let sequence = midamble tsc in
-      let long = length-midamble tsc known in
-      part_at _ (tail_bits ++ first ++ flag ++ sequence ++ flag) second tail_bits 88 145
-      (sixth_of_seven tail_bits first flag sequence flag second tail_bits)
-      (omega (
-        arith,
-        length-append (tail_bits ++ first ++ flag ++ sequence) flag,
-        length-append (tail_bits ++ first ++ flag) sequence,
-        length-append (tail_bits ++ first) flag,
-        length-append tail_bits first,
-      )) hs
+      part_at (N.normal_burst first second tsc) (tail_bits ++ first ++ flag ++ midamble tsc ++ flag) second tail_bits 88 145
+      (simp append_assoc) (simp length-append (omega (arith, length-midamble tsc known))) hs
 
 -- the 114 coded bits of a normal burst
 abbrev pub halves : {X : Type 0} → List X → List X
@@ -443,10 +417,10 @@ softened_halves (burst ∷ bursts) =
 
 clean_training_of : (parts : List (List ℕ)) (tsc b : ℕ) → tsc ≤ 7 → All IsPart parts → b < length parts →
     N.training (get_or (map soft_bits (map (burst_of_part tsc) parts)) b []) ≡ soft_bits (midamble tsc)
-clean_training_of [] tsc b known each h = absurd (omega arith)
-clean_training_of (part ∷ parts) tsc zero known each h = clean_training _ tsc known (All-head IsPart part parts each)
-clean_training_of (part ∷ parts) tsc (suc b) known each h =
-    clean_training_of parts tsc b known (All-tail IsPart part parts each) (omega arith)
+clean_training_of parts tsc b known each h =
+    let burst = get_or-map (burst_of_part tsc) parts b [] [] h in
+    ap N.training (get_or-map soft_bits (map _ parts) b [] [] (omega (arith, length-map parts (burst_of_part tsc))) ∙ ap soft_bits burst)
+    ∙ clean_training (get_or parts b []) tsc known (each b [] h)
 
 -- ---- the training sequence that is found
 
@@ -493,23 +467,11 @@ best_own sent known = record {
 module _ (c : List ℕ) (count : length c ≡ 36) where
   clean_body : A.body (soft_bits (A.access_burst c)) ≡ soft_bits c
   clean_body =
-      softened_part (A.access_burst c) (A.extended_tail_bits ++ A.access_sequence) c tail_bits 49 85
-      (append_assoc (A.extended_tail_bits ++ A.access_sequence) c tail_bits) refl count
+      softened_part (A.access_burst c) (A.extended_tail_bits ++ A.access_sequence) c tail_bits 49 85 (simp append_assoc) refl count
 
   clean_access_training : A.training (soft_bits (A.access_burst c)) ≡ soft_bits A.access_sequence
   clean_access_training =
-      softened_part (A.access_burst c) A.extended_tail_bits A.access_sequence (c ++ tail_bits) 8 49
-      (append_assoc (A.extended_tail_bits ++ A.access_sequence) c tail_bits) refl refl
-
-module _ (a b c d e : List ℕ) where
-  second_of_five : a ++ b ++ c ++ d ++ e ≡ a ++ (b ++ (c ++ d ++ e))
-  second_of_five = simp append_assoc
-
-  third_of_five : a ++ b ++ c ++ d ++ e ≡ (a ++ b) ++ (c ++ (d ++ e))
-  third_of_five = simp append_assoc
-
-  fourth_of_five : a ++ b ++ c ++ d ++ e ≡ (a ++ b ++ c) ++ (d ++ e)
-  fourth_of_five = simp append_assoc
+      softened_part (A.access_burst c) A.extended_tail_bits A.access_sequence (c ++ tail_bits) 8 49 (simp append_assoc) refl refl
 
 module _ (first second : List ℕ) (hf : length first ≡ 39) (hs : length second ≡ 39) where
   clean_halves : S.first_coded_half (soft_bits (S.sync_burst first second))
@@ -517,18 +479,17 @@ module _ (first second : List ℕ) (hf : length first ≡ 39) (hs : length secon
       soft_bits (first ++ second)
   clean_halves =
       ap₂ (λ x y. x ++ y)
-      (softened_part (S.sync_burst _ _) tail_bits _ _ 3 42 (second_of_five tail_bits first S.sync_sequence second tail_bits) refl hf)
-      (softened_part (S.sync_burst first second) (tail_bits ++ first ++ S.sync_sequence) second tail_bits 106 145
-      (fourth_of_five tail_bits first S.sync_sequence second tail_bits)
-      (omega (arith, length-append (tail_bits ++ first) S.sync_sequence)) hs)
+      (softened_part (S.sync_burst first second) tail_bits _ (S.sync_sequence ++ second ++ tail_bits) 3 42 (simp append_assoc) refl hf)
+      (softened_part (S.sync_burst first second) (tail_bits ++ first ++ S.sync_sequence) second tail_bits 106 145 (simp append_assoc)
+      (simp length-append (omega arith)) hs)
       ∙ sym (map-append soft_bit_of first second)
 
   clean_sync_training : S.training (soft_bits (S.sync_burst first second)) ≡ soft_bits S.sync_sequence
   clean_sync_training =
-      softened_part _ (tail_bits ++ first) S.sync_sequence (second ++ tail_bits) 42 106
-      (third_of_five tail_bits first S.sync_sequence second tail_bits) (omega arith) refl
+      softened_part (S.sync_burst first second) (tail_bits ++ first) S.sync_sequence (second ++ tail_bits) 42 106
+      (simp append_assoc) (omega arith) refl
 
--- ## CleanCodewords: Coded bits received as sent decode to the sent information list: all other lists have other coded bits, and so a
+-- ## CleanCodewords: Coded bits received as sent decode to the sent encoder input: all other lists have other coded bits, and so a
 -- smaller path metric.
 
 -- a soft bit of full confidence adds 127 to the path metric for its own bit, and -127 for the opposite bit
@@ -537,10 +498,8 @@ bit_metric-own (suc (suc x)) h = absurd (omega arith)
 bit_metric-own x h = refl
 
 bit_metric-other : (x y : ℕ) → x ≤ 1 → y ≤ 1 → x ≢ y → bit_metric (soft_bit_of x) y ≡ negsuc 126
-bit_metric-other zero zero hx hy ne = absurd (ne refl)
 bit_metric-other zero (suc zero) hx hy ne = refl
 bit_metric-other (suc zero) zero hx hy ne = refl
-bit_metric-other (suc zero) (suc zero) hx hy ne = absurd (ne refl)
 bit_metric-other x y hx hy ne = absurd (omega arith)
 
 likelihood-own : (c : List ℕ) → AllBits c → code_likelihood (soft_bits c) c ≡ pos (127 * length c)
@@ -583,15 +542,16 @@ same_information : (state : ℕ) (u v : List ℕ) → AllBits u → AllBits v �
     encoding_from_state state u ≡ encoding_from_state state v → u ≡ v
 same_information state [] [] bu bv e same = refl
 same_information state (x ∷ u) (y ∷ v) bu bv e same =
-    let tail : encoding_from_state (next state x) u ≡ encoding_from_state (next state y) v = cc in
+    let tail : encoding_from_state (next_trellis_state state x) u ≡ encoding_from_state (next_trellis_state state y) v = cc in
     let head =
     same_bit x y (state / 4 % 2) (state / 8 % 2) (All-head IsBit x u bu) (All-head IsBit y v bv) cc in
     let tail' = tail
-    ∙ ap (λ z. encoding_from_state (next state z) v) (sym head) in
-    ap₂ (λ z w. z ∷ w) head (same_information (next _ x) u v (All-tail IsBit x u bu) (All-tail IsBit y v bv) (omega arith) tail')
+    ∙ ap (λ z. encoding_from_state (next_trellis_state state z) v) (sym head) in
+    ap₂ (λ z w. z ∷ w) head (same_information (next_trellis_state _ x) u v (All-tail IsBit x u bu) (All-tail IsBit y v bv)
+    (omega arith) tail')
 same_information state u v bu bv e same = absurd (omega arith)
 
--- different information lists have different coded bits
+-- different encoder inputs have different coded bits
 one_information : (u v : List ℕ) → AllBits u → AllBits v → length u ≡ length v → encoding u ≡ encoding v → u ≡ v
 one_information u v bu bv e same =
     same_information 0 u v bu bv e (sym (coded_from_start u bu) ∙ same ∙ coded_from_start v bv)
@@ -608,31 +568,30 @@ clean_most_likely w information = record {
       ];
 }
 
--- v is the information list w that was sent, and its path metric is 127 for each coded bit
-pub record IsHeard (soft : List ℤ) (w v : List ℕ) : Type 0 where
-  pub same_word : v ≡ w
-  pub value : code_likelihood soft (encoding v) ≡ pos (127 * (2 * length w))
+-- v is the encoder input w that was sent, of n octets, and its path metric is 127 for each coded bit
+record IsHeard (soft : List ℤ) (w v : List ℕ) (n : ℕ) : Type 0 where
+  same_word : v ≡ w
+  value : code_likelihood soft (encoding v) ≡ pos (127 * (2 * n))
 
-pub heard : (soft : List ℤ) (w v : List ℕ) → IsEncoderInput w → soft ≡ soft_bits (encoding w) → IsMostLikely soft v →
-    IsHeard soft w v
-heard soft w v information sure best =
-    let same : v ≡ w =
-    IsMostLikely-only (soft_bits _) w v (clean_most_likely w information) (rw (← sure) best) in
+heard : {IsWord : List ℕ → Type 0} {n k : ℕ} {w d : List ℕ} (soft : List ℤ) (v : List ℕ) → Carried IsWord n k w d →
+    soft ≡ soft_bits (encoding w) → IsMostLikely soft v → IsHeard soft w v (n + 4)
+heard {w = w} soft v c sure best =
+    let same : v ≡ w = IsMostLikely-only (soft_bits _) w v (clean_most_likely w c.information) (rw (← sure) best) in
     record {
       same_word = same;
       value = ap₂ (λ s u. code_likelihood s (encoding u)) sure same
           ∙ likelihood-own (encoding w) (AllBits-coded w)
-          ∙ ap (λ n. pos (127 * n)) (length-coded w);
+          ∙ ap (λ n. pos (127 * n)) (length-coded w ∙ ap (λ n. 2 * n) c.count);
     }
 
 -- ## CleanRestoring: A block or burst received as it was sent is accepted, with the greatest possible metric and no wrong training bit.
 
 -- the information bits of a word whose CRC holds are accepted
-accepted_of : {X : Type 0} (IsWord : List ℕ → Type 0) (answer : List ℕ →
-    X) (n k : ℕ) (u v d : List ℕ) (x : X) (a : Option X) → Carried IsWord n k u d → v ≡ u → answer d ≡ x →
+accepted_of : {X : Type 0} {IsWord : List ℕ → Type 0} {n k : ℕ} {u v d : List ℕ} {x : X} (answer : List ℕ → X)
+    (a : Option X) → Carried IsWord n k u d → v ≡ u → answer d ≡ x →
     MatchOption a (¬ IsWord (take n v)) (λ y. IsWord (take n v) × (y ≡ answer (take k v))) → a ≡ Some x
-accepted_of IsWord answer n k u v d x None c same is h = absurd (h (rw same c.word))
-accepted_of IsWord answer n k u v d x (Some y) c same is h =
+accepted_of answer None c same is h = absurd (h (rw same c.word))
+accepted_of {k = k} answer (Some y) c same is h =
     ap Some (h.1 ∙ ap (λ w. answer (take k w)) same ∙ ap answer c.front ∙ is)
 
 -- ---- a block received as sent
@@ -643,8 +602,8 @@ pub clean_gathered : (octets : List ℕ) (tsc : ℕ) (sent : List (List ℕ)) (s
 clean_gathered octets tsc sent s =
     let bursts =
     softened_halves _ ∙ ap (λ x. map soft_bits (map halves x)) s.layout
-    ∙ ap (map soft_bits) (parts_of_bursts s.parts tsc s.valid_tsc s.interleaved.burst_lengths) in
-    rw bursts (IsInterleaved-map soft_bit_of 0 s.coded_bits s.parts s.interleaved)
+    ∙ ap (map soft_bits) (parts_of_bursts s.interleaved_bits tsc s.valid_tsc s.interleaved.burst_lengths) in
+    rw bursts (IsInterleaved-map soft_bit_of 0 s.coded_bits s.interleaved_bits s.interleaved)
 
 module _ (octets : List ℕ) (tsc : ℕ) (sent : List (List ℕ)) (r : Received)
     (s : IsSentBlock octets tsc sent) (h : IsReceivedBlock (map soft_bits sent) r) where
@@ -656,44 +615,34 @@ module _ (octets : List ℕ) (tsc : ℕ) (sent : List (List ℕ)) (r : Received)
       same_coded _ _ (map _ _) h.deinterleaved (clean_gathered octets tsc sent s)
       ∙ ap soft_bits s.code.code
 
-  is_heard : IsHeard h.soft s.code.u r.u
-  is_heard = heard _ _ r.u carried.information soft_values h.best
+  is_heard : IsHeard h.soft s.code.u r.u 228
+  is_heard = heard _ r.u carried soft_values h.best
 
   training : (b : ℕ) → b < 4 → midamble_of_burst (map soft_bits sent) b ≡ soft_bits (midamble tsc)
   training b lt =
       ap (λ x. midamble_of_burst (map soft_bits x) b) s.layout
-      ∙ clean_training_of s.parts tsc b s.valid_tsc s.interleaved.burst_lengths (rw s.interleaved.burst_count lt)
+      ∙ clean_training_of s.interleaved_bits tsc b s.valid_tsc s.interleaved.burst_lengths (rw s.interleaved.burst_count lt)
 
   sequence : r.tsc ≡ tsc
   sequence =
-      let bursts = map soft_bits sent in
       let own = soft_bits (midamble tsc) in
-      let parts =
-      ap₂ (λ a b. total_correlation a b (midamble_of_burst bursts 2) (midamble_of_burst bursts 3)) (training 0 (lit< tt))
-      (training 1 (lit< tt))
-      ∙ ap₂ (total_correlation own own) (training 2 (lit< tt)) (training 3 (lit< tt)) in
-      one_first_greatest (total_correlation own own own own) 7 r.tsc tsc (rw (← parts) h.tsc) (best_own tsc s.valid_tsc)
+      one_first_greatest (total_correlation own own own own) 7 r.tsc tsc
+      (rw (training 0 (lit< tt), training 1 (lit< tt), training 2 (lit< tt), training 3 (lit< tt)) at h.tsc)
+      (best_own tsc s.valid_tsc)
 
   wrong : r.wrong_training ≡ 0
   wrong =
-      let bursts = map soft_bits sent in
-      let own = soft_bits (midamble tsc) in
       let none = count_wrong_bits-own (midamble tsc) (AllBits-midamble tsc s.valid_tsc) in
       h.wrong_training
-      ∙ ap₂ (λ a b. wrong_midamble_bits a b (midamble_of_burst bursts 2) (midamble_of_burst bursts 3) r.tsc) (training 0 (lit< tt))
-      (training 1 (lit< tt))
-      ∙ ap₂ (λ a b. wrong_midamble_bits own own a b r.tsc) (training 2 (lit< tt)) (training 3 (lit< tt))
-      ∙ ap (wrong_midamble_bits own own own own) sequence
-      ∙ ap (λ n. n + n + n + n) none
+      ∙ rw (training 0 (lit< tt), training 1 (lit< tt), training 2 (lit< tt), training 3 (lit< tt), sequence, none)
 
   pub clean_block : IsErrorFreeBlock octets tsc r
   clean_block = record {
     information = rw is_heard.same_word s.code.information;
-    accepted = accepted_of IsXcchWord octets_of 224 184 s.code.u r.u (bits_of octets) octets r.accepted carried is_heard.same_word
-        (octets_of-bits_of octets s.code.each) h.accepted;
+    accepted = accepted_of octets_of _ carried is_heard.same_word (octets_of-bits_of octets s.code.all_octets) h.accepted;
     tsc = sequence;
     wrong_training = wrong;
-    metric = h.metric ∙ is_heard.value ∙ ap (λ n. pos (127 * (2 * n))) carried.count;
+    metric = h.metric ∙ is_heard.value;
   }
 
 -- ---- an access burst and a synchronisation burst received as sent
@@ -702,21 +651,18 @@ pub clean_access : (info bsic sent : List ℕ) (r : ReceivedAccess) → IsSentAc
     IsReceivedAccess (soft_bits sent) bsic r → IsErrorFreeAccess info bsic r
 clean_access info bsic sent r s h =
     let c = s.coded_bits in
-    let IsWord : List ℕ → Type 0 = λ w. IsRachWord w bsic in
     let carried = rach_carried bsic s.code.u info s.code.count s.code.information in
     let count = (coded_access_bits info bsic c s.code).right_length in
     let soft =
     ap (λ x. access_soft_bits (soft_bits x)) s.burst ∙ clean_body c count ∙ ap soft_bits s.code.code in
     let training =
     ap (λ x. A.training (soft_bits x)) s.burst ∙ clean_access_training c count in
-    let best = heard (access_soft_bits (soft_bits sent)) s.code.u r.u carried.information soft h.best in
+    let best = heard (access_soft_bits (soft_bits sent)) r.u carried soft h.best in
     record {
-      information = subst (λ u. CarriesDataAndCrc IsWord u info) (sym best.same_word) s.code.information;
-      accepted = accepted_of IsWord (λ d. d) 14 8 s.code.u r.u info info r.accepted carried best.same_word refl h.accepted;
-      wrong_training = h.wrong_training
-          ∙ ap (λ x. count_wrong_bits x A.access_sequence) training
-          ∙ count_wrong_bits-own A.access_sequence (AllBits-table A.access_sequence refl);
-      metric = h.metric ∙ best.value ∙ ap (λ n. pos (127 * (2 * n))) carried.count;
+      information = rw best.same_word s.code.information;
+      accepted = accepted_of (λ d. d) _ carried best.same_word refl h.accepted;
+      wrong_training = h.wrong_training ∙ rw training (count_wrong_bits-own A.access_sequence (AllBits-table A.access_sequence refl));
+      metric = h.metric ∙ best.value;
     }
 
 pub clean_sync : (info sent : List ℕ) (r : ReceivedSync) → IsSentSync info sent → IsReceivedSync (soft_bits sent) r →
@@ -727,20 +673,17 @@ clean_sync info sent r s h =
     let count = (coded_sync_bits info c s.code).right_length in
     let first : length (take 39 c) ≡ 39 = omega (arith, length-take 39 c) in
     let second : length (drop 39 c) ≡ 39 = omega (arith, length-drop 39 c) in
-    let soft : sync_soft_bits (soft_bits sent) ≡ soft_bits (encoding s.code.u) =
+    let soft =
     ap (λ x. sync_soft_bits (soft_bits x)) s.burst
     ∙ clean_halves (take 39 c) (drop 39 c) first second
     ∙ ap soft_bits (take-append-drop 39 c ∙ s.code.code) in
-    let training : S.training (soft_bits sent) ≡ soft_bits S.sync_sequence =
-    ap (λ x. S.training (soft_bits x)) s.burst ∙ clean_sync_training (take 39 c) (drop 39 c) first second in
-    let best = heard (sync_soft_bits (soft_bits sent)) s.code.u r.u carried.information soft h.best in
+    let training = ap (λ x. S.training (soft_bits x)) s.burst ∙ clean_sync_training (take 39 c) (drop 39 c) first second in
+    let best = heard (sync_soft_bits (soft_bits sent)) r.u carried soft h.best in
     record {
-      information = subst (λ u. CarriesDataAndCrc IsSchWord u info) (sym best.same_word) s.code.information;
-      accepted = accepted_of IsSchWord (λ d. d) 35 25 s.code.u r.u info info r.accepted carried best.same_word refl h.accepted;
-      wrong_training = h.wrong_training
-          ∙ ap (λ x. count_wrong_bits x S.sync_sequence) training
-          ∙ count_wrong_bits-own S.sync_sequence (AllBits-table S.sync_sequence refl);
-      metric = h.metric ∙ best.value ∙ ap (λ n. pos (127 * (2 * n))) carried.count;
+      information = rw best.same_word s.code.information;
+      accepted = accepted_of (λ d. d) _ carried best.same_word refl h.accepted;
+      wrong_training = h.wrong_training ∙ rw training (count_wrong_bits-own S.sync_sequence (AllBits-table S.sync_sequence refl));
+      metric = h.metric ∙ best.value;
     }
 
 -- ## BlockPlaces: Each coded bit has a position of its own among the 592 bits of four bursts, so n wrong bits make at most n coded bits
@@ -914,9 +857,8 @@ unfolding listed
 not_among q [] h (n, lt, e) = omega arith
 not_among q (p ∷ ps) h (zero, lt, e) =
     let both = or_false (nat_eq q p) (listed q ps) h in
-    let apart = both.0 in
     let found : nat_eq q p ≡ true = grind (arith, nat_tests) in
-    false≢true (sym apart ∙ found)
+    absurd (cc both.0)
 not_among q (p ∷ ps) h (suc n, lt, e) = not_among q ps (or_false _ _ h).1 (n, omega arith, e)
 
 -- if bursts are received as sent except at the listed positions, at most as many coded bits are wrong as positions are listed
@@ -949,11 +891,11 @@ few_wrong octets c tsc sent bursts soft places s code four each deinterleaved sa
 -- ## Restoring: If the soft bits are correctable (`IsCorrectable`), the sent information bits are accepted, by the lemma `restored` of
 -- `weight_bound`.
 
--- lightly damaged soft bits decode to the information list that was sent
-restored_list : (soft : List ℤ) (u v c : List ℕ) (n : ℕ) → IsEncoderInput u → length u ≡ n → length soft ≡ 2 * n →
-    c ≡ encoding u → IsCorrectable soft c → IsMostLikely soft v → v ≡ u
-restored_list soft u v c n information count pairs code damage best =
-    restored soft u v information (pairs ∙ sym (ap (λ m. 2 * m) count)) (rw (← code) damage) best
+-- lightly damaged soft bits decode to the encoder input that was sent
+restored_list : {IsWord : List ℕ → Type 0} {n k : ℕ} {u d : List ℕ} (soft : List ℤ) (v c : List ℕ) →
+    Carried IsWord n k u d → length soft ≡ 2 * (n + 4) → c ≡ encoding u → IsCorrectable soft c → IsMostLikely soft v → v ≡ u
+restored_list soft v c carried pairs code damage best =
+    restored soft _ v carried.information (omega (arith, carried.count)) (rw (← code) damage) best
 
 pub restored_block : (bursts : List (List ℤ)) (octets c : List ℕ) (soft : List ℤ) (r : Received) →
     IsCodedBlock octets c → IsInterleaved soft (map coded_soft_bits bursts) → IsCorrectable soft c → IsReceivedBlock bursts r →
@@ -961,17 +903,15 @@ pub restored_block : (bursts : List (List ℤ)) (octets c : List ℕ) (soft : Li
 restored_block bursts octets c soft r code deinterleaved damage h =
     let carried = block_carried octets c code in
     let same = same_coded _ soft (map _ _) h.deinterleaved deinterleaved in
-    let u = restored_list soft code.u r.u c 228 carried.information carried.count deinterleaved.coded_count code.code damage
-    (rw (← same) h.best) in
-    accepted_of IsXcchWord octets_of 224 184 code.u r.u (bits_of octets) octets r.accepted carried u
-    (octets_of-bits_of octets code.each) h.accepted
+    let u = restored_list soft _ c carried deinterleaved.coded_count code.code damage (rw (← same) h.best) in
+    accepted_of octets_of _ carried u (octets_of-bits_of octets code.all_octets) h.accepted
 
 pub restored_access : (burst : List ℤ) (info bsic c : List ℕ) (r : ReceivedAccess) → length (access_soft_bits burst) ≡ 36 →
     IsCodedAccess info bsic c → IsCorrectable (access_soft_bits burst) c → IsReceivedAccess burst bsic r → r.accepted ≡ Some info
 restored_access burst info bsic c r pairs code damage h =
     let carried = rach_carried bsic code.u info code.count code.information in
-    let u = restored_list (access_soft_bits burst) code.u r.u c 18 carried.information carried.count pairs code.code damage h.best in
-    accepted_of _ (λ d. d) 14 8 _ r.u info _ _ carried u refl h.accepted
+    let u = restored_list (access_soft_bits burst) _ c carried pairs code.code damage h.best in
+    accepted_of (λ d. d) _ carried u refl h.accepted
 
 pub restored_sync : (burst : List ℤ) (info c : List ℕ) (r : ReceivedSync) → length (S.first_coded_half burst) ≡ 39 →
     length (S.second_coded_half burst) ≡ 39 → IsCodedSync info c → IsCorrectable (sync_soft_bits burst) c →
@@ -979,9 +919,7 @@ pub restored_sync : (burst : List ℤ) (info c : List ℕ) (r : ReceivedSync) �
     r.accepted ≡ Some info
 restored_sync burst info c r first second code damage h =
     let carried = sch_carried _ _ code.count code.information in
-    let pairs : length (sync_soft_bits burst) ≡ 78 = omega (
-      arith,
-      length-append (S.first_coded_half burst) (S.second_coded_half burst),
-    ) in
-    let u = restored_list (sync_soft_bits burst) code.u r.u c 39 carried.information carried.count pairs code.code damage h.best in
-    accepted_of IsSchWord (λ d. d) 35 25 code.u r.u info info r.accepted carried u refl h.accepted
+    let pairs : length (sync_soft_bits burst) ≡ 78 =
+    omega (arith, length-append (S.first_coded_half burst) (S.second_coded_half burst)) in
+    let u = restored_list (sync_soft_bits burst) _ c carried pairs code.code damage h.best in
+    accepted_of (λ d. d) _ carried u refl h.accepted

@@ -1,23 +1,34 @@
 -- Sent bursts: they exist, once, with the right shape.
-use Rattle.bit_blocks.{proofs.Lemmas.{AllBits-append, AllBits-bits_of, AllBits-table, length-bits_of}, specs.Bits.{AllBits, IsBit}}
-use Rattle.bit_blocks.specs.{Octets.{AllOctets, bits_of, octet_bits}, Packed.AreCodedBitsPacked}
-use Rattle.burst_map.specs.{AccessBurst.{access_burst, access_sequence, extended_tail_bits}, NormalBurst.normal_burst, SyncBurst.sync_burst}
-use Rattle.burst_map.specs.{SyncBurst.sync_sequence, Tails.tail_bits}
-use Rattle.conv_code.{proofs.Lemmas.{AllBits-coded, AreCodedBitsPacked-front, IsEncoderInput-tail, length-coded}, specs.Code.IsEncoderInput}
-use Rattle.conv_code.specs.Code.{encoding}
-use Rattle.fire_code.proofs.Lemmas.{one_rach_crc, one_sch_crc, one_xcch_crc, some_rach_crc, some_sch_crc, some_xcch_crc}
-use Rattle.fire_code.specs.Words.{IsRachWord, IsSchWord, IsXcchWord}
-use Rattle.interleave.proofs.Lemmas.{AllBits-bursts, same_bursts, some_spread}
-use Rattle.std.proofs.Common.{List, [], append_assoc, ap, ap₂, arith, drop, get_or, length-append, length, lit<, map, refl, replicate}
-use Rattle.std.proofs.Common.{subst, sym, take, ℕ, ◌*◌, ◌++◌, ◌+◌, ◌<◌, ◌∙◌, ◌∷◌, ◌≡◌, ◌≤◌}
-use Rattle.std.proofs.lemmas.{Grind.flat_map-append, List.Elements.{All-append, All-cons, All-drop, All-head, All-nil, All-tail, All-take}}
-use Rattle.std.{proofs.lemmas.List.{drop_at, length-drop, length-map, length-take-le, take_at}, specs.List.All}
-use Rattle.training_seq.{proofs.Lemmas.{AllBits-midamble, length-midamble}, specs.Sequences.midamble}
-use Rattle.um_block.specs.Sent.{CarriesDataAndCrc, IsCodedAccess, IsCodedBlock, IsCodedSync, IsSentAccess, IsSentBlock, IsSentSync}
-use Rattle.um_block.specs.Sent.{with_tail}
+use Rattle.{
+  bit_blocks.{
+    proofs.Lemmas.{AllBits-append, AllBits-bits_of, AllBits-table, length-bits_of},
+    specs.{Bits.{AllBits, IsBit}, Octets.{AllOctets, bits_of, octet_bits}, Packed.AreCodedBitsPacked},
+  },
+  burst_map.specs.{
+    AccessBurst.{access_burst, access_sequence, extended_tail_bits},
+    NormalBurst.normal_burst,
+    SyncBurst.{sync_burst, sync_sequence},
+    Tails.tail_bits,
+  },
+  conv_code.{
+    proofs.Lemmas.{AllBits-coded, AreCodedBitsPacked-front, IsEncoderInput-tail, length-coded},
+    specs.Code.{IsEncoderInput, encoding},
+  },
+  fire_code.{
+    proofs.Lemmas.{one_rach_crc, one_sch_crc, one_xcch_crc, some_rach_crc, some_sch_crc, some_xcch_crc},
+    specs.Words.{IsRachWord, IsSchWord, IsXcchWord},
+  },
+  interleave.proofs.Lemmas.{AllBits-bursts, same_bursts, some_spread},
+  std.proofs.Common.{List, [], append_assoc, ap, ap₂, arith, drop, get_or, length-append, length, lit<, map, refl, replicate, subst, sym},
+  std.proofs.Common.{take, ℕ, ◌*◌, ◌++◌, ◌+◌, ◌<◌, ◌∙◌, ◌∷◌, ◌≡◌, ◌≤◌},
+  std.proofs.lemmas.{Grind.flat_map-append, List.{Elements.{All-append, All-drop, All-map, All-take}, drop_at, length-drop, length-map}},
+  std.{proofs.lemmas.List.{length-take-le, take_at}, specs.List.All},
+  training_seq.proofs.Lemmas.{AllBits-midamble, length-midamble},
+  um_block.specs.Sent.{CarriesDataAndCrc, IsCodedAccess, IsCodedBlock, IsCodedSync, IsSentAccess, IsSentBlock, IsSentSync, with_tail},
+}
 use borrow.Rule.Slice.PartMut.{put_mid}
 
--- ## Words: Information lists that consist of information bits, CRC and tail, and their coded bits.
+-- ## Words: Encoder inputs that consist of information bits, CRC and tail, and their coded bits.
 
 -- u is a codeword of n bits followed by the tail, and d is its first k bits
 pub record Carried (IsWord : List ℕ → Type 0) (n k : ℕ) (u d : List ℕ) : Type 0 where
@@ -52,30 +63,30 @@ rach_carried b = carried _ 14 8 (lit< tt) (λ w h. h.count) (λ w h. h.bits)
 pub sch_carried : (u d : List ℕ) → length d ≡ 25 → CarriesDataAndCrc IsSchWord u d → Carried IsSchWord 35 25 u d
 sch_carried = carried _ 35 25 (lit< tt) (λ w h. h.count) (λ w h. h.bits)
 
--- the information list of given information bits is unique
+-- the encoder input of given information bits is unique
 one_list : (IsWord : List ℕ → Type 0) (u u' d : List ℕ) →
     ((p p' : List ℕ) → IsWord (d ++ p) → IsWord (d ++ p') → p ≡ p') → CarriesDataAndCrc IsWord u d →
     CarriesDataAndCrc IsWord u' d → u ≡ u'
 one_list IsWord u u' d one h g = h.is_with_tail ∙ ap (λ p. with_tail (d ++ p)) (one _ _ h.word g.word) ∙ sym g.is_with_tail
 
--- information bits with their CRC and tail are an information list that carries them
+-- information bits with their CRC and tail are an encoder input that carries them
 pub carries : (IsWord : List ℕ → Type 0) (d p : List ℕ) → IsWord (d ++ p) → CarriesDataAndCrc IsWord (with_tail (d ++ p)) d
 carries IsWord d p word = record { crc = p; word = word; is_with_tail = refl }
 
 length-block : (octets : List ℕ) → length octets ≡ 23 → length (bits_of octets) ≡ 184
 length-block octets count = length-bits_of _ ∙ ap (λ n. 8 * n) count
 
--- the information list of a block's coded bits
+-- the encoder input of a block's coded bits
 pub block_carried : (octets c : List ℕ) (code : IsCodedBlock octets c) → Carried IsXcchWord 224 184 code.u (bits_of octets)
 block_carried octets c code = xcch_carried _ _ (length-block _ code.count) code.information
 
--- information bits, CRC and tail form an information list
+-- information bits, CRC and tail form an encoder input
 pub IsEncoderInput-joined : (word d p : List ℕ) → word ≡ with_tail (d ++ p) → 0 < length d → AllBits d → AllBits p →
     IsEncoderInput word
 IsEncoderInput-joined word d p joined some d_bits p_bits =
     subst IsEncoderInput (sym joined) (IsEncoderInput-tail _ (omega (arith, length-append d p)) (AllBits-append d p d_bits p_bits))
 
--- ---- the coded bits of an information list
+-- ---- the coded bits of an encoder input
 
 pub record AreBits (count : ℕ) (bits : List ℕ) : Type 0 where
   pub right_length : length bits ≡ count
@@ -109,7 +120,7 @@ behind_octets octets crc front part long one two =
     ∙ sym (append_assoc octets crc (replicate 4 0))
 
 module _ (octets crc word : List ℕ) (is : word ≡ octets ++ crc ++ replicate 4 0) where
-  -- the bits of the 32 octets are the information list, followed by 28 more zeros
+  -- the bits of the 32 octets are the encoder input, followed by 28 more zeros
   bits_of_word : bits_of word ≡ with_tail (bits_of octets ++ bits_of crc) ++ replicate 28 0
   bits_of_word =
       ap bits_of is
@@ -127,17 +138,20 @@ module _ (octets crc word : List ℕ) (is : word ≡ octets ++ crc ++ replicate 
 
 -- ## SentShapes: Sent bursts have the right length and consist of bits.
 
-joined : (m n : ℕ) (xs ys : List ℕ) → AreBits m xs → AreBits n ys → AreBits (m + n) (xs ++ ys)
-joined m n xs ys x y = record {
+joined : {m n : ℕ} {xs ys : List ℕ} → AreBits m xs → AreBits n ys → AreBits (m + n) (xs ++ ys)
+joined {xs = xs} {ys = ys} x y = record {
   right_length = omega (arith, length-append xs ys);
   each = All-append IsBit xs ys x.each y.each;
 }
 
+fixed : (bits : List ℕ) → AllBits bits → AreBits (length bits) bits
+fixed bits each = record { right_length = refl; each = each }
+
 tail : AreBits 3 tail_bits
-tail = record { right_length = refl; each = AllBits-table tail_bits refl }
+tail = fixed tail_bits (AllBits-table tail_bits refl)
 
 flag : AreBits 1 (1 ∷ [])
-flag = record { right_length = refl; each = AllBits-table (1 ∷ []) refl }
+flag = fixed (1 ∷ []) (AllBits-table (1 ∷ []) refl)
 
 -- ---- the layouts of the three kinds of bursts
 
@@ -146,39 +160,28 @@ normal_bits : (first second : List ℕ) (tsc : ℕ) → tsc ≤ 7 → AreBits 57
 normal_bits first second tsc known f s =
     let sequence : AreBits 26 _ =
     record { right_length = length-midamble tsc known; each = AllBits-midamble tsc known } in
-    let one : List ℕ = 1 ∷ [] in
-    let two = joined 3 57 tail_bits first tail f in
-    let three = joined 60 1 (tail_bits ++ first) one two flag in
-    let four = joined 61 26 (tail_bits ++ first ++ one) (midamble tsc) three sequence in
-    let five = joined 87 1 (tail_bits ++ first ++ one ++ midamble tsc) one four flag in
-    let six = joined 88 57 (tail_bits ++ first ++ one ++ midamble tsc ++ one) second five s in
-    joined 145 3 (tail_bits ++ first ++ one ++ midamble tsc ++ one ++ second) tail_bits six tail
+    joined (joined (joined (joined (joined (joined tail f) flag) sequence) flag) s) tail
 
 access_bits : (body : List ℕ) → AreBits 36 body → AreBits 88 (access_burst body)
 access_bits body b =
-    let head : AreBits 8 extended_tail_bits = record { right_length = refl; each = AllBits-table extended_tail_bits refl } in
-    let sequence : AreBits 41 access_sequence = record { right_length = refl; each = AllBits-table access_sequence refl } in
-    let two = joined 8 41 extended_tail_bits access_sequence head sequence in
-    joined 85 3 (extended_tail_bits ++ access_sequence ++ body) tail_bits (joined 49 36 _ _ two b) tail
+    let head = fixed extended_tail_bits (AllBits-table extended_tail_bits refl) in
+    joined (joined (joined head (fixed access_sequence (AllBits-table access_sequence refl))) b) tail
 
 sync_bits : (first second : List ℕ) → AreBits 39 first → AreBits 39 second → AreBits 148 (sync_burst first second)
 sync_bits first second f s =
-    let sequence : AreBits 64 sync_sequence = record { right_length = refl; each = AllBits-table sync_sequence refl } in
-    let three = joined 42 64 _ sync_sequence (joined 3 39 tail_bits _ tail f) sequence in
-    let four = joined 106 39 (tail_bits ++ first ++ sync_sequence) _ three s in
-    joined 145 3 (tail_bits ++ first ++ sync_sequence ++ second) tail_bits four tail
+    joined (joined (joined (joined tail f) (fixed sync_sequence (AllBits-table sync_sequence refl))) s) tail
 
 -- ---- sent bursts
 
-taken : (m n : ℕ) (bits : List ℕ) → AreBits (m + n) bits → AreBits m (take m bits)
-taken m n bits b = record {
+taken : (m n : ℕ) {bits : List ℕ} → AreBits (m + n) bits → AreBits m (take m bits)
+taken m n b = record {
   right_length = length-take-le m _ (omega arith);
   each = All-take IsBit m _ b.each;
 }
 
-dropped : (m n : ℕ) (bits : List ℕ) → AreBits (m + n) bits → AreBits n (drop m bits)
-dropped m n bits b = record {
-  right_length = let l = length-drop m bits in omega arith;
+dropped : (m n : ℕ) {bits : List ℕ} → AreBits (m + n) bits → AreBits n (drop m bits)
+dropped m n {bits = bits} b = record {
+  right_length = omega (arith, length-drop m bits);
   each = All-drop IsBit m _ b.each;
 }
 
@@ -188,21 +191,20 @@ bursts_of tsc parts = map (λ part. normal_burst (take 57 part) (drop 57 part) t
 each_burst : (tsc : ℕ) (parts : List (List ℕ)) → tsc ≤ 7 → All (λ part. length part ≡ 114) parts → All AllBits parts →
     All (AreBits 148) (bursts_of tsc parts)
 unfolding bursts_of
-each_burst tsc [] known counts bits = All-nil _
-each_burst tsc (part ∷ parts) known counts bits =
-    let Full : List ℕ → Type 0 = λ p. length p ≡ 114 in
-    let whole : AreBits (57 + 57) part = record { right_length = All-head Full part parts counts; each = All-head AllBits _ _ bits } in
-    let more = each_burst tsc parts known (All-tail Full part parts counts) (All-tail AllBits part parts bits) in
-    All-cons (AreBits 148) (normal_burst (take 57 part) (drop 57 part) tsc) (bursts_of tsc parts)
-    (normal_bits (take 57 part) (drop 57 part) tsc known (taken 57 57 part whole) (dropped 57 57 part whole)) more
+each_burst tsc parts known counts bits =
+    All-map (AreBits 148) _ parts
+    (λ i d h.
+    let whole : AreBits 114 (get_or parts i d) = record { right_length = counts i d h; each = bits i d h } in
+    normal_bits _ _ tsc known (taken 57 57 whole) (dropped 57 57 whole))
 
 pub sent_block_bits : (octets : List ℕ) (tsc : ℕ) (bursts : List (List ℕ)) → IsSentBlock octets tsc bursts →
     (length bursts ≡ 4) × All (AreBits 148) bursts
 unfolding bursts_of
 sent_block_bits octets tsc bursts s =
     let bits = (coded_block_bits octets s.coded_bits s.code).each in
-    let each = each_burst tsc s.parts s.valid_tsc s.interleaved.burst_lengths (AllBits-bursts s.coded_bits s.parts s.interleaved bits) in
-    (ap length s.layout ∙ length-map s.parts (λ part. normal_burst _ _ tsc) ∙ s.interleaved.burst_count, rw s.layout each)
+    let each = each_burst tsc s.interleaved_bits s.valid_tsc s.interleaved.burst_lengths
+    (AllBits-bursts s.coded_bits s.interleaved_bits s.interleaved bits) in
+    (ap length s.layout ∙ length-map s.interleaved_bits (λ part. normal_burst _ _ tsc) ∙ s.interleaved.burst_count, rw s.layout each)
 
 pub sent_access_bits : (info bsic burst : List ℕ) → IsSentAccess info bsic burst → AreBits 88 burst
 sent_access_bits info bsic burst s =
@@ -212,7 +214,7 @@ pub sent_sync_bits : (info burst : List ℕ) → IsSentSync info burst → AreBi
 sent_sync_bits info burst s =
     let c = s.coded_bits in
     let bits = coded_sync_bits info c s.code in
-    rw s.burst (sync_bits (take 39 c) (drop 39 c) (taken 39 39 c bits) (dropped 39 39 c bits))
+    rw s.burst (sync_bits (take 39 c) (drop 39 c) (taken 39 39 bits) (dropped 39 39 bits))
 
 -- ## SentExists: Any information bits can be sent: their CRC exists, and their coded bits can be interleaved.
 
@@ -224,7 +226,7 @@ some_coded_block octets count small =
       record {
         u = with_tail (d ++ p.0);
         count = count;
-        each = small;
+        all_octets = small;
         information = carries IsXcchWord d p.0 p.1;
         code = refl;
       },
@@ -234,8 +236,17 @@ pub some_sent_block : (octets : List ℕ) (tsc : ℕ) → length octets ≡ 23 �
     (x : List (List ℕ)) × IsSentBlock octets tsc x
 some_sent_block octets tsc count small known =
     let c = some_coded_block _ count small in
-    let parts = some_spread c.0 (coded_block_bits _ c.0 c.1).right_length in
-    (_, record { coded_bits = c.0; parts = parts.0; valid_tsc = known; code = c.1; interleaved = parts.1; layout = refl })
+    let interleaved_bits = some_spread c.0 (coded_block_bits _ c.0 c.1).right_length in (
+      _,
+      record {
+        coded_bits = c.0;
+        interleaved_bits = interleaved_bits.0;
+        valid_tsc = known;
+        code = c.1;
+        interleaved = interleaved_bits.1;
+        layout = refl;
+      },
+    )
 
 pub some_access_burst : (d b : List ℕ) → length d ≡ 8 → AllBits d → length b ≡ 6 → AllBits b →
     (x : List ℕ) × IsSentAccess d b x
@@ -243,32 +254,30 @@ some_access_burst d b ed bd eb bb =
     let p = some_rach_crc d b ed bd eb bb in
     let code : IsCodedAccess d b _ =
     record { u = with_tail (d ++ p.0); count = ed; information = carries (λ w. IsRachWord w b) d p.0 p.1; code = refl } in
-    (_, record { coded_bits = encoding (with_tail (d ++ p.0)); code = code; burst = refl })
+    (_, record { coded_bits = _; code = code; burst = refl })
 
 pub some_sync_burst : (d : List ℕ) → length d ≡ 25 → AllBits d → (x : List ℕ) × IsSentSync d x
 some_sync_burst d ed bd =
     let p = some_sch_crc d ed bd in
     let code : IsCodedSync d _ =
     record { u = with_tail (d ++ p.0); count = ed; information = carries IsSchWord d p.0 p.1; code = refl } in
-    (_, record { coded_bits = encoding (with_tail (d ++ p.0)); code = code; burst = refl })
+    (_, record { coded_bits = _; code = code; burst = refl })
 
 -- ## SentOnce: The bursts of given information bits are unique, since the CRC of these bits is unique.
 
 pub one_coded_block : (octets c c' : List ℕ) → IsCodedBlock octets c → IsCodedBlock octets c' → c ≡ c'
 one_coded_block octets c c' h g =
-    let d = bits_of octets in
-    let same = one_list IsXcchWord h.u g.u d (λ p p'. one_xcch_crc d p p' (length-block _ h.count)) h.information g.information in
-    h.code ∙ ap encoding same ∙ sym g.code
+    h.code
+    ∙ ap encoding (one_list IsXcchWord h.u g.u _ (λ p p'. one_xcch_crc _ p p' (length-block _ h.count)) h.information g.information)
+    ∙ sym g.code
 
 one_coded_access : (d b c c' : List ℕ) → IsCodedAccess d b c → IsCodedAccess d b c' → c ≡ c'
 one_coded_access d b c c' h g =
-    let same = one_list (λ w. IsRachWord w b) h.u g.u d (λ p p'. one_rach_crc d p p' b h.count) h.information g.information in
-    h.code ∙ ap encoding same ∙ sym g.code
+    h.code ∙ ap encoding (one_list _ h.u g.u d (λ p p'. one_rach_crc d p p' b h.count) h.information g.information) ∙ sym g.code
 
 one_coded_sync : (d c c' : List ℕ) → IsCodedSync d c → IsCodedSync d c' → c ≡ c'
 one_coded_sync d c c' h g =
-    let same = one_list IsSchWord h.u g.u d (λ p p'. one_sch_crc d p p' h.count) h.information g.information in
-    h.code ∙ ap encoding same ∙ sym g.code
+    h.code ∙ ap encoding (one_list _ h.u g.u d (λ p p'. one_sch_crc d p p' h.count) h.information g.information) ∙ sym g.code
 
 pub one_access_burst : (d b x x' : List ℕ) → IsSentAccess d b x → IsSentAccess d b x' → x ≡ x'
 one_access_burst d b x x' h g =
@@ -285,8 +294,8 @@ pub one_sent_block : (octets : List ℕ) (tsc : ℕ) (x x' : List (List ℕ)) �
 one_sent_block octets tsc x x' h g =
     let same = one_coded_block octets h.coded_bits g.coded_bits h.code g.code in
     h.layout
-    ∙ ap (map (λ bits. normal_burst (take 57 bits) (drop 57 bits) tsc))
-    (same_bursts g.coded_bits h.parts g.parts (rw (← same) h.interleaved) g.interleaved)
+    ∙ ap (map _)
+    (same_bursts g.coded_bits h.interleaved_bits g.interleaved_bits (rw (← same) h.interleaved) g.interleaved)
     ∙ sym g.layout
 
 -- ## SpreadParts: A list of four elements consists of its elements 0 to 3.

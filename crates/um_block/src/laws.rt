@@ -13,7 +13,7 @@ use burst_map::BURST_BITS;
 
 /// Law: among the 592 bits of its four bursts, each coded bit of a block is sent at its `four_burst_position`, and its soft bit is read
 /// from there.
-pub fn law_coded_bits_are_in_position()
+pub fn law_coded_bits_are_at_burst_positions()
     ensures sent { (octets c : List ℕ) (tsc : ℕ) (bursts : List (List ℕ)) → IsSentBlock octets tsc bursts →
         IsCodedBlock octets c → (k : ℕ) → k < CODED_BITS → slice_index (joined_bursts bursts) (four_burst_position k) ≡
         slice_index c k }
@@ -24,7 +24,7 @@ pub fn law_coded_bits_are_in_position()
 {}
 
 /// Law: if four bursts are received exactly as sent except at `n` of their 592 positions, at most `n` of the 456 coded bits are wrong.
-pub fn law_wrong_bits_are_bounded()
+pub fn law_coded_errors_at_most_burst_errors()
     ensures { (octets c : List ℕ) (tsc : ℕ) (sent : List (List ℕ)) (bursts : List (List ℤ)) (soft : List ℤ)
         (places : List ℕ) → IsSentBlock octets tsc sent → IsCodedBlock octets c → length bursts ≡ 4 →
         All (λ burst. length burst ≡ BURST_BITS) bursts →

@@ -5,7 +5,7 @@ use bit_blocks::{BLOCK_OCTETS, Bits, ENCODER_INPUT_BITS};
 /// The report of a block received in four bursts.
 #[derive(Clone, Copy, PartialEq, Eq, Debug)]
 pub struct Received {
-    /// The most likely information list: 184 information bits, 40 Fire code bits, four zeros.
+    /// The most likely encoder input: 184 information bits, 40 Fire code bits, four zeros.
     pub u: Bits<ENCODER_INPUT_BITS>,
     /// The path metric of the information bits `u`.
     pub metric: i32,
@@ -20,7 +20,7 @@ pub struct Received {
 /// The report of an access burst.
 #[derive(Clone, Copy, PartialEq, Eq, Debug)]
 pub struct ReceivedAccess {
-    /// The most likely information list: eight information bits, six check bits, four zeros.
+    /// The most likely encoder input: eight information bits, six check bits, four zeros.
     pub u: Bits<18>,
     /// The path metric of the information bits `u`.
     pub metric: i32,
@@ -33,7 +33,7 @@ pub struct ReceivedAccess {
 /// The report of a synchronisation burst.
 #[derive(Clone, Copy, PartialEq, Eq, Debug)]
 pub struct ReceivedSync {
-    /// The most likely information list: 25 information bits, ten check bits, four zeros.
+    /// The most likely encoder input: 25 information bits, ten check bits, four zeros.
     pub u: Bits<39>,
     /// The path metric of the information bits `u`.
     pub metric: i32,

@@ -1,4 +1,4 @@
-//! Receiving: decodes bursts to the most likely information list and checks its CRC (GSM 05.03, today 3GPP TS 45.003, does not specify a
+//! Receiving: decodes bursts to the most likely encoder input and checks its CRC (GSM 05.03, today 3GPP TS 45.003, does not specify a
 //! decoder; maximum likelihood is this project's own choice).
 ghost use Rattle.std.specs.Prelude.{◌≡◌, ℕ, ◌≤◌, ◌++◌, ℤ, List, Some, length, map, take, All, MatchOption};
 ghost use Rattle.bit_blocks.specs.Bits.{AllBits};
@@ -93,7 +93,7 @@ fn detect_tsc(bursts: &[[i8; BURST_BITS]; 4]) -> (u8, u32)
     )
 }
 
-/// Returns the 23 octets of a block's information list, or `None` if its Fire code bits do not match.
+/// Returns the 23 octets of a block's encoder input, or `None` if its Fire code bits do not match.
 pub fn octets_if_crc_holds(u: &[u8; ENCODER_INPUT_BITS]) -> Option<[u8; BLOCK_OCTETS]>
     requires { AllBits u.now }
     ensures { MatchOption result
@@ -113,12 +113,12 @@ pub fn octets_if_crc_holds(u: &[u8; ENCODER_INPUT_BITS]) -> Option<[u8; BLOCK_OC
 
 // Packs the information bits of a block into octets. Inlined, the octets would be kept in registers, and moved one by one.
 #[inline(never)]
-fn pack_information_bits(u: &[u8; ENCODER_INPUT_BITS], octets: &mut [u8; BLOCK_OCTETS])
-    requires { AllBits u.now }
-    ensures value { octets.new ≡ octets_of (take BLOCK_BITS u.now) }
-    ensures round_trip { bits_of octets.new ≡ take BLOCK_BITS u.now }
+fn pack_information_bits(decoded: &[u8; ENCODER_INPUT_BITS], octets: &mut [u8; BLOCK_OCTETS])
+    requires { AllBits decoded.now }
+    ensures value { octets.new ≡ octets_of (take BLOCK_BITS decoded.now) }
+    ensures round_trip { bits_of octets.new ≡ take BLOCK_BITS decoded.now }
 {
-    to_octets(&u[..BLOCK_BITS], octets);
+    to_octets(&decoded[..BLOCK_BITS], octets);
 }
 
 /// Decodes an access burst for a base station identity code (BSIC). Its 88 soft bits must be from -127 to 127.
@@ -142,20 +142,20 @@ pub fn receive_access(burst: &[i8; 88], bsic: &Bits<6>) -> ReceivedAccess
     }
 }
 
-/// Returns the eight information bits of an access burst's information list, or `None` if its CRC is wrong for the BSIC.
-pub fn access_bits_if_crc_holds(u: &[u8; 18], bsic: &Bits<6>) -> Option<Bits<8>>
-    requires { AllBits u.now }
+/// Returns the eight information bits of an access burst's encoder input, or `None` if its CRC is wrong for the BSIC.
+pub fn access_bits_if_crc_holds(decoded: &[u8; 18], bsic: &Bits<6>) -> Option<Bits<8>>
+    requires { AllBits decoded.now }
     ensures { MatchOption result
-        (¬ IsRachWord (take 14 u.now) bsic.now)
-        (λ info. IsRachWord (take 14 u.now) bsic.now × (info ≡ take 8 u.now)) }
+        (¬ IsRachWord (take 14 decoded.now) bsic.now)
+        (λ info. IsRachWord (take 14 decoded.now) bsic.now × (info ≡ take 8 decoded.now)) }
 {
     let mut word = [0; 14];
-    word.copy_from_slice(&u[..14]);
+    word.copy_from_slice(&decoded[..14]);
     if !rach_holds(&Bits::from_array(word), bsic) {
         return None;
     }
     let mut info = [0; 8];
-    info.copy_from_slice(&u[..8]);
+    info.copy_from_slice(&decoded[..8]);
     Some(Bits::from_array(info))
 }
 
@@ -192,19 +192,19 @@ pub fn join_sync_halves(first: &[i8], second: &[i8]) -> [i8; 78]
     soft
 }
 
-/// Returns the 25 information bits of a synchronisation burst's information list, or `None` if its CRC is wrong.
-pub fn sync_bits_if_crc_holds(u: &[u8; 39]) -> Option<Bits<25>>
-    requires { AllBits u.now }
+/// Returns the 25 information bits of a synchronisation burst's encoder input, or `None` if its CRC is wrong.
+pub fn sync_bits_if_crc_holds(decoded: &[u8; 39]) -> Option<Bits<25>>
+    requires { AllBits decoded.now }
     ensures { MatchOption result
-        (¬ IsSchWord (take 35 u.now))
-        (λ info. IsSchWord (take 35 u.now) × (info ≡ take 25 u.now)) }
+        (¬ IsSchWord (take 35 decoded.now))
+        (λ info. IsSchWord (take 35 decoded.now) × (info ≡ take 25 decoded.now)) }
 {
     let mut word = [0; 35];
-    word.copy_from_slice(&u[..35]);
+    word.copy_from_slice(&decoded[..35]);
     if !sch_holds(&Bits::from_array(word)) {
         return None;
     }
     let mut info = [0; 25];
-    info.copy_from_slice(&u[..25]);
+    info.copy_from_slice(&decoded[..25]);
     Some(Bits::from_array(info))
 }

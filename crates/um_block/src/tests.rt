@@ -25,7 +25,7 @@ fn decode_access(rt: &impl Abort, burst: &[i8; 88], bsic: [u8; 6]) -> ReceivedAc
     receive_access(burst, &Bits::from_array(bsic))
 }
 
-fn softened(rt: &impl Abort, burst: &[u8; BURST_BITS]) -> [i8; BURST_BITS] {
+fn soften_burst(rt: &impl Abort, burst: &[u8; BURST_BITS]) -> [i8; BURST_BITS] {
     let are_bits = burst.iter().all(|bit| *bit <= 1);
     assert!(rt; are_bits);
     soften(burst)
@@ -81,10 +81,10 @@ fn a_block_is_restored_without_one_of_its_bursts(rt: HostRuntime) {
     let octets = [0; BLOCK_OCTETS];
     let sent = send_block(&octets, 0);
     let bursts = [
-        softened(&rt, &sent[0]),
+        soften_burst(&rt, &sent[0]),
         [0; BURST_BITS],
-        softened(&rt, &sent[2]),
-        softened(&rt, &sent[3]),
+        soften_burst(&rt, &sent[2]),
+        soften_burst(&rt, &sent[3]),
     ];
     let received = decode_block(&rt, &bursts);
     assert_eq!(rt; received.metric, 43434);
@@ -93,7 +93,7 @@ fn a_block_is_restored_without_one_of_its_bursts(rt: HostRuntime) {
     assert_eq!(rt; received.accepted, Some(octets));
 }
 
-// Seven wrong bits, as many as the free distance, turn the coded bits into the coded bits of another information list. Its CRC fails.
+// Seven wrong bits, as many as the free distance, turn the coded bits into the coded bits of another encoder input. Its CRC fails.
 #[test]
 fn a_list_with_a_bad_crc_is_reported_but_not_accepted(rt: HostRuntime) {
     let mut octets = [0x2b; BLOCK_OCTETS];
@@ -112,7 +112,7 @@ fn a_list_with_a_bad_crc_is_reported_but_not_accepted(rt: HostRuntime) {
     ] {
         sent[burst][place] ^= 1;
     }
-    let bursts = sent.map(|burst| softened(&rt, &burst));
+    let bursts = sent.map(|burst| soften_burst(&rt, &burst));
     let received = decode_block(&rt, &bursts);
     assert_eq!(rt; received.metric, 57912);
     assert_eq!(rt; received.tsc, 7);

@@ -1,18 +1,26 @@
 -- Commands that read bursts have one output for every input.
-use Rattle.std.proofs.Common.{Bool, List, None, Ok, [], ap, arith, false, inl, inr, length-append, length, refl, subst, sym, true, ℕ, ℤ}
-use Rattle.std.proofs.{Common.{◌++◌, ◌+◌, ◌<◌, ◌∙◌, ◌∷◌, ◌≡◌, ◌≤◌}, lemmas.Bool.cases_lt}
-use Rattle.std.{proofs.lemmas.List.Elements.{All-append, All-cons, All-nil}, specs.List.All}
-use Rattle.um_block.proofs.Lemmas.{accepted_count, one_received_access, one_received_block, one_received_sync, some_received_access}
-use Rattle.um_block.{proofs.Lemmas.{some_received_block, some_received_sync}, specs.bit_blocks.Bits.AllBits}
-use Rattle.um_bursts.specs.BurstRules.{AnswersBurstLine, AnswersLineResult, AnswersNormalBurst, BurstAnswers, burst_rules}
-use Rattle.um_bursts.specs.Replay.{replay_answers, replay_rules}
-use Rattle.um_driver.proofs.{Outputs.{IsWeaker, Runs-keep, has_one_output}, um_lines.FormLaws.{good_meaning, same_meaning}}
-use Rattle.um_driver.specs.{Laws.HasOneOutput, Rules.{Answers as Answered, IsDeterministic, IsTotal}}
-use Rattle.um_formats.proofs.Lemmas.{access_burst, normal_burst, one_block_report, one_burst_meaning, some_block_report, sync_burst}
-use Rattle.um_formats.specs.{BurstLines.{BurstLineMeans, burst_fault}, Held.{AddsNormalBurst, BurstBuffer, IsBurstLineResult}}
-use Rattle.um_formats.specs.{Held.normal_burst_result, Reports.{IsBlockReport, access_report_text, sync_report_text}}
-use Rattle.um_formats.specs.declared.burst_lines.BurstLine.{TheVariants.{Access, Normal, Skip, Sync}, BurstLine}
-use Rattle.um_formats.specs.declared.held.BurstLineResult.{BurstLineResult}
+use Rattle.{
+  std.proofs.Common.{Bool, List, None, Ok, [], ap, arith, false, inl, inr, length-append, length, refl, subst, sym, true, ℕ, ℤ},
+  std.proofs.{Common.{◌++◌, ◌+◌, ◌<◌, ◌∙◌, ◌∷◌, ◌≡◌, ◌≤◌}, lemmas.Bool.cases_lt},
+  std.{proofs.lemmas.List.Elements.{All-append, All-cons, All-nil}, specs.List.All},
+  um_block.proofs.Lemmas.{accepted_count, one_received_access, one_received_block, one_received_sync, some_received_access},
+  um_block.{proofs.Lemmas.{some_received_block, some_received_sync}, specs.bit_blocks.Bits.AllBits},
+  um_bursts.specs.{
+    BurstRules.{AnswersBurstLine, AnswersLineResult, AnswersNormalBurst, BurstAnswers, burst_rules},
+    Replay.{replay_answers, replay_rules},
+  },
+  um_driver.proofs.{Outputs.{IsWeaker, Runs-keep, has_one_output}, um_lines.FormLaws.{good_meaning, same_meaning}},
+  um_driver.specs.{Laws.HasOneOutput, Rules.{IsLineAnswerOrFault as Answered, IsDeterministic, IsTotal}},
+  um_formats.{
+    proofs.Lemmas.{access_burst, normal_burst, one_block_report, one_burst_meaning, some_block_report, sync_burst},
+    specs.{
+      BurstLines.{BurstLineMeans, burst_fault},
+      Held.{AddsNormalBurst, BurstBuffer, IsBurstLineResult, normal_burst_result},
+      Reports.{IsBlockReportText, access_report_text, sync_report_text},
+      declared.{burst_lines.BurstLine.{TheVariants.{Access, Normal, Skip, Sync}, BurstLine}, held.BurstLineResult.BurstLineResult},
+    },
+  },
+}
 
 -- ## NextAnswers: The answer to the result of a line is the answer to the line.
 
@@ -175,7 +183,7 @@ one_answer : HaveOneAnswer replay_answers
 one_answer = record {
   block = λ bursts y y' (r, received, text) (r', received', text').
       let same : r ≡ r' = one_received_block bursts r r' received received' in
-      one_block_report r' y y' (subst (λ q. IsBlockReport q y) same text) text';
+      one_block_report r' y y' (subst (λ q. IsBlockReportText q y) same text) text';
   access = λ bsic burst y y' (r, received, text) (r', received', text').
       text ∙ ap (access_report_text bsic) (one_received_access burst bsic r r' received received') ∙ sym text';
   sync = λ burst y y' (r, received, text) (r', received', text').

@@ -16,19 +16,20 @@ pub record BurstAnswers : Type 1 where
 
 -- the answer to the last of these normal bursts, and the bursts held afterwards: the fourth burst of a block has the answer to the block,
 -- an earlier burst has none
-abbrev pub AnswersNormalBurst : BurstAnswers → List (List ℤ) → List ℕ → List (List ℤ) → Type 0
+abbrev pub AnswersNormalBurst : (answers : BurstAnswers) (bursts : List (List ℤ)) (answer : List ℕ) (after : List (List ℤ)) → Type 0
 AnswersNormalBurst a bursts answer after =
     ((length bursts < 4) × (answer ≡ []) × (after ≡ bursts)) ⊎ ((length bursts ≡ 4) × (after ≡ []) × a.block bursts answer)
 
 -- the answer to a line with this meaning, and the bursts held before and after it
-abbrev pub AnswersBurstLine : BurstAnswers → List (List ℤ) → BurstLine → List ℕ → List (List ℤ) → Type 0
+abbrev pub AnswersBurstLine : (answers : BurstAnswers) (held : List (List ℤ)) (line : BurstLine) (answer : List ℕ)
+    (after : List (List ℤ)) → Type 0
 AnswersBurstLine a held Skip answer after = (answer ≡ []) × (after ≡ held)
 AnswersBurstLine a held (Normal soft) answer after = AnswersNormalBurst a (held ++ soft ∷ []) answer after
 AnswersBurstLine a held (Access bsic soft) answer after = (after ≡ held) × a.access bsic soft answer
 AnswersBurstLine a held (Sync soft) answer after = (after ≡ held) × a.sync soft answer
 
 -- the answer to the result of parsing a line, given the burst buffer after the line
-abbrev pub AnswersLineResult : BurstAnswers → BurstLineResult → BurstBuffer → List ℕ → Type 0
+abbrev pub AnswersLineResult : (answers : BurstAnswers) (result : BurstLineResult) (now : BurstBuffer) (answer : List ℕ) → Type 0
 AnswersLineResult a N.Skip now answer = answer ≡ []
 AnswersLineResult a N.Held now answer = answer ≡ []
 AnswersLineResult a N.Block now answer = a.block now.slots answer

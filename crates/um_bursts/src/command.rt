@@ -2,7 +2,7 @@
 ghost use Rattle.std.specs.Prelude.{◌≡◌, ◌<◌, ℤ, List, [], ◌∷◌, ◌++◌, length};
 ghost use Rattle.um_formats.specs.Held.{HasValidSoftValues};
 ghost use Rattle.um_bursts.specs.BurstRules.{burst_rules, AnswersLineResult};
-ghost use Rattle.um_driver.specs.Rules.{Answers};
+ghost use Rattle.um_driver.specs.Rules.{IsLineAnswerOrFault};
 
 use crate::reports::Reports;
 use std::marker::Model;
@@ -38,13 +38,17 @@ impl<R: Reports> BurstCommand<R> {
         }
     }
 
-    /// Answers any line that is not a valid line `n DIGITS148` or `N HEX296`. It is a separate function so that the common path needs no
+    /// Answers a line that is not a valid `n DIGITS148` or `N HEX296`. It is a separate function so that the common path needs no
     /// stack space for the result.
     #[cold]
     #[inline(never)]
-    fn answer_other_line(&mut self, line: &[u8], out: &mut Text) -> Result<(), LineFault>
+    fn answer_line_other_than_normal(
+        &mut self,
+        line: &[u8],
+        out: &mut Text,
+    ) -> Result<(), LineFault>
         requires { out.old ≡ [] }
-        ensures answered { Answers (burst_rules R.answers) self.old line.now result out.new (λ after. self.new ≡ after) }
+        ensures answered { IsLineAnswerOrFault (burst_rules R.answers) self.old line.now result out.new (λ after. self.new ≡ after) }
         ensures size { length out.new < 2000 }
     {
         let next = read_burst_into(line, &mut self.held)?;
@@ -69,7 +73,7 @@ impl<R: Reports> Command for BurstCommand<R> {
     fn answer(&mut self, line: &[u8], out: &mut Text) -> Result<(), LineFault>
         requires empty { out.old ≡ [] }
         ensures answered { (held : List (List ℤ)) → self.old ≡ held →
-            Answers (burst_rules R.answers) held line.now result out.new (λ after. self.new ≡ after) }
+            IsLineAnswerOrFault (burst_rules R.answers) held line.now result out.new (λ after. self.new ≡ after) }
         ensures keeps { tt {0} ≡ tt }
         ensures size { length out.new < 2000 }
     {
@@ -80,7 +84,7 @@ impl<R: Reports> Command for BurstCommand<R> {
                 }
                 Ok(())
             }
-            None => self.answer_other_line(line, out),
+            None => self.answer_line_other_than_normal(line, out),
         }
     }
 

@@ -16,7 +16,7 @@ reason_number R.Refused = 2
 reason_number R.Released = 3
 
 -- the C struct of a notice with this kind, message number, reason and octets
-abbrev pub notice_struct : (kind number reason : ℕ) → List ℕ → CNotice
+abbrev pub notice_struct : (kind number reason : ℕ) (octets : List ℕ) → CNotice
 notice_struct kind number reason octets = record { number = number; kind = kind; reason = reason; message = message_buffer octets }
 
 -- the contents of an unused element of the array of notices
@@ -33,7 +33,7 @@ c_notice N.Oversize = notice_struct 5 0 0 []
 c_notice (N.Closed reason) = notice_struct 6 0 (reason_number reason) []
 
 -- the C struct of these frames and notices, in order, with zeros in the unused array elements
-abbrev pub c_effects : List (List ℕ) → List Notice → CEffects
+abbrev pub c_effects : (frames : List (List ℕ)) (notices : List Notice) → CEffects
 c_effects frames notices = record {
   notices = map c_notice notices ++ replicate (3 - length notices) blank_notice;
   notice_count = length notices;

@@ -9,7 +9,7 @@ use Rattle.um_air.specs.lapdm_window.declared.Sapi.{Sapi}
 use Rattle.um_air.specs.lapdm_window.declared.Refused.{Refused}
 use Rattle.um_air.specs.lapdm_window.declared.Refused.TheVariants as No
 use Rattle.um_air.specs.lapdm_window.declared.Sapi.TheVariants.{Zero}
-use Rattle.um_air.specs.lapdm_window.Ends.{Mobile, EndpointState, Outcome, start}
+use Rattle.um_air.specs.lapdm_window.Ends.{Mobile, EndpointState, Outcome, initial_endpoint}
 use Rattle.um_air.specs.lapdm_window.Calls.{Call, Opens, IsCallOfEndpoint, refusal_of, call_outcome}
 use Rattle.um_air.specs.lapdm_window.Tables.{frame_outcome}
 use Rattle.lapdm_end.specs.Addresses as L
@@ -29,14 +29,15 @@ call_refusal_number No.Empty = 4
 call_refusal_number No.TooLong = 5
 call_refusal_number No.Full = 6
 
--- the call returns 0, `after` represents the endpoint after outcome `o`, and `output` holds the frames and notices of `o`
-pub record SucceedsWithOutcome (channel : Channel) (o : Outcome) (answer : ℕ) (after : CEndpoint) (output : CEffects) : Type 0 where
-  pub answer_is_0 : answer ≡ 0
-  pub represents : StructRepresents after o.new_state
-  pub effects : output ≡ c_effects (map (octets_of channel) o.frames) o.notices
+-- the call returns 0, `after` represents the endpoint after outcome `outcome`, and `output` holds the frames and notices of `outcome`
+pub record SucceedsWithOutcome (channel : Channel) (outcome : Outcome) (answer : ℕ) (after : CEndpoint) (output : CEffects) : Type 0
+  where
+    pub answer_is_0 : answer ≡ 0
+    pub represents : StructRepresents after outcome.new_state
+    pub effects : output ≡ c_effects (map (octets_of channel) outcome.frames) outcome.notices
 
 -- the endpoint supports this call: only a mobile establishes SAPI 0, with information; either side establishes SAPI 3, without it
-abbrev pub EndpointSupportsCall : EndpointState → Call → Type 0
+abbrev pub EndpointSupportsCall : (endpoint : EndpointState) (call : Call) → Type 0
 EndpointSupportsCall e (Opens info) = (e.sapi ≡ Zero) × (e.role ≡ Mobile)
 EndpointSupportsCall e call = IsCallOfEndpoint e call
 
@@ -63,13 +64,14 @@ pub record EndpointReceivesBlock (octets : List ℕ) (answer : ℕ) (before afte
 
 -- if the role, SAPI and channel are valid, the call returns true, and `after` represents a new endpoint; otherwise it returns false and
 -- writes nothing
-abbrev pub WritesEndpointIfValid : Option Role → Option Sapi → Option Channel → Bool → (before after : CEndpoint) → Type 0
+abbrev pub WritesEndpointIfValid : (role : Option Role) (sapi : Option Sapi) (channel : Option Channel) (answer : Bool)
+    (before after : CEndpoint) → Type 0
 WritesEndpointIfValid (Some role) (Some sapi) (Some channel) answer before after =
-    (answer ≡ true) × StructRepresents after (start (L.role_of role) sapi channel)
+    (answer ≡ true) × StructRepresents after (initial_endpoint (L.spec_role_of role) sapi channel)
 WritesEndpointIfValid role sapi channel answer before after = (answer ≡ false) × (after ≡ before)
 
 -- if the three numbers are a valid role, SAPI and channel, the call returns true, and `after` represents a new endpoint; otherwise it
 -- returns false and writes nothing
-abbrev pub IsNewEndpointResult : (role sapi channel : ℕ) → Bool → (before after : CEndpoint) → Type 0
+abbrev pub IsNewEndpointResult : (role sapi channel : ℕ) (answer : Bool) (before after : CEndpoint) → Type 0
 IsNewEndpointResult role sapi channel answer before after = WritesEndpointIfValid (role_of role) (sapi_of sapi) (channel_of channel) answer
     before after

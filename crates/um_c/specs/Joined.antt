@@ -19,7 +19,7 @@ use Rattle.um_air.specs.lapdm_link.Events.{other, rival_sabm, rival_refusal}
 use Rattle.um_air.specs.lapdm_link.Worlds.{rr_for_rej}
 use Rattle.um_air.specs.lapdm_link.Claims.{LogLine, Asked, Notified, is_same_role, is_same_sapi}
 use Rattle.um_air.specs.lapdm_link.Claims as C
-use Rattle.um_air.specs.Damage.{AreLightlyDamaged}
+use Rattle.um_air.specs.Damage.{AreCorrectableBursts}
 use Rattle.um_c.specs.declared.states.CEndpoint.{CEndpoint}
 use Rattle.um_c.specs.declared.blocks.BlockReport.{BlockReport}
 use Rattle.um_c.specs.Reports.{IsBlockReport, IsListDecodedReport}
@@ -31,8 +31,8 @@ use Rattle.um_c.specs.EndCalls.{EndpointAnswersCall, EndpointReceivesBlock, IsNe
 -- ---- reading the effects of a call
 
 -- the reason with this number
-abbrev pub reason_from_number : ℕ → Reason
-reason_from_number number =
+abbrev pub close_reason_from_number : (number : ℕ) → Reason
+close_reason_from_number number =
     if number == 0 then R.Contention else if number == 1 then R.Failed else if number == 2 then R.Refused else R.Released
 
 -- the notice that a C struct represents, or `None` if its kind is not 1 to 6
@@ -43,7 +43,7 @@ notice_from_c n =
     else if n.kind == 3 then Some (N.Unit (octets_in n.message))
     else if n.kind == 4 then Some (N.Acked n.number)
     else if n.kind == 5 then Some N.Oversize
-    else if n.kind == 6 then Some (N.Closed (reason_from_number n.reason))
+    else if n.kind == 6 then Some (N.Closed (close_reason_from_number n.reason))
     else None
 
 -- all notices in the effects of a call, in order
@@ -51,7 +51,7 @@ abbrev pub notices_from_c : CEffects → List Notice
 notices_from_c output = filter_map notice_from_c (take output.notice_count output.notices)
 
 -- the blocks that a call sent, if it returned 0; otherwise none
-abbrev pub blocks_sent : (answer : ℕ) → CEffects → List (List ℕ)
+abbrev pub blocks_sent : (answer : ℕ) (output : CEffects) → List (List ℕ)
 blocks_sent answer output = if answer == 0 then take output.frame_count output.frames else []
 
 -- ---- one step of the program
@@ -70,21 +70,23 @@ pub record ProgramState : Type 0 where
   pub state : Role → Sapi → Option CEndpoint
   pub queues : Queues (List ℕ)
 
--- in a step of the program, the state of one endpoint changes from `old` to `new`, all other states stay the same, and the blocks `out` are
--- added to the blocks in transit `left`
-pub record ChangesOneEndpoint (r : Role) (s : Sapi) (old new : CEndpoint) (out : List (List ℕ)) (left : Queues (List ℕ))
-    (a b : ProgramState) : Type 0 where
-  pub old_state : a.state r s ≡ Some old
-  pub new_state : b.state r s ≡ Some new
-  pub others_unchanged : (r' : Role) (s' : Sapi) → is_same_role r' r && is_same_sapi s' s ≡ false → b.state r' s' ≡ a.state r' s'
-  pub queues : b.queues ≡ with_appended r out left
+-- in a step of the program, the state of one endpoint changes from `old` to `new`, all other states stay the same, and the blocks
+-- `sent_blocks` are added to the blocks in transit `remaining_queues`
+pub record ChangesOneEndpoint (role : Role) (sapi : Sapi) (old new : CEndpoint) (sent_blocks : List (List ℕ)) (remaining_queues : Queues
+    (List ℕ))
+    (before after : ProgramState) : Type 0 where
+  pub old_state : before.state role sapi ≡ Some old
+  pub new_state : after.state role sapi ≡ Some new
+  pub others_unchanged : (r' : Role) (s' : Sapi) → is_same_role r' role && is_same_sapi s' sapi ≡ false → after.state r' s' ≡
+      before.state r' s'
+  pub queues : after.queues ≡ with_appended role sent_blocks remaining_queues
 
 -- the block encodes no frame with this SAPI
-abbrev pub HasNoFrameOnSapi : Channel → Sapi → List ℕ → Type 0
+abbrev pub HasNoFrameOnSapi : (channel : Channel) (sapi : Sapi) (block : List ℕ) → Type 0
 HasNoFrameOnSapi channel s block = (f : Frame) → IsFrameCoding channel f block → f.sapi ≢ sapi_number s
 
 -- the step leads from the first program state to the second, and the endpoint meets the contract of the call
-abbrev pub IsProgramStep : Channel → ProgramState → ProgramStep → ProgramState → Type 0
+abbrev pub IsProgramStep : (channel : Channel) (state : ProgramState) (step : ProgramStep) (after : ProgramState) → Type 0
 IsProgramStep channel a (Calls r s call answer output) b =
     (old new : CEndpoint) × (output_old : CEffects) × EndpointAnswersCall call answer old new output_old output
     × ChangesOneEndpoint r s old new (blocks_sent answer output) a.queues a b
@@ -107,36 +109,36 @@ role_number Mobile = 0
 role_number Network = 1
 
 -- the program does not have this endpoint, or the endpoint is new
-abbrev pub IsNewEndpointOrNone : Channel → Role → Sapi → Option CEndpoint → Type 0
+abbrev pub IsNewEndpointOrNone : (channel : Channel) (role : Role) (sapi : Sapi) (endpoint : Option CEndpoint) → Type 0
 IsNewEndpointOrNone channel r s None = Unit {0}
 IsNewEndpointOrNone channel r s (Some new) =
     (old : CEndpoint) × IsNewEndpointResult (role_number r) (sapi_number s) (channel_number channel) true old new
 
 -- the program at its start: each endpoint is new, and no block is in transit
-pub record IsProgramStart (channel : Channel) (a : ProgramState) : Type 0 where
-  pub new_endpoint : (r : Role) (s : Sapi) → IsNewEndpointOrNone channel r s (a.state r s)
-  pub queues : a.queues ≡ empty_queues
+pub record IsProgramStart (channel : Channel) (program : ProgramState) : Type 0 where
+  pub new_endpoint : (r : Role) (s : Sapi) → IsNewEndpointOrNone channel r s (program.state r s)
+  pub queues : program.queues ≡ empty_queues
 
 -- the steps lead from the first program state to the last, and each satisfies the condition `May`
-abbrev pub IsProgramRun : Channel → (Channel → ProgramState → ProgramStep → Type 0) → (a : ProgramState) → List ProgramStep →
-    (z : ProgramState) → Type 0
+abbrev pub IsProgramRun : (channel : Channel) (MayTake : (Channel → ProgramState → ProgramStep → Type 0)) (before : ProgramState)
+    (turns : List ProgramStep) (after : ProgramState) → Type 0
 IsProgramRun channel May a [] z = z ≡ a
 IsProgramRun channel May a (turn ∷ turns) z = May channel a turn × (b : ProgramState) × IsProgramStep channel a turn b
     × IsProgramRun channel May b turns z
 
 -- the list is not empty, and its first block satisfies the condition
-abbrev pub FirstBlockSatisfies : (List ℕ → Type 0) → List (List ℕ) → Type 0
+abbrev pub FirstBlockSatisfies : (Property : (List ℕ → Type 0)) (blocks : List (List ℕ)) → Type 0
 FirstBlockSatisfies Like [] = ⊥
 FirstBlockSatisfies Like (first ∷ others) = Like first
 
 -- the block encodes the frame that was sent, perhaps with other fill octets; if a REJ was sent, it may encode an RR with the same N(R)
-abbrev pub EncodeSameFrame : Channel → (sent block : List ℕ) → Type 0
+abbrev pub EncodeSameFrame : (channel : Channel) (sent block : List ℕ) → Type 0
 EncodeSameFrame channel sent block = (f : Frame) → IsFrameCoding channel f sent →
     IsFrameCoding channel f block ⊎ IsFrameCoding channel (record f { content = rr_for_rej f.content }) block
 
 -- an endpoint that takes the oldest block in transit receives the frame that was sent, perhaps with other fill octets, or an RR in place of
 -- a REJ with the same N(R)
-abbrev pub DeliversOldestBlock : Channel → ProgramState → ProgramStep → Type 0
+abbrev pub DeliversOldestBlock : (channel : Channel) (state : ProgramState) (turn : ProgramStep) → Type 0
 DeliversOldestBlock channel a (TakesOldestBlock r s block answer output) =
     FirstBlockSatisfies (λ first. EncodeSameFrame channel first block) (queue_of
     (other r) a.queues)
@@ -146,20 +148,20 @@ DeliversOldestBlock channel a turn = Unit {0}
 -- words whose CRC holds
 pub record IsReceptionOf (sent block : List ℕ) : Type 0 where
   pub bursts : List (List ℤ)
-  pub damage : AreLightlyDamaged sent bursts
+  pub damage : AreCorrectableBursts sent bursts
   pub report : BlockReport
   pub received : IsBlockReport bursts report ⊎ ((most rank : ℕ) × (1 ≤ most) × IsListDecodedReport bursts most rank report)
   pub octets : block ≡ report.octets
 
--- an endpoint that takes the oldest block in transit receives the octets that are accepted from lightly damaged bursts of that block
-abbrev pub ReceivesOldestBlock : Channel → ProgramState → ProgramStep → Type 0
+-- if a step delivers the oldest block in transit, the bursts of that block may be lightly damaged, and the decoder accepts its octets
+abbrev pub ReceivesOldestBlock : (channel : Channel) (state : ProgramState) (turn : ProgramStep) → Type 0
 ReceivesOldestBlock channel a (TakesOldestBlock r s block answer output) =
     FirstBlockSatisfies (λ first. IsReceptionOf first block) (queue_of
     (other r) a.queues)
 ReceivesOldestBlock channel a turn = Unit {0}
 
 -- any step is allowed: an endpoint may receive any block
-abbrev pub AnyStepAllowed : Channel → ProgramState → ProgramStep → Type 0
+abbrev pub AnyStepAllowed : (channel : Channel) (state : ProgramState) (turn : ProgramStep) → Type 0
 AnyStepAllowed channel a turn = Unit {0}
 
 -- the log lines of a step, computed from the returned number and effects alone: the call, if any, and the notices
@@ -171,6 +173,6 @@ step_log_lines (LosesOldestBlock sender) = []
 step_log_lines (RivalSabm info block) = C.RivalSabm info ∷ []
 
 -- the log of these steps, in order
-abbrev pub lines : List ProgramStep → List LogLine
-lines [] = []
-lines (turn ∷ turns) = step_log_lines turn ++ lines turns
+abbrev pub session_log : (turns : List ProgramStep) → List LogLine
+session_log [] = []
+session_log (turn ∷ turns) = step_log_lines turn ++ session_log turns

@@ -10,11 +10,11 @@ use Rattle.um_c.specs.declared.margins.MarginReport.{MarginReport}
 
 -- the report contains the most likely word of four bursts, the second most likely word, and the difference between their likelihoods,
 -- which is 0 if and only if another word is equally likely
-pub record IsMarginReport (bursts : List (List ℤ)) (r : MarginReport) : Type 0 where
+pub record IsMarginReport (bursts : List (List ℤ)) (report : MarginReport) : Type 0 where
   pub soft : List ℤ
   pub deinterleaved : IsInterleaved soft (map coded_soft_bits bursts)
-  pub best : IsMostLikely soft r.word
-  pub next : IsSecondMostLikely soft r.word r.next
-  pub margin : IsMargin soft r.word r.margin
-  pub is_difference : r.margin ≡ likelihood soft (encoding r.word) -ℤ likelihood soft (encoding r.next)
-  pub zero_iff_tied : (r.margin ≡ pos 0) ↔ HasTiedWord soft r.word
+  pub best : IsMostLikely soft report.word
+  pub next : IsSecondMostLikely soft report.word report.next
+  pub margin : IsMargin soft report.word report.margin
+  pub margin_is_difference : report.margin ≡ likelihood soft (encoding report.word) -ℤ likelihood soft (encoding report.next)
+  pub zero_iff_tied : (report.margin ≡ pos 0) ↔ HasTiedWord soft report.word

@@ -16,22 +16,22 @@ use Rattle.um_c.specs.EndCalls.{EndpointSupportsCall}
 use Rattle.um_c.specs.Joined.{ProgramState, ProgramStep, Calls, TakesOldestBlock}
 
 -- the endpoint states of a program with these two endpoints, both of SAPI 0
-abbrev pub state_of_two_endpoints : CEndpoint → CEndpoint → Role → Sapi → Option CEndpoint
-state_of_two_endpoints mobile network Mobile Zero = Some mobile
-state_of_two_endpoints mobile network Network Zero = Some network
-state_of_two_endpoints mobile network r Three = None
+abbrev pub endpoint_with_role_and_sapi : (mobile network : CEndpoint) (role : Role) (sapi : Sapi) → Option CEndpoint
+endpoint_with_role_and_sapi mobile network Mobile Zero = Some mobile
+endpoint_with_role_and_sapi mobile network Network Zero = Some network
+endpoint_with_role_and_sapi mobile network r Three = None
 
 -- a program that has these two endpoints of SAPI 0, and no block in transit
 abbrev pub program_of_two_endpoints : (mobile network : CEndpoint) → ProgramState
-program_of_two_endpoints mobile network = record { state = state_of_two_endpoints mobile network; queues = empty_queues }
+program_of_two_endpoints mobile network = record { state = endpoint_with_role_and_sapi mobile network; queues = empty_queues }
 
 -- the first block that a call sends
 abbrev pub first_block : CEffects → List ℕ
 first_block output = slice_index_or output.frames 0 []
 
 -- the three steps that establish the link: the mobile's call sends a SABM, the network receives it, and the mobile receives the UA
-abbrev pub opening : Message → (asked answered opened : CEffects) → List ProgramStep
-opening info asked answered opened =
+abbrev pub establishment_steps : (info : Message) (asked answered opened : CEffects) → List ProgramStep
+establishment_steps info asked answered opened =
     Calls Mobile Zero (Opens info) 0 asked ∷ TakesOldestBlock Network Zero (first_block asked) 0 answered
     ∷ TakesOldestBlock Mobile Zero (first_block answered) 0 opened ∷ []
 
@@ -63,9 +63,9 @@ pub record BothAreIdle (info : Message) (mobile network : EndpointState) : Type 
   pub fits : length info ≤ n201 mobile.channel
 
 -- the mobile's endpoint after the three calls
-abbrev pub mobile_after_opening : Message → EndpointState → EndpointState
-mobile_after_opening info e = record e { state = Open; sabm_info = info; retries = 0 }
+abbrev pub mobile_after_establishment : Message → EndpointState → EndpointState
+mobile_after_establishment info e = record e { state = Open; sabm_info = info; retries = 0 }
 
 -- the network's endpoint after the three calls
-abbrev pub network_after_opening : Message → EndpointState → EndpointState
-network_after_opening info e = record e { state = Open; sabm_info = info }
+abbrev pub network_after_establishment : Message → EndpointState → EndpointState
+network_after_establishment info e = record e { state = Open; sabm_info = info }

@@ -7,25 +7,25 @@ use Rattle.lapdm_frame.specs.declared.Channel.TheVariants.{Sdcch, Sacch}
 use Rattle.lapdm_frame.specs.declared.Refusal.{Refusal}
 use Rattle.lapdm_frame.specs.declared.Refusal.TheVariants.{Lpd, Ea, Control, El, Length, Empty, More}
 use Rattle.lapdm_frame.specs.declared.Kind.{Kind}
-use Rattle.lapdm_frame.specs.Content.{Content, Fields, Frame, kinds, kind_number, fields_of, content_with_fields}
-use Rattle.lapdm_frame.specs.Frames.{bit, FrameFits, octets_of}
+use Rattle.lapdm_frame.specs.Content.{Content, Fields, Frame, all_frame_kinds, kind_number, fields_of, content_with_fields}
+use Rattle.lapdm_frame.specs.Frames.{bit_of_bool, FrameFits, octets_of}
 use Rattle.lapdm_frame.specs.Readings.{IsOnlyFrame, IsOnlyRefusal}
 use Rattle.um_c.specs.declared.frames.CFrame.{CFrame}
 
 -- the channel with this number: 0 is SDCCH, 1 is SACCH, any other number is invalid
-abbrev pub channel_of : ℕ → Option Channel
+abbrev pub channel_of : (number : ℕ) → Option Channel
 channel_of number = if number == 0 then Some Sdcch else if number == 1 then Some Sacch else None
 
 -- the C struct of a frame: fields of other kinds are 0, and zeros follow the information
-abbrev pub c_frame_of_fields : ℕ → Bool → Fields → CFrame
+abbrev pub c_frame_of_fields : (sapi : ℕ) (cr : Bool) (fields : Fields) → CFrame
 c_frame_of_fields sapi cr f = record {
   kind = kind_number f.kind;
   sapi = sapi;
-  cr = bit cr;
-  pf = bit f.pf;
+  cr = bit_of_bool cr;
+  pf = bit_of_bool f.pf;
   ns = f.ns;
   nr = f.nr;
-  more = bit f.more;
+  more = bit_of_bool f.more;
   count = length f.info;
   info = f.info ++ replicate (20 - length f.info) 0;
 }
@@ -46,32 +46,32 @@ frame_refusal_number More = 7
 
 -- either the octets encode exactly one frame, and the call returns 0 and writes its fields; or they are not a valid frame, and the call
 -- returns the number of the reason and writes nothing
-abbrev pub IsFrameReadResult : Channel → List ℕ → ℕ → (before after : CFrame) → Type 0
+abbrev pub IsFrameReadResult : (channel : Channel) (octets : List ℕ) (answer : ℕ) (before after : CFrame) → Type 0
 IsFrameReadResult channel octets answer before after =
     ((f : Frame) × IsOnlyFrame channel f octets × (answer ≡ 0) × (after ≡ c_struct f))
     ⊎ ((reason : Refusal) × IsOnlyRefusal channel octets reason × (answer ≡ frame_refusal_number reason) × (after ≡ before))
 
 -- whether a number in a C struct counts as bit 1: every nonzero number does
-abbrev pub is_nonzero : ℕ → Bool
+abbrev pub is_nonzero : (field : ℕ) → Bool
 is_nonzero field = not (field == 0)
 
 -- the content, if its information has this number of octets; otherwise `None`
-abbrev pub content_if_info_length : ℕ → Content → Option Content
+abbrev pub content_if_info_length : (count : ℕ) (content : Content) → Option Content
 content_if_info_length count content = if length (fields_of content).info == count then Some content else None
 
 -- the content that the fields describe for this kind, or `None` if there is no kind, or if a kind without information has a nonzero
 -- count; fields of other kinds are ignored
-abbrev pub content_of_kind : CFrame → Option Kind → Option Content
+abbrev pub content_of_kind : (frame : CFrame) (kind : Option Kind) → Option Content
 content_of_kind f None = None
 content_of_kind f (Some kind) = content_if_info_length f.count (content_with_fields kind f.ns f.nr (is_nonzero f.pf) (is_nonzero f.more)
     (take f.count f.info))
 
 -- the content that the fields describe, or `None` if they describe none
 abbrev pub content_from_fields : CFrame → Option Content
-content_from_fields f = content_of_kind f (slice_get kinds f.kind)
+content_from_fields f = content_of_kind f (slice_get all_frame_kinds f.kind)
 
 -- the frame with this SAPI, C/R bit and content, or `None` if there is no content
-abbrev pub frame_with_address_fields : ℕ → Bool → Option Content → Option Frame
+abbrev pub frame_with_address_fields : (sapi : ℕ) (cr : Bool) (content : Option Content) → Option Frame
 frame_with_address_fields sapi cr None = None
 frame_with_address_fields sapi cr (Some content) = Some (record { sapi = sapi; cr = cr; content = content })
 
@@ -81,7 +81,7 @@ frame_from_fields f = if nat_le f.count 20 then frame_with_address_fields f.sapi
 
 -- if there is a frame that fits in a block of the channel, the call returns true and writes its canonical octets; otherwise it returns
 -- false and writes nothing
-abbrev pub IsFrameWriteResult : Channel → Option Frame → Bool → (before after : List ℕ) → Type 0
+abbrev pub IsFrameWriteResult : (channel : Channel) (frame : Option Frame) (answer : Bool) (before after : List ℕ) → Type 0
 IsFrameWriteResult channel None answer before after = (answer ≡ false) × (after ≡ before)
 IsFrameWriteResult channel (Some f) answer before after =
     (FrameFits channel f × (answer ≡ true) × (after ≡ octets_of channel f))

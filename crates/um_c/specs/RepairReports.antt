@@ -7,13 +7,13 @@ use Rattle.um_c.specs.declared.repairs.RepairReport.{RepairReport}
 
 -- for a word of bits, the call returns 0 if the CRC holds; 1 if the word is repaired, and `after` describes the repair; or 2 if it cannot
 -- be repaired; unless it returns 1, it writes nothing
-abbrev pub IsBitRepairResult : List ℕ → ℕ → (before after : RepairReport) → Type 0
+abbrev pub IsBitRepairResult : (word : List ℕ) (answer : ℕ) (before after : RepairReport) → Type 0
 IsBitRepairResult w answer before after =
     (IsXcchWord w × (answer ≡ 0) × (after ≡ before))
     ⊎ (IsRepair w after.word × IsSpanOfChangedBits w after.word after.first after.span × (answer ≡ 1))
     ⊎ ((IsXcchWord w → ⊥) × ((v : List ℕ) → IsRepair w v → ⊥) × (answer ≡ 2) × (after ≡ before))
 
 -- the call returns 3 and writes nothing if an octet of the word is neither 0 nor 1; otherwise it returns 0, 1 or 2, as for a word of bits
-abbrev pub IsRepairCallResult : List ℕ → ℕ → (before after : RepairReport) → Type 0
+abbrev pub IsRepairCallResult : (word : List ℕ) (answer : ℕ) (before after : RepairReport) → Type 0
 IsRepairCallResult w answer before after =
     (AllBits w × IsBitRepairResult w answer before after) ⊎ ((AllBits w → ⊥) × (answer ≡ 3) × (after ≡ before))

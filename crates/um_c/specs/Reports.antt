@@ -13,53 +13,53 @@ use Rattle.um_c.specs.declared.blocks.BlockReport.{BlockReport}
 use Rattle.um_c.specs.declared.bursts.AccessReport.{AccessReport}
 use Rattle.um_c.specs.declared.bursts.SyncReport.{SyncReport}
 
--- the C struct `r` contains the report `received`, the number of wrong bits among the 456 coded bits, and the 23 octets if the CRC holds,
--- otherwise zeros
-pub record ReportsBlock (bursts : List (List ℤ)) (received : Received) (r : BlockReport) : Type 0 where
-  pub word : r.word ≡ received.u
-  pub metric : r.metric ≡ received.metric
-  pub tsc : r.tsc ≡ received.tsc
-  pub wrong_training : r.wrong_training ≡ received.wrong_training
+-- the C struct `report` contains the report `received`, the number of wrong bits among the 456 coded bits, and the 23 octets if the CRC
+-- holds, otherwise zeros
+pub record ReportsBlock (bursts : List (List ℤ)) (received : Received) (report : BlockReport) : Type 0 where
+  pub word : report.word ≡ received.u
+  pub metric : report.metric ≡ received.metric
+  pub tsc : report.tsc ≡ received.tsc
+  pub wrong_training : report.wrong_training ≡ received.wrong_training
   pub wrong_coded : (soft : List ℤ) → IsInterleaved soft (map coded_soft_bits bursts) →
-      r.wrong_coded ≡ count_wrong_bits soft (encoding received.u)
+      report.wrong_coded ≡ count_wrong_bits soft (encoding received.u)
   pub accepted : MatchOption received.accepted
-      ((r.accepted ≡ 0) × (r.octets ≡ replicate 23 0))
-      (λ octets. (r.accepted ≡ 1) × (r.octets ≡ octets))
+      ((report.accepted ≡ 0) × (report.octets ≡ replicate 23 0))
+      (λ octets. (report.accepted ≡ 1) × (report.octets ≡ octets))
 
--- `r` is the report on the block received from four bursts
-pub record IsBlockReport (bursts : List (List ℤ)) (r : BlockReport) : Type 0 where
+-- `report` is the report on the block received from four bursts
+pub record IsBlockReport (bursts : List (List ℤ)) (report : BlockReport) : Type 0 where
   pub received : Received
   pub is_received : IsReceivedBlock bursts received
-  pub reports_block : ReportsBlock bursts received r
+  pub reports_block : ReportsBlock bursts received report
 
--- `r` is the report on the block that a list decoder receives from four bursts when it tries the `most` most likely words, and `rank` is
--- the rank (from 1) of the chosen word among its candidates
-pub record IsListDecodedReport (bursts : List (List ℤ)) (most rank : ℕ) (r : BlockReport) : Type 0 where
+-- `report` is the report on the block that a list decoder receives from four bursts when it tries the `max_words` most likely words, and
+-- `rank` is the rank (from 1) of the chosen word among its candidates
+pub record IsListDecodedReport (bursts : List (List ℤ)) (max_words rank : ℕ) (report : BlockReport) : Type 0 where
   pub received : ListDecodedBlock
-  pub is_received : IsListDecodedBlock bursts most received
-  pub reports_block : ReportsBlock bursts received.report r
+  pub is_received : IsListDecodedBlock bursts max_words received
+  pub reports_block : ReportsBlock bursts received.report report
   pub same_rank : rank ≡ received.rank
 
--- `r` is the report on an access burst received with this BSIC
-pub record IsAccessReport (burst : List ℤ) (bsic : List ℕ) (r : AccessReport) : Type 0 where
+-- `report` is the report on an access burst received with this BSIC
+pub record IsAccessReport (burst : List ℤ) (bsic : List ℕ) (report : AccessReport) : Type 0 where
   pub received : ReceivedAccess
   pub is_received : IsReceivedAccess burst bsic received
-  pub word : r.word ≡ received.u
-  pub metric : r.metric ≡ received.metric
-  pub wrong_training : r.wrong_training ≡ received.wrong_training
-  pub wrong_coded : r.wrong_coded ≡ count_wrong_bits (access_soft_bits burst) (encoding received.u)
+  pub word : report.word ≡ received.u
+  pub metric : report.metric ≡ received.metric
+  pub wrong_training : report.wrong_training ≡ received.wrong_training
+  pub wrong_coded : report.wrong_coded ≡ count_wrong_bits (access_soft_bits burst) (encoding received.u)
   pub accepted : MatchOption received.accepted
-      ((r.accepted ≡ 0) × (r.info ≡ replicate 8 0))
-      (λ info. (r.accepted ≡ 1) × (r.info ≡ info))
+      ((report.accepted ≡ 0) × (report.info ≡ replicate 8 0))
+      (λ info. (report.accepted ≡ 1) × (report.info ≡ info))
 
--- `r` is the report on a received synchronisation burst
-pub record IsSyncReport (burst : List ℤ) (r : SyncReport) : Type 0 where
+-- `report` is the report on a received synchronisation burst
+pub record IsSyncReport (burst : List ℤ) (report : SyncReport) : Type 0 where
   pub received : ReceivedSync
   pub is_received : IsReceivedSync burst received
-  pub word : r.word ≡ received.u
-  pub metric : r.metric ≡ received.metric
-  pub wrong_training : r.wrong_training ≡ received.wrong_training
-  pub wrong_coded : r.wrong_coded ≡ count_wrong_bits (sync_soft_bits burst) (encoding received.u)
+  pub word : report.word ≡ received.u
+  pub metric : report.metric ≡ received.metric
+  pub wrong_training : report.wrong_training ≡ received.wrong_training
+  pub wrong_coded : report.wrong_coded ≡ count_wrong_bits (sync_soft_bits burst) (encoding received.u)
   pub accepted : MatchOption received.accepted
-      ((r.accepted ≡ 0) × (r.info ≡ replicate 25 0))
-      (λ info. (r.accepted ≡ 1) × (r.info ≡ info))
+      ((report.accepted ≡ 0) × (report.info ≡ replicate 25 0))
+      (λ info. (report.accepted ≡ 1) × (report.info ≡ info))

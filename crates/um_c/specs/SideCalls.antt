@@ -15,11 +15,11 @@ use Rattle.um_c.specs.States.{sapi_of, sapi_number}
 use Rattle.um_c.specs.EndCalls.{EndpointAnswersCall, EndpointReceivesBlock, IsNewEndpointResult}
 
 -- the two endpoints have SAPI 0 and SAPI 3, and the same role and channel
-pub record IsValidSide (s : CSide) : Type 0 where
-  pub sapi0 : s.link0.sapi ≡ 0
-  pub sapi3 : s.link3.sapi ≡ 3
-  pub same_role : s.link0.role ≡ s.link3.role
-  pub same_channel : s.link0.channel ≡ s.link3.channel
+pub record IsValidSide (side : CSide) : Type 0 where
+  pub sapi0 : side.link0.sapi ≡ 0
+  pub sapi3 : side.link3.sapi ≡ 3
+  pub same_role : side.link0.role ≡ side.link3.role
+  pub same_channel : side.link0.channel ≡ side.link3.channel
 
 -- the endpoint of the side with this SAPI
 abbrev pub endpoint_of : Sapi → CSide → CEndpoint
@@ -42,7 +42,7 @@ pub record SideAnswersCall (sapi : ℕ) (call : Call) (answer : ℕ) (before aft
   pub unchanged : answer ≢ 0 → (after ≡ before) × (output ≡ output_old)
 
 -- the block encodes a frame with SAPI 3
-abbrev pub IsFrameOnSapi3 : (channel : ℕ) → List ℕ → Type 0
+abbrev pub IsFrameOnSapi3 : (channel : ℕ) (octets : List ℕ) → Type 0
 IsFrameOnSapi3 channel octets = (c : Channel) × (f : Frame) × (Some c ≡ channel_of channel) × IsOnlyFrame c f octets × (f.sapi ≡ 3)
 
 -- the endpoint with SAPI `s` receives the block, the other stays unchanged, and `reported_sapi` is the number of `s` if the call returns 0

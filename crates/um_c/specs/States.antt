@@ -3,9 +3,9 @@ use Rattle.std.specs.Prelude.{ℕ, zero, suc, ◌≡◌, ◌==◌, nat_le, if◌
 use Rattle.std.specs.Prelude.{take, map, Option, Some, None}
 use Rattle.lapdm_frame.specs.declared.Channel.{Channel}
 use Rattle.lapdm_frame.specs.declared.Channel.TheVariants.{Sdcch, Sacch}
-use Rattle.lapdm_frame.specs.Frames.{bit}
-use Rattle.um_air.specs.segmenting.declared.joiner.Part.{Part}
-use Rattle.um_air.specs.segmenting.declared.joiner.Part.TheVariants as P
+use Rattle.lapdm_frame.specs.Frames.{bit_of_bool}
+use Rattle.um_air.specs.segmenting.declared.joiner.ReassemblyState.{ReassemblyState}
+use Rattle.um_air.specs.segmenting.declared.joiner.ReassemblyState.TheVariants as P
 use Rattle.um_air.specs.segmenting.declared.buffers.MessageBuffer.{MessageBuffer}
 use Rattle.um_air.specs.segmenting.Segments.{Message}
 use Rattle.um_air.specs.segmenting.Buffers.{octets_in, message_buffer}
@@ -22,15 +22,15 @@ use Rattle.um_c.specs.declared.states.CEndpoint.{CEndpoint}
 use Rattle.um_c.specs.Plain.{is_nonzero, channel_of}
 
 -- the role with this number, or `None` if the number is invalid
-abbrev pub role_of : ℕ → Option Role
+abbrev pub role_of : (number : ℕ) → Option Role
 role_of number = if number == 0 then Some Mobile else if number == 1 then Some Network else None
 
 -- the SAPI with this number, or `None` if the number is invalid
-abbrev pub sapi_of : ℕ → Option Sapi
+abbrev pub sapi_of : (number : ℕ) → Option Sapi
 sapi_of number = if number == 0 then Some Zero else if number == 3 then Some Three else None
 
 -- the link state with this number, or `None` if the number is invalid
-abbrev pub state_of : ℕ → Option State
+abbrev pub state_of : (number : ℕ) → Option State
 state_of number =
     if number == 0 then Some S.Idle
     else if number == 1 then Some S.Opening
@@ -40,13 +40,14 @@ state_of number =
     else None
 
 -- the reassembly state with this number, or `None` if the number is invalid
-abbrev pub reassembly_from_number : ℕ → Option Part
+abbrev pub reassembly_from_number : (number : ℕ) → Option ReassemblyState
 reassembly_from_number number = if number == 0 then Some P.Open else if number == 1 then Some P.Whole else if number == 2 then Some
     P.Discarding else
     None
 
 -- the values of the window in the struct, if its channel and reassembly state are valid and it holds at most eight messages
-abbrev pub window_values_if_valid : CEndpoint → Option Channel → Option Part → Bool → Option WindowValues
+abbrev pub window_values_if_valid : (endpoint : CEndpoint) (channel : Option Channel) (part : Option ReassemblyState) (valid : Bool) →
+    Option WindowValues
 window_values_if_valid s (Some channel) (Some part) true =
     Some (record {
       channel = channel;
@@ -67,8 +68,8 @@ abbrev pub window_values_from : CEndpoint → Option WindowValues
 window_values_from s = window_values_if_valid s (channel_of s.channel) (reassembly_from_number s.part) (nat_le s.held_count 8)
 
 -- the values of the endpoint in the struct, if role, SAPI, link state and window are valid
-abbrev pub endpoint_values_if_valid : CEndpoint → Option Role → Option Sapi → Option State → Option WindowValues →
-    Option EndpointValues
+abbrev pub endpoint_values_if_valid : (endpoint : CEndpoint) (role : Option Role) (sapi : Option Sapi) (state : Option State)
+    (window : Option WindowValues) → Option EndpointValues
 endpoint_values_if_valid s (Some role) (Some sapi) (Some state) (Some window) =
     Some (record { role = role; sapi = sapi; state = state; sabm_info = octets_in s.kept; retries = s.retries; window = window })
 endpoint_values_if_valid s role sapi state window = None
@@ -111,13 +112,13 @@ state_number S.Closing = 3
 state_number S.Closed = 4
 
 -- the number of a reassembly state in the C API
-abbrev pub reassembly_number : Part → ℕ
+abbrev pub reassembly_number : ReassemblyState → ℕ
 reassembly_number P.Open = 0
 reassembly_number P.Whole = 1
 reassembly_number P.Discarding = 2
 
 -- an array of buffers of the given length: these messages, then empty messages
-abbrev pub buffers_of_messages : ℕ → List Message → List MessageBuffer
+abbrev pub buffers_of_messages : (count : ℕ) (held : List Message) → List MessageBuffer
 buffers_of_messages zero held = []
 buffers_of_messages (suc k) [] = message_buffer [] ∷ buffers_of_messages k []
 buffers_of_messages (suc k) (m ∷ ms) = message_buffer m ∷ buffers_of_messages k ms
@@ -135,7 +136,7 @@ c_endpoint x = record {
   va = x.window.va;
   vr = x.window.vr;
   repeats = x.window.retries;
-  rejecting = bit x.window.rejecting;
+  rejecting = bit_of_bool x.window.rejecting;
   place = x.window.segment_index;
   held_count = length x.window.held;
   part = reassembly_number x.window.joiner.part;

@@ -31,36 +31,36 @@ pub struct CEffects {
 }
 
 /// Writes the frames and notices of a call.
-pub(crate) fn write_effects(output: &Effects, effects: &mut CEffects)
-    ensures { effects.new ≡ c_effects output.now.frames output.now.notices }
+pub(crate) fn write_effects(call_effects: &Effects, effects: &mut CEffects)
+    ensures { effects.new ≡ c_effects call_effects.now.frames call_effects.now.notices }
 {
-    write_frames(output.frames.as_slice(), &mut effects.frames);
-    write_notices(output.notices.as_slice(), &mut effects.notices);
-    effects.frame_count = output.frames.as_slice().len() as u8;
-    effects.notice_count = output.notices.as_slice().len() as u8;
+    write_frames(call_effects.frames.as_slice(), &mut effects.frames);
+    write_notices(call_effects.notices.as_slice(), &mut effects.notices);
+    effects.frame_count = call_effects.frames.as_slice().len() as u8;
+    effects.notice_count = call_effects.notices.as_slice().len() as u8;
 }
 
-fn write_frames(sent: &[[u8; BLOCK_OCTETS]], frames: &mut [[u8; BLOCK_OCTETS]; 2])
-    requires { length sent.now ≤ 2 }
-    ensures { frames.new ≡ sent.now ++ replicate (2 - length sent.now) (replicate BLOCK_OCTETS 0) }
+fn write_frames(sent_frames: &[[u8; BLOCK_OCTETS]], c_frames: &mut [[u8; BLOCK_OCTETS]; 2])
+    requires { length sent_frames.now ≤ 2 }
+    ensures { c_frames.new ≡ sent_frames.now ++ replicate (2 - length sent_frames.now) (replicate BLOCK_OCTETS 0) }
 {
-    *frames = [[0; BLOCK_OCTETS]; 2];
-    frames[..sent.len()].copy_from_slice(sent);
+    *c_frames = [[0; BLOCK_OCTETS]; 2];
+    c_frames[..sent_frames.len()].copy_from_slice(sent_frames);
 }
 
-fn write_notices(reported: &[Notice], notices: &mut [CNotice; 3])
-    requires { length reported.now ≤ 3 }
-    ensures { notices.new ≡ map c_notice reported.now ++ replicate (3 - length reported.now) blank_notice }
+fn write_notices(reported_notices: &[Notice], notices: &mut [CNotice; 3])
+    requires { length reported_notices.now ≤ 3 }
+    ensures { notices.new ≡ map c_notice reported_notices.now ++ replicate (3 - length reported_notices.now) blank_notice }
 {
     // Most calls report nothing, so an empty list has its own branch. The notices are written without a loop, so that the compiler sees
     // that a call that sends a fill frame reports nothing.
-    if reported.is_empty() {
+    if reported_notices.is_empty() {
         *notices = [blank_notice(); 3];
         return;
     }
-    write_notice(reported, 0, &mut notices[0]);
-    write_notice(reported, 1, &mut notices[1]);
-    write_notice(reported, 2, &mut notices[2]);
+    write_notice(reported_notices, 0, &mut notices[0]);
+    write_notice(reported_notices, 1, &mut notices[1]);
+    write_notice(reported_notices, 2, &mut notices[2]);
 }
 
 fn blank_notice() -> CNotice
@@ -74,11 +74,11 @@ fn blank_notice() -> CNotice
     }
 }
 
-/// Writes the notice with index `i` to `place`, or zeros if there is none.
-fn write_notice(reported: &[Notice], i: usize, place: &mut CNotice)
-    ensures { place.new ≡ slice_index_or (map c_notice reported.now) i blank_notice }
+/// Writes the notice with index `notice_index` to `place`, or zeros if there is none.
+fn write_notice(reported_notices: &[Notice], notice_index: usize, place: &mut CNotice)
+    ensures { place.new ≡ slice_index_or (map c_notice reported_notices.now) notice_index blank_notice }
 {
-    match reported.get(i) {
+    match reported_notices.get(notice_index) {
         None => place.write(0, 0, 0, &[]),
         Some(Notice::Opened(message)) => place.write(1, 0, 0, message.octets()),
         Some(Notice::Got(message)) => place.write(2, 0, 0, message.octets()),

@@ -5,7 +5,8 @@ ghost use Rattle.std.specs.Prelude.{◌≡◌, false, OnOk, IfErr, IsTrue};
 ghost use Rattle.um_air.specs.segmenting.Buffers.{octets_in};
 ghost use Rattle.um_air.specs.lapdm_window.Ends.{EndpointState};
 ghost use Rattle.lapdm_end.specs.Abstraction.{Represents, sapi_of as link_sapi};
-ghost use Rattle.um_air.specs.lapdm_window.Calls.{call_of, IsCallOfSapi, SendsUiFrame, Opens, OpensWithoutInfo, Sends, SendsUi, Closes};
+ghost use Rattle.um_air.specs.lapdm_window.Calls.{endpoint_call_of, IsCallOfSapi, SendsUiFrame, Opens, OpensWithoutInfo, Sends, SendsUi};
+ghost use Rattle.um_air.specs.lapdm_window.Calls.{Closes};
 ghost use Rattle.um_air.specs.lapdm_window.Calls.{T200Expires};
 ghost use Rattle.um_air.specs.lapdm_window.Calls.{SendsFill};
 ghost use Rattle.lapdm_end.specs.Parts.{values_of};
@@ -122,7 +123,7 @@ pub extern "C" fn um_end_idle(end: &CEndpoint, effects: &mut CEffects) -> u8
     ensures { EndpointAnswersCall SendsFill result end.now end.now effects.old effects.new }
 {
     let mut output = Effects::new();
-    let mut held = endpoint_to_overwrite();
+    let mut held = placeholder_endpoint();
     if !read_endpoint(end, &mut held) {
         return INVALID_ENDPOINT;
     }
@@ -141,7 +142,7 @@ pub extern "C" fn um_end_take(
     ensures c_struct { result ≡ 0 → IsCanonicalStruct end.new }
 {
     let mut output = Effects::new();
-    let mut held = endpoint_to_overwrite();
+    let mut held = placeholder_endpoint();
     if !read_endpoint(end, &mut held) {
         return INVALID_ENDPOINT;
     }
@@ -155,11 +156,11 @@ pub extern "C" fn um_end_take(
 /// Carries out a layer 3 call to an endpoint. Returns 0, or an error number.
 #[inline(always)]
 pub(crate) fn call_endpoint(end: &mut CEndpoint, call: &Call<'_>, effects: &mut CEffects) -> u8
-    ensures answers_call { EndpointAnswersCall (call_of call.now) result end.old end.new effects.old effects.new }
+    ensures answers_call { EndpointAnswersCall (endpoint_call_of call.now) result end.old end.new effects.old effects.new }
     ensures c_struct { result ≡ 0 → IsCanonicalStruct end.new }
 {
     let mut output = Effects::new();
-    let mut held = endpoint_to_overwrite();
+    let mut held = placeholder_endpoint();
     if !read_endpoint(end, &mut held) {
         return INVALID_ENDPOINT;
     }
@@ -173,11 +174,11 @@ pub(crate) fn call_endpoint(end: &mut CEndpoint, call: &Call<'_>, effects: &mut 
 /// Carries out a call that sends a UI frame and leaves the endpoint unchanged.
 #[inline(always)]
 pub(crate) fn send_ui_frame(end: &CEndpoint, call: &Call<'_>, effects: &mut CEffects) -> u8
-    requires { SendsUiFrame (call_of call.now) }
-    ensures { EndpointAnswersCall (call_of call.now) result end.now end.now effects.old effects.new }
+    requires { SendsUiFrame (endpoint_call_of call.now) }
+    ensures { EndpointAnswersCall (endpoint_call_of call.now) result end.now end.now effects.old effects.new }
 {
     let mut output = Effects::new();
-    let mut held = endpoint_to_overwrite();
+    let mut held = placeholder_endpoint();
     if !read_endpoint(end, &mut held) {
         return INVALID_ENDPOINT;
     }
@@ -186,19 +187,20 @@ pub(crate) fn send_ui_frame(end: &CEndpoint, call: &Call<'_>, effects: &mut CEff
 }
 
 /// Whether the endpoint supports this call: only a mobile establishes SAPI 0, with information; either side establishes SAPI 3, without it.
-fn endpoint_supports_call(end: &Endpoint, call: &Call<'_>) -> bool
-    ensures sapi { IsTrue result → IsCallOfSapi (link_sapi end.now) (call_of call.now) }
-    ensures allowed { IsTrue result → (e : EndpointState) → Represents end.now e → EndpointSupportsCall e (call_of call.now) }
-    ensures never { result ≡ false → (e : EndpointState) → Represents end.now e
-        → EndpointSupportsCall e (call_of call.now) → ⊥ }
+fn endpoint_supports_call(endpoint: &Endpoint, call: &Call<'_>) -> bool
+    ensures sapi { IsTrue result → IsCallOfSapi (link_sapi endpoint.now) (endpoint_call_of call.now) }
+    ensures allowed { IsTrue result → (e : EndpointState) → Represents endpoint.now e
+        → EndpointSupportsCall e (endpoint_call_of call.now) }
+    ensures never { result ≡ false → (e : EndpointState) → Represents endpoint.now e
+        → EndpointSupportsCall e (endpoint_call_of call.now) → ⊥ }
 {
     match *call {
-        Call::Open(_) => match (end.sapi(), end.role()) {
+        Call::Open(_) => match (endpoint.sapi(), endpoint.role()) {
             (Sapi::Zero, Role::Mobile) => true,
             (Sapi::Zero, Role::Network) => false,
             (Sapi::Three, _) => false,
         },
-        Call::OpenBare => match end.sapi() {
+        Call::OpenBare => match endpoint.sapi() {
             Sapi::Zero => false,
             Sapi::Three => true,
         },
@@ -211,7 +213,7 @@ fn endpoint_supports_call(end: &Endpoint, call: &Call<'_>) -> bool
 }
 
 /// Creates a placeholder, which the state that the caller holds overwrites.
-fn endpoint_to_overwrite() -> Endpoint {
+fn placeholder_endpoint() -> Endpoint {
     Endpoint::new_on(Role::Mobile, Sapi::Zero, Channel::Sdcch)
 }
 
@@ -219,19 +221,19 @@ fn endpoint_to_overwrite() -> Endpoint {
 fn write_call_result(
     answer: Result<(), Refused>,
     output: &Effects,
-    after: &Endpoint,
+    endpoint_after: &Endpoint,
     end: &mut CEndpoint,
     effects: &mut CEffects,
 ) -> u8
-    ensures done { OnOk answer ((result ≡ 0) × (end.new ≡ c_endpoint (values_of after.now))
+    ensures done { OnOk answer ((result ≡ 0) × (end.new ≡ c_endpoint (values_of endpoint_after.now))
         × (effects.new ≡ c_effects output.now.frames output.now.notices)) }
-    ensures c_struct { result ≡ 0 → end.new ≡ c_endpoint (values_of after.now) }
+    ensures c_struct { result ≡ 0 → end.new ≡ c_endpoint (values_of endpoint_after.now) }
     ensures refused { IfErr answer (λ reason. (result ≡ call_refusal_number reason) × (end.new ≡ end.old)
         × (effects.new ≡ effects.old)) }
 {
     let number = write_call_effects(answer, output, effects);
     if answer.is_ok() {
-        write_endpoint(after, end);
+        write_endpoint(endpoint_after, end);
     }
     number
 }

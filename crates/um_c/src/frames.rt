@@ -48,7 +48,7 @@ pub extern "C" fn um_read_frame(octets: &[u8; BLOCK_OCTETS], channel: u8, frame:
     };
     match read_on(octets, channel) {
         Ok(view) => {
-            *frame = c_struct(&view);
+            *frame = c_frame_of_view(&view);
             0
         }
         Err(refusal) => frame_refusal_number(refusal),
@@ -70,7 +70,7 @@ pub extern "C" fn um_write_frame(
     let Some(channel) = channel_of(channel) else {
         return false;
     };
-    let Some(view) = decoded(frame) else {
+    let Some(view) = frame_view_of_c_frame(frame) else {
         return false;
     };
     if !fits_on(&view, channel) {
@@ -107,7 +107,7 @@ fn frame_refusal_number(refusal: Refusal) -> u8
 
 /// Converts the frame, which must fit in a block, to a C struct.
 #[tactic(auto, using(lapdm_frame::proofs::Lemmas::few_octets))]
-fn c_struct(view: &FrameView<'_>) -> CFrame
+fn c_frame_of_view(view: &FrameView<'_>) -> CFrame
     requires { (channel : ChannelOf) × FrameFits channel (frame_of view.now) }
     ensures { result ≡ c_struct (frame_of view.now) }
 {
@@ -134,7 +134,7 @@ fn c_frame_of_fields(sapi: u8, cr: bool, fields: &FrameFields<'_>) -> CFrame
 }
 
 /// The frame that the fields describe, whether or not it fits in a block.
-fn decoded(frame: &CFrame) -> Option<FrameView<'_>>
+fn frame_view_of_c_frame(frame: &CFrame) -> Option<FrameView<'_>>
     ensures { MatchOption result (frame_from_fields frame.now ≡ None) (λ view. frame_from_fields frame.now ≡ Some (frame_of view)) }
 {
     if frame.count > 20 {

@@ -19,8 +19,9 @@ mod soft;
 mod states;
 
 pub use joined::{
-    law_any_block_is_program_step, law_any_call_is_program_step, law_damaged_bursts_delivered,
-    law_joined_acked_at_most_delivered, law_joined_endpoints_deliver, law_joined_log_is_ordered,
-    law_other_sapi_block_is_step,
+    law_damaged_bursts_deliver_in_order, law_endpoints_acked_at_most_delivered,
+    law_joined_endpoints_deliver_in_order, law_joined_endpoints_log_is_ordered,
+    law_program_model_allows_any_block, law_program_model_allows_any_call,
+    law_program_model_allows_other_sapi_block,
 };
 pub use opening::open_link;

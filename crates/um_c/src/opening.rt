@@ -6,8 +6,9 @@ ghost use Rattle.um_air.specs.lapdm_window.declared.Sapi.TheVariants.{Zero};
 ghost use Rattle.um_air.specs.lapdm_window.Ends.{Mobile, Network, EndpointState};
 ghost use Rattle.um_c.specs.Joined.{ProgramState, IsProgramRun, DeliversOldestBlock};
 ghost use Rattle.um_c.specs.States.{StructRepresents};
-ghost use Rattle.um_c.specs.Opening.{program_of_two_endpoints, first_block, opening, CanEstablishLink, BothAreIdle, mobile_after_opening};
-ghost use Rattle.um_c.specs.Opening.{network_after_opening};
+ghost use Rattle.um_c.specs.Opening.{program_of_two_endpoints, first_block, establishment_steps, CanEstablishLink, BothAreIdle};
+ghost use Rattle.um_c.specs.Opening.{mobile_after_establishment};
+ghost use Rattle.um_c.specs.Opening.{network_after_establishment};
 
 use crate::effects::CEffects;
 use crate::ends::{um_end_open, um_end_take};
@@ -28,13 +29,13 @@ pub fn open_link(
 ) -> bool
     ensures run { IsTrue result → (channel : Channel) → (z : ProgramState)
         × IsProgramRun channel DeliversOldestBlock (program_of_two_endpoints mobile.old network.old)
-        (opening (octets_in info.now) asked.new answered.new opened.new) z
+        (establishment_steps (octets_in info.now) asked.new answered.new opened.new) z
         × (z.state Mobile Zero ≡ Some mobile.new) × (z.state Network Zero ≡ Some network.new) }
     ensures succeeds_from_idle { (e f : EndpointState) → StructRepresents mobile.old e → StructRepresents network.old f →
         CanEstablishLink (octets_in info.now) e f → IsTrue result }
     ensures opens { (e f : EndpointState) → StructRepresents mobile.old e → StructRepresents network.old f →
-        BothAreIdle (octets_in info.now) e f → StructRepresents mobile.new (mobile_after_opening (octets_in info.now) e)
-        × StructRepresents network.new (network_after_opening (octets_in info.now) f) }
+        BothAreIdle (octets_in info.now) e f → StructRepresents mobile.new (mobile_after_establishment (octets_in info.now) e)
+        × StructRepresents network.new (network_after_establishment (octets_in info.now) f) }
 {
     if um_end_open(mobile, info, asked) != 0 {
         return false;

@@ -2,7 +2,8 @@
 ghost use Rattle.std.specs.Prelude.{◌≡◌, ◌≢◌, ◌↔◌, Some, IsTrue};
 ghost use Rattle.um_air.specs.segmenting.Buffers.{octets_in};
 ghost use Rattle.um_air.specs.lapdm_window.declared.Sapi.{Sapi as LinkSapi};
-ghost use Rattle.um_air.specs.lapdm_window.Calls.{call_of, Opens, OpensWithoutInfo, Sends, SendsUi, Closes, T200Expires, SendsFill};
+ghost use Rattle.um_air.specs.lapdm_window.Calls.{endpoint_call_of, Opens, OpensWithoutInfo, Sends, SendsUi, Closes, T200Expires};
+ghost use Rattle.um_air.specs.lapdm_window.Calls.{SendsFill};
 ghost use Rattle.um_c.specs.States.{sapi_of, IsCanonicalStruct};
 ghost use Rattle.um_c.specs.SideCalls.{IsValidSide, endpoint_of, IsFrameOnSapi3, IsNewSideResult, SideAnswersCall, SideReceivesBlock};
 
@@ -149,18 +150,18 @@ pub extern "C" fn um_side_take(
 }
 
 /// If the call returns 0, writes the SAPI of the endpoint that received the block.
-fn write_sapi(answer: u8, number: u8, sapi: &mut u8)
-    ensures written { answer ≡ 0 → sapi.new ≡ number }
-    ensures unchanged { answer ≢ 0 → sapi.new ≡ sapi.old }
+fn write_sapi(call_status: u8, answering_sapi: u8, sapi: &mut u8)
+    ensures written { call_status ≡ 0 → sapi.new ≡ answering_sapi }
+    ensures unchanged { call_status ≢ 0 → sapi.new ≡ sapi.old }
 {
-    if answer == 0 {
-        *sapi = number;
+    if call_status == 0 {
+        *sapi = answering_sapi;
     }
 }
 
 /// Carries out a layer 3 call to the endpoint with this SAPI.
 fn call_endpoint_of_side(side: &mut CSide, sapi: u8, call: &Call<'_>, effects: &mut CEffects) -> u8
-    ensures answers_call { SideAnswersCall sapi (call_of call.now) result side.old side.new effects.old effects.new }
+    ensures answers_call { SideAnswersCall sapi (endpoint_call_of call.now) result side.old side.new effects.old effects.new }
     ensures c_struct { result ≡ 0 → (s : LinkSapi) → Some s ≡ sapi_of sapi → IsCanonicalStruct (endpoint_of s side.new) }
 {
     if !is_valid_side(side) {

@@ -13,7 +13,9 @@ ghost use Rattle.um_c.specs.States.{role_number};
 ghost use Rattle.um_c.specs.States.{sapi_number, channel_number, state_number, reassembly_number, buffers_of_messages, c_endpoint};
 
 use crate::frames::channel_of;
-use lapdm_end::{Endpoint, EndpointParts, MessageBuffer, Part, Role, Sapi, State, WindowParts};
+use lapdm_end::{
+    Endpoint, EndpointView, LapdmWindowView, MessageBuffer, ReassemblyState, Role, Sapi, State,
+};
 use lapdm_frame::Channel;
 
 /// The state of one endpoint.
@@ -61,21 +63,21 @@ pub(crate) fn read_endpoint(c_struct: &CEndpoint, end: &mut Endpoint) -> bool
     ensures represents { IsTrue result → (e : EndpointState) → StructRepresents c_struct.now e → Represents end.new e }
     ensures known { IsTrue result ↔ RepresentsSomeEndpoint c_struct.now }
 {
-    match endpoint_parts_of(c_struct) {
+    match endpoint_view_of(c_struct) {
         Some(parts) => end.restore(&parts),
         None => false,
     }
 }
 
-fn endpoint_parts_of(c_struct: &CEndpoint) -> Option<EndpointParts<'_>>
+fn endpoint_view_of(c_struct: &CEndpoint) -> Option<EndpointView<'_>>
     ensures { MatchOption result (endpoint_values_from c_struct.now ≡ None)
         (λ parts. endpoint_values_from c_struct.now ≡ Some (values_of_parts parts)) }
 {
     let role = role_of(c_struct.role)?;
     let sapi = sapi_of(c_struct.sapi)?;
     let state = state_of(c_struct.state)?;
-    let window = window_parts_of(c_struct)?;
-    Some(EndpointParts {
+    let window = window_view_of(c_struct)?;
+    Some(EndpointView {
         role,
         sapi,
         state,
@@ -85,7 +87,7 @@ fn endpoint_parts_of(c_struct: &CEndpoint) -> Option<EndpointParts<'_>>
     })
 }
 
-fn window_parts_of(c_struct: &CEndpoint) -> Option<WindowParts<'_>>
+fn window_view_of(c_struct: &CEndpoint) -> Option<LapdmWindowView<'_>>
     ensures { MatchOption result (window_values_from c_struct.now ≡ None)
         (λ parts. window_values_from c_struct.now ≡ Some (window_by parts)) }
 {
@@ -94,7 +96,7 @@ fn window_parts_of(c_struct: &CEndpoint) -> Option<WindowParts<'_>>
     if c_struct.held_count > 8 {
         return None;
     }
-    Some(WindowParts {
+    Some(LapdmWindowView {
         channel,
         held: &c_struct.held[..usize::from(c_struct.held_count)],
         segment_index: usize::from(c_struct.place),
@@ -142,22 +144,22 @@ fn state_of(number: u8) -> Option<State>
     }
 }
 
-fn reassembly_from_number(number: u8) -> Option<Part>
+fn reassembly_from_number(number: u8) -> Option<ReassemblyState>
     ensures { result ≡ reassembly_from_number number }
 {
     match number {
-        0 => Some(Part::Open),
-        1 => Some(Part::Whole),
-        2 => Some(Part::Discarding),
+        0 => Some(ReassemblyState::Open),
+        1 => Some(ReassemblyState::Whole),
+        2 => Some(ReassemblyState::Discarding),
         _ => None,
     }
 }
 
 /// Writes the state of an endpoint.
-pub(crate) fn write_endpoint(end: &Endpoint, c_struct: &mut CEndpoint)
-    ensures { c_struct.new ≡ c_endpoint (values_of end.now) }
+pub(crate) fn write_endpoint(endpoint: &Endpoint, c_struct: &mut CEndpoint)
+    ensures { c_struct.new ≡ c_endpoint (values_of endpoint.now) }
 {
-    let parts = end.parts();
+    let parts = endpoint.parts();
     let window = parts.window;
     c_struct.done = window.acked_messages;
     c_struct.role = role_number(parts.role);
@@ -228,12 +230,12 @@ fn state_number(state: State) -> u8
     }
 }
 
-fn reassembly_number(part: Part) -> u8
-    ensures { result ≡ reassembly_number part }
+fn reassembly_number(reassembly: ReassemblyState) -> u8
+    ensures { result ≡ reassembly_number reassembly }
 {
-    match part {
-        Part::Open => 0,
-        Part::Whole => 1,
-        Part::Discarding => 2,
+    match reassembly {
+        ReassemblyState::Open => 0,
+        ReassemblyState::Whole => 1,
+        ReassemblyState::Discarding => 2,
     }
 }

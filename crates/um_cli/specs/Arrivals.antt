@@ -9,38 +9,38 @@ use Rattle.um_end.specs.um_block.declared.received.Received.{Received}
 use Rattle.um_end.specs.um_link.um_air.Air.{Block, AirState, Event, Answer, Refuses, Accepts, with_bits_inverted}
 use Rattle.um_make.specs.um_script.ScriptLines.{ScriptLineMeans}
 use Rattle.um_driver.specs.Rules.{Rules}
-use Rattle.um_session.specs.Sessions.{Session, IsEventStep, TextAnswersMeaning, link_rules}
+use Rattle.um_session.specs.Sessions.{Session, IsEventStep, IsStepForLineMeaning, link_command_rules}
 use Rattle.um_cli.specs.Headline.{IsMostLikelyWord}
 
--- `r` is the report on the oldest block of `sender`, received with the bits at `places` inverted and decoded to a most likely word
-pub record IsMostLikelyArrival (a : AirState) (sender : Role) (places : List ℕ) (r : Received) : Type 0 where
+-- `report` is the report on the oldest block of `sender`, received with the bits at `places` inverted and decoded to a most likely word
+pub record IsMostLikelyArrival (state : AirState) (sender : Role) (places : List ℕ) (report : Received) : Type 0 where
   pub block : Block
   pub later_blocks : List Block
-  pub queue_front : queue_of sender a.queues ≡ block ∷ later_blocks
-  pub most_likely : IsMostLikelyWord (map soft_bits (with_bits_inverted places block)) r
+  pub queue_front : queue_of sender state.queues ≡ block ∷ later_blocks
+  pub most_likely : IsMostLikelyWord (map soft_bits (with_bits_inverted places block)) report
 
 -- if the event delivers a block, the block is decoded to a most likely word
-abbrev pub ReceivesMostLikelyWord : AirState → Event → Option Received → Type 0
+abbrev pub ReceivesMostLikelyWord : (state : AirState) (event : Event) (received : Option Received) → Type 0
 ReceivesMostLikelyWord a (Deliver sender places) (Some r) = IsMostLikelyArrival a sender places r
 ReceivesMostLikelyWord a event received = Unit {0}
 
-abbrev pub ReportsMostLikelyWord : AirState → Event → Answer → Type 0
+abbrev pub ReportsMostLikelyWord : (state : AirState) (event : Event) (answer : Answer) → Type 0
 ReportsMostLikelyWord a event (Refuses why) = Unit {0}
 ReportsMostLikelyWord a event (Accepts step) = ReceivesMostLikelyWord a event step.received
 
 -- the event is carried out as the rules of `link` prescribe, and a block that it delivers is decoded to a most likely word
-pub record IsStepWithMostLikelyWord (s : Session) (event : Event) (text : List ℕ) (after : Session) : Type 0 where
-  pub event_step : IsEventStep s event text after
-  pub most_likely : ReportsMostLikelyWord s.air event event_step.answer
+pub record IsStepWithMostLikelyWord (session : Session) (event : Event) (output : List ℕ) (after : Session) : Type 0 where
+  pub event_step : IsEventStep session event output after
+  pub most_likely : ReportsMostLikelyWord session.air event event_step.answer
 
-abbrev pub IsMlAnswerToLine : Session → Option Event → List ℕ → Session → Type 0
-IsMlAnswerToLine s None text after = TextAnswersMeaning s None text after
-IsMlAnswerToLine s (Some event) text after = IsStepWithMostLikelyWord s event text after
+abbrev pub IsMaxLikelihoodAnswerToLine : (session : Session) (meaning : Option Event) (output : List ℕ) (after : Session) → Type 0
+IsMaxLikelihoodAnswerToLine s None text after = IsStepForLineMeaning s None text after
+IsMaxLikelihoodAnswerToLine s (Some event) text after = IsStepWithMostLikelyWord s event text after
 
 -- the rules of `link`, with the further claim that each received block is decoded to a most likely word
 abbrev pub link_rules_with_ml_decoding : Rules Session
 link_rules_with_ml_decoding = record {
-  fault = link_rules.fault;
-  end_fault = link_rules.end_fault;
-  Step = λ s line text after. (meaning : Option Event) × ScriptLineMeans line meaning × IsMlAnswerToLine s meaning text after;
+  fault = link_command_rules.fault;
+  end_fault = link_command_rules.end_fault;
+  Step = λ s line text after. (meaning : Option Event) × ScriptLineMeans line meaning × IsMaxLikelihoodAnswerToLine s meaning text after;
 }

@@ -3,28 +3,32 @@
 use Rattle.std.specs.Prelude.{ℕ, ℤ, ◌≡◌, ◌<◌, ◌⊎◌, List, [], ◌∷◌, ◌++◌, length}
 use Rattle.um_driver.specs.Rules.{Rules}
 use Rattle.um_end.specs.EndLines.{EndLineMeaning, TakesBurst, EndLineMeans}
-use Rattle.um_end.specs.EndRuns.{EndRunState, IsAnswerToFourBursts, TextAnswersMeaning, end_command_rules}
+use Rattle.um_end.specs.EndRuns.{EndCommandState, IsAnswerToFourBursts, IsStepForLineMeaning, end_command_rules}
 use Rattle.um_cli.specs.Headline.{IsMostLikelyWord}
 
 -- four bursts are received as a block, which is decoded to a most likely word
-pub record IsMlAnswerToFourBursts (s : EndRunState) (bursts : List (List ℤ)) (text : List ℕ) (after : EndRunState) : Type 0 where
-  pub answers_bursts : IsAnswerToFourBursts s bursts text after
+pub record IsMaxLikelihoodAnswerToFourBursts (state : EndCommandState) (bursts : List (List ℤ)) (output : List ℕ) (after :
+    EndCommandState) :
+    Type 0 where
+  pub answers_bursts : IsAnswerToFourBursts state bursts output after
   pub most_likely : IsMostLikelyWord bursts answers_bursts.receives_bursts.report
 
-abbrev pub IsMlAnswerToBursts : EndRunState → List (List ℤ) → List ℕ → EndRunState → Type 0
-IsMlAnswerToBursts s bursts text after =
+abbrev pub IsMaxLikelihoodAnswerToBursts : (state : EndCommandState) (bursts : List (List ℤ)) (output : List ℕ)
+    (after : EndCommandState) → Type 0
+IsMaxLikelihoodAnswerToBursts s bursts text after =
     ((length bursts < 4) × (text ≡ []) × (after ≡ record s { held_bursts = bursts })) ⊎ ((length bursts ≡ 4) ×
-    IsMlAnswerToFourBursts s bursts text after)
+    IsMaxLikelihoodAnswerToFourBursts s bursts text after)
 
-abbrev pub IsMlAnswerToLine : EndRunState → EndLineMeaning → List ℕ → EndRunState → Type 0
-IsMlAnswerToLine s (TakesBurst soft) text after = IsMlAnswerToBursts s (s.held_bursts ++ soft ∷ []) text after
-IsMlAnswerToLine s meaning text after = TextAnswersMeaning s meaning text after
+abbrev pub IsMaxLikelihoodAnswerToLine : (state : EndCommandState) (meaning : EndLineMeaning) (output : List ℕ)
+    (after : EndCommandState) → Type 0
+IsMaxLikelihoodAnswerToLine s (TakesBurst soft) text after = IsMaxLikelihoodAnswerToBursts s (s.held_bursts ++ soft ∷ []) text after
+IsMaxLikelihoodAnswerToLine s meaning text after = IsStepForLineMeaning s meaning text after
 
 -- the rules of `end`, with the further claim that each received block is decoded to a most likely word
-abbrev pub end_rules_with_ml_decoding : Rules EndRunState
+abbrev pub end_rules_with_ml_decoding : Rules EndCommandState
 end_rules_with_ml_decoding = record {
   fault = end_command_rules.fault;
   end_fault = end_command_rules.end_fault;
   Step = λ s line text after. (meaning : EndLineMeaning) × EndLineMeans s.role (length s.held_bursts) line meaning
-      × IsMlAnswerToLine s meaning text after;
+      × IsMaxLikelihoodAnswerToLine s meaning text after;
 }

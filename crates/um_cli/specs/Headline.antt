@@ -12,31 +12,31 @@ use Rattle.um_end.specs.um_block.Received.{coded_soft_bits}
 use Rattle.um_end.specs.um_block.declared.received.Received.{Received}
 use Rattle.um_end.specs.um_block.declared.received.ReceivedAccess.{ReceivedAccess}
 use Rattle.um_end.specs.um_block.declared.received.ReceivedSync.{ReceivedSync}
-use Rattle.um_code.specs.um_formats.Reports.{IsBlockReport, access_report_text, sync_report_text}
+use Rattle.um_code.specs.um_formats.Reports.{IsBlockReportText, access_report_text, sync_report_text}
 use Rattle.um_driver.specs.Rules.{Rules}
 use Rattle.um_bursts.specs.BurstRules.{BurstAnswers, burst_rules}
 
--- the encoding of the information list `u` is a codeword, and no codeword of the same length is more likely for the soft values `soft`
-pub record IsMaximumLikelihood (soft : List ℤ) (u : List ℕ) : Type 0 where
-  pub codeword : IsCodeword (encoding u) (length u)
-  pub same_length : length soft ≡ length (encoding u)
-  pub none_more_likely : (c : List ℕ) → IsCodeword c (length u) → likelihood soft c ≤ℤ likelihood soft (encoding u)
+-- the encoding of the encoder input `word` is a codeword, and no codeword of the same length is more likely for the soft values `soft`
+pub record IsMaximumLikelihood (soft : List ℤ) (word : List ℕ) : Type 0 where
+  pub codeword : IsCodeword (encoding word) (length word)
+  pub same_length : length soft ≡ length (encoding word)
+  pub none_more_likely : (c : List ℕ) → IsCodeword c (length word) → likelihood soft c ≤ℤ likelihood soft (encoding word)
 
 -- the four `bursts` of a block are decoded to a most likely word; its first 184 bits are accepted as the data if and only if the CRC in its
 -- first 224 bits holds
-pub record IsMostLikelyWord (bursts : List (List ℤ)) (r : Received) : Type 0 where
+pub record IsMostLikelyWord (bursts : List (List ℤ)) (report : Received) : Type 0 where
   pub soft : List ℤ
   pub deinterleaved : IsInterleaved soft (map coded_soft_bits bursts)
-  pub max_likelihood : IsMaximumLikelihood soft r.u
-  pub accepted : MatchOption r.accepted
-      (¬ IsXcchWord (take 224 r.u))
-      (λ octets. IsXcchWord (take 224 r.u) × (octets ≡ octets_of (take 184 r.u)))
+  pub max_likelihood : IsMaximumLikelihood soft report.u
+  pub accepted : MatchOption report.accepted
+      (¬ IsXcchWord (take 224 report.u))
+      (λ octets. IsXcchWord (take 224 report.u) × (octets ≡ octets_of (take 184 report.u)))
 
 -- `report` describes a block that was received from `bursts` and decoded to a most likely word
 pub record IsMostLikelyBlock (bursts : List (List ℤ)) (report : List ℕ) : Type 0 where
   pub received : Received
   pub most_likely : IsMostLikelyWord bursts received
-  pub text : IsBlockReport received report
+  pub text : IsBlockReportText received report
 
 -- `report` describes an access burst that was decoded to a most likely word, and was accepted if and only if its CRC holds for `bsic`
 pub record IsMostLikelyAccess (burst : List ℤ) (bsic report : List ℕ) : Type 0 where

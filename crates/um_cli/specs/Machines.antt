@@ -6,15 +6,15 @@ use Rattle.um_driver.specs.Laws.{HasOneOutput}
 use Rattle.um_driver.specs.declared.status.Status.{Status}
 use Rattle.um_code.specs.Code.{code_command_rules}
 use Rattle.um_bursts.specs.Replay.{replay_rules}
-use Rattle.um_show.specs.Show.{show_rules}
+use Rattle.um_show.specs.Show.{show_command_rules}
 use Rattle.um_cli.specs.declared.words.Invocation.{Invocation}
 use Rattle.um_cli.specs.declared.words.Invocation.TheVariants.{Code, Replay, Show, Margin, Repair, Link, Make, End}
-use Rattle.um_margin.specs.Margins.{margin_rules}
-use Rattle.um_repair.specs.RepairRules.{repair_rules}
+use Rattle.um_margin.specs.Margins.{margin_command_rules}
+use Rattle.um_repair.specs.RepairRules.{repair_command_rules}
 use Rattle.um_make.specs.Generated.{generated_events}
 use Rattle.um_make.specs.Runs.{HasOneSummary}
-use Rattle.um_end.specs.um_link.Naming.{role_of}
-use Rattle.um_session.specs.Sessions.{new_session, link_rules}
+use Rattle.um_end.specs.um_link.Naming.{spec_role_of}
+use Rattle.um_session.specs.Sessions.{new_session, link_command_rules}
 use Rattle.um_end.specs.EndRuns as E
 use Rattle.um_end.specs.EndRuns.{end_command_rules}
 
@@ -23,24 +23,26 @@ abbrev pub machine : {State : Type 0} → Rules State → State → Machine
 machine {State} rules start = record { State = State; rules = rules; start = start }
 
 -- the predicate holds for the state machine of the command; `make` reads no lines, so nothing is claimed about it
-abbrev pub HoldsForMachine : Invocation → (Machine → Type 0) → Type 0
+abbrev pub HoldsForMachine : (invocation : Invocation) (Property : (Machine → Type 0)) → Type 0
 HoldsForMachine Code P = P (machine code_command_rules tt)
 HoldsForMachine Replay P = P (machine replay_rules [])
-HoldsForMachine Show P = P (machine show_rules tt)
-HoldsForMachine Margin P = P (machine margin_rules [])
-HoldsForMachine Repair P = P (machine repair_rules tt)
-HoldsForMachine (Link tsc channel) P = P (machine link_rules (new_session tsc channel))
+HoldsForMachine Show P = P (machine show_command_rules tt)
+HoldsForMachine Margin P = P (machine margin_command_rules [])
+HoldsForMachine Repair P = P (machine repair_command_rules tt)
+HoldsForMachine (Link tsc channel) P = P (machine link_command_rules (new_session tsc channel))
 HoldsForMachine (Make n tsc) P = Unit {0}
-HoldsForMachine (End side tsc) P = P (machine end_command_rules (E.initial_run (role_of side) tsc))
+HoldsForMachine (End side tsc) P = P (machine end_command_rules (E.initial_run (spec_role_of side) tsc))
 
 -- for a command that reads lines, the status determines what the run has read and written
-abbrev pub IsRunOfCommand : Invocation → Status → (left left' taken taken' : Option (List ℕ)) → Type 0
+abbrev pub IsRunOfCommand : (command : Invocation) (status : Status)
+    (unread_before unread_after written_before written_after : Option (List ℕ)) → Type 0
 IsRunOfCommand command status left left' taken taken' =
     HoldsForMachine command (λ m. IsRun m.rules m.start (λ _. Unit {0}) status left left' taken taken')
 
 -- a run of a command that reads lines ends and writes as its rules prescribe for the input, unless the source, the sink or an allocation
 -- fails
-abbrev pub CommandEndsAsPrescribed : Invocation → Status → (left taken taken' : Option (List ℕ)) → Type 0
+abbrev pub CommandEndsAsPrescribed : (command : Invocation) (status : Status) (unread written_before written_after : Option (List ℕ))
+    → Type 0
 CommandEndsAsPrescribed command status left taken taken' = HoldsForMachine command
     (λ m. EndsAsPrescribed m.rules m.start status left taken taken')
 

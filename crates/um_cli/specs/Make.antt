@@ -11,22 +11,23 @@ use Rattle.um_make.specs.Runs.{IsSummaryOfEvents, AckedAtMostReceived}
 use Rattle.um_make.specs.Texts.{summary_text}
 use Rattle.um_session.specs.Courses.{RadioCounters}
 
--- `s` is the summary of the generated session; the radio encoded and decoded each of its blocks, and neither side has more messages
+-- `summary` is the summary of the generated session; the radio encoded and decoded each of its blocks, and neither side has more messages
 -- acknowledged than the other has delivered
-pub record IsMakeSummary (n tsc : ℕ) (s : Summary) (before after : RadioCounters) : Type 0 where
-  pub session : IsSummaryOfEvents tsc (generated_events n) s
-  pub acked_at_most_got : AckedAtMostReceived s
-  pub sent : after.sent_blocks ≡ counter_plus s.sent_blocks before.sent_blocks
-  pub heard : after.received_blocks ≡ counter_plus (s.good_blocks + s.bad_blocks) before.received_blocks
+pub record IsMakeSummary (message_count tsc : ℕ) (summary : Summary) (before after : RadioCounters) : Type 0 where
+  pub session : IsSummaryOfEvents tsc (generated_events message_count) summary
+  pub acked_at_most_got : AckedAtMostReceived summary
+  pub sent : after.sent_blocks ≡ counter_plus summary.sent_blocks before.sent_blocks
+  pub received : after.received_blocks ≡ counter_plus (summary.good_blocks + summary.bad_blocks) before.received_blocks
 
 -- the whole text was written (`Done`), or a prefix of it before the sink failed (`WriteFault`)
-abbrev pub IsTextWritten : List ℕ → Status → (taken taken' : Option (List ℕ)) → Type 0
+abbrev pub IsTextWritten : (text : List ℕ) (status : Status) (written_before written_after : Option (List ℕ)) → Type 0
 IsTextWritten text Done taken taken' = Appends taken taken' text
 IsTextWritten text WriteFault taken taken' = SinkTakesPrefix taken taken' text
 IsTextWritten text status taken taken' = ⊥
 
 -- the summary was written, or a prefix of it before the sink failed; or an allocation failed and nothing was done
-abbrev pub IsMakeRun : (n tsc : ℕ) → Status → (taken taken' : Option (List ℕ)) → (before after : RadioCounters) → Type 0
+abbrev pub IsMakeRun : (message_count tsc : ℕ) (status : Status) (written_before written_after : Option (List ℕ))
+    (before after : RadioCounters) → Type 0
 IsMakeRun n tsc NoMemory taken taken' before after = Keeps taken taken' × (after ≡ before)
 IsMakeRun n tsc status taken taken' before after =
     (s : Summary) × IsMakeSummary n tsc s before after × IsTextWritten (summary_text n tsc s) status taken taken'

@@ -9,7 +9,7 @@ use Rattle.um_end.specs.um_block.declared.received.ReceivedSync.{ReceivedSync}
 use Rattle.um_code.specs.um_formats.declared.code.CodeLine.{CodeLine}
 use Rattle.um_code.specs.um_formats.declared.code.CodeLine.TheVariants.{Skip, Block, Rach, Sch}
 use Rattle.um_code.specs.um_formats.CodeLines.{CodeLineMeans}
-use Rattle.um_code.specs.um_formats.Reports.{IsBlockReport, access_report_text, sync_report_text}
+use Rattle.um_code.specs.um_formats.Reports.{IsBlockReportText, access_report_text, sync_report_text}
 use Rattle.um_driver.specs.Outputs.{IsOutput}
 use Rattle.um_driver.specs.Table.{WritesAsPrescribed}
 use Rattle.um_driver.specs.declared.status.Status.{Status}
@@ -18,14 +18,14 @@ use Rattle.um_code.specs.Code.{code_command_rules}
 
 -- the report of `replay` on the undamaged bursts that `code` writes for a line: the encoded information, a CRC that holds, no wrong
 -- training bits, and the maximum path metric
-abbrev pub IsReportOfCodeLine : CodeLine → List ℕ → Type 0
+abbrev pub IsReportOfCodeLine : (line : CodeLine) (report : List ℕ) → Type 0
 IsReportOfCodeLine Skip report = report ≡ []
-IsReportOfCodeLine (Block tsc octets) report = (r : Received) × IsErrorFreeBlock octets tsc r × IsBlockReport r report
+IsReportOfCodeLine (Block tsc octets) report = (r : Received) × IsErrorFreeBlock octets tsc r × IsBlockReportText r report
 IsReportOfCodeLine (Rach info bsic) report = (r : ReceivedAccess) × IsErrorFreeAccess info bsic r × (report ≡ access_report_text bsic r)
 IsReportOfCodeLine (Sch info) report = (r : ReceivedSync) × IsErrorFreeSync info r × (report ≡ sync_report_text r)
 
 -- the concatenated reports of `replay` on the bursts that `code` writes for these lines
-abbrev pub AreReportsOfCodeLines : List (List ℕ) → List ℕ → Type 0
+abbrev pub AreReportsOfCodeLines : (lines : List (List ℕ)) (reports : List ℕ) → Type 0
 AreReportsOfCodeLines [] reports = reports ≡ []
 AreReportsOfCodeLines (line ∷ lines) reports =
     (meaning : CodeLine) × (report : List ℕ) × (rest : List ℕ) ×
@@ -33,7 +33,7 @@ AreReportsOfCodeLines (line ∷ lines) reports =
 
 -- if the input of `replay` is the output of `code` for lines without a refusal, `replay` reports the information in these lines, unless the
 -- source, the sink or an allocation fails
-abbrev pub ReplayRecoversCode : Status → Option (List ℕ) → Option (List ℕ) → Option (List ℕ) → Type 0
+abbrev pub ReplayRecoversCode : (status : Status) (unread written_before written_after : Option (List ℕ)) → Type 0
 ReplayRecoversCode status left taken taken' = IfSome left (λ x. (z : List ℕ) → IsOutput code_command_rules tt z Done x →
     length x ≤ input_limit → (lines : List (List ℕ)) × (reports : List ℕ) × IsDivided z lines
     × AreReportsOfCodeLines lines reports ×

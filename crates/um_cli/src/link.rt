@@ -4,7 +4,7 @@ ghost use Rattle.um_cli.specs.Arrivals.{link_rules_with_ml_decoding};
 ghost use Rattle.um_driver.specs.Table.{IsRun, FailureCountsMatch, EndsAsPrescribed};
 ghost use Rattle.um_end.specs.um_link.um_air.Air.{initial_session};
 ghost use Rattle.um_end.specs.um_link.Abstraction.{Represents};
-ghost use Rattle.um_session.specs.Sessions.{new_session, link_rules};
+ghost use Rattle.um_session.specs.Sessions.{new_session, link_command_rules};
 ghost use Rattle.um_session.specs.Promises.{IsLinkRun};
 
 use std::alloc::Global;
@@ -31,7 +31,7 @@ pub(crate) fn run_link<S: Source, K: Sink, R: Radio>(
     ensures link_most_likely { IsRun link_rules_with_ml_decoding (new_session tsc channel) (λ _. Unit {0}) result
         (S.left input.old) (S.left input.new) (K.taken output.old) (K.taken output.new) }
 
-    ensures due { EndsAsPrescribed link_rules (new_session tsc channel) result
+    ensures due { EndsAsPrescribed link_command_rules (new_session tsc channel) result
         (S.left input.old) (K.taken output.old) (K.taken output.new) }
 
     ensures opening { result ≡ Status.NoMemory → (input.new ≡ input.old) × (output.new ≡ output.old) }
@@ -66,7 +66,7 @@ fn run_link_session<S: Source, K: Sink, R: Radio>(
         (record { sent_blocks = R.sent link.old.radio.now; received_blocks = R.heard link.old.radio.now })
         (record { sent_blocks = R.sent link.new.radio.now; received_blocks = R.heard link.new.radio.now }) }
 
-    ensures due { EndsAsPrescribed link_rules (new_session link.old.world.now.tsc link.old.world.now.channel) result
+    ensures due { EndsAsPrescribed link_command_rules (new_session link.old.world.now.tsc link.old.world.now.channel) result
         (S.left input.old) (K.taken output.old) (K.taken output.new) }
 
     ensures opening { result ≡ Status.NoMemory → (input.new ≡ input.old) × (output.new ≡ output.old) }

@@ -14,35 +14,35 @@ use um_session::Radio;
 /// `n` must be 1 to 1000, and `tsc` 0 to 7. All memory is allocated before the first block is sent.
 pub(crate) fn run_make<K: Sink, R: Radio>(
     alloc: Global,
-    n: u32,
+    message_count: u32,
     tsc: u8,
     output: &mut K,
     radio: &mut R,
 ) -> Status
-    requires some { 1 ≤ n }
-    requires most { n ≤ 1000 }
+    requires some { 1 ≤ message_count }
+    requires most { message_count ≤ 1000 }
     requires tsc { tsc ≤ 7 }
 
-    ensures made { IsMakeRun n tsc result (K.taken output.old) (K.taken output.new)
+    ensures made { IsMakeRun message_count tsc result (K.taken output.old) (K.taken output.new)
         (record { sent_blocks = R.sent radio.old; received_blocks = R.heard radio.old })
         (record { sent_blocks = R.sent radio.new; received_blocks = R.heard radio.new }) }
 
     ensures opening { result ≡ Status.NoMemory → (output.new ≡ output.old) × (radio.new ≡ radio.old) }
     ensures cause { (read : ℕ) → FailureCountsMatch result read read (K.faults output.old) (K.faults output.new) }
 {
-    match make(alloc, n, tsc, radio) {
-        Ok(summary) => write_summary(n, tsc, &summary, output),
+    match make(alloc, message_count, tsc, radio) {
+        Ok(summary) => write_summary(message_count, tsc, &summary, output),
         Err(_) => Status::NoMemory,
     }
 }
 
 /// Writes the four lines of the summary of a generated session.
-fn write_summary<K: Sink>(n: u32, tsc: u8, summary: &Summary, output: &mut K) -> Status
-    ensures written { IsTextWritten (summary_text n tsc summary.now) result (K.taken output.old) (K.taken output.new) }
+fn write_summary<K: Sink>(message_count: u32, tsc: u8, summary: &Summary, output: &mut K) -> Status
+    ensures written { IsTextWritten (summary_text message_count tsc summary.now) result (K.taken output.old) (K.taken output.new) }
     ensures cause { (read : ℕ) → FailureCountsMatch result read read (K.faults output.old) (K.faults output.new) }
 {
     let mut out = Text::new();
-    summary_lines(&mut out, n, tsc, summary);
+    summary_lines(&mut out, message_count, tsc, summary);
     match put_all(output, out.octets()) {
         Ok(()) => Status::Done,
         Err(_) => Status::WriteFault,

@@ -12,7 +12,7 @@ ghost use Rattle.um_session.specs.Promises.{IsLinkRun};
 ghost use Rattle.um_session.specs.Sessions.{new_session};
 ghost use Rattle.um_end.specs.lapdm_frame.declared.Channel.{Channel as ChannelOf};
 ghost use Rattle.um_end.specs.um_link.declared.events.End.{End as SideOf};
-ghost use Rattle.um_end.specs.um_link.Naming.{role_of};
+ghost use Rattle.um_end.specs.um_link.Naming.{spec_role_of};
 ghost use Rattle.um_end.specs.EndRuns.{initial_run as idle_end};
 
 use crate::link::run_link;
@@ -21,7 +21,7 @@ use crate::words::{Invocation, Words};
 use std::alloc::Global;
 use um_bursts::{BurstCommand, Replay};
 use um_code::Code;
-use um_driver::{Sink, Source, Stateless, Status, drive};
+use um_driver::{Sink, Source, StatelessCommand, Status, drive};
 use um_end::EndCommand;
 use um_margin::Margins;
 use um_repair::Repair;
@@ -69,7 +69,7 @@ pub fn run<S: Source, K: Sink, R: Radio>(
     // Each block that `end` receives is decoded to a codeword that is at least as likely as any other, given the soft values of its bursts,
     // and is accepted if and only if its CRC holds.
     ensures end_most_likely { (side : SideOf) (tsc : ℕ) → command_of_words words.now ≡ Some (Invocation.End side tsc) →
-        IsRun end_rules_with_ml_decoding (idle_end (role_of side) tsc) (λ _. Unit {0}) result
+        IsRun end_rules_with_ml_decoding (idle_end (spec_role_of side) tsc) (λ _. Unit {0}) result
         (S.left input.old) (S.left input.new) (K.taken output.old) (K.taken output.new) }
 
     // `replay` recovers the information given to `code` from the output of `code`.
@@ -102,11 +102,11 @@ pub fn run<S: Source, K: Sink, R: Radio>(
 {
     match words.command() {
         None => Status::BadWords,
-        Some(Invocation::Code) => drive(alloc, &mut Stateless(Code), input, output),
+        Some(Invocation::Code) => drive(alloc, &mut StatelessCommand(Code), input, output),
         Some(Invocation::Replay) => drive(alloc, &mut BurstCommand::new(Replay {}), input, output),
-        Some(Invocation::Show) => drive(alloc, &mut Stateless(Show), input, output),
+        Some(Invocation::Show) => drive(alloc, &mut StatelessCommand(Show), input, output),
         Some(Invocation::Margin) => drive(alloc, &mut BurstCommand::new(Margins {}), input, output),
-        Some(Invocation::Repair) => drive(alloc, &mut Stateless(Repair), input, output),
+        Some(Invocation::Repair) => drive(alloc, &mut StatelessCommand(Repair), input, output),
         Some(Invocation::Link(tsc, channel)) => run_link(alloc, tsc, channel, input, output, radio),
         Some(Invocation::Make(n, tsc)) => run_make(alloc, n, tsc, output, radio),
         Some(Invocation::End(side, tsc)) => drive(

@@ -1,6 +1,6 @@
 //! Stores the command-line words, and finds the command that they name.
 ghost use Rattle.std.specs.Prelude.{◌≡◌, ◌≤◌, ℕ, List, [], map, slice_index, IfSome};
-ghost use Rattle.um_cli.specs.WordLists.{stored_word, words_with_added};
+ghost use Rattle.um_cli.specs.WordLists.{command_word_as_stored, words_with_added};
 ghost use Rattle.um_cli.specs.Shapes.{one_word_command, command_of_words, parse_link_words, three_word_command, invocation_of_make};
 ghost use Rattle.um_cli.specs.Shapes.{invocation_of_end};
 ghost use Rattle.um_cli.specs.Shapes.{side_of_word};
@@ -86,7 +86,7 @@ impl Words {
 }
 
 fn store_word(word: &str) -> ArrayString<8>
-    ensures { result.bytes ≡ stored_word word.now }
+    ensures { result.bytes ≡ command_word_as_stored word.now }
 {
     match ArrayString::from(word) {
         Ok(held) => held,

@@ -1,10 +1,12 @@
 -- The command `code` has exactly one output for every input, since a line with a meaning has exactly one answer.
-use Rattle.std.proofs.Common.{◌≡◌, ℕ, List, [], refl, sym, ap, ◌∙◌}
-use Rattle.um_formats.specs.{declared.code.CodeLine.{CodeLine, TheVariants.{Skip, Block, Rach, Sch}}, CodeLines.{code_fault, CodeLineMeans}}
-use Rattle.um_formats.{specs.BurstTexts.{bursts_text, access_burst_text, sync_burst_text}, proofs.Lemmas.{one_code_meaning, can_be_sent}}
-use Rattle.um_block.proofs.Lemmas.{one_sent_block, one_access_burst, one_sync_burst, some_sent_block, some_access_burst, some_sync_burst}
-use Rattle.um_driver.{specs.{Rules.IsDeterministic, Laws.HasOneOutput}, proofs.Outputs.{stateless_is_determined, stateless_has_one_output}}
-use Rattle.um_code.specs.Code.{IsCodeCommandAnswer, code_command_rules}
+use Rattle.{
+  std.proofs.Common.{◌≡◌, ℕ, List, [], refl, sym, ap, ◌∙◌},
+  um_formats.specs.{declared.code.CodeLine.{CodeLine, TheVariants.{Skip, Block, Rach, Sch}}, CodeLines.{code_fault, CodeLineMeans}},
+  um_formats.{specs.BurstTexts.{bursts_text, access_burst_text, sync_burst_text}, proofs.Lemmas.{one_code_meaning, can_be_sent}},
+  um_block.proofs.Lemmas.{one_sent_block, one_access_burst, one_sync_burst, some_sent_block, some_access_burst, some_sync_burst},
+  um_driver.{specs.{Rules.IsDeterministic, Laws.HasOneOutput}, proofs.Outputs.{stateless_is_determined, stateless_has_one_output}},
+  um_code.specs.Code.{IsCodeCommandAnswer, code_command_rules},
+}
 
 -- a line with a given meaning has at most one answer
 same_answer : (m : CodeLine) (y y' : List ℕ) → IsCodeCommandAnswer m y → IsCodeCommandAnswer m y' → y ≡ y'

@@ -8,7 +8,7 @@ use Rattle.um_formats.specs.BurstTexts.{bursts_text, access_burst_text, sync_bur
 use Rattle.um_driver.specs.Rules.{Rules, stateless}
 
 -- the answer to a line with this meaning: the text lines of the bursts that carry its information
-abbrev pub IsCodeCommandAnswer : CodeLine → List ℕ → Type 0
+abbrev pub IsCodeCommandAnswer : (line : CodeLine) (answer : List ℕ) → Type 0
 IsCodeCommandAnswer Skip answer = answer ≡ []
 IsCodeCommandAnswer (Block tsc octets) answer =
     (bursts : List (List ℕ)) × IsSentBlock octets tsc bursts × (answer ≡ bursts_text bursts)
@@ -18,7 +18,7 @@ IsCodeCommandAnswer (Sch info) answer =
     (burst : List ℕ) × IsSentSync info burst × (answer ≡ sync_burst_text burst)
 
 -- the `code` command may return this answer to the line
-abbrev pub IsAnswerToCodeLine : List ℕ → List ℕ → Type 0
+abbrev pub IsAnswerToCodeLine : (line answer : List ℕ) → Type 0
 IsAnswerToCodeLine line answer = (meaning : CodeLine) × CodeLineMeans line meaning × IsCodeCommandAnswer meaning answer
 
 -- the rules of `code`, which keeps no state, so that its input may end after any line

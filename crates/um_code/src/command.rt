@@ -21,7 +21,7 @@ impl Answer for Code {
             CodeLine::Skip => {}
             CodeLine::Block { tsc, octets } => block_lines(out, &send_block(&octets, tsc)),
             CodeLine::Rach { info, bsic } => write_access(out, &info, &bsic),
-            CodeLine::Sch { info } => write_sync(out, &info),
+            CodeLine::Sch { info } => write_coded_sync(out, &info),
         }
         Ok(())
     }
@@ -38,7 +38,7 @@ fn write_access(out: &mut Text, info: &Bits<8>, bsic: &Bits<6>)
 
 #[cold]
 #[inline(never)]
-fn write_sync(out: &mut Text, info: &Bits<25>)
+fn write_coded_sync(out: &mut Text, info: &Bits<25>)
     requires { out.old ≡ [] }
     ensures { IsCodeCommandAnswer (CodeLine.Sch info.now) out.new }
 {

@@ -1,18 +1,32 @@
 -- The prescribed output of an input: which lines a run processes, and the answers to them.
-use Rattle.std.proofs.Common.{Bool, List, None, Option, Some, [], append-nil, append_assoc, ap, arith, drop, false, inl, inr, length-append}
-use Rattle.std.proofs.Common.{length-drop, length, refl, subst, sym, take-append-drop, take, true, ℕ, ◌++◌, ◌+◌, ◌<◌}
-use Rattle.std.proofs.{Common.{◌∙◌, ◌∷◌, ◌≡◌, ◌≤◌, ◌⊎◌}, Math.Seq.take-append_seam, lemmas.Bool.cases_lt}
-use Rattle.std.{proofs.lemmas.List.{Elements.{All-append, All-cons, All-head, All-nil, All-tail}, length-take-le}, specs.List.All}
-use Rattle.um_driver.specs.{Divided.BeginsWithLines, Laws.{HasOneOutput, OutputExists, OutputIsUnique}, Outputs.AreOctetsWithinLimit}
-use Rattle.um_driver.specs.Outputs.{AreProcessedLines, ExceedsInputLimit, IsOutputOfLines, IsOutput, LastLineIsNotProcessed}
-use Rattle.um_driver.specs.{Outputs.LastLineIsProcessed, Rules.{IsDeterministic, IsLineAccepted, IsLineRefused, IsTotal, Rules, Runs}}
-use Rattle.um_driver.specs.{Rules.{concatenated_text, stateless}, Table.{AllAnswersHaveStarted, AreFirstLines, InputEnds}}
-use Rattle.um_driver.specs.Table.{IsNextLineProcessed, IsNextLineRefused, IsPrefixOf, IsRun, IsWholeInputRead, RunEndsWithStatus}
-use Rattle.um_driver.specs.declared.status.Status.{TheVariants.{BadInput, BadWords, Done, NoMemory, ReadFault, TooLong, WriteFault}, Status}
-use Rattle.um_io.proofs.Lemmas.{All-before, All-behind, IsDivided-lines_of_octets, length-text-push, one_division, text-cons, text-push}
-use Rattle.um_io.specs.{Lines.{IsDivided, IsLine, IsNotLineFeed, text_of_lines}, Reading.{input_limit, line_limit}}
-use Rattle.um_lines.{proofs.FormLaws.{good_meaning, same_meaning}, specs.{Meanings.HasOneMeaningOrFault, Refusals.refused_text}}
-use Rattle.um_lines.specs.declared.fault.LineFault.{TheVariants.Long, LineFault}
+use Rattle.{
+  std.{
+    proofs.{
+      Common.{Bool, List, None, Option, Some, [], append-nil, append_assoc, ap, arith, drop, false, inl, inr, length-append, length-drop},
+      Common.{length, refl, sym, take-append-drop, take, true, ℕ, ◌++◌, ◌+◌, ◌<◌, ◌∙◌, ◌∷◌, ◌≡◌, ◌≤◌},
+      Common.◌⊎◌,
+      Math.Seq.take-append_seam,
+      lemmas.{Bool.cases_lt, List.{Elements.{All-append, All-cons, All-head, All-nil, All-tail}, length-take-le}},
+    },
+    specs.List.All,
+  },
+  um_driver.specs.{
+    Divided.BeginsWithLines,
+    Laws.{HasOneOutput, OutputExists, OutputIsUnique},
+    Outputs.{AreOctetsWithinLimit, AreProcessedLines, ExceedsInputLimit, IsOutputOfLines, IsOutput, LastLineIsNotProcessed},
+    Outputs.LastLineIsProcessed,
+    Rules.{IsDeterministic, IsLineAccepted, IsLineRefused, IsTotal, Rules, Runs, concatenated_text, stateless},
+    Table.{AllAnswersHaveStarted, AreFirstLines, InputEnds, IsNextLineProcessed, IsNextLineRefused, IsPrefixOf, IsRun, IsWholeInputRead},
+    Table.RunEndsWithStatus,
+    declared.status.Status.{TheVariants.{BadInput, BadWords, Done, NoMemory, ReadFault, TooLong, WriteFault}, Status},
+  },
+  um_io.proofs.Lemmas.{All-before, All-behind, IsDivided-lines_of_octets, length-text-push, one_division, text-cons, text-push},
+  um_io.specs.{Lines.{IsDivided, IsLine, IsNotLineFeed, text_of_lines}, Reading.{input_limit, line_limit}},
+  um_lines.{
+    proofs.FormLaws.{good_meaning, same_meaning},
+    specs.{Meanings.HasOneMeaningOrFault, Refusals.refused_text, declared.fault.LineFault.{TheVariants.Long, LineFault}},
+  },
+}
 
 -- ## Judging: Which lines of an input a run processes: those that end within the limit, and the octets after them if these are too long for
 -- a line or end the input. There is exactly one such list of lines, because octets can be divided into lines in only one way.
@@ -459,9 +473,7 @@ module _ {State : Type 0} (r : Rules State) (a b : State) (lines answers : List 
       })
       (refl, none)
   ends_output q rest ReadFault text unlike _ = absurd (unlike refl)
-  ends_output q rest WriteFault text _ none = absurd none
-  ends_output q rest NoMemory text _ none = absurd none
-  ends_output q rest BadWords text _ none = absurd none
+  ends_output q rest s text _ none = absurd none
 
 -- ## OutputExists: If every line that is not refused has an answer, every input has an output. The proof is by induction over the
 -- processed lines.
@@ -516,8 +528,8 @@ plain_judged x judged ended j = elim j.judged_split [
       (All-cons IsLine j.last [] j.no_line_feed (All-nil IsLine)))
 ]
 
-pub law_output_exists : {State : Type 0} (r : Rules State) → OutputExists r
-law_output_exists r a x total =
+pub law_command_output_exists : {State : Type 0} (r : Rules State) → OutputExists r
+law_command_output_exists r a x total =
     let (judged, ended, j) = judges_after {lines = []} x (record { no_line_feed = All-nil IsLine; octets_split = refl }) (omega arith) in
     let (status, z, g) = gives_some r a total 1 judged ended (plain_judged x judged ended j) in
     (status, z, (judged, ended, j, g))
@@ -525,7 +537,7 @@ law_output_exists r a x total =
 -- if a command has exactly one answer to every line that it does not refuse, every input has exactly one output
 pub has_one_output : {State : Type 0} (r : Rules State) (a : State) → IsTotal r a → IsDeterministic r → HasOneOutput r a
 has_one_output r a total det = record {
-  output_exists = λ x. law_output_exists r a x total;
+  output_exists = λ x. law_command_output_exists r a x total;
   output_is_unique = output_unique r det a;
 }
 
@@ -565,8 +577,7 @@ divided_judged x judged j = record {
       last = j.last;
       lines_split = e;
       octets_split = j.in_limit.0 ∙ j.begins.octets_split;
-      nonempty =
-          some;
+      nonempty = some;
     })
   ];
 }
@@ -604,7 +615,7 @@ module _ {Meaning : Type 0} (fault : List ℕ → Option LineFault) (Means : Lis
     pub stateless_is_determined : IsDeterministic rules
     stateless_is_determined a line y y' b b' (m, means, answer) (m', means', answer') =
         let same = same_meaning (Means line) (fault line) (meanings line) m m' means means' in
-        (same_answer m' y y' (subst (λ m. IsAnswer m y) same answer) answer', refl)
+        (same_answer m' y y' (rw same at answer) answer', refl)
 
     module _ (some_answer : (line : List ℕ) (m : Meaning) → Means line m → (answer : List ℕ) × IsAnswer m answer) where
       stateless_is_total : IsTotal rules tt

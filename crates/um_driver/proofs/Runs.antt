@@ -1,22 +1,33 @@
 -- A run: what it has read, what it has written, and its table.
-use Rattle.std.proofs.Common.{Bool, List, None, Option, Some, [], append-nil, append_assoc, ap, arith, false, inl, inr, length-append}
-use Rattle.std.proofs.Common.{length, refl, subst, sym, true, ℕ, ◌++◌, ◌+◌, ◌<◌, ◌∙◌, ◌∷◌, ◌≡◌, ◌≤◌}
-use Rattle.std.proofs.{Common.◌⊎◌, lemmas.{Bool.cases_Bool, List.{Elements.{All-append, All-cons, All-nil}, nil_from_length}}}
-use Rattle.std.specs.{Borrow.Bor, Io.KnownBytes.{Appends, Consumes, IsAtEnd, Keeps}}
-use Rattle.um_driver.proofs.Outputs.{AreProcessedLines-unique, IsOutputOfLines-front, Runs-append, Runs-length, Runs-push, Runs-split}
-use Rattle.um_driver.proofs.Outputs.{RunsInTwo, ends_output, joined-append, judges_first, output_unique, prefix_of_joined, reach}
-use Rattle.um_driver.specs.{Divided.BeginsWithLines, Outputs.{ExceedsInputLimit, IsOutput}, Progress.{AreLinesRead, IsLastWriteResult}}
-use Rattle.um_driver.specs.{Progress.{IsLineOutcome, IsPointOfRun, IsRunEnding, IsRunUnderway, SourceHasEnded}, Rules.IsDeterministic}
-use Rattle.um_driver.specs.{Rules.{Rules, Runs, concatenated_text}, Table.{AllAnswersHaveStarted, AreFirstLines, EndsAsPrescribed}}
-use Rattle.um_driver.specs.Table.{EndsInUnfinishedLine, InputEnds, IsNextLineProcessed, IsPrefixOf, IsReadFromSource, IsRun}
-use Rattle.um_driver.specs.Table.{IsWholeInputRead, ReadsAtMostABuffer, RunEndsWithStatus, SinkTakesPrefix, WritesAsPrescribed}
-use Rattle.um_driver.specs.{Taking.BuffersUnwrittenText, declared.status.Status.TheVariants.{BadInput, BadWords, Done, NoMemory, ReadFault}}
-use Rattle.um_driver.specs.declared.status.Status.{TheVariants.{TooLong, WriteFault}, Status}
-use Rattle.um_io.proofs.Lemmas.{Appends-append, Appends-nil, Consumes-append, Consumes-nil, length-text-push, text-push}
-use Rattle.um_io.specs.{Lines.{IsLine, text_of_lines}, Next.{IsNextLineCall, IsReaderStep, ReturnsLine, ReturnsNoLine}}
-use Rattle.um_io.specs.Reading.{IsResultReady, IsValidReader, NeedsMoreOctets, ReaderState, buffer_limit, input_limit, line_limit}
-use Rattle.um_io.specs.{Reading.new_reader, declared.lines.Next.Next}
-use Rattle.um_lines.specs.{Refusals.refused_text, declared.fault.LineFault.{TheVariants.Long, LineFault}}
+use Rattle.{
+  std.{
+    proofs.Common.{Bool, List, None, Option, Some, [], ap, append-nil, append_assoc, arith, false, inl, inr, length, length-append, refl},
+    proofs.Common.{sym, true, ℕ, ◌++◌, ◌+◌, ◌<◌, ◌∙◌, ◌∷◌, ◌≡◌, ◌≤◌, ◌⊎◌},
+    proofs.lemmas.{Bool.cases_Bool, List.{nil_from_length, Elements.{All-append, All-cons, All-nil}}},
+    specs.{Borrow.Bor, Io.KnownBytes.{Appends, Consumes, IsAtEnd, Keeps}},
+  },
+  um_driver.{
+    proofs.Outputs.{AreProcessedLines-unique, IsOutputOfLines-front, Runs-append, Runs-length, Runs-push, Runs-split, RunsInTwo},
+    proofs.Outputs.{ends_output, joined-append, judges_first, output_unique, prefix_of_joined, reach},
+    specs.{
+      Divided.BeginsWithLines,
+      Outputs.{ExceedsInputLimit, IsOutput},
+      Progress.{AreLinesRead, IsLastWriteResult, IsLineOutcome, IsPointOfRun, IsRunEnding, IsRunUnderway, SourceHasEnded},
+      Rules.{IsDeterministic, Rules, Runs, concatenated_text},
+      Table.{AllAnswersHaveStarted, AreFirstLines, EndsAsPrescribed, EndsInUnfinishedLine, InputEnds, IsNextLineProcessed, IsPrefixOf},
+      Table.{IsReadFromSource, IsRun, IsWholeInputRead, ReadsAtMostABuffer, RunEndsWithStatus, SinkTakesPrefix, WritesAsPrescribed},
+      Taking.BuffersUnwrittenText,
+      declared.status.Status.{Status, TheVariants.{BadInput, BadWords, Done, NoMemory, ReadFault, TooLong, WriteFault}},
+    },
+  },
+  um_io.{
+    proofs.Lemmas.{Appends-append, Appends-nil, Consumes-append, Consumes-nil, length-text-push, text-push},
+    specs.{Lines.{IsLine, text_of_lines}, Next.{IsNextLineCall, IsReaderStep, ReturnsLine, ReturnsNoLine}, Reading.IsResultReady},
+    specs.Reading.{IsValidReader, NeedsMoreOctets, ReaderState, buffer_limit, input_limit, line_limit, new_reader},
+    specs.declared.lines.Next.Next,
+  },
+  um_lines.specs.{Refusals.refused_text, declared.fault.LineFault.{LineFault, TheVariants.Long}},
+}
 use Rattle.um_io.specs.declared.lines.Next.TheVariants as next
 
 -- ## ReadLemmas: What has been read, and which of its lines have been answered or are still held by the reader.
@@ -40,9 +51,8 @@ SourceHasEnded-still : (left mid left' : Option (List ℕ)) (q : List ℕ) → C
     SourceHasEnded left mid
     → SourceHasEnded left left'
 SourceHasEnded-still None mid left' q h k e = tt
-SourceHasEnded-still (Some x) None left' q h k e = absurd h
-SourceHasEnded-still (Some x) (Some y) None q h k e = absurd k
 SourceHasEnded-still (Some x) (Some y) (Some z) q h k e = sym k ∙ e
+SourceHasEnded-still left mid left' q h k e = absurd assumption
 
 -- the state of a read after more octets have arrived
 pub arrive : {q : List ℕ} {lines : List (List ℕ)} {r r' : ReaderState} {left mid left' : Option (List ℕ)} {next : Next}
@@ -56,13 +66,8 @@ arrive {q} {lines} {r} {r'} {left} {mid} {left'} {next} {came} u step = record {
     | inl (q_is, answered) ↦ inl (ap (λ o. o ++ came) q_is ∙ append_assoc (text_of_lines lines) (r.held ++ r.excess) came, answered)
     | inr (cut, none, ended, answered) ↦
         let (nothing_read_if_ready, still) = step.no_read_after_end ended in
-        inr (
-          rw (nothing_read_if_ready, append-nil) cut,
-          rw (none, nothing_read_if_ready),
-          still,
-          rw
-              (nothing_read_if_ready, append-nil) answered,
-        )
+        let nil = nothing_read_if_ready in
+        inr (rw (nil, append-nil) cut, rw (none, nil), still, rw (nil, append-nil) answered)
   ];
   in_range = u.in_range;
   fits_buffer = step.fits_buffer;
@@ -189,11 +194,9 @@ module _ {q : List ℕ} {lines : List (List ℕ)} {r r' : ReaderState} {all : Li
     -- no line was returned, and either octets are still held or the source has not ended
     held_next : (r'.held ++ r'.excess ≡ [] → r'.ended ≡ true → ⊥) →
         (q ≡ text_of_lines lines ++ (r'.held ++ r'.excess)) × (r'.octet_count ≡ length (text_of_lines lines))
-    held_next some = let w = read_is_lines_and_held u (λ none. some (sym h.octets ∙ none)) in (
-      w.0
-          ∙ ap (λ o. text_of_lines lines ++ o) h.octets,
-      h.octet_count ∙ w.1,
-    )
+    held_next some =
+        let w = read_is_lines_and_held u (λ none. some (sym h.octets ∙ none)) in
+        (w.0 ∙ ap (λ o. text_of_lines lines ++ o) h.octets, h.octet_count ∙ w.1)
 
     pub long_judged : (rest : List ℕ) → line_limit < length r'.held → IsNextLineProcessed q rest lines r'.held
     long_judged rest long =
@@ -221,8 +224,7 @@ module _ {q : List ℕ} {lines : List (List ℕ)} {r r' : ReaderState} {all : Li
           record {
             begins = record { no_line_feed = u.no_line_feed; octets_split = refl };
             no_line_feed = h.no_line_feed;
-            in_limit =
-                short;
+            in_limit = short;
           },
         )
 
@@ -260,18 +262,13 @@ failed_unready {r} {r'} {came = came} valid valid' step open_ ready =
     nil_from_length r.excess (grind (arith, valid.excess, valid'.limit, h.octet_count, ap length all, length-append r.held r.excess)) in
     let held : r.held ≡ r'.held = sym (rw (past, append-nil)) ∙ all in
     let ended : r.ended ≡ false = elim (cases_Bool r.ended) [
-      | inl e ↦ let still = (step.no_read_after_end e).1 in let open' = needs.ended in absurd (cc (still, open'))
+      | inl e ↦ let open' = needs.ended in absurd (cc ((step.no_read_after_end e).1, open'))
       | inr e ↦ e
     ] in
     elim ready [
       | inl is_over ↦ cc (is_over, open_)
-      | inr answer ↦ answer (record {
-        no_line_feed = rw held needs.no_line_feed;
-        in_limit = rw held needs.in_limit;
-        excess = past;
-        ended =
-            ended;
-      })
+      | inr answer ↦ answer
+          (record { no_line_feed = rw held needs.no_line_feed; in_limit = rw held needs.in_limit; excess = past; ended = ended })
     ]
 
 -- ## Turns: How a run processes one line, before it writes the answer. The proof is by cases on what the reader of lines returns.
@@ -509,8 +506,7 @@ module _ {State : Type 0} {r : Rules State} {a : State} {held : List ℕ} {answe
       read = rest.reads;
       written = at.written;
       read_bound = bound_of at.reads;
-      first_lines = let P : List (List ℕ) → Type 0 = λ l. AreFirstLines at.input_read rest.rest l in
-          subst P two.lines_split (first_of at.reads rest.rest rest.at_end);
+      first_lines = rw (← two.lines_split) (first_of at.reads rest.rest rest.at_end);
       runs = two.runs_first;
       unwritten_run = two.runs_second;
       represents = represents;
@@ -547,7 +543,7 @@ full_row : {State : Type 0} (r : Rules State) (status : Status) (q more y text :
     RunEndsWithStatus r status q more y lines answers [] b
 full_row r WriteFault q more y text lines answers b none e = absurd none
 full_row r NoMemory q more y text lines answers b none e = absurd none
-full_row r BadWords q more y text lines answers b none e = absurd none
+full_row r BadWords q more y text lines answers b none e = none
 full_row r _ q more y text lines answers b ends e = (text, ends, refl, e)
 
 module _ {State : Type 0} {r : Rules State} {a : State} {Represents : State → Type 0} {left left' taken mid taken' : Option (List ℕ)}
@@ -696,11 +692,7 @@ module _ {State : Type 0} (r : Rules State) (det : IsDeterministic r) (a : State
     ends_front : (s : Status) (text : List ℕ) → AreFirstLines q rest lines → InputEnds r s q rest lines b text →
         IsPrefixOf (concatenated_text answers ++ text) z
     ends_front ReadFault text first (_, _, none) = rw (none, append-nil) (output_begins_with_answers b lines answers runs first)
-    ends_front s text first ends = (
-      [],
-      sym (append-nil (concatenated_text answers ++ text)
-          ∙ (due_is s text (λ wrong. cc wrong) ends).1),
-    )
+    ends_front s text first ends = ([], sym (append-nil _ ∙ (due_is s text (λ wrong. cc wrong) ends).1))
 
     -- each row of the table agrees with the output that the rules prescribe
     agrees : (c : State) (s : Status) (y : List ℕ) (further unwritten_answers : List (List ℕ)) (taken taken' : Option (List ℕ)) →
@@ -712,15 +704,12 @@ module _ {State : Type 0} (r : Rules State) (det : IsDeterministic r) (a : State
     agrees c WriteFault y further unwritten_answers taken taken' ahead first (inl front) written =
         let both = Runs-append r a b c lines further answers unwritten_answers runs ahead in
         let all = output_begins_with_answers c (lines ++ further) (answers ++ unwritten_answers) both first in
-        let answered : IsPrefixOf (concatenated_text answers) (concatenated_text (answers ++ unwritten_answers)) =
-        (concatenated_text unwritten_answers, joined-append answers unwritten_answers) in
-        let begins = IsPrefixOf-append (concatenated_text answers) (concatenated_text (answers ++ unwritten_answers)) z answered all in
+        let begins = IsPrefixOf-append (concatenated_text answers) _ z (_, joined-append answers unwritten_answers) all in
         (y, IsPrefixOf-append y (concatenated_text answers) z front begins, written)
     agrees c WriteFault y further unwritten_answers taken taken' ahead first
         (inr (s, text, part, ends, none, (more, text_is), output_split)) written =
         let front = ends_front s text (rw (none, append-nil) at first) ends in
-        let begins : IsPrefixOf y (concatenated_text answers ++ text) = (more, rw (text_is, output_split, append_assoc)) in
-        (y, IsPrefixOf-append y (concatenated_text answers ++ text) z begins front, written)
+        (y, IsPrefixOf-append y (concatenated_text answers ++ text) z (more, rw (text_is, output_split, append_assoc)) front, written)
     agrees c NoMemory y further unwritten_answers taken taken' ahead first (_, none, _, _) written =
         Keeps-nil taken taken' (rw none at written)
     agrees c BadWords y further unwritten_answers taken taken' ahead first table_row written = absurd table_row

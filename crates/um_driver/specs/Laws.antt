@@ -15,7 +15,7 @@ abbrev pub OutputExists : {State : Type 0} → Rules State → Type 0
 OutputExists {State} r = (a : State) (x : List ℕ) → IsTotal r a → (status : Status) × (z : List ℕ) × IsOutput r a x status z
 
 -- from the state `start`, every input has exactly one output and one status
-pub record HasOneOutput {State : Type 0} (r : Rules State) (start : State) : Type 0 where
-  pub output_exists : (x : List ℕ) → (status : Status) × (z : List ℕ) × IsOutput r start x status z
-  pub output_is_unique : (x : List ℕ) (status status' : Status) (z z' : List ℕ) → IsOutput r start x status z →
-      IsOutput r start x status' z' → (status ≡ status') × (z ≡ z')
+pub record HasOneOutput {State : Type 0} (rules : Rules State) (start : State) : Type 0 where
+  pub output_exists : (x : List ℕ) → (status : Status) × (z : List ℕ) × IsOutput rules start x status z
+  pub output_is_unique : (x : List ℕ) (status status' : Status) (z z' : List ℕ) → IsOutput rules start x status z →
+      IsOutput rules start x status' z' → (status ≡ status') × (z ≡ z')

@@ -10,15 +10,15 @@ use Rattle.um_driver.specs.Rules.{Rules, IsLineAccepted, IsLineRefused}
 use Rattle.um_driver.specs.declared.status.Status.{Status}
 use Rattle.um_driver.specs.declared.status.Status.TheVariants.{Done, BadInput, TooLong}
 
--- the input `q` exceeds the input limit: `counted` holds its octets up to the limit, `past` the octets after it
-pub record ExceedsInputLimit (q counted past : List ℕ) : Type 0 where
-  pub octets_split : q ≡ counted ++ past
+-- `input` exceeds the input limit: `counted` holds its octets up to the limit, `past` the octets after it
+pub record ExceedsInputLimit (input counted past : List ℕ) : Type 0 where
+  pub octets_split : input ≡ counted ++ past
   pub count : length counted ≡ input_limit
   pub nonempty : 0 < length past
 
 -- the `octets` of the input `x` up to the input limit: all octets if `x` is within the limit (`ended`), otherwise only its first octets,
 -- up to the limit
-abbrev pub AreOctetsWithinLimit : (x octets : List ℕ) (ended : Bool) → Type 0
+abbrev pub AreOctetsWithinLimit : (input octets : List ℕ) (ended : Bool) → Type 0
 AreOctetsWithinLimit x octets true = (x ≡ octets) × (length x ≤ input_limit)
 AreOctetsWithinLimit x octets false = (past : List ℕ) × ExceedsInputLimit x octets past
 
@@ -32,53 +32,57 @@ abbrev pub LastLineIsNotProcessed : (last : List ℕ) (ended : Bool) → Type 0
 LastLineIsNotProcessed last true = last ≡ []
 LastLineIsNotProcessed last false = length last ≤ line_limit
 
--- a run processes the lines `judged` of the input `x`; `ended` says whether `x` is within the input limit
-pub record AreProcessedLines (x : List ℕ) (judged : List (List ℕ)) (ended : Bool) : Type 0 where
+-- a run processes the lines `judged` of `input`; `ended` says whether `input` is within the input limit
+pub record AreProcessedLines (input : List ℕ) (judged : List (List ℕ)) (ended : Bool) : Type 0 where
   pub octets : List ℕ
   pub lines : List (List ℕ)
   pub last : List ℕ
-  pub in_limit : AreOctetsWithinLimit x octets ended
+  pub in_limit : AreOctetsWithinLimit input octets ended
   pub begins : BeginsWithLines octets lines last
   pub no_line_feed : IsLine last
   pub judged_split : ((judged ≡ lines) × LastLineIsNotProcessed last ended)
       ⊎ ((judged ≡ lines ++ last ∷ []) × LastLineIsProcessed last ended)
 
 -- the line is not refused, the output begins with its answer, and `Then` holds for the next state and the rest of the output
-pub record AnswersLineThen {State : Type 0} (r : Rules State) (a : State) (line : List ℕ) (Then : State → List ℕ →
-    Type 0) (z : List ℕ) : Type 0 where
+pub record AnswersLineThen {State : Type 0} (rules : Rules State) (state : State) (line : List ℕ) (Then : State → List ℕ →
+    Type 0) (text : List ℕ) : Type 0 where
   pub answer : List ℕ
   pub later_output : List ℕ
   pub mid_state : State
-  pub line_accepted : IsLineAccepted r a line
-  pub step : r.Step a line answer mid_state
+  pub line_accepted : IsLineAccepted rules state line
+  pub step : rules.Step state line answer mid_state
   pub rest_follows : Then mid_state later_output
-  pub output : z ≡ answer ++ later_output
+  pub output : text ≡ answer ++ later_output
 
--- line number `n` is refused, and the output `z` is the line that says why
-pub record RefusesLine {State : Type 0} (r : Rules State) (a : State) (n : ℕ) (line : List ℕ) (status : Status) (z : List ℕ) : Type 0
+-- line number `line_number` is refused, and the output `text` is the line that says why
+pub record RefusesLine {State : Type 0} (rules : Rules State) (state : State) (line_number : ℕ) (line : List ℕ) (status : Status)
+    (text : List ℕ) : Type 0
   where
     pub fault : LineFault
-    pub refused : IsLineRefused r a line fault
+    pub refused : IsLineRefused rules state line fault
     pub is_bad_input : status ≡ BadInput
-    pub output : z ≡ refused_text n fault
+    pub output : text ≡ refused_text line_number fault
 
--- the input must not end in state `a`, and the output `z` is the line that says why; `n` is one more than the number of the last line
-pub record RefusesInputEnd {State : Type 0} (r : Rules State) (a : State) (n : ℕ) (status : Status) (z : List ℕ) : Type 0 where
+-- the input must not end in `state`, and the output `text` is the line that says why; `line_number` is one more than the number of the last
+-- line
+pub record RefusesInputEnd {State : Type 0} (rules : Rules State) (state : State) (line_number : ℕ) (status : Status) (text : List ℕ)
+    : Type 0 where
   pub fault : LineFault
-  pub refused : r.end_fault a ≡ Some fault
+  pub refused : rules.end_fault state ≡ Some fault
   pub is_bad_input : status ≡ BadInput
-  pub output : z ≡ refused_text n fault
+  pub output : text ≡ refused_text line_number fault
 
 -- the status and the output that the rules prescribe for these lines, from the given state and line number on; the flag says whether the
 -- input is within the input limit
-abbrev pub IsOutputOfLines : {State : Type 0} → Rules State → State → ℕ → List (List ℕ) → Bool → Status → List ℕ →
-    Type 0
+abbrev pub IsOutputOfLines : {State : Type 0} (rules : Rules State) (state : State) (line_number : ℕ) (lines : List (List ℕ))
+    (ended : Bool) (status : Status) (output : List ℕ) → Type 0
 IsOutputOfLines r a n [] true status z = ((r.end_fault a ≡ None) × (status ≡ Done) × (z ≡ [])) ⊎ RefusesInputEnd r a n status z
 IsOutputOfLines r a n [] false status z = (status ≡ TooLong) × (z ≡ [])
 IsOutputOfLines r a n (line ∷ judged) ended status z =
     AnswersLineThen r a line (λ mid rest. IsOutputOfLines r mid (n + 1) judged ended status rest) z ⊎ RefusesLine r a n line status z
 
 -- the status and the output that the rules of a command prescribe for a whole input
-abbrev pub IsOutput : {State : Type 0} → Rules State → State → List ℕ → Status → List ℕ → Type 0
+abbrev pub IsOutput : {State : Type 0} (rules : Rules State) (state : State) (input : List ℕ) (status : Status) (output : List ℕ) →
+    Type 0
 IsOutput r a x status z = (judged : List (List ℕ)) × (ended : Bool) × AreProcessedLines x judged ended ×
     IsOutputOfLines r a 1 judged ended status z

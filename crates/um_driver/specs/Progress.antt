@@ -10,68 +10,71 @@ use Rattle.um_driver.specs.declared.status.Status.{Status}
 use Rattle.um_driver.specs.declared.status.Status.TheVariants.{BadWords, ReadFault, WriteFault, NoMemory}
 
 -- the source has ended, if its octets were known at the start
-abbrev pub SourceHasEnded : Option (List ℕ) → Option (List ℕ) → Type 0
+abbrev pub SourceHasEnded : (unread_before unread_after : Option (List ℕ)) → Type 0
 SourceHasEnded None left' = Unit {0}
 SourceHasEnded (Some x) left' = IsAtEnd left'
 
 -- the octets `q` that were read are `lines`, each with a line feed, and then the octets `held` in the buffer; or the last line has no line
 -- feed, and the buffer is empty
-abbrev pub AccountsForOctets : (q : List ℕ) → (lines : List (List ℕ)) → (held : List ℕ) → (answered : ℕ) →
+abbrev pub AccountsForOctets : (input_read : List ℕ) (lines : List (List ℕ)) (held : List ℕ) (answered_octet_count : ℕ)
     (ended : Bool) → Type 0
 AccountsForOctets q lines held answered ended =
     ((q ≡ text_of_lines lines ++ held) × (answered ≡ length (text_of_lines lines)))
     ⊎ (EndsWithoutLineFeed q lines × (held ≡ []) × (ended ≡ true) × (answered ≡ length q))
 
--- the octets `q` were read: `lines`, with `answered` octets in all, were returned so far, and the reader still buffers the octets `held`
-pub record AreLinesRead (q : List ℕ) (lines : List (List ℕ)) (held : List ℕ) (answered : ℕ) (ended : Bool)
-    (left left' : Option (List ℕ)) : Type 0 where
-  pub read : Consumes left left' q
+-- the octets `input` were read: `lines`, with `answered_octet_count` octets in all, were returned so far, and the reader still buffers the
+-- octets `held`
+pub record AreLinesRead (input : List ℕ) (lines : List (List ℕ)) (held : List ℕ) (answered_octet_count : ℕ) (ended : Bool)
+    (unread_before unread_after : Option (List ℕ)) : Type 0 where
+  pub read : Consumes unread_before unread_after input
   pub no_line_feed : All IsLine lines
-  pub accounts_for : AccountsForOctets q lines held answered ended
-  pub in_range : answered ≤ input_limit
+  pub accounts_for : AccountsForOctets input lines held answered_octet_count ended
+  pub in_range : answered_octet_count ≤ input_limit
   pub fits_buffer : length held ≤ buffer_limit
-  pub at_end : ended ≡ true → SourceHasEnded left left'
+  pub at_end : ended ≡ true → SourceHasEnded unread_before unread_after
 
 -- a point in a run: the octets read and written so far, the lines processed and their answers, and the current state of the command
-pub record IsPointOfRun {State : Type 0} (r : Rules State) (a : State) (held : List ℕ) (answered number : ℕ) (ended : Bool)
-    (left left' taken taken' : Option (List ℕ)) : Type 0 where
+pub record IsPointOfRun {State : Type 0} (rules : Rules State) (start : State) (held : List ℕ) (answered_octet_count line_count : ℕ)
+    (ended : Bool)
+    (unread_before unread_after written_before written_after : Option (List ℕ)) : Type 0 where
   pub input_read : List ℕ
   pub output : List ℕ
   pub lines : List (List ℕ)
   pub answers : List (List ℕ)
   pub state : State
-  pub reads : AreLinesRead input_read lines held answered ended left left'
-  pub number_counts_lines : number ≡ length lines
-  pub written : Appends taken taken' output
-  pub runs : Runs r a lines answers state
+  pub reads : AreLinesRead input_read lines held answered_octet_count ended unread_before unread_after
+  pub number_counts_lines : line_count ≡ length lines
+  pub written : Appends written_before written_after output
+  pub runs : Runs rules start lines answers state
   pub reads_little_ahead : ReadsAtMostABuffer input_read output lines answers
 
 -- the run continues: all answers have been written, except for the octets in the output buffer
-pub record IsRunUnderway {State : Type 0} (r : Rules State) (a : State) (Represents : State → Type 0) (reading : ReaderState)
-    (left left' taken taken' : Option (List ℕ)) (gathered : List ℕ) : Type 0 where
-  pub point : IsPointOfRun r a (reading.held ++ reading.excess) reading.octet_count reading.line_count reading.ended left left' taken taken'
+pub record IsRunUnderway {State : Type 0} (rules : Rules State) (start : State) (Represents : State → Type 0) (reading : ReaderState)
+    (unread_before unread_after written_before written_after : Option (List ℕ)) (gathered : List ℕ) : Type 0 where
+  pub point : IsPointOfRun rules start (reading.held ++ reading.excess) reading.octet_count reading.line_count reading.ended unread_before
+      unread_after written_before written_after
   pub represents : Represents point.state
   pub output : concatenated_text point.answers ≡ point.output ++ gathered
   pub valid : IsValidReader reading
   pub not_stopped : reading.is_over ≡ false
 
 -- the run ends with the given status as soon as the output buffer and the given text are written
-pub record IsRunEnding {State : Type 0} (r : Rules State) (a : State) (Represents : State → Type 0) (status : Status)
-    (left left' taken taken' : Option (List ℕ)) (gathered text : List ℕ) : Type 0 where
+pub record IsRunEnding {State : Type 0} (rules : Rules State) (start : State) (Represents : State → Type 0) (status : Status)
+    (unread_before unread_after written_before written_after : Option (List ℕ)) (gathered text : List ℕ) : Type 0 where
   pub held : List ℕ
   pub octet_count : ℕ
   pub line_count : ℕ
   pub ended : Bool
-  pub point : IsPointOfRun r a held octet_count line_count ended left left' taken taken'
+  pub point : IsPointOfRun rules start held octet_count line_count ended unread_before unread_after written_before written_after
   pub represents : Represents point.state
   pub output : concatenated_text point.answers ≡ point.output ++ gathered
-  pub input_ends : (rest : List ℕ) → (SourceHasEnded left left' → rest ≡ []) →
-      InputEnds r status point.input_read rest point.lines point.state text
+  pub input_ends : (rest : List ℕ) → (SourceHasEnded unread_before unread_after → rest ≡ []) →
+      InputEnds rules status point.input_read rest point.lines point.state text
 
 -- the result of processing one line, before its output is written: the run continues (`None`), or ends with a status
-abbrev pub IsLineOutcome : {State : Type 0} → Rules State → State → (State → Type 0) → ReaderState →
-    Option (List ℕ) → Option (List ℕ) → Option (List ℕ) → Option (List ℕ) → List ℕ → List ℕ → Option Status →
-    Type 0
+abbrev pub IsLineOutcome : {State : Type 0} (rules : Rules State) (state : State) (Represents : (State → Type 0))
+    (reading : ReaderState) (unread_before unread_after written_before written_after : Option (List ℕ)) (buffered text : List ℕ)
+    (ended : Option Status) → Type 0
 IsLineOutcome r a Represents reading left left' taken taken' gathered text None =
     IsRunUnderway r a Represents reading left left' taken taken' (gathered ++ text)
 -- after a read failure, the output buffer is empty, because it is written before the source is read
@@ -82,14 +85,15 @@ IsLineOutcome r a Represents reading left left' taken taken' gathered text (Some
 
 -- the result of writing the last text of a run: the status of the run if everything was written, `WriteFault` if only a prefix was; after a
 -- read failure, nothing is written
-abbrev pub IsLastWriteResult : Status → List ℕ → Option (List ℕ) → Option (List ℕ) → Status → Type 0
+abbrev pub IsLastWriteResult : (status : Status) (text : List ℕ) (written_before written_after : Option (List ℕ)) (result : Status)
+    → Type 0
 IsLastWriteResult ReadFault text taken taken' result = (result ≡ ReadFault) × (taken' ≡ taken)
 IsLastWriteResult status text taken taken' result =
     ((result ≡ status) × Appends taken taken' text) ⊎ ((result ≡ WriteFault) × SinkTakesPrefix taken taken' text)
 
 -- the failure count of the source rises if the status is `ReadFault`, and otherwise is unchanged; processing a line never ends with
 -- `WriteFault`, `NoMemory` or `BadWords`
-abbrev pub ReadFailureIsCounted : Option Status → ℕ → ℕ → Type 0
+abbrev pub ReadFailureIsCounted : (status : Option Status) (before now : ℕ) → Type 0
 ReadFailureIsCounted (Some ReadFault) before now = FailureCountRose before now × (before ≤ now)
 ReadFailureIsCounted (Some WriteFault) before now = ⊥
 ReadFailureIsCounted (Some NoMemory) before now = ⊥

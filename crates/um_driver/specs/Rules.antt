@@ -28,17 +28,17 @@ pub record Machine : Type 1 where
   pub start : State
 
 -- the line is accepted in this state: it is within the line limit, and the rules find no fault
-pub record IsLineAccepted {State : Type 0} (r : Rules State) (a : State) (line : List ℕ) : Type 0 where
+pub record IsLineAccepted {State : Type 0} (rules : Rules State) (state : State) (line : List ℕ) : Type 0 where
   pub in_limit : length line ≤ line_limit
-  pub no_fault : r.fault a line ≡ None
+  pub no_fault : rules.fault state line ≡ None
 
 -- the line is refused in this state with this fault: `Long` if it exceeds the line limit, otherwise the fault that the rules find
-abbrev pub IsLineRefused : {State : Type 0} → Rules State → State → List ℕ → LineFault → Type 0
+abbrev pub IsLineRefused : {State : Type 0} (rules : Rules State) (state : State) (line : List ℕ) (fault : LineFault) → Type 0
 IsLineRefused r a line fault =
     ((line_limit < length line) × (fault ≡ Long)) ⊎ ((length line ≤ line_limit) × (r.fault a line ≡ Some fault))
 
--- `lines`, in order, lead from the first state to the last without a refusal, and have these `answers`
-abbrev pub Runs : {State : Type 0} → Rules State → State → (lines answers : List (List ℕ)) → State → Type 0
+-- from the first state, the command accepts `lines` in order, gives these `answers`, and ends in the last state
+abbrev pub Runs : {State : Type 0} (rules : Rules State) (state : State) (lines answers : List (List ℕ)) (after : State) → Type 0
 Runs r a [] [] b = b ≡ a
 Runs {State} r a (line ∷ lines) (answer ∷ answers) b =
     (mid : State) × IsLineAccepted r a line × r.Step a line answer mid × Runs r mid lines answers b
@@ -46,15 +46,15 @@ Runs r a [] (answer ∷ answers) b = ⊥
 Runs r a (line ∷ lines) [] b = ⊥
 
 -- the concatenation of the texts
-abbrev pub concatenated_text : List (List ℕ) → List ℕ
+abbrev pub concatenated_text : (texts : List (List ℕ)) → List ℕ
 concatenated_text [] = []
 concatenated_text (text ∷ texts) = text ++ concatenated_text texts
 
 -- how a command answers a line in a state: it writes the answer and goes to the next state, or returns the fault, writes nothing and stays
 -- in the state
-abbrev pub Answers : {State : Type 0} → Rules State → State → List ℕ → Result Unit LineFault → List ℕ →
-    (State → Type 0) → Type 0
-Answers {State} r a line result text Represents = MatchResult result
+abbrev pub IsLineAnswerOrFault : {State : Type 0} (rules : Rules State) (state : State) (line : List ℕ) (result : Result Unit LineFault)
+    (text : List ℕ) (Represents : (State → Type 0)) → Type 0
+IsLineAnswerOrFault {State} r a line result text Represents = MatchResult result
     (λ _. (b : State) × (r.fault a line ≡ None) × r.Step a line text b × Represents b)
     (λ fault. (r.fault a line ≡ Some fault) × (text ≡ []) × Represents a)
 
@@ -64,7 +64,7 @@ IsDeterministic {State} r =
     (a : State) (line y y' : List ℕ) (b b' : State) → r.Step a line y b → r.Step a line y' b' → (y ≡ y') × (b ≡ b')
 
 -- in every state that the command can reach, each line that is not refused has an answer
-abbrev pub IsTotal : {State : Type 0} → Rules State → State → Type 0
+abbrev pub IsTotal : {State : Type 0} (rules : Rules State) (state : State) → Type 0
 IsTotal {State} r a =
     (lines answers : List (List ℕ)) (b : State) → Runs r a lines answers b →
     (line : List ℕ) → IsLine line → IsLineAccepted r b line → (answer : List ℕ) × (c : State) × r.Step b line answer c

@@ -16,13 +16,13 @@ use Rattle.um_driver.specs.declared.status.Status.TheVariants.{Done, BadWords, B
 -- ---- input: the octets `q` were read, and `rest` remains in the source
 
 -- the whole input was read; it is within the input limit, and consists of `lines`
-pub record IsWholeInputRead (q rest : List ℕ) (lines : List (List ℕ)) : Type 0 where
+pub record IsWholeInputRead (input rest : List ℕ) (lines : List (List ℕ)) : Type 0 where
   pub nothing_left : rest ≡ []
-  pub divided : IsDivided q lines
-  pub limit : length q ≤ input_limit
+  pub divided : IsDivided input lines
+  pub limit : length input ≤ input_limit
 
 -- these are the first lines of the input, with their line feeds within the input limit, or they are all lines of the input
-abbrev pub AreFirstLines : List ℕ → List ℕ → List (List ℕ) → Type 0
+abbrev pub AreFirstLines : (input_read unread : List ℕ) (lines : List (List ℕ)) → Type 0
 AreFirstLines q rest lines = ((more : List ℕ) × BeginsWithLines q lines more ×
     (length (text_of_lines lines) ≤ input_limit)) ⊎ IsWholeInputRead q rest lines
 
@@ -34,9 +34,9 @@ pub record EndsInUnfinishedLine (octets : List ℕ) (lines : List (List ℕ)) (l
 
 -- the `line` after `lines` is processed, because its line feed was read within the input limit, it exceeds the line limit, or it ends the
 -- input
-pub record IsNextLineProcessed (q rest : List ℕ) (lines : List (List ℕ)) (line : List ℕ) : Type 0 where
+pub record IsNextLineProcessed (input rest : List ℕ) (lines : List (List ℕ)) (line : List ℕ) : Type 0 where
   pub after_line : List ℕ
-  pub begins : BeginsWithLines q lines (line ++ after_line)
+  pub begins : BeginsWithLines input lines (line ++ after_line)
   pub no_line_feed : IsLine line
   pub limit : length (text_of_lines lines ++ line) ≤ input_limit
   pub is_complete : ((after : List ℕ) × (after_line ≡ 10 ∷ after) × (length (text_of_lines lines ++ line) < input_limit))
@@ -44,8 +44,8 @@ pub record IsNextLineProcessed (q rest : List ℕ) (lines : List (List ℕ)) (li
       ⊎ ((0 < length line) × (after_line ≡ []) × (rest ≡ [])))
 
 -- after these lines, the next line or the end of the input is refused with this fault
-abbrev pub IsNextLineRefused : {State : Type 0} → Rules State → (q rest : List ℕ) → List (List ℕ) → State → LineFault →
-    Type 0
+abbrev pub IsNextLineRefused : {State : Type 0} (rules : Rules State) (input_read unread : List ℕ) (lines : List (List ℕ))
+    (state : State) (fault : LineFault) → Type 0
 IsNextLineRefused r q rest lines b fault =
     ((line : List ℕ) × IsNextLineProcessed q rest lines line × IsLineRefused r b line fault) ⊎ (IsWholeInputRead q rest lines ×
     (r.end_fault b ≡ Some fault))
@@ -53,26 +53,26 @@ IsNextLineRefused r q rest lines b fault =
 -- ---- output: the octets `y` were written
 
 -- the first list is a prefix of the second
-abbrev pub IsPrefixOf : List ℕ → List ℕ → Type 0
+abbrev pub IsPrefixOf : (front whole : List ℕ) → Type 0
 IsPrefixOf y z = (more : List ℕ) × (z ≡ y ++ more)
 
--- the output `y` ends in the last of the `answers`, and contains at least one octet of it
-pub record EndsWithinLastAnswer (y : List ℕ) (answers : List (List ℕ)) : Type 0 where
+-- the output `output` ends in the last of the `answers`, and contains at least one octet of it
+pub record EndsWithinLastAnswer (output : List ℕ) (answers : List (List ℕ)) : Type 0 where
   pub earlier_answers : List (List ℕ)
   pub answer : List ℕ
   pub written_part : List ℕ
   pub answers_split : answers ≡ earlier_answers ++ answer ∷ []
   pub is_prefix : IsPrefixOf written_part answer
   pub nonempty : 0 < length written_part
-  pub output_split : y ≡ concatenated_text earlier_answers ++ written_part
+  pub output_split : output ≡ concatenated_text earlier_answers ++ written_part
 
 -- the output contains at least one octet of every answer that is not empty
-abbrev pub AllAnswersHaveStarted : List ℕ → List (List ℕ) → Type 0
+abbrev pub AllAnswersHaveStarted : (output : List ℕ) (answers : List (List ℕ)) → Type 0
 AllAnswersHaveStarted y answers = IsPrefixOf (concatenated_text answers) y ⊎ EndsWithinLastAnswer y answers
 
 -- the reader is at most one buffer ahead of the output: beyond the lines whose answers are fully written, no more octets were read than the
 -- reader can hold
-pub record ReadsAtMostABuffer (q y : List ℕ) (lines answers : List (List ℕ)) : Type 0 where
+pub record ReadsAtMostABuffer (input output : List ℕ) (lines answers : List (List ℕ)) : Type 0 where
   pub answered_lines : List (List ℕ)
   pub later_lines : List (List ℕ)
   pub written : List (List ℕ)
@@ -81,15 +81,15 @@ pub record ReadsAtMostABuffer (q y : List ℕ) (lines answers : List (List ℕ))
   pub lines_split : lines ≡ answered_lines ++ later_lines
   pub answers_split : answers ≡ written ++ later_answers
   pub count : length answered_lines ≡ length written
-  pub begins : BeginsWithLines q answered_lines partial_line
-  pub is_prefix : IsPrefixOf (concatenated_text written) y
+  pub begins : BeginsWithLines input answered_lines partial_line
+  pub is_prefix : IsPrefixOf (concatenated_text written) output
   pub reads_little_ahead : length partial_line ≤ buffer_limit
 
 -- ---- the table of statuses
 
 -- how the input ends after these lines, for each status, and the text that is written after their answers
-abbrev pub InputEnds : {State : Type 0} → Rules State → Status → (q rest : List ℕ) → List (List ℕ) → State → List ℕ →
-    Type 0
+abbrev pub InputEnds : {State : Type 0} (rules : Rules State) (status : Status) (input_read unread : List ℕ) (lines : List (List ℕ))
+    (state : State) (text : List ℕ) → Type 0
 InputEnds r Done q rest lines b text = IsWholeInputRead q rest lines × (r.end_fault b ≡ None) × (text ≡ [])
 InputEnds r BadInput q rest lines b text =
     (fault : LineFault) × IsNextLineRefused r q rest lines b fault × (text ≡ refused_text (length lines + 1) fault)
@@ -100,7 +100,7 @@ InputEnds r TooLong q rest lines b text =
 InputEnds r _ q rest lines b text = ⊥
 
 -- the octets read (`q`), left in the source (`rest`) and written (`y`) by a run that ends with this status
-abbrev pub RunEndsWithStatus : {State : Type 0} → Rules State → Status → (q rest y : List ℕ) →
+abbrev pub RunEndsWithStatus : {State : Type 0} (rules : Rules State) (status : Status) (input_read unread output : List ℕ) →
     (lines answers further : List (List ℕ)) → State → Type 0
 -- after a write failure, the output is a prefix of the answers, or all answers and a prefix of the text that follows them
 RunEndsWithStatus r WriteFault q rest y lines answers further b =
@@ -114,14 +114,14 @@ RunEndsWithStatus r status q rest y lines answers further b =
     (text : List ℕ) × InputEnds r status q rest lines b text × (further ≡ []) × (y ≡ concatenated_text answers ++ text)
 
 -- if the octets of the source are known, they are the octets `q` that were read, followed by the `rest`
-abbrev pub IsReadFromSource : Option (List ℕ) → Option (List ℕ) → List ℕ → List ℕ → Type 0
+abbrev pub IsReadFromSource : (source_before source_after : Option (List ℕ)) (input_read unread : List ℕ) → Type 0
 IsReadFromSource None left' q rest = Unit {0}
 IsReadFromSource (Some x) left' q rest = (x ≡ q ++ rest) × (left' ≡ Some rest)
 
 -- a whole run: what was read, left unread, and written. The `lines`, whose `answers` were written at least in part, lead to `state`. The
 -- `unwritten_lines`, whose answers were not written at all, lead to `last`, the final state of the command.
-pub record IsRun {State : Type 0} (r : Rules State) (a : State) (Represents : State → Type 0) (status : Status)
-    (left left' taken taken' : Option (List ℕ)) : Type 0 where
+pub record IsRun {State : Type 0} (rules : Rules State) (start : State) (Represents : State → Type 0) (status : Status)
+    (unread_before unread_after written_before written_after : Option (List ℕ)) : Type 0 where
   pub input_read : List ℕ
   pub unread : List ℕ
   pub output : List ℕ
@@ -131,20 +131,21 @@ pub record IsRun {State : Type 0} (r : Rules State) (a : State) (Represents : St
   pub unwritten_lines : List (List ℕ)
   pub unwritten_answers : List (List ℕ)
   pub last : State
-  pub read : IsReadFromSource left left' input_read unread
-  pub written : Appends taken taken' output
+  pub read : IsReadFromSource unread_before unread_after input_read unread
+  pub written : Appends written_before written_after output
   pub read_bound : length input_read ≤ input_limit + buffer_limit
   pub first_lines : AreFirstLines input_read unread (lines ++ unwritten_lines)
-  pub runs : Runs r a lines answers state
-  pub unwritten_run : Runs r state unwritten_lines unwritten_answers last
+  pub runs : Runs rules start lines answers state
+  pub unwritten_run : Runs rules state unwritten_lines unwritten_answers last
   pub represents : Represents last
   pub answers_started : AllAnswersHaveStarted output answers
   pub reads_little_ahead : ReadsAtMostABuffer input_read output (lines ++ unwritten_lines) (answers ++ unwritten_answers)
-  pub ends_with_status : RunEndsWithStatus r status input_read unread output lines answers unwritten_lines state
+  pub ends_with_status : RunEndsWithStatus rules status input_read unread output lines answers unwritten_lines state
 
 -- the failure count of the source has risen if the status is `ReadFault`, that of the sink if it is `WriteFault`; otherwise both are
 -- unchanged
-abbrev pub FailureCountsMatch : Status → (read read' written written' : ℕ) → Type 0
+abbrev pub FailureCountsMatch : (status : Status)
+    (read_failures_before read_failures_after write_failures_before write_failures_after : ℕ) → Type 0
 FailureCountsMatch ReadFault read read' written written' = FailureCountRose read read' × (read ≤ read') × (written' ≡ written)
 FailureCountsMatch WriteFault read read' written written' = (read' ≡ read) × FailureCountRose written written' × (written ≤ written')
 FailureCountsMatch _ read read' written written' = (read' ≡ read) × (written' ≡ written)
@@ -152,11 +153,12 @@ FailureCountsMatch _ read read' written written' = (read' ≡ read) × (written'
 -- ---- a run whose input is known
 
 -- the sink received a prefix of the text
-abbrev pub SinkTakesPrefix : Option (List ℕ) → Option (List ℕ) → List ℕ → Type 0
+abbrev pub SinkTakesPrefix : (written_before written_after : Option (List ℕ)) (text : List ℕ) → Type 0
 SinkTakesPrefix taken taken' z = (y : List ℕ) × IsPrefixOf y z × Appends taken taken' y
 
 -- the output of a run that ends with the first status, if the rules prescribe the second status and this output
-abbrev pub WritesAsPrescribed : Status → Status → List ℕ → Option (List ℕ) → Option (List ℕ) → Type 0
+abbrev pub WritesAsPrescribed : (status prescribed_status : Status) (text : List ℕ) (written_before written_after : Option (List ℕ))
+    → Type 0
 WritesAsPrescribed ReadFault due z taken taken' = SinkTakesPrefix taken taken' z
 WritesAsPrescribed WriteFault due z taken taken' = SinkTakesPrefix taken taken' z
 WritesAsPrescribed NoMemory due z taken taken' = Keeps taken taken'
@@ -164,6 +166,7 @@ WritesAsPrescribed status due z taken taken' = (status ≡ due) × Appends taken
 
 -- the run ends as the rules prescribe for the whole input; if the source, the sink or an allocation fails, only a prefix of the prescribed
 -- output is written
-abbrev pub EndsAsPrescribed : {State : Type 0} → Rules State → State → Status → (left taken taken' : Option (List ℕ)) → Type 0
+abbrev pub EndsAsPrescribed : {State : Type 0} (rules : Rules State) (state : State) (status : Status)
+    (unread written_before written_after : Option (List ℕ)) → Type 0
 EndsAsPrescribed r a status left taken taken' =
     IfSome left (λ x. (due : Status) (z : List ℕ) → IsOutput r a x due z → WritesAsPrescribed status due z taken taken')

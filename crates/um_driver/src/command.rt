@@ -2,7 +2,7 @@
 ghost use Rattle.std.specs.Prelude.{◌≡◌, ◌≤◌, [], length};
 ghost use Rattle.um_io.specs.Lines.{IsLine};
 ghost use Rattle.um_io.specs.Reading.{line_limit};
-ghost use Rattle.um_driver.specs.Rules.{Rules, Answers};
+ghost use Rattle.um_driver.specs.Rules.{Rules, IsLineAnswerOrFault};
 
 use um_lines::{LineFault, Text};
 
@@ -30,7 +30,8 @@ pub trait Command {
         requires size { length line.now ≤ line_limit }
         requires plain { IsLine line.now }
         requires empty { out.old ≡ [] }
-        ensures answered { (a : State) → represents self.old a → Answers rules a line.now result out.new (represents self.new) }
+        ensures answered { (a : State) → represents self.old a
+            → IsLineAnswerOrFault rules a line.now result out.new (represents self.new) }
         ensures keeps { kept self.new ≡ kept self.old };
 
     /// The reason to refuse the end of the input in the current state, or `None`.

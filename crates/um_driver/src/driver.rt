@@ -45,15 +45,15 @@ fn answer_next_line<C: Command, S: Source>(
     }
 }
 
-/// Writes the line that reports the refusal of line `number`, or of the end of the input, and returns the status `BadInput`.
+/// Writes the line that reports the refusal of line `line_number`, or of the end of the input, and returns the status `BadInput`.
 #[cold]
 #[inline(never)]
-fn write_refusal(number: u64, fault: LineFault, out: &mut Text) -> Status
-    ensures text { out.new ≡ refused_text number fault }
+fn write_refusal(line_number: u64, fault: LineFault, out: &mut Text) -> Status
+    ensures text { out.new ≡ refused_text line_number fault }
     ensures status { result ≡ Status.BadInput }
 {
     out.clear();
-    refused_line(out, number, fault);
+    refused_line(out, line_number, fault);
     Status::BadInput
 }
 
@@ -61,7 +61,7 @@ fn write_refusal(number: u64, fault: LineFault, out: &mut Text) -> Status
 /// written before the source was read.
 #[cold]
 #[inline(never)]
-fn write_last_text<K: Sink>(
+fn write_final_output<K: Sink>(
     status: Status,
     out: &Text,
     gathered: &mut OutputBuffer,
@@ -73,7 +73,7 @@ fn write_last_text<K: Sink>(
 {
     match status {
         Status::ReadFault => status,
-        _ => match gathered.write_directly(out.octets(), output) {
+        _ => match gathered.add_and_flush(out.octets(), output) {
             Ok(()) => status,
             Err(_) => Status::WriteFault,
         },
@@ -126,7 +126,7 @@ fn answer_all_lines<C: Command, S: Source, K: Sink>(
             Err(_) => return Status::WriteFault,
         }
         match answer_next_line(command, lines, input, &mut out) {
-            Some(status) => return write_last_text(status, &out, &mut gathered, output),
+            Some(status) => return write_final_output(status, &out, &mut gathered, output),
             None => {}
         }
         match gathered.add(out.octets(), output) {

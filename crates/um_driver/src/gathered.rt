@@ -97,8 +97,8 @@ impl OutputBuffer {
         Ok(())
     }
 
-    /// Writes the buffer, and then `octets`.
-    pub(crate) fn write_directly<K: Sink>(
+    /// Adds `octets` to the buffer, and writes all its octets.
+    pub(crate) fn add_and_flush<K: Sink>(
         &mut self,
         octets: &[u8],
         output: &mut K,

@@ -1,7 +1,7 @@
 //! Commands that keep no state between lines, so that their input may end after any line.
 ghost use Rattle.std.specs.Prelude.{◌≡◌, ℕ, List, [], Option, Some, None, MatchResult};
 ghost use Rattle.um_lines.specs.declared.fault.LineFault.{LineFault as Fault};
-ghost use Rattle.um_driver.specs.Rules.{Answers, stateless};
+ghost use Rattle.um_driver.specs.Rules.{IsLineAnswerOrFault, stateless};
 
 use crate::command::Command;
 use um_lines::{LineFault, Text};
@@ -24,9 +24,9 @@ pub trait Answer {
 
 /// A stateless command made from an `Answer`.
 #[derive(Clone, Copy, Debug)]
-pub struct Stateless<A>(pub A);
+pub struct StatelessCommand<A>(pub A);
 
-impl<A: Answer> Command for Stateless<A> {
+impl<A: Answer> Command for StatelessCommand<A> {
     ghost State = { Unit {0} };
 
     ghost rules = { stateless A.fault A.answers };

@@ -6,41 +6,42 @@ use Rattle.um_link.specs.um_air.Air.{Event, Answer}
 use Rattle.um_link.specs.um_air.Air as A
 use Rattle.um_link.specs.declared.events.No.{No}
 use Rattle.um_link.specs.declared.events.Step.{Step}
-use Rattle.um_link.specs.Naming.{role_of, step_of, answer_of}
+use Rattle.um_link.specs.Naming.{spec_role_of, spec_step_of, spec_answer_of}
 use Rattle.um_end.specs.Terminals.{SideState, SideAnswersCall, ReceivesBursts}
 use Rattle.um_end.specs.declared.terminal.Terminal.{Terminal}
 
 -- the side of a terminal
-abbrev pub side_of : Terminal → Role
-side_of t = role_of t.side
+abbrev pub role_of_terminal : Terminal → Role
+role_of_terminal t = spec_role_of t.side
 
 -- the endpoints of the terminal represent the endpoints of this side state
-abbrev pub Represents : Terminal → SideState → Type 0
+abbrev pub Represents : (terminal : Terminal) (state : SideState) → Type 0
 Represents t a = L.Represents t.links a
 
 -- for every state that the old terminal represents, the specification allows this answer to the call, and the new terminal represents the
 -- state after it
-abbrev pub CallRefinesSideStep : Event → Terminal → Result Step No → Terminal → Type 0
+abbrev pub CallRefinesSideStep : (event : Event) (old : Terminal) (result : Result Step No) (new : Terminal) → Type 0
 CallRefinesSideStep event old result new = (a : SideState) → Represents old a →
-    (b : SideState) × Represents new b × SideAnswersCall (side_of old) a event b (answer_of result)
+    (b : SideState) × Represents new b × SideAnswersCall (role_of_terminal old) a event b (spec_answer_of result)
 
 -- for every state that the terminal represents, the specification allows no answer to the call other than this result
-abbrev pub IsOnlyPossibleAnswer : Event → Terminal → Result Step No → Type 0
+abbrev pub IsOnlyPossibleAnswer : (event : Event) (old : Terminal) (result : Result Step No) → Type 0
 IsOnlyPossibleAnswer event old result =
-    (a : SideState) → Represents old a → (b : SideState) (answer : Answer) → SideAnswersCall (side_of old) a event b answer →
-    answer ≡ answer_of result
+    (a : SideState) → Represents old a → (b : SideState) (answer : Answer) → SideAnswersCall (role_of_terminal old) a event b answer
+    →
+    answer ≡ spec_answer_of result
 
 -- for every state that the old terminal represents, the specification allows this step for the four received bursts, and the new terminal
 -- represents the state after it
-abbrev pub BurstsRefineSideStep : List (List ℤ) → Terminal → Step → Terminal → Type 0
+abbrev pub BurstsRefineSideStep : (bursts : List (List ℤ)) (old : Terminal) (result : Step) (new : Terminal) → Type 0
 BurstsRefineSideStep bursts old result new = (a : SideState) → Represents old a →
-    (b : SideState) × Represents new b × ReceivesBursts (side_of old) a bursts b (step_of result)
+    (b : SideState) × Represents new b × ReceivesBursts (role_of_terminal old) a bursts b (spec_step_of result)
 
 -- for every state that the terminal represents, the specification allows no step for the four received bursts other than this one
-abbrev pub IsOnlyStepForBursts : List (List ℤ) → Terminal → Step → Type 0
+abbrev pub IsOnlyStepForBursts : (bursts : List (List ℤ)) (old : Terminal) (result : Step) → Type 0
 IsOnlyStepForBursts bursts old result =
-    (a : SideState) → Represents old a → (b : SideState) (step : A.Step) → ReceivesBursts (side_of old) a bursts b step →
-    step ≡ step_of result
+    (a : SideState) → Represents old a → (b : SideState) (step : A.Step) → ReceivesBursts (role_of_terminal old) a bursts b step →
+    step ≡ spec_step_of result
 
 -- both terminals have the same side and training sequence code
 pub record KeepsSideAndTsc (old new : Terminal) : Type 0 where

@@ -2,7 +2,7 @@
 use Rattle.um_link.specs.lapdm_window.declared.Sapi.{Sapi}
 use Rattle.um_link.specs.lapdm_window.declared.Sapi.TheVariants.{Zero, Three}
 use Rattle.um_link.specs.lapdm_window.Calls.{Call, Opens, OpensWithoutInfo, SendsFill}
-use Rattle.um_link.specs.lapdm_link.Events.{Open, OpenBare, Ask, Deliver, Lose, Rival, call_of}
+use Rattle.um_link.specs.lapdm_link.Events.{Open, OpenBare, Ask, Deliver, Lose, Rival, endpoint_call_of}
 use Rattle.um_link.specs.um_air.Air.{Event}
 
 -- the event is a call to an endpoint
@@ -22,5 +22,5 @@ sapi_of_call_event event = Zero
 abbrev pub call_of_call_event : Event → Call
 call_of_call_event (Open info) = Opens info
 call_of_call_event (OpenBare role) = OpensWithoutInfo
-call_of_call_event (Ask role sapi request) = call_of request
+call_of_call_event (Ask role sapi request) = endpoint_call_of request
 call_of_call_event event = SendsFill

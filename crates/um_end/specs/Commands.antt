@@ -1,16 +1,16 @@
 -- The abstraction relation of the `end` command.
 use Rattle.std.specs.Prelude.{◌≡◌}
 use Rattle.um_end.specs.declared.command.EndCommand.{EndCommand}
-use Rattle.um_end.specs.Abstraction.{side_of, Represents}
-use Rattle.um_end.specs.EndRuns.{EndRunState, initial_run}
+use Rattle.um_end.specs.Abstraction.{role_of_terminal, Represents}
+use Rattle.um_end.specs.EndRuns.{EndCommandState, initial_run}
 
--- the command `c` represents the run state `s`: side, training sequence code, endpoints and held bursts agree
-pub record CommandRepresents (c : EndCommand) (s : EndRunState) : Type 0 where
-  pub role : s.role ≡ side_of c.terminal
-  pub tsc : s.tsc ≡ c.terminal.tsc
-  pub links : Represents c.terminal s.links
-  pub held_bursts : s.held_bursts ≡ c.held.held
+-- the command `command` represents the run `state`: side, training sequence code, endpoints and held bursts agree
+pub record CommandRepresents (command : EndCommand) (state : EndCommandState) : Type 0 where
+  pub role : state.role ≡ role_of_terminal command.terminal
+  pub tsc : state.tsc ≡ command.terminal.tsc
+  pub links : Represents command.terminal state.links
+  pub held_bursts : state.held_bursts ≡ command.held.held
 
 -- the abstract state of this command at the start of a run
-abbrev pub start_state_of : EndCommand → EndRunState
-start_state_of c = initial_run (side_of c.terminal) c.terminal.tsc
+abbrev pub start_state_of : EndCommand → EndCommandState
+start_state_of c = initial_run (role_of_terminal c.terminal) c.terminal.tsc

@@ -11,12 +11,13 @@ use Rattle.um_end.specs.Abstraction.{Represents}
 use Rattle.um_end.specs.declared.terminal.Terminal.{Terminal}
 
 -- if the accepted octets encode a frame, the endpoint with its SAPI receives it; `sapi`, `effects` and `new` are the result
-pub record TakesAcceptedBlock (accepted : Option Octets) (a : SideState) (sapi : Sapi) (effects : Effects) (new : Terminal) : Type 0 where
-  pub frame : Option Frame
-  pub reads : ReadsFrame Sdcch accepted frame
-  pub carried_out : CarriesOutStep Sdcch (step_for_read_frame frame a) sapi effects new.links
+pub record TakesAcceptedBlock (accepted : Option Octets) (side : SideState) (sapi : Sapi) (effects : Effects) (new : Terminal) : Type 0
+  where
+    pub frame : Option Frame
+    pub reads : ReadsFrame Sdcch accepted frame
+    pub carried_out : CarriesOutStep Sdcch (step_for_read_frame frame side) sapi effects new.links
 
 -- for every state that the old terminal represents, the endpoint with the frame's SAPI receives the frame that the accepted octets encode,
 -- if any
-abbrev pub BlockRefinesSideStep : Option Octets → Terminal → Sapi → Effects → Terminal → Type 0
+abbrev pub BlockRefinesSideStep : (accepted : Option Octets) (old : Terminal) (sapi : Sapi) (effects : Effects) (new : Terminal) → Type 0
 BlockRefinesSideStep accepted old sapi effects new = (a : SideState) → Represents old a → TakesAcceptedBlock accepted a sapi effects new

@@ -8,14 +8,15 @@ use Rattle.um_lines.specs.declared.fault.LineFault.{LineFault}
 use Rattle.um_lines.specs.declared.fault.LineFault.TheVariants as F
 use Rattle.um_lines.specs.Fields.{Value}
 use Rattle.um_lines.specs.Forms.{LineForms, line_fault}
-use Rattle.um_lines.specs.LinkForms.{LinkLineKind, mobile_call_forms, network_call_forms, EndLineKind, end_forms, is_end_line_out_of_order}
+use Rattle.um_lines.specs.LinkForms.{LinkLineKind, mobile_call_line_forms, network_call_line_forms, EndLineKind, end_line_forms}
+use Rattle.um_lines.specs.LinkForms.{is_end_line_out_of_order}
 use Rattle.um_lines.specs.LinkForms as L
 use Rattle.um_lines.specs.Reading.{LineParsesTo}
 use Rattle.um_formats.specs.declared.burst_lines.BurstLine.{BurstLine}
 use Rattle.um_formats.specs.declared.burst_lines.BurstLine.TheVariants.{Normal}
 use Rattle.um_formats.specs.BurstLines.{burst_line_of_values}
 use Rattle.um_script.specs.ScriptLines.{event_of_values}
-use Rattle.um_link.specs.Naming.{event_of}
+use Rattle.um_link.specs.Naming.{spec_event_of}
 use Rattle.um_end.specs.Terminals.{IsCallOfRole}
 use Rattle.um_end.specs.declared.lines.EndLine.{EndLine}
 use Rattle.um_end.specs.declared.lines.EndLine.TheVariants as V
@@ -28,8 +29,8 @@ pub data EndLineMeaning : Type 0 where
 
 -- the forms of the call lines that this side accepts
 abbrev pub call_line_forms : Role → LineForms LinkLineKind
-call_line_forms Mobile = mobile_call_forms
-call_line_forms Network = network_call_forms
+call_line_forms Mobile = mobile_call_line_forms
+call_line_forms Network = network_call_line_forms
 
 -- the meaning of a burst line: a normal burst is received, any other line has no effect
 abbrev pub meaning_of_burst_line : BurstLine → EndLineMeaning
@@ -37,7 +38,7 @@ meaning_of_burst_line (Normal soft) = TakesBurst soft
 meaning_of_burst_line line = Nothing
 
 -- the meaning of a line with this form and these values
-abbrev pub meaning_of_values : EndLineKind → List Value → EndLineMeaning
+abbrev pub meaning_of_values : (kind : EndLineKind) (values : List Value) → EndLineMeaning
 meaning_of_values (L.Burst name) values = meaning_of_burst_line (burst_line_of_values name values)
 meaning_of_values (L.Call name) values = Calls (event_of_values name values)
 
@@ -47,29 +48,29 @@ meaning_of_end_line None = Nothing
 meaning_of_end_line (Some said) = meaning_of_values said.0 said.1
 
 -- the first reason for refusing a line that follows `held` bursts of an unfinished block, or `None` if it is accepted
-abbrev pub end_line_fault : Role → (held : ℕ) → List ℕ → Option LineFault
-end_line_fault role held line = line_fault (end_forms (call_line_forms role)) (is_end_line_out_of_order held) line
+abbrev pub end_line_fault : (role : Role) (held_burst_count : ℕ) (line : List ℕ) → Option LineFault
+end_line_fault role held line = line_fault (end_line_forms (call_line_forms role)) (is_end_line_out_of_order held) line
 
 -- a line that follows `held` bursts of an unfinished block is accepted with this meaning
-abbrev pub EndLineMeans : Role → (held : ℕ) → List ℕ → EndLineMeaning → Type 0
-EndLineMeans role held line = LineParsesTo (end_forms (call_line_forms role)) (is_end_line_out_of_order held) meaning_of_end_line line
+abbrev pub EndLineMeans : (role : Role) (held_burst_count : ℕ) (line : List ℕ) (meaning : EndLineMeaning) → Type 0
+EndLineMeans role held line = LineParsesTo (end_line_forms (call_line_forms role)) (is_end_line_out_of_order held) meaning_of_end_line line
 
 -- the meaning of a line that the parser returned as an `EndLine`
-abbrev pub meaning_of : EndLine → EndLineMeaning
-meaning_of V.Skip = Nothing
-meaning_of (V.Burst soft) = TakesBurst soft
-meaning_of (V.Ask event) = Calls (event_of event)
+abbrev pub meaning_of_parsed_line : EndLine → EndLineMeaning
+meaning_of_parsed_line V.Skip = Nothing
+meaning_of_parsed_line (V.Burst soft) = TakesBurst soft
+meaning_of_parsed_line (V.Ask event) = Calls (spec_event_of event)
 
 -- a terminal of this side can carry out the line: no soft value is -128, and a call is addressed to this side
-abbrev pub IsPossibleLine : Role → EndLine → Type 0
+abbrev pub IsPossibleLine : (role : Role) (line : EndLine) → Type 0
 IsPossibleLine role V.Skip = Unit {0}
 IsPossibleLine role (V.Burst soft) = AllSoftBits soft
-IsPossibleLine role (V.Ask event) = IsCallOfRole role (event_of event)
+IsPossibleLine role (V.Ask event) = IsCallOfRole role (spec_event_of event)
 
 -- ---- internal
 
 -- whether the first word of a line is the name of an endpoint of this side
-abbrev pub names_endpoint_of_side : Role → List (List ℕ) → Bool
+abbrev pub names_endpoint_of_side : (role : Role) (words : List (List ℕ)) → Bool
 names_endpoint_of_side role [] = false
 names_endpoint_of_side Mobile (name ∷ words) = bytes_eq name (codes "mob") || bytes_eq name (codes "mob3")
 names_endpoint_of_side Network (name ∷ words) = bytes_eq name (codes "net") || bytes_eq name (codes "net3")
@@ -79,12 +80,12 @@ abbrev pub meaning_of_call : Option Event → EndLineMeaning
 meaning_of_call None = Nothing
 meaning_of_call (Some event) = Calls event
 
--- converts the fault of a call line outside a block, if any, to its fault inside a block: `Word` stays, all others become `Order`
-abbrev pub call_fault_to_block_fault : Option LineFault → Option LineFault
-call_fault_to_block_fault (Some F.Word) = Some F.Word
-call_fault_to_block_fault fault = Some F.Order
+-- the fault of a call line inside a block, given its fault outside: `Word` stays, and any other line, valid or not, has `Order`
+abbrev pub call_line_fault_inside_block : Option LineFault → Option LineFault
+call_line_fault_inside_block (Some F.Word) = Some F.Word
+call_line_fault_inside_block fault = Some F.Order
 
 -- converts the fault of a burst line inside a block in `replay` to its fault in `end`: `Order` becomes `Word`
-abbrev pub burst_fault_to_end_fault : Option LineFault → Option LineFault
-burst_fault_to_end_fault (Some F.Order) = Some F.Word
-burst_fault_to_end_fault fault = fault
+abbrev pub burst_line_fault_in_end_command : Option LineFault → Option LineFault
+burst_line_fault_in_end_command (Some F.Order) = Some F.Word
+burst_line_fault_in_end_command fault = fault

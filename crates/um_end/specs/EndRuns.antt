@@ -14,14 +14,14 @@ use Rattle.um_end.specs.EndLines.{EndLineMeaning, Nothing, TakesBurst, Calls, en
 
 -- the state of a run of the `end` command: the side, its training sequence code, its two endpoints, and the bursts of an unfinished block
 -- in order
-pub record EndRunState : Type 0 where
+pub record EndCommandState : Type 0 where
   pub role : Role
   pub tsc : ℕ
   pub links : SideState
   pub held_bursts : List (List ℤ)
 
 -- the state of a run before its first line
-abbrev pub initial_run : Role → ℕ → EndRunState
+abbrev pub initial_run : (role : Role) (tsc : ℕ) → EndCommandState
 initial_run role tsc = record { role = role; tsc = tsc; links = idle_side role Sdcch; held_bursts = [] }
 
 -- the octets of the frames that an answer reports as sent
@@ -42,40 +42,42 @@ pub record AppendsCodedFrames (tsc : ℕ) (frames : List Octets) (old new : List
   pub text_is : new ≡ old ++ flat_map bursts_text blocks
 
 -- the answer to the fourth burst of a block: the four bursts are received as a block
-pub record IsAnswerToFourBursts (s : EndRunState) (bursts : List (List ℤ)) (text : List ℕ) (after : EndRunState) : Type 0 where
+pub record IsAnswerToFourBursts (state : EndCommandState) (bursts : List (List ℤ)) (output : List ℕ) (after : EndCommandState) : Type
+    0 where
   pub links : SideState
   pub step : Step
-  pub receives_bursts : ReceivesBursts s.role s.links bursts links step
-  pub text_is : IsAnswerText s.tsc (Accepts step) text
-  pub after_is : after ≡ record s { links = links; held_bursts = [] }
+  pub receives_bursts : ReceivesBursts state.role state.links bursts links step
+  pub text_is : IsAnswerText state.tsc (Accepts step) output
+  pub after_is : after ≡ record state { links = links; held_bursts = [] }
 
 -- the answer to the last of these bursts: none if there are fewer than four, otherwise the answer to the block
-abbrev pub IsAnswerToBursts : EndRunState → List (List ℤ) → List ℕ → EndRunState → Type 0
+abbrev pub IsAnswerToBursts : (state : EndCommandState) (bursts : List (List ℤ)) (output : List ℕ) (after : EndCommandState) → Type 0
 IsAnswerToBursts s bursts text after =
     ((length bursts < 4) × (text ≡ []) × (after ≡ record s { held_bursts = bursts }))
     ⊎ ((length bursts ≡ 4) × IsAnswerToFourBursts s bursts text after)
 
--- the answer to a call line in state `s` is `text`, and `after` is the state after it
-pub record IsCallLineAnswer (s : EndRunState) (event : Event) (text : List ℕ) (after : EndRunState) : Type 0 where
+-- the answer to a call line in `state` is `output`, and `after` is the state after it
+pub record IsCallLineAnswer (state : EndCommandState) (event : Event) (output : List ℕ) (after : EndCommandState) : Type 0 where
   pub links : SideState
   pub answer : Answer
-  pub answers_call : SideAnswersCall s.role s.links event links answer
-  pub text_is : IsAnswerText s.tsc answer text
-  pub after_is : after ≡ record s { links = links }
+  pub answers_call : SideAnswersCall state.role state.links event links answer
+  pub text_is : IsAnswerText state.tsc answer output
+  pub after_is : after ≡ record state { links = links }
 
 -- the text answers a line with this meaning, and leads from the first state to the second
-abbrev pub TextAnswersMeaning : EndRunState → EndLineMeaning → List ℕ → EndRunState → Type 0
-TextAnswersMeaning s Nothing text after = (text ≡ []) × (after ≡ s)
-TextAnswersMeaning s (TakesBurst soft) text after = IsAnswerToBursts s (s.held_bursts ++ soft ∷ []) text after
-TextAnswersMeaning s (Calls event) text after = IsCallLineAnswer s event text after
+abbrev pub IsStepForLineMeaning : (state : EndCommandState) (meaning : EndLineMeaning) (output : List ℕ) (after : EndCommandState) →
+    Type 0
+IsStepForLineMeaning s Nothing text after = (text ≡ []) × (after ≡ s)
+IsStepForLineMeaning s (TakesBurst soft) text after = IsAnswerToBursts s (s.held_bursts ++ soft ∷ []) text after
+IsStepForLineMeaning s (Calls event) text after = IsCallLineAnswer s event text after
 
 -- the text answers a line, and leads from the first state to the second
-abbrev pub AnswersEndLine : EndRunState → List ℕ → List ℕ → EndRunState → Type 0
+abbrev pub AnswersEndLine : (state : EndCommandState) (line output : List ℕ) (after : EndCommandState) → Type 0
 AnswersEndLine s line text after = (meaning : EndLineMeaning) × EndLineMeans s.role (length s.held_bursts) line meaning
-    × TextAnswersMeaning s meaning text after
+    × IsStepForLineMeaning s meaning text after
 
 -- the rules of the `end` command; its input must not end inside a block
-abbrev pub end_command_rules : Rules EndRunState
+abbrev pub end_command_rules : Rules EndCommandState
 end_command_rules = record {
   fault = λ s line. end_line_fault s.role (length s.held_bursts) line;
   end_fault = λ s. unfinished_block_fault s.held_bursts;

@@ -11,7 +11,7 @@ use Rattle.um_link.specs.lapdm_window.Ends.{Role, Mobile}
 use Rattle.um_link.specs.lapdm_window.Calls.{Call, Opens, OpensWithoutInfo, refusal_of}
 use Rattle.um_link.specs.um_block.declared.received.Received.{Received}
 use Rattle.um_link.specs.um_block.Received.{IsReceivedBlock}
-use Rattle.um_link.specs.lapdm_link.Events.{Open, OpenBare, Ask, Idle, BySide, call_of, as_event_refusal}
+use Rattle.um_link.specs.lapdm_link.Events.{Open, OpenBare, Ask, Idle, BySide, endpoint_call_of, as_event_refusal}
 pub use Rattle.um_link.specs.lapdm_window.Sides.{
   SideState,
   idle_side,
@@ -22,12 +22,12 @@ pub use Rattle.um_link.specs.lapdm_window.Sides.{
   no_op_step,
   layer3_call_step,
 }
-pub use Rattle.um_link.specs.lapdm_window.Sides.{takes, step_for_read_frame}
+pub use Rattle.um_link.specs.lapdm_window.Sides.{step_for_frame, step_for_read_frame}
 use Rattle.um_link.specs.um_air.Air.{Event, ReadsFrame, Step, Answer, Refuses, Accepts}
 
 -- the result of a step of a side, with the report on the block received, if any, and the frames sent as octets
-abbrev pub step_of : Role → Option Received → SideStep → Step
-step_of role received d = record {
+abbrev pub terminal_step_of : (role : Role) (received : Option Received) (step : SideStep) → Step
+terminal_step_of role received d = record {
   who = BySide role;
   sapi = d.sapi;
   received = received;
@@ -36,15 +36,16 @@ step_of role received d = record {
 }
 
 -- the endpoint with this SAPI returns this answer to the call, which leads from the first state to the second; a refusal changes nothing
-abbrev pub EndpointAnswersCall : Role → SideState → Sapi → Call → SideState → Answer → Type 0
+abbrev pub EndpointAnswersCall : (role : Role) (state : SideState) (sapi : Sapi) (call : Call) (after : SideState) (answer : Answer) →
+    Type 0
 EndpointAnswersCall role a sapi call b (Refuses why) = (as_event_refusal (refusal_of call (endpoint_on sapi a)) ≡ Some why) × (b ≡ a)
 EndpointAnswersCall role a sapi call b (Accepts step) =
     (as_event_refusal (refusal_of call (endpoint_on sapi a)) ≡ None) × (b ≡ (layer3_call_step sapi call a).new_state) ×
-    (step ≡ step_of role None (layer3_call_step sapi call a))
+    (step ≡ terminal_step_of role None (layer3_call_step sapi call a))
 
 -- the event is a call that this side supports: only the mobile establishes SAPI 0, either side establishes SAPI 3, and only the endpoint of
 -- SAPI 0 sends fill frames
-abbrev pub IsCallOfRole : Role → Event → Type 0
+abbrev pub IsCallOfRole : (role : Role) (event : Event) → Type 0
 IsCallOfRole role (Open info) = role ≡ Mobile
 IsCallOfRole role (OpenBare other) = other ≡ role
 IsCallOfRole role (Ask other Three Idle) = ⊥
@@ -52,17 +53,17 @@ IsCallOfRole role (Ask other sapi request) = other ≡ role
 IsCallOfRole role event = ⊥
 
 -- the event is a layer 3 call, has this answer, and leads from the first state to the second
-abbrev pub SideAnswersCall : Role → SideState → Event → SideState → Answer → Type 0
+abbrev pub SideAnswersCall : (role : Role) (state : SideState) (event : Event) (after : SideState) (answer : Answer) → Type 0
 SideAnswersCall role a (Open info) b answer = EndpointAnswersCall role a Zero (Opens info) b answer
 SideAnswersCall role a (OpenBare other) b answer = EndpointAnswersCall role a Three OpensWithoutInfo b answer
-SideAnswersCall role a (Ask other sapi request) b answer = EndpointAnswersCall role a sapi (call_of request) b answer
+SideAnswersCall role a (Ask other sapi request) b answer = EndpointAnswersCall role a sapi (endpoint_call_of request) b answer
 SideAnswersCall role a event b answer = ⊥
 
 -- four bursts of soft values are received as a block; if the accepted octets encode a frame, the endpoint with its SAPI receives it
-pub record ReceivesBursts (role : Role) (a : SideState) (bursts : List (List ℤ)) (b : SideState) (step : Step) : Type 0 where
+pub record ReceivesBursts (role : Role) (before : SideState) (bursts : List (List ℤ)) (after : SideState) (step : Step) : Type 0 where
   pub report : Received
   pub frame : Option Frame
   pub received : IsReceivedBlock bursts report
   pub reads : ReadsFrame Sdcch report.accepted frame
-  pub new_state_is : b ≡ (step_for_read_frame frame a).new_state
-  pub step_is : step ≡ step_of role (Some report) (step_for_read_frame frame a)
+  pub new_state_is : after ≡ (step_for_read_frame frame before).new_state
+  pub step_is : step ≡ terminal_step_of role (Some report) (step_for_read_frame frame before)

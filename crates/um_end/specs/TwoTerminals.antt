@@ -6,7 +6,7 @@ use Rattle.um_link.specs.lapdm_link.Queues.{Queues, empty_queues, queue_of, with
 use Rattle.um_link.specs.lapdm_link.Events.{BothSides, idle_endpoints, side_with_role, with_side, other}
 use Rattle.um_link.specs.lapdm_link.Claims.{LogLine, answer_log_lines, notice_log_lines}
 use Rattle.um_link.specs.um_air.Air.{Octets, Event, Answer, Step}
-use Rattle.um_link.specs.um_air.Damage.{AreLightlyDamaged}
+use Rattle.um_link.specs.um_air.Damage.{AreCorrectableBursts}
 use Rattle.um_link.specs.um_air.Sessions.{answer_without_blocks}
 use Rattle.um_end.specs.Terminals.{SideState, IsCallOfRole, SideAnswersCall, ReceivesBursts}
 use Rattle.um_end.specs.EndRuns.{frames_in_answer}
@@ -28,11 +28,12 @@ pub data TerminalStep : Type 0 where
   Loses : (sender : Role) → TerminalStep
 
 -- the state after a side has changed to a new state and its blocks have been added to the blocks in transit
-abbrev pub state_after_step : Role → SideState → List Octets → Queues Octets → TwoTerminals → TwoTerminals
+abbrev pub state_after_step : (side : Role) (links : SideState) (sent : List Octets) (remaining : Queues Octets)
+    (terminals : TwoTerminals) → TwoTerminals
 state_after_step side links sent left a = record { sides = with_side side links a.sides; queues = with_appended side sent left }
 
 -- the step leads from the first state to the second
-abbrev pub IsTerminalStep : TwoTerminals → TerminalStep → TwoTerminals → Type 0
+abbrev pub IsTerminalStep : (terminals : TwoTerminals) (step : TerminalStep) (after : TwoTerminals) → Type 0
 IsTerminalStep a (Calls side event answer) b = (links : SideState) × IsCallOfRole side event
     × SideAnswersCall side (side_with_role side a.sides) event links answer
     × (b ≡ state_after_step side links (frames_in_answer answer) a.queues a)
@@ -42,22 +43,23 @@ IsTerminalStep a (TakesBurst side bursts step) b = (links : SideState)
 IsTerminalStep a (Loses sender) b = b ≡ record a { queues = without_first sender a.queues }
 
 -- the steps can follow one another from this state, and each satisfies the given condition
-abbrev pub AreStepsFrom : (TwoTerminals → TerminalStep → Type 0) → TwoTerminals → List TerminalStep → Type 0
+abbrev pub AreStepsFrom : (MayTake : (TwoTerminals → TerminalStep → Type 0)) (terminals : TwoTerminals) (turns : List TerminalStep)
+    → Type 0
 AreStepsFrom May a [] = Unit {0}
 AreStepsFrom May a (turn ∷ turns) = May a turn × (b : TwoTerminals) × IsTerminalStep a turn b × AreStepsFrom May b turns
 
 -- the bursts carry the first block in the list, lightly damaged
-abbrev pub AreBurstsOfFirstBlock : List (List ℤ) → List Octets → Type 0
+abbrev pub AreBurstsOfFirstBlock : (bursts : List (List ℤ)) (blocks : List Octets) → Type 0
 AreBurstsOfFirstBlock bursts [] = ⊥
-AreBurstsOfFirstBlock bursts (first ∷ others) = AreLightlyDamaged first bursts
+AreBurstsOfFirstBlock bursts (first ∷ others) = AreCorrectableBursts first bursts
 
 -- bursts that reach a side carry the oldest block in transit to it, lightly damaged
-abbrev pub DeliversOldestBlock : TwoTerminals → TerminalStep → Type 0
+abbrev pub DeliversOldestBlock : (terminals : TwoTerminals) (turn : TerminalStep) → Type 0
 DeliversOldestBlock a (TakesBurst side bursts step) = AreBurstsOfFirstBlock bursts (queue_of (other side) a.queues)
 DeliversOldestBlock a turn = Unit {0}
 
 -- any step is allowed: a side may receive any bursts
-abbrev pub AnyStepAllowed : TwoTerminals → TerminalStep → Type 0
+abbrev pub AnyStepAllowed : (terminals : TwoTerminals) (turn : TerminalStep) → Type 0
 AnyStepAllowed a turn = Unit {0}
 
 -- the log lines of a step: its call, if any, and the notices reported
@@ -67,6 +69,6 @@ step_log_lines (TakesBurst side bursts step) = notice_log_lines step.who step.sa
 step_log_lines (Loses sender) = []
 
 -- the log of these steps, in order
-abbrev pub lines : List TerminalStep → List LogLine
-lines [] = []
-lines (turn ∷ turns) = step_log_lines turn ++ lines turns
+abbrev pub session_log : (turns : List TerminalStep) → List LogLine
+session_log [] = []
+session_log (turn ∷ turns) = step_log_lines turn ++ session_log turns

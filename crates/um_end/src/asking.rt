@@ -1,7 +1,7 @@
 //! Converts events into endpoint calls.
 ghost use Rattle.std.specs.Prelude.{◌≡◌};
-ghost use Rattle.um_link.specs.lapdm_window.Calls.{call_of, IsCallOfSapi};
-ghost use Rattle.um_link.specs.Naming.{event_of};
+ghost use Rattle.um_link.specs.lapdm_window.Calls.{endpoint_call_of, IsCallOfSapi};
+ghost use Rattle.um_link.specs.Naming.{spec_event_of};
 ghost use Rattle.um_end.specs.Asking.{IsCallEvent, sapi_of_call_event, call_of_call_event};
 
 use lapdm_end::{Call, Sapi};
@@ -9,7 +9,7 @@ use um_link::Event;
 
 /// The SAPI of the endpoint that the event calls.
 pub(crate) fn sapi_of_event(event: &Event<'_>) -> Sapi
-    ensures { result ≡ sapi_of_call_event (event_of event.now) }
+    ensures { result ≡ sapi_of_call_event (spec_event_of event.now) }
 {
     match event {
         Event::OpenBare(_) => Sapi::Three,
@@ -21,10 +21,10 @@ pub(crate) fn sapi_of_event(event: &Event<'_>) -> Sapi
 }
 
 /// The endpoint call that the event requests.
-pub(crate) fn call_of_event<'a>(event: &Event<'a>) -> Call<'a>
-    requires call { IsCallEvent (event_of event.now) }
-    ensures asked_call { call_of result ≡ call_of_call_event (event_of event.now) }
-    ensures sapi { IsCallOfSapi (sapi_of_call_event (event_of event.now)) (call_of result) }
+pub(crate) fn endpoint_call_of_event<'a>(event: &Event<'a>) -> Call<'a>
+    requires call { IsCallEvent (spec_event_of event.now) }
+    ensures asked_call { endpoint_call_of result ≡ call_of_call_event (spec_event_of event.now) }
+    ensures sapi { IsCallOfSapi (sapi_of_call_event (spec_event_of event.now)) (endpoint_call_of result) }
 {
     match *event {
         Event::Open(info) => Call::Open(info),

@@ -2,15 +2,15 @@
 ghost use Rattle.std.specs.Prelude.{◌≡◌, ◌+◌, ◌*◌, ◌<◌, ◌≤◌, ℕ, [], ◌∷◌, ◌++◌, length, OnOk};
 ghost use Rattle.um_link.specs.um_block.conv_code.Likelihood.{AllSoftBits};
 ghost use Rattle.um_link.specs.Coded.{AreCodedBlocks};
-ghost use Rattle.um_link.specs.Naming.{role_of, step_of, answer_of, step_result};
+ghost use Rattle.um_link.specs.Naming.{spec_role_of, spec_step_of, spec_answer_of, step_result};
 ghost use Rattle.um_link.specs.Abstraction.{StepFitsItsActor};
 ghost use Rattle.um_link.specs.lapdm_window.Ends.{Role};
 ghost use Rattle.um_link.specs.um_io.Lines.{IsLine};
 ghost use Rattle.um_link.specs.um_io.Reading.{line_limit};
 ghost use Rattle.um_driver.specs.Laws.{HasOneOutput};
-ghost use Rattle.um_driver.specs.Rules.{Answers};
+ghost use Rattle.um_driver.specs.Rules.{IsLineAnswerOrFault};
 ghost use Rattle.um_script.specs.AnswerLines.{answer_text};
-ghost use Rattle.um_end.specs.EndRuns.{EndRunState, initial_run, end_command_rules, frames_in_answer, IsAnswerText, IsAnswerToBursts};
+ghost use Rattle.um_end.specs.EndRuns.{EndCommandState, initial_run, end_command_rules, frames_in_answer, IsAnswerText, IsAnswerToBursts};
 ghost use Rattle.um_end.specs.EndRuns.{AppendsCodedFrames};
 ghost use Rattle.um_end.specs.Commands.{CommandRepresents, start_state_of};
 
@@ -23,7 +23,7 @@ use um_link::{End, No, Step};
 use um_script::{Room, write_step_lines};
 
 /// For the `end` command, every input has exactly one output and one status.
-pub fn law_end_output_is_unique()
+pub fn law_end_command_output_is_unique()
     ensures { (role : Role) (tsc : ℕ) → tsc ≤ 7 → HasOneOutput end_command_rules (initial_run role tsc) }
 {}
 
@@ -42,7 +42,7 @@ impl EndCommand {
     pub fn new(side: End, tsc: u8) -> EndCommand
         requires { tsc ≤ 7 }
         ensures represents { CommandRepresents result (start_state_of result) }
-        ensures start { start_state_of result ≡ initial_run (role_of side) tsc }
+        ensures start { start_state_of result ≡ initial_run (spec_role_of side) tsc }
     {
         EndCommand {
             terminal: Terminal::new(side, tsc),
@@ -56,9 +56,10 @@ impl EndCommand {
     fn add_burst_to_block(&mut self, burst: [i8; BURST_BITS], out: &mut Text)
         requires soft { AllSoftBits burst }
         requires empty { out.old ≡ [] }
-        ensures answers { (s : EndRunState) → CommandRepresents self.old s →
-            (after : EndRunState) × IsAnswerToBursts s (s.held_bursts ++ burst ∷ []) out.new after × CommandRepresents self.new after }
-        ensures size { (s : EndRunState) → CommandRepresents self.old s → length out.new < 2000 }
+        ensures answers { (s : EndCommandState) → CommandRepresents self.old s →
+            (after : EndCommandState) × IsAnswerToBursts s (s.held_bursts ++ burst ∷ []) out.new after
+            × CommandRepresents self.new after }
+        ensures size { (s : EndCommandState) → CommandRepresents self.old s → length out.new < 2000 }
     {
         if self.held.add(burst) {
             self.terminal
@@ -69,7 +70,7 @@ impl EndCommand {
 }
 
 impl Command for EndCommand {
-    ghost State = { EndRunState };
+    ghost State = { EndCommandState };
 
     ghost rules = { end_command_rules };
 
@@ -85,10 +86,10 @@ impl Command for EndCommand {
         requires size { length line.now ≤ line_limit }
         requires plain { IsLine line.now }
         requires empty { out.old ≡ [] }
-        ensures answered { (s : EndRunState) → CommandRepresents self.old s →
-            Answers end_command_rules s line.now result out.new (CommandRepresents self.new) }
+        ensures answered { (s : EndCommandState) → CommandRepresents self.old s →
+            IsLineAnswerOrFault end_command_rules s line.now result out.new (CommandRepresents self.new) }
         ensures keeps { tt {0} ≡ tt }
-        ensures size { (s : EndRunState) → CommandRepresents self.old s → length out.new < 2000 }
+        ensures size { (s : EndCommandState) → CommandRepresents self.old s → length out.new < 2000 }
     {
         match parse_end(line, self.terminal.side, self.held.count(), &mut self.room)? {
             EndLine::Skip => {}
@@ -111,17 +112,17 @@ impl Command for EndCommand {
 }
 
 /// Writes the text of an answer, followed by the burst lines of each frame sent.
-fn write_answer(out: &mut Text, terminal: &Terminal, done: &Result<(), No>, step: &Step)
+fn write_answer(out: &mut Text, terminal: &Terminal, outcome: &Result<(), No>, step: &Step)
     requires empty { out.old ≡ [] }
-    requires fits { OnOk done.now (StepFitsItsActor (step_of step.now)) }
-    ensures text { IsAnswerText terminal.now.tsc (answer_of (step_result done.now step.now)) out.new }
-    ensures lines { length (answer_text (answer_of (step_result done.now step.now))) < 2000 }
+    requires fits { OnOk outcome.now (StepFitsItsActor (spec_step_of step.now)) }
+    ensures text { IsAnswerText terminal.now.tsc (spec_answer_of (step_result outcome.now step.now)) out.new }
+    ensures lines { length (answer_text (spec_answer_of (step_result outcome.now step.now))) < 2000 }
     ensures length { length out.new ≡
-        length (answer_text (answer_of (step_result done.now step.now))) + 604 * length
-        (frames_in_answer (answer_of (step_result done.now step.now))) }
+        length (answer_text (spec_answer_of (step_result outcome.now step.now))) + 604 * length
+        (frames_in_answer (spec_answer_of (step_result outcome.now step.now))) }
 {
-    write_step_lines(out, done, step);
-    if done.is_ok() {
+    write_step_lines(out, outcome, step);
+    if outcome.is_ok() {
         push_block_lines(out, terminal, step.effects.frames.as_slice());
     }
 }

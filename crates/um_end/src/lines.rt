@@ -4,18 +4,18 @@
 //! also refuses lines of other forms, and calls inside a block.
 ghost use Rattle.std.specs.Prelude.{◌≡◌, ◌≤◌, ℕ, List, true, false, Some, length, IfOk};
 ghost use Rattle.std.specs.Result.{result_err};
-ghost use Rattle.um_lines.specs.Words.{words, is_skipped};
+ghost use Rattle.um_lines.specs.Words.{words, is_skipped_line};
 ghost use Rattle.um_lines.specs.Meanings.{HasOneMeaningOrFault};
 ghost use Rattle.um_link.specs.lapdm_window.Ends.{Role};
-ghost use Rattle.um_link.specs.Naming.{role_of};
-ghost use Rattle.um_script.specs.Naming.{meaning_of as script_meaning};
-ghost use Rattle.um_end.specs.EndLines.{end_line_fault, EndLineMeans, meaning_of, IsPossibleLine, names_endpoint_of_side};
+ghost use Rattle.um_link.specs.Naming.{spec_role_of};
+ghost use Rattle.um_script.specs.Naming.{event_of_script_line as script_meaning};
+ghost use Rattle.um_end.specs.EndLines.{end_line_fault, EndLineMeans, meaning_of_parsed_line, IsPossibleLine, names_endpoint_of_side};
 ghost use Rattle.um_end.specs.EndLines.{meaning_of_burst_line};
-ghost use Rattle.um_end.specs.EndLines.{meaning_of_call, call_fault_to_block_fault};
-ghost use Rattle.um_end.specs.EndLines.{burst_fault_to_end_fault};
+ghost use Rattle.um_end.specs.EndLines.{meaning_of_call, call_line_fault_inside_block};
+ghost use Rattle.um_end.specs.EndLines.{burst_line_fault_in_end_command};
 
 use um_formats::{BURST_BITS, BurstLine, parse_burst};
-use um_lines::{LINE_LIMIT, LineFault, first_word, is_skipped};
+use um_lines::{LINE_LIMIT, LineFault, first_word, is_skipped_line};
 use um_link::{End, Event};
 use um_script::{Room, ScriptLine, parse_script};
 
@@ -42,16 +42,16 @@ pub fn parse_end<'a>(
     room: &'a mut Room,
 ) -> Result<EndLine<'a>, LineFault>
     requires { held ≤ 3 }
-    ensures means { IfOk result (λ read. EndLineMeans (role_of side) held line.now (meaning_of read)) }
-    ensures refused { result_err result ≡ end_line_fault (role_of side) held line.now }
+    ensures means { IfOk result (λ read. EndLineMeans (spec_role_of side) held line.now (meaning_of_parsed_line read)) }
+    ensures refused { result_err result ≡ end_line_fault (spec_role_of side) held line.now }
 
     // A terminal of this side can carry out the line.
-    ensures possible { IfOk result (IsPossibleLine (role_of side)) }
+    ensures possible { IfOk result (IsPossibleLine (spec_role_of side)) }
 {
     if line.len() > LINE_LIMIT {
         return Err(LineFault::Long);
     }
-    if is_skipped(line) {
+    if is_skipped_line(line) {
         return Ok(EndLine::Skip);
     }
     if begins_with_side_endpoint(line, side) {
@@ -63,7 +63,7 @@ pub fn parse_end<'a>(
 
 /// Whether a line begins with the name of an endpoint of this side.
 fn begins_with_side_endpoint(line: &[u8], side: End) -> bool
-    ensures { result ≡ names_endpoint_of_side (role_of side) (words line.now) }
+    ensures { result ≡ names_endpoint_of_side (spec_role_of side) (words line.now) }
 {
     let name = match first_word(line) {
         Some((name, _)) => name,
@@ -82,10 +82,10 @@ fn parse_call_line<'a>(
     room: &'a mut Room,
 ) -> Result<EndLine<'a>, LineFault>
     requires size { length line.now ≤ 4096 }
-    requires not_skipped { is_skipped line.now ≡ false }
-    requires own { names_endpoint_of_side (role_of side) (words line.now) ≡ true }
-    ensures means { IfOk result (λ read. EndLineMeans (role_of side) held line.now (meaning_of read)) }
-    ensures refused { result_err result ≡ end_line_fault (role_of side) held line.now }
+    requires not_skipped { is_skipped_line line.now ≡ false }
+    requires own { names_endpoint_of_side (spec_role_of side) (words line.now) ≡ true }
+    ensures means { IfOk result (λ read. EndLineMeans (spec_role_of side) held line.now (meaning_of_parsed_line read)) }
+    ensures refused { result_err result ≡ end_line_fault (spec_role_of side) held line.now }
 {
     let read = parse_script(line, room);
     if held > 0 {
@@ -97,10 +97,10 @@ fn parse_call_line<'a>(
     }
 }
 
-fn as_end_line(script: ScriptLine<'_>) -> EndLine<'_>
-    ensures { meaning_of result ≡ meaning_of_call (script_meaning script.entry) }
+fn as_end_line(script_line: ScriptLine<'_>) -> EndLine<'_>
+    ensures { meaning_of_parsed_line result ≡ meaning_of_call (script_meaning script_line.entry) }
 {
-    match script {
+    match script_line {
         ScriptLine::Skip => EndLine::Skip,
         ScriptLine::Step(event) => EndLine::Ask(event),
     }
@@ -108,7 +108,7 @@ fn as_end_line(script: ScriptLine<'_>) -> EndLine<'_>
 
 /// Converts the fault of a call line outside a block, if any, to its fault inside a block.
 fn block_fault_from_call_fault(fault: Option<LineFault>) -> LineFault
-    ensures { Some result ≡ call_fault_to_block_fault fault }
+    ensures { Some result ≡ call_line_fault_inside_block fault }
 {
     match fault {
         Some(LineFault::Word) => LineFault::Word,
@@ -117,12 +117,12 @@ fn block_fault_from_call_fault(fault: Option<LineFault>) -> LineFault
 }
 
 /// Parses a line with one burst of a block. The `end` command does not allow access bursts or synchronisation bursts.
-fn parse_burst_line<'a>(line: &[u8], side: End, held: u8) -> Result<EndLine<'a>, LineFault>
+fn parse_burst_line<'a>(line: &[u8], side: End, held_bursts: u8) -> Result<EndLine<'a>, LineFault>
     requires size { length line.now ≤ 4096 }
-    requires not_skipped { is_skipped line.now ≡ false }
-    requires other { names_endpoint_of_side (role_of side) (words line.now) ≡ false }
-    ensures means { IfOk result (λ read. EndLineMeans (role_of side) held line.now (meaning_of read)) }
-    ensures refused { result_err result ≡ end_line_fault (role_of side) held line.now }
+    requires not_skipped { is_skipped_line line.now ≡ false }
+    requires other { names_endpoint_of_side (spec_role_of side) (words line.now) ≡ false }
+    ensures means { IfOk result (λ read. EndLineMeans (spec_role_of side) held_bursts line.now (meaning_of_parsed_line read)) }
+    ensures refused { result_err result ≡ end_line_fault (spec_role_of side) held_bursts line.now }
 {
     match parse_burst(line, 3) {
         Ok(burst) => Ok(end_line_of_burst_line(burst)),
@@ -130,10 +130,10 @@ fn parse_burst_line<'a>(line: &[u8], side: End, held: u8) -> Result<EndLine<'a>,
     }
 }
 
-fn end_line_of_burst_line<'a>(burst: BurstLine) -> EndLine<'a>
-    ensures { meaning_of result ≡ meaning_of_burst_line burst }
+fn end_line_of_burst_line<'a>(burst_line: BurstLine) -> EndLine<'a>
+    ensures { meaning_of_parsed_line result ≡ meaning_of_burst_line burst_line }
 {
-    match burst {
+    match burst_line {
         BurstLine::Normal(soft) => EndLine::Burst(soft),
         BurstLine::Skip => EndLine::Skip,
         BurstLine::Access { .. } => EndLine::Skip,
@@ -143,7 +143,7 @@ fn end_line_of_burst_line<'a>(burst: BurstLine) -> EndLine<'a>
 
 /// Converts the fault of a burst line inside a block in `replay` to its fault in the `end` command.
 fn end_fault_from_burst_fault(fault: LineFault) -> LineFault
-    ensures { Some result ≡ burst_fault_to_end_fault (Some fault) }
+    ensures { Some result ≡ burst_line_fault_in_end_command (Some fault) }
 {
     match fault {
         LineFault::Order => LineFault::Word,

@@ -7,11 +7,11 @@ ghost use Rattle.um_link.specs.um_block.Sent.{IsSentBlock};
 ghost use Rattle.um_link.specs.lapdm_frame.declared.Channel.TheVariants.{Sdcch};
 ghost use Rattle.lapdm_end.specs.Sides.{channel_of};
 ghost use Rattle.um_link.specs.lapdm_link.Events as E;
-ghost use Rattle.um_link.specs.Naming.{role_of, event_of, actor_of_who, step_of, step_result};
+ghost use Rattle.um_link.specs.Naming.{spec_role_of, spec_event_of, spec_who_of, spec_step_of, step_result};
 ghost use Rattle.um_link.specs.um_block.declared.received.Received.{Received};
 ghost use Rattle.um_script.specs.AnswerLines.{reception_quality, ReceptionIsInRange};
 
-use crate::asking::{call_of_event, sapi_of_event};
+use crate::asking::{endpoint_call_of_event, sapi_of_event};
 use lapdm_end::{Channel, Effects, Role, Sapi, Side, read};
 use um_formats::{BLOCK_OCTETS, BURST_BITS};
 use um_link::{End, Event, No, Received, Step, Who, receive_block, send_block};
@@ -30,13 +30,13 @@ pub struct Terminal {
 impl Terminal {
     ghost use Rattle.um_end.specs.Terminals.{idle_side, IsCallOfRole};
     ghost use Rattle.um_end.specs.Abstraction.{Represents, CallRefinesSideStep, IsOnlyPossibleAnswer, BurstsRefineSideStep};
-    ghost use Rattle.um_end.specs.Abstraction.{IsOnlyStepForBursts, KeepsSideAndTsc, side_of};
+    ghost use Rattle.um_end.specs.Abstraction.{IsOnlyStepForBursts, KeepsSideAndTsc, role_of_terminal};
     ghost use Rattle.um_end.specs.Doing.{BlockRefinesSideStep};
 
     /// Creates a side with both endpoints in Idle. The training sequence code `tsc` must be 0 to 7.
     pub fn new(side: End, tsc: u8) -> Terminal
         requires { tsc ≤ 7 }
-        ensures represents { Represents result (idle_side (role_of side) Sdcch) }
+        ensures represents { Represents result (idle_side (spec_role_of side) Sdcch) }
         ensures side { result.side ≡ side }
         ensures tsc { result.tsc ≡ tsc }
     {
@@ -54,11 +54,11 @@ impl Terminal {
     /// Carries out a layer 3 call to an endpoint of this side: the mobile's `Open`, an `OpenBare`, or an `Event::End`. A refused call
     /// changes nothing.
     pub fn ask(&mut self, event: &Event<'_>) -> Result<Step, No>
-        requires own { IsCallOfRole (side_of self.old) (event_of event.now) }
-        ensures refines { CallRefinesSideStep (event_of event.now) self.old result self.new }
-        ensures only { IsOnlyPossibleAnswer (event_of event.now) self.old result }
+        requires own { IsCallOfRole (role_of_terminal self.old) (spec_event_of event.now) }
+        ensures refines { CallRefinesSideStep (spec_event_of event.now) self.old result self.new }
+        ensures only { IsOnlyPossibleAnswer (spec_event_of event.now) self.old result }
         ensures refused { OnErr result (self.new ≡ self.old) }
-        ensures who { IfOk result (λ step. actor_of_who step.who ≡ E.BySide (side_of self.old)) }
+        ensures who { IfOk result (λ step. spec_who_of step.who ≡ E.BySide (role_of_terminal self.old)) }
         ensures received { IfOk result (λ step. step.received ≡ None) }
         ensures same { KeepsSideAndTsc self.old self.new }
     {
@@ -71,17 +71,17 @@ impl Terminal {
 
     /// Carries out a layer 3 call to an endpoint of this side and writes the result into `step`. A refused call leaves `step` unchanged.
     pub fn ask_into(&mut self, event: &Event<'_>, step: &mut Step) -> Result<(), No>
-        requires own { IsCallOfRole (side_of self.old) (event_of event.now) }
-        ensures refines { CallRefinesSideStep (event_of event.now) self.old (step_result result step.new) self.new }
-        ensures only { IsOnlyPossibleAnswer (event_of event.now) self.old (step_result result step.new) }
+        requires own { IsCallOfRole (role_of_terminal self.old) (spec_event_of event.now) }
+        ensures refines { CallRefinesSideStep (spec_event_of event.now) self.old (step_result result step.new) self.new }
+        ensures only { IsOnlyPossibleAnswer (spec_event_of event.now) self.old (step_result result step.new) }
         ensures refused { OnErr result (self.new ≡ self.old) }
         ensures out_unchanged { OnErr result (step.new ≡ step.old) }
-        ensures who { OnOk result (actor_of_who step.new.who ≡ E.BySide (side_of self.old)) }
+        ensures who { OnOk result (spec_who_of step.new.who ≡ E.BySide (role_of_terminal self.old)) }
         ensures received { OnOk result (step.new.received ≡ None) }
         ensures same { KeepsSideAndTsc self.old self.new }
     {
         let sapi = sapi_of_event(event);
-        let call = call_of_event(event);
+        let call = endpoint_call_of_event(event);
         match self.links.call(sapi, &call, &mut step.effects) {
             Ok(()) => {
                 step.received = None;
@@ -97,7 +97,7 @@ impl Terminal {
         requires soft { All AllSoftBits bursts.now }
         ensures refines { BurstsRefineSideStep bursts.now self.old result self.new }
         ensures only { IsOnlyStepForBursts bursts.now self.old result }
-        ensures who { actor_of_who result.who ≡ E.BySide (side_of self.old) }
+        ensures who { spec_who_of result.who ≡ E.BySide (role_of_terminal self.old) }
         ensures received { IsSome result.received }
         ensures numbers { (r : Received) → result.received ≡ Some r → ReceptionIsInRange (reception_quality r) }
         ensures same { KeepsSideAndTsc self.old self.new }
@@ -113,7 +113,7 @@ impl Terminal {
         requires soft { All AllSoftBits bursts.now }
         ensures refines { BurstsRefineSideStep bursts.now self.old step.new self.new }
         ensures only { IsOnlyStepForBursts bursts.now self.old step.new }
-        ensures who { actor_of_who step.new.who ≡ E.BySide (side_of self.old) }
+        ensures who { spec_who_of step.new.who ≡ E.BySide (role_of_terminal self.old) }
         ensures received { IsSome step.new.received }
         ensures numbers { (r : Received) → step.new.received ≡ Some r → ReceptionIsInRange (reception_quality r) }
         ensures same { KeepsSideAndTsc self.old self.new }
@@ -153,8 +153,8 @@ impl Terminal {
 
     /// Records in `step` the side that acted and the SAPI.
     fn set_side_and_sapi(&self, sapi: Sapi, step: &mut Step)
-        ensures step { step_of step.new ≡ record {
-          who = E.BySide (side_of self.now);
+        ensures step { spec_step_of step.new ≡ record {
+          who = E.BySide (role_of_terminal self.now);
           sapi = sapi;
           received = step.old.received;
           frames = step.old.effects.frames;

@@ -1,13 +1,15 @@
 //! Laws of two processes of `um end` that receive each other's bursts. The body of a law is empty: call it to use its contract in a proof.
 ghost use Rattle.std.specs.Prelude.{List};
-ghost use Rattle.um_link.specs.lapdm_link.Claims.{Claims, IsOrderedLog, AckedAtMostDelivered};
-ghost use Rattle.um_end.specs.TwoTerminals.{TerminalStep, idle_terminals, AreStepsFrom, DeliversOldestBlock, AnyStepAllowed, lines};
+ghost use Rattle.um_link.specs.lapdm_link.Claims.{Claims, HasNoticesInOrder, AckedAtMostDelivered};
+ghost use Rattle.um_end.specs.TwoTerminals.{TerminalStep, idle_terminals, AreStepsFrom, DeliversOldestBlock, AnyStepAllowed, session_log};
 
 /// If the bursts of each block reach the other side in order and lightly damaged, or are lost as a whole, messages are delivered in order
-/// and before they are acknowledged (`Claims`). Whatever bursts arrive, the log is ordered (`IsOrderedLog`).
-pub fn law_two_terminals_deliver()
-    ensures delivery { (turns : List TerminalStep) → AreStepsFrom DeliversOldestBlock idle_terminals turns → Claims (lines turns) }
+/// and before they are acknowledged (`Claims`). Whatever bursts arrive, the log is ordered (`HasNoticesInOrder`).
+pub fn law_two_terminals_deliver_in_order()
+    ensures delivery { (turns : List TerminalStep) → AreStepsFrom DeliversOldestBlock idle_terminals turns
+        → Claims (session_log turns) }
     ensures acked_at_most_delivered { (turns : List TerminalStep) → AreStepsFrom DeliversOldestBlock idle_terminals turns →
-        AckedAtMostDelivered (lines turns) }
-    ensures order { (turns : List TerminalStep) → AreStepsFrom AnyStepAllowed idle_terminals turns → IsOrderedLog (lines turns) }
+        AckedAtMostDelivered (session_log turns) }
+    ensures order { (turns : List TerminalStep) → AreStepsFrom AnyStepAllowed idle_terminals turns
+        → HasNoticesInOrder (session_log turns) }
 {}

@@ -1,44 +1,70 @@
 -- The lines of `code`, `replay` and `show`: their meanings and refusals, and reading back what is written.
-use Rattle.lapdm_frame.proofs.Lemmas.{FieldsFit, content_fits, fields_fit, never_refused, octets_canonical, one_reading, same_canonical}
-use Rattle.lapdm_frame.{proofs.Lemmas.{same_frame, same_reason}, specs.Content.{Content, Fields, Frame as FrameContent, Frame as FrameOf}}
-use Rattle.lapdm_frame.specs.Content.{I as InformationContent, Rnr, Ui, content_of_fields, fields_of, fields, information, kinds}
-use Rattle.lapdm_frame.specs.{Frames.{FrameFits, InformationFits, IsCanonicalCoding, IsFrameCoding, bit, octets_of}, Refusals.IsRefused}
-use Rattle.lapdm_frame.specs.{Refusals.{RefusalAppliesToBlock, refusal_order}, declared.{Channel.TheVariants.Sdcch, Kind.TheVariants.I}}
-use Rattle.lapdm_frame.specs.declared.{Kind.Kind, Refusal.{TheVariants.{Ea, Lpd}, Refusal}}
-use Rattle.std.proofs.Common.{Bool, Err, List, None, Ok, Option, Some, [], append-nil, append_assoc, ap, arith, codes, drop, eqb, false}
-use Rattle.std.proofs.Common.{inl, inr, leb-true, leb, length-append, length, map, negsuc, not, pos, refl, replicate, rules, set, subst}
-use Rattle.std.proofs.Common.{suc, sym, take, true, ℕ, ℤ, ◌&&◌, ◌++◌, ◌+◌, ◌-◌, ◌<◌, ◌==◌, ◌||◌, ◌∙◌}
-use Rattle.std.proofs.{Common.{◌∷◌, ◌≡◌, ◌≢◌, ◌≤◌}, lemmas.Bool.{Decides.nat_tests, and_parts, and_right}}
-use Rattle.std.proofs.lemmas.{Bool.{cases_Bool, ne_eqb, not-false, or_parts}, Int.ints, List.Elements.{All-cons, All-head, All-nil}}
-use Rattle.std.proofs.lemmas.List.{Elements.{All-replicate, All-tail}, Splits.{join_with_byte-slice_split, length-slice_split}}
-use Rattle.std.proofs.lemmas.{List.{append_cancel_right, drop_all, length-map, length-replicate, set_split}, Slice.Eq.bytes_eq-Decides}
-use Rattle.std.specs.{Cmp.Lexicographic.pointwise, Int.{cast_signed, w8}, List.{All, join_with_byte, list_all}, Prelude.IfSome}
-use Rattle.std.specs.{Prelude.MatchOption, Str.bytes_eq}
-use Rattle.um_block.{proofs.Lemmas.AllSoftBits-softened, specs.{Received.{soft_bit_of, soft_bits}, bit_blocks.Bits.AllBits}}
-use Rattle.um_block.specs.bit_blocks.{Octets.{AllOctets, IsOctet, octets_of as octets_of_bits}, SoftValues.{AllSoftBits, IsSoftBit}}
-use Rattle.um_block.specs.declared.received.Received.{Received}
-use Rattle.um_formats.specs.{BurstLines.{BurstLineMeans, burst_fault, burst_line_of_meaning, burst_parse_result}, CodeLines.CodeLineMeans}
-use Rattle.um_formats.specs.{CodeLines.{code_fault, code_line_of_meaning}, FrameTexts.{IsTextOfOctets, frame_text, frame_values}}
-use Rattle.um_formats.specs.{FrameTexts.{octets_text, shape_values, syntax_of_frame, unread_text}, Held.IsHardNormalLine}
-use Rattle.um_formats.specs.{Held.IsSoftNormalLine, Reports.{IsBlockReport, block_report_line}, ShowLines.ShowLineMeans}
-use Rattle.um_formats.specs.ShowLines.{content_from_values, frame_from_values, is_bit_set, show_fault, show_line_of_frame}
-use Rattle.um_formats.specs.{ShowLines.{show_line_of_meaning, show_line_of_values, show_parse_result}, ShowReading.field_words}
-use Rattle.um_formats.specs.{ShowReading.{frame_line_words, info_word, is_octets_word, min_info_octets}, SoftOctets.signed_octets}
-use Rattle.um_formats.specs.{WrittenBursts.IsUnskippedLine, declared.burst_lines.BurstLine.TheVariants.{Access, Normal, Skip, Sync}}
-use Rattle.um_formats.specs.declared.{burst_lines.BurstLine.BurstLine, code.CodeLine.TheVariants.{Block, Rach, Sch, Skip as CodeSkip}}
-use Rattle.um_formats.specs.declared.{code.CodeLine.CodeLine, frame_words.{FieldWords.FieldWords, FrameWords.FrameWords}}
-use Rattle.um_formats.specs.declared.show.ShowLine.{ShowLine}
-use Rattle.um_lines.proofs.FormLaws.{AreOctets, Each, Fitting, fixed_words_lack, length-encode_lower, line_is, line_short, passing_lack}
-use Rattle.um_lines.{proofs.{FormLaws.{read_of_words, spelled_means, spelled_uncut}, Texts.words-join}, specs.BurstForms.burst_forms}
-use Rattle.um_lines.specs.{BurstForms.is_burst_out_of_order, CodeForms.code_forms, Fields.{BitDigits, LineField, FixedWord, HexOctets}}
-use Rattle.um_lines.specs.Fields.{NumberList, Number, Value, bit_digits, fits_field, has_forbidden_soft_value, has_octet_count}
-use Rattle.um_lines.specs.Fields.{has_wrong_bit_index, has_wrong_digits, has_wrong_length, is_bit_digit, is_dash_or_hex, is_digit_up_to}
-use Rattle.um_lines.specs.{Fields.{octet_count, octets_from_hex}, Forms.{AreDistinct, Exactly, IsTableEntry, LineMeans, fault_or_value}}
-use Rattle.um_lines.specs.Forms.{first_field_fault, has_faulty_word, line_meaning, no_order_fault, places, values_of_words}
-use Rattle.um_lines.specs.{Hex.{encode_lower, encode_with, is_hex_digit}, Meanings.HasOneMeaningOrFault, ShowForms.{FrameShape, Frame}}
-use Rattle.um_lines.specs.ShowForms.{NumberedInfo, ShowLineKind, Supervisory, WithInfo, WithoutInfo, frame_fields, m_bit_and_info_fields}
-use Rattle.um_lines.specs.{ShowForms.{shape_fields, show_forms, syntax}, Spelled.{line_of_values, octets_word}, Words.IsNotSpace}
-use Rattle.um_lines.specs.{Words.{is_skipped, words}, declared.fault.LineFault.{TheVariants.{Digits, Length, Word}, LineFault}}
+use Rattle.{
+  lapdm_frame.{
+    proofs.Lemmas.{FieldsFit, content_fits, fields_fit, never_refused, octets_canonical, one_reading, same_canonical, same_frame},
+    proofs.Lemmas.same_reason,
+    specs.{
+      Content.{Content, Fields, Frame as FrameContent, Frame as FrameOf, I as InformationContent, Rnr, Ui, content_of_fields, fields_of},
+      Content.{fields, information, all_frame_kinds},
+      Frames.{FrameFits, InformationFits, IsCanonicalCoding, IsFrameCoding, bit_of_bool, octets_of},
+      Refusals.{IsRefused, RefusalAppliesToBlock, refusal_order},
+      declared.{Channel.TheVariants.Sdcch, Kind.{TheVariants.I, Kind}, Refusal.{TheVariants.{Ea, Lpd}, Refusal}},
+    },
+  },
+  std.{
+    proofs.Common.{Bool, Err, List, None, Ok, Option, Some, [], append-nil, append_assoc, ap, arith, codes, drop, eqb, false, inl, inr},
+    proofs.Common.{leb-true, leb, length-append, length, map, negsuc, not, pos, refl, replicate, rules, set, subst, suc, sym, take, true},
+    proofs.Common.{ℕ, ℤ, ◌&&◌, ◌++◌, ◌+◌, ◌-◌, ◌<◌, ◌==◌, ◌||◌, ◌∙◌, ◌∷◌, ◌≡◌, ◌≢◌},
+    proofs.{Common.◌≤◌, lemmas.{Bool.{Decides.nat_tests, and_parts, and_right, cases_Bool, ne_eqb, not-false, or_parts}, Int.ints}},
+    proofs.lemmas.List.{Elements.{All-cons, All-map, All-nil, All-replicate}, Splits.{join_with_byte-slice_split, length-slice_split}},
+    proofs.lemmas.{List.{append_cancel_right, drop_all, length-map, length-replicate, set_split}, Slice.Eq.bytes_eq-Decides},
+    specs.{Cmp.Lexicographic.pointwise, Int.{cast_signed, w8}, List.{All, join_with_byte, list_all}, Prelude.{IfSome, MatchOption}},
+    specs.Str.bytes_eq,
+  },
+  um_block.{
+    proofs.Lemmas.AllSoftBits-softened,
+    specs.{Received.{soft_bit_of, soft_bits}, bit_blocks.{Bits.AllBits, Octets.{AllOctets, octets_of as octets_of_bits}}},
+    specs.{bit_blocks.SoftValues.{AllSoftBits, IsSoftBit}, declared.received.Received.Received},
+  },
+  um_formats.specs.{
+    BurstLines.{BurstLineMeans, burst_fault, burst_line_of_meaning, burst_parse_result},
+    CodeLines.{CodeLineMeans, code_fault, code_line_of_meaning},
+    FrameTexts.{IsTextOfOctets, frame_text, frame_values, octets_text, line_values_of_fields, kind_syntax_of_frame, unreadable_frame_text},
+    Held.{IsHardNormalLine, IsSoftNormalLine},
+    Reports.{IsBlockReportText, block_report_line},
+    ShowLines.{ShowLineMeans, content_from_values, frame_from_values, is_bit_set, show_fault, show_line_of_frame, show_line_of_meaning},
+    ShowLines.{show_line_of_values, show_parse_result},
+    ShowReading.{field_words, frame_line_words, info_word, is_octets_word, min_info_octets},
+    SoftOctets.signed_octets,
+    WrittenBursts.IsUnskippedLine,
+    declared.{
+      burst_lines.BurstLine.{TheVariants.{Access, Normal, Skip, Sync}, BurstLine},
+      code.CodeLine.{TheVariants.{Block, Rach, Sch, Skip as CodeSkip}, CodeLine},
+      frame_words.{FieldWords.FieldWords, FrameWords.FrameWords},
+      show.ShowLine.ShowLine,
+    },
+  },
+  um_lines.{
+    proofs.FormLaws.{AreOctets, Each, Fitting, fixed_words_lack, length-encode_lower, line_is, line_short, passing_lack, read_of_words},
+    proofs.{FormLaws.{spelled_means, spelled_uncut}, Texts.words-join},
+    specs.{
+      BurstForms.{burst_line_forms, is_burst_out_of_order},
+      CodeForms.code_line_forms,
+      Fields.{BitDigits, LineField, FixedWord, HexOctets, NumberList, Number, Value, bit_digits, fits_field, has_forbidden_soft_value},
+      Fields.{has_octet_count, has_wrong_bit_index, has_wrong_digits, has_wrong_length, is_bit_digit, is_dash_or_hex, is_digit_up_to},
+      Fields.{octet_count, octets_from_hex},
+      Forms.{AreDistinct, Exactly, IsTableEntry, LineMeans, fault_or_value, first_field_fault, has_faulty_word, line_meaning},
+      Forms.{no_order_fault, bit_indices_of_values, values_of_words},
+      Hex.{encode_lower, encode_with, is_hex_digit},
+      Meanings.HasOneMeaningOrFault,
+      ShowForms.{FrameShape, Frame, NumberedInfo, ShowLineKind, Supervisory, WithInfo, WithoutInfo, frame_fields, m_bit_and_info_fields},
+      ShowForms.{shape_fields, show_line_forms, syntax},
+      Spelled.{line_of_values, octets_word},
+      Words.{IsNotSpace, is_skipped_line, words},
+      declared.fault.LineFault.{TheVariants.{Digits, Length, Word}, LineFault},
+    },
+  },
+}
 use Rattle.um_lines.proofs.FormLaws as Laws
 use Rattle.um_lines.specs.BurstForms as F
 use Rattle.um_formats.specs.declared.show.ShowLine.TheVariants as S
@@ -73,7 +99,7 @@ unknown_burst_word : (held : ℕ) (kind : List ℕ) (rest : List (List ℕ)) →
     → bytes_eq kind (codes "a") ≡ false → bytes_eq kind (codes "A") ≡ false
     → bytes_eq kind (codes "s") ≡ false → bytes_eq kind (codes "S") ≡ false
     → burst_parse_result held (kind ∷ rest) ≡ Err Word
-unknown_burst_word held kind rest n N lost a A s S = rw (n, N, lost, a, A, s, S) refl
+unknown_burst_word held kind rest n N lost a A s S = rw (n, N, lost, a, A, s, S)
 
 -- the first word is one letter, but begins no form of a burst
 pub other_letter : (held letter : ℕ) (rest : List (List ℕ)) → letter ≢ 110 → letter ≢ 78 → letter ≢ 97 → letter ≢ 65 →
@@ -106,8 +132,8 @@ other_kind held (first ∷ second ∷ kind) text many =
 
 pub one_burst_meaning : (held : ℕ) (line : List ℕ) → HasOneMeaningOrFault (burst_fault held line) (BurstLineMeans held line)
 one_burst_meaning held line =
-    Laws.one_made burst_line_of_meaning (LineMeans burst_forms (is_burst_out_of_order held) line) (burst_fault held line)
-    (Laws.one_meaning burst_forms (is_burst_out_of_order held) line refl)
+    Laws.one_made burst_line_of_meaning (LineMeans burst_line_forms (is_burst_out_of_order held) line) (burst_fault held line)
+    (Laws.one_meaning burst_line_forms (is_burst_out_of_order held) line refl)
 
 -- an octet other than 0x80 stands for a soft value, -127 to 127
 soft_octet : (octet : ℕ) → octet < 256 → octet ≢ 128 → IsSoftBit (cast_signed w8 octet)
@@ -115,12 +141,7 @@ soft_octet octet small other = (grind (arith, ints, nat_tests), grind (arith, in
 
 signed-AllSoftBits : (octets : List ℕ) → AllOctets octets → All (λ octet. octet ≢ 128) octets →
     AllSoftBits (signed_octets octets)
-signed-AllSoftBits [] small each = All-nil IsSoftBit
-signed-AllSoftBits (octet ∷ octets) small each =
-    let Unlike : ℕ → Type 0 = λ o. o ≢ 128 in
-    All-cons IsSoftBit (cast_signed w8 octet) (signed_octets octets)
-    (soft_octet octet (All-head IsOctet octet octets small) (All-head Unlike octet octets each))
-    (signed-AllSoftBits octets (All-tail IsOctet octet octets small) (All-tail Unlike octet octets each))
+signed-AllSoftBits octets small each = All-map IsSoftBit (cast_signed w8) octets (λ i d h. soft_octet _ (small i d h) (each i d h))
 
 -- a list of `count` soft values, -127 to 127
 abbrev pub AreSoft : ℕ → List ℤ → Type 0
@@ -148,7 +169,7 @@ IsBurst held (Sync values) = (held ≡ 0) × AreSoft 148 values
 
 is_burst : (held : ℕ) (line : List ℕ) (meaning : BurstLine) → BurstLineMeans held line meaning → IsBurst held meaning
 is_burst held line meaning means =
-    line_is burst_forms (is_burst_out_of_order held) burst_line_of_meaning (IsBurst held) tt (
+    line_is burst_line_forms (is_burst_out_of_order held) burst_line_of_meaning (IsBurst held) tt (
       λ count values here (bits, rest, is, known, none). rw (is, none) (hard 148 bits known),
       (
         λ count values here (octets, rest, is, known, none). rw (is, none) (soft 148 octets known),
@@ -194,7 +215,7 @@ sync_burst held line values means =
 
 -- a line that has a meaning has at most 4096 octets
 pub short : (held : ℕ) (line : List ℕ) (meaning : BurstLine) → BurstLineMeans held line meaning → length line ≤ 4096
-short held line meaning means = line_short burst_forms (is_burst_out_of_order held) burst_line_of_meaning line meaning means
+short held line meaning means = line_short burst_line_forms (is_burst_out_of_order held) burst_line_of_meaning line meaning means
 
 -- writing the fourth burst into the buffer appends it to the first three
 pub fourth_burst_completes : (bursts : List (List ℤ)) (held : ℕ) (burst : List ℤ) → length bursts ≡ 4 → held ≡ 3 →
@@ -218,11 +239,11 @@ abbrev IsRead : ℕ → List ℕ → List ℤ → Type 0
 IsRead held line soft = BurstLineMeans held line (Normal soft) × (None ≡ burst_fault held line)
 
 read_line : (held : ℕ) (line : List ℕ) (ws : List (List ℕ)) (soft : List ℤ) → words line ≡ ws → length line ≤ 4096 →
-    is_skipped line
+    is_skipped_line line
     ≡ false →
     burst_parse_result held ws ≡ Ok (Normal soft) → IsRead held line soft
 read_line held line ws soft is short stays read =
-    read_of_words burst_forms (is_burst_out_of_order held) burst_line_of_meaning line (Ok (Normal soft)) short stays
+    read_of_words burst_line_forms (is_burst_out_of_order held) burst_line_of_meaning line (Ok (Normal soft)) short stays
     (sym (ap (burst_parse_result held) is ∙ read))
 
 pub hard_line : (held : ℕ) (line digits : List ℕ) → IsHardNormalLine line digits →
@@ -230,8 +251,8 @@ pub hard_line : (held : ℕ) (line digits : List ℕ) → IsHardNormalLine line 
 hard_line held line digits h =
     read_line held line (codes "n" ∷ digits ∷ []) _
     (ap words h.line_form ∙ ap (λ ws. codes "n" ∷ ws) (bit_word digits h.all_bit_digits))
-    (omega (arith, ap length h.line_form, h.right_length)) (ap is_skipped h.line_form)
-    (rw (never_out_of_order held, h.all_bit_digits, h.right_length) refl)
+    (omega (arith, ap length h.line_form, h.right_length)) (ap is_skipped_line h.line_form)
+    (rw (never_out_of_order held, h.all_bit_digits, h.right_length))
 
 pub soft_line : (held : ℕ) (line digits : List ℕ) → IsSoftNormalLine line digits →
     IsRead held line (signed_octets (octets_from_hex digits))
@@ -239,8 +260,8 @@ soft_line held line digits h =
     let o = h.octets in
     read_line held line (codes "N" ∷ digits ∷ []) _
     (ap words o.line_form ∙ ap (λ ws. codes "N" ∷ ws) (hex_word digits o.all_hex_digits))
-    (omega (arith, ap length o.line_form, o.right_length)) (ap is_skipped o.line_form)
-    (rw (never_out_of_order held, o.all_hex_digits, o.right_length, h.in_range) refl)
+    (omega (arith, ap length o.line_form, o.right_length)) (ap is_skipped_line o.line_form)
+    (rw (never_out_of_order held, o.all_hex_digits, o.right_length, h.in_range))
 
 pub soft_within : (line digits : List ℕ) → IsSoftNormalLine line digits → AllSoftBits (signed_octets (octets_from_hex digits))
 soft_within line digits h = (normal_burst 0 line _ (soft_line 0 line digits h).0).1
@@ -284,7 +305,7 @@ pub normal_restored : (held : ℕ) (burst : List ℕ) → length burst ≡ 148 �
 normal_restored held burst many each =
     let short : length (normal_line burst) ≤ 4096 = omega (arith, length-bit_digits burst) in (
       Some (F.Normal, NumberList burst ∷ []),
-      spelled_means burst_forms (is_burst_out_of_order held) F.Normal (codes "n") (BitDigits 148 ∷ []) (NumberList burst ∷ [])
+      spelled_means burst_line_forms (is_burst_out_of_order held) F.Normal (codes "n") (BitDigits 148 ∷ []) (NumberList burst ∷ [])
           (inl refl)
           (held_normal held) refl (one (codes "n") burst each many) tt short refl,
       refl,
@@ -295,7 +316,7 @@ pub sync_restored : (burst : List ℕ) → length burst ≡ 148 → AllBits burs
 sync_restored burst many each =
     let short : length (sync_line burst) ≤ 4096 = omega (arith, length-bit_digits burst) in (
       Some (F.Sync, NumberList burst ∷ []),
-      spelled_means burst_forms (is_burst_out_of_order 0) F.Sync (codes "s") (BitDigits 148 ∷ []) (NumberList burst ∷ [])
+      spelled_means burst_line_forms (is_burst_out_of_order 0) F.Sync (codes "s") (BitDigits 148 ∷ []) (NumberList burst ∷ [])
           (inr (inr (inr (inr (inr (inl refl)))))) refl refl (one (codes "s") burst each many) tt short refl,
       refl,
     )
@@ -305,9 +326,9 @@ pub access_restored : (bsic burst : List ℕ) → length bsic ≡ 6 → AllBits 
 access_restored bsic burst few bits many each =
     let short : length (97 ∷ 32 ∷ (bit_digits bsic ++ 32 ∷ bit_digits burst)) ≤ 4096 =
     omega (arith, length-append (bit_digits bsic) (32 ∷ bit_digits burst), length-bit_digits bsic, length-bit_digits burst) in
-    subst (λ line. BurstLineMeans 0 line (Access bsic (soft_bits burst))) (sym (access_line_from_left bsic burst)) (
+    rw (access_line_from_left bsic burst) (
       Some (F.Access, NumberList bsic ∷ NumberList burst ∷ []),
-      spelled_means burst_forms (is_burst_out_of_order 0) F.Access (codes "a") (BitDigits 6 ∷ BitDigits 88 ∷ [])
+      spelled_means burst_line_forms (is_burst_out_of_order 0) F.Access (codes "a") (BitDigits 6 ∷ BitDigits 88 ∷ [])
           (NumberList bsic ∷ NumberList burst ∷ [])
           (inr (inr (inr (inl refl)))) refl refl (both bsic burst few bits many each) tt short refl,
       refl,
@@ -342,8 +363,8 @@ access_whole bsic burst few bits many each = record {
 
 pub one_code_meaning : (line : List ℕ) → HasOneMeaningOrFault (code_fault line) (CodeLineMeans line)
 one_code_meaning line =
-    Laws.one_made code_line_of_meaning (LineMeans code_forms no_order_fault line) (code_fault line)
-    (Laws.one_meaning code_forms no_order_fault line refl)
+    Laws.one_made code_line_of_meaning (LineMeans code_line_forms no_order_fault line) (code_fault line)
+    (Laws.one_meaning code_line_forms no_order_fault line refl)
 
 -- what a line means can be sent: a training sequence code and 23 octets, or 8 bits and a BSIC, or 25 bits
 abbrev pub CanBeSent : CodeLine → Type 0
@@ -354,7 +375,7 @@ CanBeSent (Sch info) = (length info ≡ 25) × AllBits info
 
 pub can_be_sent : (line : List ℕ) (meaning : CodeLine) → CodeLineMeans line meaning → CanBeSent meaning
 can_be_sent line meaning means =
-    line_is code_forms no_order_fault code_line_of_meaning CanBeSent tt (
+    line_is code_line_forms no_order_fault code_line_of_meaning CanBeSent tt (
       λ count values here (tsc, rest, is, within, (octets, rest', is', known, none)). rw (is, is', none) (within, known),
       (
         λ count values here (info, rest, is, known, (bsic, rest', is', known', none)). rw (is, is', none) (known, known'),
@@ -377,7 +398,7 @@ one_frame_text octets a b is_a is_b =
       ]
       | inr (reason, refused, e) ↦ elim is_b [
         | inl (g, is_g, e') ↦ absurd (never_refused Sdcch octets g is_g reason refused.applies)
-        | inr (other, is_other, e') ↦ e ∙ ap unread_text (same_reason Sdcch octets reason other refused is_other) ∙ sym e'
+        | inr (other, is_other, e') ↦ e ∙ ap unreadable_frame_text (same_reason Sdcch octets reason other refused is_other) ∙ sym e'
       ]
     ]
 
@@ -386,7 +407,7 @@ pub some_frame_text : (octets : List ℕ) → length octets ≡ 23 → (text : L
 some_frame_text octets count =
     elim (one_reading Sdcch octets count) [
       | inl (f, only) ↦ (frame_text f, inl (f, only.frame, refl))
-      | inr (reason, only) ↦ (unread_text reason, inr (reason, only.refused, refl))
+      | inr (reason, only) ↦ (unreadable_frame_text reason, inr (reason, only.refused, refl))
     ]
 
 -- the text of a report, by whether the block was accepted
@@ -408,11 +429,12 @@ some_reported line (Some octets) count =
     (line ++ second.0, (second.0, second.1, refl))
 
 -- for a received block, there is at most one report
-pub one_block_report : (r : Received) (a b : List ℕ) → IsBlockReport r a → IsBlockReport r b → a ≡ b
+pub one_block_report : (r : Received) (a b : List ℕ) → IsBlockReportText r a → IsBlockReportText r b → a ≡ b
 one_block_report r a b is_a is_b = one_reported (block_report_line r) r.accepted a b is_a is_b
 
 -- for a received block, there is a report if the accepted octets are 23
-pub some_block_report : (r : Received) → IfSome r.accepted (λ octets. length octets ≡ 23) → (text : List ℕ) × IsBlockReport r text
+pub some_block_report : (r : Received) → IfSome r.accepted (λ octets. length octets ≡ 23)
+    → (text : List ℕ) × IsBlockReportText r text
 some_block_report r count = some_reported (block_report_line r) r.accepted count
 
 -- ## ShowReading: What the words of a line of `show` mean: when they have no form, and which frame they spell.
@@ -439,11 +461,11 @@ unknown_first_word line (word ∷ more) whole octets frame =
     elim (cases_Bool (bytes_eq word (codes "octets"))) [
       | inl same ↦
           let is = (bytes_eq-Decides word (codes "octets")).0 same in
-          rw (is, alone (codes "octets") line more (subst (λ w. join_with_byte 32 (w ∷ more) ≡ line) is whole) octets) refl
+          rw (is, alone (codes "octets") line more (subst (λ w. join_with_byte 32 (w ∷ more) ≡ line) is whole) octets)
       | inr other ↦ elim (cases_Bool (bytes_eq word (codes "frame"))) [
         | inl same ↦
             let is = (bytes_eq-Decides word (codes "frame")).0 same in
-            rw (is, alone (codes "frame") line more (subst (λ w. join_with_byte 32 (w ∷ more) ≡ line) is whole) frame) refl
+            rw (is, alone (codes "frame") line more (subst (λ w. join_with_byte 32 (w ∷ more) ≡ line) is whole) frame)
         | inr another ↦ neither_octets_nor_frame word more other another
       ]
     ]
@@ -467,7 +489,7 @@ record AreRead (sapi cr : List ℕ) (kind : Kind) (fields : FieldWords) : Type 0
       (show_line_of_frame (frame_from_values (Frame kind) (values_of_words (frame_fields (syntax kind)) (parts_of sapi cr kind fields))))
   pub soft : has_faulty_word has_forbidden_soft_value (frame_fields (syntax kind)) (parts_of sapi cr kind fields) ≡ false
   pub place : has_faulty_word has_wrong_bit_index (frame_fields (syntax kind)) (parts_of sapi cr kind fields) ≡ false
-  pub once : places (values_of_words (frame_fields (syntax kind)) (parts_of sapi cr kind fields)) ≡ []
+  pub once : bit_indices_of_values (values_of_words (frame_fields (syntax kind)) (parts_of sapi cr kind fields)) ≡ []
 
 are_read : (sapi cr : List ℕ) (kind : Kind) (fields : FieldWords) → AreRead sapi cr kind fields
 are_read sapi cr I fields = record { read = refl; soft = refl; place = refl; once = refl }
@@ -492,7 +514,7 @@ module _ (parts : List (List ℕ)) (w : FrameWords) (e : parts ≡ frame_line_wo
 
   pub refused_for_length : has_faulty_word has_wrong_digits (abstract_fields w) (frame_line_words w) ≡ false
       → has_faulty_word has_wrong_length (abstract_fields w) (frame_line_words w) ≡ true → Err Length ≡ show_parse_result parts
-  refused_for_length right wrong = sym (reason (Some Length) (rw (right, wrong) refl))
+  refused_for_length right wrong = sym (reason (Some Length) (rw (right, wrong)))
 
   pub read_frame : (f : FrameOf) → has_faulty_word has_wrong_digits (abstract_fields w) (frame_line_words w) ≡ false
       → has_faulty_word has_wrong_length (abstract_fields w) (frame_line_words w) ≡ false → said w ≡ Some f
@@ -554,8 +576,8 @@ info_length other w e = record { octets_word = refl; min_octets = omega arith; m
 
 pub one_show_meaning : (line : List ℕ) → HasOneMeaningOrFault (show_fault line) (ShowLineMeans line)
 one_show_meaning line =
-    Laws.one_made show_line_of_meaning (LineMeans show_forms no_order_fault line) (show_fault line)
-    (Laws.one_meaning show_forms no_order_fault line refl)
+    Laws.one_made show_line_of_meaning (LineMeans show_line_forms no_order_fault line) (show_fault line)
+    (Laws.one_meaning show_line_forms no_order_fault line refl)
 
 -- what a line asks for, together with the frame that it spells, if any
 abbrev line_said : Option (ShowLineKind × List Value) → ShowLine × Option FrameContent
@@ -568,130 +590,65 @@ IsKnown (S.Octets octets, f) = AreOctets 23 octets
 IsKnown (other, f) = IfSome f (FrameFits Sdcch)
 
 -- the fields of a frame, read from the values of a shape
-record SaidFields (shape : FrameShape) (kind : Kind) (values : List Value) : Type 0 where
-  pub fields : Fields
-  pub content_is : content_from_values shape kind values ≡ Some (content_of_fields fields)
-  pub frame_fields_of_kind : fields.kind ≡ kind
-  pub sent : fields.ns ≤ 7
-  pub received : fields.nr ≤ 7
-  pub at_least : min_info_octets shape ≤ length fields.info
-  pub at_most : length fields.info ≤ 20
+abbrev SaidFields : FrameShape → Kind → List Value → Type 0
+SaidFields shape kind values =
+    (f : Fields) × (content_from_values shape kind values ≡ Some (content_of_fields f)) × (f.kind ≡ kind) × (f.ns ≤ 7)
+    × (f.nr ≤ 7) × (min_info_octets shape ≤ length f.info) × (length f.info ≤ 20)
 
 said_fields : (shape : FrameShape) (kind : Kind) (values : List Value) → Fitting (shape_fields shape) values →
     SaidFields shape kind values
-said_fields NumberedInfo kind values (
-  ns,
-  r1,
-  e1,
-  sent,
-  (
-    nr,
-    r2,
-    e2,
-    got,
-    (
-      p,
-      r3,
-      e3,
-      set,
-      (
-        m,
-        r4,
-        e4,
-        goes,
-        (info, r5, e5, fits, none),
-      ),
-    ),
-  ),
-) =
-    rw (e1, e2, e3, e4, e5, none) (record {
-      fields = fields kind ns nr (is_bit_set p) (is_bit_set m) info;
-      content_is = refl;
-      frame_fields_of_kind = refl;
-      sent = sent;
-      received = got;
-      at_least = fits.0;
-      at_most = fits.1;
-    })
-said_fields Supervisory kind values (nr, r1, e1, got, (pf, r2, e2, set, none)) =
-    rw (e1, e2, none) (record {
-      fields = fields kind 0 nr (is_bit_set pf) false [];
-      content_is = refl;
-      frame_fields_of_kind = refl;
-      sent = omega arith;
-      received = got;
-      at_least = omega arith;
-      at_most = omega arith;
-    })
-said_fields (WithInfo name) kind values (pf, r1, e1, set, (info, r2, e2, fits, none)) =
-    rw (e1, e2, none) (record {
-      fields = fields kind 0 0 (is_bit_set pf) false info;
-      content_is = refl;
-      frame_fields_of_kind = refl;
-      sent = omega arith;
-      received = omega arith;
-      at_least = omega arith;
-      at_most = fits.1;
-    })
-said_fields (WithoutInfo name) kind values (pf, r1, e1, set, none) =
-    rw (e1, none) (record {
-      fields = fields kind 0 0 (is_bit_set pf) false [];
-      content_is = refl;
-      frame_fields_of_kind = refl;
-      sent = omega arith;
-      received = omega arith;
-      at_least = omega arith;
-      at_most = omega arith;
-    })
+said_fields NumberedInfo kind values (ns, _, e1, sent, (nr, _, e2, got, (p, _, e3, _, (m, _, e4, _, (info, _, e5, fits, none))))) =
+    rw (e1, e2, e3, e4, e5, none) (fields kind ns nr (is_bit_set p) (is_bit_set m) info, refl, refl, sent, got, fits.0, fits.1)
+said_fields Supervisory kind values (nr, _, e1, got, (pf, _, e2, _, none)) =
+    rw (e1, e2, none) (fields kind 0 nr (is_bit_set pf) false [], refl, refl, omega arith, got, omega arith, omega arith)
+said_fields (WithInfo name) kind values (pf, _, e1, _, (info, _, e2, fits, none)) =
+    rw (e1, e2, none) (fields kind 0 0 (is_bit_set pf) false info, refl, refl, omega arith, omega arith, omega arith, fits.1)
+said_fields (WithoutInfo name) kind values (pf, _, e1, _, none) =
+    rw (e1, none) (fields kind 0 0 (is_bit_set pf) false [], refl, refl, omega arith, omega arith, omega arith, omega arith)
 
 -- the frame that these values spell fits in a block
 frame_known : (kind : Kind) (s cr : ℕ) (values : List Value) → s ≤ 7 → Fitting (shape_fields (syntax kind).shape) values
     → IsKnown (line_said (Some (SF.Frame kind, Number s ∷ Number cr ∷ values)))
 frame_known kind s cr values small fitting =
     let x = said_fields (syntax kind).shape kind values fitting in
-    let fits = content_fits Sdcch x.fields (record {
-      sent = x.sent;
-      received = x.received;
-      nonempty = λ is_i. subst (λ k. min_info_octets (syntax k).shape ≤ length x.fields.info) (sym x.frame_fields_of_kind ∙ is_i)
-          x.at_least;
-      at_most = x.at_most;
+    let fits = content_fits Sdcch x.0 (record {
+      sent = x.3;
+      received = x.4;
+      nonempty = λ is_i. subst (λ k. min_info_octets (syntax k).shape ≤ length x.0.info) (sym x.2 ∙ is_i) x.5;
+      at_most = x.6;
     }) in
-    rw x.content_is (record { sapi = small; ns_nr_fit = fits.0; information = fits.1 })
+    rw x.1 (record { sapi = small; ns_nr_fit = fits.0; information = fits.1 })
 
 each_frame : (ks : List Kind)
-    → Each no_order_fault (λ name values. IsKnown (line_said (Some (name, values)))) (map (λ kind. (
-      SF.Frame kind,
-      Exactly (frame_fields
-          (syntax kind)),
-    )) ks)
+    → Each no_order_fault (λ name values. IsKnown (line_said (Some (name, values))))
+    (map (λ kind. (SF.Frame kind, Exactly (frame_fields (syntax kind)))) ks)
 each_frame [] = tt
 each_frame (kind ∷ ks) = (
   λ count values here (s, r1, e1, small, (cr, r2, e2, one, rest)).
       rw (e1, e2) (frame_known kind s cr r2 small
-      (subst (λ fs. Fitting fs r2) (append-nil (shape_fields (syntax kind).shape)) rest)),
+      (rw (append-nil (shape_fields (syntax kind).shape)) at rest)),
   each_frame ks,
 )
 
-known : (line : List ℕ) (meaning : Option (ShowLineKind × List Value)) → LineMeans show_forms no_order_fault line meaning →
+known : (line : List ℕ) (meaning : Option (ShowLineKind × List Value)) → LineMeans show_line_forms no_order_fault line meaning →
     IsKnown (line_said meaning)
 known line meaning means =
-    line_is show_forms no_order_fault line_said IsKnown tt (
+    line_is show_line_forms no_order_fault line_said IsKnown tt (
       λ count values here (octets, rest, is, known, none). rw
           (is, none) known,
-      each_frame kinds,
+      each_frame all_frame_kinds,
     )
     line (line_said meaning) (meaning, means, refl)
 
 -- every frame that a line spells fits in a block
 said_fits : (line : List ℕ) (name : ShowLineKind) (values : List Value) (f : FrameContent)
-    → LineMeans show_forms no_order_fault line (Some (name, values))
+    → LineMeans show_line_forms no_order_fault line (Some (name, values))
     → frame_from_values name values ≡ Some f → FrameFits Sdcch f
 said_fits line name values f means is = go name values is (known line (Some (name, values)) means)
   where
     frames : (m : ShowLine) (o : Option FrameContent) → o ≡ Some f → m ≡ show_line_of_frame o → IsKnown (m, o) →
         FrameFits Sdcch f
-    frames m o is shows k = let pair : IsKnown (show_line_of_frame (Some f), Some f) =
-        subst (λ o. IsKnown (show_line_of_frame o, o)) is (subst (λ m. IsKnown (m, o)) shows k) in pair
+    frames m o is shows k = rw (shows, is) at k
 
     go : (name : ShowLineKind) (values : List Value) → frame_from_values name values ≡ Some f →
         IsKnown (show_line_of_values name values, frame_from_values name values)
@@ -705,14 +662,14 @@ shown_octets line octets (None, means, is) = absurd cc
 shown_octets line octets (Some meaning, means, is) = (go (line_said (Some meaning)) is (known line (Some meaning) means)).0
   where
     go : (both : ShowLine × Option FrameContent) → S.Octets octets ≡ both.0 → IsKnown both → AreOctets 23 octets
-    go (m, o) is k = subst (λ m. IsKnown (m, o)) (sym is) k
+    go (m, o) is k = rw (← is) at k
 
 -- ## WrittenFrames: Parsing what `show` writes for frames and octets gives them back.
 
 abbrev AreAllOctets : List ℕ → Type 0
 AreAllOctets octets = All (λ octet. octet < 256) octets
 
-bit_small : (b : Bool) → bit b ≤ 1
+bit_small : (b : Bool) → bit_of_bool b ≤ 1
 bit_small false = omega arith
 bit_small true = omega arith
 
@@ -729,17 +686,17 @@ abbrev frame : ℕ → Bool → Content → FrameContent
 frame s cr content = record { sapi = s; cr = cr; content = content }
 
 abbrev written : FrameContent → List ℕ
-written f = line_of_values (frame_fields (syntax_of_frame f)) (frame_values f)
+written f = line_of_values (frame_fields (kind_syntax_of_frame f)) (frame_values f)
 
-set_bit : (b : Bool) → is_bit_set (bit b) ≡ b
+set_bit : (b : Bool) → is_bit_set (bit_of_bool b) ≡ b
 set_bit false = refl
 set_bit true = refl
 
 -- the form of a frame's kind is in the table, and the values written for a frame spell that frame
 record IsWritten (s : ℕ) (cr : Bool) (content : Content) : Type 0 where
-  pub form_of_table : IsTableEntry show_forms (SF.Frame (kind content), Exactly (frame_fields (syntax (kind content))))
+  pub form_of_table : IsTableEntry show_line_forms (SF.Frame (kind content), Exactly (frame_fields (syntax (kind content))))
   pub frame_is : frame_from_values (SF.Frame (kind content)) (frame_values (frame s cr content)) ≡ Some (frame s cr content)
-  pub once : AreDistinct (places (frame_values (frame s cr content)))
+  pub once : AreDistinct (bit_indices_of_values (frame_values (frame s cr content)))
   pub no_spaces : fixed_words_lack 32 (omega arith) (frame_fields (syntax (kind content))) ≡ true
   pub no_line_feed : fixed_words_lack 10 (omega arith) (frame_fields (syntax (kind content))) ≡ true
 
@@ -757,15 +714,15 @@ least K.I count some = some refl
 least other count some = omega arith
 
 fitting : (shape : FrameShape) (f : Fields) → FieldsFit Sdcch f → min_info_octets shape ≤ length f.info → AreAllOctets f.info
-    → Fitting (shape_fields shape) (shape_values shape f)
+    → Fitting (shape_fields shape) (line_values_of_fields shape f)
 fitting NumberedInfo f fit many small =
-    let last : Fitting m_bit_and_info_fields (Number (bit f.more) ∷ NumberList f.info ∷ []) =
-    (bit f.more, _, refl, bit_small f.more, (f.info, _, refl, (many, fit.at_most, small), refl)) in
-    (f.ns, _, refl, fit.sent, (f.nr, _, refl, fit.received, (bit f.pf, _, refl, bit_small f.pf, last)))
-fitting Supervisory f fit many small = (f.nr, _, refl, fit.received, (bit f.pf, _, refl, bit_small f.pf, refl))
+    let last : Fitting m_bit_and_info_fields (Number (bit_of_bool f.more) ∷ NumberList f.info ∷ []) =
+    (bit_of_bool f.more, _, refl, bit_small f.more, (f.info, _, refl, (many, fit.at_most, small), refl)) in
+    (f.ns, _, refl, fit.sent, (f.nr, _, refl, fit.received, (bit_of_bool f.pf, _, refl, bit_small f.pf, last)))
+fitting Supervisory f fit many small = (f.nr, _, refl, fit.received, (bit_of_bool f.pf, _, refl, bit_small f.pf, refl))
 fitting (WithInfo name) f fit many small =
-    (bit f.pf, _, refl, bit_small f.pf, (f.info, _, refl, (omega arith, fit.at_most, small), refl))
-fitting (WithoutInfo name) f fit many small = (bit f.pf, _, refl, bit_small f.pf, refl)
+    (bit_of_bool f.pf, _, refl, bit_small f.pf, (f.info, _, refl, (omega arith, fit.at_most, small), refl))
+fitting (WithoutInfo name) f fit many small = (bit_of_bool f.pf, _, refl, bit_small f.pf, refl)
 
 same_information : (content : Content) → (fields_of content).info ≡ information content
 same_information (InformationContent ns nr p more info) = refl
@@ -781,27 +738,16 @@ frame_back f line fits small text =
     let fit = fields_fit Sdcch f.content fits.ns_nr_fit fits.information in
     let many = least (kind f.content) (length (fields_of f.content).info) fit.nonempty in
     let octets : AreAllOctets (fields_of f.content).info = rw (same_information f.content) small in
-    let fitted : Fitting (frame_fields (syntax_of_frame f)) vs = (
-      f.sapi,
-      _,
-      refl,
-      fits.sapi,
-      (
-        bit f.cr,
-        _,
-        refl,
-        bit_small f.cr,
-        fitting (syntax_of_frame f).shape
-            (fields_of f.content) fit many octets,
-      ),
-    ) in
+    let rest = fitting (kind_syntax_of_frame f).shape (fields_of f.content) fit many octets in
+    let fitted : Fitting (frame_fields (kind_syntax_of_frame f)) vs =
+    (f.sapi, _, refl, fits.sapi, (bit_of_bool f.cr, _, refl, bit_small f.cr, rest)) in
     let same : written f ≡ line = append_cancel_right _ line (codes "\n") text in
     let short : length (written f) ≤ 4096 = omega (arith, few f.sapi f.cr f.content fits.information) in
-    subst (λ l. IsUnskippedLine l × ShowLineMeans l (S.Frame (octets_of Sdcch f))) same (
-      record { no_line_feed = spelled_uncut (frame_fields (syntax_of_frame f)) vs w.no_line_feed fitted; not_skipped = refl },
+    rw (← same) (
+      record { no_line_feed = spelled_uncut (frame_fields (kind_syntax_of_frame f)) vs w.no_line_feed fitted; not_skipped = refl },
       (
         Some (SF.Frame (kind f.content), vs),
-        spelled_means show_forms no_order_fault (SF.Frame (kind f.content))
+        spelled_means show_line_forms no_order_fault (SF.Frame (kind f.content))
             (codes "frame") _ vs w.form_of_table refl w.no_spaces fitted w.once short
             refl,
         sym (ap show_line_of_frame w.frame_is),
@@ -818,7 +764,7 @@ canonical_back f octets text line canonical small is_text whole =
     let fits = frame.fits in
     let same : octets_of Sdcch f ≡ octets = same_canonical Sdcch f (octets_of Sdcch f) octets (octets_canonical Sdcch f fits) canonical in
     let said : text ≡ frame_text f = one_frame_text octets text (frame_text f) is_text (inl (f, frame, refl)) in
-    subst (λ o. IsUnskippedLine line × ShowLineMeans line (S.Frame o)) same (frame_back f line fits small (sym said ∙ whole))
+    rw (← same) (frame_back f line fits small (sym said ∙ whole))
 
 octets_fit : (octets : List ℕ) → length octets ≡ 23 → AreAllOctets octets →
     Fitting (FixedWord (codes "octets") ∷ HexOctets 23 ∷ [])
@@ -834,12 +780,11 @@ octets_back octets line count small text =
     let fits = octets_fit octets count small in
     let long : length (encode_lower octets) ≡ 46 = omega (arith, length-encode_lower octets, count) in
     let short : length (line_of_values form values) ≤ 4096 = omega (arith, long) in
-    subst (λ l. IsUnskippedLine l × ShowLineMeans l (S.Octets octets)) (append_cancel_right (line_of_values form values) line
-    (codes "\n") text) (
+    rw (← append_cancel_right (line_of_values form values) line (codes "\n") text) (
       record { no_line_feed = spelled_uncut form values refl fits; not_skipped = refl },
       (
         Some (SF.Octets, values),
-        spelled_means show_forms no_order_fault SF.Octets (codes "octets") (HexOctets 23 ∷ []) values
+        spelled_means show_line_forms no_order_fault SF.Octets (codes "octets") (HexOctets 23 ∷ []) values
             (inl refl) refl refl fits tt short refl,
         refl,
       ),
@@ -860,14 +805,14 @@ says_frame name values octets e = from_shown octets (frame_from_values name valu
 
 pub frame_again : (written octets : List ℕ) → ShowLineMeans written (S.Frame octets) →
     (name : ShowLineKind) × (values : List Value) × (f : FrameContent)
-    × LineMeans show_forms no_order_fault written (Some (name, values)) × (frame_from_values name values ≡ Some f)
+    × LineMeans show_line_forms no_order_fault written (Some (name, values)) × (frame_from_values name values ≡ Some f)
     × ((text : List ℕ) → IsTextOfOctets octets text → text ≡ frame_text f)
 frame_again written octets (None, means, e) = absurd cc
 frame_again written octets (Some (name, values), means, e) =
     let s = says_frame name values octets e in
     let f = s.0 in
     let fits : FrameFits Sdcch f = said_fits written name values f means s.1 in
-    let frame : IsFrameCoding Sdcch f octets = subst (IsFrameCoding Sdcch f) (sym s.2) (octets_canonical Sdcch f fits).frame in
+    let frame = subst (IsFrameCoding Sdcch f) (sym s.2) (octets_canonical Sdcch f fits).frame in
     (name, values, f, means, s.1, λ text is_text. one_frame_text octets text (frame_text f) is_text (inl (f, frame, refl)))
 
 -- ## WorkedLines: Worked examples of frames, octets and soft values, computed by hand.
@@ -883,7 +828,7 @@ asked_text = refl
 abbrev asked_values : List Value
 asked_values = Number 0 ∷ Number 0 ∷ Number 5 ∷ Number 2 ∷ Number 1 ∷ Number 0 ∷ NumberList (6 ∷ 1 ∷ []) ∷ []
 
-asked_says : line_meaning show_forms (codes "frame sapi 0 cr 0 i ns 5 nr 2 p 1 m 0 info 0601") ≡ Some (SF.Frame K.I, asked_values)
+asked_says : line_meaning show_line_forms (codes "frame sapi 0 cr 0 i ns 5 nr 2 p 1 m 0 info 0601") ≡ Some (SF.Frame K.I, asked_values)
 asked_says = refl
 
 asked_said : frame_from_values (SF.Frame K.I) asked_values ≡ Some asked

@@ -6,7 +6,7 @@ use Rattle.um_lines.specs.declared.fault.LineFault.TheVariants.{Order}
 use Rattle.um_lines.specs.Fields.{Value, NumberList}
 use Rattle.um_lines.specs.Forms.{line_fault}
 use Rattle.um_lines.specs.Reading.{LineParsesTo, words_parse_result}
-use Rattle.um_lines.specs.BurstForms.{BurstLineKind, Normal, NormalSoft, Lost, Access, AccessSoft, Sync, SyncSoft, burst_forms}
+use Rattle.um_lines.specs.BurstForms.{BurstLineKind, Normal, NormalSoft, Lost, Access, AccessSoft, Sync, SyncSoft, burst_line_forms}
 use Rattle.um_lines.specs.BurstForms.{is_burst_out_of_order}
 use Rattle.um_formats.specs.declared.burst_lines.BurstLine.{BurstLine}
 use Rattle.um_formats.specs.declared.burst_lines.BurstLine.TheVariants as B
@@ -14,7 +14,7 @@ use Rattle.um_formats.specs.SoftOctets.{signed_octets}
 
 -- the burst in a line of this form with these values: the digit `0` is the soft value 127, the digit `1` is -127, two hexadecimal digits
 -- are a signed soft value, and a lost burst has only soft values 0
-abbrev pub burst_line_of_values : BurstLineKind → List Value → BurstLine
+abbrev pub burst_line_of_values : (name : BurstLineKind) (values : List Value) → BurstLine
 burst_line_of_values Normal (NumberList bits ∷ []) = B.Normal (soft_bits bits)
 burst_line_of_values NormalSoft (NumberList octets ∷ []) = B.Normal (signed_octets octets)
 burst_line_of_values Lost [] = B.Normal (replicate 148 (pos 0))
@@ -29,18 +29,18 @@ burst_line_of_meaning None = B.Skip
 burst_line_of_meaning (Some meaning) = burst_line_of_values meaning.0 meaning.1
 
 -- why a line of `replay` is refused after `held` bursts of an incomplete block: the first fault, or `None`
-abbrev pub burst_fault : (held : ℕ) → List ℕ → Option LineFault
-burst_fault held line = line_fault burst_forms (is_burst_out_of_order held) line
+abbrev pub burst_fault : (held_burst_count : ℕ) (line : List ℕ) → Option LineFault
+burst_fault held line = line_fault burst_line_forms (is_burst_out_of_order held) line
 
 -- why an input that ends with these bursts of an incomplete block is refused: `Order`, or `None` if there are no bursts
-abbrev pub unfinished_block_fault : List (List ℤ) → Option LineFault
+abbrev pub unfinished_block_fault : (held_bursts : List (List ℤ)) → Option LineFault
 unfinished_block_fault [] = None
 unfinished_block_fault (burst ∷ bursts) = Some Order
 
 -- the line of `replay` has this meaning after `held` bursts of an incomplete block
-abbrev pub BurstLineMeans : (held : ℕ) → List ℕ → BurstLine → Type 0
-BurstLineMeans held line = LineParsesTo burst_forms (is_burst_out_of_order held) burst_line_of_meaning line
+abbrev pub BurstLineMeans : (held_burst_count : ℕ) (line : List ℕ) (meaning : BurstLine) → Type 0
+BurstLineMeans held line = LineParsesTo burst_line_forms (is_burst_out_of_order held) burst_line_of_meaning line
 
 -- the result of parsing the words of a line of `replay` (used only inside the parser)
-abbrev pub burst_parse_result : (held : ℕ) → List (List ℕ) → Result BurstLine LineFault
-burst_parse_result held words = words_parse_result burst_forms (is_burst_out_of_order held) burst_line_of_meaning words
+abbrev pub burst_parse_result : (held_burst_count : ℕ) (words : List (List ℕ)) → Result BurstLine LineFault
+burst_parse_result held words = words_parse_result burst_line_forms (is_burst_out_of_order held) burst_line_of_meaning words

@@ -5,30 +5,31 @@ use Rattle.lapdm_frame.specs.declared.Channel.TheVariants.{Sdcch}
 use Rattle.lapdm_frame.specs.declared.Refusal.{Refusal}
 use Rattle.lapdm_frame.specs.declared.Refusal.TheVariants.{Lpd, Ea, Control, El, Length, Empty, More}
 use Rattle.lapdm_frame.specs.Content.{Fields, Frame, fields_of}
-use Rattle.lapdm_frame.specs.Frames.{bit, IsFrameCoding}
+use Rattle.lapdm_frame.specs.Frames.{bit_of_bool, IsFrameCoding}
 use Rattle.lapdm_frame.specs.Refusals.{IsRefused}
 use Rattle.um_lines.specs.Fields.{Value, Number, NumberList}
 use Rattle.um_lines.specs.ShowForms.{FrameShape, NumberedInfo, Supervisory, WithInfo, WithoutInfo, KindSyntax, syntax, frame_fields}
 use Rattle.um_lines.specs.Spelled.{line_of_values}
 
 -- the values of the fields that follow the word of the frame kind
-abbrev pub shape_values : FrameShape → Fields → List Value
-shape_values NumberedInfo f = Number f.ns ∷ Number f.nr ∷ Number (bit f.pf) ∷ Number (bit f.more) ∷ NumberList f.info ∷ []
-shape_values Supervisory f = Number f.nr ∷ Number (bit f.pf) ∷ []
-shape_values (WithInfo name) f = Number (bit f.pf) ∷ NumberList f.info ∷ []
-shape_values (WithoutInfo name) f = Number (bit f.pf) ∷ []
+abbrev pub line_values_of_fields : FrameShape → Fields → List Value
+line_values_of_fields NumberedInfo f =
+    Number f.ns ∷ Number f.nr ∷ Number (bit_of_bool f.pf) ∷ Number (bit_of_bool f.more) ∷ NumberList f.info ∷ []
+line_values_of_fields Supervisory f = Number f.nr ∷ Number (bit_of_bool f.pf) ∷ []
+line_values_of_fields (WithInfo name) f = Number (bit_of_bool f.pf) ∷ NumberList f.info ∷ []
+line_values_of_fields (WithoutInfo name) f = Number (bit_of_bool f.pf) ∷ []
 
 -- the word for the kind of this frame, and the shape of the fields that follow it
-abbrev pub syntax_of_frame : Frame → KindSyntax
-syntax_of_frame f = syntax (fields_of f.content).kind
+abbrev pub kind_syntax_of_frame : Frame → KindSyntax
+kind_syntax_of_frame f = syntax (fields_of f.content).kind
 
 -- the values of all fields in the text line of a frame
 abbrev pub frame_values : Frame → List Value
-frame_values f = Number f.sapi ∷ Number (bit f.cr) ∷ shape_values (syntax_of_frame f).shape (fields_of f.content)
+frame_values f = Number f.sapi ∷ Number (bit_of_bool f.cr) ∷ line_values_of_fields (kind_syntax_of_frame f).shape (fields_of f.content)
 
 -- the text line of a frame: its form, filled with the values of the frame
 abbrev pub frame_text : Frame → List ℕ
-frame_text f = line_of_values (frame_fields (syntax_of_frame f)) (frame_values f) ++ codes "\n"
+frame_text f = line_of_values (frame_fields (kind_syntax_of_frame f)) (frame_values f) ++ codes "\n"
 
 -- the word that reports why octets are not a valid frame
 abbrev pub refusal_word : Refusal → List ℕ
@@ -41,15 +42,15 @@ refusal_word Empty = codes "empty"
 refusal_word More = codes "more"
 
 -- the line `unread WORD` for octets that are not a valid frame
-abbrev pub unread_text : Refusal → List ℕ
-unread_text reason = codes "unread " ++ refusal_word reason ++ codes "\n"
+abbrev pub unreadable_frame_text : Refusal → List ℕ
+unreadable_frame_text reason = codes "unread " ++ refusal_word reason ++ codes "\n"
 
 -- the text for the 23 octets of an SDCCH block: the line of the frame in it, or `unread` and the reason if it is not a valid frame
-abbrev pub IsTextOfOctets : List ℕ → List ℕ → Type 0
+abbrev pub IsTextOfOctets : (octets text : List ℕ) → Type 0
 IsTextOfOctets octets text =
     ((f : Frame) × IsFrameCoding Sdcch f octets × (text ≡ frame_text f))
-    ⊎ ((reason : Refusal) × IsRefused Sdcch octets reason × (text ≡ unread_text reason))
+    ⊎ ((reason : Refusal) × IsRefused Sdcch octets reason × (text ≡ unreadable_frame_text reason))
 
 -- the line `octets HEX46` for 23 octets
-abbrev pub octets_text : List ℕ → List ℕ
+abbrev pub octets_text : (octets : List ℕ) → List ℕ
 octets_text octets = codes "octets " ++ encode_lower octets ++ codes "\n"

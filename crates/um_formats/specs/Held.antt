@@ -17,16 +17,16 @@ pub record BurstBuffer : Type 0 where
   pub slots : List (List ℤ)
 
 -- a normal burst is added to the buffer; if `whole`, it completes the block, and no burst of an incomplete block remains
-abbrev pub AddsNormalBurst : BurstBuffer → List ℤ → (whole : Bool) → BurstBuffer → Type 0
+abbrev pub AddsNormalBurst : (old : BurstBuffer) (burst : List ℤ) (completes_block : Bool) (new : BurstBuffer) → Type 0
 AddsNormalBurst old burst false new = (new.held ≡ old.held ++ burst ∷ []) × (length new.held < 4)
 AddsNormalBurst old burst true new = (new.slots ≡ old.held ++ burst ∷ []) × (length new.slots ≡ 4) × (new.held ≡ [])
 
-abbrev pub normal_burst_result : (whole : Bool) → BurstLineResult
+abbrev pub normal_burst_result : (completes_block : Bool) → BurstLineResult
 normal_burst_result false = N.Held
 normal_burst_result true = N.Block
 
 -- the result of a line with this meaning, and the buffer before and after it; only a normal burst changes the buffer
-abbrev pub IsBurstLineResult : BurstBuffer → BurstLine → BurstLineResult → BurstBuffer → Type 0
+abbrev pub IsBurstLineResult : (old : BurstBuffer) (line : BurstLine) (next : BurstLineResult) (new : BurstBuffer) → Type 0
 IsBurstLineResult old B.Skip next new = (next ≡ N.Skip) × (new ≡ old)
 IsBurstLineResult old (B.Normal soft) next new = (whole : Bool) × (next ≡ normal_burst_result whole)
     × AddsNormalBurst old soft whole new
@@ -58,9 +58,9 @@ pub record IsSoftNormalLine (line digits : List ℕ) : Type 0 where
   pub octets : IsHexNormalLine line digits
   pub in_range : list_any (λ octet. octet == 128) (octets_from_hex digits) ≡ false
 
--- `line` is a valid normal burst, which is added to the buffer and, if `whole`, completes the block
-pub record HoldsBurstOfLine (old : BurstBuffer) (line : List ℕ) (new : BurstBuffer) (whole : Bool) : Type 0 where
+-- `line` is a valid normal burst, which is added to the buffer and, if `completes_block`, completes the block
+pub record HoldsBurstOfLine (old : BurstBuffer) (line : List ℕ) (new : BurstBuffer) (completes_block : Bool) : Type 0 where
   pub soft : List ℤ
   pub means : BurstLineMeans (length old.held) line (B.Normal soft)
   pub no_fault : None ≡ burst_fault (length old.held) line
-  pub adds_burst : AddsNormalBurst old soft whole new
+  pub adds_burst : AddsNormalBurst old soft completes_block new

@@ -15,13 +15,13 @@ crc_word true = codes "ok"
 crc_word false = codes "bad"
 
 -- the words for reception quality: the number of wrong training bits, the metric, and whether the CRC is correct
-abbrev pub quality_text : ℕ → ℤ → Bool → List ℕ
+abbrev pub quality_text : (wrong_bit_count : ℕ) (metric : ℤ) (crc_holds : Bool) → List ℕ
 quality_text wrong metric holds =
     codes " train " ++ decimal wrong ++ codes " metric " ++ signed_decimal metric
     ++ codes " parity " ++ crc_word holds
 
 -- the words for the received data and CRC, which end the report line
-abbrev pub data_and_check_text : List ℕ → List ℕ → List ℕ
+abbrev pub data_and_check_text : (data_word check : List ℕ) → List ℕ
 data_and_check_text data_word check = codes " data " ++ data_word ++ codes " check " ++ check ++ codes "\n"
 
 -- the report line of a block: `block tsc T train E metric M parity P data HEX46 check HEX10`
@@ -31,14 +31,14 @@ block_report_line r =
     ++ data_and_check_text (encode_lower (octets_of (take 184 r.u))) (encode_lower (octets_of (take 40 (drop 184 r.u))))
 
 -- the report on a block: its report line and, if the CRC is correct, the line for the frame in it
-abbrev pub IsBlockReport : Received → List ℕ → Type 0
-IsBlockReport r text =
+abbrev pub IsBlockReportText : (received : Received) (text : List ℕ) → Type 0
+IsBlockReportText r text =
     MatchOption r.accepted
     (text ≡ block_report_line r)
     (λ octets. (second : List ℕ) × IsTextOfOctets octets second × (text ≡ block_report_line r ++ second))
 
 -- the report line of an access burst: `access BSIC6 train E metric M parity P data DIGITS8 check DIGITS6`
-abbrev pub access_report_text : List ℕ → ReceivedAccess → List ℕ
+abbrev pub access_report_text : (bsic : List ℕ) (access : ReceivedAccess) → List ℕ
 access_report_text bsic r =
     codes "access " ++ bit_digits bsic ++ quality_text r.wrong_training r.metric (is_some r.accepted)
     ++ data_and_check_text (bit_digits (take 8 r.u)) (bit_digits (take 6 (drop 8 r.u)))

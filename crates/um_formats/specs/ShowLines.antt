@@ -9,16 +9,16 @@ use Rattle.um_lines.specs.Fields.{Value, Number, NumberList}
 use Rattle.um_lines.specs.Forms.{no_order_fault, line_fault}
 use Rattle.um_lines.specs.Reading.{LineParsesTo, words_parse_result}
 use Rattle.um_lines.specs.ShowForms as F
-use Rattle.um_lines.specs.ShowForms.{ShowLineKind, FrameShape, NumberedInfo, Supervisory, WithInfo, WithoutInfo, syntax, show_forms}
+use Rattle.um_lines.specs.ShowForms.{ShowLineKind, FrameShape, NumberedInfo, Supervisory, WithInfo, WithoutInfo, syntax, show_line_forms}
 use Rattle.um_formats.specs.declared.show.ShowLine.{ShowLine}
 use Rattle.um_formats.specs.declared.show.ShowLine.TheVariants as S
 
 -- whether a bit, given as the number 0 or 1, is set
-abbrev pub is_bit_set : ℕ → Bool
+abbrev pub is_bit_set : (number : ℕ) → Bool
 is_bit_set number = number == 1
 
 -- the content of a frame of this kind, from the values in fields of this shape; `None` if the values do not fit the shape
-abbrev pub content_from_values : FrameShape → Kind → List Value → Option Content
+abbrev pub content_from_values : (shape : FrameShape) (kind : Kind) (values : List Value) → Option Content
 content_from_values NumberedInfo kind (Number ns ∷ Number nr ∷ Number p ∷ Number m ∷ NumberList info ∷ []) =
     Some (content_with_fields kind ns nr (is_bit_set p) (is_bit_set m) info)
 content_from_values Supervisory kind (Number nr ∷ Number pf ∷ []) = Some (content_with_fields kind 0 nr (is_bit_set pf) false [])
@@ -28,12 +28,12 @@ content_from_values (WithoutInfo name) kind (Number pf ∷ []) = Some (content_w
 content_from_values shape kind values = None
 
 -- the frame with this SAPI, C/R bit and content; `None` if there is no content
-abbrev pub frame_with_address : (sapi cr : ℕ) → Option Content → Option Frame
+abbrev pub frame_with_address : (sapi cr : ℕ) (content : Option Content) → Option Frame
 frame_with_address sapi cr None = None
 frame_with_address sapi cr (Some content) = Some (record { sapi = sapi; cr = is_bit_set cr; content = content })
 
 -- the frame in a line of this form with these values, or `None` for any other form
-abbrev pub frame_from_values : ShowLineKind → List Value → Option Frame
+abbrev pub frame_from_values : (name : ShowLineKind) (values : List Value) → Option Frame
 frame_from_values (F.Frame kind) (Number sapi ∷ Number cr ∷ values) = frame_with_address sapi cr (content_from_values
     (syntax kind).shape kind values)
 frame_from_values name values = None
@@ -44,7 +44,7 @@ show_line_of_frame None = S.Skip
 show_line_of_frame (Some f) = S.Frame (octets_of Sdcch f)
 
 -- the meaning of a line of this form with these values
-abbrev pub show_line_of_values : ShowLineKind → List Value → ShowLine
+abbrev pub show_line_of_values : (name : ShowLineKind) (values : List Value) → ShowLine
 show_line_of_values F.Octets (NumberList octets ∷ []) = S.Octets octets
 show_line_of_values name values = show_line_of_frame (frame_from_values name values)
 
@@ -53,13 +53,13 @@ show_line_of_meaning None = S.Skip
 show_line_of_meaning (Some meaning) = show_line_of_values meaning.0 meaning.1
 
 -- why a line of `show` is refused: the first fault, or `None`
-abbrev pub show_fault : List ℕ → Option LineFault
-show_fault line = line_fault show_forms no_order_fault line
+abbrev pub show_fault : (line : List ℕ) → Option LineFault
+show_fault line = line_fault show_line_forms no_order_fault line
 
 -- the line of `show` has this meaning
-abbrev pub ShowLineMeans : List ℕ → ShowLine → Type 0
-ShowLineMeans line = LineParsesTo show_forms no_order_fault show_line_of_meaning line
+abbrev pub ShowLineMeans : (line : List ℕ) (meaning : ShowLine) → Type 0
+ShowLineMeans line = LineParsesTo show_line_forms no_order_fault show_line_of_meaning line
 
 -- the result of parsing the words of a line of `show` (used only inside the parser)
-abbrev pub show_parse_result : List (List ℕ) → Result ShowLine LineFault
-show_parse_result words = words_parse_result show_forms no_order_fault show_line_of_meaning words
+abbrev pub show_parse_result : (words : List (List ℕ)) → Result ShowLine LineFault
+show_parse_result words = words_parse_result show_line_forms no_order_fault show_line_of_meaning words

@@ -6,7 +6,7 @@ use Rattle.std.specs.Str.{bytes_eq}
 use Rattle.um_lines.specs.declared.fault.LineFault.{LineFault}
 use Rattle.um_lines.specs.Fields.{LineField, fits_field}
 use Rattle.um_lines.specs.Forms.{no_order_fault, form_of_words, first_word_fault}
-use Rattle.um_lines.specs.ShowForms.{syntax, show_forms}
+use Rattle.um_lines.specs.ShowForms.{syntax, show_line_forms}
 use Rattle.um_lines.specs.ShowForms as F
 use Rattle.um_formats.specs.declared.frame_words.FieldWords.{FieldWords}
 use Rattle.um_formats.specs.declared.frame_words.FrameWords.{FrameWords}
@@ -27,26 +27,26 @@ pf_bit_name (F.WithoutInfo name) = name
 pf_bit_name other = []
 
 -- a number from 0 to 9 as its decimal digit
-abbrev pub digit : ℕ → List ℕ
+abbrev pub digit : (number : ℕ) → List ℕ
 digit number = (48 + number) ∷ []
 
 -- whether the words fit these fields: there is one word for each field, and each field allows its word (`fits_field`)
-abbrev pub words_fit_fields : List (List ℕ) → List LineField → Bool
+abbrev pub words_fit_fields : (words : List (List ℕ)) (fields : List LineField) → Bool
 words_fit_fields words fields = pointwise fits_field fields words
 
 -- why the words of a line of `show` are refused: the first fault, or `None`
-abbrev pub first_show_fault : List (List ℕ) → Option LineFault
-first_show_fault words = first_word_fault no_order_fault (form_of_words show_forms words) words
+abbrev pub first_show_fault : (words : List (List ℕ)) → Option LineFault
+first_show_fault words = first_word_fault no_order_fault (form_of_words show_line_forms words) words
 
 -- whether the words begin with this name and a value, followed by at least one more word
-abbrev pub begins_with_name_and_value : List ℕ → List (List ℕ) → Bool
+abbrev pub begins_with_name_and_value : (name : List ℕ) (words : List (List ℕ)) → Bool
 begins_with_name_and_value name [] = false
 begins_with_name_and_value name (word ∷ []) = false
 begins_with_name_and_value name (word ∷ value ∷ []) = false
 begins_with_name_and_value name (word ∷ value ∷ other ∷ rest) = bytes_eq word name
 
 -- whether the words are exactly this name and one value
-abbrev pub is_name_and_value : List ℕ → List (List ℕ) → Bool
+abbrev pub is_name_and_value : (name : List ℕ) (words : List (List ℕ)) → Bool
 is_name_and_value name [] = false
 is_name_and_value name (word ∷ []) = false
 is_name_and_value name (word ∷ value ∷ []) = bytes_eq word name
@@ -79,5 +79,5 @@ min_info_octets F.NumberedInfo = 1
 min_info_octets other = 0
 
 -- whether a word is `-` or has an even number of digits, at least two
-abbrev pub is_octets_word : List ℕ → Bool
+abbrev pub is_octets_word : (word : List ℕ) → Bool
 is_octets_word word = not (length word == 0) && (bytes_eq word (codes "-") || length word % 2 == 0)

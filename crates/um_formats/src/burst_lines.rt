@@ -13,7 +13,7 @@ ghost use Rattle.um_formats.specs.WrittenBursts.{IsUnskippedLine};
 use crate::soft_digits::{hard_values, soft_values};
 use um_block::{BURST_BITS, Bits};
 use um_lines::{
-    LINE_LIMIT, LineFault, are_bit_digits, are_hex_digits, bits_of, first_word, is_skipped,
+    LINE_LIMIT, LineFault, are_bit_digits, are_hex_digits, bits_of, first_word, is_skipped_line,
     octets_of, parse_only_word, parse_two_words,
 };
 
@@ -43,15 +43,15 @@ pub fn parse_burst(line: &[u8], held: u8) -> Result<BurstLine, LineFault>
     if line.len() > LINE_LIMIT {
         return Err(LineFault::Long);
     }
-    if is_skipped(line) {
+    if is_skipped_line(line) {
         return Ok(BurstLine::Skip);
     }
     parse_words(line, held)
 }
 
 #[inline(never)]
-fn parse_words(line: &[u8], held: u8) -> Result<BurstLine, LineFault>
-    ensures { result ≡ burst_parse_result held (words line.now) }
+fn parse_words(line: &[u8], held_bursts: u8) -> Result<BurstLine, LineFault>
+    ensures { result ≡ burst_parse_result held_bursts (words line.now) }
 {
     let Some((kind, rest)) = first_word(line) else {
         return parse_lost_burst(line);
@@ -59,20 +59,20 @@ fn parse_words(line: &[u8], held: u8) -> Result<BurstLine, LineFault>
     let [letter] = kind else {
         return Err(LineFault::Word);
     };
-    parse_line_with_letter(*letter, rest, held)
+    parse_line_with_letter(*letter, rest, held_bursts)
 }
 
 #[tactic(auto, using(crate::proofs::Lemmas::other_letter))]
-fn parse_line_with_letter(letter: u8, rest: &[u8], held: u8) -> Result<BurstLine, LineFault>
-    ensures { result ≡ burst_parse_result held ((letter ∷ []) ∷ words rest.now) }
+fn parse_line_with_letter(letter: u8, operands: &[u8], held: u8) -> Result<BurstLine, LineFault>
+    ensures { result ≡ burst_parse_result held ((letter ∷ []) ∷ words operands.now) }
 {
     match letter {
-        b'n' => parse_hard_normal(rest),
-        b'N' => parse_soft_normal(rest),
-        b'a' => parse_hard_access(rest, held),
-        b'A' => parse_soft_access(rest, held),
-        b's' => parse_hard_sync(rest, held),
-        b'S' => parse_soft_sync(rest, held),
+        b'n' => parse_hard_normal(operands),
+        b'N' => parse_soft_normal(operands),
+        b'a' => parse_hard_access(operands, held),
+        b'A' => parse_soft_access(operands, held),
+        b's' => parse_hard_sync(operands, held),
+        b'S' => parse_soft_sync(operands, held),
         _ => Err(LineFault::Word),
     }
 }
@@ -88,38 +88,38 @@ fn parse_lost_burst(word: &[u8]) -> Result<BurstLine, LineFault>
 
 // Parses the digits of a line `n DIGITS148`. Searches the text for a space only if it is not all digits, to return the right fault.
 #[tactic(auto, using(crate::proofs::Lemmas::bit_word, crate::proofs::Lemmas::whole_word))]
-fn parse_hard_normal(rest: &[u8]) -> Result<BurstLine, LineFault>
-    ensures { (held : ℕ) → result ≡ burst_parse_result held (codes "n" ∷ words rest.now) }
+fn parse_hard_normal(operands: &[u8]) -> Result<BurstLine, LineFault>
+    ensures { (held : ℕ) → result ≡ burst_parse_result held (codes "n" ∷ words operands.now) }
 {
-    if !are_bit_digits(rest) {
-        parse_only_word(rest)?;
+    if !are_bit_digits(operands) {
+        parse_only_word(operands)?;
         return Err(LineFault::Digits);
     }
-    if rest.len() != BURST_BITS {
+    if operands.len() != BURST_BITS {
         return Err(LineFault::Length);
     }
-    Ok(BurstLine::Normal(hard_values(rest)))
+    Ok(BurstLine::Normal(hard_values(operands)))
 }
 
 #[tactic(auto, using(crate::proofs::Lemmas::hex_word, crate::proofs::Lemmas::whole_word))]
-fn parse_soft_normal(rest: &[u8]) -> Result<BurstLine, LineFault>
-    ensures { (held : ℕ) → result ≡ burst_parse_result held (codes "N" ∷ words rest.now) }
+fn parse_soft_normal(operands: &[u8]) -> Result<BurstLine, LineFault>
+    ensures { (held : ℕ) → result ≡ burst_parse_result held (codes "N" ∷ words operands.now) }
 {
-    if !are_hex_digits(rest) {
-        parse_only_word(rest)?;
+    if !are_hex_digits(operands) {
+        parse_only_word(operands)?;
         return Err(LineFault::Digits);
     }
-    if rest.len() != 296 {
+    if operands.len() != 296 {
         return Err(LineFault::Length);
     }
-    Ok(BurstLine::Normal(soft_values(rest)?))
+    Ok(BurstLine::Normal(soft_values(operands)?))
 }
 
-fn parse_hard_access(rest: &[u8], held: u8) -> Result<BurstLine, LineFault>
-    ensures { result ≡ burst_parse_result held (codes "a" ∷ words rest.now) }
+fn parse_hard_access(operands: &[u8], held_bursts: u8) -> Result<BurstLine, LineFault>
+    ensures { result ≡ burst_parse_result held_bursts (codes "a" ∷ words operands.now) }
 {
-    let (bsic, digits) = parse_two_words(rest)?;
-    if held > 0 {
+    let (bsic, digits) = parse_two_words(operands)?;
+    if held_bursts > 0 {
         return Err(LineFault::Order);
     }
     if !are_bit_digits(bsic) || !are_bit_digits(digits) {
@@ -134,11 +134,11 @@ fn parse_hard_access(rest: &[u8], held: u8) -> Result<BurstLine, LineFault>
     })
 }
 
-fn parse_soft_access(rest: &[u8], held: u8) -> Result<BurstLine, LineFault>
-    ensures { result ≡ burst_parse_result held (codes "A" ∷ words rest.now) }
+fn parse_soft_access(operands: &[u8], held_bursts: u8) -> Result<BurstLine, LineFault>
+    ensures { result ≡ burst_parse_result held_bursts (codes "A" ∷ words operands.now) }
 {
-    let (bsic, digits) = parse_two_words(rest)?;
-    if held > 0 {
+    let (bsic, digits) = parse_two_words(operands)?;
+    if held_bursts > 0 {
         return Err(LineFault::Order);
     }
     if !are_bit_digits(bsic) || !are_hex_digits(digits) {
@@ -153,11 +153,11 @@ fn parse_soft_access(rest: &[u8], held: u8) -> Result<BurstLine, LineFault>
     })
 }
 
-fn parse_hard_sync(rest: &[u8], held: u8) -> Result<BurstLine, LineFault>
-    ensures { result ≡ burst_parse_result held (codes "s" ∷ words rest.now) }
+fn parse_hard_sync(operands: &[u8], held_bursts: u8) -> Result<BurstLine, LineFault>
+    ensures { result ≡ burst_parse_result held_bursts (codes "s" ∷ words operands.now) }
 {
-    let digits = parse_only_word(rest)?;
-    if held > 0 {
+    let digits = parse_only_word(operands)?;
+    if held_bursts > 0 {
         return Err(LineFault::Order);
     }
     if !are_bit_digits(digits) {
@@ -169,11 +169,11 @@ fn parse_hard_sync(rest: &[u8], held: u8) -> Result<BurstLine, LineFault>
     Ok(BurstLine::Sync(hard_values(digits)))
 }
 
-fn parse_soft_sync(rest: &[u8], held: u8) -> Result<BurstLine, LineFault>
-    ensures { result ≡ burst_parse_result held (codes "S" ∷ words rest.now) }
+fn parse_soft_sync(operands: &[u8], held_bursts: u8) -> Result<BurstLine, LineFault>
+    ensures { result ≡ burst_parse_result held_bursts (codes "S" ∷ words operands.now) }
 {
-    let digits = parse_only_word(rest)?;
-    if held > 0 {
+    let digits = parse_only_word(operands)?;
+    if held_bursts > 0 {
         return Err(LineFault::Order);
     }
     if !are_hex_digits(digits) {
@@ -214,7 +214,7 @@ pub(crate) fn soft_line_digits(line: &[u8]) -> Option<&[u8]>
 }
 
 /// Law: a line that is not refused has exactly one meaning; a line that is refused has none.
-pub fn law_burst_meaning_is_unique()
+pub fn law_burst_line_meaning_is_unique()
     ensures { (held : ℕ) (line : List ℕ) → HasOneMeaningOrFault (burst_fault held line) (BurstLineMeans held line) }
 {}
 

@@ -7,7 +7,7 @@ ghost use Rattle.um_formats.specs.CodeLines.{code_fault, CodeLineMeans, code_par
 
 use um_block::{BLOCK_OCTETS, Bits};
 use um_lines::{
-    LINE_LIMIT, LineFault, are_bit_digits, are_hex_digits, bits_of, first_word, is_skipped,
+    LINE_LIMIT, LineFault, are_bit_digits, are_hex_digits, bits_of, first_word, is_skipped_line,
     octets_of, parse_digit_up_to, parse_only_word, parse_two_words,
 };
 
@@ -34,7 +34,7 @@ pub fn parse_code(line: &[u8]) -> Result<CodeLine, LineFault>
     if line.len() > LINE_LIMIT {
         return Err(LineFault::Long);
     }
-    if is_skipped(line) {
+    if is_skipped_line(line) {
         return Ok(CodeLine::Skip);
     }
     parse_words(line)
@@ -61,10 +61,10 @@ fn parse_words(line: &[u8]) -> Result<CodeLine, LineFault>
 // Parses the words after `block`. Searches the text for a space only if it is not all digits, to return the right fault.
 #[inline(always)]
 #[tactic(auto, using(crate::proofs::Lemmas::hex_word, crate::proofs::Lemmas::whole_word))]
-fn parse_block(rest: &[u8]) -> Result<CodeLine, LineFault>
-    ensures { result ≡ code_parse_result (codes "block" ∷ words rest.now) }
+fn parse_block(operands: &[u8]) -> Result<CodeLine, LineFault>
+    ensures { result ≡ code_parse_result (codes "block" ∷ words operands.now) }
 {
-    let Some((number, digits)) = first_word(rest) else {
+    let Some((number, digits)) = first_word(operands) else {
         return Err(LineFault::Word);
     };
     if !are_hex_digits(digits) {
@@ -79,10 +79,10 @@ fn parse_block(rest: &[u8]) -> Result<CodeLine, LineFault>
     Ok(CodeLine::Block { tsc, octets })
 }
 
-fn parse_rach(rest: &[u8]) -> Result<CodeLine, LineFault>
-    ensures { result ≡ code_parse_result (codes "rach" ∷ words rest.now) }
+fn parse_rach(operands: &[u8]) -> Result<CodeLine, LineFault>
+    ensures { result ≡ code_parse_result (codes "rach" ∷ words operands.now) }
 {
-    let (info, bsic) = parse_two_words(rest)?;
+    let (info, bsic) = parse_two_words(operands)?;
     if !are_bit_digits(info) || !are_bit_digits(bsic) {
         return Err(LineFault::Digits);
     }
@@ -95,10 +95,10 @@ fn parse_rach(rest: &[u8]) -> Result<CodeLine, LineFault>
     })
 }
 
-fn parse_sch(rest: &[u8]) -> Result<CodeLine, LineFault>
-    ensures { result ≡ code_parse_result (codes "sch" ∷ words rest.now) }
+fn parse_sch(operands: &[u8]) -> Result<CodeLine, LineFault>
+    ensures { result ≡ code_parse_result (codes "sch" ∷ words operands.now) }
 {
-    let info = parse_only_word(rest)?;
+    let info = parse_only_word(operands)?;
     if !are_bit_digits(info) {
         return Err(LineFault::Digits);
     }
@@ -111,6 +111,6 @@ fn parse_sch(rest: &[u8]) -> Result<CodeLine, LineFault>
 }
 
 /// Law: a line that is not refused has exactly one meaning; a line that is refused has none.
-pub fn law_code_meaning_is_unique()
+pub fn law_code_line_meaning_is_unique()
     ensures { (line : List ℕ) → HasOneMeaningOrFault (code_fault line) (CodeLineMeans line) }
 {}

@@ -4,12 +4,12 @@ ghost use Rattle.um_lines.specs.Fields.{is_digit_up_to};
 
 use um_lines::parse_digit_up_to;
 
-/// Whether a word is one digit from `0` to `most`.
-pub(crate) fn is_digit_up_to(most: u8, word: &[u8]) -> bool
-    requires { most ≤ 9 }
-    ensures { result ≡ is_digit_up_to most word.now }
+/// Whether a word is one digit from `0` to `max_digit`.
+pub(crate) fn is_digit_up_to(max_digit: u8, word: &[u8]) -> bool
+    requires { max_digit ≤ 9 }
+    ensures { result ≡ is_digit_up_to max_digit word.now }
 {
-    parse_digit_up_to(most, word).is_ok()
+    parse_digit_up_to(max_digit, word).is_ok()
 }
 
 /// The number, 0 to 7, that a word of one digit represents.

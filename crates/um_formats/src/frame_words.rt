@@ -4,12 +4,12 @@ ghost use Rattle.std.specs.Prelude.{◌≡◌, ◌-◌, ◌≤◌, ◌∷◌, �
 ghost use Rattle.std.specs.Prelude.{IsTrue, IfSome, IfNone, MatchResult, map};
 ghost use Rattle.std.specs.List.{list_any};
 ghost use Rattle.std.specs.Str.{bytes_eq};
-ghost use Rattle.lapdm_frame.specs.Content.{Frame, kinds, content_of_fields, abstract_fields};
+ghost use Rattle.lapdm_frame.specs.Content.{Frame, all_frame_kinds, content_of_fields, abstract_fields};
 ghost use Rattle.lapdm_frame.specs.Frames.{octets_of};
 ghost use Rattle.um_lines.specs.Words.{words};
 ghost use Rattle.um_lines.specs.Fields.{has_wrong_digits, has_wrong_length, octets_from_hex, is_digit_up_to};
 ghost use Rattle.um_lines.specs.Forms.{has_faulty_word, values_of_words};
-ghost use Rattle.um_lines.specs.ShowForms.{syntax, prepend_named_digit, information, m_bit_and_info_fields, shape_fields, frame_fields};
+ghost use Rattle.um_lines.specs.ShowForms.{syntax, prepend_named_digit, info_fields, m_bit_and_info_fields, shape_fields, frame_fields};
 ghost use Rattle.um_lines.specs.ShowForms as F;
 ghost use Rattle.um_formats.specs.ShowLines.{is_bit_set, content_from_values, frame_from_values};
 ghost use Rattle.um_formats.specs.ShowReading.{spec_shape_of, pf_bit_name, words_fit_fields, first_show_fault, begins_with_name_and_value};
@@ -36,7 +36,7 @@ pub(crate) enum FrameShape {
 }
 
 /// The word for a frame kind, and the shape of the fields that follow it.
-pub(crate) fn syntax(kind: Kind) -> (&'static [u8], FrameShape)
+pub(crate) fn word_and_shape(kind: Kind) -> (&'static [u8], FrameShape)
     ensures word { result.0.now ≡ (syntax kind).word }
     ensures shape { spec_shape_of result.1 ≡ (syntax kind).shape }
     ensures size { length result.0.now ≤ 4 }
@@ -58,7 +58,7 @@ pub(crate) fn syntax(kind: Kind) -> (&'static [u8], FrameShape)
 /// The frame kind that the word names, or `None`.
 fn kind_of_word(word: &[u8]) -> Option<Kind>
     ensures known { IfSome result (λ kind. word.now ≡ (syntax kind).word) }
-    ensures unknown { IfNone result (list_any (bytes_eq word.now) (map (λ kind. (syntax kind).word) kinds) ≡ false) }
+    ensures unknown { IfNone result (list_any (bytes_eq word.now) (map (λ kind. (syntax kind).word) all_frame_kinds) ≡ false) }
 {
     match word {
         b"i" => Some(Kind::I),
@@ -94,12 +94,12 @@ pub(crate) struct FrameWords<'a> {
 }
 
 /// Splits the text after the word `frame` into fields, or returns the fault `Word`.
-pub(crate) fn frame_words<'a>(text: &'a [u8]) -> Result<FrameWords<'a>, LineFault>
+pub(crate) fn frame_words<'a>(frame_text: &'a [u8]) -> Result<FrameWords<'a>, LineFault>
     ensures { MatchResult result
-        (λ found. codes "frame" ∷ words text.now ≡ frame_line_words found)
-        (λ fault. (fault ≡ LineFault.Word) × (first_show_fault (codes "frame" ∷ words text.now) ≡ Some LineFault.Word)) }
+        (λ found. codes "frame" ∷ words frame_text.now ≡ frame_line_words found)
+        (λ fault. (fault ≡ LineFault.Word) × (first_show_fault (codes "frame" ∷ words frame_text.now) ≡ Some LineFault.Word)) }
 {
-    let (sapi, rest) = parse_name_and_value(text, b"sapi")?;
+    let (sapi, rest) = parse_name_and_value(frame_text, b"sapi")?;
     let (cr, rest) = parse_name_and_value(rest, b"cr")?;
     let Some((word, rest)) = first_word(rest) else {
         return Err(LineFault::Word);
@@ -107,7 +107,7 @@ pub(crate) fn frame_words<'a>(text: &'a [u8]) -> Result<FrameWords<'a>, LineFaul
     let Some(kind) = kind_of_word(word) else {
         return Err(LineFault::Word);
     };
-    let (_, shape) = syntax(kind);
+    let (_, shape) = word_and_shape(kind);
     let fields = field_words(shape, rest)?;
     Ok(FrameWords {
         sapi,
@@ -117,16 +117,16 @@ pub(crate) fn frame_words<'a>(text: &'a [u8]) -> Result<FrameWords<'a>, LineFaul
     })
 }
 
-fn field_words<'a>(shape: FrameShape, text: &'a [u8]) -> Result<FieldWords<'a>, LineFault>
+fn field_words<'a>(shape: FrameShape, fields: &'a [u8]) -> Result<FieldWords<'a>, LineFault>
     ensures { MatchResult result
-        (λ found. words text.now ≡ field_words (spec_shape_of shape) found)
-        (λ fault. (fault ≡ LineFault.Word) × (words_fit_fields (words text.now) (shape_fields (spec_shape_of shape)) ≡ false)) }
+        (λ found. words fields.now ≡ field_words (spec_shape_of shape) found)
+        (λ fault. (fault ≡ LineFault.Word) × (words_fit_fields (words fields.now) (shape_fields (spec_shape_of shape)) ≡ false)) }
 {
     let (ns, nr, more, none): (&[u8], &[u8], &[u8], &[u8]) = (b"0", b"0", b"0", b"-");
     match shape {
-        FrameShape::NumberedInfo => parse_i_frame_words(text),
+        FrameShape::NumberedInfo => parse_i_frame_words(fields),
         FrameShape::Supervisory => {
-            let (nr, rest) = parse_name_and_value(text, b"nr")?;
+            let (nr, rest) = parse_name_and_value(fields, b"nr")?;
             let pf = parse_last_name_and_value(rest, b"pf")?;
             Ok(FieldWords {
                 ns,
@@ -137,7 +137,7 @@ fn field_words<'a>(shape: FrameShape, text: &'a [u8]) -> Result<FieldWords<'a>, 
             })
         }
         FrameShape::WithInfo(name) => {
-            let (pf, info) = parse_bit_and_information::<0>(text, name)?;
+            let (pf, info) = parse_bit_and_information::<0>(fields, name)?;
             Ok(FieldWords {
                 ns,
                 nr,
@@ -147,7 +147,7 @@ fn field_words<'a>(shape: FrameShape, text: &'a [u8]) -> Result<FieldWords<'a>, 
             })
         }
         FrameShape::WithoutInfo(name) => {
-            let pf = parse_last_name_and_value(text, name)?;
+            let pf = parse_last_name_and_value(fields, name)?;
             Ok(FieldWords {
                 ns,
                 nr,
@@ -159,12 +159,12 @@ fn field_words<'a>(shape: FrameShape, text: &'a [u8]) -> Result<FieldWords<'a>, 
     }
 }
 
-fn parse_i_frame_words<'a>(text: &'a [u8]) -> Result<FieldWords<'a>, LineFault>
+fn parse_i_frame_words<'a>(fields: &'a [u8]) -> Result<FieldWords<'a>, LineFault>
     ensures { MatchResult result
-        (λ found. words text.now ≡ field_words F.NumberedInfo found)
-        (λ fault. (fault ≡ LineFault.Word) × (words_fit_fields (words text.now) (shape_fields F.NumberedInfo) ≡ false)) }
+        (λ found. words fields.now ≡ field_words F.NumberedInfo found)
+        (λ fault. (fault ≡ LineFault.Word) × (words_fit_fields (words fields.now) (shape_fields F.NumberedInfo) ≡ false)) }
 {
-    let (ns, rest) = parse_name_and_value(text, b"ns")?;
+    let (ns, rest) = parse_name_and_value(fields, b"ns")?;
     let (nr, rest) = parse_name_and_value(rest, b"nr")?;
     let (pf, more, info) = parse_p_m_and_information(rest)?;
     Ok(FieldWords {
@@ -177,14 +177,14 @@ fn parse_i_frame_words<'a>(text: &'a [u8]) -> Result<FieldWords<'a>, LineFault>
 }
 
 fn parse_p_m_and_information<'a>(
-    text: &'a [u8],
+    fields: &'a [u8],
 ) -> Result<(&'a [u8], &'a [u8], &'a [u8]), LineFault>
     ensures { MatchResult result
-        (λ all. words text.now ≡ codes "p" ∷ all.0.now ∷ codes "m" ∷ all.1.now ∷ codes "info" ∷ all.2.now ∷ [])
-        (λ fault. (fault ≡ LineFault.Word) × (words_fit_fields (words text.now)
+        (λ all. words fields.now ≡ codes "p" ∷ all.0.now ∷ codes "m" ∷ all.1.now ∷ codes "info" ∷ all.2.now ∷ [])
+        (λ fault. (fault ≡ LineFault.Word) × (words_fit_fields (words fields.now)
         (prepend_named_digit (codes "p") 1 m_bit_and_info_fields) ≡ false)) }
 {
-    let (p, rest) = parse_name_and_value(text, b"p")?;
+    let (p, rest) = parse_name_and_value(fields, b"p")?;
     let (m, info) = parse_bit_and_information::<1>(rest, b"m")?;
     Ok((p, m, info))
 }
@@ -192,26 +192,29 @@ fn parse_p_m_and_information<'a>(
 /// The words for the value of the named bit and for the information that follows it. Only the contract uses `LEAST`, the minimum number of
 /// information octets.
 fn parse_bit_and_information<'a, const LEAST: usize>(
-    text: &'a [u8],
+    fields: &'a [u8],
     name: &[u8],
 ) -> Result<(&'a [u8], &'a [u8]), LineFault>
     ensures { MatchResult result
-        (λ both. words text.now ≡ name.now ∷ both.0.now ∷ codes "info" ∷ both.1.now ∷ [])
-        (λ fault. (fault ≡ LineFault.Word) × (words_fit_fields (words text.now) (prepend_named_digit name.now 1 (information LEAST))
+        (λ both. words fields.now ≡ name.now ∷ both.0.now ∷ codes "info" ∷ both.1.now ∷ [])
+        (λ fault. (fault ≡ LineFault.Word) × (words_fit_fields (words fields.now) (prepend_named_digit name.now 1 (info_fields LEAST))
         ≡ false)) }
 {
-    let (pf, rest) = parse_name_and_value(text, name)?;
+    let (pf, rest) = parse_name_and_value(fields, name)?;
     let info = parse_last_name_and_value(rest, b"info")?;
     Ok((pf, info))
 }
 
 /// Returns the value after this name, and the text after that value. The text must begin with the name.
-fn parse_name_and_value<'a>(text: &'a [u8], name: &[u8]) -> Result<(&'a [u8], &'a [u8]), LineFault>
+fn parse_name_and_value<'a>(
+    fields: &'a [u8],
+    name: &[u8],
+) -> Result<(&'a [u8], &'a [u8]), LineFault>
     ensures { MatchResult result
-        (λ both. words text.now ≡ name.now ∷ both.0.now ∷ words both.1.now)
-        (λ fault. (fault ≡ LineFault.Word) × (begins_with_name_and_value name.now (words text.now) ≡ false)) }
+        (λ both. words fields.now ≡ name.now ∷ both.0.now ∷ words both.1.now)
+        (λ fault. (fault ≡ LineFault.Word) × (begins_with_name_and_value name.now (words fields.now) ≡ false)) }
 {
-    let Some((word, rest)) = first_word(text) else {
+    let Some((word, rest)) = first_word(fields) else {
         return Err(LineFault::Word);
     };
     let Some((value, rest)) = first_word(rest) else {
@@ -225,12 +228,12 @@ fn parse_name_and_value<'a>(text: &'a [u8], name: &[u8]) -> Result<(&'a [u8], &'
 }
 
 /// Returns the value after this name. The text must consist of the name and the value only.
-fn parse_last_name_and_value<'a>(text: &'a [u8], name: &[u8]) -> Result<&'a [u8], LineFault>
+fn parse_last_name_and_value<'a>(fields: &'a [u8], name: &[u8]) -> Result<&'a [u8], LineFault>
     ensures { MatchResult result
-        (λ value. words text.now ≡ name.now ∷ value.now ∷ [])
-        (λ fault. (fault ≡ LineFault.Word) × (is_name_and_value name.now (words text.now) ≡ false)) }
+        (λ value. words fields.now ≡ name.now ∷ value.now ∷ [])
+        (λ fault. (fault ≡ LineFault.Word) × (is_name_and_value name.now (words fields.now) ≡ false)) }
 {
-    let (word, value) = parse_two_words(text)?;
+    let (word, value) = parse_two_words(fields)?;
     if word == name {
         Ok(value)
     } else {
@@ -245,14 +248,14 @@ impl FrameWords<'_> {
     {
         is_digit_up_to(7, self.sapi)
             & is_digit_up_to(1, self.cr)
-            & self.fields.have_valid_digits(syntax(self.kind).1)
+            & self.fields.have_valid_digits(word_and_shape(self.kind).1)
     }
 
     /// Whether the number of information octets is within the limits of its field.
     pub(crate) fn have_valid_length(&self) -> bool
         ensures { result ≡ not (has_faulty_word has_wrong_length (frame_fields (syntax self.now.kind)) (frame_line_words self.now)) }
     {
-        let (_, shape) = syntax(self.kind);
+        let (_, shape) = word_and_shape(self.kind);
         has_octet_count(
             shape.min_info_octets(),
             Some(20),
@@ -269,7 +272,7 @@ impl FrameWords<'_> {
             (frame_line_words self.now)) ≡ Some f)
             × (result ≡ octets_of Channel.Sdcch f) }
     {
-        let (_, shape) = syntax(self.kind);
+        let (_, shape) = word_and_shape(self.kind);
         let (room, count) = octets_of_hex_word(self.fields.info_word(shape));
         let sapi = value_of_digit(self.sapi);
         let cr = is_digit_one(self.cr);

@@ -1,14 +1,15 @@
 //! Writes frames as text lines.
 ghost use Rattle.std.specs.Prelude.{◌≡◌, ℕ, ◌+◌, ◌<◌, ◌≤◌, List, [], ◌∷◌, ◌++◌, length, codes};
 ghost use Rattle.lapdm_frame.specs.Content.{frame_of, abstract_fields};
-ghost use Rattle.lapdm_frame.specs.Frames.{bit, FrameFits};
+ghost use Rattle.lapdm_frame.specs.Frames.{bit_of_bool, FrameFits};
 ghost use Rattle.um_lines.specs.Fields.{FixedWord};
 ghost use Rattle.um_lines.specs.ShowForms.{shape_fields};
 ghost use Rattle.um_lines.specs.Spelled.{octets_word, line_of_values};
-ghost use Rattle.um_formats.specs.FrameTexts.{shape_values, frame_text, refusal_word, unread_text, octets_text, IsTextOfOctets};
+ghost use Rattle.um_formats.specs.FrameTexts.{line_values_of_fields, frame_text, refusal_word, unreadable_frame_text, octets_text};
+ghost use Rattle.um_formats.specs.FrameTexts.{IsTextOfOctets};
 ghost use Rattle.um_formats.specs.ShowReading.{spec_shape_of, pf_bit_name, digit};
 
-use crate::frame_words::{FrameShape, syntax};
+use crate::frame_words::{FrameShape, word_and_shape};
 use lapdm_frame::{Channel, FrameFields, FrameView, Refusal};
 use um_block::BLOCK_OCTETS;
 use um_lines::Text;
@@ -45,70 +46,70 @@ pub(crate) fn push_frame(out: &mut Text, octets: &[u8; BLOCK_OCTETS])
     }
 }
 
-fn push_frame_view(out: &mut Text, f: &FrameView<'_>)
+fn push_frame_view(out: &mut Text, view: &FrameView<'_>)
     requires space { length out.old + 100 ≤ 4096 }
-    requires fits { FrameFits Channel.Sdcch (frame_of f.now) }
-    ensures text { out.new ≡ out.old ++ frame_text (frame_of f.now) }
+    requires fits { FrameFits Channel.Sdcch (frame_of view.now) }
+    ensures text { out.new ≡ out.old ++ frame_text (frame_of view.now) }
     ensures length { length out.new ≤ length out.old + 100 }
 {
-    let fields = f.body.fields();
-    let (word, shape) = syntax(fields.kind);
-    push_number(out, b"frame sapi ", f.sapi);
-    push_named_bit(out, b" cr ", f.cr);
+    let fields = view.body.fields();
+    let (word, shape) = word_and_shape(fields.kind);
+    push_number(out, b"frame sapi ", view.sapi);
+    push_named_bit(out, b" cr ", view.cr);
     push_fields(out, word, shape, &fields);
     out.push(b"\n");
 }
 
-fn push_fields(out: &mut Text, word: &[u8], shape: FrameShape, f: &FrameFields<'_>)
+fn push_fields(out: &mut Text, kind_word: &[u8], shape: FrameShape, fields: &FrameFields<'_>)
     requires space { length out.old + 75 ≤ 4096 }
-    requires size { length word.now ≤ 4 }
+    requires size { length kind_word.now ≤ 4 }
     requires name { length (pf_bit_name (spec_shape_of shape)) ≤ 1 }
-    requires ns_nr_fit { (f.now.ns ≤ 7) × (f.now.nr ≤ 7) }
-    requires information { length f.now.info.now ≤ 20 }
-    ensures text { out.new ≡ out.old ++ 32 ∷ line_of_values (FixedWord word.now ∷ shape_fields (spec_shape_of shape))
-        (shape_values (spec_shape_of shape) (abstract_fields f.now)) }
+    requires ns_nr_fit { (fields.now.ns ≤ 7) × (fields.now.nr ≤ 7) }
+    requires information { length fields.now.info.now ≤ 20 }
+    ensures text { out.new ≡ out.old ++ 32 ∷ line_of_values (FixedWord kind_word.now ∷ shape_fields (spec_shape_of shape))
+        (line_values_of_fields (spec_shape_of shape) (abstract_fields fields.now)) }
     ensures length { length out.new ≤ length out.old + 75 }
 {
     out.push(b" ");
-    out.push(word);
+    out.push(kind_word);
     match shape {
         FrameShape::NumberedInfo => {
-            push_i_frame_fields(out, f);
-            push_info(out, f.info);
+            push_i_frame_fields(out, fields);
+            push_info(out, fields.info);
         }
         FrameShape::Supervisory => {
-            push_number(out, b" nr ", f.nr);
-            push_named_bit(out, b" pf ", f.pf);
+            push_number(out, b" nr ", fields.nr);
+            push_named_bit(out, b" pf ", fields.pf);
         }
         FrameShape::WithInfo(name) => {
-            push_space_and_named_bit(out, name, f.pf);
-            push_info(out, f.info);
+            push_space_and_named_bit(out, name, fields.pf);
+            push_info(out, fields.info);
         }
-        FrameShape::WithoutInfo(name) => push_space_and_named_bit(out, name, f.pf),
+        FrameShape::WithoutInfo(name) => push_space_and_named_bit(out, name, fields.pf),
     }
 }
 
-fn push_i_frame_fields(out: &mut Text, f: &FrameFields<'_>)
+fn push_i_frame_fields(out: &mut Text, fields: &FrameFields<'_>)
     requires space { length out.old + 18 ≤ 4096 }
-    requires ns_nr_fit { (f.now.ns ≤ 7) × (f.now.nr ≤ 7) }
-    ensures text { out.new ≡ out.old ++ (codes " ns " ++ digit f.now.ns ++ codes " nr " ++ digit f.now.nr
-        ++ codes " p " ++ digit (bit f.now.pf) ++ codes " m " ++ digit (bit f.now.more)) }
+    requires ns_nr_fit { (fields.now.ns ≤ 7) × (fields.now.nr ≤ 7) }
+    ensures text { out.new ≡ out.old ++ (codes " ns " ++ digit fields.now.ns ++ codes " nr " ++ digit fields.now.nr
+        ++ codes " p " ++ digit (bit_of_bool fields.now.pf) ++ codes " m " ++ digit (bit_of_bool fields.now.more)) }
     ensures length { length out.new ≡ length out.old + 18 }
 {
-    push_number(out, b" ns ", f.ns);
-    push_number(out, b" nr ", f.nr);
-    push_named_bit(out, b" p ", f.pf);
-    push_named_bit(out, b" m ", f.more);
+    push_number(out, b" ns ", fields.ns);
+    push_number(out, b" nr ", fields.nr);
+    push_named_bit(out, b" p ", fields.pf);
+    push_named_bit(out, b" m ", fields.more);
 }
 
-fn push_space_and_named_bit(out: &mut Text, name: &[u8], set: bool)
+fn push_space_and_named_bit(out: &mut Text, name: &[u8], bit: bool)
     requires space { length out.old + length name.now + 3 ≤ 4096 }
-    ensures text { out.new ≡ out.old ++ 32 ∷ (name.now ++ 32 ∷ digit (bit set)) }
+    ensures text { out.new ≡ out.old ++ 32 ∷ (name.now ++ 32 ∷ digit (bit_of_bool bit)) }
     ensures length { length out.new ≡ length out.old + length name.now + 3 }
 {
     out.push(b" ");
     out.push(name);
-    push_named_bit(out, b" ", set);
+    push_named_bit(out, b" ", bit);
 }
 
 fn push_number(out: &mut Text, name: &[u8], number: u8)
@@ -121,13 +122,13 @@ fn push_number(out: &mut Text, name: &[u8], number: u8)
     out.push(&[b'0' + number]);
 }
 
-fn push_named_bit(out: &mut Text, name: &[u8], set: bool)
+fn push_named_bit(out: &mut Text, name: &[u8], bit: bool)
     requires space { length out.old + length name.now + 1 ≤ 4096 }
-    ensures text { out.new ≡ out.old ++ (name.now ++ digit (bit set)) }
+    ensures text { out.new ≡ out.old ++ (name.now ++ digit (bit_of_bool bit)) }
     ensures length { length out.new ≡ length out.old + length name.now + 1 }
 {
     out.push(name);
-    out.push(if set { b"1" } else { b"0" });
+    out.push(if bit { b"1" } else { b"0" });
 }
 
 fn push_info(out: &mut Text, info: &[u8])
@@ -146,7 +147,7 @@ fn push_info(out: &mut Text, info: &[u8])
 
 fn push_unread_line(out: &mut Text, reason: Refusal)
     requires { length out.old + 15 ≤ 4096 }
-    ensures text { out.new ≡ out.old ++ unread_text reason }
+    ensures text { out.new ≡ out.old ++ unreadable_frame_text reason }
     ensures length { length out.new ≤ length out.old + 15 }
 {
     out.push(b"unread ");

@@ -181,10 +181,10 @@ pub fn read_burst_into(line: &[u8], held: &mut HeldBursts) -> Result<BurstLineRe
     }
 }
 
-fn normal_burst_result(whole: bool) -> BurstLineResult
-    ensures { result ≡ normal_burst_result whole }
+fn normal_burst_result(completes_block: bool) -> BurstLineResult
+    ensures { result ≡ normal_burst_result completes_block }
 {
-    if whole {
+    if completes_block {
         BurstLineResult::Block
     } else {
         BurstLineResult::Held

@@ -14,14 +14,16 @@ mod show;
 mod soft_digits;
 
 pub use burst_lines::{
-    BurstLine, law_burst_meaning_is_unique, law_written_bursts_read_back, parse_burst,
+    BurstLine, law_burst_line_meaning_is_unique, law_written_bursts_read_back, parse_burst,
 };
 pub use bursts::{access_line, block_lines, normal_line, push_block, sync_line};
-pub use code::{CodeLine, law_code_meaning_is_unique, parse_code};
+pub use code::{CodeLine, law_code_line_meaning_is_unique, parse_code};
 pub use frames::{frame_line, octets_line};
 pub use held::{BurstLineResult, HeldBursts, hold_normal_burst, read_burst_into};
 pub use reports::{access_report, block_report, sync_report};
-pub use show::{ShowLine, law_show_meaning_is_unique, law_written_frames_read_back, parse_show};
+pub use show::{
+    ShowLine, law_show_line_meaning_is_unique, law_written_frames_read_back, parse_show,
+};
 pub use um_block::{
     BLOCK_BITS, BLOCK_OCTETS, BURST_BITS, Bits, Received, ReceivedAccess, ReceivedSync,
     from_octets, to_octets,

@@ -4,7 +4,7 @@ ghost use Rattle.um_block.specs.bit_blocks.Bits.{AllBits};
 ghost use Rattle.um_block.specs.bit_blocks.Octets.{bits_of, octets_of};
 ghost use Rattle.um_lines.specs.Hex.{encode_lower};
 ghost use Rattle.um_lines.specs.Fields.{bit_digits};
-ghost use Rattle.um_formats.specs.Reports.{crc_word, quality_text, data_and_check_text, block_report_line, IsBlockReport};
+ghost use Rattle.um_formats.specs.Reports.{crc_word, quality_text, data_and_check_text, block_report_line, IsBlockReportText};
 ghost use Rattle.um_formats.specs.Reports.{access_report_text};
 ghost use Rattle.um_formats.specs.Reports.{sync_report_text};
 
@@ -15,7 +15,7 @@ use um_lines::{Text, octets_from_bits_at};
 /// Writes the report on a block and, if its CRC is correct, the text line of the frame in it.
 pub fn block_report(out: &mut Text, r: &Received)
     requires { out.old ≡ [] }
-    ensures report { IsBlockReport r.now out.new }
+    ensures report { IsBlockReportText r.now out.new }
     ensures size { length out.new < 2000 }
 {
     push_block(out, r);
@@ -47,60 +47,65 @@ pub fn sync_report(out: &mut Text, r: &ReceivedSync)
     push_bits(out, &r.u, 25, 35);
 }
 
-fn push_block(out: &mut Text, r: &Received)
+fn push_block(out: &mut Text, report: &Received)
     requires { out.old ≡ [] }
-    ensures text { out.new ≡ block_report_line r.now }
+    ensures text { out.new ≡ block_report_line report.now }
     ensures length { length out.new ≤ 400 }
 {
     out.push(b"block tsc ");
-    out.push_decimal(u64::from(r.tsc));
-    push_quality(out, r.wrong_training, r.metric, r.accepted.is_some());
+    out.push_decimal(u64::from(report.tsc));
+    push_quality(
+        out,
+        report.wrong_training,
+        report.metric,
+        report.accepted.is_some(),
+    );
     push_data_and_check(
         out,
-        &octets_from_bits_at::<BLOCK_OCTETS, _>(&r.u, 0),
-        &octets_from_bits_at::<5, _>(&r.u, BLOCK_BITS),
+        &octets_from_bits_at::<BLOCK_OCTETS, _>(&report.u, 0),
+        &octets_from_bits_at::<5, _>(&report.u, BLOCK_BITS),
     );
 }
 
-fn push_quality(out: &mut Text, wrong: u32, metric: i32, holds: bool)
+fn push_quality(out: &mut Text, wrong_bits: u32, metric: i32, crc_holds: bool)
     requires { length out.old + 120 ≤ 4096 }
-    ensures text { out.new ≡ out.old ++ quality_text wrong metric holds }
+    ensures text { out.new ≡ out.old ++ quality_text wrong_bits metric crc_holds }
     ensures length { length out.new ≤ length out.old + 120 }
 {
     out.push(b" train ");
-    out.push_decimal(u64::from(wrong));
+    out.push_decimal(u64::from(wrong_bits));
     out.push(b" metric ");
     out.push(itoa::Buffer::new().format(metric).as_bytes());
     out.push(b" parity ");
-    push_crc_word(out, holds);
+    push_crc_word(out, crc_holds);
 }
 
-fn push_crc_word(out: &mut Text, holds: bool)
+fn push_crc_word(out: &mut Text, crc_holds: bool)
     requires { length out.old + 3 ≤ 4096 }
-    ensures text { out.new ≡ out.old ++ crc_word holds }
+    ensures text { out.new ≡ out.old ++ crc_word crc_holds }
     ensures size { length out.new ≤ length out.old + 3 }
 {
-    if holds {
+    if crc_holds {
         out.push(b"ok");
     } else {
         out.push(b"bad");
     }
 }
 
-// Appends the first `place` bits of `word` as the data, and the bits from `place` up to `end` as the CRC.
-fn push_bits<const N: usize>(out: &mut Text, word: &Bits<N>, place: usize, end: usize)
-    requires space { length out.old + end + 14 ≤ 4096 }
-    requires order { place ≤ end }
-    requires within { end ≤ N }
-    ensures text { out.new ≡ out.old ++ data_and_check_text (bit_digits (take place word.now))
-        (bit_digits (take (end - place) (drop place word.now))) }
-    ensures length { length out.new ≡ length out.old + end + 14 }
+// Appends the first `first_bit` bits of `word` as the data, and the bits from `first_bit` up to `end_bit` as the CRC.
+fn push_bits<const N: usize>(out: &mut Text, word: &Bits<N>, first_bit: usize, end_bit: usize)
+    requires space { length out.old + end_bit + 14 ≤ 4096 }
+    requires order { first_bit ≤ end_bit }
+    requires within { end_bit ≤ N }
+    ensures text { out.new ≡ out.old ++ data_and_check_text (bit_digits (take first_bit word.now))
+        (bit_digits (take (end_bit - first_bit) (drop first_bit word.now))) }
+    ensures length { length out.new ≡ length out.old + end_bit + 14 }
 {
     let bits = word.as_slice();
     out.push(b" data ");
-    out.push_digits(&bits[..place]);
+    out.push_digits(&bits[..first_bit]);
     out.push(b" check ");
-    out.push_digits(&bits[place..end]);
+    out.push_digits(&bits[first_bit..end_bit]);
     out.push(b"\n");
 }
 

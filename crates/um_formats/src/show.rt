@@ -7,7 +7,7 @@ ghost use Rattle.lapdm_frame.specs.Frames.{IsCanonicalCoding};
 ghost use Rattle.um_lines.specs.Words.{words};
 ghost use Rattle.um_lines.specs.Fields.{Value};
 ghost use Rattle.um_lines.specs.Forms.{LineMeans, no_order_fault};
-ghost use Rattle.um_lines.specs.ShowForms.{ShowLineKind, show_forms};
+ghost use Rattle.um_lines.specs.ShowForms.{ShowLineKind, show_line_forms};
 ghost use Rattle.um_lines.specs.Meanings.{HasOneMeaningOrFault};
 ghost use Rattle.um_formats.specs.FrameTexts.{frame_text, octets_text, IsTextOfOctets};
 ghost use Rattle.um_formats.specs.ShowLines.{frame_from_values, show_fault, ShowLineMeans, show_parse_result};
@@ -16,7 +16,9 @@ ghost use Rattle.um_formats.specs.WrittenBursts.{IsUnskippedLine};
 use crate::frame_words::frame_words;
 use lapdm_frame::Channel;
 use um_block::BLOCK_OCTETS;
-use um_lines::{LINE_LIMIT, LineFault, are_hex_digits, is_skipped, octets_of, parse_only_word};
+use um_lines::{
+    LINE_LIMIT, LineFault, are_hex_digits, is_skipped_line, octets_of, parse_only_word,
+};
 
 /// The meaning of a line of `show`.
 #[derive(Clone, Copy, PartialEq, Eq, Debug)]
@@ -40,7 +42,7 @@ pub fn parse_show(line: &[u8]) -> Result<ShowLine, LineFault>
     if line.len() > LINE_LIMIT {
         return Err(LineFault::Long);
     }
-    if is_skipped(line) {
+    if is_skipped_line(line) {
         return Ok(ShowLine::Skip);
     }
     parse_words(line)
@@ -60,23 +62,23 @@ fn parse_words(line: &[u8]) -> Result<ShowLine, LineFault>
 
 // Parses the word after `octets`. Searches the text for a space only if it is not all digits, to return the right fault.
 #[tactic(auto, using(crate::proofs::Lemmas::hex_word, crate::proofs::Lemmas::whole_word))]
-fn parse_octets(rest: &[u8]) -> Result<ShowLine, LineFault>
-    ensures { result ≡ show_parse_result (codes "octets" ∷ words rest.now) }
+fn parse_octets(operands: &[u8]) -> Result<ShowLine, LineFault>
+    ensures { result ≡ show_parse_result (codes "octets" ∷ words operands.now) }
 {
-    if !are_hex_digits(rest) {
-        parse_only_word(rest)?;
+    if !are_hex_digits(operands) {
+        parse_only_word(operands)?;
         return Err(LineFault::Digits);
     }
-    if rest.len() != 46 {
+    if operands.len() != 46 {
         return Err(LineFault::Length);
     }
-    Ok(ShowLine::Octets(octets_of(rest)))
+    Ok(ShowLine::Octets(octets_of(operands)))
 }
 
-fn parse_frame(rest: &[u8]) -> Result<ShowLine, LineFault>
-    ensures { result ≡ show_parse_result (codes "frame" ∷ words rest.now) }
+fn parse_frame(frame_text: &[u8]) -> Result<ShowLine, LineFault>
+    ensures { result ≡ show_parse_result (codes "frame" ∷ words frame_text.now) }
 {
-    let found = frame_words(rest)?;
+    let found = frame_words(frame_text)?;
     if !found.have_valid_digits() {
         return Err(LineFault::Digits);
     }
@@ -87,7 +89,7 @@ fn parse_frame(rest: &[u8]) -> Result<ShowLine, LineFault>
 }
 
 /// Law: a line that is not refused has exactly one meaning; a line that is refused has none.
-pub fn law_show_meaning_is_unique()
+pub fn law_show_line_meaning_is_unique()
     ensures { (line : List ℕ) → HasOneMeaningOrFault (show_fault line) (ShowLineMeans line) }
 {}
 
@@ -101,6 +103,6 @@ pub fn law_written_frames_read_back()
         → text ≡ line ++ codes "\n" → IsUnskippedLine line × ShowLineMeans line (ShowLine.Frame octets) }
     ensures again { (written octets : List ℕ) → ShowLineMeans written (ShowLine.Frame octets)
         → (name : ShowLineKind) × (values : List Value) × (f : Frame)
-        × LineMeans show_forms no_order_fault written (Some (name, values)) × (frame_from_values name values ≡ Some f)
+        × LineMeans show_line_forms no_order_fault written (Some (name, values)) × (frame_from_values name values ≡ Some f)
         × ((text : List ℕ) → IsTextOfOctets octets text → text ≡ frame_text f) }
 {}

@@ -1,22 +1,31 @@
 -- Reading lines from a source: each input is divided into lines in one way, and the reader finds it.
-use Rattle.memchr.specs.Find.{IsFirstByte, Nowhere, Passes, is_byte}
-use Rattle.std.proofs.Common.{All, Bool, Bor, Err, List, MatchOption, None, Ok, Option, Result, Some, [], append-nil, append_assoc, ap}
-use Rattle.std.proofs.Common.{arith, cond, drop, eq-eqb, false, inl, inr, le_refl, length-append, length, max, refl, slice_index}
-use Rattle.std.proofs.Common.{slice_range, subst, sym, take, true, ℕ, ⊎_elim, ◌++◌, ◌+◌, ◌-◌, ◌<◌, ◌∙◌, ◌∷◌}
-use Rattle.std.proofs.{Common.{◌≡◌, ◌≤◌, ◌⊎◌}, Math.Seq.{take-add, take-append-add}, lemmas.Bool.{cases_Bool, cases_eq}}
-use Rattle.std.proofs.lemmas.{Bool.{cases_lt, eqb-true, false≢true, ne_eqb}, List.{Edits.length-between, Elements.{All-append, All-cons}}}
-use Rattle.std.proofs.lemmas.List.{Elements.{All-drop, All-from_get_or, All-head, All-nil, All-tail, All-take}, drop-drop, drop-take}
-use Rattle.std.proofs.lemmas.List.{drop_all, drop_at, drop_more, get_or-append-add, get_or-take, length-take, nil_from_length}
-use Rattle.std.proofs.lemmas.{List.{take-append-drop, take-take, take_all, take_at, take_rest}, Slice.between_is}
-use Rattle.std.specs.Io.KnownBytes.{Appends, Consumes, Keeps}
-use Rattle.um_io.specs.{Answers.{CallsReturnLines, DividesReadOctets, ReaderStopsWith}, Asking.{CallsReturnOctets, StopsAtEndOrFailure}}
-use Rattle.um_io.specs.{Asking.{more as more_calls, none as no_calls}, Buffer.octets_of, Found.{HasReadOctets, IsFoundInBuffer}}
-use Rattle.um_io.specs.{Found.{IsFoundWithoutLineFeed, IsSearchResult}, Lines.{EndsWithoutLineFeed, IsDivided, IsFirstLineFeed, IsLine}}
-use Rattle.um_io.specs.{Lines.{IsNotLineFeed, lines_of_octets, push_onto_first_line, text_of_lines}, Next.{IsNextLineCall, IsReaderStep}}
-use Rattle.um_io.specs.{Next.{IsResultOfCall, ReturnsLine, ReturnsNoLine}, Reading.{IsResultReady, IsValidReader, NeedsMoreOctets}}
-use Rattle.um_io.specs.Reading.{ReaderState, buffer_limit, input_limit, line_limit, new_reader, reader_holding}
-use Rattle.um_io.specs.declared.{buffer.Buffer.Buffer, lines.Found.{TheVariants.{Line as WholeLine, LineTooLong, PastInputLimit}, Found}}
-use Rattle.um_io.specs.declared.{lines.Next.{TheVariants.{End, Failed, Line, Long, TooMany}, Next}, streams.Failed.Failed as Error}
+use Rattle.{
+  memchr.specs.Find.{IsFirstByte, Nowhere, Passes, is_byte},
+  std.{
+    proofs.{
+      Common.{All, Bool, Bor, List, MatchOption, None, Option, Result, Some, [], ap, append-nil, append_assoc, arith, cond, drop, eq-eqb},
+      Common.{false, inl, inr, le_refl, length, length-append, max, refl, slice_index, slice_range, subst, sym, take, true, ℕ, ◌++◌},
+      Common.{◌+◌, ◌-◌, ◌<◌, ◌∙◌, ◌∷◌, ◌≡◌, ◌≤◌, ◌⊎◌},
+      Math.Seq.{take-add, take-append-add},
+      lemmas.{Bool.{cases_Bool, cases_eq, cases_lt, eqb-true, false≢true, ne_eqb}, List.{drop-drop, drop-take, drop_all, drop_at}},
+      lemmas.List.{drop_more, get_or-append-add, get_or-take, length-take, nil_from_length, take-append-drop, take-take, take_all, take_at},
+      lemmas.List.{take_rest, Edits.length-between, Elements.{All-append, All-cons, All-drop, All-from_get_or, All-head, All-nil}},
+      lemmas.{List.Elements.{All-tail, All-take}, Slice.between_is},
+    },
+    specs.Io.KnownBytes.{Appends, Consumes, Keeps},
+  },
+  um_io.specs.{
+    Answers.{CallsReturnLines, DividesReadOctets, ReaderStopsWith},
+    Asking.{CallsReturnOctets, StopsAtEndOrFailure, more as more_calls, none as no_calls},
+    Buffer.octets_of,
+    Found.{HasReadOctets, IsFoundInBuffer, IsFoundWithoutLineFeed, IsSearchResult},
+    Lines.{EndsWithoutLineFeed, IsDivided, IsFirstLineFeed, IsLine, IsNotLineFeed, lines_of_octets, push_onto_first_line, text_of_lines},
+    Next.{IsNextLineCall, IsReaderStep, IsNextLineResult, ReturnsLine, ReturnsNoLine},
+    Reading.{IsResultReady, IsValidReader, NeedsMoreOctets, ReaderState, buffer_limit, input_limit, line_limit, new_reader, reader_holding},
+    declared.{buffer.Buffer.Buffer, lines.{LineSearchResult.{LineSearchResult, TheVariants.Line as WholeLine}, Next.Next}},
+    declared.{lines.Next.TheVariants.{End, Failed, Line, Long, TooMany}, streams.Failed.Failed as Error},
+  },
+}
 
 -- ## LineLists: There is only one way to divide octets into whole lines and a rest without a line feed: of two divisions, one begins with
 -- the lines of the other, and what follows cannot contain a line feed.
@@ -34,11 +43,14 @@ within (o ∷ u) more (p ∷ v) t hu hv e =
     let rest = within u more v t (All-tail IsNotLineFeed o u hu) (All-tail IsNotLineFeed p v hv) (cc e) in
     record { slice = rest.slice; line_is = let l = rest.line_is in cc (e, l); more_is = rest.more_is }
 
+pub All-before : {A : Type 0} (P : A → Type 0) (xs ys : List A) → All P (xs ++ ys) → All P xs
+All-before P xs ys h = rw (take_at xs ys (length xs) refl) at (All-take P (length xs) (xs ++ ys) h)
+
+pub All-behind : {A : Type 0} (P : A → Type 0) (xs ys : List A) → All P (xs ++ ys) → All P ys
+All-behind P xs ys h = rw (drop_at xs ys (length xs) refl) at (All-drop P (length xs) (xs ++ ys) h)
+
 no_feed : (u v t : List ℕ) → IsLine u → u ≡ v ++ 10 ∷ t → ⊥
-no_feed [] [] t h e = cc e
-no_feed [] (p ∷ v) t h e = cc e
-no_feed (o ∷ u) [] t h e = All-head IsNotLineFeed o u h (cc e)
-no_feed (o ∷ u) (p ∷ v) t h e = no_feed u v t (All-tail IsNotLineFeed o u h) (cc e)
+no_feed u v t h e = All-head IsNotLineFeed 10 t (All-behind IsNotLineFeed v (10 ∷ t) (rw e at h)) refl
 
 same_line : (u x v y : List ℕ) → IsLine u → IsLine v → u ++ 10 ∷ x ≡ v ++ 10 ∷ y → (u ≡ v) × (x ≡ y)
 same_line [] x [] y hu hv e = (refl, cc e)
@@ -72,10 +84,6 @@ compared-cons line ls ls' u v (inr (inl g)) =
 compared-cons line ls ls' u v (inr (inr g)) =
     inr (inr (record { line = g.line; more = g.more; lines_split = ap (λ l. line ∷ l) g.lines_split; rest_is = g.rest_is }))
 
-compared-same : (l l' : List ℕ) (ls ls' : List (List ℕ)) (u v : List ℕ) → l ≡ l' → Compared ls ls' u v →
-    Compared (l ∷ ls) (l' ∷ ls') u v
-compared-same l l' ls ls' u v e h = rw (← e) (compared-cons l ls ls' u v h)
-
 pub compared : (ls ls' : List (List ℕ)) (u v : List ℕ) → All IsLine ls → All IsLine ls' →
     text_of_lines ls ++ u ≡ text_of_lines ls' ++ v → Compared ls ls' u v
 compared [] [] u v h h' e = inl (refl, e)
@@ -86,26 +94,15 @@ compared (l ∷ ls) [] u v h h' e =
 compared (l ∷ ls) (l' ∷ ls') u v h h' e =
     let firsts = same_line l (text_of_lines ls ++ u) l' (text_of_lines ls' ++ v) (All-head IsLine l ls h) (All-head IsLine l' ls' h')
     (sym (text-cons l ls u) ∙ e ∙ text-cons l' ls' v) in
-    compared-same l l' ls ls' u v firsts.0
-    (compared ls ls' u v (All-tail IsLine l ls h) (All-tail IsLine l' ls' h') firsts.1)
-
-pub All-before : {A : Type 0} (P : A → Type 0) (xs ys : List A) → All P (xs ++ ys) → All P xs
-All-before P [] ys h = All-nil P
-All-before P (x ∷ xs) ys h = All-cons P x xs (All-head P x (xs ++ ys) h) (All-before P xs ys (All-tail P x (xs ++ ys) h))
-
-pub All-behind : {A : Type 0} (P : A → Type 0) (xs ys : List A) → All P (xs ++ ys) → All P ys
-All-behind P [] ys h = h
-All-behind P (x ∷ xs) ys h = All-behind P xs ys (All-tail P x (xs ++ ys) h)
+    rw (← firsts.0) (compared-cons l ls ls' u v (compared ls ls' u v (All-tail IsLine l ls h) (All-tail IsLine l' ls' h') firsts.1))
 
 -- there is only one way to divide octets into whole lines and a rest without a line feed
 pub one_division : (ls ls' : List (List ℕ)) (u v : List ℕ) → All IsLine ls → All IsLine ls' → IsLine u → IsLine v →
     text_of_lines ls ++ u ≡ text_of_lines ls' ++ v → (ls ≡ ls') × (u ≡ v)
 one_division ls ls' u v h h' hu hv e = elim (compared ls ls' u v h h' e) [
   | inl same ↦ same
-  | inr two ↦ elim two [
-    | inl g ↦ absurd (no_feed u g.line (text_of_lines g.more ++ v) hu g.rest_is)
-    | inr g ↦ absurd (no_feed v g.line (text_of_lines g.more ++ u) hv g.rest_is)
-  ]
+  | inr (inl g) ↦ absurd (no_feed u g.line _ hu g.rest_is)
+  | inr (inr g) ↦ absurd (no_feed v g.line _ hv g.rest_is)
 ]
 
 -- the text of the lines with one more line at the end
@@ -116,15 +113,7 @@ text-push (k ∷ ls) l u =
 
 pub length-text-push : (ls : List (List ℕ)) (l : List ℕ) →
     length (text_of_lines (ls ++ l ∷ [])) ≡ length (text_of_lines ls ++ l) + 1
-length-text-push ls l =
-    omega (
-      arith,
-      (ap length (text-push ls l [])),
-      length-append (text_of_lines (ls ++ l ∷ [])) [],
-      length-append (text_of_lines ls) (l ++ 10 ∷ []),
-      length-append l (10 ∷ []),
-      length-append (text_of_lines ls) l,
-    )
+length-text-push ls l = omega (arith, length-append {A = ℕ}, ap length (text-push ls l []))
 
 -- ## DivisionLemmas: Each list of octets is divided into lines in exactly one way: `lines_of_octets` gives a division, by induction over
 -- the octets, and it is the only one.
@@ -132,9 +121,7 @@ length-text-push ls l =
 -- an octet other than a line feed goes to the front of the first line
 lines_of_octets-plain : (octet : ℕ) (octets : List ℕ) → IsNotLineFeed octet →
     lines_of_octets (octet ∷ octets) ≡ push_onto_first_line octet (lines_of_octets octets)
-lines_of_octets-plain octet octets plain = ap (λ b. cond b ([] ∷ lines_of_octets octets) (push_onto_first_line octet
-    (lines_of_octets octets)))
-    (ne_eqb octet 10 plain)
+lines_of_octets-plain octet octets plain = rw (ne_eqb octet 10 plain)
 
 -- a line and its line feed give one line before the lines of the rest
 lines_of_octets-line : (line rest : List ℕ) → IsLine line → lines_of_octets (line ++ 10 ∷ rest) ≡ line ∷ lines_of_octets rest
@@ -166,47 +153,46 @@ All-front : (lines front : List (List ℕ)) (last : List ℕ) → All IsLine lin
     All IsLine front × IsLine last
 All-front lines front last plain are =
     let all = subst (All IsLine) are plain in
-    let n = length front in
-    let before = subst (All IsLine) (take_at front (last ∷ []) n refl) (All-take IsLine n (front ++ last ∷ []) all) in
-    let behind = subst (All IsLine) (drop_at front (last ∷ []) n refl) (All-drop IsLine n (front ++ last ∷ []) all) in
-    (before, All-head IsLine last [] behind)
+    (All-before IsLine front (last ∷ []) all, All-head IsLine last [] (All-behind IsLine front (last ∷ []) all))
 
 -- a division has the lines that `lines_of_octets` gives, and no others
 pub lines_of_octets-only : (octets : List ℕ) (lines : List (List ℕ)) → IsDivided octets lines → lines ≡ lines_of_octets octets
 lines_of_octets-only octets lines divided =
-    ⊎_elim
-    (λ (whole : octets ≡ text_of_lines lines).
-    sym (ap lines_of_octets (whole ∙ sym (append-nil (text_of_lines lines))) ∙ lines_of_octets-text lines [] divided.no_line_feed
-    ∙ append-nil lines))
-    (λ (cut : EndsWithoutLineFeed octets lines).
-    let plain = All-front lines cut.front cut.last divided.no_line_feed cut.lines_split in
-    sym (ap lines_of_octets cut.octets_split ∙ lines_of_octets-text cut.front cut.last plain.0
-    ∙ ap (λ l. cut.front ++ l) (lines_of_octets-last cut.last plain.1 cut.nonempty) ∙ sym cut.lines_split))
-    divided.octets_split
+    elim divided.octets_split [
+      | inl whole ↦
+          sym (ap lines_of_octets (whole ∙ sym (append-nil (text_of_lines lines))) ∙ lines_of_octets-text lines [] divided.no_line_feed
+          ∙ append-nil lines)
+      | inr cut ↦
+          let plain = All-front lines cut.front cut.last divided.no_line_feed cut.lines_split in
+          sym (ap lines_of_octets cut.octets_split ∙ lines_of_octets-text cut.front cut.last plain.0
+          ∙ ap (λ l. cut.front ++ l) (lines_of_octets-last cut.last plain.1 cut.nonempty) ∙ sym cut.lines_split)
+    ]
 
--- a line feed before the octets is an empty line before their lines
-IsDivided-feed : (octets : List ℕ) (lines : List (List ℕ)) → IsDivided octets lines → IsDivided (10 ∷ octets) ([] ∷ lines)
-IsDivided-feed octets lines divided =
+-- a line and its line feed, put before octets, add one line before the lines of these octets
+IsDivided-line : (line octets : List ℕ) (lines : List (List ℕ)) → IsLine line → IsDivided octets lines
+    → IsDivided (line ++ 10 ∷ octets) (line ∷ lines)
+IsDivided-line line octets lines plain divided =
     record {
-      no_line_feed = All-cons IsLine [] lines (All-nil IsNotLineFeed) divided.no_line_feed;
-      octets_split = ⊎_elim
-          (λ (whole : octets ≡ text_of_lines lines). inl (ap (λ l. 10 ∷ l) whole))
-          (λ (cut : EndsWithoutLineFeed octets lines). inr record {
-            front = [] ∷ cut.front;
-            last = cut.last;
-            lines_split = ap (λ l. [] ∷ l) cut.lines_split;
-            octets_split = ap (λ l. 10 ∷ l) cut.octets_split;
-            nonempty = cut.nonempty;
-          })
-          divided.octets_split;
+      no_line_feed = All-cons IsLine line lines plain divided.no_line_feed;
+      octets_split = elim divided.octets_split [
+        | inl whole ↦ inl (ap (λ l. line ++ 10 ∷ l) whole)
+        | inr cut ↦ inr record {
+          front = line ∷ cut.front;
+          last = cut.last;
+          lines_split = ap (λ l. line ∷ l) cut.lines_split;
+          octets_split = ap (λ l. line ++ 10 ∷ l) cut.octets_split ∙ sym (append_assoc line (10 ∷ text_of_lines cut.front) cut.last);
+          nonempty = cut.nonempty;
+        }
+      ];
     }
 
 -- only the empty list has no lines
 no_lines : (octets : List ℕ) → IsDivided octets [] → octets ≡ []
 no_lines octets divided =
-    ⊎_elim (λ (whole : octets ≡ text_of_lines []). whole)
-    (λ (cut : EndsWithoutLineFeed octets []). absurd (omega (arith, ap length cut.lines_split, length-append cut.front (cut.last ∷ []))))
-    divided.octets_split
+    elim divided.octets_split [
+      | inl whole ↦ whole
+      | inr cut ↦ absurd (omega (arith, ap length cut.lines_split, length-append cut.front (cut.last ∷ [])))
+    ]
 
 -- an octet other than a line feed, put before octets, becomes the first of their first line
 EndsWithoutLineFeed-plain : (octet : ℕ) (octets line : List ℕ) (lines front : List (List ℕ)) (last : List ℕ) →
@@ -248,12 +234,11 @@ IsDivided-plain octet octets (line ∷ lines) plain divided =
       no_line_feed = All-cons IsLine (octet ∷ line) lines
           (All-cons IsNotLineFeed octet line plain (All-head IsLine line lines divided.no_line_feed))
           (All-tail IsLine line lines divided.no_line_feed);
-      octets_split = ⊎_elim
-          (λ (whole : octets ≡ text_of_lines (line ∷ lines)). inl (ap (λ l. octet ∷ l) whole))
-          (λ (cut : EndsWithoutLineFeed octets (line ∷ lines)). inr
-          (EndsWithoutLineFeed-plain octet octets line lines cut.front cut.last cut.lines_split
-          cut.octets_split cut.nonempty))
-          divided.octets_split;
+      octets_split = elim divided.octets_split [
+        | inl whole ↦ inl (ap (λ l. octet ∷ l) whole)
+        | inr cut ↦ inr
+            (EndsWithoutLineFeed-plain octet octets line lines cut.front cut.last cut.lines_split cut.octets_split cut.nonempty)
+      ];
     }
 
 -- `lines_of_octets` gives a division of the octets into lines
@@ -261,12 +246,10 @@ pub IsDivided-lines_of_octets : (octets : List ℕ) → IsDivided octets (lines_
 IsDivided-lines_of_octets [] = record { no_line_feed = All-nil IsLine; octets_split = inl refl }
 IsDivided-lines_of_octets (octet ∷ octets) =
     let rest = IsDivided-lines_of_octets octets in
-    ⊎_elim
-    (λ (feed : octet ≡ 10). subst (λ o. IsDivided (o ∷ octets) (lines_of_octets (o ∷ octets))) (sym feed)
-    (IsDivided-feed octets (lines_of_octets octets) rest))
-    (λ (plain : IsNotLineFeed octet). subst (IsDivided (octet ∷ octets)) (sym (lines_of_octets-plain octet octets plain))
-    (IsDivided-plain octet octets (lines_of_octets octets) plain rest))
-    (cases_eq octet 10)
+    elim (cases_eq octet 10) [
+      | inl feed ↦ rw feed (IsDivided-line [] octets (lines_of_octets octets) (All-nil IsNotLineFeed) rest)
+      | inr plain ↦ rw (lines_of_octets-plain octet octets plain) (IsDivided-plain octet octets (lines_of_octets octets) plain rest)
+    ]
 
 -- `a`, an empty line, and `b` without a line feed
 lines_of_octets-example : lines_of_octets (97 ∷ 10 ∷ 10 ∷ 98 ∷ []) ≡ (97 ∷ []) ∷ [] ∷ (98 ∷ []) ∷ []
@@ -282,9 +265,8 @@ Appends-nil (Some xs) = sym (append-nil xs)
 -- two calls in sequence handle two parts of the octets, one after the other
 pub Appends-append : (a b c : Option (List ℕ)) (x y : List ℕ) → Appends a b x → Appends b c y → Appends a c (x ++ y)
 Appends-append None b c x y first then = tt
-Appends-append (Some xs) None c x y first then = absurd first
-Appends-append (Some xs) (Some ys) None x y first then = absurd then
 Appends-append (Some xs) (Some ys) (Some zs) x y first then = then ∙ ap (λ w. w ++ y) first ∙ append_assoc xs x y
+Appends-append a b c x y first then = absurd assumption
 
 -- a call that gives no octets leaves the source as it is
 pub Consumes-nil : (known : Option (List ℕ)) → Consumes known known []
@@ -294,16 +276,14 @@ Consumes-nil (Some xs) = refl
 -- two calls in sequence handle two parts of the octets, one after the other
 pub Consumes-append : (a b c : Option (List ℕ)) (x y : List ℕ) → Consumes a b x → Consumes b c y → Consumes a c (x ++ y)
 Consumes-append None b c x y first then = tt
-Consumes-append (Some xs) None c x y first then = absurd first
-Consumes-append (Some xs) (Some ys) None x y first then = absurd then
 Consumes-append (Some xs) (Some ys) (Some zs) x y first then = first ∙ ap (λ w. x ++ w) then ∙ sym (append_assoc x y zs)
+Consumes-append a b c x y first then = absurd assumption
 
 -- some octets are taken, and then a call takes none
 pub Appends-keeps : (a b c : Option (List ℕ)) (x : List ℕ) → Appends a b x → Keeps b c → Appends a c x
 Appends-keeps None b c x first then = tt
-Appends-keeps (Some xs) None c x first then = absurd first
-Appends-keeps (Some xs) (Some ys) None x first then = absurd then
 Appends-keeps (Some xs) (Some ys) (Some zs) x first then = then ∙ first
+Appends-keeps a b c x first then = absurd assumption
 
 -- the first w octets of a piece are taken, and then n octets of the rest
 pub Appends-front : (a b c : Option (List ℕ)) (w n : ℕ) (piece : List ℕ) → Appends a b (take w piece) →
@@ -332,8 +312,10 @@ module _ {S : Type 0} (IsCall : S → Option ℕ → S → Type 0) (first : S) w
       (ended' ≡ false → 0 < n) → AskedSoFar t ended'
   asked-once s t ended ended' n so_far goes_on is_call some =
       let gave = gave-so_far s ended so_far goes_on in
-      ⊎_elim (λ (yes : ended' ≡ true). inr (yes, record { before_last = s; earlier_calls = gave; last_call = inr (Some n, is_call) }))
-      (λ (no : ended' ≡ false). inl (more_calls s t n gave is_call (some no))) (cases_Bool ended')
+      elim (cases_Bool ended') [
+        | inl ends ↦ inr (ends, record { before_last = s; earlier_calls = gave; last_call = inr (Some n, is_call) })
+        | inr goes ↦ inl (more_calls s t n gave is_call (some goes))
+      ]
 
 -- ## ReadingLemmas: What a line reader holds, and how reads from the source change it.
 
@@ -375,27 +357,12 @@ pub turns_left-read : (r s : ReaderState) (left left' : Option (List ℕ)) (came
     → (s.ended ≡ false → 0 < length came) → IsValidReader s → turns_left s < turns_left r
 turns_left-read r s left left' came more has some valid =
     let all : length s.held + length s.excess ≡ length r.held + length r.excess + length came =
-    omega (
-      arith,
-      length-append s.held s.excess,
-      length-append (r.held ++ r.excess) came,
-      length-append r.held r.excess,
-      ap length has.octets,
-    ) in
+    omega (arith, length-append {A = ℕ}, ap length has.octets) in
     let room = valid.fits_buffer in
-    let turns : turns_left r ≡ (line_limit + 1 - (length r.held + length r.excess)) + 1 =
-    ap (λ b. (line_limit + 1 - (length r.held + length r.excess)) + cond b 0 1) more.ended in
-    ⊎_elim
-    (λ (yes : s.ended ≡ true).
-    let now : turns_left s ≡ (line_limit + 1 - (length s.held + length s.excess)) + 0 =
-    ap (λ b. (line_limit + 1 - (length s.held + length s.excess)) + cond b 0 1) yes in
-    omega arith)
-    (λ (no : s.ended ≡ false).
-    let now : turns_left s ≡ (line_limit + 1 - (length s.held + length s.excess)) + 1 =
-    ap (λ b. (line_limit + 1 - (length s.held + length s.excess)) + cond b 0 1) no in
-    let grew = some no in
-    omega arith)
-    (cases_Bool s.ended)
+    elim (cases_Bool s.ended) [
+      | inl ends ↦ rw (more.ended, ends) (omega arith)
+      | inr goes ↦ let grew = some goes in rw (more.ended, goes) (omega arith)
+    ]
 
 -- ## FeedLemmas: Line feeds in parts of a list.
 
@@ -484,14 +451,14 @@ IsFirstLineFeed-upto octets i j k n first second fits before found =
 pub IsLine-skipped : (octets : List ℕ) (i j n : ℕ) → IsLine (slice_range octets i j) →
     IsLine (slice_range octets (i + n) (max j (i + n)))
 IsLine-skipped octets i j n plain =
-    ⊎_elim
-    (λ (less : j < i + n).
-    let none : max j (i + n) - (i + n) ≡ 0 = omega arith in
-    subst (λ m. IsLine (take m (drop (i + n) octets))) (sym none) (All-nil IsNotLineFeed))
-    (λ (more : i + n ≤ j).
-    subst (λ m. IsLine (slice_range octets (i + n) m)) (omega arith) (subst IsLine (slice_range-rest octets i j n more)
-    (All-drop IsNotLineFeed n (slice_range octets i j) plain)))
-    (cases_lt j (i + n))
+    elim (cases_lt j (i + n)) [
+      | inl less ↦
+          let none : max j (i + n) - (i + n) ≡ 0 = omega arith in
+          rw none (All-nil IsNotLineFeed)
+      | inr more ↦
+          let same : max j (i + n) ≡ j = omega arith in
+          rw (same, ← slice_range-rest octets i j n more) (All-drop IsNotLineFeed n (slice_range octets i j) plain)
+    ]
 
 -- a slice of an unchanged prefix is unchanged
 pub slice_range-kept : (old new : List ℕ) (i j n : ℕ) → j ≤ n → take n new ≡ take n old →
@@ -518,7 +485,7 @@ IsLine-before_feed octets m n found low =
 IsNextLineCall-from : (r s t : ReaderState) (left left' : Option (List ℕ)) (next : Next) (came : List ℕ) → r.is_over ≡ false
     → HasReadOctets r s left left' came → NeedsMoreOctets r ⊎ (came ≡ []) → IsValidReader s → t.ended ≡ s.ended →
     IsValidReader t
-    → IsResultOfCall r t (r.held ++ r.excess ++ came) next → IsNextLineCall r left left' next t
+    → IsNextLineResult r t (r.held ++ r.excess ++ came) next → IsNextLineCall r left left' next t
 IsNextLineCall-from r s t left left' next came going has needed held same valid gives =
     record {
       valid = valid;
@@ -555,48 +522,46 @@ Stops s Long = line_limit < length s.held
 Stops s TooMany = (length s.held ≤ line_limit) × (0 < length s.excess)
 Stops s Failed = NeedsMoreOctets s
 
-IsNextLineCall-stopped : (r s : ReaderState) (left left' : Option (List ℕ)) (next : Next) (came : List ℕ) → r.is_over ≡ false
-    → HasReadOctets r s left left' came → NeedsMoreOctets r ⊎ (came ≡ []) → IsValidReader s → IsLine s.held → Stops s next
+-- a reader that found no line stops with an answer that says why
+pub IsNextLineCall-stopped : (r s : ReaderState) (left left' : Option (List ℕ)) (next : Next) (result : Result LineSearchResult Error) →
+    r.is_over ≡ false → IsValidReader s → IsSearchResult r s left left' result → IsLine s.held → Stops s next
     → IsNextLineCall r left left' next (stopped s)
-IsNextLineCall-stopped r s left left' next came going has needed valid plain stops =
+IsNextLineCall-stopped r s left left' next result going valid found plain stops =
+    let came = found.octets_read in
     let same : IsValidReader (stopped s) =
     record { limit = valid.limit; excess = valid.excess; fits_buffer = valid.fits_buffer; line_count = valid.line_count } in
-    let held = ReturnsNoLine-stopped r s left left' came has plain in
-    IsNextLineCall-from r s (stopped s) left left' next came going has needed valid refl same (gives next stops held)
+    let held = ReturnsNoLine-stopped r s left left' came found.has_read plain in
+    IsNextLineCall-from r s (stopped s) left left' next came going found.has_read found.read_if_needed valid refl same
+    (gives came next stops held)
   where
-    gives : (next : Next) → Stops s next → ReturnsNoLine r (stopped s) (r.held ++ r.excess ++ came) true
-        → IsResultOfCall r (stopped s) (r.held ++ r.excess ++ came) next
-    gives (Line line) stops held = absurd stops
-    gives End stops held = absurd stops
-    gives Long stops held = (held, stops)
-    gives TooMany stops held = (held, stops.0, stops.1)
-    gives Failed stops held = (
+    gives : (came : List ℕ) (next : Next) → Stops s next → ReturnsNoLine r (stopped s) (r.held ++ r.excess ++ came) true
+        → IsNextLineResult r (stopped s) (r.held ++ r.excess ++ came) next
+    gives came Long stops held = (held, stops)
+    gives came TooMany stops held = (held, stops.0, stops.1)
+    gives came Failed stops held = (
       held,
       record { no_line_feed = stops.no_line_feed; in_limit = stops.in_limit; excess = stops.excess; ended = stops.ended },
     )
+    gives came next stops held = absurd stops
 
 -- a source that is called only when needed is not called when the octets held already give the answer
 pub source_unchanged : {X : Type 0} (r : ReaderState) (old new : X) → r.is_over ≡ false → NeedsMoreOctets r ⊎ (new ≡ old) →
     IsResultReady r → new ≡ old
 source_unchanged {X} r old new going needed ready =
-    ⊎_elim (λ (more : NeedsMoreOctets r). ⊎_elim (λ (is_over : r.is_over ≡ true). absurd (false≢true (sym going ∙ is_over)))
-    (λ (none : NeedsMoreOctets r → ⊥). absurd (none more)) ready) (λ (same : new ≡ old). same) needed
-
--- `IsSearchResult` holds for an equal reader
-pub IsSearchResult-same : (r s t : ReaderState) (left left' : Option (List ℕ)) (result : Result Found Error) → t ≡ s →
-    IsSearchResult r s left left' result
-    → IsSearchResult r t left left' result
-IsSearchResult-same r s t left left' result same found = subst (λ u. IsSearchResult r u left left' result) (sym same) found
+    elim needed [
+      | inl more ↦ elim ready [
+        | inl is_over ↦ absurd (false≢true (sym going ∙ is_over))
+        | inr none ↦ absurd (none more)
+      ]
+      | inr same ↦ same
+    ]
 
 -- a line that was found has, with its line feed, at least one octet and no more octets than are held
 whole_counts : (s : ReaderState) (n whole : ℕ) → IsFoundInBuffer s (WholeLine n whole) → (0 < whole) × (whole ≤ length s.held)
-whole_counts s n whole looks =
-    ⊎_elim
-    (λ (first : IsFirstLineFeed s.held n ×
-    (whole ≡ n + 1)). (omega arith, omega arith))
-    (λ (last : IsLine s.held × IsFoundWithoutLineFeed (length s.held) (length s.excess) s.ended
-    (WholeLine n whole)). (omega arith, omega arith))
-    looks
+whole_counts s n whole looks = elim looks [
+  | inl first ↦ (omega arith, omega arith)
+  | inr last ↦ (omega arith, omega arith)
+]
 
 -- after a line is answered, the counts of octets and lines are still within their limits
 pub counts-after : (octets : List ℕ) (answered number n whole : ℕ) (ended is_over : Bool) → answered ≤ input_limit →
@@ -607,28 +572,6 @@ counts-after octets answered number n whole ended is_over limit numbered looks =
     let counts = whole_counts (reader_holding octets answered number ended is_over) n whole looks in
     let front = length-take (input_limit - answered) octets in
     (omega (arith, counts.1), omega (arith, counts.0))
-
-pub IsNextLineCall-above : (r s : ReaderState) (left left' : Option (List ℕ)) → r.is_over ≡ false → IsValidReader s →
-    IsSearchResult r s left left' (Ok LineTooLong)
-    → IsNextLineCall r left left' Long (stopped s)
-IsNextLineCall-above r s left left' going valid found =
-    IsNextLineCall-stopped r s left left' Long found.octets_read going found.has_read found.read_if_needed
-    valid
-    found.outcome.0 found.outcome.1
-
-pub IsNextLineCall-past : (r s : ReaderState) (left left' : Option (List ℕ)) → r.is_over ≡ false → IsValidReader s →
-    IsSearchResult r s left left' (Ok PastInputLimit)
-    → IsNextLineCall r left left' TooMany (stopped s)
-IsNextLineCall-past r s left left' going valid found = IsNextLineCall-stopped r s left left' TooMany found.octets_read going found.has_read
-    found.read_if_needed valid
-    found.outcome.0 found.outcome.1
-
-pub IsNextLineCall-failed : (r s : ReaderState) (left left' : Option (List ℕ)) (e : Error) → r.is_over ≡ false → IsValidReader s
-    → IsSearchResult r s left left' (Err e) → IsNextLineCall r left left' Failed (stopped s)
-IsNextLineCall-failed r s left left' e going valid found =
-    IsNextLineCall-stopped r s left left' Failed found.octets_read going found.has_read
-    found.read_if_needed valid
-    found.outcome.no_line_feed found.outcome
 
 -- octets with a line feed at index n are a line of n octets, its line feed, and the rest
 line_and_rest : (octets : List ℕ) (n : ℕ) → n < length octets → slice_index octets n ≡ 10
@@ -646,7 +589,9 @@ lent_line octets held from n whole fits skipped =
 
 -- a reader that held the octets of `b` answered the first `whole` of them as a line, and now holds the octets of `after`
 module _ (r : ReaderState) (b after : Buffer) (answered number whole : ℕ) (ended is_over : Bool) (left left' : Option (List ℕ))
-    (came : List ℕ)
+    (came : List ℕ) (going : r.is_over ≡ false) (has : HasReadOctets r (reader_holding (octets_of b) answered number ended is_over) left
+    left' came) (needed : NeedsMoreOctets r ⊎ (came ≡ [])) (limit : answered ≤ input_limit) (numbered : number ≤ answered)
+    (rest : octets_of after ≡ drop whole (octets_of b))
   where
     abbrev held_before : ReaderState
     held_before = reader_holding (octets_of b) answered number ended is_over
@@ -654,13 +599,11 @@ module _ (r : ReaderState) (b after : Buffer) (answered number whole : ℕ) (end
     abbrev held_after : ReaderState
     held_after = reader_holding (octets_of after) (answered + whole) (number + 1) ended is_over
 
-    ReturnsLine-from : r.is_over ≡ false → HasReadOctets r held_before left left' came →
-        octets_of after ≡ drop whole (octets_of b)
-        → (line feed : List ℕ) → octets_of b ≡ line ++ feed ++ drop whole (octets_of b) → IsLine line →
+    ReturnsLine-from : (line feed : List ℕ) → octets_of b ≡ line ++ feed ++ drop whole (octets_of b) → IsLine line →
         length line ≤ line_limit
         → length (line ++ feed) ≡ whole → 0 < whole
         → ReturnsLine r held_after (r.held ++ r.excess ++ came) line feed
-    ReturnsLine-from going has rest line feed split plain short size some =
+    ReturnsLine-from line feed split plain short size some =
         let before = take-append-drop (input_limit - answered) (octets_of b) in
         let behind = take-append-drop (input_limit - (answered + whole)) (octets_of after) ∙ rest in
         let was : answered ≡ r.octet_count = has.octet_count in
@@ -675,20 +618,16 @@ module _ (r : ReaderState) (b after : Buffer) (answered number whole : ℕ) (end
           is_over = has.is_over ∙ going;
         }
 
-    IsValidReader-after : answered ≤ input_limit → number ≤ answered → 0 < whole → whole ≤ length held_before.held →
+    IsValidReader-after : 0 < whole → whole ≤ length held_before.held →
         IsValidReader held_after
-    IsValidReader-after limit numbered some fits =
+    IsValidReader-after some fits =
         let front = length-take (input_limit - answered) (octets_of b) in
         IsValidReader-from after (answered + whole) (number + 1) ended is_over (omega arith) (omega arith)
 
     -- the answer is a line with a line feed
-    IsNextLineCall-line : (n : ℕ) (line : Bor (List ℕ)) → r.is_over ≡ false → HasReadOctets r held_before left left' came →
-        NeedsMoreOctets r ⊎ (came ≡ [])
-        → answered ≤ input_limit → number ≤ answered
-        → octets_of after ≡ drop whole (octets_of b) → line.now ≡ take n (octets_of b) → IsFirstLineFeed held_before.held n →
-        whole ≡ n + 1
-        → IsNextLineCall r left left' (Line line) held_after
-    IsNextLineCall-line n line going has needed limit numbered rest shown first size =
+    IsNextLineCall-line : (n : ℕ) (line : Bor (List ℕ)) → line.now ≡ take n (octets_of b) → IsFirstLineFeed held_before.held n →
+        whole ≡ n + 1 → IsNextLineCall r left left' (Line line) held_after
+    IsNextLineCall-line n line shown first size =
         let octets = octets_of b in
         let m = input_limit - answered in
         let within = first.in_range in
@@ -700,20 +639,17 @@ module _ (r : ReaderState) (b after : Buffer) (answered number whole : ℕ) (end
         let plain : IsLine (take n octets) = subst IsLine (take-take n m octets (omega arith)) first.no_line_feed in
         let long = length-take n octets in
         let counted : length (take n octets ++ 10 ∷ []) ≡ whole = omega (arith, length-append (take n octets) (10 ∷ [])) in
-        let answers = ReturnsLine-from going has rest (take n octets) (10 ∷ []) split plain (omega arith) counted (omega arith) in
+        let answers = ReturnsLine-from (take n octets) (10 ∷ []) split plain (omega arith) counted (omega arith) in
         IsNextLineCall-from r held_before held_after left left' (Line line) came going has needed
         (IsValidReader-from b answered number ended is_over limit numbered) refl
-        (IsValidReader-after limit numbered (omega arith) (omega arith))
-        (inl (subst (λ l. ReturnsLine r held_after (r.held ++ r.excess ++ came) l (10 ∷ [])) (sym shown) answers))
+        (IsValidReader-after (omega arith) (omega arith))
+        (inl (rw shown answers))
 
     -- the answer is the last line, which has no line feed
-    IsNextLineCall-last : (n : ℕ) (line : Bor (List ℕ)) → r.is_over ≡ false → HasReadOctets r held_before left left' came →
-        NeedsMoreOctets r ⊎ (came ≡ [])
-        → answered ≤ input_limit → number ≤ answered
-        → octets_of after ≡ drop whole (octets_of b) → line.now ≡ take n (octets_of b) → IsLine held_before.held
+    IsNextLineCall-last : (n : ℕ) (line : Bor (List ℕ)) → line.now ≡ take n (octets_of b) → IsLine held_before.held
         → IsFoundWithoutLineFeed (length held_before.held) (length held_before.excess) ended (WholeLine n whole)
         → IsNextLineCall r left left' (Line line) held_after
-    IsNextLineCall-last n line going has needed limit numbered rest shown plain shows =
+    IsNextLineCall-last n line shown plain shows =
         let octets = octets_of b in
         let m = input_limit - answered in
         let front = length-take m octets in
@@ -722,59 +658,34 @@ module _ (r : ReaderState) (b after : Buffer) (answered number whole : ℕ) (end
         let inside : take m octets ≡ octets = take_all m octets (omega (arith, shows.4)) in
         let none : drop whole octets ≡ [] = drop_all whole octets (omega (arith, shows.1, shows.4)) in
         let split : octets ≡ take n octets ++ [] ++ drop whole octets =
-        sym (ap (λ l. take n octets ++ [] ++ l) none ∙ append-nil (take n octets ++ []) ∙ append-nil (take n octets) ∙ all) in
+        sym (rw (none, append-nil, append-nil) all) in
         let no_feed_in_line : IsLine (take n octets) = subst IsLine (inside ∙ sym all) plain in
         let size : length (take n octets) ≡ length octets = ap length all in
         let counted : length (take n octets ++ []) ≡ whole = omega (arith, ap length (append-nil (take n octets)), shows.1, shows.4) in
-        let answers = ReturnsLine-from going has rest (take n octets) [] split no_feed_in_line (omega (arith, shows.3, shows.4)) counted
+        let answers = ReturnsLine-from (take n octets) [] split no_feed_in_line (omega (arith, shows.3, shows.4)) counted
         (omega (arith, shows.1, shows.2)) in
-        let nothing : held_after.held ++ held_after.excess ≡ [] = take-append-drop (input_limit - (answered + whole)) (octets_of after)
-        ∙ rest
-        ∙ none in
+        let nothing = take-append-drop (input_limit - (answered + whole)) (octets_of after) ∙ rest ∙ none in
         IsNextLineCall-from r held_before held_after left left' (Line line) came going has needed
         (IsValidReader-from b answered number ended is_over limit numbered) refl
-        (IsValidReader-after limit numbered (omega (arith, shows.1, shows.2)) (omega (arith, shows.1)))
-        (inr (subst (λ l. ReturnsLine r held_after (r.held ++ r.excess ++ came) l []) (sym shown) answers, nothing, shows.5))
+        (IsValidReader-after (omega (arith, shows.1, shows.2)) (omega (arith, shows.1)))
+        (inr (rw shown answers, nothing, shows.5))
 
     -- the answer is the line that was found: a borrowed slice at the front of the octets that the buffer drops
-    pub IsNextLineCall-found : (from n : ℕ) (line : Bor (List ℕ)) → r.is_over ≡ false →
-        HasReadOctets r held_before left left' came
-        → NeedsMoreOctets r ⊎ (came ≡ []) → answered ≤ input_limit → number ≤ answered
-        → octets_of after ≡ drop whole (octets_of b) → slice_range after.octets.items from (from + whole) ≡ take whole (octets_of b)
+    pub IsNextLineCall-found : (from n : ℕ) (line : Bor (List ℕ)) →
+        slice_range after.octets.items from (from + whole) ≡ take whole (octets_of b)
         → line.now ≡ slice_range after.octets.items from (from + n)
         → IsFoundInBuffer held_before (WholeLine n whole) → IsNextLineCall r left left' (Line line) held_after
-    IsNextLineCall-found from n line going has needed limit numbered rest skipped borrowed looks =
-        ⊎_elim
-        (λ (first : IsFirstLineFeed held_before.held n × (whole ≡ n + 1)).
-        let shown = borrowed ∙ lent_line after.octets.items (octets_of b) from n whole (omega (arith, first.1)) skipped in
-        IsNextLineCall-line n line going has needed limit numbered rest shown first.0 first.1)
-        (λ (last : IsLine held_before.held × IsFoundWithoutLineFeed (length held_before.held) (length held_before.excess) ended
-        (WholeLine n whole)).
-        let shown = borrowed ∙ lent_line after.octets.items (octets_of b) from n whole (omega (arith, last.1.0, last.1.1)) skipped in
-        IsNextLineCall-last n line going has needed limit numbered rest shown last.0 last.1)
-        looks
+    IsNextLineCall-found from n line skipped borrowed looks = elim looks [
+      | inl first ↦
+          let shown = borrowed ∙ lent_line after.octets.items (octets_of b) from n whole (omega (arith, first.1)) skipped in
+          IsNextLineCall-line n line shown first.0 first.1
+      | inr last ↦
+          let shown = borrowed ∙ lent_line after.octets.items (octets_of b) from n whole (omega (arith, last.1.0, last.1.1)) skipped in
+          IsNextLineCall-last n line shown last.0 last.1
+    ]
 
 -- ## AnswersLemmas: The lines that a line reader answers before it ends are the lines of its source: by induction over the calls, each of
 -- which takes one line off the front of the octets.
-
--- a line and its line feed, put before octets, add one line before the lines of these octets
-IsDivided-line : (line octets : List ℕ) (lines : List (List ℕ)) → IsLine line → IsDivided octets lines
-    → IsDivided (line ++ 10 ∷ octets) (line ∷ lines)
-IsDivided-line line octets lines plain divided =
-    record {
-      no_line_feed = All-cons IsLine line lines plain divided.no_line_feed;
-      octets_split = ⊎_elim
-          (λ (whole : octets ≡ text_of_lines lines). inl (ap (λ l. line ++ 10 ∷ l) whole))
-          (λ (cut : EndsWithoutLineFeed octets lines). inr record {
-            front = line ∷ cut.front;
-            last = cut.last;
-            lines_split = ap (λ l. line ∷ l) cut.lines_split;
-            octets_split = ap (λ l. line ++ 10 ∷ l) cut.octets_split
-                ∙ sym (append_assoc line (10 ∷ text_of_lines cut.front) cut.last);
-            nonempty = cut.nonempty;
-          })
-          divided.octets_split;
-    }
 
 -- a nonempty line without a line feed is the only line of its octets
 IsDivided-last : (line : List ℕ) → IsLine line → 0 < length line → IsDivided line (line ∷ [])
@@ -792,15 +703,15 @@ no_more : (r r' : ReaderState) (left left' : Option (List ℕ)) (lines : List (L
 no_more r r' left left' [] came none ended answers = (refl, answers.0)
 no_more r r' left left' (line ∷ lines) came none ended answers =
     let step = answers.7 in
-    let nothing : length (r.held ++ r.excess ++ answers.0) ≡ 0 = ap length
-    (ap (λ l. r.held ++ r.excess ++ l) (step.no_read_after_end ended).0 ∙ append-nil (r.held ++ r.excess) ∙ none) in
-    absurd (⊎_elim
-    (λ (whole : ReturnsLine r answers.2 (r.held ++ r.excess ++ answers.0) answers.4.now (10 ∷ [])).
-    omega (arith, ap length whole.octets, length-append (answers.4.now ++ 10 ∷ []) (answers.2.held ++ answers.2.excess), whole.nonempty))
-    (λ (last : ReturnsLine r answers.2 (r.held ++ r.excess ++ answers.0) answers.4.now [] × (answers.2.held ++ answers.2.excess ≡ [])
-    × (answers.2.ended ≡ true)).
-    omega (arith, ap length last.0.octets, length-append (answers.4.now ++ []) (answers.2.held ++ answers.2.excess), last.0.nonempty))
-    step.outcome)
+    let nothing : length (r.held ++ r.excess ++ answers.0) ≡ 0 = rw ((step.no_read_after_end ended).0, append-nil, none) in
+    elim step.outcome [
+      | inl whole ↦
+          let size = length-append (answers.4.now ++ 10 ∷ []) (answers.2.held ++ answers.2.excess) in
+          absurd (omega (arith, ap length whole.octets, whole.nonempty))
+      | inr last ↦
+          let size = length-append (answers.4.now ++ []) (answers.2.held ++ answers.2.excess) in
+          absurd (omega (arith, ap length last.0.octets, last.0.nonempty))
+    ]
 
 -- if nothing is held at the end, the answered lines are a division of the octets held at the start and those read
 IsDivided-answers : (lines : List (List ℕ)) (r r' : ReaderState) (left left' : Option (List ℕ)) (came : List ℕ)
@@ -811,34 +722,24 @@ IsDivided-answers [] r r' left left' came answers none =
     ∙ ap (λ (s : ReaderState). s.held ++ s.excess) (sym answers.1)
     ∙ none in
     subst (λ l. IsDivided l []) (sym nothing) record { no_line_feed = All-nil IsLine; octets_split = inl refl }
-IsDivided-answers (line ∷ lines) r r' left left' came answers none =
-    let first = answers.0 in
-    let rest = answers.1 in
-    let mid = answers.2 in
-    let shown = answers.4.now in
-    let step = answers.7 in
-    let later = answers.8 in
-    let joined : r.held ++ r.excess ++ came ≡ (r.held ++ r.excess ++ first) ++ rest = ap (λ l. r.held ++ r.excess ++ l) answers.6
-    ∙ sym (append_assoc (r.held ++ r.excess) first rest) in
-    let divided : IsDivided (r.held ++ r.excess ++ came) (shown ∷ lines) = ⊎_elim
-    (λ (whole : ReturnsLine r mid (r.held ++ r.excess ++ first) shown (10 ∷ [])).
-    let behind = mid.held ++ mid.excess in
-    let octets : r.held ++ r.excess ++ came ≡ shown ++ 10 ∷ (behind ++ rest) =
-    joined ∙ ap (λ l. l ++ rest) whole.octets ∙ append_assoc (shown ++ 10 ∷ []) behind rest
-    ∙ append_assoc shown (10 ∷ []) (behind ++ rest) in
-    subst (λ l. IsDivided l (shown ∷ lines)) (sym octets) (IsDivided-line shown (behind ++ rest) lines whole.no_line_feed
-    (IsDivided-answers lines mid r' answers.3 left' rest later none)))
-    (λ (last : ReturnsLine r mid (r.held ++ r.excess ++ first) shown [] × (mid.held ++ mid.excess ≡ []) × (mid.ended ≡ true)).
-    let ends = no_more mid r' answers.3 left' lines rest last.1 last.2 later in
-    let octets : r.held ++ r.excess ++ came ≡ shown =
-    joined ∙ ap (λ l. (r.held ++ r.excess ++ first) ++ l) ends.1 ∙ append-nil (r.held ++ r.excess ++ first) ∙ last.0.octets
-    ∙ ap (λ l. shown ++ [] ++ l) last.1
-    ∙ append-nil (shown ++ []) ∙ append-nil shown in
-    let some : 0 < length shown = omega (arith, ap length (append-nil shown), last.0.nonempty) in
-    subst (λ l. IsDivided l (shown ∷ lines)) (sym octets) (subst (λ ls. IsDivided shown (shown ∷ ls)) (sym ends.0)
-    (IsDivided-last shown last.0.no_line_feed some)))
-    step.outcome in
-    subst (λ l. IsDivided (r.held ++ r.excess ++ came) (l ∷ lines)) answers.5 divided
+IsDivided-answers (line ∷ lines) r r' left left' came (first, rest, mid, between, slice, shown_is, came_is, step, later) none =
+    let shown = slice.now in
+    let joined : r.held ++ r.excess ++ came ≡ (r.held ++ r.excess ++ first) ++ rest = rw came_is (simp append_assoc) in
+    rw (← shown_is)
+    (elim step.outcome [
+      | inl whole ↦
+          let behind = mid.held ++ mid.excess in
+          let octets : _ ≡ shown ++ 10 ∷ (behind ++ rest) = joined ∙ rw whole.octets (simp append_assoc) in
+          rw octets
+          (IsDivided-line shown (behind ++ rest) lines whole.no_line_feed
+          (IsDivided-answers lines mid r' between left' rest later none))
+      | inr last ↦
+          let ends = no_more mid r' between left' lines rest last.1 last.2 later in
+          let octets : r.held ++ r.excess ++ came ≡ shown =
+          joined ∙ rw (ends.1, append-nil, last.0.octets, last.1) (simp append-nil) in
+          let some : 0 < length shown = omega (arith, ap length (append-nil shown), last.0.nonempty) in
+          rw (octets, ends.0) (IsDivided-last shown last.0.no_line_feed some)
+    ])
 
 -- if nothing is held at the end, nothing was read
 nothing_came : (held came : List ℕ) → held ++ came ≡ [] → (held ≡ []) × (came ≡ [])
@@ -863,12 +764,10 @@ IsLeft-step r r' octets (Some rest) next came known step =
       rest = rest;
       left_is = refl;
       octets_split = step.consumed;
-      at_end = λ yes. ⊎_elim
-          (λ (before : r.ended ≡ true).
-          let none : came ++ rest ≡ [] = sym step.consumed ∙ known before in
-          (nothing_came came rest none).1)
-          (λ (not_before : r.ended ≡ false). step.ended yes not_before)
-          (cases_Bool r.ended);
+      at_end = λ yes. elim (cases_Bool r.ended) [
+        | inl before ↦ (nothing_came came rest (sym step.consumed ∙ known before)).1
+        | inr not_before ↦ step.ended yes not_before
+      ];
     }
 
 -- what a source has left after calls that read `came`
@@ -884,7 +783,7 @@ IsLeft-answers [] r r' octets came left' known answers =
 IsLeft-answers (line ∷ lines) r r' octets came left' known answers =
     let mid = answers.2 in
     let one = IsLeft-step r mid octets answers.3 (Line answers.4) answers.0 known answers.7 in
-    let later = subst (λ l. CallsReturnLines mid l lines answers.1 r' left') one.left_is answers.8 in
+    let later = rw one.left_is at answers.8 in
     let rest = IsLeft-answers lines mid r' one.rest answers.1 left' one.at_end later in
     record {
       rest = rest.rest;
@@ -902,11 +801,10 @@ lines_of_octets-answers : (octets : List ℕ) (lines : List (List ℕ)) (came la
 lines_of_octets-answers octets lines came last r r' left left' answers step =
     let none : (r.held ++ r.excess ≡ []) × (last ≡ []) = nothing_came (r.held ++ r.excess) last step.outcome.1 in
     let had = IsLeft-answers lines new_reader r octets came left (λ yes. absurd (false≢true yes)) answers in
-    let ends = IsLeft-step r r' had.rest left' End last had.at_end (subst (λ l. IsReaderStep r r' l left' End last) had.left_is step) in
+    let ends = IsLeft-step r r' had.rest left' End last had.at_end (rw had.left_is at step) in
     let nothing : had.rest ≡ [] = ends.octets_split ∙ ap (λ l. l ++ ends.rest) none.1 ∙ ends.at_end step.outcome.2 in
-    let all : octets ≡ came = had.octets_split ∙ ap (λ l. came ++ l) nothing ∙ append-nil came in
-    lines_of_octets-only octets lines (subst (λ l. IsDivided l lines) (sym all)
-    (IsDivided-answers lines new_reader r (Some octets) left came answers none.0))
+    let all : octets ≡ came = had.octets_split ∙ rw (nothing, append-nil) in
+    lines_of_octets-only octets lines (rw all (IsDivided-answers lines new_reader r (Some octets) left came answers none.0))
 
 -- the octets held at the start and those read are the answered lines, each with its line feed, and what is held at the end
 record AreWhole (r r' : ReaderState) (lines : List (List ℕ)) (came : List ℕ) : Type 0 where
@@ -925,35 +823,35 @@ AreWhole-answers [] r r' left left' came (none, same, _) =
       answered = omega (arith, ap (λ (s : ReaderState). s.octet_count) same);
       no_line_feed = All-nil IsLine;
     }
-AreWhole-answers (line ∷ lines) r r' left left' came (first, rest, mid, between, shown, shown_is, came_is, step, later) = ⊎_elim
-    (λ (whole : ReturnsLine r mid (r.held ++ r.excess ++ first) shown.now (10 ∷ [])). ⊎_elim
-    (λ (then : AreWhole mid r' lines rest).
-    let behind = mid.held ++ mid.excess in
-    let count = length-append (shown.now ++ 10 ∷ []) (text_of_lines lines) in
-    let text : text_of_lines (line ∷ lines) ≡ (shown.now ++ 10 ∷ []) ++ text_of_lines lines =
-    ap (λ l. l ++ 10 ∷ text_of_lines lines) (sym shown_is) ∙ sym (append_assoc shown.now (10 ∷ []) (text_of_lines lines)) in
-    inl record {
-      octets = ap (λ l. r.held ++ r.excess ++ l) came_is ∙ sym (append_assoc (r.held ++ r.excess) first rest)
-          ∙ ap (λ l. l ++ rest) whole.octets
-          ∙ append_assoc (shown.now ++ 10 ∷ []) behind rest ∙ ap (λ l. (shown.now ++ 10 ∷ []) ++ l) then.octets
-          ∙ sym (append_assoc (shown.now ++ 10 ∷ []) (text_of_lines lines) (r'.held ++ r'.excess))
-          ∙ ap (λ l. l ++ (r'.held ++ r'.excess)) (sym text);
-      answered = omega (arith, then.answered, whole.octet_count, count, ap length text);
-      no_line_feed = All-cons IsLine line lines (subst IsLine shown_is whole.no_line_feed) then.no_line_feed;
-    })
-    (λ (is_over : (r'.held ++ r'.excess ≡ []) × (r'.ended ≡ true)). inr is_over)
-    (AreWhole-answers lines mid r' between left' rest later))
-    (λ (last : ReturnsLine r mid (r.held ++ r.excess ++ first) shown.now [] × (mid.held ++ mid.excess ≡ []) × (mid.ended ≡ true)).
-    let ends = no_more mid r' between left' lines rest last.1 last.2 later in
-    inr (after_end lines mid r' between left' rest last.1 last.2 ends.0 later))
-    step.outcome
+AreWhole-answers (line ∷ lines) r r' left left' came (first, rest, mid, between, shown, shown_is, came_is, step, later) =
+    elim step.outcome [
+      | inl whole ↦ elim (AreWhole-answers lines mid r' between left' rest later) [
+        | inl then ↦
+            let behind = mid.held ++ mid.excess in
+            let count = length-append (shown.now ++ 10 ∷ []) (text_of_lines lines) in
+            let text : text_of_lines (line ∷ lines) ≡ (shown.now ++ 10 ∷ []) ++ text_of_lines lines =
+            ap (λ l. l ++ 10 ∷ text_of_lines lines) (sym shown_is) ∙ sym (append_assoc shown.now (10 ∷ []) (text_of_lines lines)) in
+            inl record {
+              octets = ap (λ l. r.held ++ r.excess ++ l) came_is ∙ sym (append_assoc (r.held ++ r.excess) first rest)
+                  ∙ ap (λ l. l ++ rest) whole.octets
+                  ∙ append_assoc (shown.now ++ 10 ∷ []) behind rest ∙ ap (λ l. (shown.now ++ 10 ∷ []) ++ l) then.octets
+                  ∙ sym (append_assoc (shown.now ++ 10 ∷ []) (text_of_lines lines) (r'.held ++ r'.excess))
+                  ∙ ap (λ l. l ++ (r'.held ++ r'.excess)) (sym text);
+              answered = omega (arith, then.answered, whole.octet_count, count, ap length text);
+              no_line_feed = All-cons IsLine line lines (subst IsLine shown_is whole.no_line_feed) then.no_line_feed;
+            }
+        | inr is_over ↦ inr is_over
+      ]
+      | inr last ↦
+          let ends = no_more mid r' between left' lines rest last.1 last.2 later in
+          inr (after_end lines mid r' between left' rest last.1 last.2 ends.0 later)
+    ]
   where
     after_end : (lines : List (List ℕ)) (mid r' : ReaderState) (between left' : Option (List ℕ)) (rest : List ℕ) →
         mid.held ++ mid.excess ≡ []
         → mid.ended ≡ true → lines ≡ []
         → CallsReturnLines mid between lines rest r' left' → (r'.held ++ r'.excess ≡ []) × (r'.ended ≡ true)
-    after_end [] mid r' between left' rest none ended same (_, is, _) =
-        (ap (λ (s : ReaderState). s.held ++ s.excess) is ∙ none, ap (λ (s : ReaderState). s.ended) is ∙ ended)
+    after_end [] mid r' between left' rest none ended same (_, is, _) = rw is (none, ended)
     after_end (line ∷ lines) mid r' between left' rest none ended same later = absurd (cc same)
 
 -- if a reader stops with octets held or before the end of its source, the octets read are whole lines and what is held
@@ -964,26 +862,26 @@ DividesReadOctets-answers : (octets : List ℕ) (lines : List (List ℕ)) (came 
     → ReturnsNoLine r r' (r.held ++ r.excess ++ last) true
     → ((r.held ++ r.excess ++ last ≡ []) → (r'.ended ≡ true) → ⊥) →
     DividesReadOctets octets (came ++ last) lines r'.held r'.excess
-DividesReadOctets-answers octets lines came last r r' left left' next answers step valid held open_ = ⊎_elim
-    (λ (whole : AreWhole new_reader r lines came).
-    let had = IsLeft-answers lines new_reader r octets came left (λ yes. absurd (false≢true yes)) answers in
-    let then = IsLeft-step r r' had.rest left' next last had.at_end (subst (λ l. IsReaderStep r r' l left' next last) had.left_is step) in
-    let size = length-append (text_of_lines lines) r'.held in
-    record {
-      unread = then.rest;
-      octets_split = had.octets_split ∙ ap (λ l. came ++ l) then.octets_split ∙ sym (append_assoc came last then.rest);
-      read_split = ap (λ l. l ++ last) whole.octets ∙ append_assoc (text_of_lines lines) (r.held ++ r.excess) last
-          ∙ ap (λ l. text_of_lines lines ++ l) held.octets;
-      no_line_feed = whole.no_line_feed;
-      no_feed_in_line = held.no_line_feed;
-      limit = omega (arith, valid.limit, held.octet_count, whole.answered, size);
-      past_only_at_limit = λ some. omega (arith, valid.excess some, held.octet_count, whole.answered, size);
-    })
-    (λ (is_over : (r.held ++ r.excess ≡ []) × (r.ended ≡ true)).
-    let none = (step.no_read_after_end is_over.1).0 in
-    absurd (open_ (ap (λ l. r.held ++ r.excess ++ l) none ∙ append-nil (r.held ++ r.excess) ∙ is_over.0)
-    (step.no_read_after_end is_over.1).1))
-    (AreWhole-answers lines new_reader r (Some octets) left came answers)
+DividesReadOctets-answers octets lines came last r r' left left' next answers step valid held open_ =
+    elim (AreWhole-answers lines new_reader r (Some octets) left came answers) [
+      | inl whole ↦
+          let had = IsLeft-answers lines new_reader r octets came left (λ yes. absurd (false≢true yes)) answers in
+          let then = IsLeft-step r r' had.rest left' next last had.at_end (rw had.left_is at step) in
+          let size = length-append (text_of_lines lines) r'.held in
+          record {
+            unread = then.rest;
+            octets_split = had.octets_split ∙ ap (λ l. came ++ l) then.octets_split ∙ sym (append_assoc came last then.rest);
+            read_split = ap (λ l. l ++ last) whole.octets ∙ append_assoc (text_of_lines lines) (r.held ++ r.excess) last
+                ∙ ap (λ l. text_of_lines lines ++ l) held.octets;
+            no_line_feed = whole.no_line_feed;
+            no_feed_in_line = held.no_line_feed;
+            limit = omega (arith, valid.limit, held.octet_count, whole.answered, size);
+            past_only_at_limit = λ some. omega (arith, valid.excess some, held.octet_count, whole.answered, size);
+          }
+      | inr is_over ↦
+          let none = step.no_read_after_end is_over.1 in
+          absurd (open_ (ap (λ l. r.held ++ r.excess ++ l) none.0 ∙ append-nil (r.held ++ r.excess) ∙ is_over.0) none.1)
+    ]
 
 -- `ReaderStopsWith` holds for each way in which a reader ends
 pub ends_with : (octets : List ℕ) (lines : List (List ℕ)) (came last : List ℕ) (r r' : ReaderState) (left left' : Option (List ℕ))
@@ -1016,7 +914,7 @@ ends_with octets lines came last r r' left left' Failed answers step valid =
     let held = step.outcome.0 in
     let needs = step.outcome.1 in (
       r'.held,
-      subst (λ p. DividesReadOctets octets (came ++ last) lines r'.held p) needs.excess
+      rw needs.excess at
           (DividesReadOctets-answers octets lines came last r r' left left' Failed answers step valid held
           (λ none ended. let open_ = needs.ended in cc (ended, open_))),
       needs.in_limit,

@@ -8,24 +8,24 @@ use Rattle.um_io.specs.declared.lines.Next.{Next}
 use Rattle.um_io.specs.declared.lines.Next.TheVariants.{Line, End, Long, TooMany, Failed}
 
 -- successive calls of a reader, from the first state to the last, return exactly these lines and read exactly these octets
-abbrev pub CallsReturnLines : ReaderState → Option (List ℕ) → List (List ℕ) → List ℕ → ReaderState → Option (List ℕ) →
-    Type 0
+abbrev pub CallsReturnLines : (before : ReaderState) (unread_before : Option (List ℕ)) (lines : List (List ℕ))
+    (octets_read : List ℕ) (after : ReaderState) (unread_after : Option (List ℕ)) → Type 0
 CallsReturnLines r left [] came r' left' = (came ≡ []) × (r' ≡ r) × (left' ≡ left)
 CallsReturnLines r left (line ∷ lines) came r' left' =
     (first rest : List ℕ) × (mid : ReaderState) × (between : Option (List ℕ)) × (answer : Bor (List ℕ)) × (answer.now ≡ line)
     × (came ≡ first ++ rest)
     × IsReaderStep r mid left between (Line answer) first × CallsReturnLines mid between lines rest r' left'
 
--- `came`, the part of `octets` that was read, consists of the complete `lines`, an incomplete `line` within the input limit, and the octets
--- `past` that limit
-pub record DividesReadOctets (octets came : List ℕ) (lines : List (List ℕ)) (line past : List ℕ) : Type 0 where
+-- `octets_read`, the part of `octets` that was read, consists of the complete `lines`, an incomplete `line` within the input limit, and the
+-- octets `octets_past_limit` that limit
+pub record DividesReadOctets (octets octets_read : List ℕ) (lines : List (List ℕ)) (line octets_past_limit : List ℕ) : Type 0 where
   pub unread : List ℕ
-  pub octets_split : octets ≡ came ++ unread
-  pub read_split : came ≡ text_of_lines lines ++ (line ++ past)
+  pub octets_split : octets ≡ octets_read ++ unread
+  pub read_split : octets_read ≡ text_of_lines lines ++ (line ++ octets_past_limit)
   pub no_line_feed : All IsLine lines
   pub no_feed_in_line : IsLine line
   pub limit : length (text_of_lines lines ++ line) ≤ input_limit
-  pub past_only_at_limit : 0 < length past → length (text_of_lines lines ++ line) ≡ input_limit
+  pub past_only_at_limit : 0 < length octets_past_limit → length (text_of_lines lines ++ line) ≡ input_limit
 
 -- the relation between the octets read and the lines returned when a reader stops with this result; `came` is the part of `octets` read
 abbrev pub ReaderStopsWith : Next → (octets came : List ℕ) → List (List ℕ) → Type 0

@@ -14,7 +14,7 @@ pub record StopsAtEndOrFailure {S : Type 0} (IsCall : S → Option ℕ → S →
   pub last_call : (before_last ≡ last) ⊎ ((answer : Option ℕ) × IsCall before_last answer last)
 
 -- the source is called exactly once; a successful call that returns no octet marks the end of the input
-abbrev pub IsOneSourceCall : {S T E : Type 0} → (S → Option ℕ → S → Type 0) → (first last : S) → (ended : Bool) →
-    Result T E → Type 0
+abbrev pub IsOneSourceCall : {S T E : Type 0} (IsCall : (S → Option ℕ → S → Type 0)) (first last : S) (ended : Bool)
+    (result : Result T E) → Type 0
 IsOneSourceCall IsCall first last ended result =
     MatchResult result (λ _. (n : ℕ) × IsCall first (Some n) last × (ended ≡ false → 0 < n)) (λ _. IsCall first None last)

@@ -11,14 +11,14 @@ IsNotLineFeed octet = ¬ (octet ≡ 10)
 abbrev pub IsLine : List ℕ → Type 0
 IsLine line = All IsNotLineFeed line
 
--- the first line feed of the octets has index `n`
-pub record IsFirstLineFeed (octets : List ℕ) (n : ℕ) : Type 0 where
-  pub in_range : n < length octets
-  pub no_line_feed : IsLine (take n octets)
-  pub is_line_feed : slice_index octets n ≡ 10
+-- the first line feed of the octets has index `index`
+pub record IsFirstLineFeed (octets : List ℕ) (index : ℕ) : Type 0 where
+  pub in_range : index < length octets
+  pub no_line_feed : IsLine (take index octets)
+  pub is_line_feed : slice_index octets index ≡ 10
 
 -- the lines in order, each followed by a line feed
-abbrev pub text_of_lines : List (List ℕ) → List ℕ
+abbrev pub text_of_lines : (lines : List (List ℕ)) → List ℕ
 text_of_lines [] = []
 text_of_lines (line ∷ lines) = line ++ 10 ∷ text_of_lines lines
 
@@ -36,12 +36,12 @@ pub record IsDivided (octets : List ℕ) (lines : List (List ℕ)) : Type 0 wher
   pub octets_split : (octets ≡ text_of_lines lines) ⊎ EndsWithoutLineFeed octets lines
 
 -- prepends an octet to the first line of a list of lines
-abbrev pub push_onto_first_line : ℕ → List (List ℕ) → List (List ℕ)
+abbrev pub push_onto_first_line : (octet : ℕ) (lines : List (List ℕ)) → List (List ℕ)
 push_onto_first_line octet [] = (octet ∷ []) ∷ []
 push_onto_first_line octet (line ∷ lines) = (octet ∷ line) ∷ lines
 
 -- the lines of a list of octets
-abbrev pub lines_of_octets : List ℕ → List (List ℕ)
+abbrev pub lines_of_octets : (octets : List ℕ) → List (List ℕ)
 lines_of_octets [] = []
 lines_of_octets (octet ∷ octets) = if nat_eq octet 10 then [] ∷ lines_of_octets octets else push_onto_first_line octet
     (lines_of_octets octets)

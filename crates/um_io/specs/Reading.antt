@@ -31,18 +31,18 @@ abbrev pub new_reader : ReaderState
 new_reader = record { held = []; excess = []; octet_count = 0; line_count = 0; ended = false; is_over = false }
 
 -- the invariant of a line reader
-pub record IsValidReader (r : ReaderState) : Type 0 where
-  pub limit : r.octet_count + length r.held ≤ input_limit
-  pub excess : 0 < length r.excess → r.octet_count + length r.held ≡ input_limit
-  pub fits_buffer : length r.held + length r.excess ≤ buffer_limit
-  pub line_count : r.line_count ≤ r.octet_count
+pub record IsValidReader (reader : ReaderState) : Type 0 where
+  pub limit : reader.octet_count + length reader.held ≤ input_limit
+  pub excess : 0 < length reader.excess → reader.octet_count + length reader.held ≡ input_limit
+  pub fits_buffer : length reader.held + length reader.excess ≤ buffer_limit
+  pub line_count : reader.line_count ≤ reader.octet_count
 
 -- the next result needs a read: the buffered octets contain no line feed and exceed no limit, and the source has not ended
-pub record NeedsMoreOctets (r : ReaderState) : Type 0 where
-  pub no_line_feed : IsLine r.held
-  pub in_limit : length r.held ≤ line_limit
-  pub excess : r.excess ≡ []
-  pub ended : r.ended ≡ false
+pub record NeedsMoreOctets (reader : ReaderState) : Type 0 where
+  pub no_line_feed : IsLine reader.held
+  pub in_limit : length reader.held ≤ line_limit
+  pub excess : reader.excess ≡ []
+  pub ended : reader.ended ≡ false
 
 -- the next result needs no read from the source
 abbrev pub IsResultReady : ReaderState → Type 0
@@ -53,7 +53,7 @@ abbrev pub NeedsReading : ReaderState → Type 0
 NeedsReading r = (r.is_over ≡ false) × NeedsMoreOctets r
 
 -- a reader that buffers these octets, divided into the octets within the input limit and the octets past it
-abbrev pub reader_holding : List ℕ → ℕ → ℕ → Bool → Bool → ReaderState
+abbrev pub reader_holding : (octets : List ℕ) (answered number : ℕ) (ended is_over : Bool) → ReaderState
 reader_holding octets answered number ended is_over =
     let within = input_limit - answered in
     record {

@@ -125,12 +125,12 @@ impl Buffer {
 }
 
 /// Calls the source once to write into `octets`, starting at index `end`, and returns the number of octets written.
-fn read_into<S: Source>(source: &mut S, octets: &mut Vec<u8>, end: usize) -> Result<usize, Failed>
-    requires { end < vec_len octets.old }
+fn read_into<S: Source>(source: &mut S, octets: &mut Vec<u8>, start: usize) -> Result<usize, Failed>
+    requires { start < vec_len octets.old }
     ensures len { vec_len octets.new ≡ vec_len octets.old }
-    ensures front { take end octets.new.items ≡ take end octets.old.items }
-    ensures bound { IfOk result (λ n. n + end ≤ vec_len octets.old) }
-    ensures came { IfOk result (λ n. Consumes (S.left source.old) (S.left source.new) (slice_range octets.new.items end (end + n))) }
+    ensures front { take start octets.new.items ≡ take start octets.old.items }
+    ensures bound { IfOk result (λ n. n + start ≤ vec_len octets.old) }
+    ensures came { IfOk result (λ n. Consumes (S.left source.old) (S.left source.new) (slice_range octets.new.items start (start + n))) }
     ensures at_end { IfOk result (λ n. n ≡ 0 → IsAtEnd (S.left source.new)) }
     ensures asked { S.is_call source.old (result_ok result) source.new }
     ensures failed { OnErr result (Keeps (S.left source.old) (S.left source.new)) }
@@ -138,7 +138,7 @@ fn read_into<S: Source>(source: &mut S, octets: &mut Vec<u8>, end: usize) -> Res
     ensures later { S.faults source.old ≤ S.faults source.new }
     ensures cause { OnErr result (FailureCountRose (S.faults source.old) (S.faults source.new)) }
 {
-    source.take(&mut octets[end..])
+    source.take(&mut octets[start..])
 }
 
 /// The index of the first line feed, if there is one. A line feed at index 0 is found without a search.

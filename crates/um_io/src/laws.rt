@@ -8,14 +8,14 @@ ghost use Rattle.um_io.specs.Answers.{CallsReturnLines, ReaderStopsWith};
 ghost use Rattle.um_io.specs.declared.lines.Next.{Next};
 
 /// Law: every list of octets is divided into lines in exactly one way.
-pub fn law_lines_are_unique()
+pub fn law_division_into_lines_is_unique()
     ensures divided { (octets : List ℕ) → IsDivided octets (lines_of_octets octets) }
     ensures only { (octets : List ℕ) (lines : List (List ℕ)) → IsDivided octets lines → lines ≡ lines_of_octets octets }
 {}
 
 /// Law: the lines that a line reader returns are the first lines of its source: all lines if it stops with `End`, otherwise the lines
 /// before a line that is too long or incomplete.
-pub fn law_answers_are_source_lines()
+pub fn law_reader_returns_lines_of_source()
     ensures { (octets : List ℕ) (lines : List (List ℕ)) (came last : List ℕ) (r r' : ReaderState) (left left' : Option (List ℕ))
         (next : Next) → CallsReturnLines new_reader (Some octets) lines came r left → IsReaderStep r r' left left' next last →
         IsValidReader r' →

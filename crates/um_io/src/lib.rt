@@ -9,7 +9,7 @@ mod memory;
 mod streams;
 
 pub use adapters::{ReadSource, WriteSink};
-pub use laws::{law_answers_are_source_lines, law_lines_are_unique};
+pub use laws::{law_division_into_lines_is_unique, law_reader_returns_lines_of_source};
 pub use lines::{Lines, Next};
 pub use memory::{MemorySink, MemorySource, PlainSource};
 pub use streams::{Failed, NoMemory, Sink, Source};

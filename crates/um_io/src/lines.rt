@@ -31,7 +31,7 @@ pub enum Next<'a> {
 
 /// What a line reader finds in its buffered octets.
 #[derive(Clone, Copy, Debug, PartialEq, Eq)]
-enum Found {
+enum LineSearchResult {
     /// A line: its length in octets (`length`), and the length including its line feed, if it has one (`whole`).
     Line { length: usize, whole: usize },
     /// The end of the input, with no octets left.
@@ -104,7 +104,7 @@ impl Lines {
     }
 
     /// The number of buffered octets within the input limit.
-    fn within(&self) -> usize
+    fn octets_within_limit(&self) -> usize
         ensures within { result ≡ length self.now.held }
         ensures space { result ≤ buffer_limit }
     {
@@ -140,18 +140,22 @@ impl Lines {
     }
 
     /// What the reader finds in its buffered octets, or `None` if it must read more octets first.
-    fn find_in_held_octets(&mut self) -> Option<Found>
+    fn find_in_held_octets(&mut self) -> Option<LineSearchResult>
         ensures unchanged { self.new ≡ self.old }
         ensures found { MatchOption result (NeedsMoreOctets self.old) (IsFoundInBuffer self.old) }
     {
         if let Some(at) = self.first_line_feed() {
-            return Some(Found::Line {
+            return Some(LineSearchResult::Line {
                 length: at,
                 whole: at + 1,
             });
         }
-        let within = self.within();
-        find_without_line_feed(within, self.buffer.len() - within, self.ended)
+        let octets_within_limit = self.octets_within_limit();
+        find_without_line_feed(
+            octets_within_limit,
+            self.buffer.len() - octets_within_limit,
+            self.ended,
+        )
     }
 
     /// Reads from the source once. A read that returns no octet marks the end of the input.
@@ -174,7 +178,7 @@ impl Lines {
 
     /// Reads from the source until the buffered octets determine the result, and returns it.
     #[inline(always)]
-    fn find_line<S: Source>(&mut self, source: &mut S) -> Result<Found, Failed>
+    fn find_line<S: Source>(&mut self, source: &mut S) -> Result<LineSearchResult, Failed>
         ensures found { IsSearchResult self.old self.new (S.left source.old) (S.left source.new) result }
         ensures source_unchanged { NeedsMoreOctets self.old ⊎ (source.new ≡ source.old) }
         ensures asked { StopsAtEndOrFailure S.is_call source.old source.new }
@@ -204,19 +208,19 @@ impl Lines {
             return Next::End;
         }
         match self.find_line(source) {
-            Ok(Found::Line { length, whole }) => {
+            Ok(LineSearchResult::Line { length, whole }) => {
                 let from = self.buffer.skip(whole);
                 self.line_feed = None;
                 self.octet_count += whole as u64;
                 self.number += 1;
                 Next::Line(self.buffer.slice(from, from + length))
             }
-            Ok(Found::NoOctets) => Next::End,
-            Ok(Found::LineTooLong) => {
+            Ok(LineSearchResult::NoOctets) => Next::End,
+            Ok(LineSearchResult::LineTooLong) => {
                 self.is_over = true;
                 Next::Long
             }
-            Ok(Found::PastInputLimit) => {
+            Ok(LineSearchResult::PastInputLimit) => {
                 self.is_over = true;
                 Next::TooMany
             }
@@ -228,24 +232,28 @@ impl Lines {
     }
 }
 
-/// What a reader finds if it buffers `within` octets without a line feed and `past` octets past the input limit; `None` if it must read
+/// What a reader finds if it holds `within_limit` octets without a line feed and `past_limit` octets past the limit; `None` if it must read
 /// more octets first.
-fn find_without_line_feed(within: usize, past: usize, ended: bool) -> Option<Found>
-    ensures { MatchOption result (HasNoResultYet within past ended) (IsFoundWithoutLineFeed within past ended) }
+fn find_without_line_feed(
+    within_limit: usize,
+    past_limit: usize,
+    ended: bool,
+) -> Option<LineSearchResult>
+    ensures { MatchOption result (HasNoResultYet within_limit past_limit ended) (IsFoundWithoutLineFeed within_limit past_limit ended) }
 {
-    if within > LINE_LIMIT {
-        Some(Found::LineTooLong)
-    } else if past > 0 {
-        Some(Found::PastInputLimit)
+    if within_limit > LINE_LIMIT {
+        Some(LineSearchResult::LineTooLong)
+    } else if past_limit > 0 {
+        Some(LineSearchResult::PastInputLimit)
     } else if !ended {
         None
-    } else if within > 0 {
-        Some(Found::Line {
-            length: within,
-            whole: within,
+    } else if within_limit > 0 {
+        Some(LineSearchResult::Line {
+            length: within_limit,
+            whole: within_limit,
         })
     } else {
-        Some(Found::NoOctets)
+        Some(LineSearchResult::NoOctets)
     }
 }
 

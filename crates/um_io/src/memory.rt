@@ -14,16 +14,16 @@ use crate::streams::{Failed, NoMemory, Sink, Source, count_failure};
 use std::alloc::Global;
 use std::marker::Model;
 
-/// Moves at most `max_per_call` octets from the start of `left` to the start of `into`, and returns their number.
-fn move_octets(left: &mut &[u8], max_per_call: usize, into: &mut [u8]) -> usize
-    ensures exact { result ≡ read_octet_count max_per_call left.old.now into.old }
-    ensures copied { into.new ≡ buffer_after_read left.old.now result into.old }
-    ensures rest { left.new.now ≡ drop result left.old.now }
+/// Moves at most `max_per_call` octets from the start of `left` to the start of `destination`, and returns their number.
+fn move_octets(unread_octets: &mut &[u8], max_per_call: usize, destination: &mut [u8]) -> usize
+    ensures exact { result ≡ read_octet_count max_per_call unread_octets.old.now destination.old }
+    ensures copied { destination.new ≡ buffer_after_read unread_octets.old.now result destination.old }
+    ensures rest { unread_octets.new.now ≡ drop result unread_octets.old.now }
 {
-    let octets = *left;
-    let count = max_per_call.min(into.len()).min(octets.len());
-    into[..count].copy_from_slice(&octets[..count]);
-    *left = &octets[count..];
+    let octets = *unread_octets;
+    let count = max_per_call.min(destination.len()).min(octets.len());
+    destination[..count].copy_from_slice(&octets[..count]);
+    *unread_octets = &octets[count..];
     count
 }
 

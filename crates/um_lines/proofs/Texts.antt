@@ -1,21 +1,28 @@
 -- Words and digits: a text split into words, and hexadecimal digits read and written several at a time.
-use Rattle.bit_blocks.proofs.Lemmas.{at_passes_below, passes_below}
-use Rattle.hex.specs.Hex.{encode_lower, encode_with, is_hex_digit, lower_digits}
-use Rattle.memchr.specs.Find.{IsFirstByte, is_byte}
-use Rattle.std.proofs.Common.{Bool, Fits, List, None, Some, [], add-one, ap, ap₂, arith, bit_and, cond, drop, eqb-true, eqb, false}
-use Rattle.std.proofs.Common.{get_or, inl, inr, length, ltb, map, not, refl, replicate, set, subst, suc, sym, take, true, w8, zero, ℕ}
-use Rattle.std.proofs.Common.{◌%◌, ◌&&◌, ◌*◌, ◌++◌, ◌+◌, ◌-◌, ◌/◌, ◌<◌, ◌==◌, ◌^◌, ◌∙◌}
-use Rattle.std.proofs.{Common.{◌∷◌, ◌≡◌, ◌≢◌, ◌≤◌}, Math.Seq.{split_at, take-add, take-length}}
-use Rattle.std.proofs.lemmas.{Bool.{cases_eq, eq-eqb, false_from_ne_true, ltb-false, ne_eqb}, Grind.common_steps, List.Elements.All-cons}
-use Rattle.std.proofs.lemmas.List.{Elements.{All-from_get_or, All-head, All-nil, All-tail, All-weaker}, Folds.list_all-append}
-use Rattle.std.proofs.lemmas.List.{FromFn.{get_or-range_with_len, length-range_with_len}, Quantifiers.position-Some}
-use Rattle.std.proofs.lemmas.List.Splits.{slice_split-cons_no, slice_split-cons_yes, slice_split_at, slice_split_none}
-use Rattle.std.proofs.lemmas.List.{Sums.{AllPass-from_list_all, fails_before_first}, drop-drop, get_or-drop, get_or-map, get_or-take}
-use Rattle.std.proofs.lemmas.List.{length-append, length-drop, length-take-le, map-append, take-append-drop, take-take, take_all, take_at}
-use Rattle.std.{proofs.lemmas.Slice.take-put_mid, specs.List.{All, join_with_byte, list_all, onto_first, position_or_len, position}}
-use Rattle.std.specs.List.{range_with_len}
-use Rattle.um_lines.specs.{Fields.{digit_value, octets_from_hex}, HexPlaces.{HasDigitsOfOctet, are_digit_codes, hex_octet_at}}
-use Rattle.um_lines.specs.Words.{IsNotSpace, words}
+use Rattle.{
+  bit_blocks.proofs.Lemmas.passes_below,
+  hex.specs.Hex.{encode_lower, encode_with, is_hex_digit, lower_digits},
+  memchr.specs.Find.{IsFirstByte, is_byte},
+  std.{
+    proofs.{
+      Common.{Bool, Fits, List, None, Some, [], add-one, ap, ap₂, arith, bit_and, cond, drop, eqb, eqb-true, false, get_or, inl, inr},
+      Common.{length, ltb, map, not, refl, replicate, set, subst, suc, sym, take, true, w8, zero, ℕ, ◌%◌, ◌&&◌, ◌*◌},
+      Common.{◌++◌, ◌+◌, ◌-◌, ◌/◌, ◌<◌, ◌==◌, ◌^◌, ◌∙◌, ◌∷◌, ◌≡◌, ◌≢◌, ◌≤◌},
+      Math.Seq.{split_at, take-add, take-length},
+      lemmas.{Bool.{and_parts, cases_eq, eq-eqb, false_from_ne_true, ltb-false, ne_eqb}, Grind.common_steps, List.{drop-drop, get_or-drop}},
+      lemmas.List.{get_or-map, get_or-take, length-append, length-drop, length-take, length-take-le, map-append, take-append-drop},
+      lemmas.List.{take-take, take_all, take_at, Elements.{All-cons, All-from_get_or, All-head, All-nil, All-tail}, Folds.list_all-append},
+      lemmas.List.{FromFn.get_or-range_with_len, Quantifiers.position-Some, Splits.{slice_split-cons_no, slice_split-cons_yes}},
+      lemmas.{List.{Splits.{slice_split_at, slice_split_none}, Sums.{AllPass-from_list_all, fails_before_first}}, Slice.take-put_mid},
+    },
+    specs.List.{All, join_with_byte, list_all, onto_first, position, range_with_len},
+  },
+  um_lines.specs.{
+    Fields.{digit_value, octets_from_hex},
+    HexPlaces.{HasDigitsOfOctet, are_digit_codes, hex_octet_at},
+    Words.{IsNotSpace, words},
+  },
+}
 use borrow.Rule.Slice.PartMut.{put_mid}
 use lib.Lanes.{Each1, mask_l, sel_l, top, zip2}
 
@@ -114,14 +121,11 @@ twice x y c = grind arith
 in_two : (p : ℕ → Bool) (xs : List ℕ) (n : ℕ) → list_all p xs ≡ (list_all p (take n xs) && list_all p (drop n xs))
 in_two p xs n = ap (list_all p) (sym (take-append-drop n xs)) ∙ list_all-append p _ (drop n xs)
 
-and_true : (a b : Bool) → (a && b) ≡ true → (a ≡ true) × (b ≡ true)
-and_true x b h = grind arith
-
 part_passes : (p : ℕ → Bool) (xs : List ℕ) (from n : ℕ) → list_all p xs ≡ true
     → list_all p (take n (drop from xs)) ≡ true
 part_passes p xs from n all =
-    let back = and_true (list_all p (take from xs)) (list_all p (drop from xs)) (sym (in_two p xs from) ∙ all) in
-    (and_true (list_all p (take n (drop from xs))) (list_all p (drop n (drop from xs))) (sym (in_two p (drop from xs) n) ∙ back.1)).0
+    let back = and_parts (list_all p (take from xs)) _ (sym (in_two p xs from) ∙ all) in
+    (and_parts (list_all p (take n (drop from xs))) _ (sym (in_two p (drop from xs) n) ∙ back.1)).0
 
 pub all_more : (p : ℕ → Bool) (xs : List ℕ) (at n : ℕ) →
     (list_all p (take at xs) && list_all p (take n (drop at xs))) ≡ list_all p (take (at + n) xs)
@@ -140,11 +144,7 @@ all_overlapping p xs last n =
 
 length-put : {Y : Type 0} (at : ℕ) (old new : List Y) → at + 16 ≤ length old → length new ≡ 16 →
     length (put_mid at 16 old new) ≡ length old
-length-put at old new buffer few =
-    let rest = length-drop 16 (drop at old)
-    ∙ ap (λ n. n - 16) (length-drop at old) in
-    length-append (take at old) _
-    ∙ omega (arith, length-take-le at old (omega arith), length-append new (drop 16 (drop at old)), few, rest)
+length-put at old new buffer few = simp (length-append, length-take, length-drop) (omega arith)
 
 -- the first `at` elements are written
 abbrev pub AreWritten : {X : Type 0} {Y : Type 0} (F : List X → List Y) (xs : List X) (at : ℕ) (ys : List Y) → Type 0
@@ -249,7 +249,7 @@ pub codes-values : (n : ℕ) (xs : List ℕ) → length xs ≡ n → Each1 (Fits
     → codes n xs ≡ map digit_value xs
 codes-values zero [] e h all = refl
 codes-values (suc n) (x ∷ xs) e h all =
-    let each = and_true (is_hex_digit x) _ all in
+    let each = and_parts (is_hex_digit x) _ all in
     ap₂ (λ c cs. c ∷ cs) (right-value x h.0.fits each.0) (codes-values n xs (omega arith) h.1 each.1)
 codes-values n xs e h all = absurd (omega arith)
 

@@ -6,15 +6,13 @@ use Rattle.um_lines.specs.Forms.{LineForms, LineMeans, form_of_words, first_word
 use Rattle.um_lines.specs.Meanings.{IsValueOfMeaning}
 
 -- the line parses to this value: the given function computes it from the meaning of the line
-abbrev pub LineParsesTo : {Name A : Type 0} → LineForms Name → (misplaced : Name → Bool) → (Option (Name × List Value) → A) →
-    List ℕ → A → Type 0
+abbrev pub LineParsesTo : {Name A : Type 0} (table : LineForms Name) (misplaced : Name → Bool) (make : (Option (Name × List Value) →
+    A)) (line : List ℕ) (made : A) → Type 0
 LineParsesTo table misplaced make line = IsValueOfMeaning make (LineMeans table misplaced line)
 
 -- the result of parsing the words of a line that is not skipped: the value, or the first fault (used only inside the parsers)
-abbrev pub words_parse_result : {Name A : Type 0} → LineForms Name → (misplaced : Name → Bool) →
-    (Option (Name × List Value) → A) →
-    List (List ℕ)
-    → Result A LineFault
+abbrev pub words_parse_result : {Name A : Type 0} (table : LineForms Name) (misplaced : Name → Bool)
+    (make : (Option (Name × List Value) → A)) (words : List (List ℕ)) → Result A LineFault
 words_parse_result table misplaced make words =
     fault_or_value (first_word_fault misplaced (form_of_words table words) words) (make (meaning_of_words
     (form_of_words table words) words))

@@ -16,5 +16,5 @@ reason_word Place = codes "place"
 reason_word Twice = codes "twice"
 
 -- the line `refused LINE REASON`, with the line number in decimal
-abbrev pub refused_text : ℕ → LineFault → List ℕ
+abbrev pub refused_text : (number : ℕ) (fault : LineFault) → List ℕ
 refused_text number fault = codes "refused " ++ decimal number ++ codes " " ++ reason_word fault ++ codes "\n"

@@ -68,15 +68,16 @@ impl DigitCodes {
         self.lanes.simd_gt(u8x16::splat(15)).to_bitmask() == 0
     }
 
-    /// The octets that these codes and, after them, `back` represent in pairs, high digit first.
+    /// The octets that these codes and, after them, `second_half` represent in pairs, high digit first.
     #[inline(always)]
-    pub(crate) fn join_pairs(self, back: DigitCodes) -> [u8; 16]
+    pub(crate) fn join_pairs(self, second_half: DigitCodes) -> [u8; 16]
         requires front { length self.lanes ≡ 16 }
-        requires back { length back.lanes ≡ 16 }
+        requires back { length second_half.lanes ≡ 16 }
         ensures { (i : ℕ) → i < 16 → slice_index result i
-            ≡ (16 * slice_index (self.lanes ++ back.lanes) (2 * i) + slice_index (self.lanes ++ back.lanes) (2 * i + 1)) % 256 }
+            ≡ (16 * slice_index (self.lanes ++ second_half.lanes) (2 * i) + slice_index (self.lanes ++ second_half.lanes) (2 * i + 1)) %
+            256 }
     {
-        let (high, low) = self.lanes.deinterleave(back.lanes);
+        let (high, low) = self.lanes.deinterleave(second_half.lanes);
         (high * u8x16::splat(16) + low).to_array()
     }
 }

@@ -37,13 +37,13 @@ fn write_by_sixteens(octets: &[u8], digits: &mut [u8])
     let last = octets.len() - 16;
     let mut at = 0;
     while at < last {
-        write_sixteen_octets(octets, digits, at);
+        write_sixteen_hex_octets(octets, digits, at);
         at += 16;
     }
-    write_sixteen_octets(octets, digits, last);
+    write_sixteen_hex_octets(octets, digits, last);
 }
 
-fn write_sixteen_octets(octets: &[u8], digits: &mut [u8], at: usize)
+fn write_sixteen_hex_octets(octets: &[u8], digits: &mut [u8], at: usize)
     requires size { length digits.old ≡ 2 * length octets.now }
     requires space { at + 16 ≤ length octets.now }
     requires before { (k : ℕ) → k < at → HasDigitsOfOctet octets.now digits.old k }
@@ -68,14 +68,14 @@ fn digits_of_sixteen(octets: &[u8], at: usize) -> ([u8; 16], [u8; 16])
     let mut high = [0; 16];
     let mut low = [0; 16];
     for i in 0..16 {
-        high[i] = lower_digit(octets[at + i] / 16);
-        low[i] = lower_digit(octets[at + i] % 16);
+        high[i] = lower_hex_digit(octets[at + i] / 16);
+        low[i] = lower_hex_digit(octets[at + i] % 16);
     }
     (high, low)
 }
 
 #[tactic(auto, using(crate::proofs::Texts::small_digit, crate::proofs::Texts::large_digit))]
-fn lower_digit(value: u8) -> u8
+fn lower_hex_digit(value: u8) -> u8
     requires { value < 16 }
     ensures { result ≡ slice_index lower_digits value }
 {

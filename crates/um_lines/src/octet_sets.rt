@@ -6,7 +6,7 @@ ghost use Rattle.std.specs.List.{list_all};
 pub(crate) trait OctetSet {
     ghost has: { ℕ → Bool };
 
-    fn has(octet: u8) -> bool
+    fn contains_octet(octet: u8) -> bool
         ensures { result ≡ has octet };
 }
 
@@ -29,7 +29,7 @@ fn all_in_set_one_by_one<S: OctetSet>(word: &[u8]) -> bool
 {
     let mut all = true;
     for octet in word {
-        all &= S::has(*octet);
+        all &= S::contains_octet(*octet);
     }
     all
 }

@@ -5,7 +5,7 @@ use Rattle.um_block.specs.declared.received.Received.{Received}
 use Rattle.um_air.specs.lapdm_window.declared.Sapi.{Sapi}
 use Rattle.um_air.specs.lapdm_window.declared.Sapi.TheVariants.{Zero, Three}
 use Rattle.um_air.specs.lapdm_window.Calls.{Call, Opens, OpensWithoutInfo}
-use Rattle.um_air.specs.lapdm_link.Events.{Open, OpenBare, Ask, call_of, Who, BySide, OtherMobile, Nobody}
+use Rattle.um_air.specs.lapdm_link.Events.{Open, OpenBare, Ask, endpoint_call_of, Who, BySide, OtherMobile, Nobody}
 use Rattle.um_air.specs.Air as A
 use Rattle.um_air.specs.Air.{Block, AirState, IsAirStep}
 use Rattle.um_link.specs.FourEndpoints as F
@@ -13,7 +13,7 @@ use Rattle.um_link.specs.declared.events.No.{No}
 use Rattle.um_link.specs.declared.events.Step.{Step}
 use Rattle.um_link.specs.declared.links.WorldState.{WorldState}
 use Rattle.um_link.specs.Queues.{IsValidQueue}
-use Rattle.um_link.specs.Naming.{answer_of}
+use Rattle.um_link.specs.Naming.{spec_answer_of}
 
 -- the blocks in transit that this side sent
 abbrev pub queued_blocks : Role → WorldState → List Block
@@ -38,22 +38,22 @@ pub record IsValidWorld (w : WorldState) : Type 0 where
 
 -- for every state that the old world represents, the specification allows this answer to the event, and the new world represents the
 -- resulting state
-abbrev pub StepRefines : A.Event → WorldState → Result Step No → WorldState → Type 0
+abbrev pub StepRefines : (event : A.Event) (old : WorldState) (result : Result Step No) (new : WorldState) → Type 0
 StepRefines event old result new = (a : AirState) → Represents old a →
-    (b : AirState) × Represents new b × IsAirStep a event b (answer_of result)
+    (b : AirState) × Represents new b × IsAirStep a event b (spec_answer_of result)
 
 -- the event is this call to the endpoint with this role and SAPI
-abbrev pub IsLayer3CallTo : A.Event → Role → Sapi → Call → Type 0
+abbrev pub IsLayer3CallTo : (event : A.Event) (role : Role) (sapi : Sapi) (call : Call) → Type 0
 IsLayer3CallTo (Open info) role sapi call = (role ≡ Mobile) × (sapi ≡ Zero) × (call ≡ Opens info)
 IsLayer3CallTo (OpenBare asked) role sapi call = (role ≡ asked) × (sapi ≡ Three) × (call ≡ OpensWithoutInfo)
-IsLayer3CallTo (Ask asked link request) role sapi call = (role ≡ asked) × (sapi ≡ link) × (call ≡ call_of request)
+IsLayer3CallTo (Ask asked link request) role sapi call = (role ≡ asked) × (sapi ≡ link) × (call ≡ endpoint_call_of request)
 IsLayer3CallTo event role sapi call = ⊥
 
 -- for every state that the world represents, the specification allows no answer to the event other than this result
-abbrev pub IsOnlyPossibleAnswer : A.Event → WorldState → Result Step No → Type 0
+abbrev pub IsOnlyPossibleAnswer : (event : A.Event) (old : WorldState) (result : Result Step No) → Type 0
 IsOnlyPossibleAnswer event old result =
     (a : AirState) → Represents old a → (b : AirState) (answer : A.Answer) → IsAirStep a event b answer →
-    answer ≡ answer_of result
+    answer ≡ spec_answer_of result
 
 -- the number of frames that a step sends
 abbrev pub sent_frame_count : Result Step No → ℕ
@@ -66,12 +66,12 @@ arrival_count None = 0
 arrival_count (Some report) = 1
 
 -- the number of blocks that a step receives, 0 or 1
-abbrev pub arrived_block_count : Result Step No → ℕ
-arrived_block_count (Ok s) = arrival_count s.received
-arrived_block_count (Err reason) = 0
+abbrev pub blocks_received_in_step : Result Step No → ℕ
+blocks_received_in_step (Ok s) = arrival_count s.received
+blocks_received_in_step (Err reason) = 0
 
 -- if another mobile acts, nothing is received or reported; if nobody acts, nothing is sent either
-abbrev pub ActorCanTakeStep : Who → A.Step → Type 0
+abbrev pub ActorCanTakeStep : (who : Who) (step : A.Step) → Type 0
 ActorCanTakeStep (BySide role) s = Unit {0}
 ActorCanTakeStep OtherMobile s = (s.received ≡ None) × (s.notices ≡ [])
 ActorCanTakeStep Nobody s = (s.received ≡ None) × (s.notices ≡ []) × (s.frames ≡ [])

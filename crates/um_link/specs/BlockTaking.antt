@@ -18,17 +18,18 @@ accepted_octets (Some report) = report.accepted
 
 -- the side with this role receives the frame that the accepted octets encode, or does nothing if there is none; `new` and `effects` are the
 -- result
-pub record TakesAcceptedFrame (role : Role) (channel : Channel) (accepted : Option Octets) (es : E.BothSides) (link : Sapi)
+pub record TakesAcceptedFrame (role : Role) (channel : Channel) (accepted : Option Octets) (spec_sides : E.BothSides) (link : Sapi)
     (effects : Effects)
     (new : BothSides) : Type 0 where
   pub read : Option Frame
   pub reads_frame : ReadsFrame channel accepted read
-  pub represents : F.Represents new (E.step_for_read_frame role read es).new_state
-  pub has_effects : F.HasEffects effects channel (E.step_for_read_frame role read es)
-  pub sapi : link ≡ (E.step_for_read_frame role read es).sapi
+  pub represents : F.Represents new (E.step_for_read_frame role read spec_sides).new_state
+  pub has_effects : F.HasEffects effects channel (E.step_for_read_frame role read spec_sides)
+  pub sapi : link ≡ (E.step_for_read_frame role read spec_sides).sapi
 
 -- for every state that the old endpoints represent, the side with this role receives the frame that the accepted octets encode, or does
 -- nothing if there is none
-abbrev pub TakingFrameRefines : Role → Channel → Option Octets → BothSides → Sapi → Effects → BothSides → Type 0
+abbrev pub TakingFrameRefines : (role : Role) (channel : Channel) (accepted : Option Octets) (old : BothSides) (sapi : Sapi)
+    (effects : Effects) (new : BothSides) → Type 0
 TakingFrameRefines role channel accepted old sapi effects new = (es : E.BothSides) → F.Represents old es →
     TakesAcceptedFrame role channel accepted es sapi effects new

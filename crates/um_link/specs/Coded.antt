@@ -4,7 +4,7 @@ use Rattle.um_block.specs.Sent.{IsSentBlock}
 use Rattle.um_air.specs.Air.{Octets, Block}
 
 -- the blocks carry these octets, in order, each coded with this training sequence code
-abbrev pub AreCodedBlocks : ℕ → List Octets → List Block → Type 0
+abbrev pub AreCodedBlocks : (tsc : ℕ) (frames : List Octets) (blocks : List Block) → Type 0
 AreCodedBlocks tsc [] [] = Unit {0}
 AreCodedBlocks tsc (o ∷ os) (b ∷ bs) = IsSentBlock o tsc b × AreCodedBlocks tsc os bs
 AreCodedBlocks tsc os bs = ⊥

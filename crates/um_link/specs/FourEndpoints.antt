@@ -28,6 +28,7 @@ pub record HasEffects (effects : Effects) (channel : Channel) (d : E.SideStep) :
 
 -- for every state that the old endpoints represent, the new endpoints represent the state after this step, and the effects are the frames
 -- and notices of the step
-abbrev pub StepRefines : Channel → (E.BothSides → E.SideStep) → BothSides → Effects → BothSides → Type 0
+abbrev pub StepRefines : (channel : Channel) (event_step : (E.BothSides → E.SideStep)) (old : BothSides) (effects : Effects)
+    (new : BothSides) → Type 0
 StepRefines channel event_step old effects new = (es : E.BothSides) → Represents old es → Represents new (event_step es).new_state
     × HasEffects effects channel (event_step es)

@@ -22,9 +22,9 @@ use Rattle.um_link.specs.declared.events.No.TheVariants as N
 use Rattle.um_link.specs.declared.events.Step.{Step}
 
 -- the specification's `Role` for this Rust `End`
-abbrev pub role_of : End → R.Role
-role_of D.Mobile = R.Mobile
-role_of D.Network = R.Network
+abbrev pub spec_role_of : End → R.Role
+spec_role_of D.Mobile = R.Mobile
+spec_role_of D.Network = R.Network
 
 -- the side whose frames travel in this direction
 abbrev pub sender_of : Way → R.Role
@@ -32,16 +32,16 @@ sender_of Up = R.Mobile
 sender_of Down = R.Network
 
 -- the specification's `Request` for this Rust `Call`
-abbrev pub request_of : Call → E.Request
-request_of (C.Send m) = E.Send m.now
-request_of (C.Unit m) = E.SendUi m.now
-request_of C.Close = E.Close
-request_of C.Timer = E.T200Expiry
-request_of C.Idle = E.Idle
+abbrev pub spec_request_of : Call → E.Request
+spec_request_of (C.Send m) = E.Send m.now
+spec_request_of (C.Unit m) = E.SendUi m.now
+spec_request_of C.Close = E.Close
+spec_request_of C.Timer = E.T200Expiry
+spec_request_of C.Idle = E.Idle
 
 -- the specification's endpoint call for this Rust `Call`
-abbrev pub call_of : Call → K.Call
-call_of call = E.call_of (request_of call)
+abbrev pub endpoint_call_of : Call → K.Call
+endpoint_call_of call = E.endpoint_call_of (spec_request_of call)
 
 -- the specification's event for this Rust `Air`: the oldest block from this side arrives, perhaps with inverted bits, or is lost
 abbrev pub air_event : R.Role → Air → A.Event
@@ -50,35 +50,35 @@ air_event sender V.Lose = E.Lose sender
 air_event sender (V.Flip places) = E.Deliver sender places.now
 
 -- the specification's `Event` for this Rust `Event`
-abbrev pub event_of : Event → A.Event
-event_of (T.Open info) = E.Open info.now
-event_of (T.OpenBare end) = E.OpenBare (role_of end)
-event_of (T.End end sapi call) = E.Ask (role_of end) sapi (request_of call)
-event_of (T.Air way air) = air_event (sender_of way) air
-event_of (T.Rival info) = E.Rival info.now
+abbrev pub spec_event_of : Event → A.Event
+spec_event_of (T.Open info) = E.Open info.now
+spec_event_of (T.OpenBare end) = E.OpenBare (spec_role_of end)
+spec_event_of (T.End end sapi call) = E.Ask (spec_role_of end) sapi (spec_request_of call)
+spec_event_of (T.Air way air) = air_event (sender_of way) air
+spec_event_of (T.Rival info) = E.Rival info.now
 
 -- the specification's `Who` for this Rust `Who`
-abbrev pub actor_of_who : Who → E.Who
-actor_of_who W.Mobile = E.BySide R.Mobile
-actor_of_who W.Network = E.BySide R.Network
-actor_of_who W.Rival = E.OtherMobile
-actor_of_who W.Nobody = E.Nobody
+abbrev pub spec_who_of : Who → E.Who
+spec_who_of W.Mobile = E.BySide R.Mobile
+spec_who_of W.Network = E.BySide R.Network
+spec_who_of W.Rival = E.OtherMobile
+spec_who_of W.Nobody = E.Nobody
 
 -- the specification's `EventRefusal` for this Rust `No`
-abbrev pub event_refusal_of : No → E.EventRefusal
-event_refusal_of N.NotIdle = E.ByEndpoint Q.NotIdle
-event_refusal_of N.NotOpen = E.ByEndpoint Q.NotOpen
-event_refusal_of N.NotRunning = E.ByEndpoint Q.NotRunning
-event_refusal_of N.Empty = E.ByEndpoint Q.Empty
-event_refusal_of N.TooLong = E.ByEndpoint Q.TooLong
-event_refusal_of N.Full = E.ByEndpoint Q.Full
-event_refusal_of N.Nothing = E.Nothing
-event_refusal_of N.AirFull = E.AirFull
+abbrev pub spec_event_refusal_of : No → E.EventRefusal
+spec_event_refusal_of N.NotIdle = E.ByEndpoint Q.NotIdle
+spec_event_refusal_of N.NotOpen = E.ByEndpoint Q.NotOpen
+spec_event_refusal_of N.NotRunning = E.ByEndpoint Q.NotRunning
+spec_event_refusal_of N.Empty = E.ByEndpoint Q.Empty
+spec_event_refusal_of N.TooLong = E.ByEndpoint Q.TooLong
+spec_event_refusal_of N.Full = E.ByEndpoint Q.Full
+spec_event_refusal_of N.Nothing = E.Nothing
+spec_event_refusal_of N.AirFull = E.AirFull
 
 -- the specification's `Step` for this Rust `Step`
-abbrev pub step_of : Step → A.Step
-step_of s = record {
-  who = actor_of_who s.who;
+abbrev pub spec_step_of : Step → A.Step
+spec_step_of s = record {
+  who = spec_who_of s.who;
   sapi = s.sapi;
   received = s.received;
   frames = s.effects.frames;
@@ -86,9 +86,9 @@ step_of s = record {
 }
 
 -- the specification's `Answer` for the result of a Rust step
-abbrev pub answer_of : Result Step No → A.Answer
-answer_of (Ok s) = A.Accepts (step_of s)
-answer_of (Err reason) = A.Refuses (event_refusal_of reason)
+abbrev pub spec_answer_of : Result Step No → A.Answer
+spec_answer_of (Ok s) = A.Accepts (spec_step_of s)
+spec_answer_of (Err reason) = A.Refuses (spec_event_refusal_of reason)
 
 -- the result of a call that writes its step into the caller's buffer: the contents of the buffer, or the error
 abbrev pub step_result : {A : Type 0} → Result A No → Step → Result Step No

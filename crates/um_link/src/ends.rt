@@ -4,9 +4,9 @@ ghost use Rattle.std.specs.Prelude.{◌≡◌, OnOk, OnErr, Some};
 ghost use Rattle.std.specs.Result.{result_err};
 ghost use Rattle.lapdm_frame.specs.Content.{frame_of};
 ghost use Rattle.lapdm_frame.specs.Frames.{FrameFits};
-ghost use Rattle.um_air.specs.lapdm_window.Calls.{call_of, IsCallOfSapi, refusal_of};
+ghost use Rattle.um_air.specs.lapdm_window.Calls.{endpoint_call_of, IsCallOfSapi, refusal_of};
 ghost use Rattle.um_air.specs.lapdm_link.Events as E;
-ghost use Rattle.um_link.specs.Naming.{role_of};
+ghost use Rattle.um_link.specs.Naming.{spec_role_of};
 
 use crate::events::End;
 use lapdm_end::{Call, Effects, Refused, Role, Sapi, Side};
@@ -42,11 +42,11 @@ impl BothSides {
         effects: &mut Effects,
     ) -> Result<(), Refused>
         requires on { IsOnChannel (channel_of_ends self.old) self.old }
-        requires call { IsCallOfSapi sapi (call_of call.now) }
+        requires call { IsCallOfSapi sapi (endpoint_call_of call.now) }
         ensures refusal { (es : E.BothSides) → Represents self.old es
-            → result_err result ≡ refusal_of (call_of call.now) (E.endpoint_at (role_of end) sapi es) }
+            → result_err result ≡ refusal_of (endpoint_call_of call.now) (E.endpoint_at (spec_role_of end) sapi es) }
         ensures refines { OnOk result
-            (StepRefines (channel_of_ends self.old) (E.layer3_call_step (role_of end) sapi (call_of call.now)) self.old
+            (StepRefines (channel_of_ends self.old) (E.layer3_call_step (spec_role_of end) sapi (endpoint_call_of call.now)) self.old
             effects.new self.new) }
         ensures on { IsOnChannel (channel_of_ends self.old) self.new }
         ensures refused { OnErr result (self.new ≡ self.old) }
@@ -62,11 +62,11 @@ impl BothSides {
     pub(crate) fn take(&mut self, end: End, frame: &FrameView<'_>, effects: &mut Effects) -> Sapi
         requires on { IsOnChannel (channel_of_ends self.old) self.old }
         requires fits { FrameFits (channel_of_ends self.old) (frame_of frame.now) }
-        ensures refines { StepRefines (channel_of_ends self.old) (E.step_for_read_frame (role_of end) (Some
+        ensures refines { StepRefines (channel_of_ends self.old) (E.step_for_read_frame (spec_role_of end) (Some
             (frame_of frame.now))) self.old effects.new
             self.new }
         ensures sapi { (es : E.BothSides) → Represents self.old es →
-            result ≡ (E.step_for_read_frame (role_of end) (Some (frame_of frame.now)) es).sapi }
+            result ≡ (E.step_for_read_frame (spec_role_of end) (Some (frame_of frame.now)) es).sapi }
         ensures on { IsOnChannel (channel_of_ends self.old) self.new }
     {
         match end {

@@ -3,9 +3,9 @@
 ghost use Rattle.std.specs.Prelude.{◌≡◌, None, []};
 ghost use Rattle.um_air.specs.lapdm_window.declared.Sapi.TheVariants as S;
 ghost use Rattle.um_air.specs.lapdm_window.declared.Sapi.{Sapi as AnySapi};
-ghost use Rattle.um_air.specs.lapdm_window.Calls.{call_of, IsCallOfSapi};
+ghost use Rattle.um_air.specs.lapdm_window.Calls.{endpoint_call_of, IsCallOfSapi};
 ghost use Rattle.um_air.specs.lapdm_link.Events as E;
-ghost use Rattle.um_link.specs.Naming.{request_of};
+ghost use Rattle.um_link.specs.Naming.{spec_request_of};
 
 use lapdm_end::{Call as EndCall, Effects, Sapi};
 use thiserror::Error;
@@ -42,8 +42,8 @@ pub enum Call<'a> {
 impl<'a> Call<'a> {
     /// Converts this call to a call of a single endpoint (`lapdm_end::Call`).
     pub fn as_endpoint_call(self) -> EndCall<'a>
-        ensures same { call_of result ≡ E.call_of (request_of self.entry) }
-        ensures any { (sapi : AnySapi) → IsCallOfSapi sapi (call_of result) }
+        ensures same { endpoint_call_of result ≡ E.endpoint_call_of (spec_request_of self.entry) }
+        ensures any { (sapi : AnySapi) → IsCallOfSapi sapi (endpoint_call_of result) }
     {
         match self {
             Call::Send(message) => EndCall::Send(message),
@@ -101,11 +101,11 @@ pub struct Step {
 }
 
 impl Step {
-    ghost use Rattle.um_link.specs.Naming.{step_of};
+    ghost use Rattle.um_link.specs.Naming.{spec_step_of};
 
     /// Creates a step in which nobody acts: nothing is sent, received or reported.
     pub fn new() -> Step
-        ensures { step_of result
+        ensures { spec_step_of result
             ≡ record { who = E.Nobody; sapi = S.Zero; received = None; frames = []; notices = [] } }
     {
         Step {

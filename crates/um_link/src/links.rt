@@ -7,8 +7,8 @@ ghost use Rattle.lapdm_frame.specs.Frames.{octets_of};
 ghost use Rattle.um_air.specs.lapdm_link.Events as E;
 ghost use Rattle.um_air.specs.Air as A;
 ghost use Rattle.um_air.specs.Air.{initial_session};
-ghost use Rattle.um_link.specs.Naming.{role_of, air_event, event_of, step_of, step_result};
-ghost use Rattle.um_air.specs.lapdm_window.Calls.{call_of, IsCallOfSapi};
+ghost use Rattle.um_link.specs.Naming.{spec_role_of, air_event, spec_event_of, spec_step_of, step_result};
+ghost use Rattle.um_air.specs.lapdm_window.Calls.{endpoint_call_of, IsCallOfSapi};
 ghost use Rattle.um_link.specs.Possible.{IsPossibleEvent, IsPossibleAirEvent};
 ghost use Rattle.um_block.specs.Tallies.{counter_plus_one, counter_plus};
 ghost use Rattle.um_link.specs.Queues.{AreBitIndices};
@@ -38,7 +38,7 @@ pub(crate) struct WorldState {
 
 impl WorldState {
     ghost use Rattle.um_link.specs.Abstraction.{IsLayer3CallTo, Represents, IsValidWorld, StepRefines, StepFitsItsActor, sent_frame_count};
-    ghost use Rattle.um_link.specs.Abstraction.{arrived_block_count, queued_blocks};
+    ghost use Rattle.um_link.specs.Abstraction.{blocks_received_in_step, queued_blocks};
     ghost use Rattle.um_link.specs.Moves.{AppendsToQueue, ReceivesOldestFrom, LosesOldestFrom};
 
     /// Creates idle endpoints on this channel, and empty queues. Allocates all memory that the session needs.
@@ -60,7 +60,7 @@ impl WorldState {
     }
 
     fn has_no_queued_block(&self, sender: End) -> bool
-        ensures { result ≡ E.is_empty (length (queued_blocks (role_of sender) self.now)) }
+        ensures { result ≡ E.is_empty (length (queued_blocks (spec_role_of sender) self.now)) }
     {
         match sender {
             End::Mobile => self.up.len() == 0,
@@ -70,7 +70,7 @@ impl WorldState {
 
     /// Returns whether the queue of this side has too little room for another step, which may send two frames.
     fn is_queue_full(&self, sender: End) -> bool
-        ensures { result ≡ E.is_queue_full (length (queued_blocks (role_of sender) self.now)) }
+        ensures { result ≡ E.is_queue_full (length (queued_blocks (spec_role_of sender) self.now)) }
     {
         match sender {
             End::Mobile => self.up.len() > 62,
@@ -81,8 +81,8 @@ impl WorldState {
     /// Codes the frames that a side sends, and appends the blocks to its queue.
     fn send<R: Radio>(&mut self, radio: &mut R, sender: End, effects: &Effects)
         requires sound { IsValidWorld self.old }
-        requires space { length (queued_blocks (role_of sender) self.old) ≤ 62 }
-        ensures sends { AppendsToQueue (role_of sender) effects.now.frames self.old self.new }
+        requires space { length (queued_blocks (spec_role_of sender) self.old) ≤ 62 }
+        ensures sends { AppendsToQueue (spec_role_of sender) effects.now.frames self.old self.new }
         ensures sound { IsValidWorld self.new }
         ensures sent { R.sent radio.new ≡ counter_plus (length effects.now.frames) (R.sent radio.old) }
         ensures heard { R.heard radio.new ≡ R.heard radio.old }
@@ -99,13 +99,13 @@ impl WorldState {
         &mut self,
         radio: &mut R,
         sender: End,
-        places: &[u16],
+        inverted_bits: &[u16],
         received: &mut Option<Received>,
     )
         requires sound { IsValidWorld self.old }
-        requires some { 0 < length (queued_blocks (role_of sender) self.old) }
-        requires places { AreBitIndices places.now }
-        ensures receives { ReceivesOldestFrom (role_of sender) places.now self.old received.new self.new }
+        requires some { 0 < length (queued_blocks (spec_role_of sender) self.old) }
+        requires places { AreBitIndices inverted_bits.now }
+        ensures receives { ReceivesOldestFrom (spec_role_of sender) inverted_bits.now self.old received.new self.new }
         ensures sound { IsValidWorld self.new }
         ensures heard { R.heard radio.new ≡ counter_plus_one (R.heard radio.old) }
         ensures sent { R.sent radio.new ≡ R.sent radio.old }
@@ -114,14 +114,14 @@ impl WorldState {
             End::Mobile => receive_oldest_block(
                 radio,
                 &mut self.up,
-                places,
+                inverted_bits,
                 &mut self.soft,
                 received,
             ),
             End::Network => receive_oldest_block(
                 radio,
                 &mut self.down,
-                places,
+                inverted_bits,
                 &mut self.soft,
                 received,
             ),
@@ -131,17 +131,17 @@ impl WorldState {
     /// Sends the frames of a step, and records in the step who acted.
     fn send_step_frames<R: Radio>(&mut self, radio: &mut R, end: End, step: &mut Step)
         requires sound { IsValidWorld self.old }
-        requires space { length (queued_blocks (role_of end) self.old) ≤ 62 }
-        ensures sends { AppendsToQueue (role_of end) step.old.effects.frames self.old self.new }
+        requires space { length (queued_blocks (spec_role_of end) self.old) ≤ 62 }
+        ensures sends { AppendsToQueue (spec_role_of end) step.old.effects.frames self.old self.new }
         ensures sound { IsValidWorld self.new }
-        ensures step { step_of step.new ≡ record {
-          who = E.BySide (role_of end);
+        ensures step { spec_step_of step.new ≡ record {
+          who = E.BySide (spec_role_of end);
           sapi = step.old.sapi;
           received = step.old.received;
           frames = step.old.effects.frames;
           notices = step.old.effects.notices;
         } }
-        ensures who { StepFitsItsActor (step_of step.new) }
+        ensures who { StepFitsItsActor (spec_step_of step.new) }
         ensures effects { step.new.effects ≡ step.old.effects }
         ensures received { step.new.received ≡ step.old.received }
         ensures sent { R.sent radio.new ≡ counter_plus (length step.old.effects.frames) (R.sent radio.old) }
@@ -164,16 +164,16 @@ impl WorldState {
         step: &mut Step,
     ) -> Result<(), No>
         requires sound { IsValidWorld self.old }
-        requires call { IsCallOfSapi sapi (call_of call.now) }
-        ensures refines { (event : A.Event) → IsLayer3CallTo event (role_of end) sapi (call_of call.now)
+        requires call { IsCallOfSapi sapi (endpoint_call_of call.now) }
+        ensures refines { (event : A.Event) → IsLayer3CallTo event (spec_role_of end) sapi (endpoint_call_of call.now)
             → StepRefines event self.old (step_result result step.new) self.new }
         ensures sound { IsValidWorld self.new }
         ensures refused { OnErr result (self.new ≡ self.old) }
         ensures out_unchanged { OnErr result (step.new ≡ step.old) }
         ensures silent { OnErr result (radio.new ≡ radio.old) }
         ensures sent { R.sent radio.new ≡ counter_plus (sent_frame_count (step_result result step.new)) (R.sent radio.old) }
-        ensures heard { R.heard radio.new ≡ counter_plus (arrived_block_count (step_result result step.new)) (R.heard radio.old) }
-        ensures who { OnOk result (StepFitsItsActor (step_of step.new)) }
+        ensures heard { R.heard radio.new ≡ counter_plus (blocks_received_in_step (step_result result step.new)) (R.heard radio.old) }
+        ensures who { OnOk result (StepFitsItsActor (spec_step_of step.new)) }
     {
         if self.is_queue_full(end) {
             return Err(No::AirFull);
@@ -194,19 +194,19 @@ impl WorldState {
         &mut self,
         radio: &mut R,
         sender: End,
-        places: &[u16],
+        inverted_bits: &[u16],
         step: &mut Step,
     ) -> Result<(), No>
         requires sound { IsValidWorld self.old }
-        requires places { AreBitIndices places.now }
-        ensures refines { StepRefines (E.Deliver (role_of sender) places.now) self.old (step_result result step.new) self.new }
+        requires places { AreBitIndices inverted_bits.now }
+        ensures refines { StepRefines (E.Deliver (spec_role_of sender) inverted_bits.now) self.old (step_result result step.new) self.new }
         ensures sound { IsValidWorld self.new }
         ensures refused { OnErr result (self.new ≡ self.old) }
         ensures out_unchanged { OnErr result (step.new ≡ step.old) }
         ensures silent { OnErr result (radio.new ≡ radio.old) }
         ensures sent { R.sent radio.new ≡ counter_plus (sent_frame_count (step_result result step.new)) (R.sent radio.old) }
-        ensures heard { R.heard radio.new ≡ counter_plus (arrived_block_count (step_result result step.new)) (R.heard radio.old) }
-        ensures who { OnOk result (StepFitsItsActor (step_of step.new)) }
+        ensures heard { R.heard radio.new ≡ counter_plus (blocks_received_in_step (step_result result step.new)) (R.heard radio.old) }
+        ensures who { OnOk result (StepFitsItsActor (spec_step_of step.new)) }
     {
         let end = other_end(sender);
         if self.has_no_queued_block(sender) {
@@ -215,7 +215,7 @@ impl WorldState {
         if self.is_queue_full(end) {
             return Err(No::AirFull);
         }
-        self.receive(radio, sender, places, &mut step.received);
+        self.receive(radio, sender, inverted_bits, &mut step.received);
         step.sapi = take_received_block(
             &mut self.ends,
             self.channel,
@@ -230,8 +230,8 @@ impl WorldState {
     /// Removes the oldest block from the queue of this side.
     fn drop_oldest_block(&mut self, sender: End)
         requires sound { IsValidWorld self.old }
-        requires some { 0 < length (queued_blocks (role_of sender) self.old) }
-        ensures loses { LosesOldestFrom (role_of sender) self.old self.new }
+        requires some { 0 < length (queued_blocks (spec_role_of sender) self.old) }
+        ensures loses { LosesOldestFrom (spec_role_of sender) self.old self.new }
         ensures sound { IsValidWorld self.new }
     {
         match sender {
@@ -243,13 +243,13 @@ impl WorldState {
     /// Carries out the loss of the oldest block from this side.
     fn lose(&mut self, sender: End, step: &mut Step) -> Result<(), No>
         requires sound { IsValidWorld self.old }
-        ensures refines { StepRefines (E.Lose (role_of sender)) self.old (step_result result step.new) self.new }
+        ensures refines { StepRefines (E.Lose (spec_role_of sender)) self.old (step_result result step.new) self.new }
         ensures sound { IsValidWorld self.new }
         ensures refused { OnErr result (self.new ≡ self.old) }
         ensures out_unchanged { OnErr result (step.new ≡ step.old) }
         ensures silent { (sent_frame_count (step_result result step.new) ≡ 0)
-            × (arrived_block_count (step_result result step.new) ≡ 0) }
-        ensures who { OnOk result (StepFitsItsActor (step_of step.new)) }
+            × (blocks_received_in_step (step_result result step.new) ≡ 0) }
+        ensures who { OnOk result (StepFitsItsActor (spec_step_of step.new)) }
     {
         if self.has_no_queued_block(sender) {
             return Err(No::Nothing);
@@ -271,8 +271,8 @@ impl WorldState {
         ensures out_unchanged { OnErr result (step.new ≡ step.old) }
         ensures silent { OnErr result (radio.new ≡ radio.old) }
         ensures sent { R.sent radio.new ≡ counter_plus (sent_frame_count (step_result result step.new)) (R.sent radio.old) }
-        ensures heard { R.heard radio.new ≡ counter_plus (arrived_block_count (step_result result step.new)) (R.heard radio.old) }
-        ensures who { OnOk result (StepFitsItsActor (step_of step.new)) }
+        ensures heard { R.heard radio.new ≡ counter_plus (blocks_received_in_step (step_result result step.new)) (R.heard radio.old) }
+        ensures who { OnOk result (StepFitsItsActor (spec_step_of step.new)) }
     {
         if self.is_queue_full(End::Mobile) {
             return Err(No::AirFull);
@@ -301,14 +301,14 @@ impl WorldState {
     ) -> Result<(), No>
         requires sound { IsValidWorld self.old }
         requires possible { IsPossibleAirEvent air.now }
-        ensures refines { StepRefines (air_event (role_of sender) air.now) self.old (step_result result step.new) self.new }
+        ensures refines { StepRefines (air_event (spec_role_of sender) air.now) self.old (step_result result step.new) self.new }
         ensures sound { IsValidWorld self.new }
         ensures refused { OnErr result (self.new ≡ self.old) }
         ensures out_unchanged { OnErr result (step.new ≡ step.old) }
         ensures silent { OnErr result (radio.new ≡ radio.old) }
         ensures sent { R.sent radio.new ≡ counter_plus (sent_frame_count (step_result result step.new)) (R.sent radio.old) }
-        ensures heard { R.heard radio.new ≡ counter_plus (arrived_block_count (step_result result step.new)) (R.heard radio.old) }
-        ensures who { OnOk result (StepFitsItsActor (step_of step.new)) }
+        ensures heard { R.heard radio.new ≡ counter_plus (blocks_received_in_step (step_result result step.new)) (R.heard radio.old) }
+        ensures who { OnOk result (StepFitsItsActor (spec_step_of step.new)) }
     {
         match air {
             Air::Deliver => self.deliver(radio, sender, &[], step),
@@ -325,14 +325,14 @@ impl WorldState {
     ) -> Result<(), No>
         requires sound { IsValidWorld self.old }
         requires possible { IsPossibleEvent event.now }
-        ensures refines { StepRefines (event_of event.now) self.old (step_result result step.new) self.new }
+        ensures refines { StepRefines (spec_event_of event.now) self.old (step_result result step.new) self.new }
         ensures sound { IsValidWorld self.new }
         ensures refused { OnErr result (self.new ≡ self.old) }
         ensures out_unchanged { OnErr result (step.new ≡ step.old) }
         ensures silent { OnErr result (radio.new ≡ radio.old) }
         ensures sent { R.sent radio.new ≡ counter_plus (sent_frame_count (step_result result step.new)) (R.sent radio.old) }
-        ensures heard { R.heard radio.new ≡ counter_plus (arrived_block_count (step_result result step.new)) (R.heard radio.old) }
-        ensures who { OnOk result (StepFitsItsActor (step_of step.new)) }
+        ensures heard { R.heard radio.new ≡ counter_plus (blocks_received_in_step (step_result result step.new)) (R.heard radio.old) }
+        ensures who { OnOk result (StepFitsItsActor (spec_step_of step.new)) }
     {
         match event {
             Event::Open(info) => self.ask(radio, End::Mobile, Sapi::Zero, &Call::Open(info), step),
@@ -351,7 +351,7 @@ impl WorldState {
 }
 
 fn other_end(end: End) -> End
-    ensures { role_of result ≡ E.other (role_of end) }
+    ensures { spec_role_of result ≡ E.other (spec_role_of end) }
 {
     match end {
         End::Mobile => End::Network,
@@ -378,7 +378,7 @@ impl Way {
     ghost use Rattle.um_link.specs.Naming.{sender_of};
 
     fn sender(self) -> End
-        ensures { role_of result ≡ sender_of self }
+        ensures { spec_role_of result ≡ sender_of self }
     {
         match self {
             Way::Up => End::Mobile,
@@ -388,10 +388,10 @@ impl Way {
 }
 
 impl From<Refused> for No {
-    ghost use Rattle.um_link.specs.Naming.{event_refusal_of};
+    ghost use Rattle.um_link.specs.Naming.{spec_event_refusal_of};
 
     fn from(refused: Refused) -> No
-        ensures { event_refusal_of result ≡ E.ByEndpoint refused }
+        ensures { spec_event_refusal_of result ≡ E.ByEndpoint refused }
     {
         match refused {
             Refused::NotIdle => No::NotIdle,

@@ -38,43 +38,43 @@ pub(crate) fn send_frames<R: Radio>(
 pub(crate) fn receive_oldest_block<R: Radio>(
     radio: &mut R,
     way: &mut HeapCircularBuffer<[[u8; BURST_BITS]; 4]>,
-    places: &[u16],
+    inverted_bits: &[u16],
     soft: &mut [[i8; BURST_BITS]; 4],
     received: &mut Option<Received>,
 )
     requires way { IsValidQueue way.old }
     requires some { 0 < length way.old.items }
-    requires places { AreBitIndices places.now }
+    requires places { AreBitIndices inverted_bits.now }
     ensures received { (report : Received) × (received.new ≡ Some report)
-        × ReceivesOldestBlock places.now way.old.items report way.new.items }
+        × ReceivesOldestBlock inverted_bits.now way.old.items report way.new.items }
     ensures way { IsValidQueue way.new }
     ensures heard { R.heard radio.new ≡ counter_plus_one (R.heard radio.old) }
     ensures sent { R.sent radio.new ≡ R.sent radio.old }
 {
-    write_oldest_as_soft_values(way, places, soft);
+    write_oldest_as_soft_values(way, inverted_bits, soft);
     drop_oldest_block(way);
     *received = Some(radio.receive(soft));
 }
 
 /// Writes the oldest block of the queue as soft values 127 and -127, with the given bits inverted.
 fn write_oldest_as_soft_values(
-    way: &HeapCircularBuffer<[[u8; BURST_BITS]; 4]>,
-    places: &[u16],
+    queue: &HeapCircularBuffer<[[u8; BURST_BITS]; 4]>,
+    inverted_bits: &[u16],
     soft: &mut [[i8; BURST_BITS]; 4],
 )
-    requires way { IsValidQueue way.now }
-    requires some { 0 < length way.now.items }
-    requires places { AreBitIndices places.now }
-    ensures value { (block : Block) (others : List Block) → way.now.items ≡ block ∷ others
-        → soft.new ≡ map soft_bits (with_bits_inverted places.now block) }
+    requires way { IsValidQueue queue.now }
+    requires some { 0 < length queue.now.items }
+    requires places { AreBitIndices inverted_bits.now }
+    ensures value { (block : Block) (others : List Block) → queue.now.items ≡ block ∷ others
+        → soft.new ≡ map soft_bits (with_bits_inverted inverted_bits.now block) }
     ensures soft { All AllSoftBits soft.new }
 {
-    let first = way.front().unwrap();
-    if places.is_empty() {
+    let first = queue.front().unwrap();
+    if inverted_bits.is_empty() {
         soften_block(first, soft);
     } else {
         let mut block = *first;
-        invert_bits(&mut block, places);
+        invert_bits(&mut block, inverted_bits);
         soften_block(&block, soft);
     }
 }
@@ -106,13 +106,13 @@ fn invert_bits(block: &mut [[u8; BURST_BITS]; 4], places: &[u16])
     }
 }
 
-fn invert_bit_at(block: &mut [[u8; BURST_BITS]; 4], place: u16)
+fn invert_bit_at(block: &mut [[u8; BURST_BITS]; 4], bit_index: u16)
     requires bits { All AllBits block.old }
-    requires place { place < 592 }
-    ensures flipped { block.new ≡ with_bit_inverted place block.old }
+    requires place { bit_index < 592 }
+    ensures flipped { block.new ≡ with_bit_inverted bit_index block.old }
     ensures bits { All AllBits block.new }
 {
-    let burst = usize::from(place) / BURST_BITS;
-    let bit = usize::from(place) % BURST_BITS;
+    let burst = usize::from(bit_index) / BURST_BITS;
+    let bit = usize::from(bit_index) % BURST_BITS;
     block[burst][bit] = 1 - block[burst][bit];
 }

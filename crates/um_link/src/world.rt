@@ -3,13 +3,13 @@ ghost use Rattle.std.specs.Prelude.{◌≡◌, ◌≤◌, IfOk, OnOk, OnErr};
 ghost use Rattle.lapdm_frame.specs.declared.Channel.TheVariants as C;
 ghost use Rattle.um_air.specs.Air.{initial_session};
 ghost use Rattle.um_block.specs.Tallies.{counter_plus};
-ghost use Rattle.um_link.specs.Naming.{event_of, step_of, step_result};
+ghost use Rattle.um_link.specs.Naming.{spec_event_of, spec_step_of, step_result};
 ghost use Rattle.um_link.specs.Abstraction.{Represents, StepRefines, IsOnlyPossibleAnswer, StepFitsItsActor, sent_frame_count};
-ghost use Rattle.um_link.specs.Abstraction.{arrived_block_count};
-ghost use Rattle.um_link.specs.Sessions.{ExtendsSession, KeepsOrderLaws, KeepsDeliveryLaws, SessionStaysBenign};
+ghost use Rattle.um_link.specs.Abstraction.{blocks_received_in_step};
+ghost use Rattle.um_link.specs.Sessions.{ExtendsSession, KeepsNoticesInOrder, KeepsReliableDelivery, FewInvertedBitsKeepSessionBenign};
 ghost use Rattle.um_link.specs.Possible.{IsPossibleEvent};
 ghost use Rattle.um_air.specs.Sessions.{AreOctets, EventMessageIsOctets};
-ghost use Rattle.um_link.specs.Naming.{request_of, role_of};
+ghost use Rattle.um_link.specs.Naming.{spec_request_of, spec_role_of};
 ghost use Rattle.um_air.specs.lapdm_link.Events.{Ask};
 
 use crate::events::{Call, End, Event, No, Step};
@@ -19,7 +19,7 @@ use lapdm_frame::Channel;
 use std::alloc::Global;
 use std::marker::Model;
 use um_air::{
-    law_answer_is_unique, law_delivers_in_order, law_log_is_ordered,
+    law_event_answer_is_unique, law_step_delivers_in_order, law_step_keeps_log_ordered,
     law_three_inverted_bits_are_benign,
 };
 use um_block::Radio;
@@ -70,18 +70,18 @@ impl World {
     /// (`Empty`) or more than N201 octets (`TooLong`).
     pub fn step<R: Radio>(&mut self, radio: &mut R, event: &Event<'_>) -> Result<Step, No>
         requires { IsPossibleEvent event.now }
-        ensures refines { StepRefines (event_of event.now) self.old result self.new }
-        ensures only { IsOnlyPossibleAnswer (event_of event.now) self.old result }
-        ensures session { ExtendsSession (event_of event.now) self.old result self.new }
+        ensures refines { StepRefines (spec_event_of event.now) self.old result self.new }
+        ensures only { IsOnlyPossibleAnswer (spec_event_of event.now) self.old result }
+        ensures session { ExtendsSession (spec_event_of event.now) self.old result self.new }
         ensures refused { OnErr result (self.new ≡ self.old) }
         ensures silent { OnErr result (radio.new ≡ radio.old) }
         ensures sent { R.sent radio.new ≡ counter_plus (sent_frame_count result) (R.sent radio.old) }
-        ensures heard { R.heard radio.new ≡ counter_plus (arrived_block_count result) (R.heard radio.old) }
-        ensures who { IfOk result (λ step. StepFitsItsActor (step_of step)) }
-        ensures order { KeepsOrderLaws (event_of event.now) self.old result }
-        ensures delivery { KeepsDeliveryLaws (event_of event.now) self.old result }
-        ensures benign { SessionStaysBenign (event_of event.now) self.old result }
-        ensures octets { EventMessageIsOctets (event_of event.now) }
+        ensures heard { R.heard radio.new ≡ counter_plus (blocks_received_in_step result) (R.heard radio.old) }
+        ensures who { IfOk result (λ step. StepFitsItsActor (spec_step_of step)) }
+        ensures order { KeepsNoticesInOrder (spec_event_of event.now) self.old result }
+        ensures delivery { KeepsReliableDelivery (spec_event_of event.now) self.old result }
+        ensures benign { FewInvertedBitsKeepSessionBenign (spec_event_of event.now) self.old result }
+        ensures octets { EventMessageIsOctets (spec_event_of event.now) }
     {
         let mut step = Step::new();
         match self.step_into(radio, event, &mut step) {
@@ -99,23 +99,23 @@ impl World {
         step: &mut Step,
     ) -> Result<(), No>
         requires { IsPossibleEvent event.now }
-        ensures refines { StepRefines (event_of event.now) self.old (step_result result step.new) self.new }
-        ensures only { IsOnlyPossibleAnswer (event_of event.now) self.old (step_result result step.new) }
-        ensures session { ExtendsSession (event_of event.now) self.old (step_result result step.new) self.new }
+        ensures refines { StepRefines (spec_event_of event.now) self.old (step_result result step.new) self.new }
+        ensures only { IsOnlyPossibleAnswer (spec_event_of event.now) self.old (step_result result step.new) }
+        ensures session { ExtendsSession (spec_event_of event.now) self.old (step_result result step.new) self.new }
         ensures refused { OnErr result (self.new ≡ self.old) }
         ensures out_unchanged { OnErr result (step.new ≡ step.old) }
         ensures silent { OnErr result (radio.new ≡ radio.old) }
         ensures sent { R.sent radio.new ≡ counter_plus (sent_frame_count (step_result result step.new)) (R.sent radio.old) }
-        ensures heard { R.heard radio.new ≡ counter_plus (arrived_block_count (step_result result step.new)) (R.heard radio.old) }
-        ensures who { OnOk result (StepFitsItsActor (step_of step.new)) }
-        ensures order { KeepsOrderLaws (event_of event.now) self.old (step_result result step.new) }
-        ensures delivery { KeepsDeliveryLaws (event_of event.now) self.old (step_result result step.new) }
-        ensures benign { SessionStaysBenign (event_of event.now) self.old (step_result result step.new) }
-        ensures octets { EventMessageIsOctets (event_of event.now) }
+        ensures heard { R.heard radio.new ≡ counter_plus (blocks_received_in_step (step_result result step.new)) (R.heard radio.old) }
+        ensures who { OnOk result (StepFitsItsActor (spec_step_of step.new)) }
+        ensures order { KeepsNoticesInOrder (spec_event_of event.now) self.old (step_result result step.new) }
+        ensures delivery { KeepsReliableDelivery (spec_event_of event.now) self.old (step_result result step.new) }
+        ensures benign { FewInvertedBitsKeepSessionBenign (spec_event_of event.now) self.old (step_result result step.new) }
+        ensures octets { EventMessageIsOctets (spec_event_of event.now) }
     {
-        law_answer_is_unique();
-        law_log_is_ordered();
-        law_delivers_in_order();
+        law_event_answer_is_unique();
+        law_step_keeps_log_ordered();
+        law_step_delivers_in_order();
         law_three_inverted_bits_are_benign();
         law_event_messages_are_octets(event);
         self.state.carry_out_event(radio, event, step)
@@ -124,7 +124,7 @@ impl World {
 
 /// Law: the messages in every `Event` consist of octets.
 fn law_event_messages_are_octets(event: &Event<'_>)
-    ensures { EventMessageIsOctets (event_of event.now) }
+    ensures { EventMessageIsOctets (spec_event_of event.now) }
 {
     match event {
         Event::Open(info) => law_u8_slice_is_octets(info),
@@ -136,7 +136,7 @@ fn law_event_messages_are_octets(event: &Event<'_>)
 }
 
 fn law_call_message_is_octets(end: End, sapi: Sapi, call: &Call<'_>)
-    ensures { EventMessageIsOctets (Ask (role_of end) sapi (request_of call.now)) }
+    ensures { EventMessageIsOctets (Ask (spec_role_of end) sapi (spec_request_of call.now)) }
 {
     match call {
         Call::Send(message) => law_u8_slice_is_octets(message),

@@ -5,18 +5,19 @@ use Rattle.um_link.specs.lapdm_window.Ends.{Role, Mobile, Network}
 use Rattle.um_link.specs.lapdm_link.Events.{Ask, Deliver, T200Expiry, other}
 use Rattle.um_link.specs.um_air.Air.{Event}
 use Rattle.um_make.specs.declared.course.SessionStage.{SessionStage}
-use Rattle.um_make.specs.declared.course.SessionStage.TheVariants.{Opening, Request, Answer, SendNext, AnswerInTransit, Timer}
+use Rattle.um_make.specs.declared.course.SessionStage.TheVariants.{Opening, SabmInTransit, UaInTransit, SendNext, SegmentReplyInTransit}
+use Rattle.um_make.specs.declared.course.SessionStage.TheVariants.{SegmentLost}
 use Rattle.um_make.specs.declared.course.SessionProgress.{SessionProgress}
 use Rattle.um_make.specs.Generated.{sender, establishment_events, events_after_transmission}
 
 -- the remaining events of the link establishment, or of the current transmission from this side
 abbrev pub pending_events : SessionStage → Role → List Event
 pending_events Opening r = establishment_events
-pending_events Request r = Deliver Mobile [] ∷ Deliver Network [] ∷ []
-pending_events Answer r = Deliver Network [] ∷ []
+pending_events SabmInTransit r = Deliver Mobile [] ∷ Deliver Network [] ∷ []
+pending_events UaInTransit r = Deliver Network [] ∷ []
 pending_events SendNext r = []
-pending_events AnswerInTransit r = Deliver (other r) [] ∷ []
-pending_events Timer r = Ask r Zero T200Expiry ∷ []
+pending_events SegmentReplyInTransit r = Deliver (other r) [] ∷ []
+pending_events SegmentLost r = Ask r Zero T200Expiry ∷ []
 
 -- all events that remain of a generated session
 abbrev pub remaining_events : SessionProgress → List Event
@@ -25,8 +26,8 @@ remaining_events s = pending_events s.stage (sender s.message_number) ++ events_
     s.segment_transmissions
 
 -- bounds on a session: it has at most 1000 messages, a message has at most 13 segments, and a segment takes at most two transmissions
-pub record HasBoundedTransmissions (s : SessionProgress) : Type 0 where
-  pub messages : s.message_number + s.messages_left ≤ 1000
-  pub segment_transmissions : s.segment_transmissions + 2 * s.segments_left + 26 * s.messages_left ≤ 26001
-  pub bound_if_not_lost : s.segment_transmissions % 8 ≢ 0 →
-      s.segment_transmissions + 2 * s.segments_left + 26 * s.messages_left ≤ 26000
+pub record HasBoundedTransmissions (progress : SessionProgress) : Type 0 where
+  pub messages : progress.message_number + progress.messages_left ≤ 1000
+  pub segment_transmissions : progress.segment_transmissions + 2 * progress.segments_left + 26 * progress.messages_left ≤ 26001
+  pub bound_if_not_lost : progress.segment_transmissions % 8 ≢ 0 →
+      progress.segment_transmissions + 2 * progress.segments_left + 26 * progress.messages_left ≤ 26000

@@ -22,6 +22,6 @@ pub record HasOneSummary (tsc : ℕ) (events : List Event) : Type 0 where
   pub only_one : (other : Summary) → IsSummaryOfEvents tsc events other → other ≡ summary
 
 -- neither side has more messages acknowledged than the other side has delivered
-pub record AckedAtMostReceived (s : Summary) : Type 0 where
-  pub mobile : s.mobile.acked_messages ≤ s.network.messages_got
-  pub network : s.network.acked_messages ≤ s.mobile.messages_got
+pub record AckedAtMostReceived (summary : Summary) : Type 0 where
+  pub mobile : summary.mobile.acked_messages ≤ summary.network.messages_got
+  pub network : summary.network.acked_messages ≤ summary.mobile.messages_got

@@ -7,14 +7,14 @@ use Rattle.um_link.specs.um_block.declared.received.Received.{Received}
 use Rattle.um_link.specs.lapdm_link.Claims.{LogLine, delivered_messages, acked_message_numbers}
 use Rattle.um_link.specs.lapdm_link.Events.{Lose}
 use Rattle.um_link.specs.um_air.Air.{Event, Answer, Refuses, Accepts}
-use Rattle.um_link.specs.um_air.Sessions.{lines}
+use Rattle.um_link.specs.um_air.Sessions.{session_log}
 use Rattle.um_make.specs.declared.end_summary.EndpointSummary.{EndpointSummary}
 use Rattle.um_make.specs.declared.summary.Summary.{Summary}
 
 -- the number of blocks that an answer reports as sent
-abbrev pub sends : Answer → ℕ
-sends (Refuses why) = 0
-sends (Accepts step) = length step.frames
+abbrev pub sent_block_count : Answer → ℕ
+sent_block_count (Refuses why) = 0
+sent_block_count (Accepts step) = length step.frames
 
 -- whether a block was received with a good CRC
 abbrev pub crc_passes : Option Received → Bool
@@ -41,20 +41,20 @@ abbrev pub is_loss_event : Event → Bool
 is_loss_event (Lose sender) = true
 is_loss_event event = false
 
--- `e` holds the counters of side `r` on SAPI 0: messages delivered, octets in these messages, the sum of these octets, and messages
--- acknowledged
-pub record IsEndpointSummary (r : Role) (ls : List LogLine) (e : EndpointSummary) : Type 0 where
-  pub messages : e.messages_got ≡ length (delivered_messages r Zero ls)
-  pub octets : e.octets ≡ sum_by (λ m. length m) (delivered_messages r Zero ls)
-  pub octet_sum : e.octet_sum ≡ sum_by (λ m. sum m) (delivered_messages r Zero ls)
-  pub acked_messages : e.acked_messages ≡ length (acked_message_numbers r Zero ls)
+-- `summary` holds the counters of side `side` on SAPI 0: messages delivered, octets in these messages, the sum of these octets, and
+-- messages acknowledged
+pub record IsEndpointSummary (side : Role) (log_lines : List LogLine) (summary : EndpointSummary) : Type 0 where
+  pub messages : summary.messages_got ≡ length (delivered_messages side Zero log_lines)
+  pub octets : summary.octets ≡ sum_by (λ m. length m) (delivered_messages side Zero log_lines)
+  pub octet_sum : summary.octet_sum ≡ sum_by (λ m. sum m) (delivered_messages side Zero log_lines)
+  pub acked_messages : summary.acked_messages ≡ length (acked_message_numbers side Zero log_lines)
 
--- `s` holds the counters of a session with these events and answers
-pub record IsSummary (events : List Event) (answers : List Answer) (s : Summary) : Type 0 where
-  pub steps : s.steps ≡ length events
-  pub sent_blocks : s.sent_blocks ≡ sum_by sends answers
-  pub good_blocks : s.good_blocks ≡ count_by reports_good_crc answers
-  pub bad_blocks : s.bad_blocks ≡ count_by reports_bad_crc answers
-  pub lost_blocks : s.lost_blocks ≡ count_by is_loss_event events
-  pub mobile : IsEndpointSummary Mobile (lines events answers) s.mobile
-  pub network : IsEndpointSummary Network (lines events answers) s.network
+-- `summary` holds the counters of a session with these events and answers
+pub record IsSummary (events : List Event) (answers : List Answer) (summary : Summary) : Type 0 where
+  pub steps : summary.steps ≡ length events
+  pub sent_blocks : summary.sent_blocks ≡ sum_by sent_block_count answers
+  pub good_blocks : summary.good_blocks ≡ count_by reports_good_crc answers
+  pub bad_blocks : summary.bad_blocks ≡ count_by reports_bad_crc answers
+  pub lost_blocks : summary.lost_blocks ≡ count_by is_loss_event events
+  pub mobile : IsEndpointSummary Mobile (session_log events answers) summary.mobile
+  pub network : IsEndpointSummary Network (session_log events answers) summary.network

@@ -8,13 +8,14 @@ use Rattle.um_make.specs.declared.summary.Summary.{Summary}
 use Rattle.um_make.specs.Summaries.{IsSummary}
 use Rattle.um_make.specs.Counting.{CountersAreAtMost}
 
--- the events `all` except `remaining_events` have led to `world`, and `s` counts them and their answers
-pub record IsRunInProgress (tsc : ℕ) (all remaining_events : List Event) (world : WorldState) (s : Summary) : Type 0 where
-  pub events : List Event
-  pub answers : List Answer
-  pub state : AirState
-  pub all_events : all ≡ events ++ remaining_events
-  pub equal_counts : length answers ≡ length events
-  pub world_is : IsWorldAfterEvents tsc Sdcch events answers state world
-  pub summary : IsSummary events answers s
-  pub counters_bounded : CountersAreAtMost (192015 * length events) s
+-- the events `script_events` except `remaining_events` have led to `world`, and `counters` counts them and their answers
+pub record IsRunInProgress (tsc : ℕ) (script_events remaining_events : List Event) (world : WorldState) (counters : Summary) : Type 0
+  where
+    pub events : List Event
+    pub answers : List Answer
+    pub state : AirState
+    pub all_events : script_events ≡ events ++ remaining_events
+    pub one_answer_per_event : length answers ≡ length events
+    pub world_after_events : IsWorldAfterEvents tsc Sdcch events answers state world
+    pub summary : IsSummary events answers counters
+    pub counters_bounded : CountersAreAtMost (192015 * length events) counters

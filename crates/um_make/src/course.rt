@@ -3,7 +3,7 @@ ghost use Rattle.std.specs.Prelude.{◌≡◌, ◌≤◌, ◌<◌, ◌+◌, ◌%
 ghost use Rattle.std.specs.Prelude.{IfSome, All};
 ghost use Rattle.std.specs.List.{range_with_len};
 ghost use Rattle.um_link.specs.lapdm_link.Events.{other};
-ghost use Rattle.um_link.specs.Naming.{event_of, role_of, sender_of};
+ghost use Rattle.um_link.specs.Naming.{spec_event_of, spec_role_of, sender_of};
 ghost use Rattle.um_link.specs.Possible.{IsPossibleEvent};
 ghost use Rattle.um_link.specs.Queues.{AreBitIndices};
 ghost use Rattle.um_make.specs.declared.course.SessionStage.TheVariants as S;
@@ -18,15 +18,15 @@ pub(crate) enum SessionStage {
     /// The mobile asks to establish the link.
     Opening,
     /// The mobile's SABM arrives at the network.
-    Request,
+    SabmInTransit,
     /// The network's UA arrives at the mobile.
-    Answer,
+    UaInTransit,
     /// The next segment or, if none is left, the next message is sent.
     SendNext,
     /// The answer to a segment arrives.
-    AnswerInTransit,
+    SegmentReplyInTransit,
     /// A segment was lost, so T200 of its sender expires.
-    Timer,
+    SegmentLost,
 }
 
 /// The progress of a generated session.
@@ -46,14 +46,14 @@ pub(crate) struct SessionProgress {
 impl SessionProgress {
     ghost use Rattle.um_make.specs.Courses.{remaining_events, HasBoundedTransmissions};
 
-    pub(crate) fn new(n: u32) -> SessionProgress
-        requires { n ≤ 1000 }
-        ensures all { remaining_events result ≡ generated_events n }
+    pub(crate) fn new(message_count: u32) -> SessionProgress
+        requires { message_count ≤ 1000 }
+        ensures all { remaining_events result ≡ generated_events message_count }
         ensures sound { HasBoundedTransmissions result }
     {
         SessionProgress {
             stage: SessionStage::Opening,
-            messages_left: n,
+            messages_left: message_count,
             message_number: 0,
             segments_left: 0,
             segment_transmissions: 0,
@@ -64,28 +64,28 @@ impl SessionProgress {
     pub(crate) fn next<'a>(&mut self, room: &'a mut Room) -> Option<Event<'a>>
         requires { HasBoundedTransmissions self.old }
         ensures event { MatchOption result ((remaining_events self.old ≡ []) × (remaining_events self.new ≡ []))
-            (λ e. remaining_events self.old ≡ event_of e ∷ remaining_events self.new) }
+            (λ e. remaining_events self.old ≡ spec_event_of e ∷ remaining_events self.new) }
         ensures possible { IfSome result (λ e. IsPossibleEvent e) }
         ensures sound { HasBoundedTransmissions self.new }
     {
         match self.stage {
             SessionStage::Opening => {
-                self.stage = SessionStage::Request;
+                self.stage = SessionStage::SabmInTransit;
                 Some(Event::Open(&[1]))
             }
-            SessionStage::Request => {
-                self.stage = SessionStage::Answer;
+            SessionStage::SabmInTransit => {
+                self.stage = SessionStage::UaInTransit;
                 Some(Event::Air(Way::Up, Air::Deliver))
             }
-            SessionStage::Answer => {
+            SessionStage::UaInTransit => {
                 self.stage = SessionStage::SendNext;
                 Some(Event::Air(Way::Down, Air::Deliver))
             }
-            SessionStage::AnswerInTransit => {
+            SessionStage::SegmentReplyInTransit => {
                 self.stage = SessionStage::SendNext;
                 Some(Event::Air(self.reply_direction(), Air::Deliver))
             }
-            SessionStage::Timer => {
+            SessionStage::SegmentLost => {
                 self.stage = SessionStage::SendNext;
                 Some(Event::End(self.sender(), Sapi::Zero, Call::Timer))
             }
@@ -98,7 +98,7 @@ impl SessionProgress {
         requires sound { HasBoundedTransmissions self.old }
         requires stage { self.old.stage ≡ S.SendNext }
         ensures event { MatchOption result ((remaining_events self.old ≡ []) × (remaining_events self.new ≡ []))
-            (λ e. remaining_events self.old ≡ event_of e ∷ remaining_events self.new) }
+            (λ e. remaining_events self.old ≡ spec_event_of e ∷ remaining_events self.new) }
         ensures possible { IfSome result (λ e. IsPossibleEvent e) }
         ensures sound { HasBoundedTransmissions self.new }
     {
@@ -116,18 +116,18 @@ impl SessionProgress {
         requires sound { HasBoundedTransmissions self.old }
         requires stage { self.old.stage ≡ S.SendNext }
         requires some { 0 < self.old.segments_left }
-        ensures event { remaining_events self.old ≡ event_of result ∷ remaining_events self.new }
+        ensures event { remaining_events self.old ≡ spec_event_of result ∷ remaining_events self.new }
         ensures possible { IsPossibleEvent result }
         ensures sound { HasBoundedTransmissions self.new }
     {
         self.segment_transmissions += 1;
         let segment_direction = self.segment_direction();
         if self.segment_transmissions % 8 == 0 {
-            self.stage = SessionStage::Timer;
+            self.stage = SessionStage::SegmentLost;
             return Event::Air(segment_direction, Air::Lose);
         }
         self.segments_left -= 1;
-        self.stage = SessionStage::AnswerInTransit;
+        self.stage = SessionStage::SegmentReplyInTransit;
         if self.segment_transmissions % 8 == 4 {
             let inverted_bits = inverted_bits(self.segment_transmissions);
             return Event::Air(
@@ -144,13 +144,13 @@ impl SessionProgress {
         requires stage { self.old.stage ≡ S.SendNext }
         requires none { self.old.segments_left ≡ 0 }
         requires some { 0 < self.old.messages_left }
-        ensures event { remaining_events self.old ≡ event_of result ∷ remaining_events self.new }
+        ensures event { remaining_events self.old ≡ spec_event_of result ∷ remaining_events self.new }
         ensures possible { IsPossibleEvent result }
         ensures sound { HasBoundedTransmissions self.new }
     {
         self.messages_left -= 1;
         self.message_number += 1;
-        let size = message_size(self.message_number);
+        let size = message_octet_count(self.message_number);
         self.segments_left = (size - 1) / 20 + 1;
         let octets = message_octets(self.message_number);
         let message = room.hold_octets(&octets[..size as usize]);
@@ -159,7 +159,7 @@ impl SessionProgress {
 
     /// The sender of the current message.
     fn sender(&self) -> End
-        ensures { role_of result ≡ sender self.now.message_number }
+        ensures { spec_role_of result ≡ sender self.now.message_number }
     {
         if self.message_number % 2 == 1 {
             End::Mobile
@@ -189,14 +189,14 @@ impl SessionProgress {
     }
 }
 
-/// The number of octets of message `number`.
-fn message_size(number: u32) -> u32
-    requires { number ≤ 1000 }
-    ensures size { result ≡ message_length number }
+/// The number of octets of the message with this number.
+fn message_octet_count(message_number: u32) -> u32
+    requires { message_number ≤ 1000 }
+    ensures size { result ≡ message_length message_number }
     ensures some { 1 ≤ result }
     ensures most { result ≤ 251 }
 {
-    1 + 37 * number % 251
+    1 + 37 * message_number % 251
 }
 
 /// The octets of message `number`, continued by the same rule up to 251 octets.

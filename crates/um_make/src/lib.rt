@@ -2,7 +2,7 @@
 #![tactic(auto)]
 
 ghost use Rattle.std.specs.Prelude.{ℕ, ◌≤◌};
-ghost use Rattle.um_link.specs.um_air.Sessions.{InvertFewBits};
+ghost use Rattle.um_link.specs.um_air.Sessions.{AllEventsInvertFewBits};
 ghost use Rattle.um_make.specs.Generated.{generated_events};
 ghost use Rattle.um_make.specs.Runs.{HasOneSummary};
 
@@ -20,11 +20,11 @@ pub use summary::Summary;
 pub use text::summary_lines;
 
 /// A generated session inverts at most three bits of each block, and its messages consist of octets.
-pub fn law_generated_invert_few_bits()
-    ensures { (n : ℕ) → InvertFewBits (generated_events n) }
+pub fn law_generated_session_inverts_few_bits()
+    ensures { (n : ℕ) → AllEventsInvertFewBits (generated_events n) }
 {}
 
 /// A generated session has exactly one summary.
-pub fn law_summary_is_unique()
+pub fn law_session_summary_is_unique()
     ensures { (n tsc : ℕ) → tsc ≤ 7 → HasOneSummary tsc (generated_events n) }
 {}

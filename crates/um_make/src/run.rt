@@ -29,7 +29,7 @@ pub fn make<R: Radio>(alloc: Global, n: u32, tsc: u8, radio: &mut R) -> Result<S
     let mut step = Step::new();
     while let Some(event) = script.next(&mut room) {
         let done = world.step_into(radio, &event, &mut step);
-        summary.count(&event, &done, &step);
+        summary.count_step(&event, &done, &step);
     }
     Ok(summary)
 }

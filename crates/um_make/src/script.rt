@@ -1,6 +1,6 @@
 //! The events of a generated session, in order.
 ghost use Rattle.std.specs.Prelude.{◌≡◌, ◌≤◌, [], ◌∷◌, MatchOption, IfSome};
-ghost use Rattle.um_link.specs.Naming.{event_of};
+ghost use Rattle.um_link.specs.Naming.{spec_event_of};
 ghost use Rattle.um_link.specs.Possible.{IsPossibleEvent};
 ghost use Rattle.um_make.specs.Generated.{generated_events};
 
@@ -42,7 +42,7 @@ impl Script {
 
     /// Returns the next event, whose octets and bit indices are stored in `room`, or `None` after the last.
     pub fn next<'a>(&mut self, room: &'a mut Room) -> Option<Event<'a>>
-        ensures event { MatchOption result ((self.old ≡ []) × (self.new ≡ [])) (λ e. self.old ≡ event_of e ∷ self.new) }
+        ensures event { MatchOption result ((self.old ≡ []) × (self.new ≡ [])) (λ e. self.old ≡ spec_event_of e ∷ self.new) }
         ensures possible { IfSome result (λ e. IsPossibleEvent e) }
     {
         self.progress.next(room)

@@ -4,7 +4,7 @@ ghost use Rattle.um_link.specs.lapdm_window.declared.Sapi.TheVariants as S;
 ghost use Rattle.um_link.specs.lapdm_window.Ends as R;
 ghost use Rattle.um_link.specs.lapdm_link.Claims.{is_same_sapi};
 ghost use Rattle.um_link.specs.um_air.Air as A;
-ghost use Rattle.um_link.specs.Naming.{event_of, answer_of, step_of, step_result};
+ghost use Rattle.um_link.specs.Naming.{spec_event_of, spec_answer_of, spec_step_of, step_result};
 ghost use Rattle.um_make.specs.Summaries.{is_loss_event};
 
 use crate::end_summary::EndpointSummary;
@@ -50,24 +50,24 @@ impl Summary {
     }
 
     /// Adds an event and its answer to the counters. If the event was not refused, `step` holds its result.
-    pub(crate) fn count(&mut self, event: &Event<'_>, done: &Result<(), No>, step: &Step)
+    pub(crate) fn count_step(&mut self, event: &Event<'_>, outcome: &Result<(), No>, step: &Step)
         requires { CountersAreAtMost (2 ^ 58) self.old }
-        ensures counts { CountsStep (event_of event.now) (answer_of (step_result done.now step.now)) self.old self.new }
+        ensures counts { CountsStep (spec_event_of event.now) (spec_answer_of (step_result outcome.now step.now)) self.old self.new }
         ensures rises { CountersGrowAtMost 192015 self.old self.new }
     {
         self.steps += 1;
         if is_loss_event(event) {
             self.lost_blocks += 1;
         }
-        if done.is_ok() {
-            self.add(step);
+        if outcome.is_ok() {
+            self.count_accepted_step(step);
         }
     }
 
     /// Adds the result of an event to the counters.
-    fn add(&mut self, step: &Step)
+    fn count_accepted_step(&mut self, step: &Step)
         requires { CountersAreAtMost (2 ^ 59) self.old }
-        ensures adds { CountsAnswer (A.Accepts (step_of step.now)) self.old self.new }
+        ensures adds { CountsAnswer (A.Accepts (spec_step_of step.now)) self.old self.new }
         ensures rises { CountersGrowAtMost 192015 self.old self.new }
     {
         self.sent_blocks += step.effects.frames.as_slice().len() as u64;
@@ -96,8 +96,9 @@ impl Summary {
     fn count_notice(&mut self, step: &Step)
         requires mobile_small { EndpointCountersAreAtMost (2 ^ 59) self.old.mobile }
         requires network_small { EndpointCountersAreAtMost (2 ^ 59) self.old.network }
-        ensures mobile { CountsNotices (sapi0_notices_in_answer R.Mobile (A.Accepts (step_of step.now))) self.old.mobile self.new.mobile }
-        ensures network { CountsNotices (sapi0_notices_in_answer R.Network (A.Accepts (step_of step.now))) self.old.network
+        ensures mobile { CountsNotices (sapi0_notices_in_answer R.Mobile (A.Accepts (spec_step_of step.now))) self.old.mobile
+            self.new.mobile }
+        ensures network { CountsNotices (sapi0_notices_in_answer R.Network (A.Accepts (spec_step_of step.now))) self.old.network
             self.new.network }
         ensures same { self.new ≡ record self.old { mobile = self.new.mobile; network = self.new.network } }
         ensures mobile_most { EndpointCountersGrowAtMost 192015 self.old.mobile self.new.mobile }
@@ -125,7 +126,7 @@ fn sapi0_notices(step: &Step) -> &[Notice]
 
 /// Returns whether the event is the loss of a block.
 fn is_loss_event(event: &Event<'_>) -> bool
-    ensures { result ≡ is_loss_event (event_of event.now) }
+    ensures { result ≡ is_loss_event (spec_event_of event.now) }
 {
     matches!(event, Event::Air(_, Air::Lose))
 }

@@ -7,13 +7,13 @@ use crate::end_summary::EndpointSummary;
 use crate::summary::Summary;
 use um_script::Text;
 
-/// Writes the four lines that report on a session of `n` messages with training sequence code `tsc`.
-pub fn summary_lines(out: &mut Text, n: u32, tsc: u8, summary: &Summary)
+/// Writes the four lines that report on a session of `message_count` messages with training sequence code `tsc`.
+pub fn summary_lines(out: &mut Text, message_count: u32, tsc: u8, summary: &Summary)
     requires { out.old ≡ [] }
-    ensures text { out.new ≡ summary_text n tsc summary.now }
+    ensures text { out.new ≡ summary_text message_count tsc summary.now }
     ensures size { length out.new < 2000 }
 {
-    push_header_line(out, n, tsc);
+    push_header_line(out, message_count, tsc);
     push_steps_line(out, summary);
     push_endpoint_line(out, b"mob", &summary.mobile);
     push_endpoint_line(out, b"net", &summary.network);

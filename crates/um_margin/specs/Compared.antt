@@ -1,4 +1,4 @@
--- The most likely word (information list) for soft bits, compared with the second most likely one (this project's own rule).
+-- The most likely encoder input for soft bits, compared with the second most likely one (this project's own rule).
 use Rattle.std.specs.Prelude.{ℕ, ◌≡◌, ℤ, ◌-ℤ◌, List, map}
 use Rattle.um_block.specs.bit_blocks.SoftValues.{likelihood}
 use Rattle.um_block.specs.conv_code.Code.{encoding}
@@ -15,16 +15,17 @@ pub record ComparedWords : Type 0 where
   pub margin : ℤ
   pub metric : ℤ
 
--- `c` compares the two most likely words for the soft bits `soft`
-pub record AreComparedWords (soft : List ℤ) (c : ComparedWords) : Type 0 where
-  pub best : IsMostLikely soft c.best
-  pub next : IsSecondMostLikely soft c.best c.next
-  pub margin : IsMargin soft c.best c.margin
-  pub is_difference : c.margin ≡ likelihood soft (encoding c.best) -ℤ likelihood soft (encoding c.next)
-  pub metric : c.metric ≡ likelihood soft (encoding c.best)
+-- `compared_words` compares the two most likely words for the soft bits `soft`
+pub record AreComparedWords (soft : List ℤ) (compared_words : ComparedWords) : Type 0 where
+  pub best : IsMostLikely soft compared_words.best
+  pub next : IsSecondMostLikely soft compared_words.best compared_words.next
+  pub margin : IsMargin soft compared_words.best compared_words.margin
+  pub margin_is_difference : compared_words.margin ≡ likelihood soft (encoding compared_words.best) -ℤ likelihood soft (encoding
+      compared_words.next)
+  pub metric : compared_words.metric ≡ likelihood soft (encoding compared_words.best)
 
--- `c` compares the two most likely words for the four `bursts` of a block
-pub record AreComparedBlockWords (bursts : List (List ℤ)) (c : ComparedWords) : Type 0 where
+-- `compared_words` compares the two most likely words for the four `bursts` of a block
+pub record AreComparedBlockWords (bursts : List (List ℤ)) (compared_words : ComparedWords) : Type 0 where
   pub soft : List ℤ
   pub deinterleaved : IsInterleaved soft (map coded_soft_bits bursts)
-  pub compared : AreComparedWords soft c
+  pub compared : AreComparedWords soft compared_words

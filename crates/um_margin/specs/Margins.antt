@@ -7,13 +7,13 @@ use Rattle.um_margin.specs.Compared.{ComparedWords, AreComparedWords, AreCompare
 use Rattle.um_margin.specs.Texts.{block_margin_text, access_margin_text, sync_margin_text}
 
 -- the answer of `margin` to bursts is a line that compares their two most likely words
-abbrev pub margin_answers : BurstAnswers
-margin_answers = record {
+abbrev pub margin_burst_answers : BurstAnswers
+margin_burst_answers = record {
   block = λ bursts answer. (c : ComparedWords) × AreComparedBlockWords bursts c × (answer ≡ block_margin_text c);
   access =
       λ bsic burst answer. (c : ComparedWords) × AreComparedWords (access_soft_bits burst) c × (answer ≡ access_margin_text bsic c);
   sync = λ burst answer. (c : ComparedWords) × AreComparedWords (sync_soft_bits burst) c × (answer ≡ sync_margin_text c);
 }
 
-abbrev pub margin_rules : Rules (List (List ℤ))
-margin_rules = burst_rules margin_answers
+abbrev pub margin_command_rules : Rules (List (List ℤ))
+margin_command_rules = burst_rules margin_burst_answers

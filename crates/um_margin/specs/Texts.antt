@@ -7,15 +7,15 @@ use Rattle.um_bursts.specs.um_lines.Fields.{bit_digits}
 use Rattle.um_margin.specs.Compared.{ComparedWords}
 
 -- the part ` margin G metric M` of an output line, with the margin and the metric in decimal
-abbrev pub margin_and_metric_text : ℤ → ℤ → List ℕ
+abbrev pub margin_and_metric_text : (margin metric : ℤ) → List ℕ
 margin_and_metric_text margin metric = codes " margin " ++ signed_decimal margin ++ codes " metric " ++ signed_decimal metric
 
 -- a block's word in hexadecimal: its 184 data bits, a separator, and its 40 CRC bits
-abbrev pub hex_word_text : List ℕ → List ℕ → List ℕ
+abbrev pub hex_word_text : (word separator : List ℕ) → List ℕ
 hex_word_text u between = encode_lower (octets_of (take 184 u)) ++ between ++ encode_lower (octets_of (take 40 (drop 184 u)))
 
 -- a word written in the digits `0` and `1`: the given number of data bits, a separator, then the given number of CRC bits
-abbrev pub digit_word_text : List ℕ → ℕ → ℕ → List ℕ → List ℕ
+abbrev pub digit_word_text : (word : List ℕ) (data_bit_count crc_bit_count : ℕ) (separator : List ℕ) → List ℕ
 digit_word_text u many checks between = bit_digits (take many u) ++ between ++ bit_digits (take checks (drop many u))
 
 -- the line `block margin G metric M data HEX46 check HEX10 next HEX46 HEX10`
@@ -25,7 +25,7 @@ block_margin_text c =
     ++ codes " next " ++ hex_word_text c.next (codes " ") ++ codes "\n"
 
 -- the line `access BSIC6 margin G metric M data DIGITS8 check DIGITS6 next DIGITS8 DIGITS6`
-abbrev pub access_margin_text : List ℕ → ComparedWords → List ℕ
+abbrev pub access_margin_text : (bsic : List ℕ) (words : ComparedWords) → List ℕ
 access_margin_text bsic c =
     codes "access " ++ bit_digits bsic ++ margin_and_metric_text c.margin c.metric ++ codes " data " ++ digit_word_text c.best 8 6
     (codes " check ")

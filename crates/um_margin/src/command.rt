@@ -4,9 +4,9 @@ ghost use Rattle.std.specs.List.{All};
 ghost use Rattle.um_block.specs.bit_blocks.SoftValues.{AllSoftBits};
 ghost use Rattle.um_block.specs.Received.{access_soft_bits, sync_soft_bits};
 ghost use Rattle.um_margin.specs.Compared.{AreComparedWords, AreComparedBlockWords};
-ghost use Rattle.um_margin.specs.Margins.{margin_answers};
+ghost use Rattle.um_margin.specs.Margins.{margin_burst_answers};
 
-use crate::comparison::{Comparison, compare_words};
+use crate::comparison::{WordComparison, compare_words};
 use crate::lines::{write_access_line, write_block_line, write_sync_line};
 use um_block::{
     AccessView, BURST_BITS, Bits, ENCODER_INPUT_BITS, SyncView, deinterleave_block,
@@ -19,7 +19,7 @@ use um_bursts::{Reports, Text};
 pub struct Margins {}
 
 impl Reports for Margins {
-    ghost answers = { margin_answers };
+    ghost answers = { margin_burst_answers };
 
     fn block(&self, out: &mut Text, bursts: &[[i8; BURST_BITS]; 4]) {
         write_block_line(out, &compare_block(bursts));
@@ -34,21 +34,21 @@ impl Reports for Margins {
     }
 }
 
-fn compare_block(bursts: &[[i8; BURST_BITS]; 4]) -> Comparison<ENCODER_INPUT_BITS>
+fn compare_block(bursts: &[[i8; BURST_BITS]; 4]) -> WordComparison<ENCODER_INPUT_BITS>
     requires { All AllSoftBits bursts.now }
     ensures { AreComparedBlockWords bursts.now result }
 {
     compare_words(&deinterleave_block(bursts))
 }
 
-fn compare_access(burst: &[i8; 88]) -> Comparison<18>
+fn compare_access(burst: &[i8; 88]) -> WordComparison<18>
     requires { AllSoftBits burst.now }
     ensures { AreComparedWords (access_soft_bits burst.now) result }
 {
     compare_words(AccessView::new(burst).body())
 }
 
-fn compare_sync(burst: &[i8; BURST_BITS]) -> Comparison<39>
+fn compare_sync(burst: &[i8; BURST_BITS]) -> WordComparison<39>
     requires { AllSoftBits burst.now }
     ensures { AreComparedWords (sync_soft_bits burst.now) result }
 {

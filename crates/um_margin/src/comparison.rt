@@ -1,4 +1,4 @@
-//! Compares the two most likely words (information lists) for soft bits.
+//! Compares the two most likely encoder inputs for soft bits.
 ghost use Rattle.std.specs.Prelude.{◌≡◌, ◌*◌, ◌≤◌, length};
 ghost use Rattle.um_block.specs.bit_blocks.SoftValues.{AllSoftBits};
 ghost use Rattle.um_margin.specs.Compared.{AreComparedWords};
@@ -9,15 +9,15 @@ use um_block::{Bits, ENCODER_INPUT_BITS};
 
 /// The two most likely words, the difference between their path metrics, and the path metric of the most likely word.
 #[derive(Drop, Debug)]
-pub(crate) struct Comparison<const N: usize> {
+pub(crate) struct WordComparison<const N: usize> {
     pub(crate) best: Bits<N>,
     pub(crate) next: Bits<N>,
     pub(crate) margin: i32,
     pub(crate) metric: i32,
 }
 
-// In contracts, a `Comparison` is a `ComparedWords` record, for every `N`.
-impl<const N: usize> Model for Comparison<N> {
+// In contracts, a `WordComparison` is a `ComparedWords` record, for every `N`.
+impl<const N: usize> Model for WordComparison<N> {
     ghost use Rattle.um_margin.specs.Compared.{ComparedWords};
 
     ghost Value = { ComparedWords };
@@ -26,7 +26,7 @@ impl<const N: usize> Model for Comparison<N> {
 }
 
 /// Finds the two most likely words of `N` bits; `soft` holds two soft bits for each bit of a word.
-pub(crate) fn compare_words<const N: usize>(soft: &[i8]) -> Comparison<N>
+pub(crate) fn compare_words<const N: usize>(soft: &[i8]) -> WordComparison<N>
     requires count { length soft.now ≡ 2 * N }
     requires at_least { 5 ≤ N }
     requires at_most { N ≤ ENCODER_INPUT_BITS }
@@ -37,7 +37,7 @@ pub(crate) fn compare_words<const N: usize>(soft: &[i8]) -> Comparison<N>
     let mut next = [0; N];
     let metric = decode(soft, &mut best);
     let ahead = margin(soft, &mut best, &mut next);
-    Comparison {
+    WordComparison {
         best: Bits::from_array(best),
         next: Bits::from_array(next),
         margin: ahead,

@@ -11,15 +11,15 @@ ghost use Rattle.um_block.specs.declared.received.ReceivedAccess.{ReceivedAccess
 ghost use Rattle.um_block.specs.declared.received.ReceivedSync.{ReceivedSync};
 ghost use Rattle.um_bursts.specs.um_driver.Laws.{HasOneOutput};
 ghost use Rattle.um_margin.specs.Compared.{ComparedWords, AreComparedWords, AreComparedBlockWords};
-ghost use Rattle.um_margin.specs.Margins.{margin_rules};
+ghost use Rattle.um_margin.specs.Margins.{margin_command_rules};
 
 /// Law: every input has exactly one output and one exit status.
-pub fn law_margin_output_is_unique()
-    ensures { HasOneOutput margin_rules [] }
+pub fn law_margin_command_output_is_unique()
+    ensures { HasOneOutput margin_command_rules [] }
 {}
 
 /// Law: `replay` reports the same most likely word and path metric for the same bursts.
-pub fn law_replay_reports_best_word()
+pub fn law_replay_reports_most_likely_word()
     ensures block { (bursts : List (List ℤ)) (r : Received) (c : ComparedWords) → IsReceivedBlock bursts r →
         AreComparedBlockWords bursts c → (c.best ≡ r.u) × (c.metric ≡ r.metric) }
     ensures access { (burst : List ℤ) (bsic : List ℕ) (r : ReceivedAccess) (c : ComparedWords) → IsReceivedAccess burst bsic r →
@@ -30,7 +30,7 @@ pub fn law_replay_reports_best_word()
 
 /// Law: the margin is 0 if and only if another word has the same path metric as the most likely word. For hard bits of which `e`
 /// are wrong (at most three), the margin is at least 254 * (7 - 2 * e), which is 1,778 if none is wrong.
-pub fn law_margin_ties_and_bound()
+pub fn law_margin_zero_on_tie_and_lower_bound()
     ensures tie { (soft : List ℤ) (c : ComparedWords) → AreComparedWords soft c → (c.margin ≡ pos 0) ↔ HasTiedWord soft c.best }
     ensures hard { (soft : List ℤ) (c : ComparedWords) (e : ℕ) → AreComparedWords soft c →
         All (λ value. unsigned_abs value ≡ 127) soft → count_wrong_bits soft (encoding c.best) ≡ e → e ≤ 3 →

@@ -8,5 +8,6 @@ mod lines;
 
 pub use command::Margins;
 pub use laws::{
-    law_margin_output_is_unique, law_margin_ties_and_bound, law_replay_reports_best_word,
+    law_margin_command_output_is_unique, law_margin_zero_on_tie_and_lower_bound,
+    law_replay_reports_most_likely_word,
 };

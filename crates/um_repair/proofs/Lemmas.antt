@@ -1,14 +1,21 @@
 -- The command `repair` has one output for every input.
-use Rattle.fire_repair.proofs.Lemmas.{one_answer, some_answer}
-use Rattle.std.proofs.Common.{List, [], ap, arith, drop, length-append, length, refl, sym, ℕ, ◌++◌, ◌∙◌, ◌≡◌}
-use Rattle.std.proofs.lemmas.List.{append-nil, drop_all, drop_at, take_at}
-use Rattle.um_driver.{proofs.Outputs.{stateless_has_one_output, stateless_is_determined}, specs.{Laws.HasOneOutput, Rules.IsDeterministic}}
-use Rattle.um_lines.{proofs.{FormLaws.line_is, bit_blocks.Lemmas.{AllBits-append, AllBits-bits_of, length-bits_of}}, specs.Forms.LineMeans}
-use Rattle.um_lines.specs.{Forms.no_order_fault, Meanings.HasOneMeaningOrFault, RepairForms.repair_forms, bit_blocks.Bits.AllBits}
-use Rattle.um_lines.specs.bit_blocks.Octets.{bits_of}
-use Rattle.um_repair.specs.RepairLines.{RepairLineMeans, bits_of_data_and_crc, repair_line_fault, repair_line_of_meaning}
-use Rattle.um_repair.specs.{RepairRules.{IsRepairAnswer, repair_rules}, Texts.answer_text, declared.parsing.RepairLine.TheVariants.Skip}
-use Rattle.um_repair.specs.declared.parsing.RepairLine.{TheVariants.Word, RepairLine}
+use Rattle.{
+  fire_repair.proofs.Lemmas.{one_answer, some_answer},
+  std.proofs.Common.{List, [], ap, arith, drop, length-append, length, refl, sym, ℕ, ◌++◌, ◌∙◌, ◌≡◌},
+  std.proofs.lemmas.List.{append-nil, drop_all, drop_at, take_at},
+  um_driver.{proofs.Outputs.{stateless_has_one_output, stateless_is_determined}, specs.{Laws.HasOneOutput, Rules.IsDeterministic}},
+  um_lines.{
+    proofs.{FormLaws.line_is, bit_blocks.Lemmas.{AllBits-append, AllBits-bits_of, length-bits_of}},
+    specs.{Forms.{LineMeans, no_order_fault}, Meanings.HasOneMeaningOrFault, RepairForms.repair_line_forms, bit_blocks.Bits.AllBits},
+    specs.bit_blocks.Octets.bits_of,
+  },
+  um_repair.specs.{
+    RepairLines.{RepairLineMeans, bits_of_data_and_crc, repair_line_fault, repair_line_of_meaning},
+    RepairRules.{IsRepairCommandAnswer, repair_command_rules},
+    Texts.answer_text,
+    declared.parsing.RepairLine.{TheVariants.{Skip, Word}, RepairLine},
+  },
+}
 use borrow.Rule.Slice.PartMut.{put_mid}
 use Rattle.um_lines.proofs.FormLaws as Laws
 
@@ -16,8 +23,8 @@ use Rattle.um_lines.proofs.FormLaws as Laws
 
 pub one_meaning : (line : List ℕ) → HasOneMeaningOrFault (repair_line_fault line) (RepairLineMeans line)
 one_meaning line =
-    Laws.one_made repair_line_of_meaning (LineMeans repair_forms no_order_fault line) (repair_line_fault line)
-    (Laws.one_meaning repair_forms no_order_fault line refl)
+    Laws.one_made repair_line_of_meaning (LineMeans repair_line_forms no_order_fault line) (repair_line_fault line)
+    (Laws.one_meaning repair_line_forms no_order_fault line refl)
 
 -- the line means 224 bits, or nothing
 abbrev pub AreWordBits : RepairLine → Type 0
@@ -33,7 +40,7 @@ bits_of_octets octets check many few = (
 
 are_word_bits : (line : List ℕ) (meaning : RepairLine) → RepairLineMeans line meaning → AreWordBits meaning
 are_word_bits line meaning means =
-    line_is repair_forms no_order_fault repair_line_of_meaning AreWordBits tt (
+    line_is repair_line_forms no_order_fault repair_line_of_meaning AreWordBits tt (
       λ count values here (octets, rest, is, known, (check, rest', is', known', none)).
           rw (is, is', none) (bits_of_octets octets check known.0 known'.0),
       tt,
@@ -50,21 +57,21 @@ written_word x y zeros ex ez =
 -- ## RepairAnswers: The command `repair` has exactly one output for every input, since 224 received bits have exactly one answer.
 
 -- a line with a given meaning has at most one answer
-same_answer : (m : RepairLine) (y y' : List ℕ) → IsRepairAnswer m y → IsRepairAnswer m y' → y ≡ y'
+same_answer : (m : RepairLine) (y y' : List ℕ) → IsRepairCommandAnswer m y → IsRepairCommandAnswer m y' → y ≡ y'
 same_answer Skip y y' a a' = a ∙ sym a'
 same_answer (Word w) y y' a a' = a.2 ∙ ap answer_text (one_answer w a.0 a'.0 a.1 a'.1) ∙ sym a'.2
 
-pub repair_is_determined : IsDeterministic repair_rules
-repair_is_determined = stateless_is_determined repair_line_fault RepairLineMeans IsRepairAnswer one_meaning same_answer
+pub repair_is_determined : IsDeterministic repair_command_rules
+repair_is_determined = stateless_is_determined repair_line_fault RepairLineMeans IsRepairCommandAnswer one_meaning same_answer
 
 -- every line that has a meaning has an answer
-some_repair_answer : (line : List ℕ) (m : RepairLine) → RepairLineMeans line m → (answer : List ℕ) × IsRepairAnswer m answer
+some_repair_answer : (line : List ℕ) (m : RepairLine) → RepairLineMeans line m → (answer : List ℕ) × IsRepairCommandAnswer m answer
 some_repair_answer line Skip means = ([], refl)
 some_repair_answer line (Word w) means =
     let known = are_word_bits line (Word w) means in
     let found = some_answer w known.0 known.1 in
     (answer_text found.0, (found.0, found.1, refl))
 
-pub repair_has_one_output : HasOneOutput repair_rules tt
+pub repair_has_one_output : HasOneOutput repair_command_rules tt
 repair_has_one_output =
-    stateless_has_one_output repair_line_fault RepairLineMeans IsRepairAnswer one_meaning same_answer some_repair_answer
+    stateless_has_one_output repair_line_fault RepairLineMeans IsRepairCommandAnswer one_meaning same_answer some_repair_answer

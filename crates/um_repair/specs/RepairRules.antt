@@ -9,14 +9,14 @@ use Rattle.um_repair.specs.RepairLines.{repair_line_fault, RepairLineMeans}
 use Rattle.um_repair.specs.Texts.{answer_text}
 
 -- the answer to a word of 224 bits is the line that describes its repair; a skipped line has no answer
-abbrev pub IsRepairAnswer : RepairLine → List ℕ → Type 0
-IsRepairAnswer Skip answer = answer ≡ []
-IsRepairAnswer (Word w) answer = (a : RepairAnswer) × IsRepairResult w a × (answer ≡ answer_text a)
+abbrev pub IsRepairCommandAnswer : (line : RepairLine) (answer : List ℕ) → Type 0
+IsRepairCommandAnswer Skip answer = answer ≡ []
+IsRepairCommandAnswer (Word w) answer = (a : RepairAnswer) × IsRepairResult w a × (answer ≡ answer_text a)
 
 -- the `repair` command may answer the line with `answer`
-abbrev pub AnswersRepairLine : List ℕ → List ℕ → Type 0
-AnswersRepairLine line answer = (meaning : RepairLine) × RepairLineMeans line meaning × IsRepairAnswer meaning answer
+abbrev pub IsAnswerToRepairLine : (line answer : List ℕ) → Type 0
+IsAnswerToRepairLine line answer = (meaning : RepairLine) × RepairLineMeans line meaning × IsRepairCommandAnswer meaning answer
 
 -- the rules of `repair`, which keeps no state, so its input may end after any line
-abbrev pub repair_rules : Rules (Unit {0})
-repair_rules = stateless repair_line_fault AnswersRepairLine
+abbrev pub repair_command_rules : Rules (Unit {0})
+repair_command_rules = stateless repair_line_fault IsAnswerToRepairLine

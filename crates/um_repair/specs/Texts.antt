@@ -7,7 +7,7 @@ use Rattle.fire_repair.specs.declared.repairs.RepairAnswer.{RepairAnswer}
 use Rattle.fire_repair.specs.declared.repairs.RepairAnswer.TheVariants.{Holds, Repaired, NoRepair}
 
 -- the line `repaired first P span S data HEX46 check HEX10`
-abbrev pub repaired_text : List ℕ → ℕ → ℕ → List ℕ
+abbrev pub repaired_text : (word : List ℕ) (first span : ℕ) → List ℕ
 repaired_text word first span =
     codes "repaired first " ++ decimal first ++ codes " span " ++ decimal span
     ++ codes " data " ++ encode_lower (octets_of (take 184 word))

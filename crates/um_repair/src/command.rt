@@ -1,7 +1,7 @@
 //! Implements the `repair` command as an `Answer` for the driver.
 ghost use Rattle.std.specs.Prelude.{◌≡◌, ◌<◌, [], Some, None, length, MatchResult};
 ghost use Rattle.um_repair.specs.RepairLines.{repair_line_fault};
-ghost use Rattle.um_repair.specs.RepairRules.{AnswersRepairLine};
+ghost use Rattle.um_repair.specs.RepairRules.{IsAnswerToRepairLine};
 
 use crate::lines::write_answer_line;
 use crate::parsing::{RepairLine, parse_repair};
@@ -16,12 +16,12 @@ pub struct Repair;
 impl Answer for Repair {
     ghost fault = { repair_line_fault };
 
-    ghost answers = { AnswersRepairLine };
+    ghost answers = { IsAnswerToRepairLine };
 
     fn answer(&self, line: &[u8], out: &mut Text) -> Result<(), LineFault>
         requires empty { out.old ≡ [] }
         ensures answered { MatchResult result
-            (λ _. (repair_line_fault line.now ≡ None) × AnswersRepairLine line.now out.new)
+            (λ _. (repair_line_fault line.now ≡ None) × IsAnswerToRepairLine line.now out.new)
             (λ reason. (repair_line_fault line.now ≡ Some reason) × (out.new ≡ [])) }
         ensures size { length out.new < 2000 }
     {

@@ -6,12 +6,12 @@ use fire_repair::RepairAnswer;
 use um_lines::{BLOCK_BITS, BLOCK_OCTETS, Bits, Text, octets_from_bits_at};
 
 /// Writes the line `holds`, `none`, or `repaired first P span S data HEX46 check HEX10`.
-pub(crate) fn write_answer_line(out: &mut Text, answer: &RepairAnswer)
+pub(crate) fn write_answer_line(out: &mut Text, repair_answer: &RepairAnswer)
     requires { out.old ≡ [] }
-    ensures line { out.new ≡ answer_text answer.now }
+    ensures line { out.new ≡ answer_text repair_answer.now }
     ensures size { length out.new < 2000 }
 {
-    match answer {
+    match repair_answer {
         RepairAnswer::Holds => out.push(b"holds\n"),
         RepairAnswer::NoRepair => out.push(b"none\n"),
         RepairAnswer::Repaired { word, first, span } => {

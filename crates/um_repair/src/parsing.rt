@@ -8,7 +8,7 @@ ghost use Rattle.um_repair.specs.RepairLines.{repair_line_fault, RepairLineMeans
 
 use um_lines::{
     BLOCK_BITS, BLOCK_OCTETS, Bits, LINE_LIMIT, LineFault, are_hex_digits, first_word, from_octets,
-    is_skipped, octets_of, parse_two_words,
+    is_skipped_line, octets_of, parse_two_words,
 };
 
 /// The meaning of a line of `repair`.
@@ -30,7 +30,7 @@ pub fn parse_repair(line: &[u8]) -> Result<RepairLine, LineFault>
     if line.len() > LINE_LIMIT {
         return Err(LineFault::Long);
     }
-    if is_skipped(line) {
+    if is_skipped_line(line) {
         return Ok(RepairLine::Skip);
     }
     parse_words(line)
@@ -43,15 +43,15 @@ fn parse_words(line: &[u8]) -> Result<RepairLine, LineFault>
         return Err(LineFault::Word);
     };
     match command {
-        b"word" => parse_word(rest),
+        b"word" => parse_crc_word_line(rest),
         _ => Err(LineFault::Word),
     }
 }
 
-fn parse_word(rest: &[u8]) -> Result<RepairLine, LineFault>
-    ensures { result ≡ repair_parse_result (codes "word" ∷ words rest.now) }
+fn parse_crc_word_line(operands: &[u8]) -> Result<RepairLine, LineFault>
+    ensures { result ≡ repair_parse_result (codes "word" ∷ words operands.now) }
 {
-    let (octets, check) = parse_two_words(rest)?;
+    let (octets, check) = parse_two_words(operands)?;
     if !are_hex_digits(octets) || !are_hex_digits(check) {
         return Err(LineFault::Digits);
     }

@@ -1,26 +1,35 @@
 -- The lines of an answer: their texts, and the octets in them.
-use Rattle.std.proofs.Common.{Bool, Fits, List, [], append-nil, append_assoc, ap, arith, codes, false, get_or, if◌then◌else◌, inl}
-use Rattle.std.proofs.Common.{inr, length-append, length, nat_abs, nat_le, negsuc, pos, refl, suc, sym, take, true, w8, ℕ, ℤ, ◌%◌}
-use Rattle.std.proofs.Common.{◌*◌, ◌++◌, ◌+◌, ◌-◌, ◌/◌, ◌<◌, ◌==◌, ◌^◌, ◌∙◌, ◌∷◌, ◌≡◌}
-use Rattle.std.proofs.{Common.{◌≢◌, ◌≤◌}, lemmas.{Bool.{and_parts, cases_lt, le-leb, leb-true, ne_eqb}, Fmt.digits_decimal}}
-use Rattle.std.proofs.lemmas.{Fmt.digits_value-decimal, List.{Elements.{All-append, All-cons, All-nil}, Splits.join_with_byte-slice_split}}
-use Rattle.std.proofs.lemmas.{List.Splits.slice_split_at, Str.Parse.{IsNumeralModel, numerals_by_value, tells_all_ascii_digits}}
-use Rattle.std.specs.{Fmt.{decimal, signed_decimal}, List.{join_with_byte, list_all, list_any, slice_split}, Str.Parse.digits_value}
-use Rattle.std.specs.Str.{all_ascii_digits, bytes_eq}
-use Rattle.um_lines.{proofs.{FormLaws.hex_digits_decode, Texts.words-join}, specs.{Fields.octets_from_hex, Hex.encode_lower}}
-use Rattle.um_lines.specs.{Hex.is_hex_digit, Spelled.octets_word, Words.{IsNotSpace, words}}
-use Rattle.um_link.specs.{bit_blocks.Octets.{bits_of, octets_of}, lapdm_window.{Ends.{Mobile, Network}, declared.Notice.Notice}}
-use Rattle.um_link.specs.lapdm_window.declared.Reason.{TheVariants.{Contention, Failed, Refused, Released}, Reason}
-use Rattle.um_link.specs.{lapdm_window.declared.Sapi.{TheVariants.{Three, Zero}, Sapi}, um_air.Sessions.AreOctets}
-use Rattle.um_script.specs.AnswerLines.{All, AnswerLine, Drops, LineIsInRange, LinesAreInRange, NoticeIsInRange, No, ReceptionIsInRange}
-use Rattle.um_script.specs.AnswerLines.{ReceptionQuality, Reports, Sends, Takes, answer_line_text, answer_lines, answer_text, answer_words}
-use Rattle.um_script.specs.{AnswerLines.{lines_text, notice_words, reception_words, spaced_words}, AnswerWords.actor_word}
-use Rattle.um_script.specs.AnswerWords.{call_refusal_word, closing_reason_word, sapi_suffix}
+use Rattle.{
+  std.{
+    proofs.Common.{Bool, Fits, List, [], append-nil, append_assoc, ap, arith, codes, false, get_or, if◌then◌else◌, length-append},
+    proofs.Common.{length, nat_abs, nat_le, negsuc, pos, refl, suc, sym, take, true, w8, ℕ, ℤ, ◌%◌, ◌*◌, ◌++◌, ◌+◌},
+    proofs.Common.{◌-◌, ◌/◌, ◌<◌, ◌==◌, ◌^◌, ◌∙◌, ◌∷◌, ◌≡◌, ◌≢◌, ◌≤◌},
+    proofs.lemmas.{Bool.{and_parts, leb-true, ne_eqb, Decides.nat_tests}, Fmt.{digits_decimal, digits_value-decimal}},
+    proofs.lemmas.List.{Elements.{All-append, All-cons, All-nil, All-weaker}, Splits.{join_with_byte-slice_split, slice_split_at}},
+    proofs.lemmas.Str.Parse.{IsNumeralModel, numerals_by_value, tells_all_ascii_digits},
+    specs.{Fmt.{decimal, signed_decimal}, List.{join_with_byte, list_all, list_any, slice_split}, Str.Parse.digits_value},
+    specs.{Str.{all_ascii_digits, bytes_eq}, Char.is_ascii_digit},
+  },
+  um_lines.{
+    proofs.{FormLaws.hex_digits_decode, Texts.words-join},
+    specs.{Fields.octets_from_hex, Hex.{encode_lower, is_hex_digit}, Spelled.octets_word, Words.{IsNotSpace, words}},
+  },
+  um_link.specs.{
+    bit_blocks.Octets.{bits_of, octets_of},
+    lapdm_window.{Ends.{Mobile, Network}, declared.{Notice.Notice, Reason.{TheVariants.{Contention, Failed, Refused, Released}, Reason}}},
+    lapdm_window.declared.Sapi.{TheVariants.{Three, Zero}, Sapi},
+    um_air.Sessions.AreOctets,
+  },
+  um_script.specs.{
+    AnswerLines.{FinalOk, AnswerLine, Drops, LineIsInRange, LinesAreInRange, NoticeIsInRange, No, ReceptionIsInRange, ReceptionQuality},
+    AnswerLines.{Reports, Sends, Takes, answer_line_text, answer_words, lines_text, notice_words, reception_words, spaced_words},
+    AnswerWords.{actor_word, call_refusal_word, closing_reason_word, sapi_suffix},
+  },
+}
 use Rattle.std.specs.List as L
 use Rattle.um_link.specs.lapdm_window.declared.Notice.TheVariants as N
 use Rattle.um_link.specs.lapdm_window.declared.Refused.TheVariants as Q
 use Rattle.um_link.specs.lapdm_link.Events as E
-use Rattle.um_link.specs.um_air.Air as A
 
 -- ## AnswerLaws: Different answer lines have different texts. No word contains a line feed or a space, so a text can be split into its
 -- lines and words, and each line can be read back from its words.
@@ -60,10 +69,7 @@ abbrev is_plain : List ℕ → Bool
 is_plain word = list_all (λ octet. nat_le 33 octet) word
 
 hex_above : (digit : ℕ) → is_hex_digit digit ≡ true → nat_le 33 digit ≡ true
-hex_above digit is = elim (cases_lt digit 33) [
-  | inl small ↦ absurd (grind arith)
-  | inr large ↦ le-leb 33 digit large
-]
+hex_above digit is = grind (arith, nat_tests)
 
 hex_plain : (word : List ℕ) → list_all is_hex_digit word ≡ true → is_plain word ≡ true
 hex_plain [] digits = refl
@@ -71,15 +77,13 @@ hex_plain (digit ∷ word) digits =
     let parts = and_parts (is_hex_digit digit) (list_all is_hex_digit word) digits in
     rw (hex_above digit parts.0, hex_plain word parts.1) refl
 
+digit_above : (digit : ℕ) → is_ascii_digit digit ≡ true → nat_le 33 digit ≡ true
+digit_above digit is = grind (arith, nat_tests)
+
 digits_plain : (word : List ℕ) → all_ascii_digits word ≡ true → is_plain word ≡ true
 digits_plain [] digits = refl
 digits_plain (digit ∷ word) digits =
-    let parts = and_parts _ (all_ascii_digits word) digits in
-    let above : nat_le 33 digit ≡ true = elim (cases_lt digit 33) [
-      | inl small ↦ (let is = parts.0 in absurd (grind arith))
-      | inr large ↦ le-leb 33 digit large
-    ] in
-    rw (above, digits_plain word parts.1) refl
+    let parts = and_parts _ (all_ascii_digits word) digits in rw (digit_above digit parts.0, digits_plain word parts.1) refl
 
 own : IsNumeralModel (λ ds. all_ascii_digits ds ≡ true) (digits_value 10)
 own = numerals_by_value _ tells_all_ascii_digits
@@ -100,35 +104,20 @@ signed_plain (negsuc n) fits = number_plain (suc n) (omega arith)
 
 who_plain : (who : E.Who) → is_plain (actor_word who) ≡ true
 who_plain (E.BySide Mobile) = refl
-who_plain (E.BySide Network) = refl
-who_plain E.OtherMobile = refl
-who_plain E.Nobody = refl
+who_plain who = refl
 
-name_plain : (who : E.Who) (sapi : Sapi) → is_plain (actor_word who ++ sapi_suffix sapi) ≡ true
-name_plain (E.BySide Mobile) Zero = refl
-name_plain (E.BySide Mobile) Three = refl
-name_plain (E.BySide Network) Zero = refl
-name_plain (E.BySide Network) Three = refl
-name_plain E.OtherMobile Zero = refl
-name_plain E.OtherMobile Three = refl
-name_plain E.Nobody Zero = refl
-name_plain E.Nobody Three = refl
+name_plain : (sapi : Sapi) (who : E.Who) → is_plain (actor_word who ++ sapi_suffix sapi) ≡ true
+name_plain Zero (E.BySide Mobile) = refl
+name_plain Three (E.BySide Mobile) = refl
+name_plain sapi who = refl
 
 why_plain : (why : E.EventRefusal) → is_plain (call_refusal_word why) ≡ true
-why_plain E.Nothing = refl
-why_plain E.AirFull = refl
 why_plain (E.ByEndpoint Q.NotIdle) = refl
-why_plain (E.ByEndpoint Q.NotOpen) = refl
-why_plain (E.ByEndpoint Q.NotRunning) = refl
-why_plain (E.ByEndpoint Q.Empty) = refl
-why_plain (E.ByEndpoint Q.TooLong) = refl
-why_plain (E.ByEndpoint Q.Full) = refl
+why_plain why = refl
 
 closing_plain : (reason : Reason) → is_plain (closing_reason_word reason) ≡ true
 closing_plain Contention = refl
-closing_plain Failed = refl
-closing_plain Refused = refl
-closing_plain Released = refl
+closing_plain reason = refl
 
 are_plain : List (List ℕ) → Bool
 are_plain ws = list_all is_plain ws
@@ -156,9 +145,9 @@ line_plain (Drops who h octets check) fits =
     let back : List (List ℕ) = codes "data" ∷ encode_lower octets ∷ codes "check" ∷ encode_lower check ∷ [] in
     let plain : are_plain back ≡ true = rw (octets_plain octets fits.1, octets_plain check fits.2) refl in
     rw (who_plain who, reception_plain h back fits.0 plain) refl
-line_plain (Reports who sapi notice) fits = rw (name_plain who sapi, notice_plain notice fits) refl
+line_plain (Reports who sapi notice) fits = rw (name_plain sapi who, notice_plain notice fits) refl
 line_plain (Sends who octets) fits = rw (who_plain who, octets_plain octets fits) refl
-line_plain All fits = refl
+line_plain FinalOk fits = refl
 
 -- ---- a text determines its lines
 
@@ -180,15 +169,9 @@ no_spaces (w ∷ ws) plain =
 abbrev Uncut : List ℕ → Type 0
 Uncut text = L.All (λ octet. (octet == 10) ≡ false) text
 
-uncut_append : (xs ys : List ℕ) → Uncut xs → Uncut ys → Uncut (xs ++ ys)
-uncut_append xs ys h k = All-append (λ octet. (octet == 10) ≡ false) xs ys h k
-
 uncut_word : (word : List ℕ) → is_plain word ≡ true → Uncut word
-uncut_word [] plain = All-nil (λ octet. (octet == 10) ≡ false)
-uncut_word (octet ∷ word) plain =
-    let parts = and_parts (nat_le 33 octet) (is_plain word) plain in
-    let large : 33 ≤ octet = leb-true 33 octet parts.0 in
-    All-cons (λ o. (o == 10) ≡ false) octet word (ne_eqb octet 10 (λ same. omega arith)) (uncut_word word parts.1)
+uncut_word word plain =
+    All-weaker (λ o. o ≢ 10) (λ o. (o == 10) ≡ false) (λ o other. ne_eqb o 10 other) word (plain_all word 10 (omega arith) plain)
 
 uncut_join : (ws : List (List ℕ)) → are_plain ws ≡ true → Uncut (join_with_byte 32 ws)
 unfolding are_plain
@@ -196,7 +179,7 @@ uncut_join [] plain = All-nil (λ octet. (octet == 10) ≡ false)
 uncut_join (w ∷ []) plain = uncut_word w (and_parts (is_plain w) true plain).0
 uncut_join (w ∷ v ∷ ws) plain =
     let parts = and_parts (is_plain w) (are_plain (v ∷ ws)) plain in
-    uncut_append w (32 ∷ join_with_byte 32 (v ∷ ws)) (uncut_word w parts.0)
+    All-append (λ octet. (octet == 10) ≡ false) w (32 ∷ join_with_byte 32 (v ∷ ws)) (uncut_word w parts.0)
     (All-cons (λ octet. (octet == 10) ≡ false) 32 (join_with_byte 32 (v ∷ ws)) refl (uncut_join (v ∷ ws) parts.1))
 
 -- splitting a text at its line feeds gives its first line
@@ -215,11 +198,7 @@ first_line t u r s h k e =
 
 some_words : (line : AnswerLine) → answer_words line ≢ []
 some_words (No why) e = absurd cc
-some_words (Takes who octets h) e = absurd cc
-some_words (Drops who h octets check) e = absurd cc
-some_words (Reports who sapi notice) e = absurd cc
-some_words (Sends who octets) e = absurd cc
-some_words All e = absurd cc
+some_words line e = absurd cc
 
 same_words : (l m : AnswerLine) → LineIsInRange l → LineIsInRange m →
     join_with_byte 32 (answer_words l) ≡ join_with_byte 32 (answer_words m) → answer_words l ≡ answer_words m
@@ -292,56 +271,36 @@ line_read (a ∷ b ∷ c ∷ d ∷ e ∷ f ∷ g ∷ h ∷ i ∷ []) = Takes (wh
 line_read (a ∷ b ∷ c ∷ d ∷ e ∷ f ∷ g ∷ h ∷ i ∷ j ∷ k ∷ l ∷ []) =
     Drops (who_read a) (reception_read d f h) (octets_from_hex j)
     (octets_from_hex l)
-line_read ws = All
+line_read ws = FinalOk
 
 who_back : (who : E.Who) → who_read (actor_word who) ≡ who
 unfolding who_read
 who_back (E.BySide Mobile) = refl
-who_back (E.BySide Network) = refl
-who_back E.OtherMobile = refl
-who_back E.Nobody = refl
+who_back who = refl
 
-name_back : (who : E.Who) (sapi : Sapi) →
+name_back : (sapi : Sapi) (who : E.Who) →
     (who_read (actor_word who ++ sapi_suffix sapi) ≡ who) × (sapi_read (actor_word who ++ sapi_suffix sapi) ≡ sapi)
 unfolding who_read sapi_read
-name_back (E.BySide Mobile) Zero = (refl, refl)
-name_back (E.BySide Mobile) Three = (refl, refl)
-name_back (E.BySide Network) Zero = (refl, refl)
-name_back (E.BySide Network) Three = (refl, refl)
-name_back E.OtherMobile Zero = (refl, refl)
-name_back E.OtherMobile Three = (refl, refl)
-name_back E.Nobody Zero = (refl, refl)
-name_back E.Nobody Three = (refl, refl)
+name_back Zero (E.BySide Mobile) = (refl, refl)
+name_back Three (E.BySide Mobile) = (refl, refl)
+name_back sapi who = (refl, refl)
 
-oversize_back : (who : E.Who) (sapi : Sapi) → two_read (actor_word who ++ sapi_suffix sapi) (codes "oversize") ≡
-    Reports who sapi N.Oversize
+oversize_back : (sapi : Sapi) (who : E.Who) →
+    two_read (actor_word who ++ sapi_suffix sapi) (codes "oversize") ≡ Reports who sapi N.Oversize
 unfolding two_read who_read sapi_read
-oversize_back (E.BySide Mobile) Zero = refl
-oversize_back (E.BySide Mobile) Three = refl
-oversize_back (E.BySide Network) Zero = refl
-oversize_back (E.BySide Network) Three = refl
-oversize_back E.OtherMobile Zero = refl
-oversize_back E.OtherMobile Three = refl
-oversize_back E.Nobody Zero = refl
-oversize_back E.Nobody Three = refl
+oversize_back Zero (E.BySide Mobile) = refl
+oversize_back Three (E.BySide Mobile) = refl
+oversize_back sapi who = refl
 
 why_back : (why : E.EventRefusal) → two_read (codes "no") (call_refusal_word why) ≡ No why
 unfolding two_read why_read
-why_back E.Nothing = refl
-why_back E.AirFull = refl
 why_back (E.ByEndpoint Q.NotIdle) = refl
-why_back (E.ByEndpoint Q.NotOpen) = refl
-why_back (E.ByEndpoint Q.NotRunning) = refl
-why_back (E.ByEndpoint Q.Empty) = refl
-why_back (E.ByEndpoint Q.TooLong) = refl
-why_back (E.ByEndpoint Q.Full) = refl
+why_back why = refl
 
 reason_back : (reason : Reason) → reason_read (closing_reason_word reason) ≡ reason
 unfolding reason_read
 reason_back Contention = refl
-reason_back Failed = refl
-reason_back Refused = refl
-reason_back Released = refl
+reason_back reason = refl
 
 octets_back : (octets : List ℕ) → AreOctets octets → octets_from_hex (encode_lower octets) ≡ octets
 octets_back octets small = (hex_digits_decode octets small).1
@@ -369,21 +328,22 @@ reception_back : (h : ReceptionQuality) → ReceptionIsInRange h →
     reception_read (decimal h.tsc) (decimal h.wrong_training) (signed_decimal h.metric) ≡ h
 unfolding reception_read
 reception_back h fits =
-    let tsc : digits_value 10 (decimal h.tsc) ≡ h.tsc = digits_value-decimal own h.tsc fits.tsc in
-    let wrong_training : digits_value 10 (decimal h.wrong_training) ≡ h.wrong_training =
-    digits_value-decimal own h.wrong_training fits.wrong_training in
-    let metric : signed_read (signed_decimal h.metric) ≡ h.metric = signed_back h.metric fits.metric in
-    rw (tsc, wrong_training, metric) refl
+    rw (
+      digits_value-decimal own h.tsc fits.tsc,
+      digits_value-decimal own h.wrong_training fits.wrong_training,
+      signed_back h.metric fits.metric,
+    )
+    refl
 
 notice_back : (who : E.Who) (sapi : Sapi) (notice : Notice) → NoticeIsInRange notice →
     line_read (answer_words (Reports who sapi notice)) ≡ Reports who sapi notice
 unfolding three_read notice_read
-notice_back who sapi (N.Opened m) fits = rw ((name_back who sapi).0, (name_back who sapi).1, message_back m fits) refl
-notice_back who sapi (N.Got m) fits = rw ((name_back who sapi).0, (name_back who sapi).1, message_back m fits) refl
-notice_back who sapi (N.Unit m) fits = rw ((name_back who sapi).0, (name_back who sapi).1, message_back m fits) refl
-notice_back who sapi (N.Acked n) fits = rw ((name_back who sapi).0, (name_back who sapi).1, digits_value-decimal own n fits) refl
-notice_back who sapi N.Oversize fits = oversize_back who sapi
-notice_back who sapi (N.Closed reason) fits = rw ((name_back who sapi).0, (name_back who sapi).1, reason_back reason) refl
+notice_back who sapi (N.Opened m) fits = let name = name_back sapi who in rw (name.0, name.1, message_back m fits) refl
+notice_back who sapi (N.Got m) fits = let name = name_back sapi who in rw (name.0, name.1, message_back m fits) refl
+notice_back who sapi (N.Unit m) fits = let name = name_back sapi who in rw (name.0, name.1, message_back m fits) refl
+notice_back who sapi (N.Acked n) fits = let name = name_back sapi who in rw (name.0, name.1, digits_value-decimal own n fits) refl
+notice_back who sapi N.Oversize fits = oversize_back sapi who
+notice_back who sapi (N.Closed reason) fits = let name = name_back sapi who in rw (name.0, name.1, reason_back reason) refl
 
 line_back : (line : AnswerLine) → LineIsInRange line → line_read (answer_words line) ≡ line
 unfolding three_read
@@ -393,7 +353,7 @@ line_back (Drops who h octets check) fits =
     rw (who_back who, reception_back h fits.0, octets_back octets fits.1, octets_back check fits.2) refl
 line_back (Reports who sapi notice) fits = notice_back who sapi notice fits
 line_back (Sends who octets) fits = rw (who_back who, octets_back octets fits) refl
-line_back All fits = refl
+line_back FinalOk fits = refl
 
 -- ---- whole answers
 
@@ -407,7 +367,7 @@ no_line l ls e =
       length-append (join_with_byte 32 (answer_words l)) (10 ∷ []),
     )
 
-same_lines : (ls ms : List AnswerLine) → LinesAreInRange ls → LinesAreInRange ms → lines_text ls ≡ lines_text ms → ls ≡ ms
+pub same_lines : (ls ms : List AnswerLine) → LinesAreInRange ls → LinesAreInRange ms → lines_text ls ≡ lines_text ms → ls ≡ ms
 same_lines [] [] h k e = refl
 same_lines [] (m ∷ ms) h k e = absurd (no_line m ms (sym e))
 same_lines (l ∷ ls) [] h k e = absurd (no_line l ls e)
@@ -417,13 +377,6 @@ same_lines (l ∷ ls) (m ∷ ms) h k e =
     let first : l ≡ m = sym (line_back l h.0) ∙ ap line_read (same_words l m h.0 k.0 parts.0) ∙ line_back m k.0 in
     let rest : ls ≡ ms = same_lines ls ms h.1 k.1 parts.1 in
     cc
-
-pub different_lines : (x y : A.Answer) → LinesAreInRange (answer_lines x) → LinesAreInRange (answer_lines y) →
-    answer_text x ≡ answer_text y → answer_lines x ≡ answer_lines y
-different_lines x y h k e = same_lines (answer_lines x) (answer_lines y) h k e
-
-pub same_text : (x y : A.Answer) → answer_lines x ≡ answer_lines y → answer_text x ≡ answer_text y
-same_text x y e = ap lines_text e
 
 -- ## FittingLines: If the parts of an answer have values in range, so have its lines.
 

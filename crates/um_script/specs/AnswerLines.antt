@@ -29,16 +29,16 @@ pub data AnswerLine : Type 0 where
   Drops : E.Who → ReceptionQuality → List ℕ → List ℕ → AnswerLine
   Reports : E.Who → Sapi → Notice → AnswerLine
   Sends : E.Who → List ℕ → AnswerLine
-  All : AnswerLine
+  FinalOk : AnswerLine
 
 abbrev pub reception_quality : Received → ReceptionQuality
 reception_quality r = record { tsc = r.tsc; wrong_training = r.wrong_training; metric = r.metric }
 
-abbrev pub received_block_line : E.Who → Option (List ℕ) → Received → AnswerLine
+abbrev pub received_block_line : (who : E.Who) (accepted_octets : Option (List ℕ)) (received : Received) → AnswerLine
 received_block_line who (Some octets) r = Takes who octets (reception_quality r)
 received_block_line who None r = Drops who (reception_quality r) (octets_of (take 184 r.u)) (octets_of (take 40 (drop 184 r.u)))
 
-abbrev pub received_block_lines : E.Who → Option Received → List AnswerLine
+abbrev pub received_block_lines : (who : E.Who) (received : Option Received) → List AnswerLine
 received_block_lines who None = []
 received_block_lines who (Some r) = received_block_line who r.accepted r ∷ []
 
@@ -46,12 +46,12 @@ received_block_lines who (Some r) = received_block_line who r.accepted r ∷ []
 abbrev pub answer_lines : A.Answer → List AnswerLine
 answer_lines (A.Refuses why) = No why ∷ []
 answer_lines (A.Accepts s) =
-    received_block_lines s.who s.received ++ map (Reports s.who s.sapi) s.notices ++ map (Sends s.who) s.frames ++ All ∷ []
+    received_block_lines s.who s.received ++ map (Reports s.who s.sapi) s.notices ++ map (Sends s.who) s.frames ++ FinalOk ∷ []
 
 -- ---- the text of lines
 
 -- the words, each with a space before it (used inside this crate)
-abbrev pub spaced_words : List (List ℕ) → List ℕ
+abbrev pub spaced_words : (words : List (List ℕ)) → List ℕ
 spaced_words [] = []
 spaced_words (word ∷ words) = 32 ∷ word ++ spaced_words words
 
@@ -78,14 +78,14 @@ answer_words (Drops who h octets check) =
     ∷ [])
 answer_words (Reports who sapi notice) = (actor_word who ++ sapi_suffix sapi) ∷ notice_words notice
 answer_words (Sends who octets) = actor_word who ∷ codes "sends" ∷ encode_lower octets ∷ []
-answer_words All = codes "ok" ∷ []
+answer_words FinalOk = codes "ok" ∷ []
 
 -- the text of a line of an answer: its words, separated by spaces, and a line feed
 abbrev pub answer_line_text : AnswerLine → List ℕ
 answer_line_text line = join_with_byte 32 (answer_words line) ++ codes "\n"
 
 -- the text of the lines, in order
-abbrev pub lines_text : List AnswerLine → List ℕ
+abbrev pub lines_text : (lines : List AnswerLine) → List ℕ
 lines_text [] = []
 lines_text (line ∷ lines) = answer_line_text line ++ lines_text lines
 
@@ -96,10 +96,10 @@ answer_text answer = lines_text (answer_lines answer)
 -- ---- ranges of octets and numbers
 
 -- the training sequence code and the number of wrong training bits are below 2^64, and the metric is between -2^63 and 2^63
-pub record ReceptionIsInRange (h : ReceptionQuality) : Type 0 where
-  pub tsc : h.tsc < 2 ^ 64
-  pub wrong_training : h.wrong_training < 2 ^ 64
-  pub metric : nat_abs h.metric < 2 ^ 63
+pub record ReceptionIsInRange (quality : ReceptionQuality) : Type 0 where
+  pub tsc : quality.tsc < 2 ^ 64
+  pub wrong_training : quality.wrong_training < 2 ^ 64
+  pub metric : nat_abs quality.metric < 2 ^ 63
 
 -- the octets or the number in the notice, if any, are in range
 abbrev pub NoticeIsInRange : Notice → Type 0
@@ -117,7 +117,7 @@ LineIsInRange (Takes who octets h) = AreOctets octets × ReceptionIsInRange h
 LineIsInRange (Drops who h octets check) = ReceptionIsInRange h × AreOctets octets × AreOctets check
 LineIsInRange (Reports who sapi notice) = NoticeIsInRange notice
 LineIsInRange (Sends who octets) = AreOctets octets
-LineIsInRange All = Unit {0}
+LineIsInRange FinalOk = Unit {0}
 
 -- all octets and numbers in all lines are in range
 abbrev pub LinesAreInRange : List AnswerLine → Type 0

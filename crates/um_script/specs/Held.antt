@@ -7,7 +7,7 @@ use Rattle.std.specs.Str.Parse.{digits_value}
 use Rattle.um_lines.specs.declared.fault.LineFault.{LineFault}
 use Rattle.um_lines.specs.Words.{words}
 use Rattle.um_lines.specs.Fields.{is_decimal}
-use Rattle.um_script.specs.ScriptReading.{is_above_591}
+use Rattle.um_script.specs.ScriptReading.{is_index_above_591}
 
 -- the octets that the parser returns, or the fault
 abbrev pub octets_or_fault : Result (Bor (List ℕ)) LineFault → Result (List ℕ) LineFault
@@ -20,12 +20,12 @@ bit_indices_or_fault (Ok places) = Ok places.now
 bit_indices_or_fault (Err fault) = Err fault
 
 -- whether a number in the list is already marked, or occurs more than once
-abbrev pub has_marked_or_repeated_index : List Bool → List ℕ → Bool
+abbrev pub has_marked_or_repeated_index : (marks : List Bool) (indices : List ℕ) → Bool
 has_marked_or_repeated_index marks [] = false
 has_marked_or_repeated_index marks (n ∷ ns) = slice_index_or marks n false || has_marked_or_repeated_index (slice_set marks n true) ns
 
-abbrev pub numbers_of_words : List (List ℕ) → List ℕ
-numbers_of_words ws = map (digits_value 10) ws
+abbrev pub decimal_word_values : (words : List (List ℕ)) → List ℕ
+decimal_word_values ws = map (digits_value 10) ws
 
 -- the words of the remaining text, if there is any
 abbrev pub remaining_words : Option (Bor (List ℕ)) → List (List ℕ)
@@ -37,6 +37,6 @@ abbrev pub AreDecimalWords : List (List ℕ) → Type 0
 AreDecimalWords ws = list_any (λ w. not (is_decimal w)) ws ≡ false
 
 -- every word is the index of a bit in a block, 0 to 591, in decimal
-pub record AreBitIndexWords (ws : List (List ℕ)) : Type 0 where
-  pub decimal : AreDecimalWords ws
-  pub in_range : list_any is_above_591 ws ≡ false
+pub record AreBitIndexWords (index_words : List (List ℕ)) : Type 0 where
+  pub decimal : AreDecimalWords index_words
+  pub in_range : list_any is_index_above_591 index_words ≡ false

@@ -25,7 +25,7 @@ abbrev pub link_direction_of : Way → L.Way
 link_direction_of Up = L.Up
 link_direction_of Down = L.Down
 
-abbrev pub actor_of_name : List ℕ → Option Actor
+abbrev pub actor_of_name : (word : List ℕ) → Option Actor
 actor_of_name word =
     if bytes_eq word (codes "mob") then Some (W.End Mobile Zero)
     else if bytes_eq word (codes "mob3") then Some (W.End Mobile Three)
@@ -36,7 +36,7 @@ actor_of_name word =
     else if bytes_eq word (codes "rival") then Some W.Rival
     else None
 
-abbrev pub request_of_name : List ℕ → Option Request
+abbrev pub request_of_name : (word : List ℕ) → Option Request
 request_of_name word =
     if bytes_eq word (codes "open") then Some Q.Open
     else if bytes_eq word (codes "send") then Some Q.Send
@@ -46,7 +46,7 @@ request_of_name word =
     else if bytes_eq word (codes "idle") then Some Q.Idle
     else None
 
-abbrev pub action_of_name : List ℕ → Option RadioAction
+abbrev pub action_of_name : (word : List ℕ) → Option RadioAction
 action_of_name word =
     if bytes_eq word (codes "deliver") then Some A.Deliver
     else if bytes_eq word (codes "lose") then Some A.Lose

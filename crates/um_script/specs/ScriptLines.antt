@@ -5,10 +5,10 @@ use Rattle.um_link.specs.lapdm_window.declared.Sapi.TheVariants.{Zero, Three}
 use Rattle.um_link.specs.lapdm_window.Ends.{Role, Mobile, Network}
 use Rattle.um_link.specs.lapdm_link.Events as E
 use Rattle.um_link.specs.um_air.Air as A
-use Rattle.um_lines.specs.Fields.{Value, Number, NumberList, Place}
-use Rattle.um_lines.specs.Forms.{LineMeans, no_order_fault, places}
+use Rattle.um_lines.specs.Fields.{Value, Number, NumberList, BitIndex}
+use Rattle.um_lines.specs.Forms.{LineMeans, no_order_fault, bit_indices_of_values}
 use Rattle.um_lines.specs.LinkForms as L
-use Rattle.um_lines.specs.LinkForms.{link_forms}
+use Rattle.um_lines.specs.LinkForms.{link_line_forms}
 use Rattle.um_lines.specs.Meanings.{IsValueOfMeaning}
 
 -- the side of an endpoint, mobile or network
@@ -31,18 +31,18 @@ sender_of L.Up = Mobile
 sender_of L.Down = Network
 
 -- the octets among the values of a line
-abbrev pub octets_of_values : List Value → List ℕ
+abbrev pub octets_of_values : (values : List Value) → List ℕ
 octets_of_values [] = []
 octets_of_values (Number n ∷ values) = octets_of_values values
 octets_of_values (NumberList octets ∷ values) = octets
-octets_of_values (Place n ∷ values) = octets_of_values values
+octets_of_values (BitIndex n ∷ values) = octets_of_values values
 
 -- the event of this call to this endpoint
 abbrev pub call_event : L.LinkEndpoint → E.Request → A.Event
 call_event end request = E.Ask (role_of end) (sapi_of end) request
 
 -- the event for a line of this kind with these values
-abbrev pub event_of_values : L.LinkLineKind → List Value → A.Event
+abbrev pub event_of_values : (kind : L.LinkLineKind) (values : List Value) → A.Event
 event_of_values L.Open values = E.Open (octets_of_values values)
 event_of_values (L.OpenBare end) values = E.OpenBare (role_of end)
 event_of_values (L.Send end) values = call_event end (E.Send (octets_of_values values))
@@ -52,13 +52,13 @@ event_of_values (L.Tick end) values = call_event end E.T200Expiry
 event_of_values (L.Idle end) values = call_event end E.Idle
 event_of_values (L.Deliver way) values = E.Deliver (sender_of way) []
 event_of_values (L.Lose way) values = E.Lose (sender_of way)
-event_of_values (L.Flip way) values = E.Deliver (sender_of way) (places values)
+event_of_values (L.Flip way) values = E.Deliver (sender_of way) (bit_indices_of_values values)
 event_of_values L.Rival values = E.Rival (octets_of_values values)
 
 -- the event that the meaning of a line describes, or `None` if the line is skipped
-abbrev pub event_of_meaning : Option (L.LinkLineKind × List Value) → Option A.Event
-event_of_meaning said = option_map (λ meaning. event_of_values meaning.0 meaning.1) said
+abbrev pub event_of_script_line_meaning : Option (L.LinkLineKind × List Value) → Option A.Event
+event_of_script_line_meaning said = option_map (λ meaning. event_of_values meaning.0 meaning.1) said
 
 -- the script line means this event, or is skipped (`None`)
-abbrev pub ScriptLineMeans : List ℕ → Option A.Event → Type 0
-ScriptLineMeans line = IsValueOfMeaning event_of_meaning (LineMeans link_forms no_order_fault line)
+abbrev pub ScriptLineMeans : (line : List ℕ) (event : Option A.Event) → Type 0
+ScriptLineMeans line = IsValueOfMeaning event_of_script_line_meaning (LineMeans link_line_forms no_order_fault line)

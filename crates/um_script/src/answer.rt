@@ -11,7 +11,7 @@ ghost use Rattle.um_script.specs.AnswerLines.{received_block_line};
 ghost use Rattle.um_script.specs.AnswerLines.{received_block_lines};
 ghost use Rattle.um_script.specs.AnswerLines.{spaced_words, answer_line_text, lines_text, answer_lines, answer_text};
 ghost use Rattle.um_script.specs.AnswerLines.{ReceptionIsInRange, NoticeIsInRange, LineIsInRange, LinesAreInRange};
-ghost use Rattle.um_link.specs.Naming.{answer_of, step_of, actor_of_who, event_refusal_of, step_result};
+ghost use Rattle.um_link.specs.Naming.{spec_answer_of, spec_step_of, spec_who_of, spec_event_refusal_of, step_result};
 ghost use Rattle.um_link.specs.Abstraction.{StepFitsItsActor};
 ghost use Rattle.um_script.specs.AnswerWords.{actor_word, sapi_suffix, call_refusal_word, closing_reason_word};
 
@@ -21,12 +21,12 @@ use um_link::{No, Notice, Reason, Received, Sapi, Step, Who};
 /// Writes the lines of an answer: the received block, the notices, the frames sent, and `ok`; or `no` and the reason.
 pub fn step_lines(out: &mut Text, answer: &Result<Step, No>)
     requires empty { out.old ≡ [] }
-    requires fits { IfOk answer.now (λ step. StepFitsItsActor (step_of step)) }
-    ensures text { out.new ≡ answer_text (answer_of answer.now) }
+    requires fits { IfOk answer.now (λ step. StepFitsItsActor (spec_step_of step)) }
+    ensures text { out.new ≡ answer_text (spec_answer_of answer.now) }
     ensures size { length out.new < 2000 }
 
-    // All octets and numbers in the lines are in range, as `law_text_determines_lines` requires.
-    ensures fit { LinesAreInRange (answer_lines (answer_of answer.now)) }
+    // All octets and numbers in the lines are in range, as `law_answer_text_determines_lines` requires.
+    ensures fit { LinesAreInRange (answer_lines (spec_answer_of answer.now)) }
 {
     match answer {
         Ok(step) => push_step(out, step),
@@ -35,14 +35,14 @@ pub fn step_lines(out: &mut Text, answer: &Result<Step, No>)
 }
 
 /// Writes the lines of an answer whose step is stored in the caller's buffer.
-pub fn write_step_lines(out: &mut Text, done: &Result<(), No>, step: &Step)
+pub fn write_step_lines(out: &mut Text, outcome: &Result<(), No>, step: &Step)
     requires empty { out.old ≡ [] }
-    requires fits { OnOk done.now (StepFitsItsActor (step_of step.now)) }
-    ensures text { out.new ≡ answer_text (answer_of (step_result done.now step.now)) }
+    requires fits { OnOk outcome.now (StepFitsItsActor (spec_step_of step.now)) }
+    ensures text { out.new ≡ answer_text (spec_answer_of (step_result outcome.now step.now)) }
     ensures size { length out.new < 2000 }
-    ensures fit { LinesAreInRange (answer_lines (answer_of (step_result done.now step.now))) }
+    ensures fit { LinesAreInRange (answer_lines (spec_answer_of (step_result outcome.now step.now))) }
 {
-    match done {
+    match outcome {
         Ok(()) => push_step(out, step),
         Err(reason) => push_refusal(out, *reason),
     }
@@ -50,7 +50,7 @@ pub fn write_step_lines(out: &mut Text, done: &Result<(), No>, step: &Step)
 
 fn push_refusal(out: &mut Text, reason: No)
     requires { out.old ≡ [] }
-    ensures text { out.new ≡ answer_line_text (Refusal (event_refusal_of reason)) }
+    ensures text { out.new ≡ answer_line_text (Refusal (spec_event_refusal_of reason)) }
     ensures size { length out.new ≤ 20 }
 {
     out.push(b"no ");
@@ -59,7 +59,7 @@ fn push_refusal(out: &mut Text, reason: No)
 }
 
 fn call_refusal_word(reason: No) -> &'static [u8]
-    ensures word { result.now ≡ call_refusal_word (event_refusal_of reason) }
+    ensures word { result.now ≡ call_refusal_word (spec_event_refusal_of reason) }
     ensures size { length result.now ≤ 10 }
 {
     match reason {
@@ -77,9 +77,9 @@ fn call_refusal_word(reason: No) -> &'static [u8]
 #[tactic(auto, using(crate::proofs::AnswerLaws::fit_append, crate::proofs::AnswerLaws::lines_text_append))]
 fn push_step(out: &mut Text, step: &Step)
     requires { out.old ≡ [] }
-    ensures text { out.new ≡ answer_text (answer_of (Ok step.now)) }
+    ensures text { out.new ≡ answer_text (spec_answer_of (Ok step.now)) }
     ensures size { length out.new < 2000 }
-    ensures fit { LinesAreInRange (answer_lines (answer_of (Ok step.now))) }
+    ensures fit { LinesAreInRange (answer_lines (spec_answer_of (Ok step.now))) }
 {
     push_received(out, step.who, &step.received);
     push_notices(out, step.who, step.sapi, step.effects.notices.as_slice());
@@ -89,9 +89,9 @@ fn push_step(out: &mut Text, step: &Step)
 
 fn push_received(out: &mut Text, who: Who, received: &Option<Received>)
     requires { out.old ≡ [] }
-    ensures text { out.new ≡ lines_text (received_block_lines (actor_of_who who) received.now) }
+    ensures text { out.new ≡ lines_text (received_block_lines (spec_who_of who) received.now) }
     ensures size { length out.new ≤ 300 }
-    ensures fit { LinesAreInRange (received_block_lines (actor_of_who who) received.now) }
+    ensures fit { LinesAreInRange (received_block_lines (spec_who_of who) received.now) }
 {
     match received {
         Some(r) => push_received_block(out, who, r),
@@ -99,8 +99,8 @@ fn push_received(out: &mut Text, who: Who, received: &Option<Received>)
     }
 }
 
-fn name(who: Who) -> &'static [u8]
-    ensures word { result.now ≡ actor_word (actor_of_who who) }
+fn actor_name(who: Who) -> &'static [u8]
+    ensures word { result.now ≡ actor_word (spec_who_of who) }
     ensures size { length result.now ≤ 5 }
 {
     match who {
@@ -112,22 +112,22 @@ fn name(who: Who) -> &'static [u8]
 }
 
 #[tactic(auto, using(crate::proofs::AnswerLaws::line_spaced))]
-fn push_received_block(out: &mut Text, who: Who, r: &Received)
+fn push_received_block(out: &mut Text, who: Who, report: &Received)
     requires { out.old ≡ [] }
-    ensures text { out.new ≡ answer_line_text (received_block_line (actor_of_who who) r.now.accepted r.now) }
+    ensures text { out.new ≡ answer_line_text (received_block_line (spec_who_of who) report.now.accepted report.now) }
     ensures size { length out.new ≤ 300 }
-    ensures fit { LineIsInRange (received_block_line (actor_of_who who) r.now.accepted r.now) }
+    ensures fit { LineIsInRange (received_block_line (spec_who_of who) report.now.accepted report.now) }
 {
-    out.push(name(who));
-    match &r.accepted {
+    out.push(actor_name(who));
+    match &report.accepted {
         Some(octets) => {
             push_accepted_block(out, octets);
-            push_reception_quality(out, r);
+            push_reception_quality(out, report);
         }
         None => {
             out.push(b" drops");
-            push_reception_quality(out, r);
-            push_dropped_block(out, r);
+            push_reception_quality(out, report);
+            push_dropped_block(out, report);
         }
     }
     out.push(b"\n");
@@ -144,32 +144,32 @@ fn push_accepted_block(out: &mut Text, octets: &[u8])
     out.push_hex(octets);
 }
 
-fn push_reception_quality(out: &mut Text, r: &Received)
+fn push_reception_quality(out: &mut Text, report: &Received)
     requires { length out.old ≤ 60 }
-    ensures text { out.new ≡ out.old ++ spaced_words (reception_words (reception_quality r.now)) }
+    ensures text { out.new ≡ out.old ++ spaced_words (reception_words (reception_quality report.now)) }
     ensures size { length out.new ≤ length out.old + 120 }
-    ensures fit { ReceptionIsInRange (reception_quality r.now) }
+    ensures fit { ReceptionIsInRange (reception_quality report.now) }
 {
     out.push(b" tsc ");
-    out.push_decimal(u64::from(r.tsc));
+    out.push_decimal(u64::from(report.tsc));
     out.push(b" train ");
-    out.push_decimal(u64::from(r.wrong_training));
+    out.push_decimal(u64::from(report.wrong_training));
     out.push(b" metric ");
-    out.push(itoa::Buffer::new().format(r.metric).as_bytes());
+    out.push(itoa::Buffer::new().format(report.metric).as_bytes());
 }
 
-fn push_dropped_block(out: &mut Text, r: &Received)
+fn push_dropped_block(out: &mut Text, report: &Received)
     requires { length out.old ≤ 180 }
-    ensures text { out.new ≡ out.old ++ spaced_words (codes "data" ∷ encode_lower (octets_of (take BLOCK_BITS r.now.u))
-        ∷ codes "check" ∷ encode_lower (octets_of (take 40 (drop BLOCK_BITS r.now.u))) ∷ []) }
+    ensures text { out.new ≡ out.old ++ spaced_words (codes "data" ∷ encode_lower (octets_of (take BLOCK_BITS report.now.u))
+        ∷ codes "check" ∷ encode_lower (octets_of (take 40 (drop BLOCK_BITS report.now.u))) ∷ []) }
     ensures size { length out.new ≡ length out.old + 69 }
-    ensures data { AreOctets (octets_of (take BLOCK_BITS r.now.u)) }
-    ensures check { AreOctets (octets_of (take 40 (drop BLOCK_BITS r.now.u))) }
+    ensures data { AreOctets (octets_of (take BLOCK_BITS report.now.u)) }
+    ensures check { AreOctets (octets_of (take 40 (drop BLOCK_BITS report.now.u))) }
 {
     push_data_and_check_words(
         out,
-        &octets_from_bits_at::<BLOCK_OCTETS, _>(&r.u, 0),
-        &octets_from_bits_at::<5, _>(&r.u, BLOCK_BITS),
+        &octets_from_bits_at::<BLOCK_OCTETS, _>(&report.u, 0),
+        &octets_from_bits_at::<5, _>(&report.u, BLOCK_BITS),
     );
 }
 
@@ -195,12 +195,12 @@ fn push_data_and_check_words(out: &mut Text, octets: &[u8], check: &[u8])
 fn push_notices(out: &mut Text, who: Who, sapi: Sapi, notices: &[Notice])
     requires space { length out.old ≤ 300 }
     requires size { length notices.now ≤ 3 }
-    ensures text { out.new ≡ out.old ++ lines_text (map (Reports (actor_of_who who) sapi) notices.now) }
+    ensures text { out.new ≡ out.old ++ lines_text (map (Reports (spec_who_of who) sapi) notices.now) }
     ensures size { length out.new ≤ length out.old + 520 * length notices.now }
-    ensures fit { LinesAreInRange (map (Reports (actor_of_who who) sapi) notices.now) }
+    ensures fit { LinesAreInRange (map (Reports (spec_who_of who) sapi) notices.now) }
 {
     for notice in notices {
-        out.push(name(who));
+        out.push(actor_name(who));
         out.push(sapi_suffix(sapi));
         push_notice(out, notice);
         out.push(b"\n");
@@ -270,12 +270,12 @@ fn closing_reason_word(reason: Reason) -> &'static [u8]
 fn push_frames(out: &mut Text, who: Who, frames: &[[u8; BLOCK_OCTETS]])
     requires space { length out.old ≤ 1870 }
     requires size { length frames.now ≤ 2 }
-    ensures text { out.new ≡ out.old ++ lines_text (map (Sends (actor_of_who who)) frames.now) }
+    ensures text { out.new ≡ out.old ++ lines_text (map (Sends (spec_who_of who)) frames.now) }
     ensures size { length out.new ≤ length out.old + 60 * length frames.now }
-    ensures fit { LinesAreInRange (map (Sends (actor_of_who who)) frames.now) }
+    ensures fit { LinesAreInRange (map (Sends (spec_who_of who)) frames.now) }
 {
     for frame in frames {
-        out.push(name(who));
+        out.push(actor_name(who));
         push_sent_frame(out, frame);
     }
 }
@@ -294,7 +294,7 @@ fn push_sent_frame(out: &mut Text, frame: &[u8])
 
 /// Law: the text of an answer determines its lines. If all octets and numbers are in range, two answers have the same text if and only if
 /// they have the same lines.
-pub fn law_text_determines_lines()
+pub fn law_answer_text_determines_lines()
     ensures same { (x y : A.Answer) → answer_lines x ≡ answer_lines y → answer_text x ≡ answer_text y }
     ensures different { (x y : A.Answer) → LinesAreInRange (answer_lines x) → LinesAreInRange (answer_lines y) →
         answer_text x ≡ answer_text y →

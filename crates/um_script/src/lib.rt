@@ -9,7 +9,9 @@ mod script;
 #[cfg(test)]
 mod tests;
 
-pub use answer::{law_text_determines_lines, step_lines, write_step_lines};
+pub use answer::{law_answer_text_determines_lines, step_lines, write_step_lines};
 pub use room::Room;
-pub use script::{ScriptLine, law_messages_are_octets, law_script_meaning_is_unique, parse_script};
+pub use script::{
+    ScriptLine, law_script_line_meaning_is_unique, law_script_messages_are_octets, parse_script,
+};
 pub use um_lines::{LineFault, Text};

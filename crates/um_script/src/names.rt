@@ -32,7 +32,7 @@ pub(crate) enum RadioAction {
     Flip,
 }
 
-fn is(word: &[u8], name: &[u8]) -> bool
+fn equals_name(word: &[u8], name: &[u8]) -> bool
     ensures { result ≡ bytes_eq word.now name.now }
 {
     word == name
@@ -41,19 +41,19 @@ fn is(word: &[u8], name: &[u8]) -> bool
 pub(crate) fn actor_of_word(word: &[u8]) -> Option<Actor>
     ensures { result ≡ actor_of_name word.now }
 {
-    if is(word, b"mob") {
+    if equals_name(word, b"mob") {
         Some(Actor::End(End::Mobile, Sapi::Zero))
-    } else if is(word, b"mob3") {
+    } else if equals_name(word, b"mob3") {
         Some(Actor::End(End::Mobile, Sapi::Three))
-    } else if is(word, b"net") {
+    } else if equals_name(word, b"net") {
         Some(Actor::End(End::Network, Sapi::Zero))
-    } else if is(word, b"net3") {
+    } else if equals_name(word, b"net3") {
         Some(Actor::End(End::Network, Sapi::Three))
-    } else if is(word, b"up") {
+    } else if equals_name(word, b"up") {
         Some(Actor::Way(Way::Up))
-    } else if is(word, b"down") {
+    } else if equals_name(word, b"down") {
         Some(Actor::Way(Way::Down))
-    } else if is(word, b"rival") {
+    } else if equals_name(word, b"rival") {
         Some(Actor::Rival)
     } else {
         None
@@ -63,17 +63,17 @@ pub(crate) fn actor_of_word(word: &[u8]) -> Option<Actor>
 pub(crate) fn request_of_word(word: &[u8]) -> Option<Request>
     ensures { result ≡ request_of_name word.now }
 {
-    if is(word, b"open") {
+    if equals_name(word, b"open") {
         Some(Request::Open)
-    } else if is(word, b"send") {
+    } else if equals_name(word, b"send") {
         Some(Request::Send)
-    } else if is(word, b"unit") {
+    } else if equals_name(word, b"unit") {
         Some(Request::Unit)
-    } else if is(word, b"close") {
+    } else if equals_name(word, b"close") {
         Some(Request::Close)
-    } else if is(word, b"tick") {
+    } else if equals_name(word, b"tick") {
         Some(Request::Tick)
-    } else if is(word, b"idle") {
+    } else if equals_name(word, b"idle") {
         Some(Request::Idle)
     } else {
         None
@@ -83,11 +83,11 @@ pub(crate) fn request_of_word(word: &[u8]) -> Option<Request>
 pub(crate) fn action_of_word(word: &[u8]) -> Option<RadioAction>
     ensures { result ≡ action_of_name word.now }
 {
-    if is(word, b"deliver") {
+    if equals_name(word, b"deliver") {
         Some(RadioAction::Deliver)
-    } else if is(word, b"lose") {
+    } else if equals_name(word, b"lose") {
         Some(RadioAction::Lose)
-    } else if is(word, b"flip") {
+    } else if equals_name(word, b"flip") {
         Some(RadioAction::Flip)
     } else {
         None

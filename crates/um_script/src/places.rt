@@ -6,8 +6,8 @@ ghost use Rattle.std.specs.Str.Parse.{digits_value};
 ghost use Rattle.um_lines.specs.Words.{words};
 ghost use Rattle.um_lines.specs.Fields.{is_decimal};
 ghost use Rattle.um_lines.specs.Forms.{has_repeated_number};
-ghost use Rattle.um_script.specs.ScriptReading.{is_above_591};
-ghost use Rattle.um_script.specs.Held.{remaining_words, numbers_of_words, AreDecimalWords, AreBitIndexWords};
+ghost use Rattle.um_script.specs.ScriptReading.{is_index_above_591};
+ghost use Rattle.um_script.specs.Held.{remaining_words, decimal_word_values, AreDecimalWords, AreBitIndexWords};
 
 use um_lines::first_word;
 
@@ -76,7 +76,7 @@ fn bit_index_of_word(word: &[u8]) -> u16
 /// Whether any word of the text is a number above 591.
 pub(crate) fn has_index_above_591(text: &[u8]) -> bool
     requires { AreDecimalWords (words text.now) }
-    ensures { result ≡ list_any is_above_591 (words text.now) }
+    ensures { result ≡ list_any is_index_above_591 (words text.now) }
 {
     let mut rest = Some(text);
     while let Some(text) = rest {
@@ -92,7 +92,7 @@ pub(crate) fn has_index_above_591(text: &[u8]) -> bool
 /// Whether any two words of the text are the same index.
 pub(crate) fn has_repeated_index(text: &[u8]) -> bool
     requires { AreBitIndexWords (words text.now) }
-    ensures { result ≡ has_repeated_number (numbers_of_words (words text.now)) }
+    ensures { result ≡ has_repeated_number (decimal_word_values (words text.now)) }
 {
     let mut named = [false; 592];
     let mut rest = Some(text);
@@ -112,7 +112,7 @@ pub(crate) fn has_repeated_index(text: &[u8]) -> bool
 pub(crate) fn hold_places(places: &mut [u16; 592], text: &[u8]) -> usize
     requires words { AreBitIndexWords (words text.now) }
     requires space { length (words text.now) ≤ 592 }
-    ensures places { take result places.new ≡ numbers_of_words (words text.now) }
+    ensures places { take result places.new ≡ decimal_word_values (words text.now) }
     ensures count { result ≡ length (words text.now) }
 {
     let mut count = 0;

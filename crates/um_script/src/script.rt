@@ -5,19 +5,19 @@ ghost use Rattle.um_link.specs.um_air.Air as A;
 ghost use Rattle.um_link.specs.um_air.Sessions.{EventMessageIsOctets};
 ghost use Rattle.um_lines.specs.Words.{words};
 ghost use Rattle.um_lines.specs.Forms.{line_fault, no_order_fault};
-ghost use Rattle.um_lines.specs.LinkForms.{link_forms};
+ghost use Rattle.um_lines.specs.LinkForms.{link_line_forms};
 ghost use Rattle.um_lines.specs.Meanings.{HasOneMeaningOrFault};
 ghost use Rattle.um_script.specs.ScriptLines.{ScriptLineMeans};
 ghost use Rattle.um_script.specs.ScriptReading.{parsed_layer3_call, parsed_one_word_call, parsed_octets_call, parsed_radio_event};
 ghost use Rattle.um_script.specs.ScriptReading.{parsed_deliver_or_lose, parsed_bit_inversion};
 ghost use Rattle.um_script.specs.ScriptReading.{parsed_script_words};
-ghost use Rattle.um_script.specs.Naming.{meaning_of, event_or_fault, HasValidBitIndices};
+ghost use Rattle.um_script.specs.Naming.{event_of_script_line, event_or_fault, HasValidBitIndices};
 ghost use Rattle.um_script.specs.Names.{link_endpoint_of, link_direction_of};
 ghost use Rattle.um_link.specs.Possible.{IsPossibleEvent};
 
 use crate::names::{Actor, RadioAction, Request, action_of_word, actor_of_word, request_of_word};
 use crate::room::Room;
-use um_lines::{LINE_LIMIT, LineFault, first_word, is_skipped};
+use um_lines::{LINE_LIMIT, LineFault, first_word, is_skipped_line};
 use um_link::{Air, Call, End, Event, Sapi, Way};
 
 /// The meaning of a script line.
@@ -32,8 +32,8 @@ pub enum ScriptLine<'a> {
 /// deliver`, `W lose`, `W flip P ..` or `rival HEX`, for an endpoint `X` and a direction `W`. The octets and bit indices of the event are
 /// stored in `room`.
 pub fn parse_script<'a>(line: &[u8], room: &'a mut Room) -> Result<ScriptLine<'a>, LineFault>
-    ensures means { IfOk result (λ read. ScriptLineMeans line.now (meaning_of read)) }
-    ensures refused { result_err result ≡ line_fault link_forms no_order_fault line.now }
+    ensures means { IfOk result (λ read. ScriptLineMeans line.now (event_of_script_line read)) }
+    ensures refused { result_err result ≡ line_fault link_line_forms no_order_fault line.now }
 
     // The index of every bit that the event inverts is in a block, 0 to 591.
     ensures possible { IfOk result (λ read. HasValidBitIndices read) }
@@ -41,7 +41,7 @@ pub fn parse_script<'a>(line: &[u8], room: &'a mut Room) -> Result<ScriptLine<'a
     if line.len() > LINE_LIMIT {
         return Err(LineFault::Long);
     }
-    if is_skipped(line) {
+    if is_skipped_line(line) {
         return Ok(ScriptLine::Skip);
     }
     match parse_script_words(line, room) {
@@ -69,15 +69,15 @@ fn parse_script_words<'a>(line: &[u8], room: &'a mut Room) -> Result<Event<'a>, 
 fn parse_layer3_call<'a>(
     end: End,
     sapi: Sapi,
-    rest: &[u8],
+    call_words: &[u8],
     room: &'a mut Room,
 ) -> Result<Event<'a>, LineFault>
-    requires { length rest.now ≤ 4096 }
-    ensures read { event_or_fault result ≡ parsed_layer3_call (link_endpoint_of end sapi) (words rest.now) }
+    requires { length call_words.now ≤ 4096 }
+    ensures read { event_or_fault result ≡ parsed_layer3_call (link_endpoint_of end sapi) (words call_words.now) }
     ensures possible { IfOk result (λ event. IsPossibleEvent event) }
 {
-    match first_word(rest) {
-        None => parse_one_word_call(end, sapi, request_of_word(rest)),
+    match first_word(call_words) {
+        None => parse_one_word_call(end, sapi, request_of_word(call_words)),
         Some((verb, octets)) => parse_octets_call(end, sapi, request_of_word(verb), octets, room),
     }
 }
@@ -126,23 +126,23 @@ fn parse_octets_call<'a>(
 
 fn parse_radio_path_line<'a>(
     way: Way,
-    rest: &[u8],
+    action_words: &[u8],
     room: &'a mut Room,
 ) -> Result<Event<'a>, LineFault>
-    ensures read { event_or_fault result ≡ parsed_radio_event (link_direction_of way) (words rest.now) }
+    ensures read { event_or_fault result ≡ parsed_radio_event (link_direction_of way) (words action_words.now) }
     ensures possible { IfOk result (λ event. IsPossibleEvent event) }
 {
-    match first_word(rest) {
-        None => parse_deliver_or_lose(way, action_of_word(rest)),
+    match first_word(action_words) {
+        None => parse_deliver_or_lose(way, action_of_word(action_words)),
         Some((verb, places)) => parse_flip(way, action_of_word(verb), places, room),
     }
 }
 
-fn parse_deliver_or_lose<'a>(way: Way, done: Option<RadioAction>) -> Result<Event<'a>, LineFault>
-    ensures read { event_or_fault result ≡ parsed_deliver_or_lose (link_direction_of way) done }
+fn parse_deliver_or_lose<'a>(way: Way, action: Option<RadioAction>) -> Result<Event<'a>, LineFault>
+    ensures read { event_or_fault result ≡ parsed_deliver_or_lose (link_direction_of way) action }
     ensures possible { IfOk result (λ event. IsPossibleEvent event) }
 {
-    match done {
+    match action {
         Some(RadioAction::Deliver) => Ok(Event::Air(way, Air::Deliver)),
         Some(RadioAction::Lose) => Ok(Event::Air(way, Air::Lose)),
         _ => Err(LineFault::Word),
@@ -151,25 +151,25 @@ fn parse_deliver_or_lose<'a>(way: Way, done: Option<RadioAction>) -> Result<Even
 
 fn parse_flip<'a>(
     way: Way,
-    done: Option<RadioAction>,
-    places: &[u8],
+    action: Option<RadioAction>,
+    indices: &[u8],
     room: &'a mut Room,
 ) -> Result<Event<'a>, LineFault>
-    ensures read { event_or_fault result ≡ parsed_bit_inversion (link_direction_of way) done (words places.now) }
+    ensures read { event_or_fault result ≡ parsed_bit_inversion (link_direction_of way) action (words indices.now) }
     ensures possible { IfOk result (λ event. IsPossibleEvent event) }
 {
-    match done {
-        Some(RadioAction::Flip) => Ok(Event::Air(way, Air::Flip(room.parse_bit_indices(places)?))),
+    match action {
+        Some(RadioAction::Flip) => Ok(Event::Air(way, Air::Flip(room.parse_bit_indices(indices)?))),
         _ => Err(LineFault::Word),
     }
 }
 
 /// Law: a script line that is not refused has exactly one meaning; a script line that is refused has none.
-pub fn law_script_meaning_is_unique()
-    ensures { (line : List ℕ) → HasOneMeaningOrFault (line_fault link_forms no_order_fault line) (ScriptLineMeans line) }
+pub fn law_script_line_meaning_is_unique()
+    ensures { (line : List ℕ) → HasOneMeaningOrFault (line_fault link_line_forms no_order_fault line) (ScriptLineMeans line) }
 {}
 
 /// Law: the message in a script line, if it has one, consists of octets.
-pub fn law_messages_are_octets()
+pub fn law_script_messages_are_octets()
     ensures { (line : List ℕ) (event : A.Event) → ScriptLineMeans line (Some event) → EventMessageIsOctets event }
 {}

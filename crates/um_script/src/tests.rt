@@ -118,13 +118,13 @@ fn reception_quality(
     })
 }
 
-fn sends(front: [u8; 4]) -> Frames {
+fn frames_with_block(front: [u8; 4]) -> Frames {
     let mut frames = Frames::new();
     frames.push(block(front));
     frames
 }
 
-fn reports_of(notice: Notice) -> Notices {
+fn notices_with(notice: Notice) -> Notices {
     let mut notices = Notices::new();
     notices.push(notice);
     notices
@@ -134,7 +134,7 @@ fn reports_of(notice: Notice) -> Notices {
 fn a_sabm_of_another_mobile_is_written(rt: HostRuntime) -> Result<(), Fail> {
     let mut out = Text::new();
     let effects = Effects {
-        frames: sends([1, 0x3f, 5, 2]),
+        frames: frames_with_block([1, 0x3f, 5, 2]),
         notices: Notices::new(),
     };
     step_lines(
@@ -155,8 +155,8 @@ fn a_sabm_of_another_mobile_is_written(rt: HostRuntime) -> Result<(), Fail> {
 fn reception_notice_and_sent_frame_are_written_in_order(rt: HostRuntime) -> Result<(), Fail> {
     let mut out = Text::new();
     let effects = Effects {
-        frames: sends([0x0d, 0x21, 1, 0x2b]),
-        notices: reports_of(Notice::Got(Message::new(&[0xaa]))),
+        frames: frames_with_block([0x0d, 0x21, 1, 0x2b]),
+        notices: notices_with(Notice::Got(Message::new(&[0xaa]))),
     };
     step_lines(
         &mut out,
@@ -179,7 +179,7 @@ fn a_closing_by_contention_is_written(rt: HostRuntime) -> Result<(), Fail> {
     let mut out = Text::new();
     let effects = Effects {
         frames: Frames::new(),
-        notices: reports_of(Notice::Closed(Reason::Contention)),
+        notices: notices_with(Notice::Closed(Reason::Contention)),
     };
     step_lines(
         &mut out,

@@ -1,45 +1,60 @@
 -- The command `link` and its sessions.
-use Rattle.std.proofs.Common.{All, Bool, Err, List, None, Ok, Option, Result, Some, [], append-nil, append_assoc, ap, arith, false, inl}
-use Rattle.std.proofs.Common.{inr, refl, subst, suc, sym, true, zero, ℕ, ◌++◌, ◌+◌, ◌∙◌, ◌∷◌, ◌≡◌, ◌≤◌}
-use Rattle.std.proofs.lemmas.List.Elements.{All-append, All-cons, All-head, All-nil, All-tail}
-use Rattle.um_driver.proofs.{Outputs.{IsWeakerBy, Runs-keep, has_one_output, runs_by, weaker_run_by, weaker_run_state}, Runs.without_memory}
-use Rattle.um_driver.specs.{Laws.HasOneOutput, Outputs.{IsOutputOfLines, IsOutput}, Rules.{IsDeterministic, IsLineRefused, IsTotal, Runs}}
-use Rattle.um_driver.specs.{Table.{EndsAsPrescribed, IsRun}, declared.status.Status.{TheVariants.NoMemory, Status}}
-use Rattle.um_link.proofs.um_air.Lemmas.{air_claims, air_order, few_inverted_is_benign, longer_run, one_answer, some_answer}
-use Rattle.um_link.specs.{Abstraction.{Represents, StepRefines}, Naming.{answer_of, event_of}, declared.events.Event.Event as EventValue}
-use Rattle.um_link.specs.{declared.{events.{No.No, Step.Step}, links.WorldState.WorldState}, lapdm_frame.declared.Channel.Channel}
-use Rattle.um_link.specs.um_air.{Air.{AirState, Answer, Event, IsAirRun, initial_session}, Sessions.EventInvertsFewBits}
-use Rattle.um_link.specs.{um_air.Sessions.{EventMessageIsOctets, InvertFewBits}, um_block.Tallies.{counter_plus_one, counter_plus}}
-use Rattle.um_link.specs.um_block.declared.received.Received.{Received}
-use Rattle.um_script.proofs.{ScriptLines.octet_event, um_lines.FormLaws.{good_meaning, one_made, one_meaning, same_meaning}}
-use Rattle.um_script.specs.{AnswerLines.answer_text, Naming.meaning_of, ScriptLines.{ScriptLineMeans, event_of_meaning}}
-use Rattle.um_script.specs.{declared.script.ScriptLine.ScriptLine, um_lines.Forms.{LineMeans, line_fault, no_order_fault}}
-use Rattle.um_script.specs.um_lines.{LinkForms.link_forms, Meanings.HasOneMeaningOrFault, declared.fault.LineFault.LineFault}
-use Rattle.um_session.specs.Courses.{RadioCounters, SessionWithRadio, arrived_block_count, received_block_count, rules_with_radio}
-use Rattle.um_session.specs.{Courses.{sent_frame_count, total_blocks_received, total_frames_sent}, Promises.DeliveryLawsHold}
-use Rattle.um_session.specs.{Promises.{EventsInvertFewBits, IsLinkRun, RadioCountersRose}, Sessions.TextAnswersMeaning}
-use Rattle.um_session.specs.Sessions.{TextAnswersScriptLine, IsEventStep, Session, link_rules, new_session, session_with_step}
+use Rattle.{
+  std.proofs.{
+    Common.{ap₂, All, Bool, Err, List, None, Ok, Option, Result, Some, [], append-nil, append_assoc, ap, arith, false, inl, inr, refl},
+    Common.{subst, suc, sym, true, zero, ℕ, ◌++◌, ◌+◌, ◌∙◌, ◌∷◌, ◌≡◌, ◌≤◌},
+    lemmas.List.Elements.{All-append, All-cons, All-head, All-nil, All-tail},
+  },
+  um_driver.{
+    proofs.{Outputs.{IsWeakerBy, Runs-keep, has_one_output, runs_by, weaker_run_by, weaker_run_state}, Runs.without_memory},
+    specs.{Laws.HasOneOutput, Outputs.{IsOutputOfLines, IsOutput}, Rules.{IsDeterministic, IsTotal, Runs}, Table.{EndsAsPrescribed, IsRun}},
+    specs.declared.status.Status.{TheVariants.NoMemory, Status},
+  },
+  um_link.{
+    proofs.um_air.Lemmas.{air_claims, air_order, few_inverted_is_benign, longer_run, one_answer, some_answer},
+    specs.{
+      Abstraction.Represents,
+      Naming.spec_answer_of,
+      declared.events.{No.No, Step.Step},
+      lapdm_frame.declared.Channel.Channel,
+      um_air.{Air.{Answer, Event, IsAirRun, initial_session}, Sessions.{EventInvertsFewBits, EventMessageIsOctets, AllEventsInvertFewBits}},
+      um_block.{Tallies.{counter_plus_one, counter_plus}, declared.received.Received.Received},
+    },
+  },
+  um_script.{
+    proofs.{ScriptLines.octet_event, um_lines.FormLaws.{good_meaning, one_made, one_meaning, same_meaning}},
+    specs.{AnswerLines.answer_text, ScriptLines.{ScriptLineMeans, event_of_script_line_meaning}, um_lines.Forms.{LineMeans, line_fault}},
+    specs.um_lines.{Forms.no_order_fault, LinkForms.link_line_forms, Meanings.HasOneMeaningOrFault},
+  },
+  um_session.specs.{
+    Courses.{RadioCounters, SessionWithRadio, blocks_received_in_step, received_block_count, link_command_rules_with_radio},
+    Courses.{sent_frame_count, total_blocks_received, total_frames_sent},
+    Promises.{DeliveryLawsHold, EventsInvertFewBits, IsLinkRun, RadioCountersRose},
+    Sessions.{IsStepForLineMeaning, IsScriptLineStep, IsEventStep, Session, link_command_rules, new_session, session_with_step},
+  },
+}
 use Rattle.um_link.specs.Abstraction as L
 use Rattle.um_script.specs.declared.script.ScriptLine.TheVariants as V
 
--- ## Octets: The messages in a session consist of octets, so a session with few inverted bits satisfies `InvertFewBits`.
+-- ## Octets: The messages in a session consist of octets, so a session with few inverted bits satisfies `AllEventsInvertFewBits`.
 
 abbrev pub HasOctets : Session → Type 0
 HasOctets s = All EventMessageIsOctets s.events
 
-octets_keep : (s b : Session) (line y : List ℕ) → HasOctets s → TextAnswersScriptLine s line y b → HasOctets b
-octets_keep s b line y octets (None, means, (_, same)) = subst HasOctets (sym same) octets
+octets_keep : (s b : Session) (line y : List ℕ) → HasOctets s → IsScriptLineStep s line y b → HasOctets b
+octets_keep s b line y octets (None, means, (_, same)) = rw same octets
 octets_keep s b line y octets (Some event, means, h) =
-    subst HasOctets (sym h.after_is)
+    rw h.after_is
     (All-append EventMessageIsOctets s.events (event ∷ []) octets
     (All-cons EventMessageIsOctets event [] (octet_event line event means) (All-nil EventMessageIsOctets)))
 
 octets_of_session : (tsc : ℕ) (channel : Channel) (lines answers : List (List ℕ)) (b : Session) →
-    Runs link_rules (new_session tsc channel) lines answers b → HasOctets b
+    Runs link_command_rules (new_session tsc channel) lines answers b → HasOctets b
 octets_of_session tsc channel lines answers b runs =
-    Runs-keep link_rules HasOctets octets_keep (new_session tsc channel) b lines answers (All-nil EventMessageIsOctets) runs
+    Runs-keep link_command_rules HasOctets octets_keep (new_session tsc channel) b lines answers (All-nil EventMessageIsOctets) runs
 
-events_invert_few : (events : List Event) → EventsInvertFewBits events → All EventMessageIsOctets events → InvertFewBits events
+events_invert_few : (events : List Event) → EventsInvertFewBits events → All EventMessageIsOctets events
+    → AllEventsInvertFewBits events
 events_invert_few [] few octets = tt
 events_invert_few (event ∷ events) few octets = (
   All-head EventInvertsFewBits event events few,
@@ -49,41 +64,35 @@ events_invert_few (event ∷ events) few octets = (
 
 -- ## Tallying: The counters of the radio rise by one for each block that it sends or receives.
 
-raised_by-plus : (m n t : ℕ) → counter_plus (m + n) t ≡ counter_plus m (counter_plus n t)
-raised_by-plus zero n t = let e : zero + n ≡ n = omega arith in ap (λ k. counter_plus k t) e
-raised_by-plus (suc m) n t =
-    let e : suc m + n ≡ suc (m + n) = omega arith in
-    ap (λ k. counter_plus k t) e ∙ ap counter_plus_one (raised_by-plus m n t)
+raised_by-more : (a b n m : ℕ) → m ≡ b + a → counter_plus a (counter_plus b n) ≡ counter_plus m n
+raised_by-more zero b n m e = ap (λ k. counter_plus k n) (let f : b ≡ m = omega arith in f)
+raised_by-more (suc a) b n m e = ap counter_plus_one (raised_by-more a b n (b + a) refl)
+    ∙ ap (λ k. counter_plus k n) (let f : suc (b + a) ≡ m = omega arith in f)
 
 total_frames_sent-append : (xs ys : List Answer) → total_frames_sent (xs ++ ys) ≡ total_frames_sent xs + total_frames_sent ys
 total_frames_sent-append [] ys = omega arith
-total_frames_sent-append (x ∷ xs) ys = let e = total_frames_sent-append xs ys in omega arith
+total_frames_sent-append (x ∷ xs) ys = omega (arith, total_frames_sent-append xs ys)
 
 total_blocks_received-append : (xs ys : List Answer) →
     total_blocks_received (xs ++ ys) ≡ total_blocks_received xs + total_blocks_received ys
 total_blocks_received-append [] ys = omega arith
-total_blocks_received-append (x ∷ xs) ys = let e = total_blocks_received-append xs ys in omega arith
+total_blocks_received-append (x ∷ xs) ys = omega (arith, total_blocks_received-append xs ys)
 
 -- the counters after one more answer
-sent_more : (xs : List Answer) (x : Answer) (t : ℕ) →
-    counter_plus (total_frames_sent (xs ++ x ∷ [])) t ≡ counter_plus (sent_frame_count x) (counter_plus (total_frames_sent xs) t)
+pub sent_more : (xs : List Answer) (x : Answer) (t : ℕ) →
+    counter_plus (sent_frame_count x) (counter_plus (total_frames_sent xs) t) ≡ counter_plus (total_frames_sent (xs ++ x ∷ [])) t
 sent_more xs x t =
-    let e : total_frames_sent (xs ++ x ∷ []) ≡ sent_frame_count x + total_frames_sent xs = let e =
-    total_frames_sent-append xs (x ∷ []) in omega arith in
-    ap (λ n. counter_plus n t) e ∙ raised_by-plus (sent_frame_count x) (total_frames_sent xs) t
+    raised_by-more (sent_frame_count x) (total_frames_sent xs) t _ (omega (arith, total_frames_sent-append xs (x ∷ [])))
 
-reception_more : (xs : List Answer) (x : Answer) (t : ℕ) →
-    counter_plus (total_blocks_received (xs ++ x ∷ [])) t ≡
-    counter_plus (arrived_block_count x) (counter_plus (total_blocks_received xs) t)
+pub reception_more : (xs : List Answer) (x : Answer) (t : ℕ) →
+    counter_plus (blocks_received_in_step x) (counter_plus (total_blocks_received xs) t) ≡
+    counter_plus (total_blocks_received (xs ++ x ∷ [])) t
 reception_more xs x t =
-    let e : total_blocks_received (xs ++ x ∷ []) ≡ arrived_block_count x + total_blocks_received xs = let e =
-    total_blocks_received-append xs (x ∷ []) in
-    omega arith in
-    ap (λ n. counter_plus n t) e ∙ raised_by-plus (arrived_block_count x) (total_blocks_received xs) t
+    raised_by-more (blocks_received_in_step x) (total_blocks_received xs) t _ (omega (arith, total_blocks_received-append xs (x ∷ [])))
 
 -- ## Stepping: The answer to a script line is the text of what `World::step_into` returns for its event.
 
-same_frames : (result : Result Step No) → L.sent_frame_count result ≡ sent_frame_count (answer_of result)
+pub same_frames : (result : Result Step No) → L.sent_frame_count result ≡ sent_frame_count (spec_answer_of result)
 same_frames (Ok step) = refl
 same_frames (Err why) = refl
 
@@ -91,78 +100,35 @@ same_reports : (received : Option Received) → L.arrival_count received ≡ rec
 same_reports None = refl
 same_reports (Some report) = refl
 
-same_arrivals : (result : Result Step No) → L.arrived_block_count result ≡ arrived_block_count (answer_of result)
+pub same_arrivals : (result : Result Step No) → L.blocks_received_in_step result ≡ blocks_received_in_step (spec_answer_of result)
 same_arrivals (Ok step) = same_reports step.received
 same_arrivals (Err why) = refl
-
--- the world represents the state of the session, and the radio's counters agree with the answers
-abbrev pub RunRepresents : WorldState → (sent heard : ℕ) → SessionWithRadio → Type 0
-RunRepresents w sent heard c =
-    Represents w c.session.air × (sent ≡ counter_plus (total_frames_sent c.session.answers) c.initial_counters.sent_blocks)
-    × (heard ≡ counter_plus (total_blocks_received c.session.answers) c.initial_counters.received_blocks)
-
--- the text is the answer to this line, and the world represents the session after it
-abbrev pub IsAnswered : (line text : List ℕ) → SessionWithRadio → WorldState → (sent heard : ℕ) → Type 0
-IsAnswered line text c w sent heard =
-    (x : SessionWithRadio) × (line_fault link_forms no_order_fault line ≡ None) ×
-    (TextAnswersScriptLine c.session line text x.session ×
-    (x.initial_counters ≡ c.initial_counters)) ×
-    RunRepresents w sent heard x
-
-module _ (line text : List ℕ) (c : SessionWithRadio) (read : ScriptLine) (event : EventValue) (result : Result Step No)
-    (w w' : WorldState)
-    (sent heard sent' reception' : ℕ)
-    (no_fault : line_fault link_forms no_order_fault line ≡ None) (means : ScriptLineMeans line (meaning_of read)) (is : read ≡
-    V.Step event)
-    (text_is : text ≡ answer_text (answer_of result)) (follows : StepRefines (event_of event) w result w')
-    (sends : sent' ≡ counter_plus (L.sent_frame_count result) sent) (receive_count : reception' ≡ counter_plus
-    (L.arrived_block_count result) heard) where
-  pub step_answered : RunRepresents w sent heard c → IsAnswered line text c w' sent' reception'
-  step_answered (represents, sent_is, reception_is) =
-      let next = follows c.session.air represents in
-      let answer : Answer = answer_of result in
-      let after : Session = session_with_step c.session (event_of event) answer next.0 in
-      let same : ScriptLineMeans line (Some (event_of event)) = subst (λ r. ScriptLineMeans line (meaning_of r)) is means in (
-        record { session = after; initial_counters = c.initial_counters },
-        no_fault,
-        ((Some (event_of event), same, record { answer = answer; air = next.0; step = next.2; text_is = text_is; after_is = refl }), refl),
-        (
-          next.1,
-          sends ∙ ap (λ n. counter_plus n sent) (same_frames result) ∙ ap (counter_plus (sent_frame_count answer)) sent_is
-              ∙ sym (sent_more c.session.answers answer c.initial_counters.sent_blocks),
-          receive_count ∙ ap (λ n. counter_plus n heard) (same_arrivals result)
-              ∙ ap (counter_plus (arrived_block_count answer)) reception_is
-              ∙ sym (reception_more c.session.answers answer c.initial_counters.received_blocks),
-        ),
-      )
 
 -- ## Answering: The command `link` has exactly one output for every input, because every event has exactly one answer in every state of a
 -- session.
 
-meanings : (line : List ℕ) → HasOneMeaningOrFault (line_fault link_forms no_order_fault line) (ScriptLineMeans line)
-meanings line = one_made event_of_meaning (LineMeans link_forms no_order_fault line) (line_fault link_forms no_order_fault line)
-    (one_meaning link_forms no_order_fault line refl)
+meanings : (line : List ℕ) → HasOneMeaningOrFault (line_fault link_line_forms no_order_fault line) (ScriptLineMeans line)
+meanings line = one_made event_of_script_line_meaning (LineMeans link_line_forms no_order_fault line)
+    (line_fault link_line_forms no_order_fault line)
+    (one_meaning link_line_forms no_order_fault line refl)
 
 same_happening : (s : Session) (event : Event) (y y' : List ℕ) (b b' : Session) → IsEventStep s event y b →
     IsEventStep s event y' b' → (y ≡ y') × (b ≡ b')
 same_happening s event y y' b b' h h' =
     let same = one_answer s.air event h.air h'.air h.answer h'.answer h.step h'.step in
     let air : h.air ≡ h'.air = same.0 in
-    let answer : h.answer ≡ h'.answer = same.1 in (
-      h.text_is ∙ ap answer_text answer ∙ sym h'.text_is,
-      h.after_is ∙ ap (λ x. session_with_step s event x h.air) answer ∙ ap (λ x. session_with_step s event h'.answer x) air
-          ∙ sym h'.after_is,
-    )
+    let answer : h.answer ≡ h'.answer = same.1 in
+    (cc (h.text_is, h'.text_is, answer), cc (h.after_is, h'.after_is, answer, air))
 
-same_answer : (s : Session) (m : Option Event) (y y' : List ℕ) (b b' : Session) → TextAnswersMeaning s m y b →
-    TextAnswersMeaning s m y' b' → (y ≡ y') × (b ≡ b')
+same_answer : (s : Session) (m : Option Event) (y y' : List ℕ) (b b' : Session) → IsStepForLineMeaning s m y b →
+    IsStepForLineMeaning s m y' b' → (y ≡ y') × (b ≡ b')
 same_answer s None y y' b b' (e, h) (e', h') = (e ∙ sym e', h ∙ sym h')
 same_answer s (Some event) y y' b b' h h' = same_happening s event y y' b b' h h'
 
-link_is_determined : IsDeterministic link_rules
+link_is_determined : IsDeterministic link_command_rules
 link_is_determined s line y y' b b' (m, means, answer) (m', means', answer') =
-    let same = same_meaning (ScriptLineMeans line) (line_fault link_forms no_order_fault line) (meanings line) m m' means means' in
-    same_answer s m' y y' b b' (subst (λ x. TextAnswersMeaning s x y b) same answer) answer'
+    let same = same_meaning (ScriptLineMeans line) (line_fault link_line_forms no_order_fault line) (meanings line) m m' means means' in
+    same_answer s m' y y' b b' (subst (λ x. IsStepForLineMeaning s x y b) same answer) answer'
 
 -- ---- some answer
 
@@ -171,57 +137,45 @@ abbrev pub IsSessionOn : ℕ → Channel → Session → Type 0
 IsSessionOn tsc channel s = IsAirRun (initial_session tsc channel) s.events s.answers s.air
 
 module _ (tsc : ℕ) (channel : Channel) where
-  goes_on : (s : Session) (event : Event) (y : List ℕ) (b : Session) → IsSessionOn tsc channel s → IsEventStep s event y b →
+  step_keeps : (s b : Session) (line y : List ℕ) → IsSessionOn tsc channel s → IsScriptLineStep s line y b →
       IsSessionOn tsc channel b
-  goes_on s event y b run h =
-      let P : Session → Type 0 = IsSessionOn tsc channel in
-      subst P (sym h.after_is) (longer_run (initial_session tsc channel) s.events s.answers s.air event h.answer h.air run h.step)
+  step_keeps s b line y run (None, means, (_, same)) = rw same run
+  step_keeps s b line y run (Some event, means, h) =
+      rw h.after_is (longer_run (initial_session tsc channel) s.events s.answers s.air event h.answer h.air run h.step)
 
-  step_keeps : (s b : Session) (line y : List ℕ) → IsSessionOn tsc channel s → TextAnswersScriptLine s line y b →
+  session_of : (lines answers : List (List ℕ)) (b : Session) → Runs link_command_rules (new_session tsc channel) lines answers b →
       IsSessionOn tsc channel b
-  step_keeps s b line y run (None, means, (_, same)) = let P : Session → Type 0 = IsSessionOn tsc channel in subst P (sym same) run
-  step_keeps s b line y run (Some event, means, h) = goes_on s event y b run h
-
-  session_of : (lines answers : List (List ℕ)) (b : Session) → Runs link_rules (new_session tsc channel) lines answers b →
-      IsSessionOn tsc channel b
-  session_of lines answers b runs = Runs-keep link_rules (IsSessionOn tsc channel) step_keeps (new_session tsc channel) b lines answers refl
+  session_of lines answers b runs =
+      Runs-keep link_command_rules (IsSessionOn tsc channel) step_keeps (new_session tsc channel) b lines answers refl
       runs
 
   module _ (within : tsc ≤ 7) where
     some_meaning : (s : Session) (line : List ℕ) (m : Option Event) → IsSessionOn tsc channel s →
-        All EventMessageIsOctets s.events → ScriptLineMeans line m → (y : List ℕ) × (b : Session) × TextAnswersMeaning s m y b
+        All EventMessageIsOctets s.events → ScriptLineMeans line m → (y : List ℕ) × (b : Session) × IsStepForLineMeaning s m y b
     some_meaning s line None run octets means = ([], s, (refl, refl))
     some_meaning s line (Some event) run octets means =
-        let next = some_answer tsc channel s.events s.answers s.air within octets run event (octet_event line event means) in
-        let air : AirState = next.0 in
-        let answer : Answer = next.1 in (
-          answer_text answer,
-          session_with_step s event answer air,
-          record {
-            answer = answer;
-            air = air;
-            step = next.2;
-            text_is = refl;
-            after_is = refl;
-          },
+        let next = some_answer tsc channel s.events s.answers s.air within octets run event (octet_event line event means) in (
+          answer_text next.1,
+          session_with_step s event next.1 next.0,
+          record { answer = next.1; air = next.0; step = next.2; text_is = refl; after_is = refl },
         )
 
-    pub link_is_total : IsTotal link_rules (new_session tsc channel)
+    pub link_is_total : IsTotal link_command_rules (new_session tsc channel)
     link_is_total lines answers b runs line plain good =
-        let meant = good_meaning (ScriptLineMeans line) (line_fault link_forms no_order_fault line) (meanings line) good.no_fault in
+        let meant = good_meaning (ScriptLineMeans line) (line_fault link_line_forms no_order_fault line) (meanings line) good.no_fault in
         let answered = some_meaning b line meant.0 (session_of lines answers b runs)
         (octets_of_session tsc channel lines answers b runs) meant.1 in
         (answered.0, answered.1, (meant.0, meant.1, answered.2))
 
-    pub link_has_one_output : HasOneOutput link_rules (new_session tsc channel)
-    link_has_one_output = has_one_output link_rules (new_session tsc channel) link_is_total link_is_determined
+    pub link_has_one_output : HasOneOutput link_command_rules (new_session tsc channel)
+    link_has_one_output = has_one_output link_command_rules (new_session tsc channel) link_is_total link_is_determined
 
 -- ## Running: A run by the rules that include the radio is also a run by the rules of `link`, and the claims about sessions hold for it.
 
 abbrev session_in : SessionWithRadio → Session
 session_in c = c.session
 
-without_radio : IsWeakerBy session_in rules_with_radio link_rules
+without_radio : IsWeakerBy session_in link_command_rules_with_radio link_command_rules
 without_radio = record { fault = λ c line. refl; end_fault = λ c. refl; step = λ c b line y step. step.0 }
 
 delivery_laws_hold : (tsc : ℕ) (channel : Channel) (s : Session) → IsSessionOn tsc channel s → HasOctets s → DeliveryLawsHold s
@@ -231,20 +185,13 @@ delivery_laws_hold tsc channel s run octets = record {
   benign = λ few. few_inverted_is_benign tsc channel s.events s.answers s.air run (events_invert_few s.events few octets);
 }
 
--- a run does not change the record of the counters before the first line
-same_before : (c b : SessionWithRadio) (lines answers : List (List ℕ)) → Runs rules_with_radio c lines answers b →
-    b.initial_counters ≡ c.initial_counters
-same_before c b lines answers runs =
-    Runs-keep rules_with_radio (λ x. x.initial_counters ≡ c.initial_counters) (λ x y line answer e step. step.1 ∙ e) c b lines answers
-    refl runs
-
 -- a later session contains all answers of an earlier one
 record HasAll (xs : List Answer) (s : Session) : Type 0 where
   pub more : List Answer
   pub all : s.answers ≡ xs ++ more
 
-has_all_step : (xs : List Answer) (s b : Session) (line y : List ℕ) → HasAll xs s → TextAnswersScriptLine s line y b → HasAll xs b
-has_all_step xs s b line y h (None, means, (_, same)) = subst (HasAll xs) (sym same) h
+has_all_step : (xs : List Answer) (s b : Session) (line y : List ℕ) → HasAll xs s → IsScriptLineStep s line y b → HasAll xs b
+has_all_step xs s b line y h (None, means, (_, same)) = rw same h
 has_all_step xs s b line y h (Some event, means, happened) = record {
   more = h.more ++ happened.answer ∷ [];
   all =
@@ -252,12 +199,14 @@ has_all_step xs s b line y h (Some event, means, happened) = record {
       ∙ append_assoc xs h.more (happened.answer ∷ []);
 }
 
-has_all : (c b : SessionWithRadio) (lines answers : List (List ℕ)) → Runs rules_with_radio c lines answers b →
-    HasAll c.session.answers b.session
-has_all c b lines answers runs =
-    Runs-keep rules_with_radio (λ x. HasAll c.session.answers x.session)
-    (λ x y line answer h step. has_all_step c.session.answers x.session y.session line answer h step.0)
-    c b lines answers (record { more = []; all = sym (append-nil c.session.answers) }) runs
+-- a run does not change the record of the counters before the first line, and keeps the answers
+kept : (c b : SessionWithRadio) (lines answers : List (List ℕ)) → Runs link_command_rules_with_radio c lines answers b →
+    (b.initial_counters ≡ c.initial_counters) × HasAll c.session.answers b.session
+kept c b lines answers runs =
+    Runs-keep link_command_rules_with_radio (λ x. (x.initial_counters ≡ c.initial_counters) × HasAll c.session.answers x.session)
+    (λ x y line answer h step.
+    (step.1 ∙ h.0, has_all_step c.session.answers x.session y.session line answer h.1 step.0))
+    c b lines answers (refl, record { more = []; all = sym (append-nil c.session.answers) }) runs
 
 -- the radio's counters after the last line, computed from those before the first line and the answers
 abbrev pub Reports : RadioCounters → SessionWithRadio → Type 0
@@ -267,8 +216,8 @@ Reports after c = (after.sent_blocks ≡ counter_plus (total_frames_sent c.sessi
 counters_rose : (before after : RadioCounters) (s : Session) (last : SessionWithRadio) → HasAll s.answers last.session →
     last.initial_counters ≡ before → Reports after last → RadioCountersRose s.answers before after
 counters_rose before after s last h same tells = record {
-  send_count = total_frames_sent last.session.answers;
-  receive_count = total_blocks_received last.session.answers;
+  sent_block_increase = total_frames_sent last.session.answers;
+  received_block_increase = total_blocks_received last.session.answers;
   enough_sent = let e = ap total_frames_sent h.all ∙ total_frames_sent-append s.answers h.more in omega (arith, e);
   enough_received = let e = ap total_blocks_received h.all ∙ total_blocks_received-append s.answers h.more in omega (arith, e);
   sent_rose = tells.0 ∙ ap (λ (b : RadioCounters). counter_plus (total_frames_sent last.session.answers) b.sent_blocks) same;
@@ -277,52 +226,42 @@ counters_rose before after s last h same tells = record {
 
 pub link_run : (tsc : ℕ) (channel : Channel) (before after : RadioCounters) (Represents : SessionWithRadio → Type 0) →
     ((c : SessionWithRadio) → Represents c → Reports after c) → (status : Status) (left left' taken taken' : Option (List ℕ)) →
-    IsRun rules_with_radio (record { session = new_session tsc channel; initial_counters = before }) Represents status left left' taken
+    IsRun link_command_rules_with_radio (record { session = new_session tsc channel; initial_counters = before }) Represents status left
+    left' taken
     taken' →
     IsLinkRun tsc channel status left left' taken taken' before after
 link_run tsc channel before after Represents tells status left left' taken taken' h =
     let start : SessionWithRadio = record { session = new_session tsc channel; initial_counters = before } in
-    let same : (weaker_run_by session_in rules_with_radio link_rules without_radio start Represents (λ last. Unit {0})
-    (λ b represents. tt) status left left' taken taken' h).state ≡ h.state.session =
-    weaker_run_state session_in rules_with_radio link_rules without_radio start Represents (λ last. Unit {0})
+    let run = weaker_run_by session_in link_command_rules_with_radio link_command_rules without_radio start Represents (λ last. Unit {0})
     (λ b represents. tt) status left left' taken taken' h in
+    let same : run.state ≡ h.state.session =
+    weaker_run_state session_in link_command_rules_with_radio link_command_rules without_radio start Represents
+    (λ last. Unit {0}) (λ b represents. tt) status left left' taken taken' h in
+    let runs : Runs link_command_rules (new_session tsc channel) h.lines h.answers h.state.session =
+    runs_by session_in link_command_rules_with_radio link_command_rules without_radio start h.state h.lines h.answers h.runs in
+    let earlier = kept start h.state h.lines h.answers h.runs in
+    let later = kept h.state h.last h.unwritten_lines h.unwritten_answers h.unwritten_run in
     record {
-      run = weaker_run_by session_in rules_with_radio link_rules without_radio start Represents (λ last. Unit {0})
-          (λ b represents. tt) status left left' taken taken' h;
+      run = run;
       counters_rose =
-          subst (λ (s : Session). RadioCountersRose s.answers before after) (sym same)
-          (counters_rose before after h.state.session h.last (has_all h.state h.last h.unwritten_lines h.unwritten_answers h.unwritten_run)
-          (same_before h.state h.last h.unwritten_lines h.unwritten_answers h.unwritten_run
-          ∙ same_before start h.state h.lines h.answers h.runs)
-          (tells h.last h.represents));
+          rw same
+          (counters_rose before after h.state.session h.last later.1 (later.0 ∙ earlier.0) (tells h.last h.represents));
       delivery_laws_hold =
-          subst DeliveryLawsHold (sym same)
-          (let runs : Runs link_rules (new_session tsc channel) h.lines h.answers h.state.session =
-          runs_by session_in rules_with_radio link_rules without_radio start h.state h.lines h.answers h.runs in
-          delivery_laws_hold tsc channel h.state.session (session_of tsc channel h.lines h.answers h.state.session runs)
+          rw same
+          (delivery_laws_hold tsc channel h.state.session (session_of tsc channel h.lines h.answers h.state.session runs)
           (octets_of_session tsc channel h.lines h.answers h.state.session runs));
     }
 
 -- ---- a run of the command ends as the rules of `link` prescribe
 
 -- an output by the rules of `link` is also an output by the rules that include the radio
-refused_by_both : (s : Session) (before : RadioCounters) (line : List ℕ) (fault : LineFault) → IsLineRefused link_rules s line fault →
-    IsLineRefused rules_with_radio (record { session = s; initial_counters = before }) line fault
-refused_by_both s before line fault (inl long) = inl long
-refused_by_both s before line fault (inr (short, e)) = inr (short, e)
-
 output_by_both : (s : Session) (before : RadioCounters) (n : ℕ) (judged : List (List ℕ)) (ended : Bool) (status : Status)
     (z : List ℕ) →
-    IsOutputOfLines link_rules s n judged ended status z → IsOutputOfLines rules_with_radio
+    IsOutputOfLines link_command_rules s n judged ended status z → IsOutputOfLines link_command_rules_with_radio
     (record { session = s; initial_counters = before }) n judged ended status z
 output_by_both s before n [] true status z (inl h) = inl h
-output_by_both s before n [] true status z (inr h) = inr (record {
-  fault = h.fault;
-  refused = h.refused;
-  is_bad_input = h.is_bad_input;
-  output =
-      h.output;
-})
+output_by_both s before n [] true status z (inr h) =
+    inr (record { fault = h.fault; refused = h.refused; is_bad_input = h.is_bad_input; output = h.output })
 output_by_both s before n [] false status z h = h
 output_by_both s before n (line ∷ judged) ended status z (inl h) = inl (record {
   answer = h.answer;
@@ -334,41 +273,29 @@ output_by_both s before n (line ∷ judged) ended status z (inl h) = inl (record
   output = h.output;
 })
 output_by_both s before n (line ∷ judged) ended status z (inr h) =
-    inr (record {
-      fault = h.fault;
-      refused = refused_by_both s before line h.fault h.refused;
-      is_bad_input = h.is_bad_input;
-      output =
-          h.output;
-    })
+    inr (record { fault = h.fault; refused = h.refused; is_bad_input = h.is_bad_input; output = h.output })
 
-output_too : (s : Session) (before : RadioCounters) (x : List ℕ) (status : Status) (z : List ℕ) → IsOutput link_rules s x status z →
-    IsOutput rules_with_radio (record { session = s; initial_counters = before }) x status z
+output_too : (s : Session) (before : RadioCounters) (x : List ℕ) (status : Status) (z : List ℕ)
+    → IsOutput link_command_rules s x status z →
+    IsOutput link_command_rules_with_radio (record { session = s; initial_counters = before }) x status z
 output_too s before x status z (judged, ended, judges, gives) =
     (judged, ended, judges, output_by_both s before 1 judged ended status z gives)
 
 same_course : (b c : SessionWithRadio) → b.session ≡ c.session → b.initial_counters ≡ c.initial_counters → b ≡ c
-same_course b c s t =
-    ap (λ (x : Session). let y : SessionWithRadio = record { session = x; initial_counters = b.initial_counters } in y) s
-    ∙ ap (λ (x : RadioCounters). let y : SessionWithRadio = record { session = c.session; initial_counters = x } in y) t
+same_course b c s t = ap₂ (λ x y. let z : SessionWithRadio = record { session = x; initial_counters = y } in z) s t
 
-course_is_determined : IsDeterministic rules_with_radio
+course_is_determined : IsDeterministic link_command_rules_with_radio
 course_is_determined a line y y' b b' (step, kept) (step', kept') =
     let same = link_is_determined a.session line y y' b.session b'.session step step' in
     (same.0, same_course b b' same.1 (kept ∙ sym kept'))
 
 pub link_due : (s : Session) (before : RadioCounters) (status : Status) (left taken taken' : Option (List ℕ)) →
-    (IsDeterministic rules_with_radio →
-    EndsAsPrescribed rules_with_radio (record { session = s; initial_counters = before }) status left taken
+    (IsDeterministic link_command_rules_with_radio →
+    EndsAsPrescribed link_command_rules_with_radio (record { session = s; initial_counters = before }) status left taken
     taken') →
-    EndsAsPrescribed link_rules s status left taken taken'
-link_due s before status left taken taken' due = go left (due course_is_determined)
-  where
-    go : (left : Option (List ℕ)) →
-        EndsAsPrescribed rules_with_radio (record { session = s; initial_counters = before }) status left taken
-        taken' → EndsAsPrescribed link_rules s status left taken taken'
-    go None h = tt
-    go (Some x) h = λ end z out. h end z (output_too s before x end z out)
+    EndsAsPrescribed link_command_rules s status left taken taken'
+link_due s before status None taken taken' due = tt
+link_due s before status (Some x) taken taken' due = λ end z out. due course_is_determined end z (output_too s before x end z out)
 
 -- the run in which there is too little memory at the start
 pub run_without_memory : (tsc : ℕ) (channel : Channel) (before : RadioCounters) (left taken : Option (List ℕ)) →
@@ -376,15 +303,11 @@ pub run_without_memory : (tsc : ℕ) (channel : Channel) (before : RadioCounters
 run_without_memory tsc channel before left taken =
     let start : SessionWithRadio = record { session = new_session tsc channel; initial_counters = before } in
     link_run tsc channel before before (Reports before) (λ c represents. represents) NoMemory left left taken taken
-    (without_memory rules_with_radio start (Reports before) left taken (refl, refl))
+    (without_memory link_command_rules_with_radio start (Reports before) left taken (refl, refl))
 
 -- a run remains a run if its parameters are replaced by equal ones
 pub same_run : (tsc tsc' : ℕ) (channel channel' : Channel) (before before' after after' : RadioCounters) (status : Status)
     (left left' taken taken' : Option (List ℕ)) → tsc ≡ tsc' → channel ≡ channel' → before ≡ before' → after ≡ after' →
     IsLinkRun tsc channel status left left' taken taken' before after →
     IsLinkRun tsc' channel' status left left' taken taken' before' after'
-same_run tsc tsc' channel channel' before before' after after' status left left' taken taken' t c b a h =
-    subst (λ x. IsLinkRun x channel' status left left' taken taken' before' after') t
-    (subst (λ x. IsLinkRun tsc x status left left' taken taken' before' after') c
-    (subst (λ x. IsLinkRun tsc channel status left left' taken taken' x after') b
-    (subst (λ x. IsLinkRun tsc channel status left left' taken taken' before x) a h)))
+same_run tsc tsc' channel channel' before before' after after' status left left' taken taken' t c b a h = rw (← t, ← c, ← b, ← a) h

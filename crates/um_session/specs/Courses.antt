@@ -3,7 +3,7 @@ use Rattle.std.specs.Prelude.{ℕ, ◌≡◌, ◌+◌, List, [], ◌∷◌, leng
 use Rattle.um_link.specs.um_block.declared.received.Received.{Received}
 use Rattle.um_link.specs.um_air.Air.{Answer, Refuses, Accepts}
 use Rattle.um_driver.specs.Rules.{Rules}
-use Rattle.um_session.specs.Sessions.{Session, TextAnswersScriptLine, link_rules}
+use Rattle.um_session.specs.Sessions.{Session, IsScriptLineStep, link_command_rules}
 
 -- the number of frames that an answer reports as sent
 abbrev pub sent_frame_count : Answer → ℕ
@@ -16,19 +16,19 @@ received_block_count None = 0
 received_block_count (Some report) = 1
 
 -- the number of blocks that an answer reports as received, 0 or 1
-abbrev pub arrived_block_count : Answer → ℕ
-arrived_block_count (Refuses why) = 0
-arrived_block_count (Accepts step) = received_block_count step.received
+abbrev pub blocks_received_in_step : Answer → ℕ
+blocks_received_in_step (Refuses why) = 0
+blocks_received_in_step (Accepts step) = received_block_count step.received
 
 -- the number of frames that these answers report as sent
-abbrev pub total_frames_sent : List Answer → ℕ
+abbrev pub total_frames_sent : (answers : List Answer) → ℕ
 total_frames_sent [] = 0
 total_frames_sent (answer ∷ answers) = sent_frame_count answer + total_frames_sent answers
 
 -- the number of blocks that these answers report as received
-abbrev pub total_blocks_received : List Answer → ℕ
+abbrev pub total_blocks_received : (answers : List Answer) → ℕ
 total_blocks_received [] = 0
-total_blocks_received (answer ∷ answers) = arrived_block_count answer + total_blocks_received answers
+total_blocks_received (answer ∷ answers) = blocks_received_in_step answer + total_blocks_received answers
 
 -- the counters of a radio: the number of blocks sent and the number received
 pub record RadioCounters : Type 0 where
@@ -41,9 +41,9 @@ pub record SessionWithRadio : Type 0 where
   pub initial_counters : RadioCounters
 
 -- the rules of the `link` command, with states that also contain the radio's counters before the first line
-abbrev pub rules_with_radio : Rules SessionWithRadio
-rules_with_radio = record {
-  fault = λ c line. link_rules.fault c.session line;
+abbrev pub link_command_rules_with_radio : Rules SessionWithRadio
+link_command_rules_with_radio = record {
+  fault = λ c line. link_command_rules.fault c.session line;
   end_fault = λ c. None;
-  Step = λ c line text after. TextAnswersScriptLine c.session line text after.session × (after.initial_counters ≡ c.initial_counters);
+  Step = λ c line text after. IsScriptLineStep c.session line text after.session × (after.initial_counters ≡ c.initial_counters);
 }

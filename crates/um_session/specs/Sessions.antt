@@ -2,7 +2,7 @@
 use Rattle.std.specs.Prelude.{ℕ, ◌≡◌, List, [], ◌∷◌, ◌++◌, Option, Some, None}
 use Rattle.um_link.specs.lapdm_frame.declared.Channel.{Channel}
 use Rattle.um_script.specs.um_lines.Forms.{line_fault, no_order_fault}
-use Rattle.um_script.specs.um_lines.LinkForms.{link_forms}
+use Rattle.um_script.specs.um_lines.LinkForms.{link_line_forms}
 use Rattle.um_script.specs.ScriptLines.{ScriptLineMeans}
 use Rattle.um_script.specs.AnswerLines.{answer_text}
 use Rattle.um_link.specs.um_air.Air.{Event, Answer, AirState, IsAirStep, initial_session}
@@ -15,35 +15,35 @@ pub record Session : Type 0 where
   pub air : AirState
 
 -- a session before its first event
-abbrev pub new_session : ℕ → Channel → Session
+abbrev pub new_session : (tsc : ℕ) (channel : Channel) → Session
 new_session tsc channel = record { events = []; answers = []; air = initial_session tsc channel }
 
 -- the session extended by one event, its answer, and the state after it
 abbrev pub session_with_step : Session → Event → Answer → AirState → Session
 session_with_step s event answer air = record { events = s.events ++ event ∷ []; answers = s.answers ++ answer ∷ []; air = air }
 
--- the event leads from session `s` to session `after`, and `text` is the text of its answer
-pub record IsEventStep (s : Session) (event : Event) (text : List ℕ) (after : Session) : Type 0 where
+-- the event leads from session `before` to session `after`, and `output` is the text of its answer
+pub record IsEventStep (before : Session) (event : Event) (output : List ℕ) (after : Session) : Type 0 where
   pub answer : Answer
   pub air : AirState
-  pub step : IsAirStep s.air event air answer
-  pub text_is : text ≡ answer_text answer
-  pub after_is : after ≡ session_with_step s event answer air
+  pub step : IsAirStep before.air event air answer
+  pub text_is : output ≡ answer_text answer
+  pub after_is : after ≡ session_with_step before event answer air
 
 -- the text answers a line with this meaning, and leads from the first session to the second; a skipped line has no answer
-abbrev pub TextAnswersMeaning : Session → Option Event → List ℕ → Session → Type 0
-TextAnswersMeaning s None text after = (text ≡ []) × (after ≡ s)
-TextAnswersMeaning s (Some event) text after = IsEventStep s event text after
+abbrev pub IsStepForLineMeaning : (session : Session) (event : Option Event) (output : List ℕ) (after : Session) → Type 0
+IsStepForLineMeaning s None text after = (text ≡ []) × (after ≡ s)
+IsStepForLineMeaning s (Some event) text after = IsEventStep s event text after
 
 -- the text answers a line of the script, and leads from the first session to the second
-abbrev pub TextAnswersScriptLine : Session → List ℕ → List ℕ → Session → Type 0
-TextAnswersScriptLine s line text after =
-    (meaning : Option Event) × ScriptLineMeans line meaning × TextAnswersMeaning s meaning text after
+abbrev pub IsScriptLineStep : (session : Session) (line output : List ℕ) (after : Session) → Type 0
+IsScriptLineStep s line text after =
+    (meaning : Option Event) × ScriptLineMeans line meaning × IsStepForLineMeaning s meaning text after
 
 -- the rules of the `link` command; the script may end after any line
-abbrev pub link_rules : Rules Session
-link_rules = record {
-  fault = λ s line. line_fault link_forms no_order_fault line;
+abbrev pub link_command_rules : Rules Session
+link_command_rules = record {
+  fault = λ s line. line_fault link_line_forms no_order_fault line;
   end_fault = λ s. None;
-  Step = TextAnswersScriptLine;
+  Step = IsScriptLineStep;
 }

@@ -8,15 +8,15 @@ use Rattle.um_driver.specs.Rules.{Rules, stateless}
 
 -- the answer to 23 octets is the text line of the frame in them, or `unread` and the reason if they are not a valid frame; the answer to a
 -- frame is its octets
-abbrev pub IsShowCommandAnswer : ShowLine → List ℕ → Type 0
+abbrev pub IsShowCommandAnswer : (line : ShowLine) (answer : List ℕ) → Type 0
 IsShowCommandAnswer Skip answer = answer ≡ []
 IsShowCommandAnswer (Octets octets) answer = IsTextOfOctets octets answer
 IsShowCommandAnswer (Frame octets) answer = answer ≡ octets_text octets
 
 -- the `show` command may return this answer to the line
-abbrev pub IsAnswerToShowLine : List ℕ → List ℕ → Type 0
+abbrev pub IsAnswerToShowLine : (line answer : List ℕ) → Type 0
 IsAnswerToShowLine line answer = (meaning : ShowLine) × ShowLineMeans line meaning × IsShowCommandAnswer meaning answer
 
 -- the rules of `show`, which keeps no state, so that its input may end after any line
-abbrev pub show_rules : Rules (Unit {0})
-show_rules = stateless show_fault IsAnswerToShowLine
+abbrev pub show_command_rules : Rules (Unit {0})
+show_command_rules = stateless show_fault IsAnswerToShowLine

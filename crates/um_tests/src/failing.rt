@@ -11,7 +11,7 @@ const TWO_LINES: &[u8] = b"rach 00000000 000000\nrach 00000000 000000\n";
 const THREE_LINES: &[u8] = b"rach 00000000 000000\nrach 00000000 000000\nrach 00000000 000000\n";
 
 /// The first `count` octets of the answers to three lines.
-fn answers(count: usize) -> Option<[u8; 294]> {
+fn rach_answers(count: usize) -> Option<[u8; 294]> {
     if count > 294 || ACCESS_BURST.len() != 98 {
         return None;
     }
@@ -109,7 +109,7 @@ fn a_failed_write_ends_the_run(rt: HostRuntime) {
 
 #[test]
 fn any_read_may_fail(rt: HostRuntime) -> Result<(), Fail> {
-    let all = answers(294).ok_or("three answers")?;
+    let all = rach_answers(294).ok_or("three rach_answers")?;
     let cases = [(1, 0), (2, 98), (3, 196), (4, 294)];
     for (call, taken) in cases {
         let calls = [call];
@@ -130,7 +130,7 @@ fn any_read_may_fail(rt: HostRuntime) -> Result<(), Fail> {
 
 #[test]
 fn any_write_may_fail(rt: HostRuntime) -> Result<(), Fail> {
-    let all = answers(294).ok_or("three answers")?;
+    let all = rach_answers(294).ok_or("three rach_answers")?;
     let cases = [(1, 0), (2, 50), (3, 98), (4, 148), (5, 196), (6, 246)];
     for (call, taken) in cases {
         let calls = [call];

@@ -62,30 +62,30 @@ fn inverted_bursts(bursts: &[u8], from: u32, until: u32, alloc: Global) -> Resul
 }
 
 /// The word with index `place` in the first line of a report.
-fn word(report: &[u8], place: usize) -> &[u8] {
+fn report_word(report: &[u8], place: usize) -> &[u8] {
     let line = report.split(|octet| *octet == b'\n').next().unwrap_or(b"");
     line.split(|octet| *octet == b' ').nth(place).unwrap_or(b"")
 }
 
 /// The answer of `link` to a received block, computed from the report of `replay` on the same block.
 fn link_answer_for(report: &[u8], alloc: Global) -> Result<Vec<u8>, Fail> {
-    let taken = word(report, 8) == b"ok".as_slice();
+    let taken = report_word(report, 8) == b"ok".as_slice();
     let mut answer = Vec::new(alloc);
     if taken {
         answer.extend_from_slice(b"mob takes ")?;
-        answer.extend_from_slice(word(report, 10))?;
+        answer.extend_from_slice(report_word(report, 10))?;
     } else {
         answer.extend_from_slice(b"mob drops")?;
     }
     for (name, place) in [(" tsc ", 2), (" train ", 4), (" metric ", 6)] {
         answer.extend_from_slice(name.as_bytes())?;
-        answer.extend_from_slice(word(report, place))?;
+        answer.extend_from_slice(report_word(report, place))?;
     }
     if !taken {
         answer.extend_from_slice(b" data ")?;
-        answer.extend_from_slice(word(report, 10))?;
+        answer.extend_from_slice(report_word(report, 10))?;
         answer.extend_from_slice(b" check ")?;
-        answer.extend_from_slice(word(report, 12))?;
+        answer.extend_from_slice(report_word(report, 12))?;
     }
     answer.extend_from_slice(b"\nok\n")?;
     Ok(answer)

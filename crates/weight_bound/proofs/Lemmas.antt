@@ -1,21 +1,30 @@
 -- The free distance of the code, and what three wrong soft bits can change.
-use Rattle.bit_blocks.{proofs.Lemmas.{AllBits-xor_bits, get_or-xor_bits, length-xor_bits, xor_bits-append}, specs.Bits.{AllBits, IsBit}}
-use Rattle.bit_blocks.specs.{Bits.xor_bits, SoftValues.count_wrong_bits}
-use Rattle.conv_code.proofs.Lemmas.{AllBits-coded, IsMostLikely-only, coded_from_start, length-coded, range_more}
-use Rattle.conv_code.specs.{Code.{IsEncoderInput, coded_pair, delayed_bit, encoding, g0_bit, g1_bit}, Likelihood.{IsMostLikely, bit_metric}}
-use Rattle.conv_code.specs.{Likelihood.likelihood, States.{encoding_from_state, first_coded_bit, next, second_coded_bit}}
-use Rattle.std.proofs.Common.{Bool, List, [], ap, ap₂, arith, cond, drop, false, get_or, if◌then◌else◌, inl, inr, length-drop}
-use Rattle.std.proofs.Common.{length, map, max, min, nat_le, nat_lt, negsuc, not, pos, refl, replicate, subst, suc, sym, take, true}
-use Rattle.std.proofs.Common.{zero-add, zero, ℕ, ℤ, ◌%◌, ◌&&◌, ◌*◌, ◌++◌, ◌+ℤ◌, ◌+◌, ◌-ℤ◌, ◌-◌}
-use Rattle.std.proofs.{Common.{◌<◌, ◌==◌, ◌∙◌, ◌∷◌, ◌≡◌, ◌≢◌, ◌≤◌}, Math.Nat.mul-le-mul_left}
-use Rattle.std.proofs.lemmas.{Bool.{and_parts, cases_lt, leb-true}, Int.ints, List.Elements.{All-cons, All-drop, All-head, All-more}}
-use Rattle.std.proofs.lemmas.List.{Elements.{All-nil, All-replicate, All-tail, All-take, All-weaker}, FromFn.get_or-range_with_len}
-use Rattle.std.proofs.lemmas.List.{FromFn.length-range_with_len, Sums.{AllPass-from_list_all, count_by-le-length, sum_by-cons, sum_by_push}}
-use Rattle.std.{proofs.lemmas.List.{get_or-map, length-map, length-replicate, length-take, take-append-drop, take_all}, specs.List.All}
-use Rattle.std.specs.{List.{Contains, count_by, flat_map, list_all, range_with_len}, Prelude.{int_le, unsigned_abs, ◌<ℤ◌}}
-use Rattle.std.specs.Prelude.{◌≤ℤ◌, ◌⊎◌}
-use Rattle.weight_bound.specs.Distance.{FreeDistanceAtLeastSeven, SomeDistanceIsSeven, differ_at, distance}
-use Rattle.weight_bound.specs.Restoring.{AreLeastAndGreatestStrength, CorrectableIsRestored, IsCorrectable}
+use Rattle.{
+  bit_blocks.{
+    proofs.Lemmas.{AllBits-xor_bits, get_or-xor_bits, length-xor_bits, xor_bits-append},
+    specs.{Bits.{AllBits, IsBit, xor_bits}, SoftValues.count_wrong_bits},
+  },
+  conv_code.{
+    proofs.Lemmas.{AllBits-coded, IsMostLikely-only, coded_from_start, length-coded, range_more},
+    specs.{Code.{IsEncoderInput, coded_pair, delayed_bit, encoding, g0_bit, g1_bit}, Likelihood.{IsMostLikely, bit_metric, likelihood}},
+    specs.States.{encoding_from_state, first_coded_bit, next_trellis_state, second_coded_bit},
+  },
+  std.{
+    proofs.Common.{Bool, List, [], ap, ap₂, arith, cond, drop, false, get_or, if◌then◌else◌, inl, length-drop, length, map, max},
+    proofs.Common.{min, nat_le, nat_lt, negsuc, not, pos, refl, replicate, subst, suc, sym, take, true, zero-add, zero, ℕ, ℤ, ◌%◌},
+    proofs.Common.{◌&&◌, ◌*◌, ◌++◌, ◌+ℤ◌, ◌+◌, ◌-ℤ◌, ◌-◌, ◌<◌, ◌==◌, ◌∙◌, ◌∷◌},
+    proofs.{Common.{◌≡◌, ◌≢◌, ◌≤◌}, Math.Nat.mul-le-mul_left, lemmas.{Bool.{and_parts, leb-true}, Int.ints}},
+    proofs.lemmas.List.Elements.{All-cons, All-drop, All-head, All-more, All-replicate, All-tail, All-take, All-weaker},
+    proofs.lemmas.List.{FromFn.{get_or-range_with_len, length-range_with_len}, Sums.{AllPass-from_list_all, count_by-le-length}},
+    proofs.lemmas.List.{Sums.{sum_by-cons, sum_by_push}, get_or-map, length-map, length-replicate, length-take, take-append-drop, take_all},
+    specs.{List.{All, Contains, count_by, flat_map, list_all, range_with_len}, Prelude.{int_le, unsigned_abs, ◌<ℤ◌, ◌≤ℤ◌}},
+    specs.Prelude.◌⊎◌,
+  },
+  weight_bound.specs.{
+    Distance.{FreeDistanceAtLeastSeven, SomeDistanceIsSeven, differ_at, distance},
+    Restoring.{AreLeastAndGreatestStrength, CorrectableIsRestored, IsCorrectable},
+  },
+}
 
 -- ## Linear: The code is linear: the coded bits of the XOR of two lists are the XOR of their coded bits.
 
@@ -70,30 +79,29 @@ tail_bits = 0 ∷ 0 ∷ 0 ∷ 0 ∷ []
 abbrev pub potential : ℕ → ℕ
 potential state = get_or (0 ∷ 5 ∷ 4 ∷ 4 ∷ 4 ∷ 5 ∷ 4 ∷ 3 ∷ 2 ∷ 5 ∷ 5 ∷ 4 ∷ 2 ∷ 5 ∷ 2 ∷ 3 ∷ []) state 0
 
--- a step lowers the potential by no more than the weight of its coded bits, and so do the tail bits
+-- a step lowers the potential by no more than the weight of its coded bits
 abbrev is_paid : ℕ → ℕ → Bool
-is_paid state bit = nat_le (potential state) (first_coded_bit state bit + second_coded_bit state bit + potential (next state bit))
+is_paid state bit = nat_le (potential state)
+    (first_coded_bit state bit + second_coded_bit state bit + potential (next_trellis_state state bit))
 
 abbrev are_paid : ℕ → Bool
-are_paid state = is_paid state 0 && is_paid state 1 && nat_le (potential state) (ones (encoding_from_state state tail_bits))
+are_paid state = is_paid state 0 && is_paid state 1
 
 all_paid : list_all are_paid (range_with_len 0 16) ≡ true
 all_paid = refl
 
-paid_at : (state : ℕ) → state < 16 → are_paid state ≡ true
-paid_at state h =
-    let found = AllPass-from_list_all are_paid (range_with_len 0 16) all_paid state 0 h in
-    subst (λ k. are_paid k ≡ true) (get_or-range_with_len 0 16 state 0 h ∙ zero-add state) found
-
 paid_step : (state bit : ℕ) → state < 16 → bit ≤ 1 →
-    potential state ≤ first_coded_bit state bit + second_coded_bit state bit + potential (next state bit)
-paid_step state zero h b =
-    let parts = and_parts (is_paid state 0) _ (and_parts (is_paid state 0 && is_paid state 1) _ (paid_at state h)).0 in
-    leb-true _ _ parts.0
-paid_step state (suc zero) h b =
-    let parts = and_parts (is_paid state 0) _ (and_parts (is_paid state 0 && is_paid state 1) _ (paid_at state h)).0 in
-    leb-true _ _ parts.1
-paid_step state (suc (suc bit)) h b = absurd (omega arith)
+    potential state ≤ first_coded_bit state bit + second_coded_bit state bit + potential (next_trellis_state state bit)
+paid_step state bit h b = go bit b where
+  paid : are_paid state ≡ true
+  paid = rw (get_or-range_with_len 0 16 state 0 h, zero-add state)
+      at (AllPass-from_list_all are_paid (range_with_len 0 16) all_paid state 0 h)
+
+  go : (bit : ℕ) → bit ≤ 1 →
+      potential state ≤ first_coded_bit state bit + second_coded_bit state bit + potential (next_trellis_state state bit)
+  go zero b = leb-true _ _ (and_parts (is_paid state 0) _ paid).0
+  go (suc zero) b = leb-true _ _ (and_parts (is_paid state 0) _ paid).1
+  go bit b = absurd (omega arith)
 
 paid_rest : (state : ℕ) → state < 16 → potential state ≤ ones (encoding_from_state state tail_bits)
 paid_rest _ h = grind arith
@@ -103,9 +111,11 @@ ones_bound : (state : ℕ) (u : List ℕ) → state < 16 → AllBits u →
     potential state ≤ ones (encoding_from_state state (u ++ tail_bits))
 ones_bound state [] h bits = paid_rest state h
 ones_bound state (x ∷ u) h bits =
-    let step = paid_step state x h (All-head IsBit x u bits) in
-    let later = ones_bound (next state x) u (omega arith) (All-tail IsBit x u bits) in
-    omega (arith, step, later)
+    omega (
+      arith,
+      paid_step state x h (All-head IsBit x u bits),
+      ones_bound (next_trellis_state state x) u (omega arith) (All-tail IsBit x u bits),
+    )
 
 -- ## AbsoluteValues: The least and the greatest absolute value of a list, found by reading one value at a time.
 
@@ -128,18 +138,6 @@ Contains-strength s k _ within e = (k, rw length-map within, get_or-map _ s k (p
 either : (xs : List ℕ) (a b c : ℕ) → (c ≡ a) ⊎ (c ≡ b) → Contains xs a → Contains xs b → Contains xs c
 either xs a b c x in_a in_b = grind arith
 
-min_or : (a b : ℕ) → (min a b ≡ a) ⊎ (min a b ≡ b)
-min_or a b = grind arith
-
-max_or : (a b : ℕ) → (max a b ≡ a) ⊎ (max a b ≡ b)
-max_or a b = grind arith
-
-Contains-min : (xs : List ℕ) (a b : ℕ) → Contains xs a → Contains xs b → Contains xs (min a b)
-Contains-min xs a b = either xs a b (min a b) (min_or a b)
-
-Contains-max : (xs : List ℕ) (a b : ℕ) → Contains xs a → Contains xs b → Contains xs (max a b)
-Contains-max xs a b = either xs a b _ (max_or a b)
-
 -- after k values have been read: the absolute value of each lies within the bounds, and both bounds occur in the list
 pub record IsSoFar (s : List ℤ) (k min_abs max_abs : ℕ) : Type 0 where
   pub between : All (Between min_abs max_abs) (take k s)
@@ -160,8 +158,8 @@ IsSoFar-more s k min_abs max_abs strength within e h =
     let here = Contains-strength s k strength within e in
     record {
       between = between_more s k min_abs max_abs strength within e h.between;
-      least = Contains-min (map unsigned_abs s) min_abs strength h.least here;
-      greatest = Contains-max (map unsigned_abs s) max_abs strength h.greatest here;
+      least = either (map unsigned_abs s) min_abs strength _ (grind arith) h.least here;
+      greatest = either (map unsigned_abs s) max_abs strength _ (grind arith) h.greatest here;
     }
 
 pub AreLeastAndGreatestStrength-whole : (s : List ℤ) (k min_abs max_abs : ℕ) → length s ≤ k → IsSoFar s k min_abs max_abs →
@@ -208,54 +206,47 @@ distance-xor_bits : (a b : List ℕ) → length a ≡ length b → AllBits a →
 distance-xor_bits [] b e bits_a bits_b = refl
 distance-xor_bits (x ∷ a) [] e bits_a bits_b = absurd (omega arith)
 distance-xor_bits (x ∷ a) (y ∷ b) e bits_a bits_b =
-    let e' : length a ≡ length b = omega arith in
-    let later = distance-xor_bits a b e' (All-tail IsBit x a bits_a) (All-tail IsBit y b bits_b) in
     distance-cons x y a b
-    ∙ ap₂ (λ here after. here + after) (one_place x y (All-head IsBit x a bits_a) (All-head IsBit y b bits_b)) later
+    ∙ ap₂ (λ here after. here + after) (one_place x y (All-head IsBit x a bits_a) (All-head IsBit y b bits_b))
+    (distance-xor_bits a b (omega arith) (All-tail IsBit x a bits_a) (All-tail IsBit y b bits_b))
   where
     one_place : (x y : ℕ) → x ≤ 1 → y ≤ 1 → cond (not (x == y)) 1 0 ≡ (x + y) % 2
     one_place zero zero hx hy = refl
     one_place zero (suc zero) hx hy = refl
     one_place (suc zero) zero hx hy = refl
     one_place (suc zero) (suc zero) hx hy = refl
-    one_place zero (suc (suc y)) hx hy = absurd (omega arith)
-    one_place (suc zero) (suc (suc y)) hx hy = absurd (omega arith)
-    one_place (suc (suc x)) y hx hy = absurd (omega arith)
+    one_place x y hx hy = absurd (omega arith)
 
 -- the first difference gives two coded ones and leads to state 1, from which at least five more ones follow
 seven_ones : (u v : List ℕ) → AllBits u → AllBits v → length u ≡ length v → u ≢ v →
     7 ≤ ones (encoding_from_state 0 (xor_bits u v ++ tail_bits))
 seven_ones [] [] bits_u bits_v e ne = absurd (ne refl)
-seven_ones [] (y ∷ v) bits_u bits_v e ne = absurd (omega arith)
-seven_ones (x ∷ u) [] bits_u bits_v e ne = absurd (omega arith)
 seven_ones (zero ∷ u) (zero ∷ v) bits_u bits_v e ne =
-    let e' : length u ≡ length v = omega arith in
-    let later = seven_ones u v (All-tail IsBit 0 u bits_u) (All-tail IsBit 0 v bits_v) e' (λ same. ne (ap (λ w. 0 ∷ w) same)) in
-    omega (arith, later)
+    omega (
+      arith,
+      seven_ones u v (All-tail IsBit 0 u bits_u) (All-tail IsBit 0 v bits_v) (omega arith)
+          (λ same. ne (ap (λ w. 0 ∷ w) same)),
+    )
 seven_ones (suc zero ∷ u) (suc zero ∷ v) bits_u bits_v e ne =
-    let e' : length u ≡ length v = omega arith in
-    let later = seven_ones u v (All-tail IsBit 1 u bits_u) (All-tail IsBit 1 v bits_v) e' (λ same. ne (ap (λ w. 1 ∷ w) same)) in
-    omega (arith, later)
+    omega (
+      arith,
+      seven_ones u v (All-tail IsBit 1 u bits_u) (All-tail IsBit 1 v bits_v) (omega arith)
+          (λ same. ne (ap (λ w. 1 ∷ w) same)),
+    )
 seven_ones (zero ∷ u) (suc zero ∷ v) bits_u bits_v e ne =
-    let later = ones_bound 1 (xor_bits u v) (omega arith) (AllBits-xor_bits u v) in
-    omega (arith, later)
+    omega (arith, ones_bound 1 (xor_bits u v) (omega arith) (AllBits-xor_bits u v))
 seven_ones (suc zero ∷ u) (zero ∷ v) bits_u bits_v e ne =
-    let later = ones_bound 1 (xor_bits u v) (omega arith) (AllBits-xor_bits u v) in
-    omega (arith, later)
-seven_ones (suc (suc x) ∷ u) (y ∷ v) bits_u bits_v e ne =
-    let bit : suc (suc x) ≤ 1 = All-head IsBit (suc (suc x)) u bits_u in
-    absurd (omega arith)
-seven_ones (x ∷ u) (suc (suc y) ∷ v) bits_u bits_v e ne =
-    let bit : suc (suc y) ≤ 1 = All-head IsBit (suc (suc y)) v bits_v in
-    absurd (omega arith)
+    omega (arith, ones_bound 1 (xor_bits u v) (omega arith) (AllBits-xor_bits u v))
+seven_ones (suc (suc x) ∷ u) (y ∷ v) bits_u bits_v e ne = absurd (omega (arith, All-head IsBit (suc (suc x)) u bits_u))
+seven_ones (x ∷ u) (suc (suc y) ∷ v) bits_u bits_v e ne = absurd (omega (arith, All-head IsBit (suc (suc y)) v bits_v))
+seven_ones u v bits_u bits_v e ne = absurd (omega arith)
 
 -- a list of four zeros is the list of tail bits
 tail_bits-from_zeros : (t : List ℕ) → length t ≡ 4 → All (λ bit. bit ≡ 0) t → t ≡ tail_bits
 tail_bits-from_zeros (a ∷ b ∷ c ∷ d ∷ []) e zeros =
-    ap₂ (λ x t. x ∷ t) (zeros 0 0 (omega arith))
-    (ap₂ (λ x t. x ∷ t) (zeros 1 0 (omega arith))
-    (ap₂ (λ x t. x ∷ t) (zeros 2 0 (omega arith))
-    (ap (λ x. x ∷ []) (zeros 3 0 (omega arith)))))
+    let all : (a ≡ 0) × (b ≡ 0) × (c ≡ 0) × (d ≡ 0) =
+    (zeros 0 0 (omega arith), zeros 1 0 (omega arith), zeros 2 0 (omega arith), zeros 3 0 (omega arith)) in
+    cc
 tail_bits-from_zeros x e zeros = absurd (omega arith)
 
 -- all bits of a list but the last four
@@ -313,42 +304,35 @@ one_first n = 1 ∷ replicate n 0
 
 IsEncoderInput-one_first : (n : ℕ) → 4 ≤ n → IsEncoderInput (one_first n)
 IsEncoderInput-one_first n four =
-    let zeros : length (replicate {A = ℕ} n 0) ≡ n = length-replicate n 0 in
-    let after : length (one_first n) - 4 ≡ suc (n - 4) = omega arith in
+    let after : length (one_first n) - 4 ≡ suc (n - 4) = omega (arith, length-replicate {A = ℕ} n 0) in
     record {
-      count = omega arith;
+      count = omega (arith, length-replicate {A = ℕ} n 0);
       bits = All-cons IsBit 1 (replicate n 0) (omega arith) (All-replicate IsBit n 0 (omega arith));
       tail = rw after (All-drop (λ bit. bit ≡ 0) (n - 4) (replicate n 0) (All-replicate (λ bit. bit ≡ 0) n 0 (refl {a = 0})));
     }
 
-distance-one_first : (m : ℕ) →
-    distance (encoding (one_first (suc (suc (suc (suc m)))))) (encoding (replicate (suc (suc (suc (suc (suc m))))) 0)) ≡ 7
+distance-one_first : (m : ℕ) → let n = suc (suc (suc (suc m))) in
+    distance (encoding (one_first n)) (encoding (replicate (suc n) 0)) ≡ 7
 distance-one_first m =
-    let u = one_first (suc (suc (suc (suc m)))) in
-    let v = replicate {A = ℕ} (suc (suc (suc (suc (suc m))))) 0 in
-    let same : length u ≡ length v = ap suc refl in
-    let later = ones-zeros m in
-    distance-coded u v same (IsEncoderInput-one_first (suc (suc (suc (suc m)))) (omega arith)).bits
-    (IsEncoderInput-zeros (suc (suc (suc (suc (suc m))))) (omega arith)).bits
+    let n = suc (suc (suc (suc m))) in
+    distance-coded (one_first n) (replicate (suc n) 0) refl (IsEncoderInput-one_first n (omega arith)).bits
+    (IsEncoderInput-zeros (suc n) (omega arith)).bits
     ∙ ap (λ w. ones (encoding_from_state 0 (1 ∷ 0 ∷ 0 ∷ 0 ∷ 0 ∷ w))) (xor_bits-zeros m)
-    ∙ omega (arith, later)
+    ∙ omega (arith, ones-zeros m)
 
 -- the codewords of a list whose only one is the first bit and of the list of zeros have distance seven
 pub reaches_seven : (n : ℕ) → 5 ≤ n → SomeDistanceIsSeven n
-reaches_seven zero h = absurd (omega arith)
-reaches_seven (suc zero) h = absurd (omega arith)
-reaches_seven (suc (suc zero)) h = absurd (omega arith)
-reaches_seven (suc (suc (suc zero))) h = absurd (omega arith)
-reaches_seven (suc (suc (suc (suc zero)))) h = absurd (omega arith)
-reaches_seven (suc (suc (suc (suc (suc m))))) h = record {
-  u = one_first (suc (suc (suc (suc m))));
-  v = replicate (suc (suc (suc (suc (suc m))))) 0;
-  u_is_input = IsEncoderInput-one_first (suc (suc (suc (suc m)))) (omega arith);
-  v_is_input = IsEncoderInput-zeros (suc (suc (suc (suc (suc m))))) h;
-  first_count = ap suc (length-replicate (suc (suc (suc (suc m)))) 0);
-  second_count = length-replicate (suc (suc (suc (suc (suc m))))) 0;
-  seven = distance-one_first m;
-}
+reaches_seven (suc (suc (suc (suc (suc m))))) h =
+    let n = suc (suc (suc (suc m))) in record {
+      u = one_first n;
+      v = replicate (suc n) 0;
+      u_is_input = IsEncoderInput-one_first n (omega arith);
+      v_is_input = IsEncoderInput-zeros (suc n) h;
+      first_length = ap suc (length-replicate n 0);
+      second_length = length-replicate (suc n) 0;
+      distance_is_seven = distance-one_first m;
+    }
+reaches_seven n h = absurd (omega arith)
 
 -- ## Restoring: Three wrong soft bits cannot outweigh a distance of seven if all soft bits have a similar strength, lo to hi. Compared with
 -- any other list, the sent list gains at least 2 lo at each of at least four differences and loses at most 2 hi at each of three.
@@ -393,28 +377,18 @@ one_place p zero zero min_abs max_abs between hx hy = omega (arith, ints)
 one_place p (suc zero) (suc zero) min_abs max_abs between hx hy = omega (arith, ints)
 one_place p zero (suc zero) min_abs max_abs between hx hy = grind arith
 one_place p (suc zero) zero min_abs max_abs between hx hy = grind arith
-one_place p (suc (suc x)) y min_abs max_abs between hx hy = absurd (omega arith)
-one_place p zero (suc (suc y)) min_abs max_abs between hx hy = absurd (omega arith)
-one_place p (suc zero) (suc (suc y)) min_abs max_abs between hx hy = absurd (omega arith)
+one_place p x y min_abs max_abs between hx hy = absurd (omega arith)
 
 pub all_places : (s : List ℤ) (c d : List ℕ) (min_abs max_abs : ℕ) → length s ≡ length c → length s ≡ length d →
     AllBits c → AllBits d → All (Between min_abs max_abs) s →
     IsOutweighed (likelihood s c) (likelihood s d) min_abs max_abs (distance c d) (count_wrong_bits s c)
 all_places [] [] [] min_abs max_abs ec ed bits_c bits_d between = omega (arith, ints)
 all_places (p ∷ s) (x ∷ c) (y ∷ d) min_abs max_abs ec ed bits_c bits_d between =
-    let ec' : length s ≡ length c = omega arith in
-    let ed' : length s ≡ length d = omega arith in
-    let hx = All-head IsBit x c bits_c in
-    let hy = All-head IsBit y d bits_d in
-    let here = one_place p x y min_abs max_abs (All-head (Between min_abs max_abs) p s between) hx hy in
-    let later = all_places s c d min_abs max_abs ec' ed' (All-tail IsBit x c bits_c) (All-tail IsBit y d bits_d)
+    let here = one_place p x y min_abs max_abs (All-head (Between min_abs max_abs) p s between) (All-head IsBit x c bits_c)
+    (All-head IsBit y d bits_d) in
+    let later = all_places s c d min_abs max_abs (omega arith) (omega arith) (All-tail IsBit x c bits_c) (All-tail IsBit y d bits_d)
     (All-tail (Between min_abs max_abs) p s between) in
-    rw (distance-cons x y c d) (joined (bit_metric p x) (bit_metric p y) (likelihood s c) (likelihood s d) min_abs max_abs _ _ _ _ here
-    later)
-  where
-    joined : (a b la lb : ℤ) (min_abs max_abs d w ds ws : ℕ) → IsOutweighed a b min_abs max_abs d w →
-        IsOutweighed la lb min_abs max_abs ds ws → IsOutweighed (a +ℤ la) (b +ℤ lb) min_abs max_abs (d + ds) (w + ws)
-    joined a b la lb min_abs max_abs d w ds ws here later = omega (arith, ints)
+    rw (distance-cons x y c d) (omega (arith, ints, here, later))
 all_places x y z min_abs max_abs ec ed bits_c bits_d between = absurd (omega arith)
 
 -- seven differences of strength at least lo outweigh three wrong soft bits
@@ -428,15 +402,9 @@ less_likely s u v information_u information_v pairs same ne damage =
     let sums = all_places s (encoding u) (encoding v) min_abs max_abs count_u count_v (AllBits-coded u) (AllBits-coded v)
     damage.strengths.between in
     let seven = at_least_seven u v information_u information_v (sym same) (λ e. ne (sym e)) in
-    weighed (likelihood s (encoding u)) (likelihood s (encoding v)) min_abs max_abs (distance (encoding u) (encoding v))
-    (count_wrong_bits s (encoding u)) sums seven damage.at_most_3 damage.similar_strengths
-  where
-    weighed : (a b : ℤ) (min_abs max_abs d w : ℕ) → IsOutweighed a b min_abs max_abs d w → 7 ≤ d → w ≤ 3 →
-        3 * max_abs < 4 * min_abs → b <ℤ a
-    weighed a b min_abs max_abs d w sums seven few even =
-        let gained = mul-le-mul_left min_abs seven in
-        let lost = mul-le-mul_left (min_abs + max_abs) few in
-        omega (arith, ints, gained, lost)
+    let gained = mul-le-mul_left min_abs seven in
+    let lost = mul-le-mul_left (min_abs + max_abs) damage.at_most_3_wrong_bits in
+    omega (arith, ints, sums, gained, lost, damage.similar_strengths)
 
 -- the sent list is the most likely one, and no other ties with it
 pub restores : (soft : List ℤ) (u : List ℕ) → CorrectableIsRestored soft u
@@ -460,7 +428,7 @@ pub IsCorrectable-equal : (soft : List ℤ) (c : List ℕ) (strength : ℕ) → 
 IsCorrectable-equal soft c strength any more equal few =
     let first = Contains-strength soft 0 strength any (sym (equal 0 (pos 0) any)) in
     record {
-      at_most_3 = few;
+      at_most_3_wrong_bits = few;
       min_abs = strength;
       max_abs = strength;
       strengths = record {

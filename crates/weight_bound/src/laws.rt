@@ -9,7 +9,7 @@ ghost use Rattle.weight_bound.specs.Restoring.{IsCorrectable, OthersAreLessLikel
 
 use bit_blocks::ENCODER_INPUT_BITS;
 
-/// Law: the coded bits of two different information lists of equal length differ in at least seven positions.
+/// Law: the coded bits of two different encoder inputs of equal length differ in at least seven positions.
 pub fn law_distance(u: &[u8], v: &[u8])
     requires first { IsEncoderInput u.now }
     requires second { IsEncoderInput v.now }
@@ -18,13 +18,13 @@ pub fn law_distance(u: &[u8], v: &[u8])
     ensures { 7 ≤ distance (encoding u.now) (encoding v.now) }
 {}
 
-/// Law: for every length of at least five bits, there are two information lists whose coded bits differ in exactly seven positions.
+/// Law: for every length of at least five bits, there are two encoder inputs whose coded bits differ in exactly seven positions.
 pub fn law_free_distance_is_seven()
     ensures { (n : ℕ) → 5 ≤ n → SomeDistanceIsSeven n }
 {}
 
-/// Law: if at most three soft bits are wrong and all are of similar strength (`IsCorrectable`), the sent information list `u` is more
-/// likely than every other list.
+/// Law: if at most three soft bits are wrong and all are of similar strength (`IsCorrectable`), the sent encoder input `u` is more
+/// likely than every other word.
 pub fn law_restores(soft: &[i8], u: &[u8])
     requires information { IsEncoderInput u.now }
     requires at_most { length u.now ≤ ENCODER_INPUT_BITS }

@@ -1,5 +1,7 @@
-use Rattle.std.proofs.{Common.{◌+◌, ◌-◌, ◌%◌, length, get_or, ap, ap₂, sym, ◌∙◌, arith}, lemmas.List.length-set}
-use Rattle.conv_code.{specs.Code.delayed_bit, proofs.Lemmas.{delayed_bit-late, bit_at-most_1, first_by_xor, second_by_xor, coded_more}}
+use Rattle.{
+  std.proofs.{Common.{◌+◌, ◌-◌, ◌%◌, get_or, ap, ap₂, sym, ◌∙◌, arith}, lemmas.List.length-set},
+  conv_code.{specs.Code.delayed_bit, proofs.Lemmas.{delayed_bit-late, bit_at-most_1, first_by_xor, second_by_xor, coded_more}},
+}
 use Rattle.conv_code.proofs.encode_from_fifth_bit.Goals as goal
 
 pub loop-k-preserved : goal.loop-k-preserved

@@ -1,5 +1,4 @@
-use Rattle.std.{proofs.Common.{◌≡◌, ◌*◌, length, take}, specs.List.{flat_map, range_with_len}}
-use Rattle.conv_code.specs.Code.{coded_pair}
+use Rattle.{std.{proofs.Common.{◌≡◌, ◌*◌, length, take}, specs.List.{flat_map, range_with_len}}, conv_code.specs.Code.coded_pair}
 use Rattle.conv_code.proofs.encode_from_fifth_bit.Given as goal
 
 abbrev pub invariant-loop-k : goal.invariant-loop-k

@@ -6,15 +6,16 @@ ghost use Rattle.segmenting.specs.lapdm_frame.Layout.{n201};
 ghost use Rattle.segmenting.specs.Segments.{IsValidMessage, number_of_segments, max_message_octets, max_segments_per_message};
 ghost use Rattle.segmenting.specs.Buffers.{octets_in};
 ghost use Rattle.lapdm_window.specs.Ends.{EndpointState};
-ghost use Rattle.lapdm_window.specs.Parts.{values_of, values_of_parts, ValuesRepresent, WindowExists, AreValidHeldMessages, AreConsistent};
+ghost use Rattle.lapdm_window.specs.Parts.{values_of, values_of_parts, ValuesRepresent, SomeWindowHasValues, AreValidHeldMessages};
+ghost use Rattle.lapdm_window.specs.Parts.{AreConsistent};
 ghost use Rattle.lapdm_window.specs.Abstraction.{Represents};
 
 use super::Window;
-use segmenting::{Channel, LONGEST_MESSAGE, MessageBuffer, Part};
+use segmenting::{Channel, LONGEST_MESSAGE, MessageBuffer, ReassemblyState};
 
 /// The state of a window as plain data, with borrowed messages and octets.
 #[derive(Clone, Copy, Debug)]
-pub struct WindowParts<'a> {
+pub struct LapdmWindowView<'a> {
     pub channel: Channel,
     /// The messages that are not fully acknowledged, in the order in which layer 3 sent them.
     pub held: &'a [MessageBuffer],
@@ -32,10 +33,10 @@ pub struct WindowParts<'a> {
     /// The octets that the reassembly holds.
     pub reassembly: &'a [u8],
     /// The part of a message that the reassembly holds.
-    pub part: Part,
+    pub part: ReassemblyState,
 }
 
-impl WindowParts<'_> {
+impl LapdmWindowView<'_> {
     // Returns whether some window that represents an endpoint has this state.
     fn are_consistent(&self) -> bool
         ensures consistent { IsTrue result ↔ AreConsistent (values_of_parts self.now) }
@@ -60,11 +61,11 @@ impl WindowParts<'_> {
     }
 }
 
-fn is_window_of_one(vs: u8, va: u8, held: &[MessageBuffer]) -> bool
+fn is_window_of_one(vs: u8, va: u8, held_messages: &[MessageBuffer]) -> bool
     ensures { IsTrue result ↔ ((vs ≡ va)
-        ⊎ ((vs ≡ (va + 1) % 8) × (1 ≤ length (map octets_in held.now)))) }
+        ⊎ ((vs ≡ (va + 1) % 8) × (1 ≤ length (map octets_in held_messages.now)))) }
 {
-    vs == va || (vs == (va % 8 + 1) % 8 && !held.is_empty())
+    vs == va || (vs == (va % 8 + 1) % 8 && !held_messages.is_empty())
 }
 
 fn are_valid_held_messages(messages: &[MessageBuffer]) -> bool
@@ -90,10 +91,10 @@ fn is_valid_message(message: &MessageBuffer) -> bool
 }
 
 // Returns the number of segments of the first message, or 1 if there is no message.
-fn first_message_segment_count(held: &[MessageBuffer], channel: Channel) -> usize
-    ensures { result ≡ number_of_segments (n201 channel) (slice_index_or (map octets_in held.now) 0 []) }
+fn first_message_segment_count(held_messages: &[MessageBuffer], channel: Channel) -> usize
+    ensures { result ≡ number_of_segments (n201 channel) (slice_index_or (map octets_in held_messages.now) 0 []) }
 {
-    match held.first() {
+    match held_messages.first() {
         Some(message) => segment_count(message.octets(), channel),
         None => 1,
     }
@@ -109,13 +110,13 @@ fn segment_count(message: &[u8], channel: Channel) -> usize
 }
 
 impl Window {
-    pub fn parts(&self) -> WindowParts<'_>
+    pub fn parts(&self) -> LapdmWindowView<'_>
         ensures values { values_of_parts result ≡ values_of self.now }
         ensures size { length result.held.now ≤ 8 }
         ensures place { result.segment_index < max_segments_per_message result.channel }
         ensures most { length result.reassembly.now ≤ max_message_octets }
     {
-        WindowParts {
+        LapdmWindowView {
             channel: self.channel,
             held: self.held.as_slice(),
             segment_index: self.segment_index,
@@ -131,11 +132,11 @@ impl Window {
     }
 
     /// Restores a window from its state. Returns false and changes nothing if no window can have this state.
-    pub fn restore(&mut self, parts: &WindowParts<'_>) -> bool
+    pub fn restore(&mut self, parts: &LapdmWindowView<'_>) -> bool
         ensures same { IsTrue result → values_of self.new ≡ values_of_parts parts.now }
         ensures represents { IsTrue result → (e : EndpointState) → ValuesRepresent (values_of_parts parts.now) e
             → Represents self.new e }
-        ensures known { IsTrue result ↔ WindowExists (values_of_parts parts.now) }
+        ensures known { IsTrue result ↔ SomeWindowHasValues (values_of_parts parts.now) }
         ensures unknown { result ≡ false → self.new ≡ self.old }
     {
         if !parts.are_consistent() || !self.joiner.restore(parts.reassembly, parts.part) {

@@ -3,9 +3,9 @@
 ghost use Rattle.std.specs.Prelude.{◌≡◌, ◌↔◌, ◌≤◌, false, List, [], length, IsTrue};
 ghost use Rattle.segmenting.specs.Joiners.{HasTakenSegments};
 ghost use Rattle.segmenting.specs.Segments.{Segment, max_message_octets};
-ghost use Rattle.segmenting.specs.Parts.{values_of, JoinerExists};
+ghost use Rattle.segmenting.specs.Parts.{values_of, SomeJoinerHasValues};
 
-use super::{Joiner, Part};
+use super::{Joiner, ReassemblyState};
 use crate::LONGEST_MESSAGE;
 
 impl Joiner {
@@ -18,7 +18,7 @@ impl Joiner {
     }
 
     /// The part of a message that the joiner holds.
-    pub fn part(&self) -> Part
+    pub fn part(&self) -> ReassemblyState
         ensures { result ≡ (values_of self.now).part }
     {
         self.part
@@ -26,10 +26,10 @@ impl Joiner {
 
     /// Restores the state of a joiner: the octets joined so far, and what they are part of. Returns false and changes nothing if no joiner
     /// can be in this state.
-    pub fn restore(&mut self, octets: &[u8], part: Part) -> bool
+    pub fn restore(&mut self, octets: &[u8], part: ReassemblyState) -> bool
         ensures same { IsTrue result
             → values_of self.new ≡ record { octets = octets.now; part = part } }
-        ensures known { IsTrue result ↔ JoinerExists (record { octets = octets.now; part = part }) }
+        ensures known { IsTrue result ↔ SomeJoinerHasValues (record { octets = octets.now; part = part }) }
         ensures unknown { result ≡ false → self.new ≡ self.old }
 
         // At least one list of segments leads a joiner to this state.
@@ -39,7 +39,7 @@ impl Joiner {
             return false;
         }
         let len = octets.len();
-        self.part = Part::Open;
+        self.part = ReassemblyState::Open;
         self.octets[0..len].copy_from_slice(octets);
         self.len = len;
         self.part = part;
@@ -48,11 +48,11 @@ impl Joiner {
 }
 
 // A joiner that discards an oversize message holds no octets.
-fn is_empty_if_oversize(octets: &[u8], part: Part) -> bool
-    ensures { IsTrue result ↔ (part ≡ Part.Discarding → octets.now ≡ []) }
+fn is_empty_if_oversize(octets: &[u8], reassembly: ReassemblyState) -> bool
+    ensures { IsTrue result ↔ (reassembly ≡ ReassemblyState.Discarding → octets.now ≡ []) }
 {
-    match part {
-        Part::Discarding => octets.is_empty(),
-        Part::Open | Part::Whole => true,
+    match reassembly {
+        ReassemblyState::Discarding => octets.is_empty(),
+        ReassemblyState::Open | ReassemblyState::Whole => true,
     }
 }

@@ -1,11 +1,17 @@
 -- The survivor maps of four positions give the best lists from position `length mod 4` on; one more map extends these to the front.
-use Rattle.std.proofs.Common.{arith, rules, lit≤, ◌≡◌, ◌*◌, ◌-◌, ◌%◌, ◌++◌, ℕ, ℤ, List, length, take, drop}
-use Rattle.std.proofs.{Common.{refl, ap₂, sym, ◌∙◌, w32, FitsSigned}, lemmas.{Int.{ints, to_z-of_z}, List.length-append}}
-use Rattle.std.proofs.lemmas.List.{length-take, length-drop, take_all, take-take, take-append-drop, Elements.{All-take, All-drop}}
-use Rattle.conv_code.specs.Likelihood.{AllSoftBits}
-use Rattle.trellis_decode.specs.{Lanes.{lane, AreSignedOctets, IsSignedOctet}, Trellis.IsSurvivor, AcsLanes.path_metric, Words.to_binary}
-use Rattle.trellis_decode.proofs.{Viterbi.{IsMostLikely-best, likelihood-best, IsSurvivor-same}, SurvivorLists.{walked, walked_bits}}
-use Rattle.trellis_decode.proofs.{SurvivorLists.{walked_state, list_of_few}, decode_soft.Goals.After-metric_of_state_0}
+use Rattle.{
+  std.proofs.{
+    Common.{arith, rules, lit≤, ◌≡◌, ◌*◌, ◌-◌, ◌%◌, ◌++◌, ℕ, ℤ, List, length, take, drop, refl, ap₂, sym},
+    Common.{◌∙◌, w32},
+    lemmas.{Int.{ints, to_z-of_z}, List.{length-take, length-drop, take_all, take-take, take-append-drop, Elements.{All-take, All-drop}}},
+  },
+  conv_code.specs.Likelihood.AllSoftBits,
+  trellis_decode.{
+    specs.{Lanes.{lane, AreSignedOctets, IsSignedOctet}, Trellis.IsSurvivor, AcsLanes.path_metric, Words.to_binary},
+    proofs.{Viterbi.{IsMostLikely-best, likelihood-best, IsSurvivor-same}, SurvivorLists.{walked, walked_bits, walked_state, list_of_few}},
+    proofs.decode_soft.Goals.After-metric_of_state_0,
+  },
+}
 use Rattle.trellis_decode.proofs.decode_soft.Goals as goal
 
 octets : (soft : List ℤ) → AllSoftBits soft → AreSignedOctets soft
@@ -35,18 +41,17 @@ best c =
     let length_front : length front ≡ 2 * few =
     omega (arith, length-take (2 * few) (take 8 soft), length-take 8 soft, c.requires.count, c.requires.at_least) in
     let counted : length bits ≡ few = omega (arith, count, length_front) in
-    let state = walked_state after values front rest map survivors walk some each 0 (lit≤ tt) in
+    let state = walked_state survivors walk some each 0 (lit≤ tt) in
     let first : c.write_last_state_bits.new.u ≡ bits =
     c.write_last_state_bits.ensures
     ∙ ap₂ (λ k s. drop (4 - k) (to_binary 4 s)) (sym counted) state
-    ∙ list_of_few bits (omega arith) (walked_bits after values front rest map survivors walk some each 0 (lit≤ tt)) in
+    ∙ list_of_few bits (omega arith) (walked_bits survivors walk some each 0 (lit≤ tt)) in
     IsSurvivor-same 0 (sym (ap₂ (λ u v. u ++ v) first c.trace_back_survivors.ensures)) whole refl
-    (walked after values front rest map survivors walk some each 0 (lit≤ tt))
+    (walked survivors walk some each 0 (lit≤ tt))
 
 long : (c : After-metric_of_state_0) → length (c.write_last_state_bits.new.u ++ c.trace_back_survivors.new.u) ≡ length c.args.u.now
 long c = omega (
   arith,
-  length-append c.write_last_state_bits.new.u c.trace_back_survivors.new.u,
   c.write_last_state_bits.auto.u,
   c.trace_back_survivors.auto.u,
   c.split_at_mut-first.ensures.front_len,
@@ -63,10 +68,9 @@ extend_survivors-walk-requires-clause-octets c = All-take IsSignedOctet 8 _ (oct
 pub returns-clause-best : goal.returns-clause-best
 returns-clause-best c =
     IsMostLikely-best c.args.soft.now (c.write_last_state_bits.new.u ++ c.trace_back_survivors.new.u) _ (omega
-    (arith, long, c.requires.at_least)) (omega (arith, long, c.requires.count)) (best c)
+    (arith, long, c.requires.at_least)) (omega (arith, long)) (best c)
 
 pub returns-clause-value : goal.returns-clause-value
 returns-clause-value c =
-    let fits : FitsSigned w32 c.metric_of_state_0.result = search rules in
-    to_z-of_z w32 _ fits ∙ c.metric_of_state_0.ensures
+    to_z-of_z w32 _ (search rules) ∙ c.metric_of_state_0.ensures
     ∙ likelihood-best _ _ _ (best c)

@@ -1,5 +1,4 @@
-use Rattle.std.proofs.Common.{◌<◌, ap, ◌∙◌, arith}
-use Rattle.bit_blocks.{specs.Octets.octet_bits, proofs.Lemmas.spread_bits}
+use Rattle.{std.proofs.Common.{◌<◌, ap, ◌∙◌, arith}, bit_blocks.{specs.Octets.octet_bits, proofs.Lemmas.spread_bits}}
 use Rattle.bit_blocks.proofs.octets.bits_of_octet.Goals as goal
 
 pub returns : goal.returns

@@ -1,5 +1,4 @@
-use Rattle.std.proofs.Common.{◌≡◌, ◌*◌, ◌++◌, take, drop}
-use Rattle.bit_blocks.specs.Octets.{bits_of}
+use Rattle.{std.proofs.Common.{◌≡◌, ◌*◌, ◌++◌, take, drop}, bit_blocks.specs.Octets.bits_of}
 use Rattle.bit_blocks.proofs.octets.from_octets.Given as goal
 
 -- `out` begins with the bits of the octets read so far; the rest is unchanged

@@ -1,5 +1,7 @@
-use Rattle.std.proofs.{Common.{◌≡◌, arith, ◌+◌, ◌-◌, ◌*◌, length, ap, ◌∙◌, sym, take}, Math.Seq.take-length}
-use Rattle.bit_blocks.{specs.Octets.{bits_of, octets_of}, proofs.Lemmas.{octets_of_more, bits_of-octets_of}}
+use Rattle.{
+  std.proofs.{Common.{◌≡◌, arith, ◌+◌, ◌-◌, ◌*◌, length, ap, ◌∙◌}, Math.Seq.take-length},
+  bit_blocks.{specs.Octets.bits_of, proofs.Lemmas.{octets_of_more, bits_of-octets_of}},
+}
 use Rattle.bit_blocks.proofs.octets.to_octets.Goals as goal
 
 pub loop-m-preserved : goal.loop-m-preserved
@@ -11,11 +13,7 @@ pub returns-clause-value : goal.returns-clause-value
 returns-clause-value c =
     let m : c.loop-m.m ≡ length c.loop-m.out = omega arith in
     let whole : 8 * c.loop-m.m ≡ length c.args.bits.now = omega arith in
-    sym (take-length c.loop-m.out)
-    ∙ ap (λ n. take n c.loop-m.out) (sym m)
-    ∙ c.loop-m.invariant
-    ∙ ap (λ n. octets_of (take n c.args.bits.now)) whole
-    ∙ ap octets_of (take-length c.args.bits.now)
+    cc (take-length c.loop-m.out, m, c.loop-m.invariant, whole, take-length c.args.bits.now)
 
 pub returns-clause-round_trip : goal.returns-clause-round_trip
 returns-clause-round_trip c =

@@ -1,5 +1,4 @@
-use Rattle.std.proofs.Common.{◌≡◌, ◌*◌, take}
-use Rattle.bit_blocks.specs.Octets.{octets_of}
+use Rattle.{std.proofs.Common.{◌≡◌, ◌*◌, take}, bit_blocks.specs.Octets.octets_of}
 use Rattle.bit_blocks.proofs.octets.to_octets.Given as goal
 
 -- `out` begins with the octets into which the bits read so far are packed

@@ -1,5 +1,7 @@
-use Rattle.std.proofs.Common.{◌+◌, ◌/◌, length, ap₂, ◌∙◌}
-use Rattle.bit_blocks.{specs.SoftValues.count_wrong_bits, proofs.Lemmas.count_wrong_bits-parts}
+use Rattle.{
+  std.proofs.Common.{◌+◌, ◌/◌, length, ap₂, ◌∙◌},
+  bit_blocks.{specs.SoftValues.count_wrong_bits, proofs.Lemmas.count_wrong_bits-parts},
+}
 use Rattle.bit_blocks.proofs.soft.count_wrong_bits.Goals as goal
 
 pub returns-clause-value : goal.returns-clause-value

@@ -1,5 +1,4 @@
-use Rattle.std.proofs.Common.{◌≡◌, ◌+◌, ◌≤◌, drop}
-use Rattle.bit_blocks.specs.SoftValues.{count_wrong_bits}
+use Rattle.{std.proofs.Common.{◌≡◌, ◌+◌, ◌≤◌, drop}, bit_blocks.specs.SoftValues.count_wrong_bits}
 use Rattle.bit_blocks.proofs.soft.count_wrong_bits_u8.Given as goal
 
 -- the number of wrong soft bits so far plus the number in the rest is the number in the whole list

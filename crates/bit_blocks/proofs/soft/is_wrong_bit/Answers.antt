@@ -1,8 +1,10 @@
 -- For both bits the comparison is computed for each of the 256 numbers that hold a soft bit.
-use Rattle.std.proofs.Common.{◌≡◌, ℕ, zero, suc, ◌<◌, ◌≤◌, Bool, true, false, refl, ap, sym, ◌∙◌, arith, pos}
-use Rattle.std.{proofs.{Common.{◌-ℤ◌, w8, to_z, of_z}, Math.Facts.Fits-of_z, lemmas.Int.to_z-of_z}, specs.Int.Bits.bit_xor}
+use Rattle.{
+  std.proofs.Common.{◌≡◌, ℕ, zero, suc, ◌<◌, ◌≤◌, Bool, true, false, refl, ap, sym, ◌∙◌, arith, pos, ◌-ℤ◌},
+  std.{proofs.{Common.{w8, to_z, of_z}, Math.Facts.Fits-of_z, lemmas.Int.to_z-of_z}, specs.Int.Bits.bit_xor},
+  bit_blocks.{specs.SoftValues.is_wrong_bit, proofs.Lemmas.{passes_below, at_passes_below}},
+}
 use lib.Signed.{lt_z}
-use Rattle.bit_blocks.{specs.SoftValues.is_wrong_bit, proofs.Lemmas.{passes_below, at_passes_below}}
 use Rattle.bit_blocks.proofs.soft.is_wrong_bit.Goals as goal
 
 abbrev found : ℕ → ℕ → Bool

@@ -1,43 +1,21 @@
 -- `part_mut` creates the reference to the slice and borrows it by `lends_part`.
-use mathlib.Core.Path.{refl}
+use mathlib.Core.{Path.refl, List.{List, [], ◌∷◌}}
 use Prim.Native.Nat.{ℕ, ◌+◌, ◌-◌, ◌^◌, ◌<◌, ◌≤◌}
 use native.Mathlib.Omega.{arith}
-use mathlib.Core.List.{List, [], ◌∷◌}
 use lib.ListN.{take, drop as drop_list}
 use seplogic.Ra.Ura.{Ura}
-use mir.Syntax.{Args, Fn, named, w64, a_number}
-use mir.MapTy.{inst_fn}
-use mir.Val.{Val, vptr, vint}
-use base.Logic.{SProp, ent}
-use base.Fml.{Lft, GName, Share, ftrue, flft}
-use prog.Memory.{Memory, size}
-use prog.Routine.{Routine}
-use prog.Wp.{Env, Calls, Loops, WpFn, Tables}
-use types.Logic.{Logic}
-use contract.BorrowLft.{◌⊑◌}
-use contract.Lifetimes.{AllOutlive}
-use contract.Monad.{Fun}
-use contract.Running.{tables, tables_of}
+use mir.{Syntax.{Args, Fn, named, w64, a_number}, MapTy.inst_fn, Val.{Val, vptr, vint}}
+use base.{Logic.{SProp, ent}, Fml.{Lft, GName, Share, ftrue, flft}}
+use prog.{Memory.{Memory, size}, Routine.Routine, Wp.{Env, Calls, Loops, WpFn, Tables}}
+use types.{Logic.Logic, Kit.{‵, ◌⊛◌, raw, given, some, later, ◌$◌, ◌∵◌, !, qed, by, move, keep, drop, split, split3}}
+use types.{Kit.{join, learn, fsplit, fjoin, use2, await, pick, suffices, frame, done, rewrite}, Part.agg, Run.{stop, addr, bin, and_then}}
+use types.{Run.{no_more, returns, enter}, ByLocal.{alloc_all, pass_all, free_all, look_at, get, through, sets, env}}
+use contract.{BorrowLft.◌⊑◌, Lifetimes.AllOutlive, Monad.Fun, Running.{tables, tables_of}}
 use sound.WpLaws.{WpFn-mono}
-use types.Kit.{‵, ◌⊛◌, raw, given, some, later, ◌$◌, ◌∵◌, !, qed, by, move, keep, drop, split, split3, join, learn}
-use types.Kit.{fsplit, fjoin, use2, await, pick, suffices, frame, done, rewrite}
-use types.Part.{agg}
-use types.Run.{stop, addr, bin, and_then, no_more, returns, enter}
-use types.ByLocal.{alloc_all, pass_all, free_all, look_at, get, through, sets, env}
-use denote.Builtin.{u8, usize, RefMutOf}
-use denote.Exit.{yes, no}
-use denote.Param.{param, number, layout, layouts, ArrayAt}
-use denote.Plain.{uint_vals, uint_Tells}
-use denote.RattleType.{RattleType, owns}
-use denote.Ref.{MutBor, MutRef, mut_vals, mut_Tells}
-use denote.Signature.{plain}
-use denote.Slice.{MutSlice, slice_val}
-use denote.Steps.{nothing}
-use denote.Triple.Clauses.{Clauses, Ended, closing}
-use denote.Triple.Entry.{on_entry}
-use denote.Triple.Spec.{Meets, triple_of}
-use denote.Triple.Table.{entered}
-use denote.Triple.Walked.{says, Stays, stay_dropped, walk_of, ends_at, walked, Goes-spent_ref, Goes-dropped, walk_Meets}
+use denote.{Builtin.{u8, usize, RefMutOf}, Exit.{yes, no}, Param.{param, number, layout, layouts, ArrayAt}, Plain.{uint_vals, uint_Tells}}
+use denote.{RattleType.{RattleType, owns}, Ref.{MutBor, MutRef, mut_vals, mut_Tells}, Signature.plain, Slice.{MutSlice, slice_val}}
+use denote.{Steps.nothing, Triple.{Clauses.{Clauses, Ended, closing}, Entry.on_entry, Spec.{Meets, triple_of}, Table.entered, Walked.says}}
+use denote.Triple.Walked.{Stays, stay_dropped, walk_of, ends_at, walked, Goes-spent_ref, Goes-dropped, walk_Meets}
 use Rattle.burst_map.{proofs.LendsPart.{part_lent, lends_part}, specs.contracts.lending.part_mut.Key.name as #self}
 use Rattle.burst_map.specs.contracts.lending.part_mut as F
 use Rattle.burst_map.proofs.lending.part_mut.Statement as stated

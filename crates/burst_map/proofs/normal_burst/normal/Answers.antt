@@ -1,6 +1,8 @@
-use Rattle.std.proofs.Common.{[], ◌∷◌, replicate, refl, arith}
-use Rattle.burst_map.{specs.Tails.tail_bits, proofs.Lemmas.{IsFilled, filled_more, AllBits-filled}}
-use Rattle.training_seq.proofs.bit_blocks.Lemmas.{AllBits-table}
+use Rattle.{
+  std.proofs.Common.{[], ◌∷◌, replicate, refl, arith},
+  burst_map.{specs.Tails.tail_bits, proofs.Lemmas.{IsFilled, filled_more, AllBits-filled}},
+  training_seq.proofs.bit_blocks.Lemmas.AllBits-table,
+}
 use Rattle.burst_map.proofs.normal_burst.normal.Goals as goal
 
 pub returns : goal.returns

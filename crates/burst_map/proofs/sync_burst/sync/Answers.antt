@@ -1,6 +1,8 @@
-use Rattle.std.proofs.Common.{replicate, refl, arith}
-use Rattle.burst_map.{specs.{Tails.tail_bits, SyncBurst.sync_sequence}, proofs.Lemmas.{IsFilled, filled_more, AllBits-filled}}
-use Rattle.training_seq.proofs.bit_blocks.Lemmas.{AllBits-table}
+use Rattle.{
+  std.proofs.Common.{replicate, refl, arith},
+  burst_map.{specs.{Tails.tail_bits, SyncBurst.sync_sequence}, proofs.Lemmas.{IsFilled, filled_more, AllBits-filled}},
+  training_seq.proofs.bit_blocks.Lemmas.AllBits-table,
+}
 use Rattle.burst_map.proofs.sync_burst.sync.Goals as goal
 
 pub returns : goal.returns

@@ -1,5 +1,4 @@
-use Rattle.std.proofs.Common.{rules}
-use Rattle.burst_map.proofs.Lemmas.{both_written}
+use Rattle.{std.proofs.Common.rules, burst_map.proofs.Lemmas.both_written}
 use Rattle.burst_map.proofs.tests.normal_from_parts.Goals as goal
 
 pub returns : goal.returns

@@ -1,6 +1,8 @@
-use Rattle.std.proofs.{Common.{◌*◌, ◌+◌, get_or, arith, ◌∙◌}, lemmas.List.length-set}
-use Rattle.bit_blocks.specs.Octets.{bits_of}
-use Rattle.conv_code.proofs.Lemmas.{HoldsFourCodedPairs-straddling_octet, even_window, odd_window, quads_more}
+use Rattle.{
+  std.proofs.{Common.{◌*◌, ◌+◌, get_or, arith, ◌∙◌}, lemmas.List.length-set},
+  bit_blocks.specs.Octets.bits_of,
+  conv_code.proofs.Lemmas.{HoldsFourCodedPairs-straddling_octet, even_window, odd_window, quads_more},
+}
 use Rattle.conv_code.proofs.packed.encode_four_bits_per_octet.Goals as goal
 
 pub loop-m-preserved : goal.loop-m-preserved

@@ -1,6 +1,8 @@
-use Rattle.std.proofs.Common.{◌≡◌, ℕ, ◌*◌, ◌<◌, length, get_or}
-use Rattle.bit_blocks.specs.Octets.{bits_of}
-use Rattle.conv_code.specs.CodedPairs.{HoldsFourCodedPairs}
+use Rattle.{
+  std.proofs.Common.{◌≡◌, ℕ, ◌*◌, ◌<◌, length, get_or},
+  bit_blocks.specs.Octets.bits_of,
+  conv_code.specs.CodedPairs.HoldsFourCodedPairs,
+}
 use Rattle.conv_code.proofs.packed.encode_four_bits_per_octet.Given as goal
 
 -- each octet written so far holds the coded bits of its four information bits

@@ -1,6 +1,8 @@
-use Rattle.std.proofs.{Common.{◌<◌, ℕ, ◌∷◌, get_or, subst, ◌∙◌}, lemmas.List.append-nil}
-use Rattle.bit_blocks.specs.Octets.{bits_of}
-use Rattle.conv_code.{specs.CodedPairs.HoldsFourCodedPairs, proofs.Lemmas.AreCodedBitsPacked-encode_four_bits_per_octet}
+use Rattle.{
+  std.proofs.{Common.{◌<◌, ℕ, ◌∷◌, get_or, subst, ◌∙◌}, lemmas.List.append-nil},
+  bit_blocks.specs.Octets.bits_of,
+  conv_code.{specs.CodedPairs.HoldsFourCodedPairs, proofs.Lemmas.AreCodedBitsPacked-encode_four_bits_per_octet},
+}
 use Rattle.conv_code.proofs.packed.encode_packed.Goals as goal
 
 pub returns : goal.returns

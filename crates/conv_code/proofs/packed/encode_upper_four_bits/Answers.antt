@@ -1,5 +1,4 @@
-use Rattle.std.proofs.Common.{arith}
-use Rattle.conv_code.proofs.Lemmas.{quad_first, quad_second}
+use Rattle.{std.proofs.Common.arith, conv_code.proofs.Lemmas.{quad_first, quad_second}}
 use Rattle.conv_code.proofs.packed.encode_upper_four_bits.Goals as goal
 
 pub returns-clause-first : goal.returns-clause-first

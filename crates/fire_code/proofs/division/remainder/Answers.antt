@@ -1,6 +1,8 @@
-use Rattle.std.proofs.{Common.{arith, ◌∷◌, get_or}, lemmas.Nat.pow_pos}
-use Rattle.bit_blocks.proofs.Lemmas.{IsDivisibleBy-zeros}
-use Rattle.fire_code.{specs.Registers.low_bits, proofs.Lemmas.{length-low_bits, low_bits-zero, remainder_along, remainder_within}}
+use Rattle.{
+  std.proofs.{Common.{arith, ◌∷◌, get_or}, lemmas.Nat.pow_pos},
+  bit_blocks.proofs.Lemmas.IsDivisibleBy-zeros,
+  fire_code.{specs.Registers.low_bits, proofs.Lemmas.{length-low_bits, low_bits-zero, remainder_along, remainder_within}},
+}
 use Rattle.fire_code.proofs.division.remainder.Goals as goal
 
 pub loop-bit-init : goal.loop-bit-init

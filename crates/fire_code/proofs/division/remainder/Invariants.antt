@@ -1,6 +1,8 @@
-use Rattle.std.proofs.Common.{◌<◌, ◌^◌, ◌++◌, ◌∷◌, take}
-use Rattle.bit_blocks.specs.Polynomials.{IsDivisibleBy}
-use Rattle.fire_code.specs.Registers.{low_bits}
+use Rattle.{
+  std.proofs.Common.{◌<◌, ◌^◌, ◌++◌, ◌∷◌, take},
+  bit_blocks.specs.Polynomials.IsDivisibleBy,
+  fire_code.specs.Registers.low_bits,
+}
 use Rattle.fire_code.proofs.division.remainder.Given as goal
 
 -- the register is the remainder of the bits read so far

@@ -1,5 +1,4 @@
-use Rattle.bit_blocks.specs.Octets.{octet_bits}
-use Rattle.fire_code.proofs.Lemmas.{remainder_of_octet, same_remainder_of_g40}
+use Rattle.{bit_blocks.specs.Octets.octet_bits, fire_code.proofs.Lemmas.{remainder_of_octet, same_remainder_of_g40}}
 use Rattle.fire_code.proofs.octets.octet_remainder.Goals as goal
 
 pub returns-clause-multiple : goal.returns-clause-multiple

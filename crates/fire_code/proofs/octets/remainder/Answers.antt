@@ -1,5 +1,4 @@
-use Rattle.std.proofs.Common.{◌+◌, ◌-◌, ◌*◌, arith}
-use Rattle.fire_code.proofs.Lemmas.{empty_register, octet_along, octet_within}
+use Rattle.{std.proofs.Common.{◌+◌, ◌-◌, ◌*◌, arith}, fire_code.proofs.Lemmas.{empty_register, octet_along, octet_within}}
 use Rattle.fire_code.proofs.octets.remainder.Goals as goal
 
 pub loop-m-init : goal.loop-m-init

@@ -1,5 +1,4 @@
-use Rattle.std.proofs.{Common.arith, lemmas.List.take_all}
-use Rattle.fire_code.proofs.Lemmas.{empty_register, octets_along, octet_within}
+use Rattle.{std.proofs.{Common.arith, lemmas.List.take_all}, fire_code.proofs.Lemmas.{empty_register, octets_along, octet_within}}
 use Rattle.fire_code.proofs.octets.remainder_of_octets.Goals as goal
 
 pub loop-octet-init : goal.loop-octet-init

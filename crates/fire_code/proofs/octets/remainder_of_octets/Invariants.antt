@@ -1,6 +1,8 @@
-use Rattle.std.proofs.Common.{◌<◌, ◌^◌, ◌++◌, take}
-use Rattle.bit_blocks.specs.{Octets.bits_of, Polynomials.IsDivisibleBy}
-use Rattle.fire_code.specs.{Registers.low_bits, Words.fire_generator}
+use Rattle.{
+  std.proofs.Common.{◌<◌, ◌^◌, ◌++◌, take},
+  bit_blocks.specs.{Octets.bits_of, Polynomials.IsDivisibleBy},
+  fire_code.specs.{Registers.low_bits, Words.fire_generator},
+}
 use Rattle.fire_code.proofs.octets.remainder_of_octets.Given as goal
 
 -- the register is the remainder of the octets read so far

@@ -1,5 +1,4 @@
-use Rattle.std.proofs.Common.{arith}
-use Rattle.fire_code.proofs.Lemmas.{entry_multiple}
+use Rattle.{std.proofs.Common.arith, fire_code.proofs.Lemmas.entry_multiple}
 use Rattle.fire_code.proofs.octets.table_remainder.Goals as goal
 
 pub returns-clause-multiple : goal.returns-clause-multiple

@@ -1,7 +1,11 @@
-use Rattle.std.proofs.{Common.{◌≡◌, length, ap, sym, subst, ◌∙◌, arith}, lemmas.Bool.Decides.{Decides-like, Decides-eqb}}
-use Rattle.std.proofs.lemmas.Slice.Eq.{slice_eq-Decides}
-use Rattle.bit_blocks.specs.Bits.{AllBits, xor_bits}
-use Rattle.fire_code.proofs.Lemmas.{cut, bits_of_front, bits_of_back, rach_word_of_code, code_of_rach_word}
+use Rattle.{
+  std.proofs.{
+    Common.{◌≡◌, length, ap, sym, subst, ◌∙◌, arith},
+    lemmas.{Bool.Decides.{Decides-like, Decides-eqb}, Slice.Eq.slice_eq-Decides},
+  },
+  bit_blocks.specs.Bits.{AllBits, xor_bits},
+  fire_code.proofs.Lemmas.{cut, bits_of_front, bits_of_back, rach_word_of_code, code_of_rach_word},
+}
 use Rattle.fire_code.proofs.rach.rach_holds.Goals as goal
 
 pub returns : goal.returns

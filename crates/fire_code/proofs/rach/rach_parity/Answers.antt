@@ -1,6 +1,8 @@
-use Rattle.std.proofs.{Common.{arith, replicate, ◌∙◌}, lemmas.List.Elements.All-replicate}
-use Rattle.bit_blocks.{specs.Bits.IsBit, proofs.Lemmas.xor_bits-zeros}
-use Rattle.fire_code.proofs.Lemmas.{rach_word, same_rach_crc}
+use Rattle.{
+  std.proofs.{Common.{arith, replicate, ◌∙◌}, lemmas.List.Elements.All-replicate},
+  bit_blocks.{specs.Bits.IsBit, proofs.Lemmas.xor_bits-zeros},
+  fire_code.proofs.Lemmas.{rach_word, same_rach_crc},
+}
 use Rattle.fire_code.proofs.rach.rach_parity.Goals as goal
 
 pub returns-clause-with_bsic : goal.returns-clause-with_bsic

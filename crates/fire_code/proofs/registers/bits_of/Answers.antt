@@ -1,6 +1,8 @@
-use Rattle.std.proofs.Common.{arith, subst, sym}
-use Rattle.bit_blocks.specs.Bits.{AllBits}
-use Rattle.fire_code.proofs.Lemmas.{no_places, places_more, places_end, AllBits-low_bits}
+use Rattle.{
+  std.proofs.Common.{arith, subst, sym},
+  bit_blocks.specs.Bits.AllBits,
+  fire_code.proofs.Lemmas.{no_places, places_more, places_end, AllBits-low_bits},
+}
 use Rattle.fire_code.proofs.registers.bits_of.Goals as goal
 
 pub loop-m-init : goal.loop-m-init

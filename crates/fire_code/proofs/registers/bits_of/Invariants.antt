@@ -1,5 +1,4 @@
-use Rattle.std.proofs.Common.{◌≡◌, ◌*◌, length, take}
-use Rattle.fire_code.specs.Registers.{low_bits}
+use Rattle.{std.proofs.Common.{◌≡◌, ◌*◌, length, take}, fire_code.specs.Registers.low_bits}
 use Rattle.fire_code.proofs.registers.bits_of.Given as goal
 
 abbrev pub invariant-loop-m : goal.invariant-loop-m

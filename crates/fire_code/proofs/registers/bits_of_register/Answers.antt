@@ -1,5 +1,4 @@
-use Rattle.std.proofs.Common.{arith}
-use Rattle.fire_code.proofs.Lemmas.{place_more, places_all}
+use Rattle.{std.proofs.Common.arith, fire_code.proofs.Lemmas.{place_more, places_all}}
 use Rattle.fire_code.proofs.registers.bits_of_register.Goals as goal
 
 pub loop-i-preserved : goal.loop-i-preserved

@@ -1,6 +1,4 @@
-use Rattle.std.proofs.Common.{◌≡◌, ℕ, ◌<◌, length, get_or}
-use Rattle.bit_blocks.specs.Bits.{AllBits}
-use Rattle.fire_code.specs.Registers.{low_bits}
+use Rattle.{std.proofs.Common.{◌≡◌, ℕ, ◌<◌, length, get_or}, bit_blocks.specs.Bits.AllBits, fire_code.specs.Registers.low_bits}
 use Rattle.fire_code.proofs.registers.bits_of_register.Given as goal
 
 abbrev pub invariant-loop-i : goal.invariant-loop-i

@@ -1,5 +1,7 @@
-use Rattle.std.proofs.Common.{◌*◌, ◌%◌, ◌/◌, ◌^◌, ap, ◌∙◌}
-use Rattle.fire_code.{specs.Registers.low_bits, proofs.Lemmas.gathered_bits}
+use Rattle.{
+  std.proofs.Common.{◌*◌, ◌%◌, ◌/◌, ◌^◌, ap, ◌∙◌},
+  fire_code.{specs.Registers.low_bits, proofs.Lemmas.gathered_bits},
+}
 use Rattle.fire_code.proofs.registers.pack_eight_bits.Goals as goal
 
 pub returns-clause-value : goal.returns-clause-value

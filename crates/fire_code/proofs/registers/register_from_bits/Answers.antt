@@ -1,5 +1,4 @@
-use Rattle.std.proofs.Common.{◌+◌, ◌-◌, ◌*◌, arith}
-use Rattle.fire_code.proofs.Lemmas.{no_places, put_together}
+use Rattle.{std.proofs.Common.{◌+◌, ◌-◌, ◌*◌, arith}, fire_code.proofs.Lemmas.{no_places, put_together}}
 use Rattle.fire_code.proofs.registers.register_from_bits.Goals as goal
 
 pub loop-m-init : goal.loop-m-init

@@ -1,6 +1,8 @@
-use Rattle.std.proofs.Common.{subst, sym, ◌∙◌}
-use Rattle.bit_blocks.specs.Bits.{AllBits}
-use Rattle.fire_code.proofs.Lemmas.{spread_bits, AllBits-low_bits}
+use Rattle.{
+  std.proofs.Common.{subst, sym, ◌∙◌},
+  bit_blocks.specs.Bits.AllBits,
+  fire_code.proofs.Lemmas.{spread_bits, AllBits-low_bits},
+}
 use Rattle.fire_code.proofs.registers.unpack_octet.Goals as goal
 
 pub returns-clause-value : goal.returns-clause-value

@@ -1,5 +1,7 @@
-use Rattle.std.proofs.{lemmas.{Bool.Decides.{Decides-like, Decides-eqb}, Slice.Eq.slice_eq-Decides}, Common.{◌≡◌, sym, ◌∙◌}}
-use Rattle.fire_code.proofs.Lemmas.{cut, bits_of_front, sch_word_of, crc_of_sch_word}
+use Rattle.{
+  std.proofs.{lemmas.{Bool.Decides.{Decides-like, Decides-eqb}, Slice.Eq.slice_eq-Decides}, Common.{◌≡◌, sym, ◌∙◌}},
+  fire_code.proofs.Lemmas.{cut, bits_of_front, sch_word_of, crc_of_sch_word},
+}
 use Rattle.fire_code.proofs.sch.sch_holds.Goals as goal
 
 pub returns : goal.returns

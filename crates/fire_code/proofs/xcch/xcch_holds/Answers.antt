@@ -1,5 +1,7 @@
-use Rattle.std.proofs.{Common.{◌≡◌, length, arith, bit_xor}, lemmas.Bool.Decides.{Decides-like, Decides-eqb}}
-use Rattle.fire_code.proofs.Lemmas.{cut, bits_of_front, bits_of_back, xcch_word_of, register_of_xcch_word}
+use Rattle.{
+  std.proofs.{Common.{◌≡◌, length, arith, bit_xor}, lemmas.Bool.Decides.{Decides-like, Decides-eqb}},
+  fire_code.proofs.Lemmas.{cut, bits_of_front, bits_of_back, xcch_word_of, register_of_xcch_word},
+}
 use Rattle.fire_code.proofs.xcch.xcch_holds.Goals as goal
 
 pub returns : goal.returns

@@ -1,5 +1,4 @@
-use Rattle.std.proofs.Common.{arith}
-use Rattle.fire_code.proofs.Lemmas.{inverted_register, xcch_word, same_xcch_crc}
+use Rattle.{std.proofs.Common.arith, fire_code.proofs.Lemmas.{inverted_register, xcch_word, same_xcch_crc}}
 use Rattle.fire_code.proofs.xcch.xcch_parity.Goals as goal
 
 pub returns-clause-word : goal.returns-clause-word

@@ -1,6 +1,8 @@
-use Rattle.std.proofs.Common.{arith}
-use Rattle.bit_blocks.{specs.Octets.bits_of, proofs.Lemmas.{AllBits-bits_of, length-bits_of}}
-use Rattle.fire_code.proofs.Lemmas.{inverted_register, xcch_word, same_xcch_crc}
+use Rattle.{
+  std.proofs.Common.arith,
+  bit_blocks.{specs.Octets.bits_of, proofs.Lemmas.{AllBits-bits_of, length-bits_of}},
+  fire_code.proofs.Lemmas.{inverted_register, xcch_word, same_xcch_crc},
+}
 use Rattle.fire_code.proofs.xcch.xcch_parity_of_octets.Goals as goal
 
 pub returns-clause-word : goal.returns-clause-word

@@ -1,6 +1,8 @@
-use Rattle.std.{proofs.{Common.{◌≡◌, length, ap, sym, subst, ◌∙◌, arith, bit_xor}, lemmas.Nat.xor_lt}, specs.Int.Bits.xor_self}
-use Rattle.bit_blocks.specs.Bits.{AllBits}
-use Rattle.fire_code.proofs.Lemmas.{cut, bits_of_front, syndrome_of, syndrome_completes, word_of_no_syndrome, register_of_xcch_word}
+use Rattle.{
+  std.{proofs.{Common.{◌≡◌, length, ap, sym, subst, ◌∙◌, arith, bit_xor}, lemmas.Nat.xor_lt}, specs.Int.Bits.xor_self},
+  bit_blocks.specs.Bits.AllBits,
+  fire_code.proofs.Lemmas.{cut, bits_of_front, syndrome_of, syndrome_completes, word_of_no_syndrome, register_of_xcch_word},
+}
 use Rattle.fire_code.proofs.xcch.xcch_syndrome.Goals as goal
 
 pub returns : goal.returns

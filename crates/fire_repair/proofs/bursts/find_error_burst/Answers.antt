@@ -1,5 +1,7 @@
-use Rattle.std.proofs.Common.{arith, sym, ◌∙◌, None}
-use Rattle.fire_repair.proofs.Lemmas.{walked_within, found_here, found_before, found_nowhere, said_of}
+use Rattle.{
+  std.proofs.Common.{arith, sym, ◌∙◌, None},
+  fire_repair.proofs.Lemmas.{walked_within, found_here, found_before, found_nowhere, said_of},
+}
 use Rattle.fire_repair.proofs.bursts.find_error_burst.Goals as goal
 
 pub loop-start-preserved : goal.loop-start-preserved

@@ -1,5 +1,4 @@
-use Rattle.std.proofs.Common.{◌≡◌, ◌<◌, ◌^◌}
-use Rattle.fire_repair.proofs.Lemmas.{find_from}
+use Rattle.{std.proofs.Common.{◌≡◌, ◌<◌, ◌^◌}, fire_repair.proofs.Lemmas.find_from}
 use Rattle.fire_repair.proofs.bursts.find_error_burst.Given as goal
 
 abbrev pub invariant-loop-start : goal.invariant-loop-start

@@ -1,7 +1,11 @@
-use Rattle.std.proofs.Common.{◌+◌, ◌-◌, refl, subst, sym, arith}
-use Rattle.fire_repair.specs.{declared.repairs.RepairAnswer.TheVariants.{Holds, Repaired, NoRepair}, Answers.IsRepairResult}
-use Rattle.fire_repair.{specs.Repairs.{IsRepair, IsSpanOfChangedBits}, proofs.Lemmas.{AreFirstAndLastBit, one_answer, no_repair}}
-use Rattle.fire_repair.proofs.Lemmas.{some_shape, word_of, repair_of, span_of}
+use Rattle.{
+  std.proofs.Common.{◌+◌, ◌-◌, refl, subst, sym, arith},
+  fire_repair.{
+    specs.{declared.repairs.RepairAnswer.TheVariants.{Holds, Repaired, NoRepair}, Answers.IsRepairResult, Repairs.IsRepair},
+    specs.Repairs.IsSpanOfChangedBits,
+    proofs.Lemmas.{AreFirstAndLastBit, one_answer, no_repair, some_shape, word_of, repair_of, span_of},
+  },
+}
 use Rattle.fire_repair.proofs.repairs.repair.Goals as goal
 
 pub returns-then-syndrome-eq0 : goal.returns-then-syndrome-eq0

@@ -1,15 +1,11 @@
-use Rattle.std.proofs.Common.{get_or, ap, ◌∙◌, arith}
-use Rattle.interleave.proofs.Lemmas.{written_before, written_behind}
+use Rattle.{std.proofs.Common.{get_or, ap, ◌∙◌, arith}, interleave.proofs.Lemmas.{written_before, written_behind}}
 use Rattle.interleave.proofs.columns.repeat_columns.Goals as goal
 
 pub returns-clause-front : goal.returns-clause-front
 returns-clause-front c q hq =
-    let first = c.copy_from_slice.ensures.after in
-    written_before 57 64 _ _ _ (omega arith) q hq ∙ ap (λ xs. get_or xs q 0) first
+    written_before 57 64 _ _ _ (omega arith) q hq ∙ ap (λ xs. get_or xs q 0) (c.copy_from_slice.ensures.after)
 
 pub returns-clause-back : goal.returns-clause-back
 returns-clause-back c q hq =
-    let first = c.copy_from_slice.ensures.after in
-    let second = c.copy_from_slice-2.ensures.after in
     written_behind 57 64 c.copy_from_slice.new.self _ _ (omega arith) q (omega arith)
-    ∙ ap (λ xs. get_or xs q 0) second
+    ∙ ap (λ xs. get_or xs q 0) (c.copy_from_slice-2.ensures.after)

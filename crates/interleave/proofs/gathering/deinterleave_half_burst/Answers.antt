@@ -1,7 +1,11 @@
-use Rattle.std.proofs.Common.{◌≡◌, ◌<◌, get_or, pos, ap, sym, ◌∙◌, arith, length, w8, to_z, of_z, ◌+◌, ◌*◌}
-use Rattle.std.proofs.lemmas.{Int.ints, List.length-set}
-use Rattle.interleave.{specs.Positions.{burst_of_bit, burst_position}, proofs.Lemmas.{half-stands, updated_bits-more, unchanged_bits-more}}
-use Rattle.interleave.proofs.Lemmas.{coded_index_at-is}
+use Rattle.{
+  std.proofs.Common.{◌≡◌, ◌<◌, get_or, pos, ap, sym, ◌∙◌, arith, length, w8, to_z, of_z, ◌+◌, ◌*◌},
+  std.proofs.lemmas.{Int.ints, List.length-set},
+  interleave.{
+    specs.Positions.{burst_of_bit, burst_position},
+    proofs.Lemmas.{half-stands, updated_bits-more, unchanged_bits-more, coded_index_at-is},
+  },
+}
 use Rattle.interleave.proofs.gathering.deinterleave_half_burst.Goals as goal
 
 pub loop-i-preserved : goal.loop-i-preserved
@@ -22,8 +26,7 @@ loop-i-preserved c =
 
 pub returns-clause-updated_bits : goal.returns-clause-updated_bits
 returns-clause-updated_bits c k i hk burst hi place =
-    let same = coded_index_at-is k c.args.b (57 * c.args.half + i) hk burst place in
-    rw (← same) (c.loop-i.invariant.1 i (omega arith))
+    rw (← (coded_index_at-is k c.args.b (57 * c.args.half + i) hk burst place)) (c.loop-i.invariant.1 i (omega arith))
 
 pub returns-clause-unchanged_bits : goal.returns-clause-unchanged_bits
 returns-clause-unchanged_bits c k hk none =

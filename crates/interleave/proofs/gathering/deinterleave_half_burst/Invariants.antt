@@ -1,5 +1,7 @@
-use Rattle.std.proofs.Common.{◌≡◌, ◌≢◌, ℕ, ◌+◌, ◌*◌, ◌<◌, length, get_or, pos}
-use Rattle.interleave.specs.ColumnPositions.{coded_index_at}
+use Rattle.{
+  std.proofs.Common.{◌≡◌, ◌≢◌, ℕ, ◌+◌, ◌*◌, ◌<◌, length, get_or, pos},
+  interleave.specs.ColumnPositions.coded_index_at,
+}
 use Rattle.interleave.proofs.gathering.deinterleave_half_burst.Given as goal
 
 -- the soft bits at the positions so far are written to their coded bits; all others are unchanged

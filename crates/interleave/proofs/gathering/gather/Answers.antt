@@ -1,16 +1,23 @@
 -- The 57 columns cover all coded bits: seven groups of eight, and column 56.
-use Rattle.std.proofs.Common.{◌≡◌, inl, inr, ℕ, ◌+◌, ◌-◌, ◌*◌, ◌/◌, ◌%◌, ◌<◌, List, [], ◌∷◌, map}
-use Rattle.std.proofs.{Common.{length, get_or, pos, ap, ap₂, sym, ◌∙◌, arith, w8}, Math.ListN.get_or-map, lemmas.Bool.cases_lt}
-use Rattle.std.{proofs.lemmas.List.get_or_default, specs.Int.cast_signed}
-use Rattle.interleave.specs.{ColumnPositions.{coded_bit_of_column, column_bit_position}, Positions.{burst_of_bit, burst_position}}
-use Rattle.interleave.proofs.Lemmas.{below_n, same_coded, in_column, burst_of_bit-below, burst_position-below}
-use Rattle.interleave.proofs.gathering.gather.Goals.{After-write_column}
+use Rattle.{
+  std.{
+    proofs.Common.{◌≡◌, inl, inr, ℕ, ◌+◌, ◌-◌, ◌*◌, ◌/◌, ◌%◌, ◌<◌, List, [], ◌∷◌, map, length},
+    proofs.{Common.{get_or, pos, ap, ap₂, sym, ◌∙◌, arith, w8}, Math.ListN.get_or-map, lemmas.{Bool.cases_lt, List.get_or_default}},
+    specs.Int.cast_signed,
+  },
+  interleave.{
+    specs.{ColumnPositions.{coded_bit_of_column, column_bit_position}, Positions.{burst_of_bit, burst_position}},
+    proofs.{Lemmas.{below_n, same_coded, in_column, burst_of_bit-below, burst_position-below}, gathering.gather.Goals.After-write_column},
+  },
+}
 use Rattle.interleave.proofs.gathering.gather.Goals as goal
 
 pub loop-group-preserved : goal.loop-group-preserved
 loop-group-preserved c =
     let group = c.loop-group.group in
-    let octets : List (List ℕ) = c.as_octets.result ∷ c.as_octets-2.result ∷ c.as_octets-3.result ∷ c.as_octets-4.result ∷ [] in (
+    let octets : List (List ℕ) =
+    c.soft_bits_as_octets.result ∷ c.soft_bits_as_octets-2.result ∷ c.soft_bits_as_octets-3.result ∷
+    c.soft_bits_as_octets-4.result ∷ [] in (
       c.write_columns.array_long,
       λ q r hq hr.
           elim (cases_lt q _) [
@@ -27,37 +34,39 @@ loop-group-preserved c =
     )
 
 octets : After-write_column → List (List ℕ)
-octets c = c.as_octets.result ∷ c.as_octets-2.result ∷ c.as_octets-3.result ∷ c.as_octets-4.result ∷ []
+octets c = c.soft_bits_as_octets.result ∷ c.soft_bits_as_octets-2.result ∷ c.soft_bits_as_octets-3.result ∷
+    c.soft_bits_as_octets-4.result ∷ []
 
 long : (c : After-write_column) (b : ℕ) → b < 4 → length (get_or c.args.parts.now b []) ≡ 114
 long c =
-    below_n _ 4 (c.as_octets.ensures.count, (c.as_octets-2.ensures.count, (c.as_octets-3.ensures.count, (c.as_octets-4.ensures.count, tt))))
+    below_n _ 4 (omega arith)
 
 signed : (c : After-write_column) (b : ℕ) → b < 4 → map (cast_signed w8) (get_or (octets c) b []) ≡ get_or c.args.parts.now b []
 unfolding octets
 signed c =
-    below_n _ 4 (c.as_octets.ensures.value, (c.as_octets-2.ensures.value, (c.as_octets-3.ensures.value, (c.as_octets-4.ensures.value, tt))))
+    below_n _ 4 (
+      c.soft_bits_as_octets.ensures.value,
+      (c.soft_bits_as_octets-2.ensures.value, (c.soft_bits_as_octets-3.ensures.value, (c.soft_bits_as_octets-4.ensures.value, tt))),
+    )
 
 written : (c : After-write_column) (q r : ℕ) → q < 57 → r < 8 →
     get_or c.write_column.new.soft (coded_bit_of_column q r) (pos 0) ≡ get_or (get_or c.args.parts.now (r % 4) [])
     (column_bit_position q r) (pos 0)
 unfolding octets
 written c q r hq hr =
-    let soft = c.write_column.new.soft in
-    let burst : r % 4 < 4 = omega arith in
     let octet = get_or (octets c) (r % 4) [] in
     elim (cases_lt q 56) [
       | inl before ↦
           c.write_column.ensures.unchanged_bits q r hq (omega arith) hr ∙ c.loop-group.invariant.1 q r (omega arith) hr
       | inr after ↦
           let last : 56 ≡ q = omega arith in
-          ap (λ q. get_or soft (coded_bit_of_column q r) (pos 0)) (sym last)
+          ap (λ q. get_or (c.write_column.new.soft) (coded_bit_of_column q r) (pos 0)) (sym last)
           ∙ c.write_column.ensures.updated_bits r hr
           ∙ ap (cast_signed w8) (c.last_column.ensures r hr)
           ∙ ap (λ q. cast_signed w8 (get_or octet (column_bit_position q r) 0)) last
     ]
     ∙ sym (get_or-map (cast_signed w8) octet (column_bit_position q r) 0)
-    ∙ ap (λ values. get_or values (column_bit_position q r) (pos 0)) (signed c (r % 4) burst)
+    ∙ ap (λ values. get_or values (column_bit_position q r) (pos 0)) (signed c (r % 4) (omega arith))
 
 pub returns-clause-interleaved : goal.returns-clause-interleaved
 returns-clause-interleaved c =
@@ -80,4 +89,4 @@ returns-clause-interleaved c =
     }
 
 pub returns-clause-only : goal.returns-clause-only
-returns-clause-only c coded whole = same_coded _ _ c.args.parts.now whole (returns-clause-interleaved c)
+returns-clause-only c coded whole = same_coded _ _ _ whole (returns-clause-interleaved c)

@@ -1,5 +1,7 @@
-use Rattle.std.{proofs.Common.{◌≡◌, ℕ, ◌*◌, ◌%◌, ◌<◌, [], length, get_or, pos, w8}, specs.Int.cast_signed}
-use Rattle.interleave.specs.ColumnPositions.{coded_bit_of_column, column_bit_position}
+use Rattle.{
+  std.{proofs.Common.{◌≡◌, ℕ, ◌*◌, ◌%◌, ◌<◌, [], length, get_or, pos, w8}, specs.Int.cast_signed},
+  interleave.specs.ColumnPositions.{coded_bit_of_column, column_bit_position},
+}
 use Rattle.interleave.proofs.gathering.gather.Given as goal
 
 abbrev pub invariant-loop-group : goal.invariant-loop-group

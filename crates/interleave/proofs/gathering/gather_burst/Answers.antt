@@ -1,5 +1,7 @@
-use Rattle.std.proofs.{Common.{◌++◌, get_or, pos, sym, ◌∙◌, arith}, lemmas.List.{get_or_default, length-append}}
-use Rattle.interleave.{specs.Positions.burst_position, proofs.Lemmas.{halves-at, burst_position-below}}
+use Rattle.{
+  std.proofs.{Common.{◌++◌, get_or, pos, sym, ◌∙◌, arith}, lemmas.List.{get_or_default, length-append}},
+  interleave.{specs.Positions.burst_position, proofs.Lemmas.{halves-at, burst_position-below}},
+}
 use Rattle.interleave.proofs.gathering.gather_burst.Goals as goal
 
 pub returns : goal.returns

@@ -1,5 +1,4 @@
-use Rattle.std.proofs.Common.{refl}
-use Rattle.interleave.{specs.ColumnPositions.column_bit_position, proofs.Lemmas.below_n}
+use Rattle.{std.proofs.Common.refl, interleave.{specs.ColumnPositions.column_bit_position, proofs.Lemmas.below_n}}
 use Rattle.interleave.proofs.gathering.last_column.Goals as goal
 
 pub returns : goal.returns

@@ -1,6 +1,8 @@
-use Rattle.std.proofs.Common.{◌≡◌, ℕ, ◌+◌, ◌*◌, ◌/◌, ◌%◌, ◌^◌, ◌<◌, length, get_or, pos, w8}
-use Rattle.std.specs.Int.{cast_signed}
-use Rattle.interleave.specs.ColumnPositions.{coded_bit_of_column}
+use Rattle.{
+  std.proofs.Common.{◌≡◌, ℕ, ◌+◌, ◌*◌, ◌/◌, ◌%◌, ◌^◌, ◌<◌, length, get_or, pos, w8},
+  std.specs.Int.cast_signed,
+  interleave.specs.ColumnPositions.coded_bit_of_column,
+}
 use Rattle.interleave.proofs.gathering.write_columns.Given as goal
 
 -- the columns of the group so far are written; the columns before the group are unchanged

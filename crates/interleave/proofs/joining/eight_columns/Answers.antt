@@ -1,8 +1,12 @@
 -- Three rounds of joining turn eight rows into eight columns: octet r of column s is the octet that row r has for that column.
-use Rattle.std.proofs.Common.{◌≡◌, ℕ, ◌+◌, ◌*◌, ◌/◌, ◌%◌, ◌^◌, ◌<◌, List, [], ◌∷◌, get_or, ap, ap₂}
-use Rattle.std.proofs.Common.{◌∙◌, arith}
-use Rattle.interleave.{specs.ColumnPositions.column_bit_position, proofs.Lemmas.{below_at, below_n, joined_octet}}
-use Rattle.interleave.proofs.joining.eight_columns.Goals.{After-join_octet_fours-2}
+use Rattle.{
+  std.proofs.Common.{◌≡◌, ℕ, ◌+◌, ◌*◌, ◌/◌, ◌%◌, ◌^◌, ◌<◌, List, [], ◌∷◌, get_or, ap, ap₂},
+  std.proofs.Common.{◌∙◌, arith},
+  interleave.{
+    specs.ColumnPositions.column_bit_position,
+    proofs.{Lemmas.{below_8, below_at, joined_octet}, joining.eight_columns.Goals.After-join_octet_fours-2},
+  },
+}
 use Rattle.interleave.proofs.joining.eight_columns.Goals as goal
 
 -- the octets of column s, bit 0 first
@@ -17,7 +21,7 @@ octets c s =
 octets-below : (c : After-join_octet_fours-2) (s r : ℕ) → get_or (octets c s) r 0 < 256
 unfolding octets
 octets-below c s r = below_at 256 (omega arith) (octets c s)
-    (omega arith, (omega arith, (omega arith, (omega arith, (omega arith, (omega arith, (omega arith, (omega arith, tt)))))))) r
+    (omega arith) r
 
 -- the octets of column s as one number
 joined : After-join_octet_fours-2 → ℕ → ℕ
@@ -58,54 +62,30 @@ columns c =
 
 column : (c : After-join_octet_fours-2) (s : ℕ) → s < 8 → get_or (columns c) s 0 ≡ joined c s
 unfolding columns
-column c = below_n _ 8 (
-  first c 0 (omega arith),
-  (
-    first c 1 (omega arith),
-    (
-      first c 2 (omega arith),
-      (
-        first c 3 (omega arith),
-        (last c 0 (omega arith), (last c 1 (omega arith), (last c 2 (omega arith), (last c 3 (omega arith), tt)))),
-      ),
-    ),
-  ),
-)
+column c = below_8 _ (first c 0 (omega arith)) (first c 1 (omega arith)) (first c 2 (omega arith)) (first c 3 (omega arith))
+    (last c 0 (omega arith)) (last c 1 (omega arith)) (last c 2 (omega arith)) (last c 3 (omega arith))
 
 moved : (part : List ℕ) {x i j : ℕ} → x ≡ get_or part i 0 → i ≡ j → x ≡ get_or part j 0
-moved part is e = is ∙ ap (λ j. get_or part j 0) e
+moved _ is e = cc
 
 -- each octet is the value of its burst at its position
 stands : (c : After-join_octet_fours-2) (s : ℕ) → s < 8 → (r : ℕ) → r < 8 →
-    get_or (octets c s) r 0 ≡ get_or (get_or c.args.parts.now (r % 4) []) (column_bit_position (8 * c.args.group + s) r) 0
+    get_or (octets c s) r 0 ≡ get_or (get_or c.args.bursts.now (r % 4) []) (column_bit_position (8 * c.args.column_group + s) r) 0
 unfolding octets column_bit_position
 stands c s hs =
-    let part : ℕ → List ℕ = λ b. get_or c.args.parts.now b [] in below_n _ 8 (
-      moved (part 0) (c.octet_pairs.ensures.even s hs) (omega (arith, c.column_in_row.ensures)),
-      (
-        moved (part 1) (c.octet_pairs-2.ensures.even s hs) (omega (arith, c.column_in_row-2.ensures)),
-        (
-          moved (part 2) (c.octet_pairs-3.ensures.even s hs) (omega (arith, c.column_in_row-3.ensures)),
-          (
-            moved (part 3) (c.octet_pairs-4.ensures.even s hs) (omega (arith, c.column_in_row-4.ensures)),
-            (
-              moved (part 0) (c.octet_pairs-5.ensures.odd s hs) (omega (arith, c.column_in_row-5.ensures)),
-              (
-                moved (part 1) (c.octet_pairs-6.ensures.odd s hs) (omega (arith, c.column_in_row-6.ensures)),
-                (
-                  moved (part 2) (c.octet_pairs-7.ensures.odd s hs) (omega (arith, c.column_in_row-7.ensures)),
-                  (moved (part 3) (c.octet_pairs-8.ensures.odd s hs) (omega (arith, c.column_in_row-8.ensures)), tt),
-                ),
-              ),
-            ),
-          ),
-        ),
-      ),
-    )
+    let part : ℕ → List ℕ = λ b. get_or c.args.bursts.now b [] in below_8 _
+    (moved (part 0) (c.octet_pairs.ensures.even s hs) (omega (arith, c.column_in_row.ensures)))
+    (moved (part 1) (c.octet_pairs-2.ensures.even s hs) (omega (arith, c.column_in_row-2.ensures)))
+    (moved (part 2) (c.octet_pairs-3.ensures.even s hs) (omega (arith, c.column_in_row-3.ensures)))
+    (moved (part 3) (c.octet_pairs-4.ensures.even s hs) (omega (arith, c.column_in_row-4.ensures)))
+    (moved (part 0) (c.octet_pairs-5.ensures.odd s hs) (omega (arith, c.column_in_row-5.ensures)))
+    (moved (part 1) (c.octet_pairs-6.ensures.odd s hs) (omega (arith, c.column_in_row-6.ensures)))
+    (moved (part 2) (c.octet_pairs-7.ensures.odd s hs) (omega (arith, c.column_in_row-7.ensures)))
+    (moved (part 3) (c.octet_pairs-8.ensures.odd s hs) (omega (arith, c.column_in_row-8.ensures)))
 
 pub returns : goal.returns
 unfolding columns joined
 returns c s r hs hr =
     ap (λ x. x / 256 ^ r % 256) (column c s hs)
-    ∙ joined_octet (λ r. get_or _ r 0) (octets-below c s) r hr
+    ∙ joined_octet _ (octets-below c s) r hr
     ∙ stands c s hs r hr

@@ -1,5 +1,4 @@
-use Rattle.std.proofs.Common.{◌≡◌, suc, ◌+◌, ◌*◌, ◌<◌, get_or, ap, ◌∙◌, arith}
-use Rattle.interleave.proofs.Lemmas.{pair_lane}
+use Rattle.{std.proofs.Common.{◌≡◌, suc, ◌+◌, ◌*◌, ◌<◌, get_or, ap, ◌∙◌, arith}, interleave.proofs.Lemmas.pair_lane}
 use Rattle.interleave.proofs.joining.octet_pairs.Goals as goal
 
 pub returns-clause-even : goal.returns-clause-even

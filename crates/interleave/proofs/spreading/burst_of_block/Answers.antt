@@ -1,5 +1,7 @@
-use Rattle.std.proofs.Common.{◌≡◌, length, get_or, ap, refl, ◌∙◌, arith}
-use Rattle.interleave.{specs.Positions.burst_position, proofs.Lemmas.{halves-at, put_mid-halves}}
+use Rattle.{
+  std.proofs.Common.{◌≡◌, length, get_or, ap, refl, ◌∙◌, arith},
+  interleave.{specs.Positions.burst_position, proofs.Lemmas.{halves-at, put_mid-halves}},
+}
 use Rattle.interleave.proofs.spreading.burst_of_block.Goals as goal
 
 pub returns : goal.returns
@@ -8,8 +10,7 @@ returns c = record {
       let first = c.spread_burst.new.out in
       let second = c.spread_burst-2.new.out in
       let long : length first ≡ 57 = omega arith in
-      let whole = put_mid-halves _ _ _ long refl (omega arith) in
-      ap (λ xs. get_or xs (burst_position k) 0) whole
+      ap (λ xs. get_or xs (burst_position k) 0) (put_mid-halves _ _ _ long refl (omega arith))
       ∙ halves-at first second k 0 (get_or c.args.coded.now k 0) long (λ i hi place. c.spread_burst.ensures.places k i hk burst hi place)
       (λ i hi place. c.spread_burst-2.ensures.places k i hk burst hi place);
 }

@@ -1,27 +1,28 @@
-use Rattle.std.proofs.{Common.{[], get_or, ◌∙◌, arith}, lemmas.List.get_or_default}
-use Rattle.interleave.{specs.Positions.{burst_of_bit, burst_position}, proofs.Lemmas.{same_bursts, AllBits-bursts, burst_of_bit-below}}
-use Rattle.interleave.proofs.Lemmas.{burst_position-below}
+use Rattle.{
+  std.proofs.{Common.{[], get_or, ◌∙◌, arith}, lemmas.List.get_or_default},
+  interleave.{
+    specs.Positions.{burst_of_bit, burst_position},
+    proofs.Lemmas.{same_bursts, AllBits-bursts, burst_of_bit-below, burst_position-below},
+  },
+}
 use Rattle.interleave.proofs.spreading.spread.Goals as goal
 
 pub returns-clause-interleaved : goal.returns-clause-interleaved
 returns-clause-interleaved c =
-    let coded = c.args.coded.now in
-    let bursts = c.loop-b.bursts in
     record {
       coded_count = omega arith;
       burst_count = c.loop-b.invariant.0;
       burst_lengths = c.loop-b.invariant.1;
       positions = λ k d hk.
           let burst = burst_of_bit-below k in
-          let long = c.loop-b.invariant.1 (burst_of_bit k) [] (omega arith) in
           let place = burst_position-below k in
-          get_or_default (get_or bursts (burst_of_bit k) []) (burst_position k) d 0 (omega arith)
+          get_or_default (get_or (c.loop-b.bursts) (burst_of_bit k) []) (burst_position k) d 0 (omega arith)
           ∙ c.loop-b.invariant.2 k hk (omega arith)
-          ∙ get_or_default coded k 0 d (omega arith);
+          ∙ get_or_default (c.args.coded.now) k 0 d (omega arith);
     }
 
 pub returns-clause-only : goal.returns-clause-only
-returns-clause-only c bursts whole = same_bursts c.args.coded.now _ _ whole (returns-clause-interleaved c)
+returns-clause-only c bursts whole = same_bursts _ _ _ whole (returns-clause-interleaved c)
 
 pub returns-clause-bits : goal.returns-clause-bits
-returns-clause-bits c bits = AllBits-bursts c.args.coded.now _ (returns-clause-interleaved c) bits
+returns-clause-bits c bits = AllBits-bursts _ _ (returns-clause-interleaved c) bits

@@ -1,5 +1,4 @@
-use Rattle.std.proofs.Common.{◌≡◌, ℕ, ◌<◌, [], length, get_or, All}
-use Rattle.interleave.specs.Positions.{burst_of_bit, burst_position}
+use Rattle.{std.proofs.Common.{◌≡◌, ℕ, ◌<◌, [], length, get_or, All}, interleave.specs.Positions.{burst_of_bit, burst_position}}
 use Rattle.interleave.proofs.spreading.spread.Given as goal
 
 -- the bursts written so far hold their coded bits

@@ -1,5 +1,4 @@
-use Rattle.std.proofs.Common.{get_or, ap, ◌∙◌, arith}
-use Rattle.interleave.proofs.Lemmas.{half_of_bursts, coded_index_at-is}
+use Rattle.{std.proofs.Common.{get_or, ap, ◌∙◌, arith}, interleave.proofs.Lemmas.{half_of_bursts, coded_index_at-is}}
 use Rattle.interleave.proofs.spreading.spread_burst.Goals as goal
 
 pub returns-clause-places : goal.returns-clause-places

@@ -1,5 +1,4 @@
-use Rattle.std.proofs.Common.{arith}
-use Rattle.interleave.proofs.Lemmas.{entry-is, half-stands}
+use Rattle.{std.proofs.Common.arith, interleave.proofs.Lemmas.{entry-is, half-stands}}
 use Rattle.interleave.proofs.table.coded_bit_numbers.Goals as goal
 
 pub returns-clause-value : goal.returns-clause-value
@@ -7,5 +6,4 @@ returns-clause-value c i h = entry-is _ _ i c.requires.burst c.requires.half h
 
 pub returns-clause-within : goal.returns-clause-within
 returns-clause-within c i h =
-    let same = entry-is _ _ i c.requires.burst c.requires.half h in
-    omega (arith, (half-stands _ _ c.requires.burst c.requires.half i h).in_range)
+    omega (arith, entry-is _ _ i c.requires.burst c.requires.half h, (half-stands _ _ c.requires.burst c.requires.half i h).in_range)

@@ -1,23 +1,27 @@
-use Rattle.std.proofs.Common.{◌≡◌, arith}
-use Rattle.lapdm_frame.{specs.{declared.Refusal.TheVariants.{Ea, Control}, Content.content_of}, proofs.Lemmas.{only_frame, Passes, refused}}
-use Rattle.lapdm_frame.proofs.Lemmas.{past_lpd, past_address, fault_refuses, frame_found}
+use Rattle.{
+  std.proofs.Common.{◌≡◌, arith},
+  lapdm_frame.{
+    specs.{declared.Refusal.TheVariants.{Ea, Control}, Content.content_of},
+    proofs.Lemmas.{only_frame, Passes, refused, past_lpd, past_address, fault_refuses, frame_found},
+  },
+}
 use Rattle.lapdm_frame.proofs.reader.read_on.Goals as goal
 
 pub returns-then-address-eq0-clause-refusal : goal.returns-then-address-eq0-clause-refusal
 returns-then-address-eq0-clause-refusal c =
-    let at = c.layer1_octets-start.ensures.value in
+    let at = c.layer1_octet_count-start.ensures.value in
     let passed = past_lpd c.args.channel c.args.octets.now (rw at at c.if-address-ge32.false) in
     refused c.args.channel c.args.octets.now Ea passed (rw at at c.if-address-eq0.true)
 
 pub returns-in_default-clause-refusal : goal.returns-in_default-clause-refusal
 returns-in_default-clause-refusal c =
-    let at = c.layer1_octets-start.ensures.value in
+    let at = c.layer1_octet_count-start.ensures.value in
     let passed = past_address c.args.channel c.args.octets.now (rw at at c.if-address-ge32.false) (rw at at c.if-address-eq0.false) in
     refused c.args.channel c.args.octets.now Control passed (rw at at c.in_default.ensures.unknown)
 
 pub returns-in-Some-length_fault-clause-refusal : goal.returns-in-Some-length_fault-clause-refusal
 returns-in-Some-length_fault-clause-refusal c =
-    let at = c.layer1_octets-start.ensures.value in
+    let at = c.layer1_octet_count-start.ensures.value in
     let passed = past_address c.args.channel c.args.octets.now (rw at at c.if-address-ge32.false) (rw at at c.if-address-eq0.false) in
     let known = rw at at c.in-Some.ensures.known in
     let fault = rw (at, c.n201-most.ensures) at c.in-Some-length_fault.ensures.fault in
@@ -25,7 +29,7 @@ returns-in-Some-length_fault-clause-refusal c =
 
 pub returns-clause-frame : goal.returns-clause-frame
 returns-clause-frame c =
-    let at = c.layer1_octets-start.ensures.value in
+    let at = c.layer1_octet_count-start.ensures.value in
     let no_fault = c.in_default-length_fault.ensures.none in
     let within : c.min.result ≡ c.from-size.result = omega (arith, no_fault.allowed_length.length_bound) in
     let passes : Passes c.args.channel c.args.octets.now (content_of c.in-Some.body) = record {

@@ -1,6 +1,10 @@
-use Rattle.std.proofs.{Common.{arith, ◌≡◌, ◌<◌, Some, inl, inr, get_or, ap, ◌∙◌, subst}, lemmas.Bool.cases_lt}
-use Rattle.list_decode.specs.{Branches.is_in_range, LeastLosses.IsLeastLossDeviationOrNone, Passes.losses_of_pass}
-use Rattle.list_decode.proofs.{Spans.{merged_tail, is_between}, branch.find_least_loss.Goals.After-survivor_deviation-later}
+use Rattle.{
+  std.proofs.{Common.{arith, ◌≡◌, ◌<◌, Some, inl, inr, get_or, ap, ◌∙◌, subst}, lemmas.Bool.cases_lt},
+  list_decode.{
+    specs.{Branches.is_in_range, LeastLosses.IsLeastLossDeviationOrNone, Passes.losses_of_pass},
+    proofs.{Spans.{merged_tail, is_between}, branch.find_least_loss.Goals.After-survivor_deviation-later},
+  },
+}
 use Rattle.list_decode.proofs.branch.find_least_loss.Goals as goal
 
 -- the best deviation from the place where the words merge
@@ -45,6 +49,6 @@ returns-in-Some c =
     let span = c.args.span.now in
     let losses = losses_of_pass c.args.pass.now in
     let m = c.find_merging_place-merging.result in
-    c.or_later.ensures u losses span.from m span.to
+    c.or_better_later.ensures u losses span.from m span.to
     (subst (IsLeastLossDeviationOrNone u losses (is_in_range span.from m) m) c.in-Some.is c.find_least_loss_in_span-early.ensures)
     (tail (goal.at.returns-in-Some c).After-survivor_deviation-later)

@@ -1,9 +1,12 @@
-use Rattle.std.proofs.Common.{arith, rules, ◌≡◌, ◌+◌, ◌<◌, ◌≤◌, [], pos, ◌+ℤ◌, ◌-ℤ◌, get_or, take, refl, ap}
-use Rattle.std.proofs.{Common.{ap₂, sym, subst, ◌∙◌, to_z, of_z, w16, FitsSigned, ℕ, List}, lemmas.Int.to_z-of_z}
-use Rattle.trellis_decode.specs.Trellis.{next}
-use Rattle.list_decode.specs.{Branches.is_in_range, DeviatingWords.{IsLeastLossFreePosition, deviation_loss, state_after_bits}}
-use Rattle.list_decode.{specs.LeastLosses.IsLeastLossSoFar, proofs.{Spans.{is_departure, spot_first}, DeviatingWords.reached_more}}
-use Rattle.list_decode.proofs.DeviatingWords.{reached_small}
+use Rattle.{
+  std.proofs.Common.{arith, rules, ◌≡◌, ◌+◌, ◌<◌, ◌≤◌, [], pos, ◌-ℤ◌, get_or, take, refl, ap, ap₂, sym, subst},
+  std.proofs.{Common.{◌∙◌, to_z, of_z, w16, FitsSigned, ℕ, List}, lemmas.Int.to_z-of_z},
+  trellis_decode.specs.Trellis.next_trellis_state,
+  list_decode.{
+    specs.{Branches.is_in_range, DeviatingWords.{IsLeastLossFreePosition, deviation_loss, state_after_bits}, LeastLosses.IsLeastLossSoFar},
+    proofs.{Spans.{is_departure, spot_first}, DeviatingWords.{reached_more, reached_small}},
+  },
+}
 use Rattle.list_decode.proofs.branch.find_least_loss_in_span.Goals as goal
 
 pub loop-k-init : goal.loop-k-init
@@ -24,10 +27,10 @@ loop-k-init c =
     let is = c.new-best.ensures in
     record {
       small = omega arith;
-      state = ap₂ next state c.from.ensures ∙ sym (reached_more u from 0 (omega arith));
+      state = ap₂ next_trellis_state state c.from.ensures ∙ sym (reached_more u from 0 (omega arith));
       best = subst (λ k. IsLeastLossSoFar u losses (is_in_range k (from + 1)) (from + 1) c.new-best.result) is_from
           (spot_first u losses from c.new-best.result is.place (is.state ∙ state)
-          (is.loss_limit ∙ ap (λ loss. loss +ℤ pos 1 -ℤ pos (get_or u from 0)) lost));
+          (is.loss_limit ∙ ap (λ loss. loss -ℤ pos (get_or u from 0)) lost));
     }
 
 pub loop-k-preserved : goal.loop-k-preserved
@@ -45,7 +48,7 @@ loop-k-preserved c =
     to_z-of_z w16 _ fits ∙ ap (λ s. get_or (get_or losses k []) s (pos 0)) old.state in
     record {
       small = omega arith;
-      state = ap₂ next old.state c.from-in-loop-k.ensures ∙ sym (reached_more u k 0 (omega arith));
+      state = ap₂ next_trellis_state old.state c.from-in-loop-k.ensures ∙ sym (reached_more u k 0 (omega arith));
       best = c.or_better_position-best.ensures u losses span.from old.best old.state lost refl c.requires.bits;
     }
 

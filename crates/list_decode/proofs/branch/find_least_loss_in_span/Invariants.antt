@@ -1,5 +1,7 @@
-use Rattle.std.proofs.Common.{◌≡◌, ◌<◌, take}
-use Rattle.list_decode.specs.{Branches.is_in_range, DeviatingWords.state_after_bits, LeastLosses.IsLeastLossSoFar}
+use Rattle.{
+  std.proofs.Common.{◌≡◌, ◌<◌, take},
+  list_decode.specs.{Branches.is_in_range, DeviatingWords.state_after_bits, LeastLosses.IsLeastLossSoFar},
+}
 use Rattle.list_decode.proofs.branch.find_least_loss_in_span.Given as goal
 
 abbrev pub invariant-loop-k : goal.invariant-loop-k

@@ -1,6 +1,10 @@
-use Rattle.std.proofs.Common.{arith, rules}
-use Rattle.list_decode.{specs.{Choices.deviating_word, WordStorage.stored_words}, proofs.Choices.{deviation_list_is, forks_first}}
-use Rattle.list_decode.proofs.Choices.{length-lists, order_first, order_second}
+use Rattle.{
+  std.proofs.Common.{arith, rules},
+  list_decode.{
+    specs.{Choices.deviating_word, WordStorage.stored_words},
+    proofs.Choices.{deviation_list_is, forks_first, length-lists, order_first, order_second},
+  },
+}
 use Rattle.list_decode.proofs.choice.compare_deviation_chains.Goals as goal
 
 pub loop-x-init : goal.loop-x-init

@@ -1,5 +1,4 @@
-use Rattle.std.proofs.Common.{◌+◌}
-use Rattle.list_decode.specs.{Choices.deviating_word, WordStorage.{DeviatesAtSamePosition, stored_words}}
+use Rattle.{std.proofs.Common.◌+◌, list_decode.specs.{Choices.deviating_word, WordStorage.{DeviatesAtSamePosition, stored_words}}}
 use Rattle.list_decode.proofs.choice.compare_deviation_chains.Given as goal
 
 abbrev pub invariant-loop-x : goal.invariant-loop-x

@@ -1,11 +1,14 @@
-use Rattle.std.proofs.Common.{arith, rules, ◌≡◌, ◌+◌, ◌++◌, ◌∷◌, [], ℕ, ℤ, pos, negsuc, ◌<◌, List, Option, None}
-use Rattle.std.proofs.{Common.{Some, get_or, take, length, sym, subst, ◌∙◌, to_z, w32, FitsSigned}, lemmas.Int.{ints, to_z-of_z}}
-use Rattle.std.{proofs.lemmas.List.{length-take, take_all, take_more, Elements.All-take}, specs.Prelude.{IfSome, MatchOption, ◌≤ℤ◌}}
-use Rattle.list_decode.specs.declared.{branch.WordBranch.WordBranch, choice.BranchChoice.BranchChoice, pass.ViterbiPass.ViterbiPass}
-use Rattle.list_decode.specs.{Branches.IsBranchOfReturnedWord, Choices.IsFirstRankedBranch, WordStorage.stored_words}
-use Rattle.list_decode.proofs.Choices.{blank, None-is_not, first_skipped, first_kept, first_deviation, lowest, not_some}
-use Rattle.list_decode.proofs.choice.find_first_ranked_branch.Goals.{then-metric-least+in-Some, then-metric-least+in_default}
-use Rattle.list_decode.proofs.choice.find_first_ranked_branch.Goals.{else-metric-least}
+use Rattle.{
+  std.proofs.Common.{arith, rules, ◌≡◌, ◌+◌, ◌++◌, ◌∷◌, [], ℕ, ℤ, pos, negsuc, ◌<◌, List, Option, None, Some},
+  std.proofs.{Common.{get_or, take, length, sym, subst, ◌∙◌, to_z, w32, FitsSigned}, lemmas.Int.{ints, to_z-of_z}},
+  std.{proofs.lemmas.List.{length-take, take_all, take_more, Elements.All-take}, specs.Prelude.{IfSome, MatchOption, ◌≤ℤ◌}},
+  list_decode.{
+    specs.declared.{branch.WordBranch.WordBranch, choice.BranchChoice.BranchChoice, pass.ViterbiPass.ViterbiPass},
+    specs.{Branches.IsBranchOfReturnedWord, Choices.IsFirstRankedBranch, WordStorage.stored_words},
+    proofs.Choices.{blank, None-is_not, first_skipped, first_kept, first_deviation, lowest, not_some},
+    proofs.choice.find_first_ranked_branch.Goals.{then-metric-least+in-Some, then-metric-least+in_default, else-metric-least},
+  },
+}
 use Rattle.list_decode.proofs.choice.find_first_ranked_branch.Goals as goal
 
 -- what the loop knows of the first branch so far

@@ -1,5 +1,7 @@
-use Rattle.std.{proofs.Common.{◌≡◌, None, negsuc, take}, specs.Prelude.{IfSome, ◌≤ℤ◌}}
-use Rattle.list_decode.specs.{Choices.{IsFirstRankedBranch, DeviatesFromReturnedWord}, WordStorage.stored_words}
+use Rattle.{
+  std.{proofs.Common.{◌≡◌, None, negsuc, take}, specs.Prelude.{IfSome, ◌≤ℤ◌}},
+  list_decode.specs.{Choices.{IsFirstRankedBranch, DeviatesFromReturnedWord}, WordStorage.stored_words},
+}
 use Rattle.list_decode.proofs.choice.find_first_ranked_branch.Given as goal
 
 abbrev pub invariant-loop-i : goal.invariant-loop-i

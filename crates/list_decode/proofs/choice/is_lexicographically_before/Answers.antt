@@ -1,6 +1,10 @@
-use Rattle.std.proofs.Common.{arith, rules, ◌≡◌, length, ap, ap₂, ◌∙◌}
-use Rattle.list_decode.{specs.{Branches.word_of_deviation, Choices.deviating_word, WordStorage.stored_words}, proofs.Choices.order_tested}
-use Rattle.list_decode.proofs.{Choices.{deviation_list_is, length-lists}, DeviatingWords.{test, tested}}
+use Rattle.{
+  std.proofs.Common.{arith, rules, ◌≡◌, length, ap, ap₂, ◌∙◌},
+  list_decode.{
+    specs.{Branches.word_of_deviation, Choices.deviating_word, WordStorage.stored_words},
+    proofs.{DeviatingWords.{order_tested, test, tested}, Choices.{deviation_list_is, length-lists}},
+  },
+}
 use Rattle.list_decode.proofs.choice.is_lexicographically_before.Goals as goal
 
 pub write_word-requires-clause-within : goal.write_word-requires-clause-within

@@ -1,6 +1,10 @@
-use Rattle.std.proofs.Common.{arith, ◌+◌, ◌-◌, ◌%◌, ◌*◌, drop, get_or, set, ap, ap₂, sym, ◌∙◌}
-use Rattle.std.proofs.lemmas.List.{drop-set-lt, take_rest}
-use Rattle.trellis_decode.specs.Trellis.{traceback}
+use Rattle.{
+  std.proofs.{
+    Common.{arith, ◌+◌, ◌-◌, ◌%◌, ◌*◌, drop, get_or, set, ap, ap₂, sym, ◌∙◌},
+    lemmas.List.{drop-set-lt, take_rest},
+  },
+  trellis_decode.specs.Trellis.traceback,
+}
 use Rattle.list_decode.proofs.departure.apply_deviation.Goals as goal
 
 pub replace_until_merged-requires-clause-chosen : goal.replace_until_merged-requires-clause-chosen

@@ -1,7 +1,9 @@
-use Rattle.std.proofs.Common.{arith, ◌≡◌, ◌+◌, ◌-◌, ◌<◌, List, [], ◌++◌, ℕ, length, take, drop, ap, ap₂, sym}
-use Rattle.std.proofs.{Common.{subst, ◌∙◌}, lemmas.List.{append-nil, drop_all, length-drop, take-append-drop, take_all}}
-use Rattle.trellis_decode.{proofs.Lemmas.length-traceback, specs.Trellis.traceback}
-use Rattle.list_decode.{specs.DeviatingWords.{state_after_bits, IsLeastLossPosition}, proofs.DeviatingWords.chosen_from}
+use Rattle.{
+  std.proofs.Common.{arith, ◌≡◌, ◌+◌, ◌-◌, List, [], ◌++◌, ℕ, length, take, drop, ap, ap₂, sym, subst, ◌∙◌},
+  std.proofs.lemmas.List.{append-nil, drop_all, length-drop, take-append-drop, take_all},
+  trellis_decode.{proofs.Lemmas.length-traceback, specs.Trellis.traceback},
+  list_decode.{specs.DeviatingWords.state_after_bits, proofs.DeviatingWords.chosen_from},
+}
 use Rattle.list_decode.proofs.departure.find_least_loss.Goals as goal
 
 pub returns-clause-list : goal.returns-clause-list
@@ -30,16 +32,11 @@ returns-clause-list c =
 pub returns-clause-least : goal.returns-clause-least
 returns-clause-least c =
     let u = traceback c.args.rows.now 0 in
-    let best = c.loop-k.reading.best in
     let end : c.loop-k.k ≡ length u - 4 = omega (arith, length-traceback c.args.rows.now 0, c.requires.rows, c.requires.at_least) in
-    subst (λ u. IsLeastLossPosition u c.args.losses.now (length u - 4) best.place best.loss) (sym (returns-clause-list c))
-    (subst (λ k. IsLeastLossPosition u c.args.losses.now k best.place best.loss) end c.loop-k.invariant.reading.best.least)
+    rw (returns-clause-list c, ← end) c.loop-k.invariant.reading.best.least
 
 pub returns-clause-state : goal.returns-clause-state
-returns-clause-state c =
-    c.loop-k.invariant.reading.best.state ∙ ap (λ u. state_after_bits 0 (take c.loop-k.reading.best.place u))
-    (sym (returns-clause-list c))
+returns-clause-state c = rw (returns-clause-list c) c.loop-k.invariant.reading.best.state
 
 pub returns-clause-within : goal.returns-clause-within
-returns-clause-within c =
-    subst (λ u. c.loop-k.reading.best.place + 4 < length u) (sym (returns-clause-list c)) c.loop-k.invariant.reading.best.in_range
+returns-clause-within c = rw (returns-clause-list c) c.loop-k.invariant.reading.best.in_range

@@ -1,7 +1,12 @@
-use Rattle.std.proofs.Common.{arith, rules, ◌≡◌, [], length, get_or, refl, ap, sym, ◌∙◌, subst}
-use Rattle.list_decode.specs.{Branches.{IsBranch, IsSpanOfWord, IsDeviation, word_of_deviation}, WordStorage.stored_words}
-use Rattle.list_decode.{specs.{Passes.soft_bits_of_pass, Ranking.IsCandidate}, proofs.Choices.{blank, deviation_is, length-lists}}
-use Rattle.list_decode.proofs.{Chosen.{IsChosen, chosen, chosen_branch, is_next}, partitioning.find_next_word.Goals.In_ok-choice}
+use Rattle.{
+  std.proofs.Common.{arith, rules, ◌≡◌, [], length, get_or, refl, ap, sym, ◌∙◌, subst},
+  list_decode.{
+    specs.{Branches.{IsBranch, IsSpanOfWord, IsDeviation, word_of_deviation}, WordStorage.stored_words, Passes.soft_bits_of_pass},
+    specs.Ranking.IsCandidate,
+    proofs.{Choices.{blank, length-lists}, Chosen.{IsChosen, chosen, chosen_branch, is_next}},
+    proofs.partitioning.find_next_word.Goals.In_ok-choice,
+  },
+}
 use Rattle.list_decode.proofs.partitioning.find_next_word.Goals as goal
 
 -- the word from which the next word deviates, and the span in which it does
@@ -20,17 +25,10 @@ write_word-requires-clause-within c =
     c.requires.lists c.requires.branches c.in_ok-choice.ensures.first).in_range in
     omega arith
 
-pub write_word-requires-2-clause-deviation : goal.write_word-requires-2-clause-deviation
-write_word-requires-2-clause-deviation c =
-    subst (λ u. IsDeviation c.args.pass.now u c.in_ok-choice.choice.deviation) (sym c.write_word.ensures)
-    (chosen_here (goal.at.write_word-requires-2-clause-deviation c).In_ok-choice).deviation
-
-pub partition-parts-requires-clause-deviating_word : goal.partition-parts-requires-clause-deviating_word
-partition-parts-requires-clause-deviating_word c =
-    let is = chosen_here (goal.at.partition-parts-requires-clause-deviating_word c).In_ok-choice in
-    subst (IsCandidate (soft_bits_of_pass c.args.pass.now))
-    (sym (c.write_word-2.ensures ∙ ap (λ u. word_of_deviation c.args.pass.now u c.in_ok-choice.choice.deviation) c.write_word.ensures))
-    (deviation_is c.args.pass.now _ c.in_ok-choice.choice.deviation c.requires.pass is.candidate is.deviation)
+pub partition-parts-requires-clause-list : goal.partition-parts-requires-clause-list
+partition-parts-requires-clause-list c =
+    subst (IsCandidate (soft_bits_of_pass c.args.pass.now)) (sym c.write_word.ensures)
+    (chosen_here (goal.at.partition-parts-requires-clause-list c).In_ok-choice).candidate
 
 pub partition-parts-requires-clause-span : goal.partition-parts-requires-clause-span
 partition-parts-requires-clause-span c =
@@ -60,11 +58,11 @@ returns c =
     let many : length c.args.lists.now.deviations ≡ 63 = search rules in
     let count = length-lists pass c.args.lists.now many r.tree.at_most in
     let read = c.write_word.ensures in
-    let written = c.write_word-2.ensures ∙ ap (λ u. word_of_deviation pass u choice.deviation) read in
+    let written = p.written ∙ ap (λ u. word_of_deviation pass u choice.deviation) read in
     record {
       next = is_next pass us branches choice r.pass r.lists r.branches c.in_ok-choice.ensures.first _ refl refl
           (subst (λ u. IsBranch pass u c.partition-parts.result.branch_before) read p.before)
           (subst (λ v. IsBranch pass v c.partition-parts.result.branch_of_new_word) written p.behind)
           (subst (λ u. IsBranch pass u c.partition-parts.result.branch_after) read p.after) p.before_span
-          (p.behind_span.0 ∙ sym count, p.behind_span.1, p.behind_span.2) p.after_span c.write_word-2.new.v written;
+          (p.behind_span.0 ∙ sym count, p.behind_span.1, p.behind_span.2) p.after_span c.partition-parts.new.u written;
     }

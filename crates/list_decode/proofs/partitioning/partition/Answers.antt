@@ -1,19 +1,39 @@
-use Rattle.std.proofs.{Common.{arith, rules, ◌+◌, ◌*◌, ◌%◌, get_or, refl, ap, w32, FitsSigned}, lemmas.Int.to_z-of_z}
-use Rattle.list_decode.proofs.Spans.{span_after, span_behind}
+use Rattle.{
+  std.proofs.{Common.{arith, rules, ◌+◌, ◌*◌, ◌%◌, get_or, refl, ap, w32, FitsSigned}, lemmas.Int.to_z-of_z},
+  list_decode.proofs.{Choices.deviation_is, Spans.{span_after, span_behind}, partitioning.partition.Goals.After-apply},
+  list_decode.specs.{Passes.soft_bits_of_pass, Ranking.IsCandidate},
+  weight_bound.proofs.conv_code.Lemmas.bit_at-most_1,
+}
 use Rattle.list_decode.proofs.partitioning.partition.Goals as goal
 
-pub new-requires-2-clause-span : goal.new-requires-2-clause-span
-new-requires-2-clause-span c =
+deviating_word : (c : After-apply) → IsCandidate (soft_bits_of_pass c.args.pass.now) c.apply.new.u
+deviating_word c =
     let r = c.requires in
-    let fits : FitsSigned w32 c.args.deviation.now.likelihood = search rules in
-    span_behind c.args.pass.now c.args.u.now c.args.deviation.now r.pass r.list r.deviation c.args.v.now _ r.written r.deviating_word refl
-    (let five = r.pass.at_least in omega arith) (to_z-of_z w32 c.args.deviation.now.likelihood fits)
-    (ap (λ place. (2 * c.args.deviation.now.departure.state + get_or c.args.v.now place 0) % 16) c.from.ensures)
+    rw c.apply.ensures (deviation_is c.args.pass.now c.args.u.now c.args.deviation.now r.pass r.list r.deviation)
 
-pub new-requires-3-clause-span : goal.new-requires-3-clause-span
-new-requires-3-clause-span c =
+pub new-requires-clause-list : goal.new-requires-clause-list
+new-requires-clause-list c = deviating_word (goal.at.new-requires-clause-list c).After-apply
+
+pub overflow_add-behind-2 : goal.overflow_add-behind-2
+overflow_add-behind-2 c =
+    let word = deviating_word (goal.at.overflow_add-behind-2 c).After-apply in
+    let bit = bit_at-most_1 c.apply.new.u c.from-2.result word.information.bits in
+    let state = c.requires.deviation.state_in_range in
+    omega arith
+
+pub new-branch_after-requires-clause-span : goal.new-branch_after-requires-clause-span
+new-branch_after-requires-clause-span c =
     let r = c.requires in
     let fits : FitsSigned w32 c.args.span.likelihood = search rules in
     span_after c.args.pass.now c.args.u.now c.args.deviation.now r.pass r.list r.deviation c.args.span _ r.span r.to refl refl
     (to_z-of_z w32 c.args.span.likelihood fits)
-    (ap (λ place. (2 * c.args.deviation.now.departure.state + get_or c.args.u.now place 0) % 16) c.from-2.ensures)
+    (ap (λ place. (2 * c.args.deviation.now.departure.state + get_or c.args.u.now place 0) % 16) c.from.ensures)
+
+pub new-requires-clause-span : goal.new-requires-clause-span
+new-requires-clause-span c =
+    let r = c.requires in
+    let fits : FitsSigned w32 c.args.deviation.now.likelihood = search rules in
+    span_behind c.args.pass.now c.args.u.now c.args.deviation.now r.pass r.list r.deviation c.apply.new.u _ c.apply.ensures
+    (deviating_word (goal.at.new-requires-clause-span c).After-apply) refl
+    (let five = r.pass.at_least in omega arith) (to_z-of_z w32 c.args.deviation.now.likelihood fits)
+    (ap (λ place. (2 * c.args.deviation.now.departure.state + get_or c.apply.new.u place 0) % 16) c.from-2.ensures)

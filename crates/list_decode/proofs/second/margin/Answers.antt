@@ -1,16 +1,20 @@
-use Rattle.std.proofs.Common.{arith, rules, ◌+◌, ◌-◌, ◌*◌, ◌++◌, ◌∷◌, pos, take, drop, get_or, ap, ap₂, sym, subst}
-use Rattle.std.{proofs.{Common.{◌∙◌, w32}, lemmas.Int.to_z-of_z}, specs.Prelude.◌≤ℤ◌}
-use Rattle.weight_bound.specs.bit_blocks.Bits.{AllBits}
-use Rattle.trellis_decode.specs.Trellis.{next, traceback}
-use Rattle.list_decode.{specs.DeviatingWords.state_after_bits, proofs.DeviatingWords.{AllBits-kept, AreFirstTwo, first_two}}
-use Rattle.list_decode.proofs.{DeviatingWords.{traceback_behind, reached_small}, Rankings.{IsMargin-second, tie_by_margin, hard_margin}}
-use Rattle.list_decode.proofs.{Rankings.both_only, second.margin.Goals.After-write_deviation}
+use Rattle.{
+  std.proofs.Common.{arith, rules, ◌+◌, ◌-◌, ◌++◌, ◌∷◌, take, drop, get_or, ap₂, ◌∙◌, w32},
+  std.proofs.lemmas.Int.to_z-of_z,
+  trellis_decode.specs.Trellis.{next_trellis_state, traceback},
+  list_decode.proofs.{
+    DeviatingWords.{AllBits-kept, traceback_behind, reached_small},
+    Deviations.{AreFirstTwo, first_two},
+    Rankings.{IsMargin-second, tie_by_margin, hard_margin, both_only},
+    second.margin.Goals.After-write_deviation,
+  },
+}
 use Rattle.list_decode.proofs.second.margin.Goals as goal
 
 pub write_deviation-requires-clause-bits : goal.write_deviation-requires-clause-bits
 write_deviation-requires-clause-bits c =
     let pairs = c.fill_decisions.ensures.count in
-    subst AllBits (sym c.find_least_loss-departure.ensures.list)
+    rw c.find_least_loss-departure.ensures.list
     (AllBits-kept _ c.fill_decisions.new.losses c.args.soft.now c.fill_decisions.ensures.decisions (omega arith))
 
 pub write_deviation-requires-clause-chosen : goal.write_deviation-requires-clause-chosen
@@ -22,7 +26,7 @@ write_deviation-requires-clause-chosen c =
     departure.ensures.list
     (let i = departure.ensures.within in let n = c.fill_decisions.auto.rows in let m = departure.auto.u in omega arith)
     (let n = c.fill_decisions.auto.rows in let m = departure.auto.u in omega arith)
-    (is.state ∙ departure.ensures.state ∙ ap (λ place. state_after_bits 0 (take place departure.new.u)) (sym is.place))
+    (rw is.place (is.state ∙ departure.ensures.state))
 
 pub new-deviation-requires-clause-state : goal.new-deviation-requires-clause-state
 new-deviation-requires-clause-state c =
@@ -40,7 +44,7 @@ both c =
     (c.write_deviation.ensures
     ∙ ap₂ (λ place state. take place departure.new.u
     ++ (1 - get_or departure.new.u place 0) ∷ traceback (drop (place + 1) c.fill_decisions.new.rows)
-    (next state (1 - get_or departure.new.u place 0))) c.new-deviation.ensures.place c.new-deviation.ensures.state)
+    (next_trellis_state state (1 - get_or departure.new.u place 0))) c.new-deviation.ensures.place c.new-deviation.ensures.state)
 
 pub returns-clause-best : goal.returns-clause-best
 returns-clause-best c = (both (goal.at.returns-clause-best c).After-write_deviation).best
@@ -70,4 +74,4 @@ pub returns-clause-hard : goal.returns-clause-hard
 returns-clause-hard c e hard wrong few =
     let bound = hard_margin c.args.soft.now c.find_least_loss-departure.new.u c.write_deviation.new.v e (returns-clause-best c).information
     (returns-clause-second c).candidate (returns-clause-best c).count (returns-clause-second c).differs hard wrong few in
-    subst (λ m. pos (254 * (7 - 2 * e)) ≤ℤ m) (sym (returns-clause-value c)) bound
+    rw (returns-clause-value c) bound

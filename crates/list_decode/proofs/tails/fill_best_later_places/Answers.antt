@@ -1,10 +1,13 @@
-use Rattle.std.proofs.Common.{arith, rules, ◌≡◌, ◌+◌, ◌-◌, ◌<◌, ◌≤◌, ℕ, Some, List, ℤ, inl, inr, get_or, length}
-use Rattle.std.proofs.{Common.{set, sym, subst}, lemmas.{Grind.get_or-set_at, List.get_or-set_other}}
-use Rattle.weight_bound.proofs.conv_code.Lemmas.{same_number}
-use Rattle.trellis_decode.specs.Trellis.{traceback}
-use Rattle.list_decode.specs.{DeviatingWords.{is_in_range, IsLeastLossFreePosition}, LeastLosses.IsPossibleDeviation}
-use Rattle.list_decode.specs.{LeastLosses.IsLeastLossDeviationOrNone, declared.departure.PossibleDeviation.PossibleDeviation}
-use Rattle.list_decode.proofs.Spans.{alone}
+use Rattle.{
+  std.proofs.{
+    Common.{arith, rules, ◌≡◌, ◌+◌, ◌-◌, ◌<◌, ◌≤◌, ℕ, Some, List, ℤ, inl, inr, get_or, length, set, sym, subst},
+    lemmas.{Grind.get_or-set_at, List.get_or-set_other},
+  },
+  weight_bound.proofs.conv_code.Lemmas.same_number,
+  trellis_decode.specs.Trellis.traceback,
+  list_decode.specs.{DeviatingWords.{is_in_range, IsLeastLossFreePosition}, LeastLosses.{IsPossibleDeviation, IsLeastLossDeviationOrNone}},
+  list_decode.{specs.declared.departure.PossibleDeviation.PossibleDeviation, proofs.Spans.alone},
+}
 use Rattle.list_decode.proofs.tails.fill_best_later_places.Goals as goal
 
 -- one position alone
@@ -54,11 +57,11 @@ loop-k-preserved c =
     let some = c.loop-k-test.true in
     let k = c.loop-k.k - 1 in
     let n = length rows - 4 in
-    let best = c.or_later-best.ensures u losses k c.loop-k.k n
+    let best = c.or_better_later-best.ensures u losses k c.loop-k.k n
     (one_place u losses k c.loop-k.k c.survivor_deviation.result (omega arith) here.place here.possible) old.best in
     record {
       best = best;
-      each = (λ j low high. one_more u losses c.loop-k.places k n c.or_later-best.result.place j (search rules) best.1
+      each = (λ j low high. one_more u losses c.loop-k.places k n c.or_better_later-best.result.place j (search rules) best.1
           (λ more. old.each j (omega arith) high) low);
     }
 
@@ -68,7 +71,7 @@ overflow_cast-places-in-loop-k c =
     let here = c.survivor_deviation.ensures in
     let some = c.loop-k-test.true in
     let k = c.loop-k.k - 1 in
-    let best = c.or_later-best.ensures (traceback rows 0) c.args.losses.now k c.loop-k.k (length rows - 4)
+    let best = c.or_better_later-best.ensures (traceback rows 0) c.args.losses.now k c.loop-k.k (length rows - 4)
     (one_place (traceback rows 0) c.args.losses.now k c.loop-k.k c.survivor_deviation.result (omega arith) here.place here.possible)
     c.loop-k.invariant.best in
     let within = best.1.in_range in

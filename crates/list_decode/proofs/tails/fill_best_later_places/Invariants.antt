@@ -1,6 +1,8 @@
-use Rattle.std.proofs.Common.{◌+◌, ◌-◌, ◌<◌, ◌≤◌, ℕ, Some, get_or, length}
-use Rattle.trellis_decode.specs.Trellis.{traceback}
-use Rattle.list_decode.specs.{DeviatingWords.{is_in_range, IsLeastLossFreePosition}, LeastLosses.IsLeastLossDeviationOrNone}
+use Rattle.{
+  std.proofs.Common.{◌+◌, ◌-◌, ◌<◌, ◌≤◌, ℕ, Some, get_or, length},
+  trellis_decode.specs.Trellis.traceback,
+  list_decode.specs.{DeviatingWords.{is_in_range, IsLeastLossFreePosition}, LeastLosses.IsLeastLossDeviationOrNone},
+}
 use Rattle.list_decode.proofs.tails.fill_best_later_places.Given as goal
 
 abbrev pub invariant-loop-k : goal.invariant-loop-k

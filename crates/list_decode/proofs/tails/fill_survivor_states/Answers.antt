@@ -1,8 +1,10 @@
-use Rattle.std.proofs.Common.{arith, ◌/◌, ◌^◌, ◌%◌, inl, inr, get_or, take, rules, ap, ap₂, sym, ◌∙◌}
-use Rattle.std.proofs.lemmas.{Grind.get_or-set_at, List.get_or-set_other, Nat.and_mask}
-use Rattle.trellis_decode.{specs.Trellis.{next, traceback}, proofs.Lemmas.length-traceback}
-use Rattle.weight_bound.proofs.conv_code.Lemmas.{same_number}
-use Rattle.list_decode.{specs.DeviatingWords.state_after_bits, proofs.DeviatingWords.{chosen_bit, reached_more}}
+use Rattle.{
+  std.proofs.Common.{arith, ◌/◌, ◌^◌, ◌%◌, inl, inr, get_or, take, rules, ap, ap₂, sym, ◌∙◌},
+  std.proofs.lemmas.{Grind.get_or-set_at, List.get_or-set_other, Nat.and_mask},
+  trellis_decode.{specs.Trellis.{next_trellis_state, traceback}, proofs.Lemmas.length-traceback},
+  weight_bound.proofs.conv_code.Lemmas.same_number,
+  list_decode.{specs.DeviatingWords.state_after_bits, proofs.DeviatingWords.{chosen_bit, reached_more}},
+}
 use Rattle.list_decode.proofs.tails.fill_survivor_states.Goals as goal
 
 pub loop-k-preserved : goal.loop-k-preserved
@@ -12,7 +14,8 @@ loop-k-preserved c =
     let old = c.loop-k.invariant in
     record {
       small = omega arith;
-      state = ap₂ next old.state (and_mask (get_or rows k 0 / 2 ^ c.loop-k.state) 1 ∙ ap (λ s. get_or rows k 0 / 2 ^ s % 2) old.state
+      state = ap₂ next_trellis_state old.state
+          (and_mask (get_or rows k 0 / 2 ^ c.loop-k.state) 1 ∙ ap (λ s. get_or rows k 0 / 2 ^ s % 2) old.state
           ∙ sym (chosen_bit rows 0 k (omega arith)))
           ∙ sym (reached_more (traceback rows 0) k 0 (omega (arith, length-traceback rows 0)));
       each = (λ j lt. elim (same_number j k) [

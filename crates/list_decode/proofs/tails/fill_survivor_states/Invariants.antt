@@ -1,6 +1,8 @@
-use Rattle.std.proofs.Common.{◌≡◌, ◌<◌, ℕ, get_or, take}
-use Rattle.trellis_decode.specs.Trellis.{traceback}
-use Rattle.list_decode.specs.DeviatingWords.{state_after_bits}
+use Rattle.{
+  std.proofs.Common.{◌≡◌, ◌<◌, ℕ, get_or, take},
+  trellis_decode.specs.Trellis.traceback,
+  list_decode.specs.DeviatingWords.state_after_bits,
+}
 use Rattle.list_decode.proofs.tails.fill_survivor_states.Given as goal
 
 abbrev pub invariant-loop-k : goal.invariant-loop-k

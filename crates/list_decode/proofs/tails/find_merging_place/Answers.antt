@@ -1,6 +1,8 @@
-use Rattle.std.proofs.Common.{arith, ap₂, sym, ◌∙◌}
-use Rattle.trellis_decode.specs.Trellis.{next}
-use Rattle.list_decode.proofs.DeviatingWords.{reached_more}
+use Rattle.{
+  std.proofs.Common.{arith, ap₂, sym, ◌∙◌},
+  trellis_decode.specs.Trellis.next_trellis_state,
+  list_decode.proofs.DeviatingWords.reached_more,
+}
 use Rattle.list_decode.proofs.tails.find_merging_place.Goals as goal
 
 pub loop-k-preserved : goal.loop-k-preserved
@@ -11,5 +13,5 @@ loop-k-preserved c =
     let within = c.loop-k-test.true in
     record {
       small = omega arith;
-      state = ap₂ next old.state c.from-in-loop-k.ensures ∙ sym (reached_more c.args.list.now c.loop-k.k 0 (omega arith));
+      state = ap₂ next_trellis_state old.state c.from-in-loop-k.ensures ∙ sym (reached_more c.args.list.now c.loop-k.k 0 (omega arith));
     }

@@ -1,7 +1,9 @@
-use Rattle.std.proofs.Common.{arith, rules, ◌≡◌, ◌<◌, ◌/◌, ◌^◌, [], ℤ, pos, ◌+ℤ◌, ◌-ℤ◌, get_or, take, refl}
-use Rattle.std.proofs.{Common.{ap, sym, ◌∙◌, subst, bit_and, to_z, of_z, w16, FitsSigned}, lemmas.{Int.to_z-of_z, Nat.and_mask}}
-use Rattle.trellis_decode.specs.Trellis.{traceback}
-use Rattle.list_decode.proofs.{DeviatingWords.reached_small, Spans.survivor_departure}
+use Rattle.{
+  std.proofs.Common.{arith, rules, ◌≡◌, ◌<◌, ◌/◌, ◌^◌, [], ℤ, pos, ◌-ℤ◌, get_or, take, refl, ap, sym, ◌∙◌},
+  std.proofs.{Common.{subst, bit_and, to_z, of_z, w16, FitsSigned}, lemmas.{Int.to_z-of_z, Nat.and_mask}},
+  trellis_decode.specs.Trellis.traceback,
+  list_decode.proofs.{DeviatingWords.reached_small, Spans.survivor_departure},
+}
 use Rattle.list_decode.proofs.tails.survivor_deviation.Goals as goal
 
 pub overflow_shr-bit : goal.overflow_shr-bit
@@ -30,4 +32,4 @@ returns-clause-possible c =
     let new = c.new.ensures in
     survivor_departure rows losses k state bit lost c.new.result c.requires.within (c.requires.states k c.requires.within) refl
     (and_mask (get_or rows k 0 / 2 ^ state) 1) new.place (new.state ∙ c.from.ensures) (new.loss ∙ is_lost)
-    (new.loss_limit ∙ ap (λ lost. lost +ℤ pos 1 -ℤ pos bit) is_lost)
+    (new.loss_limit ∙ ap (λ lost. lost -ℤ pos bit) is_lost)

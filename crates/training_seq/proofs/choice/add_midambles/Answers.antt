@@ -1,12 +1,13 @@
-use Rattle.std.proofs.Common.{◌≡◌, ◌≢◌, ◌<◌, length, pos, refl, arith, below_more, get_or-set_other, get_or-set_same}
-use Rattle.std.proofs.{Common.{◌∙◌, sym, ap, get_or, ◌+ℤ◌}, lemmas.{Int.ints, List.{ext_get_or, length-set}}}
-use Rattle.std.proofs.lemmas.List.Elements.{All-replicate, All-set}
-use Rattle.training_seq.{specs.{Ranges.IsMagnitudeWithin, Sums.vector_sum}, proofs.Lemmas.{length-vector_sum, get_or-vector_sum}}
+use Rattle.{
+  std.proofs.Common.{◌≡◌, ◌≢◌, ◌<◌, length, pos, refl, arith, below_more, get_or-set_other, get_or-set_same},
+  std.proofs.lemmas.{Int.ints, List.{ext_get_or, length-set, Elements.{All-replicate, All-set}}},
+  training_seq.{specs.{Ranges.IsMagnitudeWithin, Sums.vector_sum}, proofs.Lemmas.{length-vector_sum, get_or-vector_sum}},
+}
 use Rattle.training_seq.proofs.choice.add_midambles.Goals as goal
 
 pub loop-i-init : goal.loop-i-init
 loop-i-init c =
-    (refl, λ k h. absurd (omega arith), All-replicate (IsMagnitudeWithin 512) 26 (pos 0) (omega (arith, ints), omega (arith, ints)))
+    (refl, λ k h. absurd (omega arith), All-replicate (IsMagnitudeWithin 512) 26 (pos 0) (omega (arith, ints)))
 
 pub loop-i-preserved : goal.loop-i-preserved
 loop-i-preserved c =
@@ -15,7 +16,7 @@ loop-i-preserved c =
       below_more _ _
           (λ k h. let ne : k ≢ c.loop-i.i = omega arith in rw get_or-set_other (c.loop-i.invariant.1 k h))
           (rw get_or-set_same (omega (arith, ints))),
-      All-set (IsMagnitudeWithin 512) _ _ _ (omega (arith, ints), omega (arith, ints)) c.loop-i.invariant.2,
+      All-set (IsMagnitudeWithin 512) _ _ _ (omega (arith, ints)) c.loop-i.invariant.2,
     )
 
 pub returns-clause-value : goal.returns-clause-value
@@ -35,10 +36,11 @@ returns-clause-value c =
       length-vector_sum (vector_sum a b) e abe,
       length-vector_sum (vector_sum (vector_sum a b) e) d abed,
     ))
-    (λ k h.
-    let written : k < c.loop-i.i = omega arith in
-    let ab_at = get_or-vector_sum a b k ab in
-    let abe_at = get_or-vector_sum (vector_sum a b) e k abe in
-    let abed_at = get_or-vector_sum (vector_sum (vector_sum a b) e) d k abed in
-    c.loop-i.invariant.1 k written
-    ∙ sym (abed_at ∙ ap (λ x. x +ℤ get_or d k (pos 0)) (abe_at ∙ ap (λ x. x +ℤ get_or e k (pos 0)) ab_at)))
+    (λ k h. omega (
+      arith,
+      ints,
+      c.loop-i.invariant.1 k (omega arith),
+      get_or-vector_sum a b k ab,
+      get_or-vector_sum (vector_sum a b) e k abe,
+      get_or-vector_sum (vector_sum (vector_sum a b) e) d k abed,
+    ))

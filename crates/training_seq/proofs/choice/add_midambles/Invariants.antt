@@ -1,5 +1,4 @@
-use Rattle.std.proofs.Common.{◌≡◌, ℕ, ◌<◌, length, get_or, pos, ◌+ℤ◌, All}
-use Rattle.training_seq.specs.Ranges.{IsMagnitudeWithin}
+use Rattle.{std.proofs.Common.{◌≡◌, ℕ, ◌<◌, length, get_or, pos, ◌+ℤ◌, All}, training_seq.specs.Ranges.IsMagnitudeWithin}
 use Rattle.training_seq.proofs.choice.add_midambles.Given as goal
 
 abbrev pub invariant-loop-i : goal.invariant-loop-i

@@ -1,8 +1,12 @@
 -- Correlation is linear: correlating the sum of four midambles gives the sum of their correlations.
-use Rattle.std.proofs.{Common.{◌≡◌, ℕ, ℤ, ◌≤◌, List, length, arith}, lemmas.Int.ints}
-use Rattle.training_seq.{specs.{Choice.total_correlation, Sequences.midamble, Sums.vector_sum}, proofs.Lemmas.length-vector_sum}
-use Rattle.training_seq.proofs.Lemmas.{correlation-vector_sum, IsFirstMaximum-same, AllBits-midamble}
-use Rattle.bit_blocks.specs.SoftValues.{likelihood}
+use Rattle.{
+  std.proofs.{Common.{◌≡◌, ℕ, ℤ, ◌≤◌, List, length, arith}, lemmas.Int.ints},
+  training_seq.{
+    specs.{Choice.total_correlation, Sequences.midamble, Sums.vector_sum},
+    proofs.Lemmas.{length-vector_sum, correlation-vector_sum, IsFirstMaximum-same, AllBits-midamble},
+  },
+  bit_blocks.specs.SoftValues.likelihood,
+}
 use Rattle.training_seq.proofs.choice.best.Goals as goal
 
 correlation-four : (a b c d : List ℤ) (tsc : ℕ) → length a ≡ length b → length a ≡ length c → length a ≡ length d →

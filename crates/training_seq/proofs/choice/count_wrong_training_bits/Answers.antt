@@ -1,13 +1,17 @@
-use Rattle.std.proofs.{Common.{◌≡◌, ◌<◌, length, pos, arith, get_or, w16, to_z, of_z}, lemmas.Int.ints}
-use Rattle.training_seq.{specs.{Ranges.IsMagnitudeWithin, Sequences.midamble, Sums.sign_of_bit}, proofs.Lemmas.wrong_more}
-use Rattle.training_seq.proofs.Lemmas.{length-midamble, sign_at, small_sign}
+use Rattle.{
+  std.proofs.{Common.{◌≡◌, ◌<◌, length, pos, arith, get_or, w16, to_z, of_z}, lemmas.Int.ints},
+  training_seq.{
+    specs.{Ranges.IsMagnitudeWithin, Sequences.midamble, Sums.sign_of_bit},
+    proofs.Lemmas.{wrong_more, length-midamble, sign_at, small_sign},
+  },
+}
 use Rattle.training_seq.proofs.choice.count_wrong_training_bits.Goals as goal
 
 pub count_wrong_bits_at-wrong-requires-clause-sign : goal.count_wrong_bits_at-wrong-requires-clause-sign
 count_wrong_bits_at-wrong-requires-clause-sign c =
     let near : IsMagnitudeWithin 1 (get_or c.signs-signs.result.now c.loop-i.i (pos 0)) =
     rw c.signs-signs.ensures (small_sign c.args.tsc c.loop-i.i c.requires.known (omega arith)) in
-    (omega (arith, ints), omega (arith, ints))
+    omega (arith, ints)
 
 pub loop-i-preserved : goal.loop-i-preserved
 loop-i-preserved c =

@@ -1,6 +1,8 @@
-use Rattle.std.proofs.Common.{◌≡◌, ◌+◌, ◌*◌, ◌≤◌, drop}
-use Rattle.bit_blocks.specs.SoftValues.{count_wrong_bits}
-use Rattle.training_seq.specs.{Choice.wrong_midamble_bits, Sequences.midamble}
+use Rattle.{
+  std.proofs.Common.{◌≡◌, ◌+◌, ◌*◌, ◌≤◌, drop},
+  bit_blocks.specs.SoftValues.count_wrong_bits,
+  training_seq.specs.{Choice.wrong_midamble_bits, Sequences.midamble},
+}
 use Rattle.training_seq.proofs.choice.count_wrong_training_bits.Given as goal
 
 -- the number of wrong soft bits so far plus the number in the rest is the number in all

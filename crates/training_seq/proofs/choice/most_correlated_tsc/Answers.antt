@@ -1,7 +1,9 @@
-use Rattle.std.proofs.{Common.{◌≡◌, ℕ, ℤ, ◌<ℤ◌, ◌≤ℤ◌, arith}, lemmas.Int.ints}
-use Rattle.bit_blocks.specs.SoftValues.{likelihood}
-use Rattle.training_seq.{specs.Sequences.midamble, proofs.Lemmas.{LeadsBelow-overtaken, LeadsBelow-kept, IsFirstMaximum-from_LeadsBelow}}
-use Rattle.training_seq.proofs.choice.most_correlated_tsc.Goals.{then-total-greatest, else-total-greatest}
+use Rattle.{
+  std.proofs.{Common.{◌≡◌, ℕ, ℤ, ◌<ℤ◌, ◌≤ℤ◌, arith}, lemmas.Int.ints},
+  bit_blocks.specs.SoftValues.likelihood,
+  training_seq.{specs.Sequences.midamble, proofs.Lemmas.{LeadsBelow-overtaken, LeadsBelow-kept, IsFirstMaximum-from_LeadsBelow}},
+  training_seq.proofs.choice.most_correlated_tsc.Goals.{then-total-greatest, else-total-greatest},
+}
 use Rattle.training_seq.proofs.choice.most_correlated_tsc.Goals as goal
 
 pub loop-tsc-preserved : goal.loop-tsc-preserved

@@ -1,6 +1,8 @@
-use Rattle.std.proofs.Common.{◌≡◌}
-use Rattle.bit_blocks.specs.SoftValues.{likelihood}
-use Rattle.training_seq.{specs.Sequences.midamble, proofs.Lemmas.LeadsBelow}
+use Rattle.{
+  std.proofs.Common.◌≡◌,
+  bit_blocks.specs.SoftValues.likelihood,
+  training_seq.{specs.Sequences.midamble, proofs.Lemmas.LeadsBelow},
+}
 use Rattle.training_seq.proofs.choice.most_correlated_tsc.Given as goal
 
 -- `best` is the sequence with the greatest correlation so far, and `greatest` is that correlation

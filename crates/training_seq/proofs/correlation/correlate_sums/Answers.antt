@@ -1,12 +1,16 @@
-use Rattle.std.proofs.Common.{◌≡◌, ◌<◌, ◌≤◌, ℕ, ℤ, List, ◌*ℤ◌, length, drop, pos, refl, sym, subst, arith, w16}
-use Rattle.std.proofs.{Common.{to_z, of_z, get_or, ◌+ℤ◌, ◌∙◌}, lemmas.{Int.ints, List.{drop_all, get_or-replicate}}}
-use Rattle.bit_blocks.specs.SoftValues.{likelihood}
-use Rattle.training_seq.specs.{Ranges.IsMagnitudeWithin, Sequences.midamble, Sums.{sign_of_bit, soft_bit_at}}
-use Rattle.training_seq.proofs.Lemmas.{correlation_more, length-midamble, sign_in_row, small_in_row, passed, product_within}
+use Rattle.{
+  std.proofs.Common.{◌≡◌, ◌<◌, ◌≤◌, ℕ, ℤ, List, ◌*ℤ◌, length, drop, pos, refl, sym, subst, arith, w16, to_z},
+  std.proofs.{Common.{of_z, get_or, ◌+ℤ◌, ◌∙◌}, lemmas.{Int.ints, List.{drop_all, get_or-replicate}}},
+  bit_blocks.specs.SoftValues.likelihood,
+  training_seq.{
+    specs.{Ranges.IsMagnitudeWithin, Sequences.midamble, Sums.{sign_of_bit, soft_bit_at}},
+    proofs.Lemmas.{correlation_more, length-midamble, sign_in_row, small_in_row, passed, product_within},
+  },
+}
 use Rattle.training_seq.proofs.correlation.correlate_sums.Goals as goal
 
 start : (total all : ℤ) → total ≡ pos 0 → (total +ℤ all ≡ all) × IsMagnitudeWithin 0 total
-start total all e = (omega (arith, ints), (omega (arith, ints), omega (arith, ints)))
+start total all e = (omega (arith, ints), (omega (arith, ints)))
 
 pub loop-i-init : goal.loop-i-init
 loop-i-init c = (refl, λ tsc h. start _ _ (get_or-replicate 8 tsc (pos 0) (pos 0) (omega arith)))
@@ -33,33 +37,33 @@ loop-i-preserved c = (
       let before = c.loop-i.invariant.1 tsc h in
       let each = c.add_product-totals.ensures.each tsc h in
       let kept : to_z w16 (of_z w16 value) ≡ value = omega (arith, ints) in
-      let row : soft_bit_at c.signs_at.result.now tsc ≡ sign = rw c.signs_at.ensures (sign_in_row tsc i h) in
+      let row : soft_bit_at c.all_tsc_signs_at.result.now tsc ≡ sign = rw c.all_tsc_signs_at.ensures (sign_in_row tsc i h) in
       let is : soft_bit_at c.add_product-totals.result.lanes tsc ≡ soft_bit_at c.loop-i.totals.lanes tsc +ℤ value *ℤ sign =
       rw (kept, row) at each in
       let product = product_within value sign small near in (
         rw is (correlation_more sums bits i (soft_bit_at c.loop-i.totals.lanes tsc) _ here there before.0),
-        (omega (arith, ints, is, product, before.1), omega (arith, ints, is, product, before.1)),
+        (omega (arith, ints, is, product, before.1)),
       ),
 )
 
 pub add_product-totals-requires-clause-totals : goal.add_product-totals-requires-clause-totals
 add_product-totals-requires-clause-totals c tsc h =
     let before = (c.loop-i.invariant.1 tsc h).1 in
-    (omega (arith, ints), omega (arith, ints))
+    omega (arith, ints)
 
 pub add_product-totals-requires-clause-signs : goal.add_product-totals-requires-clause-signs
 add_product-totals-requires-clause-signs c tsc h =
-    rw (c.signs_at.ensures, sign_in_row tsc c.loop-i.i h) (small_in_row tsc c.loop-i.i h (omega arith))
+    rw (c.all_tsc_signs_at.ensures, sign_in_row tsc c.loop-i.i h) (small_in_row tsc c.loop-i.i h (omega arith))
 
 pub returns-clause-value : goal.returns-clause-value
 returns-clause-value c tsc h =
     let all = c.loop-i.invariant.1 tsc h in
-    passed 8 c.loop-i.totals.lanes tsc c.loop-i.invariant.0 (omega arith) (omega (arith, ints, all.1), omega (arith, ints, all.1))
+    passed 8 c.loop-i.totals.lanes tsc c.loop-i.invariant.0 (omega arith) (omega (arith, ints, all.1))
     ∙ whole _ c.args.sums.now (midamble tsc) c.loop-i.i (omega arith) all.0
 
 pub returns-clause-within : goal.returns-clause-within
 returns-clause-within c tsc h =
     let all = c.loop-i.invariant.1 tsc h in
     let within : IsMagnitudeWithin 13312 (soft_bit_at c.loop-i.totals.lanes tsc) =
-    (omega (arith, ints, all.1), omega (arith, ints, all.1)) in
+    (omega (arith, ints, all.1)) in
     subst (IsMagnitudeWithin 13312) (sym (passed 8 c.loop-i.totals.lanes tsc c.loop-i.invariant.0 (omega arith) within)) within

@@ -1,6 +1,8 @@
-use Rattle.std.proofs.Common.{◌≡◌, ℕ, ◌*◌, ◌≤◌, drop, length, ◌+ℤ◌}
-use Rattle.bit_blocks.specs.SoftValues.{likelihood}
-use Rattle.training_seq.specs.{Ranges.IsMagnitudeWithin, Sequences.midamble, Sums.soft_bit_at}
+use Rattle.{
+  std.proofs.Common.{◌≡◌, ℕ, ◌*◌, ◌≤◌, drop, length, ◌+ℤ◌},
+  bit_blocks.specs.SoftValues.likelihood,
+  training_seq.specs.{Ranges.IsMagnitudeWithin, Sequences.midamble, Sums.soft_bit_at},
+}
 use Rattle.training_seq.proofs.correlation.correlate_sums.Given as goal
 
 -- each total so far plus the correlation of the rest is the correlation of all

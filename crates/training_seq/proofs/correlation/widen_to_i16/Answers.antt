@@ -1,10 +1,12 @@
-use Rattle.std.proofs.{Common.{◌<◌, pos, refl, arith}, lemmas.{Int.ints, List.{ext_get_or, Elements.All-replicate}}}
-use Rattle.training_seq.specs.Ranges.{IsMagnitudeWithin}
+use Rattle.{
+  std.proofs.{Common.{◌<◌, pos, refl, arith}, lemmas.{Int.ints, List.{ext_get_or, Elements.All-replicate}}},
+  training_seq.specs.Ranges.IsMagnitudeWithin,
+}
 use Rattle.training_seq.proofs.correlation.widen_to_i16.Goals as goal
 
 pub loop-i-init : goal.loop-i-init
 loop-i-init c =
-    (refl, λ k h. absurd (omega arith), All-replicate (IsMagnitudeWithin 512) 26 (pos 0) (omega (arith, ints), omega (arith, ints)))
+    (refl, λ k h. absurd (omega arith), All-replicate (IsMagnitudeWithin 512) 26 (pos 0) (omega (arith, ints)))
 
 pub returns-clause-value : goal.returns-clause-value
 returns-clause-value c =

@@ -1,8 +1,9 @@
-use Rattle.trellis_decode.proofs.AcsVectors.{lane-lane_maxima, AreInt16-lane_maxima}
+use Rattle.{std.proofs.Common.w16, trellis_decode.proofs.AcsVectors.maxima}
 use Rattle.trellis_decode.proofs.acs_lanes.lane_maxima.Goals as goal
 
-pub returns-clause-each : goal.returns-clause-each
-returns-clause-each c = lane-lane_maxima _ _ c.requires.a_lanes c.requires.b_lanes
-
-pub returns-clause-lanes : goal.returns-clause-lanes
-returns-clause-lanes c = AreInt16-lane_maxima _ _ c.requires.a_lanes c.requires.b_lanes
+pub returns : goal.returns
+returns c =
+    let a = c.requires.a_lanes in
+    let b = c.requires.b_lanes in
+    let is = maxima w16 8 c.args.first.lanes c.args.second.lanes a.count b.count a.fits b.fits in
+    record { each = is.1; lanes = record { count = is.0; fits = is.2 } }

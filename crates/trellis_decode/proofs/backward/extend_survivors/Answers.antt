@@ -1,7 +1,11 @@
-use Rattle.std.proofs.Common.{◌≡◌, ℕ, ◌+◌, ◌*◌, ◌-◌, ◌<◌, ◌++◌, drop, take, ap, ap₂, sym, ◌∙◌, subst}
-use Rattle.std.proofs.{Common.arith, Math.Seq.take-add, lemmas.{Int.ints, List.drop-drop}}
-use Rattle.trellis_decode.specs.{AcsLanes.{AreInt16, path_metric, metrics_of_lanes}, SurvivorPaths.{AreMetricsWithin, AreSurvivors}}
-use Rattle.trellis_decode.proofs.{AcsSteps.{AreSignedOctets-pair, pair_at}, SurvivorLists.{HaveHeadroom16-even, HaveHeadroom16-odd}}
+use Rattle.{
+  std.proofs.Common.{◌≡◌, ◌+◌, ◌*◌, ◌-◌, ◌<◌, ◌++◌, drop, take, ap, ap₂, sym, ◌∙◌, subst, arith},
+  std.proofs.{Math.Seq.take-add, lemmas.{Int.ints, List.drop-drop}},
+  trellis_decode.{
+    specs.{AcsLanes.{path_metric, metrics_of_lanes}, SurvivorPaths.AreMetricsWithin},
+    proofs.{AcsSteps.{AreSignedOctets-pair, pair_at}, SurvivorLists.{HaveHeadroom16-even, HaveHeadroom16-odd}},
+  },
+}
 use Rattle.trellis_decode.proofs.backward.extend_survivors.Goals as goal
 
 pub loop-k-init : goal.loop-k-init
@@ -9,13 +13,11 @@ loop-k-init c =
     let none : 0 ≡ 2 * (c.args.places - c.args.places) = omega arith in
     let same = ap₂ metrics_of_lanes c.new-walk.ensures.even c.new-walk.ensures.odd in
     record {
-      walk = subst (λ n. AreSurvivors (path_metric c.args.after) (path_metric c.new-walk.result.values)
-          c.new-walk.result.survivor_map (take n (drop (2 * c.args.places) c.args.soft.now))) none
-          (rw same c.new-walk.ensures.walk);
+      walk = rw (← none) (rw same c.new-walk.ensures.walk);
       within = subst (λ most. AreMetricsWithin most (path_metric c.new-walk.result.values)) (omega arith)
           (subst (AreMetricsWithin 58368) (sym same) c.requires.within);
-      even = subst AreInt16 (sym c.new-walk.ensures.even) c.requires.even;
-      odd = subst AreInt16 (sym c.new-walk.ensures.odd) c.requires.odd;
+      even = rw c.new-walk.ensures.even c.requires.even;
+      odd = rw c.new-walk.ensures.odd c.requires.odd;
       count = c.new-walk.ensures.count;
     }
 
@@ -52,12 +54,11 @@ loop-k-preserved c =
 pub returns-clause-walk : goal.returns-clause-walk
 returns-clause-walk c =
     let none : c.loop-k.k ≡ 0 = omega arith in
-    let SurvivorPaths : ℕ → ℕ → Type 0 = λ n k. AreSurvivors (path_metric c.args.after)
-    (path_metric c.loop-k.walk.values) c.loop-k.walk.survivor_map (take n (drop (2 * k) c.args.soft.now)) in
-    subst (SurvivorPaths (2 * c.args.places)) none (subst (λ n. SurvivorPaths n c.loop-k.k) (omega arith) c.loop-k.invariant.walk)
+    let all : 2 * (c.args.places - c.loop-k.k) ≡ 2 * c.args.places = omega arith in
+    rw (all, none) at c.loop-k.invariant.walk
 
 pub returns-clause-within : goal.returns-clause-within
 returns-clause-within c = record {
   lower_bound = c.loop-k.invariant.within.lower_bound;
-  upper_bound = λ s lt. let high = c.loop-k.invariant.within.upper_bound s lt in omega (arith, ints);
+  upper_bound = λ s lt. omega (arith, ints, c.loop-k.invariant.within.upper_bound s lt);
 }

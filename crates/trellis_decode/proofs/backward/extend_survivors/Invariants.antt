@@ -1,5 +1,7 @@
-use Rattle.std.proofs.Common.{◌≡◌, ◌+◌, ◌*◌, ◌-◌, drop, take, length}
-use Rattle.trellis_decode.specs.{AcsLanes.{AreInt16, path_metric}, SurvivorPaths.{AreMetricsWithin, AreSurvivors}}
+use Rattle.{
+  std.proofs.Common.{◌≡◌, ◌+◌, ◌*◌, ◌-◌, drop, take, length},
+  trellis_decode.specs.{AcsLanes.{AreInt16, path_metric}, SurvivorPaths.{AreMetricsWithin, AreSurvivors}},
+}
 use Rattle.trellis_decode.proofs.backward.extend_survivors.Given as goal
 
 -- the walk holds the survivors over the positions from k on

@@ -1,6 +1,12 @@
-use Rattle.std.proofs.Common.{ℕ, ◌*◌, ◌<◌, ◌≤ℤ◌, negsuc, drop}
-use Rattle.trellis_decode.specs.{Lanes.lane, Trellis.IsSurvivor, AcsLanes.{AreInt16, lane_of_state, path_metric}}
-use Rattle.trellis_decode.specs.SurvivorPaths.{survivor_traceback}
+use Rattle.{
+  std.proofs.Common.{ℕ, ◌*◌, ◌<◌, ◌≤ℤ◌, negsuc, drop},
+  trellis_decode.specs.{
+    Lanes.lane,
+    Trellis.IsSurvivor,
+    AcsLanes.{AreInt16, lane_of_state, path_metric},
+    SurvivorPaths.{HoldLanesFrom, survivor_traceback},
+  },
+}
 use Rattle.trellis_decode.proofs.backward.fill_survivors.Given as goal
 
 -- traceback through the survivor maps filled so far gives the best lists from the first position of these maps on
@@ -12,4 +18,5 @@ invariant-loop-group l = record {
   low : (s : ℕ) → s < 16 → negsuc 1023 ≤ℤ lane (path_metric l.values) s;
   even : AreInt16 l.values.even_states.lanes;
   odd : AreInt16 l.values.odd_states.lanes;
+  maps : HoldLanesFrom l.group l.survivors;
 }

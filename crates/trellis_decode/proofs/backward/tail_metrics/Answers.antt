@@ -1,15 +1,14 @@
-use Rattle.std.proofs.Common.{◌≡◌, suc, ◌+◌, ◌*◌, ◌-◌, ◌<◌, drop, replicate, refl, ap, sym, ◌∙◌, subst, lit≤}
-use Rattle.std.proofs.{Common.arith, Math.Seq.drop-length, lemmas.List.{length-drop, Elements.All-drop}}
-use Rattle.trellis_decode.{specs.{Lanes.{IsSignedOctet, lane}, Trellis.IsSurvivor, AcsLanes.path_metric}, proofs.AcsSteps.pair_at}
-use Rattle.trellis_decode.proofs.{AcsSteps.pair_and_after, Viterbi.{IsSurvivor-none, IsSurvivor-same}, SurvivorLists.HaveHeadroom16-even}
-use Rattle.trellis_decode.proofs.SurvivorLists.{AreMetricsWithin-best, IsSurvivor-closed}
+use Rattle.{
+  std.proofs.{Common.{◌≡◌, suc, ◌+◌, ◌*◌, ◌-◌, drop, replicate, refl, ap, sym, lit≤, arith}, lemmas.List.drop_all},
+  trellis_decode.{specs.AcsLanes.path_metric, proofs.{AcsSteps.{pair_at, pair_and_after}, Viterbi.{IsSurvivor-none, IsSurvivor-same}}},
+  trellis_decode.proofs.SurvivorLists.{HaveHeadroom16-even, AreMetricsWithin-best, IsSurvivor-closed},
+}
 use Rattle.trellis_decode.proofs.backward.tail_metrics.Goals as goal
 
 pub loop-k-init : goal.loop-k-init
 loop-k-init c =
-    let soft = c.args.soft.now in
     record {
-      best = λ s lt. IsSurvivor-same s refl (sym (ap (λ n. drop n soft) (sym c.requires.count) ∙ drop-length soft))
+      best = λ s lt. IsSurvivor-same s refl (sym (drop_all 8 (c.args.soft.now) (omega (arith, c.requires.count))))
           (sym (c.new-values.ensures.each s lt)) (IsSurvivor-none s);
       even = c.new-values.ensures.even;
       odd = c.new-values.ensures.odd;
@@ -20,8 +19,8 @@ tail_step-values-requires-clause-even c =
     let soft = c.args.soft.now in
     let k = c.loop-k.k in
     HaveHeadroom16-even c.loop-k.values.even_states.lanes c.loop-k.values.odd_states.lanes 1024 (lit≤ tt)
-    (AreMetricsWithin-best (path_metric c.loop-k.values) (drop (2 * k) soft) (λ s. replicate (4 - k) 0)
-    (All-drop IsSignedOctet (2 * k) soft c.requires.octets) (omega (arith, length-drop (2 * k) soft, c.requires.count))
+    (AreMetricsWithin-best (2 * k) (path_metric c.loop-k.values) soft (λ s. replicate (4 - k) 0) c.requires.octets (omega
+    (arith, c.requires.count))
     c.loop-k.invariant.best) c.loop-k.invariant.even.count
 
 pub loop-k-preserved : goal.loop-k-preserved
@@ -29,8 +28,7 @@ loop-k-preserved c =
     let soft = c.args.soft.now in
     let k = c.loop-k.k in
     let before = k - 1 in
-    let within : before < 4 = omega arith in
-    let has = c.four_branch_metrics-branch_metrics.ensures.has before _ within in
+    let has = c.four_branch_metrics-branch_metrics.ensures.has before _ (omega arith) in
     let one_more : suc (4 - k) ≡ 4 - before = omega arith in
     let next : 2 * before + 2 ≡ 2 * k = omega arith in
     record {
@@ -43,7 +41,4 @@ loop-k-preserved c =
     }
 
 pub returns-clause-best : goal.returns-clause-best
-returns-clause-best c s lt =
-    let none : c.loop-k.k ≡ 0 = omega arith in
-    subst (λ k. IsSurvivor s (replicate (4 - k) 0) (drop (2 * k) c.args.soft.now) (lane (path_metric c.loop-k.values) s)) none
-    (c.loop-k.invariant.best s lt)
+returns-clause-best c s lt = let none : c.loop-k.k ≡ 0 = omega arith in rw none at (c.loop-k.invariant.best s lt)

@@ -1,5 +1,7 @@
-use Rattle.std.proofs.Common.{ℕ, ◌*◌, ◌-◌, ◌<◌, drop, replicate}
-use Rattle.trellis_decode.specs.{Lanes.lane, Trellis.IsSurvivor, AcsLanes.{AreInt16, path_metric}}
+use Rattle.{
+  std.proofs.Common.{ℕ, ◌*◌, ◌-◌, ◌<◌, drop, replicate},
+  trellis_decode.specs.{Lanes.lane, Trellis.IsSurvivor, AcsLanes.{AreInt16, path_metric}},
+}
 use Rattle.trellis_decode.proofs.backward.tail_metrics.Given as goal
 
 -- the path metrics so far are those of the tail bits from bit k on

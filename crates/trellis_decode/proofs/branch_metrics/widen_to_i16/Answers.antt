@@ -1,10 +1,12 @@
-use Rattle.std.{proofs.{Common.{arith, map, ap, ◌∙◌, w8, w16}, lemmas.List.take_all}, specs.Int.{cast_signed, cast_unsigned}}
-use Rattle.trellis_decode.proofs.AcsSteps.{widened_fits, widened_same}
+use Rattle.{
+  std.{proofs.{Common.{arith, map, ap, ◌∙◌, w8, w16}, lemmas.List.take_all}, specs.Int.{cast_signed, cast_unsigned}},
+  trellis_decode.proofs.AcsSteps.{widened_fits, widened_same},
+}
 use Rattle.trellis_decode.proofs.branch_metrics.widen_to_i16.Goals as goal
 
 pub overflow_cast-result : goal.overflow_cast-result
 overflow_cast-result c =
-    rw (take_all 8 c.args.soft.now (omega (arith, c.requires.count))) (widened_fits c.args.soft.now c.requires.octets)
+    rw (take_all 8 c.args.soft.now (omega arith)) (widened_fits c.args.soft.now c.requires.octets)
 
 pub returns : goal.returns
 returns c =

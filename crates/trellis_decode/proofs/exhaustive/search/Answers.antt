@@ -1,14 +1,17 @@
-use Rattle.std.proofs.Common.{arith, rules, ◌≡◌, ◌*◌, ◌^◌, ◌<◌, length, ap, ◌∙◌, ◌<ℤ◌, ◌≤ℤ◌}
-use Rattle.std.proofs.{Common.{FitsSigned, w32}, lemmas.Int.to_z-of_z}
-use Rattle.conv_code.{specs.{Code.encoding, Likelihood.likelihood}, proofs.Lemmas.IsMostLikely-only}
-use Rattle.trellis_decode.{specs.Words.to_binary, proofs.Viterbi.{less_by_test, most_by_test, new_leads, old_leads, IsMostLikely-chosen}}
-use Rattle.trellis_decode.proofs.exhaustive.search.Goals.{then-value-best, else-value-best}
+use Rattle.{
+  std.proofs.{Common.{arith, rules, ◌≡◌, ◌*◌, ◌^◌, ◌<◌, length, ap, ◌∙◌, w32}, lemmas.Int.to_z-of_z},
+  conv_code.{specs.{Code.encoding, Likelihood.likelihood}, proofs.Lemmas.IsMostLikely-only},
+  trellis_decode.proofs.{
+    Viterbi.{less_by_test, most_by_test, new_leads, old_leads, IsMostLikely-chosen},
+    exhaustive.search.Goals.{then-value-best, else-value-best},
+  },
+}
 use Rattle.trellis_decode.proofs.exhaustive.search.Goals as goal
 
 pub loop-number-preserved : goal.loop-number-preserved
 loop-number-preserved c =
     let soft = c.args.soft.now in
-    let n = length _ in
+    let n = length c.loop-number.u in
     let chosen = c.loop-number.chosen in
     let number = c.loop-number.number in
     let kept = c.loop-number.invariant in
@@ -18,39 +21,31 @@ loop-number-preserved c =
       ap (λ n. 2 ^ n) c.loop-number.auto.u,
       ap (λ n. 2 ^ n) c.write_bits_and_zero_tail.auto.u,
     ) in
-    let fits : FitsSigned w32 c.path_metric-value.result = search rules in
-    let value : c.path_metric-value.result ≡ likelihood soft (encoding (to_binary n (16 * number))) =
-    c.path_metric-value.ensures ∙ ap (λ u. likelihood soft (encoding u)) c.write_bits_and_zero_tail-in-loop-number.ensures.list in
+    let value = to_z-of_z w32 c.path_metric-value.result (search rules) ∙ c.path_metric-value.ensures
+    ∙ ap (λ u. likelihood soft (encoding u)) c.write_bits_and_zero_tail-in-loop-number.ensures.list in
     elim c.if-value-best.branch [
-      | then-value-best w ↦
-          let is = w.chosen-is in
-          let more : likelihood soft (encoding (to_binary n (16 * chosen))) <ℤ likelihood soft (encoding (to_binary n (16 * number))) =
-          less_by_test _ _ _ _ kept.value (to_z-of_z w32 c.path_metric-value.result fits ∙ value) w.if-value-best.true in
-          record {
-            before = omega arith;
-            value = rw (← same_length) (rw is (w.best-is ∙ to_z-of_z w32 c.path_metric-value.result fits ∙ value));
-            others = rw (← same_length) (rw is (new_leads _ n _ _ kept.before within kept.others more));
-          }
-      | else-value-best w ↦
-          let is = w.chosen-is in
-          let most : likelihood soft (encoding (to_binary n (16 * number))) ≤ℤ likelihood soft (encoding (to_binary n (16 * chosen))) =
-          most_by_test _ _ _ _ kept.value (to_z-of_z w32 c.path_metric-value.result fits ∙ value) w.if-value-best.false in
-          record {
-            before = omega arith;
-            value = rw (← same_length) (rw is (w.best-is ∙ kept.value));
-            others = rw (← same_length) (rw is (old_leads _ n _ _ kept.before within kept.others most));
-          }
+      | then-value-best w ↦ record {
+        before = omega (arith, w.chosen-is);
+        value = rw (← same_length, w.chosen-is) (w.best-is ∙ value);
+        others = rw (← same_length, w.chosen-is) (new_leads _ n _ _ kept.before within kept.others
+            (less_by_test _ _ _ _ kept.value value w.if-value-best.true));
+      }
+      | else-value-best w ↦ record {
+        before = omega (arith, w.chosen-is);
+        value = rw (← same_length, w.chosen-is) (w.best-is ∙ kept.value);
+        others = rw (← same_length, w.chosen-is) (old_leads _ n _ _ kept.before within kept.others
+            (most_by_test _ _ _ _ kept.value value w.if-value-best.false));
+      }
     ]
 
 pub returns-clause-best : goal.returns-clause-best
 returns-clause-best c =
     let soft = c.args.soft.now in
     let n = length c.loop-number.u in
-    let same_length : length c.args.u.now ≡ n = omega arith in
-    let all : 16 * c.count_information_lists-lists.result ≡ 2 ^ n = c.count_information_lists-lists.ensures
-    ∙ ap (λ n. 2 ^ n) same_length in
+    let all : 16 * c.count_encoder_inputs-lists.result ≡ 2 ^ n = c.count_encoder_inputs-lists.ensures
+    ∙ ap (λ n. 2 ^ n) (omega arith) in
     rw c.write_bits_and_zero_tail-2.ensures.list
-    (IsMostLikely-chosen _ n c.loop-number.chosen c.count_information_lists-lists.result (omega arith) (omega arith) all
+    (IsMostLikely-chosen _ n c.loop-number.chosen c.count_encoder_inputs-lists.result (omega arith) (omega arith) all
     (λ m lt ne. let earlier : m < c.loop-number.number = omega arith in c.loop-number.invariant.others m earlier ne))
 
 pub returns-clause-only : goal.returns-clause-only

@@ -1,6 +1,8 @@
-use Rattle.std.proofs.Common.{◌≡◌, ◌≢◌, ℕ, ◌*◌, ◌<◌, length}
-use Rattle.conv_code.specs.{Code.encoding, Likelihood.{likelihood, RanksAfter}}
-use Rattle.trellis_decode.specs.Words.{to_binary}
+use Rattle.{
+  std.proofs.Common.{◌≡◌, ◌≢◌, ℕ, ◌*◌, ◌<◌, length},
+  conv_code.specs.{Code.encoding, Likelihood.{likelihood, RanksAfter}},
+  trellis_decode.specs.Words.to_binary,
+}
 use Rattle.trellis_decode.proofs.exhaustive.search.Given as goal
 
 -- the chosen list is the most likely list so far, and the first of equally likely ones

@@ -1,5 +1,4 @@
-use Rattle.std.proofs.Common.{◌≡◌, ◌*◌, take, pos, ◌-ℤ◌, ◌≤ℤ◌}
-use Rattle.conv_code.specs.Likelihood.{likelihood}
+use Rattle.{std.proofs.Common.{◌≡◌, ◌*◌, take, pos, ◌-ℤ◌, ◌≤ℤ◌}, conv_code.specs.Likelihood.likelihood}
 use Rattle.trellis_decode.proofs.exhaustive.sum_of_bit_metrics.Given as goal
 
 abbrev pub invariant-loop-k : goal.invariant-loop-k

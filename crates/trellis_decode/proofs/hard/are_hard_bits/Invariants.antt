@@ -1,5 +1,4 @@
-use Rattle.std.{proofs.Common.{take, IsTrue}, specs.List.All}
-use Rattle.trellis_decode.specs.Hard.{IsHardBit}
+use Rattle.{std.{proofs.Common.{take, IsTrue}, specs.List.All}, trellis_decode.specs.Hard.IsHardBit}
 use Rattle.trellis_decode.proofs.hard.are_hard_bits.Given as goal
 
 -- the soft bits read so far are hard, or `all` is false

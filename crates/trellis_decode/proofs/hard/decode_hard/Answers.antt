@@ -1,6 +1,10 @@
-use Rattle.std.proofs.{Common.{arith, rules, ◌∙◌, w32, FitsSigned}, lemmas.Int.to_z-of_z}
-use Rattle.trellis_decode.{specs.{Hard.hard_lane_metrics, Lanes.lane, Trellis.IsSurvivor}, proofs.Viterbi.IsMostLikely-best}
-use Rattle.trellis_decode.proofs.{Viterbi.likelihood-best, hard.decode_hard.Goals.After-metric_of_state_0}
+use Rattle.{
+  std.proofs.{Common.{arith, rules, ◌∙◌, w32, FitsSigned}, lemmas.Int.to_z-of_z},
+  trellis_decode.{
+    specs.{Hard.hard_lane_metrics, Lanes.lane, Trellis.IsSurvivor},
+    proofs.{Viterbi.{IsMostLikely-best, likelihood-best}, hard.decode_hard.Goals.After-metric_of_state_0},
+  },
+}
 use Rattle.trellis_decode.proofs.hard.decode_hard.Goals as goal
 
 -- the list that is written is the best list from state 0
@@ -10,7 +14,7 @@ best c = rw c.trace_back_survivors.ensures (c.fill_hard_survivors-values.ensures
 
 pub returns-clause-best : goal.returns-clause-best
 returns-clause-best c =
-    IsMostLikely-best c.args.soft.now c.trace_back_survivors.new.u _ (omega (arith, c.requires.at_least)) (omega (arith, c.requires.count))
+    IsMostLikely-best c.args.soft.now c.trace_back_survivors.new.u _ (omega arith) (omega (arith, c.requires.count))
     (best c)
 
 pub returns-clause-value : goal.returns-clause-value

@@ -1,16 +1,16 @@
-use Rattle.std.proofs.Common.{◌≡◌, ◌+◌, ◌*◌, ◌-◌, ◌<◌, drop, refl, ap, sym, ◌∙◌, subst, arith}
-use Rattle.std.proofs.Math.Seq.{drop-length}
-use Rattle.trellis_decode.specs.{Hard.hard_lane_metrics, SurvivorPaths.{AreMetricsWithin, AreSurvivors}}
-use Rattle.trellis_decode.proofs.AcsSteps.{AreSignedOctets-pair, pair_at, pair_and_after, HaveHeadroom8-within, hard_octets}
-use Rattle.trellis_decode.proofs.SurvivorLists.{AreSurvivors-none}
+use Rattle.{
+  std.proofs.{Common.{◌≡◌, ◌+◌, ◌*◌, ◌-◌, ◌<◌, drop, refl, subst, arith}, lemmas.List.drop_all},
+  trellis_decode.{
+    specs.{Hard.hard_lane_metrics, SurvivorPaths.AreMetricsWithin},
+    proofs.{AcsSteps.{AreSignedOctets-pair, pair_at, pair_and_after, HaveHeadroom8-within, hard_octets}, SurvivorLists.AreSurvivors-none},
+  },
+}
 use Rattle.trellis_decode.proofs.hard.extend_hard_survivors.Goals as goal
 
 pub loop-k-init : goal.loop-k-init
 loop-k-init c =
-    let soft = c.args.soft.now in
     record {
-      walk = subst (AreSurvivors (hard_lane_metrics c.args.after.lanes) (hard_lane_metrics c.args.after.lanes) _)
-          (sym (ap (λ n. drop n soft) (sym c.requires.count) ∙ drop-length soft)) (AreSurvivors-none _);
+      walk = rw (drop_all 8 (c.args.soft.now) (omega (arith, c.requires.count))) (AreSurvivors-none _);
       within = c.requires.within;
       lanes = c.requires.lanes;
       count = refl;
@@ -21,7 +21,7 @@ step-walk-requires-clause-headroom c =
     HaveHeadroom8-within _ _ (omega arith) c.loop-k.invariant.lanes.count c.loop-k.invariant.within
 
 pub step-walk-requires-clause-count : goal.step-walk-requires-clause-count
-step-walk-requires-clause-count c = c.loop-k.invariant.count
+step-walk-requires-clause-count c = grind arith
 
 pub loop-k-preserved : goal.loop-k-preserved
 loop-k-preserved c =
@@ -32,9 +32,7 @@ loop-k-preserved c =
     let has = c.hard_branch_metrics-branch_metrics.ensures.has _ _ within in
     let next : 2 * (k - 1) + 2 ≡ 2 * k = omega arith in
     record {
-      walk = subst (AreSurvivors (hard_lane_metrics c.args.after.lanes) (hard_lane_metrics c.step-walk.result.values.lanes)
-          c.step-walk.result.survivor_map)
-          (pair_and_after soft (2 * (k - 1)) (2 * k) next)
+      walk = rw (← pair_and_after soft (2 * (k - 1)) (2 * k) next)
           (c.step-walk.ensures.walk pair has (hard_lane_metrics c.args.after.lanes) (drop (2 * k) soft) c.loop-k.invariant.walk);
       within = subst (λ most. AreMetricsWithin most (hard_lane_metrics c.step-walk.result.values.lanes)) (omega arith)
           (c.step-walk.ensures.within pair has (AreSignedOctets-pair _ _ (hard_octets _ c.requires.hard))
@@ -44,13 +42,7 @@ loop-k-preserved c =
     }
 
 pub returns-clause-walk : goal.returns-clause-walk
-returns-clause-walk c =
-    let none : c.loop-k.k ≡ 0 = omega arith in
-    subst (λ k. AreSurvivors (hard_lane_metrics c.args.after.lanes) (hard_lane_metrics c.loop-k.walk.values.lanes)
-    c.loop-k.walk.survivor_map
-    (drop (2 * k) c.args.soft.now)) none c.loop-k.invariant.walk
+returns-clause-walk c = let none : c.loop-k.k ≡ 0 = omega arith in rw none at c.loop-k.invariant.walk
 
 pub returns-clause-within : goal.returns-clause-within
-returns-clause-within c =
-    let none : c.loop-k.k ≡ 0 = omega arith in
-    subst (λ k. AreMetricsWithin (58368 + 256 * (4 - k)) (hard_lane_metrics c.loop-k.walk.values.lanes)) none c.loop-k.invariant.within
+returns-clause-within c = let none : c.loop-k.k ≡ 0 = omega arith in rw none at c.loop-k.invariant.within

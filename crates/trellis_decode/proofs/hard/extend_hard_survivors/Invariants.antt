@@ -1,5 +1,7 @@
-use Rattle.std.proofs.Common.{◌≡◌, ◌+◌, ◌*◌, ◌-◌, drop, length}
-use Rattle.trellis_decode.specs.{Hard.{AreInt8, hard_lane_metrics}, SurvivorPaths.{AreMetricsWithin, AreSurvivors}}
+use Rattle.{
+  std.proofs.Common.{◌≡◌, ◌+◌, ◌*◌, ◌-◌, drop, length},
+  trellis_decode.specs.{Hard.{AreInt8, hard_lane_metrics}, SurvivorPaths.{AreMetricsWithin, AreSurvivors}},
+}
 use Rattle.trellis_decode.proofs.hard.extend_hard_survivors.Given as goal
 
 -- the walk holds the survivors over the positions from k on

@@ -1,18 +1,20 @@
-use Rattle.std.proofs.Common.{◌≡◌, suc, ◌+◌, ◌*◌, ◌-◌, ◌<◌, drop, replicate, refl, ap, sym, ◌∙◌, subst, lit≤}
-use Rattle.std.proofs.{Common.arith, Math.Seq.drop-length, lemmas.List.{length-drop, Elements.All-drop}}
-use Rattle.trellis_decode.{specs.{Hard.hard_lane_metrics, Lanes.{IsSignedOctet, lane}, Trellis.IsSurvivor}, proofs.AcsSteps.pair_at}
-use Rattle.trellis_decode.proofs.AcsSteps.{pair_and_after, AreInt8-start, HaveHeadroom8-within, hard_octets, hard_metric, start_metric}
-use Rattle.trellis_decode.proofs.{AcsSteps.zero_candidate, Viterbi.{IsSurvivor-none, IsSurvivor-same}, SurvivorLists.AreMetricsWithin-best}
-use Rattle.trellis_decode.proofs.SurvivorLists.{IsSurvivor-closed}
+use Rattle.{
+  std.proofs.Common.{◌≡◌, suc, ◌+◌, ◌*◌, ◌-◌, drop, replicate, negsuc, refl, ap, sym, ◌∙◌, lit≤, arith},
+  std.proofs.lemmas.{Int.ints, List.drop_all},
+  trellis_decode.{
+    specs.Hard.hard_lane_metrics,
+    proofs.AcsSteps.{pair_at, pair_and_after, AreInt8-splat, HaveHeadroom8-within, hard_octets, hard_metric, start_metric, zero_candidate},
+    proofs.{Viterbi.{IsSurvivor-none, IsSurvivor-same}, SurvivorLists.{AreMetricsWithin-best, IsSurvivor-closed}},
+  },
+}
 use Rattle.trellis_decode.proofs.hard.hard_tail_metrics.Goals as goal
 
 pub loop-k-init : goal.loop-k-init
 loop-k-init c =
     let soft = c.args.soft.now in
     record {
-      best = λ s lt. IsSurvivor-same s refl (sym (ap (λ n. drop n soft) (sym c.requires.count)
-          ∙ drop-length soft)) (sym (start_metric s lt)) (IsSurvivor-none s);
-      lanes = AreInt8-start;
+      best = λ s lt. IsSurvivor-same s refl (sym (drop_all 8 soft (omega arith))) (sym (start_metric s lt)) (IsSurvivor-none s);
+      lanes = AreInt8-splat (negsuc 119) (omega (arith, ints));
     }
 
 pub bit_0_candidates-values-requires-clause-headroom : goal.bit_0_candidates-values-requires-clause-headroom
@@ -20,8 +22,8 @@ bit_0_candidates-values-requires-clause-headroom c =
     let soft = c.args.soft.now in
     let k = c.loop-k.k in
     HaveHeadroom8-within c.loop-k.values.lanes 1024 (lit≤ tt) c.loop-k.invariant.lanes.count
-    (AreMetricsWithin-best (hard_lane_metrics c.loop-k.values.lanes) (drop (2 * k) soft) (λ s. replicate (4 - k) 0)
-    (All-drop IsSignedOctet (2 * k) soft (hard_octets soft c.requires.hard)) (omega (arith, length-drop (2 * k) soft, c.requires.count))
+    (AreMetricsWithin-best (2 * k) (hard_lane_metrics c.loop-k.values.lanes) soft (λ s. replicate (4 - k) 0)
+    (hard_octets soft c.requires.hard) (omega (arith, c.requires.count))
     c.loop-k.invariant.best)
 
 pub loop-k-preserved : goal.loop-k-preserved
@@ -29,9 +31,8 @@ loop-k-preserved c =
     let soft = c.args.soft.now in
     let k = c.loop-k.k in
     let before = k - 1 in
-    let within : before < 4 = omega arith in
     let values = c.bit_0_candidates-values.result.lanes in
-    let has = c.hard_branch_metrics-branch_metrics.ensures.has before _ within in
+    let has = c.hard_branch_metrics-branch_metrics.ensures.has before _ (omega arith) in
     let one_more : suc (4 - k) ≡ 4 - before = omega arith in
     let next : 2 * before + 2 ≡ 2 * k = omega arith in
     record {
@@ -45,7 +46,4 @@ loop-k-preserved c =
     }
 
 pub returns-clause-best : goal.returns-clause-best
-returns-clause-best c s lt =
-    let none : c.loop-k.k ≡ 0 = omega arith in
-    subst (λ k. IsSurvivor s (replicate (4 - k) 0) (drop (2 * k) c.args.soft.now) (lane (hard_lane_metrics c.loop-k.values.lanes) s)) none
-    (c.loop-k.invariant.best s lt)
+returns-clause-best c s lt = let none : c.loop-k.k ≡ 0 = omega arith in rw none at (c.loop-k.invariant.best s lt)

@@ -1,5 +1,7 @@
-use Rattle.std.proofs.Common.{ℕ, ◌*◌, ◌-◌, ◌<◌, drop, replicate}
-use Rattle.trellis_decode.specs.{Hard.{AreInt8, hard_lane_metrics}, Lanes.lane, Trellis.IsSurvivor}
+use Rattle.{
+  std.proofs.Common.{ℕ, ◌*◌, ◌-◌, ◌<◌, drop, replicate},
+  trellis_decode.specs.{Hard.{AreInt8, hard_lane_metrics}, Lanes.lane, Trellis.IsSurvivor},
+}
 use Rattle.trellis_decode.proofs.hard.hard_tail_metrics.Given as goal
 
 -- the path metrics so far are those of the tail bits from bit k on

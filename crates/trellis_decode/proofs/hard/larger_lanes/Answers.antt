@@ -1,8 +1,9 @@
-use Rattle.trellis_decode.proofs.HardLanes.{lane-lane_maxima, AreInt8-lane_maxima}
+use Rattle.{std.proofs.Common.w8, trellis_decode.proofs.AcsVectors.maxima}
 use Rattle.trellis_decode.proofs.hard.larger_lanes.Goals as goal
 
-pub returns-clause-each : goal.returns-clause-each
-returns-clause-each c = lane-lane_maxima _ _ c.requires.zero c.requires.one
-
-pub returns-clause-lanes : goal.returns-clause-lanes
-returns-clause-lanes c = AreInt8-lane_maxima _ _ c.requires.zero c.requires.one
+pub returns : goal.returns
+returns c =
+    let a = c.requires.zero in
+    let b = c.requires.one in
+    let is = maxima w8 16 c.args.zero.lanes c.args.one.lanes a.count b.count a.fits b.fits in
+    record { each = is.1; lanes = record { count = is.0; fits = is.2 } }

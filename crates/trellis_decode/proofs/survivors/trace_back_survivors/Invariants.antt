@@ -1,5 +1,4 @@
-use Rattle.std.proofs.Common.{◌≡◌, ◌*◌, ◌<◌, ◌++◌, take, drop}
-use Rattle.trellis_decode.specs.SurvivorPaths.{survivor_traceback}
+use Rattle.{std.proofs.Common.{◌≡◌, ◌*◌, ◌<◌, ◌++◌, take, drop}, trellis_decode.specs.SurvivorPaths.survivor_traceback}
 use Rattle.trellis_decode.proofs.survivors.trace_back_survivors.Given as goal
 
 -- the bits written so far, followed by those that traceback reads from the remaining maps, are the bits that it reads from all maps

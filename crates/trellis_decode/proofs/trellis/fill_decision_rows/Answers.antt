@@ -1,10 +1,16 @@
-use Rattle.std.proofs.Common.{◌≡◌, ℕ, ◌*◌, ◌+◌, ◌-◌, ◌<◌, ◌∷◌, drop, ap, sym, ◌∙◌, subst, arith}
-use Rattle.std.proofs.lemmas.List.{drop-set, length-drop, Elements.{All-take, All-drop}}
-use Rattle.trellis_decode.specs.{Decisions.HasDecisionsAndMetrics, Lanes.{IsSignedOctet, lane}, AcsLanes.{HasBranchMetrics, path_metric}}
-use Rattle.trellis_decode.proofs.AcsSteps.{AreSignedOctets-pair, pair_at, pair_of_part, pair_and_after}
-use Rattle.trellis_decode.proofs.SurvivorLists.{HasDecisionsAndMetrics-more, HasDecisionsAndMetrics-same, HasDecisionsAndMetrics-close}
-use Rattle.trellis_decode.proofs.{SurvivorLists.{HasDecisionsAndMetrics-even, HasDecisionsAndMetrics-odd}, AcsVectors.passed}
-use Rattle.trellis_decode.proofs.AcsVectors.{passed-subtract_lanes}
+use Rattle.{
+  std.proofs.Common.{◌≡◌, ◌*◌, ◌+◌, ◌-◌, ◌<◌, ◌∷◌, drop, ap, sym, ◌∙◌, subst, arith},
+  std.proofs.lemmas.List.{drop-set, length-drop, Elements.{All-take, All-drop}},
+  trellis_decode.{
+    specs.{Lanes.{IsSignedOctet, lane}, AcsLanes.{HasBranchMetrics, path_metric}},
+    proofs.{
+      AcsSteps.{AreSignedOctets-pair, pair_at, pair_of_part, pair_and_after},
+      SurvivorLists.{HasDecisionsAndMetrics-more, HasDecisionsAndMetrics-same, HasDecisionsAndMetrics-close, HasDecisionsAndMetrics-even},
+      SurvivorLists.HasDecisionsAndMetrics-odd,
+      AcsVectors.{passed, passed-subtract_lanes},
+    },
+  },
+}
 use Rattle.trellis_decode.proofs.trellis.fill_decision_rows.Goals as goal
 
 pub four_branch_metrics-branch_metrics-requires-clause-octets : goal.four_branch_metrics-branch_metrics-requires-clause-octets
@@ -41,13 +47,12 @@ loop-k-preserved c =
     let lost = passed c.new-step.result.losses.lanes in
     record {
       decided = HasDecisionsAndMetrics-same
-          (ap (λ k. c.new-step.result.row ∷ drop k rows) (sym next)
-          ∙ sym (drop-set rows j c.new-step.result.row (let same = c.loop-k.auto.rows in omega arith)))
+          (cc (next, drop-set rows j c.new-step.result.decision_bits (omega (arith, c.loop-k.auto.rows))))
           (ap (λ k. lost ∷ drop k losses) (sym next)
-          ∙ sym (drop-set losses j lost (let same = c.loop-k.auto.losses in omega (arith, c.requires.same))))
+          ∙ sym (drop-set losses j lost (omega (arith, c.loop-k.auto.losses, c.requires.same))))
           (pair_and_after soft (2 * j) (2 * at) next_pair)
           (HasDecisionsAndMetrics-more (path_metric c.loop-k.values) (path_metric c.new-step.result.values) lost pair (drop (2 * at) soft)
-          (drop at rows) (drop at losses) c.new-step.result.row has.count (AreSignedOctets-pair soft (2 * j) c.requires.octets)
+          (drop at rows) (drop at losses) c.new-step.result.decision_bits has.count (AreSignedOctets-pair soft (2 * j) c.requires.octets)
           (c.new-step.ensures.each pair has)
           (λ s lt. ap (λ l. lane l s) (passed-subtract_lanes c.new-step.result.losses.lanes c.new-step.ensures.lanes)
           ∙ c.new-step.ensures.losses pair has s lt) c.loop-k.invariant.decided);
@@ -57,7 +62,4 @@ loop-k-preserved c =
 
 pub returns-clause-decided : goal.returns-clause-decided
 returns-clause-decided c =
-    let Holds : ℕ →
-    Type 0 = λ k. HasDecisionsAndMetrics (drop k c.loop-k.rows) (drop k c.loop-k.losses) (drop (2 * k) c.args.soft.now)
-    (path_metric c.loop-k.values) in
-    subst Holds (omega arith) c.loop-k.invariant.decided
+    let none : c.args.first + c.loop-k.k ≡ c.args.first = omega arith in rw none at c.loop-k.invariant.decided

@@ -1,5 +1,7 @@
-use Rattle.std.proofs.Common.{◌+◌, ◌*◌, drop}
-use Rattle.trellis_decode.specs.{Decisions.HasDecisionsAndMetrics, AcsLanes.{AreInt16, path_metric}}
+use Rattle.{
+  std.proofs.Common.{◌+◌, ◌*◌, drop},
+  trellis_decode.specs.{Decisions.HasDecisionsAndMetrics, AcsLanes.{AreInt16, path_metric}},
+}
 use Rattle.trellis_decode.proofs.trellis.fill_decision_rows.Given as goal
 
 -- from position k on, the decision rows and losses are those of the best lists

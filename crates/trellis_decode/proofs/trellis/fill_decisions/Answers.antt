@@ -1,7 +1,13 @@
-use Rattle.std.proofs.Common.{◌≡◌, ℕ, ◌*◌, ◌+◌, ◌-◌, ◌/◌, ◌%◌, drop, length, subst, arith}
-use Rattle.std.proofs.lemmas.List.{length-drop, Elements.{All-take, All-drop}}
-use Rattle.trellis_decode.specs.{Decisions.HasDecisionsAndMetrics, Lanes.IsSignedOctet, AcsLanes.path_metric}
-use Rattle.trellis_decode.proofs.{SurvivorLists.HasDecisionsAndMetrics-closing, Viterbi.IsSurvivor-to_end}
+use Rattle.{
+  std.proofs.{
+    Common.{◌≡◌, ◌*◌, ◌+◌, ◌-◌, ◌/◌, ◌%◌, drop, length, arith},
+    lemmas.List.{length-drop, Elements.{All-take, All-drop}},
+  },
+  trellis_decode.{
+    specs.{Lanes.IsSignedOctet, AcsLanes.path_metric},
+    proofs.{SurvivorLists.HasDecisionsAndMetrics-closing, Viterbi.IsSurvivor-to_end},
+  },
+}
 use Rattle.trellis_decode.proofs.trellis.fill_decisions.Goals as goal
 
 pub tail_metrics-values-requires-clause-octets : goal.tail_metrics-values-requires-clause-octets
@@ -15,10 +21,8 @@ loop-group-init c =
     let losses = c.args.losses.now in
     let last = length rows - 4 in
     let at : last ≡ length rows % 4 + 4 * (length rows / 4 - 1) = omega (arith, c.requires.at_least) in
-    let Holds : ℕ →
-    Type 0 = λ k. HasDecisionsAndMetrics (drop k rows) (drop k losses) (drop (2 * k) soft) (path_metric c.tail_metrics-values.result) in
     record {
-      decided = subst Holds at (HasDecisionsAndMetrics-closing (drop last rows) (drop last losses) (drop (2 * last) soft)
+      decided = rw (← at) (HasDecisionsAndMetrics-closing (drop last rows) (drop last losses) (drop (2 * last) soft)
           (path_metric c.tail_metrics-values.result) (omega (arith, length-drop last rows, c.requires.at_least))
           (omega (arith, length-drop last losses, c.requires.same, c.requires.at_least))
           (omega (arith, length-drop (2 * last) soft, c.requires.count, c.requires.at_least))

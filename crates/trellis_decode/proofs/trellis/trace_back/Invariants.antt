@@ -1,5 +1,4 @@
-use Rattle.std.proofs.Common.{◌≡◌, ◌<◌, ◌++◌, take, drop}
-use Rattle.trellis_decode.specs.Trellis.{traceback}
+use Rattle.{std.proofs.Common.{◌≡◌, ◌<◌, ◌++◌, take, drop}, trellis_decode.specs.Trellis.traceback}
 use Rattle.trellis_decode.proofs.trellis.trace_back.Given as goal
 
 -- the bits written so far, followed by those that traceback reads from the remaining rows, are the bits that it reads from all rows

@@ -1,16 +1,30 @@
-use Rattle.um_among.proofs.Lemmas.{one_sync_among, sync_best, sync_none, sync_information, sync_first, sync_alone, sync_of_one}
+use Rattle.{
+  std.proofs.Common.take,
+  um_block.specs.Received.sync_soft_bits,
+  um_among.{
+    specs.ChannelCrcs.SyncCrcHolds,
+    proofs.Lemmas.{one_sync_among, sync_at_once, taken_best, taken_lost, taken_information, taken_first, taken_of_one},
+  },
+}
 use Rattle.um_among.proofs.bursts.receive_sync_among.Goals as goal
 
 pub returns : goal.returns
 returns c =
     let is = c.list_decode_sync.ensures in
+    let r = c.list_decode_sync.result in
+    let soft = sync_soft_bits c.args.burst.now in
     record {
       received = is;
-      only = λ other h. one_sync_among c.args.burst.now c.args.most other _ h is;
-      best = sync_best c.args.burst.now c.args.most _ is;
-      none = sync_none c.args.burst.now c.args.most _ is;
-      information = sync_information c.args.burst.now c.args.most _ is;
-      first = sync_first c.args.burst.now c.args.most _ c.requires.at_least is;
-      alone = sync_alone c.args.burst.now c.args.most _ c.requires.at_least is;
-      one = sync_of_one c.args.burst.now c.args.most _ is;
+      only = λ other h. one_sync_among c.args.burst.now c.args.max_rank other _ h is;
+      best = taken_best SyncCrcHolds soft c.args.max_rank (take 25) r.rank r.report.u r.report.accepted is.choice;
+      none = taken_lost SyncCrcHolds soft c.args.max_rank (take 25) r.rank r.report.u r.report.accepted is.choice;
+      information = taken_information SyncCrcHolds soft c.args.max_rank (take 25) r.rank r.report.u r.report.accepted is.choice;
+      first = λ alone received accepted.
+          one_sync_among c.args.burst.now c.args.max_rank r _ is
+          (sync_at_once c.args.burst.now c.args.max_rank alone c.requires.at_least received accepted);
+      alone = λ first.
+          let taken = taken_first SyncCrcHolds soft c.args.max_rank (take 25) r.rank r.report.u r.report.accepted
+          c.requires.at_least first is.choice in
+          record { best = taken.0; metric = is.metric; wrong_training = is.wrong_training; accepted = taken.1 };
+      one = λ one. taken_of_one SyncCrcHolds soft c.args.max_rank (take 25) r.rank r.report.u r.report.accepted one is.choice;
     }

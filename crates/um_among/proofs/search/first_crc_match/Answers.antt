@@ -1,8 +1,26 @@
-use Rattle.std.proofs.Common.{◌+◌, ℕ, List, [], ◌∷◌, length, length-append, ap, sym, subst, ◌∙◌}
-use Rattle.std.{proofs.lemmas.List.Elements.{All-nil, All-cons, All-append}, specs.List.All}
-use Rattle.list_decode.specs.Ranking.{IsRanked}
-use Rattle.um_among.{specs.ChannelCrcs.CrcHolds, proofs.Lemmas.never}
+use Rattle.{
+  std.proofs.Common.{arith, rules, ◌≡◌, ◌+◌, ℕ, List, [], ◌∷◌, inl, length, length-append, refl, ap, sym, subst},
+  std.{proofs.{Common.{◌∙◌, w32, FitsSigned}, lemmas.{Int.to_z-of_z, List.Elements.{All-nil, All-cons, All-append}}}, specs.List.All},
+  um_block.specs.conv_code.{Code.encoding, Likelihood.likelihood},
+  list_decode.specs.Ranking.IsRanked,
+  um_among.{specs.{ChannelCrcs.CrcHolds, ListDecoding.NoCrcHolds}, proofs.Lemmas.{never, one_tried}},
+}
 use Rattle.um_among.proofs.search.first_crc_match.Goals as goal
+
+pub returns-then-max_rank-eq1 : goal.returns-then-max_rank-eq1
+returns-then-max_rank-eq1 c =
+    subst (NoCrcHolds (CrcHolds c.args.crc.now) c.args.soft.now) (sym c.if-max_rank-eq1.true)
+    (one_tried (CrcHolds c.args.crc.now) c.args.soft.now c.args.u.now c.requires.best c.requires.fails)
+
+pub loop-tried-init : goal.loop-tried-init
+loop-tried-init c =
+    let Fails : List ℕ → Type 0 = λ v. ¬ CrcHolds c.args.crc.now v in
+    let is = c.after_first-ranked.ensures in (
+      is.soft,
+      ap length is.returned,
+      subst (λ s. IsRanked s c.after_first-ranked.result.returned) is.soft is.ranked,
+      subst (All Fails) (sym is.returned) (All-cons Fails c.args.u.now [] c.requires.fails (All-nil Fails)),
+    )
 
 pub loop-tried-preserved : goal.loop-tried-preserved
 loop-tried-preserved c =
@@ -18,3 +36,35 @@ loop-tried-preserved c =
           (All-append Fails earlier_words (u ∷ []) c.loop-tried.invariant.3
           (All-cons Fails u [] (λ holds. never (c.if-holds.ensures.1 holds)) (All-nil Fails))),
     )
+
+pub returns-then-holds : goal.returns-then-holds
+returns-then-holds c =
+    let u = c.next.new.u in
+    let soft = c.in_ok-metric.ensures.soft ∙ c.loop-tried.invariant.0 in
+    let next = c.in_ok-metric.ensures.returned in
+    let tried = c.loop-tried-test.true in
+    let fits : FitsSigned w32 c.in_ok-metric.metric = search rules in (
+      record {
+        earlier_words = c.loop-tried.ranked.returned;
+        ranked = subst (IsRanked c.args.soft.now) next.0
+            (subst (λ s. IsRanked s c.next.new.self.returned) soft c.in_ok-metric.ensures.ranked);
+        rank_is = ap (λ n. n + 1) (sym c.loop-tried.invariant.1);
+        rank_limit = omega arith;
+        crcs_fail = c.loop-tried.invariant.3;
+        crc_holds = c.if-holds.ensures.0 refl;
+      },
+      to_z-of_z w32 c.in_ok-metric.metric fits ∙ next.1 ∙ ap (λ s. likelihood s (encoding u)) c.loop-tried.invariant.0,
+      c.in_ok-metric.ensures.information,
+    )
+
+pub returns : goal.returns
+returns c =
+    let old = c.loop-tried.invariant in
+    let end : c.loop-tried.tried ≡ c.args.max_rank =
+    let high = c.loop-tried.auto.tried-end c.requires.at_least in let all = c.loop-tried-test.false in omega arith in
+    record {
+      tried_words = c.loop-tried.ranked.returned;
+      ranked = old.2;
+      all_tried = inl (old.1 ∙ end);
+      crcs_fail = old.3;
+    }

@@ -1,6 +1,8 @@
-use Rattle.std.{proofs.Common.{◌≡◌, length}, specs.List.All}
-use Rattle.list_decode.specs.Ranking.{IsRanked}
-use Rattle.um_among.specs.ChannelCrcs.{CrcHolds}
+use Rattle.{
+  std.{proofs.Common.{◌≡◌, length}, specs.List.All},
+  list_decode.specs.Ranking.IsRanked,
+  um_among.specs.ChannelCrcs.CrcHolds,
+}
 use Rattle.um_among.proofs.search.first_crc_match.Given as goal
 
 -- the words tried so far are the first words in the ranking, and none of their CRCs holds

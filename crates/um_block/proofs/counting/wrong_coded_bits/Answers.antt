@@ -1,11 +1,13 @@
-use Rattle.std.proofs.Common.{ap, subst, sym, ◌∙◌}
-use Rattle.bit_blocks.specs.{Bits.AllBits, SoftValues.count_wrong_bits}
-use Rattle.conv_code.proofs.Lemmas.{AllBits-coded}
+use Rattle.{
+  std.proofs.Common.{ap, subst, sym, ◌∙◌},
+  bit_blocks.specs.{Bits.AllBits, SoftValues.count_wrong_bits},
+  conv_code.proofs.Lemmas.AllBits-coded,
+}
 use Rattle.um_block.proofs.counting.wrong_coded_bits.Goals as goal
 
 pub count_wrong_bits-requires-clause-bits : goal.count_wrong_bits-requires-clause-bits
 count_wrong_bits-requires-clause-bits c =
-    subst AllBits (sym c.encode.ensures) (AllBits-coded c.args.u.now)
+    subst AllBits (sym c.encode.ensures) (AllBits-coded c.args.input.now)
 
 pub returns-clause-value : goal.returns-clause-value
 returns-clause-value c = c.count_wrong_bits.ensures.value ∙ ap (count_wrong_bits c.args.soft.now) c.encode.ensures

@@ -1,6 +1,8 @@
-use Rattle.std.proofs.Common.{◌≡◌, [], ◌∷◌, map, subst, arith}
-use Rattle.interleave.specs.Bursts.{IsInterleaved}
-use Rattle.um_block.{specs.Received.coded_soft_bits, proofs.ReceivedBursts.{AllSoftBits-deinterleaved, map-four}}
+use Rattle.{
+  std.proofs.Common.{◌≡◌, [], ◌∷◌, map, subst, arith},
+  interleave.specs.Bursts.IsInterleaved,
+  um_block.{specs.Received.coded_soft_bits, proofs.ReceivedBursts.{AllSoftBits-deinterleaved, map-four}},
+}
 use Rattle.um_block.proofs.receiving.deinterleave_block.Goals as goal
 
 pub returns-clause-deinterleaved : goal.returns-clause-deinterleaved

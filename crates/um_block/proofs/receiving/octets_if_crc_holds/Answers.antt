@@ -1,10 +1,13 @@
 -- The last 40 bits are the Fire code bits if and only if the octets into which they are packed are those of the Fire code.
-use Rattle.std.proofs.Common.{◌≡◌, ℕ, ◌++◌, List, cond, take, drop, get_or, Fits, w8, ap, ap₂, sym, subst, ◌∙◌, arith}
-use Rattle.std.proofs.{Common.rules, lemmas.{Bool.Decides.Decides-eqb, List.{drop-take, take-take, take-append-drop}}}
-use Rattle.std.proofs.lemmas.{List.Elements.{All-from_get_or, All-take, All-drop}, Slice.Eq.slice_eq-Decides}
-use Rattle.bit_blocks.{specs.{Bits.IsBit, Octets.{IsOctet, AllOctets, bits_of, octets_of}}, proofs.Lemmas.octets_of-bits_of}
-use Rattle.bit_blocks.proofs.Lemmas.{AllOctets-octets_of}
-use Rattle.fire_code.specs.Words.{IsXcchWord}
+use Rattle.{
+  std.proofs.{
+    Common.{◌≡◌, ℕ, ◌++◌, List, cond, take, drop, get_or, Fits, w8, ap, ap₂, sym, subst, ◌∙◌, arith, rules},
+    lemmas.{Bool.Decides.Decides-eqb, List.{drop-take, take-take, take-append-drop, Elements.{All-from_get_or, All-take, All-drop}}},
+    lemmas.Slice.Eq.slice_eq-Decides,
+  },
+  bit_blocks.{specs.{Bits.IsBit, Octets.{IsOctet, AllOctets, bits_of, octets_of}}, proofs.Lemmas.{octets_of-bits_of, AllOctets-octets_of}},
+  fire_code.specs.Words.IsXcchWord,
+}
 use Rattle.um_block.proofs.receiving.octets_if_crc_holds.Goals as goal
 
 whole : (u octets check : List ℕ) → bits_of octets ≡ take 184 u → bits_of check ≡ take 40 (drop 184 u) →

@@ -1,14 +1,10 @@
-use Rattle.std.proofs.Common.{◌≡◌, ℕ, ℤ, List, length, rules, ap, sym, subst, ◌∙◌}
-use Rattle.bit_blocks.specs.SoftValues.{AllSoftBits}
-use Rattle.burst_map.specs.AccessBurst.{body}
-use Rattle.um_block.specs.{Sent.IsSentAccess, Received.{soft_bits, IsReceivedAccess}, Restored.IsErrorFreeAccess}
-use Rattle.um_block.{specs.declared.received.ReceivedAccess.ReceivedAccess, proofs.ReceivedBursts.{one_received_access, clean_access}}
-use Rattle.um_block.proofs.ReceivedBursts.{AllSoftBits-range, restored_access}
+use Rattle.{
+  bit_blocks.specs.SoftValues.AllSoftBits,
+  burst_map.specs.AccessBurst.body,
+  std.proofs.Common.{ap, length, rules, subst, sym, ◌∙◌},
+  um_block.proofs.ReceivedBursts.{AllSoftBits-range, clean_access, one_received_access, restored_access},
+}
 use Rattle.um_block.proofs.receiving.receive_access.Goals as goal
-
-restored : (burst : List ℤ) (bsic : List ℕ) (r : ReceivedAccess) → IsReceivedAccess burst bsic r → (info sent : List ℕ) →
-    IsSentAccess info bsic sent → burst ≡ soft_bits sent → IsErrorFreeAccess info bsic r
-restored burst bsic r received info sent s same = clean_access info bsic sent r s (subst (λ x. IsReceivedAccess x bsic r) same received)
 
 pub decode-metric-requires-clause-soft : goal.decode-metric-requires-clause-soft
 decode-metric-requires-clause-soft c =
@@ -22,7 +18,7 @@ pub returns-clause-only : goal.returns-clause-only
 returns-clause-only c other h = one_received_access c.args.burst.now c.args.bsic.now other _ h (returns-clause-received c)
 
 pub returns-clause-clean : goal.returns-clause-clean
-returns-clause-clean c = restored c.args.burst.now c.args.bsic.now _ (returns-clause-received c)
+returns-clause-clean c info sent s same = clean_access info c.args.bsic.now sent _ s (rw same at (returns-clause-received c))
 
 pub returns-clause-restores : goal.returns-clause-restores
 returns-clause-restores c info d code damage =

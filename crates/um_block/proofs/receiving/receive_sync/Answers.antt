@@ -1,23 +1,16 @@
-use Rattle.std.proofs.Common.{◌≡◌, ℕ, ℤ, List, length, rules, ◌++◌, ap, ap₂, sym, subst, ◌∙◌}
-use Rattle.std.proofs.lemmas.List.Elements.{All-append}
-use Rattle.bit_blocks.specs.SoftValues.{IsSoftBit, AllSoftBits}
-use Rattle.burst_map.specs.SyncBurst.{first_coded_half, second_coded_half}
-use Rattle.um_block.specs.{Sent.IsSentSync, Received.{soft_bits, IsReceivedSync}, Restored.IsErrorFreeSync}
-use Rattle.um_block.{specs.declared.received.ReceivedSync.ReceivedSync, proofs.ReceivedBursts.{one_received_sync, clean_sync}}
-use Rattle.um_block.proofs.ReceivedBursts.{AllSoftBits-range, restored_sync}
+use Rattle.{
+  bit_blocks.specs.SoftValues.{AllSoftBits, IsSoftBit},
+  burst_map.specs.SyncBurst.{first_coded_half, second_coded_half},
+  std.proofs.{Common.{ap, length, rules, subst, sym, ◌∙◌}, lemmas.List.Elements.All-append},
+  um_block.proofs.ReceivedBursts.{AllSoftBits-range, clean_sync, one_received_sync, restored_sync},
+}
 use Rattle.um_block.proofs.receiving.receive_sync.Goals as goal
-
-restored : (burst : List ℤ) (r : ReceivedSync) → IsReceivedSync burst r → (info sent : List ℕ) → IsSentSync info sent →
-    burst ≡ soft_bits sent → IsErrorFreeSync info r
-restored burst r received info sent s same = clean_sync info sent r s (subst (λ x. IsReceivedSync x r) same received)
 
 pub decode-metric-requires-clause-soft : goal.decode-metric-requires-clause-soft
 decode-metric-requires-clause-soft c =
     let burst = c.new-parts.ensures.value in
     subst AllSoftBits
-    (sym (c.join_sync_halves-halves.ensures
-    ∙ ap₂ (λ x y. x ++ y) (c.first.ensures.value ∙ ap first_coded_half burst) (c.second.ensures.value
-    ∙ ap second_coded_half burst)))
+    (sym (c.join_sync_halves-halves.ensures ∙ rw (c.first.ensures.value, c.second.ensures.value, burst)))
     (All-append IsSoftBit _ _ (AllSoftBits-range c.args.burst.now 3 42 c.requires) (AllSoftBits-range c.args.burst.now 106 145 c.requires))
 
 pub returns-clause-received : goal.returns-clause-received
@@ -27,7 +20,7 @@ pub returns-clause-only : goal.returns-clause-only
 returns-clause-only c other h = one_received_sync c.args.burst.now other _ h (returns-clause-received c)
 
 pub returns-clause-clean : goal.returns-clause-clean
-returns-clause-clean c = restored c.args.burst.now _ (returns-clause-received c)
+returns-clause-clean c info sent s same = clean_sync info sent _ s (rw same at (returns-clause-received c))
 
 pub returns-clause-restores : goal.returns-clause-restores
 returns-clause-restores c info d code damage =

@@ -1,6 +1,7 @@
-use Rattle.std.proofs.{Common.{◌≡◌, [], length, get_or, drop, ◌∙◌, arith, rules}, lemmas.List.{length-drop, length-take}}
-use Rattle.std.proofs.lemmas.List.{take_all}
-use Rattle.burst_map.proofs.Lemmas.{both_written}
+use Rattle.{
+  std.proofs.{Common.{◌≡◌, [], length, get_or, drop, ◌∙◌, arith, rules}, lemmas.List.{length-drop, length-take, take_all}},
+  burst_map.proofs.Lemmas.both_written,
+}
 use Rattle.um_block.proofs.sending.build_normal_burst.Goals as goal
 
 pub returns : goal.returns

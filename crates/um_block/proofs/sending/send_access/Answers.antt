@@ -1,8 +1,10 @@
-use Rattle.std.proofs.Common.{◌≡◌, ◌++◌, length, sym, ◌∙◌, ap, ap₂, subst, arith}
-use Rattle.bit_blocks.specs.Bits.{AllBits}
-use Rattle.conv_code.proofs.Lemmas.{AllBits-coded}
-use Rattle.fire_code.specs.Words.{IsRachWord}
-use Rattle.um_block.{specs.Sent.with_tail, proofs.SentBursts.{one_access_burst, IsEncoderInput-joined}}
+use Rattle.{
+  std.proofs.Common.{◌≡◌, ◌++◌, length, sym, ◌∙◌, ap, ap₂, subst, arith},
+  bit_blocks.specs.Bits.AllBits,
+  conv_code.proofs.Lemmas.AllBits-coded,
+  fire_code.specs.Words.IsRachWord,
+  um_block.{specs.Sent.with_tail, proofs.SentBursts.{one_access_burst, IsEncoderInput-joined}},
+}
 use Rattle.um_block.proofs.sending.send_access.Goals as goal
 
 pub access-requires-clause-bits : goal.access-requires-clause-bits

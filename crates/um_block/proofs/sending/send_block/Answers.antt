@@ -1,7 +1,9 @@
-use Rattle.std.proofs.Common.{[], List, ℕ, map, take, drop, sym, ap, ◌∙◌}
-use Rattle.interleave.proofs.Lemmas.{some_spread}
-use Rattle.burst_map.specs.NormalBurst.{normal_burst}
-use Rattle.um_block.proofs.SentBursts.{one_sent_block, sent_block_bits, four, same_four, coded_block_bits}
+use Rattle.{
+  std.proofs.Common.{[], List, ℕ, map, take, drop, sym, ap, ◌∙◌},
+  interleave.proofs.Lemmas.some_spread,
+  burst_map.specs.NormalBurst.normal_burst,
+  um_block.proofs.SentBursts.{one_sent_block, sent_block_bits, four, same_four, coded_block_bits},
+}
 use Rattle.um_block.proofs.sending.send_block.Goals as goal
 
 pub returns-clause-sent : goal.returns-clause-sent
@@ -10,17 +12,19 @@ returns-clause-sent c =
     let coded = block.0 in
     let burst : List ℕ → List ℕ = λ part. normal_burst (take 57 part) (drop 57 part) c.args.tsc in
     let spread = some_spread coded (coded_block_bits _ _ block.1).right_length in
-    let parts = spread.0 in
+    let interleaved_bits = spread.0 in
     record {
       coded_bits = coded;
-      parts = parts;
+      interleaved_bits = interleaved_bits;
       valid_tsc = c.requires;
       code = block.1;
       interleaved = spread.1;
       layout = same_four _ _ _ _ _ _ _ _
-          (c.build_normal_burst.ensures coded parts block.2 spread.1) (c.build_normal_burst-2.ensures coded parts block.2 spread.1)
-          (c.build_normal_burst-3.ensures coded parts block.2 spread.1) (c.build_normal_burst-4.ensures coded parts block.2 spread.1)
-          ∙ sym (ap (map burst) (four parts [] spread.1.burst_count));
+          (c.build_normal_burst.ensures coded interleaved_bits block.2 spread.1)
+          (c.build_normal_burst-2.ensures coded interleaved_bits block.2 spread.1)
+          (c.build_normal_burst-3.ensures coded interleaved_bits block.2 spread.1)
+          (c.build_normal_burst-4.ensures coded interleaved_bits block.2 spread.1)
+          ∙ sym (ap (map burst) (four interleaved_bits [] spread.1.burst_count));
     }
 
 pub returns-clause-only : goal.returns-clause-only

@@ -1,9 +1,10 @@
-use Rattle.std.proofs.{Common.{◌≡◌, ◌++◌, length, sym, ◌∙◌, ap, ap₂, subst, arith}, lemmas.List.Elements.All-take}
-use Rattle.std.proofs.lemmas.List.Elements.{All-drop}
-use Rattle.bit_blocks.specs.Bits.{IsBit, AllBits}
-use Rattle.conv_code.proofs.Lemmas.{AllBits-coded}
-use Rattle.burst_map.specs.SyncBurst.{sync_burst}
-use Rattle.um_block.{specs.Sent.with_tail, proofs.SentBursts.{one_sync_burst, IsEncoderInput-joined}}
+use Rattle.{
+  std.proofs.{Common.{◌≡◌, ◌++◌, length, sym, ◌∙◌, ap, ap₂, subst, arith}, lemmas.List.Elements.{All-take, All-drop}},
+  bit_blocks.specs.Bits.{IsBit, AllBits},
+  conv_code.proofs.Lemmas.AllBits-coded,
+  burst_map.specs.SyncBurst.sync_burst,
+  um_block.{specs.Sent.with_tail, proofs.SentBursts.{one_sync_burst, IsEncoderInput-joined}},
+}
 use Rattle.um_block.proofs.sending.send_sync.Goals as goal
 
 pub encode-requires-clause-information : goal.encode-requires-clause-information

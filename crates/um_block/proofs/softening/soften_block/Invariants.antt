@@ -1,5 +1,4 @@
-use Rattle.std.proofs.Common.{◌≡◌, ℕ, ◌<◌, length, get_or, []}
-use Rattle.um_block.specs.Received.{soft_bits}
+use Rattle.{std.proofs.Common.{◌≡◌, ℕ, ◌<◌, length, get_or, []}, um_block.specs.Received.soft_bits}
 use Rattle.um_block.proofs.softening.soften_block.Given as goal
 
 abbrev pub invariant-loop-b : goal.invariant-loop-b

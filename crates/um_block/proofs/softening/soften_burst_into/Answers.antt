@@ -1,9 +1,13 @@
-use Rattle.std.proofs.Common.{◌≡◌, ◌+◌, ◌-◌, ◌≤◌, length, take, drop, ap, sym, subst, ◌∙◌, arith}
-use Rattle.std.proofs.lemmas.List.{length-map, length-take-le, length-drop, take_all}
+use Rattle.{
+  bit_blocks.specs.SoftValues.AllSoftBits,
+  std.proofs.Common.{ap, arith, drop, length, subst, sym, take, ◌+◌, ◌-◌, ◌∙◌, ◌≡◌, ◌≤◌},
+  std.proofs.lemmas.List.{length-drop, length-map, length-take-le, take_all},
+  um_block.{
+    proofs.ReceivedBursts.{AllSoftBits-softened, length-put, softened-before, softened-more},
+    specs.Received.{soft_bit_of, soft_bits},
+  },
+}
 use borrow.Rule.Slice.PartMut.{put_mid}
-use Rattle.bit_blocks.specs.SoftValues.{AllSoftBits}
-use Rattle.um_block.{specs.Received.{soft_bit_of, soft_bits}, proofs.ReceivedBursts.{AllSoftBits-softened, softened-more, softened-before}}
-use Rattle.um_block.proofs.ReceivedBursts.{length-put}
 use Rattle.um_block.proofs.softening.soften_burst_into.Goals as goal
 
 pub loop-at-preserved : goal.loop-at-preserved

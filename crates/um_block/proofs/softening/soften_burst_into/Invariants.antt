@@ -1,5 +1,4 @@
-use Rattle.std.proofs.Common.{◌≡◌, ◌-◌, ◌≤◌, ◌%◌, length, take}
-use Rattle.um_block.specs.Received.{soft_bits}
+use Rattle.{std.proofs.Common.{◌≡◌, ◌-◌, ◌≤◌, ◌%◌, length, take}, um_block.specs.Received.soft_bits}
 use Rattle.um_block.proofs.softening.soften_burst_into.Given as goal
 
 abbrev pub invariant-loop-at : goal.invariant-loop-at

@@ -1,6 +1,10 @@
-use Rattle.std.proofs.Common.{◌≡◌, ◌+◌, ◌<◌, length, take, drop, get_or, pos, ap, sym, ◌∙◌, arith}
-use Rattle.std.proofs.lemmas.List.{ext_get_or, get_or-map, get_or-take, get_or-drop, length-map, length-take-le, length-drop}
-use Rattle.um_block.specs.Received.{soft_bit_of}
+use Rattle.{
+  std.proofs.{
+    Common.{◌≡◌, ◌+◌, ◌<◌, length, take, drop, get_or, pos, ap, sym, ◌∙◌, arith},
+    lemmas.List.{ext_get_or, get_or-map, get_or-take, get_or-drop, length-map, length-take-le, length-drop},
+  },
+  um_block.specs.Received.soft_bit_of,
+}
 use Rattle.um_block.proofs.softening.soften_sixteen_bits.Goals as goal
 
 pub returns : goal.returns

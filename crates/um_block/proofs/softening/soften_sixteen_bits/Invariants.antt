@@ -1,5 +1,4 @@
-use Rattle.std.proofs.Common.{◌≡◌, ℕ, ◌+◌, ◌<◌, length, get_or, pos}
-use Rattle.um_block.specs.Received.{soft_bit_of}
+use Rattle.{std.proofs.Common.{◌≡◌, ℕ, ◌+◌, ◌<◌, length, get_or, pos}, um_block.specs.Received.soft_bit_of}
 use Rattle.um_block.proofs.softening.soften_sixteen_bits.Given as goal
 
 abbrev pub invariant-loop-i : goal.invariant-loop-i

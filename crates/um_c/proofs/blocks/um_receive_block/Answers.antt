@@ -1,5 +1,4 @@
-use Rattle.std.proofs.Common.{rules}
-use Rattle.um_c.proofs.Calls.{one_block_report}
+use Rattle.{std.proofs.Common.rules, um_c.proofs.Calls.one_block_report}
 use Rattle.um_c.proofs.blocks.um_receive_block.Goals as goal
 
 pub returns-clause-received : goal.returns-clause-received

@@ -1,12 +1,16 @@
-use Rattle.std.proofs.Common.{sym, ◌∙◌, ap, subst, rules, List, ℕ}
-use Rattle.um_block.specs.conv_code.Likelihood.{RanksAfter}
-use Rattle.um_among.{specs.declared.reports.ListDecodedBlock.ListDecodedBlock, proofs.Lemmas.{one_block_among, block_best, block_none}}
-use Rattle.um_among.proofs.Lemmas.{block_information, block_first}
-use Rattle.um_c.{specs.Reports.ReportsBlock, proofs.Calls.{some_flagged, none_flagged, equal_reports}}
+use Rattle.{
+  std.proofs.Common.{sym, ◌∙◌, ap, subst, rules, List, ℕ},
+  um_block.specs.conv_code.Likelihood.RanksAfter,
+  um_among.{
+    specs.declared.reports.ListDecodedBlock.ListDecodedBlock,
+    proofs.Lemmas.{one_block_among, block_best, block_none, block_information, block_first},
+  },
+  um_c.{specs.Reports.ReportsBlock, proofs.Calls.{some_flagged, none_flagged, equal_reports}},
+}
 use Rattle.um_c.proofs.blocks.um_receive_block_among.Goals as goal
 
 pub block_report_of-requires-clause-information : goal.block_report_of-requires-clause-information
-block_report_of-requires-clause-information c = block_information c.args.bursts.now c.args.most _
+block_report_of-requires-clause-information c = block_information _ _ _
     c.receive_deinterleaved_among-among.ensures
 
 pub returns-clause-best : goal.returns-clause-best
@@ -38,7 +42,7 @@ pub returns-clause-only : goal.returns-clause-only
 returns-clause-only c = λ _ place other h.
     let among = c.receive_deinterleaved_among-among.result in
     let same = one_block_among c.args.bursts.now c.args.most h.received among h.is_received c.receive_deinterleaved_among-among.ensures in (
-      h.same_rank ∙ ap (λ (x : ListDecodedBlock). x.rank) same,
+      cc,
       equal_reports c.args.bursts.now h.is_received.soft h.received.report among.report other _ h.is_received.deinterleaved
           (ap (λ (x : ListDecodedBlock). x.report) same) h.reports_block c.block_report_of.ensures,
     )

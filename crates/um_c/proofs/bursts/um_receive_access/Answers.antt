@@ -1,5 +1,4 @@
-use Rattle.std.proofs.Common.{rules}
-use Rattle.um_c.proofs.Calls.{one_access_report}
+use Rattle.{std.proofs.Common.rules, um_c.proofs.Calls.one_access_report}
 use Rattle.um_c.proofs.bursts.um_receive_access.Goals as goal
 
 pub returns-clause-received : goal.returns-clause-received

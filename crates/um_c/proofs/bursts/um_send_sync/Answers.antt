@@ -1,7 +1,5 @@
-use Rattle.std.proofs.Common.{subst, sym}
-use Rattle.um_block.specs.Sent.{IsSentSync}
 use Rattle.um_c.proofs.bursts.um_send_sync.Goals as goal
 
 pub returns-clause-only : goal.returns-clause-only
 returns-clause-only c = λ _ other sent.
-    c.send_sync.ensures.only other (subst (λ info. IsSentSync info other) (sym c.in-Some.ensures.value) sent)
+    c.send_sync.ensures.only other (rw c.in-Some.ensures.value sent)

@@ -3,5 +3,5 @@ use Rattle.um_c.proofs.effects.write_notices.Goals as goal
 
 pub returns : goal.returns
 returns c =
-    three_notices c.args.notices.now c.args.reported.now c.write_notice.new.place c.write_notice-2.new.place c.write_notice-3.new.place
-    c.told-notices c.requires c.write_notice.ensures c.write_notice-2.ensures c.write_notice-3.ensures
+    three_notices _ c.args.reported_notices.now _ _ _ c.told-notices c.requires c.write_notice.ensures c.write_notice-2.ensures
+    c.write_notice-3.ensures

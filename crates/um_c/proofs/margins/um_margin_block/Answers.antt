@@ -1,5 +1,4 @@
-use Rattle.std.proofs.Common.{rules}
-use Rattle.um_c.proofs.Calls.{one_margin_report}
+use Rattle.{std.proofs.Common.rules, um_c.proofs.Calls.one_margin_report}
 use Rattle.um_c.proofs.margins.um_margin_block.Goals as goal
 
 pub returns-clause-compared : goal.returns-clause-compared

@@ -1,7 +1,8 @@
-use Rattle.std.proofs.{Common.{◌≡◌, sym, ◌∙◌, ap, subst, ℕ, nat_eq, true, List, length, arith}, lemmas.Bool.Decides.nat_tests}
-use Rattle.um_air.specs.segmenting.Buffers.{octets_in}
-use Rattle.um_c.{specs.EndCalls.EndpointReceivesBlock, proofs.Sessions.{opened_run, was-asked, asked-one, was-answered, answered-one}}
-use Rattle.um_c.proofs.Sessions.{was-opened, allowed-exchange, both-open}
+use Rattle.{
+  std.proofs.{Common.{ap, arith, length, nat_eq, sym, true, ℕ, ◌≡◌, ◌∙◌}, lemmas.Bool.{Decides.nat_tests, false≢true}},
+  um_air.specs.segmenting.Buffers.octets_in,
+  um_c.proofs.Sessions.{opened_run, was-asked, asked-one, was-answered, answered-one, was-opened, allowed-exchange, both-open},
+}
 use Rattle.um_c.proofs.opening.open_link.Goals as goal
 
 is_zero : (n : ℕ) → nat_eq n 0 ≡ true → n ≡ 0
@@ -14,8 +15,7 @@ returns-then-um_end_open-ne0-clause-succeeds_from_idle c = λ e f mobile network
 
 pub returns-then-um_end_open-ne0-clause-opens : goal.returns-then-um_end_open-ne0-clause-opens
 returns-then-um_end_open-ne0-clause-opens c = λ e f mobile network idle.
-    absurd (c.if-um_end_open-ne0.true
-    (was-asked mobile network (allowed-exchange _ e f idle) c.um_end_open.ensures.answers_call).answer_is_0)
+    absurd (false≢true (returns-then-um_end_open-ne0-clause-succeeds_from_idle c e f mobile network (allowed-exchange idle)))
 
 pub returns-then-asked-ne1-clause-succeeds_from_idle : goal.returns-then-asked-ne1-clause-succeeds_from_idle
 returns-then-asked-ne1-clause-succeeds_from_idle c = λ e f mobile network allowed.
@@ -23,7 +23,7 @@ returns-then-asked-ne1-clause-succeeds_from_idle c = λ e f mobile network allow
 
 pub returns-then-asked-ne1-clause-opens : goal.returns-then-asked-ne1-clause-opens
 returns-then-asked-ne1-clause-opens c = λ e f mobile network idle.
-    absurd (c.if-asked-ne1.true (asked-one mobile network (allowed-exchange _ e f idle) c.um_end_open.ensures.answers_call))
+    absurd (false≢true (returns-then-asked-ne1-clause-succeeds_from_idle c e f mobile network (allowed-exchange idle)))
 
 pub returns-then-um_end_take-ne0-clause-succeeds_from_idle : goal.returns-then-um_end_take-ne0-clause-succeeds_from_idle
 returns-then-um_end_take-ne0-clause-succeeds_from_idle c = λ e f mobile network allowed.
@@ -32,8 +32,7 @@ returns-then-um_end_take-ne0-clause-succeeds_from_idle c = λ e f mobile network
 
 pub returns-then-um_end_take-ne0-clause-opens : goal.returns-then-um_end_take-ne0-clause-opens
 returns-then-um_end_take-ne0-clause-opens c = λ e f mobile network idle.
-    absurd (c.if-um_end_take-ne0.true (was-answered mobile network (allowed-exchange _ e f idle) c.um_end_open.ensures.answers_call
-    c.first_block.ensures.value c.um_end_take.ensures.answers_block).answer_is_0)
+    absurd (false≢true (returns-then-um_end_take-ne0-clause-succeeds_from_idle c e f mobile network (allowed-exchange idle)))
 
 pub returns-then-answered-ne1-clause-succeeds_from_idle : goal.returns-then-answered-ne1-clause-succeeds_from_idle
 returns-then-answered-ne1-clause-succeeds_from_idle c = λ e f mobile network allowed.
@@ -42,8 +41,7 @@ returns-then-answered-ne1-clause-succeeds_from_idle c = λ e f mobile network al
 
 pub returns-then-answered-ne1-clause-opens : goal.returns-then-answered-ne1-clause-opens
 returns-then-answered-ne1-clause-opens c = λ e f mobile network idle.
-    absurd (c.if-answered-ne1.true (answered-one mobile network (allowed-exchange _ e f idle) c.um_end_open.ensures.answers_call
-    c.first_block.ensures.value c.um_end_take.ensures.answers_block))
+    absurd (false≢true (returns-then-answered-ne1-clause-succeeds_from_idle c e f mobile network (allowed-exchange idle)))
 
 pub returns-clause-succeeds_from_idle : goal.returns-clause-succeeds_from_idle
 returns-clause-succeeds_from_idle c = λ e f mobile network allowed.
@@ -54,7 +52,7 @@ returns-clause-succeeds_from_idle c = λ e f mobile network allowed.
 
 pub returns-clause-opens : goal.returns-clause-opens
 returns-clause-opens c = λ e f mobile network idle.
-    both-open mobile network idle c.um_end_open.ensures.answers_call c.first_block.ensures.value c.um_end_take.ensures.answers_block
+    both-open idle mobile network c.um_end_open.ensures.answers_call c.first_block.ensures.value c.um_end_take.ensures.answers_block
     c.first_block-2.ensures.value c.um_end_take-2.ensures.answers_block
 
 pub returns-clause-run : goal.returns-clause-run
@@ -62,9 +60,7 @@ returns-clause-run c =
     let asked = c.first_block.ensures in
     let answered = c.first_block-2.ensures in
     λ ok channel.
-    opened_run channel (octets_in c.args.info.now) c.args.mobile.now c.um_end_open.new.end c.um_end_take-2.new.end c.args.network.now
-    c.um_end_take.new.end c.args.asked.now c.args.answered.now c.args.opened.now c.um_end_open.new.effects c.um_end_take.new.effects
-    c.um_end_take-2.new.effects c.um_end_open.result c.um_end_take.result c.um_end_take-2.result
+    opened_run channel (octets_in c.args.info.now)
     (record {
       answer_is_0 = c.if-um_end_open-ne0.false;
       count = c.if-asked-ne1.false;
@@ -77,9 +73,5 @@ returns-clause-run c =
       capacity = answered.space;
       size = ap length (sym answered.value) ∙ answered.size;
     })
-    (is_zero c.um_end_take-2.result ok) c.um_end_open.ensures.answers_call
-    (subst (λ (o : List ℕ). EndpointReceivesBlock o c.um_end_take.result c.args.network.now c.um_end_take.new.end c.args.answered.now
-    c.um_end_take.new.effects) asked.value c.um_end_take.ensures.answers_block)
-    (subst (λ (o : List ℕ). EndpointReceivesBlock o c.um_end_take-2.result c.um_end_open.new.end c.um_end_take-2.new.end
-    c.args.opened.now
-    c.um_end_take-2.new.effects) answered.value c.um_end_take-2.ensures.answers_block)
+    (is_zero c.um_end_take-2.result ok) c.um_end_open.ensures.answers_call (rw asked.value at c.um_end_take.ensures.answers_block)
+    (rw answered.value at c.um_end_take-2.ensures.answers_block)

@@ -1,6 +1,8 @@
-use Rattle.std.proofs.Common.{ℕ, List, inl, inr, refl, subst, rules}
-use Rattle.fire_repair.specs.{fire_code.Words.IsXcchWord, Repairs.IsRepair}
-use Rattle.um_c.proofs.Calls.{repaired_once}
+use Rattle.{
+  std.proofs.Common.{ℕ, List, inl, inr, refl, subst, rules},
+  fire_repair.specs.{fire_code.Words.IsXcchWord, Repairs.IsRepair},
+  um_c.proofs.Calls.repaired_once,
+}
 use Rattle.um_c.proofs.repairs.um_repair.Goals as goal
 
 -- the CRC of the word does not hold, and the word has no repair

@@ -1,5 +1,7 @@
-use Rattle.std.proofs.{Common.{refl, sym, ◌∙◌, ap}, lemmas.Bool.false≢true}
-use Rattle.um_c.specs.declared.{states.CEndpoint.CEndpoint, sides.CSide.CSide}
+use Rattle.{
+  std.proofs.{Common.{refl, sym, ◌∙◌, ap}, lemmas.Bool.false≢true},
+  um_c.specs.declared.{states.CEndpoint.CEndpoint, sides.CSide.CSide},
+}
 use Rattle.um_c.proofs.sides.um_side_take.Goals as goal
 
 pub returns-then-is_frame_on_sapi_3-clause-answers_block : goal.returns-then-is_frame_on_sapi_3-clause-answers_block

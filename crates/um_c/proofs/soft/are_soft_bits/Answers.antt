@@ -1,9 +1,10 @@
 -- The least of 0 and the values is a soft value if and only if all values are.
-use Rattle.std.proofs.Common.{◌≡◌, ◌≤ℤ◌, ℤ, pos, List, All, fold, get_or, sym, ap, subst, ⊎_elim, ◌∙◌, w8}
-use Rattle.std.proofs.{Common.{FitsSigned, rules, arith}, lemmas.Int.{ints, to_z-of_z, fold-int_min_bounds, fold-int_min_reached}}
-use Rattle.std.{proofs.lemmas.List.{take_all, Sums.fold_more, Elements.{All-from_get_or, All-contains, All-more}}, specs.Int.int_min}
-use Rattle.std.specs.Prelude.{◌↔◌}
-use Rattle.um_block.specs.bit_blocks.SoftValues.{AllSoftBits, IsSoftBit}
+use Rattle.{
+  std.proofs.Common.{◌≡◌, ◌≤ℤ◌, ℤ, pos, List, All, fold, get_or, sym, ap, subst, ⊎_elim, ◌∙◌, w8, FitsSigned},
+  std.proofs.{Common.{rules, arith}, lemmas.{Int.{ints, to_z-of_z, fold-int_min_bounds, fold-int_min_reached}, List.take_all}},
+  std.{proofs.lemmas.List.{Sums.fold_more, Elements.{All-from_get_or, All-contains, All-more}}, specs.{Int.int_min, Prelude.◌↔◌}},
+  um_block.specs.bit_blocks.SoftValues.{AllSoftBits, IsSoftBit},
+}
 use Rattle.um_c.proofs.soft.are_soft_bits.Goals as goal
 
 abbrev IsInRange : ℤ → Type 0

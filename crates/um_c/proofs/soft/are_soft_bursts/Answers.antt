@@ -1,8 +1,14 @@
 -- All values of the joined bursts are soft values if and only if those of each burst are.
-use Rattle.std.proofs.{Common.{ℤ, List, [], ◌∷◌, ◌++◌, length, refl, sym, subst}, lemmas.List.{take_at, drop_at}}
-use Rattle.std.{proofs.lemmas.List.Elements.{All-nil, All-cons, All-head, All-tail, All-append, All-take, All-drop}, specs.List.All}
-use Rattle.std.specs.{List.flat_map, Prelude.◌↔◌}
-use Rattle.um_block.specs.bit_blocks.SoftValues.{AllSoftBits, IsSoftBit}
+use Rattle.{
+  std.{
+    proofs.{
+      Common.{ℤ, List, [], ◌∷◌, ◌++◌, length, refl, sym, subst},
+      lemmas.List.{take_at, drop_at, Elements.{All-nil, All-cons, All-head, All-tail, All-append, All-take, All-drop}},
+    },
+    specs.{List.{All, flat_map}, Prelude.◌↔◌},
+  },
+  um_block.specs.bit_blocks.SoftValues.{AllSoftBits, IsSoftBit},
+}
 use Rattle.um_c.proofs.soft.are_soft_bursts.Goals as goal
 
 all_joined : (bursts : List (List ℤ)) → AllSoftBits (flat_map (λ burst. burst) bursts) ↔ All AllSoftBits bursts

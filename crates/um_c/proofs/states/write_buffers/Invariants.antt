@@ -1,6 +1,4 @@
-use Rattle.std.proofs.Common.{◌≡◌, map, take}
-use Rattle.um_air.specs.segmenting.Buffers.{octets_in}
-use Rattle.um_c.specs.States.{buffers_of_messages}
+use Rattle.{std.proofs.Common.{◌≡◌, map, take}, um_air.specs.segmenting.Buffers.octets_in, um_c.specs.States.buffers_of_messages}
 use Rattle.um_c.proofs.states.write_buffers.Given as goal
 
 abbrev pub invariant-loop-i : goal.invariant-loop-i

@@ -1,6 +1,8 @@
-use Rattle.std.proofs.Common.{◌≡◌, ap, sym, ◌∙◌}
-use Rattle.um_session.{specs.Courses.RadioCounters, proofs.Lemmas.{run_without_memory, same_run}}
-use Rattle.um_cli.proofs.Lemmas.{best_arrivals}
+use Rattle.{
+  std.proofs.Common.{◌≡◌, ap, sym, ◌∙◌},
+  um_session.{specs.Courses.RadioCounters, proofs.Lemmas.{run_without_memory, same_run}},
+  um_cli.proofs.Lemmas.best_arrivals,
+}
 use Rattle.um_cli.proofs.link.run_link.Goals as goal
 
 pub returns-in-Ok-clause-session : goal.returns-in-Ok-clause-session

@@ -1,7 +1,6 @@
 -- Each round of the loop preserves `IsRunUnderway` or ends the run. The loop ends because each round answers at least one octet of the
 -- input, and at most `input_limit` octets are answered.
-use Rattle.std.proofs.Common.{arith, refl, ◌<◌, ◌∙◌}
-use Rattle.um_driver.proofs.Runs.{at_first, underway_gathers, underway_cut, run_ends}
+use Rattle.{std.proofs.Common.{arith, refl, ◌<◌, ◌∙◌}, um_driver.proofs.Runs.{at_first, run_ends, underway_cut, underway_gathers}}
 use Rattle.um_driver.proofs.driver.answer_all_lines.Goals as goal
 
 pub loop-command-init : goal.loop-command-init
@@ -20,12 +19,12 @@ pub returns-in-Some-clause-table : goal.returns-in-Some-clause-table
 returns-in-Some-clause-table g c =
     let way = underway_gathers c.loop-command.invariant.underway c.in-Ok.ensures.gathers c.flush_before_read.ensures.unchanged in
     run_ends _ _ _ c.answer_next_line.new.lines _ _ _ _ _ _ c.answer_next_line.new.out c.in-Some.status _
-    (c.in-Some.ensures.comes _ _ _ _ _ way c.in-Ok.ensures.ready) c.write_last_text.ensures.last_write
+    (c.in-Some.ensures.comes _ _ _ _ _ way c.in-Ok.ensures.ready) c.write_final_output.ensures.last_write
 
 pub returns-in-Some-clause-cause : goal.returns-in-Some-clause-cause
 returns-in-Some-clause-cause g c =
     rw (c.loop-command.invariant.source_kept, c.in-Ok.ensures.counted, c.loop-command.invariant.sink_kept)
-    at (c.write_last_text.ensures.cause _ _ c.in-Some.ensures.cause).0
+    at (c.write_final_output.ensures.cause _ _ c.in-Some.ensures.cause).0
 
 pub returns-in-Err-add-clause-table : goal.returns-in-Err-add-clause-table
 returns-in-Err-add-clause-table g c =

@@ -1,6 +1,4 @@
-use Rattle.std.proofs.Common.{◌≡◌, ◌-◌, []}
-use Rattle.um_io.specs.Reading.{input_limit}
-use Rattle.um_driver.specs.Progress.{IsRunUnderway}
+use Rattle.{std.proofs.Common.{[], ◌-◌, ◌≡◌}, um_driver.specs.Progress.IsRunUnderway, um_io.specs.Reading.input_limit}
 use Rattle.um_driver.proofs.driver.answer_all_lines.Given as goal
 
 abbrev pub invariant-loop-command : goal.invariant-loop-command

@@ -1,7 +1,9 @@
-use Rattle.std.proofs.Common.{ℕ, List, Option, take, drop, sym, take-append-drop, arith, length-drop, length-take, ◌∙◌}
-use Rattle.std.{proofs.lemmas.Result.MatchResult-from_err, specs.Io.KnownBytes.Appends}
-use Rattle.um_driver.specs.Table.{SinkTakesPrefix}
-use Rattle.um_io.proofs.Lemmas.{Appends-front, Appends-keeps}
+use Rattle.{
+  std.proofs.Common.{List, Option, arith, drop, length-drop, length-take, sym, take, take-append-drop, ℕ, ◌∙◌},
+  std.{proofs.lemmas.Result.MatchResult-from_err, specs.Io.KnownBytes.Appends},
+  um_driver.specs.Table.SinkTakesPrefix,
+  um_io.proofs.Lemmas.{Appends-front, Appends-keeps},
+}
 use Rattle.um_driver.proofs.writing.put_all.Goals as goal
 
 -- if the sink received the first n octets, it received a prefix of the octets

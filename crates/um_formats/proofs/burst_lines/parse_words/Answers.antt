@@ -1,6 +1,10 @@
-use Rattle.std.proofs.Common.{◌≢◌, length, sym, arith}
-use Rattle.um_formats.proofs.{Lemmas.other_kind, burst_lines.parse_words.Goals.in_default-kind-via-then-kind-lt1}
-use Rattle.um_formats.proofs.burst_lines.parse_words.Goals.{in_default-kind-via-else-kind-lt1+else-kind-lt2}
+use Rattle.{
+  std.proofs.Common.{◌≢◌, length, sym, arith},
+  um_formats.proofs.{
+    Lemmas.other_kind,
+    burst_lines.parse_words.Goals.{in_default-kind-via-then-kind-lt1, in_default-kind-via-else-kind-lt1+else-kind-lt2},
+  },
+}
 use Rattle.um_formats.proofs.burst_lines.parse_words.Goals as goal
 
 pub returns-in_default-kind : goal.returns-in_default-kind
@@ -10,4 +14,4 @@ returns-in_default-kind c =
       | in_default-kind-via-then-kind-lt1 w ↦ grind arith
       | in_default-kind-via-else-kind-lt1+else-kind-lt2 w ↦ grind arith
     ] in
-    rw c.in-Some.ensures.parts (sym (other_kind c.args.held c.in-Some.kind.now c.in-Some.rest.now many))
+    rw c.in-Some.ensures.parts (sym (other_kind c.args.held_bursts c.in-Some.kind.now c.in-Some.rest.now many))

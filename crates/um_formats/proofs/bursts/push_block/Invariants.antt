@@ -1,5 +1,4 @@
-use Rattle.std.proofs.Common.{◌≡◌, ◌+◌, ◌*◌, ◌++◌, length, take}
-use Rattle.um_formats.specs.BurstTexts.{bursts_text}
+use Rattle.{std.proofs.Common.{length, take, ◌*◌, ◌++◌, ◌+◌, ◌≡◌}, um_formats.specs.BurstTexts.bursts_text}
 use Rattle.um_formats.proofs.bursts.push_block.Given as goal
 
 -- `out` contains the lines of the bursts before this one

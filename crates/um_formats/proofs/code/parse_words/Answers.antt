@@ -1,7 +1,8 @@
-use Rattle.std.proofs.{Common.{◌≡◌, Some, ◌++◌, codes, sym, ap, ◌∙◌}, lemmas.Bool.Decides.Decides-eqb}
-use Rattle.std.proofs.lemmas.Slice.Eq.{strip_prefix_is}
-use Rattle.um_lines.specs.Words.{words}
-use Rattle.um_formats.specs.CodeLines.{code_parse_result}
+use Rattle.{
+  std.proofs.{Common.{Some, ap, codes, sym, ◌++◌, ◌∙◌, ◌≡◌}, lemmas.{Bool.Decides.Decides-eqb, Slice.Eq.strip_prefix_is}},
+  um_formats.specs.CodeLines.code_parse_result,
+  um_lines.specs.Words.words,
+}
 use Rattle.um_formats.proofs.code.parse_words.Goals as goal
 
 pub returns-in-Some : goal.returns-in-Some

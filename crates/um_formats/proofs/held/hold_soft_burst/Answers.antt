@@ -1,8 +1,10 @@
-use Rattle.std.{proofs.Common.{◌≡◌, ◌==◌, false, ℕ, List, length, ap, sym, ◌∙◌, subst}, specs.List.list_any}
-use Rattle.um_block.specs.bit_blocks.SoftValues.{AllSoftBits}
-use Rattle.um_lines.specs.Fields.{octets_from_hex}
-use Rattle.um_formats.specs.{declared.burst_lines.BurstLine.TheVariants.Normal, BurstLines.BurstLineMeans, Held.IsHexNormalLine}
-use Rattle.um_formats.{specs.{Held.IsSoftNormalLine, SoftOctets.signed_octets}, proofs.Lemmas.{soft_line, soft_within}}
+use Rattle.{
+  std.{proofs.Common.{List, ap, false, length, subst, sym, ℕ, ◌==◌, ◌∙◌, ◌≡◌}, specs.List.list_any},
+  um_block.specs.bit_blocks.SoftValues.AllSoftBits,
+  um_formats.{proofs.Lemmas.{soft_line, soft_within}, specs.{BurstLines.BurstLineMeans, Held.{IsHexNormalLine, IsSoftNormalLine}}},
+  um_formats.specs.{SoftOctets.signed_octets, declared.burst_lines.BurstLine.TheVariants.Normal},
+  um_lines.specs.Fields.octets_from_hex,
+}
 use Rattle.um_formats.proofs.held.hold_soft_burst.Goals as goal
 
 is_soft : (line digits octets : List ℕ) → IsHexNormalLine line digits → octets ≡ octets_from_hex digits

@@ -1,5 +1,7 @@
-use Rattle.std.proofs.{Common.arith, lemmas.List.Elements.All-from_get_or}
-use Rattle.um_block.{specs.bit_blocks.Octets.IsOctet, proofs.bit_blocks.Lemmas.octets_of-bits_of}
+use Rattle.{
+  std.proofs.{Common.arith, lemmas.List.Elements.All-from_get_or},
+  um_block.{specs.bit_blocks.Octets.IsOctet, proofs.bit_blocks.Lemmas.octets_of-bits_of},
+}
 use Rattle.um_formats.proofs.reports.push_data_and_check.Goals as goal
 
 pub returns-clause-octets : goal.returns-clause-octets

@@ -1,10 +1,13 @@
-use Rattle.std.proofs.Common.{sym, ◌∙◌}
-use Rattle.um_lines.{specs.{Forms.no_order_fault, ShowForms.show_forms}, proofs.FormLaws.read_of_words}
-use Rattle.um_formats.specs.ShowLines.{show_line_of_meaning}
+use Rattle.{
+  std.proofs.Common.{sym, ◌∙◌},
+  um_formats.specs.ShowLines.show_line_of_meaning,
+  um_lines.{proofs.FormLaws.read_of_words, specs.{Forms.no_order_fault, ShowForms.show_line_forms}},
+}
 use Rattle.um_formats.proofs.show.parse_show.Goals as goal
 
 pub returns : goal.returns
 returns c =
-    let stays = sym c.is_skipped.ensures ∙ c.if-is_skipped.false in
-    let read = read_of_words show_forms no_order_fault show_line_of_meaning _ _ c.if-line-gt-LINE_LIMIT.false stays c.parse_words.ensures in
+    let stays = sym c.is_skipped_line.ensures ∙ c.if-is_skipped_line.false in
+    let read = read_of_words show_line_forms no_order_fault show_line_of_meaning _ _ c.if-line-gt-LINE_LIMIT.false stays
+    c.parse_words.ensures in
     record { means = read.0; refused = read.1 }

@@ -1,7 +1,11 @@
-use Rattle.std.proofs.{Common.{◌≡◌, Some, None, ◌++◌, codes, sym, ap, ◌∙◌}, lemmas.Bool.Decides.Decides-eqb}
-use Rattle.std.proofs.lemmas.Slice.Eq.{strip_prefix_is}
-use Rattle.um_lines.specs.Words.{words}
-use Rattle.um_formats.{specs.ShowLines.show_parse_result, proofs.Lemmas.no_name}
+use Rattle.{
+  std.proofs.{
+    Common.{None, Some, ap, codes, sym, ◌++◌, ◌∙◌, ◌≡◌},
+    lemmas.{Bool.Decides.Decides-eqb, Slice.Eq.strip_prefix_is},
+  },
+  um_formats.{proofs.Lemmas.no_name, specs.ShowLines.show_parse_result},
+  um_lines.specs.Words.words,
+}
 use Rattle.um_formats.proofs.show.parse_words.Goals as goal
 
 pub returns-in-Some : goal.returns-in-Some

@@ -1,6 +1,8 @@
-use Rattle.std.proofs.{Common.{take, sym, ◌∙◌, subst, arith}, lemmas.List.take_all}
-use Rattle.um_block.specs.bit_blocks.SoftValues.{AllSoftBits}
-use Rattle.um_formats.proofs.Lemmas.{hard_values}
+use Rattle.{
+  std.proofs.{Common.{arith, subst, sym, take, ◌∙◌}, lemmas.List.take_all},
+  um_block.specs.bit_blocks.SoftValues.AllSoftBits,
+  um_formats.proofs.Lemmas.hard_values,
+}
 use Rattle.um_formats.proofs.soft_digits.write_hard_values.Goals as goal
 
 pub returns-clause-soft : goal.returns-clause-soft

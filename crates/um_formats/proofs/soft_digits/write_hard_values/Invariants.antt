@@ -1,5 +1,4 @@
-use Rattle.std.proofs.Common.{◌≡◌, ◌-◌, take, map, length}
-use Rattle.um_block.specs.Received.{soft_bits}
+use Rattle.{std.proofs.Common.{length, map, take, ◌-◌, ◌≡◌}, um_block.specs.Received.soft_bits}
 use Rattle.um_formats.proofs.soft_digits.write_hard_values.Given as goal
 
 -- the soft values written so far are those of the digits read so far

@@ -1,5 +1,4 @@
-use Rattle.std.proofs.Common.{◌≡◌, take, length}
-use Rattle.um_formats.specs.SoftOctets.{signed_octets}
+use Rattle.{std.proofs.Common.{length, take, ◌≡◌}, um_formats.specs.SoftOctets.signed_octets}
 use Rattle.um_formats.proofs.soft_digits.write_signed_values.Given as goal
 
 -- the soft values written so far are those of the octets read so far

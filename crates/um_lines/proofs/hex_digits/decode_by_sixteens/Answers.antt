@@ -1,7 +1,9 @@
-use Rattle.std.proofs.Common.{◌≡◌, ◌&&◌, ◌+◌, ◌-◌, ◌*◌, length, take, drop, ap, ap₂, ◌∙◌, arith}
-use Rattle.std.{proofs.lemmas.List.{take_all, length-drop}, specs.List.list_all}
-use Rattle.hex.specs.Hex.{is_hex_digit}
-use Rattle.um_lines.proofs.Texts.{all_more, all_overlapping}
+use Rattle.{
+  std.proofs.Common.{◌≡◌, ◌&&◌, ◌+◌, ◌-◌, ◌*◌, length, take, drop, ap, ap₂, ◌∙◌, arith},
+  std.{proofs.lemmas.List.{take_all, length-drop}, specs.List.list_all},
+  hex.specs.Hex.is_hex_digit,
+  um_lines.proofs.Texts.{all_more, all_overlapping},
+}
 use Rattle.um_lines.proofs.hex_digits.decode_by_sixteens.Goals as goal
 
 pub loop-at-preserved : goal.loop-at-preserved

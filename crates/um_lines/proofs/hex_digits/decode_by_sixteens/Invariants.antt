@@ -1,7 +1,8 @@
-use Rattle.std.proofs.Common.{◌≡◌, ℕ, ◌+◌, ◌-◌, ◌*◌, ◌<◌, ◌≤◌, length, take, get_or, IsTrue}
-use Rattle.std.specs.List.{list_all}
-use Rattle.hex.specs.Hex.{is_hex_digit}
-use Rattle.um_lines.specs.HexPlaces.{hex_octet_at, are_digit_codes}
+use Rattle.{
+  hex.specs.Hex.is_hex_digit,
+  std.{proofs.Common.{IsTrue, get_or, length, take, ℕ, ◌*◌, ◌+◌, ◌-◌, ◌<◌, ◌≡◌, ◌≤◌}, specs.List.list_all},
+  um_lines.specs.HexPlaces.{are_digit_codes, hex_octet_at},
+}
 use Rattle.um_lines.proofs.hex_digits.decode_by_sixteens.Given as goal
 
 -- the octets written so far are decoded from their digits, and the codes tell whether these are hexadecimal digits

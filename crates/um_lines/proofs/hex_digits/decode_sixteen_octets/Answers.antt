@@ -1,7 +1,11 @@
-use Rattle.std.proofs.{Common.{◌&&◌, ◌+◌, ◌*◌, ◌<◌, ◌∙◌, ap₂, inl, inr, arith}, lemmas.Bool.cases_eq}
-use Rattle.std.proofs.lemmas.List.{length-set, get_or-set_same, get_or-set_other}
-use Rattle.hex.specs.Hex.{is_hex_digit}
-use Rattle.um_lines.proofs.Texts.{decoded_at, two_sixteens}
+use Rattle.{
+  std.proofs.{
+    Common.{◌&&◌, ◌+◌, ◌*◌, ◌<◌, ◌∙◌, ap₂, inl, inr, arith},
+    lemmas.{Bool.cases_eq, List.{length-set, get_or-set_same, get_or-set_other}},
+  },
+  hex.specs.Hex.is_hex_digit,
+  um_lines.proofs.Texts.{decoded_at, two_sixteens},
+}
 use Rattle.um_lines.proofs.hex_digits.decode_sixteen_octets.Goals as goal
 
 pub loop-i-preserved : goal.loop-i-preserved

@@ -1,6 +1,8 @@
-use Rattle.std.{proofs.Common.{◌≡◌, ℕ, ◌+◌, ◌<◌, length, get_or, IsTrue}, specs.List.list_all}
-use Rattle.hex.specs.Hex.{is_hex_digit}
-use Rattle.um_lines.specs.HexPlaces.{hex_octet_at}
+use Rattle.{
+  hex.specs.Hex.is_hex_digit,
+  std.{proofs.Common.{IsTrue, get_or, length, ℕ, ◌+◌, ◌<◌, ◌≡◌}, specs.List.list_all},
+  um_lines.specs.HexPlaces.hex_octet_at,
+}
 use Rattle.um_lines.proofs.hex_digits.decode_sixteen_octets.Given as goal
 
 -- the octets written so far are decoded from their digits

@@ -1,5 +1,4 @@
-use Rattle.std.proofs.Common.{◌≡◌, ℕ, ◌<◌, length, get_or}
-use Rattle.um_lines.specs.HexPlaces.{hex_octet_at}
+use Rattle.{std.proofs.Common.{get_or, length, ℕ, ◌<◌, ◌≡◌}, um_lines.specs.HexPlaces.hex_octet_at}
 use Rattle.um_lines.proofs.hex_digits.write_one_by_one.Given as goal
 
 -- the octets written so far are decoded from their digits

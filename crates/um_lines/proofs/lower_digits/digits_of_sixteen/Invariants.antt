@@ -1,5 +1,4 @@
-use Rattle.std.proofs.Common.{◌≡◌, ℕ, ◌+◌, ◌/◌, ◌%◌, ◌<◌, length, get_or}
-use Rattle.hex.specs.Hex.{lower_digits}
+use Rattle.{hex.specs.Hex.lower_digits, std.proofs.Common.{get_or, length, ℕ, ◌%◌, ◌+◌, ◌/◌, ◌<◌, ◌≡◌}}
 use Rattle.um_lines.proofs.lower_digits.digits_of_sixteen.Given as goal
 
 -- the digits written so far are those of the octets from index `at` on

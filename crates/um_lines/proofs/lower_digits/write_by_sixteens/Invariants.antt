@@ -1,5 +1,4 @@
-use Rattle.std.proofs.Common.{◌≡◌, ℕ, ◌+◌, ◌-◌, ◌<◌, ◌≤◌, length}
-use Rattle.um_lines.specs.HexPlaces.{HasDigitsOfOctet}
+use Rattle.{std.proofs.Common.{length, ℕ, ◌+◌, ◌-◌, ◌<◌, ◌≡◌, ◌≤◌}, um_lines.specs.HexPlaces.HasDigitsOfOctet}
 use Rattle.um_lines.proofs.lower_digits.write_by_sixteens.Given as goal
 
 -- the digits of all octets before index `at` are written

@@ -1,5 +1,5 @@
-use Rattle.std.proofs.Common.{◌≡◌, ◌+◌, ◌-◌, ◌&&◌, length, take, drop, ap, ap₂, ◌∙◌, arith}
-use Rattle.std.{proofs.lemmas.List.{take_all, length-drop}, specs.List.list_all}
+use Rattle.std.proofs.Common.{ap, ap₂, arith, drop, length, take, ◌&&◌, ◌+◌, ◌-◌, ◌∙◌, ◌≡◌}
+use Rattle.std.{proofs.lemmas.List.{length-drop, take_all}, specs.List.list_all}
 use Rattle.um_lines.proofs.Texts.{all_more, all_overlapping}
 use Rattle.um_lines.proofs.octet_sets.all_in_set_in_steps.Goals as goal
 

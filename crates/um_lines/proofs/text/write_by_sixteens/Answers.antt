@@ -1,6 +1,7 @@
-use Rattle.std.proofs.{Common.{◌≡◌, ℕ, List, ◌+◌, ◌-◌, ◌≤◌, length, ◌∙◌, arith}, lemmas.List.length-map}
-use Rattle.std.proofs.lemmas.List.{map-append}
-use Rattle.um_lines.{specs.Fields.bit_digits, proofs.Texts.{written_more, written_all}}
+use Rattle.{
+  std.proofs.{Common.{List, arith, length, ℕ, ◌+◌, ◌-◌, ◌∙◌, ◌≡◌, ◌≤◌}, lemmas.List.{length-map, map-append}},
+  um_lines.{proofs.Texts.{written_all, written_more}, specs.Fields.bit_digits},
+}
 use Rattle.um_lines.proofs.text.write_by_sixteens.Goals as goal
 
 long : (bits : List ℕ) → length (bit_digits bits) ≡ length bits

@@ -1,5 +1,4 @@
-use Rattle.std.proofs.Common.{◌≡◌, ◌+◌, ◌-◌, ◌≤◌, length}
-use Rattle.um_lines.{specs.Fields.bit_digits, proofs.Texts.AreWritten}
+use Rattle.{std.proofs.Common.{length, ◌+◌, ◌-◌, ◌≡◌, ◌≤◌}, um_lines.{proofs.Texts.AreWritten, specs.Fields.bit_digits}}
 use Rattle.um_lines.proofs.text.write_by_sixteens.Given as goal
 
 abbrev pub invariant-loop-at : goal.invariant-loop-at

@@ -1,5 +1,4 @@
-use Rattle.std.proofs.Common.{◌≡◌, take}
-use Rattle.um_lines.specs.Fields.{bit_digits}
+use Rattle.{std.proofs.Common.{take, ◌≡◌}, um_lines.specs.Fields.bit_digits}
 use Rattle.um_lines.proofs.text.write_one_by_one.Given as goal
 
 -- the digits written so far are those of the bits read so far

@@ -1,5 +1,4 @@
-use Rattle.std.proofs.lemmas.List.Splits.{join_with_byte-slice_split}
-use Rattle.um_lines.proofs.Texts.{words-no_spaces, words-join}
+use Rattle.{std.proofs.lemmas.List.Splits.join_with_byte-slice_split, um_lines.proofs.Texts.{words-join, words-no_spaces}}
 use Rattle.um_lines.proofs.words.law_words_join_to_line.Goals as goal
 
 pub returns-clause-whole : goal.returns-clause-whole

@@ -1,5 +1,7 @@
-use Rattle.std.proofs.{Common.{refl, ap, length, drop, eqb, ◌+◌, arith}, lemmas.List.Splits.length-slice_split}
-use Rattle.um_lines.proofs.Texts.{words_cut}
+use Rattle.{
+  std.proofs.{Common.{refl, ap, length, drop, eqb, ◌+◌, arith}, lemmas.List.Splits.length-slice_split},
+  um_lines.proofs.Texts.words_cut,
+}
 use Rattle.um_lines.proofs.words.parse_only_word.Goals as goal
 
 pub returns-in-Some : goal.returns-in-Some

@@ -1,5 +1,4 @@
-use Rattle.std.proofs.Common.{refl, subst}
-use Rattle.um_block.specs.Received.{IsReceivedBlock}
+use Rattle.std.proofs.Common.{refl}
 use Rattle.um_link.proofs.queue.receive_oldest_block.Goals as goal
 
 pub returns-clause-received : goal.returns-clause-received
@@ -8,9 +7,5 @@ returns-clause-received g c =
     let softened = c.write_oldest_as_soft_values.ensures.value gone.0 c.drop_oldest_block.new.way.items gone.1 in (
       c.receive.result,
       refl,
-      record {
-        block = gone.0;
-        queue_front = gone.1;
-        received = subst (λ bursts. IsReceivedBlock bursts c.receive.result) softened c.receive.ensures.received;
-      },
+      record { block = gone.0; queue_front = gone.1; received = rw softened at c.receive.ensures.received },
     )

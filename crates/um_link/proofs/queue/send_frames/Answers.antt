@@ -1,5 +1,4 @@
-use Rattle.std.proofs.Common.{ap, ◌≤◌, ◌+◌, length, arith}
-use Rattle.um_link.proofs.Lemmas.{one_more}
+use Rattle.{std.proofs.Common.{ap, ◌≤◌, ◌+◌, length, arith}, um_link.proofs.Lemmas.one_more}
 use Rattle.um_link.proofs.queue.send_frames.Goals as goal
 
 pub loop-octets-preserved : goal.loop-octets-preserved

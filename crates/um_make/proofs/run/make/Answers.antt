@@ -1,12 +1,16 @@
 -- Each round of the loop counts one more event and its answer, and the radio counts the same blocks.
-use Rattle.std.proofs.Common.{◌≡◌, ◌∙◌, ap, ℕ, ◌+◌, arith}
-use Rattle.um_link.specs.{um_block.Tallies.counter_plus, Naming.step_result, Abstraction.{sent_frame_count, arrived_block_count}}
-use Rattle.um_make.{specs.Generated.generated_events, proofs.Lemmas.{goes_on, small_enough, is_summary_of_events, is_delivered}}
-use Rattle.um_make.proofs.Lemmas.{raised_by-more, frames_are, arrivals_are}
+use Rattle.{
+  std.proofs.Common.{◌≡◌, ◌∙◌, ap, ℕ, ◌+◌, arith},
+  um_link.specs.{um_block.Tallies.counter_plus, Naming.step_result, Abstraction.{sent_frame_count, blocks_received_in_step}},
+  um_make.{
+    specs.Generated.generated_events,
+    proofs.Lemmas.{goes_on, small_enough, is_summary_of_events, is_delivered, raised_by-more, frames_are, arrivals_are},
+  },
+}
 use Rattle.um_make.proofs.run.make.Goals as goal
 
-pub count-requires : goal.count-requires
-count-requires g c =
+pub count_step-requires : goal.count_step-requires
+count_step-requires g c =
     small_enough c.args.tsc c.args.n c.loop-event.script c.loop-event.world c.loop-event.summary c.requires.most
     c.loop-event.invariant.underway
 
@@ -14,20 +18,20 @@ pub loop-event-preserved : goal.loop-event-preserved
 loop-event-preserved g c =
     let answer = step_result c.step_into-done.result c.step_into-done.new.step in
     let old = c.loop-event.summary in
-    let new = c.count.new.self in
-    let counts = c.count.ensures.counts in
+    let new = c.count_step.new.self in
+    let counts = c.count_step.ensures.counts in
     let sent : new.sent_blocks ≡ old.sent_blocks + sent_frame_count answer = counts.sent_blocks
     ∙ ap (λ (k : ℕ). old.sent_blocks + k) (frames_are answer) in
-    let heard : new.good_blocks + new.bad_blocks ≡ (old.good_blocks + old.bad_blocks) + arrived_block_count answer =
+    let heard : new.good_blocks + new.bad_blocks ≡ (old.good_blocks + old.bad_blocks) + blocks_received_in_step answer =
     omega (arith, counts.good_blocks, counts.bad_blocks, arrivals_are answer) in
     record {
       underway = goes_on c.args.tsc (generated_events c.args.n) c.loop-event.script c.next.new.self c.loop-event.world
           c.step_into-done.new.self old new _ answer c.loop-event.invariant.underway c.in-Some.ensures.event
-          c.step_into-done.ensures.session counts c.count.ensures.rises;
+          c.step_into-done.ensures.session counts c.count_step.ensures.rises;
       sent = c.step_into-done.ensures.sent ∙ ap (counter_plus (sent_frame_count answer)) c.loop-event.invariant.sent
           ∙ raised_by-more (sent_frame_count answer) old.sent_blocks _ new.sent_blocks sent;
-      heard = c.step_into-done.ensures.heard ∙ ap (counter_plus (arrived_block_count answer)) c.loop-event.invariant.heard
-          ∙ raised_by-more (arrived_block_count answer) (old.good_blocks + old.bad_blocks) _ (new.good_blocks + new.bad_blocks) heard;
+      heard = c.step_into-done.ensures.heard ∙ ap (counter_plus (blocks_received_in_step answer)) c.loop-event.invariant.heard
+          ∙ raised_by-more (blocks_received_in_step answer) (old.good_blocks + old.bad_blocks) _ (new.good_blocks + new.bad_blocks) heard;
     }
 
 pub returns-clause-run : goal.returns-clause-run
@@ -38,7 +42,4 @@ returns-clause-run g c =
 
 pub returns-clause-delivered_messages : goal.returns-clause-delivered_messages
 returns-clause-delivered_messages g c =
-    is_delivered c.args.tsc c.args.n c.loop-event.summary
-    (is_summary_of_events c.args.tsc (generated_events c.args.n) c.loop-event.script c.loop-event.world c.loop-event.summary
-    c.in_default.ensures.event.0
-    c.loop-event.invariant.underway)
+    is_delivered c.args.tsc c.args.n c.loop-event.summary (returns-clause-run g c)

@@ -1,6 +1,8 @@
-use Rattle.std.proofs.Common.{◌≡◌, ◌+◌, length}
-use Rattle.um_link.specs.um_block.Tallies.{counter_plus}
-use Rattle.um_make.specs.{Generated.generated_events, Underway.IsRunInProgress}
+use Rattle.{
+  std.proofs.Common.{◌≡◌, ◌+◌, length},
+  um_link.specs.um_block.Tallies.counter_plus,
+  um_make.specs.{Generated.generated_events, Underway.IsRunInProgress},
+}
 use Rattle.um_make.proofs.run.make.Given as goal
 
 abbrev pub invariant-loop-event : goal.invariant-loop-event

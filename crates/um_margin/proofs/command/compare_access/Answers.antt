@@ -1,5 +1,7 @@
-use Rattle.std.proofs.Common.{rules, lit≤, ap, sym, subst, ◌∙◌}
-use Rattle.um_block.{specs.{bit_blocks.SoftValues.AllSoftBits, burst_map.AccessBurst.body}, proofs.Lemmas.AllSoftBits-range}
+use Rattle.{
+  std.proofs.Common.{rules, lit≤, ap, sym, subst, ◌∙◌},
+  um_block.{specs.{bit_blocks.SoftValues.AllSoftBits, burst_map.AccessBurst.body}, proofs.Lemmas.AllSoftBits-range},
+}
 use Rattle.um_margin.proofs.command.compare_access.Goals as goal
 
 pub compare_words-requires : goal.compare_words-requires

@@ -1,5 +1,8 @@
-use Rattle.std.proofs.{Common.{rules, w32, FitsSigned}, lemmas.Int.to_z-of_z}
-use Rattle.um_margin.proofs.Lemmas.{is_compared}
+-- The comparison is put together from the results of `decode` and of `margin`, which find the same most likely word.
+use Rattle.{
+  std.proofs.{Common.{ap, rules, w32, FitsSigned, ◌∙◌}, lemmas.Int.to_z-of_z},
+  um_block.{proofs.conv_code.Lemmas.IsMostLikely-only, specs.{bit_blocks.SoftValues.likelihood, conv_code.Code.encoding}},
+}
 use Rattle.um_margin.proofs.comparison.compare_words.Goals as goal
 
 pub returns : goal.returns
@@ -8,6 +11,14 @@ returns g c =
     let both = c.margin-ahead.ensures in
     let margin_fits : FitsSigned w32 c.margin-ahead.result = search rules in
     let metric_fits : FitsSigned w32 c.decode-metric.result = search rules in
-    is_compared c.args.soft.now _ _ _ _ _ _ _ _ _ first.best first.value both.best both.second both.margin both.value
-    c.from_array.ensures.value c.from_array-2.ensures.value
-    (to_z-of_z w32 c.margin-ahead.result margin_fits) (to_z-of_z w32 c.decode-metric.result metric_fits)
+    let is_u = c.from_array.ensures.value in
+    let is_v = c.from_array-2.ensures.value in
+    let is_m = to_z-of_z w32 c.margin-ahead.result margin_fits in
+    record {
+      best = rw is_u both.best;
+      next = rw (is_u, is_v) both.second;
+      margin = rw (is_u, is_m) both.margin;
+      margin_is_difference = rw (is_m, is_u, is_v) both.value;
+      metric = to_z-of_z w32 c.decode-metric.result metric_fits ∙ first.value
+          ∙ rw is_u (ap (λ w. likelihood c.args.soft.now (encoding w)) (IsMostLikely-only _ _ _ both.best first.best));
+    }

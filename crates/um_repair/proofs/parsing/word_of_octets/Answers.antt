@@ -1,6 +1,8 @@
-use Rattle.std.proofs.Common.{◌++◌, replicate, refl, ap₂, sym, subst, ◌∙◌, arith, lit<}
-use Rattle.um_lines.{specs.bit_blocks.Bits.AllBits, proofs.bit_blocks.Lemmas.AllBits-append}
-use Rattle.um_repair.proofs.Lemmas.{written_word}
+use Rattle.{
+  std.proofs.Common.{◌++◌, replicate, refl, ap₂, sym, subst, ◌∙◌, arith, lit<},
+  um_lines.{specs.bit_blocks.Bits.AllBits, proofs.bit_blocks.Lemmas.AllBits-append},
+  um_repair.proofs.Lemmas.written_word,
+}
 use Rattle.um_repair.proofs.parsing.word_of_octets.Goals as goal
 
 pub from_array-requires : goal.from_array-requires

@@ -1,6 +1,8 @@
-use Rattle.std.{proofs.Common.{◌≡◌, not, length}, specs.List.list_any}
-use Rattle.um_lines.specs.{Words.words, Fields.is_decimal}
-use Rattle.um_script.specs.Held.{remaining_words}
+use Rattle.{
+  std.{proofs.Common.{◌≡◌, not, length}, specs.List.list_any},
+  um_lines.specs.{Words.words, Fields.is_decimal},
+  um_script.specs.Held.remaining_words,
+}
 use Rattle.um_script.proofs.places.are_decimals.Given as goal
 
 -- the words include one that is no decimal number if and only if the remaining words do

@@ -1,5 +1,7 @@
-use Rattle.std.proofs.Common.{◌≡◌, ◌+◌, ◌-◌, ◌*◌, min, get_or, rules, arith, ◌∙◌}
-use Rattle.um_script.proofs.ScriptLines.{next_place}
+use Rattle.{
+  std.proofs.Common.{◌≡◌, ◌+◌, ◌-◌, ◌*◌, min, get_or, rules, arith, ◌∙◌},
+  um_script.proofs.ScriptLines.next_place,
+}
 use Rattle.um_script.proofs.places.bit_index_of_word.Goals as goal
 
 pub loop-digit-preserved : goal.loop-digit-preserved
@@ -8,4 +10,4 @@ loop-digit-preserved c =
     first_of (omega (arith, c.min-place.ensures, c.from.ensures), grind arith, search rules) in
     let next = next_place c.args.word.now c.loop-digit.digit-index c.loop-digit.place c.min-place.result c.loop-digit-test.true
     c.loop-digit.invariant.digits new in
-    record { in_range = next.in_range; digits = next.digits; same = next.same_value ∙ c.loop-digit.invariant.same }
+    record { in_range = next.0; digits = next.1; same = next.2 ∙ c.loop-digit.invariant.same }

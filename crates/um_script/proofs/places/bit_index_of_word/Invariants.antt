@@ -1,5 +1,6 @@
-use Rattle.std.{proofs.Common.{◌≡◌, ◌≤◌, min, drop, IsTrue}, specs.Str.{all_ascii_digits, Parse.digits_value}}
-use Rattle.std.specs.Str.Parse.{digits_value_after}
+use Rattle.{
+  std.{proofs.Common.{◌≡◌, ◌≤◌, min, drop, IsTrue}, specs.Str.{all_ascii_digits, Parse.{digits_value, digits_value_after}}},
+}
 use Rattle.um_script.proofs.places.bit_index_of_word.Given as goal
 
 -- the value so far, with the remaining digits appended, is the value of the word

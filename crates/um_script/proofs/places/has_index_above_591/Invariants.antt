@@ -1,13 +1,15 @@
-use Rattle.std.{proofs.Common.{◌≡◌, length}, specs.List.list_any}
-use Rattle.um_lines.specs.Words.{words}
-use Rattle.um_script.specs.{ScriptReading.is_above_591, Held.{remaining_words, AreDecimalWords}}
+use Rattle.{
+  std.{proofs.Common.{◌≡◌, length}, specs.List.list_any},
+  um_lines.specs.Words.words,
+  um_script.specs.{ScriptReading.is_index_above_591, Held.{remaining_words, AreDecimalWords}},
+}
 use Rattle.um_script.proofs.places.has_index_above_591.Given as goal
 
 -- the words include an index above 591 if and only if the remaining words do
 abbrev pub invariant-loop-rest : goal.invariant-loop-rest
 invariant-loop-rest l =
     record {
-      same : list_any is_above_591 (words l.fn.text) ≡ list_any is_above_591 (remaining_words l.rest);
+      same : list_any is_index_above_591 (words l.fn.text) ≡ list_any is_index_above_591 (remaining_words l.rest);
       decimal : AreDecimalWords (remaining_words l.rest);
     }
 

@@ -1,7 +1,8 @@
-use Rattle.std.proofs.Common.{ap, sym, ◌∙◌}
-use Rattle.um_lines.specs.Words.{words}
-use Rattle.um_script.{specs.Held.{remaining_words, numbers_of_words, has_marked_or_repeated_index}, proofs.ScriptLines.named_twice}
-use Rattle.um_script.proofs.ScriptLines.{named_here}
+use Rattle.{
+  std.proofs.Common.{ap, sym, ◌∙◌},
+  um_lines.specs.Words.words,
+  um_script.{specs.Held.{remaining_words, decimal_word_values, has_marked_or_repeated_index}, proofs.ScriptLines.{named_twice, named_here}},
+}
 use Rattle.um_script.proofs.places.has_repeated_index.Goals as goal
 
 pub returns-then-named-place : goal.returns-then-named-place
@@ -14,6 +15,6 @@ returns-then-named-place c =
 
 pub returns : goal.returns
 returns c =
-    ap (λ rest. has_marked_or_repeated_index c.loop-rest.named (numbers_of_words (remaining_words rest))) (sym c.in_default.is)
+    ap (λ rest. has_marked_or_repeated_index c.loop-rest.named (decimal_word_values (remaining_words rest))) (sym c.in_default.is)
     ∙ sym c.loop-rest.invariant.same
     ∙ named_twice (words c.args.text.now) c.requires.in_range

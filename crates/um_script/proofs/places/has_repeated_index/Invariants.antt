@@ -1,6 +1,8 @@
-use Rattle.std.proofs.Common.{◌≡◌, length, false, replicate}
-use Rattle.um_lines.specs.Words.{words}
-use Rattle.um_script.specs.Held.{remaining_words, numbers_of_words, has_marked_or_repeated_index, AreBitIndexWords}
+use Rattle.{
+  std.proofs.Common.{◌≡◌, length, false, replicate},
+  um_lines.specs.Words.words,
+  um_script.specs.Held.{remaining_words, decimal_word_values, has_marked_or_repeated_index, AreBitIndexWords},
+}
 use Rattle.um_script.proofs.places.has_repeated_index.Given as goal
 
 -- an index is repeated if and only if an index among the remaining words is marked already or occurs there twice
@@ -8,9 +10,9 @@ abbrev pub invariant-loop-rest : goal.invariant-loop-rest
 invariant-loop-rest l =
     record {
       room : length l.named ≡ 592;
-      same : has_marked_or_repeated_index (replicate 592 false) (numbers_of_words (words l.fn.text)) ≡
+      same : has_marked_or_repeated_index (replicate 592 false) (decimal_word_values (words l.fn.text)) ≡
           has_marked_or_repeated_index l.named
-          (numbers_of_words
+          (decimal_word_values
           (remaining_words l.rest));
       left : AreBitIndexWords (remaining_words l.rest);
     }

@@ -1,6 +1,8 @@
-use Rattle.std.proofs.Common.{ap, sym, ◌∙◌}
-use Rattle.um_lines.specs.Words.{words}
-use Rattle.um_script.{specs.{Names.link_endpoint_of, ScriptReading.{parsed_layer3_call, parsed_octets_call}}, proofs.ScriptLines.more_call}
+use Rattle.{
+  std.proofs.Common.{ap, sym, ◌∙◌},
+  um_lines.specs.Words.words,
+  um_script.{specs.{Names.link_endpoint_of, ScriptReading.{parsed_layer3_call, parsed_octets_call}}, proofs.ScriptLines.more_call},
+}
 use Rattle.um_script.proofs.script.parse_layer3_call.Goals as goal
 
 pub returns-in-Some-clause-read : goal.returns-in-Some-clause-read

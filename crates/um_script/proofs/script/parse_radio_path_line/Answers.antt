@@ -1,7 +1,8 @@
-use Rattle.std.proofs.Common.{ap, sym, ◌∙◌}
-use Rattle.um_lines.specs.Words.{words}
-use Rattle.um_script.specs.{Names.link_direction_of, ScriptReading.{parsed_radio_event, parsed_bit_inversion}}
-use Rattle.um_script.proofs.ScriptLines.{more_air}
+use Rattle.{
+  std.proofs.Common.{ap, sym, ◌∙◌},
+  um_lines.specs.Words.words,
+  um_script.{specs.{Names.link_direction_of, ScriptReading.{parsed_radio_event, parsed_bit_inversion}}, proofs.ScriptLines.more_air},
+}
 use Rattle.um_script.proofs.script.parse_radio_path_line.Goals as goal
 
 pub returns-in-Some-clause-read : goal.returns-in-Some-clause-read

@@ -1,5 +1,4 @@
-use Rattle.std.proofs.{Common.arith, lemmas.Bool.Decides.nat_tests}
-use Rattle.weight_bound.{specs.Distance.differ_at, proofs.Lemmas.count_by_more}
+use Rattle.{std.proofs.{Common.arith, lemmas.Bool.Decides.nat_tests}, weight_bound.{specs.Distance.differ_at, proofs.Lemmas.count_by_more}}
 use Rattle.weight_bound.proofs.counts.distance.Goals as goal
 
 pub loop-k-preserved : goal.loop-k-preserved

@@ -1,5 +1,4 @@
-use Rattle.std.{proofs.Common.{◌≡◌, ◌≤◌}, specs.List.{count_by, range_with_len}}
-use Rattle.weight_bound.specs.Distance.{differ_at}
+use Rattle.{std.{proofs.Common.{◌≡◌, ◌≤◌}, specs.List.{count_by, range_with_len}}, weight_bound.specs.Distance.differ_at}
 use Rattle.weight_bound.proofs.counts.distance.Given as goal
 
 abbrev pub invariant-loop-k : goal.invariant-loop-k

@@ -1,5 +1,7 @@
-use Rattle.std.{proofs.{Common.{rules, ◌∙◌, ap, get_or, pos, FitsSigned, w8}, lemmas.Int.to_z-of_z}, specs.Prelude.unsigned_abs}
-use Rattle.weight_bound.proofs.Lemmas.{IsSoFar-none, IsSoFar-more, AreLeastAndGreatestStrength-whole}
+use Rattle.{
+  std.{proofs.{Common.{rules, ◌∙◌, ap, get_or, pos, FitsSigned, w8}, lemmas.Int.to_z-of_z}, specs.Prelude.unsigned_abs},
+  weight_bound.proofs.Lemmas.{IsSoFar-none, IsSoFar-more, AreLeastAndGreatestStrength-whole},
+}
 use Rattle.weight_bound.proofs.counts.strengths.Goals as goal
 
 pub loop-value-init : goal.loop-value-init

@@ -1,6 +1,10 @@
-use Rattle.std.proofs.{Common.{arith, ◌≡◌, ◌≤◌, ◌<◌, length, ◌∙◌, sym}, lemmas.Grind.same_number_lists}
-use Rattle.std.proofs.lemmas.List.{Elements.All-set, length-set}
-use Rattle.bit_blocks.proofs.Lemmas.{add_bits_more, length-xor_bits, bit_xor-at_most_1}
+use Rattle.{
+  std.proofs.{
+    Common.{arith, ◌≡◌, ◌≤◌, ◌<◌, length, ◌∙◌, sym},
+    lemmas.{Grind.same_number_lists, List.{Elements.All-set, length-set}},
+  },
+  bit_blocks.proofs.Lemmas.{add_bits_more, length-xor_bits, bit_xor-at_most_1},
+}
 use Rattle.bit_blocks.proofs.bits.Bits.xor.Goals as goal
 
 pub loop-i-preserved : goal.loop-i-preserved

@@ -1,5 +1,4 @@
-use Rattle.std.proofs.Common.{◌≡◌, ℕ, ◌<◌, length, get_or}
-use Rattle.bit_blocks.specs.Bits.{AllBits, xor_bits}
+use Rattle.{std.proofs.Common.{◌≡◌, ℕ, ◌<◌, length, get_or}, bit_blocks.specs.Bits.{AllBits, xor_bits}}
 use Rattle.bit_blocks.proofs.bits.Bits.xor.Given as goal
 
 abbrev pub invariant-loop-i : goal.invariant-loop-i

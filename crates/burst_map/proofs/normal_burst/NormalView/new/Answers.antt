@@ -1,5 +1,4 @@
-use Rattle.std.proofs.{Common.arith, lemmas.List.take_all}
-use Rattle.burst_map.proofs.Lemmas.{take-slice_range}
+use Rattle.{std.proofs.{Common.arith, lemmas.List.take_all}, burst_map.proofs.Lemmas.take-slice_range}
 use Rattle.burst_map.proofs.normal_burst.NormalView.new.Goals as goal
 
 pub returns-clause-whole : goal.returns-clause-whole

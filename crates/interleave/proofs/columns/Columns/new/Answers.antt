@@ -3,5 +3,5 @@ use Rattle.interleave.proofs.columns.Columns.new.Goals as goal
 
 pub returns : goal.returns
 returns c coded are =
-    AreColumnsOfCodedBits-repeat_columns _ _ c.columns_of_packed.result _ are c.columns_of_packed.ensures.each
+    AreColumnsOfCodedBits-repeat_columns _ _ _ _ are c.columns_of_packed.ensures.each
     c.repeat_columns.ensures.front c.repeat_columns.ensures.back

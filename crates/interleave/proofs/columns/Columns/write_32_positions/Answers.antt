@@ -1,5 +1,4 @@
-use Rattle.std.proofs.Common.{◌∙◌}
-use Rattle.interleave.proofs.Lemmas.{written_whole, turned_places}
+use Rattle.{std.proofs.Common.◌∙◌, interleave.proofs.Lemmas.{written_whole, turned_places}}
 use Rattle.interleave.proofs.columns.Columns.write_32_positions.Goals as goal
 
 pub returns : goal.returns

@@ -1,5 +1,7 @@
-use Rattle.std.proofs.{Common.{refl, sym}, lemmas.List.append-nil}
-use Rattle.lapdm_end.proofs.Lemmas.{window_holds_unacked, Represents-moved, Holds-other}
+use Rattle.{
+  std.proofs.{Common.{refl, sym}, lemmas.List.append-nil},
+  lapdm_end.proofs.Lemmas.{window_holds_unacked, Represents-moved, Holds-other},
+}
 use Rattle.lapdm_end.proofs.ends.Endpoint.close_and_report.Goals as goal
 
 pub returns-clause-refines : goal.returns-clause-refines

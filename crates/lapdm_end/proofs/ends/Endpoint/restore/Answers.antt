@@ -1,18 +1,22 @@
 -- `restore` succeeds if and only if it restores the window and the values satisfy `AreConsistent`: `in_step` proves one direction,
 -- `represents_one` the other.
-use Rattle.std.proofs.{Common.{◌≡◌, refl, sym, ◌∙◌, ap, subst}, lemmas.Bool.false≢true}
-use Rattle.lapdm_window.{specs.{segmenting.Segments.Message, Parts.WindowValues}, proofs.Lemmas.Represents-values}
-use Rattle.lapdm_end.specs.{declared.ends.Endpoint.Endpoint, Parts.{EndpointValues, values_of, values_of_parts, EndpointExists}}
-use Rattle.lapdm_end.{specs.Parts.AreConsistent, proofs.Lemmas.{Represents-same_values, in_step, window_of, represents_one}}
-use Rattle.lapdm_end.proofs.ends.Endpoint.restore.Goals.{then-not-are_consistent-via-then-not-are_consistent}
-use Rattle.lapdm_end.proofs.ends.Endpoint.restore.Goals.{then-not-are_consistent-via-else-not-are_consistent+then-not-restore}
+use Rattle.{
+  std.proofs.{Common.{◌≡◌, refl, sym, ◌∙◌, ap, subst}, lemmas.Bool.false≢true},
+  lapdm_window.{specs.{segmenting.Segments.Message, Parts.WindowValues}, proofs.Lemmas.Represents-values},
+  lapdm_end.{
+    specs.{declared.ends.Endpoint.Endpoint, Parts.{EndpointValues, values_of, values_of_parts, SomeEndpointHasValues, AreConsistent}},
+    proofs.Lemmas.{Represents-same_values, in_step, window_of, represents_one},
+    proofs.ends.Endpoint.restore.Goals.then-not-are_consistent-via-then-not-are_consistent,
+    proofs.ends.Endpoint.restore.Goals.then-not-are_consistent-via-else-not-are_consistent+then-not-restore,
+  },
+}
 use Rattle.lapdm_window.specs.Parts as W
 use Rattle.lapdm_end.proofs.ends.Endpoint.restore.Goals as goal
 
-stepped : (x : EndpointValues) → EndpointExists x → AreConsistent x
+stepped : (x : EndpointValues) → SomeEndpointHasValues x → AreConsistent x
 stepped x h = subst AreConsistent h.1.values_match (in_step h.1.endpoint h.0 h.1.represents)
 
-of_a_window : (x : EndpointValues) → EndpointExists x → W.WindowExists x.window
+of_a_window : (x : EndpointValues) → SomeEndpointHasValues x → W.SomeWindowHasValues x.window
 of_a_window x h =
     let f = window_of h.1.endpoint h.0 h.1.represents in
     (f.0, record { window = h.1.endpoint.window; values_match = ap (λ (y : EndpointValues). y.window) h.1.values_match; represents = f.1 })

@@ -1,5 +1,4 @@
-use Rattle.std.proofs.{Common.{refl, sym, ◌∙◌, arith, inl, inr}, lemmas.List.append-nil}
-use Rattle.lapdm_end.proofs.Lemmas.{Gives-counted}
+use Rattle.{std.proofs.{Common.{refl, sym, ◌∙◌, arith, inl, inr}, lemmas.List.append-nil}, lapdm_end.proofs.Lemmas.Gives-counted}
 use Rattle.lapdm_window.specs.declared.Acked.TheVariants as V
 use Rattle.lapdm_end.proofs.link.Address.evaluate_nr.Goals as goal
 

@@ -1,8 +1,7 @@
-use Rattle.lapdm_window.specs.Rules.{answers_poll, sends_next}
-use Rattle.lapdm_end.proofs.Lemmas.{Gives-then}
+use Rattle.{lapdm_window.specs.Rules.{answers_poll, sends_next_segment}, lapdm_end.proofs.Lemmas.Gives-then}
 use Rattle.lapdm_end.proofs.link.Address.take_rr.Goals as goal
 
 pub returns-clause-refines : goal.returns-clause-refines
 returns-clause-refines c e h =
-    Gives-then sends_next (Gives-then (answers_poll c.args.poll) (c.evaluate_nr.ensures.refines e h) c.answer_poll.ensures.refines)
+    Gives-then sends_next_segment (Gives-then (answers_poll c.args.poll) (c.evaluate_nr.ensures.refines e h) c.answer_poll.ensures.refines)
     c.send_next.ensures.refines

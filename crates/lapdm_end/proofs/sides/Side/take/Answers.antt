@@ -1,7 +1,9 @@
-use Rattle.std.proofs.Common.{refl}
-use Rattle.lapdm_frame.specs.Content.{frame_of}
-use Rattle.lapdm_window.specs.{declared.Sapi.TheVariants.{Zero, Three}, Tables.frame_outcome}
-use Rattle.lapdm_end.proofs.Lemmas.{does_at, zero_takes, three_takes, none_takes}
+use Rattle.{
+  std.proofs.Common.refl,
+  lapdm_frame.specs.Content.frame_of,
+  lapdm_window.specs.{declared.Sapi.TheVariants.{Zero, Three}, Tables.frame_outcome},
+  lapdm_end.proofs.Lemmas.{does_at, zero_takes, three_takes, none_takes},
+}
 use Rattle.lapdm_end.proofs.sides.Side.take.Goals as goal
 
 pub returns-then-frame-eq0-clause-refines : goal.returns-then-frame-eq0-clause-refines

@@ -1,5 +1,7 @@
-use Rattle.std.proofs.Common.{◌≡◌, ap, arith, [], length, slice_index_or}
-use Rattle.segmenting.{specs.{lapdm_frame.Layout.n201, Segments.segments}, proofs.Lemmas.length-segments}
+use Rattle.{
+  std.proofs.Common.{◌≡◌, ap, arith, [], length, slice_index_or},
+  segmenting.{specs.{lapdm_frame.Layout.n201, Segments.segments}, proofs.Lemmas.length-segments},
+}
 use Rattle.lapdm_window.proofs.window.Window.next.Goals as goal
 
 pub piece-requires : goal.piece-requires

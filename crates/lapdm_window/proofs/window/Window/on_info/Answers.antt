@@ -1,18 +1,15 @@
-use Rattle.std.proofs.{Common.{refl, sym, ◌∙◌, ap, ◌%◌, [], ◌∷◌, length}, lemmas.List.length-append}
-use Rattle.segmenting.specs.Segments.{Segment}
-use Rattle.lapdm_window.proofs.Windows.{next_number}
+use Rattle.{
+  std.proofs.{Common.{arith, refl, sym, ◌∙◌, ap, ◌%◌, [], ◌∷◌, length}, lemmas.List.length-append},
+  segmenting.specs.Segments.Segment,
+  lapdm_window.proofs.Windows.next_number,
+}
 use Rattle.lapdm_window.proofs.window.Window.on_info.Goals as goal
 
 pub returns-clause-taken : goal.returns-clause-taken
 returns-clause-taken c e h =
     let p : Segment = (c.args.piece.now, c.args.more) in
     record {
-      window_of_one = record {
-        messages = h.window_of_one.messages;
-        sent = h.window_of_one.sent;
-        acked_at_most_sent = h.window_of_one.acked_at_most_sent;
-        window = h.window_of_one.window;
-      };
+      window_of_one = grind arith;
       variables = record {
         channel = h.variables.channel;
         vs = h.variables.vs;
@@ -23,6 +20,6 @@ returns-clause-taken c e h =
         rejecting = refl;
         reassembly = c.take.ensures.after e.accepted h.variables.reassembly;
       };
-      unacked_messages = record { messages = h.unacked_messages.messages; unacked_segments = h.unacked_messages.unacked_segments };
+      unacked_messages = grind arith;
       retries = h.retries;
     }

@@ -1,5 +1,7 @@
-use Rattle.std.proofs.{Common.{refl, arith, ◌≤◌, List, [], ◌∷◌, length, get_or, All}, lemmas.List.Elements.All-head}
-use Rattle.segmenting.{specs.{lapdm_frame.Layout.n201, Segments.{Message, IsValidMessage, max_message_octets}}, proofs.Lemmas.few_segments}
+use Rattle.{
+  std.proofs.{Common.{refl, arith, ◌≤◌, List, [], ◌∷◌, length, get_or, All}, lemmas.List.Elements.All-head},
+  segmenting.{specs.{lapdm_frame.Layout.n201, Segments.{Message, IsValidMessage, max_message_octets}}, proofs.Lemmas.few_segments},
+}
 use Rattle.lapdm_window.proofs.window.Window.parts.Goals as goal
 
 first_fits : (held : List Message) → All IsValidMessage held → length (get_or held 0 []) ≤ max_message_octets

@@ -1,14 +1,17 @@
 -- `restore` succeeds if and only if the values satisfy `AreConsistent`: `in_step` proves one direction, `represents_one` the other.
-use Rattle.std.proofs.Common.{◌≡◌, ◌≢◌, refl, sym, ◌∙◌, ap, subst, arith, ℕ, ◌+◌, ◌%◌, ◌≤◌, ◌⊎◌}
-use Rattle.std.proofs.{Common.{inl, inr, length, map}, lemmas.Bool.false≢true}
-use Rattle.segmenting.specs.{Parts.JoinerValues, Buffers.octets_in}
-use Rattle.lapdm_window.specs.{declared.window.Window.Window, Parts.{WindowValues, values_of, values_of_parts, WindowExists, AreConsistent}}
-use Rattle.lapdm_window.proofs.Windows.{in_step, represents_one}
-use Rattle.lapdm_window.proofs.window.Window.restore.Goals.{then-not-are_consistent-via-then-not-are_consistent}
-use Rattle.lapdm_window.proofs.window.Window.restore.Goals.{then-not-are_consistent-via-else-not-are_consistent+then-not-restore}
+use Rattle.{
+  std.proofs.Common.{◌≡◌, ◌≢◌, refl, sym, ◌∙◌, ap, subst, arith, ℕ, ◌+◌, ◌%◌, ◌≤◌, ◌⊎◌, inl, inr},
+  std.proofs.{Common.{length, map}, lemmas.Bool.false≢true},
+  segmenting.specs.{Parts.JoinerValues, Buffers.octets_in},
+  lapdm_window.{
+    specs.{declared.window.Window.Window, Parts.{WindowValues, values_of, values_of_parts, SomeWindowHasValues, AreConsistent}},
+    proofs.{Windows.{in_step, represents_one}, window.Window.restore.Goals.then-not-are_consistent-via-then-not-are_consistent},
+    proofs.window.Window.restore.Goals.then-not-are_consistent-via-else-not-are_consistent+then-not-restore,
+  },
+}
 use Rattle.lapdm_window.proofs.window.Window.restore.Goals as goal
 
-stepped : (x : WindowValues) → WindowExists x → AreConsistent x
+stepped : (x : WindowValues) → SomeWindowHasValues x → AreConsistent x
 stepped x h = grind (arith, in_step h.1.window h.0 h.1.represents)
 
 fits : (vs va : ℕ) (A : Type 0) → va ≤ 7 → (vs ≡ va) ⊎ ((vs ≡ (va + 1) % 8) × A) → vs ≤ 7

@@ -1,6 +1,10 @@
-use Rattle.std.proofs.{Common.{arith, List, [], ◌∷◌, map, All}, lemmas.{Bool.false≢true, List.{length-map, Elements.All-map}}}
-use Rattle.std.proofs.lemmas.List.Elements.{All-nil, All-cons, All-head, All-tail}
-use Rattle.segmenting.specs.{declared.buffers.MessageBuffer.MessageBuffer, Segments.IsValidMessage, Buffers.octets_in}
+use Rattle.{
+  std.proofs.{
+    Common.{arith, List, [], ◌∷◌, map, All},
+    lemmas.{Bool.false≢true, List.{length-map, Elements.{All-map, All-nil, All-cons, All-head, All-tail}}},
+  },
+  segmenting.specs.{declared.buffers.MessageBuffer.MessageBuffer, Segments.IsValidMessage, Buffers.octets_in},
+}
 use Rattle.lapdm_window.proofs.window.parts.are_valid_held_messages.Goals as goal
 
 each : (buffers : List MessageBuffer) → All IsValidMessage (map octets_in buffers) →

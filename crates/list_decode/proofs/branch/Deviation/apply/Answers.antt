@@ -1,5 +1,4 @@
-use Rattle.std.proofs.Common.{◌∙◌}
-use Rattle.list_decode.proofs.Spans.{chosen_behind, word_written}
+use Rattle.{std.proofs.Common.◌∙◌, list_decode.proofs.Spans.{chosen_behind, word_written}}
 use Rattle.list_decode.proofs.branch.Deviation.apply.Goals as goal
 
 pub apply_deviation-requires-clause-chosen : goal.apply_deviation-requires-clause-chosen

@@ -1,6 +1,10 @@
-use Rattle.std.proofs.Common.{arith, rules, ◌≡◌, ap₂, ◌∙◌, pos, ◌+ℤ◌, ◌-ℤ◌, to_z, of_z, w16, w32, FitsSigned}
-use Rattle.std.proofs.lemmas.Int.{ints, to_z-of_z}
-use Rattle.list_decode.proofs.{Spans.{spot_kept, spot_taken}, branch.LeastLossSoFar.or_better_position.Goals.After-from}
+use Rattle.{
+  std.proofs.{
+    Common.{arith, rules, ◌≡◌, ap₂, ◌∙◌, pos, ◌-ℤ◌, to_z, of_z, w16, w32, FitsSigned},
+    lemmas.Int.{ints, to_z-of_z},
+  },
+  list_decode.proofs.{Spans.{spot_kept, spot_taken}, branch.LeastLossSoFar.or_better_position.Goals.After-from},
+}
 use Rattle.list_decode.proofs.branch.LeastLossSoFar.or_better_position.Goals as goal
 
 same_loss : (c : After-from) → to_z w32 (of_z w32 c.from.result) ≡ c.args.loss
@@ -19,7 +23,7 @@ returns-then-from-self c u losses from old state lost bit bits =
     let is = c.new.ensures in
     let small : FitsSigned w16 c.args.loss = search rules in
     spot_taken u _ _ _ _ c.new.result bits old is.place (is.state ∙ state)
-    (is.loss_limit ∙ ap₂ (λ loss bit. loss +ℤ pos 1 -ℤ pos bit) (to_z-of_z w16 c.args.loss small ∙ lost) bit)
+    (is.loss_limit ∙ ap₂ (λ loss bit. loss -ℤ pos bit) (to_z-of_z w16 c.args.loss small ∙ lost) bit)
     (omega (arith, ints))
 
 pub returns-else-from-self : goal.returns-else-from-self

@@ -1,7 +1,9 @@
-use Rattle.std.proofs.Common.{arith, rules, ◌<◌, ◌-ℤ◌, take, refl, ap, ap₂, sym, ◌∙◌, subst, w32, FitsSigned, to_z, of_z}
-use Rattle.std.proofs.lemmas.Int.{to_z-of_z}
-use Rattle.list_decode.specs.{Branches.is_in_range, LeastLosses.IsLeastLossDeviationOrNone, Passes.losses_of_pass}
-use Rattle.list_decode.proofs.{DeviatingWords.reached_small, Spans.{best_deviation, value_fits}}
+use Rattle.{
+  std.proofs.Common.{arith, rules, ◌<◌, ◌-ℤ◌, take, refl, ap, ap₂, sym, ◌∙◌, subst, w32, FitsSigned, to_z, of_z},
+  std.proofs.lemmas.Int.to_z-of_z,
+  list_decode.specs.{Branches.is_in_range, LeastLosses.IsLeastLossDeviationOrNone, Passes.losses_of_pass},
+  list_decode.proofs.{DeviatingWords.reached_small, Spans.{best_deviation, value_fits}},
+}
 use Rattle.list_decode.proofs.branch.WordBranch.new.Goals as goal
 
 pub overflow_sub-best : goal.overflow_sub-best

@@ -1,7 +1,11 @@
-use Rattle.std.proofs.Common.{arith, rules, ◌≡◌, ◌/◌, ◌%◌, ◌^◌, ◌+◌, ◌*◌, ◌<◌, ℤ, [], pos, length, get_or}
-use Rattle.std.proofs.{Common.{ap, ◌∙◌, to_z, of_z, w16, w32}, lemmas.{Int.{ints, to_z-of_z}, Nat.and_mask}}
-use Rattle.list_decode.proofs.DeviatingWords.{best_kept, best_taken, read_more}
-use Rattle.list_decode.proofs.departure.PartialTraceback.trace_back_bit.Goals.{After-is_improved_by}
+use Rattle.{
+  std.proofs.Common.{arith, rules, ◌≡◌, ◌/◌, ◌%◌, ◌^◌, ◌+◌, ◌*◌, ◌<◌, ℤ, [], pos, length, get_or, ap},
+  std.proofs.{Common.{◌∙◌, to_z, of_z, w16, w32}, lemmas.{Int.{ints, to_z-of_z}, Nat.and_mask}},
+  list_decode.proofs.{
+    DeviatingWords.{best_kept, best_taken, read_more},
+    departure.PartialTraceback.trace_back_bit.Goals.After-is_improved_by,
+  },
+}
 use Rattle.list_decode.proofs.departure.PartialTraceback.trace_back_bit.Goals as goal
 
 abbrev lost : After-is_improved_by → ℤ

@@ -1,28 +1,30 @@
-use Rattle.std.proofs.{Common.{arith, ◌≡◌, ◌+◌, ◌-◌, drop, get_or, set, subst, sym, ◌∙◌}, lemmas.List.length-set}
-use Rattle.list_decode.{specs.WordStorage.{IsChainOfDeviations, no_deviation}, proofs.Choices.leads_more}
+use Rattle.{
+  std.proofs.{Common.{arith, ◌≡◌, ◌+◌, ◌-◌, drop, get_or, set, subst, sym, ◌∙◌}, lemmas.List.length-set},
+  list_decode.{specs.WordStorage.{IsChainOfDeviations, placeholder_deviation}, proofs.Choices.leads_more},
+}
 use Rattle.list_decode.proofs.lists.StoredWords.chain_to_word.Goals as goal
 
 pub loop-at-preserved : goal.loop-at-preserved
 loop-at-preserved c =
     let lists = c.args.self.now in
     let old = c.loop-at.invariant in
-    let start = c.loop-at.start in
+    let start = c.loop-at.chain.start in
     let at = c.loop-at.at in
     let some = c.loop-at-test.true in
     let is = c.from.ensures in
     let within = old.within in
     let left = old.left in
     let high = old.start in
-    let higher_ranked = (c.requires.tree.each (c.from.result - 1) (omega arith)).higher_ranked in
+    let higher_ranked = (c.requires.tree.made_by_deviation (c.from.result - 1) (omega arith)).higher_ranked in
     let many = old.long in
     let back : start ≡ start - 1 + 1 = omega arith in
     record {
-      long = length-set c.loop-at.lists (start - 1) at ∙ many;
+      long = length-set c.loop-at.chain.word_indices (start - 1) at ∙ many;
       start = omega arith;
       within = omega arith;
       left = omega arith;
-      chain = subst (λ n. IsChainOfDeviations lists (drop (start - 1) (set c.loop-at.lists (start - 1) at))
-          (get_or lists.deviations (n - 1) no_deviation).word_index c.args.list) (sym is)
-          (leads_more lists c.loop-at.lists (start - 1) at c.args.list (omega arith) (omega arith) old.within
-          (subst (λ n. IsChainOfDeviations lists (drop n c.loop-at.lists) at c.args.list) back old.chain));
+      chain = subst (λ n. IsChainOfDeviations lists (drop (start - 1) (set c.loop-at.chain.word_indices (start - 1) at))
+          (get_or lists.deviations (n - 1) placeholder_deviation).word_index c.args.word_index) (sym is)
+          (leads_more lists c.loop-at.chain.word_indices (start - 1) at c.args.word_index (omega arith) (omega arith) old.within
+          (subst (λ n. IsChainOfDeviations lists (drop n c.loop-at.chain.word_indices) at c.args.word_index) back old.chain));
     }

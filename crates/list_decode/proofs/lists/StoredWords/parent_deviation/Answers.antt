@@ -1,5 +1,7 @@
-use Rattle.std.proofs.Common.{arith, ◌-◌, get_or, subst}
-use Rattle.list_decode.{specs.WordStorage.{IsMadeByDeviation, stored_words, no_deviation}, proofs.Choices.forks_above}
+use Rattle.{
+  std.proofs.Common.{arith, ◌-◌, get_or, subst},
+  list_decode.{specs.WordStorage.{IsMadeByDeviation, stored_words, placeholder_deviation}, proofs.Choices.forks_above},
+}
 use Rattle.list_decode.proofs.lists.StoredWords.parent_deviation.Goals as goal
 
 pub returns-then-up-deviation-clause-forks : goal.returns-then-up-deviation-clause-forks
@@ -10,7 +12,7 @@ returns-then-up-deviation-clause-forks c w =
     let some = c.requires.some in
     let within = c.requires.within in
     let is = c.from.ensures in
-    let up = get_or lists.deviations (c.from.result - 1) no_deviation in
+    let up = get_or lists.deviations (c.from.result - 1) placeholder_deviation in
     let returned =
-    subst (λ i. IsMadeByDeviation pass us i up) (omega arith) (c.requires.tree.each (c.from.result - 1) (omega arith)) in
+    subst (λ i. IsMadeByDeviation pass us i up) (omega arith) (c.requires.tree.made_by_deviation (c.from.result - 1) (omega arith)) in
     forks_above pass us w c.args.deviation.now up c.requires.pass c.requires.lists returned c.if-up-deviation.true

@@ -1,5 +1,4 @@
-use Rattle.std.proofs.Common.{arith, rules, ◌≡◌, length, sym, ◌∙◌}
-use Rattle.list_decode.proofs.Choices.{first-list}
+use Rattle.{std.proofs.Common.{arith, rules, ◌≡◌, length, sym, ◌∙◌}, list_decode.proofs.Choices.first-list}
 use Rattle.list_decode.proofs.lists.StoredWords.write_word.Goals as goal
 
 pub loop-k-init : goal.loop-k-init

@@ -1,12 +1,16 @@
-use Rattle.std.proofs.Common.{arith, rules, ◌≡◌, ◌<◌, inl, length, refl}
-use Rattle.list_decode.proofs.Chosen.{count_is, done_exactly, information, none_some, not_done_at_first}
-use Rattle.list_decode.proofs.ranked.ListDecoder.next.Goals.{After-write_next_best_word}
+use Rattle.{
+  std.proofs.Common.{arith, rules, ◌≡◌, ◌<◌, inl, length, refl},
+  list_decode.proofs.{
+    Chosen.{count_is, done_exactly, information, none_some, not_done_at_first},
+    ranked.ListDecoder.next.Goals.After-write_next_best_word,
+  },
+}
 use Rattle.list_decode.proofs.ranked.ListDecoder.next.Goals as goal
 
 pub returns-then-self-eq0-clause-done : goal.returns-then-self-eq0-clause-done
 returns-then-self-eq0-clause-done c =
     let many : length c.self.inside.lists.deviations ≡ 63 = search rules in
-    let count = count_is c.self.inside c.args.self.now c.self.view_is many c.self.invariant.tree in
+    let count = count_is c.self.inside c.args.self.now c.self.view_is many c.self.invariant.at_most in
     let none : length c.args.self.now.returned ≡ 0 = let zero = c.if-self-eq0.true in omega arith in (
       (λ e. absurd (none_some e)),
       (λ done. absurd
@@ -17,8 +21,8 @@ returns-then-self-eq0-clause-done c =
 not_all_given : (c : After-write_next_best_word) → length c.args.self.now.returned < 64
 not_all_given c =
     let many : length c.self.inside.lists.deviations ≡ 63 = search rules in
-    let most = c.self.invariant.tree.at_most in
-    let count = count_is c.self.inside c.args.self.now c.self.view_is many c.self.invariant.tree in
+    let most = c.self.invariant.at_most in
+    let count = count_is c.self.inside c.args.self.now c.self.view_is many c.self.invariant.at_most in
     let not_all = c.if-self-eq-MAX_RANK.false in
     omega arith
 
@@ -39,21 +43,21 @@ returns-clause-done c =
 pub returns-then-self-eq-MAX_RANK-clause-done : goal.returns-then-self-eq-MAX_RANK-clause-done
 returns-then-self-eq-MAX_RANK-clause-done c =
     let many : length c.self.inside.lists.deviations ≡ 63 = search rules in
-    let count = count_is c.self.inside c.args.self.now c.self.view_is many c.self.invariant.tree in
+    let count = count_is c.self.inside c.args.self.now c.self.view_is many c.self.invariant.at_most in
     let full : length c.args.self.now.returned ≡ 64 = let all = c.if-self-eq-MAX_RANK.true in omega arith in
     ((λ e. inl full), (λ done. refl))
 
 pub write_next_best_word-requires-clause-some : goal.write_next_best_word-requires-clause-some
 write_next_best_word-requires-clause-some c =
     let many : length c.self.inside.lists.deviations ≡ 63 = search rules in
-    let count = count_is c.self.inside c.args.self.now c.self.view_is many c.self.invariant.tree in
+    let count = count_is c.self.inside c.args.self.now c.self.view_is many c.self.invariant.at_most in
     let some = c.if-self-eq0.false in
     omega arith
 
 pub write_next_best_word-requires-clause-space : goal.write_next_best_word-requires-clause-space
 write_next_best_word-requires-clause-space c =
     let many : length c.self.inside.lists.deviations ≡ 63 = search rules in
-    let most = c.self.invariant.tree.at_most in
-    let count = count_is c.self.inside c.args.self.now c.self.view_is many c.self.invariant.tree in
+    let most = c.self.invariant.at_most in
+    let count = count_is c.self.inside c.args.self.now c.self.view_is many c.self.invariant.at_most in
     let not_all = c.if-self-eq-MAX_RANK.false in
     omega arith

@@ -1,9 +1,11 @@
-use Rattle.std.proofs.{Common.{◌≡◌, refl, ap, arith, ◌++◌, [], length}, lemmas.List.take_at}
-use Rattle.segmenting.{specs.{declared.joiner.{Part.TheVariants.Discarding, Joiner.Joiner}, Parts.JoinerValues}, proofs.Lemmas.buffer_past}
+use Rattle.{
+  std.proofs.{Common.{◌≡◌, refl, ap, arith, ◌++◌, [], length}, lemmas.List.take_at},
+  segmenting.{specs.declared.joiner.{ReassemblyState.TheVariants.Discarding, Joiner.Joiner}, proofs.Lemmas.buffer_past},
+}
 use Rattle.segmenting.proofs.joiner.Joiner.restore.Goals as goal
 
 none_over : (c : goal.After-self-1) → c.args.part ≡ Discarding → length c.args.octets.now ≡ 0
-none_over c over = ap length (c.is_empty_if_oversize.ensures.0 c.if-not-is_empty_if_oversize.false over)
+none_over c over = grind arith
 
 pub returns-clause-known : goal.returns-clause-known
 returns-clause-known c =
@@ -17,7 +19,7 @@ returns-clause-known c =
       empty_if_discarding = none_over c;
     } in
     let same = ap
-    (λ o. let x : JoinerValues = record { octets = o; part = part } in x) (take_at _ [] _ refl) in
+    (λ o. (record { octets = o; part = part })) (take_at _ [] _ refl) in
     (λ s. (j, same), λ h. refl)
 
 pub returns-clause-taken : goal.returns-clause-taken

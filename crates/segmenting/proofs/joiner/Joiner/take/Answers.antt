@@ -1,7 +1,11 @@
-use Rattle.std.proofs.Common.{refl, sym, arith, true, false}
-use Rattle.segmenting.proofs.Lemmas.{goes_on, completes, taken_oversize, drops, written, HoldsReassemblyOf-same}
-use Rattle.segmenting.proofs.joiner.Joiner.take.Goals.{then-more, else-more}
-use Rattle.segmenting.specs.declared.joiner.Part.TheVariants as P
+use Rattle.{
+  std.proofs.Common.{refl, sym, arith, true, false},
+  segmenting.proofs.{
+    Lemmas.{goes_on, completes, taken_oversize, drops, written, HoldsReassemblyOf-same},
+    joiner.Joiner.take.Goals.{then-more, else-more},
+  },
+}
+use Rattle.segmenting.specs.declared.joiner.ReassemblyState.TheVariants as P
 use Rattle.segmenting.proofs.joiner.Joiner.take.Goals as goal
 
 pub returns-in_default-clause-after : goal.returns-in_default-clause-after

@@ -1,13 +1,13 @@
-use Rattle.std.proofs.Common.{◌∙◌, sym, ap, ◌+◌, ◌-◌, ◌/◌, length}
-use Rattle.segmenting.proofs.Lemmas.{length-segments, few_segments}
+use Rattle.{
+  std.proofs.Common.{◌∙◌, sym, ap, ◌+◌, ◌-◌, ◌/◌, length},
+  segmenting.proofs.Lemmas.{length-segments, few_segments},
+}
 use Rattle.segmenting.proofs.pieces.Pieces.count.Goals as goal
 
 pub returns-clause-count : goal.returns-clause-count
 returns-clause-count c =
-    let p = c.args.self.now in
-    ap (λ n. (length p.message.now - 1) / n + 1) c.n201.ensures ∙ sym (length-segments _ _)
+    ap (λ n. (length (c.args.self.now).message.now - 1) / n + 1) c.n201.ensures ∙ sym (length-segments _ _)
 
 pub returns-clause-most : goal.returns-clause-most
 returns-clause-most c =
-    let p = c.args.self.now in
-    few_segments _ _ _ c.n201.ensures p.at_most
+    few_segments _ _ _ c.n201.ensures (c.args.self.now).at_most

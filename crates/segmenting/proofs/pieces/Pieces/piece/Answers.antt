@@ -1,5 +1,4 @@
-use Rattle.std.proofs.Common.{arith}
-use Rattle.segmenting.proofs.Lemmas.{begins_at, segment_at}
+use Rattle.{std.proofs.Common.arith, segmenting.proofs.Lemmas.{begins_at, segment_at}}
 use Rattle.segmenting.proofs.pieces.Pieces.piece.Goals as goal
 
 pub overflow_mul-start : goal.overflow_mul-start
@@ -9,8 +8,7 @@ overflow_mul-start c =
 
 pub overflow_sub-left : goal.overflow_sub-left
 overflow_sub-left c =
-    let p = c.args.self.now in
-    omega (arith, begins_at _ _ _ _ c.n201-most.ensures p.nonempty c.requires)
+    omega (arith, begins_at _ _ _ _ c.n201-most.ensures (c.args.self.now).nonempty c.requires)
 
 pub overflow_add-result : goal.overflow_add-result
 overflow_add-result c =
@@ -19,10 +17,9 @@ overflow_add-result c =
 
 pub slice_bounds-result-end : goal.slice_bounds-result-end
 slice_bounds-result-end c =
-    let p = c.args.self.now in
-    omega (arith, begins_at _ _ _ _ c.n201-most.ensures p.nonempty c.requires)
+    omega (arith, begins_at _ _ _ _ c.n201-most.ensures (c.args.self.now).nonempty c.requires)
 
 pub returns-clause-value : goal.returns-clause-value
 returns-clause-value c =
     let p = c.args.self.now in
-    segment_at _ _ _ _ _ c.n201-most.ensures c.min.ensures (record { nonempty = p.nonempty; at_most = p.at_most }) c.requires
+    segment_at _ _ _ _ _ c.n201-most.ensures c.min.ensures (omega arith) c.requires

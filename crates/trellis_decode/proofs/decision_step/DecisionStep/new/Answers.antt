@@ -1,5 +1,7 @@
-use Rattle.trellis_decode.{specs.Lanes.lane, proofs.AcsSteps.{AreLeads, choice_is, high_near, leads_are, loss_is, low_near}}
-use Rattle.trellis_decode.proofs.decision_step.DecisionStep.new.Goals.{After-to_state_order-leads}
+use Rattle.{
+  trellis_decode.{specs.Lanes.lane, proofs.AcsSteps.{AreLeads, choice_is, high_near, leads_are, loss_is, low_near}},
+  trellis_decode.proofs.decision_step.DecisionStep.new.Goals.After-to_state_order-leads,
+}
 use Rattle.trellis_decode.proofs.decision_step.DecisionStep.new.Goals as goal
 
 pub subtract_lanes-low-requires-clause-fits_16_bits : goal.subtract_lanes-low-requires-clause-fits_16_bits

@@ -1,8 +1,12 @@
-use Rattle.std.proofs.Common.{◌≡◌, ℤ, List, Ok, refl, ap, sym, ◌∙◌, subst}
-use Rattle.um_formats.specs.{declared.burst_lines.BurstLine.TheVariants.Normal, Held.{BurstBuffer, normal_burst_result}}
-use Rattle.um_driver.specs.Rules.{Answers}
-use Rattle.um_bursts.{specs.BurstRules.{burst_rules, AnswersLineResult}, proofs.Lemmas.line_answered}
-use Rattle.um_bursts.proofs.command.BurstCommandCommand.answer.Goals.{then-whole, else-whole}
+use Rattle.{
+  std.proofs.Common.{◌≡◌, ℤ, List, Ok, refl, ap, sym, ◌∙◌, subst},
+  um_formats.specs.{declared.burst_lines.BurstLine.TheVariants.Normal, Held.{BurstBuffer, normal_burst_result}},
+  um_driver.specs.Rules.IsLineAnswerOrFault,
+  um_bursts.{
+    specs.BurstRules.{burst_rules, AnswersLineResult},
+    proofs.{Lemmas.line_answered, command.BurstCommandCommand.answer.Goals.{then-whole, else-whole}},
+  },
+}
 use Rattle.um_bursts.proofs.command.BurstCommandCommand.answer.Goals as goal
 
 pub returns-after-whole-clause-answered : goal.returns-after-whole-clause-answered
@@ -17,13 +21,15 @@ returns-after-whole-clause-answered g c = λ held same.
           w.block-then-whole.ensures.answer)
       | else-whole w ↦ rw (w.if-whole.false, w.out-is) c.requires.empty
     ] in
-    subst (λ (hs : List (List ℤ)). Answers (burst_rules a) hs c.args.line.now (Ok tt) c.if-whole.out (λ after. new.held ≡ after))
+    subst (λ (hs : List (List ℤ)). IsLineAnswerOrFault (burst_rules a) hs c.args.line.now (Ok tt) c.if-whole.out
+    (λ after. new.held ≡ after))
     (c.self.view_is ∙ same)
     (line_answered a c.self.inside.held new c.if-whole.out c.args.line.now (Normal h.soft) (normal_burst_result c.in-Some.whole) h.means
     (sym h.no_fault) (c.in-Some.whole, refl, h.adds_burst) wrote)
 
 pub returns-in-None-clause-answered : goal.returns-in-None-clause-answered
 returns-in-None-clause-answered g c = λ held same.
-    subst (λ (hs : List (List ℤ)). Answers (burst_rules g.R.Reports.answers) hs c.args.line.now c.answer_other_line.result
-    c.answer_other_line.new.out (λ after. c.answer_other_line.new.self ≡ after))
-    (ap (λ (s : BurstBuffer). s.held) c.in-None.ensures.0 ∙ c.self.view_is ∙ same) c.answer_other_line.ensures.answered
+    subst (λ (hs : List (List ℤ)). IsLineAnswerOrFault (burst_rules g.R.Reports.answers) hs c.args.line.now
+    c.answer_line_other_than_normal.result
+    c.answer_line_other_than_normal.new.out (λ after. c.answer_line_other_than_normal.new.self ≡ after))
+    (ap (λ (s : BurstBuffer). s.held) c.in-None.ensures.0 ∙ c.self.view_is ∙ same) c.answer_line_other_than_normal.ensures.answered

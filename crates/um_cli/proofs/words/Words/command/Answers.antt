@@ -1,5 +1,7 @@
-use Rattle.std.proofs.{Common.{◌≡◌, [], ◌∷◌, map, ap, sym, ◌∙◌}, lemmas.List.length-map}
-use Rattle.um_cli.{specs.Shapes.command_of_words, proofs.Lemmas.{many_words, map-single}}
+use Rattle.{
+  std.proofs.{Common.{◌≡◌, [], ◌∷◌, map, ap, sym, ◌∙◌}, lemmas.List.length-map},
+  um_cli.{specs.Shapes.command_of_words, proofs.Lemmas.{many_words, map-single}},
+}
 use Rattle.um_cli.proofs.words.Words.command.Goals as goal
 
 pub returns-in-len1 : goal.returns-in-len1

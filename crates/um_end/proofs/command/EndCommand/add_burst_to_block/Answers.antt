@@ -1,8 +1,8 @@
-use Rattle.std.proofs.Common.{◌≡◌, Bool, ℕ, ℤ, ◌<◌, List, [], ◌∷◌, ◌++◌, length, inl, inr, refl, sym, ap, ◌∙◌}
-use Rattle.std.proofs.Common.{subst, rules, arith}
-use Rattle.um_link.specs.{lapdm_window.Ends.Role, um_air.Air.Accepts, Naming.{role_of, step_of}}
-use Rattle.um_formats.specs.Held.{AddsNormalBurst}
-use Rattle.um_end.{specs.{Terminals.ReceivesBursts, EndRuns.IsAnswerText}, proofs.AnswerSizes.block_short}
+use Rattle.{
+  std.proofs.Common.{◌≡◌, ℤ, List, [], ◌∷◌, ◌++◌, length, inl, inr, refl, sym, ap, ◌∙◌, rules, arith},
+  um_link.specs.Naming.{spec_role_of, spec_step_of},
+  um_end.proofs.EndSteps.block_short,
+}
 use Rattle.um_end.proofs.command.EndCommand.add_burst_to_block.Goals as goal
 
 pub returns-then-add : goal.returns-then-add
@@ -10,11 +10,10 @@ returns-then-add c = record {
   answers = λ s st.
       let f = c.receive_into.ensures.refines s.links st.links in
       let bursts : List (List ℤ) = s.held_bursts ++ c.args.burst ∷ [] in
-      let holds = subst (λ (whole : Bool). AddsNormalBurst c.args.self.now.held c.args.burst whole c.add.new.self) c.if-add.true
-      c.add.ensures in
+      let holds = rw c.if-add.true at c.add.ensures in
       let whole : c.block.result.now ≡ bursts = c.block.ensures.bursts ∙ holds.0
       ∙ ap (λ held. held ++ c.args.burst ∷ []) (sym st.held_bursts) in
-      let step = step_of c.receive_into.new.step in
+      let step = spec_step_of c.receive_into.new.step in
       let tsc : c.receive_into.new.self.tsc ≡ s.tsc = c.receive_into.ensures.same.tsc ∙ sym st.tsc in (
         record s { links = f.0; held_bursts = [] },
         inr (
@@ -22,14 +21,13 @@ returns-then-add c = record {
           record {
             links = f.0;
             step = step;
-            receives_bursts = subst (λ (bs : List (List ℤ)). ReceivesBursts s.role s.links bs f.0 step) whole
-                (subst (λ (r : Role). ReceivesBursts r s.links c.block.result.now f.0 step) (sym st.role) f.2);
-            text_is = subst (λ (n : ℕ). IsAnswerText n (Accepts step) c.write_answer.new.out) tsc c.write_answer.ensures.text;
+            receives_bursts = rw st.role (rw whole at f.2);
+            text_is = rw tsc at c.write_answer.ensures.text;
             after_is = refl;
           },
         ),
         record {
-          role = st.role ∙ ap role_of (sym c.receive_into.ensures.same.side);
+          role = st.role ∙ ap spec_role_of (sym c.receive_into.ensures.same.side);
           tsc = sym tsc;
           links = f.1;
           held_bursts = sym holds.2;
@@ -37,7 +35,7 @@ returns-then-add c = record {
       );
   size = λ s st.
       let f = c.receive_into.ensures.refines s.links st.links in
-      let short = block_short _ s.links _ f.0 (step_of c.receive_into.new.step) _ _ f.2 c.receive_into.ensures.numbers
+      let short = block_short _ s.links _ f.0 (spec_step_of c.receive_into.new.step) _ _ f.2 c.receive_into.ensures.numbers
       c.write_answer.ensures.text c.write_answer.ensures.lines in
       omega (arith, short, c.write_answer.ensures.length);
 }
@@ -46,11 +44,10 @@ pub returns-else-add : goal.returns-else-add
 returns-else-add c = record {
   answers = λ s st.
       let bursts : List (List ℤ) = s.held_bursts ++ c.args.burst ∷ [] in
-      let holds = subst (λ (whole : Bool). AddsNormalBurst c.args.self.now.held c.args.burst whole c.add.new.self) c.if-add.false
-      c.add.ensures in
+      let holds = rw c.if-add.false at c.add.ensures in
       let held : c.add.new.self.held ≡ bursts = holds.0 ∙ ap (λ held. held ++ c.args.burst ∷ []) (sym st.held_bursts) in (
         record s { held_bursts = bursts },
-        inl (subst (λ (bs : List (List ℤ)). length bs < 4) held holds.1, c.requires.empty, refl),
+        inl (rw held at holds.1, c.requires.empty, refl),
         record { role = st.role; tsc = st.tsc; links = st.links; held_bursts = sym held },
       );
   size = λ s st. let none = ap length c.requires.empty in omega (arith, none);

@@ -1,6 +1,8 @@
-use Rattle.std.proofs.{Common.{pos, replicate, arith}, lemmas.List.Elements.All-replicate}
-use Rattle.um_block.specs.bit_blocks.SoftValues.{AllSoftBits}
-use Rattle.um_formats.proofs.Lemmas.{lost}
+use Rattle.{
+  std.proofs.{Common.{arith, pos, replicate}, lemmas.List.Elements.All-replicate},
+  um_block.specs.bit_blocks.SoftValues.AllSoftBits,
+  um_formats.proofs.Lemmas.lost,
+}
 use Rattle.um_formats.proofs.held.HeldBursts.new.Goals as goal
 
 pub invariant_of-result : goal.invariant_of-result

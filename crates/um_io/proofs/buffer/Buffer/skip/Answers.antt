@@ -1,5 +1,7 @@
-use Rattle.std.proofs.Common.{◌+◌, arith, sym, subst, slice_range}
-use Rattle.um_io.{specs.Lines.IsLine, proofs.Lemmas.{IsLine-skipped, slice_range-rest}}
+use Rattle.{
+  std.proofs.Common.{◌+◌, arith, sym, subst, slice_range},
+  um_io.{specs.Lines.IsLine, proofs.Lemmas.{IsLine-skipped, slice_range-rest}},
+}
 use Rattle.um_io.proofs.buffer.Buffer.skip.Goals as goal
 
 pub invariant_of-self-clause-no_line_feed : goal.invariant_of-self-clause-no_line_feed

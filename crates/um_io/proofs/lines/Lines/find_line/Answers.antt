@@ -1,5 +1,7 @@
-use Rattle.std.proofs.{Common.{rules, ◌≡◌, sym, ap, subst, arith, refl}, lemmas.Grind.common_steps}
-use Rattle.um_io.{specs.Reading.NeedsMoreOctets, proofs.Lemmas.{so_far-none, asked-once, turns_left, turns_left-read}}
+use Rattle.{
+  std.proofs.{Common.{rules, ◌≡◌, sym, ap, subst, arith, refl}, lemmas.Grind.common_steps},
+  um_io.{specs.Reading.NeedsMoreOctets, proofs.Lemmas.{so_far-none, asked-once, turns_left, turns_left-read}},
+}
 use Rattle.um_io.proofs.lines.Lines.find_line.Goals as goal
 
 pub loop-found-init : goal.loop-found-init

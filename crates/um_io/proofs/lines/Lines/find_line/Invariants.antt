@@ -1,5 +1,7 @@
-use Rattle.std.proofs.Common.{◌≡◌, ◌⊎◌, ℕ, List}
-use Rattle.um_io.{specs.Reading.NeedsMoreOctets, proofs.Lemmas.{AskedSoFar, IsFinding, turns_left}}
+use Rattle.{
+  std.proofs.Common.{◌≡◌, ◌⊎◌, ℕ, List},
+  um_io.{specs.Reading.NeedsMoreOctets, proofs.Lemmas.{AskedSoFar, IsFinding, turns_left}},
+}
 use Rattle.um_io.proofs.lines.Lines.find_line.Given as goal
 
 abbrev pub invariant-loop-found : goal.invariant-loop-found

@@ -1,5 +1,7 @@
-use Rattle.std.proofs.{Common.◌-◌, lemmas.List.Elements.All-take}
-use Rattle.um_io.{specs.{Lines.IsNotLineFeed, Buffer.octets_of, Reading.input_limit}, proofs.Lemmas.IsLine-before_feed}
+use Rattle.{
+  std.proofs.{Common.◌-◌, lemmas.List.Elements.All-take},
+  um_io.{specs.{Lines.IsNotLineFeed, Buffer.octets_of, Reading.input_limit}, proofs.Lemmas.IsLine-before_feed},
+}
 use Rattle.um_io.proofs.lines.Lines.find_line_feed.Goals as goal
 
 pub returns-in_default-clause-found : goal.returns-in_default-clause-found

@@ -1,10 +1,10 @@
--- One case for each `Found` and for a failure, by the lemmas of `Lemmas`.
-use Rattle.std.proofs.Common.{rules, subst, false, true, ◌≡◌, Ok, Err, sym, ap, ◌∙◌, refl}
-use Rattle.um_io.specs.{Reading.{ReaderState, IsValidReader}, Buffer.octets_of, declared.lines.Found.TheVariants.{Line, LineTooLong}}
-use Rattle.um_io.specs.{declared.lines.{Found.TheVariants.PastInputLimit, Lines.TheInside.Inside}, contracts.lines.Lines.the_view}
-use Rattle.um_io.{specs.contracts.lines.Lines.the_invariant, proofs.Lemmas.{asked-none, IsValidReader-from, IsSearchResult-same}}
-use Rattle.um_io.proofs.Lemmas.{counts-after, IsNextLineCall-found, IsNextLineCall-above, IsNextLineCall-past, IsNextLineCall-failed}
-use Rattle.um_io.proofs.Lemmas.{source_unchanged}
+-- One case for each `LineSearchResult` and for a failure, by the lemmas of `Lemmas`.
+use Rattle.{
+  std.proofs.Common.{Err, Ok, ap, false, refl, rules, subst, sym, true, ◌∙◌, ◌≡◌},
+  um_io.proofs.Lemmas.{IsNextLineCall-found, IsNextLineCall-stopped, IsValidReader-from, asked-none, counts-after, source_unchanged},
+  um_io.specs.{Buffer.octets_of, Reading.{IsValidReader, ReaderState}, contracts.lines.Lines.{the_invariant, the_view}},
+  um_io.specs.declared.lines.{LineSearchResult.TheVariants.{LineTooLong, PastInputLimit}, Lines.TheInside.Inside},
+}
 use Rattle.um_io.proofs.lines.Lines.next.Goals as goal
 
 -- the invariant of `Lines` makes the value that contracts see a valid reader
@@ -19,8 +19,7 @@ pub invariant_of-self : goal.invariant_of-self
 invariant_of-self g c =
     let inside = c.self-2.inside in
     let arm = c.in-Ok-Line in
-    let found = IsSearchResult-same c.args.self.now c.find_line.new.self (the_view inside) (g.S.Source.left c.args.source.now)
-    (g.S.Source.left c.find_line.new.source) (Ok (Line arm.length arm.whole)) c.self-2.view_is (rw arm.field-0-is at arm.ensures.found) in
+    let found = rw (← c.self-2.view_is) at (rw arm.field-0-is at arm.ensures.found) in
     let counts = counts-after (octets_of inside.buffer) inside.octet_count inside.number arm.length arm.whole inside.ended inside.is_over
     c.self-2.invariant.0 c.self-2.invariant.1 found.outcome in
     (counts.0, counts.1, tt)
@@ -29,19 +28,16 @@ pub returns-in-Ok-Line : goal.returns-in-Ok-Line
 returns-in-Ok-Line g c =
     let inside = c.self-2.inside in
     let arm = c.in-Ok-Line in
-    let found = IsSearchResult-same c.args.self.now c.find_line.new.self (the_view inside) (g.S.Source.left c.args.source.now)
-    (g.S.Source.left c.find_line.new.source) (Ok (Line arm.length arm.whole)) c.self-2.view_is (rw arm.field-0-is at arm.ensures.found) in
+    let found = rw (← c.self-2.view_is) at (rw arm.field-0-is at arm.ensures.found) in
     let going = goes_on c.args.self.now c.self.inside c.self.view_is c.if-self.false in
     let answers = IsNextLineCall-found c.args.self.now inside.buffer c.skip-from.new.self inside.octet_count inside.number arm.whole
     inside.ended
-    inside.is_over _ _ found.octets_read c.skip-from.result arm.length c.slice.result going found.has_read found.read_if_needed
-    c.self-2.invariant.0
-    c.self-2.invariant.1 c.skip-from.ensures.rest c.skip-from.ensures.skipped c.slice.ensures found.outcome in (
+    inside.is_over _ _ found.octets_read going found.has_read found.read_if_needed c.self-2.invariant.0 c.self-2.invariant.1
+    c.skip-from.ensures.rest c.skip-from.result arm.length c.slice.result c.skip-from.ensures.skipped c.slice.ensures found.outcome in (
       (refl, λ _. tt, answers),
       record {
         ends = tt;
-        source_unchanged = source_unchanged c.args.self.now c.args.source.now c.find_line.new.source going
-            c.find_line.ensures.source_unchanged;
+        source_unchanged = source_unchanged c.args.self.now _ _ going c.find_line.ensures.source_unchanged;
         asked = c.find_line.ensures.asked;
         failed = arm.ensures.counted;
       },
@@ -50,63 +46,55 @@ returns-in-Ok-Line g c =
 pub returns-in-Ok-LineTooLong : goal.returns-in-Ok-LineTooLong
 returns-in-Ok-LineTooLong g c =
     let known = rw c.in-Ok-LineTooLong.field-0-is at c.in-Ok-LineTooLong.ensures.found in
-    let found = IsSearchResult-same c.args.self.now c.find_line.new.self (the_view c.self-2.inside) (g.S.Source.left c.args.source.now)
-    (g.S.Source.left c.find_line.new.source) (Ok LineTooLong) c.self-2.view_is known in
+    let found = rw (← c.self-2.view_is) at known in
     let going = goes_on c.args.self.now c.self.inside c.self.view_is c.if-self.false in (
       (
         refl,
         λ _. tt,
-        IsNextLineCall-above c.args.self.now (the_view c.self-2.inside) _ _ going
-            (valid c.self-2.inside c.self-2.invariant) found,
+        IsNextLineCall-stopped c.args.self.now (the_view c.self-2.inside) _ _ _ (Ok LineTooLong) going
+            (valid c.self-2.inside c.self-2.invariant) found found.outcome.0 found.outcome.1,
       ),
       record {
         ends = tt;
-        source_unchanged = source_unchanged c.args.self.now c.args.source.now c.find_line.new.source going
-            c.find_line.ensures.source_unchanged;
+        source_unchanged = source_unchanged c.args.self.now _ _ going c.find_line.ensures.source_unchanged;
         asked = c.find_line.ensures.asked;
-        failed =
-            c.in-Ok-LineTooLong.ensures.counted;
+        failed = c.in-Ok-LineTooLong.ensures.counted;
       },
     )
 
 pub returns-in-Ok-PastInputLimit : goal.returns-in-Ok-PastInputLimit
 returns-in-Ok-PastInputLimit g c =
     let known = rw c.in-Ok-PastInputLimit.field-0-is at c.in-Ok-PastInputLimit.ensures.found in
-    let found = IsSearchResult-same c.args.self.now c.find_line.new.self (the_view c.self-2.inside) (g.S.Source.left c.args.source.now)
-    (g.S.Source.left c.find_line.new.source) (Ok PastInputLimit) c.self-2.view_is known in
+    let found = rw (← c.self-2.view_is) at known in
     let going = goes_on c.args.self.now c.self.inside c.self.view_is c.if-self.false in (
       (
         refl,
         λ _. tt,
-        IsNextLineCall-past c.args.self.now (the_view c.self-2.inside) _ _ going
-            (valid c.self-2.inside c.self-2.invariant) found,
+        IsNextLineCall-stopped c.args.self.now (the_view c.self-2.inside) _ _ _ (Ok PastInputLimit) going
+            (valid c.self-2.inside c.self-2.invariant) found found.outcome.0 found.outcome.1,
       ),
       record {
         ends = tt;
-        source_unchanged = source_unchanged c.args.self.now c.args.source.now c.find_line.new.source going
-            c.find_line.ensures.source_unchanged;
+        source_unchanged = source_unchanged c.args.self.now _ _ going c.find_line.ensures.source_unchanged;
         asked = c.find_line.ensures.asked;
-        failed =
-            c.in-Ok-PastInputLimit.ensures.counted;
+        failed = c.in-Ok-PastInputLimit.ensures.counted;
       },
     )
 
 pub returns-in-Err : goal.returns-in-Err
 returns-in-Err g c =
     let known = c.in-Err.ensures in
-    let found = IsSearchResult-same c.args.self.now c.find_line.new.self (the_view c.self-2.inside) (g.S.Source.left c.args.source.now)
-    (g.S.Source.left c.find_line.new.source) (Err c.in-Err.field-0) c.self-2.view_is known.found in
+    let found = rw (← c.self-2.view_is) at known.found in
     let going = goes_on c.args.self.now c.self.inside c.self.view_is c.if-self.false in (
       (
         refl,
         λ _. tt,
-        IsNextLineCall-failed c.args.self.now (the_view c.self-2.inside) _ _ c.in-Err.field-0 going
-            (valid c.self-2.inside c.self-2.invariant) found,
+        IsNextLineCall-stopped c.args.self.now (the_view c.self-2.inside) _ _ _ (Err c.in-Err.field-0) going
+            (valid c.self-2.inside c.self-2.invariant) found found.outcome.no_line_feed found.outcome,
       ),
       record {
         ends = tt;
-        source_unchanged =
-            source_unchanged c.args.self.now c.args.source.now c.find_line.new.source going c.find_line.ensures.source_unchanged;
+        source_unchanged = source_unchanged c.args.self.now _ _ going c.find_line.ensures.source_unchanged;
         asked = c.find_line.ensures.asked;
         failed = (known.cause, known.later);
       },

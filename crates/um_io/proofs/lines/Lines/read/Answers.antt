@@ -1,5 +1,7 @@
-use Rattle.std.proofs.Common.{◌≡◌, ◌-◌, length, take, drop, ap, arith}
-use Rattle.um_io.{specs.{Buffer.octets_of, Reading.{ReaderState, input_limit}}, proofs.Lemmas.length-cut}
+use Rattle.{
+  std.proofs.Common.{◌≡◌, ◌-◌, length, take, drop, ap, arith},
+  um_io.{specs.{Buffer.octets_of, Reading.{ReaderState, input_limit}}, proofs.Lemmas.length-cut},
+}
 use Rattle.um_io.proofs.lines.Lines.read.Goals as goal
 
 pub read-requires : goal.read-requires

@@ -1,6 +1,8 @@
-use Rattle.std.proofs.{Common.{eqb, replicate, ap, sym, ◌∙◌, arith}, lemmas.{Simd.{mask_l-mod, length-zip2}, List.length-map}}
+use Rattle.{
+  std.proofs.{Common.{eqb, replicate, ap, sym, ◌∙◌, arith}, lemmas.{Simd.{mask_l-mod, length-zip2}, List.length-map}},
+  um_lines.proofs.Texts.{below, none_above},
+}
 use lib.Lanes.{zip2, top}
-use Rattle.um_lines.proofs.Texts.{below, none_above}
 use Rattle.um_lines.proofs.digit_codes.DigitCodes.are_digits.Goals as goal
 
 pub returns : goal.returns

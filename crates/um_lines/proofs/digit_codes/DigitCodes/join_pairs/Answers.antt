@@ -1,6 +1,10 @@
-use Rattle.std.proofs.Common.{◌≡◌, ℕ, ◌+◌, ◌*◌, ◌%◌, ◌^◌, ◌++◌, List, map, get_or, replicate, ap, ap₂}
-use Rattle.std.proofs.{Common.{◌∙◌, arith}, lemmas.{Simd.{get_or-zip2, get_or-replicate}, List.FromFn.get_or-map-range_with_len}}
-use Rattle.std.specs.List.{range_with_len}
+use Rattle.{
+  std.{
+    proofs.Common.{List, ap, ap₂, arith, get_or, map, replicate, ℕ, ◌%◌, ◌*◌, ◌++◌, ◌+◌, ◌^◌, ◌∙◌, ◌≡◌},
+    proofs.lemmas.{List.FromFn.get_or-map-range_with_len, Simd.{get_or-replicate, get_or-zip2}},
+    specs.List.range_with_len,
+  },
+}
 use lib.Lanes.{zip2}
 use Rattle.um_lines.proofs.digit_codes.DigitCodes.join_pairs.Goals as goal
 
@@ -15,7 +19,7 @@ times a b = a * b % 2 ^ 8
 
 pub returns : goal.returns
 returns c i h =
-    let xs = c.args.self.lanes ++ c.args.back.lanes in
+    let xs = c.args.self.lanes ++ c.args.second_half.lanes in
     let at : (r : ℕ) → get_or (every_second xs r) i 0 ≡ get_or xs (2 * i + r) 0 =
     λ r. get_or-map-range_with_len (λ k. get_or xs (2 * k + r) 0) 0 16 i i 0 h (omega arith) in
     let even : 2 * i + 0 ≡ 2 * i = omega arith in

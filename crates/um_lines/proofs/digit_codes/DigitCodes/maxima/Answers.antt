@@ -1,5 +1,4 @@
-use Rattle.std.proofs.Common.{sym, ◌∙◌}
-use Rattle.um_lines.proofs.Texts.{maxima-count, maxima-test}
+use Rattle.{std.proofs.Common.{sym, ◌∙◌}, um_lines.proofs.Texts.{maxima-count, maxima-test}}
 use Rattle.um_lines.proofs.digit_codes.DigitCodes.maxima.Goals as goal
 
 pub returns-clause-count : goal.returns-clause-count

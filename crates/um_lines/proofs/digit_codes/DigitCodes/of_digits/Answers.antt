@@ -1,8 +1,10 @@
-use Rattle.std.proofs.Common.{◌≡◌, ◌+◌, ◌-◌, ℕ, List, map, length, take, drop, ap, sym, subst, ◌∙◌, arith, w8, Fits}
-use Rattle.std.{proofs.lemmas.{Simd.{chunk-fits, length-chunk}, List.take-take}, specs.List.list_all}
-use lib.Lanes.{chunk, Each1}
-use Rattle.hex.specs.Hex.{is_hex_digit}
-use Rattle.um_lines.{specs.Fields.digit_value, proofs.Texts.{codes-count, codes-test, codes-values}}
+use Rattle.{
+  hex.specs.Hex.is_hex_digit,
+  std.proofs.Common.{Fits, List, ap, arith, drop, length, map, subst, sym, take, w8, ℕ, ◌+◌, ◌-◌, ◌∙◌, ◌≡◌},
+  std.{proofs.lemmas.Simd.{chunk-fits, length-chunk}, specs.List.list_all},
+  um_lines.{proofs.Texts.{codes-test, codes-values}, specs.Fields.digit_value},
+}
+use lib.Lanes.{Each1, chunk}
 use Rattle.um_lines.proofs.digit_codes.DigitCodes.of_digits.Goals as goal
 
 read : (xs : List ℕ) (from : ℕ) → chunk 0 16 (take (from + 16 - from) (drop from xs)) ≡ take 16 (drop from xs)

@@ -1,8 +1,7 @@
-use Rattle.std.proofs.Common.{sym, ◌∙◌}
-use Rattle.um_link.{specs.Naming.role_of, proofs.Lemmas.lost}
+use Rattle.{std.proofs.Common.{sym, ◌∙◌}, um_link.{specs.Naming.spec_role_of, proofs.Lemmas.lost}}
 use Rattle.um_link.proofs.links.WorldState.lose.Goals as goal
 
 pub returns-clause-refines : goal.returns-clause-refines
 returns-clause-refines c =
-    lost (role_of c.args.sender) c.args.self.now c.drop_oldest_block.new.self c.clear.new.self c.drop_oldest_block.ensures.loses
+    lost (spec_role_of c.args.sender) _ _ _ c.drop_oldest_block.ensures.loses
     (sym c.has_no_queued_block.ensures ∙ c.if-has_no_queued_block.false) c.clear.ensures.frames c.clear.ensures.notices

@@ -1,6 +1,8 @@
-use Rattle.std.proofs.{Common.{◌≡◌, refl, sym, ◌∙◌, arith, false, nat_lt, length}, lemmas.Bool.Decides.nat_tests}
-use Rattle.lapdm_frame.specs.Layout.{n201}
-use Rattle.um_link.proofs.Lemmas.{called, rival-none}
+use Rattle.{
+  std.proofs.{Common.{◌≡◌, refl, sym, ◌∙◌, arith, false, nat_lt, length}, lemmas.Bool.Decides.nat_tests},
+  lapdm_frame.specs.Layout.n201,
+  um_link.proofs.Lemmas.{called, rival-none},
+}
 use Rattle.um_air.specs.lapdm_window.declared.Sapi.TheVariants as S
 use Rattle.um_air.specs.lapdm_window.Ends as R
 use Rattle.um_air.specs.lapdm_link.Events as E
@@ -11,8 +13,7 @@ returns-clause-refines g c =
     let w = c.args.self.now in
     let short : nat_lt (n201 w.channel) (length c.args.info.now) ≡ false =
     grind (arith, nat_tests, c.if-info-n201.false, c.n201.ensures) in
-    called (E.Rival c.args.info.now) R.Mobile w c.send.new.self w.ends c.write_rival_sabm.new.effects E.OtherMobile S.Zero _ refl
+    called (E.Rival c.args.info.now) R.Mobile w _ w.ends _ E.OtherMobile S.Zero _ refl
     (λ es st. (st, record { frames = c.write_rival_sabm.ensures.frames; notices = c.write_rival_sabm.ensures.notices }))
     (rival-none c.args.info.now w (sym c.is_queue_full.ensures ∙ c.if-is_queue_full.false) (sym c.is_empty.ensures
-    ∙ c.if-is_empty.false) short)
-    (λ a. (tt, refl)) refl (λ es. refl) (λ es. refl) c.send.ensures.sends
+    ∙ c.if-is_empty.false) short) (λ a. (tt, refl)) refl (λ es. refl) (λ es. refl) c.send.ensures.sends

@@ -1,5 +1,4 @@
-use Rattle.std.proofs.Common.{◌*◌, take}
-use Rattle.um_make.specs.Counting.{CountsNotices, EndpointCountersGrowAtMost}
+use Rattle.{std.proofs.Common.{◌*◌, take}, um_make.specs.Counting.{CountsNotices, EndpointCountersGrowAtMost}}
 use Rattle.um_make.proofs.end_summary.EndpointSummary.count_notices.Given as goal
 
 abbrev pub invariant-loop-notice : goal.invariant-loop-notice

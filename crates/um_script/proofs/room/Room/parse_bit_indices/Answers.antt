@@ -1,6 +1,8 @@
-use Rattle.std.{proofs.Common.{◌<◌, sym, subst, ◌∙◌, rules, arith}, specs.Prelude.All}
-use Rattle.um_lines.specs.Words.{words}
-use Rattle.um_script.{specs.Held.AreDecimalWords, proofs.ScriptLines.{few_places, are_places, places_held}}
+use Rattle.{
+  std.proofs.Common.{sym, ◌∙◌, rules, arith},
+  um_lines.specs.Words.words,
+  um_script.{specs.Held.AreDecimalWords, proofs.ScriptLines.{few_places, are_places, places_held}},
+}
 use Rattle.um_script.proofs.room.Room.parse_bit_indices.Goals as goal
 
 pub hold_places-count-requires-clause-space : goal.hold_places-count-requires-clause-space
@@ -11,11 +13,10 @@ hold_places-count-requires-clause-space c =
 pub returns : goal.returns
 returns c =
     let decimal : AreDecimalWords (words c.args.text.now) = first_of (search rules, grind arith) in
+    let in_range = sym c.has_index_above_591.ensures ∙ c.if-has_index_above_591.false in
     record {
       read =
-          places_held (words c.args.text.now) _ decimal (sym c.has_index_above_591.ensures ∙ c.if-has_index_above_591.false)
-          (sym c.has_repeated_index.ensures ∙ c.if-has_repeated_index.false) c.hold_places-count.ensures.places;
-      possible =
-          subst (All (λ place. place < 592)) (sym c.hold_places-count.ensures.places)
-          (are_places (words c.args.text.now) (sym c.has_index_above_591.ensures ∙ c.if-has_index_above_591.false));
+          places_held (words c.args.text.now) _ decimal in_range (sym c.has_repeated_index.ensures ∙ c.if-has_repeated_index.false)
+          c.hold_places-count.ensures.places;
+      possible = rw c.hold_places-count.ensures.places (are_places (words c.args.text.now) in_range);
     }

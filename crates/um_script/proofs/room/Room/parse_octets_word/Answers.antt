@@ -1,5 +1,4 @@
-use Rattle.std.{proofs.Common.{ap, arith}, specs.Prelude.length}
-use Rattle.um_script.proofs.ScriptLines.{sole_word}
+use Rattle.{std.{proofs.Common.{ap, arith}, specs.Prelude.length}, um_script.proofs.ScriptLines.sole_word}
 use Rattle.um_script.proofs.room.Room.parse_octets_word.Goals as goal
 
 pub decode_hex_octets-requires-clause-space : goal.decode_hex_octets-requires-clause-space

@@ -1,13 +1,39 @@
-use Rattle.std.proofs.Common.{sym}
-use Rattle.um_link.specs.Naming.{step_result}
-use Rattle.um_session.proofs.Lemmas.{step_answered}
+use Rattle.{
+  std.proofs.Common.{Some, ap, refl, sym, ◌∙◌},
+  um_link.specs.{Naming.{spec_answer_of, spec_event_of, step_result}, um_block.Tallies.counter_plus},
+  um_script.specs.ScriptLines.ScriptLineMeans,
+  um_session.{
+    specs.{Courses.{sent_frame_count, blocks_received_in_step}, Sessions.session_with_step},
+    proofs.Lemmas.{same_frames, same_arrivals, sent_more, reception_more},
+  },
+}
 use Rattle.um_session.proofs.link.LinkCommandCommand.answer.Goals as goal
 
 pub returns-in-Step-clause-answered : goal.returns-in-Step-clause-answered
-returns-in-Step-clause-answered g c = λ a represents.
-    step_answered c.args.line.now c.write_step_lines.new.out a c.in_ok-parse_script.field-0 c.in-Step.event
-    (step_result c.step_into-done.result c.step_into-done.new.step) c.args.self.now.world.now c.step_into-done.new.self
-    (g.R.Radio.sent c.args.self.now.radio.now) (g.R.Radio.heard c.args.self.now.radio.now) (g.R.Radio.sent c.step_into-done.new.radio)
-    (g.R.Radio.heard c.step_into-done.new.radio) (sym c.in_ok-parse_script.ensures.refused) c.in_ok-parse_script.ensures.means
-    c.in-Step.is c.write_step_lines.ensures.text c.step_into-done.ensures.refines c.step_into-done.ensures.sent
-    c.step_into-done.ensures.heard represents
+returns-in-Step-clause-answered g c = λ a (represents, sent_is, reception_is).
+    let done = c.step_into-done.ensures in
+    let event = spec_event_of c.in-Step.event in
+    let result = step_result c.step_into-done.result c.step_into-done.new.step in
+    let answer = spec_answer_of result in
+    let next = done.refines a.session.air represents in
+    let same : ScriptLineMeans c.args.line.now (Some event) = rw c.in-Step.is at c.in_ok-parse_script.ensures.means in (
+      record { session = session_with_step a.session event answer next.0; initial_counters = a.initial_counters },
+      sym c.in_ok-parse_script.ensures.refused,
+      (
+        (
+          Some event,
+          same,
+          record { answer = answer; air = next.0; step = next.2; text_is = c.write_step_lines.ensures.text; after_is = refl },
+        ),
+        refl,
+      ),
+      (
+        next.1,
+        done.sent ∙ ap (λ n. counter_plus n (g.R.Radio.sent c.args.self.now.radio.now)) (same_frames result)
+            ∙ ap (counter_plus (sent_frame_count answer)) sent_is
+            ∙ sent_more a.session.answers answer a.initial_counters.sent_blocks,
+        done.heard ∙ ap (λ n. counter_plus n (g.R.Radio.heard c.args.self.now.radio.now)) (same_arrivals result)
+            ∙ ap (counter_plus (blocks_received_in_step answer)) reception_is
+            ∙ reception_more a.session.answers answer a.initial_counters.received_blocks,
+      ),
+    )

@@ -1,5 +1,0 @@
-use Rattle.fire_repair.proofs.Lemmas.{one_repair}
-use Rattle.fire_repair.proofs.laws.law_repair_is_unique.Goals as goal
-
-pub returns : goal.returns
-returns c = one_repair

@@ -1,5 +1,0 @@
-use Rattle.interleave.proofs.Lemmas.{any_order}
-use Rattle.interleave.proofs.laws.law_deinterleave_any_order.Goals as goal
-
-pub returns : goal.returns
-returns c = any_order

@@ -1,5 +1,0 @@
-use Rattle.lapdm_link.proofs.Delivery.{acked_at_most_delivered}
-use Rattle.lapdm_link.proofs.law_acked_at_most_delivered.Goals as goal
-
-pub returns : goal.returns
-returns c = acked_at_most_delivered

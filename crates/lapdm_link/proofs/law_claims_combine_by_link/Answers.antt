@@ -1,5 +1,0 @@
-use Rattle.lapdm_link.proofs.Delivery.{delivery_by_link, order_by_link, counts_by_link}
-use Rattle.lapdm_link.proofs.law_claims_combine_by_link.Goals as goal
-
-pub returns : goal.returns
-returns c = record { delivery = delivery_by_link; order = order_by_link; acked_at_most_delivered = counts_by_link }

@@ -1,5 +1,0 @@
-use Rattle.lapdm_window.proofs.Steps.{step-few}
-use Rattle.lapdm_window.proofs.laws.law_at_most_two_effects.Goals as goal
-
-pub returns : goal.returns
-returns c = step-few

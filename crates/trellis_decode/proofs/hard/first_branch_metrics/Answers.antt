@@ -1,0 +1,15 @@
+use Rattle.{
+  std.proofs.Common.{◌∷◌, [], ◌%◌, sym, subst, arith},
+  trellis_decode.{specs.Hard.{AreMinusOneToOne, HasHardBranchMetrics}, proofs.AcsSteps.{HasHardBranchMetrics-row, first_row, row_units}},
+}
+use Rattle.trellis_decode.proofs.hard.first_branch_metrics.Goals as goal
+
+pub returns-clause-has : goal.returns-clause-has
+returns-clause-has c p q hp hq is =
+    subst (λ row. HasHardBranchMetrics row (p ∷ q ∷ [])) (sym (first_row _ c.args.signs c.requires))
+    (HasHardBranchMetrics-row _ _ p q hp hq is)
+
+pub returns-clause-units : goal.returns-clause-units
+returns-clause-units c =
+    let small = c.requires in
+    subst AreMinusOneToOne (sym (first_row _ c.args.signs c.requires)) (row_units _ (c.args.signs % 4) (omega arith))

@@ -1,5 +1,0 @@
-use Rattle.um_air.proofs.Lemmas.{damaged_received, flipped_damaged}
-use Rattle.um_air.proofs.law_light_damage_is_corrected.Goals as goal
-
-pub returns : goal.returns
-returns c = record { received = damaged_received; flipped = flipped_damaged }

@@ -1,5 +1,0 @@
-use Rattle.um_c.proofs.Sessions.{some_turn}
-use Rattle.um_c.proofs.joined.law_any_call_is_program_step.Goals as goal
-
-pub returns : goal.returns
-returns c = some_turn

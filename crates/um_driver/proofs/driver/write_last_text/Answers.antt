@@ -1,7 +1,0 @@
-use Rattle.std.proofs.Common.{inl, refl}
-use Rattle.um_driver.proofs.Runs.{concluded}
-use Rattle.um_driver.proofs.driver.write_last_text.Goals as goal
-
-pub returns-in-Ok-clause-last_write : goal.returns-in-Ok-clause-last_write
-returns-in-Ok-clause-last_write g c =
-    concluded c.args.status _ _ _ _ c.in_default.not-ReadFault (inl (refl, rw c.octets.ensures.value at c.in-Ok.ensures.taken))

@@ -1,0 +1,277 @@
+-- The line forms of `end`, derived from those of a script and of `replay`: a line that begins with an endpoint of this side is a line of a
+-- script, and every other line is a burst.
+use Rattle.{
+  std.proofs.{Common.{◌==◌, not, ◌&&◌, ◌||◌, option_map}, lemmas.{Bool.{cases_Bool, le-ltb}, Slice.Eq.bytes_eq-Decides}},
+  std.specs.Str.bytes_eq,
+  um_link.specs.Naming.spec_event_of,
+  um_lines.{
+    specs.{
+      declared.fault.LineFault.{LineFault, TheVariants.{Word, Order}},
+      Words.{is_skipped_line, words},
+      Fields.{LineField, Value},
+      Forms.{LineForm, LineForms, words_fit_form, form_of_words, first_word_fault, fields_for_word_count, first_field_fault},
+      Forms.{meaning_of_words, line_fault, line_meaning, no_order_fault},
+      BurstForms.{BurstLineKind, is_single_burst, block_burst_line_forms, single_burst_line_forms, burst_line_forms, is_burst_out_of_order},
+      LinkForms.{LinkLineKind, EndLineKind, mobile_call_line_forms, network_call_line_forms, link_line_forms, end_line_forms},
+      LinkForms.is_end_line_out_of_order,
+      Meanings.HasOneMeaningOrFault,
+      Reading.LineParsesTo,
+    },
+    proofs.FormLaws.{line_means, one_meaning, one_made, line_is, no_fault_if_meant},
+  },
+  um_formats.specs.{declared.burst_lines.BurstLine.BurstLine, BurstLines.{burst_line_of_meaning, burst_fault, BurstLineMeans}},
+  um_formats.proofs.Lemmas.{one_burst_meaning as one_burst, AreSoft, hard, soft, lost},
+  um_script.specs.ScriptLines.{event_of_script_line_meaning, ScriptLineMeans},
+  um_end.specs.{
+    declared.lines.EndLine.EndLine,
+    EndLines.{Nothing, TakesBurst, Calls, meaning_of_parsed_line, IsPossibleLine, call_line_forms, meaning_of_burst_line, meaning_of_call},
+    EndLines.{meaning_of_end_line, end_line_fault, names_endpoint_of_side, call_line_fault_inside_block, burst_line_fault_in_end_command},
+  },
+}
+use Rattle.um_lines.specs.LinkForms as L
+use Rattle.um_end.specs.declared.lines.EndLine.TheVariants as V
+pub use AnswerSizes.*
+pub mod AnswerSizes
+
+-- ---- lines without a fault, for any table of forms
+
+module _ {Name A : Type 0} (table : LineForms Name) (elsewhere : Name → Bool) (make : Option (Name × List Value) →
+    A) (line : List ℕ) where
+  means_said : line_fault table elsewhere line ≡ None → LineParsesTo table elsewhere make line (make (line_meaning table line))
+  means_said good = (line_meaning table line, line_means table elsewhere line good, refl)
+
+-- ---- a table of forms under other names
+
+abbrev renamed : {A B : Type 0} → (A → B) → LineForms A → LineForms B
+renamed {A} name table = map (λ (entry : A × LineForm). (name entry.0, entry.1)) table
+
+find_mapped : {A B : Type 0} (name : A → B) (ws : List (List ℕ)) (table : LineForms A) →
+    form_of_words (renamed name table) ws ≡ option_map (λ (entry : A × LineForm). (name entry.0, entry.1)) (form_of_words table ws)
+find_mapped name ws [] = refl
+find_mapped name ws (entry ∷ table) = grind (arith, find_mapped name ws table)
+
+abbrev as_call : LinkLineKind × LineForm → EndLineKind × LineForm
+as_call entry = (L.Call entry.0, entry.1)
+
+-- ---- lines that begin with an endpoint of the side
+
+by_word : (P : List ℕ → Type 0) (known w : List ℕ) → P known → (bytes_eq w known ≡ false → P w) → P w
+by_word P known w here other = elim (cases_Bool (bytes_eq w known)) [
+  | inl same ↦ rw ((bytes_eq-Decides w known).0 same) here
+  | inr unlike ↦ other unlike
+]
+
+abbrev IsOwnForm : Role → List (List ℕ) → Type 0
+IsOwnForm role ws = form_of_words (end_line_forms (call_line_forms role)) ws ≡ option_map as_call (form_of_words link_line_forms ws)
+
+own_form : (role : Role) (ws : List (List ℕ)) → names_endpoint_of_side role ws ≡ true → IsOwnForm role ws
+own_form role [] e = absurd (cc e)
+own_form Mobile (name ∷ ws) e =
+    by_word (λ n. IsOwnForm Mobile (n ∷ ws)) (codes "mob") name (find_mapped L.Call (codes "mob" ∷ ws) mobile_call_line_forms) (λ a.
+    by_word (λ n. IsOwnForm Mobile (n ∷ ws)) (codes "mob3") name (find_mapped L.Call (codes "mob3" ∷ ws) mobile_call_line_forms)
+    (λ b. absurd cc))
+own_form Network (name ∷ ws) e =
+    by_word (λ n. IsOwnForm Network (n ∷ ws)) (codes "net") name (find_mapped L.Call (codes "net" ∷ ws) network_call_line_forms) (λ a.
+    by_word (λ n. IsOwnForm Network (n ∷ ws)) (codes "net3") name (find_mapped L.Call (codes "net3" ∷ ws) network_call_line_forms)
+    (λ b. absurd cc))
+
+-- the words of a line have the same fault in `end` as in a script, or the fault of a call inside a block
+abbrev inside_if : Bool → Option LineFault → Option LineFault
+inside_if b fault = if b then call_line_fault_inside_block fault else fault
+
+record IsSameCall (held : ℕ) (ws : List (List ℕ)) (own : Option (EndLineKind × LineForm)) (script : Option (LinkLineKind ×
+    LineForm)) : Type 0 where
+  pub fault : first_word_fault (is_end_line_out_of_order held) own ws ≡ inside_if (not (held == 0))
+      (first_word_fault no_order_fault script ws)
+  pub same_meaning : meaning_of_end_line (meaning_of_words own ws) ≡ meaning_of_call
+      (event_of_script_line_meaning (meaning_of_words script ws))
+
+inside_word : (b : Bool) → Some Word ≡ inside_if b (Some Word)
+inside_word b = grind arith
+
+inside_fields : (b : Bool) (fields : List LineField) (ws : List (List ℕ)) →
+    (if b && true then Some Order else first_field_fault fields ws) ≡ inside_if b (first_field_fault fields ws)
+inside_fields b fields ws = grind arith
+
+same_call : (held : ℕ) (ws : List (List ℕ)) (script : Option (LinkLineKind × LineForm)) →
+    IsSameCall held ws (option_map as_call script) script
+same_call held ws None = record { fault = inside_word (not (held == 0)); same_meaning = refl }
+same_call held ws (Some entry) = record {
+  fault = inside_fields (not (held == 0)) (fields_for_word_count entry.1 (length ws)) ws;
+  same_meaning = refl;
+}
+
+own_words : (role : Role) (held : ℕ) (ws : List (List ℕ)) → names_endpoint_of_side role ws ≡ true →
+    IsSameCall held ws (form_of_words (end_line_forms (call_line_forms role)) ws) (form_of_words link_line_forms ws)
+own_words role held ws own =
+    rw (own_form role ws own) (same_call held ws (form_of_words link_line_forms ws))
+
+-- ---- other lines
+
+-- the words have the form of no call
+abbrev IsNoCall : Role → List (List ℕ) → Type 0
+IsNoCall role ws = form_of_words (renamed L.Call (call_line_forms role)) ws ≡ None
+
+neither : (a b : Bool) → (a || b) ≡ false → (a ≡ false) × (b ≡ false)
+neither a b e = grind arith
+
+no_call : (role : Role) (ws : List (List ℕ)) → names_endpoint_of_side role ws ≡ false → IsNoCall role ws
+no_call Mobile [] e = refl
+no_call Network [] e = refl
+no_call Mobile (name ∷ ws) e = let h = neither (bytes_eq name (codes "mob")) _ e in rw (h.0, h.1) refl
+no_call Network (name ∷ ws) e = let h = neither (bytes_eq name (codes "net")) _ e in rw (h.0, h.1) refl
+
+-- the words of a line have the same form in `end` as in `replay`, and the fault in `replay` determines the fault in `end`
+record IsSameBurst (held : ℕ) (ws : List (List ℕ)) (own : Option (EndLineKind × LineForm)) (burst : Option (BurstLineKind ×
+    LineForm)) : Type 0 where
+  pub fault : first_word_fault (is_end_line_out_of_order held) own ws ≡ burst_line_fault_in_end_command (first_word_fault
+      (is_burst_out_of_order 3) burst ws)
+  pub same_meaning : first_word_fault (is_burst_out_of_order 3) burst ws ≡ None →
+      meaning_of_end_line (meaning_of_words own ws) ≡ meaning_of_burst_line (burst_line_of_meaning (meaning_of_words burst ws))
+
+burst_fields : (b : Bool) (fields : List LineField) (ws : List (List ℕ)) →
+    (if b && false then Some Order else first_field_fault fields ws) ≡ burst_line_fault_in_end_command (first_field_fault fields ws)
+burst_fields b fields ws = grind arith
+
+module _ (held : ℕ) (ws : List (List ℕ)) where
+  by_block : (name : BurstLineKind) (form : LineForm) (b : Bool) (own : Option (EndLineKind × LineForm)) (burst : Option (BurstLineKind ×
+      LineForm)) → is_single_burst name ≡ false → IsSameBurst held ws own burst →
+      IsSameBurst held ws (if b then Some (L.Burst name, form) else own) (if b then Some (name, form) else burst)
+  by_block name form false own burst block h = h
+  by_block name form true own burst block h = record {
+    fault = rw block (burst_fields (not (held == 0)) (fields_for_word_count form (length ws)) ws);
+    same_meaning = λ good. refl;
+  }
+
+  by_single : (name : BurstLineKind) (form : LineForm) (b : Bool) (burst : Option (BurstLineKind × LineForm)) →
+      is_single_burst name ≡ true → IsSameBurst held ws None burst → IsSameBurst held ws None (if b then Some (name, form) else burst)
+  by_single name form false burst single h = h
+  by_single name form true burst single h = record {
+    fault = rw single refl;
+    same_meaning = λ good. cc (rw single at good);
+  }
+
+  abbrev AreBlocks : LineForms BurstLineKind → Type 0
+  AreBlocks [] = Unit {0}
+  AreBlocks (entry ∷ table) = (is_single_burst entry.0 ≡ false) × AreBlocks table
+
+  abbrev AreSingles : LineForms BurstLineKind → Type 0
+  AreSingles [] = Unit {0}
+  AreSingles (entry ∷ table) = (is_single_burst entry.0 ≡ true) × AreSingles table
+
+  singles : (table : LineForms BurstLineKind) → AreSingles table → IsSameBurst held ws None (form_of_words table ws)
+  singles [] all = record { fault = refl; same_meaning = λ good. absurd (cc good) }
+  singles (entry ∷ table) all = by_single entry.0 entry.1 (words_fit_form ws entry.1) _ all.0 (singles table all.1)
+
+  blocks : (table single : LineForms BurstLineKind) (rest : LineForms EndLineKind) → AreBlocks table →
+      IsSameBurst held ws (form_of_words rest ws) (form_of_words single ws) →
+      IsSameBurst held ws (form_of_words (renamed L.Burst table ++ rest) ws) (form_of_words (table ++ single) ws)
+  blocks [] single rest all h = h
+  blocks (entry ∷ table) single rest all h =
+      by_block entry.0 entry.1 (words_fit_form ws entry.1) _ _ all.0 (blocks table single rest all.1 h)
+
+  other_words : (role : Role) → names_endpoint_of_side role ws ≡ false →
+      IsSameBurst held ws (form_of_words (end_line_forms (call_line_forms role)) ws) (form_of_words burst_line_forms ws)
+  other_words role other = blocks block_burst_line_forms single_burst_line_forms (renamed L.Call (call_line_forms role))
+      (refl, (refl, (refl, tt)))
+      (rw (no_call role ws other) (singles single_burst_line_forms (refl, (refl, (refl, (refl, tt))))))
+
+-- ---- whole lines
+
+pub end_one_meaning : (role : Role) (held : ℕ) (line : List ℕ) →
+    HasOneMeaningOrFault (end_line_fault role held line) (EndLineMeans role held line)
+end_one_meaning Mobile held line =
+    one_made meaning_of_end_line _ _ (one_meaning (end_line_forms mobile_call_line_forms) (is_end_line_out_of_order held) line refl)
+end_one_meaning Network held line =
+    one_made meaning_of_end_line _ _ (one_meaning (end_line_forms network_call_line_forms) (is_end_line_out_of_order held) line refl)
+
+module _ (role : Role) (held : ℕ) (line : List ℕ) (short : length line ≤ 4096) (kept : is_skipped_line line ≡ false) where
+  abbrev own_forms : LineForms EndLineKind
+  own_forms = end_line_forms (call_line_forms role)
+
+  -- a line of another table means in `end` what it means there, if its words do
+  carried : {Name A : Type 0} (table : LineForms Name) (elsewhere : Name → Bool) (make : Option (Name × List Value) → A)
+      (as_meaning : A → EndLineMeaning) →
+      HasOneMeaningOrFault (line_fault table elsewhere line) (LineParsesTo table elsewhere make line) →
+      (line_fault table elsewhere line ≡ None → (end_line_fault role held line ≡ None)
+      × (meaning_of_end_line (line_meaning own_forms line) ≡ as_meaning (make (line_meaning table line)))) →
+      (read : A) → LineParsesTo table elsewhere make line read → EndLineMeans role held line (as_meaning read)
+  carried table elsewhere make as_meaning one agree read means =
+      let good = no_fault_if_meant _ _ one read means in
+      let said = same_meaning _ _ one read (make (line_meaning table line)) means (means_said table elsewhere make line good) in
+      let both = agree good in
+      subst (EndLineMeans role held line) (both.1 ∙ ap as_meaning (sym said))
+      (means_said own_forms (is_end_line_out_of_order held) meaning_of_end_line line both.0)
+
+  module _ (own : names_endpoint_of_side role (words line) ≡ true) where
+    own_fault : end_line_fault role held line ≡ inside_if (not (held == 0)) (line_fault link_line_forms no_order_fault line)
+    own_fault = rw (le-ltb 4096 (length line) short, kept) (own_words role held (words line) own).fault
+
+    -- inside a block a call is out of order
+    pub inside_fault : not (held == 0) ≡ true → end_line_fault role held line ≡
+        call_line_fault_inside_block (line_fault link_line_forms no_order_fault line)
+    inside_fault some = own_fault ∙ rw some refl
+
+    -- outside a block, a call is refused for the same reason as in a script
+    pub call_fault : not (held == 0) ≡ false → end_line_fault role held line ≡ line_fault link_line_forms no_order_fault line
+    call_fault none = own_fault ∙ rw none refl
+
+    pub call_means : not (held == 0) ≡ false → (event : Option Event) → ScriptLineMeans line event →
+        EndLineMeans role held line (meaning_of_call event)
+    call_means none = carried link_line_forms no_order_fault event_of_script_line_meaning meaning_of_call
+        (one_made event_of_script_line_meaning _ _ (one_meaning link_line_forms no_order_fault line refl))
+        (λ good. (call_fault none ∙ good, rw kept (own_words role held (words line) own).same_meaning))
+
+  module _ (other : names_endpoint_of_side role (words line) ≡ false) where
+    pub other_fault : end_line_fault role held line ≡ burst_line_fault_in_end_command (burst_fault 3 line)
+    other_fault = rw (le-ltb 4096 (length line) short, kept) (other_words held (words line) role other).fault
+
+    pub other_means : (read : BurstLine) → BurstLineMeans 3 line read → EndLineMeans role held line (meaning_of_burst_line read)
+    other_means = carried burst_line_forms (is_burst_out_of_order 3) burst_line_of_meaning meaning_of_burst_line (one_burst 3 line)
+        (λ good. (
+          other_fault ∙ ap burst_line_fault_in_end_command good,
+          rw kept ((other_words held (words line) role other).same_meaning
+              (rw (le-ltb 4096 (length line) short, kept) at good)),
+        ))
+
+-- ---- a terminal of this side can carry out what a line means
+
+abbrev pub CanBeCarriedOut : Role → EndLineMeaning → Type 0
+CanBeCarriedOut role Nothing = Unit {0}
+CanBeCarriedOut role (TakesBurst soft) = AreSoft 148 soft
+CanBeCarriedOut role (Calls event) = IsCallOfRole role event × EventMessageIsOctets event
+
+infixr 30 ◌&◌
+◌&◌ : {A B : Type 0} → A → B → A × B
+◌&◌ a b = (a, b)
+
+pub end_well : (role : Role) (held : ℕ) (line : List ℕ) (meaning : EndLineMeaning) → EndLineMeans role held line meaning →
+    CanBeCarriedOut role meaning
+end_well Mobile held line meaning means =
+    line_is (end_line_forms mobile_call_line_forms) (is_end_line_out_of_order held) meaning_of_end_line (CanBeCarriedOut Mobile) tt
+    ((λ count values here (bits, rest, is, known, none). rw (is, none) (hard 148 bits known))
+    & (λ count values here (octets, rest, is, known, none). rw (is, none) (soft 148 octets known))
+    & (λ count values here none. rw none lost)
+    & (λ count values here (m, rest, is, known, none). rw is (refl, known.2)) & (λ count values here none. (refl, tt))
+    & (λ count values here (m, rest, is, known, none). rw is (refl, known.2))
+    & (λ count values here (m, rest, is, known, none). rw is (refl, known.2)) & (λ count values here none. (refl, tt))
+    & (λ count values here none. (refl, tt)) & (λ count values here (m, rest, is, known, none). rw is (refl, known.2))
+    & (λ count values here (m, rest, is, known, none). rw is (refl, known.2)) & (λ count values here none. (refl, tt))
+    & (λ count values here none. (refl, tt)) & (λ count values here none. (refl, tt)) & tt) line meaning means
+end_well Network held line meaning means =
+    line_is (end_line_forms network_call_line_forms) (is_end_line_out_of_order held) meaning_of_end_line (CanBeCarriedOut Network) tt
+    ((λ count values here (bits, rest, is, known, none). rw (is, none) (hard 148 bits known))
+    & (λ count values here (octets, rest, is, known, none). rw (is, none) (soft 148 octets known))
+    & (λ count values here none. rw none lost)
+    & (λ count values here none. (refl, tt)) & (λ count values here (m, rest, is, known, none). rw is (refl, known.2))
+    & (λ count values here (m, rest, is, known, none). rw is (refl, known.2)) & (λ count values here none. (refl, tt))
+    & (λ count values here none. (refl, tt)) & (λ count values here (m, rest, is, known, none). rw is (refl, known.2))
+    & (λ count values here (m, rest, is, known, none). rw is (refl, known.2)) & (λ count values here none. (refl, tt))
+    & (λ count values here none. (refl, tt)) & (λ count values here none. (refl, tt)) & tt) line meaning means
+
+pub possible : (role : Role) (held : ℕ) (line : List ℕ) (read : EndLine) → EndLineMeans role held line (meaning_of_parsed_line read)
+    →
+    IsPossibleLine role read
+possible role held line V.Skip means = tt
+possible role held line (V.Burst soft) means = (end_well role held line (TakesBurst soft) means).1
+possible role held line (V.Ask event) means = (end_well role held line (Calls (spec_event_of event)) means).0

@@ -1,0 +1,327 @@
+-- The length of an answer: a step reports at most one message and at most one acknowledgement before it, so the lines of an answer fit in
+-- the output buffer.
+use Rattle.{
+  std.proofs.{Common.{◌*◌, ◌^◌, nat_eq, nat_lt, nat_abs, append-nil}, lemmas.{Bool.Decides.nat_tests, Fmt.length-decimal-le}},
+  std.{proofs.lemmas.{Fmt.length_signed_le, List.length-map}, specs.{Int.Signed.mag, Fmt.{decimal, signed_decimal}, List.join_with_byte}},
+  um_lines.{specs.{Hex.encode_lower, Spelled.octets_word}, proofs.FormLaws.length-encode_lower},
+  um_link.{
+    specs.{
+      lapdm_frame.{Content.{Content, I}, Frames.{InformationFits, IsFrameCoding}},
+      lapdm_window.{
+        segmenting.Segments.Segment,
+        declared.Notice.Notice,
+        Ends.{◌then◌, n200, vr},
+        Rules.{sends_next_segment, evaluates_nr, accepts_segment, answers_segment, rejects_segment, takes_i_frame, answers_poll, takes_rr},
+        Rules.{resends_outstanding_segment, takes_rej},
+        Calls.{Sends, T200Expires, call_outcome, with_queued_message},
+        Tables.{Reply, AcceptsSabm, ConfirmsEstablishment, TakesUi, TakesI, TakesRr, TakesRej, closes_and_reports, outcome_of_reply},
+        Tables.reply_to_frame,
+      },
+    },
+    proofs.lapdm_window.Lemmas.{IsReplyTo, cause_of, few-frame, few-call},
+  },
+  um_script.{
+    specs.{AnswerWords.{actor_word, sapi_suffix}, AnswerLines.{AnswerLine, reception_quality, reception_words, notice_words}},
+    specs.AnswerLines.{received_block_line, received_block_lines, spaced_words, lines_text, ReceptionIsInRange},
+    proofs.AnswerLaws.{lines_text_append, join-spaced, report_line},
+  },
+  um_end.specs.Terminals.step_for_frame,
+}
+use Rattle.um_link.specs.lapdm_window.declared.Notice.TheVariants as N
+use Rattle.um_link.specs.lapdm_window.declared.Reason.TheVariants as R
+use Rattle.um_script.specs.AnswerLines as L
+pub use Rattle.um_end.specs.Terminals.{endpoint_step}
+pub use AsFrameSessions.*
+pub mod AsFrameSessions
+
+-- ---- the notices that a step reports
+
+-- the notice has at most 251 octets, or a number of at most 20 digits
+abbrev pub HasSmallContents : Notice → Type 0
+HasSmallContents (N.Opened m) = length m ≤ 251
+HasSmallContents (N.Got m) = length m ≤ 251
+HasSmallContents (N.Unit m) = length m ≤ 251
+HasSmallContents (N.Acked n) = n < 2 ^ 64
+HasSmallContents N.Oversize = Unit {0}
+HasSmallContents (N.Closed reason) = Unit {0}
+
+-- either no notice, or a single acknowledgement
+abbrev pub IsAcked : List Notice → Type 0
+IsAcked [] = Unit {0}
+IsAcked (N.Acked n ∷ []) = n < 2 ^ 64
+IsAcked other = ⊥
+
+-- at most one notice
+abbrev pub IsOne : List Notice → Type 0
+IsOne [] = Unit {0}
+IsOne (notice ∷ []) = HasSmallContents notice
+IsOne other = ⊥
+
+-- at most one notice, perhaps after an acknowledgement
+abbrev pub IsAtMostAckAndOne : List Notice → Type 0
+IsAtMostAckAndOne [] = Unit {0}
+IsAtMostAckAndOne (notice ∷ []) = HasSmallContents notice
+IsAtMostAckAndOne (N.Acked n ∷ notice ∷ []) = (n < 2 ^ 64) × HasSmallContents notice
+IsAtMostAckAndOne other = ⊥
+
+one_brief : (ns : List Notice) → IsOne ns → IsAtMostAckAndOne ns
+one_brief [] h = tt
+one_brief (n ∷ []) h = h
+one_brief (n ∷ m ∷ ns) h = absurd h
+
+joined : (ns ms : List Notice) → IsAcked ns → IsOne ms → IsAtMostAckAndOne (ns ++ ms)
+joined [] ms a o = one_brief ms o
+joined (N.Acked n ∷ []) [] a o = a
+joined (N.Acked n ∷ []) (m ∷ []) a o = (a, o)
+joined (N.Acked n ∷ []) ms a o = absurd o
+joined ns ms a o = absurd a
+
+all_three : (ns ms ls : List Notice) → IsAcked ns → IsOne ms → ls ≡ [] → IsAtMostAckAndOne ((ns ++ ms) ++ ls)
+all_three ns ms ls a o none = rw (none, append-nil) (joined ns ms a o)
+
+by_test : (P : List Notice → Type 0) (b : Bool) (o p : Outcome) → P o.notices → P p.notices → P (if b then o else p).notices
+by_test P true o p h g = h
+by_test P false o p h g = g
+
+-- ---- the rules of the window
+
+next : (e : EndpointState) → (sends_next_segment e).notices ≡ []
+next e = grind arith
+
+acked : (nr : ℕ) (e : EndpointState) → IsAcked (evaluates_nr nr e).notices
+acked nr e = grind arith
+
+accepted : (segment : Segment) (e : EndpointState) → IsOne (accepts_segment segment e).notices
+accepted segment e = grind (arith, nat_tests)
+
+answered : (p : Bool) (e : EndpointState) → (answers_segment p e).notices ≡ []
+answered true e = next e
+answered false e = grind arith
+
+rejected : (p : Bool) (e : EndpointState) → IsOne (rejects_segment p e).notices
+rejected p e = grind arith
+
+notices_of_poll : (b : Bool) (e : EndpointState) → IsOne (answers_poll b e).notices
+notices_of_poll b e = grind arith
+
+again : (e : EndpointState) → (resends_outstanding_segment e).notices ≡ []
+again e = grind arith
+
+-- the notices after an N(R) is evaluated and two further rules are applied
+counted : (nr : ℕ) (first second : EndpointState → Outcome) (e : EndpointState) →
+    ((x : EndpointState) → IsOne (first x).notices) →
+    ((x : EndpointState) → (second x).notices ≡ []) → IsAtMostAckAndOne (evaluates_nr nr e then first then second).notices
+counted nr first second e h g =
+    let o = evaluates_nr nr e in all_three o.notices _ (second (o then first).new_state).notices (acked nr e) (h o.new_state) (g _)
+
+brief-i : (ns nr : ℕ) (p : Bool) (segment : Segment) (e : EndpointState) → IsAtMostAckAndOne (takes_i_frame ns nr p segment e).notices
+brief-i ns nr p segment e =
+    by_test IsAtMostAckAndOne (nat_eq ns (vr e)) _ _
+    (counted nr (accepts_segment segment) (answers_segment p) e (accepted segment) (answered p))
+    (counted nr (rejects_segment p) sends_next_segment e (rejected p) next)
+
+brief-rr : (nr : ℕ) (b : Bool) (e : EndpointState) → IsAtMostAckAndOne (takes_rr nr b e).notices
+brief-rr nr b e = counted nr (answers_poll b) sends_next_segment e (notices_of_poll b) next
+
+brief-rej : (nr : ℕ) (b : Bool) (e : EndpointState) → IsAtMostAckAndOne (takes_rej nr b e).notices
+brief-rej nr b e = counted nr (answers_poll b) resends_outstanding_segment e (notices_of_poll b) again
+
+-- ---- the tables of replies
+
+brief-reply : (r : Reply) (c : Content) (e : EndpointState) → IsReplyTo c e r → length (information c) ≤ 251 →
+    IsAtMostAckAndOne (outcome_of_reply r e).notices
+brief-reply (AcceptsSabm info) c e cause h = rw cause.1 at h
+brief-reply (ConfirmsEstablishment info) c e cause h = rw cause.0 at h
+brief-reply (TakesUi info) c e cause h = rw cause.1 at h
+brief-reply (TakesI ns nr p segment) c e cause h = brief-i ns nr p segment e
+brief-reply (TakesRr nr poll) c e cause h = brief-rr nr poll e
+brief-reply (TakesRej nr poll) c e cause h = brief-rej nr poll e
+brief-reply r c e cause h = tt
+
+-- a frame, or (below) a call, leads to at most one notice, perhaps after an acknowledgement
+brief-frame : (f : Frame) (e : EndpointState) → length (information f.content) ≤ 251 → IsAtMostAckAndOne (frame_outcome f e).notices
+brief-frame f e h = brief-reply (reply_to_frame f e) f.content e (cause_of e f) h
+
+brief-call : (call : Call) (e : EndpointState) → IsAtMostAckAndOne (call_outcome call e).notices
+brief-call (Sends m) e = rw (next (with_queued_message m e)) tt
+brief-call T200Expires e = by_test IsAtMostAckAndOne (nat_lt e.retries (n200 e.channel e.state)) _ (closes_and_reports _ e) tt tt
+brief-call call e = tt
+
+-- ---- texts
+
+append_four : (a b c d : List ℕ) → length (a ++ b ++ c ++ d) ≡ length a + length b + length c + length d
+append_four a b c d = omega (arith, length-append (a ++ b ++ c) d, length-append (a ++ b) c, length-append a b)
+
+append_five : (a b c d e : List ℕ) → length (a ++ b ++ c ++ d ++ e) ≡ length a + length b + length c + length d + length e
+append_five a b c d e = omega (arith, length-append (a ++ b ++ c ++ d) e, append_four a b c d)
+
+who_three : (role : Role) → length (actor_word (BySide role)) ≡ 3
+who_three role = grind arith
+
+link_short : (sapi : Sapi) → length (sapi_suffix sapi) ≤ 1
+link_short sapi = grind arith
+
+acked_short : (n : ℕ) → n < 2 ^ 64 → length (spaced_words (notice_words (N.Acked n))) ≤ 27
+acked_short n h = omega (arith, length-append (decimal n) [], length-decimal-le 20 n (omega arith) (omega (arith, h)) h)
+
+octets_short : (m : List ℕ) → length m ≤ 251 → length (octets_word m) ≤ 502
+octets_short [] h = omega arith
+octets_short (octet ∷ rest) h = omega (arith, h, length-encode_lower (octet ∷ rest))
+
+notice_short : (notice : Notice) → HasSmallContents notice → length (spaced_words (notice_words notice)) ≤ 510
+notice_short (N.Opened m) h = omega (arith, length-append (octets_word m) [], octets_short m h)
+notice_short (N.Got m) h = omega (arith, length-append (octets_word m) [], octets_short m h)
+notice_short (N.Unit m) h = omega (arith, length-append (octets_word m) [], octets_short m h)
+notice_short (N.Acked n) h = omega (arith, acked_short n h)
+notice_short (N.Closed R.Contention) h = omega arith
+notice_short notice h = omega arith
+
+-- the text of the lines for these notices
+abbrev notified : Role → Sapi → List Notice → List ℕ
+notified role sapi notices = lines_text (map (L.Reports (BySide role) sapi) notices)
+
+line_short : (role : Role) (sapi : Sapi) (notice : Notice) (notices : List Notice) →
+    length (notified role sapi (notice ∷ notices)) ≤ 5 + length (spaced_words (notice_words notice)) + length
+    (notified role sapi notices)
+line_short role sapi notice notices =
+    let rest = notified role sapi notices in
+    let all = append_five (actor_word (BySide role)) (sapi_suffix sapi) (spaced_words (notice_words notice)) (codes "\n") rest in
+    omega (arith, all, ap length (report_line [] (BySide role) sapi notice rest), who_three role, link_short sapi)
+
+notices_short : (role : Role) (sapi : Sapi) (ns : List Notice) → IsAtMostAckAndOne ns → length (notified role sapi ns) ≤ 547
+notices_short role sapi [] h = omega arith
+notices_short role sapi (n ∷ []) h = omega (arith, line_short role sapi n [], notice_short n h)
+notices_short role sapi (N.Acked k ∷ n ∷ []) h =
+    omega (arith, line_short role sapi (N.Acked k) (n ∷ []), acked_short k h.0, line_short role sapi n [], notice_short n h.1)
+notices_short role sapi ns h = absurd h
+
+frames_short : (role : Role) (tsc : ℕ) (frames : List Octets) (blocks : List Block) → AreCodedBlocks tsc frames blocks →
+    length (lines_text (map (L.Sends (BySide role)) frames)) ≡ 57 * length frames
+frames_short role tsc [] [] h = refl
+frames_short role tsc (f ∷ fs) (b ∷ bs) h =
+    omega (arith, length-append {A = ℕ}, who_three role, length-encode_lower f, h.0.code.count, frames_short role tsc fs bs h.1)
+frames_short role tsc fs bs h = absurd h
+
+mag_is : (z : ℤ) → mag z ≤ nat_abs z
+mag_is z = grind arith
+
+reception_short : (r : Received) → r.tsc ≤ 7 → ReceptionIsInRange (reception_quality r) →
+    length (spaced_words (reception_words (reception_quality r))) ≤ 61
+reception_short r tsc h =
+    let t = length-decimal-le 1 r.tsc (omega arith) (omega (arith, tsc)) (omega (arith, tsc)) in
+    let w = length-decimal-le 20 r.wrong_training (omega arith) (omega (arith, h.wrong_training)) h.wrong_training in
+    let m = length_signed_le 19 r.metric (omega (arith, h.metric, mag_is r.metric)) (omega (arith, h.metric, mag_is r.metric)) in
+    let last = signed_decimal r.metric ++ [] in
+    let back = decimal r.wrong_training ++ (codes " metric " ++ last) in
+    omega (
+      arith,
+      t,
+      w,
+      m,
+      length-append (decimal r.tsc) (codes " train " ++ back),
+      length-append (decimal r.wrong_training) (codes " metric " ++ last),
+      length-append (signed_decimal r.metric) [],
+    )
+
+arrival_short : (role : Role) (r : Received) (octets : Octets) → r.accepted ≡ Some octets → length octets ≡ 23 → r.tsc ≤ 7 →
+    ReceptionIsInRange (reception_quality r) → length (lines_text (received_block_lines (BySide role) (Some r))) ≤ 118
+arrival_short role r octets is count tsc fits =
+    let name = actor_word (BySide role) in
+    let words = codes "takes" ∷ encode_lower octets ∷ reception_words (reception_quality r) in
+    let line = join_with_byte 32 (name ∷ words) in
+    omega (
+      arith,
+      ap (λ accepted. length (lines_text (received_block_line (BySide role) accepted r ∷ []))) is,
+      length-append (line ++ codes "\n") [],
+      length-append line (codes "\n"),
+      ap length (join-spaced name words),
+      length-append name (spaced_words words),
+      length-append (encode_lower octets) (spaced_words (reception_words (reception_quality r))),
+      who_three role,
+      length-encode_lower octets,
+      count,
+      reception_short r tsc fits,
+    )
+
+-- ---- answers
+
+-- an answer, with the lines of the bursts of each frame sent, has fewer than 2000 octets
+abbrev pub IsShort : Answer → Type 0
+IsShort answer = length (answer_text answer) + 604 * length (frames_in_answer answer) < 2000
+
+lines_four : (a b c d : List AnswerLine) → length (lines_text (a ++ b ++ c ++ d))
+    ≡ length (lines_text a) + length (lines_text b) + length (lines_text c) + length (lines_text d)
+lines_four a b c d = rw (lines_text_append (a ++ b ++ c) d, lines_text_append (a ++ b) c, lines_text_append a b) (append_four _ _ _ _)
+
+outcome_short : (role : Role) (received : Option Received) (sapi : Sapi) (o : Outcome) (a : SideState) (tsc : ℕ) (blocks : List Block) →
+    length o.frames ≤ 2 → IsAtMostAckAndOne o.notices → length (lines_text (received_block_lines (BySide role) received)) ≤ 118 →
+    AreCodedBlocks tsc (map (octets_of Sdcch) o.frames) blocks
+    → IsShort (Accepts (terminal_step_of role received (endpoint_step sapi o a)))
+outcome_short role received sapi o a tsc blocks few brief arrived coded =
+    let frames = map (octets_of Sdcch) o.frames in
+    let all = lines_four (received_block_lines (BySide role) received) (map (L.Reports (BySide role) sapi) o.notices)
+    (map (L.Sends (BySide role)) frames) (L.FinalOk ∷ []) in
+    omega (
+      arith,
+      all,
+      few,
+      arrived,
+      notices_short role sapi o.notices brief,
+      frames_short role tsc frames blocks coded,
+      length-map o.frames (octets_of Sdcch),
+    )
+
+asked_short : (role : Role) (a : SideState) (sapi : Sapi) (call : Call) (b : SideState) (answer : Answer) (tsc : ℕ)
+    (blocks : List Block) → EndpointAnswersCall role a sapi call b answer → AreCodedBlocks tsc (frames_in_answer answer) blocks →
+    length (answer_text answer) < 2000 → IsShort answer
+asked_short role a sapi call b (Refuses why) tsc blocks h coded lines = omega (arith, lines)
+asked_short role a sapi call b (Accepts step) tsc blocks h coded lines =
+    let o = call_outcome call (endpoint_on sapi a) in
+    rw h.2 (outcome_short role None sapi o a tsc blocks (few-call call _).frames (brief-call call _) (omega arith) (rw h.2 at coded))
+
+-- the answer to a call has fewer than 2000 octets
+pub call_short : (role : Role) (a : SideState) (event : Event) (b : SideState) (answer : Answer) (tsc : ℕ) (text : List ℕ) →
+    SideAnswersCall role a event b answer → IsAnswerText tsc answer text → length (answer_text answer) < 2000 → IsShort answer
+call_short role a (Open info) b answer tsc text h t lines = asked_short role a Zero (Opens info) b answer tsc _ h t.coded lines
+call_short role a (OpenBare other) b answer tsc text h t lines =
+    asked_short role a Three OpensWithoutInfo b answer tsc _ h t.coded lines
+call_short role a (Ask other sapi request) b answer tsc text h t lines =
+    asked_short role a sapi (endpoint_call_of request) b answer tsc _ h t.coded lines
+call_short role a event b answer tsc text h t lines = absurd h
+
+-- an answer that sends nothing satisfies `IsShort` if its own lines have fewer than 2000 octets
+unsent : (step : Step) → step.frames ≡ [] → length (answer_text (Accepts step)) < 2000 → IsShort (Accepts step)
+unsent step none lines = let n = ap (λ fs. length fs) none in omega (arith, n, lines)
+
+has_room : (c : Content) → InformationFits Sdcch c → length (information c) ≤ 251
+has_room (I ns nr p more info) h = omega (arith, h.1)
+has_room other h = omega (arith, h)
+
+taken_short : (role : Role) (a : SideState) (r : Received) (f : Frame) (octets : Octets) (tsc : ℕ) (blocks : List Block) →
+    r.accepted ≡ Some octets → IsFrameCoding Sdcch f octets → r.tsc ≤ 7 → ReceptionIsInRange (reception_quality r) →
+    AreCodedBlocks tsc (terminal_step_of role (Some r) (step_for_frame f a)).frames blocks →
+    length (answer_text (Accepts (terminal_step_of role (Some r) (step_for_frame f a)))) < 2000
+    → IsShort (Accepts (terminal_step_of role (Some r) (step_for_frame f a)))
+taken_short role a r f octets tsc blocks is frame known fits =
+    let arrived = arrival_short role r octets is frame.count known fits in
+    let room = has_room f.content frame.fits.information in
+    by_sapi f a (λ d. AreCodedBlocks tsc (terminal_step_of role (Some r) d).frames blocks →
+    length (answer_text (Accepts (terminal_step_of role (Some r) d))) < 2000 → IsShort (Accepts (terminal_step_of role (Some r) d)))
+    (λ q coded lines. outcome_short role (Some r) Zero (frame_outcome f a.link0) a tsc blocks (few-frame f _).frames
+    (brief-frame f _ room) arrived coded)
+    (λ q coded lines. outcome_short role (Some r) Three (frame_outcome f a.link3) a tsc blocks (few-frame f _).frames
+    (brief-frame f _ room) arrived coded) (λ p q coded lines. unsent (terminal_step_of role (Some r) (no_op_step a)) refl lines)
+
+-- the answer to a block has fewer than 2000 octets
+pub block_short : (role : Role) (a : SideState) (bursts : List (List ℤ)) (b : SideState) (step : Step) (tsc : ℕ) (text : List ℕ) →
+    ReceivesBursts role a bursts b step → ((r : Received) → step.received ≡ Some r → ReceptionIsInRange (reception_quality r)) →
+    IsAnswerText tsc (Accepts step) text → length (answer_text (Accepts step)) < 2000 → IsShort (Accepts step)
+block_short role a bursts b step tsc text h fits t lines = by_read h.frame h.report.accepted h.reads refl h.step_is
+  where
+    by_read : (read : Option Frame) (accepted : Option Octets) → ReadsFrame Sdcch accepted read → h.report.accepted ≡ accepted →
+        step ≡ terminal_step_of role (Some h.report) (step_for_read_frame read a) → IsShort (Accepts step)
+    by_read None accepted reads is same = unsent step (ap (λ (s : Step). s.frames) same) lines
+    by_read (Some f) None reads is same = absurd reads
+    by_read (Some f) (Some octets) reads is same =
+        rw same (taken_short role a h.report f octets tsc t.blocks is reads h.received.tsc.in_range (fits h.report (rw same refl))
+        (rw same at t.coded) (rw same at lines))

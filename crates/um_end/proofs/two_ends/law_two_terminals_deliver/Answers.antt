@@ -1,5 +1,0 @@
-use Rattle.um_end.proofs.AsFrameSessions.{two_claims, two_counts, two_in_order}
-use Rattle.um_end.proofs.two_ends.law_two_terminals_deliver.Goals as goal
-
-pub returns : goal.returns
-returns c = record { delivery = two_claims; acked_at_most_delivered = two_counts; order = two_in_order }

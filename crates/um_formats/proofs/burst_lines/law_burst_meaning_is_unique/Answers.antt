@@ -1,5 +1,0 @@
-use Rattle.um_formats.proofs.Lemmas.{one_burst_meaning}
-use Rattle.um_formats.proofs.burst_lines.law_burst_meaning_is_unique.Goals as goal
-
-pub returns : goal.returns
-returns c = one_burst_meaning

@@ -1,5 +1,0 @@
-use Rattle.um_formats.proofs.Lemmas.{one_show_meaning}
-use Rattle.um_formats.proofs.show.law_show_meaning_is_unique.Goals as goal
-
-pub returns : goal.returns
-returns c = one_show_meaning

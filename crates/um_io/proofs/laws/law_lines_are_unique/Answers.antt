@@ -1,5 +1,0 @@
-use Rattle.um_io.proofs.Lemmas.{IsDivided-lines_of_octets, lines_of_octets-only}
-use Rattle.um_io.proofs.laws.law_lines_are_unique.Goals as goal
-
-pub returns : goal.returns
-returns c = record { divided = IsDivided-lines_of_octets; only = lines_of_octets-only }

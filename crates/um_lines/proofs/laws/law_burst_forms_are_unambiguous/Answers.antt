@@ -1,6 +1,0 @@
-use Rattle.std.proofs.Common.{refl}
-use Rattle.um_lines.{proofs.FormLaws.one_meaning, specs.BurstForms.{burst_forms, is_burst_out_of_order}}
-use Rattle.um_lines.proofs.laws.law_burst_forms_are_unambiguous.Goals as goal
-
-pub returns : goal.returns
-returns c = λ held line. one_meaning burst_forms (is_burst_out_of_order held) line refl

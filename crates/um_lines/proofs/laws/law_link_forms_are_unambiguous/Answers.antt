@@ -1,6 +1,0 @@
-use Rattle.std.proofs.Common.{refl}
-use Rattle.um_lines.{proofs.FormLaws.one_meaning, specs.{Forms.no_order_fault, LinkForms.link_forms}}
-use Rattle.um_lines.proofs.laws.law_link_forms_are_unambiguous.Goals as goal
-
-pub returns : goal.returns
-returns c = λ line. one_meaning link_forms no_order_fault line refl
