@@ -20,7 +20,7 @@ pub record IsProduct (product quotient generator : List ℕ) : Type 0 where
 abbrev pub IsDivisibleBy : (dividend generator : List ℕ) → Type 0
 IsDivisibleBy x g = (q : List ℕ) × IsProduct x q g
 
--- `word` is a multiple of `generator`, where `generator` has the leading coefficient 1 and is no longer than `word`
+-- `word` is a multiple of `generator`, where `generator` has leading coefficient 1 and is no longer than `word`
 pub record IsMultiple (word generator : List ℕ) : Type 0 where
   pub leading_one : slice_index generator 0 ≡ 1
   pub fits : length generator ≤ length word

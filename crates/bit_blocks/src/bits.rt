@@ -87,7 +87,7 @@ impl<const N: usize> Bits<N> {
         Bits { values: sum }
     }
 
-    /// The bits, each as an octet 0 or 1.
+    /// Returns the bits, each as an octet 0 or 1.
     pub fn as_slice(&self) -> &[u8]
         ensures value { result.now ≡ self.now }
         ensures count { length result.now ≡ N }

@@ -37,8 +37,8 @@ pub fn law_octet_bits_round_trip()
 fn bits_of_octet(octet: u8) -> [u8; 8]
     ensures { result ≡ octet_bits octet }
 {
-    // Octet `i` of `kept` holds only bit `i` of `octet`. Adding 127 to each octet of `kept` sets its highest bit if and only if that bit is
-    // 1.
+    // Octet `i` of `kept` holds only bit `i` of `octet`. Adding 127 to each octet of `kept` sets the highest bit of octet `i` if and only
+    // if bit `i` is 1.
     let kept = u64::from(octet).wrapping_mul(0x0101_0101_0101_0101) & 0x8040_2010_0804_0201;
     ((kept.wrapping_add(0x7f7f_7f7f_7f7f_7f7f) >> 7) & 0x0101_0101_0101_0101).to_le_bytes()
 }

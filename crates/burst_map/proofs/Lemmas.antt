@@ -7,7 +7,7 @@ use Rattle.{
   training_seq.{proofs.Lemmas.length-midamble, specs.{Sequences.midamble, bit_blocks.Bits.{AllBits, IsBit}}},
 }
 
--- ## Parts: A list as the concatenation of its slices.
+-- ## Parts: A list is the concatenation of its slices.
 
 pub take-slice_range : {X : Type 0} → (xs : List X) (i j : ℕ) → i ≤ j → take i xs ++ slice_range xs i j ≡ take j xs
 take-slice_range xs i j h =
@@ -16,7 +16,7 @@ take-slice_range xs i j h =
 
 -- ## Filling: A burst of zeros is filled from the front to the end.
 
--- the burst begins with the bits `front`, which are `at` bits, and `rest` zeros follow
+-- the burst consists of the `at` bits of `front`, followed by `rest` zeros
 pub record IsFilled (burst front : List ℕ) (at rest : ℕ) : Type 0 where
   pub content : burst ≡ front ++ replicate rest 0
   pub right_length : length front ≡ at
@@ -47,7 +47,7 @@ AllBits-filled {front} {rest} filled = rw filled.content
 
 -- ## WrittenHalves: Writing both halves of a normal burst, in either order, gives the burst of these halves.
 
--- replacing the middle of three parts
+-- in a list of three parts, `with_part_replaced` replaces the middle one
 with_part_replaced-middle : (places front old back part : List ℕ) (from to : ℕ) → places ≡ front ++ (old ++ back) →
     length front ≡ from → length (front ++ old) ≡ to → with_part_replaced places from to part ≡ front ++ (part ++ back)
 with_part_replaced-middle places front old back part from to is f t =
@@ -56,7 +56,7 @@ with_part_replaced-middle places front old back part from to is f t =
     ap (drop to) (is ∙ sym (append_assoc front old back)) ∙ drop_at (front ++ old) back to t in
     cc
 
--- the bits after the first half, and those before the second
+-- the bits of a normal burst after the first half, and those before the second half
 abbrev after_first : List ℕ → ℕ → List ℕ
 after_first second tsc = 1 ∷ [] ++ midamble tsc ++ 1 ∷ [] ++ second ++ tail_bits
 
@@ -106,7 +106,7 @@ write_second-first first second tsc f s known =
     ap (λ burst. with_part_replaced burst 3 60 first) (write_second zeros zeros second tsc refl refl known)
     ∙ write_first zeros first second tsc refl
 
--- the burst after both halves are written
+-- writing both halves into a normal burst with zeros in their places gives the normal burst of these halves
 pub both_written : (left burst half other first second : List ℕ) (tsc : ℕ) → length first ≡ 57 → length second ≡ 57 →
     tsc ≤ 7 → burst ≡ normal_burst (replicate 57 0) (replicate 57 0) tsc → half ≡ first → other ≡ second →
     left ≡ with_part_replaced (with_part_replaced burst 3 60 half) 88 145 other → left ≡ normal_burst first second tsc

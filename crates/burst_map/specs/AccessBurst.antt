@@ -1,15 +1,15 @@
 -- The access burst (GSM 05.02 section 5.2.7).
 use Rattle.std.specs.Prelude.{ℕ, ℤ, List, ◌++◌, slice_range, codes}
-use Rattle.training_seq.specs.Sequences.{bits_of_digits}
+use Rattle.training_seq.specs.Sequences.{bits_from_ascii}
 use Rattle.burst_map.specs.Tails.{tail_bits}
 
 -- the eight extended tail bits at the start of an access burst
 abbrev pub extended_tail_bits : List ℕ
-extended_tail_bits = bits_of_digits (codes "00111010")
+extended_tail_bits = bits_from_ascii (codes "00111010")
 
 -- the 41 training bits of an access burst
 abbrev pub access_sequence : List ℕ
-access_sequence = bits_of_digits (codes "01001011011111111001100110101010001111000")
+access_sequence = bits_from_ascii (codes "01001011011111111001100110101010001111000")
 
 -- the 88 bits of an access burst: extended tail bits, training bits, 36 coded bits, tail bits
 abbrev pub access_burst : (body : List ℕ) → List ℕ

@@ -2,10 +2,10 @@
 use Rattle.std.specs.Prelude.{◌≡◌, ℕ, ℤ, ◌+◌, List, ◌++◌, take, drop}
 use Rattle.std.specs.Borrow.{Bor}
 
--- replaces the elements of a list from one index up to, but not including, another by the elements of a second list
+-- the list `places` with its elements from index `from` up to, but not including, `to` replaced by `part`
 abbrev pub with_part_replaced : (places : List ℕ) (from to : ℕ) (part : List ℕ) → List ℕ
 with_part_replaced places from to part = take from places ++ (part ++ drop to places)
 
--- the second borrowed list is a slice of the memory of the first, and starts at a given offset in it
+-- the borrowed list `part` is a slice of the memory of `burst`, and starts at offset `place` in it
 abbrev pub IsSliceAtOffset : (place : ℕ) (burst part : Bor (List ℤ)) → Type 0
 IsSliceAtOffset place burst part = (part.ref_ptr.0 ≡ burst.ref_ptr.0) × (part.ref_ptr.1 ≡ burst.ref_ptr.1 + place)

@@ -1,11 +1,11 @@
 -- The synchronisation burst (GSM 05.02 section 5.2.5).
 use Rattle.std.specs.Prelude.{ℕ, ℤ, List, ◌++◌, slice_range, codes}
-use Rattle.training_seq.specs.Sequences.{bits_of_digits}
+use Rattle.training_seq.specs.Sequences.{bits_from_ascii}
 use Rattle.burst_map.specs.Tails.{tail_bits}
 
 -- the 64 training bits of a synchronisation burst
 abbrev pub sync_sequence : List ℕ
-sync_sequence = bits_of_digits (codes "1011100101100010000001000000111100101101010001010111011000011011")
+sync_sequence = bits_from_ascii (codes "1011100101100010000001000000111100101101010001010111011000011011")
 
 -- the 148 bits of a synchronisation burst: tail bits, 39 coded bits, training bits, 39 coded bits, tail bits
 abbrev pub sync_burst : (first_half second_half : List ℕ) → List ℕ

@@ -38,7 +38,7 @@ pub fn access(body: &[u8]) -> [u8; 88]
     burst
 }
 
-/// Provides access to the parts of a received access burst.
+/// A view of the parts of a received access burst.
 #[derive(Debug, Drop)]
 pub struct AccessView<'a> {
     burst: &'a [i8; 88],

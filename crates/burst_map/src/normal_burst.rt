@@ -16,7 +16,7 @@ pub fn normal(first: &[u8], second: &[u8], tsc: u8) -> [u8; BURST_BITS]
     requires first_bits { AllBits first.now }
     requires second { length second.now ≡ 57 }
     requires second_bits { AllBits second.now }
-    requires known { tsc ≤ 7 }
+    requires tsc_in_range { tsc ≤ 7 }
     ensures value { result ≡ normal_burst first.now second.now tsc }
     ensures bits { AllBits result }
 {
@@ -29,7 +29,7 @@ pub fn normal(first: &[u8], second: &[u8], tsc: u8) -> [u8; BURST_BITS]
     burst
 }
 
-/// Provides access to the parts of a received normal burst.
+/// A view of the parts of a received normal burst.
 #[derive(Debug, Drop)]
 pub struct NormalView<'a> {
     burst: &'a [i8; BURST_BITS],

@@ -38,7 +38,7 @@ pub fn sync(first: &[u8], second: &[u8]) -> [u8; BURST_BITS]
     burst
 }
 
-/// Provides access to the parts of a received synchronisation burst.
+/// A view of the parts of a received synchronisation burst.
 #[derive(Debug, Drop)]
 pub struct SyncView<'a> {
     burst: &'a [i8; BURST_BITS],

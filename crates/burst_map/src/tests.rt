@@ -28,7 +28,7 @@ fn assert_bits(rt: &impl Abort, bits: &[u8], count: usize)
 fn normal_from_parts(first: &[u8], second: &[u8], tsc: u8) -> [u8; BURST_BITS]
     requires first { length first.now ≡ 57 }
     requires second { length second.now ≡ 57 }
-    requires known { tsc ≤ 7 }
+    requires tsc_in_range { tsc ≤ 7 }
     ensures { result ≡ normal_burst first.now second.now tsc }
 {
     let mut burst = [0; BURST_BITS];

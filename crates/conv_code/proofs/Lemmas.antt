@@ -25,7 +25,7 @@ use Rattle.{
   },
 }
 
--- ## Lists: A bit list that ends in four tail bits is an encoder input. Its encoding has two bits for each bit, each 0 or 1.
+-- ## Lists: A bit list that ends in four tail bits is an encoder input. Its encoding has two coded bits for each bit of the list.
 
 abbrev IsZero : ℕ → Type 0
 IsZero bit = bit ≡ 0
@@ -406,7 +406,7 @@ module _ (octets : List ℕ) (k : ℕ) where
         delayed_is 4 (k + 4) (omega arith) (omega arith),
       ) is
 
--- octets that each hold the coded bits of four information bits are the packed coded bits
+-- 64 octets are the packed coded bits of 32 information octets if each of them holds the coded bits of its four information bits
 pub AreCodedBitsPacked-encode_four_bits_per_octet : (octets packed : List ℕ) → length octets ≡ 32 →
     ((t : ℕ) → t < 64 → HoldsFourCodedPairs (bits_of (0 ∷ octets)) (get_or packed t 0) t) →
     AreCodedBitsPacked 64 (encoding (bits_of octets)) packed
@@ -507,13 +507,13 @@ IsMostLikely-only s u v h g =
 
 -- ## Checks: The definitions, computed for worked examples.
 
--- the coded bits of the RACH encoder input with eight information bits 0 for BSIC 0, whose six CRC bits are ones
+-- the coded bits of eight information bits 0 on the RACH with BSIC 0; the six CRC bits are ones
 coded-access : encoding (replicate 8 0 ++ replicate 6 1 ++ replicate 4 0) ≡
     replicate 16 0 ++ (1 ∷ 1 ∷ 1 ∷ 0 ∷ 1 ∷ 0 ∷ 0 ∷ 1 ∷ 1 ∷ 0 ∷ 1 ∷ 0 ∷ 0 ∷ 1 ∷ 0 ∷ 0 ∷ 0 ∷ 0 ∷ 1 ∷ 1
     ∷ [])
 coded-access = cc
 
--- the coded bits of the encoder input of a block of zeros, whose forty Fire code bits are ones
+-- the coded bits of a block of zeros; its forty Fire code bits are ones
 coded-block : encoding (replicate 184 0 ++ replicate 40 1 ++ replicate 4 0) ≡
     replicate 368 0 ++ (1 ∷ 1 ∷ 1 ∷ 0 ∷ 1 ∷ 0 ∷ 0 ∷ 1 ∷ []) ++ flat_map {X = ℕ} (λ _. 1 ∷ 0 ∷ []) (replicate 36 0) ++
     (0 ∷ 1 ∷ 0 ∷ 0 ∷ 0 ∷ 0 ∷ 1 ∷ 1 ∷ [])
@@ -522,7 +522,8 @@ coded-block = refl
 coded-zeros : encoding (replicate 228 0) ≡ replicate 456 0
 coded-zeros = cc
 
--- one wrong soft bit of strength 7 among 35 right ones of strength 1: two other encoder inputs have a greater path metric than zeros
+-- one wrong soft bit of strength 7 among 35 right ones of strength 1: two other encoder inputs have a greater path metric than the list of
+-- zeros
 abbrev one_strong : List ℤ
 one_strong = negsuc 6 ∷ replicate 35 (pos 1)
 

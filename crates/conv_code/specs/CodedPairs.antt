@@ -2,7 +2,8 @@
 use Rattle.std.specs.Prelude.{ℕ, ◌≡◌, ◌<◌, ◌+◌, ◌*◌, ◌%◌, List, slice_index}
 use Rattle.bit_blocks.specs.Packed.{bit_of}
 
--- `octet` holds the coded bits of information bits `4 * t` to `4 * t + 3`; `bits` is the encoder input, preceded by eight earlier bits
+-- `octet` holds the coded bits of information bits `4 * index` to `4 * index + 3`; `bits` is eight earlier bits followed by the encoder
+-- input
 pub record HoldsFourCodedPairs (bits : List ℕ) (octet index : ℕ) : Type 0 where
   pub first_bits : (i : ℕ) → i < 4 → bit_of octet i ≡
       (slice_index bits (4 * index + 8 + i) + slice_index bits (4 * index + 5 + i) + slice_index bits (4 * index + 4 + i)) % 2

@@ -11,15 +11,15 @@ pub record IsLexicographicallyBefore (first second : List ℕ) : Type 0 where
   pub zero : slice_index first place ≡ 0
   pub differs : slice_index second place ≢ 0
 
--- for given soft bits, the first encoder input ranks after the second: its path metric is smaller, or the metrics are equal and it comes
--- later in lexicographic order
+-- `later` ranks after `earlier` for given soft bits: its path metric is smaller, or the metrics are equal and it comes later in
+-- lexicographic order
 abbrev pub RanksAfter : (soft : List ℤ) (later earlier : List ℕ) → Type 0
 RanksAfter s v u =
     (likelihood s (encoding v) <ℤ likelihood s (encoding u)) ⊎
     ((likelihood s (encoding v) ≡ likelihood s (encoding u)) × IsLexicographicallyBefore u v)
 
 -- `word` is the most likely encoder input for the soft bits `soft`: it has the greatest path metric of all encoder inputs of its length;
--- among lists with equal metrics, it comes first in lexicographic order
+-- among inputs with equal metrics, it comes first in lexicographic order
 pub record IsMostLikely (soft : List ℤ) (word : List ℕ) : Type 0 where
   pub information : IsEncoderInput word
   pub count : length soft ≡ 2 * length word

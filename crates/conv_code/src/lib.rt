@@ -37,7 +37,7 @@ fn encode_first_four_bits(u: &[u8], out: &mut [u8])
     }
 }
 
-/// The bit of `u` that is `delay` positions before bit `k`, or 0 if that is before the first bit.
+/// Returns the bit of `input` that is `delay` positions before bit `k`, or 0 if that is before the first bit.
 fn delayed_bit(input: &[u8], k: usize, delay: usize) -> u8
     requires { k < length input.now }
     ensures { result ≡ delayed_bit input.now k delay }

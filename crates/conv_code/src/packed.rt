@@ -28,7 +28,8 @@ fn encode_four_bits_per_octet(shifted: &[u8; 33]) -> [u8; 64]
     packed
 }
 
-/// An octet of the last four bits of `previous_octet` and the first four bits of `current_octet`; bit 0 of an octet is its first bit.
+/// Returns the last four bits of `previous_octet` followed by the first four bits of `current_octet`, as one octet; bit 0 of an octet is
+/// its first bit.
 #[inline]
 fn straddling_octet(previous_octet: u8, current_octet: u8) -> u8
     ensures low { (i : ℕ) → i < 4 → bit_of result i ≡ bit_of previous_octet (i + 4) }

@@ -8,7 +8,7 @@ ghost use Rattle.fire_code.specs.Registers.{low_bits};
 use crate::registers::bits_of_register;
 use bit_blocks::Bits;
 
-/// The `N` check bits of `info`: `info` followed by these bits, inverted, is a multiple of the generator.
+/// Returns the `N` check bits of `info`: `info` followed by these bits, inverted, is a multiple of the generator.
 ///
 /// `taps` is the generator without its highest power, reflected: bit `i` is the coefficient of D^(N - 1 - i).
 pub(crate) fn crc<const N: usize>(info: &[u8], taps: u64) -> Bits<N>
@@ -23,7 +23,7 @@ pub(crate) fn crc<const N: usize>(info: &[u8], taps: u64) -> Bits<N>
     bits_of_register(!remainder::<N>(info, taps))
 }
 
-/// The remainder of `bits` as a register: `bits`, followed by the `N` lowest bits of the result, bit 0 first, is a multiple of the
+/// Returns the remainder of `bits` as a register: `bits`, followed by the `N` lowest bits of the result, bit 0 first, is a multiple of the
 /// generator.
 fn remainder<const N: usize>(bits: &[u8], taps: u64) -> u64
     requires bits { AllBits bits.now }

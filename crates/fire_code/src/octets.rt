@@ -271,8 +271,8 @@ static REMAINDERS: [u64; 256] = [
     0xe0_e07e_41c0,
 ];
 
-/// The Fire code remainder of an octet: the octet, least significant bit first, followed by these forty bits is a multiple of the generator
-/// D^40 + D^26 + D^23 + D^17 + D^3 + 1 (GSM 05.03 section 4.1.2).
+/// Returns the Fire code remainder of an octet: the octet, least significant bit first, followed by these forty bits is a multiple of the
+/// generator D^40 + D^26 + D^23 + D^17 + D^3 + 1 (GSM 05.03 section 4.1.2).
 pub fn octet_remainder(octet: u8) -> Bits<40>
     ensures multiple { IsMultiple (octet_bits octet ++ result) fire_generator }
     ensures only { (r : List ℕ) → length r ≡ 40 → AllBits r → IsMultiple (octet_bits octet ++ r) fire_generator → r ≡ result }
@@ -282,8 +282,8 @@ pub fn octet_remainder(octet: u8) -> Bits<40>
     bits_of(table_remainder(octet))
 }
 
-/// The Fire code remainder of a list of bits whose length is a multiple of eight: the list, followed by the 40 bits of the result, bit 0
-/// first, is a multiple of the generator.
+/// Returns the Fire code remainder of a list of bits whose length is a multiple of eight: the list, followed by the 40 bits of the result,
+/// bit 0 first, is a multiple of the generator.
 pub(crate) fn remainder(bits: &[u8]) -> u64
     requires bits { AllBits bits.now }
     requires whole { length bits.now ≡ 8 * (length bits.now / 8) }
@@ -298,8 +298,8 @@ pub(crate) fn remainder(bits: &[u8]) -> u64
     register
 }
 
-/// The Fire code remainder of the bits of `octets`, least significant bit of each octet first: these bits, followed by the 40 bits of the
-/// result, bit 0 first, are a multiple of the generator.
+/// Returns the Fire code remainder of the bits of `octets`, least significant bit of each octet first: these bits, followed by the 40 bits
+/// of the result, bit 0 first, are a multiple of the generator.
 #[inline(always)]
 pub(crate) fn remainder_of_octets(octets: &[u8]) -> u64
     ensures multiple { IsDivisibleBy (octets_to_bits octets.now ++ low_bits 40 result) fire_generator }
@@ -312,7 +312,7 @@ pub(crate) fn remainder_of_octets(octets: &[u8]) -> u64
     register
 }
 
-/// The Fire code remainder of one octet, from the table.
+/// Returns the Fire code remainder of one octet, from the table.
 #[inline]
 fn table_remainder(octet: u8) -> u64
     ensures multiple { IsDivisibleBy (low_bits 8 octet ++ low_bits 40 result) fire_generator }

@@ -7,7 +7,7 @@ ghost use Rattle.fire_code.specs.Registers.{low_bits};
 
 use bit_blocks::Bits;
 
-/// The `N` lowest bits of a register, least significant bit first.
+/// Returns the `N` lowest bits of a register, least significant bit first.
 pub(crate) fn bits_of_register<const N: usize>(register: u64) -> Bits<N>
     requires { N ≤ 64 }
     ensures value { result ≡ low_bits N register }
@@ -21,7 +21,7 @@ pub(crate) fn bits_of_register<const N: usize>(register: u64) -> Bits<N>
     bits
 }
 
-/// The forty lowest bits of a register, least significant bit first.
+/// Returns the forty lowest bits of a register, least significant bit first.
 pub(crate) fn bits_of(register: u64) -> Bits<40>
     ensures value { result ≡ low_bits 40 register }
     ensures count { length result ≡ 40 }
@@ -38,7 +38,7 @@ pub(crate) fn bits_of(register: u64) -> Bits<40>
     bits
 }
 
-/// The forty lowest bits of a register as five octets, the least significant octet first.
+/// Returns the forty lowest bits of a register as five octets, the least significant octet first.
 pub(crate) fn octets_of_register(register: u64) -> [u8; 5]
     ensures { octets_to_bits result ≡ low_bits 40 register }
 {
@@ -51,7 +51,7 @@ pub(crate) fn octets_of_register(register: u64) -> [u8; 5]
     ]
 }
 
-/// Octet `octet_index` of a register; octet 0 is the least significant.
+/// Returns octet `octet_index` of a register; octet 0 is the least significant.
 fn register_octet(register: u64, octet_index: usize) -> u8
     requires { octet_index < 5 }
     ensures { octet_bits result ≡ low_bits 8 (register / 2 ^ (8 * octet_index)) }
@@ -88,15 +88,15 @@ pub(crate) fn pack_eight_bits(bits: &[u8]) -> u64
     apart.wrapping_mul(0x0102_0408_1020_4080) >> 56
 }
 
-/// The eight bits of an octet, least significant bit first.
+/// Returns the eight bits of an octet, least significant bit first.
 #[inline]
 fn unpack_octet(octet: u64) -> [u8; 8]
     requires { octet < 256 }
     ensures value { result ≡ low_bits 8 octet }
     ensures bits { AllBits result }
 {
-    // Octet `i` of `kept` holds only bit `i` of `octet`. Adding 127 to each octet of `kept` sets its highest bit if and only if that bit is
-    // 1.
+    // Octet `i` of `kept` holds only bit `i` of `octet`. Adding 127 to each octet of `kept` sets the highest bit of octet `i` if and only
+    // if bit `i` is 1.
     let kept = octet.wrapping_mul(0x0101_0101_0101_0101) & 0x8040_2010_0804_0201;
     ((kept.wrapping_add(0x7f7f_7f7f_7f7f_7f7f) >> 7) & 0x0101_0101_0101_0101).to_le_bytes()
 }

@@ -10,7 +10,7 @@ use bit_blocks::Bits;
 // The generator without D^10: D^8 + D^6 + D^5 + D^4 + D^2 + 1. The least significant bit is the coefficient of D^9.
 const CRC_TAPS: u64 = 0b10_1011_1010;
 
-/// The CRC of the 25 information bits of a synchronisation burst (GSM 05.03 section 4.7).
+/// Returns the CRC of the 25 information bits of a synchronisation burst (GSM 05.03 section 4.7).
 pub fn sch_parity(d: &Bits<25>) -> Bits<10>
     ensures word { IsSchWord (d.now ++ result) }
     ensures only { (p : List ℕ) → IsSchWord (d.now ++ p) → p ≡ result }

@@ -12,7 +12,7 @@ use bit_blocks::{BLOCK_BITS, BLOCK_OCTETS, Bits};
 
 const ALL_ONES: u64 = 0xff_ffff_ffff;
 
-/// The 40 Fire code bits (check bits) of the 184 information bits of a block (GSM 05.03 section 4.1.2).
+/// Returns the 40 Fire code bits (check bits) of the 184 information bits of a block (GSM 05.03 section 4.1.2).
 pub fn xcch_parity(d: &Bits<BLOCK_BITS>) -> Bits<40>
     ensures word { IsXcchWord (d.now ++ result) }
     ensures only { (p : List ℕ) → IsXcchWord (d.now ++ p) → p ≡ result }
@@ -22,7 +22,7 @@ pub fn xcch_parity(d: &Bits<BLOCK_BITS>) -> Bits<40>
     bits_of(!remainder(d.as_slice()))
 }
 
-/// The 40 Fire code bits of a block of 23 octets, as five octets. Bits are packed least significant bit first.
+/// Returns the 40 Fire code bits of a block of 23 octets, as five octets. Bits are packed least significant bit first.
 #[inline(always)]
 pub fn xcch_parity_of_octets(octets: &[u8; BLOCK_OCTETS]) -> [u8; 5]
     ensures word { IsXcchWord (octets_to_bits octets.now ++ octets_to_bits result) }
@@ -39,8 +39,8 @@ pub fn xcch_holds(w: &Bits<224>) -> bool
     remainder(info) ^ register_from_bits(check) == ALL_ONES
 }
 
-/// The syndrome of the 224 bits `w`. It is 0 if and only if `w` is a codeword. Inverting bit `184 + i` of `w` for each bit `i` of the
-/// syndrome that is 1 makes `w` a codeword.
+/// Returns the syndrome of the 224 bits `w`. It is 0 if and only if `w` is a codeword. Inverting bit `184 + i` of `w` for each bit `i` of
+/// the syndrome that is 1 makes `w` a codeword.
 pub fn xcch_syndrome(w: &Bits<224>) -> u64
     ensures word { IsXcchWord (xor_bits w.now (replicate BLOCK_BITS 0 ++ low_bits 40 result)) }
     ensures zero { (result ≡ 0) ↔ IsXcchWord w.now }

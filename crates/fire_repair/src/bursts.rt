@@ -18,7 +18,7 @@ pub(crate) struct ErrorBurst {
     pub(crate) shape: u64,
 }
 
-/// Finds the error burst with this syndrome that starts last. Returns `None` if there is none.
+/// Finds an error burst with this syndrome. Returns `None` if there is none.
 pub(crate) fn find_error_burst(syndrome: u64) -> Option<ErrorBurst>
     requires { syndrome < 2 ^ 40 }
     ensures start { IfSome result (λ found. found.start ≤ 212) }

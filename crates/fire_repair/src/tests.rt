@@ -9,7 +9,7 @@ const FILL_FRAME: [u8; 28] = [
     0x2b, 0x2b, 0x2b, 0x2b, 0x2b, 0x2b, 0x2b, 0x2c, 0x4e, 0x54, 0x02, 0x33,
 ];
 
-// Whether `repair` restores the word after an error burst: bit `start + i` is inverted for each bit `i` of `shape` that is 1.
+// Returns whether `repair` restores the word after an error burst: bit `start + i` is inverted for each bit `i` of `shape` that is 1.
 fn is_repaired(word: &Bits<224>, start: usize, shape: u32) -> bool {
     let mut wrong = *word;
     let mut places = 0;

@@ -34,21 +34,22 @@ use mir.{Syntax.Width, Val.bits}
 -- ## Rows: `coded_index_at` is the inverse of `burst_of_bit` and `burst_position`, checked by computation for all 456 coded bits.
 
 -- coded bit k is at position j of burst b
-pub record StandsAt (k b j : ℕ) : Type 0 where
+pub record IsCodedBitAt (k b j : ℕ) : Type 0 where
   pub in_range : k < 456
   pub burst : burst_of_bit k ≡ b
   pub place : burst_position k ≡ j
 
-abbrev is_right : ℕ → ℕ → Bool
-is_right b j = ltb (coded_index_at b j) 456 && (eqb (burst_of_bit (coded_index_at b j)) b && eqb (burst_position (coded_index_at b j)) j)
+abbrev is_coded_index_right : ℕ → ℕ → Bool
+is_coded_index_right b j = ltb (coded_index_at b j) 456 &&
+    (eqb (burst_of_bit (coded_index_at b j)) b && eqb (burst_position (coded_index_at b j)) j)
 
-every_place_is_right : passes_below (λ b. passes_below (is_right b) 114) 4 ≡ true
+every_coded_index_is_right : passes_below (λ b. passes_below (is_coded_index_right b) 114) 4 ≡ true
 unfolding coded_index_at coded_bit_of_column burst_of_bit burst_position passes_below
-every_place_is_right = cc
+every_coded_index_is_right = cc
 
-coded_index_at-stands : (b j : ℕ) → b < 4 → j < 114 → StandsAt (coded_index_at b j) b j
-coded_index_at-stands b j hb hj =
-    let here = at_passes_below _ 114 (at_passes_below (λ b. passes_below _ 114) 4 every_place_is_right b hb) j hj in
+IsCodedBitAt-coded_index_at : (b j : ℕ) → b < 4 → j < 114 → IsCodedBitAt (coded_index_at b j) b j
+IsCodedBitAt-coded_index_at b j hb hj =
+    let here = at_passes_below _ 114 (at_passes_below (λ b. passes_below _ 114) 4 every_coded_index_is_right b hb) j hj in
     let burst = eqb _ b in
     let place = eqb _ j in
     let rest = both_true burst place (both_true (ltb (coded_index_at b j) 456) (burst && place) here).1 in
@@ -58,43 +59,43 @@ coded_index_at-stands b j hb hj =
       place = search (rules, tests);
     }
 
-abbrev is_found : ℕ → Bool
-is_found k = eqb (coded_index_at (burst_of_bit k) (burst_position k)) k
+abbrev is_coded_bit_recovered : ℕ → Bool
+is_coded_bit_recovered k = eqb (coded_index_at (burst_of_bit k) (burst_position k)) k
 
-every_coded_bit_is_found : passes_below is_found 456 ≡ true
+every_coded_bit_is_recovered : passes_below is_coded_bit_recovered 456 ≡ true
 unfolding coded_index_at coded_bit_of_column burst_of_bit burst_position passes_below
-every_coded_bit_is_found = cc
+every_coded_bit_is_recovered = cc
 
-coded_index_at-of : (k : ℕ) → k < 456 → coded_index_at (burst_of_bit k) (burst_position k) ≡ k
-coded_index_at-of k hk =
-    let found = at_passes_below _ 456 every_coded_bit_is_found k hk in
+coded_index_at-inverse : (k : ℕ) → k < 456 → coded_index_at (burst_of_bit k) (burst_position k) ≡ k
+coded_index_at-inverse k hk =
+    let found = at_passes_below _ 456 every_coded_bit_is_recovered k hk in
     search rules
 
 -- the burst and the position in it determine the coded bit
 pub same_coded_bit : (k l : ℕ) → k < 456 → l < 456 → burst_of_bit k ≡ burst_of_bit l → burst_position k ≡ burst_position l →
     k ≡ l
 same_coded_bit k l hk hl burst place =
-    let at_k = coded_index_at-of k hk in
-    let at_l = coded_index_at-of l hl in
+    let at_k = coded_index_at-inverse k hk in
+    let at_l = coded_index_at-inverse l hl in
     cc
 
-pub coded_index_at-is : (k b j : ℕ) → k < 456 → burst_of_bit k ≡ b → burst_position k ≡ j → coded_index_at b j ≡ k
-coded_index_at-is k b j hk burst place = let found = coded_index_at-of k hk in cc
+pub coded_index_at-unique : (k b j : ℕ) → k < 456 → burst_of_bit k ≡ b → burst_position k ≡ j → coded_index_at b j ≡ k
+coded_index_at-unique k b j hk burst place = let found = coded_index_at-inverse k hk in cc
 
 -- ## Bijection: Interleaving is a bijection between coded bits and burst positions, so the coded bits and the bursts determine each other.
 
 -- the coded bit at position j of burst b
 pub coded_bit_at : (b j : ℕ) → b < 4 → j < 114 → (k : ℕ) × (k < 456) × (burst_of_bit k ≡ b) × (burst_position k ≡ j)
 coded_bit_at b j hb hj =
-    let stands = coded_index_at-stands b j hb hj in
+    let stands = IsCodedBitAt-coded_index_at b j hb hj in
     (coded_index_at b j, stands.in_range, stands.burst, stands.place)
 
 module _ {X : Type 0} where
-  -- each value in the bursts is that of a coded bit
+  -- each value in the bursts is the value of a coded bit
   from_coded : (coded : List X) (bursts : List (List X)) → IsInterleaved coded bursts → (b j : ℕ) (d : X) → b < 4 → j < 114 →
       get_or (get_or bursts b []) j d ≡ get_or coded (coded_index_at b j) d
   from_coded coded bursts whole b j d hb hj =
-      let stands = coded_index_at-stands b j hb hj in
+      let stands = IsCodedBitAt-coded_index_at b j hb hj in
       let holds = whole.positions (coded_index_at b j) d stands.in_range in
       rw (stands.burst, stands.place) at holds
 
@@ -124,25 +125,25 @@ AllBits-bursts coded bursts whole bits b none lt j d le =
     let hb : b < 4 = rw whole.burst_count at lt in
     let hj : j < 114 = rw whole.burst_lengths at le in
     rw (get_or_default bursts b none [] lt, from_coded coded bursts whole b j d hb hj)
-    (bits (coded_index_at b j) d (rw whole.coded_count (coded_index_at-stands b j hb hj).in_range))
+    (bits (coded_index_at b j) d (rw whole.coded_count (IsCodedBitAt-coded_index_at b j hb hj).in_range))
 
 -- ## CodedBits: The entries of the table `HALF_BURST_BITS` are what `coded_index_at` gives, checked by computation.
 
-abbrev is_entry_right : ℕ → ℕ → Bool
-is_entry_right r i = eqb (get_or (get_or HALF_BURST_BITS r []) i 0) (coded_index_at (r / 2) (57 * (r % 2) + i))
+abbrev is_table_entry_right : ℕ → ℕ → Bool
+is_table_entry_right r i = eqb (get_or (get_or HALF_BURST_BITS r []) i 0) (coded_index_at (r / 2) (57 * (r % 2) + i))
 
-every_entry_is_right : passes_below (λ r. passes_below (is_entry_right r) 57) 8 ≡ true
+every_table_entry_is_right : passes_below (λ r. passes_below (is_table_entry_right r) 57) 8 ≡ true
 unfolding coded_index_at coded_bit_of_column passes_below
-every_entry_is_right = cc
+every_table_entry_is_right = cc
 
-pub entry-is : (b half i : ℕ) → b < 4 → half ≤ 1 → i < 57 → get_or (get_or HALF_BURST_BITS (2 * b + half) []) i 0 ≡
+pub table_entry : (b half i : ℕ) → b < 4 → half ≤ 1 → i < 57 → get_or (get_or HALF_BURST_BITS (2 * b + half) []) i 0 ≡
     coded_index_at b
     (57 * half + i)
-entry-is b half i hb hh hi =
+table_entry b half i hb hh hi =
     let r : ℕ = 2 * b + half in
-    let row = at_passes_below (λ r. passes_below (is_entry_right r) 57) 8 every_entry_is_right r (omega arith) in
+    let row = at_passes_below (λ r. passes_below (is_table_entry_right r) 57) 8 every_table_entry_is_right r (omega arith) in
     (Decides-eqb (get_or (get_or HALF_BURST_BITS r []) i 0) (coded_index_at (r / 2) (57 * (r % 2) + i))).0 (at_passes_below
-    (is_entry_right r) 57 row i hi)
+    (is_table_entry_right r) 57 row i hi)
     ∙ ap₂ coded_index_at (omega arith) (omega arith)
 
 -- ## WholeBursts: A burst consists of two halves.
@@ -184,14 +185,14 @@ module _ (b half : ℕ) (hb : b < 4) (hh : half ≤ 1) where
   abbrev pub bit_of_half : ℕ → ℕ
   bit_of_half i = coded_index_at b (57 * half + i)
 
-  pub half-stands : (i : ℕ) → i < 57 → StandsAt (bit_of_half i) b (57 * half + i)
-  half-stands i hi = coded_index_at-stands b _ hb (omega arith)
+  pub half-position : (i : ℕ) → i < 57 → IsCodedBitAt (bit_of_half i) b (57 * half + i)
+  half-position i hi = IsCodedBitAt-coded_index_at b _ hb (omega arith)
 
   -- the coded bits that are read by the table are this half of the burst
-  pub half_of_bursts : (coded : List ℕ) (bursts : List (List ℕ)) (out : List ℕ) → IsInterleaved coded bursts →
+  pub IsInterleaved-half_burst : (coded : List ℕ) (bursts : List (List ℕ)) (out : List ℕ) → IsInterleaved coded bursts →
       length out ≡ 57 → ((i : ℕ) → i < 57 → get_or out i 0 ≡ get_or coded (bit_of_half i) 0) →
       out ≡ slice_range (get_or bursts b []) (57 * half) (57 * half + 57)
-  half_of_bursts coded bursts out whole long read =
+  IsInterleaved-half_burst coded bursts out whole long read =
       let burst = get_or _ b [] in
       let full : length burst ≡ 114 = whole.burst_lengths b [] (rw whole.burst_count hb) in
       let within : 57 * half + 57 ≤ length burst = omega arith in
@@ -205,7 +206,7 @@ module _ (b half : ℕ) (hb : b < 4) (hh : half ≤ 1) where
 
   half-differs : (i j : ℕ) → i < 57 → j < 57 → i ≢ j → bit_of_half i ≢ bit_of_half j
   half-differs i j hi hj other same =
-      let places : 57 * half + i ≡ 57 * half + j = sym (half-stands i hi).place ∙ ap burst_position same ∙ (half-stands j hj).place in
+      let places : 57 * half + i ≡ 57 * half + j = sym (half-position i hi).place ∙ ap burst_position same ∙ (half-position j hj).place in
       other (omega arith)
 
   -- one more value is written; the earlier values and those of the other half are unchanged
@@ -214,7 +215,7 @@ module _ (b half : ℕ) (hb : b < 4) (hh : half ≤ 1) where
     pub updated_bits-more : ((j : ℕ) → j < i → get_or soft (bit_of_half j) (pos 0) ≡ get_or values j (pos 0)) →
         (j : ℕ) → j < i + 1 → get_or (set soft (bit_of_half i) value) (bit_of_half j) (pos 0) ≡ get_or values j (pos 0)
     updated_bits-more before =
-        let within = (half-stands i hi).in_range in
+        let within = (half-position i hi).in_range in
         let lt : bit_of_half i < length soft = omega arith in
         below_more _ i
         (λ j hj.
@@ -268,7 +269,7 @@ module _ {X : Type 0} (bursts : List (List X)) (k : ℕ) (d : X) (hk : k < 456) 
   gathered_own b old new step same =
       step.updated_bits k d hk same ∙ ap (λ n. get_or (get_or bursts n []) (burst_position k) d) (sym same)
 
-  -- a value once written stays
+  -- a value that has been written stays the same
   gathered_keeps : (order : List ℕ) (old new : List X) → AreDeinterleaved bursts order old new → get_or old k d ≡ held →
       get_or new k d ≡ held
   gathered_keeps [] old new same there = ap (λ xs. get_or xs k d) (sym same) ∙ there
@@ -288,16 +289,16 @@ module _ {X : Type 0} (bursts : List (List X)) (k : ℕ) (d : X) (hk : k < 456) 
         | inr other ↦ gathered_reaches order next new rest (Contains-tail b (burst_of_bit k) order among other)
       ]
 
-length-gathered : {X : Type 0} (bursts : List (List X)) (order : List ℕ) (old new : List X) → AreDeinterleaved bursts order old new →
+length-deinterleaved : {X : Type 0} (bursts : List (List X)) (order : List ℕ) (old new : List X) → AreDeinterleaved bursts order old new →
     length new ≡ length old
-length-gathered bursts [] old new same = ap length (sym same)
-length-gathered bursts (b ∷ order) old new (next, step, rest) = length-gathered bursts order next new rest ∙ step.count
+length-deinterleaved bursts [] old new same = ap length (sym same)
+length-deinterleaved bursts (b ∷ order) old new (next, step, rest) = length-deinterleaved bursts order next new rest ∙ step.count
 
-pub any_order : {X : Type 0} (bursts : List (List X)) (order : List ℕ) (old new : List X) →
+pub IsInterleaved-any_order : {X : Type 0} (bursts : List (List X)) (order : List ℕ) (old new : List X) →
     length old ≡ 456 → length bursts ≡ 4 → All (λ burst. length burst ≡ 114) bursts →
     ((b : ℕ) → b < 4 → Contains order b) → AreDeinterleaved bursts order old new → IsInterleaved new bursts
-any_order bursts order old new long four each every steps = record {
-  coded_count = length-gathered bursts order old new steps ∙ long;
+IsInterleaved-any_order bursts order old new long four each every steps = record {
+  coded_count = length-deinterleaved bursts order old new steps ∙ long;
   burst_count = four;
   burst_lengths = each;
   positions = λ k d hk. sym (gathered_reaches bursts k d hk order old new steps (every (burst_of_bit k) (burst_of_bit-below k)));
@@ -308,29 +309,29 @@ any_order bursts order old new long four each every steps = record {
 -- ---- interleaving
 
 -- the coded bits of burst b, by position
-part_of : List ℕ → ℕ → List ℕ
-part_of c b = map (λ j. get_or c (coded_index_at b j) 0) (range_with_len 0 114)
+burst_bits : List ℕ → ℕ → List ℕ
+burst_bits c b = map (λ j. get_or c (coded_index_at b j) 0) (range_with_len 0 114)
 
-parts_of : List ℕ → List (List ℕ)
-parts_of c = map (part_of c) (range_with_len 0 4)
+all_burst_bits : List ℕ → List (List ℕ)
+all_burst_bits c = map (burst_bits c) (range_with_len 0 4)
 
 pub some_spread : (c : List ℕ) → length c ≡ 456 → (parts : List (List ℕ)) × IsInterleaved c parts
-unfolding parts_of part_of
+unfolding all_burst_bits burst_bits
 some_spread c count = (
-  parts_of c,
+  all_burst_bits c,
   record {
     coded_count = count;
-    burst_count = length-map-range_with_len (part_of c) 0 4;
+    burst_count = length-map-range_with_len (burst_bits c) 0 4;
     burst_lengths = λ b d h.
-        let within : b < 4 = rw (length-map-range_with_len (part_of c) 0 4) at h in
-        ap length (get_or-map-range_with_len (part_of c) 0 4 b b d within (omega arith))
+        let within : b < 4 = rw (length-map-range_with_len (burst_bits c) 0 4) at h in
+        ap length (get_or-map-range_with_len (burst_bits c) 0 4 b b d within (omega arith))
         ∙ length-map-range_with_len (λ j. get_or c (coded_index_at b j) 0) 0 114;
     positions = λ k d within.
         let b = burst_of_bit k in
         let j = burst_position k in
-        ap (λ bits. get_or bits j d) (get_or-map-range_with_len (part_of c) 0 4 b b [] (burst_of_bit-below k) (omega arith))
+        ap (λ bits. get_or bits j d) (get_or-map-range_with_len (burst_bits c) 0 4 b b [] (burst_of_bit-below k) (omega arith))
         ∙ get_or-map-range_with_len (λ i. get_or c (coded_index_at b i) 0) 0 114 j j d (burst_position-below k) (omega arith)
-        ∙ ap (λ i. get_or c i 0) (coded_index_at-of k within)
+        ∙ ap (λ i. get_or c i 0) (coded_index_at-inverse k within)
         ∙ get_or_default c k 0 d (omega arith);
   },
 )
@@ -410,49 +411,49 @@ in_column k h = grind arith
 -- ## JoinedLanes: Interleaving the lanes of two vectors and reading the result as lanes of twice the width joins lanes in pairs. Three such
 -- steps transpose eight rows of eight octets.
 
--- P holds for each number below n: one tuple of the facts
+-- P holds for each number below n, written as one tuple
 abbrev pub EachBelow : (ℕ → Type 0) → ℕ → Type 0
 EachBelow P zero = Unit {0}
 EachBelow P (suc n) = P 0 × EachBelow (λ k. P (suc k)) n
 
-pub below_n : (P : ℕ → Type 0) (n : ℕ) → EachBelow P n → (k : ℕ) → k < n → P k
-below_n P zero h k lt = absurd (omega arith)
-below_n P (suc n) h zero lt = h.0
-below_n P (suc n) h (suc k) lt = below_n _ n h.1 k (omega arith)
+pub each_below : (P : ℕ → Type 0) (n : ℕ) → EachBelow P n → (k : ℕ) → k < n → P k
+each_below P zero h k lt = absurd (omega arith)
+each_below P (suc n) h zero lt = h.0
+each_below P (suc n) h (suc k) lt = each_below _ n h.1 k (omega arith)
 
-pub below_8 : (P : ℕ → Type 0) → P 0 → P 1 → P 2 → P 3 → P 4 → P 5 → P 6 → P 7 → (k : ℕ) → k < 8 → P k
-below_8 P a b c d e f g h = below_n P 8 (a, (b, (c, (d, (e, (f, (g, (h, tt))))))))
+pub each_below_8 : (P : ℕ → Type 0) → P 0 → P 1 → P 2 → P 3 → P 4 → P 5 → P 6 → P 7 → (k : ℕ) → k < 8 → P k
+each_below_8 P a b c d e f g h = each_below P 8 (a, (b, (c, (d, (e, (f, (g, (h, tt))))))))
 
-number-two : (p : ℕ) (xs : List ℕ) (i : ℕ) → suc i < length xs →
+number_l-pair : (p : ℕ) (xs : List ℕ) (i : ℕ) → suc i < length xs →
     number_l p (chunk i 2 xs) ≡ get_or xs i 0 + p * get_or xs (suc i) 0
-number-two p (x ∷ y ∷ xs) zero h = grind arith
-number-two p (x ∷ y ∷ xs) (suc i) h = number-two p _ i (omega arith)
-number-two p xs i h = absurd (omega arith)
+number_l-pair p (x ∷ y ∷ xs) zero h = grind arith
+number_l-pair p (x ∷ y ∷ xs) (suc i) h = number_l-pair p _ i (omega arith)
+number_l-pair p xs i h = absurd (omega arith)
 
-number-digits : (n x : ℕ) → x < 256 ^ n → number_l 256 (digits_l 256 n x) ≡ x
-number-digits zero x h = omega arith
-number-digits (suc n) x h =
+number_l-digits_l : (n x : ℕ) → x < 256 ^ n → number_l 256 (digits_l 256 n x) ≡ x
+number_l-digits_l zero x h = omega arith
+number_l-digits_l (suc n) x h =
     let front : x / 256 < 256 ^ n = omega arith in
-    let rest = number-digits n _ front in
+    let rest = number_l-digits_l n _ front in
     omega arith
 
-number-below : (p : ℕ) (xs : List ℕ) → Each1 (λ x. x < p) xs → number_l p xs < p ^ length xs
-number-below p [] h = omega (arith, pow-zero)
-number-below p (x ∷ xs) h = omega (arith, digits_lt (number-below p xs h.1) h.0, mul_comm, pow-suc)
+number_l-below : (p : ℕ) (xs : List ℕ) → Each1 (λ x. x < p) xs → number_l p xs < p ^ length xs
+number_l-below p [] h = omega (arith, pow-zero)
+number_l-below p (x ∷ xs) h = omega (arith, digits_lt (number_l-below p xs h.1) h.0, mul_comm, pow-suc)
 
-pub joined_octet : (e : ℕ → ℕ) → ((r : ℕ) → e r < 256) → (r : ℕ) → r < 8 →
+pub octet_of_joined : (e : ℕ → ℕ) → ((r : ℕ) → e r < 256) → (r : ℕ) → r < 8 →
     (e 0 + 256 * e 1 + 65536 * (e 2 + 256 * e 3) + 2 ^ 32 * (e 4 + 256 * e 5 + 65536 * (e 6 + 256 * e 7))) / 256 ^ r % 256 ≡ e r
-joined_octet e h = below_n _ 8
+octet_of_joined e h = each_below _ 8
     (omega arith)
 
 -- two adjacent lanes, read as one lane of twice the width
-joined_lane : (p q n : ℕ) (lanes : List ℕ) → q ≡ p ^ 2 → p ^ length lanes ≡ 256 ^ 16 → Each1 (λ x. x < p) lanes →
+lane_of_two_lanes : (p q n : ℕ) (lanes : List ℕ) → q ≡ p ^ 2 → p ^ length lanes ≡ 256 ^ 16 → Each1 (λ x. x < p) lanes →
     (j : ℕ) → j < n → suc (2 * j) < length lanes → get_or (digits_l q n (number_l 256 (digits_l 256 16 (number_l p lanes)))) j 0
     ≡ get_or lanes (2 * j) 0 + p * get_or lanes (suc (2 * j)) 0
-joined_lane p q n lanes square whole small j h within =
-    ap (λ x. get_or (digits_l q n x) j 0) (number-digits 16 _ (rw (← whole) (number-below p lanes small)))
+lane_of_two_lanes p q n lanes square whole small j h within =
+    ap (λ x. get_or (digits_l q n x) j 0) (number_l-digits_l 16 _ (rw (← whole) (number_l-below p lanes small)))
     ∙ get_or_wider p 2 q n lanes j square small h
-    ∙ number-two p lanes (2 * j) within
+    ∙ number_l-pair p lanes (2 * j) within
 
 module _ (p : ℕ) (some : 0 < p) where
   pub below_at : (xs : List ℕ) → Each1 (λ x. x < p) xs → (k : ℕ) → get_or xs k 0 < p
@@ -469,30 +470,30 @@ module _ (p : ℕ) (some : 0 < p) where
   below-picked xs h (k ∷ ks) = (below_at xs h k, below-picked xs h ks)
 
 -- lane s of two concatenated vectors
-side_by_side : (p n : ℕ) (x y : List ℕ) → length x ≡ n → (s : ℕ) → s < n →
+get_or-append_pair : (p n : ℕ) (x y : List ℕ) → length x ≡ n → (s : ℕ) → s < n →
     get_or (x ++ y) s 0 + p * get_or (x ++ y) (n + s) 0 ≡ get_or x s 0 + p * get_or y s 0
-side_by_side p n x y long s h =
+get_or-append_pair p n x y long s h =
     ap₂ (λ a b. a + p * b) (get_or_append_left x y 0 s (omega arith))
     (get_or-append_right x y n _ 0 long (omega arith) ∙ ap (λ k. get_or y k 0) (omega arith))
 
 -- lane s of both vectors, moved next to each other and read as one lane of twice the width
-pub turned_lane : (w : Width) (q n m : ℕ) (x y : List ℕ) → q ≡ (2 ^ bits w) ^ 2 → length x ≡ m → Each1 (Fits w) x →
+pub paired_lane : (w : Width) (q n m : ℕ) (x y : List ℕ) → q ≡ (2 ^ bits w) ^ 2 → length x ≡ m → Each1 (Fits w) x →
     Each1 (Fits w) y → (order : List ℕ) (j s : ℕ) → (2 ^ bits w) ^ length order ≡ 256 ^ 16 → j < n
     → suc (2 * j) < length order →
     s < m → get_or order (2 * j) 0 ≡ s → get_or order (suc (2 * j)) 0 ≡ m + s →
     get_or (digits_l q n (number_l 256 (digits_l 256 16 (number_l (2 ^ bits w) (pick_l 0 (x ++ y) order))))) j 0
     ≡ get_or x s 0 + 2 ^ bits w * get_or y s 0
-turned_lane w q n m x y square long fits_x fits_y order j s whole h within hs first second =
+paired_lane w q n m x y square long fits_x fits_y order j s whole h within hs first second =
     let p : ℕ = 2 ^ bits w in
     let some : 0 < p = pow_pos _ in
     let lanes : List ℕ = pick_l 0 _ _ in
     let count : length lanes ≡ length order = length-map _ _ in
     let small = below-picked p some _ (below-append p some x y (below_from_Fits w x fits_x) (below_from_Fits w y fits_y)) _ in
     let at = λ (i : ℕ) (hi : i < length order). get_or-map (λ k. get_or (x ++ y) k 0) order i 0 0 hi in
-    joined_lane p q n lanes square (ap (λ k. p ^ k) count ∙ whole) small j h (omega arith)
+    lane_of_two_lanes p q n lanes square (ap (λ k. p ^ k) count ∙ whole) small j h (omega arith)
     ∙ ap₂ (λ a b. a + p * b) (at (2 * j) (omega arith) ∙ ap (λ k. get_or (x ++ y) k 0) first)
     (at (suc (2 * j)) within ∙ ap (λ k. get_or (x ++ y) k 0) second)
-    ∙ side_by_side p m x y long s hs
+    ∙ get_or-append_pair p m x y long s hs
 
 -- the result, in one lane, of an operation whose second vector has the same number in all lanes
 lane_by : (f : ℕ → ℕ → ℕ) (x : List ℕ) (m n s : ℕ) → length x ≡ m → s < m →
@@ -511,36 +512,36 @@ module _ (x y : List ℕ) (long_x : length x ≡ 8) (long_y : length y ≡ 8) wh
       get_or-zip2 _ _ _ s 0 0 0 (omega arith) (omega arith)
       ∙ ap₂ (λ a b. (a + b) % 2 ^ 16) (lane_by f x 8 m s long_x h) (lane_by g y 8 n s long_y h)
 
-  pub lower_lane : (s : ℕ) → s < 8 →
+  pub join_lower_octets-lane : (s : ℕ) → s < 8 →
       get_or (zip2 (λ a b. (a + b) % 2 ^ 16) (zip2 bit_and x (replicate 8 255)) (zip2 (λ a b. a * 2 ^ b % 2 ^ 16) y (replicate 8 8))) s 0
       ≡ get_or x s 0 % 256 + 256 * (get_or y s 0 % 256)
-  lower_lane s h =
+  join_lower_octets-lane s h =
       sum_lane _ _ 255 8 s h
       ∙ ap (λ a. (a + get_or y s 0 * 256 % 65536) % 65536) (and_mask _ 8)
       ∙ omega arith
 
-  pub upper_lane : Each1 (Fits w16) x → Each1 (Fits w16) y → (s : ℕ) → s < 8 →
+  pub join_upper_octets-lane : Each1 (Fits w16) x → Each1 (Fits w16) y → (s : ℕ) → s < 8 →
       get_or (zip2 (λ a b. (a + b) % 2 ^ 16) (zip2 (λ a b. a / 2 ^ b) x (replicate 8 8)) (zip2 bit_and y (replicate 8 65280))) s 0
       ≡ get_or x s 0 / 256 % 256 + 256 * (get_or y s 0 / 256 % 256)
-  upper_lane fits_x fits_y s h =
+  join_upper_octets-lane fits_x fits_y s h =
       let small_x = below_at _ (pow_pos 16) x (below_from_Fits w16 x fits_x) s in
       let small_y = below_at _ (pow_pos 16) y (below_from_Fits w16 y fits_y) s in
       sum_lane (λ a b. a / 2 ^ b) bit_and 8 65280 s h
       ∙ ap (λ b. (get_or x s 0 / 256 + b) % 65536) (and_high_mask 16 8 (omega arith) (get_or y s 0) small_y)
       ∙ omega arith
 
-  pub length-sums : (f g : ℕ → ℕ → ℕ) (m n : ℕ) →
+  pub length-joined_octets : (f g : ℕ → ℕ → ℕ) (m n : ℕ) →
       length (zip2 (λ a b. (a + b) % 2 ^ 16) (zip2 f x (replicate 8 m)) (zip2 g y (replicate 8 n))) ≡ 8
-  length-sums f g m n =
+  length-joined_octets f g m n =
       let long_f : length (zip2 f x (replicate 8 m)) ≡ 8 = length-zip2 f x (replicate 8 m) long_x ∙ long_x in
       let long_g : length (zip2 g y (replicate 8 n)) ≡ 8 = length-zip2 g y (replicate 8 n) long_y ∙ long_y in
       length-zip2 _ _ _ (long_f ∙ sym long_g) ∙ long_f
 
 -- two adjacent octets, read as one 16-bit lane
-pub pair_lane : (octets : List ℕ) (from s : ℕ) → from + 16 ≤ length octets → ((k : ℕ) → Fits w8 (get_or octets k 0)) →
+pub octet_pairs-lane : (octets : List ℕ) (from s : ℕ) → from + 16 ≤ length octets → ((k : ℕ) → Fits w8 (get_or octets k 0)) →
     s < 8 → get_or (digits_l 65536 8 (number_l 256 (chunk 0 16 (mid_of from (from + 16 - from) octets)))) s 0
     ≡ get_or octets (from + 2 * s) 0 + 256 * get_or octets (from + suc (2 * s)) 0
-pair_lane octets from s room fits h =
+octet_pairs-lane octets from s room fits h =
     let part : List ℕ = chunk _ 16 octets in
     let lanes : List ℕ = chunk 0 16 _ in
     let whole : from + 16 - from ≡ 16 = omega arith in
@@ -550,7 +551,7 @@ pair_lane octets from s room fits h =
     get_or-chunk 0 16 part k 0 hk ∙ ap (λ m. get_or part m 0) (zero-add k) ∙ get_or-chunk from 16 octets k 0 hk in
     ap (λ n. get_or (digits_l 65536 8 (number_l 256 (chunk 0 16 (mid_of from n octets)))) s 0) whole
     ∙ get_or_wider 256 2 65536 8 lanes s refl small h
-    ∙ number-two 256 lanes (2 * s) (omega arith)
+    ∙ number_l-pair 256 lanes (2 * s) (omega arith)
     ∙ ap₂ (λ a b. a + 256 * b) (at (2 * s) (omega arith)) (at (suc (2 * s)) (omega arith))
 
 -- ## ColumnBits: `Columns` holds the coded bits in columns, and each row of a burst is the same bit of consecutive columns.
@@ -571,16 +572,16 @@ columns_of_packed packed long q hq =
 
 -- a list overwritten from index n on
 module _ (n m : ℕ) (first rest second : List ℕ) (within : n ≤ length first) where
-  pub written_before : (q : ℕ) → q < n → get_or (put_mid n m (first ++ rest) second) q 0 ≡ get_or first q 0
-  written_before q hq =
+  pub put_mid-first : (q : ℕ) → q < n → get_or (put_mid n m (first ++ rest) second) q 0 ≡ get_or first q 0
+  put_mid-first q hq =
       let front : q < length first = omega arith in
       let taken : q < length (take n (first ++ rest)) = omega (arith, length-take n (first ++ rest), length-append first rest) in
       get_or_append_left _ _ 0 q taken
       ∙ get_or-take n (first ++ rest) q 0 hq
       ∙ get_or_append_left first rest 0 q front
 
-  pub written_behind : (q : ℕ) → q < length second → get_or (put_mid n m (first ++ rest) second) (n + q) 0 ≡ get_or second q 0
-  written_behind q hq =
+  pub put_mid-second : (q : ℕ) → q < length second → get_or (put_mid n m (first ++ rest) second) (n + q) 0 ≡ get_or second q 0
+  put_mid-second q hq =
       let taken : length (take n (first ++ rest)) ≡ n = omega (arith, length-take n (first ++ rest), length-append first rest) in
       let back : n + q - n ≡ q = omega arith in
       get_or-append_right _ _ n _ 0 taken (omega arith)
@@ -639,29 +640,29 @@ module _ (octets : List ℕ) (i : ℕ) (long : length octets ≡ 16) where
       ∙ ap (λ a. a / 2 ^ i) (get_or-chunk 0 16 octets p 0 hp ∙ ap (λ k. get_or octets k 0) (zero-add p)))
 
 -- two vectors of sixteen lanes, interleaved
-abbrev turns : List ℕ
-turns = map (λ i. i / 2 + 16 * (i % 2)) (range_with_len 0 32)
+abbrev alternating_lanes : List ℕ
+alternating_lanes = map (λ i. i / 2 + 16 * (i % 2)) (range_with_len 0 32)
 
 pub interleave_lanes : (first second : List ℕ) (i : ℕ) → i < 32 →
-    get_or (pick_l 0 (first ++ second) turns) i 0 ≡ get_or (first ++ second) (i / 2 + 16 * (i % 2)) 0
+    get_or (pick_l 0 (first ++ second) alternating_lanes) i 0 ≡ get_or (first ++ second) (i / 2 + 16 * (i % 2)) 0
 interleave_lanes first second i hi =
     let at = get_or-map-range_with_len (λ i. i / 2 + 16 * (i % 2)) 0 32 i i 0 hi
     (omega arith) in
-    get_or-map (λ k. get_or (first ++ second) k 0) turns i 0 0 (omega (arith, length-map-range_with_len))
+    get_or-map (λ k. get_or (first ++ second) k 0) alternating_lanes i 0 0 (omega (arith, length-map-range_with_len))
     ∙ ap (λ k. get_or (first ++ second) k 0) at
 
 -- a list of the same length as the vector is overwritten completely
-pub written_whole : (old lanes : List ℕ) (i : ℕ) → length old ≡ 32 → length lanes ≡ 32 → i < 32 →
+pub put_chunk-whole : (old lanes : List ℕ) (i : ℕ) → length old ≡ 32 → length lanes ≡ 32 → i < 32 →
     get_or (put_chunk 0 old lanes) i 0 ≡ get_or lanes i 0
-written_whole old lanes i o l hi =
+put_chunk-whole old lanes i o l hi =
     ap (λ xs. get_or xs i 0) (put_chunk_is 0 old _ (omega arith)) ∙ get_or_append_left _ _ 0 i (omega arith)
 
 -- two rows, interleaved, are consecutive positions of a burst
-pub turned_places : (coded first second : List ℕ) (b from i : ℕ) → length first ≡ 16 → i < 32 →
+pub interleave_lanes-coded_bits : (coded first second : List ℕ) (b from i : ℕ) → length first ≡ 16 → i < 32 →
     ((p : ℕ) → p < 16 → get_or first p 0 ≡ get_or coded (coded_index_at b (from + 2 * p)) 0) →
     ((p : ℕ) → p < 16 → get_or second p 0 ≡ get_or coded (coded_index_at b (from + 1 + 2 * p)) 0) →
     get_or (first ++ second) (i / 2 + 16 * (i % 2)) 0 ≡ get_or coded (coded_index_at b (from + i)) 0
-turned_places coded first second b from i long hi even odd =
+interleave_lanes-coded_bits coded first second b from i long hi even odd =
     let half : i / 2 < 16 = omega arith in
     elim (cases_lt (i % 2) 1) [
       | inl lower ↦
@@ -677,16 +678,16 @@ turned_places coded first second b from i long hi even odd =
     ]
 
 -- half a burst is written in two parts: positions 0 to 31, and from position 32 on
-pub half_place : (coded front rest back : List ℕ) (b half m i : ℕ) → length front ≡ 32 → length back ≡ 32 → i < 57 →
+pub half_burst-coded_bits : (coded front rest back : List ℕ) (b half m i : ℕ) → length front ≡ 32 → length back ≡ 32 → i < 57 →
     ((j : ℕ) → j < 32 → get_or front j 0 ≡ get_or coded (coded_index_at b (57 * half + j)) 0) →
     ((j : ℕ) → j < 32 → get_or back j 0 ≡ get_or coded (coded_index_at b (57 * half + 32 + j)) 0) →
     get_or (put_mid 32 m (front ++ rest) back) i 0 ≡ get_or coded (coded_index_at b (57 * half + i)) 0
-half_place coded front rest back b half m i long long' hi first second =
+half_burst-coded_bits coded front rest back b half m i long long' hi first second =
     elim (cases_lt i 32) [
-      | inl lower ↦ written_before 32 m _ _ _ (omega arith) i lower ∙ first i (omega arith)
+      | inl lower ↦ put_mid-first 32 m _ _ _ (omega arith) i lower ∙ first i (omega arith)
       | inr upper ↦
           ap (λ k. get_or (put_mid 32 m (front ++ rest) back) k 0) (sym (omega arith))
-          ∙ written_behind 32 m front rest back (omega arith) (i - 32) (omega arith)
+          ∙ put_mid-second 32 m front rest back (omega arith) (i - 32) (omega arith)
           ∙ second (i - 32) (omega arith)
           ∙ ap (λ j. get_or coded (coded_index_at b j) 0) (omega arith)
     ]

@@ -19,7 +19,7 @@ pub record IsBurstDeinterleaved {X : Type 0} (burst_number : ℕ) (burst old new
   pub unchanged_bits : (k : ℕ) (d : X) → k < 456 → burst_of_bit k ≢ burst_number → slice_index_or new k d ≡ slice_index_or old
       k d
 
--- deinterleaving the bursts in the order of these burst numbers turns the first list of coded values into the second
+-- deinterleaving the bursts with these numbers, in this order, turns the coded values `old` into `new`
 abbrev pub AreDeinterleaved : {X : Type 0} (bursts : List (List X)) (order : List ℕ) (old new : List X) → Type 0
 AreDeinterleaved bursts [] old new = old ≡ new
 AreDeinterleaved {X} bursts (b ∷ order) old new =

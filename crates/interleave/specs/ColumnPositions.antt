@@ -1,6 +1,6 @@
 -- The 456 coded bits, arranged in 57 columns of eight: bit `r` of column `q` is coded bit `8 * (8 * q mod 57) + r`. Row `r` consists of the
--- coded bits `k` with `k mod 8 = r` and fills every other position of one burst, column after column, because positions advance by `49 * k
--- mod 57` and `49 * 8 * 8 mod 57 = 1`.
+-- coded bits `k` with `k mod 8 = r`. It fills every other position of one burst, one column after another, because coded bit `k` has
+-- position `2 * (49 * k mod 57) + r div 4`, and `49 * 8 * 8 mod 57 = 1`.
 use Rattle.std.specs.Prelude.{ℕ, ◌+◌, ◌*◌, ◌/◌, ◌%◌}
 
 -- the number of the coded bit in a given column and row

@@ -39,7 +39,7 @@ impl Columns {
         }
     }
 
-    /// Writes one half of burst `b`, 57 bits: positions 0 to 56 if `half` is 0, and 57 to 113 if it is 1.
+    /// Writes one half of burst number `burst_number`, 57 bits: positions 0 to 56 if `half` is 0, and 57 to 113 if it is 1.
     pub fn write_half_burst(&self, burst_number: usize, half: usize, out: &mut [u8])
         requires burst { burst_number < 4 }
         requires half { half ≤ 1 }

@@ -38,7 +38,7 @@ pub(crate) fn eight_columns(bursts: &[[u8; 114]; 4], column_group: usize) -> [u6
     [first, second, third, fourth, fifth, sixth, seventh, eighth]
 }
 
-/// The index of column `8 * group` in a row.
+/// The index of column `8 * column_group` in row number `row`.
 fn column_in_row(column_group: usize, row: usize) -> usize
     requires group { column_group < 7 }
     requires row { row < 8 }

@@ -19,7 +19,7 @@ mod tests {
     use super::spread;
     use bit_blocks::CODED_BITS;
 
-    // The last 88 coded bits of a block of 23 octets 00; all coded bits before them are 0.
+    // The last 88 coded bits of a block of 23 zero octets; all coded bits before them are 0.
     const LAST_88_BITS: &[u8; 88] =
         b"1110100110101010101010101010101010101010101010101010101010101010101010101010101001000011";
 

@@ -13,7 +13,7 @@ use Rattle.{
   lapdm_window.{
     proofs.{
       Lemmas.{HasSameVariables-values, by_sapi, counted, evaluates_nr-is},
-      segmenting.Lemmas.{latest_message_after-last, within_some},
+      segmenting.Lemmas.{completed_message_after-last, message_if_fits-some},
     },
     specs.{
       Abstraction.{HasSameVariables, HoldsUnackedMessages, Represents as WindowRepresents},
@@ -27,7 +27,7 @@ use Rattle.{
       Tables.{closes_and_reports, frame_outcome},
       declared.{Notice.Notice, Sapi.{TheVariants.{Three, Zero}, Sapi}, State.{TheVariants.{Closed, Closing, Idle, Opening, Open}, State}},
       declared.{effects.Effects.Effects, window.Window.Window},
-      segmenting.{Joining.{latest_message, partial_message, reassembly_result}, Segments.{Message, Segment, max_message_octets}},
+      segmenting.{Joining.{completed_message, partial_message, reassembly_result}, Segments.{Message, Segment, max_message_octets}},
       segmenting.declared.joiner.Joined.Joined,
     },
   },
@@ -55,13 +55,13 @@ pub takes_i_frame-is : (ns nr : ℕ) (p : Bool) (segment : Segment) (e : Endpoin
     takes_i_frame ns nr p segment e ≡ (evaluates_nr nr e then takes_segment ns p segment)
 takes_i_frame-is ns nr p segment e = grind arith
 
-pub is_accepted : (same due : Bool) (joined answer : Joined) →
+pub Accepted-if : (same due : Bool) (joined answer : Joined) →
     I.Accepted joined ≡ (if same then I.Accepted answer else I.OutOfSequence due) → (same ≡ true) × (joined ≡ answer)
-is_accepted same due joined answer h = grind arith
+Accepted-if same due joined answer h = grind arith
 
-pub is_refused : (same due reject : Bool) (answer : Joined) →
+pub refused-if : (same due reject : Bool) (answer : Joined) →
     I.OutOfSequence reject ≡ (if same then I.Accepted answer else I.OutOfSequence due) → (same ≡ false) × (reject ≡ due)
-is_refused same due reject answer h = grind arith
+refused-if same due reject answer h = grind arith
 
 pub takes_segment-same : (ns : ℕ) (p : Bool) (segment : Segment) (e : EndpointState) → nat_eq ns (vr e) ≡ true →
     takes_segment ns p segment e ≡ (accepts_segment segment e then answers_segment p)
@@ -72,29 +72,29 @@ pub takes_segment-other : (ns : ℕ) (due p : Bool) (segment : Segment) (e : End
 takes_segment-other ns due p segment e h is = grind arith
 
 -- the message that is reported is the one that the last segment completed
-whole-latest_message : (ps : List Segment) (octets : List ℕ) → length (partial_message ps ++ octets) ≤ max_message_octets →
-    latest_message (ps ++ (octets, false) ∷ []) ≡ partial_message ps ++ octets
-whole-latest_message ps octets h = latest_message_after-last [] ps octets
-    ∙ ap (λ o. unwrap_or o []) (within_some (partial_message ps ++ octets) h)
+whole-completed_message : (ps : List Segment) (octets : List ℕ) → length (partial_message ps ++ octets) ≤ max_message_octets →
+    completed_message (ps ++ (octets, false) ∷ []) ≡ partial_message ps ++ octets
+whole-completed_message ps octets h = completed_message_after-last [] ps octets
+    ∙ ap (λ o. unwrap_or o []) (message_if_fits-some (partial_message ps ++ octets) h)
 
 abbrev answered : Bool → Bool → Joined
 answered over more = if over then J.Oversize else (if more then J.More else J.Whole)
 
-reported : (over : Bool) (ps : List Segment) (octets : List ℕ) (more : Bool) →
+segment_notices-answered : (over : Bool) (ps : List Segment) (octets : List ℕ) (more : Bool) →
     over ≡ nat_lt max_message_octets (length (partial_message ps ++ octets)) →
-    segment_notices (answered over more) more (latest_message (ps ++ (octets, more) ∷ []))
+    segment_notices (answered over more) more (completed_message (ps ++ (octets, more) ∷ []))
     ≡ segment_notices (answered over more) more (partial_message ps ++ octets)
-reported over ps octets more h = grind (arith, nat_tests, whole-latest_message ps octets)
+segment_notices-answered over ps octets more h = grind (arith, nat_tests, whole-completed_message ps octets)
 
-pub notices-latest_message : (ps : List Segment) (octets : List ℕ) (more : Bool) (joined : Joined) →
+pub notices-completed_message : (ps : List Segment) (octets : List ℕ) (more : Bool) (joined : Joined) →
     joined ≡ reassembly_result ps (octets, more) →
-    segment_notices joined more (latest_message (ps ++ (octets, more) ∷ [])) ≡ segment_notices (reassembly_result ps (octets, more))
+    segment_notices joined more (completed_message (ps ++ (octets, more) ∷ [])) ≡ segment_notices (reassembly_result ps (octets, more))
     more
     (partial_message ps ++ octets)
-notices-latest_message ps octets more joined h =
-    rw h (reported (nat_lt max_message_octets (length (partial_message ps ++ octets))) ps octets more refl)
+notices-completed_message ps octets more joined h =
+    rw h (segment_notices-answered (nat_lt max_message_octets (length (partial_message ps ++ octets))) ps octets more refl)
 
--- what holds after the next segment becomes outstanding
+-- after the next segment becomes outstanding, the endpoint awaits its acknowledgement
 awaits_ack-next : (e : EndpointState) → has_segment_to_send e ≡ true → awaits_ack (with_segment_sent e) ≡ true
 awaits_ack-next e h = grind arith
 
@@ -161,7 +161,7 @@ pub same_rules_in_open : {l : Address} {w v : Window} {e f : EndpointState} → 
     f.channel ≡ e.channel → f.state ≡ e.state → WindowRepresents v f → RepresentsOpenEndpoint l v f
 same_rules_in_open h role sapi channel same window = grind arith
 
--- the window and the effects after the next segment is sent
+-- if the window represents the endpoint with the next segment outstanding, sending that segment has the outcome of `sends_segment`
 pub Gives-next : {l : Address} {w v : Window} {a b : Effects} (e : EndpointState) → RepresentsOpenEndpoint l w e →
     has_segment_to_send e ≡ true →
     WindowRepresents v (with_segment_sent e) →
@@ -190,7 +190,7 @@ module _ {role : Role} {sapi : Sapi} {s : State} {k : Message} {r : ℕ} {e : En
       W.Represents w (with_fields role sapi s k r e)
   Window-other same h = grind arith
 
--- another state, other kept information and another retry count
+-- an `Endpoint` whose state, kept information and retry count are s, k and r represents e with these three replaced
 pub Represents-moved : {m : Endpoint} {s : State} {k : Message} {r : ℕ} {e : EndpointState} → IsValidEndpoint e →
     IsAddressOf m.address e →
     HasSameVariables m.window e → m.state ≡ s → m.sabm_info ≡ k → length k ≤ n201 e.channel →
@@ -199,15 +199,15 @@ pub Represents-moved : {m : Endpoint} {s : State} {k : Message} {r : ℕ} {e : E
     Represents m (moved s k r e)
 Represents-moved end link variables state kept fits empty_on_sapi3 back now = grind arith
 
-pub unopened-moved : {w : Window} {s : State} {k : Message} {r : ℕ} {e : EndpointState} → e.taken ≡ [] → W.Represents w e →
+pub unopened-moved : {w : Window} {s : State} {k : Message} {r : ℕ} {e : EndpointState} → e.messages ≡ [] → W.Represents w e →
     W.Represents w (moved s k r e)
 unopened-moved taken h = grind arith
 
 -- the kept information is empty on SAPI 3, and fits in a frame
-pub kept_is_empty_on_sapi3 : {m : Endpoint} {e : EndpointState} → Represents m e → m.address.sapi ≡ Three → e.sabm_info ≡ []
-kept_is_empty_on_sapi3 h three = grind arith
+pub sabm_info-sapi3 : {m : Endpoint} {e : EndpointState} → Represents m e → m.address.sapi ≡ Three → e.sabm_info ≡ []
+sabm_info-sapi3 h three = grind arith
 
--- A, and B if A holds, imply A and B
+-- if A holds and A implies B, both A and B hold
 pub both : {A B : Type 0} → A → (A → B) → A × B
 both a f = (a, f a)
 
@@ -220,7 +220,7 @@ pub window_holds_unacked : (w : Window) (r : ℕ) (e : EndpointState) (s : State
     HoldsUnackedMessages w.held.items w.segment_index e
 window_holds_unacked w r e s h = grind arith
 
--- in Open, an `Endpoint` represents an endpoint exactly as its window does; so rules over the window become rules of the endpoint
+-- in Open, if an `Endpoint` represents an endpoint, so does its window; so rules for the window become rules for the endpoint
 pub Runs-open : {m : Endpoint} {e : EndpointState} → m.state ≡ Open → Represents m e → RepresentsOpenEndpoint m.address m.window e
 Runs-open {m} {e} is_now h = grind arith
 
@@ -233,7 +233,7 @@ pub Adds-open : {a b : Effects} {e : EndpointState} {o : Outcome} (m : Endpoint)
     (m.address.sapi ≡ Three → e.sabm_info ≡ []) → AppendsOutcomeInOpen m.address m.window a b e o → AppendsOutcome m a b o
 Adds-open m is_now kept empty_on_sapi3 g = grind arith
 
--- `AppendsOutcome`, if the equation of the frames needs `Represents`
+-- `AppendsOutcome` holds even if its equation of the frames can only be proved from `Represents`
 pub Adds-by : {m : Endpoint} {a b : Effects} {o : Outcome} →
     (Represents m o.new_state → b.frames ≡ a.frames ++ map (octets_of m.address.channel) o.frames)
     → b.notices ≡ a.notices ++ o.notices → Represents m o.new_state → AppendsOutcome m a b o
@@ -248,11 +248,11 @@ pub t200_expiry-again : (n : ℕ) (e : EndpointState) (s : State) → e.state �
     t200_expiry e ≡ sends_frame (frame_to_retransmit s e) (record e { retries = e.retries + 1 })
 t200_expiry-again n e s is h below = grind arith
 
-pub is_spent : (e : EndpointState) → T.Spent ≡ t200_result e → n200 e.channel Open ≤ e.retries
-is_spent e is = grind (arith, nat_tests)
+pub t200_result-spent : (e : EndpointState) → T.Spent ≡ t200_result e → n200 e.channel Open ≤ e.retries
+t200_result-spent e is = grind (arith, nat_tests)
 
-pub is_again : (e : EndpointState) → T.Again ≡ t200_result e → (awaits_ack e ≡ true) × (e.retries < n200 e.channel Open)
-is_again e is = grind arith
+pub t200_result-again : (e : EndpointState) → T.Again ≡ t200_result e → (awaits_ack e ≡ true) × (e.retries < n200 e.channel Open)
+t200_result-again e is = grind arith
 
 pub t200_expiry-open : (e : EndpointState) → e.state ≡ Open → awaits_ack e ≡ true → e.retries < n200 e.channel Open →
     t200_expiry e ≡ sends_outstanding_segment true (record e { retries = e.retries + 1 })
@@ -275,16 +275,16 @@ Represents-same_values m n e same h =
       state = sym state ∙ h.state;
       sabm_info = grind arith;
       variables = HasSameVariables-values window h.variables;
-      now = rw (← state) (RepresentsInState-values m.state m.window n.window m.retries n.retries e window
-          (ap (λ (x : EndpointValues). x.retries) same) h.now);
+      in_state = rw (← state) (RepresentsInState-values m.state m.window n.window m.retries n.retries e window
+          (ap (λ (x : EndpointValues). x.retries) same) h.in_state);
     }
 
 -- the values of an `Endpoint` that represents an endpoint satisfy `AreConsistent`
-unused : (w : Window) (e : EndpointState) → e.taken ≡ [] → e.accepted ≡ [] → W.Represents w e → IsInitialWindow (P.values_of w)
+unused : (w : Window) (e : EndpointState) → e.messages ≡ [] → e.peer_segments ≡ [] → W.Represents w e → IsInitialWindow (P.values_of w)
 unused w e taken accepted h = grind arith
 
-pub in_step : (m : Endpoint) (e : EndpointState) → Represents m e → AreConsistent (values_of m)
-in_step m e h = grind arith
+pub is_consistent : (m : Endpoint) (e : EndpointState) → Represents m e → AreConsistent (values_of m)
+is_consistent m e h = grind arith
 
 -- if an `Endpoint` represents an endpoint, its window represents the same endpoint with the retry count of the window
 abbrev with_retries : ℕ → EndpointState → EndpointState
@@ -304,7 +304,7 @@ window_in Closing w r e end variables h = (with_retries w.retries e, held_by_the
 window_in Closed w r e end variables h = (with_retries w.retries e, held_by_then w e end variables h)
 
 pub window_of : (m : Endpoint) (e : EndpointState) → Represents m e → (f : EndpointState) × W.Represents m.window f
-window_of m e h = window_in m.state m.window m.retries e h.valid h.variables h.now
+window_of m e h = window_in m.state m.window m.retries e h.valid h.variables h.in_state
 
 -- ## Represented: If the values of an `Endpoint` satisfy `AreConsistent` and its window represents an endpoint, the `Endpoint` represents
 -- one: before Open the initial endpoint, and from Open on the one that the window represents.
@@ -313,7 +313,7 @@ window_of m e h = window_in m.state m.window m.retries e h.valid h.variables h.n
 abbrev pub RepresentsOne : Endpoint → Type 0
 RepresentsOne m = (e : EndpointState) × Represents m e
 
--- the endpoint that is represented before Open
+-- the endpoint that an `Endpoint` represents in a state before Open
 abbrev before : Endpoint → State → EndpointState
 before m s = record {
   role = spec_role_of m.address.role;
@@ -321,10 +321,10 @@ before m s = record {
   channel = m.address.channel;
   state = s;
   sabm_info = m.sabm_info;
-  taken = [];
-  acked = 0;
-  sent = 0;
-  accepted = [];
+  messages = [];
+  acked_segments = 0;
+  sent_segments = 0;
+  peer_segments = [];
   rejecting = m.window.rejecting;
   retries = m.retries;
 }
@@ -332,31 +332,36 @@ before m s = record {
 unused_end : (m : Endpoint) (s : State) → IsInitialWindow (P.values_of m.window) → W.Represents m.window (before m s)
 unused_end m s h = grind arith
 
-before_open : (m : Endpoint) (s : State) → m.state ≡ s → AreConsistent (values_of m) → IsInitialWindow (P.values_of m.window) →
+RepresentsOne-before_open : (m : Endpoint) (s : State) → m.state ≡ s → AreConsistent (values_of m) →
+    IsInitialWindow (P.values_of m.window) →
     RepresentsInState s m.window m.retries (before m s) → RepresentsOne m
-before_open m s is h unused now = grind arith
+RepresentsOne-before_open m s is h unused now = grind arith
 
--- the endpoint that is represented from Open on
+-- the endpoint that an `Endpoint` represents in Open and the states after it
 abbrev since : Endpoint → State → ℕ → EndpointState → EndpointState
 since m s retries e = with_fields (spec_role_of m.address.role) m.address.sapi s m.sabm_info retries e
 
-from_open : (m : Endpoint) (s : State) (retries : ℕ) (e : EndpointState) → m.state ≡ s → (IsBeforeOpen s → ⊥) →
+RepresentsOne-from_open : (m : Endpoint) (s : State) (retries : ℕ) (e : EndpointState) → m.state ≡ s → (IsBeforeOpen s → ⊥) →
     AreConsistent (values_of m) → W.Represents m.window e → RepresentsInState s m.window m.retries (since m s retries e) →
     RepresentsOne m
-from_open m s retries e is opened h window now = grind arith
+RepresentsOne-from_open m s retries e is opened h window now = grind arith
 
-by_state : (m : Endpoint) (s : State) (e : EndpointState) → m.state ≡ s → AreConsistent (values_of m) → W.Represents m.window e →
+RepresentsOne-by_state : (m : Endpoint) (s : State) (e : EndpointState) → m.state ≡ s → AreConsistent (values_of m) →
+    W.Represents m.window e →
     IsInitialBeforeOpen s (P.values_of m.window) → RepresentsOne m
-by_state m Idle e is h window now = before_open m Idle is h now (unused_end m Idle now)
-by_state m Opening e is h window now = before_open m Opening is h now (record { window = unused_end m Opening now; retry_count = refl })
-by_state m Open e is h window now = from_open m Open e.retries e is (λ u. u) h window (Window-other (λ t. refl) window)
-by_state m Closing e is h window now =
-    from_open m Closing m.retries e is (λ u. u) h window
+RepresentsOne-by_state m Idle e is h window now = RepresentsOne-before_open m Idle is h now (unused_end m Idle now)
+RepresentsOne-by_state m Opening e is h window now =
+    RepresentsOne-before_open m Opening is h now (record { window = unused_end m Opening now; retry_count = refl })
+RepresentsOne-by_state m Open e is h window now =
+    RepresentsOne-from_open m Open e.retries e is (λ u. u) h window (Window-other (λ t. refl) window)
+RepresentsOne-by_state m Closing e is h window now =
+    RepresentsOne-from_open m Closing m.retries e is (λ u. u) h window
     (record { unacked_messages = Holds-other window.unacked_messages; retry_count = refl })
-by_state m Closed e is h window now = from_open m Closed m.retries e is (λ u. u) h window (Holds-other window.unacked_messages)
+RepresentsOne-by_state m Closed e is h window now =
+    RepresentsOne-from_open m Closed m.retries e is (λ u. u) h window (Holds-other window.unacked_messages)
 
 pub represents_one : (m : Endpoint) (e : EndpointState) → AreConsistent (values_of m) → W.Represents m.window e → RepresentsOne m
-represents_one m e h window = by_state m m.state e refl h window h.now
+represents_one m e h window = RepresentsOne-by_state m m.state e refl h window h.initial_before_open
 
 -- ## SideSteps: A side follows a step of the definition if the endpoint of one SAPI does and the other endpoint is unchanged.
 
@@ -364,24 +369,24 @@ pub represents_at : (sapi : Sapi) (m : Side) (a : SideState) → SideRepresents 
     L.Represents (endpoint_of sapi m) (endpoint_on sapi a)
 represents_at sapi m a h = grind arith
 
-pub does_at : (sapi : Sapi) (old new : Side) (effects : Effects) (rule : EndpointState → Outcome) →
+pub refines_at : (sapi : Sapi) (old new : Side) (effects : Effects) (rule : EndpointState → Outcome) →
     F.StepRefines rule (endpoint_of sapi old) effects (endpoint_of sapi new) → L.channel_of (endpoint_of sapi old) ≡ channel_of old →
     endpoint_of (other sapi) new ≡ endpoint_of (other sapi) old →
     StepRefines (λ a. endpoint_step sapi (rule (endpoint_on sapi a)) a) old sapi effects new
-does_at sapi old new effects rule h g k l m = grind arith
+refines_at sapi old new effects rule h g k l m = grind arith
 
-pub zero_takes : (f : Frame) (old new : Side) (effects : Effects) → f.sapi ≡ 0 →
+pub refines_sapi0 : (f : Frame) (old new : Side) (effects : Effects) → f.sapi ≡ 0 →
     StepRefines (λ a. endpoint_step Zero (frame_outcome f a.link0) a) old Zero effects new
     → StepRefines (step_for_frame f) old Zero effects new
-zero_takes f old new effects z h a st = grind arith
+refines_sapi0 f old new effects z h a st = grind arith
 
-pub three_takes : (f : Frame) (old new : Side) (effects : Effects) → f.sapi ≡ 3 →
+pub refines_sapi3 : (f : Frame) (old new : Side) (effects : Effects) → f.sapi ≡ 3 →
     StepRefines (λ a. endpoint_step Three (frame_outcome f a.link3) a) old Three effects new →
     StepRefines (step_for_frame f) old Three effects new
-three_takes f old new effects t h a st = grind arith
+refines_sapi3 f old new effects t h a st = grind arith
 
-pub none_takes : (f : Frame) (old : Side) (effects : Effects) → f.sapi ≢ 0 → f.sapi ≢ 3 → effects.frames ≡ [] →
+pub refines_no_sapi : (f : Frame) (old : Side) (effects : Effects) → f.sapi ≢ 0 → f.sapi ≢ 3 → effects.frames ≡ [] →
     effects.notices ≡ [] → StepRefines (step_for_frame f) old Zero effects old
-none_takes f old effects z t frames notices a st =
+refines_no_sapi f old effects z t frames notices a st =
     by_sapi f a (λ d. CarriesOutStep (channel_of old) d Zero effects old) (λ q. absurd (z q)) (λ q. absurd (t q))
     (λ q r. record { represents = st; sapi_matches = refl; frames = frames; notices = notices })

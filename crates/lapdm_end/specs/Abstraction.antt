@@ -50,4 +50,4 @@ pub record Represents (m : Endpoint) (e : EndpointState) : Type 0 where
   pub state : m.state ≡ e.state
   pub sabm_info : m.sabm_info ≡ e.sabm_info
   pub variables : HasSameVariables m.window e
-  pub now : RepresentsInState m.state m.window m.retries e
+  pub in_state : RepresentsInState m.state m.window m.retries e

@@ -77,4 +77,4 @@ IsInitialBeforeOpen Closed x = Unit {0}
 pub record AreConsistent (x : EndpointValues) : Type 0 where
   pub sabm_info_fits : length x.sabm_info ≤ n201 x.window.channel
   pub empty_on_sapi3 : x.sapi ≡ Three → x.sabm_info ≡ []
-  pub now : IsInitialBeforeOpen x.state x.window
+  pub initial_before_open : IsInitialBeforeOpen x.state x.window

@@ -17,7 +17,7 @@ pub struct Endpoint {
     pub(crate) sabm_info: Message,
     pub(crate) address: Address,
     pub(crate) state: State,
-    // How many times the SABM or DISC that awaits an answer has been repeated.
+    // How many times the SABM or DISC that awaits a response has been repeated.
     pub(crate) retries: u8,
     ghost one_channel: { window_channel window ≡ address.channel },
     ghost sabm_info_fits: { length sabm_info ≤ n201 address.channel },

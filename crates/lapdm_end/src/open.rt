@@ -2,7 +2,7 @@
 
 ghost use Rattle.std.specs.Prelude.{◌≡◌, ◌+◌, ◌≤◌, [], ◌++◌, Bool, length};
 ghost use Rattle.lapdm_frame.specs.Layout.{n201};
-ghost use Rattle.lapdm_window.specs.segmenting.Joining.{latest_message};
+ghost use Rattle.lapdm_window.specs.segmenting.Joining.{completed_message};
 ghost use Rattle.lapdm_window.specs.Ends.{EndpointState};
 ghost use Rattle.lapdm_window.specs.Rules.{sends_next_segment, evaluates_nr, segment_notices, sends_rr, answers_segment, answers_poll};
 ghost use Rattle.lapdm_window.specs.Rules.{resends_outstanding_segment};
@@ -19,7 +19,7 @@ fn report_message(joined: Joined, more: bool, window: &Window, effects: &mut Eff
     requires space { length effects.old.notices ≤ 2 }
     ensures frames { effects.new.frames ≡ effects.old.frames }
     ensures notices { (e : EndpointState) → Represents window.now e
-        → effects.new.notices ≡ effects.old.notices ++ segment_notices joined more (latest_message e.accepted) }
+        → effects.new.notices ≡ effects.old.notices ++ segment_notices joined more (completed_message e.peer_segments) }
 {
     match joined {
         Joined::Whole => effects
@@ -98,7 +98,8 @@ impl Address {
         self.send_response(Body::Rr { nr, pf: final_bit }, effects);
     }
 
-    // Acknowledges an accepted segment with an RR, or with the next I frame if P = 0 and one may be sent.
+    // Acknowledges an accepted segment: if P = 1, with an RR, followed by the next I frame if one may be sent; if P = 0, with the next I
+    // frame or, if none may be sent, with an RR.
     fn answer_segment(self, p: bool, window: &mut Window, effects: &mut Effects)
         requires channel { channel_of window.old ≡ self.channel }
         requires space { effects.old.frames ≡ [] }
@@ -131,7 +132,7 @@ impl Address {
         self.send_response(Body::Rej { nr, pf: poll }, effects);
     }
 
-    // Answers an out-of-sequence segment: sends a REJ if one is due, then the next I frame if there is one.
+    // Answers an out-of-sequence segment: sends a REJ if one is due, then the next I frame if one may be sent.
     fn refuse_segment(self, rej_due: bool, poll: bool, window: &mut Window, effects: &mut Effects)
         requires channel { channel_of window.old ≡ self.channel }
         requires space { effects.old.frames ≡ [] }

@@ -26,13 +26,13 @@ pub struct EndpointView<'a> {
     pub state: State,
     /// The information of the SABM that this endpoint sent, or of the SABM that established its link.
     pub sabm_info: &'a [u8],
-    /// How many times the SABM or DISC that awaits an answer has been repeated.
+    /// How many times the SABM or DISC that awaits a response has been repeated.
     pub retries: u8,
     pub window: LapdmWindowView<'a>,
 }
 
 impl EndpointView<'_> {
-    // Returns whether an endpoint can have this state, provided that its window can have its state.
+    // Returns whether an endpoint can have this state, given that a window can have the state in `window`.
     fn are_consistent(&self) -> bool
         ensures { IsTrue result ↔ AreConsistent (values_of_parts self.now) }
     {
@@ -118,8 +118,8 @@ impl Endpoint {
         ensures same { IsTrue result → values_of self.new ≡ values_of_parts parts.now }
         ensures represents { IsTrue result → (e : EndpointState) → ValuesRepresent (values_of_parts parts.now) e
             → Represents self.new e }
-        ensures known { IsTrue result ↔ SomeEndpointHasValues (values_of_parts parts.now) }
-        ensures unknown { result ≡ false → self.new ≡ self.old }
+        ensures valid { IsTrue result ↔ SomeEndpointHasValues (values_of_parts parts.now) }
+        ensures refused { result ≡ false → self.new ≡ self.old }
     {
         if !parts.are_consistent() || !self.window.restore(&parts.window) {
             return false;
@@ -140,7 +140,7 @@ impl Endpoint {
         ensures same { IfSome result (λ end. values_of end ≡ values_of_parts parts.now) }
         ensures represents { IfSome result
             (λ end. (e : EndpointState) → ValuesRepresent (values_of_parts parts.now) e → Represents end e) }
-        ensures known { IsSome result ↔ SomeEndpointHasValues (values_of_parts parts.now) }
+        ensures valid { IsSome result ↔ SomeEndpointHasValues (values_of_parts parts.now) }
     {
         let mut end = Endpoint::new_on(parts.role, parts.sapi, parts.window.channel);
         if end.restore(parts) { Some(end) } else { None }

@@ -45,7 +45,7 @@ pub(crate) enum Reply<'a> {
     },
 }
 
-// Whether an endpoint accepts this kind of frame as a command or as a response; RNR is never accepted.
+// Returns whether an endpoint accepts this kind of frame as a command or as a response; RNR is never accepted.
 pub(crate) fn is_accepted_kind(is_command: bool, body: &Body<'_>) -> bool
     ensures { result ≡ is_accepted_kind is_command (content_of body.now) }
 {
@@ -69,16 +69,16 @@ fn is_poll(is_command: bool, body: &Body<'_>) -> bool
 
 fn dm_if_polled<'a>(poll: bool) -> Reply<'a>
     ensures reply { spec_reply_of result ≡ dm_if_polled poll }
-    ensures ready { (m : LinkEnd) → IsPossibleReply m result }
+    ensures possible { (m : LinkEnd) → IsPossibleReply m result }
 {
     if poll { Reply::Dm } else { Reply::Nothing }
 }
 
-// The reply to a UI frame, in every state: its information is reported to layer 3 if it is not empty.
+// Returns the reply to a UI frame, in every state: its information is reported to layer 3 if it is not empty.
 fn reply_to_ui<'a>(info: &'a [u8]) -> Reply<'a>
     requires information { length info.now ≤ largest_n201 }
     ensures reply { spec_reply_of result ≡ reply_to_ui info.now }
-    ensures ready { (m : LinkEnd) → IsPossibleReply m result }
+    ensures possible { (m : LinkEnd) → IsPossibleReply m result }
 {
     if info.is_empty() {
         Reply::Nothing
@@ -109,7 +109,7 @@ impl Endpoint {
         requires information { length info.now ≤ n201 (channel_of self.now) }
         ensures reply { (e : EndpointState) → Represents self.now e
             → spec_reply_of result ≡ reply_to_sabm_in_idle e.sapi e.role info.now }
-        ensures ready { IsPossibleReply self.now result }
+        ensures possible { IsPossibleReply self.now result }
     {
         match (self.address.sapi, self.address.role) {
             (Sapi::Zero, Role::Mobile) => Reply::Dm,
@@ -135,7 +135,7 @@ impl Endpoint {
         requires information { InformationFits (channel_of self.now) (content_of body.now) }
         ensures reply { (e : EndpointState) → Represents self.now e
             → spec_reply_of result ≡ reply_in_idle poll (content_of body.now) e }
-        ensures ready { IsPossibleReply self.now result }
+        ensures possible { IsPossibleReply self.now result }
     {
         match *body {
             Body::Sabm { info, .. } => self.reply_to_sabm_in_idle(info),
@@ -148,7 +148,7 @@ impl Endpoint {
         requires information { length info.now ≤ n201 (channel_of self.now) }
         ensures reply { (e : EndpointState) → Represents self.now e
             → spec_reply_of result ≡ reply_to_sabm_in_opening e.sapi info.now }
-        ensures ready { IsPossibleReply self.now result }
+        ensures possible { IsPossibleReply self.now result }
     {
         match self.address.sapi {
             Sapi::Zero => Reply::Nothing,
@@ -162,13 +162,14 @@ impl Endpoint {
         }
     }
 
-    // The reply to a UA in Opening. On SAPI 0, a UA whose information differs from that of the SABM sent is meant for another mobile.
+    // Returns the reply to a UA in Opening. On SAPI 0, a UA whose information differs from that of the SABM sent is meant for another
+    // mobile.
     fn reply_to_ua_in_opening<'a>(&self, info: &'a [u8]) -> Reply<'a>
         requires opening { state_of self.now ≡ S.Opening }
         requires information { length info.now ≤ n201 (channel_of self.now) }
         ensures reply { (e : EndpointState) → Represents self.now e
             → spec_reply_of result ≡ reply_to_ua_in_opening info.now e }
-        ensures ready { IsPossibleReply self.now result }
+        ensures possible { IsPossibleReply self.now result }
     {
         if self.equals_sabm_information(info) {
             return Reply::Opened(info);
@@ -184,7 +185,7 @@ impl Endpoint {
         requires information { InformationFits (channel_of self.now) (content_of body.now) }
         ensures reply { (e : EndpointState) → Represents self.now e
             → spec_reply_of result ≡ reply_in_opening (content_of body.now) e }
-        ensures ready { IsPossibleReply self.now result }
+        ensures possible { IsPossibleReply self.now result }
     {
         match *body {
             Body::Sabm { info, .. } => self.reply_to_sabm_in_opening(info),
@@ -199,7 +200,7 @@ impl Endpoint {
         requires information { length info.now ≤ n201 (channel_of self.now) }
         ensures reply { (e : EndpointState) → Represents self.now e
             → spec_reply_of result ≡ reply_to_sabm_in_open info.now e }
-        ensures ready { IsPossibleReply self.now result }
+        ensures possible { IsPossibleReply self.now result }
     {
         if let (Sapi::Zero, Role::Mobile) = (self.address.sapi, self.address.role) {
             return Reply::Nothing;
@@ -217,7 +218,7 @@ impl Endpoint {
         requires information { InformationFits (channel_of self.now) (content_of body.now) }
         ensures reply { (e : EndpointState) → Represents self.now e
             → spec_reply_of result ≡ reply_in_open command (content_of body.now) e }
-        ensures ready { IsPossibleReply self.now result }
+        ensures possible { IsPossibleReply self.now result }
     {
         match *body {
             Body::I {
@@ -250,7 +251,7 @@ impl Endpoint {
 
     fn reply_in_closing<'a>(&self, body: &Body<'a>) -> Reply<'a>
         ensures reply { spec_reply_of result ≡ reply_in_closing (content_of body.now) }
-        ensures ready { IsPossibleReply self.now result }
+        ensures possible { IsPossibleReply self.now result }
     {
         match *body {
             Body::Ua { f: true, info } => {
@@ -268,7 +269,7 @@ impl Endpoint {
 
     fn reply_in_closed<'a>(&self, poll: bool, body: &Body<'a>) -> Reply<'a>
         ensures reply { spec_reply_of result ≡ reply_in_closed poll (content_of body.now) }
-        ensures ready { IsPossibleReply self.now result }
+        ensures possible { IsPossibleReply self.now result }
     {
         match *body {
             Body::Sabm { .. } | Body::Disc { .. } => Reply::Dm,
@@ -281,7 +282,7 @@ impl Endpoint {
         requires information { InformationFits (channel_of self.now) (content_of body.now) }
         ensures reply { (e : EndpointState) → Represents self.now e
             → spec_reply_of result ≡ reply_in_state e.state command (content_of body.now) e }
-        ensures ready { IsPossibleReply self.now result }
+        ensures possible { IsPossibleReply self.now result }
     {
         match self.state {
             State::Idle => self.reply_in_idle(is_poll(command, body), body),
@@ -298,7 +299,7 @@ impl Endpoint {
         requires information { InformationFits (channel_of self.now) (content_of body.now) }
         ensures reply { (e : EndpointState) → Represents self.now e
             → spec_reply_of result ≡ reply command (content_of body.now) e }
-        ensures ready { IsPossibleReply self.now result }
+        ensures possible { IsPossibleReply self.now result }
     {
         if let Body::Ui { info, .. } = *body {
             return reply_to_ui(info);

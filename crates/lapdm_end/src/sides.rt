@@ -69,7 +69,7 @@ impl Side {
         requires { FrameFits (channel_of self.old) (frame_of frame.now) }
         ensures refines { StepRefines (step_for_frame (frame_of frame.now)) self.old result effects.new self.new }
         ensures others { endpoint_of (other result) self.new ≡ endpoint_of (other result) self.old }
-        ensures unknown { frame.now.sapi ≢ 0 → frame.now.sapi ≢ 3 → self.new ≡ self.old }
+        ensures other_sapi { frame.now.sapi ≢ 0 → frame.now.sapi ≢ 3 → self.new ≡ self.old }
         ensures channel { channel_of self.new ≡ channel_of self.old }
     {
         if frame.sapi == 0 {

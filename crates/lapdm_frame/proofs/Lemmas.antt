@@ -1,4 +1,4 @@
--- Frames and their 23 octets: existence, uniqueness, canonical octets.
+-- Frames and their 23 octets: each list of octets encodes one frame or is refused, and each frame has one canonical list of octets.
 use Rattle.{
   lapdm_frame.specs.{
     Content.{Content, Fields, Frame, I, Rr, content_of_fields, content_with_fields, fields_of, fill_frame, information, kind_number},
@@ -26,7 +26,7 @@ use Rattle.{
 use borrow.Rule.Slice.PartMut.{put_mid}
 use Rattle.lapdm_frame.specs.declared.Kind.TheVariants as K
 
--- ## Controls: A control octet determines its content, apart from the information and the M bit.
+-- ## Controls: A control octet determines the content of its frame, apart from the information and the M bit.
 
 -- the content with its information replaced, and in an I frame also its M bit
 abbrev pub with_information : Content → Bool → List ℕ → Content
@@ -35,17 +35,17 @@ with_information a goes info = let f = fields_of a in content_with_fields f.kind
 pub bit_bound : (b : Bool) → bit_of_bool b ≤ 1
 bit_bound x = grind arith
 
--- if one content of a control octet is an I frame, every content of that octet is an I frame
+-- if a control octet is that of an I frame, it is the control octet of I frames only
 information_frame : (octet : ℕ) (a b : Content) → IsControlOctetOf octet a → IsControlOctetOf octet b → IsInformationFrame a →
     IsInformationFrame b
 information_frame _ a x h h' is_i = grind arith
 
-nothing_informed : (a : Content) → HasNoInformation a → information a ≡ []
-nothing_informed x none = grind arith
+information-empty : (a : Content) → HasNoInformation a → information a ≡ []
+information-empty x none = grind arith
 
 -- ## FieldLaws: Lemmas about frames that are given by their kind and fields.
 
--- the fields are possible in a frame on this channel
+-- a frame on this channel can have these fields
 pub record FieldsFit (channel : Channel) (f : Fields) : Type 0 where
   pub sent : f.ns ≤ 7
   pub received : f.nr ≤ 7
@@ -68,7 +68,7 @@ pub content_fits : (channel : Channel) (f : Fields) → FieldsFit channel f
     → NsAndNrFit (content_of_fields f) × InformationFits channel (content_of_fields f)
 content_fits _ f fit = grind arith
 
--- ## Uniqueness: Octets are at most one frame, are refused for at most one reason, and are never both a frame and refused.
+-- ## Uniqueness: Octets encode at most one frame, are refused for at most one reason, and never both encode a frame and are refused.
 
 same_parts : (s s' : ℕ) (c c' : Bool) (a b : Content) → s ≡ s' → c ≡ c' → a ≡ b →
     ◌≡◌ {A = Frame} (record { sapi = s; cr = c; content = a }) (record { sapi = s'; cr = c'; content = b })
@@ -105,7 +105,7 @@ only_refusal _ _ reason refused = record {
   no_frame = grind arith;
 }
 
--- ## Order: At most one reason is the first that applies, and octets to which no reason applies encode a frame.
+-- ## Order: At most one reason is the first that applies. Octets to which no reason applies encode a frame.
 
 -- none of the first n reasons applies
 pub record NoneBefore (channel : Channel) (octets : List ℕ) (n : ℕ) : Type 0 where
@@ -180,7 +180,7 @@ module _ (channel : Channel) (octets : List ℕ) (content : Content) (passes : P
   size_found : length (information content) ≡ length_field (length_in_block channel octets)
   size_found = elim passes.carried [
     | inl kind_allows ↦
-        let nothing = ap length (nothing_informed content kind_allows) in
+        let nothing = ap length (information-empty content kind_allows) in
         elim (cases_lt 0 (length_field (length_in_block channel octets))) [
           | inl some ↦ absurd (passes.no_length_fault.allowed_length.kind_has_information some kind_allows)
           | inr none ↦ omega arith
@@ -195,7 +195,7 @@ module _ (channel : Channel) (octets : List ℕ) (content : Content) (passes : P
   information_found : information_in_block channel octets (length (information content)) ≡ information content
   information_found = elim passes.carried [
     | inl kind_allows ↦
-        let nothing = nothing_informed content kind_allows in
+        let nothing = information-empty content kind_allows in
         let empty : layer1_octet_count channel + 3 + length (information content) - (layer1_octet_count channel + 3) ≡ 0 = omega
         (arith, ap length nothing) in
         rw empty (sym nothing)
@@ -221,7 +221,7 @@ module _ (channel : Channel) (octets : List ℕ) (content : Content) (passes : P
     information_matches = information_found;
   }
 
--- ## Existence: Every list of 23 octets is a frame or is refused. The proof tests the reasons in their order.
+-- ## Existence: Every list of 23 octets encodes a frame or is refused. The proof tests the reasons in their order.
 
 module _ (k : ℕ) where
   abbrev final : Bool
@@ -265,7 +265,7 @@ control_known : (k : ℕ) → ((content : Content) × IsControlOctetOf k content
     ⊎ ((content : Content) → ¬ IsControlOctetOf k content)
 control_known k = elim (cases_lt k 256) [ inl small ↦ known_or_not k small | inr large ↦ inr (no_such_octet k large) ]
 
--- the control octet does not depend on the information
+-- the control octet depends neither on the information nor on the M bit of an I frame
 still_control : (k : ℕ) (a : Content) (goes : Bool) (info : List ℕ) → IsControlOctetOf k a →
     IsControlOctetOf k (with_information a goes info)
 still_control k x _ _ is_k = grind arith
@@ -278,8 +278,8 @@ goes_on_with : (a : Content) (goes : Bool) (info : List ℕ) → IsInformationFr
     more_follows (with_information a goes info) ≡ goes
 goes_on_with x _ _ is_i = grind arith
 
-silence_known : (content : Content) → HasNoInformation content ⊎ ¬ HasNoInformation content
-silence_known _ = grind arith
+information_or_none : (content : Content) → HasNoInformation content ⊎ ¬ HasNoInformation content
+information_or_none _ = grind arith
 
 -- if A and B are decidable, then either both hold, or A excludes B
 both_or_not : {A B : Type 0} → A ⊎ ¬ A → B ⊎ ¬ B → (A × B) ⊎ (A → ¬ B)
@@ -294,7 +294,7 @@ module _ (most : ℕ) (content : Content) (octet : ℕ) where
     | inl more_follows ↦ inr (El, more_follows)
     | inr el_bit_value ↦ elim (cases_lt most (length_field octet)) [
       | inl above ↦ inr (Length, (el_bit_value, inl above))
-      | inr length_bound ↦ elim (both_or_not (positive_known (length_field octet)) (silence_known content)) [
+      | inr length_bound ↦ elim (both_or_not (positive_known (length_field octet)) (information_or_none content)) [
         | inl informed ↦ inr (Length, (el_bit_value, inr informed))
         | inr kind_allows ↦ inl (record { el_bit_set = el_bit_value; length_bound = length_bound; kind_has_information = kind_allows })
       ]
@@ -429,7 +429,7 @@ module _ (size : ℕ) (info : List ℕ) (fits : length info ≤ size) where
       get_or-append_right info _ (length info) k 0 refl low
       ∙ get_or-replicate _ _ 0x2b 0 within
 
--- the octet with index k of a block, if k is past the first three octets (SDCCH) or the first five (SACCH)
+-- an octet after the first three octets of a block (SDCCH), or after the first five (SACCH), is an octet of the rest
 past_sdcch : (a b c : ℕ) (xs : List ℕ) (k : ℕ) → 3 ≤ k → get_or (a ∷ b ∷ c ∷ xs) k 0 ≡ get_or xs (k - 3) 0
 past_sdcch a b c xs k low = grind arith
 

@@ -91,7 +91,7 @@ pub record Fields : Type 0 where
 abbrev pub fields : (kind : Kind) (ns nr : ℕ) (pf more : Bool) (info : List ℕ) → Fields
 fields kind ns nr pf more info = record { kind = kind; ns = ns; nr = nr; pf = pf; more = more; info = info }
 
--- the kind and fields of a content; fields of other kinds are 0, false or empty
+-- the kind and the fields of this content; the fields that its kind does not have are 0, false or empty
 abbrev pub fields_of : Content → Fields
 fields_of (I ns nr p more info) = fields K.I ns nr p more info
 fields_of (Rr nr pf) = fields K.Rr 0 nr pf false []
@@ -103,7 +103,7 @@ fields_of (Ui p info) = fields K.Ui 0 0 p false info
 fields_of (Disc p) = fields K.Disc 0 0 p false []
 fields_of (Ua f info) = fields K.Ua 0 0 f false info
 
--- the content of a given kind with the given fields; fields of other kinds are ignored
+-- the content of a given kind with the given fields; fields that this kind does not have are ignored
 abbrev pub content_with_fields : (kind : Kind) (ns nr : ℕ) (pf more : Bool) (info : List ℕ) → Content
 content_with_fields K.I ns nr pf more info = I ns nr pf more info
 content_with_fields K.Rr ns nr pf more info = Rr nr pf

@@ -66,7 +66,7 @@ pub record IsCanonicalCoding (channel : Channel) (f : Frame) (octets : List ℕ)
   pub fill_after : (k : ℕ) → layer1_octet_count channel + 3 + length (information f.content) ≤ k → k < 23 → slice_index octets k
       ≡ 0x2b
 
--- the canonical coding, 23 octets, of a frame that fits the channel
+-- the canonical coding (23 octets) of a frame that fits on the channel
 abbrev pub octets_of : Channel → Frame → List ℕ
 octets_of channel f =
     let info = information f.content in

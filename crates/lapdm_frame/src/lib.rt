@@ -18,16 +18,17 @@ pub use writer::{fill, fill_on, fits, fits_on, write, write_on};
 /// The control channel of a block. It determines where the fields of a frame are.
 #[derive(Clone, Copy, PartialEq, Eq, Debug)]
 pub enum Channel {
-    /// Stand-alone dedicated control channel. A block has address, control and length octets, then 20 octets.
+    /// Stand-alone dedicated control channel. A block has address, control and length octets, then 20 octets of information and fill.
     Sdcch,
-    /// Slow associated control channel. A block has two layer 1 octets, address, control and length octets, then 18 octets.
+    /// Slow associated control channel. A block has two layer 1 octets, address, control and length octets, then 18 octets of information
+    /// and fill.
     Sacch,
 }
 
 impl Channel {
     ghost use Rattle.lapdm_frame.specs.Layout.{layer1_octet_count, n201};
 
-    /// N201 of GSM 04.06: the maximum number of information octets in a frame, 20 or 18.
+    /// Returns N201 of GSM 04.06: the maximum number of information octets in a frame, 20 or 18.
     pub fn n201(self) -> usize
         ensures { result ≡ n201 self }
     {
@@ -37,7 +38,7 @@ impl Channel {
         }
     }
 
-    // The number of layer 1 octets, which is the index of the address octet in a block.
+    // Returns the number of layer 1 octets, which is the index of the address octet in a block.
     fn layer1_octet_count(self) -> usize
         ensures value { result ≡ layer1_octet_count self }
         ensures space { result + 3 + n201 self ≡ BLOCK_OCTETS }
@@ -59,8 +60,8 @@ pub struct FrameView<'a> {
     pub body: Body<'a>,
 }
 
-/// The kind of a frame with its fields: N(S) and N(R), each 0 to 7, the P or F bit, the
-/// M bit (`more`: the message continues in the next I frame), and the information.
+/// The kind of a frame with its fields: N(S) and N(R), each 0 to 7, the P or F bit, the M bit (`more`: the message continues in the next I
+/// frame), and the information.
 #[derive(Clone, Copy, PartialEq, Eq, Debug)]
 pub enum Body<'a> {
     I {
@@ -116,7 +117,7 @@ pub enum Kind {
     Ua,
 }
 
-/// All frame kinds, each at the index that is its number.
+/// All frame kinds; the index of each kind is its number.
 const KINDS: [Kind; 9] = [
     Kind::I,
     Kind::Rr,
@@ -132,14 +133,14 @@ const KINDS: [Kind; 9] = [
 impl Kind {
     ghost use Rattle.lapdm_frame.specs.Content.{all_frame_kinds, kind_number};
 
-    /// The number of the frame kind, 0 to 8.
+    /// Returns the number of the frame kind, 0 to 8.
     pub fn number(self) -> u8
         ensures { result ≡ kind_number self }
     {
         self as u8
     }
 
-    /// The kind with this number, or `None` if the number is above 8.
+    /// Returns the kind with this number, or `None` if the number is above 8.
     pub fn from_number(number: u8) -> Option<Kind>
         ensures { result ≡ slice_get all_frame_kinds number }
     {
@@ -147,7 +148,7 @@ impl Kind {
     }
 }
 
-/// The kind of a frame, and every field that a frame of any kind may have. Fields of other kinds are 0, false or empty.
+/// The kind of a frame, and every field that a frame of any kind may have. The fields that this kind does not have are 0, false or empty.
 #[derive(Clone, Copy, PartialEq, Eq, Debug)]
 pub struct FrameFields<'a> {
     pub kind: Kind,
@@ -200,7 +201,7 @@ impl<'a> FrameFields<'a> {
 impl<'a> Body<'a> {
     ghost use Rattle.lapdm_frame.specs.Content.{content_of, fields_of, abstract_fields};
 
-    /// The kind and all fields of this frame body. Fields of other kinds are 0, false or empty.
+    /// Returns the kind and the fields of this frame body. The fields that this kind does not have are 0, false or empty.
     pub fn fields(&self) -> FrameFields<'a>
         ensures { abstract_fields result ≡ fields_of (content_of self.now) }
     {
@@ -242,7 +243,7 @@ impl<'a> Body<'a> {
     }
 }
 
-// The fields of an I frame.
+// Returns the fields of an I frame.
 fn i_frame_fields(ns: u8, nr: u8, poll: bool, more: bool, info: &[u8]) -> FrameFields<'_>
     ensures { abstract_fields result ≡ fields Kind.I ns nr poll more info.now }
 {
@@ -255,7 +256,7 @@ fn i_frame_fields(ns: u8, nr: u8, poll: bool, more: bool, info: &[u8]) -> FrameF
     }
 }
 
-// The fields of a frame that has a P or F bit, but no N(S), no N(R) and no information.
+// Returns the fields of a frame that has a P or F bit, but no N(S), no N(R) and no information.
 fn fields_with_only_pf(kind: Kind, pf: bool) -> FrameFields<'static>
     ensures { abstract_fields result ≡ fields kind 0 0 pf false [] }
 {

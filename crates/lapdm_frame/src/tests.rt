@@ -39,7 +39,7 @@ fn reads_example_blocks(rt: HostRuntime) {
         ([0x01, 0x01, 0x05], 0x2b, Err(Refusal::Length)),
         ([0x01, 0x00, 0x01], 0x2b, Err(Refusal::Empty)),
         ([0x01, 0x03, 0x03], 0x2b, Err(Refusal::More)),
-        // If two reasons apply, the first is given.
+        // If several reasons apply, the first one tested is returned.
         ([0x01, 0x0d, 0x00], 0x2b, Err(Refusal::Control)),
         ([0x01, 0x03, 0x57], 0x2b, Err(Refusal::Length)),
         ([0x01, 0x00, 0x03], 0x2b, Err(Refusal::Empty)),

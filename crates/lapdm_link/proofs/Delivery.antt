@@ -28,9 +28,9 @@ side r s w ls = record {
   notified = notices_in_log r s ls;
 }
 
--- a step of one endpoint: the SABM frames that other mobiles send with it, the endpoint's call, its outcome, and the frames that remain in
--- transit from the other endpoint
-pub record Act : Type 0 where
+-- a step of one endpoint: the SABM frames that other mobiles send in this step, the endpoint's call, its outcome, and the frames from the
+-- other endpoint that remain in transit
+pub record Step : Type 0 where
   pub role : Role
   pub sapi : Sapi
   pub rivals : List Message
@@ -38,27 +38,27 @@ pub record Act : Type 0 where
   pub endpoint_step : Outcome
   pub remaining : List Content
 
-abbrev pub act : Role → Sapi → List Call → Outcome → List Content → Act
+abbrev pub act : Role → Sapi → List Call → Outcome → List Content → Step
 act r s cs o left = record { role = r; sapi = s; rivals = []; layer3_call_step = cs; endpoint_step = o; remaining = left }
 
 -- the step in which another mobile sends a SABM and the mobile's endpoint stays unchanged
-abbrev pub rivals : Message → Side → Side → Act
+abbrev pub rivals : Message → Side → Side → Step
 rivals info x y = record (act Mobile Zero [] (record { new_state = x.endpoint; frames = rival_sabm info ∷ []; notices = [] })
     y.outgoing) { rivals = info ∷ [] }
 
-abbrev pub lines : Act → List LogLine
+abbrev pub lines : Step → List LogLine
 lines a = lines_of_step a.role a.sapi a.rivals a.layer3_call_step a.endpoint_step.notices
 
 -- the possible steps: layer 3 calls the endpoint, the oldest frame from the other endpoint arrives, or another mobile sends a SABM
-pub data IsActed (x y : Side) : Act → Type 0 where
+pub data IsStep (x y : Side) : Step → Type 0 where
   called : {r : Role} {s : Sapi} {call : Call} {o : Outcome} → IsPlaced r s call → IsCalled x.endpoint call o →
-      IsActed x y (act r s (call ∷ []) o y.outgoing)
+      IsStep x y (act r s (call ∷ []) o y.outgoing)
   took : {r : Role} {s : Sapi} {c : Content} {o : Outcome} {left : List Content} → y.outgoing ≡ cons_option (content_of c) left →
-      IsTaken c x.endpoint o → IsActed x y (act r s [] o left)
-  rival : {info : Message} → IsActed x y (rivals info x y)
+      IsTaken c x.endpoint o → IsStep x y (act r s [] o left)
+  rival : {info : Message} → IsStep x y (rivals info x y)
 
 -- the endpoint that acts, and (below) the other endpoint, after the step
-abbrev pub after : Act → Side → Side
+abbrev pub after : Step → Side → Side
 after a x = record {
   endpoint = a.endpoint_step.new_state;
   outgoing = x.outgoing ++ contents a.endpoint_step.frames;
@@ -66,28 +66,28 @@ after a x = record {
   notified = x.notified ++ a.endpoint_step.notices;
 }
 
-abbrev pub other_after : Act → Side → Side
+abbrev pub other_after : Step → Side → Side
 other_after a y = record y { outgoing = a.remaining }
 
-abbrev pub acted_by : Act → World → World
+abbrev pub acted_by : Step → World → World
 acted_by a w = acted a.role a.sapi a.endpoint_step w
 
-acts_own : {x y : Side} {a : Act} → IsActed x y a → x.endpoint.sapi ≡ a.sapi → AllOf (IsForSapi a.sapi) a.endpoint_step.frames
-acts_own {a = a} (called p c) same = rw same at (frames-own _ _ a.endpoint_step.frames c.frames)
-acts_own {a = a} (took e t) same = rw same at (frames-own _ _ a.endpoint_step.frames t.frames)
-acts_own rival same = (inl refl, tt)
+own_frames : {x y : Side} {a : Step} → IsStep x y a → x.endpoint.sapi ≡ a.sapi → AllOf (IsForSapi a.sapi) a.endpoint_step.frames
+own_frames {a = a} (called p c) same = rw same at (frames-of_sapi _ _ a.endpoint_step.frames c.frames)
+own_frames {a = a} (took e t) same = rw same at (frames-of_sapi _ _ a.endpoint_step.frames t.frames)
+own_frames rival same = (inl refl, tt)
 
 -- ## Delivery: Every step of an endpoint preserves the invariant of both directions of its link, and the invariant implies the claims about
 -- delivery: in order, delivered before acknowledged, none oversize.
 
 -- the invariant of both directions of a link, as one of its sides sees it
-abbrev pub IsCarried : Side → Side → Type 0
-IsCarried x y = BothHold x.endpoint y.endpoint x.outgoing y.outgoing y.outgoing
+abbrev pub LinkInvariant : Side → Side → Type 0
+LinkInvariant x y = BothHold x.endpoint y.endpoint x.outgoing y.outgoing y.outgoing
 
-carried-acts : {x y : Side} {a : Act} → IsActed x y a → IsCarried x y → IsCarried (after a x) (other_after a y)
-carried-acts (called p c) h = c.arrives _ _ _ h
-carried-acts (took e t) h = t.arrives _ _ _ (rw e at h)
-carried-acts rival h = sends_plain _ _ h
+invariant-step : {x y : Side} {a : Step} → IsStep x y a → LinkInvariant x y → LinkInvariant (after a x) (other_after a y)
+invariant-step (called p c) h = c.arrives _ _ _ h
+invariant-step (took e t) h = t.arrives _ _ _ (rw e at h)
+invariant-step rival h = sends_plain _ _ h
 
 -- a prefix of a list of complete messages contains complete messages only
 prefix_is_complete : (xs ys : List (Option Message)) (ms : List Message) → xs ++ ys ≡ map (λ m. Some m) ms →
@@ -119,15 +119,15 @@ module _ (n : ℕ) (ms : List Message) (good : All IsValidMessage ms) (r : ℕ) 
     prefix = (
       filter_map (λ x. x) delivered_prefix.0,
       sym (filter_map-append (λ x. x) (ended_messages [] qs) delivered_prefix.0) ∙ ap (filter_map (λ x. x)) delivered_prefix.1
-          ∙ messages_of ms,
+          ∙ filter_map-some ms,
     )
 
     counted : (a : ℕ) → a ≤ r → message_count (take a (flat_map (segments n) ms)) ≤ length (messages qs)
     counted a h = omega (
       arith,
-      ended-take a r (flat_map (segments n) ms) h,
+      count-take a r (flat_map (segments n) ms) h,
       ap message_count accepted,
-      ended-ended_messages qs,
+      message_count-ended_messages qs,
       prefix_is_complete (ended_messages [] qs) delivered_prefix.0 ms delivered_prefix.1,
     )
 
@@ -138,11 +138,11 @@ got-messages (n ∷ ns) = grind (arith, got-messages ns)
 -- below, x and y are the endpoints of a link in some state of a benign session
 module _ {r q : Role} {s : Sapi} {x y : EndpointState} {ls : List LogLine} {out comes hears : List Content} (here : IsReported r s x ls)
     (there : IsReported q s y ls) (both : BothHold x y out comes hears) where
-  delivered_is : delivered_messages q s ls ≡ messages y.accepted
+  delivered_is : delivered_messages q s ls ≡ messages y.peer_segments
   delivered_is = got-messages (notices_in_log q s ls) ∙ ap (filter_map (λ x. x)) there.notified.got
 
   delivered_in_order : IsPrefix (delivered_messages q s ls) (sent_messages r s ls)
-  delivered_in_order = rw (delivered_is, here.notified.taken) (prefix _ _ here.window_of_one.messages _ _ both.forward.in_order)
+  delivered_in_order = rw (delivered_is, here.notified.messages) (prefix _ _ here.window_of_one.messages _ _ both.forward.in_order)
 
   acked_most : length (acked_message_numbers r s ls) ≤ length (delivered_messages q s ls)
   acked_most = omega (
@@ -206,35 +206,35 @@ in_front : (o : Option Content) (cs : List Content) → cons_option o [] ++ cs �
 in_front None cs = refl
 in_front (Some c) cs = refl
 
-unit_lost : (o : Option Content) (cs : List Content) → IsSome (filter_map unit_in cs) (filter_map unit_in (cons_option o cs))
-unit_lost o cs = rw (← in_front o cs, filter_map-append) (append (front [] (filter_map unit_in (cons_option o []))) (all _))
+IsSome-unit_lost : (o : Option Content) (cs : List Content) → IsSome (filter_map unit_in cs) (filter_map unit_in (cons_option o cs))
+IsSome-unit_lost o cs = rw (← in_front o cs, filter_map-append) (append (front [] (filter_map unit_in (cons_option o []))) (all _))
 
-sent : {x y : Side} {a : Act} → IsActed x y a → filter_map unit_in (contents a.endpoint_step.frames) ≡
+sent : {x y : Side} {a : Step} → IsStep x y a → filter_map unit_in (contents a.endpoint_step.frames) ≡
     filter_map ui_message_of_call a.layer3_call_step
 sent h = grind arith
 
 no_more : (c : Content) (ns : List Notice) (cs : List Content) → ReportsUnit c ns →
     IsSome (filter_map ui_message_in_notice ns ++ filter_map unit_in cs) (filter_map unit_in (cons_option (content_of c) cs))
-no_more c ns cs (inl h) = rw h (unit_lost (content_of c) cs)
+no_more c ns cs (inl h) = rw h (IsSome-unit_lost (content_of c) cs)
 no_more c ns cs (inr h) = rw (h, ← filter_map-append, in_front _ cs) (all _)
 
-taken : {x y : Side} {a : Act} → IsActed x y a →
+taken : {x y : Side} {a : Step} → IsStep x y a →
     IsSome (filter_map ui_message_in_notice a.endpoint_step.notices ++ filter_map unit_in a.remaining) (filter_map unit_in y.outgoing)
 taken {a = a} (called p c) = no_more (Ui false []) a.endpoint_step.notices a.remaining c.reports
 taken {a = a} (took {c = c} e t) = rw e (no_more c a.endpoint_step.notices _ t.reports)
 taken rival = all _
 
-ui_in_order-here : {x y : Side} {a : Act} → IsActed x y a → HasUnits x y → HasUnits (after a x) (other_after a y)
+ui_in_order-here : {x y : Side} {a : Step} → IsStep x y a → HasUnits x y → HasUnits (after a x) (other_after a y)
 ui_in_order-here a h = record {
   units_sent = rw (filter_map-append, filter_map-append, sent a, ← append_assoc) (append h.units_sent (all _));
 }
 
-ui_in_order-there : {x y : Side} {a : Act} → IsActed x y a → HasUnits y x → HasUnits (other_after a y) (after a x)
+ui_in_order-there : {x y : Side} {a : Step} → IsStep x y a → HasUnits y x → HasUnits (other_after a y) (after a x)
 ui_in_order-there a h = record { units_sent = rw (filter_map-append, append_assoc) (trans (append (all _) (taken a)) h.units_sent) }
 
 ui_in_order-lost : (x y : Side) (o : Option Content) (cs : List Content) → HasUnits (record x { outgoing = cons_option o cs }) y →
     HasUnits (record x { outgoing = cs }) y
-ui_in_order-lost x y o cs h = record { units_sent = trans (append (all _) (unit_lost o cs)) h.units_sent }
+ui_in_order-lost x y o cs h = record { units_sent = trans (append (all _) (IsSome-unit_lost o cs)) h.units_sent }
 
 -- ## Octets: The invariant that the information of all frames in transit consists of octets (0 to 255), if all messages do.
 
@@ -262,7 +262,7 @@ SegmentOctets p = AreOctets p.0
 
 pub record EndOctets (e : EndpointState) : Type 0 where
   pub sabm_info : AreOctets e.sabm_info
-  pub taken : AllMessages e.taken
+  pub messages : AllMessages e.messages
 
 abbrev pub SaysOctets : Frame → Type 0
 SaysOctets f = AreOctets (information f.content)
@@ -293,7 +293,7 @@ all-octets n (m ∷ ms) h =
 
 octets_carried : (x : EndpointState) (info : List ℕ) (more : Bool) (i : ℕ) → EndOctets x → i < length (all_segments x) →
     get_or (all_segments x) i ([], false) ≡ (info, more) → AreOctets info
-octets_carried x info more i h l e = rw e at (all-octets (n201 x.channel) x.taken h.taken i ([], false) l)
+octets_carried x info more i h l e = rw e at (all-octets (n201 x.channel) x.messages h.messages i ([], false) l)
 
 -- ---- frames sent
 abbrev OctetsBy : Option Call → Type 0
@@ -328,11 +328,11 @@ pub record OutcomeOctets (o : Outcome) : Type 0 where
   pub end_octets : EndOctets o.new_state
   pub frames : AllSay o.frames
 
-done-octets : (call : Option Call) (c : Content) (x : EndpointState) (o : Outcome) → IsDone call c x o → OctetsBy call →
+done-octets : (call : Option Call) (c : Content) (x : EndpointState) (o : Outcome) → StepFacts call c x o → OctetsBy call →
     AreOctets (information c) → EndOctets x → OutcomeOctets o
 done-octets call c x o d said octets h =
-    let taken : AllMessages o.new_state.taken = rw d.taken (All-append AreOctets x.taken _ h.taken (sent-octets call said)) in
-    let end : EndOctets o.new_state = record { sabm_info = kept-octets _ c x o said octets h.sabm_info d.goes; taken = taken } in
+    let taken : AllMessages o.new_state.messages = rw d.messages (All-append AreOctets x.messages _ h.messages (sent-octets call said)) in
+    let end : EndOctets o.new_state = record { sabm_info = kept-octets _ c x o said octets h.sabm_info d.goes; messages = taken } in
     record { end_octets = end; frames = frames-octets _ (said-octets call x o.new_state said end) x.sapi _ d.frames }
 
 pub frame-octets : (f : Frame) (x : EndpointState) → AreOctets (information f.content) → HasWindowOfOne x → EndOctets x →
@@ -357,8 +357,8 @@ octets-step w ls event reported known h said = (
     pair : {o : Outcome} → OutcomeOctets o → EndOctets o.new_state × AllSay o.frames
     pair g = (g.end_octets, g.frames)
 
-pub initial_endpoint-octets : (capacity : QueueCapacity) (channel : Channel) → WorldOctets (initial_world capacity channel)
-initial_endpoint-octets capacity channel = grind arith
+pub initial-octets : (capacity : QueueCapacity) (channel : Channel) → WorldOctets (initial_world capacity channel)
+initial-octets capacity channel = grind arith
 
 -- ## Openings: Each establishment is reported after its cause. The invariant says why each SABM or UA in transit was sent and how each
 -- endpoint reached its state.
@@ -382,13 +382,13 @@ IsBare Three k = k ≡ []
 abbrev pub WasOpened : Role → Sapi → List LogLine → Message → Type 0
 WasOpened r s ls k = Contains ls (Notified r s (N.Opened k)) × IsBare s k
 
--- what in the log explains that this content of the endpoint is in transit; only a SABM or UA needs an explanation
+-- the log contains the reason why this content, sent by the endpoint, is in transit; only a SABM or a UA needs a reason
 abbrev pub IsCaused : Role → Sapi → List LogLine → Content → Type 0
 IsCaused r s ls (Sabm p info) = WasAsked r s ls info ⊎ ((s ≡ Zero) × Contains ls (RivalSabm info))
 IsCaused r s ls (Ua f info) = WasOpened r s ls info ⊎ ((info ≡ []) × ((k : Message) × (WasAsked r s ls k ⊎ WasOpened r s ls k)))
 IsCaused r s ls c = Unit {0}
 
--- what in the log explains that the endpoint is in this state with this information kept
+-- the log contains the reason why the endpoint is in this state and keeps this information
 abbrev pub IsReached : Role → Sapi → List LogLine → State → Message → Type 0
 IsReached r s ls S.Opening k = WasAsked r s ls k
 IsReached r s ls S.Open k = WasOpened r s ls k
@@ -401,7 +401,7 @@ HasReached r s ls x = IsReached r s ls x.state x.sabm_info
 abbrev pub HasOpenings : Role → Sapi → Side → List LogLine → Type 0
 HasOpenings r s x ls = AllOf (IsCaused r s ls) x.outgoing × HasReached r s ls x.endpoint
 
--- these explanations remain valid when lines are added to the log
+-- these reasons remain valid when lines are added to the log
 module _ (r : Role) (s : Sapi) (ls new : List LogLine) where
   asked-more : (k : Message) → WasAsked r s ls k → WasAsked r s (ls ++ new) k
   asked-more k h = (Contains-append_left ls new _ h.0, h.1)
@@ -420,8 +420,8 @@ module _ (r : Role) (s : Sapi) (ls new : List LogLine) where
   reached-more : (state : State) (k : Message) → IsReached r s ls state k → IsReached r s (ls ++ new) state k
   reached-more state k h = grind (arith, asked-more, opened-more)
 
-  establishment_infos-more : (x : Side) → HasOpenings r s x ls → HasOpenings r s x (ls ++ new)
-  establishment_infos-more x h = (of-as _ _ caused-more _ h.0, reached-more _ _ h.1)
+  openings-more : (x : Side) → HasOpenings r s x ls → HasOpenings r s x (ls ++ new)
+  openings-more x h = (of-as _ _ caused-more _ h.0, reached-more _ _ h.1)
 
 -- a SABM, or (below) a UA, that can establish a link has a cause in the log
 sabm-cause : (r : Role) (s : Sapi) (ls : List LogLine) (info : Message) → MayOpen s r info →
@@ -478,38 +478,38 @@ module _ (r : Role) (s : Sapi) where
         goes-on (opens {info} n now e by) =
             let cause = opening-cause c _ by sent in rw (now, e, n) ((Contains-push ls _, cause.1), (cause.0, tt))
 
-        done : IsDone call c x.endpoint o → (AllOf (IsCaused r s (ls ++ notified)) (x.outgoing ++ contents o.frames) ×
+        done : StepFacts call c x.endpoint o → (AllOf (IsCaused r s (ls ++ notified)) (x.outgoing ++ contents o.frames) ×
             HasReached r s (ls ++ notified) o.new_state) × AllOccur IsOpenedAfter ls notified
         done d =
-            let h' = establishment_infos-more r s ls notified x h in
+            let h' = openings-more r s ls notified x h in
             let to = goes-on d.goes in
             let says = said-caused (ls ++ notified) call x.endpoint o.new_state h'.1 to.0 in (
               (of-append _ x.outgoing _ h'.0 (frames-say _ (IsCaused r s (ls ++ notified)) says x.endpoint.sapi o.frames d.frames), to.0),
               to.1,
             )
 
-establishment_infos-here : {x y : Side} {a : Act} (ls : List LogLine) → IsActed x y a → x.endpoint.role ≡ a.role → x.endpoint.sapi
+openings-here : {x y : Side} {a : Step} (ls : List LogLine) → IsStep x y a → x.endpoint.role ≡ a.role → x.endpoint.sapi
     ≡ a.sapi → HasOpenings a.role a.sapi x ls → HasOpenings (other a.role) a.sapi y ls →
     HasOpenings a.role a.sapi (after a x) (ls ++ lines a) × AllOccur IsOpenedAfter ls (lines a)
-establishment_infos-here {x} {y} {a} ls (called {r} {s} {call} p c) role same h g =
+openings-here {x} {y} {a} ls (called {r} {s} {call} p c) role same h g =
     let asked = Asked r s call ∷ [] in
-    let to = done r s (ls ++ asked) x role same (establishment_infos-more r s ls _ x h) y.outgoing (Some call) (Ui false []) a.endpoint_step
-    (p, Contains-push ls _) (establishment_infos-more _ s ls _ y g).0 c in (rw append_assoc at to.0, (tt, to.1))
-establishment_infos-here {x} {y} {a} ls (took {r} {s} {c} {o} {left} e t) role same h g =
+    let to = done r s (ls ++ asked) x role same (openings-more r s ls _ x h) y.outgoing (Some call) (Ui false []) a.endpoint_step
+    (p, Contains-push ls _) (openings-more _ s ls _ y g).0 c in (rw append_assoc at to.0, (tt, to.1))
+openings-here {x} {y} {a} ls (took {r} {s} {c} {o} {left} e t) role same h g =
     done r s ls x role same h left None c o tt (rw e at g.0) t
-establishment_infos-here {x} {y} {a} ls (rival {info}) role same h g =
-    let h' = establishment_infos-more _ _ ls _ x h in
+openings-here {x} {y} {a} ls (rival {info}) role same h g =
+    let h' = openings-more _ _ ls _ x h in
     ((of-append _ x.outgoing _ h'.0 (inr (refl, Contains-push ls _), tt), h'.1), (tt, tt))
 
 of-rest : (P : Content → Type 0) (o : Option Content) (cs : List Content) → AllOf P (cons_option o cs) → AllOf P cs
 of-rest P None cs h = h
 of-rest P (Some c) cs h = h.1
 
-establishment_infos-there : {x y : Side} {a : Act} (ls : List LogLine) → IsActed x y a → HasOpenings (other a.role) a.sapi y ls →
+openings-there : {x y : Side} {a : Step} (ls : List LogLine) → IsStep x y a → HasOpenings (other a.role) a.sapi y ls →
     HasOpenings (other a.role) a.sapi (other_after a y) (ls ++ lines a)
-establishment_infos-there {y = y} {a = a} ls i g = establishment_infos-more _ _ ls _ (other_after a y) (left _ i g.0, g.1)
+openings-there {y = y} {a = a} ls i g = openings-more _ _ ls _ (other_after a y) (left _ i g.0, g.1)
   where
-    left : {x y : Side} {a : Act} (P : Content → Type 0) → IsActed x y a → AllOf P y.outgoing → AllOf P a.remaining
+    left : {x y : Side} {a : Step} (P : Content → Type 0) → IsStep x y a → AllOf P y.outgoing → AllOf P a.remaining
     left P (called p c) g = g
     left P (took {c = c} e t) g = of-rest P (content_of c) _ (rw e at g)
     left P rival g = g
@@ -521,40 +521,40 @@ establishment_infos-there {y = y} {a = a} ls i g = establishment_infos-more _ _ 
 
 -- the invariant of one link, stated for both of its endpoints
 pub data IsLink (r q : Role) (s : Sapi) (x y : Side) (ls : List LogLine) : Type 0 where
-  link : IsCarried x y → HasUnits x y → HasUnits y x → HasOpenings r s x ls → HasOpenings q s y ls → IsLink r q s x y ls
+  link : LinkInvariant x y → HasUnits x y → HasUnits y x → HasOpenings r s x ls → HasOpenings q s y ls → IsLink r q s x y ls
 
-carried_by_link : {r q : Role} {s : Sapi} {x y : Side} {ls : List LogLine} → IsLink r q s x y ls → IsCarried x y
+carried_by_link : {r q : Role} {s : Sapi} {x y : Side} {ls : List LogLine} → IsLink r q s x y ls → LinkInvariant x y
 carried_by_link (link c u v o p) = c
 
 ui_in_order : {r q : Role} {s : Sapi} {x y : Side} {ls : List LogLine} → IsLink r q s x y ls → HasUnits x y
 ui_in_order (link c u v o p) = u
 
-swapped : {r q : Role} {s : Sapi} {x y : Side} {ls : List LogLine} → IsLink r q s x y ls → IsLink q r s y x ls
-swapped h = grind arith
+IsLink-swapped : {r q : Role} {s : Sapi} {x y : Side} {ls : List LogLine} → IsLink r q s x y ls → IsLink q r s y x ls
+IsLink-swapped h = grind arith
 
-link-acts : {x y : Side} {a : Act} (ls : List LogLine) → IsActed x y a → x.endpoint.role ≡ a.role → x.endpoint.sapi ≡ a.sapi →
+link-acts : {x y : Side} {a : Step} (ls : List LogLine) → IsStep x y a → x.endpoint.role ≡ a.role → x.endpoint.sapi ≡ a.sapi →
     IsLink a.role (other a.role) a.sapi x y ls →
     IsLink a.role (other a.role) a.sapi (after a x) (other_after a y) (ls ++ lines a) × AllOccur IsOpenedAfter ls (lines a)
 link-acts ls i role same (link c u v o p) =
-    let opens = establishment_infos-here ls i role same o p in
-    (link (carried-acts i c) (ui_in_order-here i u) (ui_in_order-there i v) opens.0 (establishment_infos-there ls i p), opens.1)
+    let opens = openings-here ls i role same o p in
+    (link (invariant-step i c) (ui_in_order-here i u) (ui_in_order-there i v) opens.0 (openings-there ls i p), opens.1)
 
 more : {r q : Role} {s : Sapi} {x y : Side} {ls : List LogLine} (new : List LogLine) → IsLink r q s x y ls →
     IsLink r q s x y (ls ++ new)
 more {r} {q} {s} {x} {y} {ls} new (link c u v o p) =
-    link c u v (establishment_infos-more r s ls new x o) (establishment_infos-more q s ls new y p)
+    link c u v (openings-more r s ls new x o) (openings-more q s ls new y p)
 
 module _ {r q : Role} {s : Sapi} (x y : Side) {ls : List LogLine} where
   -- the invariant holds after the oldest frame in transit is lost
-  first_gone : (o : Option Content) (cs : List Content) → IsLink r q s x (record y { outgoing = cons_option o cs }) ls →
+  IsLink-first_gone : (o : Option Content) (cs : List Content) → IsLink r q s x (record y { outgoing = cons_option o cs }) ls →
       IsLink r q s x (record y { outgoing = cs }) ls
-  first_gone d cs (link c u v o p) =
+  IsLink-first_gone d cs (link c u v o p) =
       link (gone d c) (record { units_sent = u.units_sent }) (ui_in_order-lost y x d cs v) o (of-rest _ d cs p.0, p.1)
 
-  rest_gone : (fs : List Frame) → IsLink r q s x (record y { outgoing = contents_on s fs }) ls →
+  IsLink-rest_gone : (fs : List Frame) → IsLink r q s x (record y { outgoing = contents_on s fs }) ls →
       IsLink r q s x (record y { outgoing = contents_on s (rest fs) }) ls
-  rest_gone [] h = h
-  rest_gone (f ∷ fs) h = first_gone _ _ h
+  IsLink-rest_gone [] h = h
+  IsLink-rest_gone (f ∷ fs) h = IsLink-first_gone _ _ h
 
 -- the invariant holds after a REJ in transit is replaced by an RR with the same N(R)
 link-rr : {r q : Role} {s : Sapi} (x y : Side) {ls : List LogLine} (nr : ℕ) (pf : Bool) (cs : List Content) →
@@ -577,42 +577,42 @@ Links r s w ls = IsLink r (other r) s (side r s w ls) (side (other r) s w ls) ls
 abbrev pub AllLinks : World → List LogLine → Type 0
 AllLinks w ls = (r : Role) (s : Sapi) → Links r s w ls
 
-seen_by : (r : Role) (w : World) (ls : List LogLine) → ((s : Sapi) → Links r s w ls) → AllLinks w ls
-seen_by Mobile w ls h Mobile s = h s
-seen_by Network w ls h Network s = h s
-seen_by Mobile w ls h r s = swapped (h s)
-seen_by Network w ls h r s = swapped (h s)
+AllLinks-by_role : (r : Role) (w : World) (ls : List LogLine) → ((s : Sapi) → Links r s w ls) → AllLinks w ls
+AllLinks-by_role Mobile w ls h Mobile s = h s
+AllLinks-by_role Network w ls h Network s = h s
+AllLinks-by_role Mobile w ls h r s = IsLink-swapped (h s)
+AllLinks-by_role Network w ls h r s = IsLink-swapped (h s)
 
-first_lost : (r : Role) (s : Sapi) (w : World) (ls : List LogLine) → Links r s w ls → Links r s (without_first (other r) w) ls
-first_lost Mobile s w ls h = rest_gone _ (side Network s w ls) _ h
-first_lost Network s w ls h = rest_gone _ (side Mobile s w ls) _ h
+Links-first_lost : (r : Role) (s : Sapi) (w : World) (ls : List LogLine) → Links r s w ls → Links r s (without_first (other r) w) ls
+Links-first_lost Mobile s w ls h = IsLink-rest_gone _ (side Network s w ls) _ h
+Links-first_lost Network s w ls h = IsLink-rest_gone _ (side Mobile s w ls) _ h
 
-sides : {x y : Side} → x.endpoint ≡ y.endpoint → x.outgoing ≡ y.outgoing → x.calls ≡ y.calls → x.notified ≡ y.notified → x
+Side-equal : {x y : Side} → x.endpoint ≡ y.endpoint → x.outgoing ≡ y.outgoing → x.calls ≡ y.calls → x.notified ≡ y.notified → x
     ≡ y
-sides h g k l = grind arith
+Side-equal h g k l = grind arith
 
 -- a step of one endpoint changes the state of that endpoint only
-module _ (v : World) (ls : List LogLine) (a : Act) (own : AllOf (IsForSapi a.sapi) a.endpoint_step.frames) where
+module _ (v : World) (ls : List LogLine) (a : Step) (own : AllOf (IsForSapi a.sapi) a.endpoint_step.frames) where
   here : side a.role a.sapi (acted_by a v) (ls ++ lines a) ≡ after a (side a.role a.sapi v ls)
-  here = sides (end_does _ _ a.endpoint_step v) (rw (way_does _ _ _ v, filter_map-append, contents-own _ _ own) refl)
+  here = Side-equal (end_of-acted _ _ a.endpoint_step v) (rw (way-acted _ _ _ v, filter_map-append, contents-of_sapi _ _ own) refl)
       (calls_in_log-own _ _ ls _ _ _) (notices_in_log-own _ _ ls _ _ _)
 
   out-else : (r' r : Role) (s : Sapi) → is_end r s r' a.sapi ≡ false →
       contents_on s (way r (acted r' a.sapi a.endpoint_step v)) ≡ contents_on s (way r v)
-  out-else Mobile Mobile s n = rw (filter_map-append, contents-else s _ n _ own, append-nil) refl
-  out-else Network Network s n = rw (filter_map-append, contents-else s _ n _ own, append-nil) refl
+  out-else Mobile Mobile s n = rw (filter_map-append, contents-other s _ n _ own, append-nil) refl
+  out-else Network Network s n = rw (filter_map-append, contents-other s _ n _ own, append-nil) refl
   out-else r' r s n = refl
 
-  elsewhere : (r : Role) (s : Sapi) → is_end r s a.role a.sapi ≡ false → side r s (acted_by a v) (ls ++ lines a) ≡ side r s v ls
-  elsewhere r s n = sides (end_does-else _ _ a.endpoint_step v r s n) (out-else _ r s n) (calls_in_log-else _ _ ls _ _ _ r s n)
+  side-else : (r : Role) (s : Sapi) → is_end r s a.role a.sapi ≡ false → side r s (acted_by a v) (ls ++ lines a) ≡ side r s v ls
+  side-else r s n = Side-equal (end_of-acted_else _ _ a.endpoint_step v r s n) (out-else _ r s n) (calls_in_log-else _ _ ls _ _ _ r s n)
       (notices_in_log-else _ _ ls _ _ _ r s n)
 
   links-act : {x y : Side} → side a.role a.sapi v ls ≡ x → side (other a.role) a.sapi v ls ≡ y →
       IsLink a.role (other a.role) a.sapi (after a x) y (ls ++ lines a) →
       ((s : Sapi) → is_same_sapi s a.sapi ≡ false → Links a.role s v ls) → AllLinks (acted_by a v) (ls ++ lines a)
-  links-act e e' own others = seen_by _ (acted_by a v) _ (by_link (λ s. Links a.role s (acted_by a v) (ls ++ lines a)) _
-      (rw (here ∙ ap (after a) e, elsewhere _ a.sapi (other_is a.role a.sapi) ∙ e') own)
-      (λ s n. rw (elsewhere _ s (link_else a.role a.role s a.sapi n), elsewhere (other a.role) s (link_else _ a.role s a.sapi n))
+  links-act e e' own others = AllLinks-by_role _ (acted_by a v) _ (by_link (λ s. Links a.role s (acted_by a v) (ls ++ lines a)) _
+      (rw (here ∙ ap (after a) e, side-else _ a.sapi (other_is a.role a.sapi) ∙ e') own)
+      (λ s n. rw (side-else _ s (link_else a.role a.role s a.sapi n), side-else (other a.role) s (link_else _ a.role s a.sapi n))
       (more (lines a) (others s n))))
 
 -- ---- an acknowledgement is reported after the delivery
@@ -622,7 +622,8 @@ IsAfterDelivered before (Notified r s (N.Acked n)) = length (acked_message_numbe
     (delivered_messages (other r) s before)
 IsAfterDelivered before other = Unit {0}
 
--- the step delivers nothing, so if after it no more messages are acknowledged than delivered, each acknowledgement follows its delivery
+-- the step delivers no message to the other endpoint, so if after it no more messages are acknowledged than delivered, each acknowledgement
+-- in it follows the delivery of its message
 notified-after : (r : Role) (s : Sapi) (is : List Message) (cs : List Call) (ns : List Notice) (ls : List LogLine) →
     (let zs = ls ++ lines_of_step r s is cs ns in length (acked_message_numbers r s zs) ≤ length (delivered_messages (other r) s zs)) →
     AllOccur IsAfterDelivered ls (lines_of_step r s is cs ns)
@@ -648,13 +649,13 @@ abbrev GoesInSession : List LogLine → World → List LogLine → Type 0
 GoesInSession ls z new = AllReported z (ls ++ new) →
     AllLinks z (ls ++ new) × AllOccur IsAfterDelivered ls new × AllOccur IsOpenedAfter ls new
 
-acts : (ls : List LogLine) (v : World) {x y : Side} {a : Act} → IsActed x y a → x.endpoint.role ≡ a.role → x.endpoint.sapi
+session-acts : (ls : List LogLine) (v : World) {x y : Side} {a : Step} → IsStep x y a → x.endpoint.role ≡ a.role → x.endpoint.sapi
     ≡ a.sapi →
     side a.role a.sapi v ls ≡ x → side (other a.role) a.sapi v ls ≡ other_after a y → IsLink a.role (other a.role) a.sapi x y ls →
     ((s : Sapi) → is_same_sapi s a.sapi ≡ false → Links a.role s v ls) → GoesInSession ls (acted_by a v) (lines a)
-acts ls v {x} {y} {a} i role same e e' h others reported =
+session-acts ls v {x} {y} {a} i role same e e' h others reported =
     let link = link-acts ls i role same h in
-    let all = links-act v ls a (acts_own i same) e e' link.0 others in
+    let all = links-act v ls a (own_frames i same) e e' link.0 others in
     let most = acked_most (reported a.role a.sapi) (reported (other a.role) a.sapi) (carried_by_link (all _ _)) in
     (all, notified-after _ _ _ _ _ ls most, link.1)
 
@@ -669,42 +670,42 @@ left-there : (r : Role) (s : Sapi) (w : World) (ls : List LogLine) → side (oth
     record (side (other r) s w ls) { outgoing = contents_on s (rest (way (other r) w)) }
 left-there r s w ls = grind arith
 
-lost : (sender : Role) (w : World) (ls : List LogLine) → AllLinks w ls → AllLinks (without_first sender w) ls
-lost Mobile w ls h = seen_by Network (without_first Mobile w) ls (λ s. first_lost _ s w ls (h _ s))
-lost Network w ls h = seen_by Mobile (without_first Network w) ls (λ s. first_lost _ s w ls (h _ s))
+AllLinks-lost : (sender : Role) (w : World) (ls : List LogLine) → AllLinks w ls → AllLinks (without_first sender w) ls
+AllLinks-lost Mobile w ls h = AllLinks-by_role Network (without_first Mobile w) ls (λ s. Links-first_lost _ s w ls (h _ s))
+AllLinks-lost Network w ls h = AllLinks-by_role Mobile (without_first Network w) ls (λ s. Links-first_lost _ s w ls (h _ s))
 
--- the arriving frame is the one that was sent, or an RR in place of a REJ
-came : (r : Role) (s : Sapi) (w : World) (ls : List LogLine) (f : Frame) (fs : List Frame) → way (other r) w ≡ fs →
+-- the link invariant holds with the arriving frame at the front of the queue: it is the frame that was sent, or an RR in place of a REJ
+IsLink-frame_arrived : (r : Role) (s : Sapi) (w : World) (ls : List LogLine) (f : Frame) (fs : List Frame) → way (other r) w ≡ fs →
     is_on s f ≡ true → IsOldestSentOrRr (Some f) fs → Links r s w ls → IsLink r (other r) s (side r s w ls)
     (record (side (other r) s w ls) { outgoing = cons_option (content_of f.content) (contents_on s (rest fs)) }) ls
-came r s w ls f (g ∷ gs) is on (inl same) h = rw (ap (contents_on s) is ∙ comes-first s f (g ∷ gs) on same) at h
-came r s w ls f (g ∷ gs) is on (inr same) h =
+IsLink-frame_arrived r s w ls f (g ∷ gs) is on (inl same) h = rw (ap (contents_on s) is ∙ comes-first s f (g ∷ gs) on same) at h
+IsLink-frame_arrived r s w ls f (g ∷ gs) is on (inr same) h =
     let as_sent = rw (ap (contents_on s) is ∙ comes-first s g (g ∷ gs) (rw same at on) refl) at h in
     rw same (first-rr (side r s w ls) (side (other r) s w ls) g.content (contents_on s gs) as_sent)
-came r s w ls f [] is on sent h = absurd sent
+IsLink-frame_arrived r s w ls f [] is on sent h = absurd sent
 
-as_sent : (o : Option EventRefusal) (event : Event) (w : World) → EventAllowsRrForRej o event w →
+KnowsBy-oldest_sent_or_rr : (o : Option EventRefusal) (event : Event) (w : World) → EventAllowsRrForRej o event w →
     KnowsBy o (λ sender f. IsOldestSentOrRr (Some f) (way sender w)) event
-as_sent o event w h = grind arith
+KnowsBy-oldest_sent_or_rr o event w h = grind arith
 
-goes : (w : World) (ls : List LogLine) (event : Event) → EventAllowsRrForRej (refusal event w) event w → IsSession w ls →
+GoesInSession-event : (w : World) (ls : List LogLine) (event : Event) → EventAllowsRrForRej (refusal event w) event w → IsSession w ls →
     GoesInSession ls (world_after event w) (answer_log_lines event (answer event w))
-goes w ls event benign h = by_kind w (GoesInSession ls) (λ sender f. IsOldestSentOrRr (Some f) (way sender w))
+GoesInSession-event w ls event benign h = by_kind w (GoesInSession ls) (λ sender f. IsOldestSentOrRr (Some f) (way sender w))
     (λ g. (rw append-nil h.links, tt, tt)) (λ r s call placed ok. (let x = h.reported r s in
-    acts ls w (called placed (is_called _ x.window_of_one _ ok)) x.role x.sapi refl refl (h.links r s) (λ t n. h.links r t)))
+    session-acts ls w (called placed (is_called _ x.window_of_one _ ok)) x.role x.sapi refl refl (h.links r s) (λ t n. h.links r t)))
     (λ r s f on known. (let x = h.reported r s in
-    acts ls (without_first (other r) w) (took refl (taken-frame _ x.window_of_one f)) x.role
-    x.sapi (left-here r s w ls) (left-there r s w ls) (came r s w ls f (way (other r) w) refl on known (h.links r s))
-    (λ t n. first_lost r t w ls (h.links r t)))) (λ sender g. (rw append-nil (lost sender w ls h.links), tt, tt))
-    (λ info ok. (let x = h.reported Mobile Zero in acts ls w rival x.role x.sapi refl refl (h.links _ _) (λ t n. h.links Mobile t)))
-    _ (as_sent _ _ w benign)
+    session-acts ls (without_first (other r) w) (took refl (taken-frame _ x.window_of_one f)) x.role
+    x.sapi (left-here r s w ls) (left-there r s w ls) (IsLink-frame_arrived r s w ls f (way (other r) w) refl on known (h.links r s))
+    (λ t n. Links-first_lost r t w ls (h.links r t)))) (λ sender g. (rw append-nil (AllLinks-lost sender w ls h.links), tt, tt))
+    (λ info ok. (let x = h.reported Mobile Zero in session-acts ls w rival x.role x.sapi refl refl (h.links _ _) (λ t n. h.links Mobile t)))
+    _ (KnowsBy-oldest_sent_or_rr _ _ w benign)
 
 session-step : (w : World) (ls : List LogLine) (event : Event) → EventAllowsRrForRej (refusal event w) event w → IsSession w ls →
     IsSession (world_after event w) (ls ++ answer_log_lines event (answer event w))
 session-step w ls event benign h =
     let new : List LogLine = answer_log_lines event (answer event w) in
     let reported : AllReported (world_after event w) (ls ++ new) = in_order-step w ls event h.reported in
-    let g = goes w ls event benign h reported in
+    let g = GoesInSession-event w ls event benign h reported in
     let after_delivered : AllOccur IsAfterDelivered [] (ls ++ new) = occur-append IsAfterDelivered [] ls new h.after_delivered g.1 in
     record { reported = reported; links = g.0; after_delivered = after_delivered; after_cause = occur-append _ [] ls new h.after_cause g.2 }
 
@@ -714,13 +715,13 @@ session-run [] w ls benign h = (w, rw append-nil h)
 session-run (event ∷ events) w ls benign h =
     rw (← append_assoc) (session-run events (world_after event w) _ benign.1 (session-step w ls event benign.0 h))
 
--- a frame that arrives as it was sent also satisfies `EventAllowsRrForRej`
+-- a benign event also satisfies `EventAllowsRrForRej`
 benign_allows_rr : (o : Option EventRefusal) (event : Event) (w : World) → IsBenignEvent o event w → EventAllowsRrForRej o event w
 benign_allows_rr o event w h = grind arith
 
-at_all : (events : List Event) (w : World) → IsBenign events w → AllowsRrForRej events w
-at_all [] w h = tt
-at_all (event ∷ events) w h = (benign_allows_rr (refusal event w) event w h.0, at_all events _ h.1)
+allows_rr : (events : List Event) (w : World) → IsBenign events w → AllowsRrForRej events w
+allows_rr [] w h = tt
+allows_rr (event ∷ events) w h = (benign_allows_rr (refusal event w) event w h.0, allows_rr events _ h.1)
 
 module _ (capacity : QueueCapacity) (channel : Channel) where
   abbrev pub origin : World
@@ -729,20 +730,20 @@ module _ (capacity : QueueCapacity) (channel : Channel) where
   abbrev first_side : Role → Sapi → Side
   first_side r s = record { endpoint = initial_endpoint r s channel; outgoing = []; calls = []; notified = [] }
 
-  initial_endpoint-link : (r q : Role) (s : Sapi) → IsLink r q s (first_side r s) (first_side q s) []
-  initial_endpoint-link r q s =
-      link (record { forward = initial_endpoint-direction; backward = initial_endpoint-direction }) (record { units_sent = empty })
+  initial-link : (r q : Role) (s : Sapi) → IsLink r q s (first_side r s) (first_side q s) []
+  initial-link r q s =
+      link (record { forward = initial-direction; backward = initial-direction }) (record { units_sent = empty })
       (record { units_sent = empty }) _ _
 
-  initial_endpoint-links : AllLinks origin []
-  initial_endpoint-links Mobile Zero = initial_endpoint-link _ _ _
-  initial_endpoint-links Network Zero = initial_endpoint-link _ _ _
-  initial_endpoint-links r s = initial_endpoint-link _ _ _
+  initial-links : AllLinks origin []
+  initial-links Mobile Zero = initial-link _ _ _
+  initial-links Network Zero = initial-link _ _ _
+  initial-links r s = initial-link _ _ _
 
-  started : IsSession origin []
-  started = record {
-    reported = initial_endpoint-reported capacity _;
-    links = initial_endpoint-links;
+  IsSession-origin : IsSession origin []
+  IsSession-origin = record {
+    reported = initial-reported capacity _;
+    links = initial-links;
     after_delivered = tt;
     after_cause =
         tt;
@@ -754,13 +755,13 @@ module _ (capacity : QueueCapacity) (channel : Channel) where
 
     pub counts_with_rr : AllowsRrForRej events origin → AckedAtMostDelivered log
     counts_with_rr benign r s =
-        let (z, h) = session-run events origin [] benign started in
+        let (z, h) = session-run events origin [] benign IsSession-origin in
         acked_most (h.reported r s) (h.reported (other r) s) (carried_by_link (h.links r s))
 
     pub claims_with_rr : AllowsRrForRej events origin → Claims log
     claims_with_rr benign =
         let in_order : HasNoticesInOrder log = order_claims capacity channel events in
-        let (z, h) = session-run events origin [] benign started in
+        let (z, h) = session-run events origin [] benign IsSession-origin in
         record {
           in_order = λ r s. delivered_in_order (h.reported r s) (h.reported (other r) s) (carried_by_link (h.links r s));
           acked_in_order = λ r s n before place.
@@ -768,14 +769,14 @@ module _ (capacity : QueueCapacity) (channel : Channel) where
           ui_in_order = λ r s. ui_in_order-claim (side r s z log) (side (other r) s z log) (ui_in_order (h.links r s));
           establishment_trigger = λ r s info before place. stands IsOpenedAfter log before _ h.after_cause place;
           established_once = in_order.established_once;
-          no_oversize = λ r s. none_oversize (h.reported (other r) s) (h.reported r s) (carried_by_link (swapped (h.links r s)));
+          no_oversize = λ r s. none_oversize (h.reported (other r) s) (h.reported r s) (carried_by_link (IsLink-swapped (h.links r s)));
         }
 
     pub acked_at_most_delivered : IsBenign events origin → AckedAtMostDelivered log
-    acked_at_most_delivered benign = counts_with_rr (at_all events origin benign)
+    acked_at_most_delivered benign = counts_with_rr (allows_rr events origin benign)
 
     pub claims : IsBenign events origin → Claims log
-    claims benign = claims_with_rr (at_all events origin benign)
+    claims benign = claims_with_rr (allows_rr events origin benign)
 
 -- ## ByLink: Each claim depends only on the log lines of one link, so it can be proved for each link separately.
 

@@ -27,13 +27,13 @@ event_of (Arrives sender) w = Deliver sender (first (queue_of sender w.queues))
 
 abbrev played : List Move → World → List Event
 played [] w = []
-played (move ∷ moves) w = event_of move w ∷ played moves (world_after (event_of move w) w)
+played (move ∷ plain_step) w = event_of move w ∷ played plain_step (world_after (event_of move w) w)
 
 abbrev lines_of : List Event → List LogLine
 lines_of events = session_log events (answers events (initial_session Sdcch))
 
 abbrev notified : List Move → List LogLine
-notified moves = lines_of (played moves (initial_session Sdcch))
+notified plain_step = lines_of (played plain_step (initial_session Sdcch))
 
 -- ---- contention: another mobile's SABM arrives first, so the UA has other information and this mobile gives up
 
@@ -112,10 +112,10 @@ forged_breaks h = let e : (3 ∷ []) ∷ (h.in_order Mobile Zero).0 ≡ (2 ∷ [
 
 abbrev moved : List Move → World → World
 moved [] w = w
-moved (move ∷ moves) w = moved moves (world_after (event_of move w) w)
+moved (move ∷ plain_step) w = moved plain_step (world_after (event_of move w) w)
 
 abbrev notified_from : World → List Move → List LogLine
-notified_from w moves = let events = played moves w in session_log events (answers events w)
+notified_from w plain_step = let events = played plain_step w in session_log events (answers events w)
 
 abbrev unbounded_world : World
 unbounded_world = initial_world unbounded_capacity Sdcch

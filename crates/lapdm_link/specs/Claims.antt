@@ -20,7 +20,7 @@ pub data LogLine : Type 0 where
   RivalSabm : Message → LogLine
   Notified : Role → Sapi → Notice → LogLine
 
--- the log lines of an event: one for a layer 3 call or for the SABM of another mobile, none for any other event
+-- the log lines of an event: one for a call to an endpoint or for the SABM of another mobile, none for any other event
 abbrev pub event_log_lines : {Arrival : Type 0} → EventWith Arrival → List LogLine
 event_log_lines (Open info) = Asked Mobile Zero (Opens info) ∷ []
 event_log_lines (OpenBare role) = Asked role Three OpensWithoutInfo ∷ []
@@ -53,12 +53,12 @@ is_same_role r r' = false
 abbrev pub is_same_sapi : (sapi other_sapi : Sapi) → Bool
 is_same_sapi s s' = nat_eq (sapi_number s') (sapi_number s)
 
--- the call in this log line, if it is a call to the endpoint with this role and SAPI
+-- the call in this log line if it is a call to the endpoint with this role and SAPI, otherwise `None`
 abbrev pub call_in_line : Role → Sapi → LogLine → Option Call
 call_in_line r s (Asked role sapi call) = if is_same_role r role && is_same_sapi s sapi then Some call else None
 call_in_line r s other = None
 
--- the notice in this log line, if the endpoint with this role and SAPI reported it
+-- the notice in this log line if the endpoint with this role and SAPI reported it, otherwise `None`
 abbrev pub notice_in_line : Role → Sapi → LogLine → Option Notice
 notice_in_line r s (Notified role sapi notice) = if is_same_role r role && is_same_sapi s sapi then Some notice else None
 notice_in_line r s other = None
@@ -131,11 +131,11 @@ ui_messages_delivered r s ls = filter_map ui_message_in_notice (notices_in_log r
 abbrev pub acked_message_numbers : (role : Role) (sapi : Sapi) (log : List LogLine) → List ℕ
 acked_message_numbers r s ls = filter_map acked_number_in_notice (notices_in_log r s ls)
 
--- the information in each establishment that the endpoint with this role and SAPI reports, in order
+-- the information in each notice in which the endpoint with this role and SAPI reports that its link is established, in order
 abbrev pub establishment_infos : (role : Role) (sapi : Sapi) (log : List LogLine) → List Message
 establishment_infos r s ls = filter_map opened_info_in_notice (notices_in_log r s ls)
 
--- the notices that report a closed link, from the endpoint with this role and SAPI, in order
+-- the notices in which the endpoint with this role and SAPI reports that its link is closed, in order
 abbrev pub close_notices : (role : Role) (sapi : Sapi) (log : List LogLine) → List Notice
 close_notices r s ls = filter_map as_close_notice (notices_in_log r s ls)
 
@@ -143,19 +143,19 @@ close_notices r s ls = filter_map as_close_notice (notices_in_log r s ls)
 abbrev pub IsPrefix : {T : Type 0} (front whole : List T) → Type 0
 IsPrefix {T} xs ys = (more : List T) × (xs ++ more ≡ ys)
 
--- the first list is a subsequence of the second, that is, the second list, perhaps without some of its elements
+-- the first list is a subsequence of the second: it is the second list, perhaps without some of its elements
 abbrev pub IsSubsequence : (xs ys : List Message) → Type 0
 IsSubsequence xs [] = xs ≡ []
 IsSubsequence [] (y ∷ ys) = Unit {0}
 IsSubsequence (x ∷ xs) (y ∷ ys) = ((x ≡ y) × IsSubsequence xs ys) ⊎ IsSubsequence (x ∷ xs) ys
 
--- the line occurs in the log, directly after the lines `before` and no others
+-- the log begins with the lines `before`, and the next line is `line`
 abbrev pub OccursAfter : (before : List LogLine) (line : LogLine) (log : List LogLine) → Type 0
 OccursAfter before line ls = (more : List LogLine) × (before ++ line ∷ more ≡ ls)
 
--- what must precede a reported establishment in the log. On the mobile, SAPI 0: its own call and the network's report of the same
--- establishment (section 5.4.1.4). On the network, SAPI 0: the mobile's call or the SABM of another mobile. On SAPI 3: the peer's call, or
--- the endpoint's own call and the peer's report.
+-- what the log must contain before an endpoint reports that its link is established. On the mobile, SAPI 0: its own call and the network's
+-- report of the same establishment (section 5.4.1.4). On the network, SAPI 0: the mobile's call or the SABM of another mobile. On SAPI 3:
+-- the peer's call, or the endpoint's own call and the peer's report.
 abbrev pub HasEstablishmentTrigger : (role : Role) (sapi : Sapi) (info : Message) (before : List LogLine) → Type 0
 HasEstablishmentTrigger Mobile Zero info before = Contains before (Notified Network Zero (N.Opened info))
     × Contains before (Asked Mobile Zero (Opens info))
@@ -164,50 +164,53 @@ HasEstablishmentTrigger r Three info before =
     Contains before (Asked (other r) Three OpensWithoutInfo) ⊎ (Contains before (Asked r Three OpensWithoutInfo)
     × Contains before (Notified (other r) Three (N.Opened [])))
 
--- The claims about delivery, for sessions without damaged or reordered frames; frames may be lost. For each endpoint, its peer delivers a
+-- The claims about delivery, for sessions in which frames may be lost, but not damaged or reordered. For each endpoint, its peer delivers a
 -- prefix of the messages sent; acknowledgements are numbered 1, 2, ... (up to 2^64 - 1), and each message is delivered before it is
 -- acknowledged; the UI messages that arrive are a subsequence of those sent; the link is established at most once, and only in response to
 -- a call or SABM; and no message is oversize.
-pub record Claims (ls : List LogLine) : Type 0 where
-  pub in_order : (r : Role) (s : Sapi) → IsPrefix (delivered_messages (other r) s ls) (sent_messages r s ls)
-  pub acked_in_order : (r : Role) (s : Sapi) (n : ℕ) (before : List LogLine) → OccursAfter before (Notified r s (N.Acked n)) ls →
-      (n ≡ capped_at_64_bits (length (acked_message_numbers r s before) + 1))
-      × (length (acked_message_numbers r s before) + 1 ≤ length (delivered_messages (other r) s before))
-  pub ui_in_order : (r : Role) (s : Sapi) → IsSubsequence (ui_messages_delivered (other r) s ls) (ui_messages_sent r s ls)
-  pub establishment_trigger : (r : Role) (s : Sapi) (info : Message) (before : List LogLine) →
-      OccursAfter before (Notified r s (N.Opened info)) ls →
-      HasEstablishmentTrigger r s info before
-  pub established_once : (r : Role) (s : Sapi) → length (establishment_infos r s ls) ≤ 1
-  pub no_oversize : (r : Role) (s : Sapi) (before : List LogLine) → ¬ OccursAfter before (Notified r s N.Oversize) ls
+pub record Claims (log : List LogLine) : Type 0 where
+  pub in_order : (role : Role) (sapi : Sapi) → IsPrefix (delivered_messages (other role) sapi log) (sent_messages role sapi log)
+  pub acked_in_order : (role : Role) (sapi : Sapi) (n : ℕ) (before : List LogLine) → OccursAfter before (Notified role sapi (N.Acked n)) log
+      →
+      (n ≡ capped_at_64_bits (length (acked_message_numbers role sapi before) + 1))
+      × (length (acked_message_numbers role sapi before) + 1 ≤ length (delivered_messages (other role) sapi before))
+  pub ui_in_order : (role : Role) (sapi : Sapi) → IsSubsequence (ui_messages_delivered (other role) sapi log)
+      (ui_messages_sent role sapi log)
+  pub establishment_trigger : (role : Role) (sapi : Sapi) (info : Message) (before : List LogLine) →
+      OccursAfter before (Notified role sapi (N.Opened info)) log →
+      HasEstablishmentTrigger role sapi info before
+  pub established_once : (role : Role) (sapi : Sapi) → length (establishment_infos role sapi log) ≤ 1
+  pub no_oversize : (role : Role) (sapi : Sapi) (before : List LogLine) → ¬ OccursAfter before (Notified role sapi N.Oversize) log
 
--- the notice can only come from an endpoint in Open: it delivers a message from I frames, reports an acknowledgement, or reports an
--- oversize message
+-- only an endpoint in state Open can report this notice: the delivery of a message from I frames, an acknowledgement, or an oversize
+-- message
 abbrev pub NeedsOpenLink : Notice → Type 0
 NeedsOpenLink (N.Got m) = Unit {0}
 NeedsOpenLink (N.Acked n) = Unit {0}
 NeedsOpenLink N.Oversize = Unit {0}
 NeedsOpenLink other = ⊥
 
--- in the log `before`, this endpoint reports that its link is established once and never that it is closed, and layer 3 never asks it to
--- release the link
-pub record IsOpenEndpoint (r : Role) (s : Sapi) (before : List LogLine) : Type 0 where
-  pub opened_once : length (establishment_infos r s before) ≡ 1
-  pub not_closed : (reason : Reason) → ¬ Contains before (Notified r s (N.Closed reason))
-  pub release_not_requested : ¬ Contains before (Asked r s Closes)
+-- in the log `before`, this endpoint reports exactly once that its link is established, and never that it is closed, and layer 3 never asks
+-- it to release the link
+pub record IsOpenEndpoint (role : Role) (sapi : Sapi) (before : List LogLine) : Type 0 where
+  pub opened_once : length (establishment_infos role sapi before) ≡ 1
+  pub not_closed : (reason : Reason) → ¬ Contains before (Notified role sapi (N.Closed reason))
+  pub release_not_requested : ¬ Contains before (Asked role sapi Closes)
 
--- The claims about order, for all sessions, whatever frames arrive. For each endpoint, acknowledgements are numbered 1, 2, ..., and each
--- message is sent before it is acknowledged; the link is established at most once and closed at most once; and deliveries, acknowledgements
--- and oversize messages are reported only while the link is open.
-pub record HasNoticesInOrder (ls : List LogLine) : Type 0 where
-  pub acked_in_order : (r : Role) (s : Sapi) (n : ℕ) (before : List LogLine) → OccursAfter before (Notified r s (N.Acked n)) ls →
-      (n ≡ capped_at_64_bits (length (acked_message_numbers r s before) + 1))
-      × (length (acked_message_numbers r s before) + 1 ≤ length (sent_messages r s before))
-  pub established_once : (r : Role) (s : Sapi) → length (establishment_infos r s ls) ≤ 1
-  pub closed_once : (r : Role) (s : Sapi) → length (close_notices r s ls) ≤ 1
-  pub only_while_open : (r : Role) (s : Sapi) (notice : Notice) (before : List LogLine) → NeedsOpenLink notice →
-      OccursAfter before (Notified r s notice) ls →
-      IsOpenEndpoint r s before
+-- The claims about order, for all sessions, whatever frames arrive. For each endpoint, acknowledgements are numbered 1, 2, ... (up to 2^64
+-- - 1), and each message is sent before it is acknowledged; the link is established at most once and closed at most once; and deliveries,
+-- acknowledgements and oversize messages are reported only while the link is open.
+pub record HasNoticesInOrder (log : List LogLine) : Type 0 where
+  pub acked_in_order : (role : Role) (sapi : Sapi) (n : ℕ) (before : List LogLine) → OccursAfter before (Notified role sapi (N.Acked n)) log
+      →
+      (n ≡ capped_at_64_bits (length (acked_message_numbers role sapi before) + 1))
+      × (length (acked_message_numbers role sapi before) + 1 ≤ length (sent_messages role sapi before))
+  pub established_once : (role : Role) (sapi : Sapi) → length (establishment_infos role sapi log) ≤ 1
+  pub closed_once : (role : Role) (sapi : Sapi) → length (close_notices role sapi log) ≤ 1
+  pub only_while_open : (role : Role) (sapi : Sapi) (notice : Notice) (before : List LogLine) → NeedsOpenLink notice →
+      OccursAfter before (Notified role sapi notice) log →
+      IsOpenEndpoint role sapi before
 
--- no endpoint has more messages acknowledged than its peer has delivered
+-- no endpoint reports more messages as acknowledged than its peer has delivered
 abbrev pub AckedAtMostDelivered : List LogLine → Type 0
 AckedAtMostDelivered ls = (r : Role) (s : Sapi) → length (acked_message_numbers r s ls) ≤ length (delivered_messages (other r) s ls)

@@ -17,7 +17,7 @@ abbrev pub queue_of : {T : Type 0} → Role → Queues T → List T
 queue_of Mobile ws = ws.up
 queue_of Network ws = ws.down
 
--- the queues, with the queue of this side replaced by the given items
+-- the queues, in which the given items replace the queue of this side
 abbrev pub with_queue : {T : Type 0} (role : Role) (items : List T) (queues : Queues T) → Queues T
 with_queue Mobile xs ws = record ws { up = xs }
 with_queue Network xs ws = record ws { down = xs }
@@ -26,7 +26,7 @@ with_queue Network xs ws = record ws { down = xs }
 abbrev pub without_first : {T : Type 0} → Role → Queues T → Queues T
 without_first sender ws = with_queue sender (drop 1 (queue_of sender ws)) ws
 
--- the queues, with the given items appended to the queue of this side
+-- the queues after the given items are appended to the queue of this side
 abbrev pub with_appended : {T : Type 0} (sender : Role) (items : List T) (queues : Queues T) → Queues T
 with_appended sender xs ws = with_queue sender (queue_of sender ws ++ xs) ws
 
@@ -34,7 +34,7 @@ with_appended sender xs ws = with_queue sender (queue_of sender ws ++ xs) ws
 abbrev pub queue_length : {T : Type 0} → Queues T → Role → ℕ
 queue_length ws sender = length (queue_of sender ws)
 
--- the arriving item, if there is one, is the first in this list, that is, the oldest item in transit
+-- if an item arrives, it is the first in this list, that is, the oldest item in transit
 abbrev pub IsOldestSentOrNone : {T : Type 0} (arrived : Option T) (sent : List T) → Type 0
 IsOldestSentOrNone None sent = Unit {0}
 IsOldestSentOrNone (Some x) [] = ⊥

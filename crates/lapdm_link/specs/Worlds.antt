@@ -44,7 +44,8 @@ answer_unless_refused None d = Accepts d.who d.sapi d.frames d.notices
 abbrev pub answer : Event → World → Answer
 answer event w = answer_unless_refused (refusal event w) (event_step event w.ends)
 
--- the state of the session after a step: the endpoints have changed, and the frames sent are appended to the queue of the side that acted
+-- the state of the session after a step: the endpoints are in their new state, and the frames sent are appended to the queue of the side
+-- that acted
 abbrev pub world_after_step : SideStep → World → World
 world_after_step d w = record w { ends = d.new_state; queues = with_appended (sending_role d.who) d.frames w.queues }
 
@@ -72,7 +73,7 @@ abbrev pub IsBenign : (events : List Event) (world : World) → Type 0
 IsBenign [] w = Unit {0}
 IsBenign (event ∷ events) w = IsBenignEvent (refusal event w) event w × IsBenign events (world_after event w)
 
--- a REJ becomes an RR with the same N(R) and P or F bit; other contents are unchanged
+-- replaces a REJ by an RR with the same N(R) and P/F bit; any other content is unchanged
 abbrev pub rr_for_rej : Content → Content
 rr_for_rej (Rej nr pf) = Rr nr pf
 rr_for_rej c = c
@@ -89,12 +90,12 @@ abbrev pub EventAllowsRrForRej : (refused : Option EventRefusal) (event : Event)
 EventAllowsRrForRej None (Deliver sender read) w = IsOldestSentOrRr read (queue_of sender w.queues)
 EventAllowsRrForRej refused event w = Unit {0}
 
--- the session is benign, except that an RR may be read where a REJ with the same N(R) was sent
+-- the session is benign, except that the receiver may read an RR where a REJ with the same N(R) was sent
 abbrev pub AllowsRrForRej : (events : List Event) (world : World) → Type 0
 AllowsRrForRej [] w = Unit {0}
 AllowsRrForRej (event ∷ events) w = EventAllowsRrForRej (refusal event w) event w × AllowsRrForRej events (world_after event w)
 
--- if the event delivers a frame, the frame fits in a block of the channel, as does every frame read from a block
+-- if the event delivers a frame, the frame fits in a block of the channel (every frame that is read from a block does)
 abbrev pub ArrivingFrameFits : (channel : Channel) (event : Event) → Type 0
 ArrivingFrameFits channel (Deliver sender (Some f)) = FrameFits channel f
 ArrivingFrameFits channel event = Unit {0}

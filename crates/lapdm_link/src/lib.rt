@@ -18,8 +18,8 @@ pub fn law_lapdm_delivers_in_order()
         → Claims (session_log events (answers events (initial_world capacity channel))) }
 {}
 
-/// Law: messages are delivered in order, and before they are reported as acknowledged, even if an RR arrives in place of a REJ with the
-/// same N(R); all other frames arrive in order and unchanged, or are lost.
+/// Law: if each frame arrives in order and unchanged, or is lost, except that an RR may arrive in place of a REJ with the same N(R),
+/// messages are delivered in order, and before they are reported as acknowledged.
 pub fn law_rr_may_replace_rej()
     ensures delivery { (capacity : QueueCapacity) (channel : Channel) (events : List Event) →
         AllowsRrForRej events (initial_world capacity channel)
@@ -37,7 +37,8 @@ pub fn law_lapdm_log_is_ordered()
         → HasNoticesInOrder (session_log events (answers events (initial_world capacity channel))) }
 {}
 
-/// Law: if each frame arrives in order and unchanged, or is lost, no endpoint has more messages acknowledged than its peer has delivered.
+/// Law: if each frame arrives in order and unchanged, or is lost, no endpoint reports more messages as acknowledged than its peer has
+/// delivered.
 pub fn law_lapdm_acked_at_most_delivered()
     ensures { (capacity : QueueCapacity) (channel : Channel) (events : List Event) → IsBenign events (initial_world capacity channel)
         → AckedAtMostDelivered (session_log events (answers events (initial_world capacity channel))) }
@@ -51,7 +52,7 @@ pub fn law_session_frames_fit_blocks()
         → All (SentFramesFit channel) (answers events (initial_world capacity channel)) }
 {}
 
-/// Law: claims that hold for the log lines of each SAPI hold for the whole log, so each link may have its own channel or queue.
+/// Law: if the claims hold for the log lines of each SAPI, they hold for the whole log, so each link may have its own channel or queues.
 pub fn law_claims_per_sapi_hold_for_whole_log()
     ensures delivery { (ls : List LogLine) → Claims (log_lines_of_sapi Zero ls) → Claims (log_lines_of_sapi Three ls) → Claims ls }
     ensures order { (ls : List LogLine) → HasNoticesInOrder (log_lines_of_sapi Zero ls)

@@ -47,7 +47,7 @@ impl Session {
     }
 }
 
-// Whether the endpoint sent exactly one block, these octets followed by fill octets, or no block if `octets` is empty.
+// Returns whether the endpoint sent exactly one block, made up of these octets and fill octets, or no block if `octets` is empty.
 fn sends_only(effects: &Effects, octets: &[u8]) -> bool {
     match effects.frames.as_slice() {
         [] => octets.is_empty(),
@@ -91,7 +91,7 @@ fn sends_and_reports(
     }
 }
 
-// Checks the calls that are refused outside Idle, outside Open, and while no frame awaits an answer.
+// The next three functions check the calls that are refused outside Idle, outside Open, and while T200 is not running.
 fn open_is_refused(rt: &impl Abort, session: &mut Session) {
     assert!(rt; matches!(session.end.open(&[1]), Err(Refused::NotIdle)));
 }

@@ -44,7 +44,7 @@ impl Session {
     }
 }
 
-// Whether the endpoint sent exactly one block, these octets followed by fill octets, or no block if `octets` is empty.
+// Returns whether the endpoint sent exactly one block, made up of these octets and fill octets, or no block if `octets` is empty.
 fn sends_only(effects: &Effects, octets: &[u8]) -> bool {
     match effects.frames.as_slice() {
         [] => octets.is_empty(),
@@ -172,7 +172,7 @@ fn ignores_what_the_mobile_does_not_send(rt: HostRuntime) {
     );
 }
 
-// Checks that an RR acknowledges nothing unless its N(R) is `number`; 8 excludes every N(R).
+// Checks that an RR acknowledges nothing if its N(R) is not `number`. If `number` is 8, this covers every N(R).
 fn ignores_other_nr(rt: &impl Abort, session: &mut Session, number: u8) {
     for nr in 0..8u8 {
         if nr != number {

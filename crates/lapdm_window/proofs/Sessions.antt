@@ -50,9 +50,9 @@ with_network (Ok o) p = record p { network = o.new_state; down = p.down ++ o.fra
 with_network (Err refusal) p = p
 
 -- the endpoint receives the oldest frame in transit
-abbrev taken_from : List Frame → EndpointState → Result Outcome Refused
-taken_from [] e = Err No.NotRunning
-taken_from (f ∷ fs) e = step (Received f) e
+abbrev step_on_oldest : List Frame → EndpointState → Result Outcome Refused
+step_on_oldest [] e = Err No.NotRunning
+step_on_oldest (f ∷ fs) e = step (Received f) e
 
 abbrev nothing : Seen
 nothing = Ok ([], [])
@@ -63,8 +63,8 @@ rival info = record { sapi = 0; cr = false; content = Sabm true info }
 abbrev seen_at : Event → Pair → Seen
 seen_at (Mob call) p = seen_in p.mobile.channel (step (Asked call) p.mobile)
 seen_at (Net call) p = seen_in p.network.channel (step (Asked call) p.network)
-seen_at Up p = seen_in p.network.channel (taken_from p.up p.network)
-seen_at Down p = seen_in p.mobile.channel (taken_from p.down p.mobile)
+seen_at Up p = seen_in p.network.channel (step_on_oldest p.up p.network)
+seen_at Down p = seen_in p.mobile.channel (step_on_oldest p.down p.mobile)
 seen_at LoseUp p = nothing
 seen_at LoseDown p = nothing
 seen_at (Rival info) p = Ok ([], octets_of p.mobile.channel (rival info) ∷ [])
@@ -72,8 +72,8 @@ seen_at (Rival info) p = Ok ([], octets_of p.mobile.channel (rival info) ∷ [])
 abbrev after_event : Event → Pair → Pair
 after_event (Mob call) p = with_mobile (step (Asked call) p.mobile) p
 after_event (Net call) p = with_network (step (Asked call) p.network) p
-after_event Up p = with_network (taken_from p.up p.network) (record p { up = drop 1 p.up })
-after_event Down p = with_mobile (taken_from p.down p.mobile) (record p { down = drop 1 p.down })
+after_event Up p = with_network (step_on_oldest p.up p.network) (record p { up = drop 1 p.up })
+after_event Down p = with_mobile (step_on_oldest p.down p.mobile) (record p { down = drop 1 p.down })
 after_event LoseUp p = record p { up = drop 1 p.up }
 after_event LoseDown p = record p { down = drop 1 p.down }
 after_event (Rival info) p = record p { up = p.up ++ rival info ∷ [] }

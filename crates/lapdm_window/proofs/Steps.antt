@@ -1,7 +1,7 @@
 -- Steps of an endpoint: the invariant, the bounds, and the laws of every step.
 use Rattle.{
   lapdm_window.{
-    proofs.Windows.{HasSize, HasWindowOfOne-taken},
+    proofs.Windows.{HasSize, HasWindowOfOne-push},
     specs.{
       Calls.{Call, IsCallOfEndpoint, Sends, T200Expires, call_outcome, first_refusal, is_idle, message_refusals, refusal_of},
       Calls.{frame_to_retransmit, with_queued_message},
@@ -19,7 +19,7 @@ use Rattle.{
     },
   },
   segmenting.{
-    proofs.{Lemmas.{are_segments, messages-push, room_of}, lapdm_frame.Lemmas.only_canonical},
+    proofs.{Lemmas.{are_segments, messages-push, IsN201-n201}, lapdm_frame.Lemmas.only_canonical},
     specs.{
       Joining.messages,
       Segments.{AreFullExceptLast, IsValidMessage, Message, Segment, segments},
@@ -69,7 +69,7 @@ is_open-is s h = grind arith
 
 -- the notices deliver exactly the messages completed by the segments that were accepted since the endpoint was in state e
 abbrev pub Delivers : EndpointState → Outcome → Type 0
-Delivers e o = messages o.new_state.accepted ≡ messages e.accepted ++ filter_map message_in_got_notice o.notices
+Delivers e o = messages o.new_state.peer_segments ≡ messages e.peer_segments ++ filter_map message_in_got_notice o.notices
 
 then-delivers : (e : EndpointState) (o : Outcome) (rule : EndpointState → Outcome) → Delivers e o →
     Delivers o.new_state (rule o.new_state) →
@@ -88,7 +88,7 @@ MayOpen Zero Network (i ∷ is) = Unit {0}
 MayOpen Three r [] = Unit {0}
 MayOpen s r info = ⊥
 
--- what this reply to the content c says about c and about the endpoint x before the reply
+-- what follows if this is the reply to the content c: about c, and about the endpoint x before the reply
 abbrev pub IsReplyTo : Content → EndpointState → Reply → Type 0
 IsReplyTo c x Nothing = Unit {0}
 IsReplyTo c x SendsDm = Unit {0}
@@ -102,26 +102,27 @@ IsReplyTo c x (TakesI ns nr p segment) = (c ≡ I ns nr p segment.1 segment.0) �
 IsReplyTo c x (TakesRr nr poll) = (pf : Bool) × (c ≡ Rr nr pf) × (x.state ≡ Open)
 IsReplyTo c x (TakesRej nr poll) = (pf : Bool) × (c ≡ Rej nr pf) × (x.state ≡ Open)
 
-bytes_true : (a b : Message) → bytes_eq a b ≡ true → a ≡ b
-bytes_true a b h = (bytes_eq-Decides a b).0 h
+bytes_eq-true : (a b : Message) → bytes_eq a b ≡ true → a ≡ b
+bytes_eq-true a b h = (bytes_eq-Decides a b).0 h
 
 module _ (x : EndpointState) where
-  of_sabm_in_open : (p answers same : Bool) (info : Message) → x.state ≡ Open → bytes_eq info x.sabm_info ≡ same →
+  IsReplyTo-sabm_in_open : (p answers same : Bool) (info : Message) → x.state ≡ Open → bytes_eq info x.sabm_info ≡ same →
       IsReplyTo (Sabm p info) x (if answers && same then SendsUa info else Nothing)
-  of_sabm_in_open p true true info e same = inl (e, sym (bytes_true info x.sabm_info same))
-  of_sabm_in_open p answers same info e h = tt
+  IsReplyTo-sabm_in_open p true true info e same = inl (e, sym (bytes_eq-true info x.sabm_info same))
+  IsReplyTo-sabm_in_open p answers same info e h = tt
 
-  of_state : (s : State) (cmd : Bool) (c : Content) → x.state ≡ s → IsReplyTo c x (reply_in_state s cmd c x)
-  of_state Open cmd (Sabm p info) e = of_sabm_in_open p (answers_repeated_sabm x.sapi x.role) (bytes_eq info x.sabm_info) info e refl
-  of_state s cmd c e = grind (arith, bytes_true)
+  IsReplyTo-in_state : (s : State) (cmd : Bool) (c : Content) → x.state ≡ s → IsReplyTo c x (reply_in_state s cmd c x)
+  IsReplyTo-in_state Open cmd (Sabm p info) e =
+      IsReplyTo-sabm_in_open p (answers_repeated_sabm x.sapi x.role) (bytes_eq info x.sabm_info) info e refl
+  IsReplyTo-in_state s cmd c e = grind (arith, bytes_eq-true)
 
-  of_reply : (b cmd : Bool) (c : Content) → IsReplyTo c x (if b then reply cmd c x else Nothing)
-  of_reply true cmd (Ui p info) = grind arith
-  of_reply true cmd c = of_state x.state cmd c refl
-  of_reply false cmd c = tt
+  IsReplyTo-reply : (b cmd : Bool) (c : Content) → IsReplyTo c x (if b then reply cmd c x else Nothing)
+  IsReplyTo-reply true cmd (Ui p info) = grind arith
+  IsReplyTo-reply true cmd c = IsReplyTo-in_state x.state cmd c refl
+  IsReplyTo-reply false cmd c = tt
 
   pub cause_of : (f : Frame) → IsReplyTo f.content x (reply_to_frame f x)
-  cause_of f = of_reply _ (is_command x f) f.content
+  cause_of f = IsReplyTo-reply _ (is_command x f) f.content
 
 -- ## SidesBySapi: What a side does with a received frame, by cases on the SAPI of the frame.
 
@@ -139,14 +140,14 @@ pub record AtMost (m n : ℕ) (x : EndpointState) (o : Outcome) : Type 0 where
   pub notices : length o.notices ≤ n
   pub delivered : Delivers x o
 
-at_most-if : {m n : ℕ} (b : Bool) {x : EndpointState} {o p : Outcome} → AtMost m n x o → AtMost m n x p →
+AtMost-if : {m n : ℕ} (b : Bool) {x : EndpointState} {o p : Outcome} → AtMost m n x o → AtMost m n x p →
     AtMost m n x (if b then o else p)
-at_most-if true h g = h
-at_most-if false h g = g
+AtMost-if true h g = h
+AtMost-if false h g = g
 
-both : (m n k l : ℕ) {x : EndpointState} (o : Outcome) (rule : EndpointState → Outcome) → AtMost m n x o →
+AtMost-then : (m n k l : ℕ) {x : EndpointState} (o : Outcome) (rule : EndpointState → Outcome) → AtMost m n x o →
     AtMost k l o.new_state (rule o.new_state) → AtMost (m + k) (n + l) x (o then rule)
-both m n k l {x} o rule h g =
+AtMost-then m n k l {x} o rule h g =
     grind (
       arith,
       length-append o.frames (rule o.new_state).frames,
@@ -156,25 +157,25 @@ both m n k l {x} o rule h g =
 
 -- ---- the rules of the window
 
-few-next : (e : EndpointState) → AtMost 1 0 e (sends_next_segment e)
-few-next e = grind (arith, append-nil (messages e.accepted))
+bound-next : (e : EndpointState) → AtMost 1 0 e (sends_next_segment e)
+bound-next e = grind (arith, append-nil (messages e.peer_segments))
 
-few-evaluates_nr : (nr : ℕ) (e : EndpointState) → AtMost 0 1 e (evaluates_nr nr e)
-few-evaluates_nr nr e = grind (arith, append-nil (messages e.accepted))
+bound-evaluates_nr : (nr : ℕ) (e : EndpointState) → AtMost 0 1 e (evaluates_nr nr e)
+bound-evaluates_nr nr e = grind (arith, append-nil (messages e.peer_segments))
 
-few-accepts_segment : (segment : Segment) (e : EndpointState) → AtMost 0 1 e (accepts_segment segment e)
-few-accepts_segment segment e = grind (arith, messages-push e.accepted segment)
+bound-accepts_segment : (segment : Segment) (e : EndpointState) → AtMost 0 1 e (accepts_segment segment e)
+bound-accepts_segment segment e = grind (arith, messages-push e.peer_segments segment)
 
-few-answers : (p : Bool) (e : EndpointState) → AtMost 2 0 e (answers_segment p e)
-few-answers p e = grind (arith, append-nil (messages e.accepted))
+bound-answers : (p : Bool) (e : EndpointState) → AtMost 2 0 e (answers_segment p e)
+bound-answers p e = grind (arith, append-nil (messages e.peer_segments))
 
-few-rejects_segment : (p : Bool) (e : EndpointState) → AtMost 1 0 e (rejects_segment p e)
-few-rejects_segment p e = grind (arith, append-nil (messages e.accepted))
+bound-rejects_segment : (p : Bool) (e : EndpointState) → AtMost 1 0 e (rejects_segment p e)
+bound-rejects_segment p e = grind (arith, append-nil (messages e.peer_segments))
 
-few-poll : (b : Bool) (e : EndpointState) → AtMost 1 0 e (answers_poll b e)
-few-poll b e = grind (arith, append-nil (messages e.accepted))
+bound-poll : (b : Bool) (e : EndpointState) → AtMost 1 0 e (answers_poll b e)
+bound-poll b e = grind (arith, append-nil (messages e.peer_segments))
 
--- the bounds for a rule that evaluates an N(R) and then applies two further rules
+-- the bounds on the frames and notices of a rule that evaluates an N(R) and then applies two further rules
 counted : (m n k l : ℕ) (nr : ℕ) (first second : EndpointState → Outcome) (e : EndpointState) →
     ((x : EndpointState) → AtMost m n x (first x)) → ((x : EndpointState) → AtMost k l x (second x)) → m + k ≤ 2 →
     1 + n + l ≤ 2 →
@@ -182,35 +183,35 @@ counted : (m n k l : ℕ) (nr : ℕ) (first second : EndpointState → Outcome) 
 counted m n k l nr first second e h g frames notices =
     grind (
       arith,
-      both (0 + m) (1 + n) k l (evaluates_nr nr e then first) second
-          (both 0 1 m n (evaluates_nr nr e) first (few-evaluates_nr nr e) (h (evaluates_nr nr e).new_state))
+      AtMost-then (0 + m) (1 + n) k l (evaluates_nr nr e then first) second
+          (AtMost-then 0 1 m n (evaluates_nr nr e) first (bound-evaluates_nr nr e) (h (evaluates_nr nr e).new_state))
           (g (evaluates_nr nr e then first).new_state),
     )
 
-few-i : (ns nr : ℕ) (p : Bool) (segment : Segment) (e : EndpointState) → AtMost 2 2 e (takes_i_frame ns nr p segment e)
-few-i ns nr p segment e =
-    at_most-if (nat_eq ns (vr e))
-    (counted 0 1 2 0 nr (accepts_segment segment) (answers_segment p) e (few-accepts_segment segment) (few-answers p) (omega arith)
+bound-i : (ns nr : ℕ) (p : Bool) (segment : Segment) (e : EndpointState) → AtMost 2 2 e (takes_i_frame ns nr p segment e)
+bound-i ns nr p segment e =
+    AtMost-if (nat_eq ns (vr e))
+    (counted 0 1 2 0 nr (accepts_segment segment) (answers_segment p) e (bound-accepts_segment segment) (bound-answers p) (omega arith)
     (omega arith))
-    (counted 1 0 1 0 nr (rejects_segment p) sends_next_segment e (few-rejects_segment p) few-next (omega arith) (omega arith))
+    (counted 1 0 1 0 nr (rejects_segment p) sends_next_segment e (bound-rejects_segment p) bound-next (omega arith) (omega arith))
 
-few-rr : (nr : ℕ) (b : Bool) (e : EndpointState) → AtMost 2 2 e (takes_rr nr b e)
-few-rr nr b e = grind (arith, few-poll b)
+bound-rr : (nr : ℕ) (b : Bool) (e : EndpointState) → AtMost 2 2 e (takes_rr nr b e)
+bound-rr nr b e = grind (arith, bound-poll b)
 
-few-rej : (nr : ℕ) (b : Bool) (e : EndpointState) → AtMost 2 2 e (takes_rej nr b e)
-few-rej nr b e = grind (arith, few-poll b)
+bound-rej : (nr : ℕ) (b : Bool) (e : EndpointState) → AtMost 2 2 e (takes_rej nr b e)
+bound-rej nr b e = grind (arith, bound-poll b)
 
 -- ---- the tables
 
-few-reply : (r : Reply) (e : EndpointState) → AtMost 2 2 e (outcome_of_reply r e)
-few-reply (TakesI ns nr p segment) e = few-i ns nr p segment e
-few-reply r e = grind (arith, append-nil (messages e.accepted), few-rr, few-rej)
+bound-reply : (r : Reply) (e : EndpointState) → AtMost 2 2 e (outcome_of_reply r e)
+bound-reply (TakesI ns nr p segment) e = bound-i ns nr p segment e
+bound-reply r e = grind (arith, append-nil (messages e.peer_segments), bound-rr, bound-rej)
 
-pub few-frame : (f : Frame) (e : EndpointState) → AtMost 2 2 e (frame_outcome f e)
-few-frame f e = few-reply (reply_to_frame f e) e
+pub bound-frame : (f : Frame) (e : EndpointState) → AtMost 2 2 e (frame_outcome f e)
+bound-frame f e = bound-reply (reply_to_frame f e) e
 
-pub few-call : (call : Call) (e : EndpointState) → AtMost 2 2 e (call_outcome call e)
-few-call call e = grind (arith, append-nil (messages e.accepted))
+pub bound-call : (call : Call) (e : EndpointState) → AtMost 2 2 e (call_outcome call e)
+bound-call call e = grind (arith, append-nil (messages e.peer_segments))
 
 -- ## Keeping: Every call and every received frame preserves the invariant `IsValidEndpoint`, and every frame sent fits its channel. The
 -- proof is by cases on the rules, the tables and the calls.
@@ -240,14 +241,14 @@ pub plain_fits : (channel : Channel) (f : Frame) (s : Sapi) → f.sapi ≡ sapi_
     InformationFits channel f.content → FrameFits channel f
 plain_fits channel f s at n i = grind arith
 
-waiting_fits : (p : Bool) (x : EndpointState) → All IsValidMessage x.taken → x.acked < length (all_segments x) →
+waiting_fits : (p : Bool) (x : EndpointState) → All IsValidMessage x.messages → x.acked_segments < length (all_segments x) →
     FrameFits x.channel (outstanding_frame p x)
 waiting_fits p x good within =
     let n = n201 x.channel in
     let size : HasSize n (next_segment x).0 =
-    All-get_or (λ (q : Segment). HasSize n q.0) (all_segments x) x.acked ([], false) within
-    (sized-all n x.taken (room_of x.channel).positive good) in
-    plain_fits x.channel (outstanding_frame p x) x.sapi refl (three_bits x.acked, three_bits (length x.accepted))
+    All-get_or (λ (q : Segment). HasSize n q.0) (all_segments x) x.acked_segments ([], false) within
+    (sized-all n x.messages (IsN201-n201 x.channel).positive good) in
+    plain_fits x.channel (outstanding_frame p x) x.sapi refl (three_bits x.acked_segments, three_bits (length x.peer_segments))
     (size.nonempty, size.at_most)
 
 abbrev AllFit : EndpointState → List Frame → Type 0
@@ -261,7 +262,7 @@ one x f h = All-cons (FrameFits x.channel) f [] h (none x)
 
 -- ---- the rules of the window
 
--- what every rule of the window preserves: these fields do not change, the window remains one frame, and all frames sent fit
+-- what every rule of the window preserves: these fields do not change, the window size remains 1, and all frames sent fit in a block
 record Runs (x : EndpointState) (o : Outcome) : Type 0 where
   role : o.new_state.role ≡ x.role
   channel : o.new_state.channel ≡ x.channel
@@ -295,9 +296,9 @@ runs-no_effect x h = grind arith
 runs-accepts_segment : (p : Segment) → AllSatisfyRuns (accepts_segment p)
 runs-accepts_segment p x h = grind arith
 
-by_test : (b : Bool) {x : EndpointState} {o p : Outcome} → (b ≡ true → Runs x o) → Runs x p → Runs x (if b then o else p)
-by_test true h g = h refl
-by_test false h g = g
+Runs-if : (b : Bool) {x : EndpointState} {o p : Outcome} → (b ≡ true → Runs x o) → Runs x p → Runs x (if b then o else p)
+Runs-if true h g = h refl
+Runs-if false h g = g
 
 runs-rejects_segment : (p : Bool) → AllSatisfyRuns (rejects_segment p)
 runs-rejects_segment p x h = grind arith
@@ -306,14 +307,14 @@ runs-sends_segment : (x : EndpointState) → may_send_next_segment x ≡ true �
 runs-sends_segment x has h = grind (arith, waiting_fits false (with_segment_sent x))
 
 runs-sends_next_segment : AllSatisfyRuns sends_next_segment
-runs-sends_next_segment x h = by_test (may_send_next_segment x) (λ has. runs-sends_segment x has h) (runs-no_effect x h)
+runs-sends_next_segment x h = Runs-if (may_send_next_segment x) (λ has. runs-sends_segment x has h) (runs-no_effect x h)
 
-pub waits_within : (x : EndpointState) → HasWindowOfOne x → awaits_ack x ≡ true → x.acked < length (all_segments x)
+pub waits_within : (x : EndpointState) → HasWindowOfOne x → awaits_ack x ≡ true → x.acked_segments < length (all_segments x)
 waits_within x h w = grind arith
 
 runs-resends_outstanding_segment : AllSatisfyRuns resends_outstanding_segment
 runs-resends_outstanding_segment x h =
-    by_test (awaits_ack x) (λ w. grind (arith, waiting_fits false x h.messages (waits_within x h w))) (runs-sends_next_segment x h)
+    Runs-if (awaits_ack x) (λ w. grind (arith, waiting_fits false x h.messages (waits_within x h w))) (runs-sends_next_segment x h)
 
 runs-answers_poll : (poll : Bool) → AllSatisfyRuns (answers_poll poll)
 runs-answers_poll poll x h = grind arith
@@ -324,14 +325,14 @@ runs-answers_segment p x h = grind (arith, runs-sends_segment x, runs-sends_next
 runs-evaluates_nr : (nr : ℕ) → AllSatisfyRuns (evaluates_nr nr)
 runs-evaluates_nr nr x h = grind arith
 
-runs-counted : (nr : ℕ) {first second : EndpointState → Outcome} → AllSatisfyRuns first → AllSatisfyRuns second →
+runs-nr : (nr : ℕ) {first second : EndpointState → Outcome} → AllSatisfyRuns first → AllSatisfyRuns second →
     AllSatisfyRuns (λ x. evaluates_nr nr x then first then second)
-runs-counted nr {first} {second} f g x h = runs-then second (runs-then first (runs-evaluates_nr nr x h) f) g
+runs-nr nr {first} {second} f g x h = runs-then second (runs-then first (runs-evaluates_nr nr x h) f) g
 
 runs-takes_i_frame : (ns nr : ℕ) (p : Bool) (segment : Segment) → AllSatisfyRuns (takes_i_frame ns nr p segment)
 runs-takes_i_frame ns nr p segment x h =
-    by_test (nat_eq ns (vr x)) (λ e. runs-counted nr (runs-accepts_segment segment) (runs-answers_segment p) x h)
-    (runs-counted nr (runs-rejects_segment p) runs-sends_next_segment x h)
+    Runs-if (nat_eq ns (vr x)) (λ e. runs-nr nr (runs-accepts_segment segment) (runs-answers_segment p) x h)
+    (runs-nr nr (runs-rejects_segment p) runs-sends_next_segment x h)
 
 -- ---- the tables
 
@@ -349,7 +350,7 @@ keeps-runs x o is h r = grind arith
 sapi3_sabm_is_empty : (s : Sapi) (r : Role) (info : Message) → MayOpen s r info → s ≡ Three → info ≡ []
 sapi3_sabm_is_empty s r info h g = grind arith
 
--- the information of a UA is either the information that the endpoint keeps or empty
+-- the information of a UA fits in a frame: it is either the SABM information that the endpoint keeps or empty
 ua_information_fits : (info : Message) (x : EndpointState) → IsValidEndpoint x →
     ((x.state ≡ S.Open) × (x.sabm_info ≡ info)) ⊎ ((info ≡ []) × HasBegun x) →
     length info ≤ n201 x.channel
@@ -360,9 +361,9 @@ keeps-reply : (r : Reply) (c : Content) (x : EndpointState) → IsReplyTo c x r 
 keeps-reply (AcceptsSabm info) c x cause h fits = grind (arith, sapi3_sabm_is_empty x.sapi x.role info cause.3)
 keeps-reply (TakesI ns nr p segment) c x cause h fits = keeps-runs x _ cause.1 h (runs-takes_i_frame ns nr p segment x h.window)
 keeps-reply (TakesRr nr poll) c x cause h fits =
-    keeps-runs x _ cause.2 h (runs-counted nr (runs-answers_poll poll) runs-sends_next_segment x h.window)
+    keeps-runs x _ cause.2 h (runs-nr nr (runs-answers_poll poll) runs-sends_next_segment x h.window)
 keeps-reply (TakesRej nr poll) c x cause h fits =
-    keeps-runs x _ cause.2 h (runs-counted nr (runs-answers_poll poll) runs-resends_outstanding_segment x h.window)
+    keeps-runs x _ cause.2 h (runs-nr nr (runs-answers_poll poll) runs-resends_outstanding_segment x h.window)
 keeps-reply (SendsUa info) c x cause h fits = grind (arith, ua_information_fits info x h cause)
 keeps-reply r c x cause h fits = grind arith
 
@@ -381,9 +382,9 @@ keeps-t200_expiry : (b : Bool) (x : EndpointState) → awaits_answer_in_state x.
     x)
 keeps-t200_expiry b x due h = grind (arith, repeated_fits x.state x due h)
 
-IsValidEndpoint-taken : (x : EndpointState) (m : Message) → x.state ≡ S.Open → IsValidEndpoint x → IsValidMessage m →
+IsValidEndpoint-push : (x : EndpointState) (m : Message) → x.state ≡ S.Open → IsValidEndpoint x → IsValidMessage m →
     IsValidEndpoint (with_queued_message m x)
-IsValidEndpoint-taken x m is h good = grind (arith, HasWindowOfOne-taken x m h.window good)
+IsValidEndpoint-push x m is h good = grind (arith, HasWindowOfOne-push x m h.window good)
 
 pub keeps-call : (call : Call) (x : EndpointState) → IsValidEndpoint x → IsCallOfEndpoint x call → refusal_of call x ≡ None →
     Keeps x (call_outcome call x)
@@ -391,7 +392,7 @@ keeps-call (Sends m) x h has ok =
     let open_now = passes (not (is_open x.state)) No.NotOpen (message_refusals m x) ok in
     let is : x.state ≡ S.Open = is_open-is x.state (not_false (is_open x.state) open_now.not_refused) in
     let y : EndpointState = with_queued_message m x in
-    let end : IsValidEndpoint y = IsValidEndpoint-taken x m is h (is_valid_message m x open_now.others_allow) in
+    let end : IsValidEndpoint y = IsValidEndpoint-push x m is h (is_valid_message m x open_now.others_allow) in
     let k : Keeps y (sends_next_segment y) = keeps-runs y (sends_next_segment y) is end (runs-sends_next_segment y end.window) in
     record { role = k.role; channel = k.channel; sapi = k.sapi; valid = k.valid; frames = k.frames }
 keeps-call T200Expires x h has ok =
@@ -402,47 +403,47 @@ keeps-call call x h has ok = grind arith
 
 -- ---- the initial state
 
-pub IsValidEndpoint-initial_endpoint : (role : Role) (sapi : Sapi) (channel : Channel)
+pub IsValidEndpoint-initial : (role : Role) (sapi : Sapi) (channel : Channel)
     → IsValidEndpoint (initial_endpoint role sapi channel)
-IsValidEndpoint-initial_endpoint role sapi channel = grind arith
+IsValidEndpoint-initial role sapi channel = grind arith
 
 -- ## Stepping: The laws that hold for every step, combined from the lemmas on calls and those on received frames.
 
-unless : (refusal : Option Refused) (o : Outcome) (P : Outcome → Type 0) → (refusal ≡ None → P o) →
+IfOk-unless_refused : (refusal : Option Refused) (o : Outcome) (P : Outcome → Type 0) → (refusal ≡ None → P o) →
     IfOk (outcome_unless_refused refusal o) P
-unless None o P h = h refl
-unless (Some refusal) o P h = tt
+IfOk-unless_refused None o P h = h refl
+IfOk-unless_refused (Some refusal) o P h = tt
 
-few : (input : StepInput) (e : EndpointState) (P : Outcome → Type 0) → ((o : Outcome) → AtMost 2 2 e o → P o) →
+step-AtMost : (input : StepInput) (e : EndpointState) (P : Outcome → Type 0) → ((o : Outcome) → AtMost 2 2 e o → P o) →
     IfOk (step input e) P
-few input e P h = grind (arith, few-call, few-frame)
+step-AtMost input e P h = grind (arith, bound-call, bound-frame)
 
-pub step-few : (input : StepInput) (e : EndpointState) → IfOk (step input e) (λ o. (length o.frames ≤ 2) × (length o.notices ≤ 2))
-step-few input e = few input e (λ o. (length o.frames ≤ 2) × (length o.notices ≤ 2)) (λ o h. (h.frames, h.notices))
+pub step-bound : (input : StepInput) (e : EndpointState) → IfOk (step input e) (λ o. (length o.frames ≤ 2) × (length o.notices ≤ 2))
+step-bound input e = step-AtMost input e (λ o. (length o.frames ≤ 2) × (length o.notices ≤ 2)) (λ o h. (h.frames, h.notices))
 
 pub step-delivers : (input : StepInput) (e : EndpointState) → IfOk (step input e) (λ o. Delivers e o)
-step-delivers input e = few input e (λ o. Delivers e o) (λ o h. h.delivered)
+step-delivers input e = step-AtMost input e (λ o. Delivers e o) (λ o h. h.delivered)
 
-keeps : (input : StepInput) (e : EndpointState) (P : Outcome → Type 0) → IsValidEndpoint e → IsPossibleInput e input →
+step-Keeps : (input : StepInput) (e : EndpointState) (P : Outcome → Type 0) → IsValidEndpoint e → IsPossibleInput e input →
     ((o : Outcome) →
     Keeps e o → P o) →
     IfOk (step input e) P
-keeps (Asked call) e P end may h = unless (refusal_of call e) (call_outcome call e) P
+step-Keeps (Asked call) e P end may h = IfOk-unless_refused (refusal_of call e) (call_outcome call e) P
     (λ ok. h (call_outcome call e) (keeps-call call e end may ok))
-keeps (Received f) e P end may h = h (frame_outcome f e) (keeps-frame f e end may)
+step-Keeps (Received f) e P end may h = h (frame_outcome f e) (keeps-frame f e end may)
 
 pub step-end : (input : StepInput) (e : EndpointState) → IsValidEndpoint e → IsPossibleInput e input →
     IfOk (step input e) (λ o. IsValidEndpoint o.new_state)
-step-end input e end may = keeps input e (λ o. IsValidEndpoint o.new_state) end may (λ o h. h.valid)
+step-end input e end may = step-Keeps input e (λ o. IsValidEndpoint o.new_state) end may (λ o h. h.valid)
 
 pub step-link : (input : StepInput) (e : EndpointState) → IsValidEndpoint e → IsPossibleInput e input →
     IfOk (step input e) (λ o. IsSameEndpoint e o.new_state)
 step-link input e end may =
-    keeps input e (λ o. IsSameEndpoint e o.new_state) end may (λ o h. record { role = h.role; sapi = h.sapi; channel = h.channel })
+    step-Keeps input e (λ o. IsSameEndpoint e o.new_state) end may (λ o h. record { role = h.role; sapi = h.sapi; channel = h.channel })
 
 pub step-frames : (input : StepInput) (e : EndpointState) → IsValidEndpoint e → IsPossibleInput e input →
     IfOk (step input e) (λ o. All (λ f. IsOnlyCanonicalCoding e.channel f (octets_of e.channel f)) o.frames)
 step-frames input e end may =
-    keeps input e (λ o. All (λ f. IsOnlyCanonicalCoding e.channel f (octets_of e.channel f)) o.frames) end may
+    step-Keeps input e (λ o. All (λ f. IsOnlyCanonicalCoding e.channel f (octets_of e.channel f)) o.frames) end may
     (λ o h. All-weaker (FrameFits e.channel) (λ f. IsOnlyCanonicalCoding e.channel f (octets_of e.channel f))
     (λ f fits. only_canonical e.channel f fits) o.frames h.frames)

@@ -11,7 +11,7 @@ use Rattle.{
     declared.{Sapi.TheVariants.Zero, State.TheVariants.Open, window.Window.Window},
   },
   segmenting.{
-    proofs.Lemmas.{begins_within, ended-all, ended-append, ended-whole, joiner_past, length-segments, room_of, segment_is},
+    proofs.Lemmas.{begins_within, count-all, count-append, count-whole, HasHistory-joiner, length-segments, IsN201-n201, slice_get-segment},
     specs.{Joiners.HoldsReassemblyOf, Joining.message_count, Parts.JoinerValues, Segments.{IsValidMessage, Message, Segment, cut_segments}},
     specs.{Segments.{number_of_segments, segments}, lapdm_frame.Layout.n201},
   },
@@ -36,10 +36,10 @@ use Rattle.lapdm_window.specs.declared.Notice.TheVariants as N
 -- ## Numbers: What V(S) and V(A), which count modulo 8, say about the unbounded counts if at most one segment is outstanding.
 
 -- one segment is outstanding if V(S) ≠ V(A)
-pub one_sent : (e : EndpointState) → HasWindowOfOne e → vs e ≢ va e → e.sent ≡ e.acked + 1
+pub one_sent : (e : EndpointState) → HasWindowOfOne e → vs e ≢ va e → e.sent_segments ≡ e.acked_segments + 1
 one_sent e h other = grind (arith, h.acked_at_most_sent, h.window)
 
-pub awaits_ack-one : (e : EndpointState) → e.sent ≡ e.acked + 1 → awaits_ack e ≡ true
+pub awaits_ack-one : (e : EndpointState) → e.sent_segments ≡ e.acked_segments + 1 → awaits_ack e ≡ true
 awaits_ack-one e h = grind (arith, nat_tests)
 
 pub next_number : (n v : ℕ) → v ≡ n % 8 → (v + 1) % 8 ≡ (n + 1) % 8
@@ -48,40 +48,40 @@ next_number n v h = grind arith
 pub capped-more : (n d : ℕ) → d ≡ capped_at_64_bits n → min (d + 1) (2 ^ 64 - 1) ≡ capped_at_64_bits (n + 1)
 capped-more n d h = omega arith
 
--- ## Counting: How the number of wholly acknowledged messages changes.
+-- ## Counting: How the number of fully acknowledged messages changes.
 
-pub acked_message_count-most : (e : EndpointState) → acked_message_count e ≤ length e.taken
+pub acked_message_count-most : (e : EndpointState) → acked_message_count e ≤ length e.messages
 acked_message_count-most e =
     let all = all_segments e in
     omega (
       arith,
-      ended-append (take e.acked all) (drop e.acked all),
-      ap message_count (take-append-drop e.acked all),
-      ended-all (n201 e.channel) e.taken,
+      count-append (take e.acked_segments all) (drop e.acked_segments all),
+      ap message_count (take-append-drop e.acked_segments all),
+      count-all (n201 e.channel) e.messages,
     )
 
--- how the count of wholly acknowledged messages changes when one more segment is acknowledged
-pub acked_message_count-more : (e : EndpointState) → e.sent ≡ e.acked + 1 → e.acked < length (all_segments e) →
+-- acknowledging a segment with M = 1 leaves the number of fully acknowledged messages unchanged; (below) a segment with M = 0 adds one
+pub acked_message_count-more : (e : EndpointState) → e.sent_segments ≡ e.acked_segments + 1 → e.acked_segments < length (all_segments e) →
     (next_segment e).1 ≡ true → acked_message_count (with_segment_acked e) ≡ acked_message_count e
 acked_message_count-more e one within more =
-    rw one (count_by_more_no (λ p. not p.1) (all_segments e) e.acked ([], false) within (ap not more))
+    rw one (count_by_more_no (λ p. not p.1) (all_segments e) e.acked_segments ([], false) within (ap not more))
 
-pub acked_message_count-last : (e : EndpointState) → e.sent ≡ e.acked + 1 → e.acked < length (all_segments e) →
+pub acked_message_count-last : (e : EndpointState) → e.sent_segments ≡ e.acked_segments + 1 → e.acked_segments < length (all_segments e) →
     (next_segment e).1 ≡ false → acked_message_count (with_segment_acked e) ≡ acked_message_count e + 1
 acked_message_count-last e one within more =
-    rw one (count_by_more_yes (λ p. not p.1) (all_segments e) e.acked ([], false) within (ap not more))
+    rw one (count_by_more_yes (λ p. not p.1) (all_segments e) e.acked_segments ([], false) within (ap not more))
 
--- how the segments and counts change when layer 3 sends one more message
-pub all_segments-taken : (e : EndpointState) (m : Message) →
+-- a further message from layer 3 appends its segments, and (below) leaves the number of fully acknowledged messages unchanged
+pub all_segments-push : (e : EndpointState) (m : Message) →
     all_segments (with_queued_message m e) ≡ all_segments e ++ segments (n201 e.channel) m
-all_segments-taken e m = rw (flat_map-append, append-nil)
+all_segments-push e m = rw (flat_map-append, append-nil)
 
-pub acked_message_count-taken : (e : EndpointState) (m : Message) → HasWindowOfOne e →
+pub acked_message_count-push : (e : EndpointState) (m : Message) → HasWindowOfOne e →
     acked_message_count (with_queued_message m e) ≡ acked_message_count e
-acked_message_count-taken e m h =
+acked_message_count-push e m h =
     rw (
-      all_segments-taken e m,
-      take-append-le e.acked (all_segments e) (segments (n201 e.channel) m) (omega (arith, h.acked_at_most_sent, h.sent)),
+      all_segments-push e m,
+      take-append-le e.acked_segments (all_segments e) (segments (n201 e.channel) m) (omega (arith, h.acked_at_most_sent, h.sent_segments)),
     )
 
 -- ## FirstSegments: The next segment has two indices: one among the segments of the first message held, and one among all segments. These
@@ -123,17 +123,17 @@ pub record HasSize (n : ℕ) (octets : List ℕ) : Type 0 where
   pub nonempty : 1 ≤ length octets
   pub at_most : length octets ≤ n
 
-pub size_of : (n i : ℕ) (m : Message) (octets : List ℕ) (more : Bool) → 0 < n → IsValidMessage m → i < length (segments n m) →
+pub HasSize-segment : (n i : ℕ) (m : Message) (octets : List ℕ) (more : Bool) → 0 < n → IsValidMessage m → i < length (segments n m) →
     slice_get (segments n m) i ≡ Some (octets, more) → HasSize n octets
-size_of n i m octets more room h within is =
+HasSize-segment n i m octets more room h within is =
     let l = length m - i * n in
     let sends_sabm : i * n < length m = begins_within n i m room h.nonempty within in
-    let same : octets ≡ take (min l n) (drop (i * n) m) = ap octets_in (sym is ∙ segment_is n i m room h within) in
+    let same : octets ≡ take (min l n) (drop (i * n) m) = ap octets_in (sym is ∙ slice_get-segment n i m room h within) in
     let size : length (take (min l n) (drop (i * n) m)) ≡ min l n = length-take-le (min l n) (drop (i * n) m)
     (omega (arith, length-drop (i * n) m)) in
     record { nonempty = omega (arith, ap length same); at_most = omega (arith, ap length same) }
 
--- an index within the first message finds the same segment in the first message and in the segments of all messages
+-- an index into the segments of the first message gives the same segment among the segments of all messages
 first_message_segment_count : (n place : ℕ) (held : List Message) (d : Segment) → 1 ≤ length held →
     place < length (segments n (get_or held 0 [])) → get_or (flat_map (segments n) held) place d ≡
     get_or (segments n (get_or held 0 [])) place d
@@ -145,13 +145,13 @@ pub within_all : (n place : ℕ) (held : List Message) → 1 ≤ length held →
 within_all n place [] some_held h = absurd (omega (arith, some_held))
 within_all n place (m ∷ ms) some_held h = omega (arith, length-append (segments n m) (flat_map (segments n) ms), h)
 
--- after the segments of the first message follow the segments of the other messages
+-- the segments of the other messages follow those of the first message
 other_segments : (n place : ℕ) (held : List Message) → 1 ≤ length held → place ≡ length (segments n (get_or held 0 [])) →
     drop place (flat_map (segments n) held) ≡ flat_map (segments n) (drop 1 held)
 other_segments n place [] some_held h = absurd (omega (arith, some_held))
 other_segments n place (m ∷ ms) some_held h = grind (arith, drop-append_seam (segments n m) (flat_map (segments n) ms))
 
--- if two lists agree from i and j on, they agree from i + 1 and j + 1 on
+-- if xs from index i on equals ys from index j on, the same holds from i + 1 and j + 1 on
 drop-next : (xs ys : List Segment) (i j : ℕ) → drop i xs ≡ drop j ys → drop (i + 1) xs ≡ drop (j + 1) ys
 drop-next xs ys i j h = sym (drop-drop 1 i xs) ∙ ap (drop 1) h ∙ drop-drop 1 j ys
 
@@ -163,7 +163,7 @@ within-same xs ys i j h below = omega (arith, length-drop i xs, length-drop j ys
 
 -- ## ByWindowAnswers: The rules of an endpoint, written in terms of the answers of its window.
 
--- what the rule for a received N(R) does, given the window's answer about what it acknowledges
+-- the outcome of a received N(R), given the window's answer: it acknowledges nothing, a segment before the last, or a whole message
 abbrev pub counted : A.Acked → EndpointState → Outcome
 counted V.Nothing e = no_effect e
 counted V.Piece e = no_effect (with_segment_acked e)
@@ -179,16 +179,17 @@ module _ {w : Window} {e : EndpointState} (h : Represents w e) (some_held : 1 �
   within_first =
       rw (← h.variables.channel) (omega (arith, w.in_range, length-segments (n201 w.channel) (get_or w.held.items 0 [])))
 
-  pub is_left : e.acked < length (all_segments e)
+  pub is_left : e.acked_segments < length (all_segments e)
   is_left =
-      within-same (flat_map (segments (n201 e.channel)) w.held.items) (all_segments e) w.segment_index e.acked
+      within-same (flat_map (segments (n201 e.channel)) w.held.items) (all_segments e) w.segment_index e.acked_segments
       h.unacked_messages.unacked_segments (within_all _ _ w.held.items some_held within_first)
 
-  -- the segment with the window's index in the first message held is the next segment that the endpoint sends
-  pub next_is : {x : Segment} → slice_get (segments (n201 w.channel) (get_or w.held.items 0 [])) w.segment_index ≡ Some x →
+  -- the segment at the window's index in the first held message is the outstanding segment of the endpoint or, if there is none, the next
+  -- one
+  pub next_segment-is : {x : Segment} → slice_get (segments (n201 w.channel) (get_or w.held.items 0 [])) w.segment_index ≡ Some x →
       next_segment e ≡ x
-  next_is at =
-      sym (get_or-same (flat_map (segments (n201 e.channel)) w.held.items) (all_segments e) w.segment_index e.acked ([], false)
+  next_segment-is at =
+      sym (get_or-same (flat_map (segments (n201 e.channel)) w.held.items) (all_segments e) w.segment_index e.acked_segments ([], false)
       h.unacked_messages.unacked_segments)
       ∙ first_message_segment_count _ _ w.held.items ([], false) some_held within_first
       ∙ get_or_from_slice_get _ w.segment_index _ ([], false) (rw h.variables.channel at at)
@@ -197,52 +198,52 @@ module _ {w : Window} {e : EndpointState} (h : Represents w e) (some_held : 1 �
 zero-div : (n : ℕ) → 0 < n → 0 / n ≡ 0
 zero-div n h = grind arith
 
-no_message : (n place : ℕ) → place < number_of_segments n [] → place ≡ 0 / n
-no_message n place h = omega (arith, h)
+segment_index-no_message : (n place : ℕ) → place < number_of_segments n [] → place ≡ 0 / n
+segment_index-no_message n place h = omega (arith, h)
 
 pub within_held : (n place : ℕ) (held : List Message) → 0 < n → place < number_of_segments n (get_or held 0 []) →
     place ≤ length (flat_map (segments n) held)
-within_held n place [] room h = omega (arith, no_message n place h, zero-div n room)
+within_held n place [] room h = omega (arith, segment_index-no_message n place h, zero-div n room)
 within_held n place (m ∷ ms) room h = omega (arith, within_all n place (m ∷ ms) (omega arith) (omega (arith, h, length-segments n m)))
 
-pub HasWindowOfOne-taken : (e : EndpointState) (m : Message) → HasWindowOfOne e → IsValidMessage m →
+pub HasWindowOfOne-push : (e : EndpointState) (m : Message) → HasWindowOfOne e → IsValidMessage m →
     HasWindowOfOne (with_queued_message m e)
-HasWindowOfOne-taken e m h good =
+HasWindowOfOne-push e m h good =
     grind (
       arith,
-      All-push IsValidMessage e.taken m h.messages good,
-      all_segments-taken e m,
+      All-push IsValidMessage e.messages m h.messages good,
+      all_segments-push e m,
       length-append (all_segments e) (segments (n201 e.channel) m),
     )
 
-pub Holds-taken : (e : EndpointState) (m : Message) (held : List Message) (place : ℕ) → HasWindowOfOne e →
+pub Holds-push : (e : EndpointState) (m : Message) (held : List Message) (place : ℕ) → HasWindowOfOne e →
     HoldsUnackedMessages held place e →
     place ≤ length (flat_map (segments (n201 e.channel)) held) → HoldsUnackedMessages (held ++ m ∷ []) place (with_queued_message m e)
-Holds-taken e m held place end h within =
+Holds-push e m held place end h within =
     let n = n201 e.channel in
     record {
       messages = rw (
         h.messages,
-        acked_message_count-taken e m end,
-        drop-append-le (acked_message_count e) e.taken (m ∷ []) (acked_message_count-most e),
+        acked_message_count-push e m end,
+        drop-append-le (acked_message_count e) e.messages (m ∷ []) (acked_message_count-most e),
       );
       unacked_segments = rw (
         flat_map-append (segments n) held (m ∷ []),
-        flat_map-append (segments n) e.taken (m ∷ []),
+        flat_map-append (segments n) e.messages (m ∷ []),
         append-nil (segments n m),
         drop-append-le place (flat_map (segments n) held) (segments n m) within,
-        drop-append-le e.acked (all_segments e) (segments n m) (omega (arith, end.acked_at_most_sent, end.sent)),
+        drop-append-le e.acked_segments (all_segments e) (segments n m) (omega (arith, end.acked_at_most_sent, end.sent_segments)),
         h.unacked_segments,
       );
     }
 
 -- ---- the next segment becomes outstanding
 
-pub has_segment_to_send-left : (e : EndpointState) → HasWindowOfOne e → vs e ≡ va e → e.acked < length (all_segments e) →
+pub has_segment_to_send-left : (e : EndpointState) → HasWindowOfOne e → vs e ≡ va e → e.acked_segments < length (all_segments e) →
     has_segment_to_send e ≡ true
 has_segment_to_send-left e h same left = grind arith
 
-pub HasWindowOfOne-next : (e : EndpointState) → HasWindowOfOne e → vs e ≡ va e → e.acked < length (all_segments e) →
+pub HasWindowOfOne-next : (e : EndpointState) → HasWindowOfOne e → vs e ≡ va e → e.acked_segments < length (all_segments e) →
     HasWindowOfOne (with_segment_sent e)
 HasWindowOfOne-next e h same left = grind arith
 
@@ -250,24 +251,25 @@ HasWindowOfOne-next e h same left = grind arith
 pub HasWindowOfOne-acked : (e : EndpointState) → HasWindowOfOne e → HasWindowOfOne (with_segment_acked e)
 HasWindowOfOne-acked e h = grind arith
 
-pub Holds-more : (e : EndpointState) (held : List Message) (place : ℕ) → e.sent ≡ e.acked + 1 →
+pub Holds-more : (e : EndpointState) (held : List Message) (place : ℕ) → e.sent_segments ≡ e.acked_segments + 1 →
     HoldsUnackedMessages held place e →
-    e.acked < length (all_segments e) → (next_segment e).1 ≡ true → HoldsUnackedMessages held (place + 1) (with_segment_acked e)
+    e.acked_segments < length (all_segments e) → (next_segment e).1 ≡ true → HoldsUnackedMessages held (place + 1) (with_segment_acked e)
 Holds-more e held place one h within more = record {
   messages = rw (acked_message_count-more e one within more) h.messages;
-  unacked_segments = rw one (drop-next (flat_map (segments (n201 e.channel)) held) (all_segments e) place e.acked h.unacked_segments);
+  unacked_segments = rw one (drop-next (flat_map (segments (n201 e.channel)) held) (all_segments e) place e.acked_segments
+      h.unacked_segments);
 }
 
-pub Holds-last : (e : EndpointState) (held : List Message) (place : ℕ) → e.sent ≡ e.acked + 1 →
+pub Holds-last : (e : EndpointState) (held : List Message) (place : ℕ) → e.sent_segments ≡ e.acked_segments + 1 →
     HoldsUnackedMessages held place e →
-    e.acked < length (all_segments e) → (next_segment e).1 ≡ false → 1 ≤ length held →
+    e.acked_segments < length (all_segments e) → (next_segment e).1 ≡ false → 1 ≤ length held →
     place + 1 ≡ length (segments (n201 e.channel) (get_or held 0 [])) → HoldsUnackedMessages (drop 1 held) 0 (with_segment_acked e)
 Holds-last e held place one h within last some_held ends =
     let n = n201 e.channel in
     record {
-      messages = rw (acked_message_count-last e one within last, h.messages) (drop-drop 1 (acked_message_count e) e.taken);
+      messages = rw (acked_message_count-last e one within last, h.messages) (drop-drop 1 (acked_message_count e) e.messages);
       unacked_segments = rw one (sym (other_segments n (place + 1) held some_held ends)
-          ∙ drop-next (flat_map (segments n) held) (all_segments e) place e.acked h.unacked_segments);
+          ∙ drop-next (flat_map (segments n) held) (all_segments e) place e.acked_segments h.unacked_segments);
     }
 
 -- ---- what an N(R) acknowledges
@@ -296,29 +298,29 @@ pub acked_by_nr-message : (e : EndpointState) (nr : ℕ) → nr_acknowledges nr 
     acked_by_nr nr e ≡ V.Message (acked_message_number e)
 acked_by_nr-message e nr h more = rw (h, more)
 
-pub waiting_is : (e : EndpointState) (x : Segment) → awaits_ack e ≡ true → next_segment e ≡ x → Some x ≡ outstanding_segment e
-waiting_is e x waiting next = rw (waiting, next)
+pub outstanding_segment-next : (e : EndpointState) (x : Segment) → awaits_ack e ≡ true → next_segment e ≡ x → Some x ≡ outstanding_segment e
+outstanding_segment-next e x waiting next = rw (waiting, next)
 
 pub acked-awaits_ack : (e : EndpointState) → IsTrue (awaits_ack (with_segment_acked e)) → ⊥
 acked-awaits_ack e t = grind arith
 
--- a window whose outstanding segment is acknowledged
+-- below, window w represents endpoint e and has an outstanding segment
 module _ {w : Window} {e : EndpointState} (h : Represents w e) (waits : w.vs ≢ w.va) where
   differ : vs e ≢ va e
   differ same = waits (h.variables.vs ∙ same ∙ sym h.variables.va)
 
-  pub one_outstanding : e.sent ≡ e.acked + 1
+  pub one_outstanding : e.sent_segments ≡ e.acked_segments + 1
   one_outstanding = one_sent e h.window_of_one differ
 
-  pub acks : (nr : ℕ) → nr ≡ w.vs → nr_acknowledges nr e ≡ true
-  acks nr same = nr_acknowledges-waiting e nr h.window_of_one differ (same ∙ h.variables.vs)
+  pub nr_acknowledges-vs : (nr : ℕ) → nr ≡ w.vs → nr_acknowledges nr e ≡ true
+  nr_acknowledges-vs nr same = nr_acknowledges-waiting e nr h.window_of_one differ (same ∙ h.variables.vs)
 
   pub acked-represents : {v : Window} {done place : ℕ} {held : List Message} (nr : ℕ) → nr ≡ w.vs →
       values_of v ≡ record (values_of w) { held = held; segment_index = place; va = w.vs; acked_messages = done } →
       done ≡ capped_at_64_bits (acked_message_count (with_segment_acked e)) → HoldsUnackedMessages held place (with_segment_acked e) →
       Represents v (evaluates_nr nr e).new_state
   acked-represents {v} nr same values count holds =
-      subst (Represents v) (sym (evaluates_nr-something e nr (acks nr same))) (record {
+      subst (Represents v) (sym (evaluates_nr-something e nr (nr_acknowledges-vs nr same))) (record {
         window_of_one = HasWindowOfOne-acked e h.window_of_one;
         variables = grind arith;
         unacked_messages = grind arith;
@@ -333,9 +335,9 @@ abbrev one_octet_messages : ℕ → List Message
 one_octet_messages zero = []
 one_octet_messages (suc d) = (0 ∷ []) ∷ one_octet_messages d
 
-are_valid_messages : (d : ℕ) → All IsValidMessage (one_octet_messages d)
-are_valid_messages zero = All-nil IsValidMessage
-are_valid_messages (suc d) = grind (arith, are_valid_messages d)
+one_octet_messages-valid : (d : ℕ) → All IsValidMessage (one_octet_messages d)
+one_octet_messages-valid zero = All-nil IsValidMessage
+one_octet_messages-valid (suc d) = grind (arith, one_octet_messages-valid d)
 
 length-one_octet_messages : (d : ℕ) → length (one_octet_messages d) ≡ d
 length-one_octet_messages zero = refl
@@ -378,10 +380,10 @@ pub record HasAckedMessages (n done va place : ℕ) : Type 0 where
 missing : (va b : ℕ) → va ≤ 7 → ((va + 15 - b % 8) % 8 + 1 + b) % 8 ≡ va
 missing va b few = grind arith
 
-front_of : (n done va place : ℕ) → 1 ≤ n → n ≤ 20 → va ≤ 7 → (done ≡ 0 → va ≡ place % 8) →
+HasAckedMessages-exists : (n done va place : ℕ) → 1 ≤ n → n ≤ 20 → va ≤ 7 → (done ≡ 0 → va ≡ place % 8) →
     HasAckedMessages n done va place
-front_of n zero va place room most few none = grind (arith, All-nil IsValidMessage)
-front_of n (suc d) va place room most few none =
+HasAckedMessages-exists n zero va place room most few none = grind (arith, All-nil IsValidMessage)
+HasAckedMessages-exists n (suc d) va place room most few none =
     let k = (va + 15 - (d + place) % 8) % 8 in
     let some : k ≤ 7 = omega arith in
     let m = message_of n k in
@@ -393,12 +395,12 @@ front_of n (suc d) va place room most few none =
     ) in
     record {
       front = m ∷ one_octet_messages d;
-      messages = All-cons IsValidMessage m (one_octet_messages d) (is_message_of n k most some) (are_valid_messages d);
+      messages = All-cons IsValidMessage m (one_octet_messages d) (is_message_of n k most some) (one_octet_messages-valid d);
       count = omega (arith, length-one_octet_messages d);
       number = ap (λ i. i % 8) size ∙ missing va (d + place) few;
     }
 
--- the segments of the first message, without its last one, complete no message
+-- the segments of the first message before its last one complete no message
 ended_before : (n place : ℕ) (held : List Message) → 0 < n → place < number_of_segments n (get_or held 0 []) →
     message_count (take place (flat_map (segments n) held)) ≡ 0
 ended_before n zero [] room h = refl
@@ -407,11 +409,11 @@ ended_before n place (m ∷ ms) room h =
     let front : length (segments n m ++ []) ≡ number_of_segments n m =
     omega (arith, length-append (segments n m) [], length-segments n m) in
     let not_one : 1 ≤ message_count (take place (flat_map (segments n) (m ∷ ms))) → ⊥ = λ one. omega
-    (arith, front, h, (ended-whole n place 1 (m ∷ ms) (omega arith)).0 one) in
+    (arith, front, h, (count-whole n place 1 (m ∷ ms) (omega arith)).0 one) in
     omega (arith, not_one)
 
--- if the first `acked` segments of the messages `taken` are acknowledged, then what is unacknowledged is exactly `held` from segment
--- `place` on
+-- if the first `acked` segments of the messages `taken` are acknowledged, the unacknowledged segments are exactly those of `held` from
+-- segment `place` on
 pub record IsHistory (n done va place sent : ℕ) (held taken : List Message) (acked : ℕ) : Type 0 where
   pub messages : All IsValidMessage taken
   pub in_range : acked + sent ≤ length (flat_map (segments n) taken)
@@ -421,29 +423,29 @@ pub record IsHistory (n done va place sent : ℕ) (held taken : List Message) (a
   pub next_segments : drop place (flat_map (segments n) held) ≡ drop acked (flat_map (segments n) taken)
 
 pub record HasHistory (n done va place sent : ℕ) (held : List Message) : Type 0 where
-  pub taken : List Message
-  pub acked : ℕ
-  pub history : IsHistory n done va place sent held taken acked
+  pub messages : List Message
+  pub acked_segments : ℕ
+  pub history : IsHistory n done va place sent held messages acked_segments
 
 pub history_of : (n done va place sent : ℕ) (held : List Message) → 1 ≤ n → n ≤ 20 → va ≤ 7 → All IsValidMessage held →
     place < number_of_segments n (get_or held 0 []) → place + sent ≤ length (flat_map (segments n) held) →
     (done ≡ 0 → va ≡ place % 8) →
     HasHistory n done va place sent held
 history_of n done va place sent held room most few messages below within none =
-    let f = front_of n done va place room most few none in
+    let f = HasAckedMessages-exists n done va place room most few none in
     let p = flat_map (segments n) f.front in
     let q = flat_map (segments n) held in
     let all : flat_map (segments n) (f.front ++ held) ≡ p ++ q = flat_map-append (segments n) f.front held in
     let acked = length p + place in
     record {
-      taken = f.front ++ held;
-      acked = acked;
+      messages = f.front ++ held;
+      acked_segments = acked;
       history = record {
         messages = All-append IsValidMessage f.front held f.messages messages;
         in_range = omega (arith, ap length all, length-append p q, within);
         number = f.number;
-        acked_count = rw (all, take-append-add p q place, ended-append p (take place q), ended_before n place held room below)
-            (omega (arith, ended-all n f.front, f.count));
+        acked_count = rw (all, take-append-add p q place, count-append p (take place q), ended_before n place held room below)
+            (omega (arith, count-all n f.front, f.count));
         held_rest = sym (ap (λ i. drop i (f.front ++ held)) (sym f.count) ∙ drop-append_seam f.front held);
         next_segments = rw all (sym (drop-append-add p q place));
       };
@@ -452,7 +454,7 @@ history_of n done va place sent held room most few messages below within none =
 -- ## Parts: A window represents some endpoint if and only if its values satisfy `AreConsistent`. `Histories` constructs the history of
 -- that endpoint.
 
--- two windows with the same values represent the same endpoints
+-- the joiner values represent the reassembly of these segments
 abbrev Joins : JoinerValues → List Segment → Type 0
 Joins j taken = HoldsReassemblyOf j.part j.octets taken
 
@@ -463,17 +465,17 @@ HasSameVariables-values {w} {v} {e} same h = grind arith
 pub Represents-values : {w v : Window} {e : EndpointState} → values_of w ≡ values_of v → Represents w e → Represents v e
 Represents-values {w} {v} {e} same h = grind arith
 
--- the values of every window that represents an endpoint satisfy `AreConsistent`
+-- V(S) equals V(A), or V(S) is one higher modulo 8 and the window holds a message
 one_segment : (w : Window) (e : EndpointState) → Represents w e →
     (w.vs ≡ w.va) ⊎ ((w.vs ≡ (w.va + 1) % 8) × (1 ≤ length w.held.items))
 one_segment w e h =
-    elim (cases_lt e.acked e.sent) [
+    elim (cases_lt e.acked_segments e.sent_segments) [
       | inl more ↦
-          let one : e.sent ≡ e.acked + 1 = omega (arith, h.window_of_one.window) in
-          let number : w.vs ≡ (w.va + 1) % 8 = h.variables.vs ∙ ap (λ i. i % 8) one ∙ next e.acked w.va h.variables.va in
+          let one : e.sent_segments ≡ e.acked_segments + 1 = omega (arith, h.window_of_one.window) in
+          let number : w.vs ≡ (w.va + 1) % 8 = h.variables.vs ∙ ap (λ i. i % 8) one ∙ next e.acked_segments w.va h.variables.va in
           inr (number, w.waiting (λ same. differs_from_next w.va (sym same ∙ number)))
       | inr none ↦
-          let same : e.sent ≡ e.acked = omega (arith, h.window_of_one.acked_at_most_sent) in
+          let same : e.sent_segments ≡ e.acked_segments = omega (arith, h.window_of_one.acked_at_most_sent) in
           inl (h.variables.vs ∙ ap (λ i. i % 8) same ∙ sym h.variables.va)
     ]
   where
@@ -487,28 +489,28 @@ place_is_counted : (w : Window) (e : EndpointState) → Represents w e → w.ack
 place_is_counted w e h none =
     let n = n201 e.channel in
     let whole : acked_message_count e ≡ 0 = omega (arith, h.variables.acked_messages) in
-    let held : w.held.items ≡ e.taken = h.unacked_messages.messages ∙ ap (λ i. drop i e.taken) whole in
+    let held : w.held.items ≡ e.messages = h.unacked_messages.messages ∙ ap (λ i. drop i e.messages) whole in
     let below : w.segment_index < number_of_segments n (get_or w.held.items 0 []) = omega
     (arith, w.in_range, ap (λ c. number_of_segments (n201 c) (get_or w.held.items 0 [])) h.variables.channel) in
     let place : w.segment_index ≤ length (all_segments e) = omega (
       arith,
-      within_held n w.segment_index w.held.items (room_of e.channel).positive below,
+      within_held n w.segment_index w.held.items (IsN201-n201 e.channel).positive below,
       ap (λ ms. length (flat_map (segments n) ms)) held,
     ) in
-    let same : w.segment_index ≡ e.acked = omega (
+    let same : w.segment_index ≡ e.acked_segments = omega (
       arith,
       ap length h.unacked_messages.unacked_segments,
       length-drop w.segment_index (flat_map (segments n) w.held.items),
-      length-drop e.acked (all_segments e),
+      length-drop e.acked_segments (all_segments e),
       ap (λ ms. length (flat_map (segments n) ms)) held,
       place,
-      h.window_of_one.sent,
+      h.window_of_one.sent_segments,
       h.window_of_one.acked_at_most_sent,
     ) in
     h.variables.va ∙ ap (λ i. i % 8) (sym same)
 
-pub in_step : (w : Window) (e : EndpointState) → Represents w e → AreConsistent (values_of w)
-in_step w e h = record {
+pub is_consistent : (w : Window) (e : EndpointState) → Represents w e → AreConsistent (values_of w)
+is_consistent w e h = record {
   held = record { at_most_8 = w.at_most_8; messages = w.messages };
   segment_index_in_range = w.in_range;
   at_most_one_outstanding = one_segment w e h;
@@ -525,14 +527,14 @@ record OutstandingCount (x : WindowValues) : Type 0 where
   pub number : x.vs ≡ (x.va + sent) % 8
   pub held : (sent ≡ 0) ⊎ (1 ≤ length x.held)
 
-waits_of : (x : WindowValues) → x.va ≤ 7 → (x.vs ≡ x.va) ⊎ ((x.vs ≡ (x.va + 1) % 8) × (1 ≤ length x.held)) →
+OutstandingCount-exists : (x : WindowValues) → x.va ≤ 7 → (x.vs ≡ x.va) ⊎ ((x.vs ≡ (x.va + 1) % 8) × (1 ≤ length x.held)) →
     OutstandingCount x
-waits_of x h g = grind arith
+OutstandingCount-exists x h g = grind arith
 
-room_for : (n place sent : ℕ) (held : List Message) → 0 < n → place < number_of_segments n (get_or held 0 []) → sent ≤ 1 →
+segments_fit : (n place sent : ℕ) (held : List Message) → 0 < n → place < number_of_segments n (get_or held 0 []) → sent ≤ 1 →
     (sent ≡ 0) ⊎ (1 ≤ length held) → place + sent ≤ length (flat_map (segments n) held)
-room_for n place sent held room below few (inl none) = omega (arith, within_held n place held room below)
-room_for n place sent held room below few (inr some) =
+segments_fit n place sent held room below few (inl none) = omega (arith, within_held n place held room below)
+segments_fit n place sent held room below few (inr some) =
     omega (arith, within_all n place held some (omega (arith, below, length-segments n (get_or held 0 []))))
 
 sent_number : (acked va sent : ℕ) → acked % 8 ≡ va → (va + sent) % 8 ≡ (acked + sent) % 8
@@ -549,10 +551,10 @@ with_history w taken acked sent accepted = record {
   channel = w.channel;
   state = Open;
   sabm_info = [];
-  taken = taken;
-  acked = acked;
-  sent = sent;
-  accepted = accepted;
+  messages = taken;
+  acked_segments = acked;
+  sent_segments = sent;
+  peer_segments = accepted;
   rejecting = w.rejecting;
   retries = w.retries;
 }
@@ -564,27 +566,28 @@ RepresentsOne w = (e : EndpointState) × Represents w e
 pub represents_one : (w : Window) → AreConsistent (values_of w) → w.acked_messages < 2 ^ 64 → RepresentsOne w
 represents_one w h fits =
     let n = n201 w.channel in
-    let room = room_of w.channel in
-    let awaits_ack = waits_of (values_of w) h.va h.at_most_one_outstanding in
+    let room = IsN201-n201 w.channel in
+    let awaits_ack = OutstandingCount-exists (values_of w) h.va h.at_most_one_outstanding in
     let in_past = history_of n w.acked_messages w.va w.segment_index awaits_ack.sent w.held.items room.positive room.at_most h.va
     h.held.messages h.segment_index_in_range
-    (room_for n w.segment_index awaits_ack.sent w.held.items room.positive h.segment_index_in_range awaits_ack.at_most_1 awaits_ack.held)
+    (segments_fit n w.segment_index awaits_ack.sent w.held.items room.positive h.segment_index_in_range awaits_ack.at_most_1
+    awaits_ack.held)
     h.va_if_nothing_acked in
-    let past : IsHistory n w.acked_messages w.va w.segment_index awaits_ack.sent w.held.items in_past.taken in_past.acked =
+    let past : IsHistory n w.acked_messages w.va w.segment_index awaits_ack.sent w.held.items in_past.messages in_past.acked_segments =
     in_past.history in
-    let came = joiner_past w.joiner w.vr h.vr in (
-      with_history w in_past.taken in_past.acked (in_past.acked + awaits_ack.sent) came.taken,
+    let came = HasHistory-joiner w.joiner w.vr h.vr in (
+      with_history w in_past.messages in_past.acked_segments (in_past.acked_segments + awaits_ack.sent) came.taken,
       record {
         window_of_one = record {
           messages = past.messages;
-          sent = past.in_range;
+          sent_segments = past.in_range;
           acked_at_most_sent = omega arith;
           window =
               omega (arith, awaits_ack.at_most_1);
         };
         variables = record {
           channel = refl;
-          vs = awaits_ack.number ∙ sent_number in_past.acked w.va awaits_ack.sent past.number;
+          vs = awaits_ack.number ∙ sent_number in_past.acked_segments w.va awaits_ack.sent past.number;
           va = sym past.number;
           vr = sym came.count;
           acked_messages = capped-fits w.acked_messages fits ∙ ap capped_at_64_bits (sym past.acked_count);
@@ -592,7 +595,7 @@ represents_one w h fits =
           reassembly = came.reassembly;
         };
         unacked_messages = record {
-          messages = past.held_rest ∙ ap (λ i. drop i in_past.taken) (sym past.acked_count);
+          messages = past.held_rest ∙ ap (λ i. drop i in_past.messages) (sym past.acked_count);
           unacked_segments =
               past.next_segments;
         };

@@ -26,13 +26,13 @@ pub record HasSameVariables (w : Window) (e : EndpointState) : Type 0 where
   pub vr : w.vr ≡ vr e
   pub acked_messages : w.acked_messages ≡ capped_at_64_bits (acked_message_count e)
   pub rejecting : w.rejecting ≡ e.rejecting
-  pub reassembly : HasTakenSegments w.joiner e.accepted
+  pub reassembly : HasTakenSegments w.joiner e.peer_segments
 
 -- `held` lists the messages of `e` that are not fully acknowledged; their segments from index `place` on are exactly the unacknowledged
 -- segments
 pub record HoldsUnackedMessages (held : List Message) (place : ℕ) (e : EndpointState) : Type 0 where
-  pub messages : held ≡ drop (acked_message_count e) e.taken
-  pub unacked_segments : drop place (flat_map (segments (n201 e.channel)) held) ≡ drop e.acked (all_segments e)
+  pub messages : held ≡ drop (acked_message_count e) e.messages
+  pub unacked_segments : drop place (flat_map (segments (n201 e.channel)) held) ≡ drop e.acked_segments (all_segments e)
 
 -- window `w` represents endpoint `e`: their variables agree, `w` holds the unacknowledged messages, and the retry counts agree while a
 -- segment is outstanding

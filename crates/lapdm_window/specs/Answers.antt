@@ -32,9 +32,9 @@ acked_by_nr nr e =
 -- whether the segment of a received I frame with this N(S) and P bit is accepted and, if not, whether a REJ must be sent
 abbrev pub received_segment_result : (ns : ℕ) (poll : Bool) (segment : Segment) (endpoint : EndpointState) → Info
 received_segment_result ns p segment e =
-    if nat_eq ns (vr e) then Accepted (reassembly_result e.accepted segment) else OutOfSequence (reject_is_due p e)
+    if nat_eq ns (vr e) then Accepted (reassembly_result e.peer_segments segment) else OutOfSequence (reject_is_due p e)
 
--- the endpoint state after it accepts the segment of an I frame, or discards it as out of sequence
+-- the endpoint state after the segment of an I frame is accepted, or discarded as out of sequence
 abbrev pub state_after_i_frame : Info → Segment → EndpointState → EndpointState
 state_after_i_frame (Accepted joined) segment e = with_accepted_segment segment e
 state_after_i_frame (OutOfSequence reject) segment e = with_reject_condition e

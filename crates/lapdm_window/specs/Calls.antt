@@ -40,7 +40,7 @@ endpoint_call_of A.Close = Closes
 endpoint_call_of A.Timer = T200Expires
 endpoint_call_of A.Idle = SendsFill
 
--- an endpoint with this SAPI has this call: `Opens` exists only on SAPI 0, `OpensWithoutInfo` only on SAPI 3, every other call on both
+-- the call exists for this SAPI: `Opens` only for SAPI 0, `OpensWithoutInfo` only for SAPI 3, every other call for both
 abbrev pub IsCallOfSapi : (sapi : Sapi) (call : Call) → Type 0
 IsCallOfSapi sapi (Opens info) = sapi ≡ Zero
 IsCallOfSapi sapi OpensWithoutInfo = sapi ≡ Three
@@ -111,7 +111,7 @@ sends_sabm info e = let later = record e { state = Opening; sabm_info = info; re
 
 -- the endpoint state after layer 3 has passed it this message to send
 abbrev pub with_queued_message : Message → EndpointState → EndpointState
-with_queued_message m e = record e { taken = e.taken ++ m ∷ [] }
+with_queued_message m e = record e { messages = e.messages ++ m ∷ [] }
 
 -- the frame that is repeated at T200 expiry: the SABM in Opening, the DISC in Closing, otherwise the outstanding I frame with P = 1
 abbrev pub frame_to_retransmit : State → EndpointState → Frame
@@ -119,8 +119,8 @@ frame_to_retransmit Opening e = sabm e
 frame_to_retransmit Closing e = disc e
 frame_to_retransmit other e = outstanding_frame true e
 
--- the outcome of T200 expiry: the frame that awaits an answer is repeated or, after N200 repetitions, the link is closed as failed (section
--- 5.5.7 for state Open)
+-- the outcome of T200 expiry: the frame that awaits a response or an acknowledgement is repeated or, after N200 repetitions, the link is
+-- closed as failed (section 5.5.7 for state Open)
 abbrev pub t200_expiry : EndpointState → Outcome
 t200_expiry e =
     if nat_lt e.retries (n200 e.channel e.state)

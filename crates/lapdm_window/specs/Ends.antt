@@ -29,16 +29,16 @@ pub record EndpointState : Type 0 where
   -- the information of the SABM that this endpoint sent, or of the SABM that established its link
   pub sabm_info : Message
   -- all messages that layer 3 has passed to this endpoint to send in I frames, in order
-  pub taken : List Message
+  pub messages : List Message
   -- the number of segments acknowledged so far, over all messages
-  pub acked : ℕ
+  pub acked_segments : ℕ
   -- the number of segments sent so far, over all messages
-  pub sent : ℕ
+  pub sent_segments : ℕ
   -- all segments that this endpoint has accepted from its peer, in order
-  pub accepted : List Segment
+  pub peer_segments : List Segment
   -- the reject condition: a REJ was sent, and no segment has been accepted since
   pub rejecting : Bool
-  -- how many times the frame that awaits an answer has been repeated
+  -- how many times the frame that awaits a response or an acknowledgement has been repeated
   pub retries : ℕ
 
 -- the initial state of an endpoint
@@ -49,28 +49,28 @@ initial_endpoint role sapi channel = record {
   channel = channel;
   state = Idle;
   sabm_info = [];
-  taken = [];
-  acked = 0;
-  sent = 0;
-  accepted = [];
+  messages = [];
+  acked_segments = 0;
+  sent_segments = 0;
+  peer_segments = [];
   rejecting = false;
   retries = 0;
 }
 
 -- the segments of all messages that layer 3 has passed to this endpoint, in order
 abbrev pub all_segments : EndpointState → List Segment
-all_segments e = flat_map (segments (n201 e.channel)) e.taken
+all_segments e = flat_map (segments (n201 e.channel)) e.messages
 
 -- the outstanding segment or, if none is outstanding, the next segment to send
 abbrev pub next_segment : EndpointState → Segment
-next_segment e = slice_index_or (all_segments e) e.acked ([], false)
+next_segment e = slice_index_or (all_segments e) e.acked_segments ([], false)
 
 -- the window size is 1 (section 5.8.4): at most one segment has been sent but not yet acknowledged
 pub record HasWindowOfOne (e : EndpointState) : Type 0 where
-  pub messages : All IsValidMessage e.taken
-  pub sent : e.sent ≤ length (all_segments e)
-  pub acked_at_most_sent : e.acked ≤ e.sent
-  pub window : e.sent ≤ e.acked + 1
+  pub messages : All IsValidMessage e.messages
+  pub sent_segments : e.sent_segments ≤ length (all_segments e)
+  pub acked_at_most_sent : e.acked_segments ≤ e.sent_segments
+  pub window : e.sent_segments ≤ e.acked_segments + 1
 
 -- the link has not been established yet: the state is Idle or Opening
 abbrev pub IsBeforeOpen : State → Type 0
@@ -84,32 +84,32 @@ pub record IsValidEndpoint (e : EndpointState) : Type 0 where
   pub window : HasWindowOfOne e
   pub sabm_info_fits : length e.sabm_info ≤ n201 e.channel
   pub empty_on_sapi3 : e.sapi ≡ Three → e.sabm_info ≡ []
-  pub no_message_before_open : IsBeforeOpen e.state → e.taken ≡ []
-  pub no_segment_before_open : IsBeforeOpen e.state → e.accepted ≡ []
+  pub no_message_before_open : IsBeforeOpen e.state → e.messages ≡ []
+  pub no_segment_before_open : IsBeforeOpen e.state → e.peer_segments ≡ []
 
 -- whether an I frame is outstanding, that is, sent but not yet acknowledged
 abbrev pub awaits_ack : EndpointState → Bool
-awaits_ack e = not (nat_eq e.sent e.acked)
+awaits_ack e = not (nat_eq e.sent_segments e.acked_segments)
 
 -- the send state variable V(S), 0 to 7 (section 3.5.2)
 abbrev pub vs : EndpointState → ℕ
-vs e = e.sent % 8
+vs e = e.sent_segments % 8
 
 -- the acknowledge state variable V(A), 0 to 7 (section 3.5.2)
 abbrev pub va : EndpointState → ℕ
-va e = e.acked % 8
+va e = e.acked_segments % 8
 
 -- the receive state variable V(R), 0 to 7 (section 3.5.2)
 abbrev pub vr : EndpointState → ℕ
-vr e = length e.accepted % 8
+vr e = length e.peer_segments % 8
 
 -- the number of fully acknowledged messages: all segments of these messages are acknowledged
 abbrev pub acked_message_count : EndpointState → ℕ
-acked_message_count e = message_count (take e.acked (all_segments e))
+acked_message_count e = message_count (take e.acked_segments (all_segments e))
 
 -- the number of messages with at least one unacknowledged segment
 abbrev pub unacked_message_count : EndpointState → ℕ
-unacked_message_count e = length e.taken - acked_message_count e
+unacked_message_count e = length e.messages - acked_message_count e
 
 -- a message number limited to 2^64 - 1, as notices report it (this project's own rule)
 abbrev pub capped_at_64_bits : (number : ℕ) → ℕ
@@ -120,15 +120,15 @@ abbrev pub n200 : Channel → State → ℕ
 n200 Sdcch Open = 23
 n200 channel state = 5
 
--- whether a frame awaits an answer, given the link state and whether an I frame is outstanding: the SABM in Opening, the DISC in Closing,
--- or the outstanding I frame in Open
+-- whether a frame awaits a response or an acknowledgement, given the link state and whether an I frame is outstanding: the SABM in Opening,
+-- the DISC in Closing, or the outstanding I frame in Open
 abbrev pub awaits_answer_in_state : (state : State) (waiting : Bool) → Bool
 awaits_answer_in_state Opening waiting = true
 awaits_answer_in_state Closing waiting = true
 awaits_answer_in_state Open waiting = waiting
 awaits_answer_in_state other waiting = false
 
--- whether an endpoint awaits an answer to a SABM, a DISC or an I frame
+-- whether an endpoint waits for the response to a SABM or a DISC, or for the acknowledgement of an I frame
 abbrev pub awaits_answer : EndpointState → Bool
 awaits_answer e = awaits_answer_in_state e.state (awaits_ack e)
 

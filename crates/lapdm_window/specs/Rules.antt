@@ -22,11 +22,11 @@ outstanding_frame p e = let segment = next_segment e in command_frame e (I (va e
 
 -- whether an unsent segment remains and none is outstanding
 abbrev pub has_segment_to_send : EndpointState → Bool
-has_segment_to_send e = not (awaits_ack e) && nat_lt e.sent (length (all_segments e))
+has_segment_to_send e = not (awaits_ack e) && nat_lt e.sent_segments (length (all_segments e))
 
 -- the endpoint state after its next segment is sent, with the retry count reset to 0
 abbrev pub with_segment_sent : EndpointState → EndpointState
-with_segment_sent e = record e { sent = e.sent + 1; retries = 0 }
+with_segment_sent e = record e { sent_segments = e.sent_segments + 1; retries = 0 }
 
 -- the endpoint sends its next segment in an I frame with P = 0
 abbrev pub sends_segment : EndpointState → Outcome
@@ -51,7 +51,7 @@ nr_acknowledges nr e = awaits_ack e && nat_eq nr (vs e)
 
 -- the endpoint state after the outstanding segment is acknowledged
 abbrev pub with_segment_acked : EndpointState → EndpointState
-with_segment_acked e = record e { acked = e.sent; retries = 0 }
+with_segment_acked e = record e { acked_segments = e.sent_segments; retries = 0 }
 
 -- the number, from 1 to 2^64 - 1, of the message that is fully acknowledged with the outstanding segment
 abbrev pub acked_message_number : EndpointState → ℕ
@@ -75,14 +75,14 @@ segment_notices J.More more m = []
 
 -- the state of the endpoint after it accepts a segment
 abbrev pub with_accepted_segment : Segment → EndpointState → EndpointState
-with_accepted_segment segment e = record e { accepted = e.accepted ++ segment ∷ []; rejecting = false }
+with_accepted_segment segment e = record e { peer_segments = e.peer_segments ++ segment ∷ []; rejecting = false }
 
 -- the endpoint accepts a segment, and reports the message that it completes or the oversize message that it ends
 abbrev pub accepts_segment : Segment → EndpointState → Outcome
 accepts_segment segment e = record {
   new_state = with_accepted_segment segment e;
   frames = [];
-  notices = segment_notices (reassembly_result e.accepted segment) segment.1 (partial_message e.accepted ++ segment.0);
+  notices = segment_notices (reassembly_result e.peer_segments segment) segment.1 (partial_message e.peer_segments ++ segment.0);
 }
 
 -- the endpoint sends an RR response with this F bit

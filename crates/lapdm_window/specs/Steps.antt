@@ -17,7 +17,7 @@ pub data StepInput : Type 0 where
   Asked : Call → StepInput
   Received : Frame → StepInput
 
--- an endpoint may receive this input: a call that its SAPI has, or any frame that fits in a block of its channel
+-- the input is possible for this endpoint: a call that exists for its SAPI, or any frame that fits in a block of its channel
 abbrev pub IsPossibleInput : (endpoint : EndpointState) (input : StepInput) → Type 0
 IsPossibleInput e (Asked call) = IsCallOfEndpoint e call
 IsPossibleInput e (Received f) = FrameFits e.channel f
@@ -43,7 +43,7 @@ pub record IsSameEndpoint (e f : EndpointState) : Type 0 where
   pub sapi : f.sapi ≡ e.sapi
   pub channel : f.channel ≡ e.channel
 
--- the Rust `effects` contain the frames of outcome `o`, encoded as octets, and its notices
+-- the Rust `effects` hold exactly the frames of outcome `o`, encoded as octets, and its notices
 pub record HasEffects (effects : Effects) (channel : Channel) (o : Outcome) : Type 0 where
   pub frames : effects.frames ≡ map (octets_of channel) o.frames
   pub notices : effects.notices ≡ o.notices

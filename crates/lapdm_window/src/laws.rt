@@ -38,14 +38,14 @@ pub fn law_at_most_two_frames_and_notices()
 /// The notices of a step deliver exactly the messages that its accepted segments complete.
 pub fn law_notices_deliver_completed_messages()
     ensures { (input : StepInput) (e : EndpointState) → IfOk (step input e) (λ o.
-        messages o.new_state.accepted ≡ messages e.accepted ++ filter_map message_in_got_notice o.notices) }
+        messages o.new_state.peer_segments ≡ messages e.peer_segments ++ filter_map message_in_got_notice o.notices) }
 {}
 
 /// The first `k` messages sent count as acknowledged if and only if all their segments are acknowledged; the number of messages that count
 /// as acknowledged never exceeds the number sent.
 pub fn law_message_acked_iff_segments_acked()
-    ensures most { (e : EndpointState) → acked_message_count e ≤ length e.taken }
-    ensures whole { (e : EndpointState) (k : ℕ) → k ≤ length e.taken
+    ensures most { (e : EndpointState) → acked_message_count e ≤ length e.messages }
+    ensures whole { (e : EndpointState) (k : ℕ) → k ≤ length e.messages
         → (k ≤ acked_message_count e)
-        ↔ (length (flat_map (segments (n201 e.channel)) (take k e.taken)) ≤ e.acked) }
+        ↔ (length (flat_map (segments (n201 e.channel)) (take k e.messages)) ≤ e.acked_segments) }
 {}

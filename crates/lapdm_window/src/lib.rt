@@ -1,5 +1,5 @@
-//! Defines an endpoint of a data link (GSM 04.06, section 5) and implements its window, which sends messages in segments, at most one
-//! outstanding, and reassembles received segments. Also defines the calls and notices of an endpoint. No call allocates memory.
+//! Defines an endpoint of a data link (GSM 04.06, section 5) and implements its window, which sends messages in segments, at most one of
+//! them outstanding, and reassembles received segments. Also defines the calls and notices of an endpoint. No call allocates memory.
 #![tactic(auto)]
 
 ghost use Rattle.std.specs.Prelude.{◌≡◌, ◌≤◌};
@@ -22,7 +22,7 @@ pub use segmenting::{Joined, MessageBuffer, Piece, ReassemblyState};
 use thiserror::Error;
 pub use window::{LapdmWindowView, Window};
 
-/// N200 of GSM 04.06: how many times a frame is repeated before the link fails, for this channel and link state.
+/// Returns N200 of GSM 04.06: how many times a frame is repeated before the link fails, for this channel and link state.
 pub fn n200(channel: Channel, state: State) -> u8
     ensures value { result ≡ most_repeats channel state }
     ensures most { result ≤ 23 }
@@ -47,11 +47,11 @@ pub enum Sapi {
 pub enum State {
     /// The link is not established.
     Idle,
-    /// A SABM was sent, and its answer is awaited.
+    /// A SABM was sent, and the endpoint waits for the response.
     Opening,
     /// The link is established.
     Open,
-    /// A DISC was sent, and its answer is awaited.
+    /// A DISC was sent, and the endpoint waits for the response.
     Closing,
     /// The link has ended. An endpoint never leaves this state.
     Closed,
@@ -62,7 +62,7 @@ pub enum State {
 pub enum Reason {
     /// The network established the link with another mobile (contention resolution).
     Contention,
-    /// A frame was repeated N200 times without an answer, or a DM was received in state Open.
+    /// A frame was repeated N200 times without a response or an acknowledgement, or a DM was received in state Open.
     Failed,
     /// The other endpoint answered the SABM with a DM.
     Refused,
@@ -123,7 +123,7 @@ pub enum Refused {
     /// The state is not Open.
     #[error("the link is not open")]
     NotOpen,
-    /// No frame awaits an answer; T200 is not running.
+    /// No frame awaits a response or an acknowledgement, so T200 is not running.
     #[error("the timer T200 is not running: no frame awaits an answer")]
     NotRunning,
     /// The message has no octets.

@@ -42,7 +42,7 @@ impl Window {
     ghost use Rattle.std.specs.Option.{option_map};
     ghost use Rattle.std.specs.Result.{result_err};
     ghost use Rattle.segmenting.specs.Segments.{segments};
-    ghost use Rattle.segmenting.specs.Joining.{latest_message};
+    ghost use Rattle.segmenting.specs.Joining.{completed_message};
     ghost use Rattle.lapdm_window.specs.declared.Sapi.{Sapi};
     ghost use Rattle.lapdm_window.specs.Ends.{EndpointState, Role, initial_endpoint, awaits_ack, vs, va, vr};
     ghost use Rattle.lapdm_window.specs.Rules.{has_segment_to_send, with_segment_sent, evaluates_nr};
@@ -207,7 +207,7 @@ impl Window {
         Timer::Again
     }
 
-    /// V(S), the N(S) of the next segment to be sent.
+    /// Returns V(S), the N(S) of the next segment to be sent.
     pub fn vs(&self) -> u8
         ensures number { (e : EndpointState) → Represents self.now e → result ≡ vs e }
         ensures fits { result ≤ 7 }
@@ -215,7 +215,7 @@ impl Window {
         self.vs
     }
 
-    /// V(A), the N(S) of the oldest unacknowledged segment.
+    /// Returns V(A), the N(S) of the oldest unacknowledged segment.
     pub fn va(&self) -> u8
         ensures number { (e : EndpointState) → Represents self.now e → result ≡ va e }
         ensures fits { result ≤ 7 }
@@ -223,7 +223,7 @@ impl Window {
         self.va
     }
 
-    /// V(R), the N(S) of the segment that is expected next.
+    /// Returns V(R), the N(S) of the segment that is expected next.
     pub fn vr(&self) -> u8
         ensures number { (e : EndpointState) → Represents self.now e → result ≡ vr e }
         ensures fits { result ≤ 7 }
@@ -231,15 +231,15 @@ impl Window {
         self.vr
     }
 
-    /// The message that the last accepted segment completed, or no octets if it completed none.
+    /// Returns the message that the last accepted segment completed, or no octets if it completed none.
     pub fn message(&self) -> &[u8]
-        ensures latest_message { (e : EndpointState) → Represents self.now e → result.now ≡ latest_message e.accepted }
+        ensures completed_message { (e : EndpointState) → Represents self.now e → result.now ≡ completed_message e.peer_segments }
         ensures most { length result.now ≤ max_message_octets }
     {
         self.joiner.message()
     }
 
-    // The outstanding segment or, if none is outstanding, the next segment, in the first held message.
+    // Returns the outstanding segment or, if none is outstanding, the next segment, in the first held message.
     fn next(&self) -> Piece<'_>
         requires { 1 ≤ length self.now.held.items }
         ensures { let first = slice_index_or self.now.held.items 0 [] in

@@ -1,9 +1,22 @@
 -- The choice of the next word among the branches, and how words are stored.
 use Rattle.{
   list_decode.{
-    proofs.{DeviatingWords.decided, Deviations.{IsFollowed, follows_behind, in_class_short, is_deviation}, Rankings.Disjoint},
-    proofs.Rankings.{begins_with, deviations_after_place-place, departs_before, departs_once, parted, parts, IsPartWithout, fork_before},
-    proofs.{Rankings.{fork_behind, RanksAfter-trans, without_position-free}, Spans.{between_from, between_to, is_between}},
+    proofs.{
+      DeviatingWords.order-cases,
+      Deviations.{FollowsFrom, follows-deviation, LosesAtLeast-in_class, is_deviation},
+      Rankings.Disjoint,
+    },
+    proofs.Rankings.{
+      ranking-begins_with,
+      deviations_after_place-place,
+      DeviatesAt-earlier,
+      DeviatesAt-unique,
+      classes-parted,
+      parts,
+      IsPartWithout,
+      lex_before-fork,
+    },
+    proofs.{Rankings.{lex_behind-fork, RanksAfter-trans, without_position-free}, Spans.{between_from, between_to, is_between}},
     specs.{
       DeviatingWords.{is_in_range, FollowsSurvivors},
       Branches.{IsBranchOfReturnedWord, IsDeviation, IsMostLikelyDeviation, deviations_in_span, word_of_deviation},
@@ -36,9 +49,9 @@ use Rattle.{
 -- ## Choices: The choice of the branch whose most likely word ranks first.
 
 -- a word that deviates from a candidate and follows the survivors is a candidate
-pub deviation_is : (pass : ViterbiPass) (u : List ℕ) (x : Deviation) → IsCompletePass pass →
+pub deviation-candidate : (pass : ViterbiPass) (u : List ℕ) (x : Deviation) → IsCompletePass pass →
     IsCandidate (soft_bits_of_pass pass) u → IsDeviation pass u x → IsCandidate (soft_bits_of_pass pass) (word_of_deviation pass u x)
-deviation_is pass u x is candidate deviation =
+deviation-candidate pass u x is candidate deviation =
     let n = candidate.count in
     let m = is.soft_bit_count in
     let p = is.row_count in
@@ -51,11 +64,11 @@ deviation_is pass u x is candidate deviation =
       count = omega arith;
     }
 
-pub deviation_list_is : (pass : ViterbiPass) (us : List (List ℕ)) (x : Deviation) → IsCompletePass pass →
+pub deviating_word-candidate : (pass : ViterbiPass) (us : List (List ℕ)) (x : Deviation) → IsCompletePass pass →
     All (IsCandidate (soft_bits_of_pass pass)) us →
     DeviatesFromReturnedWord pass us x → IsCandidate (soft_bits_of_pass pass) (deviating_word pass us x)
-deviation_list_is pass us x is all deviation =
-    deviation_is _ _ x is (all _ [] deviation.in_range) deviation.deviation
+deviating_word-candidate pass us x is all deviation =
+    deviation-candidate _ _ x is (all _ [] deviation.in_range) deviation.deviation
 
 -- the word deviates at the position that the deviation states
 deviation_departs_at : (pass : ViterbiPass) (u : List ℕ) (x : Deviation) → IsCompletePass pass →
@@ -71,8 +84,8 @@ slice_get-last [] b zero at = refl
 slice_get-last (c ∷ bs) b (suc k) at = slice_get-last bs b k (omega arith)
 slice_get-last bs b k at = absurd (omega arith)
 
-pub None-is_not : {X : Type 0} {x : X} → None ≡ Some x → ⊥
-None-is_not e = cc
+pub None-not_some : {X : Type 0} {x : X} → None ≡ Some x → ⊥
+None-not_some e = cc
 
 slice_get-early : (bs cs : List WordBranch) (b : WordBranch) (k : ℕ) → slice_get bs k ≡ Some b → slice_get (bs ++ cs) k ≡ Some b
 slice_get-early [] cs b k at = absurd cc
@@ -93,20 +106,20 @@ module _ (pass : ViterbiPass) (us : List (List ℕ)) (branches : List WordBranch
   AtMost x b = RanksNotBefore pass us x b.best
 
   -- a branch without a word changes nothing
-  pub first_kept : (first : Option BranchChoice) → IsFirstRankedBranch pass us branches first → branch.best ≡ None →
+  pub first_ranked-empty : (first : Option BranchChoice) → IsFirstRankedBranch pass us branches first → branch.best ≡ None →
       IsFirstRankedBranch pass us (branches ++ branch ∷ []) first
-  first_kept None all none = All-push (λ b. b.best ≡ None) branches branch all none
-  first_kept (Some choice) old none = (
+  first_ranked-empty None all none = All-push (λ b. b.best ≡ None) branches branch all none
+  first_ranked-empty (Some choice) old none = (
     (old.0.0, slice_get-early branches (branch ∷ []) _ choice.branch old.0.1, old.0.2),
     All-push (AtMost choice.deviation) branches branch old.1 (rw none tt),
   )
 
   -- the most likely word of the branch ranks before all words found so far
-  pub first_taken : (old new : BranchChoice) → IsFirstRankedBranch pass us branches (Some old) → branch.best ≡ Some new.deviation →
+  pub first_ranked-new : (old new : BranchChoice) → IsFirstRankedBranch pass us branches (Some old) → branch.best ≡ Some new.deviation →
       new.branch ≡ length branches →
       RanksAfter (soft_bits_of_pass pass) (deviating_word pass us old.deviation) (deviating_word pass us new.deviation) →
       IsFirstRankedBranch pass us (branches ++ branch ∷ []) (Some new)
-  first_taken old new first best at before = (
+  first_ranked-new old new first best at before = (
     (branch, slice_get-last branches branch new.branch at, best),
     All-push (AtMost new.deviation) branches branch (λ k d lt. over _ (first.1 k d lt)) (rw best (inl refl)),
   ) where
@@ -120,70 +133,70 @@ module _ (pass : ViterbiPass) (us : List (List ℕ)) (branches : List WordBranch
     ]
 
   -- the most likely word of the branch does not rank before the first word so far
-  pub first_stays : (old new : BranchChoice) → IsFirstRankedBranch pass us branches (Some old) → branch.best ≡ Some new.deviation →
+  pub first_ranked-old : (old new : BranchChoice) → IsFirstRankedBranch pass us branches (Some old) → branch.best ≡ Some new.deviation →
       (deviating_word pass us new.deviation ≡ deviating_word pass us old.deviation)
       ⊎ RanksAfter (soft_bits_of_pass pass) (deviating_word pass us new.deviation) (deviating_word pass us old.deviation) →
       IsFirstRankedBranch pass us (branches ++ branch ∷ []) (Some old)
-  first_stays old new first best deviations_after_place = (
+  first_ranked-old old new first best deviations_after_place = (
     (first.0.0, slice_get-early branches (branch ∷ []) _ old.branch first.0.1, first.0.2),
     All-push (AtMost old.deviation) branches branch first.1 (rw best deviations_after_place),
   )
 
   -- a branch is passed over because its path metric is below that of the first word so far
-  pub first_skipped : (first : Option BranchChoice) (metric least : ℤ) → IsFirstRankedBranch pass us branches first →
+  pub first_ranked-lower : (first : Option BranchChoice) (metric least : ℤ) → IsFirstRankedBranch pass us branches first →
       IfSome first (λ choice. DeviatesFromReturnedWord pass us choice.deviation) →
       IfSome first (λ choice. least ≤ℤ choice.deviation.likelihood) → (first ≡ None → least ≤ℤ metric) →
       IsBranchOfReturnedWord pass us branch → IfSome branch.best (λ best. metric ≡ best.likelihood) → metric <ℤ least →
       IsFirstRankedBranch pass us (branches ++ branch ∷ []) first
-  first_skipped None metric least old deviates most lowest is same less = absurd (let l = lowest refl in omega (arith, ints))
-  first_skipped (Some choice) metric least old deviates most lowest is same less = go branch.best refl same
+  first_ranked-lower None metric least old deviates most w32-lowest is same less = absurd (let l = w32-lowest refl in omega (arith, ints))
+  first_ranked-lower (Some choice) metric least old deviates most w32-lowest is same less = go branch.best refl same
     where
       go : (best : Option Deviation) → branch.best ≡ best → IfSome best (λ best. metric ≡ best.likelihood) →
           IsFirstRankedBranch pass us (branches ++ branch ∷ []) (Some choice)
-      go None e same = first_kept (Some choice) old e
+      go None e same = first_ranked-empty (Some choice) old e
       go (Some x) e same =
           let a = (branch_deviation pass us branch x is e).deviation.value in
           let b = deviates.deviation.value in
-          first_stays choice (record { branch = 0; deviation = x }) old e (inr (inl (omega (arith, ints))))
+          first_ranked-old choice (record { branch = 0; deviation = x }) old e (inr (inl (omega (arith, ints))))
 
-pub lowest : (x : ℤ) → FitsSigned w32 x → negsuc 2147483647 ≤ℤ x
-lowest (pos n) fits = omega (arith, ints)
-lowest (negsuc n) fits = let s = fits.sfits in omega (arith, ints)
+pub w32-lowest : (x : ℤ) → FitsSigned w32 x → negsuc 2147483647 ≤ℤ x
+w32-lowest (pos n) fits = omega (arith, ints)
+w32-lowest (negsuc n) fits = let s = fits.sfits in omega (arith, ints)
 
 -- ---- the most likely word of a branch
 
 -- an element has every property that all elements have
-pub all_at : {X : Type 0} (P : X → Type 0) (xs : List X) (x : X) (k : ℕ) → All P xs → slice_get xs k ≡ Some x → P x
-all_at P xs x k all at = subst P (get_or_from_slice_get xs k x x at) (all k x (slice_get_within xs k x at))
+pub All-slice_get : {X : Type 0} (P : X → Type 0) (xs : List X) (x : X) (k : ℕ) → All P xs → slice_get xs k ≡ Some x → P x
+All-slice_get P xs x k all at = subst P (get_or_from_slice_get xs k x x at) (all k x (slice_get_within xs k x at))
 
-pub first_deviation : (pass : ViterbiPass) (us : List (List ℕ)) (branches : List WordBranch) (first : Option BranchChoice) →
+pub first_ranked-deviation : (pass : ViterbiPass) (us : List (List ℕ)) (branches : List WordBranch) (first : Option BranchChoice) →
     All (IsBranchOfReturnedWord pass us) branches →
     IsFirstRankedBranch pass us branches first → IfSome first (λ choice. DeviatesFromReturnedWord pass us choice.deviation)
-first_deviation pass us branches None all first = tt
-first_deviation pass us branches (Some choice) all first =
-    branch_deviation _ us first.0.0 _ (all_at (IsBranchOfReturnedWord _ us) _ first.0.0 choice.branch all first.0.1) first.0.2
+first_ranked-deviation pass us branches None all first = tt
+first_ranked-deviation pass us branches (Some choice) all first =
+    branch_deviation _ us first.0.0 _ (All-slice_get (IsBranchOfReturnedWord _ us) _ first.0.0 choice.branch all first.0.1) first.0.2
 
 -- ---- the path metrics of the branches
 
-pub metric_stored : (branch : WordBranch) (metric : ℤ) → FitsSigned w32 metric →
+pub likelihood-stored : (branch : WordBranch) (metric : ℤ) → FitsSigned w32 metric →
     IfSome branch.best (λ best. metric ≡ best.likelihood) →
     IfSome branch.best (λ best. to_z w32 (of_z w32 metric) ≡ best.likelihood)
-metric_stored branch metric fits is = rw (to_z-of_z w32 metric fits) is
+likelihood-stored branch metric fits is = rw (to_z-of_z w32 metric fits) is
 
-pub metrics_set : (branches : List WordBranch) (metrics : List ℤ) (i : ℕ) (branch : WordBranch) (metric : ℤ) →
+pub HasMetrics-set : (branches : List WordBranch) (metrics : List ℤ) (i : ℕ) (branch : WordBranch) (metric : ℤ) →
     i < length branches → i < length metrics → HasMetrics branches metrics →
     IfSome branch.best (λ best. metric ≡ best.likelihood) →
     HasMetrics (set branches i branch) (set metrics i metric)
-metrics_set branches metrics i branch metric in_branches in_metrics old new k lt = elim (same_number k i) [
+HasMetrics-set branches metrics i branch metric in_branches in_metrics old new k lt = elim (same_number k i) [
   | inl here ↦ rw (get_or-set_at branches i k branch placeholder_branch here in_branches)
       (rw (get_or-set_at metrics i k metric (pos 0) here in_metrics) new)
   | inr other ↦ rw (get_or-set_other branches i k branch placeholder_branch other)
       (rw (get_or-set_other metrics i k metric (pos 0) other) (old k (omega (arith, length-set branches i branch))))
 ]
 
-pub metrics_taken : (branches : List WordBranch) (metrics : List ℤ) (n : ℕ) → HasMetrics branches metrics →
+pub HasMetrics-take : (branches : List WordBranch) (metrics : List ℤ) (n : ℕ) → HasMetrics branches metrics →
     HasMetrics (take n branches) (take n metrics)
-metrics_taken branches metrics n old k lt =
+HasMetrics-take branches metrics n old k lt =
     let within : k < n = omega (arith, length-take n branches) in
     rw (get_or-take n branches k placeholder_branch within) (rw (get_or-take n metrics k (pos 0) within)
     (old k (omega (arith, length-take n branches))))
@@ -192,9 +205,9 @@ metrics_taken branches metrics n old k lt =
 abbrev pub blank : WordBranch
 blank = record { span = record { likelihood = pos 0; word_index = 0; from = 0; to = 0; state = 0 }; best = None }
 
-pub not_some : (best : Option Deviation) → ((x : Deviation) → best ≢ Some x) → best ≡ None
-not_some None none = refl
-not_some (Some x) none = absurd (none x refl)
+pub None-if_not_some : (best : Option Deviation) → ((x : Deviation) → best ≢ Some x) → best ≡ None
+None-if_not_some None none = refl
+None-if_not_some (Some x) none = absurd (none x refl)
 
 -- ## Trees: How returned words are stored: each word but the first is a deviation from an earlier word.
 
@@ -229,20 +242,20 @@ one_more_word lists x =
     record { first_word = lists.first_word; deviations = set lists.deviations (lists.count - 1) x; count = lists.count + 1 }
 
 module _ (pass : ViterbiPass) (lists : StoredWords) (many : length lists.deviations ≡ 63) (most : lists.count ≤ 64) where
-  pub length-lists : length (stored_words pass lists) ≡ lists.count
-  length-lists =
+  pub length-words : length (stored_words pass lists) ≡ lists.count
+  length-words =
       let all = length-with_deviating_words pass (take lists.count (take pass.bits lists.first_word ∷ [])) (take
       (lists.count - 1) lists.deviations) in
       omega (arith, length-take lists.count (take pass.bits lists.first_word ∷ []), length-take (lists.count - 1) lists.deviations)
 
-  pub first-list : 0 < lists.count → get_or (stored_words pass lists) 0 [] ≡ take pass.bits lists.first_word
-  first-list some =
+  pub stored_words-first : 0 < lists.count → get_or (stored_words pass lists) 0 [] ≡ take pass.bits lists.first_word
+  stored_words-first some =
       rw (take_all lists.count (take pass.bits lists.first_word ∷ []) (omega arith))
       (with_deviating_words-first pass (take pass.bits lists.first_word ∷ []) (take (lists.count - 1) lists.deviations) (omega arith))
 
-  pub lists-push : (x : Deviation) → 0 < lists.count → lists.count < 64 →
+  pub stored_words-push : (x : Deviation) → 0 < lists.count → lists.count < 64 →
       stored_words pass (one_more_word lists x) ≡ stored_words pass lists ++ deviating_word pass (stored_words pass lists) x ∷ []
-  lists-push x some few =
+  stored_words-push x some few =
       let first = take pass.bits lists.first_word ∷ [] in
       let more : lists.count + 1 - 1 ≡ lists.count - 1 + 1 = omega arith in
       rw (
@@ -255,31 +268,31 @@ module _ (pass : ViterbiPass) (lists : StoredWords) (many : length lists.deviati
 
 -- ---- one more word is stored as a deviation
 
-given_kept : (pass : ViterbiPass) (us : List (List ℕ)) (w : List ℕ) (i : ℕ) (x : Deviation) → i < length us →
+IsMadeByDeviation-push : (pass : ViterbiPass) (us : List (List ℕ)) (w : List ℕ) (i : ℕ) (x : Deviation) → i < length us →
     IsMadeByDeviation pass us i x → IsMadeByDeviation pass (us ++ w ∷ []) i x
-given_kept pass us w i x within returned =
+IsMadeByDeviation-push pass us w i x within returned =
     let parent = get_or_append_left us (w ∷ []) [] x.word_index (let h = returned.higher_ranked in omega arith) in record {
       higher_ranked = returned.higher_ranked;
       deviation = rw parent returned.deviation;
       word_is = rw parent (get_or_append_left us _ [] i within ∙ returned.word_is);
     }
 
-given_new : (pass : ViterbiPass) (us : List (List ℕ)) (i : ℕ) (x : Deviation) → i ≡ length us →
+IsMadeByDeviation-new : (pass : ViterbiPass) (us : List (List ℕ)) (i : ℕ) (x : Deviation) → i ≡ length us →
     DeviatesFromReturnedWord pass us x → IsMadeByDeviation pass (us ++ deviating_word pass us x ∷ []) i x
-given_new pass us i x end is =
+IsMadeByDeviation-new pass us i x end is =
     let parent = get_or_append_left us (deviating_word pass us x ∷ []) [] _ is.in_range in record {
       higher_ranked = omega arith;
       deviation = rw parent is.deviation;
       word_is = rw parent (get_or_push us _ [] i (sym end));
     }
 
-pub tree_more : (pass : ViterbiPass) (lists : StoredWords) (x : Deviation) → length lists.deviations ≡ 63 →
+pub IsDeviationTree-more : (pass : ViterbiPass) (lists : StoredWords) (x : Deviation) → length lists.deviations ≡ 63 →
     IsDeviationTree pass lists →
     0 < lists.count → lists.count < 64 → DeviatesFromReturnedWord pass (stored_words pass lists) x →
     IsDeviationTree pass (one_more_word lists x)
-tree_more pass lists x many tree some few is = record {
+IsDeviationTree-more pass lists x many tree some few is = record {
   at_most = omega arith;
-  made_by_deviation = (λ k within. rw (lists-push pass lists many tree.at_most x some few) (one k within));
+  made_by_deviation = (λ k within. rw (stored_words-push pass lists many tree.at_most x some few) (one k within));
 } where
   us : List (List ℕ)
   us = stored_words pass lists
@@ -289,10 +302,10 @@ tree_more pass lists x many tree some few is = record {
       (get_or (set lists.deviations (lists.count - 1) x) k placeholder_deviation)
   one k within = elim (cases_lt (k + 1) lists.count) [
     | inl early ↦ rw (get_or-set_other lists.deviations (lists.count - 1) k x placeholder_deviation (λ e. omega arith))
-        (given_kept pass us (deviating_word pass us x) (k + 1) (get_or lists.deviations k placeholder_deviation)
-        (let n = length-lists pass lists many tree.at_most in omega arith) (tree.made_by_deviation k early))
+        (IsMadeByDeviation-push pass us (deviating_word pass us x) (k + 1) (get_or lists.deviations k placeholder_deviation)
+        (let n = length-words pass lists many tree.at_most in omega arith) (tree.made_by_deviation k early))
     | inr late ↦ rw (get_or-set_at lists.deviations (lists.count - 1) k x placeholder_deviation (omega arith) (omega arith))
-        (given_new pass us (k + 1) x (let n = length-lists pass lists many tree.at_most in omega arith) is)
+        (IsMadeByDeviation-new pass us (k + 1) x (let n = length-words pass lists many tree.at_most in omega arith) is)
   ]
 
 -- ---- the lexicographic order of two words that deviate from a common word
@@ -300,23 +313,23 @@ tree_more pass lists x many tree some few is = record {
 module _ (pass : ViterbiPass) (us : List (List ℕ)) (w : List ℕ) (x up : Deviation) (is : IsCompletePass pass) (all : All (IsCandidate
     (soft_bits_of_pass pass)) us) (returned : IsMadeByDeviation pass us x.word_index up) (before : up.departure.place < x.departure.place)
   where
-    pub forks_above : DeviatesAtSamePosition us w x → DeviatesAtSamePosition us w up
-    forks_above forks =
+    pub same_position-parent : DeviatesAtSamePosition us w x → DeviatesAtSamePosition us w up
+    same_position-parent forks =
         let parent = all _ [] (omega arith) in
         let child : IsCandidate (soft_bits_of_pass pass) (get_or us x.word_index []) = all _ [] forks.in_range in
         record {
           in_range = omega arith;
-          deviates = departs_before (get_or us up.word_index []) (get_or us x.word_index []) w up.departure.place x.departure.place
+          deviates = DeviatesAt-earlier (get_or us up.word_index []) (get_or us x.word_index []) w up.departure.place x.departure.place
               (omega arith)
               (rw returned.word_is (deviation_departs_at pass (get_or us up.word_index []) up is parent returned.deviation)) forks.deviates
               before;
           bit = returned.deviation.bit;
         }
 
-pub forks_first : (pass : ViterbiPass) (us : List (List ℕ)) (x : Deviation) → IsCompletePass pass →
+pub same_position-itself : (pass : ViterbiPass) (us : List (List ℕ)) (x : Deviation) → IsCompletePass pass →
     All (IsCandidate (soft_bits_of_pass pass)) us → DeviatesFromReturnedWord pass us x →
     DeviatesAtSamePosition us (deviating_word pass us x) x
-forks_first pass us x is all deviation = record {
+same_position-itself pass us x is all deviation = record {
   in_range = deviation.in_range;
   deviates = deviation_departs_at _ _ x is (all _ [] deviation.in_range) deviation.deviation;
   bit = deviation.deviation.bit;
@@ -332,8 +345,8 @@ module _ (pass : ViterbiPass) (us : List (List ℕ)) (v w : List ℕ) (x y : Dev
   is_u : IsCandidate (soft_bits_of_pass pass) here
   is_u = all _ [] fx.in_range
 
-  as_long : (t : List ℕ) → IsCandidate (soft_bits_of_pass pass) t → length t ≡ length here
-  as_long t is_t = let n = is_u.count in let m = is_t.count in omega arith
+  equal_lengths : (t : List ℕ) → IsCandidate (soft_bits_of_pass pass) t → length t ≡ length here
+  equal_lengths t is_t = let n = is_u.count in let m = is_t.count in omega arith
 
   left_y : DeviatesAt here w y.departure.place
   left_y = rw same fy.deviates
@@ -341,22 +354,24 @@ module _ (pass : ViterbiPass) (us : List (List ℕ)) (v w : List ℕ) (x y : Dev
   bit_y : y.departure.bit ≡ get_or here y.departure.place 0
   bit_y = rw same fy.bit
 
-  pub order_first : x.departure.place < y.departure.place → DecidesLexicographicOrder v w (nat_eq x.departure.bit 1)
-  order_first early =
+  pub order-earlier : x.departure.place < y.departure.place → DecidesLexicographicOrder v w (nat_eq x.departure.bit 1)
+  order-earlier early =
       let bit = bit_at-most_1 here x.departure.place is_u.information.bits in
       let is = fx.bit in
-      decided v w _
-      (λ on. fork_before here v w _ _ fx.deviates left_y early is_v.information.bits (as_long v is_v) (as_long w is_w) (grind arith))
-      (λ off. inr (fork_behind here v w _ _ fx.deviates left_y early is_v.information.bits (as_long v is_v) (as_long w is_w)
+      order-cases v w _
+      (λ on. lex_before-fork here v w _ _ fx.deviates left_y early is_v.information.bits (equal_lengths v is_v) (equal_lengths w is_w)
+      (grind arith))
+      (λ off. inr (lex_behind-fork here v w _ _ fx.deviates left_y early is_v.information.bits (equal_lengths v is_v) (equal_lengths w is_w)
       (grind arith)))
 
-  pub order_second : y.departure.place < x.departure.place → DecidesLexicographicOrder v w (nat_eq y.departure.bit 0)
-  order_second early =
+  pub order-later : y.departure.place < x.departure.place → DecidesLexicographicOrder v w (nat_eq y.departure.bit 0)
+  order-later early =
       let bit = bit_at-most_1 here y.departure.place is_u.information.bits in
       let is = bit_y in
-      decided v w _
-      (λ on. fork_behind here w v _ _ left_y fx.deviates early is_w.information.bits (as_long w is_w) (as_long v is_v) (grind arith))
-      (λ off. inr (fork_before here w v _ _ left_y fx.deviates early is_w.information.bits (as_long w is_w) (as_long v is_v)
+      order-cases v w _
+      (λ on. lex_behind-fork here w v _ _ left_y fx.deviates early is_w.information.bits (equal_lengths w is_w) (equal_lengths v is_v)
+      (grind arith))
+      (λ off. inr (lex_before-fork here w v _ _ left_y fx.deviates early is_w.information.bits (equal_lengths w is_w) (equal_lengths v is_v)
       (grind arith)))
 
 -- ---- writing out a word along its chain of deviations
@@ -373,35 +388,35 @@ drop-set xs k x within =
           (omega arith),
     ) refl
 
-pub leads_more : (lists : StoredWords) (xs : List ℕ) (start at i : ℕ) → start < length xs → 0 < at → at < lists.count →
+pub chain-more : (lists : StoredWords) (xs : List ℕ) (start at i : ℕ) → start < length xs → 0 < at → at < lists.count →
     IsChainOfDeviations lists (drop (start + 1) xs) at i →
     IsChainOfDeviations lists (drop start (set xs start at)) (get_or lists.deviations (at - 1) placeholder_deviation).word_index i
-leads_more lists xs start at i within some small leads =
+chain-more lists xs start at i within some small leads =
     rw drop-set (some, small, refl, leads)
 
 -- u is the word that has been reached along the chain, and cs is the rest of the chain
-abbrev pub OnTheWay : ViterbiPass → StoredWords → List ℕ → ℕ → List ℕ → Type 0
-OnTheWay pass lists cs i u = (at : ℕ) × (u ≡ get_or (stored_words pass lists) at []) × (at < lists.count) ×
+abbrev pub IsOnChain : ViterbiPass → StoredWords → List ℕ → ℕ → List ℕ → Type 0
+IsOnChain pass lists cs i u = (at : ℕ) × (u ≡ get_or (stored_words pass lists) at []) × (at < lists.count) ×
     IsChainOfDeviations lists cs at i
 
 -- the next word of the chain
-pub record Further (pass : ViterbiPass) (lists : StoredWords) (cs : List ℕ) (i c : ℕ) (u : List ℕ) : Type 0 where
+pub record HasNextDeviation (pass : ViterbiPass) (lists : StoredWords) (cs : List ℕ) (i c : ℕ) (u : List ℕ) : Type 0 where
   pub positive : 0 < c
   pub in_range : c < lists.count
   pub candidate : IsCandidate (soft_bits_of_pass pass) u
   pub deviation : IsDeviation pass u (get_or lists.deviations (c - 1) placeholder_deviation)
   pub next : (v : List ℕ) → v ≡ word_of_deviation pass u (get_or lists.deviations (c - 1) placeholder_deviation)
-      → OnTheWay pass lists cs i v
+      → IsOnChain pass lists cs i v
 
-pub further : (pass : ViterbiPass) (lists : StoredWords) (xs : List ℕ) (k i : ℕ) (u : List ℕ) → length lists.deviations ≡ 63 →
+pub chain-next : (pass : ViterbiPass) (lists : StoredWords) (xs : List ℕ) (k i : ℕ) (u : List ℕ) → length lists.deviations ≡ 63 →
     IsDeviationTree pass lists →
-    All (IsCandidate (soft_bits_of_pass pass)) (stored_words pass lists) → k < length xs → OnTheWay pass lists (drop k xs) i u →
-    Further pass lists (drop (k + 1) xs) i (get_or xs k 0) u
-further pass lists xs k i u many tree all within path =
+    All (IsCandidate (soft_bits_of_pass pass)) (stored_words pass lists) → k < length xs → IsOnChain pass lists (drop k xs) i u →
+    HasNextDeviation pass lists (drop (k + 1) xs) i (get_or xs k 0) u
+chain-next pass lists xs k i u many tree all within path =
     from path.0 path.1 path.2 (rw (drop-at xs k within) at path.3)
   where
     from : (at : ℕ) → u ≡ get_or (stored_words pass lists) at [] → at < lists.count →
-        IsChainOfDeviations lists (get_or xs k 0 ∷ drop (k + 1) xs) at i → Further pass lists (drop (k + 1) xs) i (get_or xs k 0) u
+        IsChainOfDeviations lists (get_or xs k 0 ∷ drop (k + 1) xs) at i → HasNextDeviation pass lists (drop (k + 1) xs) i (get_or xs k 0) u
     from at is small leads =
         let c = get_or xs k 0 in
         let back : c - 1 + 1 ≡ c = let s = leads.0 in omega arith in
@@ -412,7 +427,7 @@ further pass lists xs k i u many tree all within path =
         ∙ sym is in record {
           positive = leads.0;
           in_range = leads.1;
-          candidate = rw is (all at [] (let n = length-lists pass lists many tree.at_most in omega arith));
+          candidate = rw is (all at [] (let n = length-words pass lists many tree.at_most in omega arith));
           deviation = rw here at returned.deviation;
           next = (λ v written. (c, written ∙ sym (returned.word_is ∙ ap (λ u. word_of_deviation pass u x) here), leads.1, leads.3));
         }
@@ -451,7 +466,7 @@ before_the_last : (pass : ViterbiPass) (c : DeviationClass) (from : ℕ) (w : Li
     (at : IsInClass c w) → at.place + 4 < pass.bits
 before_the_last pass c from w is candidate follows later is_w at =
     let places = is.row_count in
-    let followed : IsFollowed _ _ _ c _ =
+    let followed : FollowsFrom _ _ _ c _ =
     record {
       decisions = is.decisions;
       pairs = omega arith;
@@ -460,16 +475,17 @@ before_the_last pass c from w is candidate follows later is_w at =
       later =
           later;
     } in
-    let short = (in_class_short (soft_bits_of_pass pass) (decision_rows pass) (losses_of_pass pass) c from followed w is_w at).in_range in
+    let short = (LosesAtLeast-in_class (soft_bits_of_pass pass) (decision_rows pass) (losses_of_pass pass) c from followed w is_w
+    at).in_range in
     omega arith
 
 -- the ranking begins with the most likely word, and all other words deviate from it before its last four positions
-pub begins : (pass : ViterbiPass) (u : List ℕ) (span : WordSpan) → IsCompletePass pass → IsMostLikely (soft_bits_of_pass pass) u →
+pub ranking-begins : (pass : ViterbiPass) (u : List ℕ) (span : WordSpan) → IsCompletePass pass → IsMostLikely (soft_bits_of_pass pass) u →
     FollowsSurvivors 0 u (decision_rows pass) 0 → span.from ≡ 0 → span.to + 4 ≡ pass.bits →
     IsRanked (soft_bits_of_pass pass) (u ∷ []) ×
     PartitionsUnreturnedWords (soft_bits_of_pass pass) (u ∷ []) (deviations_in_span u span ∷ [])
-begins pass u span is best follows from to =
-    begins_with (soft_bits_of_pass pass) u (is_in_range span.from span.to) best (λ w place is_w at.
+ranking-begins pass u span is best follows from to =
+    ranking-begins_with (soft_bits_of_pass pass) u (is_in_range span.from span.to) best (λ w place is_w at.
     let candidate : IsCandidate (soft_bits_of_pass pass) u = record { information = best.information; count = best.count } in
     let short = before_the_last pass (deviations_anywhere u) 0 w is candidate follows (λ k free. omega arith) is_w
     (record { place = place; deviates = at; allowed = refl }) in
@@ -515,7 +531,7 @@ module _ (pass : ViterbiPass) (us : List (List ℕ)) (u : List ℕ) (span : Word
         IsInClass (deviations_in_span t part) w
     in_span t part w k at f l = record { place = k; deviates = at; allowed = is_between part.from part.to k f l }
 
-    -- where the words of the three parts deviate from u: before the position of v, after it, or there
+    -- the words of the three parts deviate from u before the position of v, after it, or at it
     in_first : (w : List ℕ) → IsInClass a w → (k : ℕ) × DeviatesAt u w k × (span.from ≤ k) × (k < place)
     in_first w at =
         let f = between_from _ _ at.place at.allowed in
@@ -531,20 +547,21 @@ module _ (pass : ViterbiPass) (us : List (List ℕ)) (u : List ℕ) (span : Word
     in_behind : (w : List ℕ) → IsInClass b w → DeviatesAt u w place
     in_behind w at =
         let f = between_from _ _ at.place at.allowed in
-        departs_before u v w place at.place (let n = v_is.count in let m = candidate.count in omega arith) left at.deviates (omega arith)
+        DeviatesAt-earlier u v w place at.place (let n = v_is.count in let m = candidate.count in omega arith) left at.deviates
+        (omega arith)
 
     is_first : IsPartWithout s c v a
     is_first = record {
       candidate = candidate;
       part = λ w at. let h = in_first w at in in_span u span w h.0 h.1 h.2 (omega arith);
-      without = λ at. let h = in_first v at in let same = departs_once u v _ _ h.1 left in omega arith;
+      without = λ at. let h = in_first v at in let same = DeviatesAt-unique u v _ _ h.1 left in omega arith;
     }
 
     is_rest : IsPartWithout s c v r
     is_rest = record {
       candidate = candidate;
       part = λ w at. let h = in_rest w at in in_span u span w h.0 h.1 (omega arith) h.3;
-      without = λ at. let h = in_rest v at in let same = departs_once u v _ _ h.1 left in omega arith;
+      without = λ at. let h = in_rest v at in let same = DeviatesAt-unique u v _ _ h.1 left in omega arith;
     }
 
     is_behind : IsPartWithout s c v b
@@ -554,17 +571,17 @@ module _ (pass : ViterbiPass) (us : List (List ℕ)) (u : List ℕ) (span : Word
       without = λ at. at.deviates.differs refl;
     }
 
-    first_behind : Disjoint a b
-    first_behind w at at' = let h = in_first w at in let same = departs_once u w _ _ h.1 (in_behind w at') in omega arith
+    lex_behind-deviates : Disjoint a b
+    lex_behind-deviates w at at' = let h = in_first w at in let same = DeviatesAt-unique u w _ _ h.1 (in_behind w at') in omega arith
 
     first_rest : Disjoint a r
     first_rest w at at' =
         let h = in_first w at in
         let g = in_rest w at' in
-        let same = departs_once u w _ _ h.1 g.1 in omega arith
+        let same = DeviatesAt-unique u w _ _ h.1 g.1 in omega arith
 
     behind_rest : Disjoint b r
-    behind_rest w at at' = let g = in_rest w at' in let same = departs_once u w _ _ (in_behind w at) g.1 in omega arith
+    behind_rest w at at' = let g = in_rest w at' in let same = DeviatesAt-unique u w _ _ (in_behind w at) g.1 in omega arith
 
     -- a candidate of the class other than v belongs to one of the parts
     in_one : (w : List ℕ) → IsCandidate s w → IsInClass c w → w ≢ v
@@ -581,19 +598,20 @@ module _ (pass : ViterbiPass) (us : List (List ℕ)) (u : List ℕ) (span : Word
           ]
       | inr now ↦
           let later = deviations_after_place-place v place now.place now.allowed in
-          let follows : FollowsSurvivors (place + 1) v (decision_rows pass) 0 = follows_behind u _ 0 _ (omega arith) (omega arith) in
+          let follows : FollowsSurvivors (place + 1) v (decision_rows pass) 0 = follows-deviation u _ 0 _ (omega arith) (omega arith) in
           let short = before_the_last pass (deviations_after_place v place) (place + 1) w is v_is follows
           (λ k free. let l = deviations_after_place-place v place k free in omega arith) is_w now in
           (b, (1, omega arith, refl), in_span v behind_v w now.place now.deviates (omega arith) (omega arith))
     ]
 
     -- three spans replace the span: the positions of u before and after the deviation, and those of the new word after it
-    pub goes_on : IsRanked (soft_bits_of_pass pass) (us ++ word_of_deviation pass u x ∷ []) ×
+    pub ranking-goes_on : IsRanked (soft_bits_of_pass pass) (us ++ word_of_deviation pass u x ∷ []) ×
         PartitionsUnreturnedWords (soft_bits_of_pass pass) (us ++ word_of_deviation pass u x ∷ [])
         (((before ++ deviations_in_span u first ∷ after) ++ deviations_in_span
         (word_of_deviation pass u x) behind_v ∷ []) ++ deviations_in_span u rest ∷ [])
-    goes_on = rw append_assoc (parted s us before after c v ranked covers v_is (in_span u span v place left from to) best a (b ∷ r ∷ [])
+    ranking-goes_on = rw append_assoc (classes-parted s us before after c v ranked covers v_is (in_span u span v place left from to) best a
+        (b ∷ r ∷ [])
         (All-from_recursion (IsPartWithout s c v) (a ∷ b ∷ r ∷ []) (is_first, (is_behind, (is_rest, tt)))) (
-          All-from_recursion (Disjoint a) (b ∷ r ∷ []) (first_behind, (first_rest, tt)),
+          All-from_recursion (Disjoint a) (b ∷ r ∷ []) (lex_behind-deviates, (first_rest, tt)),
           (All-cons (Disjoint b) r [] behind_rest (All-nil _), (All-nil _, tt)),
         ) in_one)

@@ -1,8 +1,19 @@
 -- After a word is returned: its branches, and the invariant of `ListDecoder`.
 use Rattle.{
   list_decode.{
-    proofs.Choices.{begins, below_best, blank, branch_deviation, deviation_is, goes_on, length-lists, lists-push, metrics_set, tree_more},
-    proofs.{DeviatingWords.kept_best, Rankings.{ends_ranked, most_likely_is_ranked, not_given}},
+    proofs.Choices.{
+      ranking-begins,
+      below_best,
+      blank,
+      branch_deviation,
+      deviation-candidate,
+      ranking-goes_on,
+      length-words,
+      stored_words-push,
+      HasMetrics-set,
+      IsDeviationTree-more,
+    },
+    proofs.{DeviatingWords.survivor-best, Rankings.{ends_ranked, most_likely_is_ranked, IsRanked-not_repeated}},
     specs.{
       Branches.{IsBranchOfReturnedWord, IsBranch, IsDeviation, IsMostLikelyDeviation, IsSpanOfWord, class_of_branch, deviations_in_span},
       Branches.word_of_deviation,
@@ -43,8 +54,8 @@ use Rattle.{
 
 -- ---- the chosen branch
 
--- u is a candidate, `span` a span of u, and x makes the most likely word that deviates from u there
-pub record IsChosen (pass : ViterbiPass) (u : List ℕ) (span : WordSpan) (x : Deviation) : Type 0 where
+-- u is a candidate, `span` is a span of u, and x gives the most likely word that deviates from u in this span
+pub record IsDeviationInSpan (pass : ViterbiPass) (u : List ℕ) (span : WordSpan) (x : Deviation) : Type 0 where
   pub candidate : IsCandidate (soft_bits_of_pass pass) u
   pub is_span : IsSpanOfWord pass u span
   pub deviation : IsDeviation pass u x
@@ -67,7 +78,7 @@ module _ (pass : ViterbiPass) (us : List (List ℕ)) (branches : List WordBranch
       (get_or branches choice.branch blank).span (Some choice.deviation)
   best_chosen = rw best_is at chosen_branch.is_branch.best
 
-  pub chosen : IsChosen pass (get_or us (get_or branches choice.branch blank).span.word_index [])
+  pub chosen : IsDeviationInSpan pass (get_or us (get_or branches choice.branch blank).span.word_index [])
       (get_or branches choice.branch blank).span choice.deviation
   chosen = record {
     candidate = lists _ [] chosen_branch.in_range;
@@ -79,29 +90,29 @@ module _ (pass : ViterbiPass) (us : List (List ℕ)) (branches : List WordBranch
 
 -- ---- the branches after one more word is returned
 
-get_or-kept : (us : List (List ℕ)) (u : List ℕ) (i : ℕ) → i < length us → get_or us i [] ≡ get_or (us ++ u ∷ []) i []
-get_or-kept us u i lt = sym (get_or_append_left us _ [] i lt)
+get_or-push : (us : List (List ℕ)) (u : List ℕ) (i : ℕ) → i < length us → get_or us i [] ≡ get_or (us ++ u ∷ []) i []
+get_or-push us u i lt = sym (get_or_append_left us _ [] i lt)
 
-branch_kept : (pass : ViterbiPass) (us : List (List ℕ)) (u : List ℕ) (b : WordBranch) → IsBranchOfReturnedWord pass us b →
+branch-push : (pass : ViterbiPass) (us : List (List ℕ)) (u : List ℕ) (b : WordBranch) → IsBranchOfReturnedWord pass us b →
     IsBranchOfReturnedWord pass (us ++ u ∷ []) b
-branch_kept pass us u b is = record {
+branch-push pass us u b is = record {
   in_range = omega (arith, length-append us (u ∷ []));
-  is_branch = rw (← get_or-kept us u _ is.in_range) is.is_branch;
+  is_branch = rw (← get_or-push us u _ is.in_range) is.is_branch;
 }
 
-classes_kept : (pass : ViterbiPass) (us : List (List ℕ)) (u : List ℕ) (bs : List WordBranch) →
+classes-push : (pass : ViterbiPass) (us : List (List ℕ)) (u : List ℕ) (bs : List WordBranch) →
     All (IsBranchOfReturnedWord pass us) bs → map (class_of_branch us) bs ≡ map (class_of_branch (us ++ u ∷ [])) bs
-classes_kept pass us u [] all = refl
-classes_kept pass us u (b ∷ bs) all =
-    ap₂ (λ c cs. c ∷ cs) (ap (λ chosen_word. deviations_in_span chosen_word b.span) (get_or-kept us u _ (all 0 b
-    (omega arith)).in_range)) (classes_kept pass us u bs (All-tail (IsBranchOfReturnedWord pass us) b bs all))
+classes-push pass us u [] all = refl
+classes-push pass us u (b ∷ bs) all =
+    ap₂ (λ c cs. c ∷ cs) (ap (λ chosen_word. deviations_in_span chosen_word b.span) (get_or-push us u _ (all 0 b
+    (omega arith)).in_range)) (classes-push pass us u bs (All-tail (IsBranchOfReturnedWord pass us) b bs all))
 
 -- each of the classes is the class of one of the branches
-class_at : (us : List (List ℕ)) (bs : List WordBranch) (P : WordBranch → Type 0) (e : DeviationClass) → All P bs →
+Contains-class : (us : List (List ℕ)) (bs : List WordBranch) (P : WordBranch → Type 0) (e : DeviationClass) → All P bs →
     Contains (map (class_of_branch us) bs) e → (b : WordBranch) × P b × (class_of_branch us b ≡ e)
-class_at us [] P e all found = absurd (omega arith)
-class_at us (b ∷ bs) P e all (zero, lt, is) = (b, all 0 b (omega arith), is)
-class_at us (b ∷ bs) P e all (suc k, lt, is) = class_at us bs P e (All-tail P b bs all) (k, omega arith, is)
+Contains-class us [] P e all found = absurd (omega arith)
+Contains-class us (b ∷ bs) P e all (zero, lt, is) = (b, all 0 b (omega arith), is)
+Contains-class us (b ∷ bs) P e all (suc k, lt, is) = Contains-class us bs P e (All-tail P b bs all) (k, omega arith, is)
 
 module _ (pass : ViterbiPass) (us : List (List ℕ)) (branches : List WordBranch) (choice : BranchChoice) (is : IsCompletePass pass)
     (lists : All (IsCandidate (soft_bits_of_pass pass)) us)
@@ -118,7 +129,7 @@ module _ (pass : ViterbiPass) (us : List (List ℕ)) (branches : List WordBranch
   abbrev chosen_word : List ℕ
   chosen_word = word_of_deviation pass (get_or us (get_or branches choice.branch blank).span.word_index []) choice.deviation
 
-  has : IsChosen pass u b.span choice.deviation
+  has : IsDeviationInSpan pass u b.span choice.deviation
   has = chosen _ us _ _ lists all first
 
   chosen_here : IsBranchOfReturnedWord pass us b
@@ -134,7 +145,7 @@ module _ (pass : ViterbiPass) (us : List (List ℕ)) (branches : List WordBranch
   u_within = (chosen_branch _ us _ choice lists all first).in_range
 
   v_is : IsCandidate (soft_bits_of_pass pass) chosen_word
-  v_is = deviation_is _ u choice.deviation is has.candidate has.deviation
+  v_is = deviation-candidate _ u choice.deviation is has.candidate has.deviation
 
   split : map (class_of_branch us) branches ≡ map (class_of_branch us) (take i branches) ++ class_of_branch us b
       ∷ map (class_of_branch us)
@@ -146,7 +157,7 @@ module _ (pass : ViterbiPass) (us : List (List ℕ)) (branches : List WordBranch
       IsCandidate (soft_bits_of_pass pass) w → IsInClass e w → w ≢ chosen_word → RanksAfter (soft_bits_of_pass pass) w chosen_word
   best e w member is_w in_class ne =
       let here = ap (λ k. word_of_deviation pass (get_or us k []) choice.deviation) (best_chosen _ us _ _ lists all first).1 in
-      let found = class_at us branches (λ b. IsBranchOfReturnedWord pass us b × RanksNotBefore pass us choice.deviation b.best) e
+      let found = Contains-class us branches (λ b. IsBranchOfReturnedWord pass us b × RanksNotBefore pass us choice.deviation b.best) e
       (λ k d lt. (all k d lt, first.1 k d lt)) member in
       rw (← here)
       (below_best pass us found.0.span choice.deviation w found.0.best found.1.0.is_branch.best found.1.1 is_w
@@ -182,7 +193,7 @@ module _ (pass : ViterbiPass) (us : List (List ℕ)) (branches : List WordBranch
 
     -- the words that were returned before the new word v are unchanged
     same_u : (k : ℕ) → k ≡ b.span.word_index → get_or us' k [] ≡ u
-    same_u k same = ap (λ k. get_or us' k []) same ∙ sym (get_or-kept us chosen_word b.span.word_index u_within)
+    same_u k same = ap (λ k. get_or us' k []) same ∙ sym (get_or-push us chosen_word b.span.word_index u_within)
 
     same_v : (k : ℕ) → k ≡ length us → get_or us' k [] ≡ chosen_word
     same_v k same = get_or_push us chosen_word [] k (sym same)
@@ -205,7 +216,7 @@ module _ (pass : ViterbiPass) (us : List (List ℕ)) (branches : List WordBranch
         (All-push (IsBranchOfReturnedWord pass us') (set branches i first_part) new_part
         (All-set (IsBranchOfReturnedWord pass us') branches i first_part
         (old_branch first_part before_span.0 before)
-        (λ k d lt. branch_kept pass us chosen_word (get_or branches k d) (all k d lt))) new_branch)
+        (λ k d lt. branch-push pass us chosen_word (get_or branches k d) (all k d lt))) new_branch)
         (old_branch last_part after_span.0 after)
 
     classes : ((map (class_of_branch us) (take i branches) ++ deviations_in_span u first_part.span ∷ map
@@ -215,8 +226,8 @@ module _ (pass : ViterbiPass) (us : List (List ℕ)) (branches : List WordBranch
         ∷ [] ≡
         map f ((set branches i first_part ++ new_part ∷ []) ++ last_part ∷ [])
     classes =
-        let early = classes_kept pass us chosen_word (take i branches) (All-take (IsBranchOfReturnedWord pass us) i branches all) in
-        let late = classes_kept pass us chosen_word (drop (suc i) branches) (All-drop (IsBranchOfReturnedWord pass us) (suc i) branches all)
+        let early = classes-push pass us chosen_word (take i branches) (All-take (IsBranchOfReturnedWord pass us) i branches all) in
+        let late = classes-push pass us chosen_word (drop (suc i) branches) (All-drop (IsBranchOfReturnedWord pass us) (suc i) branches all)
         in
         let one = ap (λ u. deviations_in_span u first_part.span)
         (sym (same_u first_part.span.word_index before_span.0)) in
@@ -234,7 +245,7 @@ module _ (pass : ViterbiPass) (us : List (List ℕ)) (branches : List WordBranch
       word_is = rw (left, (best_chosen pass us branches choice lists all first).1) refl;
       all_branches = rw at all_branches;
       ranking_continues = (λ ranked covers.
-          let went = goes_on pass us u b.span choice.deviation is has.candidate has.deviation v_is has.from has.to
+          let went = ranking-goes_on pass us u b.span choice.deviation is has.candidate has.deviation v_is has.from has.to
           (map (class_of_branch us) (take i branches)) (map (class_of_branch us) (drop (suc i) branches))
           first_part.span new_part.span last_part.span
           ranked (rw split at covers) (λ e w member. best e w (rw split member))
@@ -249,24 +260,24 @@ module _ (pass : ViterbiPass) (us : List (List ℕ)) (branches : List WordBranch
 
 -- ---- after the first word is returned
 
-first_chosen : (pass : ViterbiPass) (u : List ℕ) → IsCompletePass pass → IsMostLikely (soft_bits_of_pass pass) u →
+most_likely-traceback : (pass : ViterbiPass) (u : List ℕ) → IsCompletePass pass → IsMostLikely (soft_bits_of_pass pass) u →
     u ≡ traceback (decision_rows pass) 0
-first_chosen pass u is best =
+most_likely-traceback pass u is best =
     let n = length-traceback (decision_rows pass) 0 in
     let p = is.row_count in
     let five = is.at_least in
     let m = is.soft_bit_count in
     IsMostLikely-only (soft_bits_of_pass pass) (traceback (decision_rows pass) 0) u
     (IsMostLikely-best (soft_bits_of_pass pass) (traceback (decision_rows pass) 0) _ (omega arith) (omega arith)
-    (kept_best (decision_rows pass) (losses_of_pass pass) (soft_bits_of_pass pass) is.decisions (omega arith) 0 (omega arith))) best
+    (survivor-best (decision_rows pass) (losses_of_pass pass) (soft_bits_of_pass pass) is.decisions (omega arith) 0 (omega arith))) best
 
-pub first_span : (pass : ViterbiPass) (u : List ℕ) (span : WordSpan) → IsCompletePass pass →
+pub IsSpanOfWord-first : (pass : ViterbiPass) (u : List ℕ) (span : WordSpan) → IsCompletePass pass →
     IsMostLikely (soft_bits_of_pass pass) u → span.likelihood ≡ likelihood (soft_bits_of_pass pass) (encoding u) → span.from ≡ 0 →
     span.to + 4 ≡ pass.bits → span.state ≡ 0 →
     IsSpanOfWord pass u span
-first_span pass u span is best value from to state =
+IsSpanOfWord-first pass u span is best value from to state =
     record {
-      follows = rw from (first_chosen pass u is best);
+      follows = rw from (most_likely-traceback pass u is best);
       value = value;
       order = omega arith;
       before_tail = omega arith;
@@ -274,9 +285,9 @@ first_span pass u span is best value from to state =
       state = rw from state;
     }
 
-pub one_word : (pass : ViterbiPass) (lists : StoredWords) → lists.count ≡ 1 →
+pub stored_words-one : (pass : ViterbiPass) (lists : StoredWords) → lists.count ≡ 1 →
     stored_words pass lists ≡ take pass.bits lists.first_word ∷ []
-one_word pass lists one = ap (λ n. with_deviating_words pass (take n (take pass.bits lists.first_word ∷ [])) (take
+stored_words-one pass lists one = ap (λ n. with_deviating_words pass (take n (take pass.bits lists.first_word ∷ [])) (take
     (n - 1) lists.deviations)) one
 
 module _ (pass : ViterbiPass) (lists : StoredWords) (one : lists.count ≡ 1) (branches : List WordBranch) (metrics : List ℤ)
@@ -288,23 +299,23 @@ module _ (pass : ViterbiPass) (lists : StoredWords) (one : lists.count ≡ 1) (b
   one_branch : take (2 * lists.count - 1) (set branches 0 b) ≡ b ∷ []
   one_branch = take-set_at _ 0 (2 * lists.count - 1) b (omega arith) (omega arith)
 
-  pub first_branch : IsBranch pass first b → b.span.word_index ≡ 0 → b.span.from ≡ 0 → b.span.to + 4 ≡ pass.bits →
+  pub HasBranches-first : IsBranch pass first b → b.span.word_index ≡ 0 → b.span.from ≡ 0 → b.span.to + 4 ≡ pass.bits →
       HasMetrics (set branches 0 b) metrics → HasBranches pass lists (set branches 0 b) metrics
-  first_branch is_b list from to has =
-      let begun = begins pass first b.span is_pass best (first_chosen pass first is_pass best) from to in
+  HasBranches-first is_b list from to has =
+      let begun = ranking-begins pass first b.span is_pass best (most_likely-traceback pass first is_pass best) from to in
       let read : get_or (first ∷ []) b.span.word_index [] ≡ first = ap (λ k. get_or (first ∷ []) k []) list in
       record {
         complete = is_pass;
         tree = record { at_most = omega arith; made_by_deviation = (λ k within. absurd (omega arith)) };
         values = has;
-        each = subst (λ us. All (IsBranchOfReturnedWord pass us) (take (2 * lists.count - 1) (set branches 0 b))) (sym
-            (one_word pass lists one))
+        all_branches = subst (λ us. All (IsBranchOfReturnedWord pass us) (take (2 * lists.count - 1) (set branches 0 b))) (sym
+            (stored_words-one pass lists one))
             (subst (All (IsBranchOfReturnedWord pass (first ∷ []))) (sym one_branch)
             (All-cons (IsBranchOfReturnedWord pass (first ∷ [])) b []
             (record { in_range = omega arith; is_branch = subst (λ u. IsBranch pass u b) (sym read) is_b })
             (All-nil (IsBranchOfReturnedWord pass (first ∷ [])))));
         partition = subst (λ us. PartitionsUnreturnedWords (soft_bits_of_pass pass) us (map (class_of_branch us)
-            (take (2 * lists.count - 1) (set branches 0 b)))) (sym (one_word pass lists one))
+            (take (2 * lists.count - 1) (set branches 0 b)))) (sym (stored_words-one pass lists one))
             (subst (λ bs. PartitionsUnreturnedWords (soft_bits_of_pass pass) (first ∷ []) (map (class_of_branch (first ∷ [])) bs))
             (sym one_branch)
             (subst (λ u'. PartitionsUnreturnedWords (soft_bits_of_pass pass) (first ∷ []) (deviations_in_span u' b.span ∷ []))
@@ -315,28 +326,28 @@ module _ (pass : ViterbiPass) (lists : StoredWords) (one : lists.count ≡ 1) (b
 abbrev pub ranking : ViterbiPass → StoredWords → Ranking
 ranking pass lists = record { soft = soft_bits_of_pass pass; returned = stored_words pass lists }
 
-pub same_soft : (old new : ViterbiPass) → new.soft ≡ old.soft → new.bits ≡ old.bits →
+pub soft_bits-same : (old new : ViterbiPass) → new.soft ≡ old.soft → new.bits ≡ old.bits →
     soft_bits_of_pass new ≡ soft_bits_of_pass old
-same_soft old new soft bits = ap₂ (λ n xs. take (2 * n) xs) bits soft
+soft_bits-same old new soft bits = ap₂ (λ n xs. take (2 * n) xs) bits soft
 
-pub same_ranking : (old new : ViterbiPass) (lists : StoredWords) → new.soft ≡ old.soft → new.bits ≡ old.bits →
+pub ranking-same : (old new : ViterbiPass) (lists : StoredWords) → new.soft ≡ old.soft → new.bits ≡ old.bits →
     stored_words new lists ≡ stored_words old lists → ranking new lists ≡ ranking old lists
-same_ranking old new lists soft bits words =
-    ap₂ (λ s us. record { soft = s; returned = us }) (same_soft old new soft bits) words
+ranking-same old new lists soft bits words =
+    ap₂ (λ s us. record { soft = s; returned = us }) (soft_bits-same old new soft bits) words
 
-pub first_is_best : (old new : ViterbiPass) (lists : StoredWords) → lists.count ≡ 1 → new.soft ≡ old.soft →
+pub IsMostLikely-first_word : (old new : ViterbiPass) (lists : StoredWords) → lists.count ≡ 1 → new.soft ≡ old.soft →
     new.bits ≡ old.bits → IsRanked (soft_bits_of_pass old) (stored_words old lists) →
     IsMostLikely (soft_bits_of_pass new) (take new.bits lists.first_word)
-first_is_best old new lists one soft bits ranked =
+IsMostLikely-first_word old new lists one soft bits ranked =
     subst (λ n. IsMostLikely (soft_bits_of_pass new) (take n lists.first_word)) (sym bits)
-    (subst (λ s. IsMostLikely s (take old.bits lists.first_word)) (sym (same_soft old new soft bits))
-    ((most_likely_is_ranked _ _).1 (subst (IsRanked (soft_bits_of_pass old)) (one_word old lists one) ranked)))
+    (subst (λ s. IsMostLikely s (take old.bits lists.first_word)) (sym (soft_bits-same old new soft bits))
+    ((most_likely_is_ranked _ _).1 (subst (IsRanked (soft_bits_of_pass old)) (stored_words-one old lists one) ranked)))
 
-pub first_value : (old new : ViterbiPass) (first : List ℕ) (metric : ℤ) → new.soft ≡ old.soft → new.bits ≡ old.bits →
+pub likelihood-first_word : (old new : ViterbiPass) (first : List ℕ) (metric : ℤ) → new.soft ≡ old.soft → new.bits ≡ old.bits →
     metric ≡ likelihood (soft_bits_of_pass old) (encoding (take old.bits first)) →
     metric ≡ likelihood (soft_bits_of_pass new) (encoding (take new.bits first))
-first_value old new first metric soft bits value =
-    value ∙ ap₂ (λ s n. likelihood s (encoding (take n first))) (sym (same_soft old new soft bits)) (sym bits)
+likelihood-first_word old new first metric soft bits value =
+    value ∙ ap₂ (λ s n. likelihood s (encoding (take n first))) (sym (soft_bits-same old new soft bits)) (sym bits)
 
 pub sound_first : (pass : ViterbiPass) (row u : List ℕ) (deviations : List Deviation) (branches : List WordBranch) (metrics : List ℤ)
     (metric : ℤ) → HasSoftBits pass → take pass.bits row ≡ u → IsMostLikely (soft_bits_of_pass pass) u →
@@ -345,7 +356,7 @@ pub sound_first : (pass : ViterbiPass) (row u : List ℕ) (deviations : List Dev
       pass = pass;
       lists = record { first_word = row; deviations = deviations; count = 1 };
       branches = branches;
-      metrics = metrics;
+      best_metrics = metrics;
       first_metric = metric;
     })
 sound_first pass row u deviations branches metrics metric has reads best value has_metrics = record {
@@ -353,7 +364,7 @@ sound_first pass row u deviations branches metrics metric has reads best value h
   at_most = omega arith;
   ranked = subst (IsRanked (soft_bits_of_pass pass)) (sym (ap (λ u. u ∷ []) reads)) ((most_likely_is_ranked _ u).0 best);
   first_metric = λ some. value ∙ ap (λ u. likelihood (soft_bits_of_pass pass) (encoding u)) (sym reads);
-  metrics = has_metrics;
+  best_metrics = has_metrics;
   later = λ more. absurd (omega arith);
 }
 
@@ -365,7 +376,7 @@ pub sound_prepared : (r : Inside) (pass : ViterbiPass) (branches : List WordBran
       pass = pass;
       lists = r.lists;
       branches = branches;
-      metrics = metrics;
+      best_metrics = metrics;
       first_metric = r.first_metric;
     })
 sound_prepared r pass branches metrics sound soft bits words has = record {
@@ -377,13 +388,13 @@ sound_prepared r pass branches metrics sound soft bits words has = record {
     soft = has.complete.soft;
   };
   at_most = sound.at_most;
-  ranked = subst (λ (x : Ranking). IsRanked x.soft x.returned) (sym (same_ranking r.pass pass r.lists soft bits words)) sound.ranked;
-  first_metric = λ some. first_value r.pass pass r.lists.first_word r.first_metric soft bits (sound.first_metric some);
-  metrics = has.values;
+  ranked = subst (λ (x : Ranking). IsRanked x.soft x.returned) (sym (ranking-same r.pass pass r.lists soft bits words)) sound.ranked;
+  first_metric = λ some. likelihood-first_word r.pass pass r.lists.first_word r.first_metric soft bits (sound.first_metric some);
+  best_metrics = has.values;
   later = λ more. has;
 }
 
--- ---- after each further word is returned
+-- ---- after each next word is returned
 
 module _ (pass : ViterbiPass) (lists : StoredWords) (branches : List WordBranch) (metrics : List ℤ) (has : HasBranches pass lists
     branches metrics) (some : 0 < lists.count) (few : lists.count < 64) (many : length lists.deviations ≡ 63)
@@ -400,13 +411,13 @@ module _ (pass : ViterbiPass) (lists : StoredWords) (branches : List WordBranch)
   branches' = set (set (set branches next.branch next.parts.branch_before) (2 * lists.count - 1) next.parts.branch_of_new_word)
       (2 * lists.count - 1 + 1) next.parts.branch_after
 
-  pub next_given : stored_words pass (record {
+  pub stored_words-next : stored_words pass (record {
     first_word = lists.first_word;
     deviations = set lists.deviations (lists.count - 1) next.deviation;
     count = lists.count + 1;
   }) ≡ stored_words pass lists ++ u ∷ []
-  next_given =
-      lists-push pass _ many has.tree.at_most _ some few
+  stored_words-next =
+      stored_words-push pass _ many has.tree.at_most _ some few
       ∙ ap (λ u. stored_words pass lists ++ u ∷ []) (sym is.word_is)
 
   next_branches : take (2 * lists'.count - 1) branches' ≡ branches_after_word (take (2 * lists.count - 1) branches) next
@@ -421,28 +432,28 @@ module _ (pass : ViterbiPass) (lists : StoredWords) (branches : List WordBranch)
       take_more_set one n next.parts.branch_of_new_word (omega arith)
       ∙ ap (λ bs. bs ++ next.parts.branch_of_new_word ∷ []) (take-set-lt n branches next.branch next.parts.branch_before within))
 
-  pub next_ranked : IsRanked (soft_bits_of_pass pass) (stored_words pass lists) →
+  pub IsRanked-next : IsRanked (soft_bits_of_pass pass) (stored_words pass lists) →
       IsRanked (soft_bits_of_pass pass) (stored_words pass lists')
-  next_ranked ranked = subst (IsRanked (soft_bits_of_pass pass)) (sym next_given) (is.ranking_continues ranked has.partition).0
+  IsRanked-next ranked = subst (IsRanked (soft_bits_of_pass pass)) (sym stored_words-next) (is.ranking_continues ranked has.partition).0
 
-  pub next_has_branches : IsRanked (soft_bits_of_pass pass) (stored_words pass lists) → (metrics' : List ℤ) →
+  pub HasBranches-next : IsRanked (soft_bits_of_pass pass) (stored_words pass lists) → (metrics' : List ℤ) →
       HasMetrics (set
       (set (set branches next.branch next.parts.branch_before) (2 * lists.count - 1) next.parts.branch_of_new_word)
       (2 * lists.count - 1 + 1) next.parts.branch_after) metrics' → HasBranches pass lists' branches' metrics'
-  next_has_branches ranked metrics' values = record {
+  HasBranches-next ranked metrics' values = record {
     complete = has.complete;
-    tree = tree_more pass lists next.deviation many has.tree some few is.deviation;
+    tree = IsDeviationTree-more pass lists next.deviation many has.tree some few is.deviation;
     values = values;
-    each = subst (λ us. All (IsBranchOfReturnedWord pass us) (take (2 * lists'.count - 1) branches')) (sym next_given)
+    all_branches = subst (λ us. All (IsBranchOfReturnedWord pass us) (take (2 * lists'.count - 1) branches')) (sym stored_words-next)
         (subst (All (IsBranchOfReturnedWord pass (stored_words pass lists ++ u ∷ []))) (sym next_branches) is.all_branches);
     partition = subst (λ us. PartitionsUnreturnedWords (soft_bits_of_pass pass) us (map (class_of_branch us)
-        (take (2 * lists'.count - 1) branches'))) (sym next_given)
+        (take (2 * lists'.count - 1) branches'))) (sym stored_words-next)
         (subst (λ bs. PartitionsUnreturnedWords (soft_bits_of_pass pass) (stored_words pass lists ++ u ∷ []) (map (class_of_branch
         (stored_words pass lists ++ u ∷ [])) bs)) (sym next_branches) (is.ranking_continues ranked has.partition).1);
   }
 
--- the invariant after a further word is returned
-pub sound_next : (r : Inside) (sound : IsSoundRanking r) (has : HasBranches r.pass r.lists r.branches r.metrics) → 0 < r.lists.count →
+-- the invariant after a next word is returned
+pub sound_next : (r : Inside) (sound : IsSoundRanking r) (has : HasBranches r.pass r.lists r.branches r.best_metrics) → 0 < r.lists.count →
     r.lists.count < 64 → length r.lists.deviations ≡ 63 → length r.branches ≡ 127 → (u : List ℕ) (next : NextWord) →
     IsNextRankedWord r.pass (stored_words r.pass r.lists) (take (2 * r.lists.count - 1) r.branches) u next → (metrics : List ℤ) →
     HasMetrics (set (set (set r.branches next.branch next.parts.branch_before) (2 * r.lists.count - 1) next.parts.branch_of_new_word)
@@ -456,79 +467,79 @@ pub sound_next : (r : Inside) (sound : IsSoundRanking r) (has : HasBranches r.pa
       };
       branches = set (set (set r.branches next.branch next.parts.branch_before) (2 * r.lists.count - 1) next.parts.branch_of_new_word)
           (2 * r.lists.count - 1 + 1) next.parts.branch_after;
-      metrics = metrics;
+      best_metrics = metrics;
       first_metric = r.first_metric;
     })
 sound_next r sound has some few many room u next is metrics values = record {
   has_soft_bits = sound.has_soft_bits;
   at_most = omega arith;
-  ranked = next_ranked r.pass r.lists r.branches r.metrics has some few many room u next is sound.ranked;
+  ranked = IsRanked-next r.pass r.lists r.branches r.best_metrics has some few many room u next is sound.ranked;
   first_metric = λ more. sound.first_metric some;
-  metrics = values;
-  later = λ more. next_has_branches r.pass r.lists r.branches r.metrics has some few many room u next is sound.ranked metrics values;
+  best_metrics = values;
+  later = λ more. HasBranches-next r.pass r.lists r.branches r.best_metrics has some few many room u next is sound.ranked metrics values;
 }
 
--- the branches and their path metrics after a further word is returned
-pub metrics_more : (branches : List WordBranch) (metrics : List ℤ) (i n : ℕ) (before behind after : WordBranch) (a b c : ℤ) →
+-- the branches and their path metrics after a next word is returned
+pub HasMetrics-partition : (branches : List WordBranch) (metrics : List ℤ) (i n : ℕ) (before behind after : WordBranch) (a b c : ℤ) →
     i < n → n + 1 < length branches → length metrics ≡ length branches → HasMetrics branches metrics →
     IfSome before.best (λ best. a ≡ best.likelihood) → IfSome behind.best (λ best. b ≡ best.likelihood) →
     IfSome after.best (λ best. c ≡ best.likelihood) →
     HasMetrics (set (set (set branches i before) n behind) (n + 1) after) (set (set (set metrics i a) n b) (n + 1) c)
-metrics_more branches metrics i n before behind after a b c within room same has is_a is_b is_c =
+HasMetrics-partition branches metrics i n before behind after a b c within room same has is_a is_b is_c =
     let bs = set branches i before in
     let ms = set metrics i a in
     let long = length-set branches i before in
     let long' = length-set metrics i a in
     let more = length-set bs n behind in
     let more' = length-set ms n b in
-    metrics_set (set bs n behind) (set ms n b) (n + 1) after c (omega arith) (omega arith)
-    (metrics_set bs ms n behind b (omega arith) (omega arith)
-    (metrics_set branches metrics i before a (omega arith) (omega arith) has is_a) is_b) is_c
+    HasMetrics-set (set bs n behind) (set ms n b) (n + 1) after c (omega arith) (omega arith)
+    (HasMetrics-set bs ms n behind b (omega arith) (omega arith)
+    (HasMetrics-set branches metrics i before a (omega arith) (omega arith) has is_a) is_b) is_c
 
 -- ---- when no word is left
 
 -- if no branch has a word left, all words were returned
-pub all_given : (pass : ViterbiPass) (lists : StoredWords) (branches : List WordBranch) (metrics : List ℤ) →
+pub every_word_returned : (pass : ViterbiPass) (lists : StoredWords) (branches : List WordBranch) (metrics : List ℤ) →
     HasBranches pass lists branches metrics → NoBranchHasUnreturnedWord (take (2 * lists.count - 1) branches) → (w : List ℕ) →
     IsCandidate (soft_bits_of_pass pass) w → Contains (stored_words pass lists) w
-all_given pass lists branches metrics has none w is_w =
+every_word_returned pass lists branches metrics has none w is_w =
     ends_ranked (soft_bits_of_pass pass) _ (map _ _) has.partition
     (λ e w member is_w in_class.
-    let found = class_at (stored_words pass lists) (take (2 * lists.count - 1) branches)
+    let found = Contains-class (stored_words pass lists) (take (2 * lists.count - 1) branches)
     (λ b. IsBranchOfReturnedWord pass (stored_words pass lists) b × (b.best ≡ None)) e
-    (λ k d lt. (has.each k d lt, none k d lt)) member in
+    (λ k d lt. (has.all_branches k d lt, none k d lt)) member in
     let u = get_or (stored_words pass lists) found.0.span.word_index [] in
     subst (IsMostLikelyDeviation pass u found.0.span) found.1.1 found.1.0.is_branch.best w is_w
     (subst (λ e. IsInClass e w) (sym found.2) in_class))
     w is_w
 
-candidate_last : (s : List ℤ) (us : List (List ℕ)) (u : List ℕ) → IsRanked s (us ++ u ∷ []) → IsCandidate s u
-candidate_last s us u ranked = All-contains (IsCandidate s) (us ++ u ∷ []) u ranked.all_candidates (Contains-push us u)
+IsCandidate-last : (s : List ℤ) (us : List (List ℕ)) (u : List ℕ) → IsRanked s (us ++ u ∷ []) → IsCandidate s u
+IsCandidate-last s us u ranked = All-contains (IsCandidate s) (us ++ u ∷ []) u ranked.all_candidates (Contains-push us u)
 
 -- if another word is returned, not all words were returned before
 not_done : (old : Ranking) (u : List ℕ) → length old.returned < 64 → IsRanked old.soft (old.returned ++ u ∷ []) →
     IsRankingDone old → ⊥
 not_done old u few ranked (inl full) = omega arith
 not_done old u few ranked (inr all) =
-    not_given old.soft old.returned u ranked (all u (candidate_last old.soft old.returned u ranked))
+    IsRanked-not_repeated old.soft old.returned u ranked (all u (IsCandidate-last old.soft old.returned u ranked))
 
 -- ---- the fields of a `ListDecoder`, from the value that contracts see
 
 module _ (r : Inside) (view : Ranking) (is : ranking_of r ≡ view) where
-  pub soft_is : soft_bits_of_pass r.pass ≡ view.soft
-  soft_is = ap (λ (v : Ranking). v.soft) is
+  pub view-soft : soft_bits_of_pass r.pass ≡ view.soft
+  view-soft = ap (λ (v : Ranking). v.soft) is
 
-  pub given_is : returned_words r ≡ view.returned
-  given_is = ap (λ (v : Ranking). v.returned) is
+  pub view-returned : returned_words r ≡ view.returned
+  view-returned = ap (λ (v : Ranking). v.returned) is
 
-  pub count_is : length r.lists.deviations ≡ 63 → r.lists.count ≤ 64 → length view.returned ≡ r.lists.count
-  count_is many most = sym (ap length given_is) ∙ length-lists r.pass r.lists many most
+  pub view-count : length r.lists.deviations ≡ 63 → r.lists.count ≤ 64 → length view.returned ≡ r.lists.count
+  view-count many most = sym (ap length view-returned) ∙ length-words r.pass r.lists many most
 
-  pub bits_is : HasSoftBits r.pass → (n : ℕ) → length view.soft ≡ 2 * n → n ≡ r.pass.bits
-  bits_is pass n count = let s = ap length soft_is in omega arith
+  pub view-bits : HasSoftBits r.pass → (n : ℕ) → length view.soft ≡ 2 * n → n ≡ r.pass.bits
+  view-bits pass n count = let s = ap length view-soft in omega arith
 
-pub reads_as : (bits : ℕ) (row u : List ℕ) → take (length u) row ≡ u → length u ≡ bits → take bits row ≡ u
-reads_as bits row u reads same = rw (← same) reads
+pub take-same_length : (bits : ℕ) (row u : List ℕ) → take (length u) row ≡ u → length u ≡ bits → take bits row ≡ u
+take-same_length bits row u reads same = rw (← same) reads
 
 -- ---- the result of `next`
 
@@ -536,27 +547,27 @@ pub not_done_at_first : (old new : Ranking) (u : List ℕ) → length old.return
     new.returned ≡ u ∷ [] → IsRanked new.soft new.returned → IsRankingDone old → ⊥
 not_done_at_first old new u none soft returned ranked (inl full) = omega arith
 not_done_at_first old new u none soft returned ranked (inr all) =
-    let found = all u (rw (← soft) (candidate_last _ [] u (rw (← returned) ranked))) in
+    let found = all u (rw (← soft) (IsCandidate-last _ [] u (rw (← returned) ranked))) in
     omega arith
 
-pub none_some : {X : Type 0} {x : X} → Some x ≡ None → ⊥
-none_some e = cc
+pub Some-not_none : {X : Type 0} {x : X} → Some x ≡ None → ⊥
+Some-not_none e = cc
 
 module _ (old new : Ranking) (u : List ℕ) (P Q : Type 0) (few : length old.returned < 64) (soft : new.soft ≡ old.soft)
     (ranked : IsRanked new.soft new.returned) where
   last_ranked : new.returned ≡ old.returned ++ u ∷ [] → IsRanked old.soft (old.returned ++ u ∷ [])
   last_ranked returned = rw (← soft) (rw (← returned) ranked)
 
-  pub done_exactly : (result : Option ℤ) →
+  pub IsRankingDone-none : (result : Option ℤ) →
       MatchOption result (P × Q × IsRankingDone old) (λ value. (new.returned ≡ old.returned ++ u ∷ [])
       × (value ≡ likelihood old.soft (encoding u))) →
       (result ≡ None → IsRankingDone old) × (IsRankingDone old → result ≡ None)
-  done_exactly None none = ((λ e. none.2), (λ done. refl))
-  done_exactly (Some value) some = ((λ e. absurd (none_some e)), (λ done. absurd (not_done old u few (last_ranked some.0) done)))
+  IsRankingDone-none None none = ((λ e. none.2), (λ done. refl))
+  IsRankingDone-none (Some value) some = ((λ e. absurd (Some-not_none e)), (λ done. absurd (not_done old u few (last_ranked some.0) done)))
 
   pub information : (result : Option ℤ) →
       MatchOption result (P × Q × IsRankingDone old) (λ value. (new.returned ≡ old.returned ++ u ∷ [])
       × (value ≡ likelihood old.soft (encoding u))) →
       IfSome result (λ value. IsEncoderInput u)
   information None none = tt
-  information (Some value) some = (candidate_last old.soft old.returned u (last_ranked some.0)).information
+  information (Some value) some = (IsCandidate-last old.soft old.returned u (last_ranked some.0)).information

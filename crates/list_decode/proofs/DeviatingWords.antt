@@ -8,7 +8,7 @@ use Rattle.{
       declared.departure.{PartialTraceback.PartialTraceback, PossibleDeviation.PossibleDeviation},
       Choices.DecidesLexicographicOrder,
     },
-    proofs.Rankings.{agree-tail, deviates, first_before, first_behind},
+    proofs.Rankings.{DeviatesAt-tail, deviates, lex_before-deviates, lex_behind-deviates},
   },
   std.proofs.Common.{Bool, List, [], ap, ap₂, arith, below_more, cond, drop, eq-eqb, eqb, false, get_or, inl, inr, length, ltb, ne_eqb},
   std.proofs.Common.{pos, refl, slice_set, suc, sym, take, true, zero, ℕ, ℤ, ◌%◌, ◌++◌, ◌+ℤ◌, ◌+◌, ◌-ℤ◌},
@@ -33,43 +33,43 @@ test [] (y ∷ v) = true
 test (x ∷ u) [] = false
 test (x ∷ u) (y ∷ v) = cond (eqb x y) (test u v) (ltb x y)
 
-pub tested : (u v : List ℕ) (r : Bool) → r ≡ is_some_and is_lt (slice_partial_cmp (λ x y. Some (nat_cmp x y)) u v) → r ≡ test u v
-tested = same_from_slice_cmp_tested _ _ _ refl (λ _ _. refl) (λ _ _. refl) (λ x y xs ys o h. grind (arith))
+pub test-slice_cmp : (u v : List ℕ) (r : Bool) → r ≡ is_some_and is_lt (slice_partial_cmp (λ x y. Some (nat_cmp x y)) u v) → r ≡ test u v
+test-slice_cmp = same_from_slice_cmp_tested _ _ _ refl (λ _ _. refl) (λ _ _. refl) (λ x y xs ys o h. grind (arith))
 
 -- the first difference decides the comparison
-test_at : (u v : List ℕ) (place : ℕ) → length v ≡ length u → DeviatesAt u v place →
+test-deviates : (u v : List ℕ) (place : ℕ) → length v ≡ length u → DeviatesAt u v place →
     test u v ≡ ltb (get_or u place 0) (get_or v place 0)
-test_at (x ∷ u) (y ∷ v) zero same at = ap (λ t. cond t (test u v) (ltb x y)) (ne_eqb x y at.differs)
-test_at (x ∷ u) (y ∷ v) (suc place) same at =
+test-deviates (x ∷ u) (y ∷ v) zero same at = ap (λ t. cond t (test u v) (ltb x y)) (ne_eqb x y at.differs)
+test-deviates (x ∷ u) (y ∷ v) (suc place) same at =
     ap (λ t. cond t (test u v) (ltb x y)) (eq-eqb x y (at.equal_before 0 (omega arith)))
-    ∙ test_at u v place (omega arith) (agree-tail x y u v place at)
-test_at u v place same at = absurd (let i = at.in_range in omega arith)
+    ∙ test-deviates u v place (omega arith) (DeviatesAt-tail x y u v place at)
+test-deviates u v place same at = absurd (let i = at.in_range in omega arith)
 
 test-itself : (u : List ℕ) → test u u ≡ false
 test-itself [] = refl
 test-itself (x ∷ u) = ap (λ t. cond t (test u u) (ltb x x)) (eq-eqb x x refl) ∙ test-itself u
 
-pub decided : (u v : List ℕ) (before : Bool) → (before ≡ true → IsLexicographicallyBefore u v) →
+pub order-cases : (u v : List ℕ) (before : Bool) → (before ≡ true → IsLexicographicallyBefore u v) →
     (before ≡ false → (u ≡ v) ⊎ IsLexicographicallyBefore v u) → DecidesLexicographicOrder u v before
-decided u v true first second = first refl
-decided u v false first second = second refl
+order-cases u v true first second = first refl
+order-cases u v false first second = second refl
 
--- the comparison of two slices tells the lexicographic order of the two words
-pub order_tested : (u v : List ℕ) (before : Bool) → AllBits u → AllBits v → length v ≡ length u → before ≡ test u v →
+-- the comparison of two slices decides the lexicographic order of the two words
+pub order-test : (u v : List ℕ) (before : Bool) → AllBits u → AllBits v → length v ≡ length u → before ≡ test u v →
     DecidesLexicographicOrder u v before
-order_tested u v before bits_u bits_v same is = elim (same_list u v) [
+order-test u v before bits_u bits_v same is = elim (same_list u v) [
   | inl equal ↦
       let off = test-itself u in
-      decided u v before (λ on. absurd (cc (ap (test u) equal))) (λ off. inl equal)
+      order-cases u v before (λ on. absurd (cc (ap (test u) equal))) (λ off. inl equal)
   | inr other ↦
       let there = deviates u v same (λ e. other (sym e)) in
-      let tested = is ∙ test_at u v there.0 same there.1 in
+      let test-slice_cmp = is ∙ test-deviates u v there.0 same there.1 in
       let x = bit_at-most_1 u there.0 bits_u in
       let y = bit_at-most_1 v there.0 bits_v in
       let differs = there.1.differs in
-      decided u v before
-      (λ on. first_before u v there.0 there.1 (grind arith) (grind arith))
-      (λ off. inr (first_behind u v there.0 there.1 same (grind arith) (grind arith)))
+      order-cases u v before
+      (λ on. lex_before-deviates u v there.0 there.1 (grind arith) (grind arith))
+      (λ off. inr (lex_behind-deviates u v there.0 there.1 same (grind arith) (grind arith)))
 ]
 
 -- Every word other than the best word from a state first deviates from it at some position, and loses at least the loss stored there.
@@ -87,29 +87,29 @@ pub IsNoBetterPath-more : (state x : ℕ) (w u : List ℕ) (soft : List ℤ) →
 IsNoBetterPath-more state x w u soft four_rows h =
     rw (← take-append-drop 2 soft) (IsNoBetterPath-same _ x w u _ (drop 2 soft) (omega (arith, length-take 2 soft)) h)
 
-pub kept_best : (rows : List ℕ) (losses : List (List ℤ)) (soft : List ℤ) → AreDecisions rows losses soft → 1 ≤ length rows →
+pub survivor-best : (rows : List ℕ) (losses : List (List ℤ)) (soft : List ℤ) → AreDecisions rows losses soft → 1 ≤ length rows →
     (s : ℕ) → s < 16 → IsSurvivor s (traceback rows s) soft (metric_from_state s (traceback rows s) soft)
-kept_best [] losses soft kept some s lt = absurd (omega arith)
-kept_best (row ∷ rows) [] soft kept some s lt = absurd kept
-kept_best (row ∷ rows) (lost ∷ losses) soft kept some s lt = kept.1.best s lt
+survivor-best [] losses soft kept some s lt = absurd (omega arith)
+survivor-best (row ∷ rows) [] soft kept some s lt = absurd kept
+survivor-best (row ∷ rows) (lost ∷ losses) soft kept some s lt = kept.1.best s lt
 
-pub AllBits-kept : (rows : List ℕ) (losses : List (List ℤ)) (soft : List ℤ) → AreDecisions rows losses soft →
+pub AllBits-traceback : (rows : List ℕ) (losses : List (List ℤ)) (soft : List ℤ) → AreDecisions rows losses soft →
     1 ≤ length rows → AllBits (traceback rows 0)
-AllBits-kept rows losses soft kept some = HasTailBits-bits _ (kept_best _ losses soft kept some 0 (omega arith)).tail_bits
+AllBits-traceback rows losses soft kept some = HasTailBits-bits _ (survivor-best _ losses soft kept some 0 (omega arith)).tail_bits
 
 -- The position with the least loss, when one more position is examined.
 
-pub reached_more : (u : List ℕ) (k state : ℕ) → k < length u →
+pub state_after-more : (u : List ℕ) (k state : ℕ) → k < length u →
     state_after_bits state (take (k + 1) u) ≡ next_trellis_state (state_after_bits state (take k u)) (get_or u k 0)
-reached_more [] k state within = absurd (omega arith)
-reached_more (x ∷ u) zero state within = refl
-reached_more (x ∷ u) (suc k) state within =
+state_after-more [] k state within = absurd (omega arith)
+state_after-more (x ∷ u) zero state within = refl
+state_after-more (x ∷ u) (suc k) state within =
     let more : suc k + 1 ≡ suc (k + 1) = omega arith in
-    rw more (reached_more u k _ (omega arith))
+    rw more (state_after-more u k _ (omega arith))
 
-pub reached_small : (state : ℕ) (u : List ℕ) → state < 16 → state_after_bits state u < 16
-reached_small state [] small = small
-reached_small state (x ∷ u) small = reached_small (next_trellis_state _ x) u (omega arith)
+pub state_after-below : (state : ℕ) (u : List ℕ) → state < 16 → state_after_bits state u < 16
+state_after-below state [] small = small
+state_after-below state (x ∷ u) small = state_after-below (next_trellis_state _ x) u (omega arith)
 
 pub length-follows : (from : ℕ) (u rows : List ℕ) (state : ℕ) → FollowsSurvivors from u rows state → length u ≡ length rows
 length-follows zero u rows state h = ap length h ∙ length-traceback _ _
@@ -132,17 +132,17 @@ follows_later (suc from) (suc n) (x ∷ u) (row ∷ rows) state follows le withi
     follows_later from n u _ _ follows (omega arith) (omega arith)
 follows_later from n u rows state follows le within = absurd (omega arith)
 
--- from that position on, the word is what traceback reads from the state reached there
-pub chosen_after : (n : ℕ) (u rows : List ℕ) (state : ℕ) → FollowsSurvivors n u rows state →
+-- if a word follows the survivors from position n on, it is from there on what traceback reads from the state reached at n
+pub follows-drop : (n : ℕ) (u rows : List ℕ) (state : ℕ) → FollowsSurvivors n u rows state →
     drop n u ≡ traceback (drop n rows) (state_after_bits state (take n u))
-chosen_after zero u rows state follows = follows
-chosen_after (suc n) (x ∷ u) (row ∷ rows) state follows = chosen_after n u rows _ follows
-chosen_after n u rows state follows = absurd follows
+follows-drop zero u rows state follows = follows
+follows-drop (suc n) (x ∷ u) (row ∷ rows) state follows = follows-drop n u rows _ follows
+follows-drop n u rows state follows = absurd follows
 
 -- from a position on, the survivor of a state is what traceback reads from the state reached at that position
-pub chosen_from : (rows : List ℕ) (state place : ℕ) → place ≤ length rows →
+pub traceback-drop : (rows : List ℕ) (state place : ℕ) → place ≤ length rows →
     drop place (traceback rows state) ≡ traceback (drop place rows) (state_after_bits state (take place (traceback rows state)))
-chosen_from rows state place within = chosen_after place (traceback rows state) rows state (follows_all place rows state within)
+traceback-drop rows state place within = follows-drop place (traceback rows state) rows state (follows_all place rows state within)
 
 -- each bit of a survivor is the decision in the state reached before it
 pub chosen_bit : (rows : List ℕ) (state k : ℕ) → k < length rows →
@@ -151,9 +151,9 @@ chosen_bit [] state k within = absurd (omega arith)
 chosen_bit (row ∷ rows) state zero within = refl
 chosen_bit (row ∷ rows) state (suc k) within = chosen_bit rows _ k (omega arith)
 
-pub bit_small : (rows : List ℕ) (state k : ℕ) → get_or (traceback rows state) k 0 ≤ 1
-bit_small (row ∷ rows) state (suc k) = bit_small rows _ k
-bit_small rows state k = omega arith
+pub traceback-small : (rows : List ℕ) (state k : ℕ) → get_or (traceback rows state) k 0 ≤ 1
+traceback-small (row ∷ rows) state (suc k) = traceback-small rows _ k
+traceback-small rows state k = omega arith
 
 -- after a position that follows the survivors, the word is what traceback reads from the next state
 pub follows_past : (u rows : List ℕ) (place state : ℕ) → FollowsSurvivors place u rows 0 → place < length rows →
@@ -161,26 +161,26 @@ pub follows_past : (u rows : List ℕ) (place state : ℕ) → FollowsSurvivors 
     → drop (place + 1) u ≡ traceback (drop (place + 1) rows) (next_trellis_state state (get_or u place 0))
 follows_past u rows place state follows within at =
     let long = length-follows place u rows 0 follows in
-    chosen_after (place + 1) u rows 0 (follows_later place (place + 1) u rows 0 follows (omega arith) (omega arith))
+    follows-drop (place + 1) u rows 0 (follows_later place (place + 1) u rows 0 follows (omega arith) (omega arith))
     ∙ ap (traceback (drop (place + 1) rows))
-    (reached_more u place 0 (omega arith) ∙ ap (λ state. next_trellis_state state (get_or u place 0)) (sym at))
+    (state_after-more u place 0 (omega arith) ∙ ap (λ state. next_trellis_state state (get_or u place 0)) (sym at))
 
-pub traceback_behind : (rows u : List ℕ) (place state : ℕ) → u ≡ traceback rows 0 → place < length rows →
+pub traceback-drop_next : (rows u : List ℕ) (place state : ℕ) → u ≡ traceback rows 0 → place < length rows →
     length rows ≡ length u → state ≡ state_after_bits 0 (take place u) →
     drop (place + 1) u ≡ traceback (drop (place + 1) rows) (next_trellis_state state (get_or u place 0))
-traceback_behind rows u place state is within count at =
+traceback-drop_next rows u place state is within count at =
     follows_past u rows place state (follows_later 0 place u rows 0 is (omega arith) (omega arith)) within at
 
--- where a tie with a position leaves the bit 0 before it, and would make the bit there 1 if it came after it
+-- bit j of u is 0: if j is `place`, bit `place` is 0; if j is smaller, by assumption; and if j were greater, bit `place` would be 1
 pub zero_at : (u : List ℕ) (place j : ℕ) → get_or u place 0 ≡ 0 → (j < place → get_or u j 0 ≡ 0) →
     (place < j → get_or u place 0 ≡ 1) → get_or u j 0 ≡ 0
 zero_at u place j none before after = grind arith
 
-least_kept : (u : List ℕ) (losses : List (List ℤ)) (k place : ℕ) (loss : ℤ) → get_or u place 0 ≤ 1 →
+IsLeastLossPosition-old : (u : List ℕ) (losses : List (List ℤ)) (k place : ℕ) (loss : ℤ) → get_or u place 0 ≤ 1 →
     IsLeastLossPosition u losses k place loss → (loss <ℤ deviation_loss 0 u losses k)
     ⊎ ((deviation_loss 0 u losses k ≡ loss) × (get_or u place 0 ≢ 0)) →
     IsLeastLossPosition u losses (k + 1) place loss
-least_kept u losses k place loss kept_bit old more = record {
+IsLeastLossPosition-old u losses k place loss kept_bit old more = record {
   value = old.value;
   least = below_more _ _ old.least (elim more [ inl less ↦ omega (arith, ints) | inr tie ↦ let e = tie.0 in omega (arith, ints) ]);
   tie_before = old.tie_before;
@@ -192,11 +192,11 @@ least_kept u losses k place loss kept_bit old more = record {
   ];
 }
 
-least_taken : (u : List ℕ) (losses : List (List ℤ)) (k place : ℕ) (loss : ℤ) → place ≤ k →
+IsLeastLossPosition-new : (u : List ℕ) (losses : List (List ℤ)) (k place : ℕ) (loss : ℤ) → place ≤ k →
     IsLeastLossPosition u losses k place loss → (deviation_loss 0 u losses k <ℤ loss)
     ⊎ ((deviation_loss 0 u losses k ≡ loss) × (get_or u place 0 ≡ 0)) →
     IsLeastLossPosition u losses (k + 1) k (deviation_loss 0 u losses k)
-least_taken u losses k place loss found old less = record {
+IsLeastLossPosition-new u losses k place loss found old less = record {
   value = refl;
   least = below_more _ _ (λ j lt. let low = old.least j lt in elim less [
     | inl less ↦ omega (arith, ints)
@@ -210,16 +210,16 @@ least_taken u losses k place loss found old less = record {
   tie_after = λ j late lt equal. absurd (omega arith);
 }
 
--- if the loss of a later position is at most the limit, it is less than the least loss so far, or equal to it where the kept_bit is 0
-pub below_limit : (loss least : ℤ) (kept_bit : ℕ) → kept_bit ≤ 1 → loss ≤ℤ (least -ℤ pos kept_bit) →
+-- if the loss of a later position is at most the limit, it is less than the least loss so far, or equal to it and `kept_bit` is 0
+pub loss_limit-below : (loss least : ℤ) (kept_bit : ℕ) → kept_bit ≤ 1 → loss ≤ℤ (least -ℤ pos kept_bit) →
     (loss <ℤ least) ⊎ ((loss ≡ least) × (kept_bit ≡ 0))
-below_limit loss least zero one h = by_lt_z loss least inl (λ not_less. inr (omega (arith, ints), refl))
-below_limit loss least (suc kept_bit) one h = inl (omega (arith, ints))
+loss_limit-below loss least zero one h = by_lt_z loss least inl (λ not_less. inr (omega (arith, ints), refl))
+loss_limit-below loss least (suc kept_bit) one h = inl (omega (arith, ints))
 
-pub not_below_limit : (loss least : ℤ) (kept_bit : ℕ) → kept_bit ≤ 1 → (least -ℤ pos kept_bit) <ℤ loss →
+pub loss_limit-not_below : (loss least : ℤ) (kept_bit : ℕ) → kept_bit ≤ 1 → (least -ℤ pos kept_bit) <ℤ loss →
     (least <ℤ loss) ⊎ ((loss ≡ least) × (kept_bit ≢ 0))
-not_below_limit loss least zero one h = inl (omega (arith, ints))
-not_below_limit loss least (suc kept_bit) one h = by_lt_z least loss inl (λ not_less. inr (omega (arith, ints), (λ e. omega arith)))
+loss_limit-not_below loss least zero one h = inl (omega (arith, ints))
+loss_limit-not_below loss least (suc kept_bit) one h = by_lt_z least loss inl (λ not_less. inr (omega (arith, ints), (λ e. omega arith)))
 
 -- ---- one step of the traceback: one more position is read out
 
@@ -243,44 +243,45 @@ module _ (rows : List ℕ) (losses : List (List ℤ)) (u : List ℕ) (k : ℕ) (
   bit_is : kept_bit ≡ get_or chosen k 0
   bit_is = ap (λ s. get_or rows k 0 / 2 ^ s % 2) reading.state ∙ sym (chosen_bit _ 0 k (omega arith))
 
-  pub best_taken : (new : PossibleDeviation) → lost ≤ℤ old.best.loss_limit → new.place ≡ k → new.state ≡ old.state →
+  pub least_loss-new : (new : PossibleDeviation) → lost ≤ℤ old.best.loss_limit → new.place ≡ k → new.state ≡ old.state →
       new.loss ≡ lost → new.loss_limit ≡ lost -ℤ pos kept_bit → IsLeastLossDeviation chosen losses (k + 1) new
-  best_taken new less place state loss loss_limit =
+  least_loss-new new less place state loss loss_limit =
       let best = reading.best in
       let is = lost_is in
       let inside = inside_chosen in
-      let small = bit_small rows 0 old.best.place in
-      let better = below_limit _ _ _ small (omega (arith, ints)) in
+      let small = traceback-small rows 0 old.best.place in
+      let better = loss_limit-below _ _ _ small (omega (arith, ints)) in
       record {
         at_most_k = omega arith;
         in_range = omega arith;
         state = rw place (state ∙ reading.state);
-        least = rw (place, loss, is) (least_taken chosen losses k old.best.place old.best.loss best.at_most_k best.least better);
+        least = rw (place, loss, is) (IsLeastLossPosition-new chosen losses k old.best.place old.best.loss best.at_most_k best.least
+            better);
         loss_limit = rw (place, loss, ← bit_is) loss_limit;
       }
 
-  pub best_kept : old.best.loss_limit <ℤ lost → IsLeastLossDeviation chosen losses (k + 1) old.best
-  best_kept not_less =
+  pub least_loss-old : old.best.loss_limit <ℤ lost → IsLeastLossDeviation chosen losses (k + 1) old.best
+  least_loss-old not_less =
       let best = reading.best in
       let is = lost_is in
       let known = best.loss_limit in
-      let small = bit_small rows 0 old.best.place in
-      let worse = not_below_limit _ _ _ small (omega (arith, ints)) in
+      let small = traceback-small rows 0 old.best.place in
+      let worse = loss_limit-not_below _ _ _ small (omega (arith, ints)) in
       record {
         at_most_k = let f = best.at_most_k in omega arith;
         in_range = best.in_range;
         state = best.state;
-        least = least_kept chosen losses k old.best.place old.best.loss small best.least worse;
+        least = IsLeastLossPosition-old chosen losses k old.best.place old.best.loss small best.least worse;
         loss_limit = best.loss_limit;
       }
 
-  pub read_more : (new : PartialTraceback) (written : ℕ) → k < length u → written ≡ kept_bit →
+  pub partial_traceback-more : (new : PartialTraceback) (written : ℕ) → k < length u → written ≡ kept_bit →
       new.state ≡ next_trellis_state old.state written →
       IsLeastLossDeviation chosen losses (k + 1) new.best → IsPartialTraceback rows losses (slice_set u k written) (k + 1) new
-  read_more new written within is state best = record {
+  partial_traceback-more new written within is state best = record {
     state_in_range = omega arith;
     state = state ∙ ap₂ next_trellis_state reading.state (is ∙ bit_is)
-        ∙ sym (reached_more _ k 0 (let i = inside_chosen in omega arith));
+        ∙ sym (state_after-more _ k 0 (let i = inside_chosen in omega arith));
     bits_traced = take_more_set u k written within
         ∙ ap₂ (λ front kept_bit. front ++ kept_bit ∷ []) reading.bits_traced (is ∙ bit_is)
         ∙ sym (take_more chosen k 0 (let i = inside_chosen in omega arith));

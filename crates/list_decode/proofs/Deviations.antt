@@ -8,7 +8,7 @@ use Rattle.{
   trellis_decode.{
     specs.Trellis.{next_trellis_state, metric_from_state, HasTailBits, IsNotLexicographicallyAfter, traceback, AreDecisions, LessMetric},
     specs.Trellis.EqualMetricButLater,
-    proofs.Lemmas.{HasTailBits-bits, HasTailBits-from_tail, IsLexicographicallyBefore-not_after, metric_from_state-start, length-traceback},
+    proofs.Lemmas.{HasTailBits-bits, HasTailBits-from_tail, lex_before-not_after, metric_from_state-start, length-traceback},
     proofs.Lemmas.{IsEncoderInput-ends, IsMostLikely-best},
   },
   list_decode.{
@@ -18,15 +18,15 @@ use Rattle.{
       Ranking.{IsCandidate, IsSecondMostLikely},
     },
     proofs.{
-      DeviatingWords.{metric_from_state-more, length-follows, kept_best, IsNoBetterPath-more},
-      Rankings.{deviates, agree-cons, agree-tail, fork_before, fork_behind},
+      DeviatingWords.{metric_from_state-more, length-follows, survivor-best, IsNoBetterPath-more},
+      Rankings.{deviates, DeviatesAt-cons, DeviatesAt-tail, lex_before-fork, lex_behind-fork},
     },
   },
 }
 
 -- ---- the word that deviates from another
 
--- one step further, the rest of the word follows the survivors
+-- one step next, the rest of the word follows the survivors
 follows_next : (from x : ℕ) (u : List ℕ) (row : ℕ) (rows : List ℕ) (state : ℕ)
     → FollowsSurvivors from (x ∷ u) (row ∷ rows) state →
     FollowsSurvivors (from - 1) u rows (next_trellis_state state x)
@@ -49,7 +49,7 @@ pub is_deviation : (from : ℕ) (u rows : List ℕ) (losses : List (List ℤ)) (
     IsDeviation u rows losses soft state place
 is_deviation zero (x ∷ u) (row ∷ rows) (lost ∷ losses) soft state zero kept lt ends follows le within =
     let bit = row / 2 ^ state % 2 in
-    let best = kept_best rows losses (drop 2 soft) kept.2 (omega arith) (next_trellis_state state (1 - bit)) (omega arith) in
+    let best = survivor-best rows losses (drop 2 soft) kept.2 (omega arith) (next_trellis_state state (1 - bit)) (omega arith) in
     let loss = kept.1.each_loss state lt (omega arith) in
     rw follows (record {
       has_metric = omega (arith, ints);
@@ -67,22 +67,22 @@ is_deviation from (x ∷ u) (row ∷ rows) (lost ∷ losses) soft state (suc pla
       has_metric = omega (arith, ints);
       tail_bits = (ends.0, (λ short. absurd (let c = rest.count in omega arith)), rest.tail_bits);
       count = ap suc rest.count;
-      deviates = agree-cons x _ _ place rest.deviates;
+      deviates = DeviatesAt-cons x _ _ place rest.deviates;
     }
 is_deviation from u rows losses soft state place kept lt ends follows le within =
     absurd (let n = length-follows from u rows state follows in omega arith)
 
 -- a word that deviates from u where u follows the survivors loses at least the loss stored there
-pub record FallsShort (u rows : List ℕ) (losses : List (List ℤ)) (soft : List ℤ) (state place : ℕ) (w : List ℕ) : Type 0 where
+pub record LosesAtLeast (u rows : List ℕ) (losses : List (List ℤ)) (soft : List ℤ) (state place : ℕ) (w : List ℕ) : Type 0 where
   pub in_range : place + 4 < length rows
   pub short : (metric_from_state state w soft <ℤ (metric_from_state state u soft -ℤ deviation_loss state u losses place)) ⊎
       ((metric_from_state state w soft ≡ (metric_from_state state u soft -ℤ deviation_loss state u losses place)) ×
       IsNotLexicographicallyAfter (word_deviating_at u rows state place) w)
 
-falls_short : (from : ℕ) (u rows : List ℕ) (losses : List (List ℤ)) (soft : List ℤ) (state place : ℕ) (w : List ℕ) →
+loses_at_least : (from : ℕ) (u rows : List ℕ) (losses : List (List ℤ)) (soft : List ℤ) (state place : ℕ) (w : List ℕ) →
     AreDecisions rows losses soft → state < 16 → HasTailBits u → HasTailBits w → length w ≡ length rows →
-    FollowsSurvivors from u rows state → from ≤ place → DeviatesAt u w place → FallsShort u rows losses soft state place w
-falls_short zero (x ∷ u) (row ∷ rows) (lost ∷ losses) soft state zero (y ∷ w) kept lt ends wends same follows le at =
+    FollowsSurvivors from u rows state → from ≤ place → DeviatesAt u w place → LosesAtLeast u rows losses soft state place w
+loses_at_least zero (x ∷ u) (row ∷ rows) (lost ∷ losses) soft state zero (y ∷ w) kept lt ends wends same follows le at =
     let bit = row / 2 ^ state % 2 in
     let is : x ≡ bit = cc in
     let n = length-follows zero (x ∷ u) (row ∷ rows) state follows in
@@ -93,7 +93,7 @@ falls_short zero (x ∷ u) (row ∷ rows) (lost ∷ losses) soft state zero (y �
       | inr enough ↦ enough
     ] in
     let flipped : y ≡ 1 - bit = omega arith in
-    let best = kept_best rows losses (drop 2 soft) kept.2 (omega arith) (next_trellis_state state (1 - bit)) (omega arith) in
+    let best = survivor-best rows losses (drop 2 soft) kept.2 (omega arith) (next_trellis_state state (1 - bit)) (omega arith) in
     let loss = kept.1.each_loss state lt four in
     let worse = IsNoBetterPath-more state (1 - bit) w _ soft kept.0
     (best.beats_others w wends.2 (let m = length-traceback rows (next_trellis_state state (1 - bit)) in omega arith)) in
@@ -104,14 +104,14 @@ falls_short zero (x ∷ u) (row ∷ rows) (lost ∷ losses) soft state zero (y �
         | EqualMetricButLater h after ↦ inr (omega (arith, ints), after)
       ];
     })
-falls_short from (x ∷ u) (row ∷ rows) (lost ∷ losses) soft state (suc place) (y ∷ w) kept lt ends wends same follows le at =
+loses_at_least from (x ∷ u) (row ∷ rows) (lost ∷ losses) soft state (suc place) (y ∷ w) kept lt ends wends same follows le at =
     rw (← at.equal_before 0 (omega arith))
-    (later (falls_short (from - 1) u rows losses (drop 2 soft) (next_trellis_state state x) place w kept.2 (omega arith) ends.2 wends.2
+    (later (loses_at_least (from - 1) u rows losses (drop 2 soft) (next_trellis_state state x) place w kept.2 (omega arith) ends.2 wends.2
     (omega arith)
-    (follows_next from x u row rows state follows) (omega arith) (agree-tail x y u w place at)))
+    (follows_next from x u row rows state follows) (omega arith) (DeviatesAt-tail x y u w place at)))
   where
-    later : FallsShort u rows losses (drop 2 soft) (next_trellis_state state x) place w →
-        FallsShort (x ∷ u) (row ∷ rows) (lost ∷ losses) soft state (suc place) (x ∷ w)
+    later : LosesAtLeast u rows losses (drop 2 soft) (next_trellis_state state x) place w →
+        LosesAtLeast (x ∷ u) (row ∷ rows) (lost ∷ losses) soft state (suc place) (x ∷ w)
     later rest =
         let gu = metric_from_state-more state x u soft kept.0 in
         let gw = metric_from_state-more state x w soft kept.0 in
@@ -122,17 +122,17 @@ falls_short from (x ∷ u) (row ∷ rows) (lost ∷ losses) soft state (suc plac
             | inr tie ↦ inr ((let e = tie.0 in omega (arith, ints)), inr (refl, tie.1))
           ];
         }
-falls_short from u rows losses soft state place w kept lt ends wends same follows le at =
+loses_at_least from u rows losses soft state place w kept lt ends wends same follows le at =
     absurd (let n = length-follows from u rows state follows in let i = at.in_range in omega arith)
 
 -- a word follows the survivors after the position of its deviation
-pub follows_behind : (u rows : List ℕ) (state place : ℕ) → length u ≡ length rows → place < length rows →
+pub follows-deviation : (u rows : List ℕ) (state place : ℕ) → length u ≡ length rows → place < length rows →
     FollowsSurvivors (place + 1) (word_deviating_at u rows state place) rows state
-follows_behind (x ∷ u) (row ∷ rows) state zero same within = refl
-follows_behind (x ∷ u) (row ∷ rows) state (suc place) same within =
+follows-deviation (x ∷ u) (row ∷ rows) state zero same within = refl
+follows-deviation (x ∷ u) (row ∷ rows) state (suc place) same within =
     let more : suc place + 1 ≡ suc (place + 1) = omega arith in
-    rw more (follows_behind u _ _ _ (omega arith) (omega arith))
-follows_behind u rows state place same within = absurd (omega arith)
+    rw more (follows-deviation u _ _ _ (omega arith) (omega arith))
+follows-deviation u rows state place same within = absurd (omega arith)
 
 -- the deviating word consists of the word up to the position, the other bit, and then the survivor from the next state
 pub deviation_written : (u rows : List ℕ) (state place : ℕ) → place < length u → length rows ≡ length u →
@@ -147,7 +147,7 @@ deviation_written u rows state place within same = absurd (omega arith)
 -- ---- the most likely word of a class
 
 -- a class whose word is a candidate that follows the survivors from a position on, before which no position is free
-pub record IsFollowed (soft : List ℤ) (rows : List ℕ) (losses : List (List ℤ)) (c : DeviationClass) (from : ℕ) : Type 0 where
+pub record FollowsFrom (soft : List ℤ) (rows : List ℕ) (losses : List (List ℤ)) (c : DeviationClass) (from : ℕ) : Type 0 where
   pub decisions : AreDecisions rows losses soft
   pub pairs : length soft ≡ 2 * length rows
   pub candidate : IsCandidate soft c.word
@@ -155,7 +155,7 @@ pub record IsFollowed (soft : List ℤ) (rows : List ℕ) (losses : List (List �
   pub later : (k : ℕ) → c.can_deviate k ≡ true → from ≤ k
 
 module _ (soft : List ℤ) (rows : List ℕ) (losses : List (List ℤ)) (c : DeviationClass) (from : ℕ)
-    (followed : IsFollowed soft rows losses c from) where
+    (followed : FollowsFrom soft rows losses c from) where
   list_ends : HasTailBits c.word
   list_ends = HasTailBits-from_tail _ followed.candidate.information.bits followed.candidate.information.tail
 
@@ -163,9 +163,9 @@ module _ (soft : List ℤ) (rows : List ℕ) (losses : List (List ℤ)) (c : Dev
   same_length = length-follows from _ _ 0 followed.follows
 
   -- a word of the class deviates before the last four positions and loses at least the loss stored there
-  pub in_class_short : (w : List ℕ) → IsCandidate soft w → (at : IsInClass c w) → FallsShort c.word rows losses soft 0 at.place w
-  in_class_short w candidate at =
-      falls_short from _ _ _ _ 0 _ w followed.decisions (omega arith) list_ends
+  pub LosesAtLeast-in_class : (w : List ℕ) → IsCandidate soft w → (at : IsInClass c w) → LosesAtLeast c.word rows losses soft 0 at.place w
+  LosesAtLeast-in_class w candidate at =
+      loses_at_least from _ _ _ _ 0 _ w followed.decisions (omega arith) list_ends
       (HasTailBits-from_tail w candidate.information.bits candidate.information.tail) (omega arith) followed.follows
       (followed.later _ at.allowed) at.deviates
 
@@ -195,17 +195,17 @@ module _ (soft : List ℤ) (rows : List ℕ) (losses : List (List ℤ)) (c : Dev
     before_at w k bits long_w within at free tie other =
         let n = here.count in
         let m = same_length in elim (cases_lt k place) [
-          | inl early ↦ fork_behind c.word w v k place at here.deviates early bits long_w (omega arith)
+          | inl early ↦ lex_behind-fork c.word w v k place at here.deviates early bits long_w (omega arith)
               (least.tie_before k early free tie)
           | inr not_early ↦ let late : place < k = omega arith in
-              fork_before c.word v w place k here.deviates at late (HasTailBits-bits v here.tail_bits) (omega arith) long_w
+              lex_before-fork c.word v w place k here.deviates at late (HasTailBits-bits v here.tail_bits) (omega arith) long_w
               (least.tie_after k late (omega arith) free tie)
         ]
 
     -- every other candidate of the class ranks after the best deviating word v
     pub deviation_best : (w : List ℕ) → IsCandidate soft w → IsInClass c w → w ≢ v → RanksAfter soft w v
     deviation_best w candidate at ne =
-        let short = in_class_short w candidate at in
+        let short = LosesAtLeast-in_class w candidate at in
         let gu = metric_from_state-start soft c.word (HasTailBits-bits c.word list_ends) in
         let gw = metric_from_state-start soft w candidate.information.bits in
         let value = deviation_value in
@@ -220,7 +220,7 @@ module _ (soft : List ℤ) (rows : List ℕ) (losses : List (List ℤ)) (c : Dev
               inr (
                 omega (arith, ints),
                 elim (same_number at.place place) [
-                  | inl there ↦ IsLexicographicallyBefore-not_after v w candidate.information.bits count
+                  | inl there ↦ lex_before-not_after v w candidate.information.bits count
                       (rw there at tie.1) ne
                   | inr elsewhere ↦ before_at w at.place candidate.information.bits (let n = same_length in let m =
                       here.count in omega arith) short.in_range at.deviates at.allowed equal elsewhere
@@ -244,8 +244,8 @@ first_two soft rows losses u v place state loss kept pairs five is least within 
     let n = length-follows 0 u rows 0 is in
     let best : IsMostLikely soft u = rw is (IsMostLikely-best soft (traceback rows 0) _ (omega (arith, length-traceback)) (omega
     (arith, length-traceback))
-    (kept_best rows losses soft kept (omega arith) 0 (omega arith))) in
-    let followed : IsFollowed soft rows losses (deviations_anywhere u) 0 = record {
+    (survivor-best rows losses soft kept (omega arith) 0 (omega arith))) in
+    let followed : FollowsFrom soft rows losses (deviations_anywhere u) 0 = record {
       decisions = kept;
       pairs = pairs;
       candidate = record { information = best.information; count = best.count };

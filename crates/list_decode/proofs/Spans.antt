@@ -2,9 +2,18 @@
 use Rattle.{
   list_decode.{
     proofs.{
-      DeviatingWords.{below_limit, bit_small, chosen_bit, chosen_from, not_below_limit, reached_more, reached_small, follows_past},
-      DeviatingWords.{follows_later, chosen_after, zero_at},
-      Deviations.{IsFollowed, deviation_best, deviation_value, deviation_written, follows_behind},
+      DeviatingWords.{
+        loss_limit-below,
+        traceback-small,
+        chosen_bit,
+        traceback-drop,
+        loss_limit-not_below,
+        state_after-more,
+        state_after-below,
+        follows_past,
+      },
+      DeviatingWords.{follows_later, follows-drop, zero_at},
+      Deviations.{FollowsFrom, deviation_best, deviation_value, deviation_written, follows-deviation},
     },
     specs.{
       Branches.{IsDeviation, IsMostLikelyDeviation, IsSpanOfWord, deviations_in_span, word_of_deviation},
@@ -51,36 +60,36 @@ module _ (pass : ViterbiPass) (u : List ℕ) (x : Deviation) (complete : IsCompl
   abbrev place : ℕ
   place = x.departure.place
 
-  as_long : length (decision_rows pass) ≡ length u
-  as_long = omega arith
+  equal_lengths : length (decision_rows pass) ≡ length u
+  equal_lengths = omega arith
 
   -- after the position of the deviation, the word follows the survivors
   pub chosen_behind : drop (place + 1) u ≡ traceback (drop (place + 1) (decision_rows pass))
       (next_trellis_state x.departure.state (get_or u place 0))
   chosen_behind = follows_past u _ place _ is.follows (omega arith) is.state
 
-  pub word_written : take place u ++ (1 - get_or u place 0) ∷
+  pub word_of_deviation-written : take place u ++ (1 - get_or u place 0) ∷
       traceback (drop (place + 1) (decision_rows pass)) (next_trellis_state x.departure.state (1 - get_or u place 0)) ≡
       word_of_deviation pass u x
-  word_written = rw is.state (deviation_written u _ 0 _ (omega arith) as_long)
+  word_of_deviation-written = rw is.state (deviation_written u _ 0 _ (omega arith) equal_lengths)
 
 -- ---- path metrics fit in an `i32`
 
-agreement : (p : ℤ) (x : ℕ) → IsSoftBit p → x ≤ 1 → IsSoftBit (bit_metric p x)
-agreement p zero soft bit = rw bit_metric-zero soft
-agreement p (suc zero) soft bit = rw (bit_metric-one p) (omega (arith, ints), omega (arith, ints))
-agreement p x soft bit = absurd (omega arith)
+IsSoftBit-bit_metric : (p : ℤ) (x : ℕ) → IsSoftBit p → x ≤ 1 → IsSoftBit (bit_metric p x)
+IsSoftBit-bit_metric p zero soft bit = rw bit_metric-zero soft
+IsSoftBit-bit_metric p (suc zero) soft bit = rw (bit_metric-one p) (omega (arith, ints), omega (arith, ints))
+IsSoftBit-bit_metric p x soft bit = absurd (omega arith)
 
-likelihood_within : (s : List ℤ) (c : List ℕ) → AllSoftBits s → AllBits c →
+likelihood-bounds : (s : List ℤ) (c : List ℕ) → AllSoftBits s → AllBits c →
     ((pos 0 -ℤ pos (127 * length s)) ≤ℤ likelihood s c) × (likelihood s c ≤ℤ pos (127 * length s))
-likelihood_within (p ∷ s) (x ∷ c) soft bits =
-    let here = agreement p x (All-head IsSoftBit p s soft) (All-head (λ b. b ≤ 1) x c bits) in
-    let rest = likelihood_within s c (All-tail IsSoftBit p s soft) (All-tail (λ b. b ≤ 1) x c bits) in
+likelihood-bounds (p ∷ s) (x ∷ c) soft bits =
+    let here = IsSoftBit-bit_metric p x (All-head IsSoftBit p s soft) (All-head (λ b. b ≤ 1) x c bits) in
+    let rest = likelihood-bounds s c (All-tail IsSoftBit p s soft) (All-tail (λ b. b ≤ 1) x c bits) in
     (omega (arith, ints), omega (arith, ints))
-likelihood_within s c soft bits = (omega (arith, ints), omega (arith, ints))
+likelihood-bounds s c soft bits = (omega (arith, ints), omega (arith, ints))
 
-likelihood_fits : (s : List ℤ) (c : List ℕ) → AllSoftBits s → AllBits c → length s ≤ 456 → FitsSigned w32 (likelihood s c)
-likelihood_fits s c soft bits few = let within = likelihood_within s c soft bits in fits_wide _ _ few within.0 within.1
+likelihood-fits : (s : List ℤ) (c : List ℕ) → AllSoftBits s → AllBits c → length s ≤ 456 → FitsSigned w32 (likelihood s c)
+likelihood-fits s c soft bits few = let within = likelihood-bounds s c soft bits in fits_wide _ _ few within.0 within.1
   where
     fits_wide : (x : ℤ) (n : ℕ) → n ≤ 456 → (pos 0 -ℤ pos (127 * n)) ≤ℤ x → x ≤ℤ pos (127 * n) → FitsSigned w32 x
     fits_wide (pos m) n few low high = record { sfits = omega (arith, ints) }
@@ -91,7 +100,7 @@ likelihood_fits s c soft bits few = let within = likelihood_within s c soft bits
 module _ (pass : ViterbiPass) (u : List ℕ) (span : WordSpan) (is : IsCompletePass pass)
     (candidate : IsCandidate (soft_bits_of_pass pass) u)
     (is_span : IsSpanOfWord pass u span) where
-  followed : IsFollowed (soft_bits_of_pass pass) (decision_rows pass) (losses_of_pass pass) (deviations_in_span u span) span.from
+  followed : FollowsFrom (soft_bits_of_pass pass) (decision_rows pass) (losses_of_pass pass) (deviations_in_span u span) span.from
   followed = record {
     decisions = is.decisions;
     pairs = omega arith;
@@ -130,9 +139,9 @@ module _ (pass : ViterbiPass) (u : List ℕ) (span : WordSpan) (is : IsCompleteP
         let b = best.0.loss in
         omega (arith, ints)
 
-    pub value_fits : FitsSigned w32 (span.likelihood -ℤ departure.loss)
-    value_fits = rw (← value_is)
-        (likelihood_fits (soft_bits_of_pass pass) (encoding v) is.soft
+    pub deviation-fits : FitsSigned w32 (span.likelihood -ℤ departure.loss)
+    deviation-fits = rw (← value_is)
+        (likelihood-fits (soft_bits_of_pass pass) (encoding v) is.soft
         (AllBits-coded v)
         (let p = is.soft_bit_count in let m = is.at_most in omega arith))
 
@@ -149,7 +158,7 @@ module _ (pass : ViterbiPass) (u : List ℕ) (span : WordSpan) (is : IsCompleteP
             in_range = omega arith;
             follows = follows_later span.from x.departure.place u (decision_rows pass) 0 is_span.follows (omega arith) (omega arith);
             value = rw place (likely ∙ sym value_is);
-            state_in_range = rw (state, best.0.state) (reached_small 0 (take departure.place u) (omega arith));
+            state_in_range = rw (state, best.0.state) (state_after-below 0 (take departure.place u) (omega arith));
             state = rw place (state ∙ best.0.state);
             bit = rw place bit;
           },
@@ -175,30 +184,30 @@ module _ (pass : ViterbiPass) (u : List ℕ) (x : Deviation) (is : IsCompletePas
   u_long = omega arith
 
   -- the rest of the span of u after the position of the deviation is a span of u
-  pub span_after : (old span : WordSpan) → IsSpanOfWord pass u old → x.departure.place < old.to →
+  pub IsSpanOfWord-after : (old span : WordSpan) → IsSpanOfWord pass u old → x.departure.place < old.to →
       span.from ≡ x.departure.place + 1 → span.to ≡ old.to →
       span.likelihood ≡ old.likelihood → span.state ≡ next_trellis_state x.departure.state (get_or u x.departure.place 0) →
       IsSpanOfWord pass u span
-  span_after old span old_is within from to likely state =
+  IsSpanOfWord-after old span old_is within from to likely state =
       let end = old_is.before_tail in record {
         follows = rw from (follows_later _ _ u _ 0 is_deviation.follows (omega arith) (omega arith));
         value = likely ∙ old_is.value;
         order = omega arith;
         before_tail = omega arith;
         state_in_range = omega arith;
-        state = rw (from, reached_more u x.departure.place 0 (omega arith), ← is_deviation.state) state;
+        state = rw (from, state_after-more u x.departure.place 0 (omega arith), ← is_deviation.state) state;
       }
 
   -- the positions of the deviating word after the deviation are a span of that word
-  pub span_behind : (v : List ℕ) (span : WordSpan) → v ≡ word_of_deviation pass u x → IsCandidate (soft_bits_of_pass pass) v →
+  pub IsSpanOfWord-deviation : (v : List ℕ) (span : WordSpan) → v ≡ word_of_deviation pass u x → IsCandidate (soft_bits_of_pass pass) v →
       span.from ≡ x.departure.place + 1 →
       span.to + 4 ≡ pass.bits → span.likelihood ≡ x.likelihood →
       span.state ≡ next_trellis_state x.departure.state (get_or v x.departure.place 0) →
       IsSpanOfWord pass v span
-  span_behind v span written v_is from to likely state =
+  IsSpanOfWord-deviation v span written v_is from to likely state =
       let n = u_long in
       record {
-        follows = rw from (rw written (follows_behind u (decision_rows pass) 0 x.departure.place n (omega arith)));
+        follows = rw from (rw written (follows-deviation u (decision_rows pass) 0 x.departure.place n (omega arith)));
         value = rw written (likely ∙ is_deviation.value);
         order = omega arith;
         before_tail = omega arith;
@@ -207,7 +216,7 @@ module _ (pass : ViterbiPass) (u : List ℕ) (x : Deviation) (is : IsCompletePas
             ∙ ap (λ s. next_trellis_state s (get_or v x.departure.place 0))
             (is_deviation.state ∙ ap (state_after_bits 0)
             (sym (ap (take x.departure.place) written ∙ apply_deviation u (decision_rows pass) 0 x.departure.place (sym n))))
-            ∙ rw from (sym (reached_more v x.departure.place 0 (omega arith)));
+            ∙ rw from (sym (state_after-more v x.departure.place 0 (omega arith)));
       }
 
 -- The free position with the least loss: of two ranges, one behind the other, and when one more position is examined.
@@ -244,9 +253,9 @@ module _ (u : List ℕ) (losses : List (List ℤ)) (from k n place other : ℕ) 
   low : (j : ℕ) → k ≤ j → j < n → loss other ≤ℤ loss j
   low j le lt = later.least j lt (is_between k n j le lt)
 
-  pub early_kept : (loss place <ℤ loss other) ⊎ ((loss other ≡ loss place) × (get_or u place 0 ≢ 0)) →
+  pub least_loss-early : (loss place <ℤ loss other) ⊎ ((loss other ≡ loss place) × (get_or u place 0 ≢ 0)) →
       IsLeastLossFreePosition u losses (is_in_range from n) n place
-  early_kept more =
+  least_loss-early more =
       let s = starts in
       let f = follows in
       let i = early.in_range in
@@ -267,9 +276,9 @@ module _ (u : List ℕ) (losses : List (List ℤ)) (from k n place other : ℕ) 
         ]);
       }
 
-  pub later_taken : (loss other <ℤ loss place) ⊎ ((loss other ≡ loss place) × (get_or u place 0 ≡ 0)) →
+  pub least_loss-later : (loss other <ℤ loss place) ⊎ ((loss other ≡ loss place) × (get_or u place 0 ≡ 0)) →
       IsLeastLossFreePosition u losses (is_in_range from n) n other
-  later_taken less =
+  least_loss-later less =
       let s = starts in
       let f = follows in
       let i = early.in_range in
@@ -306,10 +315,10 @@ alone u losses k = record {
   tie_after = (λ j late lt is_free equal. absurd (omega arith));
 }
 
-pub spot_first : (u : List ℕ) (losses : List (List ℤ)) (k : ℕ) (new : LeastLossSoFar) → new.place ≡ k →
+pub least_so_far-first : (u : List ℕ) (losses : List (List ℤ)) (k : ℕ) (new : LeastLossSoFar) → new.place ≡ k →
     new.state ≡ state_after_bits 0 (take k u) → new.loss_limit ≡ deviation_loss 0 u losses k -ℤ pos (get_or u k 0) →
     IsLeastLossSoFar u losses (is_in_range k (k + 1)) (k + 1) new
-spot_first u losses k new at state loss_limit = record {
+least_so_far-first u losses k new at state loss_limit = record {
   state = rw at state;
   loss_limit = rw at loss_limit;
   least = rw at (alone u losses k);
@@ -317,27 +326,27 @@ spot_first u losses k new at state loss_limit = record {
 
 -- the best position of a range after one more position has been examined
 module _ (u : List ℕ) (losses : List (List ℤ)) (from k : ℕ) where
-  pub spot_taken : (best new : LeastLossSoFar) → AllBits u → IsLeastLossSoFar u losses (is_in_range from k) k best →
+  pub least_so_far-new : (best new : LeastLossSoFar) → AllBits u → IsLeastLossSoFar u losses (is_in_range from k) k best →
       new.place ≡ k → new.state ≡ state_after_bits 0 (take k u) →
       new.loss_limit ≡ deviation_loss 0 u losses k -ℤ pos (get_or u k 0) →
       deviation_loss 0 u losses k ≤ℤ best.loss_limit →
       IsLeastLossSoFar u losses (is_in_range from (k + 1)) (k + 1) new
-  spot_taken best new bits old at state loss_limit less =
+  least_so_far-new best new bits old at state loss_limit less =
       let bit = bit_at-most_1 u best.place bits in record {
         state = rw at state;
         loss_limit = rw at loss_limit;
-        least = rw at (later_taken u losses from k (k + 1) best.place k bit old.least (alone u losses k)
-            (below_limit _ _ (get_or u best.place 0) bit (rw (← old.loss_limit) less)));
+        least = rw at (least_loss-later u losses from k (k + 1) best.place k bit old.least (alone u losses k)
+            (loss_limit-below _ _ (get_or u best.place 0) bit (rw (← old.loss_limit) less)));
       }
 
-  pub spot_kept : (best : LeastLossSoFar) → AllBits u → IsLeastLossSoFar u losses (is_in_range from k) k best →
+  pub least_so_far-old : (best : LeastLossSoFar) → AllBits u → IsLeastLossSoFar u losses (is_in_range from k) k best →
       best.loss_limit <ℤ deviation_loss 0 u losses k → IsLeastLossSoFar u losses (is_in_range from (k + 1)) (k + 1) best
-  spot_kept best bits old most =
+  least_so_far-old best bits old most =
       let bit = bit_at-most_1 u best.place bits in record {
         state = old.state;
         loss_limit = old.loss_limit;
-        least = early_kept u losses from k (k + 1) best.place k bit old.least (alone u losses k)
-            (not_below_limit _ _ (get_or u best.place 0) bit (rw (← old.loss_limit) most));
+        least = least_loss-early u losses from k (k + 1) best.place k bit old.least (alone u losses k)
+            (loss_limit-not_below _ _ (get_or u best.place 0) bit (rw (← old.loss_limit) most));
       }
 
 -- Words that agree from a position on have the same best deviation from there on.
@@ -400,19 +409,19 @@ module _ (u w : List ℕ) (losses : List (List ℤ)) (k n : ℕ) (rest : drop k 
 
 -- ---- a deviation from the survivor of state 0
 
-pub survivor_departure : (rows : List ℕ) (losses : List (List ℤ)) (k state bit : ℕ) (lost : ℤ) (x : PossibleDeviation) →
+pub IsPossibleDeviation-survivor : (rows : List ℕ) (losses : List (List ℤ)) (k state bit : ℕ) (lost : ℤ) (x : PossibleDeviation) →
     k < length rows → state ≡ state_after_bits 0 (take k (traceback rows 0)) → lost ≡ get_or (get_or losses k []) state (pos 0) →
     bit ≡ get_or rows k 0 / 2 ^ state % 2 → x.place ≡ k → x.state ≡ state → x.loss ≡ lost →
     x.loss_limit ≡ lost -ℤ pos bit → IsPossibleDeviation (traceback rows 0) losses x
-survivor_departure rows losses k state bit lost x within reached is_lost is_bit at s l m =
+IsPossibleDeviation-survivor rows losses k state bit lost x within reached is_lost is_bit at s l m =
     let u = traceback rows 0 in record {
-      bit = bit_small rows 0 x.place;
+      bit = traceback-small rows 0 x.place;
       state = rw at (s ∙ reached);
       loss = rw (at, ← reached) (l ∙ is_lost);
       loss_limit = rw (at, l, chosen_bit rows 0 k within, ← reached, ← is_bit) m;
     }
 
--- where a word that follows the survivors is in a state of the most likely word, the best later deviation from one is that from the other
+-- if a word that follows the survivors reaches a state of the most likely word, both words have the same best deviation from there on
 pub merged_tail : (pass : ViterbiPass) (u : List ℕ) (span : WordSpan) (m : ℕ) (x : PossibleDeviation) → IsCompletePass pass →
     IsCandidate (soft_bits_of_pass pass) u → IsSpanOfWord pass u span → pass.bits ≤ span.to + 4 → span.from ≤ m →
     m < span.to →
@@ -432,8 +441,8 @@ merged_tail pass u span m x is candidate is_span last from to state place possib
     let n : length rows - 4 ≡ span.to = omega arith in
     let states : state_after_bits 0 (take m u) ≡ state_after_bits 0 (take m w) = state ∙ is.tails.states m (omega arith) in
     let rest : drop m u ≡ drop m w =
-    chosen_after m u rows 0 (follows_later span.from m u rows 0 is_span.follows from (omega arith))
-    ∙ ap (traceback (drop m rows)) states ∙ sym (chosen_from rows 0 m (omega arith)) in
+    follows-drop m u rows 0 (follows_later span.from m u rows 0 is_span.follows from (omega arith))
+    ∙ ap (traceback (drop m rows)) states ∙ sym (traceback-drop rows 0 m (omega arith)) in
     let best : IsLeastLossFreePosition w losses (is_in_range m (length rows - 4)) (length rows - 4) x.place =
     rw place (is.tails.places m (omega arith)) in
     rw (← n) (moved u w losses m (length rows - 4) rest states (omega arith) (omega arith) x possible best)

@@ -22,7 +22,8 @@ deviations_in_span u span = record { word = u; can_deviate = is_in_range span.fr
 abbrev pub word_of_deviation : (pass : ViterbiPass) (word : List ℕ) (deviation : Deviation) → List ℕ
 word_of_deviation pass u x = word_deviating_at u (decision_rows pass) 0 x.departure.place
 
--- `span` is a span of the word `word`, and `word` follows the survivors from the start of the span
+-- `span` is a span of `word`: it holds the path metric of `word` and the trellis state before the span, and `word` follows the survivors
+-- from the start of the span on
 pub record IsSpanOfWord (pass : ViterbiPass) (word : List ℕ) (span : WordSpan) : Type 0 where
   pub follows : FollowsSurvivors span.from word (decision_rows pass) 0
   pub value : span.likelihood ≡ likelihood (soft_bits_of_pass pass) (encoding word)
@@ -31,7 +32,7 @@ pub record IsSpanOfWord (pass : ViterbiPass) (word : List ℕ) (span : WordSpan)
   pub state_in_range : span.state < 16
   pub state : span.state ≡ state_after_bits 0 (take span.from word)
 
--- `deviation` is a deviation from the word `word`, and `word` follows the survivors from its position
+-- `deviation` is a deviation from `word`, and `word` follows the survivors from the position of the deviation on
 pub record IsDeviation (pass : ViterbiPass) (word : List ℕ) (deviation : Deviation) : Type 0 where
   pub in_range : deviation.departure.place + 4 < length word
   pub follows : FollowsSurvivors deviation.departure.place word (decision_rows pass) 0
@@ -40,7 +41,8 @@ pub record IsDeviation (pass : ViterbiPass) (word : List ℕ) (deviation : Devia
   pub state : deviation.departure.state ≡ state_after_bits 0 (take deviation.departure.place word)
   pub bit : deviation.departure.bit ≡ slice_index word deviation.departure.place
 
--- the deviation produces the most likely word that deviates from a given word within a span; it is `None` if no candidate deviates there
+-- `best` is the deviation that produces the most likely word that deviates from `word` within `span`, or `None` if no candidate deviates
+-- there
 abbrev pub IsMostLikelyDeviation : (pass : ViterbiPass) (word : List ℕ) (span : WordSpan) (best : Option Deviation) → Type 0
 IsMostLikelyDeviation pass u span None = (w : List ℕ) → IsCandidate (soft_bits_of_pass pass) w →
     IsInClass (deviations_in_span u span) w → ⊥

@@ -10,7 +10,7 @@ use Rattle.list_decode.specs.declared.branch.Deviation.{Deviation}
 use Rattle.list_decode.specs.declared.choice.BranchChoice.{BranchChoice}
 use Rattle.list_decode.specs.declared.pass.ViterbiPass.{ViterbiPass}
 
--- the returned word of a deviation, with the deviation applied
+-- the returned word from which a deviation starts, with the deviation applied
 abbrev pub deviating_word : (pass : ViterbiPass) (returned : List (List ℕ)) (deviation : Deviation) → List ℕ
 deviating_word pass us x = word_of_deviation pass (slice_index_or us x.word_index []) x
 
@@ -19,13 +19,13 @@ pub record DeviatesFromReturnedWord (pass : ViterbiPass) (returned : List (List 
   pub in_range : x.word_index < length returned
   pub deviation : IsDeviation pass (slice_index_or returned x.word_index []) x
 
--- the second deviation, if there is one, produces the word of the first or a word that ranks after it
+-- the word that `best` produces, if there is one, equals the word that `deviation` produces or ranks after it
 abbrev pub RanksNotBefore : (pass : ViterbiPass) (returned : List (List ℕ)) (deviation : Deviation) (best : Option Deviation) → Type 0
 RanksNotBefore pass us x None = Unit {0}
 RanksNotBefore pass us x (Some y) = (deviating_word pass us y ≡ deviating_word pass us x) ⊎
     RanksAfter (soft_bits_of_pass pass) (deviating_word pass us y) (deviating_word pass us x)
 
--- the flag is true if and only if the first list comes before the second in lexicographic order
+-- `answer` is true if and only if `first` comes before `second` in lexicographic order
 abbrev pub DecidesLexicographicOrder : (first second : List ℕ) (answer : Bool) → Type 0
 DecidesLexicographicOrder u v true = IsLexicographicallyBefore u v
 DecidesLexicographicOrder u v false = (u ≡ v) ⊎ IsLexicographicallyBefore v u
@@ -34,12 +34,12 @@ DecidesLexicographicOrder u v false = (u ≡ v) ⊎ IsLexicographicallyBefore v 
 abbrev pub placeholder_branch : WordBranch
 placeholder_branch = record { span = record { likelihood = pos 0; word_index = 0; from = 0; to = 0; state = 0 }; best = None }
 
--- the list holds the path metric of the most likely word of each branch that has one
+-- `metrics` holds the path metric of the most likely word of each branch that has one
 abbrev pub HasMetrics : (branches : List WordBranch) (metrics : List ℤ) → Type 0
 HasMetrics branches metrics = (k : ℕ) → k < length branches →
     IfSome (slice_index_or branches k placeholder_branch).best (λ best. slice_index_or metrics k (pos 0) ≡ best.likelihood)
 
--- the choice is the branch whose most likely word ranks first; it is `None` if no branch has a word
+-- `choice` is the branch whose most likely word ranks first, or `None` if no branch has a word
 abbrev pub IsFirstRankedBranch : (pass : ViterbiPass) (returned : List (List ℕ)) (branches : List WordBranch)
     (choice : Option BranchChoice) → Type 0
 IsFirstRankedBranch pass us branches None = All (λ branch. branch.best ≡ None) branches

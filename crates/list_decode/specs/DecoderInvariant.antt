@@ -27,7 +27,7 @@ pub record HasBranches (pass : ViterbiPass) (lists : StoredWords) (branches : Li
   pub complete : IsCompletePass pass
   pub tree : IsDeviationTree pass lists
   pub values : HasMetrics branches metrics
-  pub each : All (IsBranchOfReturnedWord pass (stored_words pass lists)) (take (2 * lists.count - 1) branches)
+  pub all_branches : All (IsBranchOfReturnedWord pass (stored_words pass lists)) (take (2 * lists.count - 1) branches)
   pub partition : PartitionsUnreturnedWords (soft_bits_of_pass pass) (stored_words pass lists) (map (class_of_branch
       (stored_words pass lists)) (take (2 * lists.count - 1) branches))
 
@@ -37,5 +37,5 @@ pub record IsSoundRanking (decoder : Inside) : Type 0 where
   pub ranked : IsRanked (soft_bits_of_pass decoder.pass) (returned_words decoder)
   pub first_metric : 0 < decoder.lists.count → decoder.first_metric ≡ likelihood (soft_bits_of_pass decoder.pass) (encoding
       (take decoder.pass.bits decoder.lists.first_word))
-  pub metrics : HasMetrics decoder.branches decoder.metrics
-  pub later : 1 < decoder.lists.count → HasBranches decoder.pass decoder.lists decoder.branches decoder.metrics
+  pub best_metrics : HasMetrics decoder.branches decoder.best_metrics
+  pub later : 1 < decoder.lists.count → HasBranches decoder.pass decoder.lists decoder.branches decoder.best_metrics

@@ -5,12 +5,12 @@ use Rattle.std.specs.Prelude.{◌∷◌, slice_index, slice_index_or, take}
 use Rattle.std.proofs.Common.{zero, suc}
 use Rattle.trellis_decode.specs.Trellis.{next_trellis_state, traceback}
 
--- the trellis state that a list of bits reaches from a given state
+-- the trellis state that the encoder reaches from a given state when it reads a list of bits
 abbrev pub state_after_bits : (state : ℕ) (bits : List ℕ) → ℕ
 state_after_bits state [] = state
 state_after_bits state (x ∷ u) = state_after_bits (next_trellis_state state x) u
 
--- the loss of a deviation from a word at a given position: how much smaller the path metric of the deviating word is
+-- the loss of a deviation from `word` at `place`, read from the table `losses`: how much path metric the deviation costs
 abbrev pub deviation_loss : (state : ℕ) (word : List ℕ) (losses : List (List ℤ)) (place : ℕ) → ℤ
 deviation_loss state u losses place = slice_index_or (slice_index_or losses place []) (state_after_bits state (take place u)) (pos 0)
 
@@ -22,15 +22,15 @@ survivor_with_deviation (row ∷ rows) state zero =
 survivor_with_deviation (row ∷ rows) state (suc place) = (row / 2 ^ state % 2) ∷ survivor_with_deviation rows (next_trellis_state state
     (row / 2 ^ state % 2)) place
 
--- among positions before `limit`, a deviation from `word` at `place` has the least `loss`; on a tie, its word comes first in lexicographic
--- order
+-- `place` is the position before `limit` where deviating from `word` has the least loss, which is `loss`; among positions with this loss,
+-- it gives the first word in lexicographic order
 pub record IsLeastLossPosition (word : List ℕ) (losses : List (List ℤ)) (limit place : ℕ) (loss : ℤ) : Type 0 where
   pub value : loss ≡ deviation_loss 0 word losses place
   pub least : (k : ℕ) → k < limit → loss ≤ℤ deviation_loss 0 word losses k
   pub tie_before : (k : ℕ) → k < place → deviation_loss 0 word losses k ≡ loss → slice_index word k ≡ 0
   pub tie_after : (k : ℕ) → place < k → k < limit → deviation_loss 0 word losses k ≡ loss → slice_index word place ≡ 1
 
--- the word, starting in a given state, follows the survivors from position `from`
+-- the word, starting in a given state, follows the survivors from position `from` on
 abbrev pub FollowsSurvivors : (from : ℕ) (word rows : List ℕ) (state : ℕ) → Type 0
 FollowsSurvivors zero u rows state = u ≡ traceback rows state
 FollowsSurvivors (suc from) [] rows state = ⊥
@@ -45,12 +45,12 @@ word_deviating_at (x ∷ u) [] state place = []
 word_deviating_at (x ∷ u) (row ∷ rows) state zero = (1 - x) ∷ traceback rows (next_trellis_state state (1 - x))
 word_deviating_at (x ∷ u) (row ∷ rows) state (suc place) = x ∷ word_deviating_at u rows (next_trellis_state state x) place
 
--- whether a position lies in the range from a first index up to, but not including, an end index
+-- whether position `place` is at least `from` and less than `to`
 abbrev pub is_in_range : (from to place : ℕ) → Bool
 is_in_range from to k = nat_le from k && nat_lt k to
 
--- among free positions before `limit`, a deviation from `word` at `place` has the least loss; on a tie, its word comes first in
--- lexicographic order
+-- of all deviations from `word` at free positions before `limit`, the one at `place` loses least; of those that lose the same, it produces
+-- the first word in lexicographic order
 pub record IsLeastLossFreePosition (word : List ℕ) (losses : List (List ℤ)) (free : ℕ → Bool) (limit place : ℕ) : Type 0 where
   pub in_range : place < limit
   pub place_is_free : free place ≡ true

@@ -5,21 +5,21 @@ use Rattle.list_decode.specs.DeviatingWords.{state_after_bits, deviation_loss, I
 use Rattle.list_decode.specs.declared.branch.LeastLossSoFar.{LeastLossSoFar}
 use Rattle.list_decode.specs.declared.departure.PossibleDeviation.{PossibleDeviation}
 
--- `departure` describes a position of `word`: the trellis state before it and the loss of a deviation there
+-- `departure` describes a position of `word`: the trellis state before it, and what a deviation there loses
 pub record IsPossibleDeviation (word : List ℕ) (losses : List (List ℤ)) (departure : PossibleDeviation) : Type 0 where
   pub bit : slice_index word departure.place ≤ 1
   pub state : departure.state ≡ state_after_bits 0 (take departure.place word)
   pub loss : departure.loss ≡ deviation_loss 0 word losses departure.place
   pub loss_limit : departure.loss_limit ≡ departure.loss -ℤ pos (slice_index word departure.place)
 
--- the deviation is at the free position with the least loss before a given position; it is `None` if no position before it is free
+-- the deviation is at the free position before `limit` where a deviation loses least; it is `None` if no position before `limit` is free
 abbrev pub IsLeastLossDeviationOrNone : (word : List ℕ) (losses : List (List ℤ)) (free : (ℕ → Bool)) (limit : ℕ)
     (found : Option PossibleDeviation) → Type 0
 IsLeastLossDeviationOrNone u losses free n None = (k : ℕ) → k < n → free k ≡ true → ⊥
 IsLeastLossDeviationOrNone u losses free n (Some departure) = IsPossibleDeviation u losses departure ×
     IsLeastLossFreePosition u losses free n departure.place
 
--- `spot` describes the free position before `limit` with the least loss, and the trellis state before that position
+-- `spot` describes the free position before `limit` where a deviation loses least, and the trellis state before that position
 pub record IsLeastLossSoFar (word : List ℕ) (losses : List (List ℤ)) (free : ℕ → Bool) (limit : ℕ) (spot : LeastLossSoFar) :
     Type 0 where
   pub state : spot.state ≡ state_after_bits 0 (take spot.place word)

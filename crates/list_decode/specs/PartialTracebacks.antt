@@ -6,7 +6,7 @@ use Rattle.list_decode.specs.DeviatingWords.{state_after_bits, IsLeastLossPositi
 use Rattle.list_decode.specs.declared.departure.PossibleDeviation.{PossibleDeviation}
 use Rattle.list_decode.specs.declared.departure.PartialTraceback.{PartialTraceback}
 
--- `best` is the position before `limit` with the least loss for a deviation from `word` (position 0 if `limit` is 0)
+-- `best` describes the position before `limit` where a deviation from `word` loses least (position 0 if `limit` is 0)
 pub record IsLeastLossDeviation (word : List ℕ) (losses : List (List ℤ)) (limit : ℕ) (best : PossibleDeviation) : Type 0 where
   pub at_most_k : best.place ≤ limit
   pub in_range : best.place + 4 < length word
@@ -14,7 +14,8 @@ pub record IsLeastLossDeviation (word : List ℕ) (losses : List (List ℤ)) (li
   pub least : IsLeastLossPosition word losses limit best.place best.loss
   pub loss_limit : best.loss_limit ≡ best.loss -ℤ pos (slice_index word best.place)
 
--- traceback has written the bits of `u` before position `k`, and `reading` holds the best position before `k` for a deviation
+-- traceback has written the bits of `u` before position `k`, and `reading` holds the trellis state there and the best position before `k`
+-- for a deviation
 pub record IsPartialTraceback (rows : List ℕ) (losses : List (List ℤ)) (u : List ℕ) (k : ℕ) (reading : PartialTraceback) : Type 0
   where
     pub state_in_range : reading.state < 16

@@ -25,8 +25,8 @@ pub record HasSoftBits (pass : ViterbiPass) : Type 0 where
   pub row_count : length (decision_rows pass) ≡ pass.bits
   pub soft : AllSoftBits (soft_bits_of_pass pass)
 
--- `pass` holds the soft bits of 5 to 228 information bits, the decisions and losses of all states, and the
--- states and best deviations of the most likely word
+-- `pass` holds the soft bits of 5 to 228 information bits, the decisions and losses of all states, and the states and best later deviations
+-- of the most likely word
 pub record IsCompletePass (pass : ViterbiPass) : Type 0 where
   pub at_least : 5 ≤ pass.bits
   pub at_most : pass.bits ≤ 228

@@ -4,16 +4,16 @@ use Rattle.trellis_decode.specs.Trellis.{traceback}
 use Rattle.list_decode.specs.DeviatingWords.{state_after_bits, is_in_range, IsLeastLossFreePosition}
 use Rattle.list_decode.specs.declared.tails.BestLaterDeviations.{BestLaterDeviations}
 
--- the trellis states before each position of the survivor of state 0
+-- `states` holds the trellis state before each position of the survivor of state 0
 abbrev pub AreSurvivorStates : (rows states : List ℕ) → Type 0
 AreSurvivorStates rows states = (k : ℕ) → k < length rows → slice_index states k ≡ state_after_bits 0 (take k (traceback rows 0))
 
--- for each position of the survivor of state 0, the position from there on at which a deviation loses least
+-- for each position of the survivor of state 0, `places` holds the position from there on where a deviation loses least
 abbrev pub AreBestLaterPlaces : (rows : List ℕ) (losses : List (List ℤ)) (places : List ℕ) → Type 0
 AreBestLaterPlaces rows losses places = (k : ℕ) → k + 4 < length rows →
     IsLeastLossFreePosition (traceback rows 0) losses (is_in_range k (length rows - 4)) (length rows - 4) (slice_index places k)
 
--- for each position of the most likely word, `tails` holds its state there and the best deviation from there on
+-- for each position of the most likely word, `tails` holds the trellis state before it and the best position from there on for a deviation
 pub record AreTails (rows : List ℕ) (losses : List (List ℤ)) (tails : BestLaterDeviations) : Type 0 where
   pub states : AreSurvivorStates rows tails.states
   pub places : AreBestLaterPlaces rows losses tails.places

@@ -13,7 +13,7 @@ use Rattle.list_decode.specs.declared.pass.ViterbiPass.{ViterbiPass}
 abbrev pub placeholder_deviation : Deviation
 placeholder_deviation = record { likelihood = pos 0; departure = record { place = 0; state = 0; bit = 0 }; word_index = 0 }
 
--- a list of words, extended by one word for each of these deviations: an earlier word with the deviation applied
+-- a list of words, extended by one word for each deviation: an earlier word of the list with this deviation applied
 abbrev pub with_deviating_words : (pass : ViterbiPass) (words : List (List ℕ)) (deviations : List Deviation) → List (List ℕ)
 with_deviating_words pass us [] = us
 with_deviating_words pass us (x ∷ xs) = with_deviating_words pass (us ++ deviating_word pass us x ∷ []) xs
@@ -35,7 +35,7 @@ pub record IsDeviationTree (pass : ViterbiPass) (lists : StoredWords) : Type 0 w
   pub made_by_deviation : (k : ℕ) → k + 1 < lists.count → IsMadeByDeviation pass (stored_words pass lists) (k + 1)
       (slice_index_or lists.deviations k placeholder_deviation)
 
--- the word numbers form a chain between two given words, in which each word deviates from its predecessor
+-- `chain` lists the numbers of the words that lead from word `at` to word `last`; each deviates from its predecessor
 abbrev pub IsChainOfDeviations : (lists : StoredWords) (chain : List ℕ) (at last : ℕ) → Type 0
 IsChainOfDeviations lists [] at i = at ≡ i
 IsChainOfDeviations lists (c ∷ cs) at i =

@@ -65,7 +65,7 @@ impl WordBranch {
         WordBranch { span, best }
     }
 
-    /// The path metric of the best deviation.
+    /// The path metric of the word that the best deviation produces, if there is one.
     pub(crate) fn metric(&self) -> i32
         ensures { IfSome self.now.best (λ best. result ≡ best.likelihood) }
     {
@@ -88,8 +88,8 @@ impl Deviation {
     }
 }
 
-/// Finds the position in a span where a deviation has the least loss, as `find_least_loss_in_span` does. If the span ends with the word,
-/// the search ends where the word merges with the most likely word.
+/// Finds the position in a span where a deviation has the least loss, as `find_least_loss_in_span` does. If the span extends to the tail,
+/// it walks only to where the word merges with the most likely word, and takes the best deviation after that from `tails`.
 fn find_least_loss(pass: &ViterbiPass, u: &[u8], span: &WordSpan) -> Option<PossibleDeviation>
     requires pass { IsCompletePass pass.now }
     requires list { IsCandidate (soft_bits_of_pass pass.now) u.now }

@@ -41,7 +41,7 @@ pub(crate) fn find_first_ranked_branch(
     ensures first { IsFirstRankedBranch pass.now (stored_words pass.now lists.now) branches.now result }
 {
     let mut first = None;
-    // The likelihood of `first`: saves a comparison for most branches.
+    // The path metric of the best word so far: most branches are ruled out by this number alone.
     let mut least = i32::MIN;
     for (i, metric) in metrics.iter().enumerate() {
         if *metric >= least {
@@ -92,7 +92,8 @@ fn higher_ranked(
     }
 }
 
-/// Whether the word of `first` ranks before the word of `second`: by path metric, and if the metrics are equal, by lexicographic order.
+/// Returns whether the word of `first` ranks before the word of `second`: by path metric, and if the metrics are equal, by lexicographic
+/// order.
 fn ranks_before(
     pass: &ViterbiPass,
     lists: &StoredWords,
@@ -158,7 +159,7 @@ fn compare_deviation_chains(
     }
 }
 
-/// Writes both words and compares them in lexicographic order.
+/// Writes out both words, and returns whether the first comes before the second in lexicographic order.
 fn is_lexicographically_before(
     pass: &ViterbiPass,
     lists: &StoredWords,

@@ -219,22 +219,28 @@ pub(crate) fn apply_deviation(rows: &[u16], departure: DeviationPoint, u: &mut [
 }
 
 /// Replaces the survivor of state `old_state` in `u` by the survivor of `state`. Once the two reach the same state, they agree, so the loop
-/// ends there, usually after a few positions.
+/// ends there, usually after some twenty positions. It compares the states only before every fourth position, which takes fewer
+/// instructions.
 fn replace_until_merged(rows: &[u16], old_state: u16, state: u16, u: &mut [u8])
     requires chosen { u.old ≡ traceback rows.now old_state }
     requires old_state { old_state < 16 }
     requires state { state < 16 }
     ensures { u.new ≡ traceback rows.now state }
 {
+    let groups = rows.len() / 4;
     let mut old_state = old_state;
     let mut state = state;
-    for (k, row) in rows.iter().enumerate() {
+    for group in 0..groups {
         if state == old_state {
             return;
         }
-        let bit = (*row >> state) & 1;
-        old_state = (2 * old_state + u16::from(u[k])) % 16;
-        u[k] = bit as u8;
-        state = (2 * state + bit) % 16;
+        for i in 0..4 {
+            let k = 4 * group + i;
+            let bit = (rows[k] >> state) & 1;
+            old_state = (2 * old_state + u16::from(u[k])) % 16;
+            u[k] = bit as u8;
+            state = (2 * state + bit) % 16;
+        }
     }
+    trace_back(&rows[4 * groups..], state, &mut u[4 * groups..]);
 }

@@ -62,14 +62,14 @@ pub(crate) fn find_next_word(
 }
 
 /// Splits a span of `u` at the position where its most likely deviating word deviates, and replaces `u` by this word. In the result,
-/// `before` and `after` cover the parts of the span before and after that position, and `behind` covers the positions of the new word after
-/// it. The number of the new word is `new`.
+/// `branch_before` and `branch_after` cover the parts of the span before and after that position, and `branch_of_new_word` covers the
+/// positions of the new word after it. The new word has the number `new_index`.
 fn partition(
     pass: &ViterbiPass,
     u: &mut [u8],
     span: WordSpan,
     deviation: &Deviation,
-    new: u8,
+    new_index: u8,
 ) -> BranchParts
     requires pass { IsCompletePass pass.now }
     requires list { IsCandidate (soft_bits_of_pass pass.now) u.old }
@@ -79,11 +79,11 @@ fn partition(
     requires to { deviation.now.departure.place < span.to }
     ensures written { u.new ≡ word_of_deviation pass.now u.old deviation.now }
     ensures before { IsBranch pass.now u.old result.branch_before }
-    ensures behind { IsBranch pass.now u.new result.branch_of_new_word }
+    ensures new_word { IsBranch pass.now u.new result.branch_of_new_word }
     ensures after { IsBranch pass.now u.old result.branch_after }
     ensures before_span { (result.branch_before.span.word_index ≡ span.word_index) × (result.branch_before.span.from ≡ span.from) ×
         (result.branch_before.span.to ≡ deviation.now.departure.place) }
-    ensures behind_span { (result.branch_of_new_word.span.word_index ≡ new)
+    ensures new_word_span { (result.branch_of_new_word.span.word_index ≡ new_index)
         × (result.branch_of_new_word.span.from ≡ deviation.now.departure.place + 1) ×
         (result.branch_of_new_word.span.to + 4 ≡ pass.now.bits) }
     ensures after_span { (result.branch_after.span.word_index ≡ span.word_index)
@@ -102,7 +102,7 @@ fn partition(
     deviation.apply(pass, u);
     let behind = WordSpan {
         likelihood: deviation.likelihood,
-        word_index: new,
+        word_index: new_index,
         from: place + 1,
         to: (pass.bits - 4) as u8,
         state: (2 * deviation.departure.state + u[usize::from(place)]) % 16,

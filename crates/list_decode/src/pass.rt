@@ -7,8 +7,8 @@ ghost use Rattle.list_decode.specs.Passes.{IsCompletePass, HasSoftBits, soft_bit
 use crate::tails::BestLaterDeviations;
 use trellis_decode::{CODED_BITS, ENCODER_INPUT_BITS, fill_decisions};
 
-/// The soft bits, two for each information bit, and for each position the decision of every state (`rows`) and how much path metric the
-/// other bit would lose (`losses`); and the most likely word with its best deviations (`tails`).
+/// The soft bits, two for each information bit; for each position, the decision of every state (`decisions`) and how much path metric the
+/// other bit would lose (`losses`); and the states and best later deviations of the most likely word (`tails`).
 #[derive(Drop)]
 pub(crate) struct ViterbiPass {
     pub(crate) soft: [i8; CODED_BITS],

@@ -3,8 +3,8 @@
 //! The algorithm is list Viterbi decoding (Seshadri and Sundberg, 1994) with Lawler's partition (1972). A backward pass stores the
 //! decisions and losses of all states. Every word not yet returned deviates from a returned word at a position in one of its spans; the
 //! best such word follows the survivors afterwards. A walk along a span finds its best deviation; where the word merges with the most
-//! likely word, a table has the rest. The best deviation of all spans produces the next word. The span of this deviation is then split at
-//! its position, and the positions after it in the new word form a third span.
+//! likely word, a table gives the best deviation in the rest. The best deviation of all spans produces the next word. The span of this
+//! deviation is then split at its position, and the positions after it in the new word form a third span.
 
 ghost use Rattle.std.specs.Prelude.{◌≡◌, ◌↔◌, ◌≤◌, ◌+◌, ◌-◌, ◌*◌, ◌%◌, ◌<◌, ◌++◌, ◌∷◌};
 ghost use Rattle.std.specs.Prelude.{[], length, take, None, IfSome, MatchOption};
@@ -34,7 +34,7 @@ pub struct ListDecoder {
     /// One branch for the first word, and two more for each word after it.
     branches: [WordBranch; 127],
     /// The path metrics of the best deviations of the branches.
-    metrics: [i32; 127],
+    best_metrics: [i32; 127],
     /// The path metric of the first word.
     first_metric: i32,
 }
@@ -81,7 +81,7 @@ impl ListDecoder {
                 count: 0,
             },
             branches: [WordBranch { span, best: None }; 127],
-            metrics: [0; 127],
+            best_metrics: [0; 127],
             first_metric: 0,
         }
     }
@@ -122,7 +122,7 @@ impl ListDecoder {
                 count: 1,
             },
             branches: [WordBranch { span, best: None }; 127],
-            metrics: [0; 127],
+            best_metrics: [0; 127],
             first_metric: metric,
         }
     }
@@ -180,21 +180,21 @@ impl ListDecoder {
             &self.lists,
             self.first_metric,
             &mut self.branches,
-            &mut self.metrics,
+            &mut self.best_metrics,
         );
         let next = find_next_word(
             &self.pass,
             &self.lists,
             &self.branches[..count],
-            &self.metrics[..count],
+            &self.best_metrics[..count],
             u,
         )?;
         self.branches[next.branch] = next.parts.branch_before;
         self.branches[count] = next.parts.branch_of_new_word;
         self.branches[count + 1] = next.parts.branch_after;
-        self.metrics[next.branch] = next.parts.branch_before.metric();
-        self.metrics[count] = next.parts.branch_of_new_word.metric();
-        self.metrics[count + 1] = next.parts.branch_after.metric();
+        self.best_metrics[next.branch] = next.parts.branch_before.metric();
+        self.best_metrics[count] = next.parts.branch_of_new_word.metric();
+        self.best_metrics[count + 1] = next.parts.branch_after.metric();
         self.lists.deviations[returned - 1] = next.deviation;
         self.lists.count = returned + 1;
         Some(next.deviation.likelihood)

@@ -1,7 +1,7 @@
 //! The best deviation from the most likely word at or after each position.
 //!
-//! A word that follows the survivors and reaches a state of the most likely word agrees with it from there on, and a deviation loses the
-//! same there. So a search for the best deviation from the word can end at that position.
+//! A word that follows the survivors and reaches the same state as the most likely word agrees with it from there on, and a deviation there
+//! loses the same from both. So a search for the best deviation from the word can end at that position.
 
 ghost use Rattle.std.specs.Prelude.{◌≡◌, ◌+◌, ◌<◌, ◌≤◌, length, take, slice_index};
 ghost use Rattle.trellis_decode.specs.Trellis.{traceback};
@@ -92,7 +92,7 @@ pub(crate) fn survivor_deviation(
     )
 }
 
-/// The first position of the span at which the word has one of the given states, or the end of the span.
+/// Returns the first position of the span where `list` is in the same state as the most likely word (`states`), or the end of the span.
 pub(crate) fn find_merging_place(
     list: &[u8],
     states: &[u8; ENCODER_INPUT_BITS],

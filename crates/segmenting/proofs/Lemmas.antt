@@ -3,7 +3,8 @@ use Rattle.{
   lapdm_frame.specs.{Layout.n201, declared.Channel.Channel},
   segmenting.specs.{
     Joiners.HoldsReassemblyOf,
-    Joining.{delivered_by_segment, ended_messages, latest_message_after, latest_message, message_count, message_if_fits, message_if_whole},
+    Joining.{delivered_by_segment, ended_messages, completed_message_after, completed_message, message_count, message_if_fits},
+    Joining.{message_if_whole},
     Joining.{messages, partial_message_after, partial_message, reassembly_result},
     Segments.{AreFullExceptLast, AreSegments, IsFullSegment, IsValidMessage, Message, Segment, cut_segments, max_message_octets},
     Segments.{max_segments_per_message, reassembled_octets, segments},
@@ -27,11 +28,11 @@ use Rattle.segmenting.specs.declared.joiner.ReassemblyState.TheVariants as P
 
 -- ## Joins: Reassembling the segments of messages gives these messages, and one more segment adds the message that it completes.
 
-pub within_some : (m : List ℕ) → length m ≤ max_message_octets → message_if_fits m ≡ Some m
-within_some m h = grind arith
+pub message_if_fits-some : (m : List ℕ) → length m ≤ max_message_octets → message_if_fits m ≡ Some m
+message_if_fits-some m h = grind arith
 
-within_none : (m : List ℕ) → max_message_octets < length m → message_if_fits m ≡ None
-within_none m h = grind arith
+message_if_fits-none : (m : List ℕ) → max_message_octets < length m → message_if_fits m ≡ None
+message_if_fits-none m h = grind arith
 
 ended_messages-cut_segments : (n k : ℕ) (partial m : List ℕ) (ps : List Segment) →
     ended_messages partial (cut_segments n k m ++ ps) ≡ message_if_fits (partial ++ m) ∷ ended_messages [] ps
@@ -39,7 +40,7 @@ ended_messages-cut_segments n zero partial m ps = refl
 ended_messages-cut_segments n (suc k) partial m ps =
     rw (ended_messages-cut_segments n k (partial ++ take n m) (drop n m) ps, append_assoc, take-append-drop n m) refl
 
--- how `partial_message_after`, `ended_messages` and `latest_message_after` change when one segment is appended
+-- how `partial_message_after`, `ended_messages` and `completed_message_after` change when one segment is appended
 partial_message_after-more : (partial : List ℕ) (ps : List Segment) (octets : List ℕ) →
     partial_message_after partial (ps ++ (octets, true) ∷ []) ≡ partial_message_after partial ps ++ octets
 partial_message_after-more partial [] octets = refl
@@ -65,38 +66,38 @@ ended_messages-last partial [] octets = refl
 ended_messages-last partial ((o, true) ∷ ps) octets = ended_messages-last _ ps _
 ended_messages-last partial ((o, false) ∷ ps) octets = rw (ended_messages-last [] ps octets)
 
-latest_message_after-more : (partial : List ℕ) (ps : List Segment) (octets : List ℕ) →
-    latest_message_after partial (ps ++ (octets, true) ∷ []) ≡ []
-latest_message_after-more partial [] octets = refl
-latest_message_after-more partial ((o, true) ∷ ps) octets = latest_message_after-more _ ps _
-latest_message_after-more partial ((o, false) ∷ []) octets = refl
-latest_message_after-more partial ((o, false) ∷ p ∷ ps) octets = latest_message_after-more [] (p ∷ ps) _
+completed_message_after-more : (partial : List ℕ) (ps : List Segment) (octets : List ℕ) →
+    completed_message_after partial (ps ++ (octets, true) ∷ []) ≡ []
+completed_message_after-more partial [] octets = refl
+completed_message_after-more partial ((o, true) ∷ ps) octets = completed_message_after-more _ ps _
+completed_message_after-more partial ((o, false) ∷ []) octets = refl
+completed_message_after-more partial ((o, false) ∷ p ∷ ps) octets = completed_message_after-more [] (p ∷ ps) _
 
-pub latest_message_after-last : (partial : List ℕ) (ps : List Segment) (octets : List ℕ) →
-    latest_message_after partial (ps ++ (octets, false) ∷ []) ≡
+pub completed_message_after-last : (partial : List ℕ) (ps : List Segment) (octets : List ℕ) →
+    completed_message_after partial (ps ++ (octets, false) ∷ []) ≡
     unwrap_or (message_if_fits (partial_message_after partial ps ++ octets)) []
-latest_message_after-last partial [] octets = refl
-latest_message_after-last partial ((o, true) ∷ ps) octets = latest_message_after-last _ ps _
-latest_message_after-last partial ((o, false) ∷ []) octets = refl
-latest_message_after-last partial ((o, false) ∷ p ∷ ps) octets = latest_message_after-last [] (p ∷ ps) _
+completed_message_after-last partial [] octets = refl
+completed_message_after-last partial ((o, true) ∷ ps) octets = completed_message_after-last _ ps _
+completed_message_after-last partial ((o, false) ∷ []) octets = refl
+completed_message_after-last partial ((o, false) ∷ p ∷ ps) octets = completed_message_after-last [] (p ∷ ps) _
 
-nothing_yet : (ps : List Segment) (octets : List ℕ) → delivered_by_segment ps (octets, true) ≡ []
-nothing_yet ps octets = grind arith
+delivered_by_segment-more : (ps : List Segment) (octets : List ℕ) → delivered_by_segment ps (octets, true) ≡ []
+delivered_by_segment-more ps octets = grind arith
 
-at_the_last : (ps : List Segment) (octets : List ℕ) → delivered_by_segment ps (octets, false) ≡ filter_map
+delivered_by_segment-last : (ps : List Segment) (octets : List ℕ) → delivered_by_segment ps (octets, false) ≡ filter_map
     (λ ending. ending) (message_if_fits (partial_message ps ++ octets) ∷ [])
-at_the_last ps octets = grind arith
+delivered_by_segment-last ps octets = grind arith
 
 pub messages-push : (ps : List Segment) (p : Segment) → messages (ps ++ p ∷ []) ≡ messages ps ++ delivered_by_segment ps p
-messages-push ps (octets, true) = rw (ended_messages-more [] ps octets, nothing_yet ps octets, append-nil (messages ps))
-messages-push ps (octets, false) = rw (ended_messages-last [] ps octets, filter_map-append, at_the_last ps octets)
+messages-push ps (octets, true) = rw (ended_messages-more [] ps octets, delivered_by_segment-more ps octets, append-nil (messages ps))
+messages-push ps (octets, false) = rw (ended_messages-last [] ps octets, filter_map-append, delivered_by_segment-last ps octets)
 
--- the message delivered is the one that `latest_message` gives
-pub delivered_is_latest : (ps : List Segment) (p : Segment) → delivered_by_segment ps p ≡ message_if_whole (reassembly_result ps p)
-    (latest_message (ps ++ p ∷ []))
-delivered_is_latest ps (octets, true) = grind arith
-delivered_is_latest ps (octets, false) =
-    grind (arith, latest_message_after-last [] ps octets, within_some (partial_message ps ++ octets))
+-- the message delivered is the one that `completed_message` gives
+pub delivered_is_completed : (ps : List Segment) (p : Segment) → delivered_by_segment ps p ≡ message_if_whole (reassembly_result ps p)
+    (completed_message (ps ++ p ∷ []))
+delivered_is_completed ps (octets, true) = grind arith
+delivered_is_completed ps (octets, false) =
+    grind (arith, completed_message_after-last [] ps octets, message_if_fits-some (partial_message ps ++ octets))
 
 -- ## Cutting: `segments` is the only correct segmentation of a message, and each segment can be computed from its index. The proofs are by
 -- induction on the number of full segments.
@@ -106,11 +107,11 @@ pub record Fills (n k : ℕ) (m : List ℕ) : Type 0 where
   pub above : k * n < length m
   pub below : length m ≤ k * n + n
 
-fills : (n : ℕ) (m : Message) → 0 < n → IsValidMessage m → Fills n ((length m - 1) / n) m
-fills n m some_room h = grind arith
+Fills-valid : (n : ℕ) (m : Message) → 0 < n → IsValidMessage m → Fills n ((length m - 1) / n) m
+Fills-valid n m some_room h = grind arith
 
-fills_rest : (n k : ℕ) (m : List ℕ) → Fills n (suc k) m → Fills n k (drop n m)
-fills_rest n k m h = grind (arith, length-drop n m)
+Fills-rest : (n k : ℕ) (m : List ℕ) → Fills n (suc k) m → Fills n k (drop n m)
+Fills-rest n k m h = grind (arith, length-drop n m)
 
 AreFullExceptLast-cons : (n : ℕ) (p : Segment) (ps : List Segment) → IsFullSegment n p → AreFullExceptLast n ps →
     AreFullExceptLast n (p ∷ ps)
@@ -120,7 +121,7 @@ AreFullExceptLast-cut_segments : (n k : ℕ) (m : List ℕ) → Fills n k m → 
 AreFullExceptLast-cut_segments n zero m h = grind arith
 AreFullExceptLast-cut_segments n (suc k) m h =
     AreFullExceptLast-cons n _ _ (record { size = length-take-le n m (omega (arith, suc-mul k n, h.above)); more = refl })
-    (AreFullExceptLast-cut_segments n k _ (fills_rest n k m h))
+    (AreFullExceptLast-cut_segments n k _ (Fills-rest n k m h))
 
 reassembled_octets-cut_segments : (n k : ℕ) (m : List ℕ) → reassembled_octets (cut_segments n k m) ≡ m
 reassembled_octets-cut_segments n zero m = append-nil m
@@ -130,17 +131,17 @@ pub are_segments : (n : ℕ) (m : Message) → 0 < n → IsValidMessage m → Ar
 are_segments n m some_room h =
     record {
       octets = reassembled_octets-cut_segments n _ m;
-      full_except_last = AreFullExceptLast-cut_segments n _ m (fills n m some_room h);
+      full_except_last = AreFullExceptLast-cut_segments n _ m (Fills-valid n m some_room h);
     }
 
--- if the octets of the segments ps are joined, `cut_segments` makes ps of them again: k full segments and the last one
+-- cutting the joined octets of the segments ps with `cut_segments` gives ps again: k full segments and the last one
 record IsCounted (n : ℕ) (ps : List Segment) (k : ℕ) : Type 0 where
   is_cut : ps ≡ cut_segments n k (reassembled_octets ps)
   fill : Fills n k (reassembled_octets ps)
 
-one_more : (n k : ℕ) (octets : List ℕ) (ps : List Segment) → length octets ≡ n → IsCounted n ps k →
+IsCounted-cons : (n k : ℕ) (octets : List ℕ) (ps : List Segment) → length octets ≡ n → IsCounted n ps k →
     IsCounted n ((octets, true) ∷ ps) (suc k)
-one_more n k octets ps size h =
+IsCounted-cons n k octets ps size h =
     let rest = reassembled_octets ps in
     let first = ap (λ i. take i (octets ++ rest)) (sym size) ∙ take-append_seam _ _ in
     let others = ap (λ i. drop i (octets ++ rest)) (sym size) ∙ drop-append_seam octets _ in
@@ -152,28 +153,28 @@ one_more n k octets ps size h =
       };
     }
 
-counted : (n : ℕ) (ps : List Segment) → AreFullExceptLast n ps → (k : ℕ) × IsCounted n ps k
-counted n [] h = absurd h
-counted n ((octets, more) ∷ []) h = grind (arith, append-nil octets)
-counted n ((octets, more) ∷ q ∷ ps) h =
-    let rest = counted n (q ∷ ps) h.1 in
+IsCounted-exists : (n : ℕ) (ps : List Segment) → AreFullExceptLast n ps → (k : ℕ) × IsCounted n ps k
+IsCounted-exists n [] h = absurd h
+IsCounted-exists n ((octets, more) ∷ []) h = grind (arith, append-nil octets)
+IsCounted-exists n ((octets, more) ∷ q ∷ ps) h =
+    let rest = IsCounted-exists n (q ∷ ps) h.1 in
     let b = h.0.more in (
       suc rest.0,
-      subst (λ b. IsCounted n ((octets, b) ∷ q ∷ ps) (suc rest.0)) (sym b) (one_more n _ _ _ h.0.size rest.1),
+      subst (λ b. IsCounted n ((octets, b) ∷ q ∷ ps) (suc rest.0)) (sym b) (IsCounted-cons n _ _ _ h.0.size rest.1),
     )
 
-count_is : (n k : ℕ) (m : List ℕ) → 0 < n → Fills n k m → (length m - 1) / n ≡ k
-count_is n k m _ h = grind arith
+Fills-count : (n k : ℕ) (m : List ℕ) → 0 < n → Fills n k m → (length m - 1) / n ≡ k
+Fills-count n k m _ h = grind arith
 
-only_segments : (n : ℕ) (m : Message) (ps : List Segment) → 0 < n → AreSegments n m ps → ps ≡ segments n m
-only_segments n m ps some_room h =
-    let c = counted n ps h.full_except_last in
-    let k = count_is n _ _ some_room c.1.fill in
+AreSegments-unique : (n : ℕ) (m : Message) (ps : List Segment) → 0 < n → AreSegments n m ps → ps ≡ segments n m
+AreSegments-unique n m ps some_room h =
+    let c = IsCounted-exists n ps h.full_except_last in
+    let k = Fills-count n _ _ some_room c.1.fill in
     c.1.is_cut ∙ ap (λ i. cut_segments n i (reassembled_octets ps)) (sym k) ∙ ap (segments n) (h.octets)
 
 pub one_cutting : (n : ℕ) (m : Message) (ps : List Segment) → 0 < n → IsValidMessage m →
     AreSegments n m ps ↔ (ps ≡ segments n m)
-one_cutting n m ps some_room h = grind (arith, only_segments n m ps some_room, are_segments n m some_room h)
+one_cutting n m ps some_room h = grind (arith, AreSegments-unique n m ps some_room, are_segments n m some_room h)
 
 length-cut_segments : (n k : ℕ) (m : List ℕ) → length (cut_segments n k m) ≡ k + 1
 length-cut_segments n zero m = refl
@@ -185,7 +186,7 @@ length-segments n m = length-cut_segments n _ m
 drop-drop_next : (n i : ℕ) (m : List ℕ) → drop (i * n) (drop n m) ≡ drop (suc i * n) m
 drop-drop_next n i m = drop-drop _ n m ∙ ap (λ j. drop j m) (omega arith)
 
--- the segment with index i: full if i < k, otherwise the rest of the message
+-- the segment with index i is full if i < k; otherwise it is the rest of the message
 slice_get-cut_full : (n k i : ℕ) (m : List ℕ) → i < k →
     slice_get (cut_segments n k m) i ≡ Some (take n (drop (i * n) m), true)
 slice_get-cut_full n zero i m h = absurd (omega (arith, h))
@@ -197,24 +198,24 @@ slice_get-cut_last : (n k : ℕ) (m : List ℕ) → slice_get (cut_segments n k 
 slice_get-cut_last n zero m = grind arith
 slice_get-cut_last n (suc k) m = slice_get-cut_last n k _ ∙ ap (λ rest. Some (rest, false)) (drop-drop_next n k m)
 
--- n has the range of N201: 1 to 20 octets
+-- n is in the range of N201: 1 to 20 octets
 pub record IsN201 (n : ℕ) : Type 0 where
   pub positive : 1 ≤ n
   pub at_most : n ≤ 20
 
-pub room_of : (channel : Channel) → IsN201 (n201 channel)
-room_of channel = grind arith
+pub IsN201-n201 : (channel : Channel) → IsN201 (n201 channel)
+IsN201-n201 channel = grind arith
 
 -- the segment with index i begins before the end of the message
 pub begins_within : (n i : ℕ) (m : Message) → 1 ≤ n → 1 ≤ length m → i < length (segments n m) → i * n < length m
 begins_within n i m _ some_octets h = grind (arith, length-segments n m)
 
--- the segment with index i has the octets of the message from position i * n on
-pub segment_is : (n i : ℕ) (m : Message) → 0 < n → IsValidMessage m → i < length (segments n m) →
+-- the segment with index i has at most n octets, from position i * n of the message on; its M bit says whether more octets follow
+pub slice_get-segment : (n i : ℕ) (m : Message) → 0 < n → IsValidMessage m → i < length (segments n m) →
     slice_get (segments n m) i ≡ Some (take (min (length m - i * n) n) (drop (i * n) m), nat_lt n (length m - i * n))
-segment_is n i m room h within =
+slice_get-segment n i m room h within =
     let k = (length m - 1) / n in
-    let f = fills n m room h in
+    let f = Fills-valid n m room h in
     elim (eq-or-lt_of_le (omega (arith, length-segments n m))) [
       | inr below ↦
           let more : n < length m - i * n = omega (arith, f.above, mul-le-mul_right n below, suc-mul i n) in
@@ -232,14 +233,14 @@ segment_is n i m room h within =
 pub begins_at : (channel : Channel) (r i : ℕ) (m : Message) → r ≡ n201 channel → 1 ≤ length m →
     i < length (segments (n201 channel) m) → i * r < length m
 begins_at channel r i m same some_octets h =
-    rw same (begins_within _ i m (room_of _).positive some_octets h)
+    rw same (begins_within _ i m (IsN201-n201 _).positive some_octets h)
 
-pub segment_at : (channel : Channel) (r i l : ℕ) (m : Message) → r ≡ n201 channel → l ≡ min (length m - i * r) r →
+pub slice_get-n201 : (channel : Channel) (r i l : ℕ) (m : Message) → r ≡ n201 channel → l ≡ min (length m - i * r) r →
     IsValidMessage m → i < length (segments (n201 channel) m) → slice_get (segments (n201 channel) m) i
     ≡ Some (take (i * r + l - i * r) (drop (i * r) m), nat_lt r (length m - i * r))
-segment_at channel r i l m same size h within =
+slice_get-n201 channel r i l m same size h within =
     let octets : i * r + l - i * r ≡ min (length m - i * r) r = omega arith in
-    rw (octets, same) (segment_is _ i m (room_of _).positive h within)
+    rw (octets, same) (slice_get-segment _ i m (IsN201-n201 _).positive h within)
 
 pub few_segments : (channel : Channel) (r l : ℕ) → r ≡ n201 channel → l ≤ 251 →
     (l - 1) / r + 1 ≤ max_segments_per_message channel
@@ -255,16 +256,16 @@ ended_messages-all n (m ∷ ms) h =
     let first = All-head IsValidMessage m ms h in
     rw (
       ended_messages-cut_segments n ((length m - 1) / n) [] m (flat_map (segments n) ms),
-      within_some m first.at_most,
+      message_if_fits-some m first.at_most,
       ended_messages-all n ms (All-tail IsValidMessage m ms h),
     )
 
-pub messages_of : (ms : List Message) → filter_map (λ ending. ending) (map (λ m. Some m) ms) ≡ ms
-messages_of [] = refl
-messages_of (m ∷ ms) = rw (messages_of ms)
+pub filter_map-some : (ms : List Message) → filter_map (λ ending. ending) (map (λ m. Some m) ms) ≡ ms
+filter_map-some [] = refl
+filter_map-some (m ∷ ms) = rw (filter_map-some ms)
 
-pub messages_come_back : (n : ℕ) (ms : List Message) → All IsValidMessage ms → messages (flat_map (segments n) ms) ≡ ms
-messages_come_back n ms h = rw (ended_messages-all n ms h) (messages_of ms)
+pub messages-segments : (n : ℕ) (ms : List Message) → All IsValidMessage ms → messages (flat_map (segments n) ms) ≡ ms
+messages-segments n ms h = rw (ended_messages-all n ms h) (filter_map-some ms)
 
 pub ended_messages-append : (partial : List ℕ) (ps qs : List Segment) → ended_messages partial (ps ++ qs) ≡ ended_messages partial ps
     ++ ended_messages (partial_message_after partial ps) qs
@@ -272,49 +273,49 @@ ended_messages-append partial [] qs = refl
 ended_messages-append partial ((o, true) ∷ ps) qs = ended_messages-append _ ps qs
 ended_messages-append partial ((o, false) ∷ ps) qs = grind (arith, ended_messages-append [] ps qs)
 
--- `ends_in` is a recursive form of `message_count`, the number of segments with M = 0
+-- `end_count` is a recursive form of `message_count`, the number of segments with M = 0
 abbrev is_last : Segment → Bool
 is_last p = not p.1
 
-abbrev ends_in : List Segment → ℕ
-ends_in [] = 0
-ends_in (p ∷ ps) = cond (is_last p) (1 + ends_in ps) (ends_in ps)
+abbrev end_count : List Segment → ℕ
+end_count [] = 0
+end_count (p ∷ ps) = cond (is_last p) (1 + end_count ps) (end_count ps)
 
-ended-is : (ps : List Segment) → message_count ps ≡ ends_in ps
-ended-is ps = sym (is_count_by ends_in _ refl (λ x xs. refl) ps)
+count-is_end_count : (ps : List Segment) → message_count ps ≡ end_count ps
+count-is_end_count ps = sym (is_count_by end_count _ refl (λ x xs. refl) ps)
 
-ends_in-ended_messages : (partial : List ℕ) (ps : List Segment) → ends_in ps ≡ length (ended_messages partial ps)
-ends_in-ended_messages partial [] = refl
-ends_in-ended_messages partial ((o, true) ∷ ps) = ends_in-ended_messages _ ps
-ends_in-ended_messages partial ((o, false) ∷ ps) = let e = ends_in-ended_messages [] ps in omega arith
+end_count-ended_messages : (partial : List ℕ) (ps : List Segment) → end_count ps ≡ length (ended_messages partial ps)
+end_count-ended_messages partial [] = refl
+end_count-ended_messages partial ((o, true) ∷ ps) = end_count-ended_messages _ ps
+end_count-ended_messages partial ((o, false) ∷ ps) = let e = end_count-ended_messages [] ps in omega arith
 
-pub ended-ended_messages : (ps : List Segment) → message_count ps ≡ length (ended_messages [] ps)
-ended-ended_messages ps = ended-is ps ∙ ends_in-ended_messages [] ps
+pub message_count-ended_messages : (ps : List Segment) → message_count ps ≡ length (ended_messages [] ps)
+message_count-ended_messages ps = count-is_end_count ps ∙ end_count-ended_messages [] ps
 
-pub ended-append : (ps qs : List Segment) → message_count (ps ++ qs) ≡ message_count ps + message_count qs
-ended-append ps qs = sum_by-append _ ps qs
+pub count-append : (ps qs : List Segment) → message_count (ps ++ qs) ≡ message_count ps + message_count qs
+count-append ps qs = sum_by-append _ ps qs
 
-pub ended-take : (a r : ℕ) (ps : List Segment) → a ≤ r → message_count (take a ps) ≤ message_count (take r ps)
-ended-take a r ps h =
-    grind (arith, ended-append (take a (take r ps)) (drop a (take r ps)), take-append-drop a (take r ps), take-take a r ps h)
+pub count-take : (a r : ℕ) (ps : List Segment) → a ≤ r → message_count (take a ps) ≤ message_count (take r ps)
+count-take a r ps h =
+    grind (arith, count-append (take a (take r ps)) (drop a (take r ps)), take-append-drop a (take r ps), take-take a r ps h)
 
 -- among the segments of one message, only the last completes the message
-ends_in-cut_segments : (n k : ℕ) (m : List ℕ) (ps : List Segment) → ends_in (cut_segments n k m ++ ps) ≡ 1 + ends_in ps
-ends_in-cut_segments n zero m ps = refl
-ends_in-cut_segments n (suc k) m ps = ends_in-cut_segments n k _ ps
+end_count-cut_segments : (n k : ℕ) (m : List ℕ) (ps : List Segment) → end_count (cut_segments n k m ++ ps) ≡ 1 + end_count ps
+end_count-cut_segments n zero m ps = refl
+end_count-cut_segments n (suc k) m ps = end_count-cut_segments n k _ ps
 
-none_yet : (n k r : ℕ) (m : List ℕ) (ps : List Segment) → r ≤ k → ends_in (take r (cut_segments n k m ++ ps)) ≡ 0
-none_yet n k zero m ps h = refl
-none_yet n zero (suc r) m ps h = absurd (omega arith)
-none_yet n (suc k) (suc r) m ps h = none_yet n k r _ ps (omega (arith, h))
+end_count-zero : (n k r : ℕ) (m : List ℕ) (ps : List Segment) → r ≤ k → end_count (take r (cut_segments n k m ++ ps)) ≡ 0
+end_count-zero n k zero m ps h = refl
+end_count-zero n zero (suc r) m ps h = absurd (omega arith)
+end_count-zero n (suc k) (suc r) m ps h = end_count-zero n k r _ ps (omega (arith, h))
 
-ended-segments : (n : ℕ) (m : Message) (ps : List Segment) → message_count (segments n m ++ ps) ≡ 1 + message_count ps
-ended-segments n m ps =
-    rw (ended-is (segments n m ++ ps), ended-is ps) (ends_in-cut_segments n ((length m - 1) / n) m ps)
+count-segments : (n : ℕ) (m : Message) (ps : List Segment) → message_count (segments n m ++ ps) ≡ 1 + message_count ps
+count-segments n m ps =
+    rw (count-is_end_count (segments n m ++ ps), count-is_end_count ps) (end_count-cut_segments n ((length m - 1) / n) m ps)
 
-pub ended-all : (n : ℕ) (ms : List Message) → message_count (flat_map (segments n) ms) ≡ length ms
-ended-all n [] = refl
-ended-all n (m ∷ ms) = omega (arith, ended-segments n m (flat_map (segments n) ms), ended-all n ms)
+pub count-all : (n : ℕ) (ms : List Message) → message_count (flat_map (segments n) ms) ≡ length ms
+count-all n [] = refl
+count-all n (m ∷ ms) = omega (arith, count-segments n m (flat_map (segments n) ms), count-all n ms)
 
 -- the first k messages are complete after the first r segments if and only if all their segments are among these r
 completed_by_length : (n r k : ℕ) (m : Message) (ms : List Message) →
@@ -328,14 +329,14 @@ completed_by_length n r k m ms h =
     let all = length-append ps (flat_map (segments n) (take k ms)) in
     elim (cases_lt r (length ps)) [
       | inl few ↦
-          let none = ended-is (take r (ps ++ rest)) ∙ none_yet n _ r m _ (omega (arith, few, size)) in
+          let none = count-is_end_count (take r (ps ++ rest)) ∙ end_count-zero n _ r m _ (omega (arith, few, size)) in
           ((λ below. absurd (omega (arith, below, none))), (λ below. absurd (omega (arith, below, all, few))))
       | inr enough ↦
           let j = r - length ps in
           let at : length ps + j ≡ r = omega (arith, enough) in
           let front = ap (λ i. take i (ps ++ rest)) (sym at) ∙ take-append-add ps _ j in
           let more = ap message_count front
-          ∙ ended-segments n m _ in (
+          ∙ count-segments n m _ in (
             (λ below. (omega (
               arith,
               (h j).0 (omega (arith, below, more)),
@@ -346,13 +347,13 @@ completed_by_length n r k m ms h =
           )
     ]
 
-pub ended-whole : (n r k : ℕ) (ms : List Message) → k ≤ length ms →
+pub count-whole : (n r k : ℕ) (ms : List Message) → k ≤ length ms →
     (k ≤ message_count (take r (flat_map (segments n) ms))) ↔ (length (flat_map (segments n) (take k ms)) ≤ r)
-ended-whole n r zero ms h = ((λ _. omega arith), (λ _. omega arith))
-ended-whole n r (suc k) [] h = absurd (omega (arith, h))
-ended-whole n r (suc k) (m ∷ ms) h = completed_by_length n r k m ms (λ j. ended-whole n j k ms (omega (arith, h)))
+count-whole n r zero ms h = ((λ _. omega arith), (λ _. omega arith))
+count-whole n r (suc k) [] h = absurd (omega (arith, h))
+count-whole n r (suc k) (m ∷ ms) h = completed_by_length n r k m ms (λ j. count-whole n j k ms (omega (arith, h)))
 
--- the first segments complete the first messages, and none is oversize
+-- the first segments of valid messages complete the first of these messages, and none of them is oversize
 prefix_is_take : {T : Type 0} (xs ys zs : List T) → xs ++ ys ≡ zs → xs ≡ take (length xs) zs
 prefix_is_take xs ys zs h = sym (take-append_seam xs ys) ∙ ap (take _) h
 
@@ -363,7 +364,7 @@ ended_messages-front n r ms h =
     let front = take r (flat_map (segments n) ms) in
     let whole = sym (ended_messages-append [] front _) ∙ ap (ended_messages []) (take-append-drop r _) ∙ ended_messages-all n ms h in
     prefix_is_take _ _ _ whole
-    ∙ ap (λ k. take k (map (λ m. Some m) ms)) (sym (ended-ended_messages front))
+    ∙ ap (λ k. take k (map (λ m. Some m) ms)) (sym (message_count-ended_messages front))
     ∙ take-map (λ m. Some m) _ ms
 
 -- ## Taking: What a joiner represents after it takes one more segment, by cases on the M bit and the length.
@@ -372,26 +373,26 @@ too_long : (ps : List Segment) (octets : List ℕ) → None ≡ message_if_fits 
     max_message_octets < length (partial_message ps ++ octets)
 too_long ps octets h = grind (arith, length-append (partial_message ps) octets)
 
--- with this segment, the message is not too long
+-- if the message with this segment appended is not too long, the joiner holds its octets
 pub goes_on : (ps : List Segment) (octets held : List ℕ) → held ≡ partial_message ps ++ octets →
     length held ≤ max_message_octets → HoldsReassemblyOf P.Open held (ps ++ (octets, true) ∷ [])
 goes_on ps octets held e h =
-    grind (arith, within_some held h, partial_message_after-more [] ps octets, latest_message_after-more [] ps octets)
+    grind (arith, message_if_fits-some held h, partial_message_after-more [] ps octets, completed_message_after-more [] ps octets)
 
 pub completes : (ps : List Segment) (octets held : List ℕ) → held ≡ partial_message ps ++ octets →
     length held ≤ max_message_octets → HoldsReassemblyOf P.Whole held (ps ++ (octets, false) ∷ [])
 completes ps octets held e h =
-    grind (arith, within_some held h, partial_message_after-last [] ps octets, latest_message_after-last [] ps octets)
+    grind (arith, message_if_fits-some held h, partial_message_after-last [] ps octets, completed_message_after-last [] ps octets)
 
--- with this segment, the message is too long
+-- if the message with this segment appended is too long, the joiner discards it
 pub taken_oversize : (ps : List Segment) (octets : List ℕ) → max_message_octets < length (partial_message ps ++ octets) →
     HoldsReassemblyOf P.Discarding [] (ps ++ (octets, true) ∷ [])
 taken_oversize ps octets h =
     grind (
       arith,
-      within_none (partial_message ps ++ octets) h,
+      message_if_fits-none (partial_message ps ++ octets) h,
       partial_message_after-more [] ps octets,
-      latest_message_after-more [] ps octets,
+      completed_message_after-more [] ps octets,
     )
 
 pub drops : (ps : List Segment) (octets : List ℕ) → max_message_octets < length (partial_message ps ++ octets) →
@@ -399,9 +400,9 @@ pub drops : (ps : List Segment) (octets : List ℕ) → max_message_octets < len
 drops ps octets h =
     grind (
       arith,
-      within_none (partial_message ps ++ octets) h,
+      message_if_fits-none (partial_message ps ++ octets) h,
       partial_message_after-last [] ps octets,
-      latest_message_after-last [] ps octets,
+      completed_message_after-last [] ps octets,
     )
 
 -- `held` is the incomplete message with these octets appended, and is not too long
@@ -444,20 +445,20 @@ length-empty_last_segments : (k : ℕ) → length (empty_last_segments k) ≡ k
 length-empty_last_segments zero = refl
 length-empty_last_segments (suc k) = omega (arith, length-empty_last_segments k)
 
-nothing_open : (k : ℕ) → partial_message (empty_last_segments k) ≡ []
-nothing_open zero = refl
-nothing_open (suc k) = nothing_open k
+partial_message-empty : (k : ℕ) → partial_message (empty_last_segments k) ≡ []
+partial_message-empty zero = refl
+partial_message-empty (suc k) = partial_message-empty k
 
 begins : (k : ℕ) (octets : List ℕ) → octets ≡ partial_message (empty_last_segments k) ++ octets
-begins k octets = ap (λ front. front ++ octets) (sym (nothing_open k))
+begins k octets = ap (λ front. front ++ octets) (sym (partial_message-empty k))
 
-number_of : (r : ℕ) → r ≤ 7 → ((r + 7) % 8 + 1) % 8 ≡ r
-number_of r few = grind arith
+mod8-next : (r : ℕ) → r ≤ 7 → ((r + 7) % 8 + 1) % 8 ≡ r
+mod8-next r few = grind arith
 
 count_of_empty : (r : ℕ) (segment : Segment) → r ≤ 7 → length (empty_last_segments ((r + 7) % 8) ++ segment ∷ []) % 8 ≡ r
 count_of_empty r segment few =
     ap (λ n. n % 8) (length-append _ _ ∙ ap (λ n. n + 1) (length-empty_last_segments ((r + 7) % 8)))
-    ∙ number_of r few
+    ∙ mod8-next r few
 
 history_of : (part : ReassemblyState) (held : List ℕ) (r : ℕ) → r ≤ 7 → length held ≤ max_message_octets →
     (part ≡ P.Discarding → held ≡ []) → HasHistory part held r
@@ -486,14 +487,14 @@ history_of P.Discarding held r few fits empty_if_discarding =
           (sym (empty_if_discarding refl)) over;
     }
 
-pub buffer_past : (part : ReassemblyState) (count : ℕ) (octets : List ℕ) (r : ℕ) → count ≤ max_message_octets →
+pub HasHistory-buffer : (part : ReassemblyState) (count : ℕ) (octets : List ℕ) (r : ℕ) → count ≤ max_message_octets →
     (part ≡ P.Discarding → count ≡ 0) → r ≤ 7 → HasHistory part (take count octets) r
-buffer_past part count octets r fits empty_if_discarding few =
+HasHistory-buffer part count octets r fits empty_if_discarding few =
     history_of _ _ r few (omega (arith, length-take count octets))
     (λ over. ap (λ n. take n octets) (empty_if_discarding over))
 
-pub joiner_past : (j : Joiner) (r : ℕ) → r ≤ 7 → HasHistory j.part (take j.len j.octets) r
-joiner_past j r few = buffer_past _ _ _ r j.in_range j.empty_if_discarding few
+pub HasHistory-joiner : (j : Joiner) (r : ℕ) → r ≤ 7 → HasHistory j.part (take j.len j.octets) r
+HasHistory-joiner j r few = HasHistory-buffer _ _ _ r j.in_range j.empty_if_discarding few
 
 -- ## Worked: Worked examples of segmentation and reassembly.
 
@@ -515,17 +516,17 @@ one_octet_too_many : messages (replicate 12 (replicate 20 7, true) ++ (replicate
     ∷ []
 one_octet_too_many = refl
 
-twelve_hold : reassembly_result (replicate 11 (replicate 20 7, true)) (replicate 20 7, true) ≡ More
-twelve_hold = refl
+twelve_fit : reassembly_result (replicate 11 (replicate 20 7, true)) (replicate 20 7, true) ≡ More
+twelve_fit = refl
 
-thirteen_do_not : reassembly_result (replicate 12 (replicate 20 7, true)) (replicate 20 7, true) ≡ Oversize
-thirteen_do_not = refl
+thirteen_oversize : reassembly_result (replicate 12 (replicate 20 7, true)) (replicate 20 7, true) ≡ Oversize
+thirteen_oversize = refl
 
-dropped_to_the_end : reassembly_result (replicate 13 (replicate 20 7, true)) (9 ∷ [], false) ≡ Oversize
-dropped_to_the_end = refl
+oversize_until_last : reassembly_result (replicate 13 (replicate 20 7, true)) (9 ∷ [], false) ≡ Oversize
+oversize_until_last = refl
 
-begins_anew : reassembly_result (replicate 13 (replicate 20 7, true) ++ (9 ∷ [], false) ∷ []) (9 ∷ [], false) ≡ Whole
-begins_anew = refl
+whole_after_drop : reassembly_result (replicate 13 (replicate 20 7, true) ++ (9 ∷ [], false) ∷ []) (9 ∷ [], false) ≡ Whole
+whole_after_drop = refl
 
-and_is_the_latest : latest_message (replicate 13 (replicate 20 7, true) ++ (9 ∷ [], false) ∷ (9 ∷ [], false) ∷ []) ≡ 9 ∷ []
-and_is_the_latest = refl
+completed_after_oversize : completed_message (replicate 13 (replicate 20 7, true) ++ (9 ∷ [], false) ∷ (9 ∷ [], false) ∷ []) ≡ 9 ∷ []
+completed_after_oversize = refl

@@ -13,6 +13,6 @@ segments_of p = segments (n201 p.channel) p.message.now
 abbrev pub channel_of_pieces : Pieces → Channel
 channel_of_pieces p = p.channel
 
--- the octets are a borrowed slice of the message that begins where the segment with a given index begins
+-- `octets` is a slice borrowed from the message, and begins where the segment with this index begins
 abbrev pub SegmentIsBorrowed : (pieces : Pieces) (index : ℕ) (octets : Bor (List ℕ)) → Type 0
 SegmentIsBorrowed p i octets = (octets.ref_ptr.0 ≡ p.message.ref_ptr.0) × (octets.ref_ptr.1 ≡ p.message.ref_ptr.1 + i * n201 p.channel)

@@ -4,13 +4,13 @@ use Rattle.segmenting.specs.declared.joiner.ReassemblyState.{ReassemblyState}
 use Rattle.segmenting.specs.declared.joiner.ReassemblyState.TheVariants.{Open, Whole, Discarding}
 use Rattle.segmenting.specs.declared.joiner.Joiner.{Joiner}
 use Rattle.segmenting.specs.Segments.{Message, Segment}
-use Rattle.segmenting.specs.Joining.{message_if_fits, partial_message, latest_message}
+use Rattle.segmenting.specs.Joining.{message_if_fits, partial_message, completed_message}
 
 -- the octets received so far of the message being reassembled, or `None` if there are more than 251
-abbrev pub partial_joiner_message : (part : ReassemblyState) (octets : List ℕ) → Option (List ℕ)
-partial_joiner_message Open octets = Some octets
-partial_joiner_message Whole octets = Some []
-partial_joiner_message Discarding octets = None
+abbrev pub message_in_reassembly : (part : ReassemblyState) (octets : List ℕ) → Option (List ℕ)
+message_in_reassembly Open octets = Some octets
+message_in_reassembly Whole octets = Some []
+message_in_reassembly Discarding octets = None
 
 -- the message that the last segment completed, or no octets if it completed no message
 abbrev pub completed_joiner_message : (part : ReassemblyState) (octets : List ℕ) → Message
@@ -20,8 +20,8 @@ completed_joiner_message other octets = []
 -- after the segments `taken`, a joiner holds the octets of the incomplete message (`part` is `Open`), the message that the last segment
 -- completed (`Whole`), or no octets while an oversize message is discarded (`Discarding`)
 pub record HoldsReassemblyOf (part : ReassemblyState) (octets : List ℕ) (taken : List Segment) : Type 0 where
-  pub partial_octets : partial_joiner_message part octets ≡ message_if_fits (partial_message taken)
-  pub completed_message : completed_joiner_message part octets ≡ latest_message taken
+  pub partial_octets : message_in_reassembly part octets ≡ message_if_fits (partial_message taken)
+  pub completed_message : completed_joiner_message part octets ≡ completed_message taken
   pub empty_if_discarding : part ≡ Discarding → octets ≡ []
 
 -- the joiner is in the state that a new joiner reaches by taking the given segments

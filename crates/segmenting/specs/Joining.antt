@@ -1,5 +1,5 @@
--- Reassembly of messages from segments. A message ends at each segment with M = 0 (GSM
--- 04.06, section 3.7.2). A message above 251 octets is discarded (this project's own rule).
+-- Reassembly of messages from segments. A message ends at each segment with M = 0 (GSM 04.06, section 3.7.2). A message of more than 251
+-- octets is discarded (this project's own rule).
 use Rattle.std.specs.Prelude.{ℕ, true, false, not, count_by, if◌then◌else◌, nat_lt, List, [], ◌∷◌, ◌++◌, length, Option}
 use Rattle.std.specs.Prelude.{Some, None, unwrap_or}
 use Rattle.std.specs.List.{filter_map}
@@ -12,7 +12,7 @@ abbrev pub message_if_fits : (octets : List ℕ) → Option Message
 message_if_fits octets = if nat_lt max_message_octets (length octets) then None else Some octets
 
 -- the messages that end in the given segments, one for each segment with M = 0; `None` is an oversize message. The first message begins
--- with the given octets, which earlier segments carried
+-- with `partial`, the octets of earlier segments
 abbrev pub ended_messages : (partial : List ℕ) (taken : List Segment) → List (Option Message)
 ended_messages partial [] = []
 ended_messages partial ((octets, true) ∷ ps) = ended_messages (partial ++ octets) ps
@@ -26,8 +26,8 @@ messages ps = filter_map (λ ending. ending) (ended_messages [] ps)
 abbrev pub message_count : (taken : List Segment) → ℕ
 message_count ps = count_by (λ p. not p.1) ps
 
--- the octets of the message that is still incomplete after a list of segments. The first message begins with the given octets, which
--- earlier segments carried
+-- the octets of the message that is still incomplete after a list of segments. The first message begins with `partial`, the octets of
+-- earlier segments
 abbrev pub partial_message_after : (partial : List ℕ) (taken : List Segment) → List ℕ
 partial_message_after partial [] = partial
 partial_message_after partial ((octets, true) ∷ ps) = partial_message_after (partial ++ octets) ps
@@ -36,8 +36,8 @@ partial_message_after partial ((octets, false) ∷ ps) = partial_message_after [
 abbrev pub partial_message : (taken : List Segment) → List ℕ
 partial_message ps = partial_message_after [] ps
 
--- the result of joining a segment to the given segments: `Oversize` if the message becomes too long, otherwise `More` if M = 1 and `Whole`
--- if M = 0
+-- the result of taking a segment after the given segments: `Oversize` if the message becomes too long, otherwise `More` if M = 1 and
+-- `Whole` if M = 0
 abbrev pub reassembly_result : (taken : List Segment) (segment : Segment) → Joined
 reassembly_result ps p =
     if nat_lt max_message_octets (length (partial_message ps ++ p.0)) then Oversize else (if p.1 then More else Whole)
@@ -51,13 +51,13 @@ message_if_whole other m = []
 abbrev pub delivered_by_segment : (taken : List Segment) (segment : Segment) → List Message
 delivered_by_segment ps p = message_if_whole (reassembly_result ps p) (partial_message ps ++ p.0)
 
--- the message that the last segment of a list completes, or no octets if it completes no message. The first message begins with the given
--- octets, which earlier segments carried
-abbrev pub latest_message_after : (partial : List ℕ) (taken : List Segment) → Message
-latest_message_after partial [] = []
-latest_message_after partial ((octets, true) ∷ ps) = latest_message_after (partial ++ octets) ps
-latest_message_after partial ((octets, false) ∷ []) = unwrap_or (message_if_fits (partial ++ octets)) []
-latest_message_after partial ((octets, false) ∷ p ∷ ps) = latest_message_after [] (p ∷ ps)
+-- the message that the last segment of a list completes, or no octets if it completes no message. The first message begins with `partial`,
+-- the octets of earlier segments
+abbrev pub completed_message_after : (partial : List ℕ) (taken : List Segment) → Message
+completed_message_after partial [] = []
+completed_message_after partial ((octets, true) ∷ ps) = completed_message_after (partial ++ octets) ps
+completed_message_after partial ((octets, false) ∷ []) = unwrap_or (message_if_fits (partial ++ octets)) []
+completed_message_after partial ((octets, false) ∷ p ∷ ps) = completed_message_after [] (p ∷ ps)
 
-abbrev pub latest_message : (taken : List Segment) → Message
-latest_message ps = latest_message_after [] ps
+abbrev pub completed_message : (taken : List Segment) → Message
+completed_message ps = completed_message_after [] ps

@@ -17,17 +17,17 @@ Segment = List ℕ × Bool
 abbrev pub max_message_octets : ℕ
 max_message_octets = 251
 
--- the message `message` has 1 to 251 octets
+-- `message` has 1 to 251 octets
 pub record IsValidMessage (message : Message) : Type 0 where
   pub nonempty : 1 ≤ length message
   pub at_most : length message ≤ max_message_octets
 
--- the segment `segment` has `limit` octets, as many as an I frame can carry, and M = 1
+-- `segment` is full: it has `limit` octets, the most that an I frame can carry, and M = 1
 pub record IsFullSegment (limit : ℕ) (segment : Segment) : Type 0 where
   pub size : length segment.0 ≡ limit
   pub more : segment.1 ≡ true
 
--- the segment `segment` has 1 to `limit` octets, and M = 0
+-- `segment` can end a message: it has 1 to `limit` octets, and M = 0
 pub record IsLastSegment (limit : ℕ) (segment : Segment) : Type 0 where
   pub nonempty : 1 ≤ length segment.0
   pub at_most : length segment.0 ≤ limit
@@ -43,7 +43,7 @@ AreFullExceptLast n (p ∷ q ∷ ps) = IsFullSegment n p × AreFullExceptLast n 
 abbrev pub reassembled_octets : (pieces : List Segment) → List ℕ
 reassembled_octets ps = flat_map (λ p. p.0) ps
 
--- `pieces` are the segments of the message `message` if each I frame carries at most `limit` octets
+-- `pieces` are the segments of `message` if each I frame carries at most `limit` octets
 pub record AreSegments (limit : ℕ) (message : Message) (pieces : List Segment) : Type 0 where
   pub octets : reassembled_octets pieces ≡ message
   pub full_except_last : AreFullExceptLast limit pieces

@@ -13,7 +13,7 @@ pub struct MessageBuffer {
 }
 
 impl MessageBuffer {
-    /// An empty message; all octets of its buffer are 0.
+    /// Returns an empty message; all octets of its buffer are 0.
     pub fn empty() -> MessageBuffer
         ensures { result ≡ message_buffer [] }
     {

@@ -44,7 +44,7 @@ pub struct Joiner {
 impl Joiner {
     ghost use Rattle.std.specs.Prelude.{◌+◌, ◌<◌, List, [], ◌∷◌, ◌++◌, take, IfSome, MatchOption};
     ghost use Rattle.segmenting.specs.Segments.{Segment};
-    ghost use Rattle.segmenting.specs.Joining.{reassembly_result, partial_message, latest_message};
+    ghost use Rattle.segmenting.specs.Joining.{reassembly_result, partial_message, completed_message};
     ghost use Rattle.segmenting.specs.Joiners.{HasTakenSegments};
 
     /// Creates a joiner that has not taken any segments.
@@ -88,10 +88,10 @@ impl Joiner {
         Joined::Whole
     }
 
-    /// The message that the last segment completed, or no octets if it completed none.
+    /// Returns the message that the last segment completed, or no octets if it completed none.
     pub fn message(&self) -> &[u8]
-        ensures latest_message { (taken : List Segment) → HasTakenSegments self.now taken
-            → result.now ≡ latest_message taken }
+        ensures completed_message { (taken : List Segment) → HasTakenSegments self.now taken
+            → result.now ≡ completed_message taken }
         ensures most { length result.now ≤ max_message_octets }
     {
         match self.part {

@@ -8,7 +8,7 @@ ghost use Rattle.lapdm_frame.specs.Layout.{n201};
 ghost use Rattle.segmenting.specs.Segments.{Message, Segment, IsValidMessage, AreSegments, segments};
 ghost use Rattle.segmenting.specs.Joining.{ended_messages, messages, message_count, reassembly_result, message_if_whole};
 ghost use Rattle.segmenting.specs.Joining.{delivered_by_segment};
-ghost use Rattle.segmenting.specs.Joining.{latest_message};
+ghost use Rattle.segmenting.specs.Joining.{completed_message};
 
 /// Law: for any segment size above 0, there is exactly one way to cut a message of 1 to 251 octets into segments.
 pub fn law_segmentation_is_unique()
@@ -27,8 +27,8 @@ pub fn law_messages_are_reassembled()
 pub fn law_segment_delivers_completed_message()
     ensures messages { (ps : List Segment) (p : Segment)
         → messages (ps ++ p ∷ []) ≡ messages ps ++ delivered_by_segment ps p }
-    ensures delivered_is_latest { (ps : List Segment) (p : Segment)
-        → delivered_by_segment ps p ≡ message_if_whole (reassembly_result ps p) (latest_message (ps ++ p ∷ [])) }
+    ensures delivered_is_completed { (ps : List Segment) (p : Segment)
+        → delivered_by_segment ps p ≡ message_if_whole (reassembly_result ps p) (completed_message (ps ++ p ∷ [])) }
 {}
 
 /// Law: the first `r` segments of a list of messages complete the first `c` messages, none of them oversize, where `c` is the number of

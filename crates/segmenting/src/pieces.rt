@@ -28,7 +28,7 @@ impl<'a> Pieces<'a> {
     ghost use Rattle.segmenting.specs.Segments.{segments, max_segments_per_message};
     ghost use Rattle.segmenting.specs.Cuttings.{segments_of, channel_of_pieces, SegmentIsBorrowed};
 
-    /// The segments of the message for SDCCH, of at most 20 octets each.
+    /// Returns the segments of the message for SDCCH, of at most 20 octets each.
     pub fn new(message: &'a [u8]) -> Pieces<'a>
         requires some { 1 ≤ length message.now }
         requires most { length message.now ≤ max_message_octets }
@@ -38,7 +38,7 @@ impl<'a> Pieces<'a> {
         Pieces::new_on(message, Channel::Sdcch)
     }
 
-    /// The segments of the message for `channel`, of at most N201 octets each: 20 on SDCCH, 18 on SACCH.
+    /// Returns the segments of the message for `channel`, of at most N201 octets each: 20 on SDCCH, 18 on SACCH.
     pub fn new_on(message: &'a [u8], channel: Channel) -> Pieces<'a>
         requires some { 1 ≤ length message.now }
         requires most { length message.now ≤ max_message_octets }
@@ -48,7 +48,7 @@ impl<'a> Pieces<'a> {
         Pieces { message, channel }
     }
 
-    /// The number of segments: at most 13 on SDCCH, 14 on SACCH.
+    /// Returns the number of segments: at most 13 on SDCCH, 14 on SACCH.
     pub fn count(&self) -> usize
         ensures count { result ≡ length (segments_of self.now) }
         ensures some { 1 ≤ result }
@@ -57,7 +57,7 @@ impl<'a> Pieces<'a> {
         (self.message.len() - 1) / self.channel.n201() + 1
     }
 
-    /// The segment with index `i`, counted from 0.
+    /// Returns the segment with index `i`, counted from 0.
     pub fn piece(&self, i: usize) -> Piece<'a>
         requires { i < length (segments_of self.now) }
         ensures value { slice_get (segments_of self.now) i ≡ Some (result.octets.now, result.more) }

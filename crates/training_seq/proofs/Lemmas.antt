@@ -46,7 +46,7 @@ sign_at [] i h = absurd (omega (arith, h))
 sign_at (bit ∷ bits) zero h = refl
 sign_at (bit ∷ bits) (suc i) h = sign_at bits i (omega (arith, h))
 
--- the sign of a training sequence at an index, in the list of all eight signs at that index
+-- in the list of the signs of all eight training sequences at one index, element `tsc` is the sign of that sequence
 pub sign_in_row : (tsc i : ℕ) → tsc ≤ 7
     → get_or (map (λ bits. sign_of_bit (get_or bits i 0)) training_sequences) tsc (pos 0) ≡ sign_of_bit (get_or (midamble tsc) i 0)
 sign_in_row tsc i h = get_or-map (λ bits. sign_of_bit (get_or bits i 0)) training_sequences tsc [] (pos 0) (omega arith)
@@ -59,7 +59,7 @@ pub small_sign : (tsc i : ℕ) → tsc ≤ 7 → i < 26 → IsMagnitudeWithin 1 
 small_sign tsc i h lt =
     rw (sign_at (midamble tsc) i (omega (arith, lt, length-midamble tsc h))) (small_in_row tsc i h lt)
 
--- The lanes of a vector of totals to which a multiple of eight signs is added.
+-- A multiple of eight signs is added to eight totals, lane by lane, in 16-bit arithmetic.
 
 abbrev plus : ℕ → ℕ → ℕ
 plus a b = (a + b) % 2 ^ 16
@@ -110,7 +110,7 @@ pub total_with_product : (totals : List ℤ) (value : ℤ) (signs : List ℤ) (k
 total_with_product totals value signs k e e' lt t v s =
     at 8 totals value signs k e e' lt ∙ one_lane (get_or totals k (pos 0)) value (get_or signs k (pos 0)) t v s
 
--- a total is unchanged when it is passed on
+-- a total that is at most 13312 in absolute value is unchanged by conversion to 16 bits and back
 pub passed : (n : ℕ) (totals : List ℤ) (k : ℕ) → length totals ≡ n → k < n → IsMagnitudeWithin 13312 (get_or totals k (pos 0))
     → get_or (map (to_z w16) (map (of_z w16) totals)) k (pos 0) ≡ get_or totals k (pos 0)
 passed (suc n) (total ∷ totals) zero e lt h = to_z-of_z w16 total (omega (arith, ints))
@@ -129,7 +129,7 @@ correlation_more soft bits i total all hs hb before =
     rw (drop_more soft i (pos 0), drop_more bits i 0) at before in
     omega (arith, ints)
 
--- the wrong soft bits from index i on are those from i + 1 on, plus one if soft bit i is wrong
+-- the number of wrong soft bits from index i on is the number from i + 1 on, plus one if soft bit i is wrong
 pub wrong_more : (soft : List ℤ) (bits : List ℕ) (i : ℕ) → i < length soft → i < length bits →
     count_wrong_bits (drop i soft) (drop i bits) ≡ wrong_bits_at soft i (sign_of_bit (get_or bits i 0)) + count_wrong_bits
     (drop (i + 1) soft)
@@ -180,7 +180,7 @@ LeadsBelow-one score = record {
   others = λ n h ne. absurd (omega arith);
 }
 
--- the next index has a greater score and becomes the best
+-- if the next index has a greater score, it becomes the best
 pub LeadsBelow-overtaken : (score : ℕ → ℤ) (end best : ℕ) → LeadsBelow score end best → score best <ℤ score end →
     LeadsBelow score (end + 1) end
 LeadsBelow-overtaken score end best leads more = record {
@@ -191,7 +191,7 @@ LeadsBelow-overtaken score end best leads more = record {
   behind n h (inl same) = rw same more
   behind n h (inr other) = omega (arith, ints, leads.others n h other)
 
--- the next index has no greater score
+-- if the next index has no greater score, the best index remains the best
 pub LeadsBelow-kept : (score : ℕ → ℤ) (end best : ℕ) → LeadsBelow score end best → score end ≤ℤ score best →
     LeadsBelow score (end + 1) best
 LeadsBelow-kept score end best leads less = record {
@@ -212,7 +212,7 @@ IsFirstMaximum-from_LeadsBelow score best leads = record {
   others = λ n h ne. leads.others n (omega arith) ne;
 }
 
--- two equal scores have the same first greatest index
+-- if two scores are equal at every index, the first index with the greatest score is the same for both
 pub IsFirstMaximum-same : (score total : ℕ → ℤ) (last best : ℕ) → ((n : ℕ) → n ≤ last → score n ≡ total n) →
     IsFirstMaximum score last best → IsFirstMaximum total last best
 IsFirstMaximum-same score total last best same first = record {

@@ -14,7 +14,7 @@ total_correlation a b c d tsc =
     let bits = midamble tsc in
     ((likelihood a bits +ℤ likelihood b bits) +ℤ likelihood c bits) +ℤ likelihood d bits
 
--- the training sequence code, 0 to 7, has the greatest total correlation with four midambles; on a tie, it is the lowest
+-- the training sequence code, 0 to 7, has the greatest total correlation with four midambles; on a tie, it is the lowest such code
 abbrev pub CorrelatesBest : (first_midamble second_midamble third_midamble fourth_midamble : List ℤ) (tsc : ℕ) → Type 0
 CorrelatesBest a b c d tsc = IsFirstMaximum (total_correlation a b c d) 7 tsc
 

@@ -42,7 +42,7 @@ fn add_midambles(a: &[i8], b: &[i8], c: &[i8], d: &[i8]) -> [i16; 26]
     sums
 }
 
-// The sum of the soft bits at index `i` of the four midambles.
+// Returns the sum of the soft bits at index `i` of the four midambles.
 fn midamble_sum_at(a: &[i8], b: &[i8], c: &[i8], d: &[i8], i: usize) -> i16
     requires a { i < length a.now }
     requires b { i < length b.now }
@@ -77,7 +77,7 @@ fn count_wrong_training_bits(a: &[i8], b: &[i8], c: &[i8], d: &[i8], tsc: u8) ->
     requires b { length b.now ≡ 26 }
     requires c { length c.now ≡ 26 }
     requires d { length d.now ≡ 26 }
-    requires known { tsc ≤ 7 }
+    requires tsc_in_range { tsc ≤ 7 }
     ensures { result ≡ wrong_midamble_bits a.now b.now c.now d.now tsc }
 {
     let signs = signs(tsc);

@@ -8,10 +8,10 @@ ghost use Rattle.training_seq.specs.Sums.{soft_bit_at};
 use crate::sequences::all_tsc_signs_at;
 use std::simd::prelude::*;
 
-/// The correlation of 26 soft bits with a training sequence: the sum of the soft bits, each negated where the sequence has a 1.
+/// Returns the correlation of 26 soft bits with a training sequence: the sum of the soft bits, each negated where the sequence has a 1.
 pub fn correlate(soft: &[i8], tsc: u8) -> i32
     requires count { length soft.now ≡ 26 }
-    requires known { tsc ≤ 7 }
+    requires tsc_in_range { tsc ≤ 7 }
     ensures { result ≡ likelihood soft.now (midamble tsc) }
 {
     i32::from(correlate_sums(&widen_to_i16(soft))[tsc as usize])
@@ -30,7 +30,7 @@ fn widen_to_i16(soft: &[i8]) -> [i16; 26]
     wide
 }
 
-/// The correlations of the sums of four midambles with the eight training sequences.
+/// Returns the correlations of the sums of four midambles with the eight training sequences.
 pub(crate) fn correlate_sums(sums: &[i16; 26]) -> [i16; 8]
     requires small { All (IsMagnitudeWithin 512) sums.now }
     ensures value { (tsc : ℕ) → tsc ≤ 7 → soft_bit_at result tsc ≡ likelihood sums.now (midamble tsc) }
@@ -45,14 +45,14 @@ pub(crate) fn correlate_sums(sums: &[i16; 26]) -> [i16; 8]
     totals.lanes.to_array()
 }
 
-/// The correlations with the eight training sequences so far.
+/// The correlations with the eight training sequences, summed over the indexes so far.
 #[derive(Clone, Copy)]
 struct CorrelationTotals {
     lanes: i16x8,
 }
 
 impl CorrelationTotals {
-    /// Adds to each total `value` times the sign at the same index.
+    /// Adds to each total the product of `value` and the sign with the same index.
     #[inline]
     fn add_product(self, value: i16, signs: &[i16; 8]) -> CorrelationTotals
         requires count { length self.lanes ≡ 8 }
@@ -69,7 +69,7 @@ impl CorrelationTotals {
     }
 }
 
-/// `value` if `sign` is 1, and `-value` if it is -1.
+/// Returns the product of `value` and `sign`, which is -1, 0 or 1.
 pub(crate) fn times_sign(value: i16, sign: i16) -> i16
     requires small { IsMagnitudeWithin 512 value }
     requires sign { IsMagnitudeWithin 1 sign }

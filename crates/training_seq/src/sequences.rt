@@ -92,7 +92,7 @@ static SIGNS_BY_INDEX: [[i16; 8]; 26] = [
     [-1, -1, 1, 1, -1, 1, -1, 1],
 ];
 
-/// The 26 bits of the training sequence with code `tsc` (GSM 05.02 section 5.2.3).
+/// Returns the 26 bits of the training sequence with code `tsc` (GSM 05.02 section 5.2.3).
 pub fn sequence(tsc: u8) -> [u8; 26]
     requires { tsc ≤ 7 }
     ensures value { result ≡ midamble tsc }
@@ -102,7 +102,7 @@ pub fn sequence(tsc: u8) -> [u8; 26]
     TRAINING_SEQUENCES[tsc as usize]
 }
 
-/// The 26 signs of the training sequence with code `tsc`: 1 for each bit 0, and -1 for each bit 1.
+/// Returns the 26 signs of the training sequence with code `tsc`: 1 for each bit 0, and -1 for each bit 1.
 pub(crate) fn signs(tsc: u8) -> &'static [i16; 26]
     requires { tsc ≤ 7 }
     ensures { result.now ≡ signs_of_bits (midamble tsc) }
@@ -110,7 +110,7 @@ pub(crate) fn signs(tsc: u8) -> &'static [i16; 26]
     &TRAINING_SIGNS[tsc as usize]
 }
 
-/// The signs of the eight training sequences at index `i`.
+/// Returns the signs of the eight training sequences at index `i`.
 pub(crate) fn all_tsc_signs_at(bit_index: usize) -> &'static [i16; 8]
     requires { bit_index < 26 }
     ensures { result.now ≡ map (λ bits. sign_of_bit (slice_index bits bit_index)) training_sequences }

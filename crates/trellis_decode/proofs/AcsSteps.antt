@@ -19,7 +19,7 @@ use Rattle.{
       AcsLanes.{AbsFit16Bits, AreBranchMetrics, AreDecisionLanes, DifferByAtMost4096, DifferencesFit16Bits, HasBranchMetrics, bit_reversed},
       AcsLanes.{interleaved_lanes, lane_decisions, lane_decision, lane_metric, lane_of_state, lanes_in_state_order, metrics_of_lanes},
       Candidates.AreAcsCandidates,
-      Hard.{AreInt8, AreMinusOneToOne, HasHardBranchMetrics, HaveHeadroom8, IsHardBit, hard_lane_metrics, lane_of_next_state_0},
+      Hard.{AreInt8, AreWithinOne, HasHardBranchMetrics, HaveHeadroom8, IsHardBit, hard_lane_metrics, lane_of_next_state_0},
       Hard.{lane_of_next_state_1, metric_of_hard_lane, sign_bit_of},
       Lanes.{AreSignedOctets, IsSignedOctet, lane},
       SurvivorPaths.AreMetricsWithin,
@@ -30,8 +30,8 @@ use Rattle.{
 }
 use lib.Lanes.{Each1}
 
--- ## BranchMetricLanes: The branch metric of bit 1 is the negative of that of bit 0, and so is the branch metric of bit 0 in the state 8
--- higher.
+-- ## BranchMetricLanes: The branch metric of bit 1 is the negative of that of bit 0. The branch metric of bit 0 in state s + 8 is the
+-- negative of that in state s.
 
 -- P holds for each number below n, written as one conjunction
 abbrev pub EachBelow : (ℕ → Type 0) → ℕ → Type 0
@@ -42,7 +42,7 @@ pub each : (P : ℕ → Type 0) (n : ℕ) → EachBelow P n → (s : ℕ) → s 
 each P zero h s lt = absurd (omega arith)
 each P (suc n) h s lt = below_more P n (each P n h.0) h.1 s (omega arith)
 
--- f of each number below n
+-- the values of f for the numbers below n
 abbrev values : {A : Type 0} → (ℕ → A) → ℕ → List A
 values f zero = []
 values f (suc n) = f n ∷ values f n
@@ -58,7 +58,7 @@ bit_metric-zero p = omega (arith, ints)
 pub bit_metric-one : (p : ℤ) → bit_metric p 1 ≡ pos 0 -ℤ p
 bit_metric-one p = omega (arith, ints)
 
--- the two values of a coded bit add opposite numbers
+-- the bit metrics of the two values of a coded bit are opposite numbers
 bit_metric-opposite : (p : ℤ) (x y : ℕ) → x + y ≡ 1 → bit_metric p x ≡ pos 0 -ℤ bit_metric p y
 bit_metric-opposite p zero (suc zero) e = omega (arith, ints)
 bit_metric-opposite p (suc zero) zero e = omega (arith, ints)
@@ -83,19 +83,19 @@ branch_metric-high pair two s lt = branch_metric-opposite pair (8 + s) s 0 0 two
 
 -- ---- soft bits widened to 16-bit lanes
 
-pub widened_fits : (soft : List ℤ) → AreSignedOctets soft →
+pub widen_to_i16-fits : (soft : List ℤ) → AreSignedOctets soft →
     Each1 (λ a. FitsSigned w16 (cast_signed w8 a)) (map (cast_unsigned w8) soft)
-widened_fits [] octets = tt
-widened_fits (x ∷ soft) octets =
+widen_to_i16-fits [] octets = tt
+widen_to_i16-fits (x ∷ soft) octets =
     let head = All-head IsSignedOctet x soft octets in
-    (omega (arith, ints), widened_fits soft (All-tail IsSignedOctet x soft octets))
+    (omega (arith, ints), widen_to_i16-fits soft (All-tail IsSignedOctet x soft octets))
 
-pub widened_same : (soft : List ℤ) → AreSignedOctets soft →
+pub widen_to_i16-same : (soft : List ℤ) → AreSignedOctets soft →
     map (cast_signed w16) (map (λ a. cast_unsigned w16 (cast_signed w8 a)) (map (cast_unsigned w8) soft)) ≡ soft
-widened_same [] octets = refl
-widened_same (x ∷ soft) octets =
+widen_to_i16-same [] octets = refl
+widen_to_i16-same (x ∷ soft) octets =
     let head = All-head IsSignedOctet x soft octets in
-    ap₂ (λ y ys. y ∷ ys) (omega (arith, ints)) (widened_same _ (All-tail IsSignedOctet x _ octets))
+    ap₂ (λ y ys. y ∷ ys) (omega (arith, ints)) (widen_to_i16-same _ (All-tail IsSignedOctet x _ octets))
 
 -- ---- the branch metrics of one position
 
@@ -110,9 +110,9 @@ metrics_of_bits x y =
     let d : ℤ = cast_signed w16 ((0 + (65536 - difference)) % 65536) in
     a ∷ c ∷ a ∷ c ∷ b ∷ d ∷ b ∷ d ∷ []
 
-negative_is : (x : ℕ) → x < 65536 → negsuc 32766 ≤ℤ cast_signed w16 x →
+negated-cast_signed : (x : ℕ) → x < 65536 → negsuc 32766 ≤ℤ cast_signed w16 x →
     cast_signed w16 ((0 + (65536 - x)) % 65536) ≡ pos 0 -ℤ cast_signed w16 x
-negative_is x small low =
+negated-cast_signed x small low =
     cc (
       of_z-to_z w16 x small,
       difference-lane (pos 0) (cast_signed w16 x) (omega (arith, ints)) (omega (arith, ints)) (omega
@@ -128,11 +128,11 @@ unfolding branch_metric
 metrics_of_pair-are p q hp hq =
     let a = sum-lane p q (omega (arith, ints)) (omega (arith, ints)) (omega (arith, ints)) in
     let b = difference-lane p q (omega (arith, ints)) (omega (arith, ints)) (omega (arith, ints)) in
-    let c = negative_is ((cast_unsigned w16 p + cast_unsigned w16 q) % 65536) (omega arith) (omega (arith, ints)) in
-    let d = negative_is ((cast_unsigned w16 p + (65536 - cast_unsigned w16 q)) % 65536) (omega arith) (omega (arith, ints)) in (
+    let c = negated-cast_signed ((cast_unsigned w16 p + cast_unsigned w16 q) % 65536) (omega arith) (omega (arith, ints)) in
+    let d = negated-cast_signed ((cast_unsigned w16 p + (65536 - cast_unsigned w16 q)) % 65536) (omega arith) (omega (arith, ints)) in (
       record {
         count = refl;
-        each = each (λ k. lane (metrics_of_pair p q) k ≡ branch_metric (bit_reversed k) 0 (p ∷ q ∷ [])) 8 (omega (arith, ints));
+        each_lane = each (λ k. lane (metrics_of_pair p q) k ≡ branch_metric (bit_reversed k) 0 (p ∷ q ∷ [])) 8 (omega (arith, ints));
       },
       record {
         count = refl;
@@ -167,7 +167,7 @@ four_pairs (p ∷ q ∷ r ∷ s ∷ t ∷ u ∷ v ∷ w ∷ []) octets count =
     )
 four_pairs soft octets count = absurd (omega arith)
 
--- ---- the pairs of soft bits of a longer list
+-- ---- the pairs of soft bits in a list
 
 -- the pair of soft bits at index i
 abbrev pub pair_at : List ℤ → ℕ → List ℤ
@@ -181,9 +181,9 @@ pair_and_after soft i j e =
     rw (← e, ← drop-drop 2 i soft) (take-append-drop 2 (drop i soft))
 
 -- a pair of soft bits in a slice is a pair in the whole list
-pub pair_of_part : (soft : List ℤ) (from n i j : ℕ) → i + 2 ≤ n → from + i ≡ j →
+pub pair_at-take_drop : (soft : List ℤ) (from n i j : ℕ) → i + 2 ≤ n → from + i ≡ j →
     pair_at (take n (drop from soft)) i ≡ pair_at soft j
-pair_of_part soft from n i j inside e =
+pair_at-take_drop soft from n i j inside e =
     ap (take 2) (ap (λ n. drop i (take n (drop from soft))) (sym (omega arith)) ∙ drop-take i _ _)
     ∙ take-take 2 (n - i) _ (omega arith)
     ∙ ap (take 2) (cc (drop-drop i _ _, e))
@@ -192,10 +192,10 @@ pair_of_part soft from n i j inside e =
 -- the next states after bit 0 are one whole vector, and those after bit 1 the other.
 
 -- in one lane, the greater candidate metric is the path metric, and its bit is the decision
-pub chosen_lane : (after pair : List ℤ) (s : ℕ) (z o value taken : ℤ) → lane_metric z ≡ candidate_metric after pair s 0 →
+pub IsDecision-lane : (after pair : List ℤ) (s : ℕ) (z o value taken : ℤ) → lane_metric z ≡ candidate_metric after pair s 0 →
     lane_metric o ≡ candidate_metric after pair s 1 → value ≡ (if int_lt z o then o else z) →
     taken ≡ (if int_lt z o then negsuc 0 else pos 0) → IsDecision after pair s (lane_metric value) (lane_decision taken)
-chosen_lane after pair s z o value taken zero_is one_is chosen bit = rw (chosen, bit) (by _ refl) where
+IsDecision-lane after pair s z o value taken zero_is one_is chosen bit = rw (chosen, bit) (by _ refl) where
   by : (t : Bool) → int_lt z o ≡ t →
       IsDecision after pair s (lane_metric (if t then o else z)) (lane_decision (if t then negsuc 0 else pos 0))
   by true e = inr (refl, one_is, omega (arith, ints))
@@ -240,13 +240,13 @@ pub odd_metric : (even odd : List ℤ) (k : ℕ) → k < 8 → lane (metrics_of_
 odd_metric _ odd = same_below _ _ refl
 
 -- the path metrics that result from a step, from the lanes of states 0 to 7 (low) and 8 to 15 (high)
-abbrev pub stepped : List ℤ → List ℤ → List ℤ
-stepped low high = metrics_of_lanes (interleaved_lanes low high 0 1 2 3) (interleaved_lanes low high 4 5 6 7)
+abbrev pub step_metrics : List ℤ → List ℤ → List ℤ
+step_metrics low high = metrics_of_lanes (interleaved_lanes low high 0 1 2 3) (interleaved_lanes low high 4 5 6 7)
 
-pub low_metric : (low high : List ℤ) (k : ℕ) → k < 8 → lane (stepped low high) (bit_reversed k) ≡ lane_metric (lane low k)
+pub low_metric : (low high : List ℤ) (k : ℕ) → k < 8 → lane (step_metrics low high) (bit_reversed k) ≡ lane_metric (lane low k)
 low_metric low high = same_below _ _ refl
 
-pub high_metric : (low high : List ℤ) (k : ℕ) → k < 8 → lane (stepped low high) (8 + bit_reversed k) ≡ lane_metric (lane high k)
+pub high_metric : (low high : List ℤ) (k : ℕ) → k < 8 → lane (step_metrics low high) (8 + bit_reversed k) ≡ lane_metric (lane high k)
 high_metric low high = same_below _ _ refl
 
 -- the candidate metrics in one lane
@@ -254,16 +254,16 @@ module _ (even odd branch_metrics pair : List ℤ) (has : HasBranchMetrics branc
   abbrev candidate_at : ℕ → ℕ → ℤ
   candidate_at = candidate_metric (metrics_of_lanes even odd) pair
 
-  pub candidates_at : (k : ℕ) → k < 8 → (lane_metric (lane even k +ℤ lane branch_metrics k) ≡ candidate_at (bit_reversed k) 0)
+  pub candidate_at-lanes : (k : ℕ) → k < 8 → (lane_metric (lane even k +ℤ lane branch_metrics k) ≡ candidate_at (bit_reversed k) 0)
       × (lane_metric (lane odd k -ℤ lane branch_metrics k) ≡ candidate_at (bit_reversed k) 1)
       × (lane_metric (lane even k -ℤ lane branch_metrics k) ≡ candidate_at (8 + bit_reversed k) 0)
       × (lane_metric (lane odd k +ℤ lane branch_metrics k) ≡ candidate_at (8 + bit_reversed k) 1)
   unfolding candidate_metric
-  candidates_at k lt =
+  candidate_at-lanes k lt =
       omega (
         arith,
         ints,
-        has.each k lt,
+        has.each_lane k lt,
         even_metric even odd k lt,
         odd_metric even odd k lt,
         same_below (λ k. lane (metrics_of_lanes even odd) (next_trellis_state (8 + bit_reversed k) 0)) (λ k. lane_metric (lane even k))
@@ -276,27 +276,27 @@ module _ (even odd branch_metrics pair : List ℤ) (has : HasBranchMetrics branc
       )
 
 -- a path metric is no less than the smaller path metric of the two next states, since one of the two branch metrics is not negative
-pub floor_kept : (after pair : List ℤ) (s bit : ℕ) (value floor : ℤ) → length pair ≡ 2 → s < 16 →
+pub IsDecision-lower_bound : (after pair : List ℤ) (s bit : ℕ) (value floor : ℤ) → length pair ≡ 2 → s < 16 →
     floor ≤ℤ lane after (next_trellis_state s 0) → floor ≤ℤ lane after (next_trellis_state s 1)
     → IsDecision after pair s value bit → floor ≤ℤ value
 unfolding candidate_metric
-floor_kept after pair s bit value floor count lt low0 low1 h = omega (arith, ints, branch_metric-one _ count s)
+IsDecision-lower_bound after pair s bit value floor count lt low0 low1 h = omega (arith, ints, branch_metric-one _ count s)
 
 -- ## Leads: The difference between the candidate metrics of bit 0 and bit 1: its sign is the decision, and its absolute value the cost of
 -- the other bit.
 
 -- the decision is 1 if the difference is negative
-pub choice_is : (after pair : List ℤ) (s bit bit' : ℕ) (value lead : ℤ) → IsDecision after pair s value bit →
+pub IsDecision-bit : (after pair : List ℤ) (s bit bit' : ℕ) (value lead : ℤ) → IsDecision after pair s value bit →
     lead ≡ candidate_metric after pair s 0 -ℤ candidate_metric after pair s 1 → bit' ≡ (if int_lt lead (pos 0) then 1 else 0) →
     IsDecision after pair s value bit'
-choice_is after pair s bit bit' value lead h is b = grind arith
+IsDecision-bit after pair s bit bit' value lead h is b = grind arith
 
 -- the absolute value of the difference is the cost of the other bit
-pub loss_is : (after pair : List ℤ) (s bit : ℕ) (value lead loss : ℤ) → IsDecision after pair s value bit →
+pub IsDecision-loss : (after pair : List ℤ) (s bit : ℕ) (value lead loss : ℤ) → IsDecision after pair s value bit →
     lead ≡ candidate_metric after pair s 0 -ℤ candidate_metric after pair s 1 →
     loss ≡ (if int_lt lead (pos 0 -ℤ lead) then pos 0 -ℤ lead else lead) →
     loss ≡ candidate_metric after pair s bit -ℤ candidate_metric after pair s (1 - bit)
-loss_is after pair s bit value lead loss h is l = grind arith
+IsDecision-loss after pair s bit value lead loss h is l = grind arith
 
 -- ---- the differences in all sixteen states
 
@@ -334,11 +334,11 @@ module _ (even odd branch_metrics : List ℤ) (candidates : Candidates) (is : Ar
     bounded.upper_bound k,
   )
 
-  pub low_near : DifferencesFit16Bits candidates.low_states_bit_0.lanes candidates.low_states_bit_1.lanes
-  low_near = record { fits = λ k lt. omega (arith, ints, low_fits k lt) }
+  pub low_differences_fit : DifferencesFit16Bits candidates.low_states_bit_0.lanes candidates.low_states_bit_1.lanes
+  low_differences_fit = record { fits = λ k lt. omega (arith, ints, low_fits k lt) }
 
-  pub high_near : DifferencesFit16Bits candidates.high_states_bit_0.lanes candidates.high_states_bit_1.lanes
-  high_near = record { fits = λ k lt. omega (arith, ints, high_fits k lt) }
+  pub high_differences_fit : DifferencesFit16Bits candidates.high_states_bit_0.lanes candidates.high_states_bit_1.lanes
+  high_differences_fit = record { fits = λ k lt. omega (arith, ints, high_fits k lt) }
 
   module _ (low high leads : List ℤ)
       (low_lane : (k : ℕ) → k < 8 → lane low k ≡ lane candidates.low_states_bit_0.lanes k -ℤ lane
@@ -346,17 +346,17 @@ module _ (even odd branch_metrics : List ℤ) (candidates : Candidates) (is : Ar
       (high_lane : (k : ℕ) → k < 8 → lane high k ≡ lane candidates.high_states_bit_0.lanes k -ℤ lane
       candidates.high_states_bit_1.lanes k)
       (ordered : leads ≡ lanes_in_state_order low high) where
-    pub leads_are : AreLeads even odd branch_metrics leads
-    leads_are =
+    pub leads-subtract_lanes : AreLeads even odd branch_metrics leads
+    leads-subtract_lanes =
         let fit = each_state (λ s. Fits (lane (lanes_in_state_order low high) s))
         (λ k lt. rw (low_in_order low high k lt, low_lane k lt) (low_fits k lt))
         (λ k lt. rw (high_in_order low high k lt, high_lane k lt) (high_fits k lt)) in
         rw ordered (record {
           subtract_lanes = record { count = refl; lower_bound = λ s lt. (fit s lt).0; upper_bound = λ s lt. (fit s lt).1 };
           each = λ pair has. each_state _
-              (λ k lt. rw (low_in_order low high k lt) (let at = candidates_at even odd branch_metrics pair has k lt in
+              (λ k lt. rw (low_in_order low high k lt) (let at = candidate_at-lanes even odd branch_metrics pair has k lt in
               omega (arith, ints, low_lane k lt, is.low_states_bit_0_lane k lt, is.low_states_bit_1_lane k lt)))
-              (λ k lt. rw (high_in_order low high k lt) (let at = candidates_at even odd branch_metrics pair has k lt in
+              (λ k lt. rw (high_in_order low high k lt) (let at = candidate_at-lanes even odd branch_metrics pair has k lt in
               omega (arith, ints, high_lane k lt, is.high_states_bit_0_lane k lt, is.high_states_bit_1_lane k lt)));
         })
 
@@ -365,24 +365,24 @@ module _ (even odd branch_metrics : List ℤ) (candidates : Candidates) (is : Ar
 small : (x : ℤ) → (x ≡ negsuc 0) ⊎ (x ≡ pos 0) → FitsSigned w8 x
 small x h = grind arith
 
-bit_taken : (x : ℤ) → (x ≡ negsuc 0) ⊎ (x ≡ pos 0) → (if int_lt x (pos 0) then 1 else 0) ≡ lane_decision x
-bit_taken x (inl is) = rw is refl
-bit_taken x (inr is) = rw is refl
+lane_decision-sign : (x : ℤ) → (x ≡ negsuc 0) ⊎ (x ≡ pos 0) → (if int_lt x (pos 0) then 1 else 0) ≡ lane_decision x
+lane_decision-sign x (inl is) = rw is refl
+lane_decision-sign x (inr is) = rw is refl
 
 abbrev pub none : List ℤ
 none = replicate 16 (pos 0)
 
-none_at : (k : ℕ) → k < 16 → lane none k ≡ pos 0
-none_at = same_below _ _ refl
+zero_lanes-at : (k : ℕ) → k < 16 → lane none k ≡ pos 0
+zero_lanes-at = same_below _ _ refl
 
 pub AreInt8-splat : (x : ℤ) → FitsSigned w8 x → AreInt8 (replicate 16 x)
 AreInt8-splat x fits = record { count = refl; fits = λ k lt. rw (same_below (lane (replicate 16 x)) (λ _. x) refl k lt) fits }
 
-place_low : (k : ℕ) → k < 8 → lane_of_state (bit_reversed k) ≡ k
-place_low = same_below _ _ refl
+lane_of_state-low : (k : ℕ) → k < 8 → lane_of_state (bit_reversed k) ≡ k
+lane_of_state-low = same_below _ _ refl
 
-place_high : (k : ℕ) → k < 8 → lane_of_state (8 + bit_reversed k) ≡ 8 + k
-place_high = same_below _ _ refl
+lane_of_state-high : (k : ℕ) → k < 8 → lane_of_state (8 + bit_reversed k) ≡ 8 + k
+lane_of_state-high = same_below _ _ refl
 
 module _ (low high : List ℤ) (hl : AreDecisionLanes low) (hh : AreDecisionLanes high) where
   abbrev at : ℕ → ℤ
@@ -395,7 +395,7 @@ module _ (low high : List ℤ) (hl : AreDecisionLanes low) (hh : AreDecisionLane
   joined_at : (k : ℕ) → k < 16 → lane joined k ≡ lane (low ++ high) k
   joined_at k lt =
       same_below (lane joined) at refl k lt
-      ∙ at_is w8 refl low high (λ k lt. small _ (hl.each k (omega (arith, hl.count)))) (λ k lt. small _ (hh.each k (omega (
+      ∙ at_is w8 refl low high (λ k lt. small _ (hl.each_lane k (omega (arith, hl.count)))) (λ k lt. small _ (hh.each_lane k (omega (
         arith,
         hh.count,
       )))) k
@@ -410,39 +410,41 @@ module _ (low high : List ℤ) (hl : AreDecisionLanes low) (hh : AreDecisionLane
   pub AreInt8-joined : AreInt8 joined
   AreInt8-joined = record {
     count = refl;
-    fits = halves _ (λ k lt. rw (low_at k lt) (small _ (hl.each k lt))) (λ k lt. rw (high_at k lt) (small _ (hh.each k lt)));
+    fits = halves _ (λ k lt. rw (low_at k lt) (small _ (hl.each_lane k lt))) (λ k lt. rw (high_at k lt) (small _ (hh.each_lane k lt)));
   }
 
-  pub joined_choice : (s : ℕ) → s < 16 → (if int_lt (lane joined (lane_of_state s)) (lane none (lane_of_state s)) then 1 else 0)
+  pub joined-decision : (s : ℕ) → s < 16 → (if int_lt (lane joined (lane_of_state s)) (lane none (lane_of_state s)) then 1 else 0)
       ≡ get_or (lane_decisions low high) s 0
-  joined_choice = each_state _
-      (λ k lt. rw (place_low k lt, low_at k lt, none_at k (omega arith), low_choice low high k lt) (bit_taken _ (hl.each k lt)))
-      (λ k lt. rw (place_high k lt, high_at k lt, none_at (8 + k) (omega arith), high_choice low high k lt) (bit_taken _ (hh.each k lt)))
+  joined-decision = each_state _
+      (λ k lt. rw (lane_of_state-low k lt, low_at k lt, zero_lanes-at k (omega arith), low_choice low high k lt)
+      (lane_decision-sign _ (hl.each_lane k lt)))
+      (λ k lt. rw (lane_of_state-high k lt, high_at k lt, zero_lanes-at (8 + k) (omega arith), high_choice low high k lt)
+      (lane_decision-sign _ (hh.each_lane k lt)))
 
 -- ## HardSteps: One Viterbi step (add, compare, select) for hard bits, in sixteen 8-bit lanes. The branch metrics are a table indexed by
 -- the signs of the two soft bits, which is checked by computation.
 
 -- ---- states and their lanes
 
-pub hard_metric : (lanes : List ℤ) (s : ℕ) → s < 16 →
+pub hard_metrics-lane : (lanes : List ℤ) (s : ℕ) → s < 16 →
     lane (hard_lane_metrics lanes) s ≡ metric_of_hard_lane (lane lanes (lane_of_state s))
-hard_metric lanes = same_below _ _ refl
+hard_metrics-lane lanes = same_below _ _ refl
 
-zero_next : (s : ℕ) → s < 16 → lane_of_next_state_0 (lane_of_state s) ≡ lane_of_state (next_trellis_state s 0)
-zero_next = same_below _ _ refl
+next_state_0-lane : (s : ℕ) → s < 16 → lane_of_next_state_0 (lane_of_state s) ≡ lane_of_state (next_trellis_state s 0)
+next_state_0-lane = same_below _ _ refl
 
-one_next : (s : ℕ) → s < 16 → lane_of_next_state_1 (lane_of_state s) ≡ lane_of_state (next_trellis_state s 1)
-one_next = same_below _ _ refl
+next_state_1-lane : (s : ℕ) → s < 16 → lane_of_next_state_1 (lane_of_state s) ≡ lane_of_state (next_trellis_state s 1)
+next_state_1-lane = same_below _ _ refl
 
 pub inside : (s : ℕ) → s < 16 → lane_of_state s < 16
 inside s lt = omega arith
 
 -- ---- the candidate metrics of bit 0 and of bit 1
 
-chosen_scaled : (after pair : List ℤ) (s : ℕ) (z o value : ℤ) → metric_of_hard_lane z ≡ candidate_metric after pair s 0 →
+IsDecision-hard_lane : (after pair : List ℤ) (s : ℕ) (z o value : ℤ) → metric_of_hard_lane z ≡ candidate_metric after pair s 0 →
     metric_of_hard_lane o ≡ candidate_metric after pair s 1 →
     value ≡ (if int_lt z o then o else z) → IsDecision after pair s (metric_of_hard_lane value) (if int_lt z o then 1 else 0)
-chosen_scaled after pair s z o value zero_is one_is is =
+IsDecision-hard_lane after pair s z o value zero_is one_is is =
     rw is (by _ refl)
   where
     by : (t : Bool) → int_lt z o ≡ t → IsDecision after pair s (metric_of_hard_lane (if t then o else z)) (if t then 1 else 0)
@@ -450,14 +452,14 @@ chosen_scaled after pair s z o value zero_is one_is is =
     by false e = inl (refl, zero_is, omega (arith, ints))
 
 module _ (after branch_metrics pair : List ℤ) (has : HasHardBranchMetrics branch_metrics pair) where
-  pub zero_candidate : (candidates : List ℤ) → ((k : ℕ) → k < 16 →
+  pub bit_0_candidate-metric : (candidates : List ℤ) → ((k : ℕ) → k < 16 →
       lane candidates k ≡ lane after (lane_of_next_state_0 k) +ℤ lane branch_metrics k) →
       (s : ℕ) → s < 16 → metric_of_hard_lane (lane candidates (lane_of_state s)) ≡
       candidate_metric (hard_lane_metrics after) pair s 0
   unfolding candidate_metric
-  zero_candidate candidates are s lt =
-      let is = are _ (inside s lt) ∙ ap (λ k. lane after k +ℤ lane branch_metrics (lane_of_state s)) (zero_next s lt) in
-      omega (arith, ints, hard_metric after (next_trellis_state s 0) (omega arith), has.each s lt)
+  bit_0_candidate-metric candidates are s lt =
+      let is = are _ (inside s lt) ∙ ap (λ k. lane after k +ℤ lane branch_metrics (lane_of_state s)) (next_state_0-lane s lt) in
+      omega (arith, ints, hard_metrics-lane after (next_trellis_state s 0) (omega arith), has.at_state s lt)
 
   one_candidate : (candidates : List ℤ) → ((k : ℕ) → k < 16 →
       lane candidates k ≡ lane after (lane_of_next_state_1 k) -ℤ lane branch_metrics k) →
@@ -465,26 +467,33 @@ module _ (after branch_metrics pair : List ℤ) (has : HasHardBranchMetrics bran
       candidate_metric (hard_lane_metrics after) pair s 1
   unfolding candidate_metric
   one_candidate candidates are s lt =
-      let is = are _ (inside s lt) ∙ ap (λ k. lane after k -ℤ lane branch_metrics (lane_of_state s)) (one_next s lt) in
-      omega (arith, ints, hard_metric after (next_trellis_state s 1) (omega arith), has.each s lt, branch_metric-one pair has.count s)
+      let is = are _ (inside s lt) ∙ ap (λ k. lane after k -ℤ lane branch_metrics (lane_of_state s)) (next_state_1-lane s lt) in
+      omega (
+        arith,
+        ints,
+        hard_metrics-lane after (next_trellis_state s 1) (omega arith),
+        has.at_state s lt,
+        branch_metric-one pair
+            has.count s,
+      )
 
-  pub hard_chosen : (zeros ones values : List ℤ) →
+  pub IsDecision-hard : (zeros ones values : List ℤ) →
       ((k : ℕ) → k < 16 → lane zeros k ≡ lane after (lane_of_next_state_0 k) +ℤ lane branch_metrics k) →
       ((k : ℕ) → k < 16 → lane ones k ≡ lane after (lane_of_next_state_1 k) -ℤ lane branch_metrics k) →
       ((k : ℕ) → k < 16 → lane values k ≡ (if int_lt (lane zeros k) (lane ones k) then lane ones k else lane zeros k)) →
       (s : ℕ) → s < 16 → IsDecision (hard_lane_metrics after) pair s (lane (hard_lane_metrics values) s)
       (if int_lt (lane zeros (lane_of_state s)) (lane ones (lane_of_state s)) then 1 else 0)
-  hard_chosen zeros ones values zeros_are ones_are better s lt =
-      rw (hard_metric values s lt) (chosen_scaled _ pair s (lane zeros (lane_of_state s)) (lane ones (lane_of_state s)) _
-      (zero_candidate zeros zeros_are s lt) (one_candidate ones ones_are s lt)
+  IsDecision-hard zeros ones values zeros-candidates ones-candidates better s lt =
+      rw (hard_metrics-lane values s lt) (IsDecision-hard_lane _ pair s (lane zeros (lane_of_state s)) (lane ones (lane_of_state s)) _
+      (bit_0_candidate-metric zeros zeros-candidates s lt) (one_candidate ones ones-candidates s lt)
       (better _ (inside s lt)))
 
 -- the lane of the next state after the decided bit
-pub next_lane : (s : ℕ) → s < 16 → (t : Bool) →
+pub next_lane-state : (s : ℕ) → s < 16 → (t : Bool) →
     (if t then lane_of_next_state_1 (lane_of_state s) else lane_of_next_state_0 (lane_of_state s))
     ≡ lane_of_state (next_trellis_state s (if t then 1 else 0))
-next_lane s lt true = one_next s lt
-next_lane s lt false = zero_next s lt
+next_lane-state s lt true = next_state_1-lane s lt
+next_lane-state s lt false = next_state_0-lane s lt
 
 -- ---- bounds of the path metrics
 
@@ -505,8 +514,8 @@ hard_octets soft hard k d lt = let is = hard k d lt in grind arith
 abbrev pub start : List ℤ
 start = replicate 16 (negsuc 119)
 
-pub start_metric : (s : ℕ) → s < 16 → lane (hard_lane_metrics start) s ≡ pos 0
-start_metric = same_below _ _ refl
+pub start-metric : (s : ℕ) → s < 16 → lane (hard_lane_metrics start) s ≡ pos 0
+start-metric = same_below _ _ refl
 
 -- the pair of soft bits at index i, written as its two elements
 pub pair_lanes : (soft : List ℤ) (i : ℕ) → i + 2 ≤ length soft → take 2 (drop i soft) ≡ lane soft i ∷ lane soft (i + 1) ∷ []
@@ -537,10 +546,10 @@ pub HasHardBranchMetrics-row : (d : List ℤ) (n : ℕ) (p q : ℤ) → IsHardBi
     → n ≡ sign_bit_of p + 2 * sign_bit_of q →
     HasHardBranchMetrics (hard_row n d) (p ∷ q ∷ [])
 unfolding branch_metric
-HasHardBranchMetrics-row d n p q (inl hp) (inl hq) is = rw (is, hp, hq) (record { count = refl; each = same_below _ _ refl })
-HasHardBranchMetrics-row d n p q (inr hp) (inl hq) is = rw (is, hp, hq) (record { count = refl; each = same_below _ _ refl })
-HasHardBranchMetrics-row d n p q (inl hp) (inr hq) is = rw (is, hp, hq) (record { count = refl; each = same_below _ _ refl })
-HasHardBranchMetrics-row d n p q (inr hp) (inr hq) is = rw (is, hp, hq) (record { count = refl; each = same_below _ _ refl })
+HasHardBranchMetrics-row d n p q (inl hp) (inl hq) is = rw (is, hp, hq) (record { count = refl; at_state = same_below _ _ refl })
+HasHardBranchMetrics-row d n p q (inr hp) (inl hq) is = rw (is, hp, hq) (record { count = refl; at_state = same_below _ _ refl })
+HasHardBranchMetrics-row d n p q (inl hp) (inr hq) is = rw (is, hp, hq) (record { count = refl; at_state = same_below _ _ refl })
+HasHardBranchMetrics-row d n p q (inr hp) (inr hq) is = rw (is, hp, hq) (record { count = refl; at_state = same_below _ _ refl })
 
 -- the rows for two pairs of soft bits: the first pair, and the second
 abbrev pub row_of : List (List ℤ) → ℕ → List ℤ → List ℤ
@@ -575,8 +584,8 @@ unit_bounds (pos (suc (suc n))) e = absurd cc
 unit_bounds (negsuc zero) e = (omega (arith, ints), omega (arith, ints))
 unit_bounds (negsuc (suc n)) e = absurd cc
 
-pub row_units : (d : List ℤ) (n : ℕ) → n < 4 → AreMinusOneToOne (hard_row n d)
-row_units d n lt =
+pub hard_row-units : (d : List ℤ) (n : ℕ) → n < 4 → AreWithinOne (hard_row n d)
+hard_row-units d n lt =
     let unit : (k : ℕ) → k < 16 → is_unit (lane (hard_row n d) k) ≡ true =
     each (λ n. (k : ℕ) → k < 16 → is_unit (lane (hard_row n d) k) ≡ true) 4 (
       (

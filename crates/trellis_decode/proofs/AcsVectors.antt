@@ -34,21 +34,21 @@ module _ {X Y Z : Type 0} (F : ℕ → List X → List Y → List Z) (g : X → 
 abbrev pub FitEach : Width → ℕ → List ℤ → Type 0
 FitEach w n a = (k : ℕ) → k < n → FitsSigned w (lane a k)
 
--- the n lanes of c are h of the lanes of a and b
+-- c has n lanes; each is h of the lanes of a and b at the same index, and fits in the width w
 abbrev pub Lanewise : Width → ℕ → (ℤ → ℤ → ℤ) → List ℤ → List ℤ → List ℤ → Type 0
 Lanewise w n h a b c = (length c ≡ n) × ((k : ℕ) → k < n → lane c k ≡ h (lane a k) (lane b k)) × FitEach w n c
 
-pub by_lanes : (w : Width) (n : ℕ) (F : ℕ → List ℤ → List ℤ → List ℤ) (g h : ℤ → ℤ → ℤ) → F 0 [] [] ≡ [] →
+pub Lanewise-by_lane : (w : Width) (n : ℕ) (F : ℕ → List ℤ → List ℤ → List ℤ) (g h : ℤ → ℤ → ℤ) → F 0 [] [] ≡ [] →
     ((n : ℕ) (x y : ℤ) (xs ys : List ℤ) → F (suc n) (x ∷ xs) (y ∷ ys) ≡ g x y ∷ F n xs ys) →
     ((x y : ℤ) → FitsSigned w x → FitsSigned w y → FitsSigned w (h x y) → g x y ≡ h x y) → (a b : List ℤ) →
     length a ≡ n → length b ≡ n → FitEach w n a → FitEach w n b →
     ((k : ℕ) → k < n → FitsSigned w (h (lane a k) (lane b k))) → Lanewise w n h a b (F n a b)
-by_lanes w n F g h none more is a b ca cb fa fb fit =
+Lanewise-by_lane w n F g h none more is a b ca cb fa fb fit =
     let each : (k : ℕ) → k < n → lane (F n a b) k ≡ h (lane a k) (lane b k) =
     λ k lt. lanewise-at F g none more n a b ca cb k lt (pos 0) (pos 0) (pos 0) ∙ is _ _ (fa k lt) (fb k lt) (fit k lt) in
     (length-lanewise F g none more n a b ca cb, each, λ k lt. rw (each k lt) (fit k lt))
 
--- what holds of both holds of the one that a test takes
+-- if P holds for both x and y, it holds for the one that the test selects
 pub if_either : {A : Type 0} (P : A → Type 0) (t : Bool) {x y : A} → P x → P y → P (if t then x else y)
 if_either P true px py = px
 if_either P false px py = py
@@ -80,10 +80,10 @@ pub difference-lane : (x y : ℤ) → FitsSigned w16 x → FitsSigned w16 y → 
     cast_signed w16 ((cast_unsigned w16 x + (2 ^ 16 - cast_unsigned w16 y)) % 2 ^ 16) ≡ x -ℤ y
 difference-lane x y hx hy h = wrapping_sub_is _ x y hx hy ∙ int_wrap_fits _ _ h
 
-pub differences : (a b : List ℤ) → AreInt16 a → AreInt16 b → DifferencesFit16Bits a b →
+pub Lanewise-differences : (a b : List ℤ) → AreInt16 a → AreInt16 b → DifferencesFit16Bits a b →
     Lanewise w16 8 ◌-ℤ◌ a b (subtract_lanes a b)
-differences a b ha hb fit =
-    by_lanes w16 8 (λ _. subtract_lanes) _ ◌-ℤ◌ refl (λ n x y xs ys. refl) difference-lane a b ha.count hb.count ha.fits hb.fits
+Lanewise-differences a b ha hb fit =
+    Lanewise-by_lane w16 8 (λ _. subtract_lanes) _ ◌-ℤ◌ refl (λ n x y xs ys. refl) difference-lane a b ha.count hb.count ha.fits hb.fits
     fit.fits
 
 module _ (a b : List ℤ) (ha : HaveHeadroom16 a) (hb : AreBranchMetrics b) where
@@ -95,11 +95,11 @@ module _ (a b : List ℤ) (ha : HaveHeadroom16 a) (hb : AreBranchMetrics b) wher
 
   pub branch_metrics_added : Lanewise w16 8 ◌+ℤ◌ a b (add_lanes a b)
   branch_metrics_added =
-      by_lanes w16 8 (λ _. add_lanes) _ ◌+ℤ◌ refl (λ n x y xs ys. refl) sum-lane a b ha.count hb.count in_16_bits.fits
+      Lanewise-by_lane w16 8 (λ _. add_lanes) _ ◌+ℤ◌ refl (λ n x y xs ys. refl) sum-lane a b ha.count hb.count in_16_bits.fits
       metrics_in_16_bits.fits (grind (arith, ints))
 
   pub branch_metrics_subtracted : Lanewise w16 8 ◌-ℤ◌ a b (subtract_lanes a b)
-  branch_metrics_subtracted = differences a b in_16_bits metrics_in_16_bits (grind (arith, ints))
+  branch_metrics_subtracted = Lanewise-differences a b in_16_bits metrics_in_16_bits (grind (arith, ints))
 
 -- ---- comparisons
 
@@ -122,45 +122,45 @@ module _ (w : Width) (x y : ℤ) (hx : FitsSigned w x) (hy : FitsSigned w y) whe
       ap (λ t. cast_signed w (if t then cast_unsigned w y else cast_unsigned w x)) tested
       ∙ if_map (cast_signed w) (int_lt x y) (to_z-of_z w y hy) (to_z-of_z w x hx)
 
-pub maxima : (w : Width) (n : ℕ) (a b : List ℤ) → length a ≡ n → length b ≡ n → FitEach w n a → FitEach w n b →
+pub Lanewise-maxima : (w : Width) (n : ℕ) (a b : List ℤ) → length a ≡ n → length b ≡ n → FitEach w n a → FitEach w n b →
     Lanewise w n (λ x y. if int_lt x y then y else x) a b (map (cast_signed w)
     (sel_l (map (top (hbits w)) (zip2 (compared w) (map (cast_unsigned w) a) (map (cast_unsigned w) b))) (map (cast_unsigned w) b)
     (map (cast_unsigned w) a)))
-maxima w n a b ca cb fa fb =
-    by_lanes w n (λ _ a b. map (cast_signed w)
+Lanewise-maxima w n a b ca cb fa fb =
+    Lanewise-by_lane w n (λ _ a b. map (cast_signed w)
     (sel_l (map (top (hbits w)) (zip2 (compared w) (map (cast_unsigned w) a) (map (cast_unsigned w) b))) (map (cast_unsigned w) b)
     (map (cast_unsigned w) a))) _ (λ x y. if int_lt x y then y else x) refl (λ n x y xs ys. refl) (larger w) a b ca cb fa fb
     (λ k lt. if_either (FitsSigned w) _ (fb k lt) (fa k lt))
 
 -- the result of comparing two vectors, in 8-bit lanes
-abbrev taken_lanes : ℕ → List ℤ → List ℤ → List ℤ
-taken_lanes n a b =
+abbrev decision_lanes : ℕ → List ℤ → List ℤ → List ℤ
+decision_lanes n a b =
     map (cast_signed w8) (sel_l (map (top 7) (map (λ x. cast_unsigned w8 (cast_signed w16 x))
     (zip2 (compared w16) (zip2 (compared w16) (bits a) (bits b)) (replicate n 0)))) (replicate n 255) (replicate n 0))
 
-abbrev taken_one : Bool → ℤ
-taken_one t = cast_signed w8 (if top 7 (cast_unsigned w8 (cast_signed w16 (compared w16 (if t then 65535 else 0) 0))) then 255 else 0)
+abbrev decision_lane : Bool → ℤ
+decision_lane t = cast_signed w8 (if top 7 (cast_unsigned w8 (cast_signed w16 (compared w16 (if t then 65535 else 0) 0))) then 255 else 0)
 
-taken_one_is : (t : Bool) → taken_one t ≡ (if t then negsuc 0 else pos 0)
-taken_one_is true = refl
-taken_one_is false = refl
+decision_lane-value : (t : Bool) → decision_lane t ≡ (if t then negsuc 0 else pos 0)
+decision_lane-value true = refl
+decision_lane-value false = refl
 
-pub lane-taken : (a b : List ℤ) → AreInt16 a → AreInt16 b → (k : ℕ) → k < 8 →
-    lane (taken_lanes 8 a b) k ≡ (if int_lt (lane a k) (lane b k) then negsuc 0 else pos 0)
-lane-taken a b ha hb k lt =
+pub lane-decision_lanes : (a b : List ℤ) → AreInt16 a → AreInt16 b → (k : ℕ) → k < 8 →
+    lane (decision_lanes 8 a b) k ≡ (if int_lt (lane a k) (lane b k) then negsuc 0 else pos 0)
+lane-decision_lanes a b ha hb k lt =
     cc (
-      lanewise-at taken_lanes _ refl (λ n x y xs ys. refl) 8 a b ha.count hb.count k lt (pos 0) (pos 0) (pos 0),
+      lanewise-at decision_lanes _ refl (λ n x y xs ys. refl) 8 a b ha.count hb.count k lt (pos 0) (pos 0) (pos 0),
       ap₂ int_lt
           (to_z-of_z w16 _ (ha.fits k lt)) (to_z-of_z w16 _ (hb.fits k lt)),
-      taken_one_is _,
+      decision_lane-value _,
     )
 
-pub length-taken_lanes : (a b : List ℤ) → AreInt16 a → AreInt16 b → length (taken_lanes 8 a b) ≡ 8
-length-taken_lanes a b ha hb = length-lanewise taken_lanes _ refl (λ n x y xs ys. refl) 8 a b ha.count hb.count
+pub length-decision_lanes : (a b : List ℤ) → AreInt16 a → AreInt16 b → length (decision_lanes 8 a b) ≡ 8
+length-decision_lanes a b ha hb = length-lanewise decision_lanes _ refl (λ n x y xs ys. refl) 8 a b ha.count hb.count
 
 pub AreDecisionLanes-each : (lanes : List ℤ) (t : ℕ → Bool) → length lanes ≡ 8 →
     ((k : ℕ) → k < 8 → lane lanes k ≡ (if t k then negsuc 0 else pos 0)) → AreDecisionLanes lanes
-AreDecisionLanes-each lanes t count is = record { count = count; each = λ k lt. one_of _ (is k lt) } where
+AreDecisionLanes-each lanes t count is = record { count = count; each_lane = λ k lt. one_of _ (is k lt) } where
   one_of : {x : ℤ} (b : Bool) → x ≡ (if b then negsuc 0 else pos 0) → (x ≡ negsuc 0) ⊎ (x ≡ pos 0)
   one_of true is = inl is
   one_of false is = inr is
@@ -168,10 +168,10 @@ AreDecisionLanes-each lanes t count is = record { count = count; each = λ k lt.
 -- ---- lanes in a new order
 
 -- a vector passed to a function or returned, converted to unsigned and back
-pub passed-each : (w : Width) (a : List ℤ) → FitEach w (length a) a → map (cast_signed w) (map (cast_unsigned w) a) ≡ a
-passed-each w [] fits = refl
-passed-each w (x ∷ a) fits =
-    ap₂ (λ y ys. y ∷ ys) (to_z-of_z w x (fits 0 (omega arith))) (passed-each w _ (λ s lt. fits (suc s) (omega arith)))
+pub cast_lanes-each : (w : Width) (a : List ℤ) → FitEach w (length a) a → map (cast_signed w) (map (cast_unsigned w) a) ≡ a
+cast_lanes-each w [] fits = refl
+cast_lanes-each w (x ∷ a) fits =
+    ap₂ (λ y ys. y ∷ ys) (to_z-of_z w x (fits 0 (omega arith))) (cast_lanes-each w _ (λ s lt. fits (suc s) (omega arith)))
 
 module _ (w : Width) (zero_is : cast_signed w 0 ≡ pos 0) where
   -- a lane of two concatenated vectors
@@ -186,9 +186,9 @@ module _ (w : Width) (zero_is : cast_signed w 0 ≡ pos 0) where
   pub at_is : (a b : List ℤ) → FitEach w (length a) a → FitEach w (length b) b → (k : ℕ) → at a b k ≡ lane (a ++ b) k
   at_is a b fa fb k =
       signed_at _ k
-      ∙ ap (λ l. lane l k) (map-append _ (map (cast_unsigned w) a) _ ∙ ap₂ ◌++◌ (passed-each w a fa) (passed-each w b fb))
+      ∙ ap (λ l. lane l k) (map-append _ (map (cast_unsigned w) a) _ ∙ ap₂ ◌++◌ (cast_lanes-each w a fa) (cast_lanes-each w b fb))
 
-  -- lanes of two vectors of eight in the order f are the vector g
+  -- the lanes of two vectors of eight, taken in the order f, form the vector g
   pub in_order : (f : (ℕ → ℤ) → List ℤ) (g : List ℤ → List ℤ → List ℤ) → ((i j k l m n p q : ℤ) (b : List ℤ) →
       f (lane (i ∷ j ∷ k ∷ l ∷ m ∷ n ∷ p ∷ q ∷ b)) ≡ g (i ∷ j ∷ k ∷ l ∷ m ∷ n ∷ p ∷ q ∷ []) b) →
       (a b : List ℤ) → length a ≡ 8 → length b ≡ 8 → FitEach w 8 a → FitEach w 8 b → f (at a b) ≡ g a b
@@ -202,24 +202,24 @@ module _ (w : Width) (zero_is : cast_signed w 0 ≡ pos 0) where
 pub AbsFit16Bits-fits : (a : List ℤ) → AbsFit16Bits a → FitEach w16 16 a
 AbsFit16Bits-fits a h = grind arith
 
-abbrev pub passed : List ℤ → List ℤ
-passed a = map (cast_signed w16) (bits a)
+abbrev pub cast_lanes : List ℤ → List ℤ
+cast_lanes a = map (cast_signed w16) (bits a)
 
-pub passed-subtract_lanes : (a : List ℤ) → AbsFit16Bits a → passed a ≡ a
-passed-subtract_lanes a h = passed-each w16 a (λ s lt. AbsFit16Bits-fits a h s (omega arith))
+pub cast_lanes-subtract_lanes : (a : List ℤ) → AbsFit16Bits a → cast_lanes a ≡ a
+cast_lanes-subtract_lanes a h = cast_lanes-each w16 a (λ s lt. AbsFit16Bits-fits a h s (omega arith))
 
 -- the absolute value of each lane: the greater of the lane and its negative
-abbrev pub sizes_of : ℕ → List ℤ → List ℤ → List ℤ
-sizes_of n a b =
+abbrev pub absolute_lanes : ℕ → List ℤ → List ℤ → List ℤ
+absolute_lanes n a b =
     map (cast_signed w16)
     (sel_l (map (top 15) (zip2 (compared w16) (bits a) (zip2 (λ x y. (x + (65536 - y)) % 65536) (replicate n 0) (bits a))))
     (zip2 (λ x y. (x + (65536 - y)) % 65536) (replicate n 0) (bits a)) (bits a))
 
-size_one_is : (x y : ℤ) → FitsSigned w16 x → FitsSigned w16 y
+absolute_lane-value : (x y : ℤ) → FitsSigned w16 x → FitsSigned w16 y
     → FitsSigned w16 (if int_lt x (pos 0 -ℤ x) then pos 0 -ℤ x else x) →
     cast_signed w16 (if top 15 (compared w16 (cast_unsigned w16 x) ((0 + (65536 - cast_unsigned w16 x)) % 65536))
     then (0 + (65536 - cast_unsigned w16 x)) % 65536 else cast_unsigned w16 x) ≡ (if int_lt x (pos 0 -ℤ x) then pos 0 -ℤ x else x)
-size_one_is x y fits _ fit =
+absolute_lane-value x y fits _ fit =
     let small : FitsSigned w16 (pos 0 -ℤ x) = grind (arith, ints) in
     let negative = difference-lane (pos 0) x (omega (arith, ints)) fits small in
     cc (
@@ -230,15 +230,16 @@ size_one_is x y fits _ fit =
     )
 
 pub absolute_values : (a : List ℤ) → AbsFit16Bits a →
-    Lanewise w16 16 (λ x y. if int_lt x (pos 0 -ℤ x) then pos 0 -ℤ x else x) a a (sizes_of 16 a a)
+    Lanewise w16 16 (λ x y. if int_lt x (pos 0 -ℤ x) then pos 0 -ℤ x else x) a a (absolute_lanes 16 a a)
 absolute_values a h =
     let fit = AbsFit16Bits-fits a h in
-    by_lanes w16 16 sizes_of _ (λ x y. if int_lt x (pos 0 -ℤ x) then pos 0 -ℤ x else x) refl (λ n x y xs ys. refl) size_one_is a a
+    Lanewise-by_lane w16 16 absolute_lanes _ (λ x y. if int_lt x (pos 0 -ℤ x) then pos 0 -ℤ x else x) refl (λ n x y xs ys. refl)
+    absolute_lane-value a a
     h.count
     h.count fit fit (λ s lt. let low = h.lower_bound s lt in if_either (FitsSigned w16) (int_lt (lane a s) _) {x = pos 0 -ℤ lane a
     s} (omega (arith, ints, fit s lt)) (fit s lt))
 
-pub AbsFit16Bits-absolute_values : (a : List ℤ) → AbsFit16Bits a → AbsFit16Bits (sizes_of 16 a a)
+pub AbsFit16Bits-absolute_values : (a : List ℤ) → AbsFit16Bits a → AbsFit16Bits (absolute_lanes 16 a a)
 AbsFit16Bits-absolute_values a h =
     let is = absolute_values a h in record {
       count = is.0;
@@ -247,7 +248,7 @@ AbsFit16Bits-absolute_values a h =
       upper_bound = λ s lt. omega (arith, ints, is.2 s lt);
     }
 
--- the bits that say whether each lane is negative
+-- below, `signs` says for each lane whether it is negative
 module _ (w : Width) (zero_is : cast_signed w 0 ≡ pos 0) (n : ℕ) (few : n ≤ 64) (a : List ℤ) (count : length a ≡ n) where
   abbrev signs : ℕ → List ℤ → List ℤ → List Bool
   signs n a b = map (top (hbits w)) (zip2 (compared w) (map (cast_unsigned w) a) (replicate n 0))

@@ -11,7 +11,7 @@ use Rattle.{
     specs.Int.{cast_signed, cast_unsigned},
   },
   trellis_decode.{
-    specs.{Lanes.lane, Hard.{AreInt8, AreMinusOneToOne, HaveHeadroom8, lane_of_next_state_1, lane_of_next_state_0}},
+    specs.{Lanes.lane, Hard.{AreInt8, AreWithinOne, HaveHeadroom8, lane_of_next_state_1, lane_of_next_state_0}},
     proofs.{AcsSteps.same_below, AcsVectors.{FitEach, compared, if_either, if_map, lanewise-at, length-lanewise, tested}},
   },
 }
@@ -49,11 +49,11 @@ next_zero-at xs = same_below _ _ refl
 next_one-at : (xs : List ℕ) (k : ℕ) → k < 16 → get_or (next_one xs) k 0 ≡ get_or xs (lane_of_next_state_1 k) 0
 next_one-at xs = same_below _ _ refl
 
-module _ (a branch_metrics : List ℤ) (ha : HaveHeadroom8 a) (he : AreMinusOneToOne branch_metrics) where
+module _ (a branch_metrics : List ℤ) (ha : HaveHeadroom8 a) (he : AreWithinOne branch_metrics) where
   abbrev twice : List ℕ
   twice = bits a ++ bits a
 
-  -- the lanes of a in the order of their places, to which f adds the branch metrics or from which it subtracts them, as h does
+  -- lane k of the result is h, a sum or a difference, of the lane of a at `place` k and the branch metric of lane k
   candidates : (f : ℕ → ℕ → ℕ) (h : ℤ → ℤ → ℤ) (xs : List ℕ) (place : ℕ → ℕ) → length xs ≡ 16 →
       ((k : ℕ) → k < 16 → get_or xs k 0 ≡ get_or twice (place k) 0) → ((k : ℕ) → k < 16 → place k < 16) →
       ((x y : ℤ) → FitsSigned w8 x → FitsSigned w8 y → FitsSigned w8 (h x y) →
@@ -90,18 +90,18 @@ module _ (a branch_metrics : List ℤ) (ha : HaveHeadroom8 a) (he : AreMinusOneT
       metric_at : (k : ℕ) → k < 16 → get_or (bits branch_metrics) k 0 ≡ cast_unsigned w8 (lane branch_metrics k)
       metric_at k lt = get_or-map (cast_unsigned w8) branch_metrics k (pos 0) 0 (omega (arith, he.count))
 
-  pub zeros_are : ((k : ℕ) → k < 16 → lane (map (cast_signed w8) (zip2 sum (next_zero twice) (bits branch_metrics))) k ≡
+  pub zeros-candidates : ((k : ℕ) → k < 16 → lane (map (cast_signed w8) (zip2 sum (next_zero twice) (bits branch_metrics))) k ≡
       lane a (lane_of_next_state_0 k) +ℤ lane branch_metrics k)
       × AreInt8 (map (cast_signed w8) (zip2 sum (next_zero twice) (bits branch_metrics)))
-  zeros_are =
+  zeros-candidates =
       candidates sum ◌+ℤ◌ (next_zero twice) lane_of_next_state_0 refl (next_zero-at _) (λ k lt. omega arith)
       (λ x y hx hy h. wrapping_add_is w8 x y hx hy ∙ int_wrap_fits w8 _ h)
       (λ i k li lk. omega (arith, ints, ha.lower_bound i, ha.upper_bound i, he.lower_bound k, he.upper_bound k))
 
-  pub ones_are : ((k : ℕ) → k < 16 → lane (map (cast_signed w8) (zip2 difference (next_one twice) (bits branch_metrics))) k ≡
+  pub ones-candidates : ((k : ℕ) → k < 16 → lane (map (cast_signed w8) (zip2 difference (next_one twice) (bits branch_metrics))) k ≡
       lane a (lane_of_next_state_1 k) -ℤ lane branch_metrics k)
       × AreInt8 (map (cast_signed w8) (zip2 difference (next_one twice) (bits branch_metrics)))
-  ones_are =
+  ones-candidates =
       candidates difference ◌-ℤ◌ (next_one twice) lane_of_next_state_1 refl (next_one-at _) (λ k lt. omega arith)
       (λ x y hx hy h. wrapping_sub_is w8 x y hx hy ∙ int_wrap_fits w8 _ h)
       (λ i k li lk. omega (arith, ints, ha.lower_bound i, ha.upper_bound i, he.lower_bound k, he.upper_bound k))
@@ -121,7 +121,7 @@ zero_places-at = same_below _ _ refl
 one_places-at : (k : ℕ) → k < 16 → get_or one_places k 0 ≡ lane_of_next_state_1 k
 one_places-at = same_below _ _ refl
 
--- whether each candidate metric after bit 1 is the greater
+-- for each lane, whether the candidate metric of bit 1 is the greater
 abbrev tests : ℕ → List ℤ → List ℤ → List Bool
 tests n zeros ones = map (top 7) (zip2 (compared w8) (bits zeros) (bits ones))
 
@@ -129,7 +129,7 @@ module _ (zeros ones : List ℤ) (hz : AreInt8 zeros) (ho : AreInt8 ones) where
   abbrev less : ℕ → Bool
   less k = int_lt (lane zeros k) (lane ones k)
 
-  -- the lanes of xs where the candidate metric after bit 1 is the greater, else those of ys
+  -- the lanes of xs where the candidate metric of bit 1 is the greater, else those of ys
   abbrev choice : List ℕ → List ℕ → List ℕ
   choice = sel_l (tests 16 zeros ones)
 
@@ -168,8 +168,8 @@ module _ (zeros ones : List ℤ) (hz : AreInt8 zeros) (ho : AreInt8 ones) where
       get_or-swz_l_below w8 16 xs 0 _ k (let n = length-picked one_places zero_places refl refl in omega arith) (omega arith)
       ∙ ap (λ n. get_or xs n 0) first
 
-  pub places_stand : SwzOk w8 16 16 0 next_places
-  places_stand =
+  pub SwzOk-next_places : SwzOk w8 16 16 0 next_places
+  SwzOk-next_places =
       let n = length-picked one_places zero_places refl refl in
       SwzOk-from_below w8 16 1 16 0 _ refl (omega arith) (Each1-from_get_or _ _ 0
       (λ k lt. let within : k < 16 = omega arith in

@@ -1,7 +1,7 @@
 -- Lemmas that other crates cite.
 pub use Rattle.trellis_decode.proofs.AcsSteps.{bit_metric-zero, bit_metric-one}
 pub use Rattle.trellis_decode.proofs.Viterbi.{some_most_likely, HasTailBits-bits, HasTailBits-from_tail}
-pub use Rattle.trellis_decode.proofs.Viterbi.{IsLexicographicallyBefore-not_after, IsEncoderInput-ends, IsMostLikely-best}
+pub use Rattle.trellis_decode.proofs.Viterbi.{lex_before-not_after, IsEncoderInput-ends, IsMostLikely-best}
 pub use Rattle.trellis_decode.proofs.Viterbi.{metric_from_state-start, IsNoBetterPath-same, metric_from_state-cons, length-traceback}
-pub use Rattle.trellis_decode.proofs.Viterbi.{IsMostLikely-chosen, less_by_test, new_leads, old_leads, IsLexicographicallyBefore-to_binary}
+pub use Rattle.trellis_decode.proofs.Viterbi.{IsMostLikely-chosen, less_by_test, RanksBehind-new, RanksBehind-old, lex_before-to_binary}
 pub use Rattle.trellis_decode.proofs.Viterbi.{IsEncoderInput-to_binary, length-to_binary, to_binary-information}

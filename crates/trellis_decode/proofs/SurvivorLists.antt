@@ -15,9 +15,9 @@ use Rattle.{
   conv_code.specs.bit_blocks.Bits.{AllBits, IsBit},
   trellis_decode.{
     proofs.{
-      AcsSteps.{each, even_metric, floor_kept, odd_metric, same_below},
-      Viterbi.{AllBits-encoding_from_state, IsNotLexicographicallyAfter-refl, IsSurvivor-bit, IsSurvivor-closing, IsSurvivor-more},
-      Viterbi.{IsSurvivor-same, candidate_reached, closing_rows, length-traceback, length-to_binary, likelihood_bound},
+      AcsSteps.{each, even_metric, IsDecision-lower_bound, odd_metric, same_below},
+      Viterbi.{AllBits-encoding_from_state, lex_not_after-refl, IsSurvivor-bit, IsSurvivor-tail_bit, IsSurvivor-more},
+      Viterbi.{IsSurvivor-same, candidate-survivor, traceback-tail_rows, length-traceback, length-to_binary, likelihood_bound},
       Viterbi.{metric_from_state-cons, traceback-zeros},
     },
     specs.{
@@ -35,16 +35,16 @@ use Rattle.{
 -- ## SurvivorPaths: The survivors over a few positions of the trellis, extended by one position at the front, and bounds of the path
 -- metrics.
 
-reached-inside : (s : ℕ) (u : List ℕ) → s < 16 → state_after_bits s u < 16
-reached-inside s [] lt = lt
-reached-inside s (x ∷ u) lt = reached-inside (next_trellis_state s x) u (omega arith)
+state_after-inside : (s : ℕ) (u : List ℕ) → s < 16 → state_after_bits s u < 16
+state_after-inside s [] lt = lt
+state_after-inside s (x ∷ u) lt = state_after-inside (next_trellis_state s x) u (omega arith)
 
 -- the lists from all states have equal length
 same_lengths : {after values soft : List ℤ} {map : List ℕ} (walk : AreSurvivors after values map soft) (lists : ℕ →
     List ℕ) (n : ℕ) → ((s : ℕ) → s < 16 → length (lists s) ≡ n) → (s : ℕ) → s < 16 →
     2 * length (walk.bits s ++ lists (state_after_bits s (walk.bits s))) ≡ length soft + 2 * n
 same_lengths walk lists n same s lt =
-    omega (arith, same _ (reached-inside s (walk.bits s) lt), length-append (walk.bits s) (lists (state_after_bits s (walk.bits s))))
+    omega (arith, same _ (state_after-inside s (walk.bits s) lt), length-append (walk.bits s) (lists (state_after_bits s (walk.bits s))))
 
 -- the survivor map over zero positions: each state leads to itself
 pub AreSurvivors-none : (values : List ℤ) →
@@ -96,12 +96,12 @@ branch_metric_bound pair s bit two octets =
     All-cons IsBit (first_coded_bit s bit) (second_coded_bit s bit ∷ []) (omega arith) (All-cons _ _ [] (omega arith) (All-nil IsBit)) in
     omega (arith, ints, likelihood_bound pair (first_coded_bit s bit ∷ second_coded_bit s bit ∷ []) octets bits)
 
-top_kept : (after pair : List ℤ) (s bit most : ℕ) (value : ℤ) → length pair ≡ 2 → AreSignedOctets pair →
+IsDecision-upper_bound : (after pair : List ℤ) (s bit most : ℕ) (value : ℤ) → length pair ≡ 2 → AreSignedOctets pair →
     lane after (next_trellis_state s 0) ≤ℤ pos most → lane after (next_trellis_state s 1) ≤ℤ pos most
     → IsDecision after pair s value bit →
     value ≤ℤ pos (most + 256)
 unfolding candidate_metric
-top_kept after pair s bit most value two octets high0 high1 h =
+IsDecision-upper_bound after pair s bit most value two octets high0 high1 h =
     omega (arith, ints, branch_metric_bound _ s 0 two octets, branch_metric_bound _ s 1 two octets)
 
 pub AreMetricsWithin-more : (after values pair : List ℤ) (most : ℕ) (bit : ℕ → ℕ) → length pair ≡ 2 →
@@ -109,16 +109,16 @@ pub AreMetricsWithin-more : (after values pair : List ℤ) (most : ℕ) (bit : �
     AreMetricsWithin (most + 256) values
 AreMetricsWithin-more after values pair most bit two octets chosen within = record {
   lower_bound = λ s lt.
-      floor_kept _ _ s _ _ _ two lt (within.lower_bound (next_trellis_state s 0) (omega arith))
+      IsDecision-lower_bound _ _ s _ _ _ two lt (within.lower_bound (next_trellis_state s 0) (omega arith))
       (within.lower_bound (next_trellis_state s 1) (omega arith))
       (chosen s lt);
   upper_bound = λ s lt.
-      top_kept _ _ s _ _ _ two octets (within.upper_bound (next_trellis_state s 0) (omega arith))
+      IsDecision-upper_bound _ _ s _ _ _ two octets (within.upper_bound (next_trellis_state s 0) (omega arith))
       (within.upper_bound (next_trellis_state s 1) (omega arith))
       (chosen s lt);
 }
 
--- adding a branch metric to a bounded path metric stays within 16 bits
+-- the sum of a bounded path metric and a branch metric fits in 16 bits
 module _ (even odd : List ℤ) (most : ℕ) (few : most ≤ 63000) (within : AreMetricsWithin most (metrics_of_lanes even odd)) where
   has_headroom : (lanes : List ℤ) (bit : ℕ) → length lanes ≡ 8 →
       ((k : ℕ) → k < 8 → lane (metrics_of_lanes even odd) (next_trellis_state (bit_reversed k) bit) ≡ lane_metric (lane lanes k))
@@ -147,10 +147,10 @@ module _ (even odd : List ℤ) (most : ℕ) (few : most ≤ 63000) (within : Are
   HaveHeadroom16-odd count = has_headroom odd 1 count (odd_metric even odd)
 
 -- the absolute value of a path metric is at most 128 for each soft bit
-best_bound : (s : ℕ) (u : List ℕ) (soft : List ℤ) (value : ℤ) → AreSignedOctets soft → IsSurvivor s u soft value →
+IsSurvivor-bounds : (s : ℕ) (u : List ℕ) (soft : List ℤ) (value : ℤ) → AreSignedOctets soft → IsSurvivor s u soft value →
     ((pos 0 -ℤ pos (128 * length soft)) ≤ℤ value) × (value ≤ℤ pos (128 * length soft))
 unfolding metric_from_state
-best_bound s u soft value octets best =
+IsSurvivor-bounds s u soft value octets best =
     omega (arith, ints, likelihood_bound soft _ octets (AllBits-encoding_from_state s u))
 
 -- bounds of the path metrics from position n on, where the soft bits are at most eight
@@ -158,8 +158,8 @@ pub AreMetricsWithin-best : (n : ℕ) (values soft : List ℤ) (lists : ℕ → 
     → length soft ≤ n + 8 →
     ((s : ℕ) → s < 16 → IsSurvivor s (lists s) (drop n soft) (lane values s)) → AreMetricsWithin 1024 values
 AreMetricsWithin-best n values soft lists octets few best = record {
-  lower_bound = λ s lt. omega (arith, ints, length-drop n soft, best_bound s _ _ _ (All-drop IsSignedOctet n _ octets) (best s lt));
-  upper_bound = λ s lt. omega (arith, ints, length-drop n soft, best_bound s _ _ _ (All-drop IsSignedOctet n _ octets) (best s lt));
+  lower_bound = λ s lt. omega (arith, ints, length-drop n soft, IsSurvivor-bounds s _ _ _ (All-drop IsSignedOctet n _ octets) (best s lt));
+  upper_bound = λ s lt. omega (arith, ints, length-drop n soft, IsSurvivor-bounds s _ _ _ (All-drop IsSignedOctet n _ octets) (best s lt));
 }
 
 pub AreMetricsWithin-most : (n : ℕ) (values soft : List ℤ) (lists : ℕ → List ℕ) → AreSignedOctets soft → length soft ≤ 456
@@ -169,23 +169,23 @@ pub AreMetricsWithin-most : (n : ℕ) (values soft : List ℤ) (lists : ℕ → 
 AreMetricsWithin-most n values soft lists octets few low best = record {
   lower_bound = low;
   upper_bound = λ s lt.
-      omega (arith, ints, length-drop n soft, best_bound s _ _ _ (All-drop IsSignedOctet n _ octets) (best s lt));
+      omega (arith, ints, length-drop n soft, IsSurvivor-bounds s _ _ _ (All-drop IsSignedOctet n _ octets) (best s lt));
 }
 
-pub IsSurvivor-closed : (after values pair soft : List ℤ) (n : ℕ) → length pair ≡ 2 → n < 4 →
+pub IsSurvivor-zero_tail : (after values pair soft : List ℤ) (n : ℕ) → length pair ≡ 2 → n < 4 →
     ((s : ℕ) → s < 16 → IsSurvivor s (replicate n 0) soft (lane after s)) →
     ((s : ℕ) → s < 16 → lane values s ≡ candidate_metric after pair s 0) →
     (s : ℕ) → s < 16 → IsSurvivor s (replicate (suc n) 0) (pair ++ soft) (lane values s)
-IsSurvivor-closed after values pair soft n two few best candidates s lt =
-    rw (candidates s lt) (IsSurvivor-closing _ _ _ s _ two (omega (arith, length-replicate {A = ℕ} n 0))
+IsSurvivor-zero_tail after values pair soft n two few best candidates s lt =
+    rw (candidates s lt) (IsSurvivor-tail_bit _ _ _ s _ two (omega (arith, length-replicate {A = ℕ} n 0))
     (best (next_trellis_state s 0) (omega arith)))
 
 -- ## MapLists: The list that traceback reads out of survivor maps of four positions each, extended by one map at the front. A state
 -- consists of the four bits that led to it.
 
 -- `lane_of_state` is its own inverse
-place-back : (s : ℕ) → s < 16 → lane_of_state (lane_of_state s) ≡ s
-place-back = same_below _ _ refl
+lane_of_state-twice : (s : ℕ) → s < 16 → lane_of_state (lane_of_state s) ≡ s
+lane_of_state-twice = same_below _ _ refl
 
 length-survivor_traceback : (survivors : List (List ℕ)) (at : ℕ) →
     length (survivor_traceback survivors at) ≡ 4 * length survivors
@@ -200,29 +200,29 @@ HasTailBits-front [] rest ends = All-nil _
 HasTailBits-front (x ∷ u) rest ends = All-cons IsBit x u ends.0 (HasTailBits-front u _ ends.2)
 
 -- four bits lead to the state that consists of these bits
-four_bits : (s a b c d : ℕ) → s < 16 → a ≤ 1 → b ≤ 1 → c ≤ 1 → d ≤ 1 →
+four_bits-state : (s a b c d : ℕ) → s < 16 → a ≤ 1 → b ≤ 1 → c ≤ 1 → d ≤ 1 →
     to_binary 4 (state_after_bits s (a ∷ b ∷ c ∷ d ∷ [])) ≡ a ∷ b ∷ c ∷ d ∷ []
-four_bits s a b c d lt ha hb hc hd =
+four_bits-state s a b c d lt ha hb hc hd =
     let at = state_after_bits s (a ∷ b ∷ c ∷ d ∷ []) in
     let is : (at / 8 % 2 ≡ a) × (at / 4 % 2 ≡ b) × (at / 2 % 2 ≡ c) × (at / 1 % 2 ≡ d) = omega arith in
     cc
 
-list_of_four : (s : ℕ) (u : List ℕ) → s < 16 → length u ≡ 4 → AllBits u → to_binary 4 (state_after_bits s u) ≡ u
-list_of_four s (a ∷ b ∷ c ∷ d ∷ []) lt four bits =
-    four_bits s a b c d lt (bits 0 0 (omega arith)) (bits 1 0 (omega arith)) (bits 2 0 (omega arith)) (bits 3 0 (omega arith))
-list_of_four s u lt four bits = absurd (omega arith)
+state_after-four_bits : (s : ℕ) (u : List ℕ) → s < 16 → length u ≡ 4 → AllBits u → to_binary 4 (state_after_bits s u) ≡ u
+state_after-four_bits s (a ∷ b ∷ c ∷ d ∷ []) lt four bits =
+    four_bits-state s a b c d lt (bits 0 0 (omega arith)) (bits 1 0 (omega arith)) (bits 2 0 (omega arith)) (bits 3 0 (omega arith))
+state_after-four_bits s u lt four bits = absurd (omega arith)
 
 -- fewer than four bits that lead from state 0 to a state are the last bits of that state
-pub list_of_few : (u : List ℕ) → length u < 4 → AllBits u → drop (4 - length u) (to_binary 4 (state_after_bits 0 u)) ≡ u
-list_of_few [] few bits = refl
-list_of_few (a ∷ []) few bits =
-    ap (drop 3) (four_bits 0 0 0 0 a (omega arith) (omega arith) (omega arith) (omega arith) (bits 0 0 (omega arith)))
-list_of_few (a ∷ b ∷ []) few bits =
-    ap (drop 2) (four_bits 0 0 0 a b (omega arith) (omega arith) (omega arith) (bits 0 0 (omega arith)) (bits 1 0 (omega arith)))
-list_of_few (a ∷ b ∷ c ∷ []) few bits =
+pub last_state-bits : (u : List ℕ) → length u < 4 → AllBits u → drop (4 - length u) (to_binary 4 (state_after_bits 0 u)) ≡ u
+last_state-bits [] few bits = refl
+last_state-bits (a ∷ []) few bits =
+    ap (drop 3) (four_bits-state 0 0 0 0 a (omega arith) (omega arith) (omega arith) (omega arith) (bits 0 0 (omega arith)))
+last_state-bits (a ∷ b ∷ []) few bits =
+    ap (drop 2) (four_bits-state 0 0 0 a b (omega arith) (omega arith) (omega arith) (bits 0 0 (omega arith)) (bits 1 0 (omega arith)))
+last_state-bits (a ∷ b ∷ c ∷ []) few bits =
     ap (drop 1)
-    (four_bits 0 0 a b c (omega arith) (omega arith) (bits 0 0 (omega arith)) (bits 1 0 (omega arith)) (bits 2 0 (omega arith)))
-list_of_few u few bits = absurd (omega arith)
+    (four_bits-state 0 0 a b c (omega arith) (omega arith) (bits 0 0 (omega arith)) (bits 1 0 (omega arith)) (bits 2 0 (omega arith)))
+last_state-bits u few bits = absurd (omega arith)
 
 module _ {after values soft rest : List ℤ} {map : List ℕ} (survivors : List (List ℕ)) (walk : AreSurvivors after values map soft)
     (some : 1 ≤ length survivors)
@@ -233,25 +233,26 @@ module _ {after values soft rest : List ℤ} {map : List ℕ} (survivors : List 
   -- the map entry of s is the lane of the state that its bits lead to
   maps_to_end_state : (s : ℕ) → s < 16 → get_or map (lane_of_state s) 0 % 16 ≡ lane_of_state (state_after_bits s (bits s))
   maps_to_end_state s lt =
-      omega (arith, walk.maps_to_end_state s lt, reached-inside s (bits s) lt)
+      omega (arith, walk.maps_to_end_state s lt, state_after-inside s (bits s) lt)
 
-  pub walked : (s : ℕ) → s < 16 →
+  pub traced_survivor : (s : ℕ) → s < 16 →
       IsSurvivor s (bits s ++ survivor_traceback survivors (get_or map (lane_of_state s) 0 % 16)) (soft ++ rest) (lane values s)
-  walked s lt =
+  traced_survivor s lt =
       rw (maps_to_end_state s lt)
       (walk.best _ _ _ (omega arith) (λ s lt. length-survivor_traceback _ _) best s lt)
 
-  pub walked_bits : (s : ℕ) → s < 16 → AllBits (bits s)
-  walked_bits s lt = HasTailBits-front _ (survivor_traceback _ _) (walked s lt).tail_bits
+  pub traced_survivor-bits : (s : ℕ) → s < 16 → AllBits (bits s)
+  traced_survivor-bits s lt = HasTailBits-front _ (survivor_traceback _ _) (traced_survivor s lt).tail_bits
 
-  pub walked_state : (s : ℕ) → s < 16 → lane_of_state (get_or map (lane_of_state s) 0 % 16) ≡ state_after_bits s (bits s)
-  walked_state s lt = ap lane_of_state (maps_to_end_state s lt) ∙ place-back _ (reached-inside s (bits s) lt)
+  pub traced_survivor-state : (s : ℕ) → s < 16 → lane_of_state (get_or map (lane_of_state s) 0 % 16) ≡ state_after_bits s (bits s)
+  traced_survivor-state s lt = ap lane_of_state (maps_to_end_state s lt) ∙ lane_of_state-twice _ (state_after-inside s (bits s) lt)
 
   IsSurvivor-map : length soft ≡ 8 → (s : ℕ) → s < 16 →
       IsSurvivor s (survivor_traceback (map ∷ survivors) (lane_of_state s)) (soft ++ rest) (lane values s)
   IsSurvivor-map eight s lt =
       IsSurvivor-same s (ap (λ u. u ++ survivor_traceback survivors (get_or map (lane_of_state s) 0 % 16))
-      (sym (ap (to_binary 4) (walked_state s lt) ∙ list_of_four s _ lt (omega arith) (walked_bits s lt)))) refl refl (walked s lt)
+      (sym (ap (to_binary 4) (traced_survivor-state s lt) ∙ state_after-four_bits s _ lt (omega arith) (traced_survivor-bits s lt)))) refl
+      refl (traced_survivor s lt)
 
 -- the map of the tail leads to state 0, so traceback reads four zeros
 read_last : (s : ℕ) → s < 16 →
@@ -295,11 +296,11 @@ more_survivors after values soft map survivors before group at inside within wal
 -- four equal bits lead from any two states to the same state; so the differences fit in 16 bits.
 
 -- two lists of the same length that consist only of tail bits (at most four) are equal
-same_tail : (u w : List ℕ) → HasTailBits u → HasTailBits w → length w ≡ length u → length u ≤ 4 → w ≡ u
-same_tail [] [] eu ew count short = refl
-same_tail (x ∷ u) (y ∷ w) eu ew count short =
-    ap₂ (λ z v. z ∷ v) (ew.1 (omega arith) ∙ sym (eu.1 (omega arith))) (same_tail u w eu.2 ew.2 (omega arith) (omega arith))
-same_tail u w eu ew count short = absurd (omega arith)
+HasTailBits-same : (u w : List ℕ) → HasTailBits u → HasTailBits w → length w ≡ length u → length u ≤ 4 → w ≡ u
+HasTailBits-same [] [] eu ew count short = refl
+HasTailBits-same (x ∷ u) (y ∷ w) eu ew count short =
+    ap₂ (λ z v. z ∷ v) (ew.1 (omega arith) ∙ sym (eu.1 (omega arith))) (HasTailBits-same u w eu.2 ew.2 (omega arith) (omega arith))
+HasTailBits-same u w eu ew count short = absurd (omega arith)
 
 HasTailBits-zeros : (n : ℕ) → HasTailBits (replicate n 0)
 HasTailBits-zeros zero = tt
@@ -310,16 +311,16 @@ IsSurvivor-short : (s : ℕ) (u : List ℕ) (soft : List ℤ) → HasTailBits u 
 IsSurvivor-short s u soft ends short = record {
   has_metric = refl;
   tail_bits = ends;
-  beats_others = λ v ends_v count. rw (same_tail u v ends ends_v count short) (EqualMetricButLater refl
-      (IsNotLexicographicallyAfter-refl u));
+  beats_others = λ v ends_v count. rw (HasTailBits-same u v ends ends_v count short) (EqualMetricButLater refl
+      (lex_not_after-refl u));
 }
 
 -- in the last four positions, decision rows of zeros are right
-AreDecisions-closing : (rows : List ℕ) (losses : List (List ℤ)) (soft : List ℤ) → length rows ≤ 4 →
+AreDecisions-tail : (rows : List ℕ) (losses : List (List ℤ)) (soft : List ℤ) → length rows ≤ 4 →
     length losses ≡ length rows → length soft ≡ 2 * length rows → All (λ row. row ≡ 0) rows → AreDecisions rows losses soft
-AreDecisions-closing [] losses soft short same pairs blank = pairs
-AreDecisions-closing (row ∷ rows) [] soft short same pairs blank = absurd (omega arith)
-AreDecisions-closing (row ∷ rows) (lost ∷ losses) soft short same pairs blank = (
+AreDecisions-tail [] losses soft short same pairs blank = pairs
+AreDecisions-tail (row ∷ rows) [] soft short same pairs blank = absurd (omega arith)
+AreDecisions-tail (row ∷ rows) (lost ∷ losses) soft short same pairs blank = (
   omega arith,
   record {
     best = λ s lt. IsSurvivor-short s (traceback (row ∷ rows) s) soft
@@ -327,15 +328,15 @@ AreDecisions-closing (row ∷ rows) (lost ∷ losses) soft short same pairs blan
         (omega (arith, length-traceback (row ∷ rows) s));
     each_loss = λ s lt four. absurd (omega arith);
   },
-  AreDecisions-closing rows losses (drop 2 soft) (omega arith) (omega arith) (omega (arith, length-drop 2 soft))
+  AreDecisions-tail rows losses (drop 2 soft) (omega arith) (omega arith) (omega (arith, length-drop 2 soft))
       (All-tail (λ row. row ≡ 0) row rows blank),
 )
 
 -- ---- decisions and costs for one more position at the front
 
-rest_of : (pair soft : List ℤ) → length pair ≡ 2 → drop 2 (pair ++ soft) ≡ soft
-rest_of (p ∷ q ∷ []) soft two = refl
-rest_of pair soft two = absurd (omega arith)
+drop-pair : (pair soft : List ℤ) → length pair ≡ 2 → drop 2 (pair ++ soft) ≡ soft
+drop-pair (p ∷ q ∷ []) soft two = refl
+drop-pair pair soft two = absurd (omega arith)
 
 module _ (after values lost pair soft : List ℤ) (rows : List ℕ) (losses : List (List ℤ)) (row : ℕ) (two : length pair ≡ 2)
     (octets : AreSignedOctets pair) (chosen : (s : ℕ) → s < 16 → IsDecision after pair s (lane values s) (row / 2 ^ s % 2))
@@ -350,7 +351,7 @@ module _ (after values lost pair soft : List ℤ) (rows : List ℕ) (losses : Li
 
   candidate_is : (s bit : ℕ) → candidate_metric after pair s bit
       ≡ metric_from_state s (bit ∷ traceback rows (next_trellis_state s bit)) (pair ++ soft)
-  candidate_is s bit = candidate_reached _ _ _ s bit _ two (old.best (next_trellis_state s bit) (omega arith))
+  candidate_is s bit = candidate-survivor _ _ _ s bit _ two (old.best (next_trellis_state s bit) (omega arith))
 
   pub HasDecisionsAndMetrics-more : HasDecisionsAndMetrics (row ∷ rows) (lost ∷ losses) (pair ++ soft) values
   HasDecisionsAndMetrics-more = record {
@@ -360,13 +361,13 @@ module _ (after values lost pair soft : List ℤ) (rows : List ℕ) (losses : Li
         best = λ s lt. rw (← (best_more s lt).has_metric) (best_more s lt);
         each_loss = λ s lt long. loses s lt ∙ ap₂ (λ a b. a -ℤ b) (candidate_is s _) (candidate_is s _);
       },
-      rw (rest_of pair soft two) old.decisions,
+      rw (drop-pair pair soft two) old.decisions,
     );
     count = omega (arith, old.count, length-append pair soft);
     equal_counts = ap suc old.equal_counts;
     at_least = omega (arith, old.at_least);
     octets = All-append IsSignedOctet _ _ octets old.octets;
-    lower_bound = λ s lt. floor_kept _ _ s _ _ _ two lt (old.lower_bound (next_trellis_state s 0) (omega arith))
+    lower_bound = λ s lt. IsDecision-lower_bound _ _ s _ _ _ two lt (old.lower_bound (next_trellis_state s 0) (omega arith))
         (old.lower_bound (next_trellis_state s 1) (omega arith))
         (chosen s lt);
     best = best_more;
@@ -403,25 +404,25 @@ near_more n s t x u soft long octets fits_16_bits =
       branch_metric_bound (take 2 soft) t x two pair,
     )
 
--- states equal modulo m are near, up to n
-abbrev Near : ℕ → ℕ → Type 0
-Near n m = (s t : ℕ) (u : List ℕ) (soft : List ℤ) → length soft ≡ 2 * length u → AreSignedOctets soft → s % m ≡ t % m
+-- if two states are equal modulo m, the path metrics of a list from them differ by at most n
+abbrev NearIfCongruent : ℕ → ℕ → Type 0
+NearIfCongruent n m = (s t : ℕ) (u : List ℕ) (soft : List ℤ) → length soft ≡ 2 * length u → AreSignedOctets soft → s % m ≡ t % m
     → IsNear n s t u soft
 
 near_step : (n m k : ℕ) → ((s t x : ℕ) → s % m ≡ t % m → next_trellis_state s x % k ≡ next_trellis_state t x % k)
-    → Near n k → Near (n + 512) m
+    → NearIfCongruent n k → NearIfCongruent (n + 512) m
 near_step n m k same near s t [] soft count octets e = near_none _ s t _
 near_step n m k same near s t (x ∷ u) soft count octets e =
     near_more _ s t x u _ (omega arith) octets
     (near _ _ u _ (omega (arith, length-drop 2 soft)) (All-drop IsSignedOctet 2 _ octets) (same s t x e))
 
 -- the path metrics of u from any two states differ by at most 2,048, since four equal bits lead to the same state
-fits_16_bits : Near 2048 1
+fits_16_bits : NearIfCongruent 2048 1
 fits_16_bits =
     near_step 1536 1 2 (λ s t x e. omega arith) (near_step 1024 2 4 (λ s t x e. omega arith) (near_step 512 4 8 (λ s t x e. omega arith)
     near_8))
   where
-    near_8 : Near 512 8
+    near_8 : NearIfCongruent 512 8
     near_8 s t [] soft count octets e = near_none _ s t _
     near_8 s t (x ∷ u) soft count octets e =
         near_more 0 s t x u _ (omega arith) octets
@@ -444,8 +445,8 @@ module _ (rows : List ℕ) (losses : List (List ℤ)) (soft even odd : List ℤ)
         | EqualMetricButLater h later ↦ omega (arith, ints)
       ]
 
-  pub HasDecisionsAndMetrics-close : DifferByAtMost4096 even odd
-  HasDecisionsAndMetrics-close = record {
+  pub HasDecisionsAndMetrics-differences : DifferByAtMost4096 even odd
+  HasDecisionsAndMetrics-differences = record {
     lower_bound = λ k lt. omega (
       arith,
       ints,
@@ -475,17 +476,17 @@ module _ (rows : List ℕ) (losses : List (List ℤ)) (soft even odd : List ℤ)
 
 -- ---- the last four positions, which are the tail
 
-pub HasDecisionsAndMetrics-closing : (rows : List ℕ) (losses : List (List ℤ)) (soft values : List ℤ) → length rows ≡ 4 →
+pub HasDecisionsAndMetrics-tail : (rows : List ℕ) (losses : List (List ℤ)) (soft values : List ℤ) → length rows ≡ 4 →
     length losses ≡ 4 → length soft ≡ 8 → AreSignedOctets soft → All (λ row. row ≡ 0) rows →
     ((s : ℕ) → s < 16 → IsSurvivor s (replicate 4 0) soft (lane values s)) → HasDecisionsAndMetrics rows losses soft values
-HasDecisionsAndMetrics-closing rows losses soft values four same eight octets blank best = record {
-  decisions = AreDecisions-closing rows losses soft (omega arith) (cc (same, four)) (omega arith) blank;
+HasDecisionsAndMetrics-tail rows losses soft values four same eight octets blank best = record {
+  decisions = AreDecisions-tail rows losses soft (omega arith) (cc (same, four)) (omega arith) blank;
   count = omega arith;
   equal_counts = same ∙ sym four;
   at_least = omega arith;
   octets = octets;
   lower_bound = (AreMetricsWithin-best 0 values soft (λ s. replicate 4 0) octets (omega arith) best).lower_bound;
-  best = λ s lt. IsSurvivor-same s (closing_rows rows s four blank) refl refl (best s lt);
+  best = λ s lt. IsSurvivor-same s (traceback-tail_rows rows s four blank) refl refl (best s lt);
 }
 
 pub HasDecisionsAndMetrics-same : {rows rows' : List ℕ} {losses losses' : List (List ℤ)} {soft soft' values : List ℤ} →
@@ -495,35 +496,35 @@ HasDecisionsAndMetrics-same er el es decided = rw (← er, ← el, ← es) decid
 
 -- ## LanesOfMaps: Every lane of a survivor map holds the number of a lane.
 
-lane_inside : (k : ℕ) → k < 16 → lane_of_state k < 16
-lane_inside k lt = omega arith
+lane_of_state-inside : (k : ℕ) → k < 16 → lane_of_state k < 16
+lane_of_state-inside k lt = omega arith
 
-lane_back : (k : ℕ) → k < 16 → lane_of_state (lane_of_state k) ≡ k
-lane_back = same_below (λ k. lane_of_state (lane_of_state k)) (λ k. k) refl
+lane_of_state-involution : (k : ℕ) → k < 16 → lane_of_state (lane_of_state k) ≡ k
+lane_of_state-involution = same_below (λ k. lane_of_state (lane_of_state k)) (λ k. k) refl
 
-pub map_holds_lanes : (after values : List ℤ) (map : List ℕ) (soft : List ℤ) → AreSurvivors after values map soft → (k : ℕ) →
+pub AreSurvivors-map_lanes : (after values : List ℤ) (map : List ℕ) (soft : List ℤ) → AreSurvivors after values map soft → (k : ℕ) →
     k < 16 → get_or map k 0 < 16
-map_holds_lanes after values map soft walk k lt =
+AreSurvivors-map_lanes after values map soft walk k lt =
     let s = lane_of_state k in
-    let low : lane_of_state k < 16 = lane_inside k lt in
-    let end : state_after_bits s (walk.bits s) < 16 = reached-inside s (walk.bits s) low in
+    let low : lane_of_state k < 16 = lane_of_state-inside k lt in
+    let end : state_after_bits s (walk.bits s) < 16 = state_after-inside s (walk.bits s) low in
     let is : get_or map k 0 ≡ lane_of_state (state_after_bits s (walk.bits s)) =
-    ap (λ k. get_or map k 0) (sym (lane_back k lt)) ∙ walk.maps_to_end_state s low in
-    rw is (lane_inside _ end)
+    ap (λ k. get_or map k 0) (sym (lane_of_state-involution k lt)) ∙ walk.maps_to_end_state s low in
+    rw is (lane_of_state-inside _ end)
 
-pub one_more_map : (survivors : List (List ℕ)) (map : List ℕ) (before from : ℕ) → before + 1 ≡ from →
+pub HoldLanesFrom-more : (survivors : List (List ℕ)) (map : List ℕ) (before from : ℕ) → before + 1 ≡ from →
     before < length survivors → ((k : ℕ) → k < 16 → get_or map k 0 < 16) → HoldLanesFrom from survivors →
     HoldLanesFrom before (set survivors before map)
-one_more_map survivors map before from at within small old group k low member lt = elim (cases_lt before group) [
+HoldLanesFrom-more survivors map before from at within small old group k low member lt = elim (cases_lt before group) [
   | inl less ↦ rw (get_or-set_other survivors before group map [] (λ e. omega arith)) (old group k (omega arith)
       (omega (arith, length-set survivors before map)) lt)
   | inr most ↦ rw (get_or-set_at survivors before group map [] (omega arith) within) (small k lt)
 ]
 
-pub last_holds_lanes : (survivors : List (List ℕ)) (last : ℕ) → last + 1 ≡ length survivors →
+pub HoldLanesFrom-last : (survivors : List (List ℕ)) (last : ℕ) → last + 1 ≡ length survivors →
     HoldLanesFrom last (set survivors last
     (0 ∷ 0 ∷ 0 ∷ 0 ∷ 0 ∷ 0 ∷ 0 ∷ 0 ∷ 0 ∷ 0 ∷ 0 ∷ 0 ∷ 0 ∷ 0 ∷ 0 ∷ 0 ∷ []))
-last_holds_lanes survivors last end =
+HoldLanesFrom-last survivors last end =
     let blank : List ℕ = 0 ∷ 0 ∷ 0 ∷ 0 ∷ 0 ∷ 0 ∷ 0 ∷ 0 ∷ 0 ∷ 0 ∷ 0 ∷ 0 ∷ 0 ∷ 0 ∷ 0 ∷ 0 ∷ [] in
-    one_more_map survivors blank last (last + 1) refl (omega arith)
+    HoldLanesFrom-more survivors blank last (last + 1) refl (omega arith)
     (λ k lt. rw (get_or-replicate {A = ℕ} 16 k 0 0 lt) (omega arith)) (λ group k low member lt. absurd (omega arith))

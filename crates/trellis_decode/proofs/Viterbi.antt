@@ -48,9 +48,9 @@ pub length-traceback : (rows : List ℕ) (state : ℕ) → length (traceback row
 length-traceback [] state = refl
 length-traceback (row ∷ rows) state = ap suc (length-traceback rows _)
 
-pub IsNotLexicographicallyAfter-refl : (u : List ℕ) → IsNotLexicographicallyAfter u u
-IsNotLexicographicallyAfter-refl [] = tt
-IsNotLexicographicallyAfter-refl (x ∷ u) = inr (refl, IsNotLexicographicallyAfter-refl u)
+pub lex_not_after-refl : (u : List ℕ) → IsNotLexicographicallyAfter u u
+lex_not_after-refl [] = tt
+lex_not_after-refl (x ∷ u) = inr (refl, lex_not_after-refl u)
 
 -- an equal first bit keeps the order of two lists
 pub IsNoBetterPath-same : (state x : ℕ) (v u : List ℕ) (pair soft : List ℤ) → length pair ≡ 2 →
@@ -62,20 +62,20 @@ IsNoBetterPath-same state x v u pair soft e (EqualMetricButLater h after) =
     (inr (refl, after))
 
 -- no list that begins with `bit` has a greater path metric than the candidate metric of that bit
-candidate_bounds : (after pair soft : List ℤ) (state bit : ℕ) (u v : List ℕ) → length pair ≡ 2 →
+candidate-bound : (after pair soft : List ℤ) (state bit : ℕ) (u v : List ℕ) → length pair ≡ 2 →
     IsSurvivor (next_trellis_state state bit) u soft (get_or after (next_trellis_state state bit) (pos 0)) → HasTailBits v
     → length v ≡ length u →
     metric_from_state state (bit ∷ v) (pair ++ soft) ≤ℤ candidate_metric after pair state bit
 unfolding candidate_metric
-candidate_bounds after pair soft state bit u v e best ends count =
+candidate-bound after pair soft state bit u v e best ends count =
     let g = metric_from_state-cons state bit v pair soft e in
     elim (best.beats_others v ends count) [ LessMetric h ↦ omega (arith, ints) | EqualMetricButLater h later ↦ omega (arith, ints) ]
 
-pub candidate_reached : (after pair soft : List ℤ) (state bit : ℕ) (u : List ℕ) → length pair ≡ 2 →
+pub candidate-survivor : (after pair soft : List ℤ) (state bit : ℕ) (u : List ℕ) → length pair ≡ 2 →
     IsSurvivor (next_trellis_state state bit) u soft (get_or after (next_trellis_state state bit) (pos 0)) →
     candidate_metric after pair state bit ≡ metric_from_state state (bit ∷ u) (pair ++ soft)
 unfolding candidate_metric
-candidate_reached after pair soft state bit u e best = omega (arith, ints, metric_from_state-cons state bit u pair soft e)
+candidate-survivor after pair soft state bit u e best = omega (arith, ints, metric_from_state-cons state bit u pair soft e)
 
 -- given the survivors of both next states: the better candidate is the survivor of the state
 module _ (after pair soft : List ℤ) (state : ℕ) (zeros ones : List ℕ) (e : length pair ≡ 2) (same : length ones ≡ length zeros)
@@ -85,8 +85,8 @@ module _ (after pair soft : List ℤ) (state : ℕ) (zeros ones : List ℕ) (e :
       length v ≡ suc (length zeros) → IsNoBetterPath state (pair ++ soft) v (0 ∷ zeros)
   zero_wins h (zero ∷ v) ends count = IsNoBetterPath-same _ 0 v _ _ _ e (best0.beats_others v ends.2 (omega arith))
   zero_wins h (suc zero ∷ v) ends count =
-      let bound = candidate_bounds after pair soft state 1 ones v e best1 ends.2 (omega arith) in
-      let value = candidate_reached after pair soft state 0 zeros e best0 in
+      let bound = candidate-bound after pair soft state 1 ones v e best1 ends.2 (omega arith) in
+      let value = candidate-survivor after pair soft state 0 zeros e best0 in
       by_lt_z (metric_from_state _ _ _) (metric_from_state _ _ (pair ++ soft))
       LessMetric (λ not_less. EqualMetricButLater (omega (arith, ints)) (inl (omega arith)))
   zero_wins h v ends count = absurd (omega arith)
@@ -94,8 +94,8 @@ module _ (after pair soft : List ℤ) (state : ℕ) (zeros ones : List ℕ) (e :
   one_wins : (candidate_metric after pair state 0) <ℤ (candidate_metric after pair state 1) → (v : List ℕ) → HasTailBits v →
       length v ≡ suc (length ones) → IsNoBetterPath state (pair ++ soft) v (1 ∷ ones)
   one_wins h (zero ∷ v) ends count =
-      let bound = candidate_bounds after pair soft state 0 zeros v e best0 ends.2 (omega arith) in
-      LessMetric (omega (arith, ints, candidate_reached after pair soft state 1 ones e best1))
+      let bound = candidate-bound after pair soft state 0 zeros v e best0 ends.2 (omega arith) in
+      LessMetric (omega (arith, ints, candidate-survivor after pair soft state 1 ones e best1))
   one_wins h (suc zero ∷ v) ends count = IsNoBetterPath-same _ 1 v _ _ _ e (best1.beats_others v ends.2 (omega arith))
   one_wins h v ends count = absurd (omega arith)
 
@@ -115,12 +115,12 @@ IsSurvivor-bit after pair soft state bit lists value e free same best0 best1 cho
     let BestAt : ℕ → Type 0 = λ bit. IsSurvivor state (bit ∷ lists (next_trellis_state state bit)) (pair ++ soft) value in
     elim choice [
       | inl h ↦ subst BestAt (sym h.0) (record {
-        has_metric = h.1 ∙ candidate_reached after pair soft state 0 zeros e best0;
+        has_metric = h.1 ∙ candidate-survivor after pair soft state 0 zeros e best0;
         tail_bits = (omega arith, (λ _. refl), best0.tail_bits);
         beats_others = zero_wins after pair soft state zeros ones e same best0 best1 h.2;
       })
       | inr h ↦ subst BestAt (sym h.0) (record {
-        has_metric = h.1 ∙ candidate_reached after pair soft state 1 ones e best1;
+        has_metric = h.1 ∙ candidate-survivor after pair soft state 1 ones e best1;
         tail_bits = (omega arith, (λ short. absurd (omega arith)), best1.tail_bits);
         beats_others = one_wins after pair soft state zeros ones e same best0 best1 h.2;
       })
@@ -138,11 +138,11 @@ IsSurvivor-more after pair soft state row rows value e free =
     IsSurvivor-bit after pair soft state (row / 2 ^ state % 2) (traceback rows) value e (omega arith) (count1 ∙ sym count0)
 
 -- the survivor over one more position of the tail, where the bit must be 0
-pub IsSurvivor-closing : (after pair soft : List ℤ) (state : ℕ) (u : List ℕ) → length pair ≡ 2 → length u < 4 →
+pub IsSurvivor-tail_bit : (after pair soft : List ℤ) (state : ℕ) (u : List ℕ) → length pair ≡ 2 → length u < 4 →
     IsSurvivor (next_trellis_state state 0) u soft (get_or after (next_trellis_state state 0) (pos 0)) →
     IsSurvivor state (0 ∷ u) (pair ++ soft) (candidate_metric after pair state 0)
-IsSurvivor-closing after pair soft state u e closing best = record {
-  has_metric = candidate_reached _ _ _ _ 0 u e best;
+IsSurvivor-tail_bit after pair soft state u e closing best = record {
+  has_metric = candidate-survivor _ _ _ _ 0 u e best;
   tail_bits = (omega arith, (λ _. refl), best.tail_bits);
   beats_others = closing_wins;
 } where
@@ -191,7 +191,7 @@ pub IsSurvivor-same : (s : ℕ) {u u' : List ℕ} {soft soft' : List ℤ} {value
     value ≡ value' → IsSurvivor s u soft value → IsSurvivor s u' soft' value'
 IsSurvivor-same s eu es ev best = grind arith
 
--- all soft bits from n on
+-- a survivor over the `length soft - n` soft bits from n on is a survivor over all soft bits from n on
 pub IsSurvivor-to_end : (s n : ℕ) (u : List ℕ) (soft : List ℤ) (value : ℤ) →
     IsSurvivor s u (take (length soft - n) (drop n soft)) value → IsSurvivor s u (drop n soft) value
 IsSurvivor-to_end s n u soft value best = rw (← take_all (length soft - n) (drop n soft) (omega (arith, length-drop n soft))) best
@@ -204,9 +204,9 @@ traceback-zeros (row ∷ rows) state zeros =
     let bit : row / 2 ^ state % 2 ≡ 0 = ap (λ row. row / 2 ^ state % 2) (All-head (λ row. row ≡ 0) _ _ zeros)
     ∙ ap (λ x. x % 2) (zero-div _) in cc (bit, traceback-zeros rows _ (All-tail (λ row. row ≡ 0) row _ zeros))
 
-pub closing_rows : (rows : List ℕ) (state : ℕ) → length rows ≡ 4 → All (λ row. row ≡ 0) rows →
+pub traceback-tail_rows : (rows : List ℕ) (state : ℕ) → length rows ≡ 4 → All (λ row. row ≡ 0) rows →
     replicate 4 0 ≡ traceback rows state
-closing_rows rows state four zeros = cc (four, traceback-zeros _ _ zeros)
+traceback-tail_rows rows state four zeros = cc (four, traceback-zeros _ _ zeros)
 
 -- ## Lists: The best list from state 0 is the most likely encoder input: the encoder starts in state 0.
 
@@ -247,21 +247,21 @@ HasTailBits-tail (x ∷ u) ends =
 pub IsEncoderInput-ends : (u : List ℕ) → 5 ≤ length u → HasTailBits u → IsEncoderInput u
 IsEncoderInput-ends u count ends = record { count = count; bits = HasTailBits-bits u ends; tail = HasTailBits-tail u ends }
 
-pub IsLexicographicallyBefore-not_after : (u v : List ℕ) → AllBits v → length v ≡ length u → IsNotLexicographicallyAfter u v →
+pub lex_before-not_after : (u v : List ℕ) → AllBits v → length v ≡ length u → IsNotLexicographicallyAfter u v →
     v ≢ u → IsLexicographicallyBefore u v
-IsLexicographicallyBefore-not_after [] [] bits count h ne = absurd (ne refl)
-IsLexicographicallyBefore-not_after (x ∷ u) (y ∷ v) bits count (inl less) ne =
+lex_before-not_after [] [] bits count h ne = absurd (ne refl)
+lex_before-not_after (x ∷ u) (y ∷ v) bits count (inl less) ne =
     let bit : y ≤ 1 = All-head IsBit y v bits in
     record { place = 0; in_range = omega arith; equal_before = λ j lt. absurd (omega arith); zero = omega arith; differs = omega arith }
-IsLexicographicallyBefore-not_after (x ∷ u) (y ∷ v) bits count (inr rest) ne =
-    let tail = IsLexicographicallyBefore-not_after u v (All-tail IsBit y v bits) (omega arith) rest.1 (λ e. ne (ap₂ (λ z w. z ∷ w)
+lex_before-not_after (x ∷ u) (y ∷ v) bits count (inr rest) ne =
+    let tail = lex_before-not_after u v (All-tail IsBit y v bits) (omega arith) rest.1 (λ e. ne (ap₂ (λ z w. z ∷ w)
     (sym rest.0) e)) in
     record { place = suc tail.place; in_range = omega arith; equal_before = same tail; zero = tail.zero; differs = tail.differs }
   where
     same : (tail : IsLexicographicallyBefore u v) (j : ℕ) → j < suc tail.place → get_or (x ∷ u) j 0 ≡ get_or (y ∷ v) j 0
     same tail zero lt = rest.0
     same tail (suc j) lt = tail.equal_before j (omega arith)
-IsLexicographicallyBefore-not_after u v bits count h ne = absurd (omega arith)
+lex_before-not_after u v bits count h ne = absurd (omega arith)
 
 pub IsMostLikely-best : (soft : List ℤ) (u : List ℕ) (value : ℤ) → 5 ≤ length u → length soft ≡ 2 * length u →
     IsSurvivor 0 u soft value → IsMostLikely soft u
@@ -276,7 +276,7 @@ IsMostLikely-best soft u value count pairs best = record {
       let gv = metric_from_state-start soft v information.bits in
       elim (best.beats_others v (HasTailBits-from_tail v information.bits information.tail) count) [
         | LessMetric h ↦ inl (rw (← gu, ← gv) h)
-        | EqualMetricButLater h after ↦ inr (sym gv ∙ h ∙ gu, IsLexicographicallyBefore-not_after u v information.bits count after ne)
+        | EqualMetricButLater h after ↦ inr (sym gv ∙ h ∙ gu, lex_before-not_after u v information.bits count after ne)
       ]
 
 pub likelihood-best : (soft : List ℤ) (u : List ℕ) (value : ℤ) → IsSurvivor 0 u soft value →
@@ -313,7 +313,7 @@ IsEncoderInput-to_binary n number long = record {
   last_four : All (λ bit. bit ≡ 0) (to_binary 4 (16 * number))
   last_four k d = each (λ k. get_or (to_binary 4 (16 * number)) k d ≡ 0) 4 (omega arith) k
 
--- `word n` ignores the bits of a number from bit n on
+-- `to_binary n` ignores the bits of a number from bit n on
 to_binary-high : (n r x : ℕ) → to_binary n (r + 2 ^ n * x) ≡ to_binary n r
 to_binary-high zero r x = refl
 to_binary-high (suc n) r x =
@@ -322,10 +322,10 @@ to_binary-high (suc n) r x =
     ap (to_binary (suc n)) doubled ∙ ap₂ (λ bit rest. bit ∷ rest) (rw half (omega arith)) (to_binary-high n r _)
 
 -- the bits of each bit list form a binary number
-spelled : (v : List ℕ) → AllBits v → (number : ℕ) × (number < 2 ^ length v) × (to_binary (length v) number ≡ v)
-spelled [] bits = (0, omega arith, refl)
-spelled (x ∷ v) bits =
-    let rest = spelled v (All-tail IsBit x v bits) in
+as_binary : (v : List ℕ) → AllBits v → (number : ℕ) × (number < 2 ^ length v) × (to_binary (length v) number ≡ v)
+as_binary [] bits = (0, omega arith, refl)
+as_binary (x ∷ v) bits =
+    let rest = as_binary v (All-tail IsBit x v bits) in
     let r = rest.0 in
     let power = 2 ^ length v in
     let small : r < power = rest.1 in
@@ -350,14 +350,14 @@ div-le a b power above le = elim (cases_lt (b / power) (a / power)) [
 ]
 
 -- numeric order is lexicographic order
-pub IsLexicographicallyBefore-to_binary : (n a b : ℕ) → a < b → a / 2 ^ n ≡ b / 2 ^ n →
+pub lex_before-to_binary : (n a b : ℕ) → a < b → a / 2 ^ n ≡ b / 2 ^ n →
     IsLexicographicallyBefore (to_binary n a) (to_binary n b)
-IsLexicographicallyBefore-to_binary zero a b less same = absurd (omega arith)
-IsLexicographicallyBefore-to_binary (suc n) a b less same =
+lex_before-to_binary zero a b less same = absurd (omega arith)
+lex_before-to_binary (suc n) a b less same =
     let halves : a / 2 ^ n / 2 ≡ b / 2 ^ n / 2 =
     cc (div-div-eq-div-mul a _ 2, pow-suc 2 n, same, pow-suc 2 n, div-div-eq-div-mul b _ 2) in
     elim (eq-or-lt_of_le (div-le a b _ (pow_pos n) (omega arith))) [
-      | inl equal ↦ later (ap (λ q. q % 2) equal) (IsLexicographicallyBefore-to_binary n a b less equal)
+      | inl equal ↦ later (ap (λ q. q % 2) equal) (lex_before-to_binary n a b less equal)
       | inr above ↦
           record {
             place = 0;
@@ -387,7 +387,7 @@ IsLexicographicallyBefore-to_binary (suc n) a b less same =
 pub to_binary-information : (v : List ℕ) → IsEncoderInput v →
     (number : ℕ) × (16 * number < 2 ^ length v) × (to_binary (length v) (16 * number) ≡ v)
 to_binary-information v h =
-    let spelt = spelled v h.bits in
+    let spelt = as_binary v h.bits in
     let number = spelt.0 in
     let last_four : drop (length v - 4) v ≡ to_binary 4 number =
     ap (drop (length v - 4)) (sym spelt.2) ∙ drop-to_binary (length v) number (length v - 4) 4 (omega arith) in
@@ -405,91 +405,92 @@ less_by_test a b x y ex ey test = grind arith
 pub most_by_test : (a b x y : ℤ) → a ≡ x → b ≡ y → int_lt a b ≡ false → y ≤ℤ x
 most_by_test a b x y ex ey test = grind arith
 
--- list m of the search
-abbrev pub listed : ℕ → ℕ → List ℕ
-listed n m = to_binary n (16 * m)
+-- the encoder input with number m in the search
+abbrev pub nth_input : ℕ → ℕ → List ℕ
+nth_input n m = to_binary n (16 * m)
 
-abbrev pub score : List ℤ → ℕ → ℕ → ℤ
-score soft n m = likelihood soft (encoding (listed n m))
+abbrev pub nth_likelihood : List ℤ → ℕ → ℕ → ℤ
+nth_likelihood soft n m = likelihood soft (encoding (nth_input n m))
 
-abbrev pub Behind : List ℤ → ℕ → ℕ → ℕ → Type 0
-Behind soft n m k = RanksAfter soft (listed n m) (listed n k)
+abbrev pub RanksBehind : List ℤ → ℕ → ℕ → ℕ → Type 0
+RanksBehind soft n m k = RanksAfter soft (nth_input n m) (nth_input n k)
 
 module _ (soft : List ℤ) (n chosen number : ℕ) (before : chosen < number) (within : 16 * number < 2 ^ n)
-    (others : (m : ℕ) → m < number → m ≢ chosen → Behind soft n m chosen) where
+    (others : (m : ℕ) → m < number → m ≢ chosen → RanksBehind soft n m chosen) where
   -- a list with a greater path metric becomes the best so far
-  pub new_leads : score soft n chosen <ℤ score soft n number → (m : ℕ) → m < number + 1 → m ≢ number → Behind soft n m number
-  new_leads more m lt ne =
+  pub RanksBehind-new : nth_likelihood soft n chosen <ℤ nth_likelihood soft n number → (m : ℕ) → m < number + 1 → m ≢ number → RanksBehind
+      soft n m number
+  RanksBehind-new more m lt ne =
       elim (cases_eq m chosen) [ inl same ↦ inl (rw same more) | inr other ↦ behind (others m (omega arith) other) ]
     where
-      behind : Behind soft n m chosen → Behind soft n m number
+      behind : RanksBehind soft n m chosen → RanksBehind soft n m number
       behind (inl less) = inl (omega (arith, ints))
       behind (inr same) = inl (omega (arith, ints))
 
   -- if the path metric of a list is not greater, the best list so far stays the best
-  pub old_leads : score soft n number ≤ℤ score soft n chosen → (m : ℕ) → m < number + 1 → m ≢ chosen
-      → Behind soft n m chosen
-  old_leads most m lt ne = elim (cases_lt m number) [
+  pub RanksBehind-old : nth_likelihood soft n number ≤ℤ nth_likelihood soft n chosen → (m : ℕ) → m < number + 1 → m ≢ chosen
+      → RanksBehind soft n m chosen
+  RanksBehind-old most m lt ne = elim (cases_lt m number) [
     | inl earlier ↦ others m earlier ne
     | inr last ↦
         let e : m ≡ number = omega arith in
-        rw e (by_lt_z (score soft n number) (score soft n chosen) inl (λ not_less. inr (omega (arith, ints), later)))
+        rw e (by_lt_z (nth_likelihood soft n number) (nth_likelihood soft n chosen) inl (λ not_less. inr (omega (arith, ints), later)))
   ] where
-    later : IsLexicographicallyBefore (listed n chosen) (listed n number)
+    later : IsLexicographicallyBefore (nth_input n chosen) (nth_input n number)
     later =
         let chosen_within : 16 * chosen < 2 ^ n = omega arith in
-        IsLexicographicallyBefore-to_binary n _ _ (omega arith) (div-eq_of_lt chosen_within ∙ sym (div-eq_of_lt within))
+        lex_before-to_binary n _ _ (omega arith) (div-eq_of_lt chosen_within ∙ sym (div-eq_of_lt within))
 
 -- the best of all lists that the search tries is the most likely encoder input
 pub IsMostLikely-chosen : (soft : List ℤ) (n chosen lists : ℕ) → 5 ≤ n → length soft ≡ 2 * n → 16 * lists ≡ 2 ^ n →
-    ((m : ℕ) → m < lists → m ≢ chosen → Behind soft n m chosen) →
-    IsMostLikely soft (listed n chosen)
+    ((m : ℕ) → m < lists → m ≢ chosen → RanksBehind soft n m chosen) →
+    IsMostLikely soft (nth_input n chosen)
 IsMostLikely-chosen soft n chosen lists long pairs all others = record {
   information = IsEncoderInput-to_binary n _ long;
   count = rw length-to_binary pairs;
   others = every;
 } where
-  every : (v : List ℕ) → IsEncoderInput v → length v ≡ length (listed n chosen) → v ≢ listed n chosen →
-      RanksAfter soft v (listed n chosen)
+  every : (v : List ℕ) → IsEncoderInput v → length v ≡ length (nth_input n chosen) → v ≢ nth_input n chosen →
+      RanksAfter soft v (nth_input n chosen)
   every v information count ne =
       let spelt = to_binary-information v information in
       let m = spelt.0 in
       let long : length v ≡ n = count ∙ length-to_binary n _ in
-      let is : listed n m ≡ v = ap (λ n. listed n m) (sym long) ∙ spelt.2 in
+      let is : nth_input n m ≡ v = ap (λ n. nth_input n m) (sym long) ∙ spelt.2 in
       let below : 16 * m < 2 ^ n = rw (← long) spelt.1 in
-      rw (← is) (others m (omega arith) (λ same. ne (sym is ∙ ap (λ m. listed n m) same)))
+      rw (← is) (others m (omega arith) (λ same. ne (sym is ∙ ap (λ m. nth_input n m) same)))
 
 -- ## Existence: For any soft bits, a most likely encoder input exists: by induction over all lists in lexicographic order.
 
 -- the best of the first `number` lists, and the first if several are equally likely
-record Leading (soft : List ℤ) (n number : ℕ) : Type 0 where
+record IsBestOfFirst (soft : List ℤ) (n number : ℕ) : Type 0 where
   chosen : ℕ
   in_range : chosen < number
-  others : (m : ℕ) → m < number → m ≢ chosen → Behind soft n m chosen
+  others : (m : ℕ) → m < number → m ≢ chosen → RanksBehind soft n m chosen
 
-leading : (soft : List ℤ) (n number : ℕ) → 16 * (number + 1) ≤ 2 ^ n → Leading soft n (number + 1)
-leading soft n zero headroom = record {
+IsBestOfFirst-more : (soft : List ℤ) (n number : ℕ) → 16 * (number + 1) ≤ 2 ^ n → IsBestOfFirst soft n (number + 1)
+IsBestOfFirst-more soft n zero headroom = record {
   chosen = 0;
   in_range = omega arith;
   others = λ m h ne. absurd (omega arith);
 }
-leading soft n (suc number) headroom =
-    let before = leading soft n number (omega arith) in
+IsBestOfFirst-more soft n (suc number) headroom =
+    let before = IsBestOfFirst-more soft n number (omega arith) in
     let chosen = before.chosen in
     let within = before.in_range in
     let last : ℕ = number + 1 in
     let inside : 16 * last < 2 ^ n = omega arith in
-    let value : ℕ → ℤ = λ m. score soft n m in
+    let value : ℕ → ℤ = λ m. nth_likelihood soft n m in
     by_lt_z (value chosen) (value last)
     (λ more. record {
       chosen = last;
       in_range = omega arith;
-      others = λ m h ne. new_leads soft n chosen last within inside before.others more m (omega arith) ne;
+      others = λ m h ne. RanksBehind-new soft n chosen last within inside before.others more m (omega arith) ne;
     })
     (λ most. record {
       chosen = chosen;
       in_range = omega arith;
-      others = λ m h ne. old_leads soft n chosen last within inside before.others most m (omega arith) ne;
+      others = λ m h ne. RanksBehind-old soft n chosen last within inside before.others most m (omega arith) ne;
     })
 
 pub some_most_likely : (soft : List ℤ) (n : ℕ) → length soft ≡ 2 * n → 5 ≤ n →
@@ -499,8 +500,8 @@ some_most_likely soft n pairs long =
     ap (λ k. 2 ^ k) ((omega arith)) ∙ pow-add 2 4 (n - 4) in
     let some : 0 < 2 ^ (n - 4) = pow_pos (n - 4) in
     let lists : ℕ = 2 ^ (n - 4) in
-    let found = leading soft n (lists - 1) (omega arith) in (
-      listed n found.chosen,
+    let found = IsBestOfFirst-more soft n (lists - 1) (omega arith) in (
+      nth_input n found.chosen,
       IsMostLikely-chosen soft n found.chosen lists long pairs (sym parted) (λ m h ne. found.others m (omega arith) ne),
       length-to_binary n (16 * found.chosen),
     )

@@ -49,7 +49,7 @@ pub record AbsFit16Bits (lanes : List ℤ) : Type 0 where
   pub lower_bound : (s : ℕ) → s < 16 → negsuc 32766 ≤ℤ lane lanes s
   pub upper_bound : (s : ℕ) → s < 16 → lane lanes s ≤ℤ pos 32767
 
--- merges two vectors, for states 0 to 7 and 8 to 15 in bit-reversed order, into sixteen lanes in state order
+-- the lanes of two vectors, for states 0 to 7 and 8 to 15 in bit-reversed order, as sixteen lanes in state order
 abbrev pub lanes_in_state_order : (low high : List ℤ) → List ℤ
 lanes_in_state_order low high =
     lane low 0 ∷ lane low 4 ∷ lane low 2 ∷ lane low 6 ∷ lane low 1 ∷ lane low 5 ∷ lane low 3 ∷ lane low 7 ∷
@@ -77,7 +77,7 @@ bit_reversed k = 4 * (k % 2) + 2 * (k / 2 % 2) + k / 4
 -- `lanes` holds the branch metrics of bit 0 in states 0 to 7, in bit-reversed order, for the `pair` of soft bits
 pub record HasBranchMetrics (lanes pair : List ℤ) : Type 0 where
   pub count : length pair ≡ 2
-  pub each : (k : ℕ) → k < 8 → lane lanes k ≡ branch_metric (bit_reversed k) 0 pair
+  pub each_lane : (k : ℕ) → k < 8 → lane lanes k ≡ branch_metric (bit_reversed k) 0 pair
 
 -- the lane of a state in a survivor map: the number of the state with its lower three bits in reverse order
 abbrev pub lane_of_state : (state : ℕ) → ℕ
@@ -94,4 +94,4 @@ lane_decisions low high =
 -- the eight lanes are decisions: each is -1 for bit 1 or 0 for bit 0
 pub record AreDecisionLanes (lanes : List ℤ) : Type 0 where
   pub count : length lanes ≡ 8
-  pub each : (k : ℕ) → k < 8 → (lane lanes k ≡ negsuc 0) ⊎ (lane lanes k ≡ pos 0)
+  pub each_lane : (k : ℕ) → k < 8 → (lane lanes k ≡ negsuc 0) ⊎ (lane lanes k ≡ pos 0)

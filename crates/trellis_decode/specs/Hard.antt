@@ -27,7 +27,7 @@ pub record HaveHeadroom8 (lanes : List ℤ) : Type 0 where
   pub upper_bound : (k : ℕ) → k < 16 → lane lanes k ≤ℤ pos 126
 
 -- `lanes` consists of sixteen numbers, each -1, 0 or 1
-pub record AreMinusOneToOne (lanes : List ℤ) : Type 0 where
+pub record AreWithinOne (lanes : List ℤ) : Type 0 where
   pub count : length lanes ≡ 16
   pub lower_bound : (k : ℕ) → k < 16 → negsuc 0 ≤ℤ lane lanes k
   pub upper_bound : (k : ℕ) → k < 16 → lane lanes k ≤ℤ pos 1
@@ -50,15 +50,15 @@ hard_lane_metrics lanes =
     ∷ metric_of_hard_lane
     (lane lanes 15) ∷ []
 
--- the lane of the next state after bit 0, given the lane of a state
+-- the lane of the state that bit 0 leads to, given the lane of the current state
 abbrev pub lane_of_next_state_0 : (index : ℕ) → ℕ
 lane_of_next_state_0 k = 8 * (k % 2) + k % 8 / 2
 
--- the lane of the next state after bit 1, given the lane of a state
+-- the lane of the state that bit 1 leads to, given the lane of the current state
 abbrev pub lane_of_next_state_1 : (index : ℕ) → ℕ
 lane_of_next_state_1 k = lane_of_next_state_0 k + 4
 
 -- `lanes` holds the branch metrics of bit 0 in all sixteen states, divided by 254, for the `pair` of soft bits
 pub record HasHardBranchMetrics (lanes pair : List ℤ) : Type 0 where
   pub count : length pair ≡ 2
-  pub each : (s : ℕ) → s < 16 → branch_metric s 0 pair ≡ pos 254 *ℤ lane lanes (lane_of_state s)
+  pub at_state : (s : ℕ) → s < 16 → branch_metric s 0 pair ≡ pos 254 *ℤ lane lanes (lane_of_state s)

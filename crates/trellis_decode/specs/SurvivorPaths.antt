@@ -34,7 +34,7 @@ survivor_traceback [] at = []
 survivor_traceback (map ∷ survivors) at = to_binary 4 (lane_of_state (slice_index map at % 16)) ++ survivor_traceback survivors
     (slice_index map at % 16)
 
--- from a given map on, every lane of every map holds the number of a lane
+-- from map `from` on, every entry of every survivor map is the number of a lane, that is, below 16
 abbrev pub HoldLanesFrom : (from : ℕ) (survivors : List (List ℕ)) → Type 0
 HoldLanesFrom from survivors = (group k : ℕ) → from ≤ group → group < length survivors → k < 16 →
     slice_index (slice_index_or survivors group []) k < 16

@@ -1,5 +1,5 @@
--- Paths through the trellis of sixteen states, used in the proof of the decoder. A state consists of the last four input bits, the
--- newest as the least significant bit.
+-- Paths through the trellis of sixteen states, used in the proof of the decoder. A state consists of the last four input bits, the newest
+-- as the least significant bit.
 use Rattle.std.specs.Prelude.{ℕ, ◌≡◌, ◌/◌, ◌%◌, ◌^◌, ◌-◌, ◌<◌, ◌≤◌, ◌⊎◌, ℤ, pos, ◌+ℤ◌}
 use Rattle.std.specs.Prelude.{◌-ℤ◌, ◌<ℤ◌, ◌≤ℤ◌, List, [], ◌∷◌, length}
 use Rattle.std.specs.Prelude.{slice_index_or, drop}
@@ -48,7 +48,7 @@ pub record IsSurvivor (state : ℕ) (path : List ℕ) (soft : List ℤ) (metric 
 unfoldable pub candidate_metric : (metrics_after pair : List ℤ) (state bit : ℕ) → ℤ
 candidate_metric after pair state bit = branch_metric state bit pair +ℤ slice_index_or after (next_trellis_state state bit) (pos 0)
 
--- the decision in a state: the bit with the greater candidate metric (bit 0 on a tie), together with that metric
+-- `bit` is the decision in a state, the bit with the greater candidate metric (bit 0 on a tie), and `metric` is that candidate metric
 abbrev pub IsDecision : (metrics_after pair : List ℤ) (state : ℕ) (metric : ℤ) (bit : ℕ) → Type 0
 IsDecision after pair state value bit =
     ((bit ≡ 0) × (value ≡ candidate_metric after pair state 0)

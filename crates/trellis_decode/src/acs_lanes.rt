@@ -27,7 +27,7 @@ pub struct SixteenLanes {
     pub lanes: i16x16,
 }
 
-/// Adds to each lane its branch metric.
+/// Adds the branch metrics to the path metrics, lane by lane.
 pub fn add_branch_metrics(path_metrics: EightLanes, branch_metrics: EightLanes) -> EightLanes
     requires headroom16 { HaveHeadroom16 path_metrics.lanes }
     requires branch_metrics { AreBranchMetrics branch_metrics.lanes }
@@ -39,7 +39,7 @@ pub fn add_branch_metrics(path_metrics: EightLanes, branch_metrics: EightLanes) 
     }
 }
 
-/// Subtracts from each lane its branch metric.
+/// Subtracts the branch metrics from the path metrics, lane by lane.
 pub fn subtract_branch_metrics(path_metrics: EightLanes, branch_metrics: EightLanes) -> EightLanes
     requires headroom16 { HaveHeadroom16 path_metrics.lanes }
     requires branch_metrics { AreBranchMetrics branch_metrics.lanes }
@@ -51,10 +51,10 @@ pub fn subtract_branch_metrics(path_metrics: EightLanes, branch_metrics: EightLa
     }
 }
 
-/// Returns the greater of the two lanes at each index.
+/// Returns the greater of the two numbers in each lane.
 pub fn lane_maxima(first: EightLanes, second: EightLanes) -> EightLanes
-    requires a_lanes { AreInt16 first.lanes }
-    requires b_lanes { AreInt16 second.lanes }
+    requires first { AreInt16 first.lanes }
+    requires second { AreInt16 second.lanes }
     ensures each { (k : ℕ) → k < 8 →
         lane result.lanes k ≡ (if int_lt (lane first.lanes k) (lane second.lanes k) then lane second.lanes k else lane first.lanes k) }
     ensures lanes { AreInt16 result.lanes }
@@ -66,8 +66,8 @@ pub fn lane_maxima(first: EightLanes, second: EightLanes) -> EightLanes
 
 /// Interleaves the first four lanes of `first` and `second`.
 pub fn interleave_first_lanes(first: EightLanes, second: EightLanes) -> EightLanes
-    requires a_lanes { AreInt16 first.lanes }
-    requires b_lanes { AreInt16 second.lanes }
+    requires first { AreInt16 first.lanes }
+    requires second { AreInt16 second.lanes }
     ensures each { result.lanes ≡ interleaved_lanes first.lanes second.lanes 0 1 2 3 }
     ensures lanes { AreInt16 result.lanes }
 {
@@ -80,8 +80,8 @@ pub fn interleave_first_lanes(first: EightLanes, second: EightLanes) -> EightLan
 
 /// Interleaves the last four lanes of `first` and `second`.
 pub fn interleave_last_lanes(first: EightLanes, second: EightLanes) -> EightLanes
-    requires a_lanes { AreInt16 first.lanes }
-    requires b_lanes { AreInt16 second.lanes }
+    requires first { AreInt16 first.lanes }
+    requires second { AreInt16 second.lanes }
     ensures each { result.lanes ≡ interleaved_lanes first.lanes second.lanes 4 5 6 7 }
     ensures lanes { AreInt16 result.lanes }
 {
@@ -92,10 +92,10 @@ pub fn interleave_last_lanes(first: EightLanes, second: EightLanes) -> EightLane
     }
 }
 
-/// Returns -1 in each lane where `b` is greater than `a`, and 0 in the others.
+/// Returns -1 in each lane where `bit_1` is greater than `bit_0`, and 0 in the others.
 pub fn greater_lane_decisions(bit_0: EightLanes, bit_1: EightLanes) -> EightDecisions
-    requires a_lanes { AreInt16 bit_0.lanes }
-    requires b_lanes { AreInt16 bit_1.lanes }
+    requires first { AreInt16 bit_0.lanes }
+    requires second { AreInt16 bit_1.lanes }
     ensures count { length result.lanes ≡ 8 }
     ensures each { (k : ℕ) → k < 8 → lane result.lanes k ≡
         (if int_lt (lane bit_0.lanes k) (lane bit_1.lanes k) then negsuc 0 else pos 0) }
@@ -107,8 +107,8 @@ pub fn greater_lane_decisions(bit_0: EightLanes, bit_1: EightLanes) -> EightDeci
 
 /// The difference `minuend - subtrahend`, lane by lane.
 pub fn subtract_lanes(minuend: EightLanes, subtrahend: EightLanes) -> EightLanes
-    requires a_lanes { AreInt16 minuend.lanes }
-    requires b_lanes { AreInt16 subtrahend.lanes }
+    requires first { AreInt16 minuend.lanes }
+    requires second { AreInt16 subtrahend.lanes }
     requires fits_16_bits { DifferencesFit16Bits minuend.lanes subtrahend.lanes }
     ensures each { (k : ℕ) → k < 8 → lane result.lanes k ≡ lane minuend.lanes k -ℤ lane subtrahend.lanes k }
     ensures lanes { AreInt16 result.lanes }

@@ -115,17 +115,17 @@ impl TrellisStep {
     }
 }
 
-/// The path metrics before a tail bit. A tail bit is always 0, so nothing is compared.
-pub fn tail_step(later_metrics: PathMetrics, branch_metrics: EightLanes) -> PathMetrics
-    requires even { HaveHeadroom16 later_metrics.even_states.lanes }
+/// Returns the path metrics before a tail bit, from those after it. A tail bit is always 0, so nothing is compared.
+pub fn tail_step(metrics_after: PathMetrics, branch_metrics: EightLanes) -> PathMetrics
+    requires even { HaveHeadroom16 metrics_after.even_states.lanes }
     requires branch_metrics { AreBranchMetrics branch_metrics.lanes }
     ensures each { (pair : List ℤ) → HasBranchMetrics branch_metrics.lanes pair → (s : ℕ) → s < 16 →
-        lane (path_metric result) s ≡ candidate_metric (path_metric later_metrics) pair s 0 }
+        lane (path_metric result) s ≡ candidate_metric (path_metric metrics_after) pair s 0 }
     ensures even { AreInt16 result.even_states.lanes }
     ensures odd { AreInt16 result.odd_states.lanes }
 {
-    let low = add_branch_metrics(later_metrics.even_states, branch_metrics);
-    let high = subtract_branch_metrics(later_metrics.even_states, branch_metrics);
+    let low = add_branch_metrics(metrics_after.even_states, branch_metrics);
+    let high = subtract_branch_metrics(metrics_after.even_states, branch_metrics);
     PathMetrics {
         even_states: interleave_first_lanes(low, high),
         odd_states: interleave_last_lanes(low, high),

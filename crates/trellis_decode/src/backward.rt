@@ -1,5 +1,5 @@
-//! The Viterbi algorithm from the last information bit to the first, four bits at a time. GSM 05.03 (today 3GPP TS 45.003) does not
-//! specify a decoder.
+//! The Viterbi algorithm from the last information bit to the first, four bits at a time. GSM 05.03 (today 3GPP TS 45.003) does not specify
+//! a decoder.
 
 ghost use Rattle.std.specs.Prelude.{◌≡◌, ℕ, ◌*◌, ◌<◌, ◌≤◌, length, replicate, take};
 ghost use Rattle.trellis_decode.specs.Lanes.{AreSignedOctets, lane};

@@ -1,5 +1,4 @@
-//! Decodes by trying every encoder input, in direct application of the definition of the most likely input. Tests compare `decode` with
-//! this search.
+//! Decodes by trying every encoder input, as the definition of the most likely input says. Tests compare `decode` with this search.
 
 ghost use Rattle.std.specs.Prelude.{◌≡◌, ℕ, ◌*◌, ◌^◌, ◌<◌, ◌≤◌, pos, ◌-ℤ◌, ◌≤ℤ◌, List, length};
 ghost use Rattle.conv_code.specs.bit_blocks.Bits.{AllBits, IsBit};
@@ -9,8 +8,8 @@ ghost use Rattle.trellis_decode.specs.Words.{to_binary};
 
 use conv_code::encode;
 
-/// Finds the most likely encoder input by trying all of them in lexicographic order. Returns the same results as `decode`, but is slow
-/// and therefore limited to 20 bits.
+/// Finds the most likely encoder input by trying all of them in lexicographic order. Returns the same results as `decode`, but is slow and
+/// therefore limited to 20 bits.
 pub fn search(soft: &[i8], u: &mut [u8]) -> i32
     requires count { length soft.now ≡ 2 * length u.old }
     requires at_least { 5 ≤ length u.old }

@@ -9,7 +9,7 @@ ghost use Rattle.std.specs.Prelude.{length, slice_index, slice_index_or, replica
 ghost use Rattle.std.specs.List.{All};
 ghost use Rattle.conv_code.specs.Code.{encoding};
 ghost use Rattle.conv_code.specs.Likelihood.{IsMostLikely, likelihood};
-ghost use Rattle.trellis_decode.specs.Hard.{AreInt8, AreMinusOneToOne, HasHardBranchMetrics, HaveHeadroom8, IsHardBit, hard_lane_metrics};
+ghost use Rattle.trellis_decode.specs.Hard.{AreInt8, AreWithinOne, HasHardBranchMetrics, HaveHeadroom8, IsHardBit, hard_lane_metrics};
 ghost use Rattle.trellis_decode.specs.Hard.{lane_of_next_state_1};
 ghost use Rattle.trellis_decode.specs.Hard.{sign_bit_of};
 ghost use Rattle.trellis_decode.specs.Hard.{lane_of_next_state_0};
@@ -45,7 +45,7 @@ const SECOND_NEGATIVE: [i8; 16] = [0, 0, 0, 0, 1, -1, 1, -1, 0, 0, 0, 0, -1, 1, 
 
 const BOTH_NEGATIVE: [i8; 16] = [-1, 1, -1, 1, 0, 0, 0, 0, 1, -1, 1, -1, 0, 0, 0, 0];
 
-/// The branch metrics of an information bit, for each combination of signs of its soft bits and of those of the next bit.
+/// The branch metrics of the first of two information bits, for each combination of the signs of their four soft bits.
 static FIRST_BRANCH_METRICS: [[i8; 16]; 16] = [
     BOTH_POSITIVE,
     FIRST_NEGATIVE,
@@ -65,7 +65,7 @@ static FIRST_BRANCH_METRICS: [[i8; 16]; 16] = [
     BOTH_NEGATIVE,
 ];
 
-/// The branch metrics of the next information bit, for the same combinations of signs.
+/// The branch metrics of the second of two information bits, for each combination of the signs of their four soft bits.
 static SECOND_BRANCH_METRICS: [[i8; 16]; 16] = [
     BOTH_POSITIVE,
     BOTH_POSITIVE,
@@ -197,12 +197,12 @@ fn extend_hard_survivors(after: StateMetrics, soft: &[i8]) -> HardSurvivors
 }
 
 impl HardSurvivors {
-    /// Extends the survivors backward by one bit, whose branch metrics are `branch_metrics`.
+    /// Extends the survivors backward by one bit, given the branch metrics of this bit.
     #[inline]
     fn step(self, branch_metrics: StateMetrics) -> HardSurvivors
         requires headroom { HaveHeadroom8 self.values.lanes }
         requires count { length self.survivor_map ≡ 16 }
-        requires branch_metrics { AreMinusOneToOne branch_metrics.lanes }
+        requires branch_metrics { AreWithinOne branch_metrics.lanes }
         ensures walk { (pair : List ℤ) → HasHardBranchMetrics branch_metrics.lanes pair → (after soft : List ℤ) →
             AreSurvivors after (hard_lane_metrics self.values.lanes) self.survivor_map soft →
             AreSurvivors after (hard_lane_metrics result.values.lanes) result.survivor_map (pair ++ soft) }
@@ -223,14 +223,14 @@ impl HardSurvivors {
 
 /// The candidate metrics of bit 0: for each state, the path metric of its best word that begins with bit 0.
 #[inline]
-fn bit_0_candidates(later_metrics: StateMetrics, branch_metrics: StateMetrics) -> StateMetrics
-    requires headroom { HaveHeadroom8 later_metrics.lanes }
-    requires branch_metrics { AreMinusOneToOne branch_metrics.lanes }
+fn bit_0_candidates(metrics_after: StateMetrics, branch_metrics: StateMetrics) -> StateMetrics
+    requires headroom { HaveHeadroom8 metrics_after.lanes }
+    requires branch_metrics { AreWithinOne branch_metrics.lanes }
     ensures each { (k : ℕ) → k < 16 → lane result.lanes k ≡
-        lane later_metrics.lanes (lane_of_next_state_0 k) +ℤ lane branch_metrics.lanes k }
+        lane metrics_after.lanes (lane_of_next_state_0 k) +ℤ lane branch_metrics.lanes k }
     ensures lanes { AreInt8 result.lanes }
 {
-    let next = later_metrics
+    let next = metrics_after
         .lanes
         .swizzle::<16>([0, 8, 1, 9, 2, 10, 3, 11, 0, 8, 1, 9, 2, 10, 3, 11]);
     StateMetrics {
@@ -240,14 +240,14 @@ fn bit_0_candidates(later_metrics: StateMetrics, branch_metrics: StateMetrics) -
 
 /// The candidate metrics of bit 1: for each state, the path metric of its best word that begins with bit 1.
 #[inline]
-fn bit_1_candidates(later_metrics: StateMetrics, branch_metrics: StateMetrics) -> StateMetrics
-    requires headroom { HaveHeadroom8 later_metrics.lanes }
-    requires branch_metrics { AreMinusOneToOne branch_metrics.lanes }
+fn bit_1_candidates(metrics_after: StateMetrics, branch_metrics: StateMetrics) -> StateMetrics
+    requires headroom { HaveHeadroom8 metrics_after.lanes }
+    requires branch_metrics { AreWithinOne branch_metrics.lanes }
     ensures each { (k : ℕ) → k < 16 → lane result.lanes k ≡
-        lane later_metrics.lanes (lane_of_next_state_1 k) -ℤ lane branch_metrics.lanes k }
+        lane metrics_after.lanes (lane_of_next_state_1 k) -ℤ lane branch_metrics.lanes k }
     ensures lanes { AreInt8 result.lanes }
 {
-    let next = later_metrics
+    let next = metrics_after
         .lanes
         .swizzle::<16>([4, 12, 5, 13, 6, 14, 7, 15, 4, 12, 5, 13, 6, 14, 7, 15]);
     StateMetrics {
@@ -269,7 +269,8 @@ fn larger_lanes(zero: StateMetrics, one: StateMetrics) -> StateMetrics
     }
 }
 
-/// Extends a survivor map backward by one bit: in each state, the bit with the greater candidate metric, or bit 0 on a tie.
+/// Extends a survivor map backward by one bit: the survivor of each state begins with the bit that has the greater candidate metric, or
+/// with bit 0 on a tie.
 #[inline]
 fn extend_survivor_map_swizzle_dyn(map: u8x16, zero: StateMetrics, one: StateMetrics) -> u8x16
     requires map { length map ≡ 16 }
@@ -284,9 +285,8 @@ fn extend_survivor_map_swizzle_dyn(map: u8x16, zero: StateMetrics, one: StateMet
     map.swizzle_dyn(one.lanes.simd_gt(zero.lanes).select(ones, zeros))
 }
 
-/// Computes the result of `extend_survivor_map_swizzle_dyn` with two fixed swizzles. In WebAssembly, `swizzle_dyn` takes sixteen loads;
-/// on other
-/// targets, it is one instruction.
+/// Computes the same result as `extend_survivor_map_swizzle_dyn`, with two fixed swizzles. In WebAssembly, `swizzle_dyn` takes sixteen
+/// loads; on other targets, it is one instruction.
 #[inline]
 pub fn extend_survivor_map_swizzle_fixed(map: u8x16, zero: StateMetrics, one: StateMetrics) -> u8x16
     requires map { length map ≡ 16 }
@@ -308,7 +308,7 @@ fn hard_branch_metrics(soft: &[i8]) -> [StateMetrics; 4]
     requires hard { All IsHardBit soft.now }
     ensures has { (k : ℕ) (d : StateMetrics) → k < 4 →
         HasHardBranchMetrics (slice_index_or result k d).lanes (take 2 (drop (2 * k) soft.now)) }
-    ensures units { (k : ℕ) (d : StateMetrics) → k < 4 → AreMinusOneToOne (slice_index_or result k d).lanes }
+    ensures within_one { (k : ℕ) (d : StateMetrics) → k < 4 → AreWithinOne (slice_index_or result k d).lanes }
 {
     let signs = signs_of(soft);
     [
@@ -319,7 +319,8 @@ fn hard_branch_metrics(soft: &[i8]) -> [StateMetrics; 4]
     ]
 }
 
-/// Bit `k` of the result is 1 if soft bit `k` is negative. With zeros in the other eight lanes, the signs take two instructions, not three.
+/// Bit `k` of the result is 1 if soft bit `k` is negative. The other eight lanes are 0, so that the signs take two instructions instead of
+/// three.
 #[inline(always)]
 fn signs_of(soft: &[i8]) -> u64
     requires count { length soft.now ≡ 8 }
@@ -333,27 +334,27 @@ fn signs_of(soft: &[i8]) -> u64
         .to_bitmask()
 }
 
-/// The branch metrics of an information bit, from the signs of its two soft bits and of the two soft bits of the next bit: bit `k` of
-/// `signs` is 1 if soft bit `k` is negative.
+/// The branch metrics of the first of two information bits, from the signs of their four soft bits: bit `k` of `signs` is 1 if soft bit `k`
+/// is negative.
 #[inline(always)]
 fn first_branch_metrics(signs: u64) -> StateMetrics
     requires { signs < 16 }
     ensures has { (p q : ℤ) → IsHardBit p → IsHardBit q → signs % 4 ≡ sign_bit_of p + 2 * sign_bit_of q →
         HasHardBranchMetrics result.lanes (p ∷ q ∷ []) }
-    ensures units { AreMinusOneToOne result.lanes }
+    ensures within_one { AreWithinOne result.lanes }
 {
     StateMetrics {
         lanes: i8x16::from_array(FIRST_BRANCH_METRICS[signs as usize]),
     }
 }
 
-/// The branch metrics of the next information bit, from the same signs.
+/// The branch metrics of the second of two information bits, from the signs of their four soft bits.
 #[inline(always)]
 fn second_branch_metrics(signs: u64) -> StateMetrics
     requires { signs < 16 }
     ensures has { (p q : ℤ) → IsHardBit p → IsHardBit q → signs / 4 ≡ sign_bit_of p + 2 * sign_bit_of q →
         HasHardBranchMetrics result.lanes (p ∷ q ∷ []) }
-    ensures units { AreMinusOneToOne result.lanes }
+    ensures within_one { AreWithinOne result.lanes }
 {
     StateMetrics {
         lanes: i8x16::from_array(SECOND_BRANCH_METRICS[signs as usize]),

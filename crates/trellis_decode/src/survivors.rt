@@ -18,7 +18,7 @@ use std::simd::prelude::*;
 /// The survivors of all states over a few bits.
 #[derive(Clone, Copy)]
 pub struct Survivors {
-    /// The path metric of each state before the first of the bits.
+    /// The path metric of each state before these bits.
     pub values: PathMetrics,
     /// The survivor map: the lane of each state holds the lane of the state that its survivor leads to at the end of these bits.
     pub survivor_map: u8x16,
@@ -40,7 +40,7 @@ impl Survivors {
         }
     }
 
-    /// Extends the survivors backward by one bit, whose branch metrics are `branch_metrics`.
+    /// Extends the survivors backward by one bit, given the branch metrics of this bit.
     pub fn step(self, branch_metrics: EightLanes) -> Survivors
         requires even { HaveHeadroom16 self.values.even_states.lanes }
         requires odd { HaveHeadroom16 self.values.odd_states.lanes }
@@ -68,7 +68,7 @@ impl Survivors {
     }
 }
 
-/// Extends a survivor map backward by one bit: in each state, the decision of that state.
+/// Extends a survivor map backward by one bit: the survivor of each state begins with the decision in that state.
 ///
 /// A map has a lane for each state: states 0 to 7 in bit-reversed order, then states 8 to 15 in bit-reversed order.
 fn extend_survivor_map(survivor_map: u8x16, low: EightDecisions, high: EightDecisions) -> u8x16
@@ -134,7 +134,7 @@ pub fn trace_back_survivors(survivors: &[[u8; 16]], at: u8, u: &mut [u8])
     }
 }
 
-/// Writes the last `few` bits of the state in lane `at`: the bits that lead to it from state 0.
+/// Writes the last `bit_count` bits of the state in lane `lane_index`: the bits that lead to this state from state 0.
 pub fn write_last_state_bits(lane_index: u8, bit_count: usize, u: &mut [u8])
     requires count { length u.old ≡ bit_count }
     requires few { bit_count < 4 }

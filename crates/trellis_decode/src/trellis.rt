@@ -44,11 +44,11 @@ fn prove_octet_range(soft: &[i8])
     }
 }
 
-/// Fills `rows` and `losses` for `bit_count` bits from index `first` on. `later_metrics` holds the metrics after them, and the result
-/// the metrics before them.
+/// Fills `rows` and `losses` for `bit_count` bits from index `first` on. Takes the path metrics after these bits (`metrics_after`), and
+/// returns those before them.
 #[inline]
 fn fill_decision_rows(
-    later_metrics: PathMetrics,
+    metrics_after: PathMetrics,
     soft: &[i8],
     first: usize,
     bit_count: usize,
@@ -63,16 +63,16 @@ fn fill_decision_rows(
     requires octets { AreSignedOctets soft.now }
     requires decided { HasDecisionsAndMetrics (drop (first + bit_count) rows.old) (drop (first + bit_count) losses.old)
         (drop (2 * (first + bit_count)) soft.now)
-        (path_metric later_metrics) }
-    requires even { AreInt16 later_metrics.even_states.lanes }
-    requires odd { AreInt16 later_metrics.odd_states.lanes }
+        (path_metric metrics_after) }
+    requires even { AreInt16 metrics_after.even_states.lanes }
+    requires odd { AreInt16 metrics_after.odd_states.lanes }
     ensures decided { HasDecisionsAndMetrics (drop first rows.new) (drop first losses.new) (drop (2 * first) soft.now)
         (path_metric result) }
     ensures even { AreInt16 result.even_states.lanes }
     ensures odd { AreInt16 result.odd_states.lanes }
 {
     let branch_metrics = four_branch_metrics(&soft[2 * first..2 * first + 8]);
-    let mut values = later_metrics;
+    let mut values = metrics_after;
     for k in (0..bit_count).rev() {
         let step = DecisionStep::new(values, branch_metrics[k]);
         values = step.values;

@@ -80,7 +80,7 @@ pub record ReceivesBlock (state : AirState) (sender : Role) (places : List ℕ) 
   pub received : IsReceivedBlock (map soft_bits (with_bits_inverted places block)) report
   pub reads_frame : ReadsFrame state.channel report.accepted read
 
--- if a block arrives, the receiver gets a report and, if it can read one, a frame; in any other event, it gets neither
+-- if a block arrives, the receiver reports on it and may read a frame from it; any other event has neither a report nor a frame
 abbrev pub EventDelivers : (state : AirState) (event : Event) (report : Option Received) (read : Option Frame) → Type 0
 EventDelivers a (Deliver sender places) (Some report) read = ReceivesBlock a sender places report read
 EventDelivers a (Deliver sender places) None read = ⊥
@@ -125,12 +125,12 @@ pub record CarriesOutEvent (before : AirState) (event : Event) (after : AirState
 abbrev pub refusal : Event → AirState → Option EventRefusal
 refusal event a = refusal_with_bounded_queues a.channel (queue_length a.queues) event a.ends
 
--- the event leads from the first state to the second and has this answer; a refused event leaves the state unchanged
+-- the event leads from `state` to `after` and has this answer; a refused event leaves the state unchanged
 abbrev pub IsAirStep : (state : AirState) (event : Event) (after : AirState) (answer : Answer) → Type 0
 IsAirStep a event b (Refuses why) = (refusal event a ≡ Some why) × (b ≡ a)
 IsAirStep a event b (Accepts step) = (refusal event a ≡ None) × CarriesOutEvent a event b step
 
--- the events lead from the first state to the second and have these answers, in order
+-- the events lead from `state` to `after` and have these answers, in order
 abbrev pub IsAirRun : (state : AirState) (events : List Event) (answers : List Answer) (after : AirState) → Type 0
 IsAirRun a [] [] b = b ≡ a
 IsAirRun a (event ∷ events) (answer ∷ answers) b = (c : AirState) × IsAirStep a event c answer × IsAirRun c events answers b

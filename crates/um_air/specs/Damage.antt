@@ -5,8 +5,8 @@ use Rattle.um_block.specs.weight_bound.Restoring.{IsCorrectable}
 use Rattle.um_block.specs.Sent.{IsCodedBlock}
 use Rattle.um_block.specs.Received.{coded_soft_bits}
 
--- four bursts of 148 soft values that carry the block `octets`: at most three of the 456 coded bits have the wrong sign, and four times the
--- smallest magnitude among them exceeds three times the largest
+-- four bursts of 148 soft values that carry the block `octets`: at most three of the 456 coded soft values have the wrong sign, and four
+-- times the smallest magnitude of the 456 exceeds three times the largest
 pub record AreCorrectableBursts (octets : List ℕ) (bursts : List (List ℤ)) : Type 0 where
   pub bits : List ℕ
   pub coded : IsCodedBlock octets bits

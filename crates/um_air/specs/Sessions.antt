@@ -8,7 +8,7 @@ use Rattle.lapdm_link.specs.Claims.{LogLine}
 use Rattle.lapdm_link.specs.Claims as C
 use Rattle.um_air.specs.Air.{Octets, Event, Answer, Refuses, Accepts}
 
--- converts an answer to one of a session that exchanges frames, leaving out the received block and the frames sent
+-- an answer as in a session that exchanges frames: without the received block and the frames sent
 abbrev pub answer_without_blocks : Answer → E.Answer
 answer_without_blocks (Refuses why) = E.Refuses why
 answer_without_blocks (Accepts step) = E.Accepts step.who step.sapi [] step.notices

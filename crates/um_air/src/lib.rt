@@ -12,14 +12,14 @@ ghost use Rattle.um_air.specs.Air.{Event, Answer, AirState, initial_session, IsA
 ghost use Rattle.um_air.specs.Damage.{AreCorrectableBursts};
 ghost use Rattle.um_air.specs.Sessions.{session_log, IsBenign, EventMessageIsOctets, AllEventsInvertFewBits};
 
-/// Law: an event has at most one answer, and at most one state can follow it.
+/// Law: in a given state, an event has at most one answer and leads to at most one state.
 #[tactic(auto, using(crate::proofs::Lemmas::one_answer))]
 pub fn law_event_answer_is_unique()
     ensures { (a : AirState) (event : Event) (b c : AirState) (x y : Answer) →
         IsAirStep a event b x → IsAirStep a event c y → (b ≡ c) × (x ≡ y) }
 {}
 
-/// Law: at any point of a session, every event whose messages consist of octets has an answer.
+/// Law: at any point of a session, every event whose message, if any, consists of octets has an answer.
 #[tactic(auto, using(crate::proofs::Lemmas::some_answer))]
 pub fn law_event_answer_exists()
     ensures { (tsc : ℕ) (channel : Channel) (events : List Event) (answers : List Answer)
@@ -60,8 +60,8 @@ pub fn law_session_acked_at_most_delivered()
         IsBenign events answers → AckedAtMostDelivered (session_log events answers) }
 {}
 
-/// Law: in every session, whatever blocks are accepted, each endpoint numbers its acknowledgements in order, and reports at most one
-/// establishment and one closed link (`HasNoticesInOrder`).
+/// Law: in every session, whatever blocks are accepted, each endpoint numbers its acknowledgements in order, and reports at most once that
+/// its link is established and at most once that it is closed (`HasNoticesInOrder`).
 #[tactic(auto, using(crate::proofs::Lemmas::air_order))]
 pub fn law_session_log_is_ordered()
     ensures { (tsc : ℕ) (channel : Channel) (events : List Event) (answers : List Answer)
@@ -96,7 +96,8 @@ pub fn law_three_inverted_bits_corrected()
         IsReceivedBlock (map soft_bits (with_bits_inverted places block)) r → r.accepted ≡ Some octets }
 {}
 
-/// Law: lightly damaged bursts are accepted with the octets that were sent; bursts with at most three inverted bits are lightly damaged.
+/// Law: a block is accepted with the octets that were sent if its bursts are lightly damaged, as they are if at most three bits are
+/// inverted.
 pub fn law_lightly_damaged_block_is_corrected()
     ensures received { (octets : List ℕ) (bursts : List (List ℤ)) (r : Received) → AreCorrectableBursts octets bursts →
         IsReceivedBlock bursts r → r.accepted ≡ Some octets }
@@ -104,7 +105,7 @@ pub fn law_lightly_damaged_block_is_corrected()
         length places ≤ 3 → AreCorrectableBursts octets (map soft_bits (with_bits_inverted places block)) }
 {}
 
-/// Law: if at most three bits of each block are inverted, a session is benign: each block is accepted with the octets that were sent.
+/// Law: if at most three bits of each block are inverted and all messages consist of octets, a session is benign.
 #[tactic(auto, using(crate::proofs::Lemmas::few_inverted_is_benign))]
 pub fn law_three_inverted_bits_are_benign()
     ensures { (tsc : ℕ) (channel : Channel) (events : List Event) (answers : List Answer)

@@ -1,4 +1,4 @@
--- The report of list decoding exists once.
+-- The report of list decoding is unique.
 use Rattle.{
   list_decode.{proofs.Lemmas.{beginning_is_ranked, most_likely_is_ranked, one_ranking}, specs.Ranking.{IsCandidate, IsRanked}},
   std.{
@@ -93,7 +93,7 @@ module _ (CrcHolds : List ℕ → Type 0) (s : List ℤ) (most : ℕ) where
     | inr all ↦ All-contains (λ v. ¬ CrcHolds v) none.tried_words u none.crcs_fail (all u (candidate r u h)) h.crc_holds
   ]
 
-  -- the word taken and its report are unique
+  -- the word taken, its rank and the accepted value are unique
   taken_once : {X : Type 0} (data_of : List ℕ → X) (r r' : ℕ) (u u' : List ℕ) (a a' : Option X) →
       IsListDecoderChoice CrcHolds data_of s most r u a →
       IsListDecoderChoice CrcHolds data_of s most r' u' a' → (r ≡ r') × (u ≡ u') × (a ≡ a')
@@ -104,13 +104,13 @@ module _ (CrcHolds : List ℕ → Type 0) (s : List ℤ) (most : ℕ) where
       let same = one_first r r' u u' h.0 g.0 in
       (same.0, same.1, ap Some (h.1 ∙ ap data_of same.1 ∙ sym g.1))
 
-  -- nothing is accepted if and only if no CRC holds
+  -- nothing is accepted if and only if the CRC of no tried word holds
   pub taken_lost : {X : Type 0} (data_of : List ℕ → X) (r : ℕ) (u : List ℕ) (a : Option X) →
       IsListDecoderChoice CrcHolds data_of s most r u a → (IsNone a ↔ NoCrcHolds CrcHolds s most)
   taken_lost data_of r u None h = (λ _. h.0, λ _. refl)
   taken_lost data_of r u (Some x) h = (λ e. absurd (never (sym e)), λ none. absurd (not_both r u h.0 none))
 
-  -- the most likely word is taken if its CRC holds
+  -- if the CRC of the most likely word holds, this word is the first with that property, at rank 1
   most_likely_holds : (u : List ℕ) → 1 ≤ most → IsMostLikely s u → CrcHolds u → IsFirstCrcMatch CrcHolds s most 1 u
   most_likely_holds u some best holds = record {
     earlier_words = [];
@@ -148,21 +148,21 @@ module _ (CrcHolds : List ℕ → Type 0) (s : List ℤ) (most : ℕ) where
   taken_of_one data_of r u None e h = h.2
   taken_of_one data_of r u (Some x) e h = omega (arith, h.0.rank_is, h.0.rank_limit)
 
-  -- the CRC of the most likely word holds
+  -- if a value is accepted for the most likely word, this word is taken at rank 1
   taken_at_once : {X : Type 0} (data_of : List ℕ → X) (u : List ℕ) (a : Option X) → 1 ≤ most → IsMostLikely s u →
       MatchOption a (¬ CrcHolds u) (λ x. CrcHolds u × (x ≡ data_of u)) → IsSome a →
       IsListDecoderChoice CrcHolds data_of s most 1 u a
   taken_at_once data_of u None some best h is = absurd (never is)
   taken_at_once data_of u (Some x) some best h is = (most_likely_holds u some best h.0, h.1)
 
-  -- a word whose CRC holds was found
+  -- the first word whose CRC holds is the word taken
   pub taken_found : {X : Type 0} (data_of : List ℕ → X) (r : ℕ) (soft : List ℤ) (u v : List ℕ) (a : Option X) → soft ≡ s →
       v ≡ u → IsFirstCrcMatch CrcHolds soft most r u → MatchOption a (¬ CrcHolds u) (λ x. CrcHolds u × (x ≡ data_of u)) →
       IsListDecoderChoice CrcHolds data_of s most r v a
   taken_found data_of r soft u v None is same first h = absurd (h first.crc_holds)
   taken_found data_of r soft u v (Some x) is same first h = (rw (same, ← is) first, h.1 ∙ ap data_of (sym same))
 
-  -- no CRC holds
+  -- if the CRC of no tried word holds, the most likely word is taken at rank 1 and nothing is accepted
   pub taken_none : {X : Type 0} (data_of : List ℕ → X) (soft : List ℤ) (u : List ℕ) (a : Option X) → soft ≡ s →
       NoCrcHolds CrcHolds soft most → IsMostLikely s u → ¬ IsSome a → IsListDecoderChoice CrcHolds data_of s most 1 u a
   taken_none data_of soft u None is none best lacks = (rw (← is) none, best, refl)
@@ -182,7 +182,7 @@ same_report : {R : Type 0} (make : ℕ → List ℕ → ℤ → ℕ → ℕ → 
     make n a b c d e ≡ make n' a' b' c' d' e'
 same_report make rank u metric tsc wrong accepted = cc
 
--- ---- the report of a block is unique, and the word taken for it
+-- ---- blocks: the report is unique; which word is taken
 
 abbrev pub octets_if_crc_holds : List ℕ → List ℕ
 octets_if_crc_holds u = octets_of (take 184 u)
@@ -210,7 +210,7 @@ module _ (bursts : List (List ℤ)) (most : ℕ) where
   block_best r h some soft v deinterleaved =
       taken_best BlockCrcHolds _ most octets_if_crc_holds r.rank _ r.report.accepted (taken_at r h _ deinterleaved) some v
 
-  -- nothing is accepted if and only if no tried word's CRC holds
+  -- nothing is accepted if and only if the CRC of no tried word holds
   pub block_none : (r : ListDecodedBlock) → IsListDecodedBlock bursts most r → (soft : List ℤ) →
       IsInterleaved soft (map coded_soft_bits bursts) → (IsNone r.report.accepted ↔ NoCrcHolds BlockCrcHolds soft most)
   block_none r h soft deinterleaved =
@@ -237,7 +237,7 @@ module _ (bursts : List (List ℤ)) (most : ℕ) where
   block_first r some h alone received accepted =
       one_block_among r (record { report = alone; rank = 1 }) h (block_at_once alone some received accepted)
 
--- ---- the word taken for an access burst
+-- ---- access bursts: the report is unique; which word is taken
 
 module _ (burst : List ℤ) (bsic : List ℕ) (most : ℕ) where
   pub one_access_among : (r r' : ListDecodedAccess) → IsListDecodedAccess burst bsic most r → IsListDecodedAccess burst bsic most r' →
@@ -258,7 +258,7 @@ module _ (burst : List ℤ) (bsic : List ℕ) (most : ℕ) where
     wrong_training = h.wrong_training;
   }
 
--- ---- the word taken for a synchronisation burst
+-- ---- synchronisation bursts: the report is unique; which word is taken
 
 module _ (burst : List ℤ) (most : ℕ) where
   pub one_sync_among : (r r' : ListDecodedSync) → IsListDecodedSync burst most r → IsListDecodedSync burst most r' → r ≡ r'

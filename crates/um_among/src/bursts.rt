@@ -20,8 +20,8 @@ use um_block::{
     join_sync_halves, receive_access, receive_sync, sync_bits_if_crc_holds,
 };
 
-/// Receives an access burst for a six-bit BSIC: takes the first of the `max_rank` most likely words whose CRC
-/// is correct; `max_rank` must be 1 to 64.
+/// Receives an access burst for a six-bit BSIC: takes the first of the `max_rank` most likely words whose CRC is correct; `max_rank` must
+/// be 1 to 64.
 ///
 /// The CRC of six bits is correct by chance about once in 64 words tried, so if many words are tried and the sent word is not the first, a
 /// wrong one is usually accepted. Use a `max_rank` above 1 only if another check rejects wrong bits.

@@ -5,7 +5,7 @@ use um_block::{Received, ReceivedAccess, ReceivedSync};
 /// The report of a block, and the rank of the word (encoder input) that was taken.
 #[derive(Clone, Copy, PartialEq, Eq, Debug)]
 pub struct ListDecodedBlock {
-    /// The report for the word that was taken, in the form that `receive_block` returns: the first word whose CRC is correct, or the most
+    /// The report, in the form that `receive_block` returns, for the word that was taken: the first whose CRC is correct, or the most
     /// likely word if the CRC of every word tried fails.
     pub report: Received,
     /// The rank of the word that was taken, 1 for the most likely word.
@@ -15,7 +15,7 @@ pub struct ListDecodedBlock {
 /// The report of an access burst, and the rank of the word (encoder input) that was taken.
 #[derive(Clone, Copy, PartialEq, Eq, Debug)]
 pub struct ListDecodedAccess {
-    /// The report for the word that was taken, in the form that `receive_access` returns: the first word whose CRC is correct, or the most
+    /// The report, in the form that `receive_access` returns, for the word that was taken: the first whose CRC is correct, or the most
     /// likely word if the CRC of every word tried fails.
     pub report: ReceivedAccess,
     /// The rank of the word that was taken, 1 for the most likely word.
@@ -25,8 +25,8 @@ pub struct ListDecodedAccess {
 /// The report of a synchronisation burst, and the rank of the word (encoder input) that was taken.
 #[derive(Clone, Copy, PartialEq, Eq, Debug)]
 pub struct ListDecodedSync {
-    /// The report for the word that was taken, in the form that `receive_sync` returns: the first word whose CRC is correct, or the most
-    /// likely word if the CRC of every word tried fails.
+    /// The report, in the form that `receive_sync` returns, for the word that was taken: the first whose CRC is correct, or the most likely
+    /// word if the CRC of every word tried fails.
     pub report: ReceivedSync,
     /// The rank of the word that was taken, 1 for the most likely word.
     pub rank: u32,

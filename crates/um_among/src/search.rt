@@ -16,8 +16,8 @@ pub(crate) struct CrcMatch {
     pub(crate) metric: i32,
 }
 
-/// Replaces `u`, the most likely word, by the first of the `max_rank` most likely words whose CRC is correct. The CRC of the most likely word
-/// must be wrong; `first_metric` is its path metric. Returns `None` if none of the CRCs is correct.
+/// Replaces `u`, the most likely word, by the first of the `max_rank` most likely words whose CRC is correct. The CRC of the most likely
+/// word must be wrong; `first_metric` is its path metric. Returns `None` if none of the CRCs is correct.
 pub(crate) fn first_crc_match(
     crc: &ChannelCrc,
     soft: &[i8],

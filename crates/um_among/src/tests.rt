@@ -71,8 +71,8 @@ fn the_second_most_likely_word_is_the_sent_one(rt: HostRuntime) {
     }
 }
 
-// All words are equally likely, so they come in lexicographic order: the first 64 are zeros except for the last six of the forty CRC
-// bits, which take every value. None of these CRCs holds, because the CRC of zeros is forty ones.
+// All words are equally likely, so they come in lexicographic order: the first 64 are zeros except for the last six of the forty CRC bits,
+// which take every value. None of these CRCs holds, because the CRC of zeros is forty ones.
 #[test]
 fn a_lost_block_stays_lost(rt: HostRuntime) {
     let lost = decode_block(&rt, &[[0; BURST_BITS]; 4], 64);

@@ -4,6 +4,6 @@ pub use Rattle.interleave.proofs as interleave
 pub use Rattle.bit_blocks.proofs as bit_blocks
 pub use Rattle.trellis_decode.proofs as trellis_decode
 pub use Rattle.burst_map.proofs as burst_map
-mod ReceivedBursts
-mod SentBursts
-pub mod Lemmas
+-- other crates refer to these lemmas by the name `Lemmas`
+pub use ReceivedBursts as Lemmas
+pub mod ReceivedBursts

@@ -1,5 +1,5 @@
 -- Reports of received bursts: the most likely encoder input, the training sequence, and the information if the CRC is correct (GSM 05.03
--- sections 4.1, 4.6 and 4.7; the choice of the most likely list is this project's own rule).
+-- sections 4.1, 4.6 and 4.7; decoding to the most likely encoder input is this project's own rule).
 use Rattle.std.specs.Prelude.{ℕ, ◌≡◌, ◌==◌, if◌then◌else◌, ℤ, pos, negsuc, List, [], ◌++◌, map, take}
 use Rattle.std.specs.Prelude.{slice_index_or, MatchOption}
 use Rattle.std.specs.List.{flat_map}
@@ -41,7 +41,7 @@ access_soft_bits burst = access.body burst
 abbrev pub sync_soft_bits : (burst : List ℤ) → List ℤ
 sync_soft_bits burst = sync.first_coded_half burst ++ sync.second_coded_half burst
 
--- the 26 soft bits of the midamble of the burst with a given number
+-- the 26 soft bits in the midamble of burst number `index`
 abbrev pub midamble_of_burst : (bursts : List (List ℤ)) (index : ℕ) → List ℤ
 midamble_of_burst bursts b = normal.training (slice_index_or bursts b [])
 
@@ -51,7 +51,7 @@ IsReceivedTsc bursts tsc =
     CorrelatesBest (midamble_of_burst bursts 0) (midamble_of_burst bursts 1) (midamble_of_burst bursts 2)
     (midamble_of_burst bursts 3) tsc
 
--- the number of soft bits, of the 104 in the midambles of four bursts, that disagree with the training sequence of a given code
+-- how many of the 104 soft bits in the midambles of four bursts disagree with the training sequence of a given code
 abbrev pub wrong_training_bits : (bursts : List (List ℤ)) (tsc : ℕ) → ℕ
 wrong_training_bits bursts tsc =
     wrong_midamble_bits (midamble_of_burst bursts 0) (midamble_of_burst bursts 1) (midamble_of_burst bursts 2)

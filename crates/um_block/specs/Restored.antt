@@ -8,7 +8,7 @@ use Rattle.um_block.specs.declared.received.ReceivedAccess.{ReceivedAccess}
 use Rattle.um_block.specs.declared.received.ReceivedSync.{ReceivedSync}
 
 -- `report` is the report of a block received exactly as sent: its octets are accepted, its training sequence code is found with no wrong
--- training bit, and the metric is 127 for each of the 456 coded bits
+-- training bit, and each of the 456 coded bits adds 127 to the path metric
 pub record IsErrorFreeBlock (octets : List ℕ) (sent_tsc : ℕ) (report : Received) : Type 0 where
   pub information : CarriesDataAndCrc IsXcchWord report.u (bits_of octets)
   pub accepted : report.accepted ≡ Some octets
@@ -17,7 +17,7 @@ pub record IsErrorFreeBlock (octets : List ℕ) (sent_tsc : ℕ) (report : Recei
   pub metric : report.metric ≡ pos (456 * 127)
 
 -- `report` is the report of an access burst received exactly as sent: its eight information bits are accepted for its BSIC, no training bit
--- is wrong, and the metric is 127 for each of the 36 coded bits
+-- is wrong, and each of the 36 coded bits adds 127 to the path metric
 pub record IsErrorFreeAccess (info bsic : List ℕ) (report : ReceivedAccess) : Type 0 where
   pub information : CarriesDataAndCrc (λ w. IsRachWord w bsic) report.u info
   pub accepted : report.accepted ≡ Some info
@@ -25,7 +25,7 @@ pub record IsErrorFreeAccess (info bsic : List ℕ) (report : ReceivedAccess) : 
   pub metric : report.metric ≡ pos (36 * 127)
 
 -- `report` is the report of a synchronisation burst received exactly as sent: its 25 information bits are accepted, no training bit is
--- wrong, and the metric is 127 for each of the 78 coded bits
+-- wrong, and each of the 78 coded bits adds 127 to the path metric
 pub record IsErrorFreeSync (info : List ℕ) (report : ReceivedSync) : Type 0 where
   pub information : CarriesDataAndCrc IsSchWord report.u info
   pub accepted : report.accepted ≡ Some info

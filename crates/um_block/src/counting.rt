@@ -1,5 +1,5 @@
-//! Counts bit errors before decoding: the received soft bits that disagree with the coded bits of an encoder input. A soft bit of 0
-//! counts as wrong.
+//! Counts bit errors before decoding: the received soft bits that disagree with the coded bits of an encoder input. A soft bit of 0 counts
+//! as wrong.
 ghost use Rattle.std.specs.Prelude.{◌≡◌, ◌≤◌, ℤ, List, map, All};
 ghost use Rattle.bit_blocks.specs.SoftValues.{AllSoftBits, count_wrong_bits};
 ghost use Rattle.conv_code.specs.Code.{encoding, IsEncoderInput};
@@ -11,8 +11,8 @@ use bit_blocks::{CODED_BITS, ENCODER_INPUT_BITS, count_wrong_bits};
 use burst_map::{AccessView, BURST_BITS, SyncView};
 use conv_code::encode;
 
-/// The number of coded soft bits of a block, 0 to 456, that disagree with the coded bits of the encoder input (184 information bits,
-/// 40 Fire code bits, four tail bits).
+/// The number of coded soft bits of a block, 0 to 456, that disagree with the coded bits of the encoder input (184 information bits, 40
+/// Fire code bits, four tail bits).
 pub fn wrong_block_bits(bursts: &[[i8; BURST_BITS]; 4], input: &[u8; ENCODER_INPUT_BITS]) -> u32
     requires soft { All AllSoftBits bursts.now }
     requires information { IsEncoderInput input.now }
@@ -24,8 +24,8 @@ pub fn wrong_block_bits(bursts: &[[i8; BURST_BITS]; 4], input: &[u8; ENCODER_INP
     wrong_coded_bits(&deinterleave_block(bursts), input)
 }
 
-/// The number of coded soft bits of a block, 0 to 456, that disagree with the coded bits of the encoder input; `soft` holds the
-/// coded soft bits, already deinterleaved.
+/// The number of coded soft bits of a block, 0 to 456, that disagree with the coded bits of the encoder input; `soft` holds the coded soft
+/// bits, already deinterleaved.
 pub fn wrong_coded_bits(soft: &[i8; CODED_BITS], input: &[u8; ENCODER_INPUT_BITS]) -> u32
     requires { IsEncoderInput input.now }
     ensures value { result ≡ count_wrong_bits soft.now (encoding input.now) }
@@ -36,8 +36,8 @@ pub fn wrong_coded_bits(soft: &[i8; CODED_BITS], input: &[u8; ENCODER_INPUT_BITS
     count_wrong_bits(soft, &coded)
 }
 
-/// The number of coded soft bits of an access burst, 0 to 36, that disagree with the coded bits of the encoder input (eight
-/// information bits, six check bits, four tail bits).
+/// The number of coded soft bits of an access burst, 0 to 36, that disagree with the coded bits of the encoder input (eight information
+/// bits, six check bits, four tail bits).
 pub fn wrong_access_bits(burst: &[i8; 88], input: &[u8; 18]) -> u32
     requires { IsEncoderInput input.now }
     ensures value { result ≡ count_wrong_bits (access_soft_bits burst.now) (encoding input.now) }

@@ -23,7 +23,8 @@ pub fn law_coded_bits_are_at_burst_positions()
         ≡ slice_index_or (joined_bursts bursts) (four_burst_position k) (pos 0) }
 {}
 
-/// Law: if four bursts are received exactly as sent except at `n` of their 592 positions, at most `n` of the 456 coded bits are wrong.
+/// Law: if four bursts are received exactly as sent except at some of their 592 positions (`places`), at most that many of the 456 coded
+/// bits are wrong.
 pub fn law_coded_errors_at_most_burst_errors()
     ensures { (octets c : List ℕ) (tsc : ℕ) (sent : List (List ℕ)) (bursts : List (List ℤ)) (soft : List ℤ)
         (places : List ℕ) → IsSentBlock octets tsc sent → IsCodedBlock octets c → length bursts ≡ 4 →

@@ -7,7 +7,7 @@ use bit_blocks::{BLOCK_OCTETS, Bits, ENCODER_INPUT_BITS};
 pub struct Received {
     /// The most likely encoder input: 184 information bits, 40 Fire code bits, four zeros.
     pub u: Bits<ENCODER_INPUT_BITS>,
-    /// The path metric of the information bits `u`.
+    /// The path metric of `u`.
     pub metric: i32,
     /// The training sequence code with the greatest total correlation, 0 to 7.
     pub tsc: u8,
@@ -22,7 +22,7 @@ pub struct Received {
 pub struct ReceivedAccess {
     /// The most likely encoder input: eight information bits, six check bits, four zeros.
     pub u: Bits<18>,
-    /// The path metric of the information bits `u`.
+    /// The path metric of `u`.
     pub metric: i32,
     /// The number of soft bits, 0 to 41, that disagree with the training sequence.
     pub wrong_training: u32,
@@ -35,7 +35,7 @@ pub struct ReceivedAccess {
 pub struct ReceivedSync {
     /// The most likely encoder input: 25 information bits, ten check bits, four zeros.
     pub u: Bits<39>,
-    /// The path metric of the information bits `u`.
+    /// The path metric of `u`.
     pub metric: i32,
     /// The number of soft bits, 0 to 64, that disagree with the training sequence.
     pub wrong_training: u32,

@@ -111,7 +111,8 @@ pub fn octets_if_crc_holds(u: &[u8; ENCODER_INPUT_BITS]) -> Option<[u8; BLOCK_OC
     }
 }
 
-// Packs the information bits of a block into octets. Inlined, the octets would be kept in registers, and moved one by one.
+// Packs the information bits of a block into octets. If this function were inlined, the compiler would keep the octets in registers and
+// move them one by one.
 #[inline(never)]
 fn pack_information_bits(decoded: &[u8; ENCODER_INPUT_BITS], octets: &mut [u8; BLOCK_OCTETS])
     requires { AllBits decoded.now }

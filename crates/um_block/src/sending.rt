@@ -51,7 +51,7 @@ fn octets_with_crc(octets: &[u8; BLOCK_OCTETS]) -> [u8; 32]
 /// Builds normal burst `b` of a block, with both halves of its coded bits in their positions.
 fn build_normal_burst(columns: &Columns, b: usize, tsc: u8) -> [u8; BURST_BITS]
     requires burst_number { b < 4 }
-    requires known { tsc ≤ 7 }
+    requires tsc_in_range { tsc ≤ 7 }
     ensures { (coded : List ℕ) (parts : List (List ℕ)) → AreColumnsOfCodedBits coded columns.now.octets →
         IsInterleaved coded parts → result ≡ normal_burst (take 57 (slice_index_or parts b [])) (drop 57 (slice_index_or parts b []))
         tsc }

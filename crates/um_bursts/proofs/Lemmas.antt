@@ -1,4 +1,4 @@
--- Commands that read bursts have one output for every input.
+-- Commands that read bursts have exactly one output for every input.
 use Rattle.{
   std.proofs.Common.{Bool, List, None, Ok, [], ap, arith, false, inl, inr, length-append, length, refl, subst, sym, true, ℕ, ℤ},
   std.proofs.{Common.{◌++◌, ◌+◌, ◌<◌, ◌∙◌, ◌∷◌, ◌≡◌, ◌≤◌}, lemmas.Bool.cases_lt},
@@ -6,7 +6,7 @@ use Rattle.{
   um_block.proofs.Lemmas.{accepted_count, one_received_access, one_received_block, one_received_sync, some_received_access},
   um_block.{proofs.Lemmas.{some_received_block, some_received_sync}, specs.bit_blocks.Bits.AllBits},
   um_bursts.specs.{
-    BurstRules.{AnswersBurstLine, AnswersLineResult, AnswersNormalBurst, BurstAnswers, burst_rules},
+    BurstRules.{AnswersBurstLine, AnswersBursts, AnswersNormalBurst, BurstAnswers, burst_rules},
     Replay.{replay_answers, replay_rules},
   },
   um_driver.proofs.{Outputs.{IsWeaker, Runs-keep, has_one_output}, um_lines.FormLaws.{good_meaning, same_meaning}},
@@ -15,39 +15,39 @@ use Rattle.{
     proofs.Lemmas.{access_burst, normal_burst, one_block_report, one_burst_meaning, some_block_report, sync_burst},
     specs.{
       BurstLines.{BurstLineMeans, burst_fault},
-      Held.{AddsNormalBurst, BurstBuffer, IsBurstLineResult, normal_burst_result},
+      Held.{AddsNormalBurst, BurstBuffer, GivesBurstsToDecode, normal_burst_result},
       Reports.{IsBlockReportText, access_report_text, sync_report_text},
-      declared.{burst_lines.BurstLine.{TheVariants.{Access, Normal, Skip, Sync}, BurstLine}, held.BurstLineResult.BurstLineResult},
+      declared.{burst_lines.BurstLine.{TheVariants.{Access, Normal, Skip, Sync}, BurstLine}, held.BurstsToDecode.BurstsToDecode},
     },
   },
 }
 
--- ## NextAnswers: The answer to the result of a line is the answer to the line.
+-- ## NextAnswers: An answer to the bursts that a line gives is an answer to the line.
 
 module _ (a : BurstAnswers) (old new : BurstBuffer) (text : List ℕ) where
   normal_answered : (soft : List ℤ) (whole : Bool) → AddsNormalBurst old soft whole new →
-      AnswersLineResult a (normal_burst_result whole) new text →
+      AnswersBursts a (normal_burst_result whole) new text →
       AnswersNormalBurst a (old.held ++ soft ∷ []) text new.held
   normal_answered soft false h wrote = inl (subst (λ (bs : List (List ℤ)). length bs < 4) h.0 h.1, wrote, h.0)
   normal_answered soft true h wrote =
       inr (sym (ap length h.0) ∙ h.1, h.2, subst (λ (bs : List (List ℤ)). a.block bs text) h.0 wrote)
 
-  next_answered : (meaning : BurstLine) (next : BurstLineResult) → IsBurstLineResult old meaning next new →
-      AnswersLineResult a next new text → AnswersBurstLine a old.held meaning text new.held
+  next_answered : (meaning : BurstLine) (next : BurstsToDecode) → GivesBurstsToDecode old meaning next new →
+      AnswersBursts a next new text → AnswersBurstLine a old.held meaning text new.held
   next_answered Skip next h wrote = (
-    subst (λ (n : BurstLineResult). AnswersLineResult a n new text) h.0 wrote,
+    subst (λ (n : BurstsToDecode). AnswersBursts a n new text) h.0 wrote,
     ap (λ (s : BurstBuffer). s.held) h.1,
   )
   next_answered (Normal soft) next h wrote =
-      normal_answered soft h.0 h.2 (subst (λ (n : BurstLineResult). AnswersLineResult a n new text) h.1 wrote)
+      normal_answered soft h.0 h.2 (subst (λ (n : BurstsToDecode). AnswersBursts a n new text) h.1 wrote)
   next_answered (Access bsic soft) next h wrote =
-      (ap (λ (s : BurstBuffer). s.held) h.1, subst (λ (n : BurstLineResult). AnswersLineResult a n new text) h.0 wrote)
+      (ap (λ (s : BurstBuffer). s.held) h.1, subst (λ (n : BurstsToDecode). AnswersBursts a n new text) h.0 wrote)
   next_answered (Sync soft) next h wrote =
-      (ap (λ (s : BurstBuffer). s.held) h.1, subst (λ (n : BurstLineResult). AnswersLineResult a n new text) h.0 wrote)
+      (ap (λ (s : BurstBuffer). s.held) h.1, subst (λ (n : BurstsToDecode). AnswersBursts a n new text) h.0 wrote)
 
-  -- the answer to what a line adds is an answer to the line
-  pub line_answered : (line : List ℕ) (meaning : BurstLine) (next : BurstLineResult) → BurstLineMeans (length old.held) line meaning
-      → burst_fault (length old.held) line ≡ None → IsBurstLineResult old meaning next new → AnswersLineResult a next new text
+  -- an answer to the bursts that the line gives is an answer to the line
+  pub line_answered : (line : List ℕ) (meaning : BurstLine) (next : BurstsToDecode) → BurstLineMeans (length old.held) line meaning
+      → burst_fault (length old.held) line ≡ None → GivesBurstsToDecode old meaning next new → AnswersBursts a next new text
       → Answered (burst_rules a) old.held line (Ok tt) text (λ after. new.held ≡ after)
   line_answered line meaning next means good brings wrote =
       (new.held, good, (meaning, means, next_answered meaning next brings wrote), refl)
@@ -138,7 +138,7 @@ module _ (a : BurstAnswers) where
   step_keeps held after line y h (Access bsic soft, means, (s, _)) = subst IsHeld (sym s) h
   step_keeps held after line y h (Sync soft, means, (s, _)) = subst IsHeld (sym s) h
 
-  -- there is an answer to the bursts held when one more normal burst has arrived
+  -- when one more normal burst arrives, there is an answer to the bursts that are then held
   some_block_answer : HaveSomeAnswer a → (held : List (List ℤ)) (soft : List ℤ) → IsHeld held → length soft ≡ 148 →
       (y : List ℕ) × (after : List (List ℤ)) × AnswersNormalBurst a (held ++ soft ∷ []) y after
   some_block_answer some held soft h count =

@@ -3,8 +3,8 @@ use Rattle.std.specs.Prelude.{ℕ, ℤ, ◌≡◌, ◌<◌, ◌⊎◌, List, [],
 use Rattle.um_formats.specs.declared.burst_lines.BurstLine.{BurstLine}
 use Rattle.um_formats.specs.declared.burst_lines.BurstLine.TheVariants.{Skip, Normal, Access, Sync}
 use Rattle.um_formats.specs.BurstLines.{burst_fault, BurstLineMeans, unfinished_block_fault}
-use Rattle.um_formats.specs.declared.held.BurstLineResult.{BurstLineResult}
-use Rattle.um_formats.specs.declared.held.BurstLineResult.TheVariants as N
+use Rattle.um_formats.specs.declared.held.BurstsToDecode.{BurstsToDecode}
+use Rattle.um_formats.specs.declared.held.BurstsToDecode.TheVariants as N
 use Rattle.um_formats.specs.Held.{BurstBuffer}
 use Rattle.um_driver.specs.Rules.{Rules}
 
@@ -28,15 +28,15 @@ AnswersBurstLine a held (Normal soft) answer after = AnswersNormalBurst a (held 
 AnswersBurstLine a held (Access bsic soft) answer after = (after ≡ held) × a.access bsic soft answer
 AnswersBurstLine a held (Sync soft) answer after = (after ≡ held) × a.sync soft answer
 
--- the answer to the result of parsing a line, given the burst buffer after the line
-abbrev pub AnswersLineResult : (answers : BurstAnswers) (result : BurstLineResult) (now : BurstBuffer) (answer : List ℕ) → Type 0
-AnswersLineResult a N.Skip now answer = answer ≡ []
-AnswersLineResult a N.Held now answer = answer ≡ []
-AnswersLineResult a N.Block now answer = a.block now.slots answer
-AnswersLineResult a (N.Access bsic soft) now answer = a.access bsic soft answer
-AnswersLineResult a (N.Sync soft) now answer = a.sync soft answer
+-- the answer to a line, given what it makes ready to decode and the burst buffer after it
+abbrev pub AnswersBursts : (answers : BurstAnswers) (result : BurstsToDecode) (buffer : BurstBuffer) (answer : List ℕ) → Type 0
+AnswersBursts a N.Skip buffer answer = answer ≡ []
+AnswersBursts a N.Held buffer answer = answer ≡ []
+AnswersBursts a N.Block buffer answer = a.block buffer.slots answer
+AnswersBursts a (N.Access bsic soft) buffer answer = a.access bsic soft answer
+AnswersBursts a (N.Sync soft) buffer answer = a.sync soft answer
 
--- the rules of a command that reads bursts; its state is the list of bursts of an incomplete block, in order
+-- the rules of a command that reads bursts; its state is the list of the bursts of an incomplete block, in order
 abbrev pub burst_rules : BurstAnswers → Rules (List (List ℤ))
 burst_rules a = record {
   fault = λ held line. burst_fault (length held) line;

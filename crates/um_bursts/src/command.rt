@@ -1,15 +1,13 @@
 //! A command that reads bursts as text lines.
 ghost use Rattle.std.specs.Prelude.{◌≡◌, ◌<◌, ℤ, List, [], ◌∷◌, ◌++◌, length};
 ghost use Rattle.um_formats.specs.Held.{HasValidSoftValues};
-ghost use Rattle.um_bursts.specs.BurstRules.{burst_rules, AnswersLineResult};
+ghost use Rattle.um_bursts.specs.BurstRules.{burst_rules, AnswersBursts};
 ghost use Rattle.um_driver.specs.Rules.{IsLineAnswerOrFault};
 
 use crate::reports::Reports;
 use std::marker::Model;
 use um_driver::Command;
-use um_formats::{
-    BurstLineResult, HeldBursts, LineFault, Text, hold_normal_burst, read_burst_into,
-};
+use um_formats::{BurstsToDecode, HeldBursts, LineFault, Text, hold_normal_burst, read_burst_into};
 
 /// A command that holds the bursts of an incomplete block, and lets `reports` answer complete blocks and single bursts.
 #[derive(Drop)]
@@ -18,7 +16,7 @@ pub struct BurstCommand<R> {
     reports: R,
 }
 
-// In contracts, a `BurstCommand` is the list of bursts that it holds.
+// In contracts, a `BurstCommand` stands for the list of bursts that it holds.
 impl<R> Model for BurstCommand<R> {
     ghost use Rattle.std.specs.Prelude.{ℤ, List};
 
@@ -28,7 +26,7 @@ impl<R> Model for BurstCommand<R> {
 }
 
 impl<R: Reports> BurstCommand<R> {
-    /// A command that holds no bursts yet.
+    /// Creates a command that holds no bursts yet.
     pub fn new(reports: R) -> BurstCommand<R>
         ensures { result ≡ [] }
     {
@@ -38,8 +36,8 @@ impl<R: Reports> BurstCommand<R> {
         }
     }
 
-    /// Answers a line that is not a valid `n DIGITS148` or `N HEX296`. It is a separate function so that the common path needs no
-    /// stack space for the result.
+    /// Answers a line that is not a valid `n DIGITS148` or `N HEX296`. It is a separate function so that the common path needs no stack
+    /// space for its result.
     #[cold]
     #[inline(never)]
     fn answer_line_other_than_normal(
@@ -78,8 +76,8 @@ impl<R: Reports> Command for BurstCommand<R> {
         ensures size { length out.new < 2000 }
     {
         match hold_normal_burst(line, &mut self.held) {
-            Some(whole) => {
-                if whole {
+            Some(complete) => {
+                if complete {
                     self.reports.block(out, self.held.block());
                 }
                 Ok(())
@@ -97,18 +95,18 @@ impl<R: Reports> Command for BurstCommand<R> {
     }
 }
 
-/// Writes the answer to `next`, the result of a line.
-fn write_answer<R: Reports>(out: &mut Text, reports: &R, next: &BurstLineResult, held: &HeldBursts)
+/// Writes the answer to a line; `next` is the result of parsing the line.
+fn write_answer<R: Reports>(out: &mut Text, reports: &R, next: &BurstsToDecode, held: &HeldBursts)
     requires empty { out.old ≡ [] }
     requires soft { HasValidSoftValues next.now }
-    ensures answer { AnswersLineResult R.answers next.now held.now out.new }
+    ensures answer { AnswersBursts R.answers next.now held.now out.new }
     ensures size { length out.new < 2000 }
 {
     match next {
-        BurstLineResult::Skip => {}
-        BurstLineResult::Held => {}
-        BurstLineResult::Block => reports.block(out, held.block()),
-        BurstLineResult::Access { bsic, soft } => reports.access(out, bsic, soft),
-        BurstLineResult::Sync(soft) => reports.sync(out, soft),
+        BurstsToDecode::Skip => {}
+        BurstsToDecode::Held => {}
+        BurstsToDecode::Block => reports.block(out, held.block()),
+        BurstsToDecode::Access { bsic, soft } => reports.access(out, bsic, soft),
+        BurstsToDecode::Sync(soft) => reports.sync(out, soft),
     }
 }

@@ -1,4 +1,4 @@
-//! The answers that a command gives to bursts.
+//! How a command reports received bursts.
 ghost use Rattle.std.specs.Prelude.{◌≡◌, ◌<◌, [], length};
 ghost use Rattle.std.specs.List.{All};
 ghost use Rattle.um_block.specs.bit_blocks.SoftValues.{AllSoftBits};
@@ -9,7 +9,7 @@ use um_formats::Text;
 
 /// Writes a command's answers to the four bursts of a block, to an access burst and to a synchronisation burst.
 pub trait Reports {
-    /// The answers that the command may give.
+    /// The answers that the command may give to a block and to each kind of single burst.
     ghost answers: { BurstAnswers };
 
     /// Writes the answer to the four bursts of a block.

@@ -17,7 +17,7 @@ use Rattle.{
     segmenting.{Buffers.{message_buffer, octets_in}, Segments.Message, declared.buffers.MessageBuffer.MessageBuffer},
     segmenting.declared.joiner.ReassemblyState.ReassemblyState,
   },
-  um_among.proofs.list_decode.Lemmas.{both_only, one_margin},
+  um_among.proofs.list_decode.Lemmas.{both_unique, one_margin},
   um_block.proofs.{Lemmas.{one_received_access, one_received_block, one_received_sync}, interleave.Lemmas.same_coded},
   um_block.specs.{Received.coded_soft_bits, declared.received.Received.Received, interleave.Bursts.IsInterleaved},
   um_c.specs.{
@@ -36,7 +36,7 @@ use Rattle.{
 }
 use Rattle.lapdm_end.specs.Addresses as L
 
--- ## Plain: Reading a state that was written gives back the values for which it was written.
+-- ## Plain: Reading back a written state gives the values that were written.
 
 role-number : (r : Role) → role_of (role_number r) ≡ Some r
 role-number r = grind arith
@@ -86,34 +86,34 @@ end-c_struct x few =
 abbrev place : List Notice → ℕ → CNotice
 place notices i = slice_index_or (map c_notice notices) i blank_notice
 
-three_places : (notices : List Notice) → length notices ≤ 3 →
+c_notices-three : (notices : List Notice) → length notices ≤ 3 →
     place notices 0 ∷ place notices 1 ∷ place notices 2 ∷ [] ≡ map c_notice notices ++ replicate (3 - length notices) blank_notice
-three_places [] h = refl
-three_places (a ∷ []) h = refl
-three_places (a ∷ b ∷ []) h = refl
-three_places (a ∷ b ∷ c ∷ []) h = refl
-three_places notices h = absurd (omega arith)
+c_notices-three [] h = refl
+c_notices-three (a ∷ []) h = refl
+c_notices-three (a ∷ b ∷ []) h = refl
+c_notices-three (a ∷ b ∷ c ∷ []) h = refl
+c_notices-three notices h = absurd (omega arith)
 
-pub three_notices : (old : List CNotice) (notices : List Notice) (a b c : CNotice) → length old ≡ 3 → length notices ≤ 3 →
+pub c_notices-written : (old : List CNotice) (notices : List Notice) (a b c : CNotice) → length old ≡ 3 → length notices ≤ 3 →
     a ≡ place notices 0 → b ≡ place notices 1 → c ≡ place notices 2 →
     slice_set (slice_set (slice_set old 0 a) 1 b) 2 c ≡ map c_notice notices ++ replicate (3 - length notices) blank_notice
-three_notices (x ∷ y ∷ z ∷ []) notices a b c three few at at1 at2 = rw (at, at1, at2) (three_places notices few)
-three_notices old notices a b c three few at at1 at2 = absurd (omega arith)
+c_notices-written (x ∷ y ∷ z ∷ []) notices a b c three few at at1 at2 = rw (at, at1, at2) (c_notices-three notices few)
+c_notices-written old notices a b c three few at at1 at2 = absurd (omega arith)
 
 -- the array after one more message is written
-buffers_more : (k i : ℕ) (held : List MessageBuffer) (other : MessageBuffer) → i < length held → i < k →
+buffers-next : (k i : ℕ) (held : List MessageBuffer) (other : MessageBuffer) → i < length held → i < k →
     slice_set (buffers_of_messages k (map octets_in (take i held))) i (message_buffer (octets_in (get_or held i other)))
     ≡ buffers_of_messages k (map octets_in (take (suc i) held))
-buffers_more (suc k) zero (m ∷ ms) other at room = refl
-buffers_more (suc k) (suc i) (m ∷ ms) other at room = rw (buffers_more k i ms other (omega arith) (omega arith))
-buffers_more k i held other at room = absurd (omega arith)
+buffers-next (suc k) zero (m ∷ ms) other at room = refl
+buffers-next (suc k) (suc i) (m ∷ ms) other at room = rw (buffers-next k i ms other (omega arith) (omega arith))
+buffers-next k i held other at room = absurd (omega arith)
 
-pub room_written : (held : List MessageBuffer) (i : ℕ) (buffers : List MessageBuffer) (room other : MessageBuffer) (octets : List ℕ) →
+pub buffers-written : (held : List MessageBuffer) (i : ℕ) (buffers : List MessageBuffer) (room other : MessageBuffer) (octets : List ℕ) →
     i < length held → length held ≤ 8 → buffers ≡ buffers_of_messages 8 (map octets_in (take i held)) →
     octets ≡ octets_in (get_or held i other) →
     room ≡ message_buffer octets → slice_set buffers i room ≡ buffers_of_messages 8 (map octets_in (take (i + 1) held))
-room_written held i buffers room other octets at few so_far is written =
-    rw (so_far, written, is, add-one) (buffers_more 8 i held other at (omega arith))
+buffers-written held i buffers room other octets at few so_far is written =
+    rw (so_far, written, is, add-one) (buffers-next 8 i held other at (omega arith))
 
 -- ## Accepting: The accepted octets determine the fields `accepted` and `octets` of a report.
 
@@ -121,20 +121,20 @@ abbrev pub IsFlagged : ℕ → Option (List ℕ) → ℕ → List ℕ → Type 0
 IsFlagged n accepted flag output = MatchOption accepted ((flag ≡ 0) × (output ≡ replicate n 0)) (λ octets. (flag ≡ 1)
     × (output ≡ octets))
 
-flagged_once : (n : ℕ) (accepted : Option (List ℕ)) {flag flag' : ℕ} {output output' : List ℕ} →
+IsFlagged-unique : (n : ℕ) (accepted : Option (List ℕ)) {flag flag' : ℕ} {output output' : List ℕ} →
     IsFlagged n accepted flag output → IsFlagged n accepted flag' output' → (flag ≡ flag') × (output ≡ output')
-flagged_once n None h g = (cc, cc)
-flagged_once n _ h g = (cc, cc)
+IsFlagged-unique n None h g = (cc, cc)
+IsFlagged-unique n _ h g = (cc, cc)
 
-pub some_flagged : (accepted : Option (List ℕ)) (flag : ℕ) (output : List ℕ) → IsFlagged 23 accepted flag output → flag ≡ 1 →
+pub IsFlagged-some : (accepted : Option (List ℕ)) (flag : ℕ) (output : List ℕ) → IsFlagged 23 accepted flag output → flag ≡ 1 →
     IsSome accepted
-some_flagged None flag output h one = absurd (omega arith)
-some_flagged _ flag output h one = refl
+IsFlagged-some None flag output h one = absurd (omega arith)
+IsFlagged-some _ flag output h one = refl
 
-pub none_flagged : (accepted : Option (List ℕ)) (flag : ℕ) (output : List ℕ) → IsFlagged 23 accepted flag output →
+pub IsFlagged-none : (accepted : Option (List ℕ)) (flag : ℕ) (output : List ℕ) → IsFlagged 23 accepted flag output →
     (flag ≡ 0) ↔ IsNone accepted
-none_flagged None flag output h = (λ zero. refl, λ none. h.0)
-none_flagged (Some octets) flag output h = (λ zero. absurd (omega arith), λ none. absurd cc)
+IsFlagged-none None flag output h = (λ zero. refl, λ none. h.0)
+IsFlagged-none (Some octets) flag output h = (λ zero. absurd (omega arith), λ none. absurd cc)
 
 -- ## Calls: What a call from C answers, derived from what the endpoint in `lapdm_end` does. The endpoint that was read represents the same
 -- endpoints as the state in the caller's memory.
@@ -159,9 +159,9 @@ pub is_done : (n : Endpoint) (effects : Effects) {answer : ℕ} {after : CEndpoi
     IsDone effects n answer after output
 is_done n effects is = (is.0, cc (is.1, end-c_struct (values_of n) n.window.at_most_8), is.2)
 
-pub on_ok : {A P Q : Type 0} (r : Result A Refused) → (P → Q) → OnOk r P → OnOk r Q
-on_ok (Ok x) f h = f h
-on_ok _ f h = h
+pub OnOk-map : {A P Q : Type 0} (r : Result A Refused) → (P → Q) → OnOk r P → OnOk r Q
+OnOk-map (Ok x) f h = f h
+OnOk-map _ f h = h
 
 struct_represents : {s : CEndpoint} {m : Endpoint} {e : EndpointState} → endpoint_values_from s ≡ Some (values_of m) →
     Represents m e → StructRepresents s e
@@ -204,7 +204,7 @@ module _ {before after : CEndpoint} {output_old output : CEffects} {m : Endpoint
         unchanged = λ other. (is.1, is.2);
       }
 
-  -- a block that encodes a frame
+  -- if the block encodes a frame, an endpoint that carries out this frame satisfies `EndpointReceivesBlock`
   pub given_by : {octets : List ℕ} {channel : Channel} → ((e : EndpointState) → Represents m e → channel ≡ e.channel) →
       (f : Frame) (n : Endpoint) (effects : Effects) → IsOnlyFrame channel f octets → StepRefines (frame_outcome f) m effects n →
       IsDone effects n answer after output → EndpointReceivesBlock octets answer before after output_old output
@@ -229,7 +229,7 @@ not_asked read never = record {
   unchanged = λ other. (refl, refl);
 }
 
--- a block that encodes no frame
+-- if the block encodes no frame, the answer is 9 and nothing is written
 pub not_given : {octets : List ℕ} {channel : Channel} {reason : Refusal} {s : CEndpoint} {output : CEffects} {m : Endpoint} →
     IsRead s m → ((e : EndpointState) → Represents m e → channel ≡ e.channel) → IsOnlyRefusal channel octets reason →
     EndpointReceivesBlock octets 9 s s output output
@@ -257,7 +257,7 @@ new_endpoint role sapi channel before m of_role of_sapi of_channel is represents
 pub equal_reports : (bursts : List (List ℤ)) (soft : List ℤ) (a b : Received) (r r' : BlockReport) →
     IsInterleaved soft (map coded_soft_bits bursts) → a ≡ b → ReportsBlock bursts a r → ReportsBlock bursts b r' → r ≡ r'
 equal_reports bursts soft a b r r' deinterleaved same h g =
-    let flag = flagged_once 23 b.accepted (rw same at h.accepted) g.accepted in
+    let flag = IsFlagged-unique 23 b.accepted (rw same at h.accepted) g.accepted in
     λ i. record {
       metric = (rw same at h.metric ∙ sym g.metric) i;
       wrong_training = (rw same at h.wrong_training ∙ sym g.wrong_training) i;
@@ -268,16 +268,16 @@ equal_reports bursts soft a b r r' deinterleaved same h g =
       word = (rw same at h.word ∙ sym g.word) i;
     }
 
-pub one_block_report : (bursts : List (List ℤ)) (r r' : BlockReport) → IsBlockReport bursts r → IsBlockReport bursts r' → r ≡ r'
-one_block_report bursts r r' h g =
+pub IsBlockReport-unique : (bursts : List (List ℤ)) (r r' : BlockReport) → IsBlockReport bursts r → IsBlockReport bursts r' → r ≡ r'
+IsBlockReport-unique bursts r r' h g =
     equal_reports bursts h.is_received.soft _ _ r r' h.is_received.deinterleaved (one_received_block bursts _ _ h.is_received g.is_received)
     h.reports_block g.reports_block
 
-pub one_access_report : (burst : List ℤ) (bsic : List ℕ) (r r' : AccessReport) →
+pub IsAccessReport-unique : (burst : List ℤ) (bsic : List ℕ) (r r' : AccessReport) →
     IsAccessReport burst bsic r → IsAccessReport burst bsic r' → r ≡ r'
-one_access_report burst bsic r r' h g =
+IsAccessReport-unique burst bsic r r' h g =
     let same = one_received_access burst bsic h.received g.received h.is_received g.is_received in
-    let flag = flagged_once 8 g.received.accepted (rw same at h.accepted) g.accepted in
+    let flag = IsFlagged-unique 8 g.received.accepted (rw same at h.accepted) g.accepted in
     λ i. record {
       metric = (rw same at h.metric ∙ sym g.metric) i;
       wrong_training = (rw same at h.wrong_training ∙ sym g.wrong_training) i;
@@ -287,10 +287,10 @@ one_access_report burst bsic r r' h g =
       word = (rw same at h.word ∙ sym g.word) i;
     }
 
-pub one_sync_report : (burst : List ℤ) (r r' : SyncReport) → IsSyncReport burst r → IsSyncReport burst r' → r ≡ r'
-one_sync_report burst r r' h g =
+pub IsSyncReport-unique : (burst : List ℤ) (r r' : SyncReport) → IsSyncReport burst r → IsSyncReport burst r' → r ≡ r'
+IsSyncReport-unique burst r r' h g =
     let same = one_received_sync burst h.received g.received h.is_received g.is_received in
-    let flag = flagged_once 25 g.received.accepted (rw same at h.accepted) g.accepted in
+    let flag = IsFlagged-unique 25 g.received.accepted (rw same at h.accepted) g.accepted in
     λ i. record {
       metric = (rw same at h.metric ∙ sym g.metric) i;
       wrong_training = (rw same at h.wrong_training ∙ sym g.wrong_training) i;
@@ -300,11 +300,11 @@ one_sync_report burst r r' h g =
       word = (rw same at h.word ∙ sym g.word) i;
     }
 
-pub one_margin_report : (bursts : List (List ℤ)) (r r' : MarginReport) → IsMarginReport bursts r → IsMarginReport bursts r' →
+pub IsMarginReport-unique : (bursts : List (List ℤ)) (r r' : MarginReport) → IsMarginReport bursts r → IsMarginReport bursts r' →
     r ≡ r'
-one_margin_report bursts r r' h g =
+IsMarginReport-unique bursts r r' h g =
     let soft : h.soft ≡ g.soft = same_coded h.soft g.soft (map coded_soft_bits bursts) h.deinterleaved g.deinterleaved in
-    let both = both_only g.soft r'.word r'.next r.word r.next g.best g.next (rw soft at h.best) (rw soft at h.next) in
+    let both = both_unique g.soft r'.word r'.next r.word r.next g.best g.next (rw soft at h.best) (rw soft at h.next) in
     let equal = one_margin g.soft r'.word r.margin r'.margin (rw (soft, both.0) at h.margin) g.margin in
     λ i. record { margin = equal i; word = both.0 i; next = both.1 i }
 
@@ -328,13 +328,13 @@ describes_repair w answer before after (inr (inl right)) =
     (Repaired after.word after.first after.span, (right.0, right.1), right.2, refl)
 describes_repair w answer before after (inr (inr none)) = (NoRepair, (none.0, none.1), none.2, none.3)
 
-pub repaired_once : (w : List ℕ) (a b : ℕ) (before r r' : RepairReport) → IsRepairCallResult w a before r →
+pub repair-unique : (w : List ℕ) (a b : ℕ) (before r r' : RepairReport) → IsRepairCallResult w a before r →
     IsRepairCallResult w b before r' → (a ≡ b) × (r ≡ r')
-repaired_once w a b before r r' (inl bits) (inl bits') =
+repair-unique w a b before r r' (inl bits) (inl bits') =
     let x = describes_repair w a before r bits.1 in
     let y = describes_repair w b before r' bits'.1 in
     let same = one_answer w x.0 y.0 x.1 y.1 in
     (x.2 ∙ ap number same ∙ sym y.2, cc)
-repaired_once w a b before r r' (inr none) (inr none') = (cc, cc)
-repaired_once w a b before r r' (inl bits) (inr none) = absurd (none.0 bits.0)
-repaired_once w a b before r r' (inr none) (inl bits) = absurd (none.0 bits.0)
+repair-unique w a b before r r' (inr none) (inr none') = (cc, cc)
+repair-unique w a b before r r' (inl bits) (inr none) = absurd (none.0 bits.0)
+repair-unique w a b before r r' (inr none) (inl bits) = absurd (none.0 bits.0)

@@ -17,8 +17,8 @@ use Rattle.{
     proofs.{
       Lemmas.damaged_received,
       lapdm_link.Lemmas.{AllReported, IsFitting, IsPlaced, KnowsBy, acted, claims_with_rr, counts_with_rr, each_start, each_way, end_of},
-      lapdm_link.Lemmas.{ends_do, event_step-fits, fits-step, in_order-step, is_end, order_claims, initial_endpoint-fits},
-      lapdm_link.Lemmas.{initial_endpoint-reported, without_first},
+      lapdm_link.Lemmas.{ends_do, event_step-fits, fits-step, in_order-step, is_end, order_claims, initial-fits},
+      lapdm_link.Lemmas.{initial-reported, without_first},
       lapdm_window.Lemmas.{keeps-call, keeps-frame},
     },
     specs.{
@@ -78,9 +78,9 @@ notice-read N.Oversize = refl
 notice-read (N.Closed Re.Contention) = refl
 notice-read (N.Closed r) = refl
 
-all-read : (ns : List Notice) → filter_map notice_from_c (map c_notice ns) ≡ ns
-all-read [] = refl
-all-read (n ∷ ns) = rw (notice-read n, all-read ns) refl
+all_notices-read : (ns : List Notice) → filter_map notice_from_c (map c_notice ns) ≡ ns
+all_notices-read [] = refl
+all_notices-read (n ∷ ns) = rw (notice-read n, all_notices-read ns) refl
 
 -- what can be read from the effects of a call that succeeded
 module _ {channel : Channel} {o : Outcome} {answer : ℕ} {s : CEndpoint} {output : CEffects}
@@ -88,7 +88,7 @@ module _ {channel : Channel} {o : Outcome} {answer : ℕ} {s : CEndpoint} {outpu
   output-notices : notices_from_c output ≡ o.notices
   output-notices =
       rw h.effects (ap (filter_map notice_from_c) (take_at (map c_notice o.notices) _ _ (length-map o.notices c_notice))
-      ∙ all-read o.notices)
+      ∙ all_notices-read o.notices)
 
   output-blocks : blocks_sent answer output ≡ map (octets_of channel) o.frames
   output-blocks = rw (h.answer_is_0, h.effects) (take_at (map (octets_of channel) o.frames) _ _ refl)
@@ -98,8 +98,8 @@ module _ {channel : Channel} {o : Outcome} {answer : ℕ} {s : CEndpoint} {outpu
 refuses : (reason : Refused) → call_refusal_number reason ≢ 0
 refuses reason = grind arith
 
-blocks-none : {answer : ℕ} (output : CEffects) → answer ≢ 0 → blocks_sent answer output ≡ []
-blocks-none _ h = grind arith
+blocks_sent-refused : {answer : ℕ} (output : CEffects) → answer ≢ 0 → blocks_sent answer output ≡ []
+blocks_sent-refused _ h = grind arith
 
 -- ---- the session that corresponds to the steps
 
@@ -113,61 +113,62 @@ abbrev pub AreStates : ProgramState → World → Type 0
 AreStates b w = (r : Role) (s : Sapi) → MayRepresent (b.state r s) (end_of r s w)
 
 -- the blocks in the queues encode these frames, in order
-abbrev pub AreOf : Channel → Queues (List ℕ) → Queues Frame → Type 0
-AreOf channel ws fs = (r : Role) → AllZip (IsFrameCoding channel) (W.queue_of r fs) (W.queue_of r ws)
+abbrev pub AreCoded : Channel → Queues (List ℕ) → Queues Frame → Type 0
+AreCoded channel ws fs = (r : Role) → AllZip (IsFrameCoding channel) (W.queue_of r fs) (W.queue_of r ws)
 
 -- the states represent the endpoints of the session w, and the blocks in transit encode its frames in transit
-pub record IsMatched (channel : Channel) (a : ProgramState) (w : World) : Type 0 where
+pub record Matches (channel : Channel) (a : ProgramState) (w : World) : Type 0 where
   pub capacity : w.capacity ≡ unbounded_capacity
   pub represents : AreStates a w
-  pub queues : AreOf channel a.queues w.queues
+  pub queues : AreCoded channel a.queues w.queues
   pub fit : IsFitting channel w
   pub log : List LogLine
   pub reported : AllReported w log
 
 -- a step either has no effect on the session, or corresponds to this event
 pub data IsPlayed (channel : Channel) (a b : ProgramState) (turn : ProgramStep) (w : World) : Type 0 where
-  idle : IsMatched channel b w → step_log_lines turn ≡ [] → IsPlayed channel a b turn w
+  idle : Matches channel b w → step_log_lines turn ≡ [] → IsPlayed channel a b turn w
   does : (event : Event) → (DeliversOldestBlock channel a turn → EventAllowsRrForRej (refusal event w) event w) →
-      IsMatched channel b (world_after event w) →
+      Matches channel b (world_after event w) →
       step_log_lines turn ≡ answer_log_lines event (answer event w) → IsPlayed channel a b turn w
 
 -- ---- the queues of blocks
 
 module _ {T : Type 0} where
-  way-more : (r : Role) (xs : List T) (ws : Queues T) → W.queue_of r (with_appended r xs ws) ≡ W.queue_of r ws ++ xs
-  way-more r xs ws = grind arith
+  queue_of-append : (r : Role) (xs : List T) (ws : Queues T) → W.queue_of r (with_appended r xs ws) ≡ W.queue_of r ws ++ xs
+  queue_of-append r xs ws = grind arith
 
-  way-more_other : (r : Role) (xs : List T) (ws : Queues T) → W.queue_of (other r) (with_appended r xs ws) ≡ W.queue_of (other r) ws
-  way-more_other r xs ws = grind arith
+  queue_of-append_other : (r : Role) (xs : List T) (ws : Queues T) → W.queue_of (other r) (with_appended r xs ws) ≡ W.queue_of (other r) ws
+  queue_of-append_other r xs ws = grind arith
 
-  way-none : (r r' : Role) (ws : Queues T) → W.queue_of r' (with_appended r [] ws) ≡ W.queue_of r' ws
-  way-none Mobile Mobile ws = append-nil ws.up
-  way-none Network Network ws = append-nil ws.down
-  way-none r r' ws = refl
+  queue_of-append_none : (r r' : Role) (ws : Queues T) → W.queue_of r' (with_appended r [] ws) ≡ W.queue_of r' ws
+  queue_of-append_none Mobile Mobile ws = append-nil ws.up
+  queue_of-append_none Network Network ws = append-nil ws.down
+  queue_of-append_none r r' ws = refl
 
 module _ {X Y : Type 0} (R : X → Y → Type 0) where
-  zip-rest : (xs : List X) (ys : List Y) → AllZip R xs ys → AllZip R (drop 1 xs) (drop 1 ys)
-  zip-rest xs ys h = grind arith
+  AllZip-rest : (xs : List X) (ys : List Y) → AllZip R xs ys → AllZip R (drop 1 xs) (drop 1 ys)
+  AllZip-rest xs ys h = grind arith
 
-  zip-append : (xs xs' : List X) (ys ys' : List Y) → AllZip R xs ys → AllZip R xs' ys' → AllZip R (xs ++ xs') (ys ++ ys')
-  zip-append [] xs' [] ys' h g = g
-  zip-append (x ∷ xs) xs' (y ∷ ys) ys' h g = (h.0, zip-append xs xs' ys ys' h.1 g)
-  zip-append xs xs' ys ys' h g = absurd assumption
+  AllZip-append : (xs xs' : List X) (ys ys' : List Y) → AllZip R xs ys → AllZip R xs' ys' → AllZip R (xs ++ xs') (ys ++ ys')
+  AllZip-append [] xs' [] ys' h g = g
+  AllZip-append (x ∷ xs) xs' (y ∷ ys) ys' h g = (h.0, AllZip-append xs xs' ys ys' h.1 g)
+  AllZip-append xs xs' ys ys' h g = absurd assumption
 
-module _ {channel : Channel} {ws : Queues (List ℕ)} {fs : Queues Frame} (h : AreOf channel ws fs) where
-  of-rest : (sender : Role) → AreOf channel (W.without_first sender ws) (W.without_first sender fs)
-  of-rest Mobile Mobile = zip-rest _ fs.up ws.up (h Mobile)
-  of-rest Network Network = zip-rest _ fs.down ws.down (h Network)
-  of-rest sender r = h r
+module _ {channel : Channel} {ws : Queues (List ℕ)} {fs : Queues Frame} (h : AreCoded channel ws fs) where
+  AreCoded-rest : (sender : Role) → AreCoded channel (W.without_first sender ws) (W.without_first sender fs)
+  AreCoded-rest Mobile Mobile = AllZip-rest _ fs.up ws.up (h Mobile)
+  AreCoded-rest Network Network = AllZip-rest _ fs.down ws.down (h Network)
+  AreCoded-rest sender r = h r
 
-  of-more : (r : Role) (sent : List Frame) (blocks : List (List ℕ)) → AllZip (IsFrameCoding channel) sent blocks →
-      AreOf channel (with_appended r blocks ws) (with_appended r sent fs)
-  of-more r sent blocks g =
+  AreCoded-append : (r : Role) (sent : List Frame) (blocks : List (List ℕ)) → AllZip (IsFrameCoding channel) sent blocks →
+      AreCoded channel (with_appended r blocks ws) (with_appended r sent fs)
+  AreCoded-append r sent blocks g =
       let R : Frame → List ℕ → Type 0 = IsFrameCoding channel in
       each_way (λ q. AllZip R (W.queue_of q (with_appended r sent fs)) (W.queue_of q (with_appended r blocks ws))) r
-      (rw (way-more r sent fs, way-more r blocks ws) (zip-append R (W.queue_of r fs) sent (W.queue_of r ws) blocks (h r) g))
-      (rw (way-more_other r sent fs, way-more_other r blocks ws) (h (other r)))
+      (rw (queue_of-append r sent fs, queue_of-append r blocks ws)
+      (AllZip-append R (W.queue_of r fs) sent (W.queue_of r ws) blocks (h r) g))
+      (rw (queue_of-append_other r sent fs, queue_of-append_other r blocks ws) (h (other r)))
 
 -- if frames fit in blocks of the channel, their canonical octets encode them
 written : (channel : Channel) (fs : List Frame) → All (FrameFits channel) fs →
@@ -248,12 +249,12 @@ module _ (channel : Channel) (w : World) (room : w.capacity ≡ unbounded_capaci
       record { after = rw (no, on) refl; frames = rw (no, on) refl; output = rw (no, on) refl }
 
 -- an endpoint with this role and SAPI either has this call or does not have it
-is_placed : (r : Role) (s : Sapi) (call : Call) → IsPlaced r s call ⊎ (IsPlaced r s call → ⊥)
-is_placed Mobile Zero (Opens info) = inl (refl, refl)
-is_placed r s (Opens info) = inr (λ h. grind arith)
-is_placed r Three OpensWithoutInfo = inl refl
-is_placed r Zero OpensWithoutInfo = inr (λ h. grind arith)
-is_placed r s call = inl tt
+IsPlaced-or_not : (r : Role) (s : Sapi) (call : Call) → IsPlaced r s call ⊎ (IsPlaced r s call → ⊥)
+IsPlaced-or_not Mobile Zero (Opens info) = inl (refl, refl)
+IsPlaced-or_not r s (Opens info) = inr (λ h. grind arith)
+IsPlaced-or_not r Three OpensWithoutInfo = inl refl
+IsPlaced-or_not r Zero OpensWithoutInfo = inr (λ h. grind arith)
+IsPlaced-or_not r s call = inl tt
 
 module _ {r : Role} {s : Sapi} (e : EndpointState) (role : e.role ≡ r) (sapi : e.sapi ≡ s) where
   allowed : (call : Call) → IsPlaced r s call → EndpointSupportsCall e call
@@ -271,14 +272,14 @@ module _ {r : Role} {s : Sapi} (e : EndpointState) (role : e.role ≡ r) (sapi :
 -- each state still represents its endpoint, and the blocks in transit encode these frames
 record IsQuiet (channel : Channel) (b : ProgramState) (w : World) (left : Queues Frame) : Type 0 where
   represents : AreStates b w
-  queues : AreOf channel b.queues left
+  queues : AreCoded channel b.queues left
 
-module _ {channel : Channel} {a : ProgramState} {w : World} (m : IsMatched channel a w) where
+module _ {channel : Channel} {a : ProgramState} {w : World} (m : Matches channel a w) where
   -- below, the event is not refused
   module _ {b : ProgramState} (event : Event) (none : refusal event w ≡ None) where
     next : KnowsBy None (AllFit channel) event →
         (let z : World = world_unless_refused None event w in (AreStates b z →
-        AreOf channel b.queues z.queues → IsMatched channel b (world_after event w)))
+        AreCoded channel b.queues z.queues → Matches channel b (world_after event w)))
     next known represents queues =
         record {
           capacity = rw none m.capacity;
@@ -292,13 +293,13 @@ module _ {channel : Channel} {a : ProgramState} {w : World} (m : IsMatched chann
     -- the step corresponds to this event
     plays : {turn : ProgramStep} → KnowsBy None (AllFit channel) event →
         (DeliversOldestBlock channel a turn → EventAllowsRrForRej None event w) →
-        (let z : World = world_unless_refused None event w in (AreStates b z → AreOf channel b.queues z.queues →
+        (let z : World = world_unless_refused None event w in (AreStates b z → AreCoded channel b.queues z.queues →
         step_log_lines turn ≡ answer_log_lines event (answer_unless_refused None (event_step event w.ends)) →
         IsPlayed channel a b turn w))
     plays known benign represents queues same =
         does event (λ q. rw none (benign q)) (next known represents queues) (rw none same)
 
-  idles : {b : ProgramState} → IsQuiet channel b w w.queues → IsMatched channel b w
+  idles : {b : ProgramState} → IsQuiet channel b w w.queues → Matches channel b w
   idles q = record {
     capacity = m.capacity;
     represents = q.represents;
@@ -308,12 +309,12 @@ module _ {channel : Channel} {a : ProgramState} {w : World} (m : IsMatched chann
     reported = m.reported;
   }
 
-  -- the oldest block from a side is lost
+  -- the step in which the oldest block from a side is lost
   loses : {b : ProgramState} {turn : ProgramStep} (sender : Role) → IsQuiet channel b w (W.without_first sender w.queues) →
       step_log_lines turn ≡ [] → IsPlayed channel a b turn w
   loses sender q none =
       plays (Lose sender) (rw m.capacity refl) tt (λ h. tt) q.represents
-      (λ r. rw (way-none Mobile r (W.without_first sender w.queues)) (q.queues r)) none
+      (λ r. rw (queue_of-append_none Mobile r (W.without_first sender w.queues)) (q.queues r)) none
 
   module _ {b : ProgramState} {r : Role} {s : Sapi} {old new : CEndpoint} {out : List (List ℕ)} {left : Queues (List ℕ)}
       (l : ChangesOneEndpoint r s old new out left a b) where
@@ -321,18 +322,18 @@ module _ {channel : Channel} {a : ProgramState} {w : World} (m : IsMatched chann
     here = rw l.old_state at (m.represents r s)
 
     -- if the new state represents the same endpoint, and no block is sent, all states represent the same endpoints
-    quiet : (fs : Queues Frame) → AreOf channel left fs → out ≡ [] → StructRepresents new (end_of r s w) → IsQuiet channel b w fs
+    quiet : (fs : Queues Frame) → AreCoded channel left fs → out ≡ [] → StructRepresents new (end_of r s w) → IsQuiet channel b w fs
     quiet fs same none represents = record {
       represents = each_state (λ r' s'. MayRepresent (b.state r' s') (end_of r' s' w)) r s (rw l.new_state represents)
           (λ r' s' n. rw (l.others_unchanged r' s' n) (m.represents r' s'));
-      queues = rw (l.queues, none) (λ q. rw (way-none r q left) (same q));
+      queues = rw (l.queues, none) (λ q. rw (queue_of-append_none r q left) (same q));
     }
 
     -- an endpoint acts, and its frames are sent
     acts : {turn : ProgramStep} {o : Outcome} {answer : ℕ} {output : CEffects} {z : World} (event : Event) {asked : List LogLine} →
         out ≡ blocks_sent answer output → refusal event w ≡ None → KnowsBy None (AllFit channel) event →
         IsSideStep channel r s o asked w z event → AreStates a z →
-        AreOf channel left z.queues → SucceedsWithOutcome channel o answer new output →
+        AreCoded channel left z.queues → SucceedsWithOutcome channel o answer new output →
         (DeliversOldestBlock channel a turn → EventAllowsRrForRej None event w) →
         step_log_lines turn ≡ asked ++ map (Notified r s) o.notices → IsPlayed channel a b turn w
     acts {o} {z} event sent none known d represents queues c benign same =
@@ -340,8 +341,8 @@ module _ {channel : Channel} {a : ProgramState} {w : World} (m : IsMatched chann
         plays event none known benign
         (subst (AreStates b) (sym d.after) (ends_do (λ r' s' e. MayRepresent (b.state r' s') e) r s o z (rw l.new_state c.represents)
         (λ r' s' n. rw (l.others_unchanged r' s' n) (represents r' s'))))
-        (subst (λ (v : World). AreOf channel b.queues v.queues) (sym d.after)
-        (rw (l.queues, sent, output-blocks c) (of-more queues r o.frames _ (written channel o.frames fit))))
+        (subst (λ (v : World). AreCoded channel b.queues v.queues) (sym d.after)
+        (rw (l.queues, sent, output-blocks c) (AreCoded-append queues r o.frames _ (written channel o.frames fit))))
         (same ∙ sym d.output)
 
   on_channel : (r : Role) (s : Sapi) → (end_of r s w).channel ≡ channel
@@ -352,7 +353,7 @@ module _ {channel : Channel} {a : ProgramState} {w : World} (m : IsMatched chann
       (l : ChangesOneEndpoint r s old new (blocks_sent answer output) a.queues a b) where
     not_called : answer ≢ 0 → IsPlayed channel a b (Calls r s call answer output) w
     not_called other =
-        idle (idles (quiet l w.queues m.queues (blocks-none output other) (rw (answers_call.unchanged other).0 (here l))))
+        idle (idles (quiet l w.queues m.queues (blocks_sent-refused output other) (rw (answers_call.unchanged other).0 (here l))))
         (grind (arith, nat_tests))
 
     called : IsPlaced r s call → (o : Option Refused) → refusal_of call (end_of r s w) ≡ o →
@@ -381,7 +382,7 @@ module _ {channel : Channel} {a : ProgramState} {w : World} (m : IsMatched chann
   module _ {b : ProgramState} {r : Role} {s : Sapi} {old new : CEndpoint} {block : List ℕ} {answer : ℕ} {output output_old : CEffects}
       (answers_block : EndpointReceivesBlock block answer old new output_old output) where
     module _ {left : Queues (List ℕ)} (l : ChangesOneEndpoint r s old new (blocks_sent answer output) left a b) (fs : Queues Frame)
-        (queues : AreOf channel left fs) where
+        (queues : AreCoded channel left fs) where
       abbrev HasNoEffect : Type 0
       HasNoEffect = IsQuiet channel b w fs × (step_log_lines (TakesOldestBlock r s block answer output) ≡ [])
 
@@ -390,7 +391,7 @@ module _ {channel : Channel} {a : ProgramState} {w : World} (m : IsMatched chann
       no_frame reason only =
           let invalid = answers_block.invalid_frame _ (here l) reason (rw (on_channel r s) only) in
           let other : answer ≢ 0 = λ zero. omega arith in (
-            quiet l fs queues (blocks-none output other) (rw (answers_block.unchanged other).0 (here l)),
+            quiet l fs queues (blocks_sent-refused output other) (rw (answers_block.unchanged other).0 (here l)),
             grind (arith, nat_tests),
           )
 
@@ -439,27 +440,28 @@ module _ {channel : Channel} {a : ProgramState} {w : World} (m : IsMatched chann
         by_link : (on : Bool) → nat_eq f.sapi (sapi_number s) ≡ on → IsPlayed channel a b (TakesOldestBlock r s block answer output) w
         by_link true on =
             let d = delivered channel w m.capacity r s f on in
-            let c = carried l fewer (of-rest m.queues (other r)) f only in
-            acts l (Deliver (other r) (Some f)) refl (rw m.capacity refl) only.frame.fits d m.represents (of-rest m.queues (other r)) c
+            let c = carried l fewer (AreCoded-rest m.queues (other r)) f only in
+            acts l (Deliver (other r) (Some f)) refl (rw m.capacity refl) only.frame.fits d m.represents (AreCoded-rest m.queues (other r))
+            c
             (first (W.queue_of (other r) w.queues) (W.queue_of (other r) a.queues) (m.queues (other r)))
             (rw (c.answer_is_0, output-notices c) refl)
         by_link false off =
-            let h = passes_by l fewer (of-rest m.queues (other r)) f only off in loses (other r) h.0 h.1
+            let h = passes_by l fewer (AreCoded-rest m.queues (other r)) f only off in loses (other r) h.0 h.1
 
       gives : HasUniqueReading channel block → IsPlayed channel a b (TakesOldestBlock r s block answer output) w
       gives (inl (f, only)) = by_link f only (nat_eq f.sapi (sapi_number s)) refl
       gives (inr (reason, only)) =
-          let h = no_frame l fewer (of-rest m.queues (other r)) reason only in loses (other r) h.0 h.1
+          let h = no_frame l fewer (AreCoded-rest m.queues (other r)) reason only in loses (other r) h.0 h.1
 
   turn-step : (turn : ProgramStep) (b : ProgramState) → IsProgramStep channel a turn b → IsPlayed channel a b turn w
-  turn-step (Calls r s call answer output) b t = calls t.3 t.4 (is_placed r s call)
+  turn-step (Calls r s call answer output) b t = calls t.3 t.4 (IsPlaced-or_not r s call)
   turn-step (TakesOldestBlock r s block answer output) b t = gives t.3 t.4 (one_reading channel block t.5)
   turn-step (TakesOtherSapiBlock r s block answer output) b t = shows t.3 t.4 t.5 t.6
   turn-step (LosesOldestBlock sender) b t =
-      rw t (loses sender (record { represents = m.represents; queues = of-rest m.queues sender }) refl)
+      rw t (loses sender (record { represents = m.represents; queues = AreCoded-rest m.queues sender }) refl)
   turn-step (RivalSabm info block) b t =
       rw t.0 (plays (Rival info) (rw (m.capacity, m.fit.on_channel, t.2) refl) tt (λ q. tt) m.represents
-      (of-more m.queues Mobile (rival_sabm info ∷ []) (block ∷ []) (t.1, tt)) refl)
+      (AreCoded-append m.queues Mobile (rival_sabm info ∷ []) (block ∷ []) (t.1, tt)) refl)
 
 -- ---- several steps
 
@@ -474,7 +476,7 @@ module _ (channel : Channel) (May : Channel → ProgramState → ProgramStep →
   Sound = (a : ProgramState) (turn : ProgramStep) → May channel a turn → DeliversOldestBlock channel a turn
 
   goes : (a b : ProgramState) (turn : ProgramStep) (turns : List ProgramStep) (w : World) → May channel a turn →
-      IsPlayed channel a b turn w → ((z : World) → IsMatched channel b z → IsSession turns z Sound) →
+      IsPlayed channel a b turn w → ((z : World) → Matches channel b z → IsSession turns z Sound) →
       IsSession (turn ∷ turns) w Sound
   goes a b turn turns w allowed (idle m none) rest =
       let r = rest w m in
@@ -487,31 +489,31 @@ module _ (channel : Channel) (May : Channel → ProgramState → ProgramStep →
         benign = λ q. (benign (q a turn allowed), r.benign q);
       }
 
-  session : (turns : List ProgramStep) (a z : ProgramState) (w : World) → IsMatched channel a w → IsProgramRun channel May a turns z →
+  session : (turns : List ProgramStep) (a z : ProgramState) (w : World) → Matches channel a w → IsProgramRun channel May a turns z →
       IsSession turns w Sound
   session [] a z w m run = record { events = []; same_lines = refl; benign = λ q. tt }
   session (turn ∷ turns) a z w m run =
       goes a run.1 turn turns w run.0 (turn-step m turn run.1 run.2) (λ next n. session turns run.1 z next n run.3)
 
-begun_in : (channel : Channel) (r : Role) (s : Sapi) (x : Option CEndpoint) → IsNewEndpointOrNone channel r s x →
+begun-initial : (channel : Channel) (r : Role) (s : Sapi) (x : Option CEndpoint) → IsNewEndpointOrNone channel r s x →
     MayRepresent x (initial_endpoint r s channel)
-begun_in channel r s None h = tt
-begun_in Sdcch Mobile Zero _ h = h.1.1
-begun_in Sdcch Network Zero (Some new) h = h.1.1
-begun_in Sacch Mobile Zero (Some new) h = h.1.1
-begun_in Sacch Network Zero (Some new) h = h.1.1
-begun_in channel r s (Some new) h = h.1.1
+begun-initial channel r s None h = tt
+begun-initial Sdcch Mobile Zero _ h = h.1.1
+begun-initial Sdcch Network Zero (Some new) h = h.1.1
+begun-initial Sacch Mobile Zero (Some new) h = h.1.1
+begun-initial Sacch Network Zero (Some new) h = h.1.1
+begun-initial channel r s (Some new) h = h.1.1
 
-matched : (channel : Channel) (a : ProgramState) → IsProgramStart channel a →
-    IsMatched channel a (initial_world unbounded_capacity channel)
-matched channel a h = record {
+Matches-initial : (channel : Channel) (a : ProgramState) → IsProgramStart channel a →
+    Matches channel a (initial_world unbounded_capacity channel)
+Matches-initial channel a h = record {
   capacity = refl;
   represents = each_start (λ r s e. MayRepresent (a.state r s) e) unbounded_capacity channel
-      (λ r s. begun_in channel r s (a.state r s) (h.new_endpoint r s));
+      (λ r s. begun-initial channel r s (a.state r s) (h.new_endpoint r s));
   queues = rw h.queues (each_way _ Mobile tt tt);
-  fit = initial_endpoint-fits unbounded_capacity channel;
+  fit = initial-fits unbounded_capacity channel;
   log = [];
-  reported = initial_endpoint-reported unbounded_capacity channel;
+  reported = initial-reported unbounded_capacity channel;
 }
 
 -- if each block that an endpoint gets is the oldest in transit to it, the claims about sessions hold for the steps
@@ -519,12 +521,12 @@ module _ (May : Channel → ProgramState → ProgramStep → Type 0) (channel : 
     (turns : List ProgramStep) (h : IsProgramStart channel a) (run : IsProgramRun channel May a turns z) where
   pub claims_of : Claims (session_log turns)
   claims_of =
-      let x = session channel May turns a z _ (matched channel a h) run in
+      let x = session channel May turns a z _ (Matches-initial channel a h) run in
       rw x.same_lines (claims_with_rr unbounded_capacity channel x.events (x.benign sound))
 
   pub counts_of : AckedAtMostDelivered (session_log turns)
   counts_of =
-      let x = session channel May turns a z _ (matched channel a h) run in
+      let x = session channel May turns a z _ (Matches-initial channel a h) run in
       rw x.same_lines (counts_with_rr unbounded_capacity channel x.events (x.benign sound))
 
 pub joined_claims : (channel : Channel) (a z : ProgramState) (turns : List ProgramStep) → IsProgramStart channel a →
@@ -536,7 +538,7 @@ pub joined_order : (channel : Channel) (a z : ProgramState) (turns : List Progra
     IsProgramRun channel AnyStepAllowed a turns z →
     HasNoticesInOrder (session_log turns)
 joined_order channel a z turns h run =
-    let x = session channel AnyStepAllowed turns a z _ (matched channel a h) run in
+    let x = session channel AnyStepAllowed turns a z _ (Matches-initial channel a h) run in
     rw x.same_lines (order_claims unbounded_capacity channel x.events)
 
 -- ---- blocks received from bursts
@@ -583,40 +585,41 @@ with_state r s new a r' s' = if is_same_role r' r && is_same_sapi s' s then Some
 abbrev pub left_in : ProgramState → Role → Sapi → CEndpoint → List (List ℕ) → Queues (List ℕ) → ProgramState
 left_in a r s new out left = record { state = with_state r s new a; queues = with_appended r out left }
 
-pub is_left : {a : ProgramState} {r : Role} {s : Sapi} {old : CEndpoint} (new : CEndpoint) (out : List (List ℕ))
+pub endpoint-left : {a : ProgramState} {r : Role} {s : Sapi} {old : CEndpoint} (new : CEndpoint) (out : List (List ℕ))
     (left : Queues (List ℕ)) →
     a.state r s ≡ Some old → ChangesOneEndpoint r s old new out left a (left_in a r s new out left)
-is_left new out left before = grind arith
+endpoint-left new out left before = grind arith
 
-pub some_turn : (channel : Channel) (a : ProgramState) (r : Role) (s : Sapi) (call : Call) (answer : ℕ) (old new : CEndpoint)
+pub program_step-call : (channel : Channel) (a : ProgramState) (r : Role) (s : Sapi) (call : Call) (answer : ℕ) (old new : CEndpoint)
     (output_old output : CEffects) → a.state r s ≡ Some old → EndpointAnswersCall call answer old new output_old output →
     (b : ProgramState) × IsProgramStep channel a (Calls r s call answer output) b × (b.state r s ≡ Some new)
-some_turn channel a r s call answer old new output_old output before answers_call =
-    let x = is_left new (blocks_sent answer output) a.queues before in
+program_step-call channel a r s call answer old new output_old output before answers_call =
+    let x = endpoint-left new (blocks_sent answer output) a.queues before in
     (_, (old, new, output_old, answers_call, x), x.new_state)
 
-pub some_arrival : (channel : Channel) (a : ProgramState) (r : Role) (s : Sapi) (block : List ℕ) (answer : ℕ) (old new : CEndpoint)
+pub program_step-block : (channel : Channel) (a : ProgramState) (r : Role) (s : Sapi) (block : List ℕ) (answer : ℕ) (old new : CEndpoint)
     (output_old output : CEffects) → a.state r s ≡ Some old → length block ≡ 23 →
     EndpointReceivesBlock block answer old new output_old output →
     (b : ProgramState) × IsProgramStep channel a (TakesOldestBlock r s block answer output) b × (b.state r s ≡ Some new)
-some_arrival channel a r s block answer old new output_old output before size answers_block =
-    let x = is_left new (blocks_sent answer output) (W.without_first (other r) a.queues) before in
+program_step-block channel a r s block answer old new output_old output before size answers_block =
+    let x = endpoint-left new (blocks_sent answer output) (W.without_first (other r) a.queues) before in
     (_, (old, new, output_old, answers_block, x, size), x.new_state)
 
-pub some_showing : (channel : Channel) (a : ProgramState) (r : Role) (s : Sapi) (block : List ℕ) (answer : ℕ) (old new : CEndpoint)
+pub program_step-other_sapi : (channel : Channel) (a : ProgramState) (r : Role) (s : Sapi) (block : List ℕ) (answer : ℕ)
+    (old new : CEndpoint)
     (output_old output : CEffects) → a.state r s ≡ Some old → length block ≡ 23 → HasNoFrameOnSapi channel s block →
     EndpointReceivesBlock block answer old new output_old output →
     (b : ProgramState) × IsProgramStep channel a (TakesOtherSapiBlock r s block answer output) b × (b.state r s ≡ Some new)
-some_showing channel a r s block answer old new output_old output before size none answers_block =
-    let x = is_left new (blocks_sent answer output) a.queues before in
+program_step-other_sapi channel a r s block answer old new output_old output before size none answers_block =
+    let x = endpoint-left new (blocks_sent answer output) a.queues before in
     (_, (old, new, output_old, answers_block, x, size, none), x.new_state)
 
 -- ## Exchanged: If two endpoints satisfy `CanEstablishLink`, they exchange a SABM and a UA, and both are in Open afterwards.
 
 -- if a call succeeded and sent one block, its outcome has one frame
-one_frame : (fs : List Frame) → length fs ≡ 1 → (g : Frame) × (fs ≡ g ∷ [])
-one_frame (g ∷ []) h = (g, refl)
-one_frame fs h = absurd (omega arith)
+length_1-single_frame : (fs : List Frame) → length fs ≡ 1 → (g : Frame) × (fs ≡ g ∷ [])
+length_1-single_frame (g ∷ []) h = (g, refl)
+length_1-single_frame fs h = absurd (omega arith)
 
 module _ {channel : Channel} {o : Outcome} {answer : ℕ} {s : CEndpoint} {output : CEffects}
     (done : SucceedsWithOutcome channel o answer s output)
@@ -628,15 +631,15 @@ module _ {channel : Channel} {o : Outcome} {answer : ℕ} {s : CEndpoint} {outpu
     block g one = rw (done.effects, one) refl
 
 -- an endpoint that gets the block of a frame that fits receives that frame
-given_frame : {f : EndpointState} (g : Frame) {octets : List ℕ} {answer : ℕ} {n n' : CEndpoint} {output_old output : CEffects} →
+receives_coded_frame : {f : EndpointState} (g : Frame) {octets : List ℕ} {answer : ℕ} {n n' : CEndpoint} {output_old output : CEffects} →
     StructRepresents n f →
     FrameFits f.channel g → octets ≡ octets_of f.channel g → EndpointReceivesBlock octets answer n n' output_old output →
     SucceedsWithOutcome f.channel (frame_outcome g f) answer n' output
-given_frame {f} g represents fits same answers_block =
+receives_coded_frame {f} g represents fits same answers_block =
     answers_block.carried_out f represents g (rw same (only_canonical f.channel g fits).reads_back)
 
-is_valid_end : {s : CEndpoint} {e : EndpointState} → StructRepresents s e → IsValidEndpoint e
-is_valid_end h = h.represents_values.represents.valid
+StructRepresents-valid : {s : CEndpoint} {e : EndpointState} → StructRepresents s e → IsValidEndpoint e
+StructRepresents-valid h = h.represents_values.represents.valid
 
 module _ {info : Message} {e f : EndpointState} {m n : CEndpoint} (mobile : StructRepresents m e) (network : StructRepresents n f)
     (can_establish : CanEstablishLink info e f) where
@@ -651,15 +654,15 @@ module _ {info : Message} {e f : EndpointState} {m n : CEndpoint} (mobile : Stru
 
   sabm-fits : FrameFits f.channel sabm
   sabm-fits =
-      let k = keeps-call (Opens info) e (is_valid_end mobile) can_establish.allowed.0 can_establish.not_refused in
+      let k = keeps-call (Opens info) e (StructRepresents-valid mobile) can_establish.allowed.0 can_establish.not_refused in
       rw (← can_establish.same_channel) (All-head (FrameFits e.channel) sabm [] (subst (All (FrameFits e.channel)) same_sabm k.frames))
 
   pub answer-one : (g : Frame) × (reply.frames ≡ g ∷ [])
-  answer-one = one_frame reply.frames can_establish.one_answer
+  answer-one = length_1-single_frame reply.frames can_establish.one_answer
 
   answer-fits : FrameFits e.channel answer-one.0
   answer-fits =
-      let k = keeps-frame sabm f (is_valid_end network) sabm-fits in
+      let k = keeps-frame sabm f (StructRepresents-valid network) sabm-fits in
       subst (λ x. FrameFits x answer-one.0) (sym can_establish.same_channel)
       (All-head (FrameFits f.channel) answer-one.0 [] (subst (All (FrameFits f.channel)) answer-one.1 k.frames))
 
@@ -675,7 +678,8 @@ module _ {info : Message} {e f : EndpointState} {m n : CEndpoint} (mobile : Stru
         (answers_block : EndpointReceivesBlock octets b n n' untold' answered) where
       pub was-answered : SucceedsWithOutcome f.channel reply b n' answered
       was-answered =
-          given_frame sabm network sabm-fits (rw (← can_establish.same_channel) (at ∙ block was-asked sabm same_sabm)) answers_block
+          receives_coded_frame sabm network sabm-fits (rw (← can_establish.same_channel) (at ∙ block was-asked sabm same_sabm))
+          answers_block
 
       pub answered-one : answered.frame_count ≡ 1
       answered-one = count was-answered ∙ can_establish.one_answer
@@ -683,7 +687,7 @@ module _ {info : Message} {e f : EndpointState} {m n : CEndpoint} (mobile : Stru
       module _ {c : ℕ} {m'' : CEndpoint} {untold'' opened : CEffects} {octets' : List ℕ} (at' : octets' ≡ first_block answered)
           (answers_block' : EndpointReceivesBlock octets' c m' m'' untold'' opened) where
         pub was-opened : SucceedsWithOutcome e.channel (frame_outcome answer-one.0 (sends_sabm info e).new_state) c m'' opened
-        was-opened = given_frame answer-one.0 was-asked.represents answer-fits
+        was-opened = receives_coded_frame answer-one.0 was-asked.represents answer-fits
             (at' ∙ block was-answered answer-one.0 answer-one.1 ∙ ap (λ x. octets_of x answer-one.0) (sym can_establish.same_channel))
             answers_block'
 
@@ -740,17 +744,17 @@ pub record SentOneBlock (answer : ℕ) (output : CEffects) : Type 0 where
   pub capacity : length output.frames ≡ 2
   pub size : length (first_block output) ≡ 23
 
-one_block : (blocks : List (List ℕ)) (n : ℕ) → n ≡ 1 → 1 ≤ length blocks → take n blocks ≡ slice_index_or blocks 0 [] ∷ []
-one_block (b ∷ bs) n one some = rw one refl
-one_block [] n one some = absurd (omega arith)
+take_1-first_block : (blocks : List (List ℕ)) (n : ℕ) → n ≡ 1 → 1 ≤ length blocks → take n blocks ≡ slice_index_or blocks 0 [] ∷ []
+take_1-first_block (b ∷ bs) n one some = rw one refl
+take_1-first_block [] n one some = absurd (omega arith)
 
 -- the only block in transit arrives as it was sent
 arrives_unchanged : (channel : Channel) {answer : ℕ} {output : CEffects} → SentOneBlock answer output →
     FirstBlockSatisfies (λ first. EncodeSameFrame channel first (first_block output)) (blocks_sent 0 output)
 arrives_unchanged channel {output} h =
-    rw (one_block output.frames output.frame_count h.count (omega (arith, h.capacity))) (λ f is. inl is)
+    rw (take_1-first_block output.frames output.frame_count h.count (omega (arith, h.capacity))) (λ f is. inl is)
 
-pub opened_run : (channel : Channel) (info : Message) {m m' m'' n n' : CEndpoint}
+pub opening-IsProgramRun : (channel : Channel) (info : Message) {m m' m'' n n' : CEndpoint}
     {output_old untold' untold'' asked answered opened : CEffects} {a b c : ℕ} →
     SentOneBlock a asked → SentOneBlock b answered → c ≡ 0 →
     EndpointAnswersCall (Opens info) a m m' output_old asked →
@@ -760,7 +764,7 @@ pub opened_run : (channel : Channel) (info : Message) {m m' m'' n n' : CEndpoint
     (establishment_steps info asked answered opened) z
     × (z.state Mobile Zero ≡ Some m'')
     × (z.state Network Zero ≡ Some n')
-opened_run channel info {m} {m'} {m''} {n} {n'} {output_old} {untold'} {untold''} {asked} {answered} {opened} h g e answers_call
+opening-IsProgramRun channel info {m} {m'} {m''} {n} {n'} {output_old} {untold'} {untold''} {asked} {answered} {opened} h g e answers_call
     answers_block answers_block' =
     let old = program_of_two_endpoints m n in
     let sent = left_in old Mobile Zero m' (blocks_sent 0 asked) old.queues in
@@ -771,12 +775,12 @@ opened_run channel info {m} {m'} {m''} {n} {n'} {output_old} {untold'} {untold''
       (
         tt,
         sent,
-        (m, m', output_old, rw h.answer_is_0 at answers_call, is_left _ _ _ refl),
+        (m, m', output_old, rw h.answer_is_0 at answers_call, endpoint-left _ _ _ refl),
         (
           arrives_unchanged channel h,
           responded,
-          (n, n', untold', rw g.answer_is_0 at answers_block, is_left _ _ _ refl, h.size),
-          (arrives_unchanged channel g, done, (m', m'', untold'', rw e at answers_block', is_left _ _ _ refl, g.size), refl),
+          (n, n', untold', rw g.answer_is_0 at answers_block, endpoint-left _ _ _ refl, h.size),
+          (arrives_unchanged channel g, done, (m', m'', untold'', rw e at answers_block', endpoint-left _ _ _ refl, g.size), refl),
         ),
       ),
       refl,

@@ -23,7 +23,7 @@ notice_struct kind number reason octets = record { number = number; kind = kind;
 abbrev pub blank_notice : CNotice
 blank_notice = notice_struct 0 0 0 []
 
--- converts a notice to a C struct, with kind 1 to 6
+-- the C struct of a notice, with kind 1 to 6
 abbrev pub c_notice : Notice → CNotice
 c_notice (N.Opened info) = notice_struct 1 0 0 info
 c_notice (N.Got m) = notice_struct 2 0 0 m

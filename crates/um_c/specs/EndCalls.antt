@@ -29,14 +29,15 @@ call_refusal_number No.Empty = 4
 call_refusal_number No.TooLong = 5
 call_refusal_number No.Full = 6
 
--- the call returns 0, `after` represents the endpoint after outcome `outcome`, and `output` holds the frames and notices of `outcome`
+-- the call returns 0, `after` represents the endpoint after `outcome`, and `output` holds the frames and notices of `outcome`
 pub record SucceedsWithOutcome (channel : Channel) (outcome : Outcome) (answer : ℕ) (after : CEndpoint) (output : CEffects) : Type 0
   where
     pub answer_is_0 : answer ≡ 0
     pub represents : StructRepresents after outcome.new_state
     pub effects : output ≡ c_effects (map (octets_of channel) outcome.frames) outcome.notices
 
--- the endpoint supports this call: only a mobile establishes SAPI 0, with information; either side establishes SAPI 3, without it
+-- the endpoint supports this call: only a mobile establishes the link of SAPI 0, with information in its SABM; either side establishes that
+-- of SAPI 3, without information
 abbrev pub EndpointSupportsCall : (endpoint : EndpointState) (call : Call) → Type 0
 EndpointSupportsCall e (Opens info) = (e.sapi ≡ Zero) × (e.role ≡ Mobile)
 EndpointSupportsCall e call = IsCallOfEndpoint e call

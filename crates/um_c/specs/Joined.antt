@@ -30,7 +30,7 @@ use Rattle.um_c.specs.EndCalls.{EndpointAnswersCall, EndpointReceivesBlock, IsNe
 
 -- ---- reading the effects of a call
 
--- the reason with this number
+-- the reason why a link was closed, given its number in the C API
 abbrev pub close_reason_from_number : (number : ℕ) → Reason
 close_reason_from_number number =
     if number == 0 then R.Contention else if number == 1 then R.Failed else if number == 2 then R.Refused else R.Released
@@ -71,7 +71,7 @@ pub record ProgramState : Type 0 where
   pub queues : Queues (List ℕ)
 
 -- in a step of the program, the state of one endpoint changes from `old` to `new`, all other states stay the same, and the blocks
--- `sent_blocks` are added to the blocks in transit `remaining_queues`
+-- `sent_blocks` are added to those still in transit, `remaining_queues`
 pub record ChangesOneEndpoint (role : Role) (sapi : Sapi) (old new : CEndpoint) (sent_blocks : List (List ℕ)) (remaining_queues : Queues
     (List ℕ))
     (before after : ProgramState) : Type 0 where
@@ -85,7 +85,7 @@ pub record ChangesOneEndpoint (role : Role) (sapi : Sapi) (old new : CEndpoint) 
 abbrev pub HasNoFrameOnSapi : (channel : Channel) (sapi : Sapi) (block : List ℕ) → Type 0
 HasNoFrameOnSapi channel s block = (f : Frame) → IsFrameCoding channel f block → f.sapi ≢ sapi_number s
 
--- the step leads from the first program state to the second, and the endpoint meets the contract of the call
+-- `step` leads from `state` to `after`, and the endpoint meets the contract of the call
 abbrev pub IsProgramStep : (channel : Channel) (state : ProgramState) (step : ProgramStep) (after : ProgramState) → Type 0
 IsProgramStep channel a (Calls r s call answer output) b =
     (old new : CEndpoint) × (output_old : CEffects) × EndpointAnswersCall call answer old new output_old output
@@ -119,7 +119,7 @@ pub record IsProgramStart (channel : Channel) (program : ProgramState) : Type 0 
   pub new_endpoint : (r : Role) (s : Sapi) → IsNewEndpointOrNone channel r s (program.state r s)
   pub queues : program.queues ≡ empty_queues
 
--- the steps lead from the first program state to the last, and each satisfies the condition `May`
+-- the steps `turns` lead from `before` to `after`, and each satisfies the condition `MayTake`
 abbrev pub IsProgramRun : (channel : Channel) (MayTake : (Channel → ProgramState → ProgramStep → Type 0)) (before : ProgramState)
     (turns : List ProgramStep) (after : ProgramState) → Type 0
 IsProgramRun channel May a [] z = z ≡ a
@@ -131,20 +131,21 @@ abbrev pub FirstBlockSatisfies : (Property : (List ℕ → Type 0)) (blocks : Li
 FirstBlockSatisfies Like [] = ⊥
 FirstBlockSatisfies Like (first ∷ others) = Like first
 
--- the block encodes the frame that was sent, perhaps with other fill octets; if a REJ was sent, it may encode an RR with the same N(R)
+-- `block` encodes the same frame as `sent`, perhaps with other fill octets; if `sent` encodes a REJ, `block` may encode an RR with the same
+-- N(R) instead
 abbrev pub EncodeSameFrame : (channel : Channel) (sent block : List ℕ) → Type 0
 EncodeSameFrame channel sent block = (f : Frame) → IsFrameCoding channel f sent →
     IsFrameCoding channel f block ⊎ IsFrameCoding channel (record f { content = rr_for_rej f.content }) block
 
--- an endpoint that takes the oldest block in transit receives the frame that was sent, perhaps with other fill octets, or an RR in place of
--- a REJ with the same N(R)
+-- an endpoint that takes the oldest block in transit receives the frame that was sent, perhaps with other fill octets, or an RR with the
+-- same N(R) in place of a REJ
 abbrev pub DeliversOldestBlock : (channel : Channel) (state : ProgramState) (turn : ProgramStep) → Type 0
 DeliversOldestBlock channel a (TakesOldestBlock r s block answer output) =
     FirstBlockSatisfies (λ first. EncodeSameFrame channel first block) (queue_of
     (other r) a.queues)
 DeliversOldestBlock channel a turn = Unit {0}
 
--- a receiver accepts `block` from lightly damaged bursts of the block `sent`: as their most likely word, or as the first of the most likely
+-- a receiver decodes lightly damaged bursts of the block `sent` to `block`: to their most likely word, or to the first of the most likely
 -- words whose CRC holds
 pub record IsReceptionOf (sent block : List ℕ) : Type 0 where
   pub bursts : List (List ℤ)
@@ -153,7 +154,7 @@ pub record IsReceptionOf (sent block : List ℕ) : Type 0 where
   pub received : IsBlockReport bursts report ⊎ ((most rank : ℕ) × (1 ≤ most) × IsListDecodedReport bursts most rank report)
   pub octets : block ≡ report.octets
 
--- if a step delivers the oldest block in transit, the bursts of that block may be lightly damaged, and the decoder accepts its octets
+-- an endpoint that takes the oldest block in transit receives it as decoded from its bursts, which may be lightly damaged
 abbrev pub ReceivesOldestBlock : (channel : Channel) (state : ProgramState) (turn : ProgramStep) → Type 0
 ReceivesOldestBlock channel a (TakesOldestBlock r s block answer output) =
     FirstBlockSatisfies (λ first. IsReceptionOf first block) (queue_of

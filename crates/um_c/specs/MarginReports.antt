@@ -8,7 +8,7 @@ use Rattle.um_among.specs.list_decode.Ranking.{IsSecondMostLikely, IsMargin, Has
 use Rattle.um_block.specs.Received.{coded_soft_bits}
 use Rattle.um_c.specs.declared.margins.MarginReport.{MarginReport}
 
--- the report contains the most likely word of four bursts, the second most likely word, and the difference between their likelihoods,
+-- the report contains the most likely word of four bursts, the second most likely word, and the difference between their path metrics,
 -- which is 0 if and only if another word is equally likely
 pub record IsMarginReport (bursts : List (List ℤ)) (report : MarginReport) : Type 0 where
   pub soft : List ℤ

@@ -15,7 +15,7 @@ use Rattle.um_c.specs.declared.effects.CEffects.{CEffects}
 use Rattle.um_c.specs.EndCalls.{EndpointSupportsCall}
 use Rattle.um_c.specs.Joined.{ProgramState, ProgramStep, Calls, TakesOldestBlock}
 
--- the endpoint states of a program with these two endpoints, both of SAPI 0
+-- the endpoints of a program that has only these two, both of SAPI 0
 abbrev pub endpoint_with_role_and_sapi : (mobile network : CEndpoint) (role : Role) (sapi : Sapi) → Option CEndpoint
 endpoint_with_role_and_sapi mobile network Mobile Zero = Some mobile
 endpoint_with_role_and_sapi mobile network Network Zero = Some network
@@ -37,7 +37,7 @@ establishment_steps info asked answered opened =
 
 -- ---- when all three calls succeed
 
--- the SABM of a mobile that establishes SAPI 0 with this information
+-- the SABM of a mobile that establishes the link of SAPI 0 with this information
 abbrev pub sabm_with_info : Message → Frame
 sabm_with_info info = record { sapi = 0; cr = command_cr Mobile; content = Sabm true info }
 

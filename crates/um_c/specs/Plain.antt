@@ -16,7 +16,7 @@ use Rattle.um_c.specs.declared.frames.CFrame.{CFrame}
 abbrev pub channel_of : (number : ℕ) → Option Channel
 channel_of number = if number == 0 then Some Sdcch else if number == 1 then Some Sacch else None
 
--- the C struct of a frame: fields of other kinds are 0, and zeros follow the information
+-- the C struct of a frame: fields that its kind does not have are 0, and zeros follow the information
 abbrev pub c_frame_of_fields : (sapi : ℕ) (cr : Bool) (fields : Fields) → CFrame
 c_frame_of_fields sapi cr f = record {
   kind = kind_number f.kind;
@@ -59,8 +59,8 @@ is_nonzero field = not (field == 0)
 abbrev pub content_if_info_length : (count : ℕ) (content : Content) → Option Content
 content_if_info_length count content = if length (fields_of content).info == count then Some content else None
 
--- the content that the fields describe for this kind, or `None` if there is no kind, or if a kind without information has a nonzero
--- count; fields of other kinds are ignored
+-- the content that the fields describe for this kind, or `None` if there is no kind, or if a kind without information has a nonzero count;
+-- fields that the kind does not have are ignored
 abbrev pub content_of_kind : (frame : CFrame) (kind : Option Kind) → Option Content
 content_of_kind f None = None
 content_of_kind f (Some kind) = content_if_info_length f.count (content_with_fields kind f.ns f.nr (is_nonzero f.pf) (is_nonzero f.more)
@@ -79,7 +79,7 @@ frame_with_address_fields sapi cr (Some content) = Some (record { sapi = sapi; c
 abbrev pub frame_from_fields : CFrame → Option Frame
 frame_from_fields f = if nat_le f.count 20 then frame_with_address_fields f.sapi (is_nonzero f.cr) (content_from_fields f) else None
 
--- if there is a frame that fits in a block of the channel, the call returns true and writes its canonical octets; otherwise it returns
+-- if `frame` is a frame that fits in a block of the channel, the call returns true and writes its canonical octets; otherwise it returns
 -- false and writes nothing
 abbrev pub IsFrameWriteResult : (channel : Channel) (frame : Option Frame) (answer : Bool) (before after : List ℕ) → Type 0
 IsFrameWriteResult channel None answer before after = (answer ≡ false) × (after ≡ before)

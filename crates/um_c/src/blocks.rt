@@ -48,11 +48,11 @@ pub extern "C" fn um_send_block(
     tsc: u8,
     bursts: &mut [[u8; BURST_BITS]; 4],
 ) -> bool
-    ensures known { IsTrue result ↔ (tsc ≤ 7) }
+    ensures valid { IsTrue result ↔ (tsc ≤ 7) }
     ensures sent { IsTrue result → IsSentBlock octets.now tsc bursts.new }
     ensures only { IsTrue result → (other : List (List ℕ)) → IsSentBlock octets.now tsc other → other ≡ bursts.new }
     ensures bits { IsTrue result → All AllBits bursts.new }
-    ensures unknown { result ≡ false → bursts.new ≡ bursts.old }
+    ensures refused { result ≡ false → bursts.new ≡ bursts.old }
 {
     if tsc > 7 {
         return false;
@@ -79,8 +79,8 @@ pub extern "C" fn um_receive_block(bursts: &[[i8; BURST_BITS]; 4], report: &mut 
 }
 
 /// Decodes the soft values of four bursts by trying the `most` (1 to 64) most likely words. Reports the first word whose CRC holds, or the
-/// most likely word if none does, and its rank (from 1) among the list decoder's candidates. Returns false, and writes nothing, if a
-/// soft value is -128 or `most` is out of range.
+/// most likely word if none does, and its rank (from 1) among the list decoder's candidates. Returns false, and writes nothing, if a soft
+/// value is -128 or `most` is out of range.
 #[unsafe(no_mangle)]
 pub extern "C" fn um_receive_block_among(
     bursts: &[[i8; BURST_BITS]; 4],
@@ -88,7 +88,7 @@ pub extern "C" fn um_receive_block_among(
     report: &mut BlockReport,
     rank: &mut u32,
 ) -> bool
-    ensures known { IsTrue result ↔ (All AllSoftBits bursts.now × (1 ≤ most) × (most ≤ MAX_RANK)) }
+    ensures valid { IsTrue result ↔ (All AllSoftBits bursts.now × (1 ≤ most) × (most ≤ MAX_RANK)) }
     ensures received { IsTrue result → IsListDecodedReport bursts.now most rank.new report.new }
     ensures only { IsTrue result → (place : ℕ) (other : BlockReport)
         → IsListDecodedReport bursts.now most place other → (place ≡ rank.new) × (other ≡ report.new) }

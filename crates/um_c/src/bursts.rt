@@ -51,10 +51,10 @@ pub struct SyncReport {
 /// neither 0 nor 1.
 #[unsafe(no_mangle)]
 pub extern "C" fn um_send_access(info: &[u8; 8], bsic: &[u8; 6], burst: &mut [u8; 88]) -> bool
-    ensures known { IsTrue result ↔ (AllBits info.now × AllBits bsic.now) }
+    ensures valid { IsTrue result ↔ (AllBits info.now × AllBits bsic.now) }
     ensures sent { IsTrue result → IsSentAccess info.now bsic.now burst.new }
     ensures only { IsTrue result → (other : List ℕ) → IsSentAccess info.now bsic.now other → other ≡ burst.new }
-    ensures unknown { result ≡ false → burst.new ≡ burst.old }
+    ensures refused { result ≡ false → burst.new ≡ burst.old }
 {
     let Some(info) = Bits::<8>::from_slice(info) else {
         return false;
@@ -74,7 +74,7 @@ pub extern "C" fn um_receive_access(
     bsic: &[u8; 6],
     report: &mut AccessReport,
 ) -> bool
-    ensures known { IsTrue result ↔ (AllSoftBits burst.now × AllBits bsic.now) }
+    ensures valid { IsTrue result ↔ (AllSoftBits burst.now × AllBits bsic.now) }
     ensures received { IsTrue result → IsAccessReport burst.now bsic.now report.new }
     ensures only { IsTrue result → (other : AccessReport) → IsAccessReport burst.now bsic.now other
         → other ≡ report.new }
@@ -105,10 +105,10 @@ pub extern "C" fn um_receive_access(
 /// 1.
 #[unsafe(no_mangle)]
 pub extern "C" fn um_send_sync(info: &[u8; 25], burst: &mut [u8; BURST_BITS]) -> bool
-    ensures known { IsTrue result ↔ AllBits info.now }
+    ensures valid { IsTrue result ↔ AllBits info.now }
     ensures sent { IsTrue result → IsSentSync info.now burst.new }
     ensures only { IsTrue result → (other : List ℕ) → IsSentSync info.now other → other ≡ burst.new }
-    ensures unknown { result ≡ false → burst.new ≡ burst.old }
+    ensures refused { result ≡ false → burst.new ≡ burst.old }
 {
     let Some(info) = Bits::<25>::from_slice(info) else {
         return false;

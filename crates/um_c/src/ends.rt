@@ -186,7 +186,8 @@ pub(crate) fn send_ui_frame(end: &CEndpoint, call: &Call<'_>, effects: &mut CEff
     write_call_effects(answer, &output, effects)
 }
 
-/// Whether the endpoint supports this call: only a mobile establishes SAPI 0, with information; either side establishes SAPI 3, without it.
+/// Returns whether the endpoint supports this call: only a mobile establishes the link of SAPI 0, with information in its SABM; either side
+/// establishes that of SAPI 3, without information.
 fn endpoint_supports_call(endpoint: &Endpoint, call: &Call<'_>) -> bool
     ensures sapi { IsTrue result → IsCallOfSapi (link_sapi endpoint.now) (endpoint_call_of call.now) }
     ensures allowed { IsTrue result → (e : EndpointState) → Represents endpoint.now e
@@ -212,7 +213,7 @@ fn endpoint_supports_call(endpoint: &Endpoint, call: &Call<'_>) -> bool
     }
 }
 
-/// Creates a placeholder, which the state that the caller holds overwrites.
+/// Creates a placeholder endpoint, which is then overwritten with the state that the caller holds.
 fn placeholder_endpoint() -> Endpoint {
     Endpoint::new_on(Role::Mobile, Sapi::Zero, Channel::Sdcch)
 }

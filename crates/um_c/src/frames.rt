@@ -133,7 +133,7 @@ fn c_frame_of_fields(sapi: u8, cr: bool, fields: &FrameFields<'_>) -> CFrame
     }
 }
 
-/// The frame that the fields describe, whether or not it fits in a block.
+/// The frame that the fields describe, whether or not it fits in a block, or `None` if they describe none.
 fn frame_view_of_c_frame(frame: &CFrame) -> Option<FrameView<'_>>
     ensures { MatchOption result (frame_from_fields frame.now ≡ None) (λ view. frame_from_fields frame.now ≡ Some (frame_of view)) }
 {
@@ -147,7 +147,7 @@ fn frame_view_of_c_frame(frame: &CFrame) -> Option<FrameView<'_>>
     })
 }
 
-/// The body of the frame that the fields describe.
+/// The body of the frame that the fields describe, or `None` if they describe none.
 fn body_of_c_frame(frame: &CFrame) -> Option<Body<'_>>
     requires { frame.now.count ≤ 20 }
     ensures { MatchOption result (content_from_fields frame.now ≡ None) (λ body. content_from_fields frame.now ≡

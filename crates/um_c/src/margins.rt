@@ -1,4 +1,4 @@
-//! The reliability of a decoded block: the difference between the likelihoods of its two most likely words.
+//! The reliability of a decoded block: the difference between the path metrics of its two most likely words.
 ghost use Rattle.std.specs.Prelude.{◌≡◌, ◌↔◌, All, IsTrue, false};
 ghost use Rattle.um_block.specs.bit_blocks.SoftValues.{AllSoftBits};
 ghost use Rattle.um_c.specs.MarginReports.{IsMarginReport};

@@ -174,7 +174,7 @@ fn call_endpoint_of_side(side: &mut CSide, sapi: u8, call: &Call<'_>, effects: &
     }
 }
 
-/// Whether the two endpoints form a side: SAPI 0 and SAPI 3, with the same role and channel.
+/// Returns whether the two endpoints form a side: SAPI 0 and SAPI 3, with the same role and channel.
 fn is_valid_side(side: &CSide) -> bool
     ensures { IsTrue result ↔ IsValidSide side.now }
 {
@@ -184,7 +184,7 @@ fn is_valid_side(side: &CSide) -> bool
         && side.link0.channel == side.link3.channel
 }
 
-/// Whether a block encodes a frame with SAPI 3.
+/// Returns whether a block encodes a frame with SAPI 3.
 fn is_frame_on_sapi_3(octets: &[u8; BLOCK_OCTETS], channel: u8) -> bool
     ensures { IsTrue result ↔ IsFrameOnSapi3 channel octets.now }
 {

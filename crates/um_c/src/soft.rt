@@ -5,7 +5,8 @@ ghost use Rattle.um_block.specs.bit_blocks.SoftValues.{AllSoftBits, IsSoftBit};
 
 use um_block::BURST_BITS;
 
-/// Whether no value is -128. The loop never ends early, so that the compiler can compare sixteen values at a time.
+/// Returns whether all values are soft bits, that is, none is -128. The loop never ends early, so that the compiler can compare sixteen
+/// values at a time.
 pub(crate) fn are_soft_bits(values: &[i8]) -> bool
     ensures { IsTrue result ↔ AllSoftBits values.now }
 {
@@ -23,7 +24,7 @@ fn is_soft_bit(value: i8) -> bool
     value != i8::MIN
 }
 
-/// Whether no soft value of four bursts is -128.
+/// Returns whether no soft value of four bursts is -128.
 pub(crate) fn are_soft_bursts(bursts: &[[i8; BURST_BITS]; 4]) -> bool
     ensures { IsTrue result ↔ All AllSoftBits bursts.now }
 {

@@ -32,7 +32,7 @@ pub struct CEndpoint {
     pub channel: u8,
     /// The state of the link: 0 idle, 1 opening, 2 open, 3 closing, 4 closed.
     pub state: u8,
-    /// How often the SABM or DISC that awaits an answer has been repeated.
+    /// How often the SABM or DISC that awaits a response has been retransmitted.
     pub retries: u8,
     /// The send state variable V(S), 0 to 7.
     pub vs: u8,
@@ -40,7 +40,7 @@ pub struct CEndpoint {
     pub va: u8,
     /// The receive state variable V(R), 0 to 7.
     pub vr: u8,
-    /// How often the outstanding I frame has been repeated.
+    /// How often the outstanding I frame has been retransmitted.
     pub repeats: u8,
     /// The reject condition: 1 if a REJ was sent and no segment has been accepted since, otherwise 0.
     pub rejecting: u8,
@@ -48,8 +48,8 @@ pub struct CEndpoint {
     pub place: u8,
     /// The number of messages held because they are not yet fully acknowledged.
     pub held_count: u8,
-    /// The state of the reassembly buffer: 0 holds the beginning of a message; 1 holds a delivered message; 2 is empty, while the rest of
-    /// an oversize message is discarded.
+    /// The state of the reassembly buffer: 0 if it holds the beginning of a message, 1 if it holds a delivered message, 2 if it is empty
+    /// while the rest of an oversize message is discarded.
     pub part: u8,
     /// The information of the SABM that this endpoint sent, or of the SABM that established its link.
     pub kept: MessageBuffer,
@@ -61,7 +61,7 @@ pub struct CEndpoint {
 pub(crate) fn read_endpoint(c_struct: &CEndpoint, end: &mut Endpoint) -> bool
     ensures decoded { IsTrue result → endpoint_values_from c_struct.now ≡ Some (values_of end.new) }
     ensures represents { IsTrue result → (e : EndpointState) → StructRepresents c_struct.now e → Represents end.new e }
-    ensures known { IsTrue result ↔ RepresentsSomeEndpoint c_struct.now }
+    ensures valid { IsTrue result ↔ RepresentsSomeEndpoint c_struct.now }
 {
     match endpoint_view_of(c_struct) {
         Some(parts) => end.restore(&parts),

@@ -1,4 +1,4 @@
--- The clauses of `run`: from commands to words, and from decoded words to codewords.
+-- The clauses of `run`: which command the words name, which codewords decoding chooses, and what `replay` recovers.
 use Rattle.{
   std.{
     proofs.{
@@ -63,19 +63,19 @@ use Rattle.{
   um_repair.proofs.Lemmas.repair_has_one_output,
   um_session.{
     proofs.Lemmas.link_has_one_output,
-    specs.{Courses.RadioCounters, Promises.IsLinkRun, Sessions.{IsStepForLineMeaning, Session, link_command_rules, new_session}},
+    specs.{Courses.RadioCounters, Promises.IsLinkRun, Sessions.{IsParsedLineStep, Session, link_command_rules, new_session}},
   },
   um_show.proofs.ShowRules.show_has_one_output,
 }
 use Rattle.um_end.specs.um_block.burst_map.AccessBurst as A
 use Rattle.um_end.specs.um_block.burst_map.SyncBurst as S
 use Rattle.um_end.specs.EndRuns as M
-use Rattle.um_cli.specs.Brought as B
+use Rattle.um_cli.specs.EndAnswers as B
 use Rattle.um_code.specs.um_formats.declared.code.CodeLine.TheVariants as C
 
 -- ## WordListsLemmas: Lists of words whose length is known.
 
--- mapping a function over a list of one element
+-- mapping f over a list of one element gives the list that contains only the value of f at this element
 pub map-single : {A B : Type 0} (f : A → B) (xs : List A) (d : A) → 1 ≤ length xs → length xs < 2 →
     map f xs ≡ f (get_or xs 0 d) ∷ []
 map-single f (x ∷ []) d some few = refl
@@ -84,32 +84,32 @@ map-single f xs d some few = absurd (omega arith)
 -- ## Counts: The number of messages of `make`: for words that begin with a digit 1 to 9, the library's `parse` agrees with
 -- `message_count_of_word`.
 
-own : IsNumeralModel (λ ds. all_ascii_digits ds ≡ true) (digits_value 10)
-own = numerals_by_value _ (search rules)
+decimals : IsNumeralModel (λ ds. all_ascii_digits ds ≡ true) (digits_value 10)
+decimals = numerals_by_value _ (search rules)
 
 not_empty : (word : List ℕ) → 49 ≤ slice_index word 0 → 0 < length word
 not_empty [] first = absurd (omega arith)
 not_empty (octet ∷ word) first = omega arith
 
--- r is what the library's `parse` returns for a word without a sign
+-- r is the value of the word if the word consists of digits and its value is below 2 ^ 32, and otherwise an error
 abbrev IsReadAs : {E : Type 0} → List ℕ → Result ℕ E → Type 0
 IsReadAs word r = OkIff r ((all_ascii_digits word ≡ true) × (0 < length word) × (digits_value 10 word < 2 ^ 32)) (digits_value 10 word)
 
 read_as : {E : Type 0} (word : List ℕ) (r r' : Result ℕ E) → ParsesUnsigned 32 10 word r → 49 ≤ slice_index word 0 →
     r ≡ r' → IsReadAs word r'
-read_as {E} word r r' parsed first is = subst (IsReadAs {E = E} word) is (parse_plain own 32 word r parsed (omega arith))
+read_as {E} word r r' parsed first is = subst (IsReadAs {E = E} word) is (parse_plain decimals 32 word r parsed (omega arith))
 
-pub number_read : {E : Type 0} (word : List ℕ) (r : Result ℕ E) (n : ℕ) → ParsesUnsigned 32 10 word r →
+pub message_count-some : {E : Type 0} (word : List ℕ) (r : Result ℕ E) (n : ℕ) → ParsesUnsigned 32 10 word r →
     49 ≤ slice_index word 0 → r ≡ Ok n → 1 ≤ n → n ≤ 1000 → Some n ≡ message_count_of_word word
-number_read word r n parsed first is some most =
+message_count-some word r n parsed first is some most =
     let read = read_as word r (Ok n) parsed first is in
     let v : ℕ = digits_value 10 word in
     let value : n ≡ v = read.1 in
     rw (le-leb 49 (slice_index word 0) first, read.0.0, le-leb 1 v (omega arith), le-leb v 1000 (omega arith)) (ap (λ k. Some k) value)
 
-pub none_read : {E : Type 0} (word : List ℕ) (r : Result ℕ E) (e : E) → ParsesUnsigned 32 10 word r → 49 ≤ slice_index word 0 →
+pub message_count-none : {E : Type 0} (word : List ℕ) (r : Result ℕ E) (e : E) → ParsesUnsigned 32 10 word r → 49 ≤ slice_index word 0 →
     r ≡ Err e → None ≡ message_count_of_word word
-none_read word r e parsed first is =
+message_count-none word r e parsed first is =
     let read = read_as word r (Err e) parsed first is in
     let v : ℕ = digits_value 10 word in
     let begins = le-leb 49 (slice_index word 0) first in
@@ -121,10 +121,10 @@ none_read word r e parsed first is =
       | inr other ↦ rw (begins, other) refl
     ]
 
--- four words or more name no command
-pub many_words : (ws : List (List ℕ)) → 4 ≤ length ws → None ≡ command_of_words ws
-many_words (a ∷ b ∷ c ∷ d ∷ ws) many = refl
-many_words ws many = absurd (omega arith)
+-- a list of four words or more names no command
+pub too_many_words : (ws : List (List ℕ)) → 4 ≤ length ws → None ≡ command_of_words ws
+too_many_words (a ∷ b ∷ c ∷ d ∷ ws) many = refl
+too_many_words ws many = absurd (omega arith)
 
 -- ## Headlines: The decoded word is a codeword that is at least as likely as any other, because no list of bits is more likely than a most
 -- likely one.
@@ -154,8 +154,8 @@ best_word bursts r received = record {
   accepted = received.accepted;
 }
 
-headline_is_weaker : IsWeaker replay_rules replay_rules_with_ml_decoding
-headline_is_weaker = weaker_bursts replay_answers replay_answers_with_ml_decoding (record {
+replay_rules-weaker : IsWeaker replay_rules replay_rules_with_ml_decoding
+replay_rules-weaker = weaker_bursts replay_answers replay_answers_with_ml_decoding (record {
   block = λ bursts y (r, received, text). record { received = r; most_likely = best_word bursts r received; text = text };
   access = λ bsic burst y (r, received, text). record {
     received = r;
@@ -174,49 +174,49 @@ headline_is_weaker = weaker_bursts replay_answers replay_answers_with_ml_decodin
 -- ## Arriving: Each block received in a session is decoded to a codeword that is at least as likely as any other, because a step receives
 -- it as `IsReceivedBlock` says.
 
-receives_best : (a : AirState) (event : Event) (received : Option Received) (read : Option Frame) →
+event-most_likely : (a : AirState) (event : Event) (received : Option Received) (read : Option Frame) →
     EventDelivers a event received read → ReceivesMostLikelyWord a event received
-receives_best a (Deliver sender places) (Some r) read h =
+event-most_likely a (Deliver sender places) (Some r) read h =
     record {
       block = h.block;
       later_blocks = h.later_blocks;
       queue_front = h.queue_front;
       most_likely = best_word (map soft_bits (with_bits_inverted places h.block)) r h.received;
     }
-receives_best a event received read h = tt
+event-most_likely a event received read h = tt
 
-reports_best : (a : AirState) (event : Event) (b : AirState) (answer : Answer) → IsAirStep a event b answer →
+step-most_likely : (a : AirState) (event : Event) (b : AirState) (answer : Answer) → IsAirStep a event b answer →
     ReportsMostLikelyWord a event answer
-reports_best a event b (Refuses why) step = tt
-reports_best a event b (Accepts s) (none, happens) = receives_best a event s.received happens.read happens.delivery
+step-most_likely a event b (Refuses why) step = tt
+step-most_likely a event b (Accepts s) (none, happens) = event-most_likely a event s.received happens.read happens.delivery
 
-answers_best : (s : Session) (meaning : Option Event) (text : List ℕ) (after : Session) → IsStepForLineMeaning s meaning text after →
+line-most_likely : (s : Session) (meaning : Option Event) (text : List ℕ) (after : Session) → IsParsedLineStep s meaning text after →
     IsMaxLikelihoodAnswerToLine s meaning text after
-answers_best s None text after h = h
-answers_best s (Some event) text after h = record { event_step = h; most_likely = reports_best s.air event h.air h.answer h.step }
+line-most_likely s None text after h = h
+line-most_likely s (Some event) text after h = record { event_step = h; most_likely = step-most_likely s.air event h.air h.answer h.step }
 
-arrivals_are_weaker : IsWeaker link_command_rules link_rules_with_ml_decoding
-arrivals_are_weaker = record {
+link_rules-weaker : IsWeaker link_command_rules link_rules_with_ml_decoding
+link_rules-weaker = record {
   fault = λ s line. refl;
   end_fault = λ s. refl;
-  step = λ s after line text (meaning, means, h). (meaning, means, answers_best s meaning text after h);
+  step = λ s after line text (meaning, means, h). (meaning, means, line-most_likely s meaning text after h);
 }
 
-pub best_arrivals : (tsc : ℕ) (channel : Channel) (status : Status) (left left' taken taken' : Option (List ℕ))
+pub link-most_likely : (tsc : ℕ) (channel : Channel) (status : Status) (left left' taken taken' : Option (List ℕ))
     (before after : RadioCounters) → IsLinkRun tsc channel status left left' taken taken' before after →
     IsRun link_rules_with_ml_decoding (new_session tsc channel) (λ last. Unit {0}) status left left' taken taken'
-best_arrivals tsc channel status left left' taken taken' before after h =
-    weaker_run link_command_rules link_rules_with_ml_decoding arrivals_are_weaker (new_session tsc channel) (λ last. Unit {0})
+link-most_likely tsc channel status left left' taken taken' before after h =
+    weaker_run link_command_rules link_rules_with_ml_decoding link_rules-weaker (new_session tsc channel) (λ last. Unit {0})
     (λ last. Unit {0})
     (λ last represents. represents) status left left' taken taken' h.run
 
 -- ---- the command `end`
 
-best_meaning : (s : EndCommandState) (meaning : EndLineMeaning) (text : List ℕ) (after : EndCommandState) →
-    M.IsStepForLineMeaning s meaning text after → B.IsMaxLikelihoodAnswerToLine s meaning text after
-best_meaning s Nothing text after h = h
-best_meaning s (TakesBurst soft) text after (inl few) = inl few
-best_meaning s (TakesBurst soft) text after (inr (four, h)) =
+end_line-best : (s : EndCommandState) (meaning : EndLineMeaning) (text : List ℕ) (after : EndCommandState) →
+    M.IsParsedLineStep s meaning text after → B.IsMaxLikelihoodAnswerToLine s meaning text after
+end_line-best s Nothing text after h = h
+end_line-best s (TakesBurst soft) text after (inl few) = inl few
+end_line-best s (TakesBurst soft) text after (inr (four, h)) =
     inr (
       four,
       record {
@@ -224,28 +224,28 @@ best_meaning s (TakesBurst soft) text after (inr (four, h)) =
         most_likely = best_word (s.held_bursts ++ soft ∷ []) h.receives_bursts.report h.receives_bursts.received;
       },
     )
-best_meaning s (Calls event) text after h = h
+end_line-best s (Calls event) text after h = h
 
-brought_are_weaker : IsWeaker end_command_rules B.end_rules_with_ml_decoding
-brought_are_weaker = record {
+end_rules-weaker : IsWeaker end_command_rules B.end_rules_with_ml_decoding
+end_rules-weaker = record {
   fault = λ s line. refl;
   end_fault = λ s. refl;
-  step = λ s after line text (meaning, means, h). (meaning, means, best_meaning s meaning text after h);
+  step = λ s after line text (meaning, means, h). (meaning, means, end_line-best s meaning text after h);
 }
 
-pub best_brought : (begun : EndCommandState) {start : EndCommandState} → start ≡ begun →
+pub end-most_likely : (begun : EndCommandState) {start : EndCommandState} → start ≡ begun →
     (Represents : EndCommandState → Type 0) (status : Status)
     (left left' taken taken' : Option (List ℕ)) → IsRun end_command_rules start Represents status left left' taken taken' →
     IsRun B.end_rules_with_ml_decoding begun (λ last. Unit {0}) status left left' taken taken'
-best_brought begun same Represents status left left' taken taken' run =
-    rw same at (weaker_run end_command_rules B.end_rules_with_ml_decoding brought_are_weaker _ Represents (λ last. Unit {0})
+end-most_likely begun same Represents status left left' taken taken' run =
+    rw same at (weaker_run end_command_rules B.end_rules_with_ml_decoding end_rules-weaker _ Represents (λ last. Unit {0})
     (λ last represents. tt) status left left' taken taken' run)
 
 -- ## Restoring: `replay` recovers what `code` was given. The proof goes line by line: each line that `code` writes is a line of `replay`,
 -- and a block without damage is decoded correctly.
 
 -- the octets are lines of `replay` with these reports; no burst is held before the first line or after the last
-pub record IsRead (octets reports : List ℕ) : Type 0 where
+pub record ReplayReads (octets reports : List ℕ) : Type 0 where
   pub lines : List (List ℕ)
   pub answers : List (List ℕ)
   pub no_line_feed : All IsLine lines
@@ -253,16 +253,16 @@ pub record IsRead (octets reports : List ℕ) : Type 0 where
   pub runs : Runs replay_rules [] lines answers []
   pub reports_are : reports ≡ concatenated_text answers
 
-nothing_read : IsRead [] []
-nothing_read = record { lines = []; answers = []; no_line_feed = All-nil IsLine; octets_split = refl; runs = refl; reports_are = refl }
+ReplayReads-nil : ReplayReads [] []
+ReplayReads-nil = record { lines = []; answers = []; no_line_feed = All-nil IsLine; octets_split = refl; runs = refl; reports_are = refl }
 
 text-append : (ls ls' : List (List ℕ)) → text_of_lines (ls ++ ls') ≡ text_of_lines ls ++ text_of_lines ls'
 text-append [] ls' = refl
 text-append (l ∷ ls) ls' = ap (λ w. l ++ 10 ∷ w) (text-append ls ls')
     ∙ sym (append_assoc l (10 ∷ text_of_lines ls) (text_of_lines ls'))
 
-both_read : (x x' y y' : List ℕ) → IsRead x y → IsRead x' y' → IsRead (x ++ x') (y ++ y')
-both_read x x' y y' r r' = record {
+ReplayReads-append : (x x' y y' : List ℕ) → ReplayReads x y → ReplayReads x' y' → ReplayReads (x ++ x') (y ++ y')
+ReplayReads-append x x' y y' r r' = record {
   lines = r.lines ++ r'.lines;
   answers = r.answers ++ r'.answers;
   no_line_feed = All-append IsLine r.lines r'.lines r.no_line_feed r'.no_line_feed;
@@ -272,34 +272,34 @@ both_read x x' y y' r r' = record {
 }
 
 -- a run over one line, followed by a run over other lines, is a run over all of them
-run_first : (held mid after : List (List ℤ)) (line answer : List ℕ) (lines others : List (List ℕ)) (m : BurstLine) →
+replay-first : (held mid after : List (List ℤ)) (line answer : List ℕ) (lines others : List (List ℕ)) (m : BurstLine) →
     BurstLineMeans (length held) line m → AnswersBurstLine replay_answers held m answer mid →
     Runs replay_rules mid lines others after →
     Runs replay_rules held (line ∷ lines) (answer ∷ others) after
-run_first held mid after line answer lines others m means answers runs =
+replay-first held mid after line answer lines others m means answers runs =
     let at = length held in
     let fault = no_fault_if_meant (BurstLineMeans at line) (burst_fault at line) (one_burst_meaning at line) m means in
     (mid, record { in_limit = short at line m means; no_fault = fault }, (m, means, answers), runs)
 
-last_line : (held : List (List ℤ)) (line answer : List ℕ) (m : BurstLine) → BurstLineMeans (length held) line m →
+replay-last : (held : List (List ℤ)) (line answer : List ℕ) (m : BurstLine) → BurstLineMeans (length held) line m →
     AnswersBurstLine replay_answers held m answer [] → Runs replay_rules held (line ∷ []) (answer ∷ []) []
-last_line held line answer m means answers = run_first held [] [] line answer [] [] m means answers refl
+replay-last held line answer m means answers = replay-first held [] [] line answer [] [] m means answers refl
 
-length-softened : (bits : List ℕ) (n : ℕ) → length bits ≡ n → length (soft_bits bits) ≡ n
-length-softened bits n e = length-map bits soft_bit_of ∙ e
+length-soft_bits : (bits : List ℕ) (n : ℕ) → length bits ≡ n → length (soft_bits bits) ≡ n
+length-soft_bits bits n e = length-map bits soft_bit_of ∙ e
 
 -- ---- access and synchronisation bursts
 
 -- `replay` can read the answer of `code` to a line, and its report gives back what the line means
-pub record IsBroughtBack (meaning : CodeLine) (answer : List ℕ) : Type 0 where
+pub record ReplayRestores (meaning : CodeLine) (answer : List ℕ) : Type 0 where
   pub report : List ℕ
   pub restored : IsReportOfCodeLine meaning report
-  pub read : IsRead answer report
+  pub read : ReplayReads answer report
 
--- an answer of one line is brought back if the report on the line is right
-line_back : {m : CodeLine} (line report : List ℕ) (b : BurstLine) → IsReportOfCodeLine m report → IsLine line →
-    BurstLineMeans 0 line b → AnswersBurstLine replay_answers [] b report [] → IsBroughtBack m (text_of_lines (line ∷ []))
-line_back line report b restored whole means answers = record {
+-- `replay` can read an answer of one line and gives back what it means if the report on this line is right
+restores-line : {m : CodeLine} (line report : List ℕ) (b : BurstLine) → IsReportOfCodeLine m report → IsLine line →
+    BurstLineMeans 0 line b → AnswersBurstLine replay_answers [] b report [] → ReplayRestores m (text_of_lines (line ∷ []))
+restores-line line report b restored whole means answers = record {
   report = report;
   restored = restored;
   read = record {
@@ -307,26 +307,26 @@ line_back line report b restored whole means answers = record {
     answers = report ∷ [];
     no_line_feed = All-cons IsLine line [] whole (All-nil IsLine);
     octets_split = refl;
-    runs = last_line [] line report b means answers;
+    runs = replay-last [] line report b means answers;
     reports_are = sym (append-nil report);
   };
 }
 
-access_back : (info bsic burst : List ℕ) → length bsic ≡ 6 → AllBits bsic → IsSentAccess info bsic burst →
-    IsBroughtBack (C.Rach info bsic) (access_burst_text bsic burst)
-access_back info bsic burst count bits sent =
+restores-access : (info bsic burst : List ℕ) → length bsic ≡ 6 → AllBits bsic → IsSentAccess info bsic burst →
+    ReplayRestores (C.Rach info bsic) (access_burst_text bsic burst)
+restores-access info bsic burst count bits sent =
     let b = sent_access_bits info bsic burst sent in
-    let received = some_received_access (soft_bits burst) bsic (length-softened burst 88 b.right_length) count bits in
-    line_back (access_line bsic burst) (access_report_text bsic received.0) (Access bsic (soft_bits burst))
+    let received = some_received_access (soft_bits burst) bsic (length-soft_bits burst 88 b.right_length) count bits in
+    restores-line (access_line bsic burst) (access_report_text bsic received.0) (Access bsic (soft_bits burst))
     (received.0, clean_access info bsic burst received.0 sent received.1, refl)
     (access_whole bsic burst count bits b.right_length b.each).no_line_feed (access_restored bsic burst count bits b.right_length b.each)
     (refl, (received.0, received.1, refl))
 
-sync_back : (info burst : List ℕ) → IsSentSync info burst → IsBroughtBack (C.Sch info) (sync_burst_text burst)
-sync_back info burst sent =
+restores-sync : (info burst : List ℕ) → IsSentSync info burst → ReplayRestores (C.Sch info) (sync_burst_text burst)
+restores-sync info burst sent =
     let b = sent_sync_bits info burst sent in
-    let received = some_received_sync (soft_bits burst) (length-softened burst 148 b.right_length) in
-    line_back (sync_line burst) (sync_report_text received.0) (Sync (soft_bits burst))
+    let received = some_received_sync (soft_bits burst) (length-soft_bits burst 148 b.right_length) in
+    restores-line (sync_line burst) (sync_report_text received.0) (Sync (soft_bits burst))
     (received.0, clean_sync info burst received.0 sent received.1, refl) (sync_whole burst b.right_length b.each).no_line_feed
     (sync_restored burst b.right_length b.each) (refl, (received.0, received.1, refl))
 
@@ -338,42 +338,42 @@ bursts_text-lines (burst ∷ bursts) =
     ap (λ w. normal_burst_text burst ++ w) (bursts_text-lines bursts)
     ∙ append_assoc (normal_line burst) (10 ∷ []) (text_of_lines (map normal_line bursts))
 
-plain_lines : (bursts : List (List ℕ)) → All (AreBits 148) bursts → All IsLine (map normal_line bursts)
-plain_lines bursts each =
+normal_line-IsLine : (bursts : List (List ℕ)) → All (AreBits 148) bursts → All IsLine (map normal_line bursts)
+normal_line-IsLine bursts each =
     All-map IsLine normal_line bursts (All-weaker (AreBits 148) (λ burst. IsLine (normal_line burst))
     (λ burst b. (normal_whole burst b.right_length b.each).no_line_feed) bursts each)
 
-softened_counts : (bursts : List (List ℕ)) → All (AreBits 148) bursts → All (λ soft. length soft ≡ 148) (map soft_bits bursts)
-softened_counts bursts each =
+length-all_soft_bits : (bursts : List (List ℕ)) → All (AreBits 148) bursts → All (λ soft. length soft ≡ 148) (map soft_bits bursts)
+length-all_soft_bits bursts each =
     All-map (λ soft. length soft ≡ 148) soft_bits bursts (All-weaker (AreBits 148) (λ burst. length (soft_bits burst) ≡ 148)
-    (λ burst b. length-softened burst 148 b.right_length) bursts each)
+    (λ burst b. length-soft_bits burst 148 b.right_length) bursts each)
 
 -- a burst that does not complete a block is held
 hold_burst : (held : List (List ℤ)) (burst : List ℕ) (lines answers : List (List ℕ)) → AreBits 148 burst →
     length (held ++ soft_bits burst ∷ []) < 4 → Runs replay_rules (held ++ soft_bits burst ∷ []) lines answers [] →
     Runs replay_rules held (normal_line burst ∷ lines) ([] ∷ answers) []
 hold_burst held burst lines answers b few runs =
-    run_first held (held ++ soft_bits burst ∷ []) [] (normal_line burst) [] lines answers (Normal (soft_bits burst))
+    replay-first held (held ++ soft_bits burst ∷ []) [] (normal_line burst) [] lines answers (Normal (soft_bits burst))
     (normal_restored (length held) burst b.right_length b.each) (inl (few, refl, refl)) runs
 
--- the run of `replay` over four bursts, one after another
-block_runs : (bursts : List (List ℕ)) (report : List ℕ) (r : Received) → length bursts ≡ 4 → All (AreBits 148) bursts →
+-- `replay` answers the first three bursts of a block with no text, and the fourth with the report of the block
+replay-block : (bursts : List (List ℕ)) (report : List ℕ) (r : Received) → length bursts ≡ 4 → All (AreBits 148) bursts →
     IsReceivedBlock (map soft_bits bursts) r → IsBlockReportText r report →
     Runs replay_rules [] (map normal_line bursts) ([] ∷ [] ∷ [] ∷ report ∷ []) []
-block_runs (a ∷ b ∷ c ∷ d ∷ []) report r count each received text =
+replay-block (a ∷ b ∷ c ∷ d ∷ []) report r count each received text =
     let last = each 3 [] (lit< tt) in
     hold_burst [] a (normal_line b ∷ normal_line c ∷ normal_line d ∷ []) ([] ∷ [] ∷ report ∷ []) (each 0 [] (lit< tt)) (lit< tt)
     (hold_burst (soft_bits a ∷ []) b (normal_line c ∷ normal_line d ∷ []) ([] ∷ report ∷ []) (each 1 [] (lit< tt)) (lit< tt)
     (hold_burst (soft_bits a ∷ soft_bits b ∷ []) c (normal_line d ∷ []) (report ∷ []) (each 2 [] (lit< tt)) (lit< tt)
-    (last_line (soft_bits a ∷ soft_bits b ∷ soft_bits c ∷ []) (normal_line d) report (Normal (soft_bits d))
+    (replay-last (soft_bits a ∷ soft_bits b ∷ soft_bits c ∷ []) (normal_line d) report (Normal (soft_bits d))
     (normal_restored 3 d last.right_length last.each) (inr (refl, refl, (r, received, text))))))
-block_runs bursts report r count each received text = absurd (omega arith)
+replay-block bursts report r count each received text = absurd (omega arith)
 
-block_back : (octets : List ℕ) (tsc : ℕ) (bursts : List (List ℕ)) → IsSentBlock octets tsc bursts →
-    IsBroughtBack (C.Block tsc octets) (bursts_text bursts)
-block_back octets tsc bursts sent =
+restores-block : (octets : List ℕ) (tsc : ℕ) (bursts : List (List ℕ)) → IsSentBlock octets tsc bursts →
+    ReplayRestores (C.Block tsc octets) (bursts_text bursts)
+restores-block octets tsc bursts sent =
     let command = sent_block_bits octets tsc bursts sent in
-    let counts = softened_counts bursts command.1 in
+    let counts = length-all_soft_bits bursts command.1 in
     let received = some_received_block (map soft_bits bursts) (length-map bursts soft_bits ∙ command.0) counts in
     let text = some_block_report received.0 (accepted_count (map soft_bits bursts) received.0 received.1) in
     record {
@@ -382,44 +382,44 @@ block_back octets tsc bursts sent =
       read = record {
         lines = map normal_line bursts;
         answers = [] ∷ [] ∷ [] ∷ text.0 ∷ [];
-        no_line_feed = plain_lines bursts command.1;
+        no_line_feed = normal_line-IsLine bursts command.1;
         octets_split = bursts_text-lines bursts;
-        runs = block_runs bursts text.0 received.0 command.0 command.1 received.1 text.1;
+        runs = replay-block bursts text.0 received.0 command.0 command.1 received.1 text.1;
         reports_are = sym (append-nil text.0);
       };
     }
 
 -- ---- lines and whole inputs
 
-line_is_restored : (line : List ℕ) (m : CodeLine) (answer : List ℕ) → CodeLineMeans line m → IsCodeCommandAnswer m answer →
-    IsBroughtBack m answer
-line_is_restored line C.Skip answer means a = record { report = []; restored = refl; read = rw a nothing_read }
-line_is_restored line (C.Block tsc octets) answer means (bursts, sent, text) =
-    rw text (block_back octets tsc bursts sent)
-line_is_restored line (C.Rach info bsic) answer means (burst, sent, text) =
+restores-code_line : (line : List ℕ) (m : CodeLine) (answer : List ℕ) → CodeLineMeans line m → IsCodeCommandAnswer m answer →
+    ReplayRestores m answer
+restores-code_line line C.Skip answer means a = record { report = []; restored = refl; read = rw a ReplayReads-nil }
+restores-code_line line (C.Block tsc octets) answer means (bursts, sent, text) =
+    rw text (restores-block octets tsc bursts sent)
+restores-code_line line (C.Rach info bsic) answer means (burst, sent, text) =
     let code = (can_be_sent line (C.Rach info bsic) means).1 in
-    rw text (access_back info bsic burst code.0 code.1 sent)
-line_is_restored line (C.Sch info) answer means (burst, sent, text) =
-    rw text (sync_back info burst sent)
+    rw text (restores-access info bsic burst code.0 code.1 sent)
+restores-code_line line (C.Sch info) answer means (burst, sent, text) =
+    rw text (restores-sync info burst sent)
 
 -- `replay` can read the answers of `code` to these lines, and its reports give back what the lines mean
-pub record AreBroughtBack (lines answers : List (List ℕ)) : Type 0 where
+pub record ReplayRestoresAll (lines answers : List (List ℕ)) : Type 0 where
   pub reports : List ℕ
   pub restored : AreReportsOfCodeLines lines reports
-  pub read : IsRead (concatenated_text answers) reports
+  pub read : ReplayReads (concatenated_text answers) reports
 
-all_brought_back : (lines answers : List (List ℕ)) (state : Unit {0}) → Runs code_command_rules tt lines answers state →
-    AreBroughtBack lines answers
-all_brought_back [] [] state same = record { reports = []; restored = refl; read = nothing_read }
-all_brought_back (line ∷ lines) (y ∷ ys) state (mid, good, (m, means, a), runs) =
-    let one = line_is_restored line m y means a in
-    let others = all_brought_back lines ys state runs in
+restores-all_lines : (lines answers : List (List ℕ)) (state : Unit {0}) → Runs code_command_rules tt lines answers state →
+    ReplayRestoresAll lines answers
+restores-all_lines [] [] state same = record { reports = []; restored = refl; read = ReplayReads-nil }
+restores-all_lines (line ∷ lines) (y ∷ ys) state (mid, good, (m, means, a), runs) =
+    let one = restores-code_line line m y means a in
+    let others = restores-all_lines lines ys state runs in
     record {
       reports = one.report ++ others.reports;
       restored = (m, one.report, others.reports, means, one.restored, others.restored, refl);
-      read = both_read y (concatenated_text ys) one.report others.reports one.read others.read;
+      read = ReplayReads-append y (concatenated_text ys) one.report others.reports one.read others.read;
     }
-all_brought_back lines answers state none = absurd none
+restores-all_lines lines answers state none = absurd none
 
 -- ## Tops: The clauses of `run` for the command that the words name follow from the clauses of that command.
 
@@ -433,7 +433,7 @@ one_output (Link tsc channel) fits = link_has_one_output tsc channel fits
 one_output (Make n tsc) fits = one_generated_summary n tsc fits.2
 one_output (End side tsc) fits = end_has_one_output (spec_role_of side) tsc fits
 
--- below, a run by the rules r from the first state, where r are the rules of the command that the words name
+-- in this module, r are the rules of the command that the words name, and `begun` is the first state of a run by them
 module _ {State : Type 0} (r : Rules State) (begun : State) (s : Invocation) (is : (P : Machine → Type 0) → P (machine r begun) →
     HoldsForMachine s P)
     (found : Option Invocation) (field : Invocation) (named : Some field ≡ found) (field_is : field ≡ s)
@@ -460,12 +460,13 @@ module _ {State : Type 0} (r : Rules State) (begun : State) (s : Invocation) (is
 
 -- if a run of `replay` ends as its rules prescribe, it gives back what `code` was given: what `code` writes for an input without refused
 -- lines is an input of `replay` without refused lines, and its reports give back what the lines mean
-due_restores : (status : Status) (left taken taken' : Option (List ℕ)) → EndsAsPrescribed replay_rules [] status left taken taken' →
+prescribed-recovers_code : (status : Status) (left taken taken' : Option (List ℕ)) → EndsAsPrescribed replay_rules [] status left taken
+    taken' →
     ReplayRecoversCode status left taken taken'
-due_restores status None taken taken' due = tt
-due_restores status (Some x) taken taken' due = λ z out limit.
+prescribed-recovers_code status None taken taken' due = tt
+prescribed-recovers_code status (Some x) taken taken' due = λ z out limit.
     let good = good_from_output code_command_rules tt z x out in
-    let back = all_brought_back good.lines good.answers good.state good.runs in
+    let back = restores-all_lines good.lines good.answers good.state good.runs in
     let whole = output_from_good replay_rules [] x back.reports (record {
       lines = back.read.lines;
       answers = back.read.answers;
@@ -478,15 +479,15 @@ due_restores status (Some x) taken taken' due = λ z out limit.
     }) in
     (good.lines, back.reports, good.all, back.restored, due Done back.reports whole)
 
-pub restores : (start : List (List ℤ)) → start ≡ [] → (status : Status) (left taken taken' : Option (List ℕ)) →
+pub recovers_code : (start : List (List ℤ)) → start ≡ [] → (status : Status) (left taken taken' : Option (List ℕ)) →
     (IsDeterministic replay_rules → EndsAsPrescribed replay_rules start status left taken taken') →
     ReplayRecoversCode status left taken taken'
-restores start none status left taken taken' due =
-    due_restores status left taken taken' (rw none at (due replay_is_determined))
+recovers_code start none status left taken taken' due =
+    prescribed-recovers_code status left taken taken' (rw none at (due replay_is_determined))
 
 pub replay_headline : (start : List (List ℤ)) → start ≡ [] → (Represents : List (List ℤ) → Type 0) (status : Status)
     (left left' taken taken' : Option (List ℕ)) → IsRun replay_rules start Represents status left left' taken taken' →
     IsRun replay_rules_with_ml_decoding [] (λ _. Unit {0}) status left left' taken taken'
 replay_headline start none Represents status left left' taken taken' run =
-    rw none at (weaker_run replay_rules replay_rules_with_ml_decoding headline_is_weaker start Represents (λ _. Unit {0})
+    rw none at (weaker_run replay_rules replay_rules_with_ml_decoding replay_rules-weaker start Represents (λ _. Unit {0})
     (λ b represents. tt) status left left' taken taken' run)

@@ -9,7 +9,7 @@ use Rattle.um_end.specs.um_block.declared.received.Received.{Received}
 use Rattle.um_end.specs.um_link.um_air.Air.{Block, AirState, Event, Answer, Refuses, Accepts, with_bits_inverted}
 use Rattle.um_make.specs.um_script.ScriptLines.{ScriptLineMeans}
 use Rattle.um_driver.specs.Rules.{Rules}
-use Rattle.um_session.specs.Sessions.{Session, IsEventStep, IsStepForLineMeaning, link_command_rules}
+use Rattle.um_session.specs.Sessions.{Session, IsEventStep, IsParsedLineStep, link_command_rules}
 use Rattle.um_cli.specs.Headline.{IsMostLikelyWord}
 
 -- `report` is the report on the oldest block of `sender`, received with the bits at `places` inverted and decoded to a most likely word
@@ -34,7 +34,7 @@ pub record IsStepWithMostLikelyWord (session : Session) (event : Event) (output 
   pub most_likely : ReportsMostLikelyWord session.air event event_step.answer
 
 abbrev pub IsMaxLikelihoodAnswerToLine : (session : Session) (meaning : Option Event) (output : List ℕ) (after : Session) → Type 0
-IsMaxLikelihoodAnswerToLine s None text after = IsStepForLineMeaning s None text after
+IsMaxLikelihoodAnswerToLine s None text after = IsParsedLineStep s None text after
 IsMaxLikelihoodAnswerToLine s (Some event) text after = IsStepWithMostLikelyWord s event text after
 
 -- the rules of `link`, with the further claim that each received block is decoded to a most likely word

@@ -5,9 +5,9 @@ pub mod Restored
 pub mod Machines
 pub mod Shapes
 pub mod WordLists
--- the crates whose definitions this crate uses
+-- definitions of other crates that the definitions of this crate use
 pub use Rattle.um_driver.specs.Table
 pub use Rattle.um_driver.specs.Outputs
 pub use Rattle.um_driver.specs.Rules
 pub mod Arrivals
-pub mod Brought
+pub mod EndAnswers

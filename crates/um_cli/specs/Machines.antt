@@ -22,7 +22,7 @@ use Rattle.um_end.specs.EndRuns.{end_command_rules}
 abbrev pub machine : {State : Type 0} → Rules State → State → Machine
 machine {State} rules start = record { State = State; rules = rules; start = start }
 
--- the predicate holds for the state machine of the command; `make` reads no lines, so nothing is claimed about it
+-- `Property` holds for the state machine of the command; `make` reads no lines, so nothing is claimed about it
 abbrev pub HoldsForMachine : (invocation : Invocation) (Property : (Machine → Type 0)) → Type 0
 HoldsForMachine Code P = P (machine code_command_rules tt)
 HoldsForMachine Replay P = P (machine replay_rules [])

@@ -25,7 +25,8 @@ IsTextWritten text Done taken taken' = Appends taken taken' text
 IsTextWritten text WriteFault taken taken' = SinkTakesPrefix taken taken' text
 IsTextWritten text status taken taken' = ⊥
 
--- the summary was written, or a prefix of it before the sink failed; or an allocation failed and nothing was done
+-- the summary was written, or a prefix of it before the sink failed; or an allocation failed, nothing was written, and the radio's counters
+-- are unchanged
 abbrev pub IsMakeRun : (message_count tsc : ℕ) (status : Status) (written_before written_after : Option (List ℕ))
     (before after : RadioCounters) → Type 0
 IsMakeRun n tsc NoMemory taken taken' before after = Keeps taken taken' × (after ≡ before)

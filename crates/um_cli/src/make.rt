@@ -9,9 +9,9 @@ use um_driver::{Sink, Status, Text, put_all};
 use um_make::{Summary, make, summary_lines};
 use um_session::Radio;
 
-/// Carries out the generated session of `n` messages with training sequence code `tsc`, and writes its summary.
+/// Carries out the generated session of `message_count` messages with training sequence code `tsc`, and writes its summary.
 ///
-/// `n` must be 1 to 1000, and `tsc` 0 to 7. All memory is allocated before the first block is sent.
+/// `message_count` must be 1 to 1000, and `tsc` 0 to 7. All memory is allocated before the first block is sent.
 pub(crate) fn run_make<K: Sink, R: Radio>(
     alloc: Global,
     message_count: u32,

@@ -2,7 +2,7 @@
 ghost use Rattle.std.specs.Prelude.{◌≡◌, ◌↔◌, ℕ, Some, None, []};
 ghost use Rattle.um_driver.specs.Table.{IsRun, FailureCountsMatch};
 ghost use Rattle.um_cli.specs.Arrivals.{link_rules_with_ml_decoding};
-ghost use Rattle.um_cli.specs.Brought.{end_rules_with_ml_decoding};
+ghost use Rattle.um_cli.specs.EndAnswers.{end_rules_with_ml_decoding};
 ghost use Rattle.um_cli.specs.Headline.{replay_rules_with_ml_decoding};
 ghost use Rattle.um_cli.specs.Make.{IsMakeRun};
 ghost use Rattle.um_cli.specs.Machines.{IsRunOfCommand, CommandEndsAsPrescribed, HasOneOutputPerInput};
@@ -76,7 +76,7 @@ pub fn run<S: Source, K: Sink, R: Radio>(
     ensures restores { command_of_words words.now ≡ Some Invocation.Replay → ReplayRecoversCode result
         (S.left input.old) (K.taken output.old) (K.taken output.new) }
 
-    // The source has counted a failure if the status is `ReadFault`, and the sink has if it is `WriteFault`. Otherwise both counts are
+    // If the status is `ReadFault`, the source has counted a failure; if it is `WriteFault`, the sink has. Otherwise, both counts are
     // unchanged.
     ensures cause { FailureCountsMatch result (S.faults input.old) (S.faults input.new)
         (K.faults output.old) (K.faults output.new) }

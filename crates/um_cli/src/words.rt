@@ -10,7 +10,7 @@ ghost use Rattle.um_cli.specs.Shapes.{HasValidOperands};
 /// The command given on the command line, with its operands.
 #[derive(Clone, Copy, Debug, PartialEq, Eq)]
 pub enum Invocation {
-    /// Encodes blocks as bursts.
+    /// Encodes blocks, access bursts and synchronisation bursts.
     Code,
     /// Decodes bursts.
     Replay,
@@ -24,7 +24,7 @@ pub enum Invocation {
     Link(u8, Channel),
     /// Runs a generated session with the given number of messages and the given training sequence code.
     Make(u32, u8),
-    /// Runs one side over recorded bursts, with the given training sequence code for the blocks that it sends.
+    /// Runs one side on recorded bursts, with the given training sequence code for the blocks that it sends.
     End(End, u8),
 }
 

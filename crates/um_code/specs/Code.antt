@@ -7,7 +7,7 @@ use Rattle.um_formats.specs.CodeLines.{code_fault, CodeLineMeans}
 use Rattle.um_formats.specs.BurstTexts.{bursts_text, access_burst_text, sync_burst_text}
 use Rattle.um_driver.specs.Rules.{Rules, stateless}
 
--- the answer to a line with this meaning: the text lines of the bursts that carry its information
+-- the answer to a line with this meaning consists of the text lines of the bursts that carry its information
 abbrev pub IsCodeCommandAnswer : (line : CodeLine) (answer : List ℕ) → Type 0
 IsCodeCommandAnswer Skip answer = answer ≡ []
 IsCodeCommandAnswer (Block tsc octets) answer =

@@ -1,3 +1,4 @@
 pub use Rattle.um_lines.proofs as um_lines
-pub mod Outputs
+-- other crates cite the lemmas of `Outputs` by this name
+pub use Runs.Outputs
 pub mod Runs

@@ -7,4 +7,4 @@ pub mod Outputs
 pub mod Rules
 pub mod Statuses
 pub mod Table
-pub mod Taking
+pub mod Writing

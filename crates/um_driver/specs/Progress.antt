@@ -5,25 +5,25 @@ use Rattle.um_io.specs.Lines.{IsLine, EndsWithoutLineFeed, text_of_lines}
 use Rattle.um_io.specs.Reading.{ReaderState, IsValidReader, input_limit, buffer_limit}
 use Rattle.um_io.specs.Streams.{FailureCountRose}
 use Rattle.um_driver.specs.Rules.{Rules, Runs, concatenated_text}
-use Rattle.um_driver.specs.Table.{ReadsAtMostABuffer, InputEnds, SinkTakesPrefix}
+use Rattle.um_driver.specs.Table.{ReadsAtMostABuffer, InputHasStatus, SinkTakesPrefix}
 use Rattle.um_driver.specs.declared.status.Status.{Status}
 use Rattle.um_driver.specs.declared.status.Status.TheVariants.{BadWords, ReadFault, WriteFault, NoMemory}
 
--- the source has ended, if its octets were known at the start
+-- if the octets of the source were known at the start, the source is now at its end
 abbrev pub SourceHasEnded : (unread_before unread_after : Option (List ℕ)) → Type 0
 SourceHasEnded None left' = Unit {0}
 SourceHasEnded (Some x) left' = IsAtEnd left'
 
--- the octets `q` that were read are `lines`, each with a line feed, and then the octets `held` in the buffer; or the last line has no line
--- feed, and the buffer is empty
+-- the octets read are `lines`, each with its line feed, followed by the octets `held` in the buffer; or the source has ended, the last line
+-- has no line feed, and the buffer is empty. The lines account for `answered_octet_count` octets
 abbrev pub AccountsForOctets : (input_read : List ℕ) (lines : List (List ℕ)) (held : List ℕ) (answered_octet_count : ℕ)
     (ended : Bool) → Type 0
 AccountsForOctets q lines held answered ended =
     ((q ≡ text_of_lines lines ++ held) × (answered ≡ length (text_of_lines lines)))
     ⊎ (EndsWithoutLineFeed q lines × (held ≡ []) × (ended ≡ true) × (answered ≡ length q))
 
--- the octets `input` were read: `lines`, with `answered_octet_count` octets in all, were returned so far, and the reader still buffers the
--- octets `held`
+-- the reader has read the octets `input` and returned `lines`, which account for `answered_octet_count` of these octets; it still buffers
+-- the octets `held`
 pub record AreLinesRead (input : List ℕ) (lines : List (List ℕ)) (held : List ℕ) (answered_octet_count : ℕ) (ended : Bool)
     (unread_before unread_after : Option (List ℕ)) : Type 0 where
   pub read : Consumes unread_before unread_after input
@@ -48,7 +48,7 @@ pub record IsPointOfRun {State : Type 0} (rules : Rules State) (start : State) (
   pub runs : Runs rules start lines answers state
   pub reads_little_ahead : ReadsAtMostABuffer input_read output lines answers
 
--- the run continues: all answers have been written, except for the octets in the output buffer
+-- the run continues: all answers so far have been written, except for the octets `gathered`, which are in the output buffer
 pub record IsRunUnderway {State : Type 0} (rules : Rules State) (start : State) (Represents : State → Type 0) (reading : ReaderState)
     (unread_before unread_after written_before written_after : Option (List ℕ)) (gathered : List ℕ) : Type 0 where
   pub point : IsPointOfRun rules start (reading.held ++ reading.excess) reading.octet_count reading.line_count reading.ended unread_before
@@ -58,7 +58,7 @@ pub record IsRunUnderway {State : Type 0} (rules : Rules State) (start : State) 
   pub valid : IsValidReader reading
   pub not_stopped : reading.is_over ≡ false
 
--- the run ends with the given status as soon as the output buffer and the given text are written
+-- the run ends with this status once the octets `gathered` in the output buffer, and then `text`, have been written
 pub record IsRunEnding {State : Type 0} (rules : Rules State) (start : State) (Represents : State → Type 0) (status : Status)
     (unread_before unread_after written_before written_after : Option (List ℕ)) (gathered text : List ℕ) : Type 0 where
   pub held : List ℕ
@@ -68,8 +68,8 @@ pub record IsRunEnding {State : Type 0} (rules : Rules State) (start : State) (R
   pub point : IsPointOfRun rules start held octet_count line_count ended unread_before unread_after written_before written_after
   pub represents : Represents point.state
   pub output : concatenated_text point.answers ≡ point.output ++ gathered
-  pub input_ends : (rest : List ℕ) → (SourceHasEnded unread_before unread_after → rest ≡ []) →
-      InputEnds rules status point.input_read rest point.lines point.state text
+  pub input_has_status : (rest : List ℕ) → (SourceHasEnded unread_before unread_after → rest ≡ []) →
+      InputHasStatus rules status point.input_read rest point.lines point.state text
 
 -- the result of processing one line, before its output is written: the run continues (`None`), or ends with a status
 abbrev pub IsLineOutcome : {State : Type 0} (rules : Rules State) (state : State) (Represents : (State → Type 0))
@@ -93,7 +93,7 @@ IsLastWriteResult status text taken taken' result =
 
 -- the failure count of the source rises if the status is `ReadFault`, and otherwise is unchanged; processing a line never ends with
 -- `WriteFault`, `NoMemory` or `BadWords`
-abbrev pub ReadFailureIsCounted : (status : Option Status) (before now : ℕ) → Type 0
+abbrev pub ReadFailureIsCounted : (status : Option Status) (failures_before failures_after : ℕ) → Type 0
 ReadFailureIsCounted (Some ReadFault) before now = FailureCountRose before now × (before ≤ now)
 ReadFailureIsCounted (Some WriteFault) before now = ⊥
 ReadFailureIsCounted (Some NoMemory) before now = ⊥

@@ -6,8 +6,8 @@ use Rattle.um_io.specs.Reading.{line_limit}
 use Rattle.um_lines.specs.declared.fault.LineFault.{LineFault}
 use Rattle.um_lines.specs.declared.fault.LineFault.TheVariants.{Long}
 
--- the rules of a command: `fault` is the first reason to refuse a line in a state, if any; `end_fault` is the reason to refuse the end of
--- the input in a state, if any; `Step` relates a state and a line to an answer and the next state
+-- the rules of a command: `fault` is the first reason to refuse a line in a state, if any; `end_fault` is the reason why the input must not
+-- end in a state, if any; `Step` relates a state and a line to an answer and the next state
 pub record Rules (State : Type 0) : Type 1 where
   pub fault : State → List ℕ → Option LineFault
   pub end_fault : State → Option LineFault
@@ -37,7 +37,7 @@ abbrev pub IsLineRefused : {State : Type 0} (rules : Rules State) (state : State
 IsLineRefused r a line fault =
     ((line_limit < length line) × (fault ≡ Long)) ⊎ ((length line ≤ line_limit) × (r.fault a line ≡ Some fault))
 
--- from the first state, the command accepts `lines` in order, gives these `answers`, and ends in the last state
+-- a command in `state` accepts `lines` in order, gives them these `answers`, and is then in the state `after`
 abbrev pub Runs : {State : Type 0} (rules : Rules State) (state : State) (lines answers : List (List ℕ)) (after : State) → Type 0
 Runs r a [] [] b = b ≡ a
 Runs {State} r a (line ∷ lines) (answer ∷ answers) b =
@@ -50,8 +50,8 @@ abbrev pub concatenated_text : (texts : List (List ℕ)) → List ℕ
 concatenated_text [] = []
 concatenated_text (text ∷ texts) = text ++ concatenated_text texts
 
--- how a command answers a line in a state: it writes the answer and goes to the next state, or returns the fault, writes nothing and stays
--- in the state
+-- a command answers a line as its rules prescribe: it writes the answer `text` and goes to the next state, or returns the fault, writes
+-- nothing and stays in `state`
 abbrev pub IsLineAnswerOrFault : {State : Type 0} (rules : Rules State) (state : State) (line : List ℕ) (result : Result Unit LineFault)
     (text : List ℕ) (Represents : (State → Type 0)) → Type 0
 IsLineAnswerOrFault {State} r a line result text Represents = MatchResult result
@@ -63,7 +63,7 @@ abbrev pub IsDeterministic : {State : Type 0} → Rules State → Type 0
 IsDeterministic {State} r =
     (a : State) (line y y' : List ℕ) (b b' : State) → r.Step a line y b → r.Step a line y' b' → (y ≡ y') × (b ≡ b')
 
--- in every state that the command can reach, each line that is not refused has an answer
+-- in every state that the command can reach from `state`, each line that is not refused has an answer
 abbrev pub IsTotal : {State : Type 0} (rules : Rules State) (state : State) → Type 0
 IsTotal {State} r a =
     (lines answers : List (List ℕ)) (b : State) → Runs r a lines answers b →

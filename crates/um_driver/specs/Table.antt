@@ -1,4 +1,4 @@
--- The octets that a run has read and written, for each exit status (this project's own rule).
+-- What a run that ends has read and written, for each exit status (this project's own rule).
 use Rattle.std.specs.Prelude.{ℕ, ◌≡◌, ◌≤◌, ◌<◌, ◌+◌, List, [], ◌∷◌, ◌++◌, length, Option, Some, None}
 use Rattle.std.specs.Prelude.{IfSome, ◌⊎◌}
 use Rattle.std.specs.Io.KnownBytes.{Appends, Keeps}
@@ -13,7 +13,7 @@ use Rattle.um_driver.specs.Outputs.{ExceedsInputLimit, IsOutput}
 use Rattle.um_driver.specs.declared.status.Status.{Status}
 use Rattle.um_driver.specs.declared.status.Status.TheVariants.{Done, BadWords, BadInput, ReadFault, WriteFault, NoMemory, TooLong}
 
--- ---- input: the octets `q` were read, and `rest` remains in the source
+-- ---- input: `q` stands for the octets that were read, `rest` for those that remain in the source
 
 -- the whole input was read; it is within the input limit, and consists of `lines`
 pub record IsWholeInputRead (input rest : List ℕ) (lines : List (List ℕ)) : Type 0 where
@@ -21,19 +21,20 @@ pub record IsWholeInputRead (input rest : List ℕ) (lines : List (List ℕ)) : 
   pub divided : IsDivided input lines
   pub limit : length input ≤ input_limit
 
--- these are the first lines of the input, with their line feeds within the input limit, or they are all lines of the input
+-- `lines` are the first lines of the input, within the input limit together with their line feeds, or they are all lines of the input
 abbrev pub AreFirstLines : (input_read unread : List ℕ) (lines : List (List ℕ)) → Type 0
 AreFirstLines q rest lines = ((more : List ℕ) × BeginsWithLines q lines more ×
     (length (text_of_lines lines) ≤ input_limit)) ⊎ IsWholeInputRead q rest lines
 
--- `octets` consists of `lines`, each with its line feed, and the beginning of another `line`, which is within the line limit so far
+-- `octets` consists of `lines`, each with its line feed, and `line`, the beginning of another line, which does not exceed the line limit so
+-- far
 pub record EndsInUnfinishedLine (octets : List ℕ) (lines : List (List ℕ)) (line : List ℕ) : Type 0 where
   pub begins : BeginsWithLines octets lines line
   pub no_line_feed : IsLine line
   pub in_limit : length line ≤ line_limit
 
--- the `line` after `lines` is processed, because its line feed was read within the input limit, it exceeds the line limit, or it ends the
--- input
+-- the run processes `line`, which follows `lines`, because its line feed was read within the input limit, it exceeds the line limit, or it
+-- ends the input
 pub record IsNextLineProcessed (input rest : List ℕ) (lines : List (List ℕ)) (line : List ℕ) : Type 0 where
   pub after_line : List ℕ
   pub begins : BeginsWithLines input lines (line ++ after_line)
@@ -50,13 +51,13 @@ IsNextLineRefused r q rest lines b fault =
     ((line : List ℕ) × IsNextLineProcessed q rest lines line × IsLineRefused r b line fault) ⊎ (IsWholeInputRead q rest lines ×
     (r.end_fault b ≡ Some fault))
 
--- ---- output: the octets `y` were written
+-- ---- output: `y` stands for the octets that were written
 
 -- the first list is a prefix of the second
 abbrev pub IsPrefixOf : (front whole : List ℕ) → Type 0
 IsPrefixOf y z = (more : List ℕ) × (z ≡ y ++ more)
 
--- the output `output` ends in the last of the `answers`, and contains at least one octet of it
+-- `output` consists of all answers before the last one, and a nonempty prefix of the last one
 pub record EndsWithinLastAnswer (output : List ℕ) (answers : List (List ℕ)) : Type 0 where
   pub earlier_answers : List (List ℕ)
   pub answer : List ℕ
@@ -87,33 +88,33 @@ pub record ReadsAtMostABuffer (input output : List ℕ) (lines answers : List (L
 
 -- ---- the table of statuses
 
--- how the input ends after these lines, for each status, and the text that is written after their answers
-abbrev pub InputEnds : {State : Type 0} (rules : Rules State) (status : Status) (input_read unread : List ℕ) (lines : List (List ℕ))
+-- how the input ends after `lines` if the run ends with this status, and the `text` that is written after the answers to these lines
+abbrev pub InputHasStatus : {State : Type 0} (rules : Rules State) (status : Status) (input_read unread : List ℕ) (lines : List (List ℕ))
     (state : State) (text : List ℕ) → Type 0
-InputEnds r Done q rest lines b text = IsWholeInputRead q rest lines × (r.end_fault b ≡ None) × (text ≡ [])
-InputEnds r BadInput q rest lines b text =
+InputHasStatus r Done q rest lines b text = IsWholeInputRead q rest lines × (r.end_fault b ≡ None) × (text ≡ [])
+InputHasStatus r BadInput q rest lines b text =
     (fault : LineFault) × IsNextLineRefused r q rest lines b fault × (text ≡ refused_text (length lines + 1) fault)
-InputEnds r ReadFault q rest lines b text = (length q ≤ input_limit) × ((line : List ℕ) × EndsInUnfinishedLine q lines line)
+InputHasStatus r ReadFault q rest lines b text = (length q ≤ input_limit) × ((line : List ℕ) × EndsInUnfinishedLine q lines line)
     × (text ≡ [])
-InputEnds r TooLong q rest lines b text =
+InputHasStatus r TooLong q rest lines b text =
     ((counted past line : List ℕ) × ExceedsInputLimit q counted past × EndsInUnfinishedLine counted lines line) × (text ≡ [])
-InputEnds r _ q rest lines b text = ⊥
+InputHasStatus r _ q rest lines b text = ⊥
 
--- the octets read (`q`), left in the source (`rest`) and written (`y`) by a run that ends with this status
+-- what a run that ends with this status has read (`input_read`), left in the source (`unread`) and written (`output`)
 abbrev pub RunEndsWithStatus : {State : Type 0} (rules : Rules State) (status : Status) (input_read unread output : List ℕ) →
     (lines answers further : List (List ℕ)) → State → Type 0
 -- after a write failure, the output is a prefix of the answers, or all answers and a prefix of the text that follows them
 RunEndsWithStatus r WriteFault q rest y lines answers further b =
     IsPrefixOf y (concatenated_text answers)
-    ⊎ ((due : Status) × (text part : List ℕ) × InputEnds r due q rest lines b text × (further ≡ []) × IsPrefixOf part text
+    ⊎ ((due : Status) × (text part : List ℕ) × InputHasStatus r due q rest lines b text × (further ≡ []) × IsPrefixOf part text
     × (y ≡ concatenated_text answers ++ part))
 RunEndsWithStatus r NoMemory q rest y lines answers further b = (q ≡ []) × (y ≡ []) × (lines ≡ []) × (further ≡ [])
 RunEndsWithStatus r BadWords q rest y lines answers further b = ⊥
 -- for any other status, the output is all answers and the text that follows them
 RunEndsWithStatus r status q rest y lines answers further b =
-    (text : List ℕ) × InputEnds r status q rest lines b text × (further ≡ []) × (y ≡ concatenated_text answers ++ text)
+    (text : List ℕ) × InputHasStatus r status q rest lines b text × (further ≡ []) × (y ≡ concatenated_text answers ++ text)
 
--- if the octets of the source are known, they are the octets `q` that were read, followed by the `rest`
+-- if the octets of the source were known before the run, they are those that were read, followed by those that are still unread
 abbrev pub IsReadFromSource : (source_before source_after : Option (List ℕ)) (input_read unread : List ℕ) → Type 0
 IsReadFromSource None left' q rest = Unit {0}
 IsReadFromSource (Some x) left' q rest = (x ≡ q ++ rest) × (left' ≡ Some rest)
@@ -156,7 +157,8 @@ FailureCountsMatch _ read read' written written' = (read' ≡ read) × (written'
 abbrev pub SinkTakesPrefix : (written_before written_after : Option (List ℕ)) (text : List ℕ) → Type 0
 SinkTakesPrefix taken taken' z = (y : List ℕ) × IsPrefixOf y z × Appends taken taken' y
 
--- the output of a run that ends with the first status, if the rules prescribe the second status and this output
+-- the output of a run that ends with `status`, if the rules prescribe `prescribed_status` and `text`: a prefix of the text after a read or
+-- write failure, nothing if memory could not be allocated, otherwise the whole text, and the two statuses agree
 abbrev pub WritesAsPrescribed : (status prescribed_status : Status) (text : List ℕ) (written_before written_after : Option (List ℕ))
     → Type 0
 WritesAsPrescribed ReadFault due z taken taken' = SinkTakesPrefix taken taken' z

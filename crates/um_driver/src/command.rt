@@ -8,10 +8,10 @@ use um_lines::{LineFault, Text};
 
 /// A command that reads its input line by line.
 pub trait Command {
-    /// The type of the command's states.
+    /// The type of the command's abstract states.
     ghost State: { Type 0 };
 
-    /// The rules of the command: which lines it refuses, how it answers the others, and which state follows.
+    /// The rules of the command: which lines it refuses, how it answers the others, and how each line changes its state.
     ghost rules: { Rules State };
 
     /// The abstract state of the command at the start of a run.
@@ -20,12 +20,13 @@ pub trait Command {
     /// Whether the command represents this abstract state.
     ghost represents: { Self → State → Type 0 };
 
-    /// The type of the part of the command that no call changes, such as the identity of a borrow; `Unit {0}` if there is none.
+    /// The type of `kept`, the part of the command that no call changes, such as the identity of a borrow; `Unit {0}` if there is no such
+    /// part.
     ghost FixedPart: { Type 0 };
 
     ghost kept: { Self → FixedPart };
 
-    /// Writes the answer to a line, or returns the reason why the line is refused.
+    /// Writes the answer to a line into `out`, or returns the reason why the line is refused.
     fn answer(&mut self, line: &[u8], out: &mut Text) -> Result<(), LineFault>
         requires size { length line.now ≤ line_limit }
         requires plain { IsLine line.now }
@@ -34,7 +35,7 @@ pub trait Command {
             → IsLineAnswerOrFault rules a line.now result out.new (represents self.new) }
         ensures keeps { kept self.new ≡ kept self.old };
 
-    /// The reason to refuse the end of the input in the current state, or `None`.
+    /// Returns the reason why the input must not end in the current state, or `None` if it may.
     fn finish(&self) -> Option<LineFault>
         ensures { (a : State) → represents self.now a → result ≡ rules.end_fault a };
 }

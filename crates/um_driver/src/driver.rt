@@ -4,7 +4,7 @@ ghost use Rattle.um_io.specs.Reading.{new_reader, IsResultReady};
 ghost use Rattle.um_lines.specs.Refusals.{refused_text};
 ghost use Rattle.um_driver.specs.Rules.{IsDeterministic};
 ghost use Rattle.um_driver.specs.Table.{IsRun, FailureCountsMatch, EndsAsPrescribed};
-ghost use Rattle.um_driver.specs.Taking.{BuffersTextIfOk, CountsWriteFailure};
+ghost use Rattle.um_driver.specs.Writing.{BuffersTextIfOk, CountsWriteFailure};
 ghost use Rattle.um_driver.specs.Progress.{IsRunUnderway, IsLineOutcome, IsLastWriteResult, ReadFailureIsCounted};
 
 use crate::command::Command;
@@ -14,7 +14,8 @@ use std::alloc::Global;
 use um_io::{Failed, Lines, Next, Sink, Source};
 use um_lines::{LineFault, Text, refused_line};
 
-/// Reads the next line of input and writes the command's answer to `out`, or returns the final status of the run.
+/// Reads the next line of input and writes the command's answer to `out`. If the run ends instead, returns its final status; `out` then
+/// holds the line that reports a refusal, if there is one.
 fn answer_next_line<C: Command, S: Source>(
     command: &mut C,
     lines: &mut Lines,
@@ -26,7 +27,7 @@ fn answer_next_line<C: Command, S: Source>(
         IsRunUnderway C.rules a (C.represents command.old) lines.old left (S.left input.old) taken taken' gathered →
         IsResultReady lines.old ⊎ (gathered ≡ []) →
         IsLineOutcome C.rules a (C.represents command.new) lines.new left (S.left input.new) taken taken' gathered out.new result }
-    ensures goes_on { result ≡ None → lines.old.octet_count < lines.new.octet_count }
+    ensures makes_progress { result ≡ None → lines.old.octet_count < lines.new.octet_count }
     ensures cause { ReadFailureIsCounted result (S.faults input.old) (S.faults input.new) }
     ensures keeps { C.kept command.new ≡ C.kept command.old }
 {
@@ -45,7 +46,8 @@ fn answer_next_line<C: Command, S: Source>(
     }
 }
 
-/// Writes the line that reports the refusal of line `line_number`, or of the end of the input, and returns the status `BadInput`.
+/// Replaces the contents of `out` with the line that reports why line `line_number`, or the end of the input, is refused. Returns the
+/// status `BadInput`.
 #[cold]
 #[inline(never)]
 fn write_refusal(line_number: u64, fault: LineFault, out: &mut Text) -> Status
@@ -57,8 +59,8 @@ fn write_refusal(line_number: u64, fault: LineFault, out: &mut Text) -> Status
     Status::BadInput
 }
 
-/// Writes the output buffer and then `out`, and returns the final status. After a read failure it writes nothing, because the buffer was
-/// written before the source was read.
+/// Writes the octets in the output buffer, and then those of `out`, to `output`. Returns the final status: `WriteFault` if a write fails,
+/// otherwise `status`. After a read failure it writes nothing, because the buffer was written before the source was read.
 #[cold]
 #[inline(never)]
 fn write_final_output<K: Sink>(
@@ -80,7 +82,7 @@ fn write_final_output<K: Sink>(
     }
 }
 
-/// Writes the output buffer if the next result needs a read from the source.
+/// Writes the octets in the output buffer to `output` if the reader must read from the source to return its next result.
 #[inline(always)]
 fn flush_before_read<K: Sink>(
     lines: &mut Lines,

@@ -1,6 +1,6 @@
-//! An output buffer, which collects answers to write them in one call.
+//! An output buffer, which collects several answers so that one call can write them.
 ghost use Rattle.std.specs.Prelude.{◌≡◌, ◌≤◌, ◌+◌, [], ◌++◌, length, OnOk, false, IsTrue};
-ghost use Rattle.um_driver.specs.Taking.{SinkTakesText, BuffersUnwrittenText, BuffersTextIfOk, CountsWriteFailure};
+ghost use Rattle.um_driver.specs.Writing.{SinkTakesText, BuffersUnwrittenText, BuffersTextIfOk, CountsWriteFailure};
 
 use crate::writing::put_all;
 use std::marker::Model;
@@ -16,7 +16,7 @@ pub(crate) struct OutputBuffer {
     length: usize,
 }
 
-// In contracts, an `OutputBuffer` is the list of its octets.
+// In contracts, an `OutputBuffer` stands for the list of its octets.
 impl Model for OutputBuffer {
     ghost use Rattle.std.specs.Prelude.{ℕ, ◌≤◌, List, take};
 
@@ -59,7 +59,7 @@ impl OutputBuffer {
         &self.buffer[..self.length]
     }
 
-    /// Writes all octets in the buffer.
+    /// Writes all octets in the buffer to `output`. If this succeeds, the buffer is empty.
     #[cold]
     #[inline(never)]
     pub(crate) fn flush<K: Sink>(&mut self, output: &mut K) -> Result<(), Failed>
@@ -72,7 +72,7 @@ impl OutputBuffer {
         Ok(())
     }
 
-    /// Writes all octets in the buffer if `due` is true.
+    /// Writes all octets in the buffer to `output` if `due` is true.
     pub(crate) fn flush_if<K: Sink>(&mut self, due: bool, output: &mut K) -> Result<(), Failed>
         ensures gathers { BuffersTextIfOk result self.old self.new (K.taken output.old) (K.taken output.new) }
         ensures empty { IsTrue due → OnOk result (self.new ≡ []) }
@@ -82,7 +82,7 @@ impl OutputBuffer {
         if due { self.flush(output) } else { Ok(()) }
     }
 
-    /// Adds `octets` to the buffer. If they do not fit, writes the buffer first.
+    /// Appends `octets` to the buffer. If they do not fit, first writes the buffered octets to `output`.
     pub(crate) fn add<K: Sink>(&mut self, octets: &[u8], output: &mut K) -> Result<(), Failed>
         requires { length octets.now ≤ 4096 }
         ensures gathers { BuffersTextIfOk result (self.old ++ octets.now) self.new (K.taken output.old) (K.taken output.new) }
@@ -97,7 +97,7 @@ impl OutputBuffer {
         Ok(())
     }
 
-    /// Adds `octets` to the buffer, and writes all its octets.
+    /// Appends `octets` to the buffer, and then writes all buffered octets to `output`.
     pub(crate) fn add_and_flush<K: Sink>(
         &mut self,
         octets: &[u8],

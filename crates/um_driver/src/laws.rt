@@ -3,12 +3,12 @@ ghost use Rattle.um_driver.specs.Laws.{OutputIsUnique, OutputExists};
 
 use crate::command::Command;
 
-/// Law: if the rules are deterministic, an input has at most one output and one status.
+/// Law: if the rules are deterministic, they prescribe at most one output and one status for each input.
 pub fn law_deterministic_output_is_unique<C: Command>()
     ensures { OutputIsUnique C.rules }
 {}
 
-/// Law: if every line that is not refused has an answer, every input has an output.
+/// Law: if the rules give an answer to every line that they do not refuse, they prescribe an output for every input.
 pub fn law_command_output_exists<C: Command>()
     ensures { OutputExists C.rules }
 {}

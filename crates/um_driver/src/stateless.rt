@@ -8,13 +8,13 @@ use um_lines::{LineFault, Text};
 
 /// A command whose answer to a line does not depend on other lines.
 pub trait Answer {
-    /// The first reason to refuse a line, if there is one.
+    /// The first reason why a line is refused, or `None` if it is accepted.
     ghost fault: { List ℕ → Option Fault };
 
-    /// The answers that a line may have.
+    /// The answers that the command may give to a line.
     ghost answers: { List ℕ → List ℕ → Type 0 };
 
-    /// Writes the answer to a line, or returns the reason why the line is refused.
+    /// Writes the answer to a line into `out`, or returns the reason why the line is refused.
     fn answer(&self, line: &[u8], out: &mut Text) -> Result<(), LineFault>
         requires empty { out.old ≡ [] }
         ensures { MatchResult result
@@ -22,7 +22,7 @@ pub trait Answer {
             (λ reason. (fault line.now ≡ Some reason) × (out.new ≡ [])) };
 }
 
-/// A stateless command made from an `Answer`.
+/// A command without state, made from an `Answer`.
 #[derive(Clone, Copy, Debug)]
 pub struct StatelessCommand<A>(pub A);
 

@@ -1,4 +1,4 @@
-//! The ways a run can end.
+//! The ways in which a run can end.
 ghost use Rattle.std.specs.Prelude.{◌≡◌};
 ghost use Rattle.um_driver.specs.Statuses.{status_number};
 
@@ -22,7 +22,7 @@ pub enum Status {
 }
 
 impl Status {
-    /// The program's exit status as a number.
+    /// Returns the exit status of the program as a number.
     pub fn number(self) -> u8
         ensures { result ≡ status_number self }
     {

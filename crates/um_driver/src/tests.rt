@@ -6,8 +6,8 @@ use std::test::Fail;
 use um_io::{Failed, MemorySink, MemorySource, PlainSource, Source};
 use um_lines::{LineFault, Text, refused_line};
 
-/// A command for tests that answers lines by their lengths: a line of one octet opens or closes, lines of three octets are refused, and the
-/// input must not end while open.
+/// A command for tests, whose answer to a line depends on the length of the line. A line of one octet inverts `open`, a line of three
+/// octets is refused, and the input must not end while `open` is true.
 #[derive(Drop)]
 struct LineLengthCommand {
     open: bool,
@@ -103,7 +103,7 @@ fn lines_are_answered_up_to_the_first_bad_one(rt: HostRuntime) -> Result<(), Fai
     Ok(())
 }
 
-// If four octets are read at a time, its lines end in the first, the third and the fourth read.
+// Three lines. If each read returns four octets, the lines end in the first, the third and the fourth read.
 const THREE_LINES: &[u8] = b"ab\nhello\nxyzzy\n";
 
 const THREE_ANSWERS: &[u8] = b"refused 2 twice\nrefused 5 twice\nrefused 5 twice\n";

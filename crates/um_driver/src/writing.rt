@@ -1,5 +1,5 @@
 //! Writes octets to a sink.
-ghost use Rattle.um_driver.specs.Taking.{SinkTakesText, CountsWriteFailure};
+ghost use Rattle.um_driver.specs.Writing.{SinkTakesText, CountsWriteFailure};
 
 use um_io::{Failed, Sink};
 

@@ -11,10 +11,10 @@ use Rattle.{
   um_driver.{proofs.Outputs.{Runs-keep, has_one_output}, specs.{Laws.HasOneOutput, Rules.{IsDeterministic, IsTotal}}},
   um_end.specs.{
     Abstraction.role_of_terminal,
-    Asking.{call_of_call_event, sapi_of_call_event},
+    CallEvents.{call_of_call_event, sapi_of_call_event},
     Commands.CommandRepresents,
     EndLines.{Calls, Nothing as NoLine, TakesBurst},
-    EndRuns.{IsAnswerToBursts, AnswersEndLine, IsAnswerToFourBursts, IsStepForLineMeaning, AppendsCodedFrames, EndCommandState},
+    EndRuns.{IsAnswerToBursts, AnswersEndLine, IsAnswerToFourBursts, IsParsedLineStep, AppendsCodedFrames, EndCommandState},
     EndRuns.{IsCallLineAnswer, end_command_rules, initial_run},
     Terminals.{SideStep, layer3_call_step, with_endpoint_on},
     declared.command.EndCommand.EndCommand,
@@ -23,10 +23,10 @@ use Rattle.{
   um_lines.proofs.FormLaws.good_meaning,
   um_link.{
     proofs.{
-      Lemmas.adds-more,
+      Lemmas.Appends-more,
       lapdm_frame.Lemmas.octets_canonical,
       lapdm_link.Lemmas.{AllSay, CallOctets, EndOctets, OutcomeOctets, SaysOctets, call-octets, frame-octets},
-      lapdm_window.Lemmas.{IsValidEndpoint-initial_endpoint, Keeps, keeps-call, keeps-frame},
+      lapdm_window.Lemmas.{IsValidEndpoint-initial, Keeps, keeps-call, keeps-frame},
       um_air.Lemmas.{octets_small, one_read, same_step, some_reading},
       um_block.Lemmas.{accepted_count, one_received_block, one_sent_block, some_received_block, some_sent_block},
     },
@@ -40,11 +40,11 @@ pub mod EndLineLaws
 -- ## SideSteps: What a terminal answers, given what its endpoints did.
 
 -- the step that a terminal reports is the one that `terminal_step_of` defines
-pub done_step : (role role' : Role) (received : Option Received) (d : SideStep) (sapi : Sapi) (effects : Effects) (new : Side)
+pub terminal_step-is : (role role' : Role) (received : Option Received) (d : SideStep) (sapi : Sapi) (effects : Effects) (new : Side)
     (step : Step) →
     step ≡ record { who = BySide role'; sapi = sapi; received = received; frames = effects.frames; notices = effects.notices } →
     role' ≡ role → CarriesOutStep Sdcch d sapi effects new → step ≡ terminal_step_of role received d
-done_step role role' received d sapi effects new step is same h =
+terminal_step-is role role' received d sapi effects new step is same h =
     is ∙ same_step _ (terminal_step_of role received d) (ap BySide same) h.sapi_matches refl h.frames h.notices
 
 -- a call of an event is answered as `SideAnswersCall` defines
@@ -64,47 +64,47 @@ asks_event role a event b answer sapi call own e is h = absurd own
 blocks-append : (bs : List Block) (b : Block) → flat_map bursts_text bs ++ bursts_text b ≡ flat_map bursts_text (bs ++ b ∷ [])
 blocks-append bs b = rw (flat_map-append, append-nil) refl
 
-coded_more : (tsc : ℕ) (os : List Octets) (o : Octets) (old mid new : List ℕ) (b : Block) → AppendsCodedFrames tsc os old mid →
+AppendsCodedFrames-push : (tsc : ℕ) (os : List Octets) (o : Octets) (old mid new : List ℕ) (b : Block) → AppendsCodedFrames tsc os old mid →
     IsSentBlock o tsc b → new ≡ mid ++ bursts_text b → AppendsCodedFrames tsc (os ++ o ∷ []) old new
-coded_more tsc os o old mid new b h sent is =
-    let a = adds-more tsc os [] h.blocks o b (record { blocks = h.blocks; coded = h.coded; appended = refl }) sent in
+AppendsCodedFrames-push tsc os o old mid new b h sent is =
+    let a = Appends-more tsc os [] h.blocks o b (record { blocks = h.blocks; coded = h.coded; appended = refl }) sent in
     record {
       blocks = a.blocks;
       coded = a.coded;
       text_is = rw (is, h.text_is, append_assoc, blocks-append h.blocks b, a.appended) refl;
     }
 
-pub coded_next : (tsc : ℕ) (os : List Octets) (i : ℕ) (old mid new : List ℕ) (b : Block) → i < length os →
+pub AppendsCodedFrames-next : (tsc : ℕ) (os : List Octets) (i : ℕ) (old mid new : List ℕ) (b : Block) → i < length os →
     AppendsCodedFrames tsc (take i os) old mid →
     IsSentBlock (get_or os i []) tsc b → new ≡ mid ++ bursts_text b → AppendsCodedFrames tsc (take (i + 1) os) old new
-coded_next tsc os i old mid new b within h sent is =
-    rw (take_more os i [] within) (coded_more tsc (take i os) (get_or os i []) old mid new b h sent is)
+AppendsCodedFrames-next tsc os i old mid new b within h sent is =
+    rw (take_more os i [] within) (AppendsCodedFrames-push tsc (take i os) (get_or os i []) old mid new b h sent is)
 
 -- ---- the state of a run that the command represents
 
--- a property of the command's side and number of bursts held is also one of the state of the run that the command represents
-pub at_run : (P : Role → ℕ → Type 0) (c : EndCommand) (s : EndCommandState) (count : ℕ) → CommandRepresents c s →
+-- if P holds for the command's side and its number of held bursts, it holds for those of the state that the command represents
+pub at_state : (P : Role → ℕ → Type 0) (c : EndCommand) (s : EndCommandState) (count : ℕ) → CommandRepresents c s →
     count ≡ length c.held.held → P (role_of_terminal c.terminal) count → P s.role (length s.held_bursts)
-at_run P c s count st e h = rw (st.role, st.held_bursts, ← e) h
+at_state P c s count st e h = rw (st.role, st.held_bursts, ← e) h
 
 -- ## Determined: A call, or the bursts of a block, has only one answer and only one state of the endpoints after it.
 
-one_asked : (role : Role) (a : SideState) (sapi : Sapi) (call : Call) (b c : SideState) (x y : Answer) →
+call-unique : (role : Role) (a : SideState) (sapi : Sapi) (call : Call) (b c : SideState) (x y : Answer) →
     EndpointAnswersCall role a sapi call b x → EndpointAnswersCall role a sapi call c y → (b ≡ c) × (x ≡ y)
-one_asked role a sapi call b c (Refuses v) (Refuses w) h k = (cc, cc)
-one_asked role a sapi call b c (Accepts s) (Accepts t) h k = (cc, cc)
-one_asked role a sapi call b c x y h k = (cc, cc)
+call-unique role a sapi call b c (Refuses v) (Refuses w) h k = (cc, cc)
+call-unique role a sapi call b c (Accepts s) (Accepts t) h k = (cc, cc)
+call-unique role a sapi call b c x y h k = (cc, cc)
 
-pub one_asking : (role : Role) (a : SideState) (event : Event) (b c : SideState) (x y : Answer) → SideAnswersCall role a event b x →
+pub event-unique : (role : Role) (a : SideState) (event : Event) (b c : SideState) (x y : Answer) → SideAnswersCall role a event b x →
     SideAnswersCall role a event c y → (b ≡ c) × (x ≡ y)
-one_asking role a (Open info) b c x y h k = one_asked role a Zero (Opens info) b c x y h k
-one_asking role a (OpenBare other) b c x y h k = one_asked role a Three OpensWithoutInfo b c x y h k
-one_asking role a (Ask other sapi request) b c x y h k = one_asked role a sapi (endpoint_call_of request) b c x y h k
-one_asking role a event b c x y h k = absurd h
+event-unique role a (Open info) b c x y h k = call-unique role a Zero (Opens info) b c x y h k
+event-unique role a (OpenBare other) b c x y h k = call-unique role a Three OpensWithoutInfo b c x y h k
+event-unique role a (Ask other sapi request) b c x y h k = call-unique role a sapi (endpoint_call_of request) b c x y h k
+event-unique role a event b c x y h k = absurd h
 
-pub one_reception : (role : Role) (a : SideState) (bursts : List (List ℤ)) (b c : SideState) (s t : Step) →
+pub reception-unique : (role : Role) (a : SideState) (bursts : List (List ℤ)) (b c : SideState) (s t : Step) →
     ReceivesBursts role a bursts b s → ReceivesBursts role a bursts c t → (b ≡ c) × (s ≡ t)
-one_reception role a bursts b c s t h k =
+reception-unique role a bursts b c s t h k =
     let report : h.report ≡ k.report = one_received_block bursts h.report k.report h.received k.received in
     let read : h.frame ≡ k.frame = one_read Sdcch k.report.accepted h.frame k.frame (rw report at h.reads) k.reads in
     (rw (h.new_state_is, k.new_state_is, read) refl, rw (h.step_is, k.step_is, report, read) refl)
@@ -114,50 +114,50 @@ one_reception role a bursts b c s t h k =
 
 -- ---- at most one answer
 
-same_coded : (tsc : ℕ) (os : List Octets) (bs cs : List Block) → AreCodedBlocks tsc os bs → AreCodedBlocks tsc os cs → bs ≡ cs
-same_coded tsc [] [] [] h k = refl
-same_coded tsc (o ∷ os) (b ∷ bs) (c ∷ cs) h k = cc (one_sent_block o tsc b c h.0 k.0, same_coded tsc os bs cs h.1 k.1)
-same_coded tsc os bs cs h k = absurd assumption
+coded-unique : (tsc : ℕ) (os : List Octets) (bs cs : List Block) → AreCodedBlocks tsc os bs → AreCodedBlocks tsc os cs → bs ≡ cs
+coded-unique tsc [] [] [] h k = refl
+coded-unique tsc (o ∷ os) (b ∷ bs) (c ∷ cs) h k = cc (one_sent_block o tsc b c h.0 k.0, coded-unique tsc os bs cs h.1 k.1)
+coded-unique tsc os bs cs h k = absurd assumption
 
-same_text : (tsc : ℕ) (answer : Answer) (y y' : List ℕ) → IsAnswerText tsc answer y → IsAnswerText tsc answer y' → y ≡ y'
-same_text tsc answer y y' h k =
-    let same = same_coded tsc (frames_in_answer answer) h.blocks k.blocks h.coded k.coded in rw (h.text_is, k.text_is, same) refl
+text-unique : (tsc : ℕ) (answer : Answer) (y y' : List ℕ) → IsAnswerText tsc answer y → IsAnswerText tsc answer y' → y ≡ y'
+text-unique tsc answer y y' h k =
+    let same = coded-unique tsc (frames_in_answer answer) h.blocks k.blocks h.coded k.coded in rw (h.text_is, k.text_is, same) refl
 
-same_arrival : (s : EndCommandState) (bursts : List (List ℤ)) (y y' : List ℕ) (b b' : EndCommandState)
+arrival-unique : (s : EndCommandState) (bursts : List (List ℤ)) (y y' : List ℕ) (b b' : EndCommandState)
     → IsAnswerToFourBursts s bursts y b →
     IsAnswerToFourBursts s bursts y' b' → (y ≡ y') × (b ≡ b')
-same_arrival s bursts y y' b b' h k =
-    let same = one_reception s.role s.links bursts h.links k.links h.step k.step h.receives_bursts k.receives_bursts in (
-      same_text s.tsc (Accepts k.step) y y' (rw same.1 at h.text_is) k.text_is,
+arrival-unique s bursts y y' b b' h k =
+    let same = reception-unique s.role s.links bursts h.links k.links h.step k.step h.receives_bursts k.receives_bursts in (
+      text-unique s.tsc (Accepts k.step) y y' (rw same.1 at h.text_is) k.text_is,
       rw (h.after_is, k.after_is, same.0) refl,
     )
 
-same_bursts : (s : EndCommandState) (bursts : List (List ℤ)) (y y' : List ℕ) (b b' : EndCommandState)
+bursts-unique : (s : EndCommandState) (bursts : List (List ℤ)) (y y' : List ℕ) (b b' : EndCommandState)
     → IsAnswerToBursts s bursts y b →
     IsAnswerToBursts s bursts y' b' → (y ≡ y') × (b ≡ b')
-same_bursts s bursts y y' b b' (inl (few, e, h)) (inl (few', e', h')) = (e ∙ sym e', h ∙ sym h')
-same_bursts s bursts y y' b b' (inl (few, _, _)) (inr (four, _)) = absurd (omega arith)
-same_bursts s bursts y y' b b' (inr (four, _)) (inl (few, _, _)) = absurd (omega arith)
-same_bursts s bursts y y' b b' (inr (four, h)) (inr (four', h')) = same_arrival s bursts y y' b b' h h'
+bursts-unique s bursts y y' b b' (inl (few, e, h)) (inl (few', e', h')) = (e ∙ sym e', h ∙ sym h')
+bursts-unique s bursts y y' b b' (inl (few, _, _)) (inr (four, _)) = absurd (omega arith)
+bursts-unique s bursts y y' b b' (inr (four, _)) (inl (few, _, _)) = absurd (omega arith)
+bursts-unique s bursts y y' b b' (inr (four, h)) (inr (four', h')) = arrival-unique s bursts y y' b b' h h'
 
-same_asked : (s : EndCommandState) (event : Event) (y y' : List ℕ) (b b' : EndCommandState) → IsCallLineAnswer s event y b →
+call_line-unique : (s : EndCommandState) (event : Event) (y y' : List ℕ) (b b' : EndCommandState) → IsCallLineAnswer s event y b →
     IsCallLineAnswer s event y' b' → (y ≡ y') × (b ≡ b')
-same_asked s event y y' b b' h k =
-    let same = one_asking s.role s.links event h.links k.links h.answer k.answer h.answers_call k.answers_call in (
-      same_text s.tsc k.answer y y' (rw same.1 at h.text_is) k.text_is,
+call_line-unique s event y y' b b' h k =
+    let same = event-unique s.role s.links event h.links k.links h.answer k.answer h.answers_call k.answers_call in (
+      text-unique s.tsc k.answer y y' (rw same.1 at h.text_is) k.text_is,
       rw (h.after_is, k.after_is, same.0) refl,
     )
 
-same_answer : (s : EndCommandState) (m : EndLineMeaning) (y y' : List ℕ) (b b' : EndCommandState) → IsStepForLineMeaning s m y b →
-    IsStepForLineMeaning s m y' b' → (y ≡ y') × (b ≡ b')
-same_answer s NoLine y y' b b' (e, h) (e', h') = (e ∙ sym e', h ∙ sym h')
-same_answer s (TakesBurst soft) y y' b b' h h' = same_bursts s (s.held_bursts ++ soft ∷ []) y y' b b' h h'
-same_answer s (Calls event) y y' b b' h h' = same_asked s event y y' b b' h h'
+answer-unique : (s : EndCommandState) (m : EndLineMeaning) (y y' : List ℕ) (b b' : EndCommandState) → IsParsedLineStep s m y b →
+    IsParsedLineStep s m y' b' → (y ≡ y') × (b ≡ b')
+answer-unique s NoLine y y' b b' (e, h) (e', h') = (e ∙ sym e', h ∙ sym h')
+answer-unique s (TakesBurst soft) y y' b b' h h' = bursts-unique s (s.held_bursts ++ soft ∷ []) y y' b b' h h'
+answer-unique s (Calls event) y y' b b' h h' = call_line-unique s event y y' b b' h h'
 
 pub end_is_determined : IsDeterministic end_command_rules
 end_is_determined s line y y' b b' (m, means, answer) (m', means', answer') =
     let same = same_meaning _ _ (end_one_meaning s.role (length s.held_bursts) line) m m' means means' in
-    same_answer s m' y y' b b' (rw same at answer) answer'
+    answer-unique s m' y y' b b' (rw same at answer) answer'
 
 -- ---- at least one answer
 
@@ -172,12 +172,12 @@ record AreFit (a : SideState) : Type 0 where
   pub link0 : IsFit Zero a.link0
   pub link3 : IsFit Three a.link3
 
-fit_in : (sapi : Sapi) (a : SideState) → AreFit a → IsFit sapi (endpoint_on sapi a)
-fit_in sapi a h = grind arith
+AreFit-endpoint : (sapi : Sapi) (a : SideState) → AreFit a → IsFit sapi (endpoint_on sapi a)
+AreFit-endpoint sapi a h = grind arith
 
-fit_with : (sapi : Sapi) (e : EndpointState) (a : SideState) → AreFit a → IsFit sapi e → AreFit (with_endpoint_on sapi e a)
-fit_with Zero e a h fit = record { link0 = fit; link3 = h.link3 }
-fit_with Three e a h fit = record { link0 = h.link0; link3 = fit }
+AreFit-with : (sapi : Sapi) (e : EndpointState) (a : SideState) → AreFit a → IsFit sapi e → AreFit (with_endpoint_on sapi e a)
+AreFit-with Zero e a h fit = record { link0 = fit; link3 = h.link3 }
+AreFit-with Three e a h fit = record { link0 = h.link0; link3 = fit }
 
 -- after this step the endpoints satisfy `IsFit`, and the frames that it sends fit and consist of octets
 record IsFitSideStep (d : SideStep) : Type 0 where
@@ -185,12 +185,12 @@ record IsFitSideStep (d : SideStep) : Type 0 where
   pub frames : All (FrameFits Sdcch) d.frames
   pub said : AllSay d.frames
 
-fit_side_step : (sapi : Sapi) (o : Outcome) (a : SideState) → AreFit a → Keeps (endpoint_on sapi a) o → OutcomeOctets o →
+IsFitSideStep-outcome : (sapi : Sapi) (o : Outcome) (a : SideState) → AreFit a → Keeps (endpoint_on sapi a) o → OutcomeOctets o →
     IsFitSideStep (endpoint_step sapi o a)
-fit_side_step sapi o a h keeps octets =
-    let fit = fit_in sapi a h in
+IsFitSideStep-outcome sapi o a h keeps octets =
+    let fit = AreFit-endpoint sapi a h in
     record {
-      new_state_fits = fit_with sapi o.new_state a h (record {
+      new_state_fits = AreFit-with sapi o.new_state a h (record {
         valid = keeps.valid;
         sapi_matches = keeps.sapi ∙ fit.sapi_matches;
         channel = keeps.channel ∙ fit.channel;
@@ -203,14 +203,14 @@ fit_side_step sapi o a h keeps octets =
 fit_call : (sapi : Sapi) (call : Call) (a : SideState) → CallOctets call → IsCallOfEndpoint (endpoint_on sapi a) call → AreFit a →
     refusal_of call (endpoint_on sapi a) ≡ None → IsFitSideStep (layer3_call_step sapi call a)
 fit_call sapi call a octets has h ok =
-    let fit = fit_in sapi a h in
-    fit_side_step sapi _ a h (keeps-call call _ fit.valid has ok) (call-octets call _ octets ok fit.valid.window fit.octets)
+    let fit = AreFit-endpoint sapi a h in
+    IsFitSideStep-outcome sapi _ a h (keeps-call call _ fit.valid has ok) (call-octets call _ octets ok fit.valid.window fit.octets)
 
 fit_frame : (sapi : Sapi) (f : Frame) (a : SideState) → FrameFits Sdcch f → AreOctets (information f.content) → AreFit a →
     IsFitSideStep (endpoint_step sapi (frame_outcome f (endpoint_on sapi a)) a)
 fit_frame sapi f a fits octets h =
-    let fit = fit_in sapi a h in
-    fit_side_step sapi _ a h (keeps-frame f _ fit.valid (rw fit.channel fits)) (frame-octets f _ octets fit.valid.window fit.octets)
+    let fit = AreFit-endpoint sapi a h in
+    IsFitSideStep-outcome sapi _ a h (keeps-frame f _ fit.valid (rw fit.channel fits)) (frame-octets f _ octets fit.valid.window fit.octets)
 
 fit_nothing : (a : SideState) → AreFit a → IsFitSideStep (no_op_step a)
 fit_nothing a h = record { new_state_fits = h; frames = All-nil (FrameFits Sdcch); said = All-nil SaysOctets }
@@ -224,20 +224,20 @@ fit_read a accepted (Some f) octets reads h =
     (λ e g. fit_nothing a h)
 
 -- frames that fit in a block can be coded
-some_coded : (tsc : ℕ) (fs : List Frame) → tsc ≤ 7 → All (FrameFits Sdcch) fs → AllSay fs →
+coded-exists : (tsc : ℕ) (fs : List Frame) → tsc ≤ 7 → All (FrameFits Sdcch) fs → AllSay fs →
     (bs : List Block) × AreCodedBlocks tsc (map (octets_of Sdcch) fs) bs
-some_coded tsc [] known h said = ([], tt)
-some_coded tsc (f ∷ fs) known h said =
+coded-exists tsc [] known h said = ([], tt)
+coded-exists tsc (f ∷ fs) known h said =
     let fits : FrameFits Sdcch f = All-head (FrameFits Sdcch) f fs h in
     let small = octets_small Sdcch f fits (All-head SaysOctets f fs said) in
     let b = some_sent_block (octets_of Sdcch f) tsc (octets_canonical Sdcch f fits).frame.count small known in
-    let bs = some_coded tsc fs known (All-tail (FrameFits Sdcch) f fs h) (All-tail SaysOctets f fs said) in
+    let bs = coded-exists tsc fs known (All-tail (FrameFits Sdcch) f fs h) (All-tail SaysOctets f fs said) in
     (b.0 ∷ bs.0, (b.1, bs.1))
 
-some_text : (tsc : ℕ) (role : Role) (received : Option Received) (d : SideStep) → tsc ≤ 7 → IsFitSideStep d →
+text-exists : (tsc : ℕ) (role : Role) (received : Option Received) (d : SideStep) → tsc ≤ 7 → IsFitSideStep d →
     (y : List ℕ) × IsAnswerText tsc (Accepts (terminal_step_of role received d)) y
-some_text tsc role received d known h =
-    let bs = some_coded tsc d.frames known h.frames h.said in (
+text-exists tsc role received d known h =
+    let bs = coded-exists tsc d.frames known h.frames h.said in (
       answer_text (Accepts (terminal_step_of role received d)) ++ flat_map bursts_text bs.0,
       record { blocks = bs.0; coded = bs.1; text_is = refl },
     )
@@ -246,7 +246,7 @@ abbrev Whole : List ℤ → Type 0
 Whole burst = length burst ≡ 148
 
 -- the invariant that every step of a run preserves
-record IsKept (role : Role) (tsc : ℕ) (s : EndCommandState) : Type 0 where
+record Invariant (role : Role) (tsc : ℕ) (s : EndCommandState) : Type 0 where
   pub role_is : s.role ≡ role
   pub tsc_is : s.tsc ≡ tsc
   pub links : AreFit s.links
@@ -262,19 +262,19 @@ record SomeAnswer (s : EndCommandState) (Answers : SideState → Answer → Type
   pub text : List ℕ
   pub text_is : IsAnswerText s.tsc answer text
 
-asked_by : (s : EndCommandState) (sapi : Sapi) (call : Call) (o : Option Refused) → refusal_of call (endpoint_on sapi s.links) ≡ o →
+call-answered : (s : EndCommandState) (sapi : Sapi) (call : Call) (o : Option Refused) → refusal_of call (endpoint_on sapi s.links) ≡ o →
     s.tsc ≤ 7 → CallOctets call → IsCallOfEndpoint (endpoint_on sapi s.links) call → AreFit s.links →
     SomeAnswer s (EndpointAnswersCall s.role s.links sapi call)
-asked_by s sapi call (Some why) is known octets has h = record {
+call-answered s sapi call (Some why) is known octets has h = record {
   links = s.links;
   answer = Refuses (ByEndpoint why);
   asked_call = (ap as_event_refusal is, refl);
   text = answer_text (Refuses (ByEndpoint why)) ++ [];
   text_is = record { blocks = []; coded = tt; text_is = refl };
 }
-asked_by s sapi call None is known octets has h =
+call-answered s sapi call None is known octets has h =
     let d : SideStep = layer3_call_step sapi call s.links in
-    let text = some_text s.tsc s.role None d known (fit_call sapi call s.links octets has h is) in
+    let text = text-exists s.tsc s.role None d known (fit_call sapi call s.links octets has h is) in
     record {
       links = d.new_state;
       answer = Accepts (terminal_step_of s.role None d);
@@ -289,28 +289,28 @@ request_octets : (role : Role) (sapi : Sapi) (request : Request) → EventMessag
 request_octets role sapi request h = grind arith
 
 -- every endpoint has the call of a request
-request_has : (e : EndpointState) (request : Request) → IsCallOfEndpoint e (endpoint_call_of request)
-request_has e request = grind arith
+request-of_endpoint : (e : EndpointState) (request : Request) → IsCallOfEndpoint e (endpoint_call_of request)
+request-of_endpoint e request = grind arith
 
-some_asking : (s : EndCommandState) (event : Event) → IsCallOfRole s.role event × EventMessageIsOctets event → s.tsc ≤ 7 →
+asking-exists : (s : EndCommandState) (event : Event) → IsCallOfRole s.role event × EventMessageIsOctets event → s.tsc ≤ 7 →
     AreFit s.links → SomeAnswer s (SideAnswersCall s.role s.links event)
-some_asking s (Open info) own known h = asked_by s Zero (Opens info) _ refl known own.1 h.link0.sapi_matches h
-some_asking s (OpenBare other) own known h = asked_by s Three OpensWithoutInfo _ refl known tt h.link3.sapi_matches h
-some_asking s (Ask other sapi request) own known h =
-    asked_by s sapi (endpoint_call_of request) _ refl known (request_octets other sapi request own.1)
-    (request_has (endpoint_on sapi s.links) request) h
-some_asking s event own known h = absurd own.0
+asking-exists s (Open info) own known h = call-answered s Zero (Opens info) _ refl known own.1 h.link0.sapi_matches h
+asking-exists s (OpenBare other) own known h = call-answered s Three OpensWithoutInfo _ refl known tt h.link3.sapi_matches h
+asking-exists s (Ask other sapi request) own known h =
+    call-answered s sapi (endpoint_call_of request) _ refl known (request_octets other sapi request own.1)
+    (request-of_endpoint (endpoint_on sapi s.links) request) h
+asking-exists s event own known h = absurd own.0
 
 -- ---- at least one answer to bursts
 
-some_arrival : (s : EndCommandState) (bursts : List (List ℤ)) → length bursts ≡ 4 → All Whole bursts →
+arrival-exists : (s : EndCommandState) (bursts : List (List ℤ)) → length bursts ≡ 4 → All Whole bursts →
     s.tsc ≤ 7 → AreFit s.links → (y : List ℕ) × (after : EndCommandState) × IsAnswerToFourBursts s bursts y after
-some_arrival s bursts four each known h =
+arrival-exists s bursts four each known h =
     let report = some_received_block bursts four each in
     let read = some_reading Sdcch report.0.accepted (accepted_count bursts report.0 report.1) in
     let d : SideStep = step_for_read_frame read.0 s.links in
     let fit : IsFitSideStep d = fit_read s.links report.0.accepted read.0 (accepted_octets bursts report.0 report.1) read.1 h in
-    let text = some_text s.tsc s.role (Some report.0) d known fit in (
+    let text = text-exists s.tsc s.role (Some report.0) d known fit in (
       text.0,
       record s { links = d.new_state; held_bursts = [] },
       record {
@@ -329,10 +329,10 @@ some_arrival s bursts four each known h =
       },
     )
 
-some_bursts : (role : Role) (tsc : ℕ) (s : EndCommandState) (soft : List ℤ) → tsc ≤ 7 → IsKept role tsc s
+bursts-exists : (role : Role) (tsc : ℕ) (s : EndCommandState) (soft : List ℤ) → tsc ≤ 7 → Invariant role tsc s
     → length soft ≡ 148 →
     (y : List ℕ) × (after : EndCommandState) × IsAnswerToBursts s (s.held_bursts ++ soft ∷ []) y after
-some_bursts role tsc s soft known k count =
+bursts-exists role tsc s soft known k count =
     let bursts = s.held_bursts ++ soft ∷ [] in
     let more : length bursts ≡ length s.held_bursts + 1 = length-append s.held_bursts (soft ∷ []) in
     elim (cases_lt (length bursts) 4) [
@@ -340,18 +340,18 @@ some_bursts role tsc s soft known k count =
       | inr many ↦
           let few = k.at_most_3 in
           let four : length bursts ≡ 4 = omega arith in
-          let a = some_arrival s bursts four (All-push Whole _ soft k.each count) (omega (arith, known, k.tsc_is)) k.links in
+          let a = arrival-exists s bursts four (All-push Whole _ soft k.each count) (omega (arith, known, k.tsc_is)) k.links in
           (a.0, a.1, inr (four, a.2))
     ]
 
-some_meaning : (role : Role) (tsc : ℕ) (s : EndCommandState) (line : List ℕ) (m : EndLineMeaning) → tsc ≤ 7 → IsKept role tsc s
+meaning-exists : (role : Role) (tsc : ℕ) (s : EndCommandState) (line : List ℕ) (m : EndLineMeaning) → tsc ≤ 7 → Invariant role tsc s
     →
-    EndLineMeans s.role (length s.held_bursts) line m → (y : List ℕ) × (after : EndCommandState) × IsStepForLineMeaning s m y after
-some_meaning role tsc s line NoLine known k means = ([], s, (refl, refl))
-some_meaning role tsc s line (TakesBurst soft) known k means = some_bursts role tsc s soft known k
-    (end_well s.role _ line (TakesBurst soft) means).0
-some_meaning role tsc s line (Calls event) known k means =
-    let a = some_asking s event (end_well s.role _ line (Calls event) means) (omega (arith, known, k.tsc_is)) k.links in (
+    EndLineMeans s.role (length s.held_bursts) line m → (y : List ℕ) × (after : EndCommandState) × IsParsedLineStep s m y after
+meaning-exists role tsc s line NoLine known k means = ([], s, (refl, refl))
+meaning-exists role tsc s line (TakesBurst soft) known k means = bursts-exists role tsc s soft known k
+    (line-possible s.role _ line (TakesBurst soft) means).0
+meaning-exists role tsc s line (Calls event) known k means =
+    let a = asking-exists s event (line-possible s.role _ line (Calls event) means) (omega (arith, known, k.tsc_is)) k.links in (
       a.text,
       record s { links = a.links },
       record { links = a.links; answer = a.answer; answers_call = a.asked_call; text_is = a.text_is; after_is = refl },
@@ -359,67 +359,67 @@ some_meaning role tsc s line (Calls event) known k means =
 
 -- ---- every run can be continued
 
-idle_fit : (role : Role) (sapi : Sapi) → IsFit sapi (initial_endpoint role sapi Sdcch)
-idle_fit role sapi = record {
-  valid = IsValidEndpoint-initial_endpoint role sapi Sdcch;
+IsFit-initial : (role : Role) (sapi : Sapi) → IsFit sapi (initial_endpoint role sapi Sdcch)
+IsFit-initial role sapi = record {
+  valid = IsValidEndpoint-initial role sapi Sdcch;
   sapi_matches = refl;
   channel = refl;
-  octets = record { sabm_info = All-nil (λ octet. octet < 256); taken = All-nil AreOctets };
+  octets = record { sabm_info = All-nil (λ octet. octet < 256); messages = All-nil AreOctets };
 }
 
-idle_kept : (role : Role) (tsc : ℕ) → IsKept role tsc (initial_run role tsc)
-idle_kept role tsc = record {
+invariant-start : (role : Role) (tsc : ℕ) → Invariant role tsc (initial_run role tsc)
+invariant-start role tsc = record {
   role_is = refl;
   tsc_is = refl;
-  links = record { link0 = idle_fit role Zero; link3 = idle_fit role Three };
+  links = record { link0 = IsFit-initial role Zero; link3 = IsFit-initial role Three };
   at_most_3 = omega arith;
   each = All-nil Whole;
 }
 
-asked_fit : (role : Role) (a : SideState) (sapi : Sapi) (call : Call) (b : SideState) (answer : Answer) → CallOctets call →
+AreFit-call : (role : Role) (a : SideState) (sapi : Sapi) (call : Call) (b : SideState) (answer : Answer) → CallOctets call →
     IsCallOfEndpoint (endpoint_on sapi a) call → AreFit a → EndpointAnswersCall role a sapi call b answer → AreFit b
-asked_fit role a sapi call b (Refuses why) octets has h asked_call = rw asked_call.1 h
-asked_fit role a sapi call b (Accepts step) octets has h asked_call =
+AreFit-call role a sapi call b (Refuses why) octets has h asked_call = rw asked_call.1 h
+AreFit-call role a sapi call b (Accepts step) octets has h asked_call =
     rw asked_call.1 (fit_call sapi call a octets has h (not_because (refusal_of call (endpoint_on sapi a)) asked_call.0)).new_state_fits
   where
     not_because : (o : Option Refused) → as_event_refusal o ≡ None → o ≡ None
     not_because o e = grind arith
 
-asking_fit : (role : Role) (a : SideState) (event : Event) (b : SideState) (answer : Answer) → EventMessageIsOctets event → AreFit a →
+AreFit-event : (role : Role) (a : SideState) (event : Event) (b : SideState) (answer : Answer) → EventMessageIsOctets event → AreFit a →
     SideAnswersCall role a event b answer → AreFit b
-asking_fit role a (Open info) b answer octets h asked_call =
-    asked_fit role a Zero (Opens info) b answer octets h.link0.sapi_matches h asked_call
-asking_fit role a (OpenBare other) b answer octets h asked_call =
-    asked_fit role a Three OpensWithoutInfo b answer tt h.link3.sapi_matches h asked_call
-asking_fit role a (Ask other sapi request) b answer octets h asked_call =
-    asked_fit role a sapi (endpoint_call_of request) b answer (request_octets other sapi request octets)
-    (request_has (endpoint_on sapi a) request) h asked_call
-asking_fit role a event b answer octets h asked_call = absurd asked_call
+AreFit-event role a (Open info) b answer octets h asked_call =
+    AreFit-call role a Zero (Opens info) b answer octets h.link0.sapi_matches h asked_call
+AreFit-event role a (OpenBare other) b answer octets h asked_call =
+    AreFit-call role a Three OpensWithoutInfo b answer tt h.link3.sapi_matches h asked_call
+AreFit-event role a (Ask other sapi request) b answer octets h asked_call =
+    AreFit-call role a sapi (endpoint_call_of request) b answer (request_octets other sapi request octets)
+    (request-of_endpoint (endpoint_on sapi a) request) h asked_call
+AreFit-event role a event b answer octets h asked_call = absurd asked_call
 
 module _ (role : Role) (tsc : ℕ) where
-  bursts_keep : (s b : EndCommandState) (soft : List ℤ) (y : List ℕ) → IsKept role tsc s → length soft ≡ 148 →
-      IsAnswerToBursts s (s.held_bursts ++ soft ∷ []) y b → IsKept role tsc b
-  bursts_keep s b soft y k count (inl (few, _, same)) = rw same (record {
+  Invariant-bursts : (s b : EndCommandState) (soft : List ℤ) (y : List ℕ) → Invariant role tsc s → length soft ≡ 148 →
+      IsAnswerToBursts s (s.held_bursts ++ soft ∷ []) y b → Invariant role tsc b
+  Invariant-bursts s b soft y k count (inl (few, _, same)) = rw same (record {
     role_is = k.role_is;
     tsc_is = k.tsc_is;
     links = k.links;
     at_most_3 = omega (arith, few);
     each = All-push Whole _ soft k.each count;
   })
-  bursts_keep s b soft y k count (inr (four, h)) =
+  Invariant-bursts s b soft y k count (inr (four, h)) =
       let heard = h.receives_bursts in
       let fit : AreFit h.links = rw heard.new_state_is (fit_read s.links heard.report.accepted heard.frame
       (accepted_octets _ heard.report heard.received) heard.reads k.links).new_state_fits in
       rw h.after_is (record { role_is = k.role_is; tsc_is = k.tsc_is; links = fit; at_most_3 = omega arith; each = All-nil Whole })
 
-  step_keeps : (s b : EndCommandState) (line y : List ℕ) → IsKept role tsc s → AnswersEndLine s line y b → IsKept role tsc b
-  step_keeps s b line y k (NoLine, means, (_, same)) = rw same k
-  step_keeps s b line y k (TakesBurst soft, means, answer) =
-      bursts_keep s b soft y k (end_well s.role _ line (TakesBurst soft) means).0 answer
-  step_keeps s b line y k (Calls event, means, h) = rw h.after_is (record {
+  Invariant-step : (s b : EndCommandState) (line y : List ℕ) → Invariant role tsc s → AnswersEndLine s line y b → Invariant role tsc b
+  Invariant-step s b line y k (NoLine, means, (_, same)) = rw same k
+  Invariant-step s b line y k (TakesBurst soft, means, answer) =
+      Invariant-bursts s b soft y k (line-possible s.role _ line (TakesBurst soft) means).0 answer
+  Invariant-step s b line y k (Calls event, means, h) = rw h.after_is (record {
     role_is = k.role_is;
     tsc_is = k.tsc_is;
-    links = asking_fit s.role s.links event h.links h.answer (end_well s.role _ line (Calls event) means).1 k.links h.answers_call;
+    links = AreFit-event s.role s.links event h.links h.answer (line-possible s.role _ line (Calls event) means).1 k.links h.answers_call;
     at_most_3 = k.at_most_3;
     each = k.each;
   })
@@ -428,8 +428,8 @@ module _ (role : Role) (tsc : ℕ) where
     pub end_is_total : IsTotal end_command_rules (initial_run role tsc)
     end_is_total lines answers b runs line plain good =
         let meant = good_meaning _ _ (end_one_meaning b.role (length b.held_bursts) line) good.no_fault in
-        let kept = Runs-keep end_command_rules (IsKept role tsc) step_keeps _ b lines answers (idle_kept role tsc) runs in
-        let answer = some_meaning role tsc b line meant.0 known kept meant.1 in
+        let kept = Runs-keep end_command_rules (Invariant role tsc) Invariant-step _ b lines answers (invariant-start role tsc) runs in
+        let answer = meaning-exists role tsc b line meant.0 known kept meant.1 in
         (answer.0, answer.1, (meant.0, meant.1, answer.2))
 
     pub end_has_one_output : HasOneOutput end_command_rules (initial_run role tsc)

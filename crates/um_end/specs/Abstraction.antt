@@ -14,7 +14,7 @@ use Rattle.um_end.specs.declared.terminal.Terminal.{Terminal}
 abbrev pub role_of_terminal : Terminal → Role
 role_of_terminal t = spec_role_of t.side
 
--- the endpoints of the terminal represent the endpoints of this side state
+-- the endpoints of the terminal represent those of the side state `state`
 abbrev pub Represents : (terminal : Terminal) (state : SideState) → Type 0
 Represents t a = L.Represents t.links a
 

@@ -47,11 +47,11 @@ abbrev pub meaning_of_end_line : Option (EndLineKind × List Value) → EndLineM
 meaning_of_end_line None = Nothing
 meaning_of_end_line (Some said) = meaning_of_values said.0 said.1
 
--- the first reason for refusing a line that follows `held` bursts of an unfinished block, or `None` if it is accepted
+-- the first reason for refusing a line that follows `held_burst_count` bursts of an unfinished block, or `None` if it is accepted
 abbrev pub end_line_fault : (role : Role) (held_burst_count : ℕ) (line : List ℕ) → Option LineFault
 end_line_fault role held line = line_fault (end_line_forms (call_line_forms role)) (is_end_line_out_of_order held) line
 
--- a line that follows `held` bursts of an unfinished block is accepted with this meaning
+-- a line that follows `held_burst_count` bursts of an unfinished block is accepted with this meaning
 abbrev pub EndLineMeans : (role : Role) (held_burst_count : ℕ) (line : List ℕ) (meaning : EndLineMeaning) → Type 0
 EndLineMeans role held line = LineParsesTo (end_line_forms (call_line_forms role)) (is_end_line_out_of_order held) meaning_of_end_line line
 
@@ -80,7 +80,8 @@ abbrev pub meaning_of_call : Option Event → EndLineMeaning
 meaning_of_call None = Nothing
 meaning_of_call (Some event) = Calls event
 
--- the fault of a call line inside a block, given its fault outside: `Word` stays, and any other line, valid or not, has `Order`
+-- the fault of a call line inside a block, given its fault outside: `Word` stays `Word`, and any other line, valid or not, has the fault
+-- `Order`
 abbrev pub call_line_fault_inside_block : Option LineFault → Option LineFault
 call_line_fault_inside_block (Some F.Word) = Some F.Word
 call_line_fault_inside_block fault = Some F.Order

@@ -41,7 +41,7 @@ pub record AppendsCodedFrames (tsc : ℕ) (frames : List Octets) (old new : List
   pub coded : AreCodedBlocks tsc frames blocks
   pub text_is : new ≡ old ++ flat_map bursts_text blocks
 
--- the answer to the fourth burst of a block: the four bursts are received as a block
+-- `output` answers the fourth burst of a block: the four bursts are received as a block
 pub record IsAnswerToFourBursts (state : EndCommandState) (bursts : List (List ℤ)) (output : List ℕ) (after : EndCommandState) : Type
     0 where
   pub links : SideState
@@ -50,7 +50,7 @@ pub record IsAnswerToFourBursts (state : EndCommandState) (bursts : List (List �
   pub text_is : IsAnswerText state.tsc (Accepts step) output
   pub after_is : after ≡ record state { links = links; held_bursts = [] }
 
--- the answer to the last of these bursts: none if there are fewer than four, otherwise the answer to the block
+-- `output` answers the last of these bursts: it is empty if there are fewer than four, otherwise it is the answer to the block
 abbrev pub IsAnswerToBursts : (state : EndCommandState) (bursts : List (List ℤ)) (output : List ℕ) (after : EndCommandState) → Type 0
 IsAnswerToBursts s bursts text after =
     ((length bursts < 4) × (text ≡ []) × (after ≡ record s { held_bursts = bursts }))
@@ -64,17 +64,17 @@ pub record IsCallLineAnswer (state : EndCommandState) (event : Event) (output : 
   pub text_is : IsAnswerText state.tsc answer output
   pub after_is : after ≡ record state { links = links }
 
--- the text answers a line with this meaning, and leads from the first state to the second
-abbrev pub IsStepForLineMeaning : (state : EndCommandState) (meaning : EndLineMeaning) (output : List ℕ) (after : EndCommandState) →
+-- `output` answers a line with this meaning in `state`, and `after` is the state after it
+abbrev pub IsParsedLineStep : (state : EndCommandState) (meaning : EndLineMeaning) (output : List ℕ) (after : EndCommandState) →
     Type 0
-IsStepForLineMeaning s Nothing text after = (text ≡ []) × (after ≡ s)
-IsStepForLineMeaning s (TakesBurst soft) text after = IsAnswerToBursts s (s.held_bursts ++ soft ∷ []) text after
-IsStepForLineMeaning s (Calls event) text after = IsCallLineAnswer s event text after
+IsParsedLineStep s Nothing text after = (text ≡ []) × (after ≡ s)
+IsParsedLineStep s (TakesBurst soft) text after = IsAnswerToBursts s (s.held_bursts ++ soft ∷ []) text after
+IsParsedLineStep s (Calls event) text after = IsCallLineAnswer s event text after
 
--- the text answers a line, and leads from the first state to the second
+-- `output` answers a line in `state`, and `after` is the state after it
 abbrev pub AnswersEndLine : (state : EndCommandState) (line output : List ℕ) (after : EndCommandState) → Type 0
 AnswersEndLine s line text after = (meaning : EndLineMeaning) × EndLineMeans s.role (length s.held_bursts) line meaning
-    × IsStepForLineMeaning s meaning text after
+    × IsParsedLineStep s meaning text after
 
 -- the rules of the `end` command; its input must not end inside a block
 abbrev pub end_command_rules : Rules EndCommandState

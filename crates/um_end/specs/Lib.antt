@@ -5,8 +5,8 @@ pub use Rattle.um_link.specs as um_link
 -- The definitions that the contracts of this crate cite.
 pub mod Terminals
 pub mod Abstraction
-pub mod Asking
-pub mod Doing
+pub mod CallEvents
+pub mod BlockSteps
 pub mod EndLines
 pub mod EndRuns
 pub mod Commands

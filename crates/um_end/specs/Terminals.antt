@@ -35,7 +35,8 @@ terminal_step_of role received d = record {
   notices = d.notices;
 }
 
--- the endpoint with this SAPI returns this answer to the call, which leads from the first state to the second; a refusal changes nothing
+-- the endpoint with this SAPI gives this answer to the call in `state`, and `after` is the state of the side after it; a refusal changes
+-- nothing
 abbrev pub EndpointAnswersCall : (role : Role) (state : SideState) (sapi : Sapi) (call : Call) (after : SideState) (answer : Answer) →
     Type 0
 EndpointAnswersCall role a sapi call b (Refuses why) = (as_event_refusal (refusal_of call (endpoint_on sapi a)) ≡ Some why) × (b ≡ a)
@@ -52,7 +53,7 @@ IsCallOfRole role (Ask other Three Idle) = ⊥
 IsCallOfRole role (Ask other sapi request) = other ≡ role
 IsCallOfRole role event = ⊥
 
--- the event is a layer 3 call, has this answer, and leads from the first state to the second
+-- the event is a layer 3 call that the side answers with `answer` in `state`, and `after` is the state after it
 abbrev pub SideAnswersCall : (role : Role) (state : SideState) (event : Event) (after : SideState) (answer : Answer) → Type 0
 SideAnswersCall role a (Open info) b answer = EndpointAnswersCall role a Zero (Opens info) b answer
 SideAnswersCall role a (OpenBare other) b answer = EndpointAnswersCall role a Three OpensWithoutInfo b answer

@@ -32,7 +32,7 @@ abbrev pub state_after_step : (side : Role) (links : SideState) (sent : List Oct
     (terminals : TwoTerminals) → TwoTerminals
 state_after_step side links sent left a = record { sides = with_side side links a.sides; queues = with_appended side sent left }
 
--- the step leads from the first state to the second
+-- `step` leads from the state `terminals` to the state `after`
 abbrev pub IsTerminalStep : (terminals : TwoTerminals) (step : TerminalStep) (after : TwoTerminals) → Type 0
 IsTerminalStep a (Calls side event answer) b = (links : SideState) × IsCallOfRole side event
     × SideAnswersCall side (side_with_role side a.sides) event links answer
@@ -42,18 +42,18 @@ IsTerminalStep a (TakesBurst side bursts step) b = (links : SideState)
     × (b ≡ state_after_step side links step.frames (without_first (other side) a.queues) a)
 IsTerminalStep a (Loses sender) b = b ≡ record a { queues = without_first sender a.queues }
 
--- the steps can follow one another from this state, and each satisfies the given condition
+-- the steps can follow one another from this state, and each satisfies the condition `MayTake`
 abbrev pub AreStepsFrom : (MayTake : (TwoTerminals → TerminalStep → Type 0)) (terminals : TwoTerminals) (turns : List TerminalStep)
     → Type 0
 AreStepsFrom May a [] = Unit {0}
 AreStepsFrom May a (turn ∷ turns) = May a turn × (b : TwoTerminals) × IsTerminalStep a turn b × AreStepsFrom May b turns
 
--- the bursts carry the first block in the list, lightly damaged
+-- the bursts carry the first block in the list, with at most light damage
 abbrev pub AreBurstsOfFirstBlock : (bursts : List (List ℤ)) (blocks : List Octets) → Type 0
 AreBurstsOfFirstBlock bursts [] = ⊥
 AreBurstsOfFirstBlock bursts (first ∷ others) = AreCorrectableBursts first bursts
 
--- bursts that reach a side carry the oldest block in transit to it, lightly damaged
+-- bursts that reach a side carry the oldest block in transit to it, with at most light damage
 abbrev pub DeliversOldestBlock : (terminals : TwoTerminals) (turn : TerminalStep) → Type 0
 DeliversOldestBlock a (TakesBurst side bursts step) = AreBurstsOfFirstBlock bursts (queue_of (other side) a.queues)
 DeliversOldestBlock a turn = Unit {0}

@@ -2,7 +2,7 @@
 ghost use Rattle.std.specs.Prelude.{◌≡◌};
 ghost use Rattle.um_link.specs.lapdm_window.Calls.{endpoint_call_of, IsCallOfSapi};
 ghost use Rattle.um_link.specs.Naming.{spec_event_of};
-ghost use Rattle.um_end.specs.Asking.{IsCallEvent, sapi_of_call_event, call_of_call_event};
+ghost use Rattle.um_end.specs.CallEvents.{IsCallEvent, sapi_of_call_event, call_of_call_event};
 
 use lapdm_end::{Call, Sapi};
 use um_link::Event;

@@ -26,12 +26,12 @@ pub enum EndLine<'a> {
     Skip,
     /// One of the four bursts of a block, as soft values, which are positive for 0 and negative for 1.
     Burst([i8; BURST_BITS]),
-    /// A layer 3 request to an endpoint of this side.
+    /// A layer 3 call to an endpoint of this side.
     Ask(Event<'a>),
 }
 
-/// Parses a line of the `end` command, without its line feed: `n DIGITS148`, `N HEX296`, `lost`, or a call of this side as in a script.
-/// `held` is the number of bursts of the unfinished block. The octets of a call are stored in `room`.
+/// Parses a line of the `end` command, without its line feed: `n DIGITS148`, `N HEX296`, `lost`, or a call to an endpoint of this side as
+/// in a script. `held` is the number of bursts of the unfinished block. The octets of a call are stored in `room`.
 ///
 /// If several errors apply, returns the first in this order, wherever it occurs in the line: `Long`, `Word`, `Order` (a call inside a
 /// block), `Digits`, `Length`, `Soft`.
@@ -61,7 +61,7 @@ pub fn parse_end<'a>(
     }
 }
 
-/// Whether a line begins with the name of an endpoint of this side.
+/// Returns whether a line begins with the name of an endpoint of this side.
 fn begins_with_side_endpoint(line: &[u8], side: End) -> bool
     ensures { result ≡ names_endpoint_of_side (spec_role_of side) (words line.now) }
 {

@@ -31,7 +31,7 @@ impl Terminal {
     ghost use Rattle.um_end.specs.Terminals.{idle_side, IsCallOfRole};
     ghost use Rattle.um_end.specs.Abstraction.{Represents, CallRefinesSideStep, IsOnlyPossibleAnswer, BurstsRefineSideStep};
     ghost use Rattle.um_end.specs.Abstraction.{IsOnlyStepForBursts, KeepsSideAndTsc, role_of_terminal};
-    ghost use Rattle.um_end.specs.Doing.{BlockRefinesSideStep};
+    ghost use Rattle.um_end.specs.BlockSteps.{BlockRefinesSideStep};
 
     /// Creates a side with both endpoints in Idle. The training sequence code `tsc` must be 0 to 7.
     pub fn new(side: End, tsc: u8) -> Terminal
@@ -51,7 +51,7 @@ impl Terminal {
         }
     }
 
-    /// Carries out a layer 3 call to an endpoint of this side: the mobile's `Open`, an `OpenBare`, or an `Event::End`. A refused call
+    /// Carries out a layer 3 call to an endpoint on this side: the mobile's `Open`, an `OpenBare`, or an `Event::End`. A refused call
     /// changes nothing.
     pub fn ask(&mut self, event: &Event<'_>) -> Result<Step, No>
         requires own { IsCallOfRole (role_of_terminal self.old) (spec_event_of event.now) }

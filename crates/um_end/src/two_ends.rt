@@ -3,8 +3,9 @@ ghost use Rattle.std.specs.Prelude.{List};
 ghost use Rattle.um_link.specs.lapdm_link.Claims.{Claims, HasNoticesInOrder, AckedAtMostDelivered};
 ghost use Rattle.um_end.specs.TwoTerminals.{TerminalStep, idle_terminals, AreStepsFrom, DeliversOldestBlock, AnyStepAllowed, session_log};
 
-/// If the bursts of each block reach the other side in order and lightly damaged, or are lost as a whole, messages are delivered in order
-/// and before they are acknowledged (`Claims`). Whatever bursts arrive, the log is ordered (`HasNoticesInOrder`).
+/// If the bursts of each block reach the other side in order and with at most light damage, or are lost as a whole, messages are delivered
+/// in order and before they are acknowledged (`Claims`), and no endpoint has more messages acknowledged than its peer has delivered.
+/// Whatever bursts arrive, the log is ordered (`HasNoticesInOrder`).
 pub fn law_two_terminals_deliver_in_order()
     ensures delivery { (turns : List TerminalStep) → AreStepsFrom DeliversOldestBlock idle_terminals turns
         → Claims (session_log turns) }

@@ -8,18 +8,18 @@ use Rattle.lapdm_frame.specs.Content.{Fields, Frame, fields_of}
 use Rattle.lapdm_frame.specs.Frames.{bit_of_bool, IsFrameCoding}
 use Rattle.lapdm_frame.specs.Refusals.{IsRefused}
 use Rattle.um_lines.specs.Fields.{Value, Number, NumberList}
-use Rattle.um_lines.specs.ShowForms.{FrameShape, NumberedInfo, Supervisory, WithInfo, WithoutInfo, KindSyntax, syntax, frame_fields}
-use Rattle.um_lines.specs.Spelled.{line_of_values}
+use Rattle.um_lines.specs.ShowForms.{FrameFormat, NumberedInfo, Supervisory, WithInfo, WithoutInfo, KindSyntax, syntax, frame_fields}
+use Rattle.um_lines.specs.LineTexts.{line_of_values}
 
--- the values of the fields that follow the word of the frame kind
-abbrev pub line_values_of_fields : FrameShape → Fields → List Value
+-- the values of the fields that follow the word that names the frame kind
+abbrev pub line_values_of_fields : FrameFormat → Fields → List Value
 line_values_of_fields NumberedInfo f =
     Number f.ns ∷ Number f.nr ∷ Number (bit_of_bool f.pf) ∷ Number (bit_of_bool f.more) ∷ NumberList f.info ∷ []
 line_values_of_fields Supervisory f = Number f.nr ∷ Number (bit_of_bool f.pf) ∷ []
 line_values_of_fields (WithInfo name) f = Number (bit_of_bool f.pf) ∷ NumberList f.info ∷ []
 line_values_of_fields (WithoutInfo name) f = Number (bit_of_bool f.pf) ∷ []
 
--- the word for the kind of this frame, and the shape of the fields that follow it
+-- the word that names the kind of this frame, and the shape of the fields that follow it
 abbrev pub kind_syntax_of_frame : Frame → KindSyntax
 kind_syntax_of_frame f = syntax (fields_of f.content).kind
 
@@ -27,11 +27,11 @@ kind_syntax_of_frame f = syntax (fields_of f.content).kind
 abbrev pub frame_values : Frame → List Value
 frame_values f = Number f.sapi ∷ Number (bit_of_bool f.cr) ∷ line_values_of_fields (kind_syntax_of_frame f).shape (fields_of f.content)
 
--- the text line of a frame: its form, filled with the values of the frame
+-- the text line of a frame: the line form of its kind, filled with the values of the frame
 abbrev pub frame_text : Frame → List ℕ
 frame_text f = line_of_values (frame_fields (kind_syntax_of_frame f)) (frame_values f) ++ codes "\n"
 
--- the word that reports why octets are not a valid frame
+-- the word that gives the reason why octets are not a valid frame
 abbrev pub refusal_word : Refusal → List ℕ
 refusal_word Lpd = codes "lpd"
 refusal_word Ea = codes "ea"
@@ -41,11 +41,11 @@ refusal_word Length = codes "length"
 refusal_word Empty = codes "empty"
 refusal_word More = codes "more"
 
--- the line `unread WORD` for octets that are not a valid frame
+-- the line `unread REASON` for octets that are not a valid frame
 abbrev pub unreadable_frame_text : Refusal → List ℕ
 unreadable_frame_text reason = codes "unread " ++ refusal_word reason ++ codes "\n"
 
--- the text for the 23 octets of an SDCCH block: the line of the frame in it, or `unread` and the reason if it is not a valid frame
+-- the text for the 23 octets of an SDCCH block: the line of the frame in it, or the line `unread REASON` if it does not hold a valid frame
 abbrev pub IsTextOfOctets : (octets text : List ℕ) → Type 0
 IsTextOfOctets octets text =
     ((f : Frame) × IsFrameCoding Sdcch f octets × (text ≡ frame_text f))

@@ -9,7 +9,7 @@ use Rattle.um_lines.specs.Fields.{Value, Number, NumberList}
 use Rattle.um_lines.specs.Forms.{no_order_fault, line_fault}
 use Rattle.um_lines.specs.Reading.{LineParsesTo, words_parse_result}
 use Rattle.um_lines.specs.ShowForms as F
-use Rattle.um_lines.specs.ShowForms.{ShowLineKind, FrameShape, NumberedInfo, Supervisory, WithInfo, WithoutInfo, syntax, show_line_forms}
+use Rattle.um_lines.specs.ShowForms.{ShowLineKind, FrameFormat, NumberedInfo, Supervisory, WithInfo, WithoutInfo, syntax, show_line_forms}
 use Rattle.um_formats.specs.declared.show.ShowLine.{ShowLine}
 use Rattle.um_formats.specs.declared.show.ShowLine.TheVariants as S
 
@@ -18,7 +18,7 @@ abbrev pub is_bit_set : (number : ℕ) → Bool
 is_bit_set number = number == 1
 
 -- the content of a frame of this kind, from the values in fields of this shape; `None` if the values do not fit the shape
-abbrev pub content_from_values : (shape : FrameShape) (kind : Kind) (values : List Value) → Option Content
+abbrev pub content_from_values : (shape : FrameFormat) (kind : Kind) (values : List Value) → Option Content
 content_from_values NumberedInfo kind (Number ns ∷ Number nr ∷ Number p ∷ Number m ∷ NumberList info ∷ []) =
     Some (content_with_fields kind ns nr (is_bit_set p) (is_bit_set m) info)
 content_from_values Supervisory kind (Number nr ∷ Number pf ∷ []) = Some (content_with_fields kind 0 nr (is_bit_set pf) false [])
@@ -38,7 +38,7 @@ frame_from_values (F.Frame kind) (Number sapi ∷ Number cr ∷ values) = frame_
     (syntax kind).shape kind values)
 frame_from_values name values = None
 
--- the meaning of a frame's line: the canonical octets of the frame on SDCCH
+-- the meaning of the line of a frame: the canonical coding of the frame on SDCCH
 abbrev pub show_line_of_frame : Option Frame → ShowLine
 show_line_of_frame None = S.Skip
 show_line_of_frame (Some f) = S.Frame (octets_of Sdcch f)

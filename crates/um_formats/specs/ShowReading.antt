@@ -1,4 +1,4 @@
--- Definitions for the parser and the writer of frame lines only.
+-- Definitions that only the parser and the writer of frame lines use.
 use Rattle.std.specs.Prelude.{ℕ, ◌+◌, ◌%◌, ◌==◌, ◌&&◌, ◌||◌, ◌∷◌}
 use Rattle.std.specs.Prelude.{Bool, false, not, List, [], length, Option, codes}
 use Rattle.std.specs.Cmp.Lexicographic.{pointwise}
@@ -10,18 +10,18 @@ use Rattle.um_lines.specs.ShowForms.{syntax, show_line_forms}
 use Rattle.um_lines.specs.ShowForms as F
 use Rattle.um_formats.specs.declared.frame_words.FieldWords.{FieldWords}
 use Rattle.um_formats.specs.declared.frame_words.FrameWords.{FrameWords}
-use Rattle.um_formats.specs.declared.frame_words.FrameShape.{FrameShape}
-use Rattle.um_formats.specs.declared.frame_words.FrameShape.TheVariants.{NumberedInfo, Supervisory, WithInfo, WithoutInfo}
+use Rattle.um_formats.specs.declared.frame_words.FrameFormat.{FrameFormat}
+use Rattle.um_formats.specs.declared.frame_words.FrameFormat.TheVariants.{NumberedInfo, Supervisory, WithInfo, WithoutInfo}
 
--- the shape in the specification that a Rust `FrameShape` represents
-abbrev pub spec_shape_of : FrameShape → F.FrameShape
+-- the shape in the specification that a Rust `FrameFormat` represents
+abbrev pub spec_shape_of : FrameFormat → F.FrameFormat
 spec_shape_of NumberedInfo = F.NumberedInfo
 spec_shape_of Supervisory = F.Supervisory
 spec_shape_of (WithInfo name) = F.WithInfo name.now
 spec_shape_of (WithoutInfo name) = F.WithoutInfo name.now
 
--- the name of the poll or final bit, `p` or `f`, in a shape that allows either name
-abbrev pub pf_bit_name : F.FrameShape → List ℕ
+-- the name of the poll or final bit, `p` or `f`, that a shape holds; empty for any other shape
+abbrev pub pf_bit_name : F.FrameFormat → List ℕ
 pf_bit_name (F.WithInfo name) = name
 pf_bit_name (F.WithoutInfo name) = name
 pf_bit_name other = []
@@ -53,7 +53,7 @@ is_name_and_value name (word ∷ value ∷ []) = bytes_eq word name
 is_name_and_value name (word ∷ value ∷ other ∷ rest) = false
 
 -- the words of all fields of this shape: each name, followed by its value
-abbrev pub field_words : F.FrameShape → FieldWords → List (List ℕ)
+abbrev pub field_words : F.FrameFormat → FieldWords → List (List ℕ)
 field_words F.NumberedInfo w =
     codes "ns" ∷ w.ns.now ∷ codes "nr" ∷ w.nr.now ∷ codes "p" ∷ w.pf.now ∷ codes "m" ∷ w.more.now ∷ codes "info"
     ∷ w.info.now ∷ []
@@ -68,13 +68,13 @@ frame_line_words w =
     ∷ field_words (syntax w.kind).shape w.fields
 
 -- the word for the information field, or `-` if the shape has no information
-abbrev pub info_word : F.FrameShape → FieldWords → List ℕ
+abbrev pub info_word : F.FrameFormat → FieldWords → List ℕ
 info_word F.NumberedInfo w = w.info.now
 info_word (F.WithInfo name) w = w.info.now
 info_word other w = codes "-"
 
 -- the minimum number of octets of information that a shape allows
-abbrev pub min_info_octets : F.FrameShape → ℕ
+abbrev pub min_info_octets : F.FrameFormat → ℕ
 min_info_octets F.NumberedInfo = 1
 min_info_octets other = 0
 

@@ -86,7 +86,7 @@ fn parse_lost_burst(word: &[u8]) -> Result<BurstLine, LineFault>
     }
 }
 
-// Parses the digits of a line `n DIGITS148`. Searches the text for a space only if it is not all digits, to return the right fault.
+// Parses the digits of a line `n DIGITS148`. Searches the text for a space only if some octet is not a digit, to return the right fault.
 #[tactic(auto, using(crate::proofs::Lemmas::bit_word, crate::proofs::Lemmas::whole_word))]
 fn parse_hard_normal(operands: &[u8]) -> Result<BurstLine, LineFault>
     ensures { (held : ℕ) → result ≡ burst_parse_result held (codes "n" ∷ words operands.now) }
@@ -185,7 +185,7 @@ fn parse_soft_sync(operands: &[u8], held_bursts: u8) -> Result<BurstLine, LineFa
     Ok(BurstLine::Sync(soft_values(digits)?))
 }
 
-/// The 148 digits of a line `n DIGITS148`, or `None` for any other line.
+/// Returns the 148 digits of a line `n DIGITS148`, or `None` for any other line.
 #[inline(always)]
 pub(crate) fn hard_line_digits(line: &[u8]) -> Option<&[u8]>
     ensures { MatchOption result ((digits : List ℕ) → ¬ IsHardNormalLine line.now digits)
@@ -201,7 +201,7 @@ pub(crate) fn hard_line_digits(line: &[u8]) -> Option<&[u8]>
     Some(digits)
 }
 
-/// The 296 octets after `N ` in a line of 298 octets, or `None` for any other line.
+/// Returns the 296 octets after `N ` in a line of 298 octets, or `None` for any other line.
 pub(crate) fn soft_line_digits(line: &[u8]) -> Option<&[u8]>
     ensures { MatchOption result ((digits : List ℕ) → ¬ IsHexNormalLine line.now digits)
         (λ digits. (line.now ≡ codes "N " ++ digits.now) × (length digits.now ≡ 296)) }

@@ -43,7 +43,7 @@ pub fn parse_code(line: &[u8]) -> Result<CodeLine, LineFault>
 fn parse_words(line: &[u8]) -> Result<CodeLine, LineFault>
     ensures { result ≡ code_parse_result (words line.now) }
 {
-    // Recognises the most frequent line, a block, without searching for a space.
+    // Recognises a block, the most frequent line, without a search for a space.
     if let Some(rest) = line.strip_prefix(b"block ") {
         return parse_block(rest);
     }
@@ -58,7 +58,7 @@ fn parse_words(line: &[u8]) -> Result<CodeLine, LineFault>
     }
 }
 
-// Parses the words after `block`. Searches the text for a space only if it is not all digits, to return the right fault.
+// Parses the words after `block`. Searches the text for a space only if some octet is not a digit, to return the right fault.
 #[inline(always)]
 #[tactic(auto, using(crate::proofs::Lemmas::hex_word, crate::proofs::Lemmas::whole_word))]
 fn parse_block(operands: &[u8]) -> Result<CodeLine, LineFault>

@@ -12,7 +12,7 @@ pub(crate) fn is_digit_up_to(max_digit: u8, word: &[u8]) -> bool
     parse_digit_up_to(max_digit, word).is_ok()
 }
 
-/// The number, 0 to 7, that a word of one digit represents.
+/// Returns the number, 0 to 7, that a word of one digit represents.
 pub(crate) fn value_of_digit(word: &[u8]) -> u8
     requires { IsTrue (is_digit_up_to 7 word.now) }
     ensures value { result ≡ slice_index word.now 0 - 48 }

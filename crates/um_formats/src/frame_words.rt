@@ -22,9 +22,10 @@ use lapdm_frame::{Channel, FrameFields, FrameView, Kind};
 use um_block::BLOCK_OCTETS;
 use um_lines::{LineFault, first_word, has_octet_count, is_dash_or_hex, parse_two_words};
 
-/// The fields that follow the word of a frame kind. `WithInfo` and `WithoutInfo` hold the name of the poll or final bit, `p` or `f`.
+/// The fields that follow the word that names the frame kind. `WithInfo` and `WithoutInfo` hold the name of the poll or final bit, `p` or
+/// `f`.
 #[derive(Clone, Copy)]
-pub(crate) enum FrameShape {
+pub(crate) enum FrameFormat {
     /// The fields of an I frame: `ns N nr N p P m M info HEX`.
     NumberedInfo,
     /// The fields of an RR, RNR or REJ frame: `nr N pf P`.
@@ -35,27 +36,27 @@ pub(crate) enum FrameShape {
     WithoutInfo(&'static [u8]),
 }
 
-/// The word for a frame kind, and the shape of the fields that follow it.
-pub(crate) fn word_and_shape(kind: Kind) -> (&'static [u8], FrameShape)
+/// Returns the word that names a frame kind, and the shape of the fields that follow it.
+pub(crate) fn word_and_shape(kind: Kind) -> (&'static [u8], FrameFormat)
     ensures word { result.0.now ≡ (syntax kind).word }
     ensures shape { spec_shape_of result.1 ≡ (syntax kind).shape }
     ensures size { length result.0.now ≤ 4 }
     ensures name { length (pf_bit_name (spec_shape_of result.1)) ≤ 1 }
 {
     match kind {
-        Kind::I => (b"i", FrameShape::NumberedInfo),
-        Kind::Rr => (b"rr", FrameShape::Supervisory),
-        Kind::Rnr => (b"rnr", FrameShape::Supervisory),
-        Kind::Rej => (b"rej", FrameShape::Supervisory),
-        Kind::Sabm => (b"sabm", FrameShape::WithInfo(b"p")),
-        Kind::Dm => (b"dm", FrameShape::WithoutInfo(b"f")),
-        Kind::Ui => (b"ui", FrameShape::WithInfo(b"p")),
-        Kind::Disc => (b"disc", FrameShape::WithoutInfo(b"p")),
-        Kind::Ua => (b"ua", FrameShape::WithInfo(b"f")),
+        Kind::I => (b"i", FrameFormat::NumberedInfo),
+        Kind::Rr => (b"rr", FrameFormat::Supervisory),
+        Kind::Rnr => (b"rnr", FrameFormat::Supervisory),
+        Kind::Rej => (b"rej", FrameFormat::Supervisory),
+        Kind::Sabm => (b"sabm", FrameFormat::WithInfo(b"p")),
+        Kind::Dm => (b"dm", FrameFormat::WithoutInfo(b"f")),
+        Kind::Ui => (b"ui", FrameFormat::WithInfo(b"p")),
+        Kind::Disc => (b"disc", FrameFormat::WithoutInfo(b"p")),
+        Kind::Ua => (b"ua", FrameFormat::WithInfo(b"f")),
     }
 }
 
-/// The frame kind that the word names, or `None`.
+/// Returns the frame kind that the word names, or `None`.
 fn kind_of_word(word: &[u8]) -> Option<Kind>
     ensures known { IfSome result (λ kind. word.now ≡ (syntax kind).word) }
     ensures unknown { IfNone result (list_any (bytes_eq word.now) (map (λ kind. (syntax kind).word) all_frame_kinds) ≡ false) }
@@ -74,7 +75,8 @@ fn kind_of_word(word: &[u8]) -> Option<Kind>
     }
 }
 
-/// The words for the values in a frame's line, without the names of the fields. Fields of other frame kinds are not used.
+/// The words for the field values in the text line of a frame, without the field names. Values of fields that the frame kind does not have
+/// are not used.
 #[derive(Clone, Copy)]
 pub(crate) struct FieldWords<'a> {
     pub(crate) ns: &'a [u8],
@@ -117,15 +119,15 @@ pub(crate) fn frame_words<'a>(frame_text: &'a [u8]) -> Result<FrameWords<'a>, Li
     })
 }
 
-fn field_words<'a>(shape: FrameShape, fields: &'a [u8]) -> Result<FieldWords<'a>, LineFault>
+fn field_words<'a>(shape: FrameFormat, fields: &'a [u8]) -> Result<FieldWords<'a>, LineFault>
     ensures { MatchResult result
         (λ found. words fields.now ≡ field_words (spec_shape_of shape) found)
         (λ fault. (fault ≡ LineFault.Word) × (words_fit_fields (words fields.now) (shape_fields (spec_shape_of shape)) ≡ false)) }
 {
     let (ns, nr, more, none): (&[u8], &[u8], &[u8], &[u8]) = (b"0", b"0", b"0", b"-");
     match shape {
-        FrameShape::NumberedInfo => parse_i_frame_words(fields),
-        FrameShape::Supervisory => {
+        FrameFormat::NumberedInfo => parse_i_frame_words(fields),
+        FrameFormat::Supervisory => {
             let (nr, rest) = parse_name_and_value(fields, b"nr")?;
             let pf = parse_last_name_and_value(rest, b"pf")?;
             Ok(FieldWords {
@@ -136,7 +138,7 @@ fn field_words<'a>(shape: FrameShape, fields: &'a [u8]) -> Result<FieldWords<'a>
                 info: none,
             })
         }
-        FrameShape::WithInfo(name) => {
+        FrameFormat::WithInfo(name) => {
             let (pf, info) = parse_bit_and_information::<0>(fields, name)?;
             Ok(FieldWords {
                 ns,
@@ -146,7 +148,7 @@ fn field_words<'a>(shape: FrameShape, fields: &'a [u8]) -> Result<FieldWords<'a>
                 info,
             })
         }
-        FrameShape::WithoutInfo(name) => {
+        FrameFormat::WithoutInfo(name) => {
             let pf = parse_last_name_and_value(fields, name)?;
             Ok(FieldWords {
                 ns,
@@ -189,8 +191,8 @@ fn parse_p_m_and_information<'a>(
     Ok((p, m, info))
 }
 
-/// The words for the value of the named bit and for the information that follows it. Only the contract uses `LEAST`, the minimum number of
-/// information octets.
+/// Returns the words for the value of the named bit and for the information, which follows it. Only the contract uses `LEAST`, the minimum
+/// number of information octets.
 fn parse_bit_and_information<'a, const LEAST: usize>(
     fields: &'a [u8],
     name: &[u8],
@@ -205,7 +207,8 @@ fn parse_bit_and_information<'a, const LEAST: usize>(
     Ok((pf, info))
 }
 
-/// Returns the value after this name, and the text after that value. The text must begin with the name.
+/// Returns the value after this name and the text after that value, or the fault `Word` if the text does not consist of the name, a value
+/// and at least one more word.
 fn parse_name_and_value<'a>(
     fields: &'a [u8],
     name: &[u8],
@@ -227,7 +230,7 @@ fn parse_name_and_value<'a>(
     }
 }
 
-/// Returns the value after this name. The text must consist of the name and the value only.
+/// Returns the value after this name, or the fault `Word` if the text does not consist of exactly the name and a value.
 fn parse_last_name_and_value<'a>(fields: &'a [u8], name: &[u8]) -> Result<&'a [u8], LineFault>
     ensures { MatchResult result
         (λ value. words fields.now ≡ name.now ∷ value.now ∷ [])
@@ -263,7 +266,7 @@ impl FrameWords<'_> {
         )
     }
 
-    /// The canonical octets of the frame on SDCCH.
+    /// Returns the canonical coding of the frame on SDCCH.
     pub(crate) fn octets(&self) -> [u8; BLOCK_OCTETS]
         requires digits { has_faulty_word has_wrong_digits (frame_fields (syntax self.now.kind)) (frame_line_words self.now) ≡ false }
         requires length { has_faulty_word has_wrong_length (frame_fields (syntax self.now.kind)) (frame_line_words self.now) ≡ false }
@@ -284,50 +287,50 @@ impl FrameWords<'_> {
     }
 }
 
-impl FrameShape {
+impl FrameFormat {
     fn min_info_octets(self) -> usize
         ensures { result ≡ min_info_octets (spec_shape_of self) }
     {
         match self {
-            FrameShape::NumberedInfo => 1,
+            FrameFormat::NumberedInfo => 1,
             _ => 0,
         }
     }
 }
 
 impl<'a> FieldWords<'a> {
-    fn have_valid_digits(&self, shape: FrameShape) -> bool
+    fn have_valid_digits(&self, shape: FrameFormat) -> bool
         ensures { result ≡ not (has_faulty_word has_wrong_digits (shape_fields (spec_shape_of shape))
             (field_words (spec_shape_of shape) self.now)) }
     {
         match shape {
-            FrameShape::NumberedInfo => {
+            FrameFormat::NumberedInfo => {
                 is_digit_up_to(7, self.ns)
                     & is_digit_up_to(7, self.nr)
                     & is_digit_up_to(1, self.pf)
                     & is_digit_up_to(1, self.more)
                     & is_dash_or_hex(self.info)
             }
-            FrameShape::Supervisory => is_digit_up_to(7, self.nr) & is_digit_up_to(1, self.pf),
-            FrameShape::WithInfo(_) => is_digit_up_to(1, self.pf) & is_dash_or_hex(self.info),
-            FrameShape::WithoutInfo(_) => is_digit_up_to(1, self.pf),
+            FrameFormat::Supervisory => is_digit_up_to(7, self.nr) & is_digit_up_to(1, self.pf),
+            FrameFormat::WithInfo(_) => is_digit_up_to(1, self.pf) & is_dash_or_hex(self.info),
+            FrameFormat::WithoutInfo(_) => is_digit_up_to(1, self.pf),
         }
     }
 
-    fn info_word(&self, shape: FrameShape) -> &'a [u8]
+    fn info_word(&self, shape: FrameFormat) -> &'a [u8]
         ensures { result.now ≡ info_word (spec_shape_of shape) self.now }
     {
         match shape {
-            FrameShape::NumberedInfo | FrameShape::WithInfo(_) => self.info,
-            FrameShape::Supervisory | FrameShape::WithoutInfo(_) => b"-",
+            FrameFormat::NumberedInfo | FrameFormat::WithInfo(_) => self.info,
+            FrameFormat::Supervisory | FrameFormat::WithoutInfo(_) => b"-",
         }
     }
 
-    /// The fields of the frame, from its kind, the shape of that kind, and its information octets.
+    /// Returns the fields of the frame, given its kind, the shape of that kind, and its information octets.
     fn frame_fields_of_kind<'b>(
         &self,
         kind: Kind,
-        shape: FrameShape,
+        shape: FrameFormat,
         info: &'b [u8],
     ) -> FrameFields<'b>
         requires digits { has_faulty_word has_wrong_digits (shape_fields (spec_shape_of shape))
@@ -350,17 +353,17 @@ impl<'a> FieldWords<'a> {
             info,
         };
         match shape {
-            FrameShape::NumberedInfo => FrameFields {
+            FrameFormat::NumberedInfo => FrameFields {
                 ns: value_of_digit(self.ns),
                 nr: value_of_digit(self.nr),
                 more: is_digit_one(self.more),
                 ..bare
             },
-            FrameShape::Supervisory => FrameFields {
+            FrameFormat::Supervisory => FrameFields {
                 nr: value_of_digit(self.nr),
                 ..bare
             },
-            FrameShape::WithInfo(_) | FrameShape::WithoutInfo(_) => bare,
+            FrameFormat::WithInfo(_) | FrameFormat::WithoutInfo(_) => bare,
         }
     }
 }

@@ -4,17 +4,17 @@ ghost use Rattle.lapdm_frame.specs.Content.{frame_of, abstract_fields};
 ghost use Rattle.lapdm_frame.specs.Frames.{bit_of_bool, FrameFits};
 ghost use Rattle.um_lines.specs.Fields.{FixedWord};
 ghost use Rattle.um_lines.specs.ShowForms.{shape_fields};
-ghost use Rattle.um_lines.specs.Spelled.{octets_word, line_of_values};
+ghost use Rattle.um_lines.specs.LineTexts.{octets_word, line_of_values};
 ghost use Rattle.um_formats.specs.FrameTexts.{line_values_of_fields, frame_text, refusal_word, unreadable_frame_text, octets_text};
 ghost use Rattle.um_formats.specs.FrameTexts.{IsTextOfOctets};
 ghost use Rattle.um_formats.specs.ShowReading.{spec_shape_of, pf_bit_name, digit};
 
-use crate::frame_words::{FrameShape, word_and_shape};
+use crate::frame_words::{FrameFormat, word_and_shape};
 use lapdm_frame::{Channel, FrameFields, FrameView, Refusal};
 use um_block::BLOCK_OCTETS;
 use um_lines::Text;
 
-/// Writes the text line of the frame in an SDCCH block, or `unread` and the reason if the block is not a valid frame.
+/// Writes the text line of the frame in an SDCCH block, or the line `unread REASON` if the block does not hold a valid frame.
 pub fn frame_line(out: &mut Text, octets: &[u8; BLOCK_OCTETS])
     requires { out.old ≡ [] }
     ensures line { IsTextOfOctets octets.now out.new }
@@ -34,7 +34,7 @@ pub fn octets_line(out: &mut Text, octets: &[u8; BLOCK_OCTETS])
     out.push(b"\n");
 }
 
-/// Appends the text line of the frame in an SDCCH block, or `unread` and the reason if the block is not a valid frame.
+/// Appends the text line of the frame in an SDCCH block, or the line `unread REASON` if the block does not hold a valid frame.
 pub(crate) fn push_frame(out: &mut Text, octets: &[u8; BLOCK_OCTETS])
     requires { length out.old + 100 ≤ 4096 }
     ensures text { (text : List ℕ) × IsTextOfOctets octets.now text × (out.new ≡ out.old ++ text) }
@@ -60,7 +60,7 @@ fn push_frame_view(out: &mut Text, view: &FrameView<'_>)
     out.push(b"\n");
 }
 
-fn push_fields(out: &mut Text, kind_word: &[u8], shape: FrameShape, fields: &FrameFields<'_>)
+fn push_fields(out: &mut Text, kind_word: &[u8], shape: FrameFormat, fields: &FrameFields<'_>)
     requires space { length out.old + 75 ≤ 4096 }
     requires size { length kind_word.now ≤ 4 }
     requires name { length (pf_bit_name (spec_shape_of shape)) ≤ 1 }
@@ -73,19 +73,19 @@ fn push_fields(out: &mut Text, kind_word: &[u8], shape: FrameShape, fields: &Fra
     out.push(b" ");
     out.push(kind_word);
     match shape {
-        FrameShape::NumberedInfo => {
+        FrameFormat::NumberedInfo => {
             push_i_frame_fields(out, fields);
             push_info(out, fields.info);
         }
-        FrameShape::Supervisory => {
+        FrameFormat::Supervisory => {
             push_number(out, b" nr ", fields.nr);
             push_named_bit(out, b" pf ", fields.pf);
         }
-        FrameShape::WithInfo(name) => {
+        FrameFormat::WithInfo(name) => {
             push_space_and_named_bit(out, name, fields.pf);
             push_info(out, fields.info);
         }
-        FrameShape::WithoutInfo(name) => push_space_and_named_bit(out, name, fields.pf),
+        FrameFormat::WithoutInfo(name) => push_space_and_named_bit(out, name, fields.pf),
     }
 }
 
@@ -151,11 +151,11 @@ fn push_unread_line(out: &mut Text, reason: Refusal)
     ensures length { length out.new ≤ length out.old + 15 }
 {
     out.push(b"unread ");
-    out.push(unread_reason_word(reason));
+    out.push(word_of_refusal(reason));
     out.push(b"\n");
 }
 
-fn unread_reason_word(reason: Refusal) -> &'static [u8]
+fn word_of_refusal(reason: Refusal) -> &'static [u8]
     ensures word { result.now ≡ refusal_word reason }
     ensures size { length result.now ≤ 7 }
 {

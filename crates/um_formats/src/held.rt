@@ -9,7 +9,7 @@ ghost use Rattle.um_lines.specs.Fields.{is_bit_digit};
 ghost use Rattle.um_formats.specs.SoftOctets.{signed_octets};
 ghost use Rattle.um_formats.specs.declared.burst_lines.BurstLine.{BurstLine as Meaning};
 ghost use Rattle.um_formats.specs.BurstLines.{burst_fault, BurstLineMeans};
-ghost use Rattle.um_formats.specs.Held.{AddsNormalBurst, HoldsBurstOfLine, IsHardNormalLine, IsSoftNormalLine, IsBurstLineResult};
+ghost use Rattle.um_formats.specs.Held.{AddsNormalBurst, HoldsBurstOfLine, IsHardNormalLine, IsSoftNormalLine, GivesBurstsToDecode};
 ghost use Rattle.um_formats.specs.Held.{HasValidSoftValues};
 ghost use Rattle.um_formats.specs.Held.{normal_burst_result};
 
@@ -26,7 +26,7 @@ pub struct HeldBursts {
     count: u8,
 }
 
-// In contracts, a `HeldBursts` consists of the bursts of the incomplete block and the whole buffer.
+// In contracts, a `HeldBursts` stands for the bursts of the incomplete block and all four bursts in the buffer.
 impl Model for HeldBursts {
     ghost use Rattle.std.specs.Prelude.{◌≤◌, take};
     ghost use Rattle.std.specs.List.{All};
@@ -40,9 +40,9 @@ impl Model for HeldBursts {
     ghost invariant = { λ h. (h.count ≤ 3) × All AllSoftBits h.bursts };
 }
 
-/// The result of a line of `replay`: nothing, a burst, or a complete block.
+/// What a line of `replay` makes ready to decode: nothing, a burst, or a complete block.
 #[derive(Clone, Copy, Drop)]
-pub enum BurstLineResult {
+pub enum BurstsToDecode {
     /// Nothing: the line is empty or begins with `#`.
     Skip,
     /// A normal burst, which is held until its block is complete.
@@ -99,7 +99,7 @@ impl HeldBursts {
         }
     }
 
-    /// Adds the burst whose hard bits are written as these digits, and returns true if it completes a block.
+    /// Adds the burst whose hard bits these digits represent, and returns true if it completes a block.
     #[tactic(auto, using(crate::proofs::Lemmas::fourth_burst_completes))]
     fn add_hard_burst(&mut self, digits: &[u8]) -> bool
         requires each { IsTrue (list_all is_bit_digit digits.now) }
@@ -116,7 +116,7 @@ impl HeldBursts {
         }
     }
 
-    /// Adds the burst whose soft values are these octets, and returns true if it completes a block.
+    /// Adds the burst whose soft values these octets represent, and returns true if it completes a block.
     #[tactic(auto, using(crate::proofs::Lemmas::fourth_burst_completes))]
     fn add_soft_burst(&mut self, octets: &[u8; BURST_BITS]) -> bool
         requires { AllSoftBits (signed_octets octets.now) }
@@ -166,27 +166,27 @@ fn hold_soft_burst(line: &[u8], held: &mut HeldBursts) -> Option<bool>
 
 /// Parses a line as `parse_burst` does, and adds a normal burst to `held`. Any other line, or a fault, leaves `held` unchanged.
 #[inline(never)]
-pub fn read_burst_into(line: &[u8], held: &mut HeldBursts) -> Result<BurstLineResult, LineFault>
+pub fn read_burst_into(line: &[u8], held: &mut HeldBursts) -> Result<BurstsToDecode, LineFault>
     ensures means { IfOk result (λ next. (meaning : Meaning) × BurstLineMeans (length held.old.held) line.now meaning
-        × IsBurstLineResult held.old meaning next held.new) }
+        × GivesBurstsToDecode held.old meaning next held.new) }
     ensures refused { result_err result ≡ burst_fault (length held.old.held) line.now }
     ensures soft { IfOk result HasValidSoftValues }
     ensures unchanged { OnErr result (held.new ≡ held.old) }
 {
     match parse_burst(line, held.count())? {
-        BurstLine::Skip => Ok(BurstLineResult::Skip),
+        BurstLine::Skip => Ok(BurstsToDecode::Skip),
         BurstLine::Normal(burst) => Ok(normal_burst_result(held.add(burst))),
-        BurstLine::Access { bsic, soft } => Ok(BurstLineResult::Access { bsic, soft }),
-        BurstLine::Sync(burst) => Ok(BurstLineResult::Sync(burst)),
+        BurstLine::Access { bsic, soft } => Ok(BurstsToDecode::Access { bsic, soft }),
+        BurstLine::Sync(burst) => Ok(BurstsToDecode::Sync(burst)),
     }
 }
 
-fn normal_burst_result(completes_block: bool) -> BurstLineResult
+fn normal_burst_result(completes_block: bool) -> BurstsToDecode
     ensures { result ≡ normal_burst_result completes_block }
 {
     if completes_block {
-        BurstLineResult::Block
+        BurstsToDecode::Block
     } else {
-        BurstLineResult::Held
+        BurstsToDecode::Held
     }
 }

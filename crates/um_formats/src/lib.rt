@@ -19,7 +19,7 @@ pub use burst_lines::{
 pub use bursts::{access_line, block_lines, normal_line, push_block, sync_line};
 pub use code::{CodeLine, law_code_line_meaning_is_unique, parse_code};
 pub use frames::{frame_line, octets_line};
-pub use held::{BurstLineResult, HeldBursts, hold_normal_burst, read_burst_into};
+pub use held::{BurstsToDecode, HeldBursts, hold_normal_burst, read_burst_into};
 pub use reports::{access_report, block_report, sync_report};
 pub use show::{
     ShowLine, law_show_line_meaning_is_unique, law_written_frames_read_back, parse_show,

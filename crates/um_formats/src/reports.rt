@@ -115,7 +115,7 @@ fn push_data_and_check(out: &mut Text, octets: &[u8], check: &[u8])
     ensures text { out.new ≡ out.old ++ data_and_check_text (encode_lower octets.now) (encode_lower check.now) }
     ensures length { length out.new ≡ length out.old + 70 }
 
-    // Unpacking octets to bits and packing the bits again restores the octets.
+    // Unpacking octets into bits and packing the bits again restores the octets.
     ensures octets { octets_of (bits_of octets.now) ≡ octets.now }
     ensures check { octets_of (bits_of check.now) ≡ check.now }
 {

@@ -25,9 +25,9 @@ use um_lines::{
 pub enum ShowLine {
     /// Nothing: the line is empty or begins with `#`.
     Skip,
-    /// A line with 23 octets; the output is the text line of the frame in them.
+    /// A line with 23 octets. The answer is the text line of the frame in them.
     Octets([u8; BLOCK_OCTETS]),
-    /// A line with a frame; the output is the canonical octets of the frame on SDCCH, which are stored here.
+    /// A line with a frame. The answer is the canonical coding of the frame on SDCCH, which is stored here.
     Frame([u8; BLOCK_OCTETS]),
 }
 
@@ -60,7 +60,7 @@ fn parse_words(line: &[u8]) -> Result<ShowLine, LineFault>
     }
 }
 
-// Parses the word after `octets`. Searches the text for a space only if it is not all digits, to return the right fault.
+// Parses the word after `octets`. Searches the text for a space only if some octet is not a digit, to return the right fault.
 #[tactic(auto, using(crate::proofs::Lemmas::hex_word, crate::proofs::Lemmas::whole_word))]
 fn parse_octets(operands: &[u8]) -> Result<ShowLine, LineFault>
     ensures { result ≡ show_parse_result (codes "octets" ∷ words operands.now) }
@@ -93,8 +93,9 @@ pub fn law_show_line_meaning_is_unique()
     ensures { (line : List ℕ) → HasOneMeaningOrFault (show_fault line) (ShowLineMeans line) }
 {}
 
-/// Law: the line written for octets parses to those octets, and the line written for the frame in canonical SDCCH octets parses to the
-/// same octets. Conversely, if a frame's line parses to octets, the line written for these octets is the line of that frame.
+/// Law: parsing the line written for octets returns these octets, and parsing the line written for the frame in canonical SDCCH octets
+/// returns the same octets. Conversely, if the line of a frame parses to octets, the line written for these octets is the line of that
+/// frame.
 pub fn law_written_frames_read_back()
     ensures octets { (octets line : List ℕ) → length octets ≡ BLOCK_OCTETS → All (λ octet. octet < 256) octets
         → octets_text octets ≡ line ++ codes "\n" → IsUnskippedLine line × ShowLineMeans line (ShowLine.Octets octets) }

@@ -9,7 +9,7 @@ ghost use Rattle.um_formats.specs.SoftOctets.{signed_octets};
 
 use um_lines::{LineFault, octets_of};
 
-/// The soft values of `N` hard bits, written as digits: 127 for `0`, -127 for `1`.
+/// Returns the soft values of `N` hard bits, given as digits: 127 for `0`, -127 for `1`.
 pub(crate) fn hard_values<const N: usize>(digits: &[u8]) -> [i8; N]
     requires each { IsTrue (list_all is_bit_digit digits.now) }
     requires size { length digits.now ≡ N }
@@ -20,7 +20,7 @@ pub(crate) fn hard_values<const N: usize>(digits: &[u8]) -> [i8; N]
     values
 }
 
-/// Writes the soft values of `N` hard bits, given as digits: 127 for `0`, -127 for `1`.
+/// Writes the soft values of `N` hard bits, given as digits, to `values`: 127 for `0`, -127 for `1`.
 pub(crate) fn write_hard_values<const N: usize>(digits: &[u8], values: &mut [i8; N])
     requires each { IsTrue (list_all is_bit_digit digits.now) }
     requires size { length digits.now ≡ N }
@@ -39,7 +39,7 @@ fn hard_value(digit: u8) -> i8
     (2 * (digit - b'0') + 127).cast_signed()
 }
 
-/// The soft values that `2 * N` hexadecimal digits represent, or the fault `Soft` if one of them is -128.
+/// Returns the soft values that `2 * N` hexadecimal digits represent, or the fault `Soft` if one of them is -128.
 pub(crate) fn soft_values<const N: usize>(digits: &[u8]) -> Result<[i8; N], LineFault>
     requires each { IsTrue (list_all is_hex_digit digits.now) }
     requires size { length digits.now ≡ 2 * N }

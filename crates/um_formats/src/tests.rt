@@ -116,7 +116,7 @@ fn hard_bits_become_127_or_minus_127_and_a_lost_burst_zeros(rt: HostRuntime) -> 
     Ok(())
 }
 
-// The access burst whose 8 bits and BSIC are all 0.
+// The access burst whose 8 information bits and 6 BSIC bits are all 0.
 const ACCESS_BURST: [u8; 88] = [
     0, 0, 1, 1, 1, 0, 1, 0, 0, 1, 0, 0, 1, 0, 1, 1, 0, 1, 1, 1, 1, 1, 1, 1, 1, 0, 0, 1, 1, 0, 0, 1,
     1, 0, 1, 0, 1, 0, 1, 0, 0, 0, 1, 1, 1, 1, 0, 0, 0, 0, 0, 0, 0, 0, 0, 0, 0, 0, 0, 0, 0, 0, 0, 0,

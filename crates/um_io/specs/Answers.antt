@@ -7,7 +7,7 @@ use Rattle.um_io.specs.Next.{IsReaderStep}
 use Rattle.um_io.specs.declared.lines.Next.{Next}
 use Rattle.um_io.specs.declared.lines.Next.TheVariants.{Line, End, Long, TooMany, Failed}
 
--- successive calls of a reader, from the first state to the last, return exactly these lines and read exactly these octets
+-- successive calls lead a reader from the state `before` to the state `after`, return exactly these lines, and read exactly these octets
 abbrev pub CallsReturnLines : (before : ReaderState) (unread_before : Option (List ℕ)) (lines : List (List ℕ))
     (octets_read : List ℕ) (after : ReaderState) (unread_after : Option (List ℕ)) → Type 0
 CallsReturnLines r left [] came r' left' = (came ≡ []) × (r' ≡ r) × (left' ≡ left)
@@ -16,8 +16,8 @@ CallsReturnLines r left (line ∷ lines) came r' left' =
     × (came ≡ first ++ rest)
     × IsReaderStep r mid left between (Line answer) first × CallsReturnLines mid between lines rest r' left'
 
--- `octets_read`, the part of `octets` that was read, consists of the complete `lines`, an incomplete `line` within the input limit, and the
--- octets `octets_past_limit` that limit
+-- `octets_read`, the part of `octets` that was read, consists of the complete `lines`, then an incomplete `line` within the input limit,
+-- and then `octets_past_limit`, the octets past that limit
 pub record DividesReadOctets (octets octets_read : List ℕ) (lines : List (List ℕ)) (line octets_past_limit : List ℕ) : Type 0 where
   pub unread : List ℕ
   pub octets_split : octets ≡ octets_read ++ unread
@@ -27,7 +27,7 @@ pub record DividesReadOctets (octets octets_read : List ℕ) (lines : List (List
   pub limit : length (text_of_lines lines ++ line) ≤ input_limit
   pub past_only_at_limit : 0 < length octets_past_limit → length (text_of_lines lines ++ line) ≡ input_limit
 
--- the relation between the octets read and the lines returned when a reader stops with this result; `came` is the part of `octets` read
+-- the reader stops with this result after it has read the octets `came`, the first part of `octets`, and returned these lines
 abbrev pub ReaderStopsWith : Next → (octets came : List ℕ) → List (List ℕ) → Type 0
 -- a line does not stop the reader
 ReaderStopsWith (Line line) octets came lines = Unit {0}

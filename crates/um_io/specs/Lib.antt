@@ -1,8 +1,8 @@
 -- The definitions that the contracts of this crate cite.
 pub mod Answers
-pub mod Asking
+pub mod SourceCalls
 pub mod Buffer
-pub mod Found
+pub mod SearchResults
 pub mod Lines
 pub mod Memory
 pub mod Next

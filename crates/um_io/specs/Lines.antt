@@ -11,7 +11,7 @@ IsNotLineFeed octet = ¬ (octet ≡ 10)
 abbrev pub IsLine : List ℕ → Type 0
 IsLine line = All IsNotLineFeed line
 
--- the first line feed of the octets has index `index`
+-- the first line feed in the octets is at index `index`
 pub record IsFirstLineFeed (octets : List ℕ) (index : ℕ) : Type 0 where
   pub in_range : index < length octets
   pub no_line_feed : IsLine (take index octets)
@@ -35,7 +35,7 @@ pub record IsDivided (octets : List ℕ) (lines : List (List ℕ)) : Type 0 wher
   pub no_line_feed : All IsLine lines
   pub octets_split : (octets ≡ text_of_lines lines) ⊎ EndsWithoutLineFeed octets lines
 
--- prepends an octet to the first line of a list of lines
+-- prepends an octet to the first line of a list of lines; if the list is empty, the octet becomes its only line
 abbrev pub push_onto_first_line : (octet : ℕ) (lines : List (List ℕ)) → List (List ℕ)
 push_onto_first_line octet [] = (octet ∷ []) ∷ []
 push_onto_first_line octet (line ∷ lines) = (octet ∷ line) ∷ lines

@@ -11,8 +11,8 @@ use Rattle.um_io.specs.declared.lines.Next.{Next}
 use Rattle.um_io.specs.declared.lines.Next.TheVariants.{Line, End, Long, TooMany, Failed}
 use Rattle.um_io.specs.contracts.lines.Lines.{the_row}
 
--- the reader returned a line: the available octets `buffered_octets` are the `line`, its line `line_feed` if it has one, and the octets
--- that remain buffered
+-- the reader returned a line: `buffered_octets`, all available octets, are the `line`, its `line_feed` if it has one, and the octets that
+-- remain buffered
 pub record ReturnsLine (reader reader' : ReaderState) (buffered_octets line line_feed : List ℕ) : Type 0 where
   pub octets : buffered_octets ≡ line ++ line_feed ++ (reader'.held ++ reader'.excess)
   pub no_line_feed : IsLine line
@@ -22,7 +22,7 @@ pub record ReturnsLine (reader reader' : ReaderState) (buffered_octets line line
   pub line_count : reader'.line_count ≡ reader.line_count + 1
   pub is_over : reader'.is_over ≡ false
 
--- the reader returned no line: the available octets `buffered_octets` remain buffered, and those within the input limit contain no line
+-- the reader returned no line: `buffered_octets`, all available octets, remain buffered, and those within the input limit contain no line
 -- feed
 pub record ReturnsNoLine (reader reader' : ReaderState) (buffered_octets : List ℕ) (is_over : Bool) : Type 0 where
   pub octets : buffered_octets ≡ reader'.held ++ reader'.excess
@@ -31,7 +31,7 @@ pub record ReturnsNoLine (reader reader' : ReaderState) (buffered_octets : List 
   pub line_count : reader'.line_count ≡ reader.line_count
   pub stops : reader'.is_over ≡ is_over
 
--- the result of one call, given all available octets: the octets buffered before and the octets that the call reads
+-- the result of one call, given all available octets: those that were buffered before the call and those that the call reads
 abbrev pub IsNextLineResult : ReaderState → ReaderState → List ℕ → Next → Type 0
 -- a line that ended with a line feed, or the last octets of the input without one
 IsNextLineResult r r' all (Line line) = ReturnsLine r r' all line.now (10 ∷ []) ⊎ (ReturnsLine r r' all line.now [] ×
@@ -61,7 +61,7 @@ abbrev pub IsInputEnd : Next → Type 0
 IsInputEnd End = Unit {0}
 IsInputEnd _ = ⊥
 
--- one call: its result, the reader after it, and the octets that remain in the source
+-- one call returns this result, and leaves the reader in this state and these octets in the source
 pub record IsNextLineCall (reader : ReaderState) (unread_before unread_after : Option (List ℕ)) (next : Next) (reader' : ReaderState) :
     Type 0 where
   pub valid : IsValidReader reader'

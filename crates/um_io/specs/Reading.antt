@@ -52,7 +52,8 @@ IsResultReady r = (r.is_over ≡ true) ⊎ (¬ NeedsMoreOctets r)
 abbrev pub NeedsReading : ReaderState → Type 0
 NeedsReading r = (r.is_over ≡ false) × NeedsMoreOctets r
 
--- a reader that buffers these octets, divided into the octets within the input limit and the octets past it
+-- a reader that buffers these octets, divided into those within the input limit and those past it; the reader has already returned
+-- `answered` octets in `number` lines
 abbrev pub reader_holding : (octets : List ℕ) (answered number : ℕ) (ended is_over : Bool) → ReaderState
 reader_holding octets answered number ended is_over =
     let within = input_limit - answered in

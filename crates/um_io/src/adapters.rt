@@ -1,4 +1,4 @@
-//! Adapters from any `Read` to a source and from any `Write` to a sink.
+//! Adapters that make a source from any `Read` and a sink from any `Write`.
 ghost use Rattle.std.specs.Prelude.{◌≡◌, ◌≤◌, OnOk, OnErr};
 ghost use Rattle.std.specs.Io.{ReadsAtMost, WritesAtMost};
 ghost use Rattle.std.specs.Io.KnownBytes.{ReadConsumes, WriteAppends};
@@ -49,8 +49,8 @@ impl<R: Read> Source for ReadSource<R> {
     }
 }
 
-/// A sink that writes to a `Write`. It counts each error of the writer as a failure, and also each call that takes none of the octets
-/// offered.
+/// A sink that writes to a `Write`. It counts as a failure each error of the writer, and each call in which the writer takes none of the
+/// octets offered.
 ///
 /// The sink knows which octets were taken if the writer does.
 #[derive(Debug, Drop)]

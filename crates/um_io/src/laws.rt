@@ -7,7 +7,7 @@ ghost use Rattle.um_io.specs.Next.{IsReaderStep};
 ghost use Rattle.um_io.specs.Answers.{CallsReturnLines, ReaderStopsWith};
 ghost use Rattle.um_io.specs.declared.lines.Next.{Next};
 
-/// Law: every list of octets is divided into lines in exactly one way.
+/// Law: every list of octets can be divided into lines in exactly one way.
 pub fn law_division_into_lines_is_unique()
     ensures divided { (octets : List ℕ) → IsDivided octets (lines_of_octets octets) }
     ensures only { (octets : List ℕ) (lines : List (List ℕ)) → IsDivided octets lines → lines ≡ lines_of_octets octets }

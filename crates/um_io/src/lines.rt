@@ -2,9 +2,9 @@
 ghost use Rattle.std.specs.Prelude.{◌≡◌, ◌≤◌, ◌<◌, ◌+◌, ◌-◌, ◌↔◌, ℕ, List, Bool, true, false, None, []};
 ghost use Rattle.std.specs.Prelude.{◌++◌, length, MatchBool, MatchOption, IfOk, IfSome, OnOk, OnErr, IsTrue, ◌⊎◌};
 ghost use Rattle.std.specs.Borrow.{sem};
-ghost use Rattle.um_io.specs.Asking.{StopsAtEndOrFailure, IsOneSourceCall};
+ghost use Rattle.um_io.specs.SourceCalls.{StopsAtEndOrFailure, IsOneSourceCall};
 ghost use Rattle.um_io.specs.Streams.{FailureCountRose};
-ghost use Rattle.um_io.specs.Found.{IsFoundWithoutLineFeed, HasNoResultYet};
+ghost use Rattle.um_io.specs.SearchResults.{IsFoundWithoutLineFeed, HasNoResultYet};
 
 use crate::buffer::{Buffer, LINE_LIMIT};
 use crate::streams::{Failed, NoMemory, Source};
@@ -32,13 +32,13 @@ pub enum Next<'a> {
 /// What a line reader finds in its buffered octets.
 #[derive(Clone, Copy, Debug, PartialEq, Eq)]
 enum LineSearchResult {
-    /// A line: its length in octets (`length`), and the length including its line feed, if it has one (`whole`).
-    Line { length: usize, whole: usize },
+    /// A line of `length` octets, or of `with_feed` octets together with its line feed, if it has one.
+    Line { length: usize, with_feed: usize },
     /// The end of the input, with no octets left.
     NoOctets,
     /// A line that exceeds the line limit.
     LineTooLong,
-    /// An octet past the input limit.
+    /// No line feed within the input limit, but octets past that limit.
     PastInputLimit,
 }
 
@@ -71,7 +71,7 @@ impl Model for Lines {
 impl Lines {
     ghost use Rattle.um_io.specs.Lines.{IsLine, IsFirstLineFeed};
     ghost use Rattle.um_io.specs.Reading.{new_reader, IsValidReader, NeedsMoreOctets, IsResultReady, NeedsReading, buffer_limit};
-    ghost use Rattle.um_io.specs.Found.{IsFoundInBuffer, IsReadResult, IsSearchResult};
+    ghost use Rattle.um_io.specs.SearchResults.{IsFoundInBuffer, IsReadResult, IsSearchResult};
     ghost use Rattle.um_io.specs.Next.{LineBorrowEnds, CountsReadFailure};
 
     /// Creates a reader that has read nothing, and allocates all its memory.
@@ -147,7 +147,7 @@ impl Lines {
         if let Some(at) = self.first_line_feed() {
             return Some(LineSearchResult::Line {
                 length: at,
-                whole: at + 1,
+                with_feed: at + 1,
             });
         }
         let octets_within_limit = self.octets_within_limit();
@@ -158,7 +158,7 @@ impl Lines {
         )
     }
 
-    /// Reads from the source once. A read that returns no octet marks the end of the input.
+    /// Reads from the source once. A read that returns no octets marks the end of the input.
     #[cold]
     #[inline(never)]
     fn read<S: Source>(&mut self, source: &mut S) -> Result<(), Failed>
@@ -194,7 +194,7 @@ impl Lines {
         }
     }
 
-    /// Returns the next line, and reads from the source only if necessary.
+    /// Returns the next line, or the reason why there is none. Reads from the source only if necessary.
     ///
     /// After `Long`, `TooMany` or `Failed`, every further result is `End`. A source that has reached its end is not called again.
     #[inline(always)]
@@ -208,10 +208,10 @@ impl Lines {
             return Next::End;
         }
         match self.find_line(source) {
-            Ok(LineSearchResult::Line { length, whole }) => {
-                let from = self.buffer.skip(whole);
+            Ok(LineSearchResult::Line { length, with_feed }) => {
+                let from = self.buffer.skip(with_feed);
                 self.line_feed = None;
-                self.octet_count += whole as u64;
+                self.octet_count += with_feed as u64;
                 self.number += 1;
                 Next::Line(self.buffer.slice(from, from + length))
             }
@@ -232,25 +232,26 @@ impl Lines {
     }
 }
 
-/// What a reader finds if it holds `within_limit` octets without a line feed and `past_limit` octets past the limit; `None` if it must read
-/// more octets first.
+/// Returns what a reader finds if it buffers this many octets within the input limit, without a line feed, and this many past that limit;
+/// `None` if it must read more octets first.
 fn find_without_line_feed(
-    within_limit: usize,
-    past_limit: usize,
+    octets_within_limit: usize,
+    octets_past_limit: usize,
     ended: bool,
 ) -> Option<LineSearchResult>
-    ensures { MatchOption result (HasNoResultYet within_limit past_limit ended) (IsFoundWithoutLineFeed within_limit past_limit ended) }
+    ensures { MatchOption result (HasNoResultYet octets_within_limit octets_past_limit ended)
+        (IsFoundWithoutLineFeed octets_within_limit octets_past_limit ended) }
 {
-    if within_limit > LINE_LIMIT {
+    if octets_within_limit > LINE_LIMIT {
         Some(LineSearchResult::LineTooLong)
-    } else if past_limit > 0 {
+    } else if octets_past_limit > 0 {
         Some(LineSearchResult::PastInputLimit)
     } else if !ended {
         None
-    } else if within_limit > 0 {
+    } else if octets_within_limit > 0 {
         Some(LineSearchResult::Line {
-            length: within_limit,
-            whole: within_limit,
+            length: octets_within_limit,
+            with_feed: octets_within_limit,
         })
     } else {
         Some(LineSearchResult::NoOctets)
@@ -336,7 +337,7 @@ mod tests {
         Ok(())
     }
 
-    /// A source that returns the stored number of line feeds.
+    /// A source that consists of this number of line feeds.
     #[derive(Drop)]
     struct LineFeedSource(usize);
 

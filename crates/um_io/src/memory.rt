@@ -14,7 +14,7 @@ use crate::streams::{Failed, NoMemory, Sink, Source, count_failure};
 use std::alloc::Global;
 use std::marker::Model;
 
-/// Moves at most `max_per_call` octets from the start of `left` to the start of `destination`, and returns their number.
+/// Moves at most `max_per_call` octets from the start of `unread_octets` to the start of `destination`, and returns their number.
 fn move_octets(unread_octets: &mut &[u8], max_per_call: usize, destination: &mut [u8]) -> usize
     ensures exact { result ≡ read_octet_count max_per_call unread_octets.old.now destination.old }
     ensures copied { destination.new ≡ buffer_after_read unread_octets.old.now result destination.old }

@@ -38,7 +38,8 @@ pub trait Source {
     fn take(&mut self, into: &mut [u8]) -> Result<usize, Failed>
         ensures bound { ReadsAtMost result into.new }
 
-        // A call returns the first of the remaining octets. A result of 0 means the end of the input; a failed call consumes no octets.
+        // A successful call returns the first of the remaining octets; a result of 0 means the end of the input. A failed call consumes no
+        // octets.
         ensures octets { ReadConsumes (left self.old) (left self.new) result into.new }
         ensures step { is_call self.old (result_ok result) self.new }
 
@@ -60,7 +61,7 @@ pub trait Sink {
     fn put(&mut self, piece: &[u8]) -> Result<usize, Failed>
         ensures bound { WritesAtMost result piece.now }
 
-        // If `piece` is not empty, at least one octet is taken.
+        // A successful call takes at least one octet, unless `piece` is empty.
         ensures some { TakesAtLeastOneOctet result piece.now }
 
         // The octets are appended to those taken so far; a failed call takes no octets.

@@ -5,7 +5,7 @@ use Rattle.um_lines.specs.Fields.{Value}
 use Rattle.um_lines.specs.Forms.{LineForms, LineMeans, form_of_words, first_word_fault, meaning_of_words, fault_or_value}
 use Rattle.um_lines.specs.Meanings.{IsValueOfMeaning}
 
--- the line parses to this value: the given function computes it from the meaning of the line
+-- the line parses to the value `made`, which the function `make` computes from the meaning of the line
 abbrev pub LineParsesTo : {Name A : Type 0} (table : LineForms Name) (misplaced : Name → Bool) (make : (Option (Name × List Value) →
     A)) (line : List ℕ) (made : A) → Type 0
 LineParsesTo table misplaced make line = IsValueOfMeaning make (LineMeans table misplaced line)

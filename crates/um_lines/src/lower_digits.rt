@@ -57,8 +57,8 @@ fn write_sixteen_hex_octets(octets: &[u8], digits: &mut [u8], at: usize)
     }
 }
 
-/// The high and the low hexadecimal digits of the sixteen octets that start at index `at`. Two separate arrays show the compiler that
-/// writing a digit changes no octet; if this function were inlined, its loop would merge with the caller's into a slower one.
+/// Returns the high and the low hexadecimal digits of the sixteen octets that start at index `at`. Two separate arrays show the compiler
+/// that writing a digit changes no octet; if this function were inlined, its loop would merge with the caller's into a slower one.
 #[inline(never)]
 fn digits_of_sixteen(octets: &[u8], at: usize) -> ([u8; 16], [u8; 16])
     requires { at + 16 ≤ length octets.now }

@@ -15,7 +15,7 @@ pub struct Text {
     length: usize,
 }
 
-// In contracts, a `Text` is its list of octets.
+// In contracts, a `Text` stands for the list of its octets.
 impl Model for Text {
     ghost use Rattle.std.specs.Prelude.{ℕ, ◌≤◌, List, take};
 
@@ -123,7 +123,7 @@ fn write_one_by_one(digits: &mut [u8], bits: &[u8])
     }
 }
 
-// Writes sixteen digits at a time; the last sixteen may overlap the preceding ones.
+// Writes the bits as digits, sixteen at a time; the last sixteen may overlap the preceding ones.
 #[inline(always)]
 fn write_by_sixteens(digits: &mut [u8], bits: &[u8])
     requires count { length digits.old ≡ length bits.now }

@@ -1,4 +1,4 @@
--- The calls of a world make one step of the definition.
+-- The calls of a `World` for one event together make one step of the definition.
 use Rattle.{
   circular_buffer.specs.Buffer.{Buffer, buffer},
   lapdm_end.specs.declared.sides.Side.Side,
@@ -38,87 +38,87 @@ use Rattle.um_link.specs.BlockTaking as H
 
 -- ## Flipping: The loop of `invert_bits`: each round inverts one more bit.
 
-flipped-last : (places : List ℕ) (place : ℕ) (block : Block) →
+inverted-last : (places : List ℕ) (place : ℕ) (block : Block) →
     with_bits_inverted (places ++ place ∷ []) block ≡ with_bit_inverted place (with_bits_inverted places block)
-flipped-last [] place block = refl
-flipped-last (p ∷ ps) place block = flipped-last ps place (with_bit_inverted p block)
+inverted-last [] place block = refl
+inverted-last (p ∷ ps) place block = inverted-last ps place (with_bit_inverted p block)
 
 pub record AreFlipped (places : List ℕ) (i : ℕ) (before now : Block) : Type 0 where
   pub inverted : now ≡ with_bits_inverted (take i places) before
   pub bits : All AllBits now
 
-pub one_more_flipped : (places : List ℕ) (i : ℕ) (before mid now : Block) → AreFlipped places i before mid → i < length places →
+pub AreFlipped-next : (places : List ℕ) (i : ℕ) (before mid now : Block) → AreFlipped places i before mid → i < length places →
     now ≡ with_bit_inverted (get_or places i 0) mid → All AllBits now → AreFlipped places (i + 1) before now
-one_more_flipped places i before mid now h within e bits = record {
-  inverted = rw (e, h.inverted, take_more places i 0 within) (sym (flipped-last (take i places) (get_or places i 0) before));
+AreFlipped-next places i before mid now h within e bits = record {
+  inverted = rw (e, h.inverted, take_more places i 0 within) (sym (inverted-last (take i places) (get_or places i 0) before));
   bits = bits;
 }
 
 -- ## Asking: A call to one side is carried out as a step of both sides in which the other side does not change.
 
-abbrev pub Done : BothSides → Effects → Channel → E.SideStep → Type 0
-Done p effects channel d = EndsRepresent p d.new_state × HasEffects effects channel d
+abbrev pub RepresentsStep : BothSides → Effects → Channel → E.SideStep → Type 0
+RepresentsStep p effects channel d = EndsRepresent p d.new_state × HasEffects effects channel d
 
 module _ (old : BothSides) (event_step : D.SideState → D.SideStep) (sapi : Sapi) (effects : Effects) (m : Side) (es : E.BothSides)
     (st : EndsRepresent old es)
   where
-    pub by_mobile : (role : Role) → role ≡ Mobile → S.StepRefines event_step old.mobile sapi effects m →
-        Done (record old { mobile = m }) effects (channel_of_ends old)
-        (E.step_of_both_sides role (event_step (E.side_with_role role es)) es)
-    by_mobile role is follows =
+    pub mobile-step : (role : Role) → role ≡ Mobile → S.StepRefines event_step old.mobile sapi effects m →
+        RepresentsStep (record old { mobile = m }) effects (channel_of_ends old)
+        (E.step_with_peer_unchanged role (event_step (E.side_with_role role es)) es)
+    mobile-step role is follows =
         let h = follows es.mobile st.mobile in
         rw is (record { mobile = h.represents; network = st.network }, record { frames = h.frames; notices = h.notices })
 
-    pub by_network : (role : Role) → role ≡ Network → IsOnChannel (channel_of_ends old) old →
-        S.StepRefines event_step old.network sapi effects m → Done (record old { network = m }) effects (channel_of_ends old)
-        (E.step_of_both_sides role (event_step (E.side_with_role role es)) es)
-    by_network role is on follows =
+    pub network-step : (role : Role) → role ≡ Network → IsOnChannel (channel_of_ends old) old →
+        S.StepRefines event_step old.network sapi effects m → RepresentsStep (record old { network = m }) effects (channel_of_ends old)
+        (E.step_with_peer_unchanged role (event_step (E.side_with_role role es)) es)
+    network-step role is on follows =
         let h = rw on.network at (follows es.network st.network) in
         rw is (record { mobile = st.mobile; network = h.represents }, record { frames = h.frames; notices = h.notices })
 
 -- ## Reading: The side receives the frame that is read from a block; if no frame is read, nothing happens.
 
-pub read_taken : (role : Role) (channel : Channel) (octets : Octets) (accepted : Option Octets) (f : Frame) (old new : BothSides)
+pub TakingFrame-read : (role : Role) (channel : Channel) (octets : Octets) (accepted : Option Octets) (f : Frame) (old new : BothSides)
     (effects : Effects) (link : Sapi) → accepted ≡ Some octets → IsOnlyFrame channel f octets →
     channel ≡ F.channel_of_ends old → F.StepRefines (F.channel_of_ends old) (E.step_for_read_frame role (Some f)) old effects new →
     ((es : E.BothSides) → F.Represents old es → link ≡ (E.step_for_read_frame role (Some f) es).sapi) →
     TakingFrameRefines role channel accepted old link effects new
-read_taken role channel octets accepted f old new effects link is only on follows sapi es st =
+TakingFrame-read role channel octets accepted f old new effects link is only on follows sapi es st =
     let g = follows es st in
     record { read = Some f; reads_frame = rw is only.frame; represents = g.0; has_effects = rw on g.1; sapi = sapi es st }
 
-pub none_taken : (role : Role) (channel : Channel) (accepted : Option Octets) (old : BothSides) (effects : Effects) →
+pub TakingFrame-none : (role : Role) (channel : Channel) (accepted : Option Octets) (old : BothSides) (effects : Effects) →
     ReadsFrame channel accepted None → effects.frames ≡ [] → effects.notices ≡ [] →
     TakingFrameRefines role channel accepted old Zero effects old
-none_taken Mobile channel accepted old effects reads frames notices es st =
+TakingFrame-none Mobile channel accepted old effects reads frames notices es st =
     record { read = None; reads_frame = reads; represents = st; has_effects = record { frames = frames; notices = notices }; sapi = refl }
-none_taken Network channel accepted old effects reads frames notices es st =
+TakingFrame-none Network channel accepted old effects reads frames notices es st =
     record { read = None; reads_frame = reads; represents = st; has_effects = record { frames = frames; notices = notices }; sapi = refl }
 
 -- ## SendingLoop: The loop of `send_frames`: each round appends one more block.
 
-coded-push : (tsc : ℕ) (os : List Octets) (bs : List Block) (o : Octets) (b : Block) → AreCodedBlocks tsc os bs →
+AreCoded-push : (tsc : ℕ) (os : List Octets) (bs : List Block) (o : Octets) (b : Block) → AreCodedBlocks tsc os bs →
     IsSentBlock o tsc b → AreCodedBlocks tsc (os ++ o ∷ []) (bs ++ b ∷ [])
-coded-push tsc [] [] o b h s = (s, tt)
-coded-push tsc (p ∷ ps) (c ∷ cs) o b h s = (h.0, coded-push tsc ps cs o b h.1 s)
-coded-push tsc os bs o b h s = absurd h
+AreCoded-push tsc [] [] o b h s = (s, tt)
+AreCoded-push tsc (p ∷ ps) (c ∷ cs) o b h s = (h.0, AreCoded-push tsc ps cs o b h.1 s)
+AreCoded-push tsc os bs o b h s = absurd h
 
-adds-none : (tsc : ℕ) (old : List Block) → AppendsBlocks tsc [] old old
-adds-none tsc old = record { blocks = []; coded = tt; appended = sym (append-nil old) }
+Appends-none : (tsc : ℕ) (old : List Block) → AppendsBlocks tsc [] old old
+Appends-none tsc old = record { blocks = []; coded = tt; appended = sym (append-nil old) }
 
-pub adds-more : (tsc : ℕ) (os : List Octets) (old mid : List Block) (o : Octets) (b : Block) → AppendsBlocks tsc os old mid →
+pub Appends-more : (tsc : ℕ) (os : List Octets) (old mid : List Block) (o : Octets) (b : Block) → AppendsBlocks tsc os old mid →
     IsSentBlock o tsc b → AppendsBlocks tsc (os ++ o ∷ []) old (mid ++ b ∷ [])
-adds-more tsc os old mid o b h s = record {
+Appends-more tsc os old mid o b h s = record {
   blocks = h.blocks ++ b ∷ [];
-  coded = coded-push tsc os h.blocks o b h.coded s;
+  coded = AreCoded-push tsc os h.blocks o b h.coded s;
   appended = rw (h.appended, append_assoc) refl;
 }
 
 -- appending to a circular buffer with free space overwrites nothing
-push_keeps_all : (n : ℕ) (bs : List Block) → length bs ≤ n → drop (length bs - n) bs ≡ bs
-push_keeps_all n bs h = let e : length bs - n ≡ 0 = omega arith in rw e refl
+drop_excess-none : (n : ℕ) (bs : List Block) → length bs ≤ n → drop (length bs - n) bs ≡ bs
+drop_excess-none n bs h = let e : length bs - n ≡ 0 = omega arith in rw e refl
 
--- ## Sending: What sending one frame, and removing one block, does to a queue.
+-- ## Sending: How sending one frame, and removing one block, changes a queue.
 
 -- the loop has coded, appended and sent the first i frames
 pub record AreSentSoFar (tsc : ℕ) (octets : List Octets) (i : ℕ) (old new : Buffer Block) (sent sent' heard heard' : ℕ) : Type 0 where
@@ -129,19 +129,19 @@ pub record AreSentSoFar (tsc : ℕ) (octets : List Octets) (i : ℕ) (old new : 
   pub sent_count : sent' ≡ counter_plus i sent
   pub heard_same : heard' ≡ heard
 
-pub one_more : (tsc : ℕ) (octets : List Octets) (i : ℕ) (old mid new : Buffer Block) (sent sent' sent'' heard heard' heard'' : ℕ)
+pub AreSentSoFar-next : (tsc : ℕ) (octets : List Octets) (i : ℕ) (old mid new : Buffer Block) (sent sent' sent'' heard heard' heard'' : ℕ)
     (b : Block) → AreSentSoFar tsc octets i old mid sent sent' heard heard' → i < length octets →
     IsSentBlock (get_or octets i []) tsc b → All AllBits b → length old.items + length octets ≤ old.capacity →
     new.items ≡ drop (length (mid.items ++ b ∷ []) - mid.capacity) (mid.items ++ b ∷ []) → new.capacity ≡ mid.capacity →
     sent'' ≡ counter_plus_one sent' → heard'' ≡ heard' → AreSentSoFar tsc octets (i + 1) old new sent sent'' heard heard''
-one_more tsc octets i old mid new sent sent' sent'' heard heard' heard'' b h within is_sent bits room is capacity tally other =
+AreSentSoFar-next tsc octets i old mid new sent sent' sent'' heard heard' heard'' b h within is_sent bits room is capacity tally other =
     let next : i + 1 ≡ suc i = omega arith in
     let longer : length (mid.items ++ b ∷ []) ≡ length mid.items + 1 = length-append mid.items (b ∷ []) in
-    let pushed : new.items ≡ mid.items ++ b ∷ [] = is ∙ push_keeps_all mid.capacity (mid.items ++ b ∷ [])
+    let pushed : new.items ≡ mid.items ++ b ∷ [] = is ∙ drop_excess-none mid.capacity (mid.items ++ b ∷ [])
     (omega (arith, longer, h.count, h.capacity, room, within)) in
     record {
       appends = rw (pushed, take_more octets i [] within)
-          (adds-more tsc (take i octets) old.items mid.items (get_or octets i []) b h.appends is_sent);
+          (Appends-more tsc (take i octets) old.items mid.items (get_or octets i []) b h.appends is_sent);
       capacity = capacity ∙ h.capacity;
       count = omega (arith, ap length pushed, longer, h.count);
       bits = rw is (All-drop (All AllBits) _ _ (All-push (All AllBits) _ b h.bits bits));
@@ -149,16 +149,16 @@ one_more tsc octets i old mid new sent sent' sent'' heard heard' heard'' b h wit
       heard_same = other ∙ h.heard_same;
     }
 
-pub first_gone : (old new : Buffer Block) → IsValidQueue old → new ≡ buffer (drop 1 old.items) old.capacity → IsValidQueue new
-first_gone old new h e = rw e (record { capacity = h.capacity; bits = All-drop (All AllBits) 1 old.items h.bits })
+pub IsValidQueue-rest : (old new : Buffer Block) → IsValidQueue old → new ≡ buffer (drop 1 old.items) old.capacity → IsValidQueue new
+IsValidQueue-rest old new h e = rw e (record { capacity = h.capacity; bits = All-drop (All AllBits) 1 old.items h.bits })
 
-pub gone_first : (old new : List Block) → 0 < length old → new ≡ drop 1 old → (block : Block) × (old ≡ block ∷ new)
-gone_first [] new some e = absurd (omega (arith, some))
-gone_first (b ∷ bs) new some e = (b, rw e refl)
+pub oldest-split : (old new : List Block) → 0 < length old → new ≡ drop 1 old → (block : Block) × (old ≡ block ∷ new)
+oldest-split [] new some e = absurd (omega (arith, some))
+oldest-split (b ∷ bs) new some e = (b, rw e refl)
 
-pub gone_last : (old new : List Block) → length old ≡ 1 → new ≡ [] → (block : Block) × (old ≡ block ∷ new)
-gone_last (b ∷ []) new one e = (b, rw e refl)
-gone_last old new one e = absurd (omega (arith, one))
+pub only-split : (old new : List Block) → length old ≡ 1 → new ≡ [] → (block : Block) × (old ≡ block ∷ new)
+only-split (b ∷ []) new one e = (b, rw e refl)
+only-split old new one e = absurd (omega (arith, one))
 
 -- ## Stepping: The contracts of the calls of a world, taken together, give one step of the definition, for each kind of event.
 
@@ -216,14 +216,15 @@ abbrev pub step_by : E.Who → Sapi → Option Received → Effects → A.Step
 step_by who sapi received effects =
     record { who = who; sapi = sapi; received = received; frames = effects.frames; notices = effects.notices }
 
-pub finish : (event : A.Event) (a : AirState) (m w : WorldState) (read : Option Frame) (effects : Effects) (who : E.Who) (sapi : Sapi)
+pub carries_out_event : (event : A.Event) (a : AirState) (m w : WorldState) (read : Option Frame) (effects : Effects) (who : E.Who)
+    (sapi : Sapi)
     (received : Option Received) (role : Role) →
     IsReady a (queues_after_removal event a.queues) m effects (E.event_step (event_with_frame read event) a.ends) →
     AppendsToQueue role effects.frames m w → EventDelivers a event received read → sending_role who ≡ role →
     who ≡ (E.event_step (event_with_frame read event) a.ends).who →
     sapi ≡ (E.event_step (event_with_frame read event) a.ends).sapi →
     (b : AirState) × Represents w b × CarriesOutEvent a event b (step_by who sapi received effects)
-finish event a m w read effects who sapi received role r h arrives sender same_who same_sapi =
+carries_out_event event a m w read effects who sapi received role r h arrives sender same_who same_sapi =
     let d = E.event_step (event_with_frame read event) a.ends in
     let s = sent-state (sending_role d.who) a _ m w effects d r (rw (sym sender ∙ ap sending_role same_who) at h) in (
       record a { ends = d.new_state; queues = with_appended (sending_role d.who) s.blocks (queues_after_removal event a.queues) },
@@ -244,8 +245,9 @@ finish event a m w read effects who sapi received role r h arrives sender same_w
       },
     )
 
--- an event that is a call of an endpoint and is not refused is carried out as the definition says
-pub called : (event : A.Event) (role : Role) (w w' : WorldState) (ends' : BothSides) (effects : Effects) (who : E.Who) (sapi : Sapi)
+-- an event that is a call to an endpoint and is not refused is carried out as the definition says
+pub carries_out_call : (event : A.Event) (role : Role) (w w' : WorldState) (ends' : BothSides) (effects : Effects) (who : E.Who)
+    (sapi : Sapi)
     (step : A.Step) → step ≡ step_by who sapi None effects →
     F.StepRefines w.channel (E.event_step (event_with_frame None event)) w.ends effects ends' →
     ((a : AirState) → Represents w a → refusal event a ≡ None) →
@@ -254,7 +256,7 @@ pub called : (event : A.Event) (role : Role) (w w' : WorldState) (ends' : BothSi
     ((es : E.BothSides) → sapi ≡ (E.event_step (event_with_frame None event) es).sapi) →
     AppendsToQueue role effects.frames (record w { ends = ends' }) w' →
     (a : AirState) → Represents w a → (b : AirState) × Represents w' b × IsAirStep a event b (A.Accepts step)
-called event role w w' ends' effects who sapi step is follows unrefused plain sender same_who same_sapi sends a st =
+carries_out_call event role w w' ends' effects who sapi step is follows unrefused plain sender same_who same_sapi sends a st =
     let g = follows a.ends st.ends in
     let p = plain a in
     let d : E.SideStep = E.event_step (event_with_frame None event) a.ends in
@@ -267,13 +269,14 @@ called event role w w' ends' effects who sapi step is follows unrefused plain se
       up = st.up;
       down = st.down;
     } in
-    let f = finish event a m w' None effects who sapi None role (rw p.1 r) sends p.0 sender (same_who a.ends) (same_sapi a.ends) in
+    let f = carries_out_event event a m w' None effects who sapi None role (rw p.1 r) sends p.0 sender (same_who a.ends)
+    (same_sapi a.ends) in
     (f.0, f.1, (unrefused a st, rw is f.2))
 
 -- ---- refusals
-same-way : (role : Role) (w : WorldState) (a : AirState) → Represents w a → queued_blocks role w ≡ queue_of role a.queues
-same-way Mobile w a st = st.up
-same-way Network w a st = st.down
+same-queue : (role : Role) (w : WorldState) (a : AirState) → Represents w a → queued_blocks role w ≡ queue_of role a.queues
+same-queue Mobile w a st = st.up
+same-queue Network w a st = st.down
 
 refusal_if-false : (b : Bool) (why : E.EventRefusal) (others : Option E.EventRefusal) → b ≡ false →
     E.refusal_if b why others ≡ others
@@ -283,18 +286,18 @@ refusal_if-true : (b : Bool) (why : E.EventRefusal) (others : Option E.EventRefu
     E.refusal_if b why others ≡ Some why
 refusal_if-true b why others h = rw h refl
 
-on-way : (test : ℕ → Bool) (b : Bool) (role : Role) (w : WorldState) (a : AirState) → Represents w a →
+on-queue : (test : ℕ → Bool) (b : Bool) (role : Role) (w : WorldState) (a : AirState) → Represents w a →
     test (length (queued_blocks role w)) ≡ b → test (queue_length a.queues role) ≡ b
-on-way test b role w a st h = rw (same-way role w a st) at h
+on-queue test b role w a st h = rw (same-queue role w a st) at h
 
 pub asked-is : (role : Role) (sapi : Sapi) (call : Call) (w : WorldState) (refused : Option Refused) →
     E.is_queue_full (length (queued_blocks role w)) ≡ false →
     ((es : E.BothSides) → F.Represents w.ends es → refused ≡ refusal_of call (E.endpoint_at role sapi es)) → (a : AirState) →
     Represents w a → E.call_refusal (queue_length a.queues) role sapi call a.ends ≡ E.as_event_refusal refused
 asked-is role sapi call w refused h n a st =
-    refusal_if-false _ E.AirFull _ (on-way E.is_queue_full false role w a st h) ∙ ap E.as_event_refusal (sym (n a.ends st.ends))
+    refusal_if-false _ E.AirFull _ (on-queue E.is_queue_full false role w a st h) ∙ ap E.as_event_refusal (sym (n a.ends st.ends))
 
--- below, the event is this call of the endpoint with this role and SAPI
+-- in this module, the event is `call`, a layer 3 call to the endpoint with this role and SAPI
 module _ (role : Role) (sapi : Sapi) (call : Call) where
   pub asked-event_step : (event : A.Event) → IsLayer3CallTo event role sapi call → (es : E.BothSides) →
       E.event_step (event_with_frame None event) es ≡ E.layer3_call_step role sapi call es
@@ -308,10 +311,10 @@ module _ (role : Role) (sapi : Sapi) (call : Call) where
       EventDelivers a event None None × (queues_after_removal event a.queues ≡ a.queues)
   asked-plain event h a = grind arith
 
-pub stays-ends : (event : A.Event) (why : E.EventRefusal) (w : WorldState) (ends' : BothSides) → ends' ≡ w.ends →
+pub refused-same_ends : (event : A.Event) (why : E.EventRefusal) (w : WorldState) (ends' : BothSides) → ends' ≡ w.ends →
     ((a : AirState) → Represents w a → refusal event a ≡ Some why) → (a : AirState) → Represents w a →
     (b : AirState) × Represents (record w { ends = ends' }) b × IsAirStep a event b (A.Refuses why)
-stays-ends event why w ends' e h a st = (
+refused-same_ends event why w ends' e h a st = (
   a,
   record { tsc = st.tsc; channel = st.channel; ends = rw e st.ends; up = st.up; down = st.down },
   (h a st, refl),
@@ -322,16 +325,16 @@ pub on-channel : (w : WorldState) (ends' : BothSides) (effects : Effects) (event
 on-channel w ends' effects event_step s h = rw s.channel h
 
 -- between the removal of the oldest block and the step, the world represents the state without this block
-is-between : (sender : Role) (w m : WorldState) (a : AirState) (b : Block) → queued_blocks sender w ≡ b ∷ queued_blocks sender m →
+Represents-rest : (sender : Role) (w m : WorldState) (a : AirState) (b : Block) → queued_blocks sender w ≡ b ∷ queued_blocks sender m →
     DiffersOnlyInQueue sender w m → Represents w a → Represents m (record a { queues = without_first sender a.queues })
-is-between Mobile w m a b first s st = record {
+Represents-rest Mobile w m a b first s st = record {
   tsc = s.tsc ∙ st.tsc;
   channel = s.channel ∙ st.channel;
   ends = rw s.ends st.ends;
   up = rw (← st.up, first) refl;
   down = s.other_queue_same ∙ st.down;
 }
-is-between Network w m a b first s st = record {
+Represents-rest Network w m a b first s st = record {
   tsc = s.tsc ∙ st.tsc;
   channel = s.channel ∙ st.channel;
   ends = rw s.ends st.ends;
@@ -339,35 +342,36 @@ is-between Network w m a b first s st = record {
   down = rw (← st.down, first) refl;
 }
 
-sends-none : (w : WorldState) (effects : Effects) → effects.frames ≡ [] → AppendsToQueue Mobile effects.frames w w
-sends-none w effects none = record {
-  appends = rw none (adds-none w.tsc (queued_blocks Mobile w));
+appends-no_frames : (w : WorldState) (effects : Effects) → effects.frames ≡ [] → AppendsToQueue Mobile effects.frames w w
+appends-no_frames w effects none = record {
+  appends = rw none (Appends-none w.tsc (queued_blocks Mobile w));
   rest_same = record { other_queue_same = refl; tsc = refl; channel = refl; ends = refl };
 }
 
-pub lost : (sender : Role) (w m : WorldState) (effects : Effects) → LosesOldestFrom sender w m →
+pub lose-oldest : (sender : Role) (w m : WorldState) (effects : Effects) → LosesOldestFrom sender w m →
     E.is_empty (length (queued_blocks sender w)) ≡ false → effects.frames ≡ [] → effects.notices ≡ [] → (a : AirState) →
     Represents w a → (b : AirState) × Represents m b × IsAirStep a (E.Lose sender) b (A.Accepts (step_by E.Nobody Zero None effects))
-lost sender w m effects h some no_frames no_notices a st =
-    let i = is-between sender w m a h.block h.queue_front h.rest_same st in
-    let f = finish (E.Lose sender) a m m None effects E.Nobody Zero None Mobile (record {
+lose-oldest sender w m effects h some no_frames no_notices a st =
+    let i = Represents-rest sender w m a h.block h.queue_front h.rest_same st in
+    let f = carries_out_event (E.Lose sender) a m m None effects E.Nobody Zero None Mobile (record {
       tsc = i.tsc;
       channel = i.channel;
       ends = i.ends;
       has_effects = record { frames = no_frames; notices = no_notices };
       up = i.up;
       down = i.down;
-    }) (sends-none m effects no_frames) tt refl refl refl in
-    (f.0, f.1, (refusal_if-false _ E.Nothing None (on-way E.is_empty false sender w a st some), f.2))
+    }) (appends-no_frames m effects no_frames) tt refl refl refl in
+    (f.0, f.1, (refusal_if-false _ E.Nothing None (on-queue E.is_empty false sender w a st some), f.2))
 
-pub arrived : (sender end : Role) (places : List ℕ) (w m w' : WorldState) (ends' : BothSides) (received : Option Received) (sapi : Sapi)
+pub receive-oldest : (sender end : Role) (places : List ℕ) (w m w' : WorldState) (ends' : BothSides) (received : Option Received)
+    (sapi : Sapi)
     (effects : Effects) (step : A.Step) → end ≡ E.other sender → ReceivesOldestFrom sender places w received m →
     TakingFrameRefines end m.channel (H.accepted_octets received) m.ends sapi effects ends' →
     E.is_empty (length (queued_blocks sender w)) ≡ false → E.is_queue_full (length (queued_blocks end w)) ≡ false →
     AppendsToQueue end effects.frames (record m { ends = ends' }) w' → step ≡ step_by (E.BySide end) sapi received effects →
     (a : AirState) → Represents w a → (b : AirState) × Represents w' b × IsAirStep a (E.Deliver sender places) b (A.Accepts step)
-arrived sender end places w m w' ends' received sapi effects step e h hears some room sends is a st =
-    let i = is-between sender w m a h.received.block h.received.queue_front h.rest_same st in
+receive-oldest sender end places w m w' ends' received sapi effects step e h hears some room sends is a st =
+    let i = Represents-rest sender w m a h.received.block h.received.queue_front h.rest_same st in
     let heard : TakingFrameRefines (E.other sender) m.channel h.report.accepted m.ends sapi effects ends' =
     subst (λ r. TakingFrameRefines r m.channel h.report.accepted m.ends sapi effects ends') e
     (subst (λ o. TakingFrameRefines end m.channel (H.accepted_octets o) m.ends sapi effects ends') h.is_report hears) in
@@ -375,7 +379,7 @@ arrived sender end places w m w' ends' received sapi effects step e h hears some
     subst (λ r. step ≡ step_by (E.BySide r) sapi (Some h.report) effects) e
     (subst (λ o. step ≡ step_by (E.BySide end) sapi o effects) h.is_report is) in
     let t = heard a.ends i.ends in
-    let f = finish (E.Deliver sender places) a (record m { ends = ends' }) w' t.read effects (E.BySide (E.other sender)) sapi
+    let f = carries_out_event (E.Deliver sender places) a (record m { ends = ends' }) w' t.read effects (E.BySide (E.other sender)) sapi
     (Some h.report) (E.other sender) (record {
       tsc = i.tsc;
       channel = i.channel;
@@ -386,29 +390,29 @@ arrived sender end places w m w' ends' received sapi effects step e h hears some
     }) (rw e at sends) (record {
       block = h.received.block;
       later_blocks = queued_blocks sender m;
-      queue_front = sym (same-way sender w a st) ∙ h.received.queue_front;
+      queue_front = sym (same-queue sender w a st) ∙ h.received.queue_front;
       received = h.received.received;
       reads_frame = subst (λ c. ReadsFrame c h.report.accepted t.read) i.channel t.reads_frame;
     }) refl refl t.sapi in (
       f.0,
       f.1,
       (
-        refusal_if-false _ E.Nothing _ (on-way E.is_empty false sender w a st some)
-            ∙ refusal_if-false _ E.AirFull None (on-way E.is_queue_full false (E.other sender) w a st (rw e at room)),
+        refusal_if-false _ E.Nothing _ (on-queue E.is_empty false sender w a st some)
+            ∙ refusal_if-false _ E.AirFull None (on-queue E.is_queue_full false (E.other sender) w a st (rw e at room)),
         subst (λ s. CarriesOutEvent a (E.Deliver sender places) f.0 s) (sym stepped) f.2,
       ),
     )
 
--- an arrival is refused if the queue of the receiving side has no space for the frames that it may send in answer
-pub arrives-full : (sender end : Role) (places : List ℕ) (w : WorldState) → end ≡ E.other sender →
+-- an arrival is refused if the queue of the receiving side has no space for the frames that it may send in response
+pub deliver-full_queue : (sender end : Role) (places : List ℕ) (w : WorldState) → end ≡ E.other sender →
     E.is_empty (length (queued_blocks sender w)) ≡ false → E.is_queue_full (length (queued_blocks end w)) ≡ true →
     (a : AirState) → Represents w a → (b : AirState) × Represents w b × IsAirStep a (E.Deliver sender places) b (A.Refuses E.AirFull)
-arrives-full sender end places w e some full a st = (
+deliver-full_queue sender end places w e some full a st = (
   a,
   st,
   (
-    refusal_if-false _ _ _ (on-way E.is_empty false sender w a st some)
-        ∙ refusal_if-true _ _ _ (on-way E.is_queue_full true (E.other sender) w a st (rw e at full)),
+    refusal_if-false _ _ _ (on-queue E.is_empty false sender w a st some)
+        ∙ refusal_if-true _ _ _ (on-queue E.is_queue_full true (E.other sender) w a st (rw e at full)),
     refl,
   ),
 )
@@ -429,9 +433,9 @@ room-other sender end w m ends' e s h = rw e (room-at sender w m ends' s (rw e a
 rival-by : (b c : Bool) → b ≡ false → c ≡ false → first_refusal ((b, RQ.Empty) ∷ (c, RQ.TooLong) ∷ []) ≡ None
 rival-by b c h g = rw (h, g) refl
 
-pub rival-none : (info : Message) (w : WorldState) → E.is_queue_full (length (queued_blocks Mobile w)) ≡ false →
+pub rival-not_refused : (info : Message) (w : WorldState) → E.is_queue_full (length (queued_blocks Mobile w)) ≡ false →
     nat_eq (length info) 0 ≡ false → nat_lt (n201 w.channel) (length info) ≡ false → (a : AirState) → Represents w a →
     refusal (E.Rival info) a ≡ None
-rival-none info w full some short a st =
-    refusal_if-false _ E.AirFull _ (on-way E.is_queue_full false Mobile w a st full) ∙ ap E.as_event_refusal
+rival-not_refused info w full some short a st =
+    refusal_if-false _ E.AirFull _ (on-queue E.is_queue_full false Mobile w a st full) ∙ ap E.as_event_refusal
     (rival-by _ _ some (rw st.channel at short))

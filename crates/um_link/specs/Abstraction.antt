@@ -1,4 +1,4 @@
--- The abstraction relation of a world, and when its answers follow the specification.
+-- How a world represents the state of a session, and when its answers follow the specification.
 use Rattle.std.specs.Prelude.{◌≡◌, ◌≤◌, ℕ, List, length, Option, Some, None, Result, Ok, Err, []}
 use Rattle.um_air.specs.lapdm_window.Ends.{Role, Mobile, Network}
 use Rattle.um_block.specs.declared.received.Received.{Received}
@@ -49,7 +49,7 @@ IsLayer3CallTo (OpenBare asked) role sapi call = (role ≡ asked) × (sapi ≡ T
 IsLayer3CallTo (Ask asked link request) role sapi call = (role ≡ asked) × (sapi ≡ link) × (call ≡ endpoint_call_of request)
 IsLayer3CallTo event role sapi call = ⊥
 
--- for every state that the world represents, the specification allows no answer to the event other than this result
+-- for every state that the old world represents, the specification allows no answer to the event other than this result
 abbrev pub IsOnlyPossibleAnswer : (event : A.Event) (old : WorldState) (result : Result Step No) → Type 0
 IsOnlyPossibleAnswer event old result =
     (a : AirState) → Represents old a → (b : AirState) (answer : A.Answer) → IsAirStep a event b answer →

@@ -11,13 +11,13 @@ use Rattle.um_air.specs.Air.{Octets, ReadsFrame}
 use Rattle.um_link.specs.declared.ends.BothSides.{BothSides}
 use Rattle.um_link.specs.FourEndpoints as F
 
--- the octets of the received block, if one arrived and its CRC is correct
+-- the octets of the received block if one arrived and its CRC is correct, otherwise `None`
 abbrev pub accepted_octets : Option Received → Option Octets
 accepted_octets None = None
 accepted_octets (Some report) = report.accepted
 
--- the side with this role receives the frame that the accepted octets encode, or does nothing if there is none; `new` and `effects` are the
--- result
+-- the side with this role receives the frame that the accepted octets encode, or does nothing if there is none; `new` is the resulting
+-- state, and `effects` are the frames sent and the notices
 pub record TakesAcceptedFrame (role : Role) (channel : Channel) (accepted : Option Octets) (spec_sides : E.BothSides) (link : Sapi)
     (effects : Effects)
     (new : BothSides) : Type 0 where

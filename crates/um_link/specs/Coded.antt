@@ -3,7 +3,7 @@ use Rattle.std.specs.Prelude.{◌≡◌, ℕ, List, [], ◌∷◌, ◌++◌}
 use Rattle.um_block.specs.Sent.{IsSentBlock}
 use Rattle.um_air.specs.Air.{Octets, Block}
 
--- the blocks carry these octets, in order, each coded with this training sequence code
+-- `blocks` are the coded forms of these octets, in order, with this training sequence code
 abbrev pub AreCodedBlocks : (tsc : ℕ) (frames : List Octets) (blocks : List Block) → Type 0
 AreCodedBlocks tsc [] [] = Unit {0}
 AreCodedBlocks tsc (o ∷ os) (b ∷ bs) = IsSentBlock o tsc b × AreCodedBlocks tsc os bs

@@ -1,4 +1,4 @@
--- The abstraction relation of `BothSides`, the four Rust endpoints.
+-- How `BothSides`, the four Rust endpoints, represents the state of both sides.
 use Rattle.std.specs.Prelude.{◌≡◌, map}
 use Rattle.lapdm_frame.specs.declared.Channel.{Channel}
 use Rattle.lapdm_frame.specs.Frames.{octets_of}
@@ -7,7 +7,7 @@ use Rattle.lapdm_end.specs.Sides as S
 use Rattle.um_air.specs.lapdm_link.Events as E
 use Rattle.um_link.specs.declared.ends.BothSides.{BothSides}
 
--- the four Rust endpoints `p` represent the abstract endpoints `es`
+-- the four Rust endpoints `p` represent the abstract state `es` of both sides
 pub record Represents (p : BothSides) (es : E.BothSides) : Type 0 where
   pub mobile : S.Represents p.mobile es.mobile
   pub network : S.Represents p.network es.network

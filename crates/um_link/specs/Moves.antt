@@ -21,7 +21,7 @@ pub record AppendsToQueue (sender : Role) (octets : List Octets) (old new : Worl
   pub appends : AppendsBlocks old.tsc octets (queued_blocks sender old) (queued_blocks sender new)
   pub rest_same : DiffersOnlyInQueue sender old new
 
--- the oldest block from side `sender` leaves its queue and is received with the bits at `places` inverted; nothing else changes
+-- the oldest block that side `sender` sent leaves its queue and is received with the bits at `places` inverted; nothing else changes
 pub record ReceivesOldestFrom (sender : Role) (places : List ℕ) (old : WorldState) (arrived : Option Received) (new : WorldState) : Type 0
   where
     pub report : Received
@@ -29,7 +29,7 @@ pub record ReceivesOldestFrom (sender : Role) (places : List ℕ) (old : WorldSt
     pub received : ReceivesOldestBlock places (queued_blocks sender old) report (queued_blocks sender new)
     pub rest_same : DiffersOnlyInQueue sender old new
 
--- the oldest block from side `sender` leaves its queue without being received; nothing else changes
+-- the oldest block that side `sender` sent leaves its queue without being received; nothing else changes
 pub record LosesOldestFrom (sender : Role) (old new : WorldState) : Type 0 where
   pub block : Block
   pub queue_front : queued_blocks sender old ≡ block ∷ queued_blocks sender new

@@ -1,4 +1,4 @@
--- The specification's events and answers for the Rust events and answers.
+-- The specification's counterparts of the Rust events and answers.
 use Rattle.std.specs.Prelude.{[], Result, Ok, Err}
 use Rattle.um_air.specs.lapdm_window.Ends as R
 use Rattle.um_air.specs.lapdm_window.Calls as K

@@ -10,12 +10,12 @@ use Rattle.um_air.specs.Air.{Block, with_bits_inverted}
 abbrev pub AreBitIndices : List ℕ → Type 0
 AreBitIndices places = All (λ place. place < 592) places
 
--- a queue of at most 64 blocks, each of four bursts of bits
+-- the queue has room for 64 blocks, and every block in it consists of bits
 pub record IsValidQueue (way : Buffer Block) : Type 0 where
   pub capacity : way.capacity ≡ 64
   pub bits : All (All AllBits) way.items
 
--- the oldest block is removed from the queue `old`, which leaves `new`; it is received with the bits at `places` inverted, and `report`
+-- the oldest block is removed from the queue `old`, which becomes `new`, and is received with the bits at `places` inverted; `report`
 -- describes the result
 pub record ReceivesOldestBlock (places : List ℕ) (old : List Block) (report : Received) (new : List Block) : Type 0 where
   pub block : Block

@@ -26,7 +26,7 @@ ExtendsSession event old result new =
     × IsAirStep a event b
     (spec_answer_of result)
 
--- if a session leads to the old world, the log of the session extended by this event is ordered (`HasNoticesInOrder`)
+-- if a session leads to the old world, the notices in the log of the session extended by this event are in order (`HasNoticesInOrder`)
 abbrev pub KeepsNoticesInOrder : (event : Event) (old : WorldState) (result : Result Step No) → Type 0
 KeepsNoticesInOrder event old result =
     (tsc : ℕ) (channel : Channel) (events : List Event) (answers : List Answer) (a : AirState) →

@@ -22,7 +22,7 @@ pub(crate) struct BothSides {
 impl BothSides {
     ghost use Rattle.um_link.specs.FourEndpoints.{IsOnChannel, Represents, StepRefines, channel_of_ends};
 
-    /// Creates the four endpoints, all in Idle.
+    /// Creates the four endpoints, all in state Idle.
     pub(crate) fn new_on(channel: Channel) -> BothSides
         ensures represents { Represents result (E.idle_endpoints channel) }
         ensures channel { IsOnChannel channel result }

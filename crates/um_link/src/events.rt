@@ -25,7 +25,7 @@ pub enum End {
     Network,
 }
 
-/// A layer 3 call that every endpoint has, on either side and with either SAPI, or T200 expiry.
+/// A layer 3 call that every endpoint supports, on either side and with either SAPI, or T200 expiry.
 #[derive(Clone, Copy, Drop)]
 pub enum Call<'a> {
     /// Send a message of 1 to 251 octets in I frames, which the other side acknowledges.
@@ -40,7 +40,7 @@ pub enum Call<'a> {
 }
 
 impl<'a> Call<'a> {
-    /// Converts this call to a call of a single endpoint (`lapdm_end::Call`).
+    /// Converts this call into a call to a single endpoint (`lapdm_end::Call`).
     pub fn as_endpoint_call(self) -> EndCall<'a>
         ensures same { endpoint_call_of result ≡ E.endpoint_call_of (spec_request_of self.entry) }
         ensures any { (sapi : AnySapi) → IsCallOfSapi sapi (endpoint_call_of result) }
@@ -135,7 +135,7 @@ pub enum No {
     /// No block is in transit in the direction of the event.
     #[error("no block is in transit in that direction")]
     Nothing,
-    /// The queue for the event's frames holds more than 62 blocks.
+    /// The queue to which the event would add its frames holds more than 62 blocks.
     #[error("more than 62 blocks are in transit in the direction in which the event sends")]
     AirFull,
 }

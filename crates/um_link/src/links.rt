@@ -45,7 +45,7 @@ impl WorldState {
     pub(crate) fn new_on(alloc: Global, tsc: u8, channel: Channel) -> Result<WorldState, NoMemory>
         requires { tsc ≤ 7 }
         ensures represents { IfOk result (λ w. Represents w (initial_session tsc channel)) }
-        ensures sound { IfOk result (λ w. IsValidWorld w) }
+        ensures valid { IfOk result (λ w. IsValidWorld w) }
     {
         let up = HeapCircularBuffer::with_capacity(alloc, QUEUE_CAPACITY)?;
         let down = HeapCircularBuffer::with_capacity(alloc, QUEUE_CAPACITY)?;
@@ -68,7 +68,7 @@ impl WorldState {
         }
     }
 
-    /// Returns whether the queue of this side has too little room for another step, which may send two frames.
+    /// Returns whether the queue of this side has too little room for the two frames that a step may send.
     fn is_queue_full(&self, sender: End) -> bool
         ensures { result ≡ E.is_queue_full (length (queued_blocks (spec_role_of sender) self.now)) }
     {
@@ -80,10 +80,10 @@ impl WorldState {
 
     /// Codes the frames that a side sends, and appends the blocks to its queue.
     fn send<R: Radio>(&mut self, radio: &mut R, sender: End, effects: &Effects)
-        requires sound { IsValidWorld self.old }
+        requires valid { IsValidWorld self.old }
         requires space { length (queued_blocks (spec_role_of sender) self.old) ≤ 62 }
         ensures sends { AppendsToQueue (spec_role_of sender) effects.now.frames self.old self.new }
-        ensures sound { IsValidWorld self.new }
+        ensures valid { IsValidWorld self.new }
         ensures sent { R.sent radio.new ≡ counter_plus (length effects.now.frames) (R.sent radio.old) }
         ensures heard { R.heard radio.new ≡ R.heard radio.old }
     {
@@ -94,7 +94,7 @@ impl WorldState {
         }
     }
 
-    /// Receives the oldest block from this side, with the given bits inverted.
+    /// Removes the oldest block from the queue of this side, inverts the given bits, and receives it.
     fn receive<R: Radio>(
         &mut self,
         radio: &mut R,
@@ -102,11 +102,11 @@ impl WorldState {
         inverted_bits: &[u16],
         received: &mut Option<Received>,
     )
-        requires sound { IsValidWorld self.old }
+        requires valid { IsValidWorld self.old }
         requires some { 0 < length (queued_blocks (spec_role_of sender) self.old) }
         requires places { AreBitIndices inverted_bits.now }
         ensures receives { ReceivesOldestFrom (spec_role_of sender) inverted_bits.now self.old received.new self.new }
-        ensures sound { IsValidWorld self.new }
+        ensures valid { IsValidWorld self.new }
         ensures heard { R.heard radio.new ≡ counter_plus_one (R.heard radio.old) }
         ensures sent { R.sent radio.new ≡ R.sent radio.old }
     {
@@ -130,10 +130,10 @@ impl WorldState {
 
     /// Sends the frames of a step, and records in the step who acted.
     fn send_step_frames<R: Radio>(&mut self, radio: &mut R, end: End, step: &mut Step)
-        requires sound { IsValidWorld self.old }
+        requires valid { IsValidWorld self.old }
         requires space { length (queued_blocks (spec_role_of end) self.old) ≤ 62 }
         ensures sends { AppendsToQueue (spec_role_of end) step.old.effects.frames self.old self.new }
-        ensures sound { IsValidWorld self.new }
+        ensures valid { IsValidWorld self.new }
         ensures step { spec_step_of step.new ≡ record {
           who = E.BySide (spec_role_of end);
           sapi = step.old.sapi;
@@ -163,14 +163,14 @@ impl WorldState {
         call: &Call<'_>,
         step: &mut Step,
     ) -> Result<(), No>
-        requires sound { IsValidWorld self.old }
+        requires valid { IsValidWorld self.old }
         requires call { IsCallOfSapi sapi (endpoint_call_of call.now) }
         ensures refines { (event : A.Event) → IsLayer3CallTo event (spec_role_of end) sapi (endpoint_call_of call.now)
             → StepRefines event self.old (step_result result step.new) self.new }
-        ensures sound { IsValidWorld self.new }
+        ensures valid { IsValidWorld self.new }
         ensures refused { OnErr result (self.new ≡ self.old) }
         ensures out_unchanged { OnErr result (step.new ≡ step.old) }
-        ensures silent { OnErr result (radio.new ≡ radio.old) }
+        ensures radio_unchanged { OnErr result (radio.new ≡ radio.old) }
         ensures sent { R.sent radio.new ≡ counter_plus (sent_frame_count (step_result result step.new)) (R.sent radio.old) }
         ensures heard { R.heard radio.new ≡ counter_plus (blocks_received_in_step (step_result result step.new)) (R.heard radio.old) }
         ensures who { OnOk result (StepFitsItsActor (spec_step_of step.new)) }
@@ -197,13 +197,13 @@ impl WorldState {
         inverted_bits: &[u16],
         step: &mut Step,
     ) -> Result<(), No>
-        requires sound { IsValidWorld self.old }
+        requires valid { IsValidWorld self.old }
         requires places { AreBitIndices inverted_bits.now }
         ensures refines { StepRefines (E.Deliver (spec_role_of sender) inverted_bits.now) self.old (step_result result step.new) self.new }
-        ensures sound { IsValidWorld self.new }
+        ensures valid { IsValidWorld self.new }
         ensures refused { OnErr result (self.new ≡ self.old) }
         ensures out_unchanged { OnErr result (step.new ≡ step.old) }
-        ensures silent { OnErr result (radio.new ≡ radio.old) }
+        ensures radio_unchanged { OnErr result (radio.new ≡ radio.old) }
         ensures sent { R.sent radio.new ≡ counter_plus (sent_frame_count (step_result result step.new)) (R.sent radio.old) }
         ensures heard { R.heard radio.new ≡ counter_plus (blocks_received_in_step (step_result result step.new)) (R.heard radio.old) }
         ensures who { OnOk result (StepFitsItsActor (spec_step_of step.new)) }
@@ -229,10 +229,10 @@ impl WorldState {
 
     /// Removes the oldest block from the queue of this side.
     fn drop_oldest_block(&mut self, sender: End)
-        requires sound { IsValidWorld self.old }
+        requires valid { IsValidWorld self.old }
         requires some { 0 < length (queued_blocks (spec_role_of sender) self.old) }
         ensures loses { LosesOldestFrom (spec_role_of sender) self.old self.new }
-        ensures sound { IsValidWorld self.new }
+        ensures valid { IsValidWorld self.new }
     {
         match sender {
             End::Mobile => drop_oldest_block(&mut self.up),
@@ -240,14 +240,15 @@ impl WorldState {
         }
     }
 
-    /// Carries out the loss of the oldest block from this side.
+    /// Loses the oldest block from this side, and records in the step that nobody acted. Returns the error `Nothing` if no block is in
+    /// transit.
     fn lose(&mut self, sender: End, step: &mut Step) -> Result<(), No>
-        requires sound { IsValidWorld self.old }
+        requires valid { IsValidWorld self.old }
         ensures refines { StepRefines (E.Lose (spec_role_of sender)) self.old (step_result result step.new) self.new }
-        ensures sound { IsValidWorld self.new }
+        ensures valid { IsValidWorld self.new }
         ensures refused { OnErr result (self.new ≡ self.old) }
         ensures out_unchanged { OnErr result (step.new ≡ step.old) }
-        ensures silent { (sent_frame_count (step_result result step.new) ≡ 0)
+        ensures no_radio_use { (sent_frame_count (step_result result step.new) ≡ 0)
             × (blocks_received_in_step (step_result result step.new) ≡ 0) }
         ensures who { OnOk result (StepFitsItsActor (spec_step_of step.new)) }
     {
@@ -264,12 +265,12 @@ impl WorldState {
 
     /// Puts a SABM for SAPI 0 from another mobile into the queue to the network.
     fn rival<R: Radio>(&mut self, radio: &mut R, info: &[u8], step: &mut Step) -> Result<(), No>
-        requires sound { IsValidWorld self.old }
+        requires valid { IsValidWorld self.old }
         ensures refines { StepRefines (E.Rival info.now) self.old (step_result result step.new) self.new }
-        ensures sound { IsValidWorld self.new }
+        ensures valid { IsValidWorld self.new }
         ensures refused { OnErr result (self.new ≡ self.old) }
         ensures out_unchanged { OnErr result (step.new ≡ step.old) }
-        ensures silent { OnErr result (radio.new ≡ radio.old) }
+        ensures radio_unchanged { OnErr result (radio.new ≡ radio.old) }
         ensures sent { R.sent radio.new ≡ counter_plus (sent_frame_count (step_result result step.new)) (R.sent radio.old) }
         ensures heard { R.heard radio.new ≡ counter_plus (blocks_received_in_step (step_result result step.new)) (R.heard radio.old) }
         ensures who { OnOk result (StepFitsItsActor (spec_step_of step.new)) }
@@ -299,13 +300,13 @@ impl WorldState {
         air: &Air<'_>,
         step: &mut Step,
     ) -> Result<(), No>
-        requires sound { IsValidWorld self.old }
+        requires valid { IsValidWorld self.old }
         requires possible { IsPossibleAirEvent air.now }
         ensures refines { StepRefines (air_event (spec_role_of sender) air.now) self.old (step_result result step.new) self.new }
-        ensures sound { IsValidWorld self.new }
+        ensures valid { IsValidWorld self.new }
         ensures refused { OnErr result (self.new ≡ self.old) }
         ensures out_unchanged { OnErr result (step.new ≡ step.old) }
-        ensures silent { OnErr result (radio.new ≡ radio.old) }
+        ensures radio_unchanged { OnErr result (radio.new ≡ radio.old) }
         ensures sent { R.sent radio.new ≡ counter_plus (sent_frame_count (step_result result step.new)) (R.sent radio.old) }
         ensures heard { R.heard radio.new ≡ counter_plus (blocks_received_in_step (step_result result step.new)) (R.heard radio.old) }
         ensures who { OnOk result (StepFitsItsActor (spec_step_of step.new)) }
@@ -323,13 +324,13 @@ impl WorldState {
         event: &Event<'_>,
         step: &mut Step,
     ) -> Result<(), No>
-        requires sound { IsValidWorld self.old }
+        requires valid { IsValidWorld self.old }
         requires possible { IsPossibleEvent event.now }
         ensures refines { StepRefines (spec_event_of event.now) self.old (step_result result step.new) self.new }
-        ensures sound { IsValidWorld self.new }
+        ensures valid { IsValidWorld self.new }
         ensures refused { OnErr result (self.new ≡ self.old) }
         ensures out_unchanged { OnErr result (step.new ≡ step.old) }
-        ensures silent { OnErr result (radio.new ≡ radio.old) }
+        ensures radio_unchanged { OnErr result (radio.new ≡ radio.old) }
         ensures sent { R.sent radio.new ≡ counter_plus (sent_frame_count (step_result result step.new)) (R.sent radio.old) }
         ensures heard { R.heard radio.new ≡ counter_plus (blocks_received_in_step (step_result result step.new)) (R.heard radio.old) }
         ensures who { OnOk result (StepFitsItsActor (spec_step_of step.new)) }

@@ -34,7 +34,7 @@ pub(crate) fn send_frames<R: Radio>(
     }
 }
 
-/// Receives the oldest block in the queue, with the given bits inverted. Overwrites the buffer for soft values.
+/// Removes the oldest block from the queue, inverts the given bits, and receives it. Overwrites the buffer for soft values.
 pub(crate) fn receive_oldest_block<R: Radio>(
     radio: &mut R,
     way: &mut HeapCircularBuffer<[[u8; BURST_BITS]; 4]>,

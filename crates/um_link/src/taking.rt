@@ -10,7 +10,8 @@ use lapdm_end::{Effects, Sapi};
 use lapdm_frame::{Channel, read_on};
 use um_block::Received;
 
-/// Reads the frame from the accepted octets, if there are any, and passes it to the receiving side. Replaces the effects.
+/// Reads the frame from the octets of the received block, if its CRC is correct, and passes it to the receiving side. Replaces the contents
+/// of `effects`. Returns the SAPI of the frame, or 0 if no endpoint receives one.
 pub(crate) fn take_received_block(
     ends: &mut BothSides,
     channel: Channel,

@@ -32,7 +32,7 @@ pub struct World {
     state: WorldState,
 }
 
-// In contracts, a `World` is its private `WorldState`.
+// In contracts, a `World` stands for its private `WorldState`.
 impl Model for World {
     ghost use Rattle.um_link.specs.declared.links.WorldState.{WorldState};
 
@@ -74,7 +74,7 @@ impl World {
         ensures only { IsOnlyPossibleAnswer (spec_event_of event.now) self.old result }
         ensures session { ExtendsSession (spec_event_of event.now) self.old result self.new }
         ensures refused { OnErr result (self.new ≡ self.old) }
-        ensures silent { OnErr result (radio.new ≡ radio.old) }
+        ensures radio_unchanged { OnErr result (radio.new ≡ radio.old) }
         ensures sent { R.sent radio.new ≡ counter_plus (sent_frame_count result) (R.sent radio.old) }
         ensures heard { R.heard radio.new ≡ counter_plus (blocks_received_in_step result) (R.heard radio.old) }
         ensures who { IfOk result (λ step. StepFitsItsActor (spec_step_of step)) }
@@ -104,7 +104,7 @@ impl World {
         ensures session { ExtendsSession (spec_event_of event.now) self.old (step_result result step.new) self.new }
         ensures refused { OnErr result (self.new ≡ self.old) }
         ensures out_unchanged { OnErr result (step.new ≡ step.old) }
-        ensures silent { OnErr result (radio.new ≡ radio.old) }
+        ensures radio_unchanged { OnErr result (radio.new ≡ radio.old) }
         ensures sent { R.sent radio.new ≡ counter_plus (sent_frame_count (step_result result step.new)) (R.sent radio.old) }
         ensures heard { R.heard radio.new ≡ counter_plus (blocks_received_in_step (step_result result step.new)) (R.heard radio.old) }
         ensures who { OnOk result (StepFitsItsActor (spec_step_of step.new)) }

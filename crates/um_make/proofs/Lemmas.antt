@@ -32,7 +32,7 @@ use Rattle.{
     Generated.{message_length, messages, message, message_segment_count, segment_transmissions, segment_transmission, sender},
     Runs.{AckedAtMostReceived, HasOneSummary, IsSummaryOfEvents},
     Summaries.{IsEndpointSummary, IsSummary, crc_fails, crc_passes, is_loss_event, reports_bad_crc, reports_good_crc, sent_block_count},
-    Underway.IsRunInProgress,
+    RunProgress.IsRunInProgress,
     declared.{course.SessionStage.{TheVariants.SendNext, SessionStage}, end_summary.EndpointSummary.EndpointSummary},
     declared.summary.Summary.Summary,
   },
@@ -41,13 +41,13 @@ use Rattle.{
 -- ## Sizes: The generated events invert at most three bits of each block, and their messages consist of octets. A message has at most 13
 -- segments, a segment at most two turns, and a turn two events.
 
--- at most `most` events, which invert few bits
-record AreModest (most : ℕ) (es : List Event) : Type 0 where
+-- there are at most `most` events, and they invert few bits (`AllEventsInvertFewBits`)
+record AreBounded (most : ℕ) (es : List Event) : Type 0 where
   few : AllEventsInvertFewBits es
   size : length es ≤ most
 
-modest-append : {a b : ℕ} {es fs : List Event} (n : ℕ) → AreModest a es → AreModest b fs → a + b ≤ n → AreModest n (es ++ fs)
-modest-append {a} {b} {es} {fs} n h k within = record {
+bounded-append : {a b : ℕ} {es fs : List Event} (n : ℕ) → AreBounded a es → AreBounded b fs → a + b ≤ n → AreBounded n (es ++ fs)
+bounded-append {a} {b} {es} {fs} n h k within = record {
   few = few-append es h.few;
   size = omega (arith, length-append es fs, h.size, k.size);
 }
@@ -56,33 +56,33 @@ modest-append {a} {b} {es} {fs} n h k within = record {
     few-append [] few = k.few
     few-append (x ∷ xs) few = (few.0, few.1, few-append xs few.2)
 
-modest-transmission : (r : Role) (c : ℕ) → AreModest 2 (segment_transmission r c)
-modest-transmission r c = by (is_lost_transmission c) (nat_eq (c % 8) 4)
+bounded-transmission : (r : Role) (c : ℕ) → AreBounded 2 (segment_transmission r c)
+bounded-transmission r c = by (is_lost_transmission c) (nat_eq (c % 8) 4)
   where
     by : (lost flipped : Bool) →
-        AreModest 2 (if lost then Lose r ∷ Ask r Zero T200Expiry ∷ [] else Deliver r
+        AreBounded 2 (if lost then Lose r ∷ Ask r Zero T200Expiry ∷ [] else Deliver r
         (if flipped then 7 * c % 592 ∷ (7 * c + 1) % 592 ∷ (7 * c + 50) % 592 ∷ [] else []) ∷ Deliver (other r) [] ∷ [])
     by true flipped = record { few = (tt, tt, (tt, tt, tt)); size = omega arith }
     by false true = record { few = (omega arith, tt, (omega arith, tt, tt)); size = omega arith }
     by false false = record { few = (omega arith, tt, (omega arith, tt, tt)); size = omega arith }
 
-modest-again : (r : Role) (c : ℕ) (lost : Bool) → AreModest 2 (if lost then segment_transmission r (c + 1) else [])
-modest-again r c true = modest-transmission r (c + 1)
-modest-again r c false = record { few = tt; size = omega arith }
+bounded-resend : (r : Role) (c : ℕ) (lost : Bool) → AreBounded 2 (if lost then segment_transmission r (c + 1) else [])
+bounded-resend r c true = bounded-transmission r (c + 1)
+bounded-resend r c false = record { few = tt; size = omega arith }
 
-modest-segments : (r : Role) (segments c : ℕ) → AreModest (4 * segments) (segment_transmissions r segments c)
-modest-segments r zero c = record { few = tt; size = omega arith }
-modest-segments r (suc segments) c =
-    modest-append (4 * suc segments)
-    (modest-append 4 (modest-transmission r (c + 1)) (modest-again r (c + 1) (is_lost_transmission (c + 1))) (omega arith))
-    (modest-segments r segments (last_transmission_of_segment (c + 1))) (omega arith)
+bounded-segments : (r : Role) (segments c : ℕ) → AreBounded (4 * segments) (segment_transmissions r segments c)
+bounded-segments r zero c = record { few = tt; size = omega arith }
+bounded-segments r (suc segments) c =
+    bounded-append (4 * suc segments)
+    (bounded-append 4 (bounded-transmission r (c + 1)) (bounded-resend r (c + 1) (is_lost_transmission (c + 1))) (omega arith))
+    (bounded-segments r segments (last_transmission_of_segment (c + 1))) (omega arith)
 
-modest-messages : (more i c : ℕ) → AreModest (53 * more) (messages more i c)
-modest-messages zero i c = record { few = tt; size = omega arith }
-modest-messages (suc more) i c =
+bounded-messages : (more i c : ℕ) → AreBounded (53 * more) (messages more i c)
+bounded-messages zero i c = record { few = tt; size = omega arith }
+bounded-messages (suc more) i c =
     let size : length (message i) ≡ message_length i = length-map-range_with_len (λ j. (i + j) % 256) 0 (message_length i) in
-    let all = modest-append (52 + 53 * more) (modest-segments (sender i) (message_segment_count i) c)
-    (modest-messages more (i + 1) (last_transmission_number (message_segment_count i) c)) (omega arith) in
+    let all = bounded-append (52 + 53 * more) (bounded-segments (sender i) (message_segment_count i) c)
+    (bounded-messages more (i + 1) (last_transmission_number (message_segment_count i) c)) (omega arith) in
     let octets = All-map (λ octet. octet < 256) (λ j. (i + j) % 256) (range_with_len 0 (message_length i)) (λ k d lt. omega arith) in
     record { few = (tt, octets, all.few); size = omega (arith, all.size) }
 
@@ -90,10 +90,10 @@ pub few_inverted-generated : (n : ℕ) → AllEventsInvertFewBits (generated_eve
 few_inverted-generated n = (
   tt,
   All-cons (λ octet. octet < 256) 1 [] (let e : 1 < 256 = omega arith in e) (All-nil (λ octet. octet < 256)),
-  (omega arith, tt, (omega arith, tt, (modest-messages n 1 0).few)),
+  (omega arith, tt, (omega arith, tt, (bounded-messages n 1 0).few)),
 )
 
--- ## Courses: Which events remain in each stage of a generated session.
+-- ## Courses: Which events of a generated session are still to come in each of its stages.
 
 pub sent : (stage : SessionStage) (messages_left number segments c : ℕ) (r : Role) (m : Message) (p : ℕ) → stage ≡ SendNext →
     segments ≡ 0 → 0 < messages_left → r ≡ sender (number + 1) → m ≡ message (number + 1) →
@@ -109,15 +109,15 @@ sent stage (suc k) number segments c r m p at none some role octets count =
 
 -- ## Counting: Counting two lists of notices one after another gives the same as counting both lists together.
 
-got-sum : (f : List ℕ → ℕ) (xs ys : List Notice) →
+got_notices-sum : (f : List ℕ → ℕ) (xs ys : List Notice) →
     sum_by f (filter_map message_in_got_notice (xs ++ ys)) ≡ sum_by f (filter_map message_in_got_notice xs) + sum_by f
     (filter_map message_in_got_notice ys)
-got-sum f xs ys = ap (sum_by f) (filter_map-append message_in_got_notice xs ys)
+got_notices-sum f xs ys = ap (sum_by f) (filter_map-append message_in_got_notice xs ys)
     ∙ sum_by-append f (filter_map message_in_got_notice xs) (filter_map message_in_got_notice ys)
 
-pub counts-more : (xs ys : List Notice) (a b c : EndpointSummary) → CountsNotices xs a b → CountsNotices ys b c →
+pub counts-append : (xs ys : List Notice) (a b c : EndpointSummary) → CountsNotices xs a b → CountsNotices ys b c →
     CountsNotices (xs ++ ys) a c
-counts-more xs ys a b c h k = record {
+counts-append xs ys a b c h k = record {
   messages_got = omega (
     arith,
     h.messages_got,
@@ -125,8 +125,8 @@ counts-more xs ys a b c h k = record {
     ap length (filter_map-append message_in_got_notice xs ys),
     length-append (filter_map message_in_got_notice xs) (filter_map message_in_got_notice ys),
   );
-  octets = omega (arith, h.octets, k.octets, got-sum (λ m. length m) xs ys);
-  octet_sum = omega (arith, h.octet_sum, k.octet_sum, got-sum (λ m. sum m) xs ys);
+  octets = omega (arith, h.octets, k.octets, got_notices-sum (λ m. length m) xs ys);
+  octet_sum = omega (arith, h.octet_sum, k.octet_sum, got_notices-sum (λ m. sum m) xs ys);
   acked_messages = omega (
     arith,
     h.acked_messages,
@@ -143,23 +143,23 @@ raised_by-more zero b n m e = ap (λ k. counter_plus k n) (let f : b ≡ m = ome
 raised_by-more (suc a) b n m e = ap counter_plus_one (raised_by-more a b n (b + a) refl)
     ∙ ap (λ k. counter_plus k n) (let f : suc (b + a) ≡ m = omega arith in f)
 
-pub frames_are : (r : Result Step No) → sent_block_count (spec_answer_of r) ≡ sent_frame_count r
-frames_are (Ok s) = refl
-frames_are (Err reason) = refl
+pub same_frame_count : (r : Result Step No) → sent_block_count (spec_answer_of r) ≡ sent_frame_count r
+same_frame_count (Ok s) = refl
+same_frame_count (Err reason) = refl
 
-pub arrivals_are : (r : Result Step No)
+pub same_block_count : (r : Result Step No)
     → one_if_true (reports_good_crc (spec_answer_of r)) + one_if_true (reports_bad_crc (spec_answer_of r))
     ≡ blocks_received_in_step r
-arrivals_are (Ok s) = by s.received
+same_block_count (Ok s) = by s.received
   where
     by : (report : Option Received) → one_if_true (crc_passes report) + one_if_true (crc_fails report) ≡ arrival_count report
     by None = refl
     by (Some r) = elim (cases_Bool (is_some r.accepted)) [ inl good ↦ rw good refl | inr bad ↦ rw bad refl ]
-arrivals_are (Err reason) = refl
+same_block_count (Err reason) = refl
 
--- ## Totals: The counters of a session after one more event is counted.
+-- ## Totals: How counting one more event changes the counters of a session.
 
--- the log lines of one more event are appended to those before
+-- the log of a session with one more event is the earlier log with the lines of this event appended
 session_log-push : (es : List Event) (answers : List Answer) (e : Event) (a : Answer) → length answers ≡ length es →
     session_log (es ++ e ∷ []) (answers ++ a ∷ []) ≡ session_log es answers ++ session_log (e ∷ []) (a ∷ [])
 session_log-push [] [] e a same = refl
@@ -169,30 +169,30 @@ session_log-push (x ∷ es) (y ∷ answers) e a same =
     ∙ sym (append_assoc first (session_log es answers) (session_log (e ∷ []) (a ∷ [])))
 session_log-push es answers e a same = absurd (omega arith)
 
--- the notices of one endpoint among those of one answer
-values_of_parts : (r role : Role) (s : Sapi) (b : Bool) → (is_same_role r role && is_same_sapi Zero s) ≡ b → (ns : List Notice) →
+-- selecting the notices for role r and SAPI 0 selects all notices of an endpoint with this role and SAPI, and none of any other endpoint
+Notified-notices : (r role : Role) (s : Sapi) (b : Bool) → (is_same_role r role && is_same_sapi Zero s) ≡ b → (ns : List Notice) →
     filter_map (notice_in_line r Zero) (map (Notified role s) ns ++ []) ≡ (if b then ns else [])
-values_of_parts r role s true e [] = refl
-values_of_parts r role s false e [] = refl
-values_of_parts r role s true e (n ∷ ns) = rw e (ap (λ (ms : List Notice). n ∷ ms) (values_of_parts r role s true e ns))
-values_of_parts r role s false e (n ∷ ns) = rw e (values_of_parts r role s false e ns)
+Notified-notices r role s true e [] = refl
+Notified-notices r role s false e [] = refl
+Notified-notices r role s true e (n ∷ ns) = rw e (ap (λ (ms : List Notice). n ∷ ms) (Notified-notices r role s true e ns))
+Notified-notices r role s false e (n ∷ ns) = rw e (Notified-notices r role s false e ns)
 
-said_of : (r : Role) (who : Who) (s : Sapi) (ns : List Notice) →
+line_notices : (r : Role) (who : Who) (s : Sapi) (ns : List Notice) →
     filter_map (notice_in_line r Zero) (notice_log_lines who s ns ++ []) ≡ sapi0_notices_of_side r who s ns
-said_of r (BySide role) s ns = values_of_parts r role s (is_same_role r role && is_same_sapi Zero s) refl ns
-said_of r OtherMobile s ns = refl
-said_of r Nobody s ns = refl
+line_notices r (BySide role) s ns = Notified-notices r role s (is_same_role r role && is_same_sapi Zero s) refl ns
+line_notices r OtherMobile s ns = refl
+line_notices r Nobody s ns = refl
 
-said_in : (r : Role) (e : Event) (a : Answer) → notices_in_log r Zero (session_log (e ∷ []) (a ∷ [])) ≡ sapi0_notices_in_answer r a
-said_in r e (Refuses why) = refl
-said_in r (Open info) (Accepts step) = said_of r step.who step.sapi step.notices
-said_in r e (Accepts step) = said_of r step.who step.sapi step.notices
+event_notices : (r : Role) (e : Event) (a : Answer) → notices_in_log r Zero (session_log (e ∷ []) (a ∷ [])) ≡ sapi0_notices_in_answer r a
+event_notices r e (Refuses why) = refl
+event_notices r (Open info) (Accepts step) = line_notices r step.who step.sapi step.notices
+event_notices r e (Accepts step) = line_notices r step.who step.sapi step.notices
 
-end-push : (r : Role) (es : List Event) (answers : List Answer) (e : Event) (a : Answer) (old new : EndpointSummary) →
+end_summary-push : (r : Role) (es : List Event) (answers : List Answer) (e : Event) (a : Answer) (old new : EndpointSummary) →
     length answers ≡ length es → IsEndpointSummary r (session_log es answers) old
     → CountsNotices (sapi0_notices_in_answer r a) old new →
     IsEndpointSummary r (session_log (es ++ e ∷ []) (answers ++ a ∷ [])) new
-end-push r es answers e a old new same h t =
+end_summary-push r es answers e a old new same h t =
     let said = notices_in_log r Zero (session_log es answers) in
     let none : EndpointSummary = record { messages_got = 0; octets = 0; octet_sum = 0; acked_messages = 0 } in
     let before : CountsNotices said none old = record {
@@ -201,11 +201,11 @@ end-push r es answers e a old new same h t =
       octet_sum = omega (arith, h.octet_sum);
       acked_messages = omega (arith, h.acked_messages);
     } in
-    let all = counts-more said (sapi0_notices_in_answer r a) none old new before t in
+    let all = counts-append said (sapi0_notices_in_answer r a) none old new before t in
     let both : notices_in_log r Zero (session_log (es ++ e ∷ []) (answers ++ a ∷ [])) ≡ said ++ sapi0_notices_in_answer r a =
     ap (filter_map (notice_in_line r Zero)) (session_log-push es answers e a same)
     ∙ filter_map-append (notice_in_line r Zero) (session_log es answers) (session_log (e ∷ []) (a ∷ []))
-    ∙ ap (λ (ns : List Notice). said ++ ns) (said_in r e a) in
+    ∙ ap (λ (ns : List Notice). said ++ ns) (event_notices r e a) in
     record {
       messages = rw both (omega (arith, all.messages_got));
       octets = rw both (omega (arith, all.octets));
@@ -213,17 +213,17 @@ end-push r es answers e a old new same h t =
       acked_messages = rw both (omega (arith, all.acked_messages));
     }
 
-summary-push : (es : List Event) (answers : List Answer) (e : Event) (a : Answer) (old new : Summary) →
+IsSummary-push : (es : List Event) (answers : List Answer) (e : Event) (a : Answer) (old new : Summary) →
     length answers ≡ length es → IsSummary es answers old → CountsStep e a old new →
     IsSummary (es ++ e ∷ []) (answers ++ a ∷ []) new
-summary-push es answers e a old new same h k = record {
+IsSummary-push es answers e a old new same h k = record {
   steps = omega (arith, h.steps, k.steps, length-append es (e ∷ []));
   sent_blocks = omega (arith, h.sent_blocks, k.sent_blocks, sum_by_push sent_block_count answers a);
   good_blocks = omega (arith, h.good_blocks, k.good_blocks, sum_by_push (λ x. one_if_true (reports_good_crc x)) answers a);
   bad_blocks = omega (arith, h.bad_blocks, k.bad_blocks, sum_by_push (λ x. one_if_true (reports_bad_crc x)) answers a);
   lost_blocks = omega (arith, h.lost_blocks, k.lost_blocks, sum_by_push (λ x. one_if_true (is_loss_event x)) es e);
-  mobile = end-push Mobile es answers e a old.mobile new.mobile same h.mobile k.mobile;
-  network = end-push Network es answers e a old.network new.network same h.network k.network;
+  mobile = end_summary-push Mobile es answers e a old.mobile new.mobile same h.mobile k.mobile;
+  network = end_summary-push Network es answers e a old.network new.network same h.network k.network;
 }
 
 -- ## OneSummary: The events of a session have exactly one summary, because they determine their answers, and these determine the counters.
@@ -247,30 +247,30 @@ summary_of events answers = record {
   network = end_summary_of Network (session_log events answers);
 }
 
-is_end_summary : (r : Role) (ls : List LogLine) → IsEndpointSummary r ls (end_summary_of r ls)
+end_summary_of-Is : (r : Role) (ls : List LogLine) → IsEndpointSummary r ls (end_summary_of r ls)
 unfolding end_summary_of
-is_end_summary r ls = search rules
+end_summary_of-Is r ls = search rules
 
-is_summary : (events : List Event) (answers : List Answer) → IsSummary events answers (summary_of events answers)
+summary_of-Is : (events : List Event) (answers : List Answer) → IsSummary events answers (summary_of events answers)
 unfolding summary_of
-is_summary events answers = search (rules, is_end_summary)
+summary_of-Is events answers = search (rules, end_summary_of-Is)
 
-same_end : (r : Role) (ls : List LogLine) (e : EndpointSummary) → IsEndpointSummary r ls e → e ≡ end_summary_of r ls
+end_summary-unique : (r : Role) (ls : List LogLine) (e : EndpointSummary) → IsEndpointSummary r ls e → e ≡ end_summary_of r ls
 unfolding end_summary_of
-same_end r ls e h = rw (← h.messages, ← h.octets, ← h.octet_sum, ← h.acked_messages) refl
+end_summary-unique r ls e h = rw (← h.messages, ← h.octets, ← h.octet_sum, ← h.acked_messages) refl
 
-same_summary : (events : List Event) (answers : List Answer) (s : Summary) → IsSummary events answers s →
+IsSummary-unique : (events : List Event) (answers : List Answer) (s : Summary) → IsSummary events answers s →
     s ≡ summary_of events answers
 unfolding summary_of
-same_summary events answers s h =
+IsSummary-unique events answers s h =
     rw (
       ← h.steps,
       ← h.sent_blocks,
       ← h.good_blocks,
       ← h.bad_blocks,
       ← h.lost_blocks,
-      ← same_end Mobile (session_log events answers) s.mobile h.mobile,
-      ← same_end Network (session_log events answers) s.network h.network,
+      ← end_summary-unique Mobile (session_log events answers) s.mobile h.mobile,
+      ← end_summary-unique Network (session_log events answers) s.network h.network,
     )
     refl
 
@@ -280,7 +280,7 @@ octets_of_few_inverted [] few_inverted = All-nil EventMessageIsOctets
 octets_of_few_inverted (event ∷ events) few_inverted = All-cons EventMessageIsOctets event events few_inverted.1
     (octets_of_few_inverted events few_inverted.2)
 
--- a run with its summary gives the summary of its events, since the events determine the answers
+-- a summary of the events and answers of a run is a summary of the events, since the events determine the answers
 summary_of_run : (tsc : ℕ) (events : List Event) (answers : List Answer) (last : AirState) (s : Summary) →
     IsAirRun (initial_session tsc Sdcch) events answers last → IsSummary events answers s → IsSummaryOfEvents tsc events s
 summary_of_run tsc events answers last s run summary = record {
@@ -299,27 +299,26 @@ one_generated_summary n tsc within =
     let some = some_run tsc Sdcch events within (octets_of_few_inverted events (few_inverted-generated n)) in
     record {
       summary = summary_of events some.0;
-      is_summary_of_events = summary_of_run tsc events some.0 some.1 (summary_of events some.0) some.2 (is_summary events some.0);
-      only_one = λ other sums. same_summary events some.0 other (sums.same_for_other_answers some.0 some.1 some.2);
+      is_summary_of_events = summary_of_run tsc events some.0 some.1 (summary_of events some.0) some.2 (summary_of-Is events some.0);
+      only_one = λ other sums. IsSummary-unique events some.0 other (sums.same_for_other_answers some.0 some.1 some.2);
     }
 
 -- ## CountedEvents: A generated session, event by event: each answer is counted, and no counter overflows, because an event raises a
--- counter by at most
--- 192,015.
+-- counter by at most 192,015.
 
-below-more : (n k m : ℕ) (old new : Summary) → n + k ≤ m → CountersAreAtMost n old → CountersGrowAtMost k old new →
+counters-grow : (n k m : ℕ) (old new : Summary) → n + k ≤ m → CountersAreAtMost n old → CountersGrowAtMost k old new →
     CountersAreAtMost m new
-below-more n k m old new within h g = search rules
+counters-grow n k m old new within h g = search rules
 
-stays : (s : Summary) → CountersGrowAtMost 0 s s
-stays s = search rules
+zero_growth : (s : Summary) → CountersGrowAtMost 0 s s
+zero_growth s = search rules
 
-pub goes_on : (tsc : ℕ) (all script others : List Event) (world next : WorldState) (s t : Summary) (e : Event) (r : Result Step No) →
+pub progress-step : (tsc : ℕ) (all script others : List Event) (world next : WorldState) (s t : Summary) (e : Event) (r : Result Step No) →
     IsRunInProgress tsc all script world s → script ≡ e ∷ others → ExtendsSession e world r next →
     CountsStep e (spec_answer_of r) s t →
     CountersGrowAtMost 192015 s t →
     IsRunInProgress tsc all others next t
-goes_on tsc all script others world next s t e r h first goes counts rises =
+progress-step tsc all script others world next s t e r h first goes counts rises =
     let to = goes tsc Sdcch h.events h.answers h.state h.world_after_events in
     record {
       events = h.events ++ e ∷ [];
@@ -333,21 +332,21 @@ goes_on tsc all script others world next s t e r h first goes counts rises =
         length-append h.events (e ∷ []),
       );
       world_after_events = to.1;
-      summary = summary-push h.events h.answers e (spec_answer_of r) s t h.one_answer_per_event h.summary counts;
-      counters_bounded = below-more (192015 * length h.events) 192015 (192015 * length (h.events ++ e ∷ [])) s t
+      summary = IsSummary-push h.events h.answers e (spec_answer_of r) s t h.one_answer_per_event h.summary counts;
+      counters_bounded = counters-grow (192015 * length h.events) 192015 (192015 * length (h.events ++ e ∷ [])) s t
           (omega (arith, length-append h.events (e ∷ []))) h.counters_bounded rises;
     }
 
-pub small_enough : (tsc n : ℕ) (script : List Event) (world : WorldState) (s : Summary) → n ≤ 1000 →
+pub counters_bound : (tsc n : ℕ) (script : List Event) (world : WorldState) (s : Summary) → n ≤ 1000 →
     IsRunInProgress tsc (generated_events n) script world s → CountersAreAtMost (2 ^ 58) s
-small_enough tsc n script world s most h =
-    below-more (192015 * length h.events) 0 (2 ^ 58) s s (omega (
+counters_bound tsc n script world s most h =
+    counters-grow (192015 * length h.events) 0 (2 ^ 58) s s (omega (
       arith,
-      (modest-messages n 1 0).size,
+      (bounded-messages n 1 0).size,
       ap length h.all_events,
       length-append h.events script,
     ))
-    h.counters_bounded (stays s)
+    h.counters_bounded (zero_growth s)
 
 pub is_summary_of_events : (tsc : ℕ) (all script : List Event) (world : WorldState) (s : Summary) → script ≡ [] →
     IsRunInProgress tsc all script world s → IsSummaryOfEvents tsc all s
@@ -355,8 +354,8 @@ is_summary_of_events tsc all script world s none h =
     let done : h.events ≡ all = sym (append-nil h.events) ∙ ap (λ (es : List Event). h.events ++ es) (sym none) ∙ sym h.all_events in
     summary_of_run tsc all h.answers h.state s (rw done at h.world_after_events.run) (rw done at h.summary)
 
-pub is_delivered : (tsc n : ℕ) (s : Summary) → IsSummaryOfEvents tsc (generated_events n) s → AckedAtMostReceived s
-is_delivered tsc n s h =
+pub acked_at_most_received : (tsc n : ℕ) (s : Summary) → IsSummaryOfEvents tsc (generated_events n) s → AckedAtMostReceived s
+acked_at_most_received tsc n s h =
     let benign : IsBenign (generated_events n) h.answers = few_inverted_is_benign tsc Sdcch (generated_events n) h.answers h.last_state
     h.run
     (few_inverted-generated n) in
@@ -380,10 +379,10 @@ only_one : generated_events 1
 only_one = refl
 
 -- the second message has 75 octets and four segments; three bits are inverted in turn 4
-second : segment_transmissions Network (message_segment_count 2) 2
+second_message_turns : segment_transmissions Network (message_segment_count 2) 2
     ≡ Deliver Network [] ∷ Deliver Mobile [] ∷ Deliver Network (28 ∷ 29 ∷ 78 ∷ []) ∷ Deliver Mobile []
     ∷ Deliver Network [] ∷ Deliver Mobile [] ∷ Deliver Network [] ∷ Deliver Mobile [] ∷ []
-second = refl
+second_message_turns = refl
 
 -- the third message has 112 octets and six segments; the second segment is lost in turn 8 and sent again
 third_message_turns : segment_transmissions Mobile (message_segment_count 3) 6
@@ -393,7 +392,7 @@ third_message_turns : segment_transmissions Mobile (message_segment_count 3) 6
     ∷ Deliver Mobile [] ∷ Deliver Network [] ∷ []
 third_message_turns = refl
 
--- 37 * 7 is 259, 8 above 251, so message 7 is short again
+-- 37 * 7 is 259, which is 8 modulo 251, so message 7 has only 1 + 8 octets
 seventh_message : message 7 ≡ 7 ∷ 8 ∷ 9 ∷ 10 ∷ 11 ∷ 12 ∷ 13 ∷ 14 ∷ 15 ∷ []
 seventh_message = refl
 

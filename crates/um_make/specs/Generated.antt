@@ -31,8 +31,8 @@ is_lost_transmission c = nat_eq (c % 8) 0
 abbrev pub inverted_bits : (transmission : ℕ) → List ℕ
 inverted_bits c = if nat_eq (c % 8) 4 then 7 * c % 592 ∷ (7 * c + 1) % 592 ∷ (7 * c + 50) % 592 ∷ [] else []
 
--- the events of one transmission of a segment from this side: its block arrives, and then the answer; in a lost transmission, its block is
--- lost, and T200 expires
+-- the events of one transmission of a segment from this side: its block arrives, and then the response; in a lost transmission, its block
+-- is lost, and T200 expires
 abbrev pub segment_transmission : (role : Role) (transmission : ℕ) → List Event
 segment_transmission r c =
     if is_lost_transmission c then Lose r ∷ Ask r Zero T200Expiry ∷ [] else Deliver r (inverted_bits c) ∷ Deliver (other r) [] ∷ []
@@ -60,8 +60,8 @@ last_transmission_number (suc segments) c = last_transmission_number segments (l
 abbrev pub message_segment_count : (message_number : ℕ) → ℕ
 message_segment_count i = number_of_segments (n201 Sdcch) (message i)
 
--- the events of this number of messages, given the numbers of the first message and of the last transmission before it: layer 3 passes each
--- message, and then its segments are transmitted
+-- the events of this number of messages, given the numbers of the first message and of the last transmission before it: the sender's layer
+-- 3 asks to send each message, and then its segments are transmitted
 abbrev pub messages : (message_count message_number transmission : ℕ) → List Event
 messages zero i c = []
 messages (suc more) i c = Ask (sender i) Zero (Send (message i)) ∷ segment_transmissions (sender i) (message_segment_count i) c

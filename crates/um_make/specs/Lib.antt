@@ -5,4 +5,4 @@ pub mod Runs
 pub mod Texts
 pub mod Counting
 pub mod Courses
-pub mod Underway
+pub mod RunProgress

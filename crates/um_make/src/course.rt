@@ -15,7 +15,7 @@ use um_script::Room;
 /// The stage of a generated session: what happens next.
 #[derive(Clone, Copy, Debug, PartialEq, Eq)]
 pub(crate) enum SessionStage {
-    /// The mobile asks to establish the link.
+    /// Layer 3 of the mobile asks to establish the link.
     Opening,
     /// The mobile's SABM arrives at the network.
     SabmInTransit,
@@ -23,7 +23,7 @@ pub(crate) enum SessionStage {
     UaInTransit,
     /// The next segment or, if none is left, the next message is sent.
     SendNext,
-    /// The answer to a segment arrives.
+    /// The response to a segment arrives.
     SegmentReplyInTransit,
     /// A segment was lost, so T200 of its sender expires.
     SegmentLost,
@@ -49,7 +49,7 @@ impl SessionProgress {
     pub(crate) fn new(message_count: u32) -> SessionProgress
         requires { message_count ≤ 1000 }
         ensures all { remaining_events result ≡ generated_events message_count }
-        ensures sound { HasBoundedTransmissions result }
+        ensures bounded { HasBoundedTransmissions result }
     {
         SessionProgress {
             stage: SessionStage::Opening,
@@ -66,7 +66,7 @@ impl SessionProgress {
         ensures event { MatchOption result ((remaining_events self.old ≡ []) × (remaining_events self.new ≡ []))
             (λ e. remaining_events self.old ≡ spec_event_of e ∷ remaining_events self.new) }
         ensures possible { IfSome result (λ e. IsPossibleEvent e) }
-        ensures sound { HasBoundedTransmissions self.new }
+        ensures bounded { HasBoundedTransmissions self.new }
     {
         match self.stage {
             SessionStage::Opening => {
@@ -95,12 +95,12 @@ impl SessionProgress {
 
     /// Returns the first event of the next transmission or, if no segment is left, the event that sends the next message.
     fn next_transmission_event<'a>(&mut self, room: &'a mut Room) -> Option<Event<'a>>
-        requires sound { HasBoundedTransmissions self.old }
+        requires bounded { HasBoundedTransmissions self.old }
         requires stage { self.old.stage ≡ S.SendNext }
         ensures event { MatchOption result ((remaining_events self.old ≡ []) × (remaining_events self.new ≡ []))
             (λ e. remaining_events self.old ≡ spec_event_of e ∷ remaining_events self.new) }
         ensures possible { IfSome result (λ e. IsPossibleEvent e) }
-        ensures sound { HasBoundedTransmissions self.new }
+        ensures bounded { HasBoundedTransmissions self.new }
     {
         if self.segments_left > 0 {
             Some(self.segment_transmission(room))
@@ -113,12 +113,12 @@ impl SessionProgress {
 
     /// Returns the first event of a transmission: the block of a segment arrives or is lost.
     fn segment_transmission<'a>(&mut self, room: &'a mut Room) -> Event<'a>
-        requires sound { HasBoundedTransmissions self.old }
+        requires bounded { HasBoundedTransmissions self.old }
         requires stage { self.old.stage ≡ S.SendNext }
         requires some { 0 < self.old.segments_left }
         ensures event { remaining_events self.old ≡ spec_event_of result ∷ remaining_events self.new }
         ensures possible { IsPossibleEvent result }
-        ensures sound { HasBoundedTransmissions self.new }
+        ensures bounded { HasBoundedTransmissions self.new }
     {
         self.segment_transmissions += 1;
         let segment_direction = self.segment_direction();
@@ -140,13 +140,13 @@ impl SessionProgress {
 
     /// Returns the event that sends the next message.
     fn send<'a>(&mut self, room: &'a mut Room) -> Event<'a>
-        requires sound { HasBoundedTransmissions self.old }
+        requires bounded { HasBoundedTransmissions self.old }
         requires stage { self.old.stage ≡ S.SendNext }
         requires none { self.old.segments_left ≡ 0 }
         requires some { 0 < self.old.messages_left }
         ensures event { remaining_events self.old ≡ spec_event_of result ∷ remaining_events self.new }
         ensures possible { IsPossibleEvent result }
-        ensures sound { HasBoundedTransmissions self.new }
+        ensures bounded { HasBoundedTransmissions self.new }
     {
         self.messages_left -= 1;
         self.message_number += 1;
@@ -178,7 +178,7 @@ impl SessionProgress {
         }
     }
 
-    /// The direction of the answers to the segments of the current message.
+    /// The direction of the responses to the segments of the current message.
     fn reply_direction(&self) -> Way
         ensures { sender_of result ≡ other (sender self.now.message_number) }
     {

@@ -20,7 +20,7 @@ pub fn make<R: Radio>(alloc: Global, n: u32, tsc: u8, radio: &mut R) -> Result<S
     ensures delivered_messages { IfOk result (λ s. AckedAtMostReceived s) }
     ensures sent { IfOk result (λ s. R.sent radio.new ≡ counter_plus s.sent_blocks (R.sent radio.old)) }
     ensures heard { IfOk result (λ s. R.heard radio.new ≡ counter_plus (s.good_blocks + s.bad_blocks) (R.heard radio.old)) }
-    ensures silent { OnErr result (radio.new ≡ radio.old) }
+    ensures radio_unchanged { OnErr result (radio.new ≡ radio.old) }
 {
     let mut world = World::new(alloc, tsc)?;
     let mut script = Script::new(n);

@@ -21,7 +21,7 @@ pub struct Summary {
     pub good_blocks: u64,
     /// How many blocks were received with a bad CRC.
     pub bad_blocks: u64,
-    /// How many events were losses of a block, including refused ones.
+    /// The number of events that lose a block, including refused ones.
     pub lost_blocks: u64,
     pub mobile: EndpointSummary,
     pub network: EndpointSummary,
@@ -94,15 +94,15 @@ impl Summary {
 
     /// Adds the notices of the side that acted to the counters of that side.
     fn count_notice(&mut self, step: &Step)
-        requires mobile_small { EndpointCountersAreAtMost (2 ^ 59) self.old.mobile }
-        requires network_small { EndpointCountersAreAtMost (2 ^ 59) self.old.network }
+        requires mobile_bounded { EndpointCountersAreAtMost (2 ^ 59) self.old.mobile }
+        requires network_bounded { EndpointCountersAreAtMost (2 ^ 59) self.old.network }
         ensures mobile { CountsNotices (sapi0_notices_in_answer R.Mobile (A.Accepts (spec_step_of step.now))) self.old.mobile
             self.new.mobile }
         ensures network { CountsNotices (sapi0_notices_in_answer R.Network (A.Accepts (spec_step_of step.now))) self.old.network
             self.new.network }
         ensures same { self.new ≡ record self.old { mobile = self.new.mobile; network = self.new.network } }
-        ensures mobile_most { EndpointCountersGrowAtMost 192015 self.old.mobile self.new.mobile }
-        ensures network_most { EndpointCountersGrowAtMost 192015 self.old.network self.new.network }
+        ensures mobile_growth { EndpointCountersGrowAtMost 192015 self.old.mobile self.new.mobile }
+        ensures network_growth { EndpointCountersGrowAtMost 192015 self.old.network self.new.network }
     {
         let notices = sapi0_notices(step);
         match step.who {

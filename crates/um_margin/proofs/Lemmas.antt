@@ -1,7 +1,7 @@
 -- The comparison of the two most likely words, and the command `margin`.
 use Rattle.{
   list_decode.{
-    proofs.{Lemmas.{IsMargin-second, both_only, one_margin, some_second}, weight_bound.Lemmas.{Between, all_places, at_least_seven}},
+    proofs.{Lemmas.{IsMargin-second, both_unique, one_margin, some_second}, weight_bound.Lemmas.{Between, all_places, at_least_seven}},
     specs.{Ranking.{HasTiedWord, IsCandidate}, weight_bound.Distance.distance},
   },
   std.proofs.Common.{List, [], ap, ap₂, arith, inl, inr, length, pos, refl, sym, ℕ, ℤ, ◌*◌, ◌+ℤ◌, ◌-ℤ◌, ◌-◌},
@@ -31,7 +31,7 @@ use Rattle.{
 
 one_compared : (soft : List ℤ) (c d : ComparedWords) → AreComparedWords soft c → AreComparedWords soft d → c ≡ d
 one_compared soft c d h g =
-    let same = both_only soft d.best d.next c.best c.next g.best g.next h.best h.next in
+    let same = both_unique soft d.best d.next c.best c.next g.best g.next h.best h.next in
     let make : List ℕ → List ℕ → ℤ → ℤ → ComparedWords =
     λ a b m n. record { best = a; next = b; margin = m; metric = n } in
     ap₂ (λ a b. make a b c.margin c.metric) same.0 same.1
@@ -109,7 +109,8 @@ zero_margin_is_tie soft c h =
       ),
     )
 
--- two codewords differ in at least seven bits, of which at most e are wrong; each wrong bit cancels a right one
+-- if e hard bits, at most three, are wrong for the best word, the margin is at least 254 (7 - 2 e): two codewords differ in at least seven
+-- bits
 pub hard_margin_law : (soft : List ℤ) (c : ComparedWords) (e : ℕ) → AreComparedWords soft c →
     All (λ value. unsigned_abs value ≡ 127) soft → count_wrong_bits soft (encoding c.best) ≡ e → e ≤ 3 →
     pos (254 * (7 - 2 * e)) ≤ℤ c.margin

@@ -2,5 +2,5 @@
 pub mod Compared
 pub mod Margins
 pub mod Texts
--- the crates that the definitions of this crate use
+-- definitions of other crates that the definitions of this crate use
 pub use Rattle.um_bursts.specs.um_driver.Rules

@@ -28,8 +28,8 @@ pub fn law_replay_reports_most_likely_word()
         AreComparedWords (sync_soft_bits burst) c → (c.best ≡ r.u) × (c.metric ≡ r.metric) }
 {}
 
-/// Law: the margin is 0 if and only if another word has the same path metric as the most likely word. For hard bits of which `e`
-/// are wrong (at most three), the margin is at least 254 * (7 - 2 * e), which is 1,778 if none is wrong.
+/// Law: the margin is 0 if and only if another word has the same path metric as the most likely word. For hard bits of which `e` are wrong
+/// (at most three), the margin is at least 254 * (7 - 2 * e), which is 1,778 if none is wrong.
 pub fn law_margin_zero_on_tie_and_lower_bound()
     ensures tie { (soft : List ℤ) (c : ComparedWords) → AreComparedWords soft c → (c.margin ≡ pos 0) ↔ HasTiedWord soft c.best }
     ensures hard { (soft : List ℤ) (c : ComparedWords) (e : ℕ) → AreComparedWords soft c →

@@ -1,11 +1,11 @@
--- The command `repair` has one output for every input.
+-- The command `repair` has exactly one output for every input.
 use Rattle.{
   fire_repair.proofs.Lemmas.{one_answer, some_answer},
   std.proofs.Common.{List, [], ap, arith, drop, length-append, length, refl, sym, ℕ, ◌++◌, ◌∙◌, ◌≡◌},
   std.proofs.lemmas.List.{append-nil, drop_all, drop_at, take_at},
   um_driver.{proofs.Outputs.{stateless_has_one_output, stateless_is_determined}, specs.{Laws.HasOneOutput, Rules.IsDeterministic}},
   um_lines.{
-    proofs.{FormLaws.line_is, bit_blocks.Lemmas.{AllBits-append, AllBits-bits_of, length-bits_of}},
+    proofs.{FormLaws.line_by_forms, bit_blocks.Lemmas.{AllBits-append, AllBits-bits_of, length-bits_of}},
     specs.{Forms.{LineMeans, no_order_fault}, Meanings.HasOneMeaningOrFault, RepairForms.repair_line_forms, bit_blocks.Bits.AllBits},
     specs.bit_blocks.Octets.bits_of,
   },
@@ -40,13 +40,13 @@ bits_of_octets octets check many few = (
 
 are_word_bits : (line : List ℕ) (meaning : RepairLine) → RepairLineMeans line meaning → AreWordBits meaning
 are_word_bits line meaning means =
-    line_is repair_line_forms no_order_fault repair_line_of_meaning AreWordBits tt (
+    line_by_forms repair_line_forms no_order_fault repair_line_of_meaning AreWordBits tt (
       λ count values here (octets, rest, is, known, (check, rest', is', known', none)).
           rw (is, is', none) (bits_of_octets octets check known.0 known'.0),
       tt,
     ) line meaning means
 
--- writing the first 184 bits and then the last 40 gives all 224 bits
+-- writing the last 40 bits after the first 184 gives all 224 bits
 pub written_word : (x y zeros : List ℕ) → length x ≡ 184 → length zeros ≡ 40 → put_mid 184 40 (x ++ zeros) y ≡ x ++ y
 written_word x y zeros ex ez =
     let rest : drop 40 (drop 184 (x ++ zeros)) ≡ [] = ap (drop 40) (drop_at x zeros 184 ex) ∙ drop_all 40 zeros (omega arith) in

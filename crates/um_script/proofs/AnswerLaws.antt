@@ -12,7 +12,7 @@ use Rattle.{
   },
   um_lines.{
     proofs.{FormLaws.hex_digits_decode, Texts.words-join},
-    specs.{Fields.octets_from_hex, Hex.{encode_lower, is_hex_digit}, Spelled.octets_word, Words.{IsNotSpace, words}},
+    specs.{Fields.octets_from_hex, Hex.{encode_lower, is_hex_digit}, LineTexts.octets_word, Words.{IsNotSpace, words}},
   },
   um_link.specs.{
     bit_blocks.Octets.{bits_of, octets_of},
@@ -68,25 +68,25 @@ report_line out who sapi notice rest =
 abbrev is_plain : List ℕ → Bool
 is_plain word = list_all (λ octet. nat_le 33 octet) word
 
-hex_above : (digit : ℕ) → is_hex_digit digit ≡ true → nat_le 33 digit ≡ true
-hex_above digit is = grind (arith, nat_tests)
+hex-above_32 : (digit : ℕ) → is_hex_digit digit ≡ true → nat_le 33 digit ≡ true
+hex-above_32 digit is = grind (arith, nat_tests)
 
 hex_plain : (word : List ℕ) → list_all is_hex_digit word ≡ true → is_plain word ≡ true
 hex_plain [] digits = refl
 hex_plain (digit ∷ word) digits =
     let parts = and_parts (is_hex_digit digit) (list_all is_hex_digit word) digits in
-    rw (hex_above digit parts.0, hex_plain word parts.1) refl
+    rw (hex-above_32 digit parts.0, hex_plain word parts.1) refl
 
-digit_above : (digit : ℕ) → is_ascii_digit digit ≡ true → nat_le 33 digit ≡ true
-digit_above digit is = grind (arith, nat_tests)
+digit-above_32 : (digit : ℕ) → is_ascii_digit digit ≡ true → nat_le 33 digit ≡ true
+digit-above_32 digit is = grind (arith, nat_tests)
 
 digits_plain : (word : List ℕ) → all_ascii_digits word ≡ true → is_plain word ≡ true
 digits_plain [] digits = refl
 digits_plain (digit ∷ word) digits =
-    let parts = and_parts _ (all_ascii_digits word) digits in rw (digit_above digit parts.0, digits_plain word parts.1) refl
+    let parts = and_parts _ (all_ascii_digits word) digits in rw (digit-above_32 digit parts.0, digits_plain word parts.1) refl
 
-own : IsNumeralModel (λ ds. all_ascii_digits ds ≡ true) (digits_value 10)
-own = numerals_by_value _ tells_all_ascii_digits
+decimals : IsNumeralModel (λ ds. all_ascii_digits ds ≡ true) (digits_value 10)
+decimals = numerals_by_value _ tells_all_ascii_digits
 
 octets_plain : (octets : List ℕ) → AreOctets octets → is_plain (encode_lower octets) ≡ true
 octets_plain octets small = hex_plain (encode_lower octets) (hex_digits_decode octets small).0
@@ -96,7 +96,7 @@ message_plain [] small = refl
 message_plain (octet ∷ m) small = octets_plain (octet ∷ m) small
 
 number_plain : (n : ℕ) → n < 2 ^ 64 → is_plain (decimal n) ≡ true
-number_plain n fits = digits_plain (decimal n) (digits_decimal own n fits)
+number_plain n fits = digits_plain (decimal n) (digits_decimal decimals n fits)
 
 signed_plain : (z : ℤ) → nat_abs z < 2 ^ 63 → is_plain (signed_decimal z) ≡ true
 signed_plain (pos n) fits = number_plain n (omega arith)
@@ -151,87 +151,87 @@ line_plain FinalOk fits = refl
 
 -- ---- a text determines its lines
 
-plain_all : (word : List ℕ) (other : ℕ) → other < 33 → is_plain word ≡ true → L.All (λ octet. octet ≢ other) word
-plain_all [] other below plain = All-nil (λ octet. octet ≢ other)
-plain_all (octet ∷ word) other below plain =
+is_plain-All : (word : List ℕ) (other : ℕ) → other < 33 → is_plain word ≡ true → L.All (λ octet. octet ≢ other) word
+is_plain-All [] other below plain = All-nil (λ octet. octet ≢ other)
+is_plain-All (octet ∷ word) other below plain =
     let parts = and_parts (nat_le 33 octet) (is_plain word) plain in
     let large : 33 ≤ octet = leb-true 33 octet parts.0 in
-    All-cons (λ o. o ≢ other) octet word (λ same. omega arith) (plain_all word other below parts.1)
+    All-cons (λ o. o ≢ other) octet word (λ same. omega arith) (is_plain-All word other below parts.1)
 
 no_spaces : (ws : List (List ℕ)) → are_plain ws ≡ true → L.All (L.All IsNotSpace) ws
 unfolding are_plain
 no_spaces [] plain = All-nil (L.All IsNotSpace)
 no_spaces (w ∷ ws) plain =
     let parts = and_parts (is_plain w) (are_plain ws) plain in
-    All-cons (L.All IsNotSpace) w ws (plain_all w 32 (omega arith) parts.0) (no_spaces ws parts.1)
+    All-cons (L.All IsNotSpace) w ws (is_plain-All w 32 (omega arith) parts.0) (no_spaces ws parts.1)
 
--- the words and the spaces between them contain no line feed
-abbrev Uncut : List ℕ → Type 0
-Uncut text = L.All (λ octet. (octet == 10) ≡ false) text
+-- the text contains no line feed
+abbrev NoLineFeed : List ℕ → Type 0
+NoLineFeed text = L.All (λ octet. (octet == 10) ≡ false) text
 
-uncut_word : (word : List ℕ) → is_plain word ≡ true → Uncut word
-uncut_word word plain =
-    All-weaker (λ o. o ≢ 10) (λ o. (o == 10) ≡ false) (λ o other. ne_eqb o 10 other) word (plain_all word 10 (omega arith) plain)
+NoLineFeed-word : (word : List ℕ) → is_plain word ≡ true → NoLineFeed word
+NoLineFeed-word word plain =
+    All-weaker (λ o. o ≢ 10) (λ o. (o == 10) ≡ false) (λ o other. ne_eqb o 10 other) word (is_plain-All word 10 (omega arith) plain)
 
-uncut_join : (ws : List (List ℕ)) → are_plain ws ≡ true → Uncut (join_with_byte 32 ws)
+NoLineFeed-join : (ws : List (List ℕ)) → are_plain ws ≡ true → NoLineFeed (join_with_byte 32 ws)
 unfolding are_plain
-uncut_join [] plain = All-nil (λ octet. (octet == 10) ≡ false)
-uncut_join (w ∷ []) plain = uncut_word w (and_parts (is_plain w) true plain).0
-uncut_join (w ∷ v ∷ ws) plain =
+NoLineFeed-join [] plain = All-nil (λ octet. (octet == 10) ≡ false)
+NoLineFeed-join (w ∷ []) plain = NoLineFeed-word w (and_parts (is_plain w) true plain).0
+NoLineFeed-join (w ∷ v ∷ ws) plain =
     let parts = and_parts (is_plain w) (are_plain (v ∷ ws)) plain in
-    All-append (λ octet. (octet == 10) ≡ false) w (32 ∷ join_with_byte 32 (v ∷ ws)) (uncut_word w parts.0)
-    (All-cons (λ octet. (octet == 10) ≡ false) 32 (join_with_byte 32 (v ∷ ws)) refl (uncut_join (v ∷ ws) parts.1))
+    All-append (λ octet. (octet == 10) ≡ false) w (32 ∷ join_with_byte 32 (v ∷ ws)) (NoLineFeed-word w parts.0)
+    (All-cons (λ octet. (octet == 10) ≡ false) 32 (join_with_byte 32 (v ∷ ws)) refl (NoLineFeed-join (v ∷ ws) parts.1))
 
--- splitting a text at its line feeds gives its first line
-cut : (text rest : List ℕ) → Uncut text → slice_split (λ o. o == 10) ((text ++ 10 ∷ []) ++ rest) ≡ text
+-- splitting a text at its line feeds gives its first line and then the lines of the rest
+split-first : (text rest : List ℕ) → NoLineFeed text → slice_split (λ o. o == 10) ((text ++ 10 ∷ []) ++ rest) ≡ text
     ∷ slice_split (λ o. o == 10) rest
-cut text rest no_line_feed =
+split-first text rest no_line_feed =
     ap (slice_split (λ o. o == 10)) (append_assoc text (10 ∷ []) rest) ∙ slice_split_at (λ o. o == 10) text 10 rest no_line_feed refl
 
-first_line : (t u r s : List ℕ) → Uncut t → Uncut u → (t ++ 10 ∷ []) ++ r ≡ (u ++ 10 ∷ []) ++ s → (t ≡ u) × (r ≡ s)
+first_line : (t u r s : List ℕ) → NoLineFeed t → NoLineFeed u → (t ++ 10 ∷ []) ++ r ≡ (u ++ 10 ∷ []) ++ s → (t ≡ u) × (r ≡ s)
 first_line t u r s h k e =
     let both : t ∷ slice_split (λ o. o == 10) r ≡ u ∷ slice_split (λ o. o == 10) s =
-    sym (cut t r h) ∙ ap (slice_split (λ o. o == 10)) e ∙ cut u s k in
+    sym (split-first t r h) ∙ ap (slice_split (λ o. o == 10)) e ∙ split-first u s k in
     let first : t ≡ u = cc in
     let rest : slice_split (λ o. o == 10) r ≡ slice_split (λ o. o == 10) s = cc in
     (first, sym (join_with_byte-slice_split 10 r) ∙ ap (join_with_byte 10) rest ∙ join_with_byte-slice_split 10 s)
 
-some_words : (line : AnswerLine) → answer_words line ≢ []
-some_words (No why) e = absurd cc
-some_words line e = absurd cc
+words-not_empty : (line : AnswerLine) → answer_words line ≢ []
+words-not_empty (No why) e = absurd cc
+words-not_empty line e = absurd cc
 
-same_words : (l m : AnswerLine) → LineIsInRange l → LineIsInRange m →
+words-unique : (l m : AnswerLine) → LineIsInRange l → LineIsInRange m →
     join_with_byte 32 (answer_words l) ≡ join_with_byte 32 (answer_words m) → answer_words l ≡ answer_words m
-same_words l m h k e =
-    sym (words-join (answer_words l) (some_words l) (no_spaces (answer_words l) (line_plain l h))) ∙ ap words e
-    ∙ words-join (answer_words m) (some_words m) (no_spaces (answer_words m) (line_plain m k))
+words-unique l m h k e =
+    sym (words-join (answer_words l) (words-not_empty l) (no_spaces (answer_words l) (line_plain l h))) ∙ ap words e
+    ∙ words-join (answer_words m) (words-not_empty m) (no_spaces (answer_words m) (line_plain m k))
 
--- ---- a line is read back from its words
+-- ---- each line can be read back from its words
 
-who_read : List ℕ → E.Who
-who_read word =
+who_of_word : List ℕ → E.Who
+who_of_word word =
     if bytes_eq (take 3 word) (codes "mob") then E.BySide Mobile
     else if bytes_eq (take 3 word) (codes "net") then E.BySide Network
     else if bytes_eq (take 3 word) (codes "riv") then E.OtherMobile
     else E.Nobody
 
-sapi_read : List ℕ → Sapi
-sapi_read word = if list_any (λ octet. octet == 51) word then Three else Zero
+sapi_of_word : List ℕ → Sapi
+sapi_of_word word = if list_any (λ octet. octet == 51) word then Three else Zero
 
-signed_read : List ℕ → ℤ
-signed_read [] = pos 0
-signed_read (octet ∷ word) = if octet == 45 then negsuc (digits_value 10 word - 1) else pos (digits_value 10 (octet ∷ word))
+signed_of_word : List ℕ → ℤ
+signed_of_word [] = pos 0
+signed_of_word (octet ∷ word) = if octet == 45 then negsuc (digits_value 10 word - 1) else pos (digits_value 10 (octet ∷ word))
 
-reception_read : List ℕ → List ℕ → List ℕ → ReceptionQuality
-reception_read tsc wrong_training metric = record {
+reception_of_words : List ℕ → List ℕ → List ℕ → ReceptionQuality
+reception_of_words tsc wrong_training metric = record {
   tsc = digits_value 10 tsc;
   wrong_training = digits_value 10 wrong_training;
   metric =
-      signed_read metric;
+      signed_of_word metric;
 }
 
-why_read : List ℕ → E.EventRefusal
-why_read word =
+refusal_of_word : List ℕ → E.EventRefusal
+refusal_of_word word =
     if bytes_eq word (codes "nothing") then E.Nothing
     else if bytes_eq word (codes "airfull") then E.AirFull
     else if bytes_eq word (codes "notidle") then E.ByEndpoint Q.NotIdle
@@ -241,64 +241,65 @@ why_read word =
     else if bytes_eq word (codes "toolong") then E.ByEndpoint Q.TooLong
     else E.ByEndpoint Q.Full
 
-reason_read : List ℕ → Reason
-reason_read word =
+reason_of_word : List ℕ → Reason
+reason_of_word word =
     if bytes_eq word (codes "contention") then Contention
     else if bytes_eq word (codes "failed") then Failed
     else if bytes_eq word (codes "refused") then Refused
     else Released
 
-notice_read : List ℕ → List ℕ → Notice
-notice_read verb word =
+notice_of_words : List ℕ → List ℕ → Notice
+notice_of_words verb word =
     if bytes_eq verb (codes "opened") then N.Opened (octets_from_hex word)
     else if bytes_eq verb (codes "got") then N.Got (octets_from_hex word)
     else if bytes_eq verb (codes "unit") then N.Unit (octets_from_hex word)
     else if bytes_eq verb (codes "acked") then N.Acked (digits_value 10 word)
-    else N.Closed (reason_read word)
+    else N.Closed (reason_of_word word)
 
-two_read : List ℕ → List ℕ → AnswerLine
-two_read name word = if bytes_eq name (codes "no") then No (why_read word) else Reports (who_read name) (sapi_read name) N.Oversize
+line_of_two : List ℕ → List ℕ → AnswerLine
+line_of_two name word = if bytes_eq name (codes "no") then No (refusal_of_word word) else Reports (who_of_word name) (sapi_of_word name)
+    N.Oversize
 
-three_read : List ℕ → List ℕ → List ℕ → AnswerLine
-three_read name verb word =
-    if bytes_eq verb (codes "sends") then Sends (who_read name) (octets_from_hex word)
-    else Reports (who_read name) (sapi_read name) (notice_read verb word)
+line_of_three : List ℕ → List ℕ → List ℕ → AnswerLine
+line_of_three name verb word =
+    if bytes_eq verb (codes "sends") then Sends (who_of_word name) (octets_from_hex word)
+    else Reports (who_of_word name) (sapi_of_word name) (notice_of_words verb word)
 
-abbrev line_read : List (List ℕ) → AnswerLine
-line_read (a ∷ b ∷ []) = two_read a b
-line_read (a ∷ b ∷ c ∷ []) = three_read a b c
-line_read (a ∷ b ∷ c ∷ d ∷ e ∷ f ∷ g ∷ h ∷ i ∷ []) = Takes (who_read a) (octets_from_hex c) (reception_read e g i)
-line_read (a ∷ b ∷ c ∷ d ∷ e ∷ f ∷ g ∷ h ∷ i ∷ j ∷ k ∷ l ∷ []) =
-    Drops (who_read a) (reception_read d f h) (octets_from_hex j)
+abbrev line_of_words : List (List ℕ) → AnswerLine
+line_of_words (a ∷ b ∷ []) = line_of_two a b
+line_of_words (a ∷ b ∷ c ∷ []) = line_of_three a b c
+line_of_words (a ∷ b ∷ c ∷ d ∷ e ∷ f ∷ g ∷ h ∷ i ∷ []) = Takes (who_of_word a) (octets_from_hex c) (reception_of_words e g i)
+line_of_words (a ∷ b ∷ c ∷ d ∷ e ∷ f ∷ g ∷ h ∷ i ∷ j ∷ k ∷ l ∷ []) =
+    Drops (who_of_word a) (reception_of_words d f h) (octets_from_hex j)
     (octets_from_hex l)
-line_read ws = FinalOk
+line_of_words ws = FinalOk
 
-who_back : (who : E.Who) → who_read (actor_word who) ≡ who
-unfolding who_read
+who_back : (who : E.Who) → who_of_word (actor_word who) ≡ who
+unfolding who_of_word
 who_back (E.BySide Mobile) = refl
 who_back who = refl
 
 name_back : (sapi : Sapi) (who : E.Who) →
-    (who_read (actor_word who ++ sapi_suffix sapi) ≡ who) × (sapi_read (actor_word who ++ sapi_suffix sapi) ≡ sapi)
-unfolding who_read sapi_read
+    (who_of_word (actor_word who ++ sapi_suffix sapi) ≡ who) × (sapi_of_word (actor_word who ++ sapi_suffix sapi) ≡ sapi)
+unfolding who_of_word sapi_of_word
 name_back Zero (E.BySide Mobile) = (refl, refl)
 name_back Three (E.BySide Mobile) = (refl, refl)
 name_back sapi who = (refl, refl)
 
 oversize_back : (sapi : Sapi) (who : E.Who) →
-    two_read (actor_word who ++ sapi_suffix sapi) (codes "oversize") ≡ Reports who sapi N.Oversize
-unfolding two_read who_read sapi_read
+    line_of_two (actor_word who ++ sapi_suffix sapi) (codes "oversize") ≡ Reports who sapi N.Oversize
+unfolding line_of_two who_of_word sapi_of_word
 oversize_back Zero (E.BySide Mobile) = refl
 oversize_back Three (E.BySide Mobile) = refl
 oversize_back sapi who = refl
 
-why_back : (why : E.EventRefusal) → two_read (codes "no") (call_refusal_word why) ≡ No why
-unfolding two_read why_read
+why_back : (why : E.EventRefusal) → line_of_two (codes "no") (call_refusal_word why) ≡ No why
+unfolding line_of_two refusal_of_word
 why_back (E.ByEndpoint Q.NotIdle) = refl
 why_back why = refl
 
-reason_back : (reason : Reason) → reason_read (closing_reason_word reason) ≡ reason
-unfolding reason_read
+reason_back : (reason : Reason) → reason_of_word (closing_reason_word reason) ≡ reason
+unfolding reason_of_word
 reason_back Contention = refl
 reason_back reason = refl
 
@@ -309,44 +310,44 @@ message_back : (m : List ℕ) → AreOctets m → octets_from_hex (octets_word m
 message_back [] small = refl
 message_back (octet ∷ m) small = octets_back (octet ∷ m) small
 
-unsigned_back : (word : List ℕ) → all_ascii_digits word ≡ true → signed_read word ≡ pos (digits_value 10 word)
-unfolding signed_read
+unsigned_back : (word : List ℕ) → all_ascii_digits word ≡ true → signed_of_word word ≡ pos (digits_value 10 word)
+unfolding signed_of_word
 unsigned_back [] digits = refl
 unsigned_back (digit ∷ word) digits =
     let parts = and_parts _ (all_ascii_digits word) digits in
     let other : (digit == 45) ≡ false = ne_eqb digit 45 (λ same. let is = parts.0 in absurd (grind arith)) in
     rw other refl
 
-signed_back : (z : ℤ) → nat_abs z < 2 ^ 63 → signed_read (signed_decimal z) ≡ z
-unfolding signed_read
+signed_back : (z : ℤ) → nat_abs z < 2 ^ 63 → signed_of_word (signed_decimal z) ≡ z
+unfolding signed_of_word
 signed_back (pos n) fits =
-    unsigned_back (decimal n) (digits_decimal own n (omega arith)) ∙ ap pos (digits_value-decimal own n (omega arith))
+    unsigned_back (decimal n) (digits_decimal decimals n (omega arith)) ∙ ap pos (digits_value-decimal decimals n (omega arith))
 signed_back (negsuc n) fits =
-    let one : suc n - 1 ≡ n = omega arith in ap (λ k. negsuc (k - 1)) (digits_value-decimal own (suc n) (omega arith)) ∙ ap negsuc one
+    let one : suc n - 1 ≡ n = omega arith in ap (λ k. negsuc (k - 1)) (digits_value-decimal decimals (suc n) (omega arith)) ∙ ap negsuc one
 
 reception_back : (h : ReceptionQuality) → ReceptionIsInRange h →
-    reception_read (decimal h.tsc) (decimal h.wrong_training) (signed_decimal h.metric) ≡ h
-unfolding reception_read
+    reception_of_words (decimal h.tsc) (decimal h.wrong_training) (signed_decimal h.metric) ≡ h
+unfolding reception_of_words
 reception_back h fits =
     rw (
-      digits_value-decimal own h.tsc fits.tsc,
-      digits_value-decimal own h.wrong_training fits.wrong_training,
+      digits_value-decimal decimals h.tsc fits.tsc,
+      digits_value-decimal decimals h.wrong_training fits.wrong_training,
       signed_back h.metric fits.metric,
     )
     refl
 
 notice_back : (who : E.Who) (sapi : Sapi) (notice : Notice) → NoticeIsInRange notice →
-    line_read (answer_words (Reports who sapi notice)) ≡ Reports who sapi notice
-unfolding three_read notice_read
+    line_of_words (answer_words (Reports who sapi notice)) ≡ Reports who sapi notice
+unfolding line_of_three notice_of_words
 notice_back who sapi (N.Opened m) fits = let name = name_back sapi who in rw (name.0, name.1, message_back m fits) refl
 notice_back who sapi (N.Got m) fits = let name = name_back sapi who in rw (name.0, name.1, message_back m fits) refl
 notice_back who sapi (N.Unit m) fits = let name = name_back sapi who in rw (name.0, name.1, message_back m fits) refl
-notice_back who sapi (N.Acked n) fits = let name = name_back sapi who in rw (name.0, name.1, digits_value-decimal own n fits) refl
+notice_back who sapi (N.Acked n) fits = let name = name_back sapi who in rw (name.0, name.1, digits_value-decimal decimals n fits) refl
 notice_back who sapi N.Oversize fits = oversize_back sapi who
 notice_back who sapi (N.Closed reason) fits = let name = name_back sapi who in rw (name.0, name.1, reason_back reason) refl
 
-line_back : (line : AnswerLine) → LineIsInRange line → line_read (answer_words line) ≡ line
-unfolding three_read
+line_back : (line : AnswerLine) → LineIsInRange line → line_of_words (answer_words line) ≡ line
+unfolding line_of_three
 line_back (No why) fits = why_back why
 line_back (Takes who octets h) fits = rw (who_back who, octets_back octets fits.0, reception_back h fits.1) refl
 line_back (Drops who h octets check) fits =
@@ -357,8 +358,8 @@ line_back FinalOk fits = refl
 
 -- ---- whole answers
 
-no_line : (l : AnswerLine) (ls : List AnswerLine) → lines_text (l ∷ ls) ≢ []
-no_line l ls e =
+text-not_empty : (l : AnswerLine) (ls : List AnswerLine) → lines_text (l ∷ ls) ≢ []
+text-not_empty l ls e =
     let none = ap length e in
     omega (
       arith,
@@ -367,24 +368,24 @@ no_line l ls e =
       length-append (join_with_byte 32 (answer_words l)) (10 ∷ []),
     )
 
-pub same_lines : (ls ms : List AnswerLine) → LinesAreInRange ls → LinesAreInRange ms → lines_text ls ≡ lines_text ms → ls ≡ ms
-same_lines [] [] h k e = refl
-same_lines [] (m ∷ ms) h k e = absurd (no_line m ms (sym e))
-same_lines (l ∷ ls) [] h k e = absurd (no_line l ls e)
-same_lines (l ∷ ls) (m ∷ ms) h k e =
+pub lines-unique : (ls ms : List AnswerLine) → LinesAreInRange ls → LinesAreInRange ms → lines_text ls ≡ lines_text ms → ls ≡ ms
+lines-unique [] [] h k e = refl
+lines-unique [] (m ∷ ms) h k e = absurd (text-not_empty m ms (sym e))
+lines-unique (l ∷ ls) [] h k e = absurd (text-not_empty l ls e)
+lines-unique (l ∷ ls) (m ∷ ms) h k e =
     let parts = first_line (join_with_byte 32 (answer_words l)) (join_with_byte 32 (answer_words m)) (lines_text ls) (lines_text ms)
-    (uncut_join (answer_words l) (line_plain l h.0)) (uncut_join (answer_words m) (line_plain m k.0)) e in
-    let first : l ≡ m = sym (line_back l h.0) ∙ ap line_read (same_words l m h.0 k.0 parts.0) ∙ line_back m k.0 in
-    let rest : ls ≡ ms = same_lines ls ms h.1 k.1 parts.1 in
+    (NoLineFeed-join (answer_words l) (line_plain l h.0)) (NoLineFeed-join (answer_words m) (line_plain m k.0)) e in
+    let first : l ≡ m = sym (line_back l h.0) ∙ ap line_of_words (words-unique l m h.0 k.0 parts.0) ∙ line_back m k.0 in
+    let rest : ls ≡ ms = lines-unique ls ms h.1 k.1 parts.1 in
     cc
 
--- ## FittingLines: If the parts of an answer have values in range, so have its lines.
+-- ## FittingLines: If the values in the parts of an answer are in range, so are those in its lines.
 
 pub fit_append : (ls ms : List AnswerLine) → LinesAreInRange ls → LinesAreInRange ms → LinesAreInRange (ls ++ ms)
 fit_append [] ms h k = k
 fit_append (l ∷ ls) ms h k = (h.0, fit_append ls ms h.1 k)
 
--- ## PackedOctets: Octets are unchanged if they are unpacked to bits and packed again.
+-- ## PackedOctets: Unpacking octets into bits and packing these bits again gives the same octets.
 
 -- an octet is the sum of its eight bits, each multiplied by its power of two
 octet_of_bits : (x : ℕ) → x < 256

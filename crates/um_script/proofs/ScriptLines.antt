@@ -1,4 +1,4 @@
--- The lines of a script: words, positions and messages, and how the parser agrees with the line forms.
+-- The lines of a script: words, bit indices and messages, and how the parser agrees with the line forms.
 use Rattle.{
   std.{
     proofs.{
@@ -15,7 +15,7 @@ use Rattle.{
     specs.{Prelude.{All, slice_set}, Result.result_err, Str.{Parse.{digits_value_after, digits_value}, all_ascii_digits, bytes_eq}},
   },
   um_lines.{
-    proofs.FormLaws.{Each, Fitting, line_is, read_of_words},
+    proofs.FormLaws.{Each, Fitting, line_by_forms, read_of_words},
     specs.Fields.{BitDigits, BlockBitIndex, DigitUpTo, LineField, FixedWord, HexOctets, OctetsBetween, SoftOctets, Value, fits_field},
     specs.Fields.{has_forbidden_soft_value, has_octet_count, has_wrong_bit_index, has_wrong_digits, has_wrong_length, is_dash_or_hex},
     specs.{Fields.{is_decimal, octets_from_hex}, Forms.{LineForms, fault_or_value, fields_for_word_count, first_field_fault}},
@@ -48,8 +48,8 @@ use Rattle.um_lines.specs.LinkForms as L
 abbrev IsOther : List ℕ → List ℕ → Type 0
 IsOther known w = bytes_eq w known ≡ false
 
-by_word : (P : List ℕ → Type 0) (known w : List ℕ) → P known → (IsOther known w → P w) → P w
-by_word P known w here other =
+cases_word : (P : List ℕ → Type 0) (known w : List ℕ) → P known → (IsOther known w → P w) → P w
+cases_word P known w here other =
     elim (cases_Bool (bytes_eq w known)) [
       | inl same ↦ subst P (sym ((bytes_eq-Decides w known).0 same)) here
       | inr unlike ↦ other unlike
@@ -71,13 +71,13 @@ octets_given w make =
 
 -- ---- calls of an endpoint
 
-by_verb : (P : List ℕ → Type 0) (verb : List ℕ) → P (codes "open") → P (codes "send") → P (codes "unit") →
+cases_verb : (P : List ℕ → Type 0) (verb : List ℕ) → P (codes "open") → P (codes "send") → P (codes "unit") →
     P (codes "close") → P (codes "tick") → P (codes "idle") →
     (IsOther (codes "open") verb → IsOther (codes "send") verb → IsOther (codes "unit") verb → IsOther (codes "close") verb →
     IsOther (codes "tick") verb → IsOther (codes "idle") verb → P verb) → P verb
-by_verb P verb opens send unit close tick idle other =
-    by_word P (codes "open") verb opens (λ a. by_word P (codes "send") verb send (λ b. by_word P (codes "unit") verb unit (λ c.
-    by_word P (codes "close") verb close (λ d. by_word P (codes "tick") verb tick (λ e. by_word P (codes "idle") verb idle (λ f.
+cases_verb P verb opens send unit close tick idle other =
+    cases_word P (codes "open") verb opens (λ a. cases_word P (codes "send") verb send (λ b. cases_word P (codes "unit") verb unit (λ c.
+    cases_word P (codes "close") verb close (λ d. cases_word P (codes "tick") verb tick (λ e. cases_word P (codes "idle") verb idle (λ f.
     other a b c d e f))))))
 
 abbrev IsCallRead : L.LinkEndpoint → List (List ℕ) → List ℕ → Type 0
@@ -86,28 +86,28 @@ IsCallRead end ws verb = script_parse_result (endpoint_word end ∷ verb ∷ ws)
 calls : (end : L.LinkEndpoint) (ws : List (List ℕ)) → script_parse_result (endpoint_word end ∷ ws) ≡ parsed_layer3_call end ws
 calls L.Mob [] = refl
 calls L.Mob (verb ∷ w ∷ []) =
-    by_verb (IsCallRead L.Mob (w ∷ [])) verb (octets_given w E.Open) (octets_given w (λ m. call_event L.Mob (E.Send m)))
+    cases_verb (IsCallRead L.Mob (w ∷ [])) verb (octets_given w E.Open) (octets_given w (λ m. call_event L.Mob (E.Send m)))
     (octets_given w (λ m. call_event L.Mob (E.SendUi m))) refl refl refl (λ a b c d e f. rw (a, b, c, d, e, f) refl)
 calls end [] = refl
-calls L.Mob (verb ∷ []) = by_verb (IsCallRead L.Mob []) verb refl refl refl refl refl refl (λ a b c d e f. rw (a, b, c, d, e, f) refl)
-calls end (verb ∷ []) = by_verb (IsCallRead end []) verb refl refl refl refl refl refl (λ a b c d e f. rw (a, b, c, d, e, f) refl)
+calls L.Mob (verb ∷ []) = cases_verb (IsCallRead L.Mob []) verb refl refl refl refl refl refl (λ a b c d e f. rw (a, b, c, d, e, f) refl)
+calls end (verb ∷ []) = cases_verb (IsCallRead end []) verb refl refl refl refl refl refl (λ a b c d e f. rw (a, b, c, d, e, f) refl)
 calls end (verb ∷ w ∷ []) =
-    by_verb (IsCallRead end (w ∷ [])) verb refl (octets_given w (λ m. call_event end (E.Send m)))
+    cases_verb (IsCallRead end (w ∷ [])) verb refl (octets_given w (λ m. call_event end (E.Send m)))
     (octets_given w (λ m. call_event end (E.SendUi m))) refl refl refl (λ a b c d e f. rw (a, b, c, d, e, f) refl)
 -- a call that is followed by two or more words has no form
 calls L.Mob (verb ∷ w ∷ other ∷ ws) =
-    by_verb (IsCallRead L.Mob (w ∷ other ∷ ws)) verb refl refl refl refl refl refl (λ a b c d e f. rw (a, b, c, d, e, f) refl)
+    cases_verb (IsCallRead L.Mob (w ∷ other ∷ ws)) verb refl refl refl refl refl refl (λ a b c d e f. rw (a, b, c, d, e, f) refl)
 calls end (verb ∷ w ∷ other ∷ ws) =
-    by_verb (IsCallRead end (w ∷ other ∷ ws)) verb refl refl refl refl refl refl (λ a b c d e f. rw (a, b, c, d, e, f) refl)
+    cases_verb (IsCallRead end (w ∷ other ∷ ws)) verb refl refl refl refl refl refl (λ a b c d e f. rw (a, b, c, d, e, f) refl)
 
 -- ---- bit indices
 
 no_less : (n : ℕ) → suc (suc (suc n)) - 3 ≡ n
 no_less n = omega arith
 
-all_stand : (ws : List (List ℕ)) → pointwise fits_field (replicate (length ws) BlockBitIndex) ws ≡ true
-all_stand [] = refl
-all_stand (w ∷ ws) = all_stand ws
+all_fit : (ws : List (List ℕ)) → pointwise fits_field (replicate (length ws) BlockBitIndex) ws ≡ true
+all_fit [] = refl
+all_fit (w ∷ ws) = all_fit ws
 
 each_against : (is_against : LineField → List ℕ → Bool) (ws : List (List ℕ))
     → has_faulty_word is_against (replicate (length ws) BlockBitIndex) ws ≡ list_any (is_against BlockBitIndex) ws
@@ -119,19 +119,19 @@ places_of : (ws : List (List ℕ)) → bit_indices_of_values (values_of_words (r
 places_of [] = refl
 places_of (w ∷ ws) = ap (λ rest. digits_value 10 w ∷ rest) (places_of ws)
 
-by_reasons : (digits place twice : Bool) (ns : List ℕ) (make : List ℕ → A.Event)
+cases_reasons : (digits place twice : Bool) (ns : List ℕ) (make : List ℕ → A.Event)
     → fault_or_value (if digits then Some Digits else if place then Some Place else if twice then Some Twice else None) (Some (make ns))
     ≡ event_from_parsed_list make (if digits then Err Digits else if place then Err Place else if twice then Err Twice else Ok ns)
-by_reasons true place twice ns make = refl
-by_reasons false true twice ns make = refl
-by_reasons false false true ns make = refl
-by_reasons false false false ns make = refl
+cases_reasons true place twice ns make = refl
+cases_reasons false true twice ns make = refl
+cases_reasons false false true ns make = refl
+cases_reasons false false false ns make = refl
 
-places_given : (ws : List (List ℕ)) (make : List ℕ → A.Event)
+places-parsed : (ws : List (List ℕ)) (make : List ℕ → A.Event)
     → (let fields = replicate (length ws) BlockBitIndex in
     fault_or_value (first_field_fault fields ws) (Some (make (bit_indices_of_values (values_of_words fields ws)))))
     ≡ event_from_parsed_list make (parsed_bit_indices ws)
-places_given ws make =
+places-parsed ws make =
     rw (
       each_against has_wrong_digits ws,
       each_against has_wrong_length ws ∙ list_any_none (has_wrong_length BlockBitIndex) ws (λ k d lt. refl),
@@ -139,32 +139,33 @@ places_given ws make =
       each_against has_wrong_bit_index ws,
       places_of ws,
     )
-    (by_reasons (list_any (has_wrong_digits BlockBitIndex) ws) (list_any is_index_above_591 ws)
+    (cases_reasons (list_any (has_wrong_digits BlockBitIndex) ws) (list_any is_index_above_591 ws)
     (has_repeated_number (map (digits_value 10) ws)) _ make)
 
 -- ---- the channel
 
-by_air : (P : List ℕ → Type 0) (verb : List ℕ) → P (codes "deliver") → P (codes "lose") → P (codes "flip") →
+cases_action : (P : List ℕ → Type 0) (verb : List ℕ) → P (codes "deliver") → P (codes "lose") → P (codes "flip") →
     (IsOther (codes "deliver") verb → IsOther (codes "lose") verb → IsOther (codes "flip") verb → P verb) → P verb
-by_air P verb deliver lose flip other =
-    by_word P (codes "deliver") verb deliver (λ a. by_word P (codes "lose") verb lose (λ b. by_word P (codes "flip") verb flip (λ c.
+cases_action P verb deliver lose flip other =
+    cases_word P (codes "deliver") verb deliver
+    (λ a. cases_word P (codes "lose") verb lose (λ b. cases_word P (codes "flip") verb flip (λ c.
     other a b c)))
 
 abbrev IsRadioRead : L.Way → List (List ℕ) → List ℕ → Type 0
 IsRadioRead way ws verb = script_parse_result (direction_word way ∷ verb ∷ ws) ≡ parsed_radio_event way (verb ∷ ws)
 
-airs : (way : L.Way) (ws : List (List ℕ)) → script_parse_result (direction_word way ∷ ws) ≡ parsed_radio_event way ws
-airs L.Up [] = refl
-airs L.Down [] = refl
-airs L.Up (verb ∷ []) = by_air (IsRadioRead L.Up []) verb refl refl refl (λ a b c. rw (a, b, c) refl)
-airs L.Down (verb ∷ []) = by_air (IsRadioRead L.Down []) verb refl refl refl (λ a b c. rw (a, b, c) refl)
-airs L.Up (verb ∷ w ∷ ws) =
-    by_air (IsRadioRead L.Up (w ∷ ws)) verb refl refl
-    (rw (no_less (length ws), all_stand ws, no_less (length ws)) (places_given (w ∷ ws) (E.Deliver (sender_of L.Up))))
+radio : (way : L.Way) (ws : List (List ℕ)) → script_parse_result (direction_word way ∷ ws) ≡ parsed_radio_event way ws
+radio L.Up [] = refl
+radio L.Down [] = refl
+radio L.Up (verb ∷ []) = cases_action (IsRadioRead L.Up []) verb refl refl refl (λ a b c. rw (a, b, c) refl)
+radio L.Down (verb ∷ []) = cases_action (IsRadioRead L.Down []) verb refl refl refl (λ a b c. rw (a, b, c) refl)
+radio L.Up (verb ∷ w ∷ ws) =
+    cases_action (IsRadioRead L.Up (w ∷ ws)) verb refl refl
+    (rw (no_less (length ws), all_fit ws, no_less (length ws)) (places-parsed (w ∷ ws) (E.Deliver (sender_of L.Up))))
     (λ a b c. rw (a, b, c) refl)
-airs L.Down (verb ∷ w ∷ ws) =
-    by_air (IsRadioRead L.Down (w ∷ ws)) verb refl refl
-    (rw (no_less (length ws), all_stand ws, no_less (length ws)) (places_given (w ∷ ws) (E.Deliver (sender_of L.Down))))
+radio L.Down (verb ∷ w ∷ ws) =
+    cases_action (IsRadioRead L.Down (w ∷ ws)) verb refl refl
+    (rw (no_less (length ws), all_fit ws, no_less (length ws)) (places-parsed (w ∷ ws) (E.Deliver (sender_of L.Down))))
     (λ a b c. rw (a, b, c) refl)
 
 -- ---- whole lines
@@ -179,34 +180,34 @@ read_by_parts : (ws : List (List ℕ)) → script_parse_result ws ≡ parsed_scr
 read_by_parts [] = refl
 read_by_parts (name ∷ ws) =
     let P : List ℕ → Type 0 = λ n. script_parse_result (n ∷ ws) ≡ parsed_actor_line (actor_of_name n) ws in
-    by_word P (codes "mob") name (calls L.Mob ws) (λ a.
-    by_word P (codes "mob3") name (calls L.Mob3 ws) (λ b.
-    by_word P (codes "net") name (calls L.Net ws) (λ c.
-    by_word P (codes "net3") name (calls L.Net3 ws) (λ d.
-    by_word P (codes "up") name (airs L.Up ws) (λ e.
-    by_word P (codes "down") name (airs L.Down ws) (λ f.
-    by_word P (codes "rival") name (rivals ws) (λ g. rw (a, b, c, d, e, f, g) refl)))))))
+    cases_word P (codes "mob") name (calls L.Mob ws) (λ a.
+    cases_word P (codes "mob3") name (calls L.Mob3 ws) (λ b.
+    cases_word P (codes "net") name (calls L.Net ws) (λ c.
+    cases_word P (codes "net3") name (calls L.Net3 ws) (λ d.
+    cases_word P (codes "up") name (radio L.Up ws) (λ e.
+    cases_word P (codes "down") name (radio L.Down ws) (λ f.
+    cases_word P (codes "rival") name (rivals ws) (λ g. rw (a, b, c, d, e, f, g) refl)))))))
 
 -- ---- the text after a word
 
--- a text has a word
-by_words : (P : List (List ℕ) → Type 0) (text : List ℕ) → ((w : List ℕ) (ws : List (List ℕ)) → P (w ∷ ws)) →
+-- splitting a text into words gives at least one word
+cases_words : (P : List (List ℕ) → Type 0) (text : List ℕ) → ((w : List ℕ) (ws : List (List ℕ)) → P (w ∷ ws)) →
     P (words text)
-by_words P text some = by (words text) (omega (arith, length-slice_split (λ octet. eqb octet 32) text))
+cases_words P text some = by (words text) (omega (arith, length-slice_split (λ octet. eqb octet 32) text))
   where
     by : (ws : List (List ℕ)) → 0 < length ws → P ws
     by [] none = absurd (omega arith)
     by (w ∷ ws) more = some w ws
 
-pub more_call : (end : L.LinkEndpoint) (verb text : List ℕ) →
+pub layer3_call-verb : (end : L.LinkEndpoint) (verb text : List ℕ) →
     parsed_octets_call end (request_of_name verb) (words text) ≡ parsed_layer3_call end (verb ∷ words text)
-more_call end verb text =
-    by_words (λ ws. parsed_octets_call end (request_of_name verb) ws ≡ parsed_layer3_call end (verb ∷ ws)) text (λ w ws. refl)
+layer3_call-verb end verb text =
+    cases_words (λ ws. parsed_octets_call end (request_of_name verb) ws ≡ parsed_layer3_call end (verb ∷ ws)) text (λ w ws. refl)
 
-pub more_air : (way : L.Way) (verb text : List ℕ) →
+pub radio_event-verb : (way : L.Way) (verb text : List ℕ) →
     parsed_bit_inversion way (action_of_name verb) (words text) ≡ parsed_radio_event way (verb ∷ words text)
-more_air way verb text =
-    by_words (λ ws. parsed_bit_inversion way (action_of_name verb) ws ≡ parsed_radio_event way (verb ∷ ws)) text (λ w ws. refl)
+radio_event-verb way verb text =
+    cases_words (λ ws. parsed_bit_inversion way (action_of_name verb) ws ≡ parsed_radio_event way (verb ∷ ws)) text (λ w ws. refl)
 
 -- ## OctetLaws: The messages in script lines consist of octets, 0 to 255.
 
@@ -251,14 +252,15 @@ each_has (entry ∷ table) = (
 
 pub octet_event : (line : List ℕ) (event : Event) → ScriptLineMeans line (Some event) → EventMessageIsOctets event
 octet_event line event means =
-    line_is link_line_forms no_order_fault event_of_script_line_meaning HasOctets tt (each_has link_line_forms) line (Some event) means
+    line_by_forms link_line_forms no_order_fault event_of_script_line_meaning HasOctets tt (each_has link_line_forms) line (Some event)
+    means
 
 -- ## PlaceLaws: The words that give bit indices of a block: their values, capped at 592, and how repeated indices are found by marking each
 -- index that has occurred.
 
 -- ---- the value of digits
 
--- appending digits to a number never makes it smaller
+-- the value of a number with digits appended is never below the number
 appending_digits_never_lowers : (n : ℕ) (ds : List ℕ) → n ≤ digits_value_after 10 n ds
 appending_digits_never_lowers n [] = omega arith
 appending_digits_never_lowers n (d ∷ ds) = omega (arith, appending_digits_never_lowers (n * 10 + digit_value d) ds)
@@ -274,11 +276,11 @@ cap_before_appending n ds = elim (cases_lt n 592) [
 digit_is : (d : ℕ) → is_ascii_digit d ≡ true → digit_value d ≡ d - 48
 digit_is d h = grind (arith, nat_tests)
 
--- the value of a word after one more of its digits is read
-pub next_place : (word : List ℕ) (i place new : ℕ) → i < length word → IsTrue (all_ascii_digits (drop i word))
+-- reading one more digit of a word does not change the value that the whole word will have, capped at 592
+pub next_digit-place : (word : List ℕ) (i place new : ℕ) → i < length word → IsTrue (all_ascii_digits (drop i word))
     → new ≡ min (10 * place + (get_or word i 0 - 48)) 592 → (new ≤ 592) × IsTrue (all_ascii_digits (drop (i + 1) word))
     × (min (digits_value_after 10 new (drop (i + 1) word)) 592 ≡ min (digits_value_after 10 place (drop i word)) 592)
-next_place word i place new in_range digits is =
+next_digit-place word i place new in_range digits is =
     let cut : drop i word ≡ get_or word i 0 ∷ drop (i + 1) word = rw add-one (drop-cons word i 0 in_range) in
     let parts = and_parts (is_ascii_digit (get_or word i 0)) (all_ascii_digits (drop (i + 1) word)) (rw cut at digits) in
     let digit = digit_is (get_or word i 0) parts.0 in
@@ -310,9 +312,9 @@ record Marks (marks : List Bool) (before : List ℕ) : Type 0 where
   pub right_length : length marks ≡ 592
   pub each : (k : ℕ) → k < 592 → get_or marks k false ≡ is_among before k
 
-mark : (marks : List Bool) (before : List ℕ) (n : ℕ) → n < 592 → Marks marks before →
+Marks-set : (marks : List Bool) (before : List ℕ) (n : ℕ) → n < 592 → Marks marks before →
     Marks (slice_set marks n true) (n ∷ before)
-mark marks before n small m =
+Marks-set marks before n small m =
     record {
       right_length = length-set marks n true ∙ m.right_length;
       each = λ k in_range.
@@ -322,14 +324,14 @@ mark marks before n small m =
           ];
     }
 
--- what a list of words without an index above 591 says of its first word and of the others
+-- if no word of a list is an index above 591, neither is the first word nor any of the others
 first_small : (w : List ℕ) (ws : List (List ℕ)) → list_any is_index_above_591 (w ∷ ws) ≡ false →
     (digits_value 10 w < 592) × (list_any is_index_above_591 ws ≡ false)
 first_small w ws in_range =
     let parts = or_parts (is_index_above_591 w) (list_any is_index_above_591 ws) in_range in
     (omega (arith, ltb-false 591 (digits_value 10 w) parts.0), parts.1)
 
--- a number is marked or repeated when it is reached if and only if it occurs in `before` or is repeated
+-- the numbers of these words include a marked or repeated one if and only if one of them occurs in `before` or is repeated
 again : (ws : List (List ℕ)) (marks : List Bool) (before : List ℕ) → list_any is_index_above_591 ws ≡ false → Marks marks before
     →
     has_marked_or_repeated_index marks (decimal_word_values ws) ≡
@@ -339,7 +341,7 @@ again (w ∷ ws) marks before in_range m =
     let n = digits_value 10 w in
     let ns = decimal_word_values ws in
     let small = first_small w ws in_range in
-    rw (m.each n small.0, again ws (slice_set marks n true) (n ∷ before) small.1 (mark marks before n small.0 m), or_apart ns before n)
+    rw (m.each n small.0, again ws (slice_set marks n true) (n ∷ before) small.1 (Marks-set marks before n small.0 m), or_apart ns before n)
     (or_regrouped (is_among before n) (list_any (λ m. m == n) ns) (list_any (is_among before) ns) (has_repeated_number ns))
   where
     or_regrouped : (a b c d : Bool) → (a || ((b || c) || d)) ≡ ((a || c) || (b || d))
@@ -347,27 +349,27 @@ again (w ∷ ws) marks before in_range m =
     or_regrouped false true true d = refl
     or_regrouped false b c d = refl
 
-unmarked : Marks (replicate 592 false) []
-unmarked = record { right_length = refl; each = λ k in_range. get_or-replicate 592 k false false in_range }
+Marks-none : Marks (replicate 592 false) []
+Marks-none = record { right_length = refl; each = λ k in_range. get_or-replicate 592 k false false in_range }
 
--- if no index is marked at first, an index is repeated if and only if it is marked when it is reached
-pub named_twice : (ws : List (List ℕ)) → list_any is_index_above_591 ws ≡ false
+-- if no index is marked at first, a marked or repeated index is found if and only if an index is repeated
+pub repeated-no_marks : (ws : List (List ℕ)) → list_any is_index_above_591 ws ≡ false
     → has_marked_or_repeated_index (replicate 592 false) (decimal_word_values ws) ≡ has_repeated_number (decimal_word_values ws)
-named_twice ws in_range =
-    again ws (replicate 592 false) [] in_range unmarked
+repeated-no_marks ws in_range =
+    again ws (replicate 592 false) [] in_range Marks-none
     ∙ rw (list_any_none (is_among []) (decimal_word_values ws) (λ k d lt. refl)) refl
 
--- if an index is marked when it is reached, it is repeated
-pub named_here : (marks : List Bool) (ws others : List (List ℕ)) (w : List ℕ) (n : ℕ) → ws ≡ w ∷ others →
+-- if the index that the first word gives is marked, the words have a marked or repeated index
+pub repeated-next : (marks : List Bool) (ws others : List (List ℕ)) (w : List ℕ) (n : ℕ) → ws ≡ w ∷ others →
     n ≡ min (digits_value 10 w) 592
     → list_any is_index_above_591 ws ≡ false → get_or marks n false ≡ true →
     true ≡ has_marked_or_repeated_index marks (decimal_word_values ws)
-named_here marks ws others w n is value in_range marked =
+repeated-next marks ws others w n is value in_range marked =
     let small = first_small w others (rw is at in_range) in
     let same : n ≡ digits_value 10 w = omega (arith, small.0) in
     rw (is, rw same at marked) refl
 
--- the result of reading words that are valid indices without repetition
+-- words that are decimal numbers up to 591 without repetition are read as the list of their values
 pub places_held : (ws : List (List ℕ)) (ns : List ℕ) → list_any (λ w. not (is_decimal w)) ws ≡ false →
     list_any is_index_above_591 ws ≡ false
     → has_repeated_number (decimal_word_values ws) ≡ false → ns ≡ decimal_word_values ws → Ok ns ≡ parsed_bit_indices ws
@@ -397,21 +399,21 @@ small_among (w ∷ ws) in_range n here =
       | inr other ↦ small_among ws small.1 n (rw other at here)
     ]
 
-pub few_places : (ws : List (List ℕ)) → list_any is_index_above_591 ws ≡ false
+pub places-at_most_592 : (ws : List (List ℕ)) → list_any is_index_above_591 ws ≡ false
     → has_repeated_number (decimal_word_values ws) ≡ false →
     length ws ≤ 592
-few_places ws in_range once = omega (
+places-at_most_592 ws in_range once = omega (
   arith,
   length-le_from_distinct_below (decimal_word_values ws) 592 (distinct (decimal_word_values ws) once) (small_among ws in_range),
   length-map ws (digits_value 10),
 )
 
-pub are_places : (ws : List (List ℕ)) → list_any is_index_above_591 ws ≡ false
+pub places-below_592 : (ws : List (List ℕ)) → list_any is_index_above_591 ws ≡ false
     → All (λ place. place < 592) (decimal_word_values ws)
-are_places [] in_range = All-nil (λ place. place < 592)
-are_places (w ∷ ws) in_range =
+places-below_592 [] in_range = All-nil (λ place. place < 592)
+places-below_592 (w ∷ ws) in_range =
     let small = first_small w ws in_range in
-    All-cons (λ place. place < 592) (digits_value 10 w) (decimal_word_values ws) small.0 (are_places ws small.1)
+    All-cons (λ place. place < 592) (digits_value 10 w) (decimal_word_values ws) small.0 (places-below_592 ws small.1)
 
 -- ## LineLaws: If a parser returns the right result for the words of a line, it returns the right result for the line.
 
@@ -428,5 +430,5 @@ read_line line result (Err fault) same short stays is =
 
 -- ## WordSizes: If a text has only one word, the word is the text.
 
-pub sole_word : (text w : List ℕ) → words text ≡ w ∷ [] → w ≡ text
-sole_word text w is = sym (ap (join_with_byte 32) is) ∙ join_with_byte-slice_split 32 text
+pub words-single : (text w : List ℕ) → words text ≡ w ∷ [] → w ≡ text
+words-single text w is = sym (ap (join_with_byte 32) is) ∙ join_with_byte-slice_split 32 text

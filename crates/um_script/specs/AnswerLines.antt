@@ -12,17 +12,17 @@ use Rattle.um_link.specs.lapdm_link.Events as E
 use Rattle.um_link.specs.um_block.declared.received.Received.{Received}
 use Rattle.um_link.specs.um_air.Air as A
 use Rattle.um_link.specs.um_air.Sessions.{AreOctets}
-use Rattle.um_lines.specs.Spelled.{octets_word}
+use Rattle.um_lines.specs.LineTexts.{octets_word}
 use Rattle.um_script.specs.AnswerWords.{actor_word, sapi_suffix, call_refusal_word, closing_reason_word}
 
--- the quality of a received block, as a `takes` or `drops` line reports it
+-- the reception quality of a block, as a `takes` or `drops` line reports it
 pub record ReceptionQuality : Type 0 where
   pub tsc : ℕ
   pub wrong_training : ℕ
   pub metric : ℤ
 
--- a line of an answer: `no` with the reason; `takes` or `drops` for a block received with a good or a bad CRC; a notice to layer 3; `sends`
--- for a block that is sent; or the final `ok`
+-- a line of an answer: `no` with the reason; `takes` for a block received with a correct CRC, `drops` for one with a wrong CRC; a notice to
+-- layer 3; `sends` for a block that is sent; or the final `ok`
 pub data AnswerLine : Type 0 where
   No : E.EventRefusal → AnswerLine
   Takes : E.Who → List ℕ → ReceptionQuality → AnswerLine
@@ -55,7 +55,7 @@ abbrev pub spaced_words : (words : List (List ℕ)) → List ℕ
 spaced_words [] = []
 spaced_words (word ∷ words) = 32 ∷ word ++ spaced_words words
 
--- the words for the quality of a received block
+-- the words for the reception quality of a block
 abbrev pub reception_words : ReceptionQuality → List (List ℕ)
 reception_words h = codes "tsc" ∷ decimal h.tsc ∷ codes "train" ∷ decimal h.wrong_training ∷ codes "metric"
     ∷ signed_decimal h.metric ∷ []

@@ -19,7 +19,7 @@ abbrev pub bit_indices_or_fault : Result (Bor (List ℕ)) LineFault → Result (
 bit_indices_or_fault (Ok places) = Ok places.now
 bit_indices_or_fault (Err fault) = Err fault
 
--- whether a number in the list is already marked, or occurs more than once
+-- whether an index in the list is already marked, or occurs more than once
 abbrev pub has_marked_or_repeated_index : (marks : List Bool) (indices : List ℕ) → Bool
 has_marked_or_repeated_index marks [] = false
 has_marked_or_repeated_index marks (n ∷ ns) = slice_index_or marks n false || has_marked_or_repeated_index (slice_set marks n true) ns

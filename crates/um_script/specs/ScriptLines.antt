@@ -30,14 +30,14 @@ abbrev pub sender_of : L.Way → Role
 sender_of L.Up = Mobile
 sender_of L.Down = Network
 
--- the octets among the values of a line
+-- the first list of octets among the values of a line, or no octets if there is none
 abbrev pub octets_of_values : (values : List Value) → List ℕ
 octets_of_values [] = []
 octets_of_values (Number n ∷ values) = octets_of_values values
 octets_of_values (NumberList octets ∷ values) = octets
 octets_of_values (BitIndex n ∷ values) = octets_of_values values
 
--- the event of this call to this endpoint
+-- the event in which layer 3 makes this call to this endpoint, or its T200 expires
 abbrev pub call_event : L.LinkEndpoint → E.Request → A.Event
 call_event end request = E.Ask (role_of end) (sapi_of end) request
 

@@ -54,8 +54,8 @@ abbrev pub event_from_parsed_list : (List ℕ → A.Event) → Result (List ℕ)
 event_from_parsed_list make (Ok ns) = Ok (Some (make ns))
 event_from_parsed_list make (Err fault) = Err fault
 
-abbrev pub parsed_event : A.Event → EventOrFault
-parsed_event event = Ok (Some event)
+abbrev pub accepted_event : A.Event → EventOrFault
+accepted_event event = Ok (Some event)
 
 -- ---- calls to an endpoint
 
@@ -65,10 +65,10 @@ is_sapi_3 Three = true
 
 -- the event for a call without octets, such as `close`, or the fault `Word`
 abbrev pub parsed_one_word_call : (endpoint : L.LinkEndpoint) (request : Option Request) → EventOrFault
-parsed_one_word_call end (Some Q.Open) = if is_sapi_3 (sapi_of end) then parsed_event (E.OpenBare (role_of end)) else Err Word
-parsed_one_word_call end (Some Q.Close) = parsed_event (call_event end E.Close)
-parsed_one_word_call end (Some Q.Tick) = parsed_event (call_event end E.T200Expiry)
-parsed_one_word_call end (Some Q.Idle) = if is_sapi_3 (sapi_of end) then Err Word else parsed_event (call_event end E.Idle)
+parsed_one_word_call end (Some Q.Open) = if is_sapi_3 (sapi_of end) then accepted_event (E.OpenBare (role_of end)) else Err Word
+parsed_one_word_call end (Some Q.Close) = accepted_event (call_event end E.Close)
+parsed_one_word_call end (Some Q.Tick) = accepted_event (call_event end E.T200Expiry)
+parsed_one_word_call end (Some Q.Idle) = if is_sapi_3 (sapi_of end) then Err Word else accepted_event (call_event end E.Idle)
 parsed_one_word_call end request = Err Word
 
 abbrev pub is_mobile_sapi_0 : L.LinkEndpoint → Bool
@@ -90,8 +90,8 @@ parsed_layer3_call end (verb ∷ w ∷ ws) = parsed_octets_call end (request_of_
 -- ---- events of a block on the radio path
 
 abbrev pub parsed_deliver_or_lose : (way : L.Way) (action : Option RadioAction) → EventOrFault
-parsed_deliver_or_lose way (Some T.Deliver) = parsed_event (E.Deliver (sender_of way) [])
-parsed_deliver_or_lose way (Some T.Lose) = parsed_event (E.Lose (sender_of way))
+parsed_deliver_or_lose way (Some T.Deliver) = accepted_event (E.Deliver (sender_of way) [])
+parsed_deliver_or_lose way (Some T.Lose) = accepted_event (E.Lose (sender_of way))
 parsed_deliver_or_lose way act = Err Word
 
 abbrev pub parsed_bit_inversion : (way : L.Way) (action : Option RadioAction) (words : List (List ℕ)) → EventOrFault

@@ -5,7 +5,7 @@ ghost use Rattle.um_lines.specs.Hex.{encode_lower};
 ghost use Rattle.um_link.specs.bit_blocks.Octets.{bits_of, octets_of};
 ghost use Rattle.um_link.specs.um_air.Air as A;
 ghost use Rattle.um_link.specs.um_air.Sessions.{AreOctets};
-ghost use Rattle.um_lines.specs.Spelled.{octets_word};
+ghost use Rattle.um_lines.specs.LineTexts.{octets_word};
 ghost use Rattle.um_script.specs.AnswerLines.{No as Refusal, Reports, Sends, reception_quality, reception_words, notice_words};
 ghost use Rattle.um_script.specs.AnswerLines.{received_block_line};
 ghost use Rattle.um_script.specs.AnswerLines.{received_block_lines};
@@ -34,7 +34,7 @@ pub fn step_lines(out: &mut Text, answer: &Result<Step, No>)
     }
 }
 
-/// Writes the lines of an answer whose step is stored in the caller's buffer.
+/// Writes the lines of an answer. If `outcome` is `Ok`, the step to report is in `step`, the caller's buffer.
 pub fn write_step_lines(out: &mut Text, outcome: &Result<(), No>, step: &Step)
     requires empty { out.old ≡ [] }
     requires fits { OnOk outcome.now (StepFitsItsActor (spec_step_of step.now)) }
@@ -180,7 +180,7 @@ fn push_data_and_check_words(out: &mut Text, octets: &[u8], check: &[u8])
         ++ spaced_words (codes "data" ∷ encode_lower octets.now ∷ codes "check" ∷ encode_lower check.now ∷ []) }
     ensures size { length out.new ≡ length out.old + 69 }
 
-    // The octets are in range, and unpacking them to bits and packing the bits again restores the octets.
+    // The octets are in range, and unpacking them into bits and packing the bits again restores them.
     ensures fit { AreOctets octets.now × AreOctets check.now }
     ensures octets { octets_of (bits_of octets.now) ≡ octets.now }
     ensures check { octets_of (bits_of check.now) ≡ check.now }

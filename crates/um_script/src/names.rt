@@ -13,7 +13,7 @@ pub(crate) enum Actor {
     Rival,
 }
 
-/// An operation that layer 3 calls on an endpoint.
+/// A call to an endpoint: an operation of layer 3, or T200 expiry (`Tick`).
 #[derive(Clone, Copy, PartialEq, Eq, Debug)]
 pub(crate) enum Request {
     Open,
@@ -24,7 +24,7 @@ pub(crate) enum Request {
     Idle,
 }
 
-/// An event of a block on the radio path.
+/// What happens to a block on the radio path.
 #[derive(Clone, Copy, PartialEq, Eq, Debug)]
 pub(crate) enum RadioAction {
     Deliver,

@@ -61,7 +61,7 @@ pub(crate) fn are_decimals(text: &[u8]) -> bool
     true
 }
 
-/// The number that a word of digits represents, at most 592: every greater number is returned as 592. The word may have any length.
+/// Returns the number that a word of digits represents, or 592 if the number is greater. The word may have any length.
 fn bit_index_of_word(word: &[u8]) -> u16
     requires { IsTrue (all_ascii_digits word.now) }
     ensures { result ≡ min (digits_value 10 word.now) 592 }
@@ -73,7 +73,7 @@ fn bit_index_of_word(word: &[u8]) -> u16
     place
 }
 
-/// Whether any word of the text is a number above 591.
+/// Whether a word of the text is a number above 591.
 pub(crate) fn has_index_above_591(text: &[u8]) -> bool
     requires { AreDecimalWords (words text.now) }
     ensures { result ≡ list_any is_index_above_591 (words text.now) }
@@ -89,7 +89,7 @@ pub(crate) fn has_index_above_591(text: &[u8]) -> bool
     false
 }
 
-/// Whether any two words of the text are the same index.
+/// Whether the text lists a bit index twice.
 pub(crate) fn has_repeated_index(text: &[u8]) -> bool
     requires { AreBitIndexWords (words text.now) }
     ensures { result ≡ has_repeated_number (decimal_word_values (words text.now)) }

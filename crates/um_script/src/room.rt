@@ -50,7 +50,8 @@ impl Room {
         held
     }
 
-    /// Parses the octets in a text that must be a single word, and stores them in the buffer, or returns the first fault.
+    /// Parses a text that must be a single word, stores the octets that it represents in the buffer, and returns them, or returns the first
+    /// fault.
     pub(crate) fn parse_octets_word(&mut self, text: &[u8]) -> Result<&[u8], LineFault>
         requires { length text.now ≤ 4096 }
         ensures { octets_or_fault result ≡ parsed_octets_word (words text.now) }
@@ -68,7 +69,7 @@ impl Room {
         Ok(self.decode_hex_octets(word))
     }
 
-    /// Decodes hexadecimal digits, two for each octet, into the buffer.
+    /// Decodes hexadecimal digits, two for each octet, into the buffer, and returns the octets.
     fn decode_hex_octets(&mut self, digits: &[u8]) -> &[u8]
         requires each { IsTrue (list_all is_hex_digit digits.now) }
         requires even { length digits.now % 2 ≡ 0 }
@@ -80,7 +81,7 @@ impl Room {
         held
     }
 
-    /// Parses the bit indices in the words of a text, and stores them in the buffer, or returns the first fault.
+    /// Parses each word of a text as a bit index, stores the indices in the buffer, and returns them, or returns the first fault.
     pub(crate) fn parse_bit_indices(&mut self, text: &[u8]) -> Result<&[u16], LineFault>
         ensures read { bit_indices_or_fault result ≡ parsed_bit_indices (words text.now) }
         ensures possible { IfOk result (λ places. AreBitIndices places.now) }

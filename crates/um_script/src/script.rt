@@ -35,7 +35,7 @@ pub fn parse_script<'a>(line: &[u8], room: &'a mut Room) -> Result<ScriptLine<'a
     ensures means { IfOk result (λ read. ScriptLineMeans line.now (event_of_script_line read)) }
     ensures refused { result_err result ≡ line_fault link_line_forms no_order_fault line.now }
 
-    // The index of every bit that the event inverts is in a block, 0 to 591.
+    // Every bit that the event inverts is a bit of a block: its index is 0 to 591.
     ensures possible { IfOk result (λ read. HasValidBitIndices read) }
 {
     if line.len() > LINE_LIMIT {

@@ -96,14 +96,14 @@ fn the_longest_lines_are_read(rt: HostRuntime) -> Result<(), Fail> {
 
 const FILL: &str = "2b2b2b2b2b2b2b2b2b2b2b2b2b2b2b2b2b2b2b";
 
-/// A block with these first octets, followed by fill octets.
+/// Returns a block that begins with these octets and continues with fill octets.
 fn block(front: [u8; 4]) -> [u8; BLOCK_OCTETS] {
     let mut octets = [0x2b; BLOCK_OCTETS];
     octets[..4].copy_from_slice(&front);
     octets
 }
 
-/// A received block. Its CRC is correct if and only if `accepted` holds octets.
+/// Returns the report on a received block. Its CRC is correct if and only if `accepted` holds octets.
 fn reception_quality(
     u: Bits<ENCODER_INPUT_BITS>,
     tsc: u8,

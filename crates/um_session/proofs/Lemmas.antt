@@ -30,7 +30,7 @@ use Rattle.{
     Courses.{RadioCounters, SessionWithRadio, blocks_received_in_step, received_block_count, link_command_rules_with_radio},
     Courses.{sent_frame_count, total_blocks_received, total_frames_sent},
     Promises.{DeliveryLawsHold, EventsInvertFewBits, IsLinkRun, RadioCountersRose},
-    Sessions.{IsStepForLineMeaning, IsScriptLineStep, IsEventStep, Session, link_command_rules, new_session, session_with_step},
+    Sessions.{IsParsedLineStep, IsScriptLineStep, IsEventStep, Session, link_command_rules, new_session, session_with_step},
   },
 }
 use Rattle.um_link.specs.Abstraction as L
@@ -41,17 +41,17 @@ use Rattle.um_script.specs.declared.script.ScriptLine.TheVariants as V
 abbrev pub HasOctets : Session → Type 0
 HasOctets s = All EventMessageIsOctets s.events
 
-octets_keep : (s b : Session) (line y : List ℕ) → HasOctets s → IsScriptLineStep s line y b → HasOctets b
-octets_keep s b line y octets (None, means, (_, same)) = rw same octets
-octets_keep s b line y octets (Some event, means, h) =
+HasOctets-step : (s b : Session) (line y : List ℕ) → HasOctets s → IsScriptLineStep s line y b → HasOctets b
+HasOctets-step s b line y octets (None, means, (_, same)) = rw same octets
+HasOctets-step s b line y octets (Some event, means, h) =
     rw h.after_is
     (All-append EventMessageIsOctets s.events (event ∷ []) octets
     (All-cons EventMessageIsOctets event [] (octet_event line event means) (All-nil EventMessageIsOctets)))
 
-octets_of_session : (tsc : ℕ) (channel : Channel) (lines answers : List (List ℕ)) (b : Session) →
+HasOctets-session : (tsc : ℕ) (channel : Channel) (lines answers : List (List ℕ)) (b : Session) →
     Runs link_command_rules (new_session tsc channel) lines answers b → HasOctets b
-octets_of_session tsc channel lines answers b runs =
-    Runs-keep link_command_rules HasOctets octets_keep (new_session tsc channel) b lines answers (All-nil EventMessageIsOctets) runs
+HasOctets-session tsc channel lines answers b runs =
+    Runs-keep link_command_rules HasOctets HasOctets-step (new_session tsc channel) b lines answers (All-nil EventMessageIsOctets) runs
 
 events_invert_few : (events : List Event) → EventsInvertFewBits events → All EventMessageIsOctets events
     → AllEventsInvertFewBits events
@@ -78,16 +78,16 @@ total_blocks_received-append : (xs ys : List Answer) →
 total_blocks_received-append [] ys = omega arith
 total_blocks_received-append (x ∷ xs) ys = omega (arith, total_blocks_received-append xs ys)
 
--- the counters after one more answer
-pub sent_more : (xs : List Answer) (x : Answer) (t : ℕ) →
+-- counting one more answer on top of the earlier ones gives the same counters as counting all of them at once
+pub frames_sent-push : (xs : List Answer) (x : Answer) (t : ℕ) →
     counter_plus (sent_frame_count x) (counter_plus (total_frames_sent xs) t) ≡ counter_plus (total_frames_sent (xs ++ x ∷ [])) t
-sent_more xs x t =
+frames_sent-push xs x t =
     raised_by-more (sent_frame_count x) (total_frames_sent xs) t _ (omega (arith, total_frames_sent-append xs (x ∷ [])))
 
-pub reception_more : (xs : List Answer) (x : Answer) (t : ℕ) →
+pub blocks_received-push : (xs : List Answer) (x : Answer) (t : ℕ) →
     counter_plus (blocks_received_in_step x) (counter_plus (total_blocks_received xs) t) ≡
     counter_plus (total_blocks_received (xs ++ x ∷ [])) t
-reception_more xs x t =
+blocks_received-push xs x t =
     raised_by-more (blocks_received_in_step x) (total_blocks_received xs) t _ (omega (arith, total_blocks_received-append xs (x ∷ [])))
 
 -- ## Stepping: The answer to a script line is the text of what `World::step_into` returns for its event.
@@ -107,53 +107,54 @@ same_arrivals (Err why) = refl
 -- ## Answering: The command `link` has exactly one output for every input, because every event has exactly one answer in every state of a
 -- session.
 
-meanings : (line : List ℕ) → HasOneMeaningOrFault (line_fault link_line_forms no_order_fault line) (ScriptLineMeans line)
-meanings line = one_made event_of_script_line_meaning (LineMeans link_line_forms no_order_fault line)
+link_meanings : (line : List ℕ) → HasOneMeaningOrFault (line_fault link_line_forms no_order_fault line) (ScriptLineMeans line)
+link_meanings line = one_made event_of_script_line_meaning (LineMeans link_line_forms no_order_fault line)
     (line_fault link_line_forms no_order_fault line)
     (one_meaning link_line_forms no_order_fault line refl)
 
-same_happening : (s : Session) (event : Event) (y y' : List ℕ) (b b' : Session) → IsEventStep s event y b →
+IsEventStep-unique : (s : Session) (event : Event) (y y' : List ℕ) (b b' : Session) → IsEventStep s event y b →
     IsEventStep s event y' b' → (y ≡ y') × (b ≡ b')
-same_happening s event y y' b b' h h' =
+IsEventStep-unique s event y y' b b' h h' =
     let same = one_answer s.air event h.air h'.air h.answer h'.answer h.step h'.step in
     let air : h.air ≡ h'.air = same.0 in
     let answer : h.answer ≡ h'.answer = same.1 in
     (cc (h.text_is, h'.text_is, answer), cc (h.after_is, h'.after_is, answer, air))
 
-same_answer : (s : Session) (m : Option Event) (y y' : List ℕ) (b b' : Session) → IsStepForLineMeaning s m y b →
-    IsStepForLineMeaning s m y' b' → (y ≡ y') × (b ≡ b')
-same_answer s None y y' b b' (e, h) (e', h') = (e ∙ sym e', h ∙ sym h')
-same_answer s (Some event) y y' b b' h h' = same_happening s event y y' b b' h h'
+line_step-unique : (s : Session) (m : Option Event) (y y' : List ℕ) (b b' : Session) → IsParsedLineStep s m y b →
+    IsParsedLineStep s m y' b' → (y ≡ y') × (b ≡ b')
+line_step-unique s None y y' b b' (e, h) (e', h') = (e ∙ sym e', h ∙ sym h')
+line_step-unique s (Some event) y y' b b' h h' = IsEventStep-unique s event y y' b b' h h'
 
 link_is_determined : IsDeterministic link_command_rules
 link_is_determined s line y y' b b' (m, means, answer) (m', means', answer') =
-    let same = same_meaning (ScriptLineMeans line) (line_fault link_line_forms no_order_fault line) (meanings line) m m' means means' in
-    same_answer s m' y y' b b' (subst (λ x. IsStepForLineMeaning s x y b) same answer) answer'
+    let same = same_meaning (ScriptLineMeans line) (line_fault link_line_forms no_order_fault line) (link_meanings line) m m' means
+    means' in
+    line_step-unique s m' y y' b b' (subst (λ x. IsParsedLineStep s x y b) same answer) answer'
 
--- ---- some answer
+-- ---- every event has an answer
 
 -- the events and answers of a session lead from the initial state to its present state, as `IsAirRun` defines
 abbrev pub IsSessionOn : ℕ → Channel → Session → Type 0
 IsSessionOn tsc channel s = IsAirRun (initial_session tsc channel) s.events s.answers s.air
 
 module _ (tsc : ℕ) (channel : Channel) where
-  step_keeps : (s b : Session) (line y : List ℕ) → IsSessionOn tsc channel s → IsScriptLineStep s line y b →
+  IsSessionOn-step : (s b : Session) (line y : List ℕ) → IsSessionOn tsc channel s → IsScriptLineStep s line y b →
       IsSessionOn tsc channel b
-  step_keeps s b line y run (None, means, (_, same)) = rw same run
-  step_keeps s b line y run (Some event, means, h) =
+  IsSessionOn-step s b line y run (None, means, (_, same)) = rw same run
+  IsSessionOn-step s b line y run (Some event, means, h) =
       rw h.after_is (longer_run (initial_session tsc channel) s.events s.answers s.air event h.answer h.air run h.step)
 
-  session_of : (lines answers : List (List ℕ)) (b : Session) → Runs link_command_rules (new_session tsc channel) lines answers b →
+  IsSessionOn-run : (lines answers : List (List ℕ)) (b : Session) → Runs link_command_rules (new_session tsc channel) lines answers b →
       IsSessionOn tsc channel b
-  session_of lines answers b runs =
-      Runs-keep link_command_rules (IsSessionOn tsc channel) step_keeps (new_session tsc channel) b lines answers refl
+  IsSessionOn-run lines answers b runs =
+      Runs-keep link_command_rules (IsSessionOn tsc channel) IsSessionOn-step (new_session tsc channel) b lines answers refl
       runs
 
   module _ (within : tsc ≤ 7) where
-    some_meaning : (s : Session) (line : List ℕ) (m : Option Event) → IsSessionOn tsc channel s →
-        All EventMessageIsOctets s.events → ScriptLineMeans line m → (y : List ℕ) × (b : Session) × IsStepForLineMeaning s m y b
-    some_meaning s line None run octets means = ([], s, (refl, refl))
-    some_meaning s line (Some event) run octets means =
+    line_step-exists : (s : Session) (line : List ℕ) (m : Option Event) → IsSessionOn tsc channel s →
+        All EventMessageIsOctets s.events → ScriptLineMeans line m → (y : List ℕ) × (b : Session) × IsParsedLineStep s m y b
+    line_step-exists s line None run octets means = ([], s, (refl, refl))
+    line_step-exists s line (Some event) run octets means =
         let next = some_answer tsc channel s.events s.answers s.air within octets run event (octet_event line event means) in (
           answer_text next.1,
           session_with_step s event next.1 next.0,
@@ -162,15 +163,16 @@ module _ (tsc : ℕ) (channel : Channel) where
 
     pub link_is_total : IsTotal link_command_rules (new_session tsc channel)
     link_is_total lines answers b runs line plain good =
-        let meant = good_meaning (ScriptLineMeans line) (line_fault link_line_forms no_order_fault line) (meanings line) good.no_fault in
-        let answered = some_meaning b line meant.0 (session_of lines answers b runs)
-        (octets_of_session tsc channel lines answers b runs) meant.1 in
+        let meant = good_meaning (ScriptLineMeans line) (line_fault link_line_forms no_order_fault line) (link_meanings line)
+        good.no_fault in
+        let answered = line_step-exists b line meant.0 (IsSessionOn-run lines answers b runs)
+        (HasOctets-session tsc channel lines answers b runs) meant.1 in
         (answered.0, answered.1, (meant.0, meant.1, answered.2))
 
     pub link_has_one_output : HasOneOutput link_command_rules (new_session tsc channel)
     link_has_one_output = has_one_output link_command_rules (new_session tsc channel) link_is_total link_is_determined
 
--- ## Running: A run by the rules that include the radio is also a run by the rules of `link`, and the claims about sessions hold for it.
+-- ## Running: A run by the rules that include the radio is also a run by the rules of `link`, so the claims about sessions hold for it.
 
 abbrev session_in : SessionWithRadio → Session
 session_in c = c.session
@@ -185,7 +187,7 @@ delivery_laws_hold tsc channel s run octets = record {
   benign = λ few. few_inverted_is_benign tsc channel s.events s.answers s.air run (events_invert_few s.events few octets);
 }
 
--- a later session contains all answers of an earlier one
+-- the answers of the session s begin with the answers xs
 record HasAll (xs : List Answer) (s : Session) : Type 0 where
   pub more : List Answer
   pub all : s.answers ≡ xs ++ more
@@ -199,16 +201,16 @@ has_all_step xs s b line y h (Some event, means, happened) = record {
       ∙ append_assoc xs h.more (happened.answer ∷ []);
 }
 
--- a run does not change the record of the counters before the first line, and keeps the answers
-kept : (c b : SessionWithRadio) (lines answers : List (List ℕ)) → Runs link_command_rules_with_radio c lines answers b →
+-- a run does not change the recorded initial counters, and keeps all earlier answers
+has_all_run : (c b : SessionWithRadio) (lines answers : List (List ℕ)) → Runs link_command_rules_with_radio c lines answers b →
     (b.initial_counters ≡ c.initial_counters) × HasAll c.session.answers b.session
-kept c b lines answers runs =
+has_all_run c b lines answers runs =
     Runs-keep link_command_rules_with_radio (λ x. (x.initial_counters ≡ c.initial_counters) × HasAll c.session.answers x.session)
     (λ x y line answer h step.
     (step.1 ∙ h.0, has_all_step c.session.answers x.session y.session line answer h.1 step.0))
     c b lines answers (refl, record { more = []; all = sym (append-nil c.session.answers) }) runs
 
--- the radio's counters after the last line, computed from those before the first line and the answers
+-- these are the radio's counters after the last line: those before the first line, raised by the counts of the answers
 abbrev pub Reports : RadioCounters → SessionWithRadio → Type 0
 Reports after c = (after.sent_blocks ≡ counter_plus (total_frames_sent c.session.answers) c.initial_counters.sent_blocks)
     × (after.received_blocks ≡ counter_plus (total_blocks_received c.session.answers) c.initial_counters.received_blocks)
@@ -224,13 +226,13 @@ counters_rose before after s last h same tells = record {
   received_rose = tells.1 ∙ ap (λ (b : RadioCounters). counter_plus (total_blocks_received last.session.answers) b.received_blocks) same;
 }
 
-pub link_run : (tsc : ℕ) (channel : Channel) (before after : RadioCounters) (Represents : SessionWithRadio → Type 0) →
+pub IsLinkRun-run : (tsc : ℕ) (channel : Channel) (before after : RadioCounters) (Represents : SessionWithRadio → Type 0) →
     ((c : SessionWithRadio) → Represents c → Reports after c) → (status : Status) (left left' taken taken' : Option (List ℕ)) →
     IsRun link_command_rules_with_radio (record { session = new_session tsc channel; initial_counters = before }) Represents status left
     left' taken
     taken' →
     IsLinkRun tsc channel status left left' taken taken' before after
-link_run tsc channel before after Represents tells status left left' taken taken' h =
+IsLinkRun-run tsc channel before after Represents tells status left left' taken taken' h =
     let start : SessionWithRadio = record { session = new_session tsc channel; initial_counters = before } in
     let run = weaker_run_by session_in link_command_rules_with_radio link_command_rules without_radio start Represents (λ last. Unit {0})
     (λ b represents. tt) status left left' taken taken' h in
@@ -239,8 +241,8 @@ link_run tsc channel before after Represents tells status left left' taken taken
     (λ last. Unit {0}) (λ b represents. tt) status left left' taken taken' h in
     let runs : Runs link_command_rules (new_session tsc channel) h.lines h.answers h.state.session =
     runs_by session_in link_command_rules_with_radio link_command_rules without_radio start h.state h.lines h.answers h.runs in
-    let earlier = kept start h.state h.lines h.answers h.runs in
-    let later = kept h.state h.last h.unwritten_lines h.unwritten_answers h.unwritten_run in
+    let earlier = has_all_run start h.state h.lines h.answers h.runs in
+    let later = has_all_run h.state h.last h.unwritten_lines h.unwritten_answers h.unwritten_run in
     record {
       run = run;
       counters_rose =
@@ -248,8 +250,8 @@ link_run tsc channel before after Represents tells status left left' taken taken
           (counters_rose before after h.state.session h.last later.1 (later.0 ∙ earlier.0) (tells h.last h.represents));
       delivery_laws_hold =
           rw same
-          (delivery_laws_hold tsc channel h.state.session (session_of tsc channel h.lines h.answers h.state.session runs)
-          (octets_of_session tsc channel h.lines h.answers h.state.session runs));
+          (delivery_laws_hold tsc channel h.state.session (IsSessionOn-run tsc channel h.lines h.answers h.state.session runs)
+          (HasOctets-session tsc channel h.lines h.answers h.state.session runs));
     }
 
 -- ---- a run of the command ends as the rules of `link` prescribe
@@ -275,10 +277,10 @@ output_by_both s before n (line ∷ judged) ended status z (inl h) = inl (record
 output_by_both s before n (line ∷ judged) ended status z (inr h) =
     inr (record { fault = h.fault; refused = h.refused; is_bad_input = h.is_bad_input; output = h.output })
 
-output_too : (s : Session) (before : RadioCounters) (x : List ℕ) (status : Status) (z : List ℕ)
+IsOutput-with_radio : (s : Session) (before : RadioCounters) (x : List ℕ) (status : Status) (z : List ℕ)
     → IsOutput link_command_rules s x status z →
     IsOutput link_command_rules_with_radio (record { session = s; initial_counters = before }) x status z
-output_too s before x status z (judged, ended, judges, gives) =
+IsOutput-with_radio s before x status z (judged, ended, judges, gives) =
     (judged, ended, judges, output_by_both s before 1 judged ended status z gives)
 
 same_course : (b c : SessionWithRadio) → b.session ≡ c.session → b.initial_counters ≡ c.initial_counters → b ≡ c
@@ -289,25 +291,26 @@ course_is_determined a line y y' b b' (step, kept) (step', kept') =
     let same = link_is_determined a.session line y y' b.session b'.session step step' in
     (same.0, same_course b b' same.1 (kept ∙ sym kept'))
 
-pub link_due : (s : Session) (before : RadioCounters) (status : Status) (left taken taken' : Option (List ℕ)) →
+pub link-prescribed : (s : Session) (before : RadioCounters) (status : Status) (left taken taken' : Option (List ℕ)) →
     (IsDeterministic link_command_rules_with_radio →
     EndsAsPrescribed link_command_rules_with_radio (record { session = s; initial_counters = before }) status left taken
     taken') →
     EndsAsPrescribed link_command_rules s status left taken taken'
-link_due s before status None taken taken' due = tt
-link_due s before status (Some x) taken taken' due = λ end z out. due course_is_determined end z (output_too s before x end z out)
+link-prescribed s before status None taken taken' due = tt
+link-prescribed s before status (Some x) taken taken' due = λ end z out. due course_is_determined end z
+    (IsOutput-with_radio s before x end z out)
 
--- the run in which there is too little memory at the start
-pub run_without_memory : (tsc : ℕ) (channel : Channel) (before : RadioCounters) (left taken : Option (List ℕ)) →
+-- a run of `link` can end with `NoMemory` at the start, with nothing read or written and the counters unchanged
+pub IsLinkRun-no_memory : (tsc : ℕ) (channel : Channel) (before : RadioCounters) (left taken : Option (List ℕ)) →
     IsLinkRun tsc channel NoMemory left left taken taken before before
-run_without_memory tsc channel before left taken =
+IsLinkRun-no_memory tsc channel before left taken =
     let start : SessionWithRadio = record { session = new_session tsc channel; initial_counters = before } in
-    link_run tsc channel before before (Reports before) (λ c represents. represents) NoMemory left left taken taken
+    IsLinkRun-run tsc channel before before (Reports before) (λ c represents. represents) NoMemory left left taken taken
     (without_memory link_command_rules_with_radio start (Reports before) left taken (refl, refl))
 
--- a run remains a run if its parameters are replaced by equal ones
-pub same_run : (tsc tsc' : ℕ) (channel channel' : Channel) (before before' after after' : RadioCounters) (status : Status)
+-- a run of `link` is also a run for equal parameters
+pub IsLinkRun-equal : (tsc tsc' : ℕ) (channel channel' : Channel) (before before' after after' : RadioCounters) (status : Status)
     (left left' taken taken' : Option (List ℕ)) → tsc ≡ tsc' → channel ≡ channel' → before ≡ before' → after ≡ after' →
     IsLinkRun tsc channel status left left' taken taken' before after →
     IsLinkRun tsc' channel' status left left' taken taken' before' after'
-same_run tsc tsc' channel channel' before before' after after' status left left' taken taken' t c b a h = rw (← t, ← c, ← b, ← a) h
+IsLinkRun-equal tsc tsc' channel channel' before before' after after' status left left' taken taken' t c b a h = rw (← t, ← c, ← b, ← a) h

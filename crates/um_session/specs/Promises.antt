@@ -14,9 +14,8 @@ use Rattle.um_session.specs.Courses.{total_frames_sent, total_blocks_received, R
 abbrev pub EventsInvertFewBits : List Event → Type 0
 EventsInvertFewBits events = All EventInvertsFewBits events
 
--- the session's log is ordered (`HasNoticesInOrder`); if the session is benign, the claims about delivery hold (`Claims`); and the
--- session is
--- benign if at most three bits of each block are inverted
+-- the session's log is ordered (`HasNoticesInOrder`); if the session is benign, the claims about delivery hold (`Claims`); and the session
+-- is benign if at most three bits of each block are inverted
 pub record DeliveryLawsHold (session : Session) : Type 0 where
   pub order : HasNoticesInOrder (session_log session.events session.answers)
   pub delivery : IsBenign session.events session.answers → Claims (session_log session.events session.answers)

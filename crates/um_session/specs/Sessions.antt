@@ -30,15 +30,15 @@ pub record IsEventStep (before : Session) (event : Event) (output : List ℕ) (a
   pub text_is : output ≡ answer_text answer
   pub after_is : after ≡ session_with_step before event answer air
 
--- the text answers a line with this meaning, and leads from the first session to the second; a skipped line has no answer
-abbrev pub IsStepForLineMeaning : (session : Session) (event : Option Event) (output : List ℕ) (after : Session) → Type 0
-IsStepForLineMeaning s None text after = (text ≡ []) × (after ≡ s)
-IsStepForLineMeaning s (Some event) text after = IsEventStep s event text after
+-- `output` answers a line with this meaning, and `after` is the session after it; a skipped line has no answer
+abbrev pub IsParsedLineStep : (session : Session) (event : Option Event) (output : List ℕ) (after : Session) → Type 0
+IsParsedLineStep s None text after = (text ≡ []) × (after ≡ s)
+IsParsedLineStep s (Some event) text after = IsEventStep s event text after
 
--- the text answers a line of the script, and leads from the first session to the second
+-- `output` answers a line of the script, and `after` is the session after it
 abbrev pub IsScriptLineStep : (session : Session) (line output : List ℕ) (after : Session) → Type 0
 IsScriptLineStep s line text after =
-    (meaning : Option Event) × ScriptLineMeans line meaning × IsStepForLineMeaning s meaning text after
+    (meaning : Option Event) × ScriptLineMeans line meaning × IsParsedLineStep s meaning text after
 
 -- the rules of the `link` command; the script may end after any line
 abbrev pub link_command_rules : Rules Session

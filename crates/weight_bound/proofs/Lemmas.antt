@@ -106,7 +106,7 @@ paid_step state bit h b = go bit b where
 paid_rest : (state : ℕ) → state < 16 → potential state ≤ ones (encoding_from_state state tail_bits)
 paid_rest _ h = grind arith
 
--- a path from a state to the end of the tail has at least the weight of the state's potential
+-- the weight of the coded bits from a state to the end of the tail is at least the potential of the state
 ones_bound : (state : ℕ) (u : List ℕ) → state < 16 → AllBits u →
     potential state ≤ ones (encoding_from_state state (u ++ tail_bits))
 ones_bound state [] h bits = paid_rest state h
@@ -138,7 +138,7 @@ Contains-strength s k _ within e = (k, rw length-map within, get_or-map _ s k (p
 either : (xs : List ℕ) (a b c : ℕ) → (c ≡ a) ⊎ (c ≡ b) → Contains xs a → Contains xs b → Contains xs c
 either xs a b c x in_a in_b = grind arith
 
--- after k values have been read: the absolute value of each lies within the bounds, and both bounds occur in the list
+-- the absolute values of the first k values lie within the bounds, and each bound is the absolute value of some value of the list
 pub record IsSoFar (s : List ℤ) (k min_abs max_abs : ℕ) : Type 0 where
   pub between : All (Between min_abs max_abs) (take k s)
   pub least : Contains (map unsigned_abs s) min_abs
@@ -167,7 +167,7 @@ pub AreLeastAndGreatestStrength-whole : (s : List ℤ) (k min_abs max_abs : ℕ)
 AreLeastAndGreatestStrength-whole s k min_abs max_abs whole h =
     record { between = subst (All (Between min_abs max_abs)) (take_all k s whole) h.between; least = h.least; greatest = h.greatest }
 
--- ## Counting: The number of indexes in a range that pass a test, when the range grows at its end or at its front.
+-- ## Counting: The number of indices in a range that pass a test, when the range grows at its end or at its front.
 
 pub count_by_more : (p : ℕ → Bool) (n : ℕ) →
     count_by p (range_with_len 0 (n + 1)) ≡ count_by p (range_with_len 0 n) + cond (p n) 1 0
@@ -177,7 +177,7 @@ count_by_more p n =
 count_by-le : (p : ℕ → Bool) (n : ℕ) → count_by p (range_with_len 0 n) ≤ n
 count_by-le p n = omega (arith, count_by-le-length p (range_with_len 0 n), length-range_with_len 0 n)
 
--- the count from index a + 1 on is that of the test shifted by one, from index a on
+-- if p accepts k + 1 exactly when q accepts k, p accepts as many indices from a + 1 on as q accepts from a on
 count_by-rest : (p q : ℕ → Bool) (a n : ℕ) → ((k : ℕ) → p (suc k) ≡ q k) →
     count_by p (range_with_len (suc a) n) ≡ count_by q (range_with_len a n)
 count_by-rest p q a zero h = refl
@@ -197,11 +197,11 @@ count_by-first p q n h =
 distance-cons : (x y : ℕ) (a b : List ℕ) → distance (x ∷ a) (y ∷ b) ≡ cond (not (x == y)) 1 0 + distance a b
 distance-cons x y a b = count_by-first _ (differ_at a b) (length a) (λ k. refl)
 
--- ## Distances: The free distance is seven. The code is linear, so the distance of two codewords is the weight of the codeword of the XOR
--- of their lists. The first one in this XOR gives two coded ones and leads to state 1, whose potential is five. A list with a single one
--- has a codeword of weight seven.
+-- ## Distances: The free distance is seven. The code is linear, so the distance between two codewords is the weight of the codeword of the
+-- XOR of their lists. The first one in this XOR gives two coded ones and leads to state 1, whose potential is five. The codeword of a list
+-- with a single one has weight seven.
 
--- the distance of two bit lists is the number of ones in their XOR
+-- the distance between two bit lists is the number of ones in their XOR
 distance-xor_bits : (a b : List ℕ) → length a ≡ length b → AllBits a → AllBits b → distance a b ≡ ones (xor_bits a b)
 distance-xor_bits [] b e bits_a bits_b = refl
 distance-xor_bits (x ∷ a) [] e bits_a bits_b = absurd (omega arith)
@@ -260,7 +260,7 @@ front-tail_bits u information =
     ap (λ tail. front u ++ tail) (sym (tail_bits-from_zeros (drop (length u - 4) u) four information.tail))
     ∙ take-append-drop (length u - 4) u
 
--- the distance of two codewords is the weight of the codeword of the XOR of their lists
+-- the distance between two codewords is the weight of the codeword of the XOR of their lists
 distance-coded : (u v : List ℕ) → length u ≡ length v → AllBits u → AllBits v →
     distance (encoding u) (encoding v) ≡ ones (encoding_from_state 0 (xor_bits u v))
 distance-coded u v same bits_u bits_v =
@@ -320,7 +320,7 @@ distance-one_first m =
     ∙ ap (λ w. ones (encoding_from_state 0 (1 ∷ 0 ∷ 0 ∷ 0 ∷ 0 ∷ w))) (xor_bits-zeros m)
     ∙ omega (arith, ones-zeros m)
 
--- the codewords of a list whose only one is the first bit and of the list of zeros have distance seven
+-- the codeword of a list whose only one is the first bit and the codeword of the list of zeros have distance seven
 pub reaches_seven : (n : ℕ) → 5 ≤ n → SomeDistanceIsSeven n
 reaches_seven (suc (suc (suc (suc (suc m))))) h =
     let n = suc (suc (suc (suc m))) in record {
@@ -334,8 +334,9 @@ reaches_seven (suc (suc (suc (suc (suc m))))) h =
     }
 reaches_seven n h = absurd (omega arith)
 
--- ## Restoring: Three wrong soft bits cannot outweigh a distance of seven if all soft bits have a similar strength, lo to hi. Compared with
--- any other list, the sent list gains at least 2 lo at each of at least four differences and loses at most 2 hi at each of three.
+-- ## Restoring: Three wrong soft bits cannot outweigh a distance of seven if all soft bits have a similar strength, `min_abs` to `max_abs`.
+-- Compared with any other list, the sent list gains at least 2 `min_abs` at each of at least four differences and loses at most 2 `max_abs`
+-- at each of three.
 
 bit_metric-zero : (p : ℤ) → bit_metric p 0 ≡ p
 bit_metric-zero p = grind arith
@@ -343,7 +344,7 @@ bit_metric-zero p = grind arith
 bit_metric-one : (p : ℤ) → bit_metric p 1 ≡ pos 0 -ℤ p
 bit_metric-one p = grind arith
 
--- a soft bit is either wrong or right, as the test says and as an inequality
+-- either z is at most 0, so that the soft bit is wrong, or z is positive; the test `int_le` and the inequality agree on this
 right_or_wrong : (z : ℤ) → ((int_le z (pos 0) ≡ true) × (z ≤ℤ pos 0)) ⊎ ((int_le z (pos 0) ≡ false) × (pos 0 <ℤ z))
 right_or_wrong x = grind arith
 
@@ -351,17 +352,18 @@ right_or_wrong x = grind arith
 abbrev Opposite : ℤ → ℤ → ℤ → Type 0
 Opposite p a b = ((a ≡ p) × (b ≡ pos 0 -ℤ p)) ⊎ ((b ≡ p) × (a ≡ pos 0 -ℤ p))
 
--- where the lists differ and the soft bit is right, the sent list gains at least 2 lo
+-- where the lists differ and the soft bit is right, the sent list gains at least 2 `min_abs`
 right_place : (p a b : ℤ) (min_abs max_abs : ℕ) → Between min_abs max_abs p → Opposite p a b → pos 0 <ℤ a →
     (b +ℤ pos (2 * min_abs)) ≤ℤ a
 right_place x a b _ _ between y right = grind arith
 
--- where the lists differ and the soft bit is wrong, the sent list loses at most 2 hi
+-- where the lists differ and the soft bit is wrong, the sent list loses at most 2 `max_abs`
 wrong_place : (p a b : ℤ) (min_abs max_abs : ℕ) → Between min_abs max_abs p → Opposite p a b → a ≤ℤ pos 0 →
     b ≤ℤ (a +ℤ pos (2 * max_abs))
 wrong_place x a b _ _ between y _ = grind arith
 
--- the path metric b of the other list is smaller than a by 2 lo for each difference, minus 2 (lo + hi) for each wrong soft bit
+-- the path metric b of the other list is smaller than a by 2 `min_abs` for each difference, minus 2 (`min_abs` + `max_abs`) for each wrong
+-- soft bit
 abbrev IsOutweighed : ℤ → ℤ → ℕ → ℕ → ℕ → ℕ → Type 0
 IsOutweighed a b min_abs max_abs differ wrong = (b +ℤ pos (2 * (min_abs * differ))) ≤ℤ
     (a +ℤ pos (2 * ((min_abs + max_abs) * wrong)))
@@ -391,7 +393,7 @@ all_places (p ∷ s) (x ∷ c) (y ∷ d) min_abs max_abs ec ed bits_c bits_d bet
     rw (distance-cons x y c d) (omega (arith, ints, here, later))
 all_places x y z min_abs max_abs ec ed bits_c bits_d between = absurd (omega arith)
 
--- seven differences of strength at least lo outweigh three wrong soft bits
+-- seven differences of strength at least `min_abs` outweigh three wrong soft bits
 less_likely : (s : List ℤ) (u v : List ℕ) → IsEncoderInput u → IsEncoderInput v → length s ≡ 2 * length u →
     length v ≡ length u → v ≢ u → IsCorrectable s (encoding u) → likelihood s (encoding v) <ℤ likelihood s (encoding u)
 less_likely s u v information_u information_v pairs same ne damage =
@@ -406,7 +408,7 @@ less_likely s u v information_u information_v pairs same ne damage =
     let lost = mul-le-mul_left (min_abs + max_abs) damage.at_most_3_wrong_bits in
     omega (arith, ints, sums, gained, lost, damage.similar_strengths)
 
--- the sent list is the most likely one, and no other ties with it
+-- if the soft bits are correctable, the sent list is the most likely one, and no other list ties with it
 pub restores : (soft : List ℤ) (u : List ℕ) → CorrectableIsRestored soft u
 restores soft u information pairs damage = (
   record {
@@ -422,7 +424,7 @@ pub restored : (soft : List ℤ) (u v : List ℕ) → IsEncoderInput u → lengt
     IsCorrectable soft (encoding u) → IsMostLikely soft v → v ≡ u
 restored soft u v information pairs damage most = IsMostLikely-only soft u v (restores soft u information pairs damage).0 most
 
--- soft bits of one nonzero strength meet the condition on strengths
+-- soft bits of equal nonzero strength are correctable if at most three of them are wrong
 pub IsCorrectable-equal : (soft : List ℤ) (c : List ℕ) (strength : ℕ) → 0 < length soft → 0 < strength →
     All (λ value. unsigned_abs value ≡ strength) soft → count_wrong_bits soft c ≤ 3 → IsCorrectable soft c
 IsCorrectable-equal soft c strength any more equal few =

@@ -1,5 +1,5 @@
--- A condition on soft bits that guarantees correct decoding: the most likely encoder input is then the sent word (this project's own
--- rule).
+-- A condition on soft bits that guarantees correct decoding: the most likely encoder input is then the one that was sent (this project's
+-- own rule).
 use Rattle.std.specs.Prelude.{ℕ, ◌≡◌, ◌≢◌, ◌<◌, ◌≤◌, ◌*◌, ℤ, ◌<ℤ◌, unsigned_abs, List, length, map}
 use Rattle.std.specs.List.{All, Contains}
 use Rattle.bit_blocks.specs.SoftValues.{count_wrong_bits}
@@ -12,9 +12,8 @@ pub record AreLeastAndGreatestStrength (soft : List ℤ) (min_abs max_abs : ℕ)
   pub least : Contains (map unsigned_abs soft) min_abs
   pub greatest : Contains (map unsigned_abs soft) max_abs
 
--- at most three of the soft bits `soft` disagree with the coded bits `coded`, and all are of similar strength: four times the least
--- absolute value
--- exceeds three times the greatest
+-- at most three of the soft bits `soft` disagree with the coded bits `coded`, and all soft bits are of similar strength: four times their
+-- least absolute value exceeds three times the greatest
 pub record IsCorrectable (soft : List ℤ) (coded : List ℕ) : Type 0 where
   pub at_most_3_wrong_bits : count_wrong_bits soft coded ≤ 3
   pub min_abs : ℕ
@@ -27,8 +26,8 @@ abbrev pub OthersAreLessLikely : (soft : List ℤ) (word : List ℕ) → Type 0
 OthersAreLessLikely s u =
     (v : List ℕ) → IsEncoderInput v → length v ≡ length u → v ≢ u → likelihood s (encoding v) <ℤ likelihood s (encoding u)
 
--- if soft bits are correctable (`IsCorrectable`) to the coded bits of an encoder input, that word is the most likely one, and no other
--- word has the same path metric
+-- if the soft bits are correctable (`IsCorrectable`) to the coded bits of an encoder input, this encoder input is the most likely one, and
+-- every other of its length has a smaller path metric
 abbrev pub CorrectableIsRestored : (soft : List ℤ) (word : List ℕ) → Type 0
 CorrectableIsRestored s u =
     IsEncoderInput u → length s ≡ 2 * length u → IsCorrectable s (encoding u) → IsMostLikely s u × OthersAreLessLikely s u

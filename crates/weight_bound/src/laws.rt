@@ -23,8 +23,8 @@ pub fn law_free_distance_is_seven()
     ensures { (n : ℕ) → 5 ≤ n → SomeDistanceIsSeven n }
 {}
 
-/// Law: if at most three soft bits are wrong and all are of similar strength (`IsCorrectable`), the sent encoder input `u` is more
-/// likely than every other word.
+/// Law: if at most three soft bits are wrong and all are of similar strength (`IsCorrectable`), the sent encoder input `u` is more likely
+/// than every other encoder input of its length.
 pub fn law_restores(soft: &[i8], u: &[u8])
     requires information { IsEncoderInput u.now }
     requires at_most { length u.now ≤ ENCODER_INPUT_BITS }

@@ -19,8 +19,8 @@ use Rattle.lapdm_window.specs.declared.Refused.TheVariants as No
 -- both directions between the endpoints x and y satisfy the invariant: `out` are the contents in transit from x; of those in transit from
 -- y, `comes` may still bring segments and `hears` may still bring acknowledgements
 pub record BothHold (x y : EndpointState) (out comes hears : List Content) : Type 0 where
-  pub forward : IsDirection (all_segments x) x.acked x.sent y.accepted out hears
-  pub backward : IsDirection (all_segments y) y.acked y.sent x.accepted comes out
+  pub forward : IsDirection (all_segments x) x.acked_segments x.sent_segments y.peer_segments out hears
+  pub backward : IsDirection (all_segments y) y.acked_segments y.sent_segments x.peer_segments comes out
 
 -- a relation between an endpoint, the other endpoint, and the contents in transit from each
 abbrev pub Way : Type 1
@@ -40,13 +40,13 @@ Counted c n x y out comes = (vr x ≡ n) × BothHold x y out (c ∷ comes) comes
 
 -- the endpoint x may send this content in its present state
 abbrev pub MaySend : EndpointState → Content → Type 0
-MaySend x c = CarriesIn (all_segments x) x.sent c × CountsIn (length x.accepted) c
+MaySend x c = CarriesIn (all_segments x) x.sent_segments c × CountsIn (length x.peer_segments) c
 
 may-plain : (x : EndpointState) (c : Content) → IsPlain c → MaySend x c
 may-plain x c h = grind arith
 
-pub waiting : (x : EndpointState) → HasWindowOfOne x → x.sent ≡ x.acked + 1 →
-    IsSegment (all_segments x) x.sent (x.acked % 8) (next_segment x)
+pub waiting : (x : EndpointState) → HasWindowOfOne x → x.sent_segments ≡ x.acked_segments + 1 →
+    IsSegment (all_segments x) x.sent_segments (x.acked_segments % 8) (next_segment x)
 waiting x e one = grind arith
 
 module _ {x y : EndpointState} {out comes hears : List Content} where
@@ -84,19 +84,24 @@ stage_of other = 0
 -- messages are acknowledged
 pub record Known : Type 0 where
   pub stage : ℕ
-  pub taken : List Message
+  pub messages : List Message
   pub ended : List (Option Message)
   pub acked : ℕ
 
 abbrev pub known : EndpointState → Known
-known x = record { stage = stage_of x.state; taken = x.taken; ended = ended_messages [] x.accepted; acked = acked_message_count x }
+known x = record {
+  stage = stage_of x.state;
+  messages = x.messages;
+  ended = ended_messages [] x.peer_segments;
+  acked = acked_message_count x;
+}
 
 abbrev pub nothing : Known
-nothing = record { stage = 0; taken = []; ended = []; acked = 0 }
+nothing = record { stage = 0; messages = []; ended = []; acked = 0 }
 
 -- what is known after one more call, if there is one
 abbrev pub asked : Option Call → Known → Known
-asked (Some (Sends t)) m = record m { taken = m.taken ++ t ∷ [] }
+asked (Some (Sends t)) m = record m { messages = m.messages ++ t ∷ [] }
 asked (Some Closes) m = record m { stage = max 2 m.stage }
 asked call m = m
 
@@ -106,7 +111,7 @@ MayNotify None m = Unit {0}
 MayNotify (Some (N.Unit t)) m = Unit {0}
 MayNotify (Some (N.Opened info)) m = m.stage ≡ 0
 MayNotify (Some (N.Closed reason)) m = m.stage ≤ 2
-MayNotify (Some (N.Acked n)) m = (m.stage ≡ 1) × (n ≡ capped_at_64_bits (m.acked + 1)) × (m.acked + 1 ≤ length m.taken)
+MayNotify (Some (N.Acked n)) m = (m.stage ≡ 1) × (n ≡ capped_at_64_bits (m.acked + 1)) × (m.acked + 1 ≤ length m.messages)
 MayNotify (Some other) m = m.stage ≡ 1
 
 abbrev pub notified : Option Notice → Known → Known
@@ -117,7 +122,7 @@ notified (Some (N.Got t)) m = record m { ended = m.ended ++ Some t ∷ [] }
 notified (Some N.Oversize) m = record m { ended = m.ended ++ None ∷ [] }
 notified other m = m
 
--- what a notice says that the accepted segments complete: a message, or `None` for an oversize one
+-- the message end that a notice reports: the complete message, or `None` for an oversize one; any other notice reports no message end
 abbrev pub ending_in : Notice → Option (Option Message)
 ending_in (N.Got m) = Some (Some m)
 ending_in N.Oversize = Some None
@@ -129,7 +134,7 @@ StagesAllow p o c q = (o + min 1 p ≤ 1) × (c + min 1 (p - 2) ≤ 1) × (q ≡
 
 -- the calls cs and notices ns lead from the knowledge m to the knowledge k
 abbrev LeadsTo : Known → List Call → List Notice → Known → Type 0
-LeadsTo m cs ns k = (m.taken ++ filter_map message_sent_by_call cs ≡ k.taken) × (m.ended ++ filter_map ending_in ns ≡ k.ended)
+LeadsTo m cs ns k = (m.messages ++ filter_map message_sent_by_call cs ≡ k.messages) × (m.ended ++ filter_map ending_in ns ≡ k.ended)
     × (length (filter_map acked_number_in_notice ns) + m.acked ≡ k.acked)
     × StagesAllow m.stage (length (filter_map opened_info_in_notice ns)) (length (filter_map as_close_notice ns)) k.stage
 
@@ -174,7 +179,7 @@ module _ {A : Type 0} (call : A → Option Call) (notice : A → Option Notice) 
   before_open (x ∷ xs) m k h now y (zero, low, is) = (m, rw (← is) (omega (arith, (leads xs _ k h.1).3.2 now)))
   before_open (x ∷ xs) m k h now y (suc i, low, is) = before_open xs _ k h.1 now y (i, omega (arith, low), is)
 
--- `Goes` over notices, and over the lines of a session
+-- `RunsTo` over notices, and (below) over the lines of a log
 abbrev pub Notifies : Known → List Notice → Known → Type 0
 Notifies = RunsTo (λ n. None) (λ n. Some n)
 
@@ -194,7 +199,7 @@ module _ (r : Role) (s : Sapi) where
 
   -- m is what the log lines ls reveal about the endpoint
   pub record IsNotified (ls : List LogLine) (m : Known) : Type 0 where
-    pub taken : sent_messages r s ls ≡ m.taken
+    pub messages : sent_messages r s ls ≡ m.messages
     pub got : filter_map ending_in (notices_in_log r s ls) ≡ m.ended
     pub acked : length (acked_message_numbers r s ls) ≡ m.acked
     pub staged : StagesAllow 0 (length (establishment_infos r s ls)) (length (close_notices r s ls)) m.stage
@@ -202,7 +207,7 @@ module _ (r : Role) (s : Sapi) where
   module _ (ls : List LogLine) (m : Known) (run : Runs nothing ls m) where
     pub is_notified : IsNotified ls m
     is_notified = let g = leads _ _ ls _ m run in
-        record { taken = g.0; got = g.1; acked = omega (arith, g.2); staged = g.3 }
+        record { messages = g.0; got = g.1; acked = omega (arith, g.2); staged = g.3 }
 
     -- each notice in the log can be reported at the point where it stands
     pub at_place : (before : List LogLine) (n : Notice) → OccursAfter before (Notified r s n) ls →
@@ -231,7 +236,7 @@ IsNoUnitOrOpening n = (ui_message_in_notice n ≡ None) × (opened_info_in_notic
 
 -- the endpoint with its window set to the initial state
 abbrev pub without_window : EndpointState → EndpointState
-without_window x = record x { acked = 0; sent = 0; accepted = []; rejecting = false; retries = 0 }
+without_window x = record x { acked_segments = 0; sent_segments = 0; peer_segments = []; rejecting = false; retries = 0 }
 
 -- all that holds of a step by the window rules of state Open: the rest of the endpoint does not change, and the relation `From` before the
 -- step implies `To` after it
@@ -273,20 +278,21 @@ in-if false h k = k
 abbrev Numbered : EndpointState → Content → Type 0
 Numbered x c = MaySend x c × (¬ IsPlain c)
 
-well : (x : EndpointState) (c : Content) → Numbered x c → CarriesSegmentOf (all_segments x) c
-well x c h = grind arith
+Numbered-carries_segment : (x : EndpointState) (c : Content) → Numbered x c → CarriesSegmentOf (all_segments x) c
+Numbered-carries_segment x c h = grind arith
 
 -- a step that changes only the counts, the accepted segments, the reject condition and the retry count satisfies `InOpen`
 step_of_rule : {From To : Way} (x : EndpointState) (a s : ℕ) (ps : List Segment) (b : Bool) (r : ℕ) (fs : List Frame)
-    (ns : List Notice) → (let z = record x { acked = a; sent = s; accepted = ps; rejecting = b; retries = r } in HasWindowOfOne z →
+    (ns : List Notice) → (let z = record x { acked_segments = a; sent_segments = s; peer_segments = ps; rejecting = b; retries = r } in
+    HasWindowOfOne z →
     AllFrames (Numbered z) x.sapi fs → Notifies (known x) ns (known z) × AllOf IsNoUnitOrOpening ns →
     ((y : EndpointState) (out comes : List Content) → AllOf (MaySend z) (contents fs) → From x y out comes →
     To z y (out ++ contents fs) comes) → InOpen From To x (record { new_state = z; frames = fs; notices = ns }))
 step_of_rule x a s ps b r fs ns end frames notified keeps =
-    let z = record x { acked = a; sent = s; accepted = ps; rejecting = b; retries = r } in
+    let z = record x { acked_segments = a; sent_segments = s; peer_segments = ps; rejecting = b; retries = r } in
     record {
       others_same = refl;
-      frames = frames-as (Numbered z) _ (well z) _ fs frames;
+      frames = frames-as (Numbered z) _ (Numbered-carries_segment z) _ fs frames;
       notifies = notified.0;
       of_open = notified.1;
       window_of_one = end;
@@ -294,40 +300,40 @@ step_of_rule x a s ps b r fs ns end frames notified keeps =
     }
 
 -- a step that changes only the reject condition and the retry count satisfies `InOpen`
-plainly : (x : EndpointState) (b : Bool) (r : ℕ) (fs : List Frame) → HasWindowOfOne x → AllFrames (Numbered x) x.sapi fs →
+InOpen-plain : (x : EndpointState) (b : Bool) (r : ℕ) (fs : List Frame) → HasWindowOfOne x → AllFrames (Numbered x) x.sapi fs →
     InOpen Both Both x (record { new_state = record x { rejecting = b; retries = r }; frames = fs; notices = [] })
-plainly x b r fs e h = step_of_rule x _ _ _ b r fs [] (grind arith) h (refl, tt)
+InOpen-plain x b r fs e h = step_of_rule x _ _ _ b r fs [] (grind arith) h (refl, tt)
     (λ y out comes may k. sends (contents fs) may (moved x.state x.sabm_info b r k))
 
 in-no_effect : Stays Both Both no_effect
-in-no_effect x is_now e = plainly x _ _ [] e tt
+in-no_effect x is_now e = InOpen-plain x _ _ [] e tt
 
 in-sends_rr : (f : Bool) → Stays Both Both (sends_rr f)
-in-sends_rr f x is_now e = plainly x _ _ _ e (inl refl, ((tt, refl), λ p. p), tt)
+in-sends_rr f x is_now e = InOpen-plain x _ _ _ e (inl refl, ((tt, refl), λ p. p), tt)
 
 in-rejects_segment : (p : Bool) → Stays Both Both (rejects_segment p)
 in-rejects_segment p x is_now e = in-if (reject_is_due p x)
-    (λ due. plainly x true x.retries (response_frame x (Rej (vr x) p) ∷ []) e (inl refl, ((tt, refl), λ p. p), tt))
+    (λ due. InOpen-plain x true x.retries (response_frame x (Rej (vr x) p) ∷ []) e (inl refl, ((tt, refl), λ p. p), tt))
     (in-no_effect x is_now e)
 
 in-sends_segment : (x : EndpointState) → HasWindowOfOne x → may_send_next_segment x ≡ true → InOpen Both Both x (sends_segment x)
 in-sends_segment x e has =
-    let none : x.sent ≡ x.acked = grind (arith, nat_tests) in
-    let left : x.sent < length (all_segments x) = grind (arith, nat_tests) in
+    let none : x.sent_segments ≡ x.acked_segments = grind (arith, nat_tests) in
+    let left : x.sent_segments < length (all_segments x) = grind (arith, nat_tests) in
     let window : HasWindowOfOne (with_segment_sent x) =
-    record { messages = e.messages; sent = omega arith; acked_at_most_sent = omega arith; window = omega arith } in
+    record { messages = e.messages; sent_segments = omega arith; acked_at_most_sent = omega arith; window = omega arith } in
     step_of_rule x _ _ _ _ 0 _ [] window (inl refl, ((waiting (with_segment_sent x) window (omega arith), refl), λ p. p), tt) (refl, tt)
     (λ y out comes may h. sends _ may (record { forward = next_waits none left h.forward; backward = h.backward }))
 
 in-sends_next_segment : Stays Both Both sends_next_segment
 in-sends_next_segment x is_now e = in-if (may_send_next_segment x) (in-sends_segment x e) (in-no_effect x is_now e)
 
-one_waits : (x : EndpointState) → HasWindowOfOne x → awaits_ack x ≡ true → x.sent ≡ x.acked + 1
-one_waits x e w = grind arith
+awaits_ack-one_sent : (x : EndpointState) → HasWindowOfOne x → awaits_ack x ≡ true → x.sent_segments ≡ x.acked_segments + 1
+awaits_ack-one_sent x e w = grind arith
 
 in-repeats : (p : Bool) (r : ℕ) (x : EndpointState) → HasWindowOfOne x → awaits_ack x ≡ true →
     InOpen Both Both x (sends_frame (outstanding_frame p x) (record x { retries = r }))
-in-repeats p r x e w = plainly x _ r _ e (inl refl, ((waiting x e (one_waits x e w), refl), λ p. p), tt)
+in-repeats p r x e w = InOpen-plain x _ r _ e (inl refl, ((waiting x e (awaits_ack-one_sent x e w), refl), λ p. p), tt)
 
 in-resends_outstanding_segment : Stays Both Both resends_outstanding_segment
 in-resends_outstanding_segment x is_now e = in-if (awaits_ack x) (in-repeats _ _ x e) (in-sends_next_segment x is_now e)
@@ -354,8 +360,8 @@ notifies-got k over more m es now e = grind (arith, append-nil)
 module _ (c : Content) (nr n : ℕ) (counts_in : (k : ℕ) → CountsIn k c → nr ≡ k % 8) where
   -- the endpoint evaluates the N(R) of c; the next rule takes the segment of c or ignores it
   module _ {To : Way} (pass : (x y : EndpointState) (out comes : List Content) → Counted c n x y out comes → To x y out comes) where
-    module _ (x : EndpointState) (is_now : x.state ≡ Open) (e : HasWindowOfOne x) (one : x.sent ≡ x.acked + 1)
-        (same : nr ≡ x.sent % 8)
+    module _ (x : EndpointState) (is_now : x.state ≡ Open) (e : HasWindowOfOne x) (one : x.sent_segments ≡ x.acked_segments + 1)
+        (same : nr ≡ x.sent_segments % 8)
       where
         after_ack : (y : EndpointState) (out comes : List Content) → Arriving c n x y out comes
             → To (with_segment_acked x) y (out ++ []) comes
@@ -364,10 +370,11 @@ module _ (c : Content) (nr n : ℕ) (counts_in : (k : ℕ) → CountsIn k c → 
 
         reports-acked : (more : Bool) → (next_segment x).1 ≡ more → InOpen (Arriving c n) To x (acks_outstanding_segment more x)
         reports-acked true is = step_of_rule x _ _ _ _ 0 [] [] (HasWindowOfOne-acked x e) tt
-            (cc (acked_message_count-more x one (omega (arith, e.sent)) is), tt) (λ y out comes may. after_ack y out comes)
+            (cc (acked_message_count-more x one (omega (arith, e.sent_segments)) is), tt) (λ y out comes may. after_ack y out comes)
         reports-acked false is =
-            let last = acked_message_count-last x one (omega (arith, e.sent)) is in
-            step_of_rule x x.sent x.sent x.accepted x.rejecting 0 [] (Acked (acked_message_number x) ∷ []) (HasWindowOfOne-acked x e) tt (
+            let last = acked_message_count-last x one (omega (arith, e.sent_segments)) is in
+            step_of_rule x x.sent_segments x.sent_segments x.peer_segments x.rejecting 0 [] (Acked (acked_message_number x) ∷ [])
+            (HasWindowOfOne-acked x e) tt (
               (
                 (ap stage_of is_now, ap capped_at_64_bits last, omega (arith, last, acked_message_count-most (with_segment_acked x))),
                 cc last,
@@ -377,7 +384,7 @@ module _ (c : Content) (nr n : ℕ) (counts_in : (k : ℕ) → CountsIn k c → 
 
     in-evaluates_nr : Stays (Arriving c n) To (evaluates_nr nr)
     in-evaluates_nr x is_now e = in-if (nr_acknowledges nr x)
-        (λ acks. reports-acked x is_now e (one_waits x e (grind (arith, nat_tests))) (grind (arith, nat_tests)) _ refl)
+        (λ acks. reports-acked x is_now e (awaits_ack-one_sent x e (grind (arith, nat_tests))) (grind (arith, nat_tests)) _ refl)
         (step_of_rule x _ _ _ _ _ [] [] e tt (refl, tt) (λ y out comes may h.
         pass x y _ _ (h.0, sends [] tt (record { forward = number_gone h.1.forward; backward = h.1.backward }))))
 
@@ -387,8 +394,8 @@ module _ (c : Content) (nr n : ℕ) (counts_in : (k : ℕ) → CountsIn k c → 
   in-accepts_segment : (p : Segment) → ((y : EndpointState) (k : ℕ) → CarriesIn (all_segments y) k c →
       IsSegment (all_segments y) k n p) → Stays (Counted c n) Both (accepts_segment p)
   in-accepts_segment p carries x is_now e =
-      let m = partial_message x.accepted ++ p.0 in
-      step_of_rule x _ _ _ _ _ [] _ (grind arith) tt (notifies-got _ _ p.1 m _ (ap stage_of is_now) (one_more x.accepted p))
+      let m = partial_message x.peer_segments ++ p.0 in
+      step_of_rule x _ _ _ _ _ [] _ (grind arith) tt (notifies-got _ _ p.1 m _ (ap stage_of is_now) (one_more x.peer_segments p))
       (λ y out comes may h. sends [] tt (record { forward = h.1.forward; backward = segment_in c n p (carries y) (sym h.0) h.1.backward }))
 
   in-takes_rr : (poll : Bool) → Stays (Arriving c n) Both (takes_rr nr poll)
@@ -406,7 +413,7 @@ in-takes_i_frame c nr ns p segment counts_in carries x is_now e = in-if (nat_eq 
     (in-accepts_segment c nr _ counts_in _ (rw same at carries))) (in-answers_segment p) x is_now e))
     (in-then (in-then (evaluates_arriving_nr c nr _ counts_in) (in-rejects_segment p)) in-sends_next_segment x is_now e)
 
--- ## Acting: What one step of an endpoint does, at a call or at any received frame: which frames it sends, which notices it reports, how
+-- ## Acting: What one step of an endpoint does, on a call or on any received frame: which frames it sends, which notices it reports, how
 -- its state changes, and that the invariant `BothHold` of both directions is preserved.
 
 -- what an endpoint may send in a step from x to z: an I frame with one of its segments, a SABM with the kept information, a UI frame for a
@@ -457,10 +464,10 @@ ReportsUnit c ns = (filter_map ui_message_in_notice ns ≡ [])
     ⊎ (filter_map ui_message_in_notice ns ≡ filter_map unit_in (cons_option (content_of c) []))
 
 -- all that holds of one step of an endpoint, caused by a call (then c is a fill frame) or by the received frame c
-pub record IsDone (call : Option Call) (c : Content) (x : EndpointState) (o : Outcome) : Type 0 where
+pub record StepFacts (call : Option Call) (c : Content) (x : EndpointState) (o : Outcome) : Type 0 where
   pub link : IsSameEndpoint x o.new_state
   pub window_of_one : HasWindowOfOne o.new_state
-  pub taken : o.new_state.taken ≡ x.taken ++ filter_map message_sent_by_call (cons_option call [])
+  pub messages : o.new_state.messages ≡ x.messages ++ filter_map message_sent_by_call (cons_option call [])
   pub notifies : Notifies (asked call (known x)) o.notices (known o.new_state)
   pub frames : AllFrames (Says call x o.new_state) x.sapi o.frames
   pub ui_in_order : filter_map unit_in (contents o.frames) ≡ filter_map ui_message_of_call (cons_option call [])
@@ -470,10 +477,10 @@ pub record IsDone (call : Option Call) (c : Content) (x : EndpointState) (o : Ou
       (cons_option (content_of c) comes) → Both o.new_state y (out ++ contents o.frames) comes
 
 abbrev pub IsTaken : Content → EndpointState → Outcome → Type 0
-IsTaken = IsDone None
+IsTaken = StepFacts None
 
 abbrev pub IsCalled : EndpointState → Call → Outcome → Type 0
-IsCalled x call o = IsDone (Some call) (Ui false []) x o
+IsCalled x call o = StepFacts (Some call) (Ui false []) x o
 
 well-said : (call : Option Call) (x z : EndpointState) (ps : List Segment) → all_segments z ≡ ps → (c : Content) →
     CarriesSegmentOf ps c → Says call x z c
@@ -486,15 +493,15 @@ none-of : {A B : Type 0} (f : A → Option B) (xs : List A) → AllOf (λ x. f x
 none-of f [] h = refl
 none-of f (x ∷ xs) h = rw (h.0, none-of f xs h.1) refl
 
--- a step that follows the window rules of state Open, with `ts` as the messages taken so far, satisfies `IsDone`
+-- a step that follows the window rules of state Open, with `ts` as the messages taken so far, satisfies `StepFacts`
 step_in_open : {From : Way} (call : Option Call) (c : Content) (x : EndpointState) (ts : List Message) (o : Outcome) →
-    (let mid = record x { taken = ts } in InOpen From Both mid o →
+    (let mid = record x { messages = ts } in InOpen From Both mid o →
     ((y : EndpointState) (out comes : List Content) → BothHold x y out (cons_option (content_of c) comes)
     (cons_option (content_of c) comes) →
-    From mid y out comes) → ts ≡ x.taken ++ filter_map message_sent_by_call (cons_option call []) →
-    known mid ≡ asked call (known x) → filter_map ui_message_of_call (cons_option call []) ≡ [] → IsDone call c x o)
+    From mid y out comes) → ts ≡ x.messages ++ filter_map message_sent_by_call (cons_option call []) →
+    known mid ≡ asked call (known x) → filter_map ui_message_of_call (cons_option call []) ≡ [] → StepFacts call c x o)
 step_in_open call c x ts o h from takes notified none =
-    let ps = all_segments (record x { taken = ts }) in
+    let ps = all_segments (record x { messages = ts }) in
     record {
       link = record {
         role = ap (λ z. z.role) h.others_same;
@@ -502,7 +509,7 @@ step_in_open call c x ts o h from takes notified none =
         channel = ap (λ z. z.channel) h.others_same;
       };
       window_of_one = h.window_of_one;
-      taken = ap (λ z. z.taken) h.others_same ∙ takes;
+      messages = ap (λ z. z.messages) h.others_same ∙ takes;
       notifies = rw notified at h.notifies;
       frames = frames-as (CarriesSegmentOf ps) _ (well-said call x o.new_state ps (ap all_segments h.others_same)) _ _ h.frames;
       ui_in_order = none-of unit_in _ (frames-say (CarriesSegmentOf ps) (λ c. unit_in c ≡ None) (well-no_unit ps) x.sapi o.frames
@@ -513,19 +520,20 @@ step_in_open call c x ts o h from takes notified none =
       arrives = λ y out comes k. h.keeps y out _ (from y out _ k);
     }
 
--- a step that sends no I, RR, RNR or REJ frame and takes no message from layer 3 satisfies `IsDone`
-moves : (call : Option Call) (c : Content) (x : EndpointState) (w : HasWindowOfOne x) (s : State) (k : Message) (r : ℕ) (fs : List Frame)
+-- a step that sends no I, RR, RNR or REJ frame and takes no message from layer 3 satisfies `StepFacts`
+plain_step : (call : Option Call) (c : Content) (x : EndpointState) (w : HasWindowOfOne x) (s : State) (k : Message) (r : ℕ)
+    (fs : List Frame)
     (ns : List Notice) → (let z = record x { state = s; sabm_info = k; retries = r } in
     let o : Outcome = record { new_state = z; frames = fs; notices = ns } in AllFrames (SaysPlain call x z) x.sapi fs →
     Notifies (asked call (known x)) ns (known z) → Goes call c x o → ReportsUnit c ns →
     filter_map message_sent_by_call (cons_option call []) ≡ [] →
-    filter_map unit_in (contents fs) ≡ filter_map ui_message_of_call (cons_option call []) → IsDone call c x o)
-moves call c x w s k r fs ns says notifies goes reports none ui_in_order =
+    filter_map unit_in (contents fs) ≡ filter_map ui_message_of_call (cons_option call []) → StepFacts call c x o)
+plain_step call c x w s k r fs ns says notifies goes reports none ui_in_order =
     let z = record x { state = s; sabm_info = k; retries = r } in
     record {
       link = record { role = refl; sapi = refl; channel = refl };
       window_of_one = grind arith;
-      taken = rw (none, append-nil) refl;
+      messages = rw (none, append-nil) refl;
       notifies = notifies;
       frames = frames-as (SaysPlain call x z) (Says call x z) (λ d h. h.1) _ fs says;
       ui_in_order = ui_in_order;
@@ -535,7 +543,7 @@ moves call c x w s k r fs ns says notifies goes reports none ui_in_order =
           (moved s k x.rejecting r (gone (content_of c) h));
     }
 
--- ## Taking: Every received frame, of whatever kind, satisfies `IsDone`.
+-- ## Taking: Every received frame, of whatever kind, satisfies `StepFacts`.
 
 -- an endpoint sends no UI frame in answer to a frame
 no_unit : (x z : EndpointState) (c : Content) → SaysPlain None x z c → unit_in c ≡ None
@@ -545,42 +553,42 @@ module _ (x : EndpointState) (w : HasWindowOfOne x) where
   rule : {o : Outcome} (c : Content) → content_of c ≡ Some c → InOpen (Arriving c (vr x)) Both x o → IsTaken c x o
   rule {o} c is h = step_in_open _ c x _ o h (λ y out comes k. (refl, rw is at k)) (sym (append-nil _)) refl refl
 
-  becomes : {c : Content} (s : State) (k : Message) (fs : List Frame) (ns : List Notice) →
+  IsTaken-state : {c : Content} (s : State) (k : Message) (fs : List Frame) (ns : List Notice) →
       (let z = record x { state = s; sabm_info = k } in let o : Outcome = record { new_state = z; frames = fs; notices = ns } in
       AllFrames (SaysPlain None x z) x.sapi fs → Notifies (known x) ns (known z) → Goes None c x o → ReportsUnit c ns →
       IsTaken c x o)
-  becomes {c} s k fs ns says notifies goes reports = moves _ c x w s k _ fs ns says notifies goes reports refl
+  IsTaken-state {c} s k fs ns says notifies goes reports = plain_step _ c x w s k _ fs ns says notifies goes reports refl
       (none-of _ _ (frames-say _ (λ c. unit_in c ≡ None) (no_unit x (record x { state = s; sabm_info = k })) x.sapi fs says))
 
-  quietly : {c : Content} (fs : List Frame) → AllFrames (SaysPlain None x x) x.sapi fs →
+  IsTaken-unchanged : {c : Content} (fs : List Frame) → AllFrames (SaysPlain None x x) x.sapi fs →
       IsTaken c x (record { new_state = x; frames = fs; notices = [] })
-  quietly fs h = becomes _ _ fs [] h refl (remains refl refl refl) (inl refl)
+  IsTaken-unchanged fs h = IsTaken-state _ _ fs [] h refl (remains refl refl refl) (inl refl)
 
   over : {c : Content} {reason : Reason} (fs : List Frame) → stage_of x.state ≤ 2 →
       AllFrames (SaysPlain None x (record x { state = Closed })) x.sapi fs →
       IsTaken c x (record { new_state = record x { state = Closed }; frames = fs; notices = N.Closed reason ∷ [] })
-  over fs live h = becomes _ _ fs _ h (live, refl) (ends refl refl refl) (inl refl)
+  over fs live h = IsTaken-state _ _ fs _ h (live, refl) (ends refl refl refl) (inl refl)
 
-  opened : {c : Content} (k info : Message) (fs : List Frame) → stage_of x.state ≡ 0 → k ≡ info →
+  IsTaken-opened : {c : Content} (k info : Message) (fs : List Frame) → stage_of x.state ≡ 0 → k ≡ info →
       AllFrames (SaysPlain None x (record x { state = Open; sabm_info = k })) x.sapi fs → OpensBy c x info →
       IsTaken c x (record { new_state = record x { state = Open; sabm_info = k }; frames = fs; notices = N.Opened info ∷ [] })
-  opened k info fs not_yet e h cause = becomes _ k fs _ h (not_yet, refl) (opens refl refl e cause) (inl refl)
+  IsTaken-opened k info fs not_yet e h cause = IsTaken-state _ k fs _ h (not_yet, refl) (opens refl refl e cause) (inl refl)
 
-  began : HasBegun x → stage_of x.state ≤ 2
-  began h = grind arith
+  HasBegun-stage : HasBegun x → stage_of x.state ≤ 2
+  HasBegun-stage h = grind arith
 
   taken-reply : (r : Reply) (c : Content) → IsReplyTo c x r → IsTaken c x (outcome_of_reply r x)
-  taken-reply Nothing c cause = quietly _ tt
-  taken-reply SendsDm c cause = quietly _ (inl refl, (tt, refl), tt)
-  taken-reply (SendsUa info) c cause = quietly _ (inl refl, (tt, cause), tt)
-  taken-reply (AcceptsSabm info) c cause = opened info info _ (ap stage_of cause.2) refl (inl refl, (tt, inl (refl, refl)), tt)
+  taken-reply Nothing c cause = IsTaken-unchanged _ tt
+  taken-reply SendsDm c cause = IsTaken-unchanged _ (inl refl, (tt, refl), tt)
+  taken-reply (SendsUa info) c cause = IsTaken-unchanged _ (inl refl, (tt, cause), tt)
+  taken-reply (AcceptsSabm info) c cause = IsTaken-opened info info _ (ap stage_of cause.2) refl (inl refl, (tt, inl (refl, refl)), tt)
       (rw cause.1 (refl, cause.2, cause.3))
-  taken-reply (ConfirmsEstablishment info) c cause = opened x.sabm_info info [] (ap stage_of cause.1) (sym cause.2) tt
+  taken-reply (ConfirmsEstablishment info) c cause = IsTaken-opened x.sabm_info info [] (ap stage_of cause.1) (sym cause.2) tt
       (rw cause.0 (refl, cause.1, cause.2))
-  taken-reply (ClosesLink reason) c cause = over [] (began cause) tt
+  taken-reply (ClosesLink reason) c cause = over [] (HasBegun-stage cause) tt
   taken-reply AcceptsDisc c cause = over _ (rw cause (omega arith)) (inl refl, (tt, inr (refl, inr (inl cause))), tt)
   taken-reply (TakesUi []) c cause = absurd (omega (arith, cause.2))
-  taken-reply (TakesUi (i ∷ is)) c cause = rw cause.1 (becomes _ _ [] _ tt (tt, refl) (remains refl refl refl) (inr refl))
+  taken-reply (TakesUi (i ∷ is)) c cause = rw cause.1 (IsTaken-state _ _ [] _ tt (tt, refl) (remains refl refl refl) (inr refl))
   taken-reply (TakesI ns nr p segment) c cause =
       rw cause.0 (rule _ refl (in-takes_i_frame _ nr ns p _ (λ k e. e) (λ y k e. e) x cause.1 w))
   taken-reply (TakesRr nr poll) c cause = rw cause.1 (rule _ refl (in-takes_rr _ nr _ (λ k e. e) _ x cause.2 w))
@@ -589,57 +597,60 @@ module _ (x : EndpointState) (w : HasWindowOfOne x) where
   pub taken-frame : (f : Frame) → IsTaken f.content x (frame_outcome f x)
   taken-frame f = taken-reply (reply_to_frame f x) _ (cause_of x f)
 
--- ## Asked: Every call that is not refused satisfies `IsDone`.
+-- ## Asked: Every call that is not refused satisfies `StepFacts`.
 
 taken-both : (m : Message) {x y : EndpointState} {out comes hears : List Content} → BothHold x y out comes hears →
     BothHold (with_queued_message m x) y out comes hears
-taken-both m {x} h = record { forward = rw (all_segments-taken x m) (more_segments _ h.forward); backward = h.backward }
+taken-both m {x} h = record { forward = rw (all_segments-push x m) (more_segments _ h.forward); backward = h.backward }
 
 module _ (x : EndpointState) (w : HasWindowOfOne x) where
   unopened : x.state ≡ S.Idle → record (known x) { stage = 0 } ≡ known x
   unopened is_now = grind arith
 
-  -- T200 expiry satisfies `IsDone`
-  again : (s : State) → x.state ≡ s → awaits_answer_in_state s (awaits_ack x) ≡ true →
+  -- T200 expiry satisfies `StepFacts`
+  IsCalled-retransmits : (s : State) → x.state ≡ s → awaits_answer_in_state s (awaits_ack x) ≡ true →
       IsCalled x T200Expires (sends_frame (frame_to_retransmit s x) (record x { retries = x.retries + 1 }))
-  again S.Opening e due = moves _ _ x w _ _ _ _ [] (inl refl, (tt, (e, refl)), tt) refl (remains refl refl refl) (inl refl) refl refl
-  again S.Closing e due = moves _ _ x w _ _ _ _ [] (inl refl, (tt, refl), tt) refl (remains refl refl refl) (inl refl) refl refl
-  again S.Open e due = step_in_open _ _ x x.taken _ (in-repeats _ _ x w due) (λ y out comes h. h) (sym (append-nil _)) refl refl
-  again s e due = absurd (false≢true due)
+  IsCalled-retransmits S.Opening e due =
+      plain_step _ _ x w _ _ _ _ [] (inl refl, (tt, (e, refl)), tt) refl (remains refl refl refl) (inl refl) refl refl
+  IsCalled-retransmits S.Closing e due =
+      plain_step _ _ x w _ _ _ _ [] (inl refl, (tt, refl), tt) refl (remains refl refl refl) (inl refl) refl refl
+  IsCalled-retransmits S.Open e due =
+      step_in_open _ _ x x.messages _ (in-repeats _ _ x w due) (λ y out comes h. h) (sym (append-nil _)) refl refl
+  IsCalled-retransmits s e due = absurd (false≢true due)
 
   live : (s : State) → awaits_answer_in_state s (awaits_ack x) ≡ true → stage_of s ≤ 2
   live s h = grind arith
 
   t200_expiry : (b : Bool) → awaits_answer_in_state x.state (awaits_ack x) ≡ true → IsCalled x T200Expires
       (if b then sends_frame (frame_to_retransmit x.state x) (record x { retries = x.retries + 1 }) else closes_and_reports R.Failed x)
-  t200_expiry true due = again _ refl due
-  t200_expiry false due = moves _ _ x w _ _ _ [] _ tt (live _ due, refl) (ends refl refl refl) (inl refl) refl refl
+  t200_expiry true due = IsCalled-retransmits _ refl due
+  t200_expiry false due = plain_step _ _ x w _ _ _ [] _ tt (live _ due, refl) (ends refl refl refl) (inl refl) refl refl
 
   pub is_called : (call : Call) → refusal_of call x ≡ None → IsCalled x call (call_outcome call x)
   is_called (Opens info) ok =
       let idle = passes (not (is_idle x.state)) No.NotIdle (frame_refusals info x) ok in
       let full : nat_eq (length info) 0 ≡ false = (passes _ _ _ idle.others_allow).not_refused in
       let is_now = is_idle-is x.state (not_false _ idle.not_refused) in
-      moves _ _ x w _ _ 0 _ [] (inl refl, (tt, (refl, refl)), tt) (unopened is_now)
+      plain_step _ _ x w _ _ 0 _ [] (inl refl, (tt, (refl, refl)), tt) (unopened is_now)
       (begins refl (refl, grind (arith, nat_tests)) refl) (inl refl) refl refl
   is_called OpensWithoutInfo ok =
       let is_now = is_idle-is x.state (not_false _ (passes _ _ [] ok).not_refused) in
-      moves _ _ x w _ [] 0 _ [] (inl refl, (tt, (refl, refl)), tt) (unopened is_now) (begins refl refl refl) (inl refl) refl refl
+      plain_step _ _ x w _ [] 0 _ [] (inl refl, (tt, (refl, refl)), tt) (unopened is_now) (begins refl refl refl) (inl refl) refl refl
   is_called (Sends m) ok =
       let now = passes (not (is_open x.state)) No.NotOpen (message_refusals m x) ok in
       let is_now = is_open-is x.state (not_false _ now.not_refused) in
       step_in_open _ _ x _ _
-      (in-sends_next_segment _ is_now (HasWindowOfOne-taken x m w (is_valid_message m x now.others_allow)))
+      (in-sends_next_segment _ is_now (HasWindowOfOne-push x m w (is_valid_message m x now.others_allow)))
       (λ y out comes h. taken-both m h) refl
-      (cc (acked_message_count-taken x m w)) refl
+      (cc (acked_message_count-push x m w)) refl
   is_called (SendsUi []) ok = absurd (false≢true (sym (passes _ _ ((nat_lt (n201 x.channel) 0, No.TooLong) ∷ []) ok).not_refused))
-  is_called (SendsUi (i ∷ is)) ok = moves _ _ x w _ _ _ _ []
+  is_called (SendsUi (i ∷ is)) ok = plain_step _ _ x w _ _ _ _ []
       (inl refl, (tt, inl refl), tt) refl (remains refl refl refl) (inl refl) refl refl
   is_called Closes ok =
       let is_now = is_open-is _ (not_false _ (passes _ _ [] ok).not_refused) in
-      moves _ _ x w _ _ 0 _ [] (inl refl, (tt, refl), tt) (rw is_now refl) (closes is_now refl refl refl) (inl refl) refl refl
+      plain_step _ _ x w _ _ 0 _ [] (inl refl, (tt, refl), tt) (rw is_now refl) (closes is_now refl refl refl) (inl refl) refl refl
   is_called T200Expires ok = t200_expiry (nat_lt x.retries (n200 x.channel x.state)) (not_false _ (passes _ _ [] ok).not_refused)
-  is_called SendsFill ok = moves _ _ x w _ _ _ _ [] (inr refl, (tt, inr (refl, refl)), tt) refl
+  is_called SendsFill ok = plain_step _ _ x w _ _ _ _ [] (inr refl, (tt, inr (refl, refl)), tt) refl
       (remains refl refl refl) (inl refl) refl refl
 
 -- ## Order: The claims about order, whatever frames arrive: every notice is possible after the log lines before it.
@@ -689,8 +700,8 @@ module _ {r : Role} {s : Sapi} {e : EndpointState} {ls : List LogLine} (h : IsRe
         notified = is_notified r s _ _ whole;
       }
 
-  unseen : (new : List LogLine) → Runs r s (known e) new (known e) → IsReported r s e (ls ++ new)
-  unseen new run = goes_on e new (record { role = refl; sapi = refl; channel = refl }) h.window_of_one run
+  IsReported-unseen : (new : List LogLine) → Runs r s (known e) new (known e) → IsReported r s e (ls ++ new)
+  IsReported-unseen new run = goes_on e new (record { role = refl; sapi = refl; channel = refl }) h.window_of_one run
 
   -- the claims of `HasNoticesInOrder` for one endpoint: each notice is possible at its place in the log
   acknowledged : (n : ℕ) (before : List LogLine) → OccursAfter before (Notified r s (N.Acked n)) ls →
@@ -699,7 +710,7 @@ module _ {r : Role} {s : Sapi} {e : EndpointState} {ls : List LogLine} (h : IsRe
   acknowledged n before place =
       let g = at_place r s ls (known e) h.run before (N.Acked n) place in
       let t = is_notified r s before g.0 g.1 in
-      (rw t.acked g.2.1, omega (arith, t.acked, ap length t.taken, g.2.2))
+      (rw t.acked g.2.1, omega (arith, t.acked, ap length t.messages, g.2.2))
 
   of_open : (m : Known) (n : Notice) → NeedsOpenLink n → MayNotify (Some n) m → m.stage ≡ 1
   of_open m n of may = grind arith
@@ -716,41 +727,41 @@ module _ {r : Role} {s : Sapi} {e : EndpointState} {ls : List LogLine} (h : IsRe
         release_not_requested = λ c. omega (arith, rw (is_end-self r s) at (past (Asked r s Closes) c).1);
       }
 
-acts : (w : World) (ls : List LogLine) → AllReported w ls → (r : Role) (s : Sapi) (cs : List Call) (o : Outcome) →
+AllReported-acts : (w : World) (ls : List LogLine) → AllReported w ls → (r : Role) (s : Sapi) (cs : List Call) (o : Outcome) →
     IsSameEndpoint (end_of r s w) o.new_state → HasWindowOfOne o.new_state →
     Runs r s (known (end_of r s w)) (said r s cs o.notices) (known o.new_state) →
     AllReported (acted r s o w) (ls ++ said r s cs o.notices)
-acts w ls h r s cs o link end run =
+AllReported-acts w ls h r s cs o link end run =
     let new = said r s cs o.notices in
     ends_do (λ r' s' e. IsReported r' s' e (ls ++ new)) r s o w (goes_on (h r s) _ new link end run)
-    (λ r' s' n. unseen (h r' s') new (runs-else r' s' r s n cs _ _))
+    (λ r' s' n. IsReported-unseen (h r' s') new (runs-else r' s' r s n cs _ _))
 
-any_frame : (o : Option EventRefusal) (event : Event) → KnowsBy o (λ r f. Unit {0}) event
-any_frame o event = grind arith
+KnowsBy-any_frame : (o : Option EventRefusal) (event : Event) → KnowsBy o (λ r f. Unit {0}) event
+KnowsBy-any_frame o event = grind arith
 
 pub in_order-step : (w : World) (ls : List LogLine) (event : Event) → AllReported w ls →
     AllReported (world_after event w) (ls ++ answer_log_lines event (answer event w))
 in_order-step w ls event h = by_kind w (λ z new. AllReported z (ls ++ new)) (λ r f. Unit {0}) (rw append-nil h) (λ r s call placed ok.
     (let c = is_called (end_of r s w) (h r s).window_of_one call ok in
-    acts w ls h r s (call ∷ []) (call_outcome call (end_of r s w)) c.link c.window_of_one
+    AllReported-acts w ls h r s (call ∷ []) (call_outcome call (end_of r s w)) c.link c.window_of_one
     (rw (is_end-self r s) (tt, runs-notified r s _ _ _ c.notifies)))) (λ r s f on known.
     (let t = taken-frame (end_of r s w) (h r s).window_of_one f in
-    acts (without_first (other r) w) ls h r s [] (frame_outcome f (end_of r s w)) t.link t.window_of_one
+    AllReported-acts (without_first (other r) w) ls h r s [] (frame_outcome f (end_of r s w)) t.link t.window_of_one
     (runs-notified r s _ _ _ t.notifies)))
-    (λ sender. rw append-nil h) (λ info ok r s. unseen (h r s) _ (tt, refl)) event (any_frame (refusal event w) event)
+    (λ sender. rw append-nil h) (λ info ok r s. IsReported-unseen (h r s) _ (tt, refl)) event (KnowsBy-any_frame (refusal event w) event)
 
 in_order-run : (events : List Event) (w : World) (ls : List LogLine) → AllReported w ls →
     ((z : World) × AllReported z (ls ++ session_log events (answers events w)))
 in_order-run [] w ls h = (w, rw append-nil h)
 in_order-run (event ∷ events) w ls h = rw (← append_assoc) (in_order-run events _ _ (in_order-step w ls _ h))
 
-pub initial_endpoint-reported : (capacity : QueueCapacity) (channel : Channel) → AllReported (initial_world capacity channel) []
-initial_endpoint-reported capacity channel = grind arith
+pub initial-reported : (capacity : QueueCapacity) (channel : Channel) → AllReported (initial_world capacity channel) []
+initial-reported capacity channel = grind arith
 
 pub order_claims : (capacity : QueueCapacity) (channel : Channel) (events : List Event) →
     HasNoticesInOrder (session_log events (answers events (initial_world capacity channel)))
 order_claims capacity channel events =
-    let run = in_order-run events (initial_world capacity channel) [] (initial_endpoint-reported capacity channel) in
+    let run = in_order-run events (initial_world capacity channel) [] (initial-reported capacity channel) in
     record {
       acked_in_order = λ r s n before place. acknowledged (run.1 r s) n before place;
       established_once = λ r s. omega (arith, (run.1 r s).notified.staged.0);

@@ -136,8 +136,8 @@ impl Window {
         ensures same { IsTrue result → values_of self.new ≡ values_of_parts parts.now }
         ensures represents { IsTrue result → (e : EndpointState) → ValuesRepresent (values_of_parts parts.now) e
             → Represents self.new e }
-        ensures known { IsTrue result ↔ SomeWindowHasValues (values_of_parts parts.now) }
-        ensures unknown { result ≡ false → self.new ≡ self.old }
+        ensures valid { IsTrue result ↔ SomeWindowHasValues (values_of_parts parts.now) }
+        ensures refused { result ≡ false → self.new ≡ self.old }
     {
         if !parts.are_consistent() || !self.joiner.restore(parts.reassembly, parts.part) {
             return false;

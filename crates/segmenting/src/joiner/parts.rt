@@ -9,7 +9,7 @@ use super::{Joiner, ReassemblyState};
 use crate::LONGEST_MESSAGE;
 
 impl Joiner {
-    /// The octets that the joiner holds.
+    /// Returns the octets that the joiner holds.
     pub fn octets(&self) -> &[u8]
         ensures value { result.now ≡ (values_of self.now).octets }
         ensures most { length result.now ≤ max_message_octets }
@@ -17,20 +17,20 @@ impl Joiner {
         &self.octets[..self.len]
     }
 
-    /// The part of a message that the joiner holds.
+    /// Returns the part of a message that the joiner holds.
     pub fn part(&self) -> ReassemblyState
         ensures { result ≡ (values_of self.now).part }
     {
         self.part
     }
 
-    /// Restores the state of a joiner: the octets joined so far, and what they are part of. Returns false and changes nothing if no joiner
-    /// can be in this state.
+    /// Restores the state of a joiner: the octets that it holds, and the part of a message that they form. Returns false and changes
+    /// nothing if no joiner can be in this state.
     pub fn restore(&mut self, octets: &[u8], part: ReassemblyState) -> bool
         ensures same { IsTrue result
             → values_of self.new ≡ record { octets = octets.now; part = part } }
-        ensures known { IsTrue result ↔ SomeJoinerHasValues (record { octets = octets.now; part = part }) }
-        ensures unknown { result ≡ false → self.new ≡ self.old }
+        ensures valid { IsTrue result ↔ SomeJoinerHasValues (record { octets = octets.now; part = part }) }
+        ensures refused { result ≡ false → self.new ≡ self.old }
 
         // At least one list of segments leads a joiner to this state.
         ensures taken { IsTrue result → (taken : List Segment) × HasTakenSegments self.new taken }
@@ -47,7 +47,7 @@ impl Joiner {
     }
 }
 
-// A joiner that discards an oversize message holds no octets.
+// Returns whether a joiner in this state may hold these octets: while it discards an oversize message, it holds none.
 fn is_empty_if_oversize(octets: &[u8], reassembly: ReassemblyState) -> bool
     ensures { IsTrue result ↔ (reassembly ≡ ReassemblyState.Discarding → octets.now ≡ []) }
 {

@@ -8,7 +8,10 @@ use Rattle.{
   conv_code.specs.Likelihood.AllSoftBits,
   trellis_decode.{
     specs.{Lanes.{lane, AreSignedOctets, IsSignedOctet}, Trellis.IsSurvivor, AcsLanes.path_metric, Words.to_binary},
-    proofs.{Viterbi.{IsMostLikely-best, likelihood-best, IsSurvivor-same}, SurvivorLists.{walked, walked_bits, walked_state, list_of_few}},
+    proofs.{
+      Viterbi.{IsMostLikely-best, likelihood-best, IsSurvivor-same},
+      SurvivorLists.{traced_survivor, traced_survivor-bits, traced_survivor-state, last_state-bits},
+    },
     proofs.decode_soft.Goals.After-metric_of_state_0,
   },
 }
@@ -41,13 +44,13 @@ best c =
     let length_front : length front ≡ 2 * few =
     omega (arith, length-take (2 * few) (take 8 soft), length-take 8 soft, c.requires.count, c.requires.at_least) in
     let counted : length bits ≡ few = omega (arith, count, length_front) in
-    let state = walked_state survivors walk some each 0 (lit≤ tt) in
+    let state = traced_survivor-state survivors walk some each 0 (lit≤ tt) in
     let first : c.write_last_state_bits.new.u ≡ bits =
     c.write_last_state_bits.ensures
     ∙ ap₂ (λ k s. drop (4 - k) (to_binary 4 s)) (sym counted) state
-    ∙ list_of_few bits (omega arith) (walked_bits survivors walk some each 0 (lit≤ tt)) in
+    ∙ last_state-bits bits (omega arith) (traced_survivor-bits survivors walk some each 0 (lit≤ tt)) in
     IsSurvivor-same 0 (sym (ap₂ (λ u v. u ++ v) first c.trace_back_survivors.ensures)) whole refl
-    (walked survivors walk some each 0 (lit≤ tt))
+    (traced_survivor survivors walk some each 0 (lit≤ tt))
 
 long : (c : After-metric_of_state_0) → length (c.write_last_state_bits.new.u ++ c.trace_back_survivors.new.u) ≡ length c.args.u.now
 long c = omega (

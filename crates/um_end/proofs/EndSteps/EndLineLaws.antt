@@ -17,7 +17,7 @@ use Rattle.{
       Meanings.HasOneMeaningOrFault,
       Reading.LineParsesTo,
     },
-    proofs.FormLaws.{line_means, one_meaning, one_made, line_is, no_fault_if_meant},
+    proofs.FormLaws.{line_means, one_meaning, one_made, line_by_forms, no_fault_if_meant},
   },
   um_formats.specs.{declared.burst_lines.BurstLine.BurstLine, BurstLines.{burst_line_of_meaning, burst_fault, BurstLineMeans}},
   um_formats.proofs.Lemmas.{one_burst_meaning as one_burst, AreSoft, hard, soft, lost},
@@ -45,10 +45,10 @@ module _ {Name A : Type 0} (table : LineForms Name) (elsewhere : Name → Bool) 
 abbrev renamed : {A B : Type 0} → (A → B) → LineForms A → LineForms B
 renamed {A} name table = map (λ (entry : A × LineForm). (name entry.0, entry.1)) table
 
-find_mapped : {A B : Type 0} (name : A → B) (ws : List (List ℕ)) (table : LineForms A) →
+form-renamed : {A B : Type 0} (name : A → B) (ws : List (List ℕ)) (table : LineForms A) →
     form_of_words (renamed name table) ws ≡ option_map (λ (entry : A × LineForm). (name entry.0, entry.1)) (form_of_words table ws)
-find_mapped name ws [] = refl
-find_mapped name ws (entry ∷ table) = grind (arith, find_mapped name ws table)
+form-renamed name ws [] = refl
+form-renamed name ws (entry ∷ table) = grind (arith, form-renamed name ws table)
 
 abbrev as_call : LinkLineKind × LineForm → EndLineKind × LineForm
 as_call entry = (L.Call entry.0, entry.1)
@@ -64,47 +64,47 @@ by_word P known w here other = elim (cases_Bool (bytes_eq w known)) [
 abbrev IsOwnForm : Role → List (List ℕ) → Type 0
 IsOwnForm role ws = form_of_words (end_line_forms (call_line_forms role)) ws ≡ option_map as_call (form_of_words link_line_forms ws)
 
-own_form : (role : Role) (ws : List (List ℕ)) → names_endpoint_of_side role ws ≡ true → IsOwnForm role ws
-own_form role [] e = absurd (cc e)
-own_form Mobile (name ∷ ws) e =
-    by_word (λ n. IsOwnForm Mobile (n ∷ ws)) (codes "mob") name (find_mapped L.Call (codes "mob" ∷ ws) mobile_call_line_forms) (λ a.
-    by_word (λ n. IsOwnForm Mobile (n ∷ ws)) (codes "mob3") name (find_mapped L.Call (codes "mob3" ∷ ws) mobile_call_line_forms)
+IsOwnForm-side : (role : Role) (ws : List (List ℕ)) → names_endpoint_of_side role ws ≡ true → IsOwnForm role ws
+IsOwnForm-side role [] e = absurd (cc e)
+IsOwnForm-side Mobile (name ∷ ws) e =
+    by_word (λ n. IsOwnForm Mobile (n ∷ ws)) (codes "mob") name (form-renamed L.Call (codes "mob" ∷ ws) mobile_call_line_forms) (λ a.
+    by_word (λ n. IsOwnForm Mobile (n ∷ ws)) (codes "mob3") name (form-renamed L.Call (codes "mob3" ∷ ws) mobile_call_line_forms)
     (λ b. absurd cc))
-own_form Network (name ∷ ws) e =
-    by_word (λ n. IsOwnForm Network (n ∷ ws)) (codes "net") name (find_mapped L.Call (codes "net" ∷ ws) network_call_line_forms) (λ a.
-    by_word (λ n. IsOwnForm Network (n ∷ ws)) (codes "net3") name (find_mapped L.Call (codes "net3" ∷ ws) network_call_line_forms)
+IsOwnForm-side Network (name ∷ ws) e =
+    by_word (λ n. IsOwnForm Network (n ∷ ws)) (codes "net") name (form-renamed L.Call (codes "net" ∷ ws) network_call_line_forms) (λ a.
+    by_word (λ n. IsOwnForm Network (n ∷ ws)) (codes "net3") name (form-renamed L.Call (codes "net3" ∷ ws) network_call_line_forms)
     (λ b. absurd cc))
 
--- the words of a line have the same fault in `end` as in a script, or the fault of a call inside a block
-abbrev inside_if : Bool → Option LineFault → Option LineFault
-inside_if b fault = if b then call_line_fault_inside_block fault else fault
+-- the fault of a call line in `end`, given its fault in a script; `b` says whether the line is inside a block
+abbrev order_fault_if : Bool → Option LineFault → Option LineFault
+order_fault_if b fault = if b then call_line_fault_inside_block fault else fault
 
 record IsSameCall (held : ℕ) (ws : List (List ℕ)) (own : Option (EndLineKind × LineForm)) (script : Option (LinkLineKind ×
     LineForm)) : Type 0 where
-  pub fault : first_word_fault (is_end_line_out_of_order held) own ws ≡ inside_if (not (held == 0))
+  pub fault : first_word_fault (is_end_line_out_of_order held) own ws ≡ order_fault_if (not (held == 0))
       (first_word_fault no_order_fault script ws)
   pub same_meaning : meaning_of_end_line (meaning_of_words own ws) ≡ meaning_of_call
       (event_of_script_line_meaning (meaning_of_words script ws))
 
-inside_word : (b : Bool) → Some Word ≡ inside_if b (Some Word)
-inside_word b = grind arith
+order_fault_if-word : (b : Bool) → Some Word ≡ order_fault_if b (Some Word)
+order_fault_if-word b = grind arith
 
-inside_fields : (b : Bool) (fields : List LineField) (ws : List (List ℕ)) →
-    (if b && true then Some Order else first_field_fault fields ws) ≡ inside_if b (first_field_fault fields ws)
-inside_fields b fields ws = grind arith
+order_fault_if-fields : (b : Bool) (fields : List LineField) (ws : List (List ℕ)) →
+    (if b && true then Some Order else first_field_fault fields ws) ≡ order_fault_if b (first_field_fault fields ws)
+order_fault_if-fields b fields ws = grind arith
 
-same_call : (held : ℕ) (ws : List (List ℕ)) (script : Option (LinkLineKind × LineForm)) →
+IsSameCall-form : (held : ℕ) (ws : List (List ℕ)) (script : Option (LinkLineKind × LineForm)) →
     IsSameCall held ws (option_map as_call script) script
-same_call held ws None = record { fault = inside_word (not (held == 0)); same_meaning = refl }
-same_call held ws (Some entry) = record {
-  fault = inside_fields (not (held == 0)) (fields_for_word_count entry.1 (length ws)) ws;
+IsSameCall-form held ws None = record { fault = order_fault_if-word (not (held == 0)); same_meaning = refl }
+IsSameCall-form held ws (Some entry) = record {
+  fault = order_fault_if-fields (not (held == 0)) (fields_for_word_count entry.1 (length ws)) ws;
   same_meaning = refl;
 }
 
-own_words : (role : Role) (held : ℕ) (ws : List (List ℕ)) → names_endpoint_of_side role ws ≡ true →
+IsSameCall-own : (role : Role) (held : ℕ) (ws : List (List ℕ)) → names_endpoint_of_side role ws ≡ true →
     IsSameCall held ws (form_of_words (end_line_forms (call_line_forms role)) ws) (form_of_words link_line_forms ws)
-own_words role held ws own =
-    rw (own_form role ws own) (same_call held ws (form_of_words link_line_forms ws))
+IsSameCall-own role held ws own =
+    rw (IsOwnForm-side role ws own) (IsSameCall-form held ws (form_of_words link_line_forms ws))
 
 -- ---- other lines
 
@@ -112,14 +112,14 @@ own_words role held ws own =
 abbrev IsNoCall : Role → List (List ℕ) → Type 0
 IsNoCall role ws = form_of_words (renamed L.Call (call_line_forms role)) ws ≡ None
 
-neither : (a b : Bool) → (a || b) ≡ false → (a ≡ false) × (b ≡ false)
-neither a b e = grind arith
+or-false : (a b : Bool) → (a || b) ≡ false → (a ≡ false) × (b ≡ false)
+or-false a b e = grind arith
 
-no_call : (role : Role) (ws : List (List ℕ)) → names_endpoint_of_side role ws ≡ false → IsNoCall role ws
-no_call Mobile [] e = refl
-no_call Network [] e = refl
-no_call Mobile (name ∷ ws) e = let h = neither (bytes_eq name (codes "mob")) _ e in rw (h.0, h.1) refl
-no_call Network (name ∷ ws) e = let h = neither (bytes_eq name (codes "net")) _ e in rw (h.0, h.1) refl
+IsNoCall-other : (role : Role) (ws : List (List ℕ)) → names_endpoint_of_side role ws ≡ false → IsNoCall role ws
+IsNoCall-other Mobile [] e = refl
+IsNoCall-other Network [] e = refl
+IsNoCall-other Mobile (name ∷ ws) e = let h = or-false (bytes_eq name (codes "mob")) _ e in rw (h.0, h.1) refl
+IsNoCall-other Network (name ∷ ws) e = let h = or-false (bytes_eq name (codes "net")) _ e in rw (h.0, h.1) refl
 
 -- the words of a line have the same form in `end` as in `replay`, and the fault in `replay` determines the fault in `end`
 record IsSameBurst (held : ℕ) (ws : List (List ℕ)) (own : Option (EndLineKind × LineForm)) (burst : Option (BurstLineKind ×
@@ -170,11 +170,11 @@ module _ (held : ℕ) (ws : List (List ℕ)) where
   blocks (entry ∷ table) single rest all h =
       by_block entry.0 entry.1 (words_fit_form ws entry.1) _ _ all.0 (blocks table single rest all.1 h)
 
-  other_words : (role : Role) → names_endpoint_of_side role ws ≡ false →
+  IsSameBurst-other : (role : Role) → names_endpoint_of_side role ws ≡ false →
       IsSameBurst held ws (form_of_words (end_line_forms (call_line_forms role)) ws) (form_of_words burst_line_forms ws)
-  other_words role other = blocks block_burst_line_forms single_burst_line_forms (renamed L.Call (call_line_forms role))
+  IsSameBurst-other role other = blocks block_burst_line_forms single_burst_line_forms (renamed L.Call (call_line_forms role))
       (refl, (refl, (refl, tt)))
-      (rw (no_call role ws other) (singles single_burst_line_forms (refl, (refl, (refl, (refl, tt))))))
+      (rw (IsNoCall-other role ws other) (singles single_burst_line_forms (refl, (refl, (refl, (refl, tt))))))
 
 -- ---- whole lines
 
@@ -204,8 +204,8 @@ module _ (role : Role) (held : ℕ) (line : List ℕ) (short : length line ≤ 4
       (means_said own_forms (is_end_line_out_of_order held) meaning_of_end_line line both.0)
 
   module _ (own : names_endpoint_of_side role (words line) ≡ true) where
-    own_fault : end_line_fault role held line ≡ inside_if (not (held == 0)) (line_fault link_line_forms no_order_fault line)
-    own_fault = rw (le-ltb 4096 (length line) short, kept) (own_words role held (words line) own).fault
+    own_fault : end_line_fault role held line ≡ order_fault_if (not (held == 0)) (line_fault link_line_forms no_order_fault line)
+    own_fault = rw (le-ltb 4096 (length line) short, kept) (IsSameCall-own role held (words line) own).fault
 
     -- inside a block a call is out of order
     pub inside_fault : not (held == 0) ≡ true → end_line_fault role held line ≡
@@ -220,17 +220,17 @@ module _ (role : Role) (held : ℕ) (line : List ℕ) (short : length line ≤ 4
         EndLineMeans role held line (meaning_of_call event)
     call_means none = carried link_line_forms no_order_fault event_of_script_line_meaning meaning_of_call
         (one_made event_of_script_line_meaning _ _ (one_meaning link_line_forms no_order_fault line refl))
-        (λ good. (call_fault none ∙ good, rw kept (own_words role held (words line) own).same_meaning))
+        (λ good. (call_fault none ∙ good, rw kept (IsSameCall-own role held (words line) own).same_meaning))
 
   module _ (other : names_endpoint_of_side role (words line) ≡ false) where
     pub other_fault : end_line_fault role held line ≡ burst_line_fault_in_end_command (burst_fault 3 line)
-    other_fault = rw (le-ltb 4096 (length line) short, kept) (other_words held (words line) role other).fault
+    other_fault = rw (le-ltb 4096 (length line) short, kept) (IsSameBurst-other held (words line) role other).fault
 
     pub other_means : (read : BurstLine) → BurstLineMeans 3 line read → EndLineMeans role held line (meaning_of_burst_line read)
     other_means = carried burst_line_forms (is_burst_out_of_order 3) burst_line_of_meaning meaning_of_burst_line (one_burst 3 line)
         (λ good. (
           other_fault ∙ ap burst_line_fault_in_end_command good,
-          rw kept ((other_words held (words line) role other).same_meaning
+          rw kept ((IsSameBurst-other held (words line) role other).same_meaning
               (rw (le-ltb 4096 (length line) short, kept) at good)),
         ))
 
@@ -245,10 +245,10 @@ infixr 30 ◌&◌
 ◌&◌ : {A B : Type 0} → A → B → A × B
 ◌&◌ a b = (a, b)
 
-pub end_well : (role : Role) (held : ℕ) (line : List ℕ) (meaning : EndLineMeaning) → EndLineMeans role held line meaning →
+pub line-possible : (role : Role) (held : ℕ) (line : List ℕ) (meaning : EndLineMeaning) → EndLineMeans role held line meaning →
     CanBeCarriedOut role meaning
-end_well Mobile held line meaning means =
-    line_is (end_line_forms mobile_call_line_forms) (is_end_line_out_of_order held) meaning_of_end_line (CanBeCarriedOut Mobile) tt
+line-possible Mobile held line meaning means =
+    line_by_forms (end_line_forms mobile_call_line_forms) (is_end_line_out_of_order held) meaning_of_end_line (CanBeCarriedOut Mobile) tt
     ((λ count values here (bits, rest, is, known, none). rw (is, none) (hard 148 bits known))
     & (λ count values here (octets, rest, is, known, none). rw (is, none) (soft 148 octets known))
     & (λ count values here none. rw none lost)
@@ -258,8 +258,8 @@ end_well Mobile held line meaning means =
     & (λ count values here none. (refl, tt)) & (λ count values here (m, rest, is, known, none). rw is (refl, known.2))
     & (λ count values here (m, rest, is, known, none). rw is (refl, known.2)) & (λ count values here none. (refl, tt))
     & (λ count values here none. (refl, tt)) & (λ count values here none. (refl, tt)) & tt) line meaning means
-end_well Network held line meaning means =
-    line_is (end_line_forms network_call_line_forms) (is_end_line_out_of_order held) meaning_of_end_line (CanBeCarriedOut Network) tt
+line-possible Network held line meaning means =
+    line_by_forms (end_line_forms network_call_line_forms) (is_end_line_out_of_order held) meaning_of_end_line (CanBeCarriedOut Network) tt
     ((λ count values here (bits, rest, is, known, none). rw (is, none) (hard 148 bits known))
     & (λ count values here (octets, rest, is, known, none). rw (is, none) (soft 148 octets known))
     & (λ count values here none. rw none lost)
@@ -269,9 +269,9 @@ end_well Network held line meaning means =
     & (λ count values here (m, rest, is, known, none). rw is (refl, known.2)) & (λ count values here none. (refl, tt))
     & (λ count values here none. (refl, tt)) & (λ count values here none. (refl, tt)) & tt) line meaning means
 
-pub possible : (role : Role) (held : ℕ) (line : List ℕ) (read : EndLine) → EndLineMeans role held line (meaning_of_parsed_line read)
+pub line_is_possible : (role : Role) (held : ℕ) (line : List ℕ) (read : EndLine) → EndLineMeans role held line (meaning_of_parsed_line read)
     →
     IsPossibleLine role read
-possible role held line V.Skip means = tt
-possible role held line (V.Burst soft) means = (end_well role held line (TakesBurst soft) means).1
-possible role held line (V.Ask event) means = (end_well role held line (Calls (spec_event_of event)) means).0
+line_is_possible role held line V.Skip means = tt
+line_is_possible role held line (V.Burst soft) means = (line-possible role held line (TakesBurst soft) means).1
+line_is_possible role held line (V.Ask event) means = (line-possible role held line (Calls (spec_event_of event)) means).0

@@ -1,8 +1,9 @@
--- For both bits the comparison is computed for each of the 256 numbers that hold a soft bit.
+-- For each value of the bit, the comparison is computed for all 256 values of a soft bit.
 use Rattle.{
-  std.proofs.Common.{◌≡◌, ℕ, zero, suc, ◌<◌, ◌≤◌, Bool, true, false, refl, ap, sym, ◌∙◌, arith, pos, ◌-ℤ◌},
-  std.{proofs.{Common.{w8, to_z, of_z}, Math.Facts.Fits-of_z, lemmas.Int.to_z-of_z}, specs.Int.Bits.bit_xor},
-  bit_blocks.{specs.SoftValues.is_wrong_bit, proofs.Lemmas.{passes_below, at_passes_below}},
+  bit_blocks.{proofs.Lemmas.{at_passes_below, passes_below}, specs.SoftValues.is_wrong_bit},
+  std.specs.Int.Bits.bit_xor,
+  std.proofs.Common.{Bool, ap, arith, false, of_z, pos, refl, suc, to_z, true, w8, zero, ℕ, ◌-ℤ◌, ◌<◌, ◌∙◌, ◌≡◌, ◌≤◌},
+  std.proofs.{Math.Facts.Fits-of_z, lemmas.Int.to_z-of_z},
 }
 use lib.Signed.{lt_z}
 use Rattle.bit_blocks.proofs.soft.is_wrong_bit.Goals as goal
@@ -18,9 +19,7 @@ agree false true = false
 agree false false = true
 
 agreed : (x y : Bool) → agree x y ≡ true → x ≡ y
-agreed true y h = sym h
-agreed false true h = cc
-agreed false false h = refl
+agreed x y h = grind arith
 
 found_wrong : (bit n : ℕ) → bit ≤ 1 → n < 256 → found bit n ≡ is_wrong_bit (to_z w8 n) bit
 unfolding passes_below

@@ -3,6 +3,5 @@ use Rattle.fire_code.proofs.division.crc.Goals as goal
 
 pub returns-clause-multiple : goal.returns-clause-multiple
 returns-clause-multiple g c =
-    rw (inverted_register g.row.N c.remainder.result c.bits_of_register.result c.requires.fits c.remainder.type_inv
-    c.bits_of_register.ensures.value)
+    rw (c.bits_of_register.ensures.value, inverted_register g.row.N c.remainder.result c.requires.fits c.remainder.type_inv)
     c.remainder.ensures.multiple

@@ -1,12 +1,6 @@
-use Rattle.{
-  std.proofs.Common.{◌<◌, ◌^◌, ◌++◌, ◌∷◌, take},
-  bit_blocks.specs.Polynomials.IsDivisibleBy,
-  fire_code.specs.Registers.low_bits,
-}
+use Rattle.{std.proofs.Common.{◌≡◌, fold, take}, fire_code.proofs.Lemmas.shifted}
 use Rattle.fire_code.proofs.division.remainder.Given as goal
 
--- the register is the remainder of the bits read so far
+-- the register after the bits read so far are shifted in
 abbrev pub invariant-loop-bit : goal.invariant-loop-bit
-invariant-loop-bit g l =
-    IsDivisibleBy (take l.bit-index l.bits ++ low_bits g.row.N l.register) (1 ∷ low_bits g.row.N l.taps) ×
-    (l.register < 2 ^ g.row.N)
+invariant-loop-bit g l = l.register ≡ fold (shifted l.taps) 0 (take l.bit-index l.bits)

@@ -1,12 +1,18 @@
-use Rattle.{bit_blocks.specs.Octets.octet_bits, fire_code.proofs.Lemmas.{remainder_of_octet, same_remainder_of_g40}}
+use Rattle.{
+  std.proofs.Common.{arith, drop, refl},
+  bit_blocks.{proofs.Lemmas.same_remainder, specs.Octets.octet_bits},
+  fire_code.{proofs.Lemmas.octet_bits-low_bits, specs.Words.fire_generator},
+}
 use Rattle.fire_code.proofs.octets.octet_remainder.Goals as goal
 
 pub returns-clause-multiple : goal.returns-clause-multiple
-returns-clause-multiple c = remainder_of_octet c.args.octet c.table_remainder.result _ c.bits_of.ensures.value
-    c.table_remainder.ensures.multiple
+returns-clause-multiple c = record {
+  leading_one = refl;
+  fits = omega arith;
+  quotient = rw (← octet_bits-low_bits c.args.octet, ← c.bits_of.ensures.value) at c.table_remainder.ensures.multiple;
+}
 
 pub returns-clause-only : goal.returns-clause-only
 returns-clause-only c r count bits multiple =
-    same_remainder_of_g40 (octet_bits c.args.octet) r _ count bits c.bits_of.ensures.count c.bits_of.ensures.bits
-    multiple.quotient
-    (returns-clause-multiple c).quotient
+    same_remainder (octet_bits c.args.octet) r _ (drop 1 fire_generator) bits c.bits_of.ensures.bits count c.bits_of.ensures.count
+    multiple.quotient (returns-clause-multiple c).quotient

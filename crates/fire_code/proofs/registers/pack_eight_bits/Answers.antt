@@ -1,10 +1,11 @@
 use Rattle.{
-  std.proofs.Common.{◌*◌, ◌%◌, ◌/◌, ◌^◌, ap, ◌∙◌},
-  fire_code.{specs.Registers.low_bits, proofs.Lemmas.gathered_bits},
+  std.proofs.Common.{ap, sym, ◌∙◌},
+  bit_blocks.{specs.Octets.bits_of, proofs.Lemmas.{bits_of-octets_of, octets_of-packing}},
+  fire_code.proofs.Lemmas.octet_bits-low_bits,
 }
 use Rattle.fire_code.proofs.registers.pack_eight_bits.Goals as goal
 
 pub returns-clause-value : goal.returns-clause-value
 returns-clause-value c =
-    ap (λ apart. low_bits 8 (apart * 0x0102040810204080 % 2 ^ 64 / 2 ^ 56)) c.from_le_bytes-apart.ensures
-    ∙ gathered_bits _ c.requires.count c.requires.bits
+    rw (c.from_le_bytes-apart.ensures, ← octet_bits-low_bits)
+    (ap bits_of (sym (octets_of-packing _ c.requires.count c.requires.bits)) ∙ bits_of-octets_of _ 1 c.requires.count c.requires.bits)

@@ -1,8 +1,12 @@
-use Rattle.{std.proofs.Common.{◌+◌, ◌-◌, ◌*◌, arith}, fire_code.proofs.Lemmas.{no_places, put_together}}
+use Rattle.{
+  std.proofs.Common.{◌+◌, ◌-◌, ◌*◌, arith, refl},
+  fire_code.{specs.Registers.low_bits, proofs.Lemmas.put_together},
+}
 use Rattle.fire_code.proofs.registers.register_from_bits.Goals as goal
 
 pub loop-m-init : goal.loop-m-init
-loop-m-init c = (no_places 0, omega arith)
+unfolding low_bits
+loop-m-init c = (refl, omega arith)
 
 pub loop-m-preserved : goal.loop-m-preserved
 loop-m-preserved c =

@@ -3,7 +3,7 @@ use Rattle.{
   std.proofs.lemmas.{Int.ints, List.length-set},
   interleave.{
     specs.Positions.{burst_of_bit, burst_position},
-    proofs.Lemmas.{half-stands, updated_bits-more, unchanged_bits-more, coded_index_at-is},
+    proofs.Lemmas.{half-position, updated_bits-more, unchanged_bits-more, coded_index_at-unique},
   },
 }
 use Rattle.interleave.proofs.gathering.deinterleave_half_burst.Goals as goal
@@ -26,12 +26,12 @@ loop-i-preserved c =
 
 pub returns-clause-updated_bits : goal.returns-clause-updated_bits
 returns-clause-updated_bits c k i hk burst hi place =
-    rw (← (coded_index_at-is k c.args.b (57 * c.args.half + i) hk burst place)) (c.loop-i.invariant.1 i (omega arith))
+    rw (← (coded_index_at-unique k c.args.b (57 * c.args.half + i) hk burst place)) (c.loop-i.invariant.1 i (omega arith))
 
 pub returns-clause-unchanged_bits : goal.returns-clause-unchanged_bits
 returns-clause-unchanged_bits c k hk none =
     c.loop-i.invariant.2 k hk
     (λ j hj same.
     let here : j < 57 = omega arith in
-    let stands = half-stands c.args.b c.args.half c.requires.burst c.requires.half j here in
+    let stands = half-position c.args.b c.args.half c.requires.burst c.requires.half j here in
     none (sym (ap burst_of_bit same) ∙ stands.burst) j here (sym (ap burst_position same) ∙ stands.place))

@@ -7,7 +7,10 @@ use Rattle.{
   },
   interleave.{
     specs.{ColumnPositions.{coded_bit_of_column, column_bit_position}, Positions.{burst_of_bit, burst_position}},
-    proofs.{Lemmas.{below_n, same_coded, in_column, burst_of_bit-below, burst_position-below}, gathering.gather.Goals.After-write_column},
+    proofs.{
+      Lemmas.{each_below, same_coded, in_column, burst_of_bit-below, burst_position-below},
+      gathering.gather.Goals.After-write_column,
+    },
   },
 }
 use Rattle.interleave.proofs.gathering.gather.Goals as goal
@@ -39,12 +42,12 @@ octets c = c.soft_bits_as_octets.result ∷ c.soft_bits_as_octets-2.result ∷ c
 
 long : (c : After-write_column) (b : ℕ) → b < 4 → length (get_or c.args.parts.now b []) ≡ 114
 long c =
-    below_n _ 4 (omega arith)
+    each_below _ 4 (omega arith)
 
 signed : (c : After-write_column) (b : ℕ) → b < 4 → map (cast_signed w8) (get_or (octets c) b []) ≡ get_or c.args.parts.now b []
 unfolding octets
 signed c =
-    below_n _ 4 (
+    each_below _ 4 (
       c.soft_bits_as_octets.ensures.value,
       (c.soft_bits_as_octets-2.ensures.value, (c.soft_bits_as_octets-3.ensures.value, (c.soft_bits_as_octets-4.ensures.value, tt))),
     )

@@ -4,7 +4,7 @@ use Rattle.{
   std.proofs.Common.{◌∙◌, arith},
   interleave.{
     specs.ColumnPositions.column_bit_position,
-    proofs.{Lemmas.{below_8, below_at, joined_octet}, joining.eight_columns.Goals.After-join_octet_fours-2},
+    proofs.{Lemmas.{each_below_8, below_at, octet_of_joined}, joining.eight_columns.Goals.After-join_octet_fours-2},
   },
 }
 use Rattle.interleave.proofs.joining.eight_columns.Goals as goal
@@ -62,7 +62,7 @@ columns c =
 
 column : (c : After-join_octet_fours-2) (s : ℕ) → s < 8 → get_or (columns c) s 0 ≡ joined c s
 unfolding columns
-column c = below_8 _ (first c 0 (omega arith)) (first c 1 (omega arith)) (first c 2 (omega arith)) (first c 3 (omega arith))
+column c = each_below_8 _ (first c 0 (omega arith)) (first c 1 (omega arith)) (first c 2 (omega arith)) (first c 3 (omega arith))
     (last c 0 (omega arith)) (last c 1 (omega arith)) (last c 2 (omega arith)) (last c 3 (omega arith))
 
 moved : (part : List ℕ) {x i j : ℕ} → x ≡ get_or part i 0 → i ≡ j → x ≡ get_or part j 0
@@ -73,7 +73,7 @@ stands : (c : After-join_octet_fours-2) (s : ℕ) → s < 8 → (r : ℕ) → r 
     get_or (octets c s) r 0 ≡ get_or (get_or c.args.bursts.now (r % 4) []) (column_bit_position (8 * c.args.column_group + s) r) 0
 unfolding octets column_bit_position
 stands c s hs =
-    let part : ℕ → List ℕ = λ b. get_or c.args.bursts.now b [] in below_8 _
+    let part : ℕ → List ℕ = λ b. get_or c.args.bursts.now b [] in each_below_8 _
     (moved (part 0) (c.octet_pairs.ensures.even s hs) (omega (arith, c.column_in_row.ensures)))
     (moved (part 1) (c.octet_pairs-2.ensures.even s hs) (omega (arith, c.column_in_row-2.ensures)))
     (moved (part 2) (c.octet_pairs-3.ensures.even s hs) (omega (arith, c.column_in_row-3.ensures)))
@@ -87,5 +87,5 @@ pub returns : goal.returns
 unfolding columns joined
 returns c s r hs hr =
     ap (λ x. x / 256 ^ r % 256) (column c s hs)
-    ∙ joined_octet _ (octets-below c s) r hr
+    ∙ octet_of_joined _ (octets-below c s) r hr
     ∙ stands c s hs r hr

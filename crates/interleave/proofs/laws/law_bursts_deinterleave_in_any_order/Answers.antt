@@ -1,5 +1,5 @@
-use Rattle.interleave.proofs.Lemmas.{any_order}
+use Rattle.interleave.proofs.Lemmas.{IsInterleaved-any_order}
 use Rattle.interleave.proofs.laws.law_bursts_deinterleave_in_any_order.Goals as goal
 
 pub returns : goal.returns
-returns c = any_order
+returns c = IsInterleaved-any_order

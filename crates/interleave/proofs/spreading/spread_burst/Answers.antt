@@ -1,12 +1,12 @@
-use Rattle.{std.proofs.Common.{get_or, ap, ◌∙◌, arith}, interleave.proofs.Lemmas.{half_of_bursts, coded_index_at-is}}
+use Rattle.{std.proofs.Common.{get_or, ap, ◌∙◌, arith}, interleave.proofs.Lemmas.{IsInterleaved-half_burst, coded_index_at-unique}}
 use Rattle.interleave.proofs.spreading.spread_burst.Goals as goal
 
 pub returns-clause-places : goal.returns-clause-places
 returns-clause-places c k i hk burst hi place =
     c.loop-i.invariant i (omega arith)
-    ∙ ap (λ k. get_or c.args.coded.now k 0) (c.coded_bit_numbers-k-items.ensures.value i hi ∙ coded_index_at-is k _ _ hk burst place)
+    ∙ ap (λ k. get_or c.args.coded.now k 0) (c.coded_bit_numbers-k-items.ensures.value i hi ∙ coded_index_at-unique k _ _ hk burst place)
 
 pub returns-clause-part : goal.returns-clause-part
 returns-clause-part c bursts whole =
-    half_of_bursts c.args.b c.args.half c.requires.burst c.requires.half c.args.coded.now bursts _ whole (omega arith)
+    IsInterleaved-half_burst c.args.b c.args.half c.requires.burst c.requires.half c.args.coded.now bursts _ whole (omega arith)
     (λ i h. c.loop-i.invariant i (omega arith) ∙ ap (λ k. get_or c.args.coded.now k 0) (c.coded_bit_numbers-k-items.ensures.value i h))

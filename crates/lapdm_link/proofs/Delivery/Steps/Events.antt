@@ -69,9 +69,9 @@ module _ (Says P : Content → Type 0) (says : (c : Content) → Says c → P c)
   frames-say [] h = tt
   frames-say (f ∷ fs) h = say-one f.content _ (says _ h.1) (frames-say fs h.2)
 
-pub frames-own : (Says : Content → Type 0) (s : Sapi) (fs : List Frame) → AllFrames Says s fs → AllOf (IsForSapi s) fs
-frames-own Says s [] h = tt
-frames-own Says s (f ∷ fs) h = (h.0, frames-own _ s fs h.2)
+pub frames-of_sapi : (Says : Content → Type 0) (s : Sapi) (fs : List Frame) → AllFrames Says s fs → AllOf (IsForSapi s) fs
+frames-of_sapi Says s [] h = tt
+frames-of_sapi Says s (f ∷ fs) h = (h.0, frames-of_sapi _ s fs h.2)
 
 -- a frame means its content to the endpoint of its own SAPI, and nothing to the endpoint of the other SAPI
 said-at : (t s : Sapi) (own : Bool) → is_same_sapi t s ≡ own → (f : Frame) → IsForSapi s f →
@@ -81,13 +81,13 @@ said-at t s own e f h = grind arith
 pub own_sapi : (s : Sapi) → is_same_sapi s s ≡ true
 own_sapi s = grind arith
 
-pub contents-own : (s : Sapi) (fs : List Frame) → AllOf (IsForSapi s) fs → contents_on s fs ≡ contents fs
-contents-own s [] h = refl
-contents-own s (f ∷ fs) h = rw (said-at s s true (own_sapi s) f h.0, contents-own s fs h.1) refl
+pub contents-of_sapi : (s : Sapi) (fs : List Frame) → AllOf (IsForSapi s) fs → contents_on s fs ≡ contents fs
+contents-of_sapi s [] h = refl
+contents-of_sapi s (f ∷ fs) h = rw (said-at s s true (own_sapi s) f h.0, contents-of_sapi s fs h.1) refl
 
-pub contents-else : (t s : Sapi) → is_same_sapi t s ≡ false → (fs : List Frame) → AllOf (IsForSapi s) fs → contents_on t fs ≡ []
-contents-else t s e [] h = refl
-contents-else t s e (f ∷ fs) h = rw (said-at t s _ e f h.0) (contents-else t s e fs h.1)
+pub contents-other : (t s : Sapi) → is_same_sapi t s ≡ false → (fs : List Frame) → AllOf (IsForSapi s) fs → contents_on t fs ≡ []
+contents-other t s e [] h = refl
+contents-other t s e (f ∷ fs) h = rw (said-at t s _ e f h.0) (contents-other t s e fs h.1)
 
 -- ## Views: How the parts of a session's state change when one endpoint, one queue or the log changes.
 
@@ -144,11 +144,11 @@ ends_do P Mobile s o w h g Network s' = g _ s' refl
 ends_do P Network s o w h g Mobile s' = g _ s' refl
 ends_do P Network s o w h g Network s' = side_does (P Network) s o.new_state w.ends.network h (g _) s'
 
-pub way_does : (r : Role) (s : Sapi) (o : Outcome) (w : World) → way r (acted r s o w) ≡ way r w ++ o.frames
-way_does r s o w = grind arith
+pub way-acted : (r : Role) (s : Sapi) (o : Outcome) (w : World) → way r (acted r s o w) ≡ way r w ++ o.frames
+way-acted r s o w = grind arith
 
-pub way_does-other : (r : Role) (s : Sapi) (o : Outcome) (w : World) → way (other r) (acted r s o w) ≡ way (other r) w
-way_does-other r s o w = grind arith
+pub way-acted_other : (r : Role) (s : Sapi) (o : Outcome) (w : World) → way (other r) (acted r s o w) ≡ way (other r) w
+way-acted_other r s o w = grind arith
 
 -- a property of each queue remains true after the oldest frame of one queue is removed
 each_lost : (P : Role → List Frame → Type 0) → ((r : Role) (fs : List Frame) → P r fs → P r (rest fs)) →
@@ -162,12 +162,12 @@ is_end-self r s = grind arith
 pub other_is : (r : Role) (s : Sapi) → is_end (other r) s r s ≡ false
 other_is r s = grind arith
 
-pub end_does : (r : Role) (s : Sapi) (o : Outcome) (w : World) → end_of r s (acted r s o w) ≡ o.new_state
-end_does r s o w = grind arith
+pub end_of-acted : (r : Role) (s : Sapi) (o : Outcome) (w : World) → end_of r s (acted r s o w) ≡ o.new_state
+end_of-acted r s o w = grind arith
 
-pub end_does-else : (r : Role) (s : Sapi) (o : Outcome) (w : World) (r' : Role) (s' : Sapi) → is_end r' s' r s ≡ false →
+pub end_of-acted_else : (r : Role) (s : Sapi) (o : Outcome) (w : World) (r' : Role) (s' : Sapi) → is_end r' s' r s ≡ false →
     end_of r' s' (acted r s o w) ≡ end_of r' s' w
-end_does-else r s o w = grind arith
+end_of-acted_else r s o w = grind arith
 
 pub link_else : (r' r : Role) (s' s : Sapi) → is_same_sapi s' s ≡ false → is_end r' s' r s ≡ false
 link_else r' r s' s h = grind arith
@@ -260,7 +260,7 @@ module _ (w : World) (P : World → List LogLine → Type 0) (Known : Role → F
 
     -- the case of an arrival, at which side r takes the step d
     abbrev Arrives : Role → S.SideStep → Type 0
-    Arrives r d = P (world_after_step (step_of_both_sides r d w.ends) (without_first (other r) w))
+    Arrives r d = P (world_after_step (step_with_peer_unchanged r d w.ends) (without_first (other r) w))
         (notice_log_lines (BySide r) d.sapi d.notices)
 
     none_taken : (r : Role) → Arrives r (S.no_op_step (side_with_role r w.ends))
@@ -291,10 +291,10 @@ module _ (w : World) (P : World → List LogLine → Type 0) (Known : Role → F
 --
 -- Write these counts in a row: the segments that the sender counts as acknowledged; for each frame with an N(R) in transit, the number of
 -- segments accepted when it was sent; the segments accepted; for each I frame in transit, the number of segments up to its own; the
--- segments sent. The row never decreases, and its last count exceeds its first by at most one, because the window is one frame. So an
--- arriving I frame carries either the last accepted segment or the next one, and N(S) modulo 8 distinguishes the two. An arriving N(R)
--- stands for one of two counts, and modulo 8 shows whether it acknowledges the outstanding segment. If it does, the count of accepted
--- segments, which lies between, has the same value.
+-- segments sent. The row never decreases, and its last count exceeds its first by at most one, because the window size is 1. So an arriving
+-- I frame carries either the last accepted segment or the next one, and N(S) modulo 8 distinguishes the two. An arriving N(R) stands for
+-- one of two counts, and modulo 8 shows whether it acknowledges the outstanding segment. If it does, the count of accepted segments, which
+-- lies between, has the same value.
 
 -- ---- non-decreasing counts
 
@@ -359,8 +359,8 @@ abbrev pub CarriesIn : List Segment → ℕ → Content → Type 0
 CarriesIn ps n (I ns nr p more info) = IsSegment ps n ns (info, more)
 CarriesIn ps n other = Unit {0}
 
--- the invariant of one direction: of the segments ps, the first `sent` are sent and the first `acked` acknowledged; `accepted` are the
--- first ones too; `there` are the contents in transit that may carry segments, `back` those in transit that may carry acknowledgements
+-- the invariant of one direction: of the segments ps, the first `sent` are sent and the first `acked` acknowledged; `accepted` is a prefix
+-- of ps; `there` are the contents in transit that may carry segments, `back` those in transit that may carry acknowledgements
 pub record IsDirection (ps : List Segment) (acked sent : ℕ) (accepted : List Segment) (there back : List Content) : Type 0 where
   pub acknowledged : Ascending CountsIn acked back (length accepted)
   pub carried : Ascending (CarriesIn ps) (length accepted) there sent
@@ -448,8 +448,8 @@ module _ {ps : List Segment} {a s : ℕ} {qs : List Segment} {there back : List 
       (omega (arith, h.in_range, length-append ps more))
       (h.in_order ∙ sym (take-append-le (length qs) ps more (omega (arith, h.in_range))))
 
-pub initial_endpoint-direction : IsDirection [] 0 0 [] [] []
-initial_endpoint-direction = direction (last (omega arith)) (last (omega arith)) (omega arith) (omega arith) refl
+pub initial-direction : IsDirection [] 0 0 [] [] []
+initial-direction = direction (last (omega arith)) (last (omega arith)) (omega arith) (omega arith) refl
 
 -- ## Fitting: The invariant that each frame in transit fits in a block of its channel. The proof is by cases on the event.
 
@@ -461,13 +461,13 @@ module _ (E : Sapi → EndpointState → Type 0) (F : Frame → Type 0) where
     pub ends : (r : Role) (s : Sapi) → E s (end_of r s w)
     pub queues : (r : Role) → All F (way r w)
 
-  acts : (channel : Channel) (r : Role) (s : Sapi) (o : Outcome) (w : World) → Holds channel w → E s o.new_state × All F o.frames →
+  Holds-acts : (channel : Channel) (r : Role) (s : Sapi) (o : Outcome) (w : World) → Holds channel w → E s o.new_state × All F o.frames →
       Holds channel (acted r s o w)
-  acts channel r s o w h g = record {
+  Holds-acts channel r s o w h g = record {
     on_channel = h.on_channel;
     ends = ends_do (λ r' s' e. E s' e) r s o w g.0 (λ r' s' n. h.ends r' s');
-    queues = each_way (λ r'. All F (way r' (acted r s o w))) r (rw (way_does r s o w) (All-append F _ _ (h.queues r) g.1))
-        (rw (way_does-other r s o w) (h.queues _));
+    queues = each_way (λ r'. All F (way r' (acted r s o w))) r (rw (way-acted r s o w) (All-append F _ _ (h.queues r) g.1))
+        (rw (way-acted_other r s o w) (h.queues _));
   }
 
   lost : (channel : Channel) (w : World) → Holds channel w → (sender : Role) → Holds channel (without_first sender w)
@@ -488,8 +488,8 @@ module _ (E : Sapi → EndpointState → Type 0) (F : Frame → Type 0) where
       Holds channel (world_after event w)
   holds-step Says Known channel w h called queues_after_removal rival event known = by_kind w (λ z new. Says new →
       Holds channel z) Known (λ l. h)
-      (λ r s call placed ok l. acts _ r s (call_outcome call (end_of r s w)) w h (called r s _ placed ok l))
-      (λ r s f on k l. acts _ r s (frame_outcome f (end_of r s w)) _ (lost channel w h (other r)) (queues_after_removal r s f k))
+      (λ r s call placed ok l. Holds-acts _ r s (call_outcome call (end_of r s w)) w h (called r s _ placed ok l))
+      (λ r s f on k l. Holds-acts _ r s (frame_outcome f (end_of r s w)) _ (lost channel w h (other r)) (queues_after_removal r s f k))
       (λ sender l. lost channel w h sender) (λ info ok l. record {
         on_channel = h.on_channel;
         ends = h.ends;
@@ -530,20 +530,20 @@ fits-step channel w event known h = holds-step _ _ (λ ls. Unit {0}) (λ sender 
     (λ r s f fits. fits-kept _ s _ _ (h.ends r s) (keeps-frame f _ (h.ends r s).valid (rw (h.ends r s).on_channel fits)))
     (λ info ok l. rival_fits _ w _ h.on_channel ok) _ known tt
 
-pub initial_endpoint-fits : (capacity : QueueCapacity) (channel : Channel) → IsFitting channel (initial_world capacity channel)
-initial_endpoint-fits capacity channel = grind arith
+pub initial-fits : (capacity : QueueCapacity) (channel : Channel) → IsFitting channel (initial_world capacity channel)
+initial-fits capacity channel = grind arith
 
 -- a property of all frames in transit holds of the frames just sent
-just_sent : (F : Frame → Type 0) (r : Role) (fs : List Frame) (ws : Queues Frame) →
+with_appended-all : (F : Frame → Type 0) (r : Role) (fs : List Frame) (ws : Queues Frame) →
     ((r' : Role) → All F (W.queue_of r' (with_appended r fs ws))) → All F fs
-just_sent F Mobile fs ws h = rw drop-append_seam at (All-drop F (length ws.up) _ (h Mobile))
-just_sent F Network fs ws h = rw drop-append_seam at (All-drop F (length ws.down) _ (h Network))
+with_appended-all F Mobile fs ws h = rw drop-append_seam at (All-drop F (length ws.up) _ (h Mobile))
+with_appended-all F Network fs ws h = rw drop-append_seam at (All-drop F (length ws.down) _ (h Network))
 
 pub event_step-holds : (E : Sapi → EndpointState → Type 0) (F : Frame →
     Type 0) (channel : Channel) (w : World) (event : Event) (o : Option EventRefusal) →
     o ≡ None → Holds E F channel (world_unless_refused o event w) → All F (event_step event w.ends).frames
 event_step-holds E F channel w event o none h =
-    just_sent F (sending_role (event_step event w.ends).who) _ (queues_after_removal event w.queues) (rw none at h).queues
+    with_appended-all F (sending_role (event_step event w.ends).who) _ (queues_after_removal event w.queues) (rw none at h).queues
 
 -- if every frame that is read fits in a block, so does every frame that the step sends
 pub event_step-fits : (channel : Channel) (w : World) (event : Event) →
@@ -554,37 +554,38 @@ event_step-fits channel w event known h none =
 
 -- ---- a step sends at most two frames and reports at most two notices, and each frame fits in a block
 
-abbrev IsFew : SideStep → Type 0
-IsFew d = (length d.frames ≤ 2) × (length d.notices ≤ 2)
+abbrev HasAtMost2 : SideStep → Type 0
+HasAtMost2 d = (length d.frames ≤ 2) × (length d.notices ≤ 2)
 
-few-step_for_frame : (r : Role) (f : Frame) (es : BothSides) → IsFew (step_of_both_sides r (S.step_for_frame f (side_with_role r es)) es)
-few-step_for_frame r f es = by_sapi f _ (λ d. IsFew (step_of_both_sides r d es)) (λ zero. (let h = few-frame f _ in
-    (h.frames, h.notices))) (λ three. (let h = few-frame f _ in (h.frames, h.notices))) (λ e e'. (omega arith, omega arith))
+bound-step_for_frame : (r : Role) (f : Frame) (es : BothSides) → HasAtMost2
+    (step_with_peer_unchanged r (S.step_for_frame f (side_with_role r es)) es)
+bound-step_for_frame r f es = by_sapi f _ (λ d. HasAtMost2 (step_with_peer_unchanged r d es)) (λ zero. (let h = bound-frame f _ in
+    (h.frames, h.notices))) (λ three. (let h = bound-frame f _ in (h.frames, h.notices))) (λ e e'. (omega arith, omega arith))
 
-few-event_step : (event : Event) (es : BothSides) → IsFew (event_step event es)
-few-event_step (Deliver sender (Some f)) es = few-step_for_frame _ f es
-few-event_step event es = grind (arith, few-call)
+bound-event_step : (event : Event) (es : BothSides) → HasAtMost2 (event_step event es)
+bound-event_step (Deliver sender (Some f)) es = bound-step_for_frame _ f es
+bound-event_step event es = grind (arith, bound-call)
 
-sendable : (channel : Channel) (w : World) (event : Event) (o : Option EventRefusal) →
+SentFramesFit-answer : (channel : Channel) (w : World) (event : Event) (o : Option EventRefusal) →
     IsFitting channel (world_unless_refused o event w) → SentFramesFit channel (answer_unless_refused o (event_step event w.ends))
-sendable channel w event (Some why) h = tt
-sendable channel w event None h =
-    let few = few-event_step event w.ends in
+SentFramesFit-answer channel w event (Some why) h = tt
+SentFramesFit-answer channel w event None h =
+    let few = bound-event_step event w.ends in
     (few.0, event_step-holds _ _ _ w event None refl h, few.1)
 
-readable : (channel : Channel) (o : Option EventRefusal) (event : Event) → ArrivingFrameFits channel event →
+ArrivingFrameFits-known : (channel : Channel) (o : Option EventRefusal) (event : Event) → ArrivingFrameFits channel event →
     KnowsBy o (λ sender f. FrameFits channel f) event
-readable channel o event h = grind arith
+ArrivingFrameFits-known channel o event h = grind arith
 
 small-run : (channel : Channel) (events : List Event) (w : World) → All (ArrivingFrameFits channel) events → IsFitting channel w →
     All (SentFramesFit channel) (answers events w)
 small-run channel [] w h fit = All-nil _
 small-run channel (event ∷ events) w h fit =
-    let known = readable channel (refusal event w) event (All-head (ArrivingFrameFits channel) event _ h) in
+    let known = ArrivingFrameFits-known channel (refusal event w) event (All-head (ArrivingFrameFits channel) event _ h) in
     let fit' = fits-step _ w event known fit in
-    All-cons (SentFramesFit channel) (answer event w) _ (sendable channel w event (refusal event w) fit')
+    All-cons (SentFramesFit channel) (answer event w) _ (SentFramesFit-answer channel w event (refusal event w) fit')
     (small-run channel events (world_after event w) (All-tail (ArrivingFrameFits channel) event events h) fit')
 
 pub small_answers : (capacity : QueueCapacity) (channel : Channel) (events : List Event) → All (ArrivingFrameFits channel) events →
     All (SentFramesFit channel) (answers events (initial_world capacity channel))
-small_answers capacity channel events h = small-run _ _ _ h (initial_endpoint-fits _ _)
+small_answers capacity channel events h = small-run _ _ _ h (initial-fits _ _)

@@ -1,5 +1,5 @@
-use Rattle.lapdm_window.proofs.Steps.{step-few}
+use Rattle.lapdm_window.proofs.Steps.{step-bound}
 use Rattle.lapdm_window.proofs.laws.law_at_most_two_frames_and_notices.Goals as goal
 
 pub returns : goal.returns
-returns c = step-few
+returns c = step-bound

@@ -1,8 +1,8 @@
-use Rattle.lapdm_window.proofs.Steps.{IsValidEndpoint-initial_endpoint, step-end, step-link}
+use Rattle.lapdm_window.proofs.Steps.{IsValidEndpoint-initial, step-end, step-link}
 use Rattle.lapdm_window.proofs.laws.law_endpoint_stays_valid.Goals as goal
 
 pub returns-clause-start : goal.returns-clause-start
-returns-clause-start c = IsValidEndpoint-initial_endpoint
+returns-clause-start c = IsValidEndpoint-initial
 
 pub returns-clause-step : goal.returns-clause-step
 returns-clause-step c = step-end

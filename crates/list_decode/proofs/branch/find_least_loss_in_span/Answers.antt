@@ -4,7 +4,7 @@ use Rattle.{
   trellis_decode.specs.Trellis.next_trellis_state,
   list_decode.{
     specs.{Branches.is_in_range, DeviatingWords.{IsLeastLossFreePosition, deviation_loss, state_after_bits}, LeastLosses.IsLeastLossSoFar},
-    proofs.{Spans.{is_departure, spot_first}, DeviatingWords.{reached_more, reached_small}},
+    proofs.{Spans.{is_departure, least_so_far-first}, DeviatingWords.{state_after-more, state_after-below}},
   },
 }
 use Rattle.list_decode.proofs.branch.find_least_loss_in_span.Goals as goal
@@ -27,9 +27,9 @@ loop-k-init c =
     let is = c.new-best.ensures in
     record {
       small = omega arith;
-      state = ap₂ next_trellis_state state c.from.ensures ∙ sym (reached_more u from 0 (omega arith));
+      state = ap₂ next_trellis_state state c.from.ensures ∙ sym (state_after-more u from 0 (omega arith));
       best = subst (λ k. IsLeastLossSoFar u losses (is_in_range k (from + 1)) (from + 1) c.new-best.result) is_from
-          (spot_first u losses from c.new-best.result is.place (is.state ∙ state)
+          (least_so_far-first u losses from c.new-best.result is.place (is.state ∙ state)
           (is.loss_limit ∙ ap (λ loss. loss -ℤ pos (get_or u from 0)) lost));
     }
 
@@ -48,21 +48,21 @@ loop-k-preserved c =
     to_z-of_z w16 _ fits ∙ ap (λ s. get_or (get_or losses k []) s (pos 0)) old.state in
     record {
       small = omega arith;
-      state = ap₂ next_trellis_state old.state c.from-in-loop-k.ensures ∙ sym (reached_more u k 0 (omega arith));
+      state = ap₂ next_trellis_state old.state c.from-in-loop-k.ensures ∙ sym (state_after-more u k 0 (omega arith));
       best = c.or_better_position-best.ensures u losses span.from old.best old.state lost refl c.requires.bits;
     }
 
-small_state : (u : List ℕ) (place state : ℕ) → state ≡ state_after_bits 0 (take place u) → state < 16
-small_state u place state is = subst (λ s. s < 16) (sym is) (reached_small 0 (take place u) (omega arith))
+state-below_16 : (u : List ℕ) (place state : ℕ) → state ≡ state_after_bits 0 (take place u) → state < 16
+state-below_16 u place state is = subst (λ s. s < 16) (sym is) (state_after-below 0 (take place u) (omega arith))
 
 pub offset_bounds-losses-best-2 : goal.offset_bounds-losses-best-2
 offset_bounds-losses-best-2 c =
-    let small = small_state c.args.list.now c.loop-k.best.place c.loop-k.best.state c.loop-k.invariant.best.state in
+    let small = state-below_16 c.args.list.now c.loop-k.best.place c.loop-k.best.state c.loop-k.invariant.best.state in
     search rules
 
 pub bounds-losses-best-after-loop-k : goal.bounds-losses-best-after-loop-k
 bounds-losses-best-after-loop-k c =
-    small_state c.args.list.now c.loop-k.best.place c.loop-k.best.state c.loop-k.invariant.best.state
+    state-below_16 c.args.list.now c.loop-k.best.place c.loop-k.best.state c.loop-k.invariant.best.state
 
 pub returns : goal.returns
 returns c =

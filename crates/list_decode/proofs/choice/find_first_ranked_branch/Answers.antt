@@ -5,7 +5,7 @@ use Rattle.{
   list_decode.{
     specs.declared.{branch.WordBranch.WordBranch, choice.BranchChoice.BranchChoice, pass.ViterbiPass.ViterbiPass},
     specs.{Branches.IsBranchOfReturnedWord, Choices.IsFirstRankedBranch, WordStorage.stored_words},
-    proofs.Choices.{blank, None-is_not, first_skipped, first_kept, first_deviation, lowest, not_some},
+    proofs.Choices.{blank, None-not_some, first_ranked-lower, first_ranked-empty, first_ranked-deviation, w32-lowest, None-if_not_some},
     proofs.choice.find_first_ranked_branch.Goals.{then-metric-least+in-Some, then-metric-least+in_default, else-metric-least},
   },
 }
@@ -24,7 +24,7 @@ some_least : (pass : ViterbiPass) (us : List (List ℕ)) (branches : List WordBr
     IsKnown pass us branches first least
 some_least pass us branches None least first most = absurd most
 some_least pass us branches (Some x) least first most =
-    record { first = first; least = most; none = λ e. absurd (None-is_not (sym e)) }
+    record { first = first; least = most; none = λ e. absurd (None-not_some (sym e)) }
 
 pub loop-i-preserved : goal.loop-i-preserved
 loop-i-preserved c =
@@ -50,7 +50,8 @@ loop-i-preserved c =
           (w.higher_ranked-first.ensures.first (take i branches) branch old.first w.in-Some.is count) w.higher_ranked-first.ensures.least))
       | then-metric-least+in_default w ↦
           subst (Known c.if-metric-least.first) (sym w.least-is) (subst (λ first. Known first least) (sym w.first-is) (record {
-            first = first_kept pass us (take i branches) branch c.loop-i.first old.first (not_some branch.best w.in_default.not-Some);
+            first = first_ranked-empty pass us (take i branches) branch c.loop-i.first old.first
+                (None-if_not_some branch.best w.in_default.not-Some);
             least = old.least;
             none = old.none;
           }))
@@ -60,8 +61,8 @@ loop-i-preserved c =
           let same = to_z-of_z w32 metric fits in
           let below = w.if-metric-least.false in
           subst (Known c.if-metric-least.first) (sym w.least-is) (subst (λ first. Known first least) (sym w.first-is) (record {
-            first = first_skipped pass us (take i branches) branch c.loop-i.first metric least old.first old.deviation old.least
-                (λ e. subst (λ l. l ≤ℤ metric) (sym (old.none e)) (lowest metric fits)) (c.requires.branches i blank lt)
+            first = first_ranked-lower pass us (take i branches) branch c.loop-i.first metric least old.first old.deviation old.least
+                (λ e. subst (λ l. l ≤ℤ metric) (sym (old.none e)) (w32-lowest metric fits)) (c.requires.branches i blank lt)
                 (c.requires.metrics i lt) (omega (arith, ints));
             least = old.least;
             none = old.none;
@@ -72,7 +73,7 @@ loop-i-preserved c =
       first = first;
       least = known.least;
       none = known.none;
-      deviation = first_deviation pass us (take (i + 1) branches) c.if-metric-least.first
+      deviation = first_ranked-deviation pass us (take (i + 1) branches) c.if-metric-least.first
           (All-take (IsBranchOfReturnedWord pass us) (i + 1) branches c.requires.branches) first;
     }
 

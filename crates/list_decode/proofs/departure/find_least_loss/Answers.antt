@@ -2,7 +2,7 @@ use Rattle.{
   std.proofs.Common.{arith, ◌≡◌, ◌+◌, ◌-◌, List, [], ◌++◌, ℕ, length, take, drop, ap, ap₂, sym, subst, ◌∙◌},
   std.proofs.lemmas.List.{append-nil, drop_all, length-drop, take-append-drop, take_all},
   trellis_decode.{proofs.Lemmas.length-traceback, specs.Trellis.traceback},
-  list_decode.{specs.DeviatingWords.state_after_bits, proofs.DeviatingWords.chosen_from},
+  list_decode.{specs.DeviatingWords.state_after_bits, proofs.DeviatingWords.traceback-drop},
 }
 use Rattle.list_decode.proofs.departure.find_least_loss.Goals as goal
 
@@ -22,7 +22,7 @@ returns-clause-list c =
     c.trace_back.ensures
     ∙ ap₂ traceback (take_all (length rows - free) (drop free rows) (omega (arith, length-drop free rows)))
     (old.state ∙ ap (λ k. state_after_bits 0 (take k (traceback rows 0))) end)
-    ∙ sym (chosen_from rows 0 free (let count = c.requires.rows in omega arith)) in
+    ∙ sym (traceback-drop rows 0 free (let count = c.requires.rows in omega arith)) in
     ap (λ none. take free written ++ (rest ++ none)) behind
     ∙ ap₂ (λ front rest. front ++ rest) (subst (λ k. take k written ≡ take k (traceback rows 0)) end old.bits_traced)
     (append-nil rest

@@ -1,6 +1,10 @@
 use Rattle.{
   std.proofs.{Common.{arith, rules, ◌+◌, ◌*◌, ◌%◌, get_or, refl, ap, w32, FitsSigned}, lemmas.Int.to_z-of_z},
-  list_decode.proofs.{Choices.deviation_is, Spans.{span_after, span_behind}, partitioning.partition.Goals.After-apply},
+  list_decode.proofs.{
+    Choices.deviation-candidate,
+    Spans.{IsSpanOfWord-after, IsSpanOfWord-deviation},
+    partitioning.partition.Goals.After-apply,
+  },
   list_decode.specs.{Passes.soft_bits_of_pass, Ranking.IsCandidate},
   weight_bound.proofs.conv_code.Lemmas.bit_at-most_1,
 }
@@ -9,7 +13,7 @@ use Rattle.list_decode.proofs.partitioning.partition.Goals as goal
 deviating_word : (c : After-apply) → IsCandidate (soft_bits_of_pass c.args.pass.now) c.apply.new.u
 deviating_word c =
     let r = c.requires in
-    rw c.apply.ensures (deviation_is c.args.pass.now c.args.u.now c.args.deviation.now r.pass r.list r.deviation)
+    rw c.apply.ensures (deviation-candidate c.args.pass.now c.args.u.now c.args.deviation.now r.pass r.list r.deviation)
 
 pub new-requires-clause-list : goal.new-requires-clause-list
 new-requires-clause-list c = deviating_word (goal.at.new-requires-clause-list c).After-apply
@@ -25,7 +29,7 @@ pub new-branch_after-requires-clause-span : goal.new-branch_after-requires-claus
 new-branch_after-requires-clause-span c =
     let r = c.requires in
     let fits : FitsSigned w32 c.args.span.likelihood = search rules in
-    span_after c.args.pass.now c.args.u.now c.args.deviation.now r.pass r.list r.deviation c.args.span _ r.span r.to refl refl
+    IsSpanOfWord-after c.args.pass.now c.args.u.now c.args.deviation.now r.pass r.list r.deviation c.args.span _ r.span r.to refl refl
     (to_z-of_z w32 c.args.span.likelihood fits)
     (ap (λ place. (2 * c.args.deviation.now.departure.state + get_or c.args.u.now place 0) % 16) c.from.ensures)
 
@@ -33,7 +37,7 @@ pub new-requires-clause-span : goal.new-requires-clause-span
 new-requires-clause-span c =
     let r = c.requires in
     let fits : FitsSigned w32 c.args.deviation.now.likelihood = search rules in
-    span_behind c.args.pass.now c.args.u.now c.args.deviation.now r.pass r.list r.deviation c.apply.new.u _ c.apply.ensures
+    IsSpanOfWord-deviation c.args.pass.now c.args.u.now c.args.deviation.now r.pass r.list r.deviation c.apply.new.u _ c.apply.ensures
     (deviating_word (goal.at.new-requires-clause-span c).After-apply) refl
     (let five = r.pass.at_least in omega arith) (to_z-of_z w32 c.args.deviation.now.likelihood fits)
     (ap (λ place. (2 * c.args.deviation.now.departure.state + get_or c.apply.new.u place 0) % 16) c.from-2.ensures)

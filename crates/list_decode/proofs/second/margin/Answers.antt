@@ -3,9 +3,9 @@ use Rattle.{
   std.proofs.lemmas.Int.to_z-of_z,
   trellis_decode.specs.Trellis.{next_trellis_state, traceback},
   list_decode.proofs.{
-    DeviatingWords.{AllBits-kept, traceback_behind, reached_small},
+    DeviatingWords.{AllBits-traceback, traceback-drop_next, state_after-below},
     Deviations.{AreFirstTwo, first_two},
-    Rankings.{IsMargin-second, tie_by_margin, hard_margin, both_only},
+    Rankings.{IsMargin-second, HasTiedWord-margin, margin-hard_bits, both_unique},
     second.margin.Goals.After-write_deviation,
   },
 }
@@ -15,14 +15,14 @@ pub write_deviation-requires-clause-bits : goal.write_deviation-requires-clause-
 write_deviation-requires-clause-bits c =
     let pairs = c.fill_decisions.ensures.count in
     rw c.find_least_loss-departure.ensures.list
-    (AllBits-kept _ c.fill_decisions.new.losses c.args.soft.now c.fill_decisions.ensures.decisions (omega arith))
+    (AllBits-traceback _ c.fill_decisions.new.losses c.args.soft.now c.fill_decisions.ensures.decisions (omega arith))
 
 pub write_deviation-requires-clause-chosen : goal.write_deviation-requires-clause-chosen
 write_deviation-requires-clause-chosen c =
     let departure = c.find_least_loss-departure in
     let is = c.new-deviation.ensures in
     let at = is.place in
-    traceback_behind c.fill_decisions.new.rows departure.new.u c.new-deviation.result.place c.new-deviation.result.state
+    traceback-drop_next c.fill_decisions.new.rows departure.new.u c.new-deviation.result.place c.new-deviation.result.state
     departure.ensures.list
     (let i = departure.ensures.within in let n = c.fill_decisions.auto.rows in let m = departure.auto.u in omega arith)
     (let n = c.fill_decisions.auto.rows in let m = departure.auto.u in omega arith)
@@ -30,7 +30,7 @@ write_deviation-requires-clause-chosen c =
 
 pub new-deviation-requires-clause-state : goal.new-deviation-requires-clause-state
 new-deviation-requires-clause-state c =
-    let small = reached_small 0 (take c.find_least_loss-departure.result.place c.find_least_loss-departure.new.u) (omega arith) in
+    let small = state_after-below 0 (take c.find_least_loss-departure.result.place c.find_least_loss-departure.new.u) (omega arith) in
     let is = c.find_least_loss-departure.ensures.state in
     omega arith
 
@@ -59,7 +59,7 @@ returns-clause-value c =
 
 pub returns-clause-only : goal.returns-clause-only
 returns-clause-only c a b best next_best =
-    both_only c.args.soft.now c.find_least_loss-departure.new.u c.write_deviation.new.v a b (returns-clause-best c)
+    both_unique c.args.soft.now c.find_least_loss-departure.new.u c.write_deviation.new.v a b (returns-clause-best c)
     (returns-clause-second c) best next_best
 
 pub returns-clause-margin : goal.returns-clause-margin
@@ -68,10 +68,12 @@ returns-clause-margin c =
     (returns-clause-value c)
 
 pub returns-clause-tie : goal.returns-clause-tie
-returns-clause-tie c = tie_by_margin c.args.soft.now c.find_least_loss-departure.new.u _ (returns-clause-best c) (returns-clause-margin c)
+returns-clause-tie c = HasTiedWord-margin c.args.soft.now c.find_least_loss-departure.new.u _ (returns-clause-best c)
+    (returns-clause-margin c)
 
 pub returns-clause-hard : goal.returns-clause-hard
 returns-clause-hard c e hard wrong few =
-    let bound = hard_margin c.args.soft.now c.find_least_loss-departure.new.u c.write_deviation.new.v e (returns-clause-best c).information
+    let bound = margin-hard_bits c.args.soft.now c.find_least_loss-departure.new.u c.write_deviation.new.v e
+    (returns-clause-best c).information
     (returns-clause-second c).candidate (returns-clause-best c).count (returns-clause-second c).differs hard wrong few in
     rw (returns-clause-value c) bound

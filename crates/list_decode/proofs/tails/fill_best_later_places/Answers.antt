@@ -10,16 +10,16 @@ use Rattle.{
 }
 use Rattle.list_decode.proofs.tails.fill_best_later_places.Goals as goal
 
--- one position alone
-one_place : (u : List ℕ) (losses : List (List ℤ)) (k n : ℕ) (x : PossibleDeviation) → k + 1 ≡ n → x.place ≡ k →
+-- in a range of one position, the deviation at this position has the least loss
+least_loss-one : (u : List ℕ) (losses : List (List ℤ)) (k n : ℕ) (x : PossibleDeviation) → k + 1 ≡ n → x.place ≡ k →
     IsPossibleDeviation u losses x → IsLeastLossDeviationOrNone u losses (is_in_range k n) n (Some x)
-one_place u losses k n x end place possible = (
+least_loss-one u losses k n x end place possible = (
   possible,
   subst (IsLeastLossFreePosition u losses (is_in_range k n) n) (sym place)
       (subst (λ n. IsLeastLossFreePosition u losses (is_in_range k n) n k) end (alone u losses k)),
 )
 
--- what is written for one more position
+-- after the best position from k on is written at index k, the entry at index j ≥ k is the best position from j on
 one_more : (u : List ℕ) (losses : List (List ℤ)) (places : List ℕ) (k n place j : ℕ) → k < length places →
     IsLeastLossFreePosition u losses (is_in_range k n) n place →
     (k + 1 ≤ j → IsLeastLossFreePosition u losses (is_in_range j n) n (get_or places j 0)) → k ≤ j →
@@ -40,7 +40,7 @@ loop-k-init c =
     let here = c.survivor_deviation-best.ensures in
     let first = c.survivor_deviation-best.result in
     let n = length rows - 4 in
-    let best = one_place u losses (length rows - 5) n first (omega arith) here.place here.possible in
+    let best = least_loss-one u losses (length rows - 5) n first (omega arith) here.place here.possible in
     record {
       best = best;
       each = (λ j low high. one_more u losses c.args.places.now (length rows - 5) n first.place j (search rules) best.1
@@ -58,7 +58,7 @@ loop-k-preserved c =
     let k = c.loop-k.k - 1 in
     let n = length rows - 4 in
     let best = c.or_better_later-best.ensures u losses k c.loop-k.k n
-    (one_place u losses k c.loop-k.k c.survivor_deviation.result (omega arith) here.place here.possible) old.best in
+    (least_loss-one u losses k c.loop-k.k c.survivor_deviation.result (omega arith) here.place here.possible) old.best in
     record {
       best = best;
       each = (λ j low high. one_more u losses c.loop-k.places k n c.or_better_later-best.result.place j (search rules) best.1
@@ -72,7 +72,7 @@ overflow_cast-places-in-loop-k c =
     let some = c.loop-k-test.true in
     let k = c.loop-k.k - 1 in
     let best = c.or_better_later-best.ensures (traceback rows 0) c.args.losses.now k c.loop-k.k (length rows - 4)
-    (one_place (traceback rows 0) c.args.losses.now k c.loop-k.k c.survivor_deviation.result (omega arith) here.place here.possible)
+    (least_loss-one (traceback rows 0) c.args.losses.now k c.loop-k.k c.survivor_deviation.result (omega arith) here.place here.possible)
     c.loop-k.invariant.best in
     let within = best.1.in_range in
     let most = c.requires.at_most in

@@ -1,7 +1,7 @@
 use Rattle.{
   std.proofs.Common.{arith, ap₂, sym, ◌∙◌},
   trellis_decode.specs.Trellis.next_trellis_state,
-  list_decode.proofs.DeviatingWords.reached_more,
+  list_decode.proofs.DeviatingWords.state_after-more,
 }
 use Rattle.list_decode.proofs.tails.find_merging_place.Goals as goal
 
@@ -13,5 +13,5 @@ loop-k-preserved c =
     let within = c.loop-k-test.true in
     record {
       small = omega arith;
-      state = ap₂ next_trellis_state old.state c.from-in-loop-k.ensures ∙ sym (reached_more c.args.list.now c.loop-k.k 0 (omega arith));
+      state = ap₂ next_trellis_state old.state c.from-in-loop-k.ensures ∙ sym (state_after-more c.args.list.now c.loop-k.k 0 (omega arith));
     }

@@ -1,8 +1,8 @@
-use Rattle.segmenting.proofs.Lemmas.{messages-push, delivered_is_latest}
+use Rattle.segmenting.proofs.Lemmas.{messages-push, delivered_is_completed}
 use Rattle.segmenting.proofs.laws.law_segment_delivers_completed_message.Goals as goal
 
 pub returns-clause-messages : goal.returns-clause-messages
 returns-clause-messages c = messages-push
 
-pub returns-clause-delivered_is_latest : goal.returns-clause-delivered_is_latest
-returns-clause-delivered_is_latest c = delivered_is_latest
+pub returns-clause-delivered_is_completed : goal.returns-clause-delivered_is_completed
+returns-clause-delivered_is_completed c = delivered_is_completed

@@ -10,16 +10,16 @@ use Rattle.training_seq.proofs.choice.count_wrong_training_bits.Goals as goal
 pub count_wrong_bits_at-wrong-requires-clause-sign : goal.count_wrong_bits_at-wrong-requires-clause-sign
 count_wrong_bits_at-wrong-requires-clause-sign c =
     let near : IsMagnitudeWithin 1 (get_or c.signs-signs.result.now c.loop-i.i (pos 0)) =
-    rw c.signs-signs.ensures (small_sign c.args.tsc c.loop-i.i c.requires.known (omega arith)) in
+    rw c.signs-signs.ensures (small_sign c.args.tsc c.loop-i.i c.requires.tsc_in_range (omega arith)) in
     omega (arith, ints)
 
 pub loop-i-preserved : goal.loop-i-preserved
 loop-i-preserved c =
     let i = c.loop-i.i in
     let bits = midamble c.args.tsc in
-    let there : i < length bits = omega (arith, length-midamble c.args.tsc c.requires.known) in
+    let there : i < length bits = omega (arith, length-midamble c.args.tsc c.requires.tsc_in_range) in
     let near : IsMagnitudeWithin 1 (get_or c.signs-signs.result.now i (pos 0)) =
-    rw c.signs-signs.ensures (small_sign c.args.tsc i c.requires.known (omega arith)) in
+    rw c.signs-signs.ensures (small_sign c.args.tsc i c.requires.tsc_in_range (omega arith)) in
     let kept : to_z w16 (of_z w16 (get_or c.signs-signs.result.now i (pos 0))) ≡ get_or c.signs-signs.result.now i (pos 0) =
     omega (arith, ints) in
     let sign : get_or c.signs-signs.result.now i (pos 0) ≡ sign_of_bit (get_or bits i 0) =

@@ -2,14 +2,14 @@ use Rattle.{
   std.proofs.Common.{ap, ap₂, ◌∙◌},
   trellis_decode.{
     specs.{Lanes.lane, AcsLanes.{bit_reversed, lane_metric, metrics_of_lanes}},
-    proofs.AcsSteps.{candidates_at, each_state, low_metric, high_metric},
+    proofs.AcsSteps.{candidate_at-lanes, each_state, low_metric, high_metric},
   },
 }
 use Rattle.trellis_decode.proofs.acs_step.tail_step.Goals as goal
 
 pub returns-clause-each : goal.returns-clause-each
 returns-clause-each c pair has =
-    let at = candidates_at c.args.later_metrics.even_states.lanes c.args.later_metrics.odd_states.lanes _ pair has in
+    let at = candidate_at-lanes c.args.metrics_after.even_states.lanes c.args.metrics_after.odd_states.lanes _ pair has in
     let low = c.add_branch_metrics-low.result.lanes in
     let high = c.subtract_branch_metrics-high.result.lanes in
     let is = ap₂ metrics_of_lanes c.interleave_first_lanes.ensures.each c.interleave_last_lanes.ensures.each in each_state _

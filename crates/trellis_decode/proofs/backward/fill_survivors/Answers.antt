@@ -6,7 +6,7 @@ use Rattle.{
   },
   trellis_decode.{
     specs.{AcsLanes.path_metric, SurvivorPaths.HoldLanesFrom},
-    proofs.SurvivorLists.{last_map, more_survivors, last_holds_lanes, map_holds_lanes, one_more_map, AreMetricsWithin-best},
+    proofs.SurvivorLists.{last_map, more_survivors, HoldLanesFrom-last, AreSurvivors-map_lanes, HoldLanesFrom-more, AreMetricsWithin-best},
     proofs.{SurvivorLists.AreMetricsWithin-most, Viterbi.IsSurvivor-to_end},
   },
 }
@@ -24,7 +24,7 @@ loop-group-init c =
           (omega (arith, c.requires.count, c.requires.at_least)) closing).lower_bound;
       even = c.tail_metrics-values.ensures.even;
       odd = c.tail_metrics-values.ensures.odd;
-      maps = last_holds_lanes c.args.survivors.now (length c.args.survivors.now - 1) (omega (arith, c.requires.at_least));
+      maps = HoldLanesFrom-last c.args.survivors.now (length c.args.survivors.now - 1) (omega (arith, c.requires.at_least));
     }
 
 pub extend_survivors-walk-requires-clause-within : goal.extend_survivors-walk-requires-clause-within
@@ -53,8 +53,8 @@ loop-group-preserved c =
       low = c.extend_survivors-walk.ensures.within.lower_bound;
       even = c.extend_survivors-walk.ensures.even;
       odd = c.extend_survivors-walk.ensures.odd;
-      maps = one_more_map survivors map before group (omega arith)
-          (omega (arith, same, within, c.requires.at_least)) (map_holds_lanes _ _ map _ walk) c.loop-group.invariant.maps;
+      maps = HoldLanesFrom-more survivors map before group (omega arith)
+          (omega (arith, same, within, c.requires.at_least)) (AreSurvivors-map_lanes _ _ map _ walk) c.loop-group.invariant.maps;
     }
 
 pub returns-clause-best : goal.returns-clause-best

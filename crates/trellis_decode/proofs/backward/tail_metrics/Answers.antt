@@ -1,7 +1,7 @@
 use Rattle.{
   std.proofs.{Common.{◌≡◌, suc, ◌+◌, ◌*◌, ◌-◌, drop, replicate, refl, ap, sym, lit≤, arith}, lemmas.List.drop_all},
   trellis_decode.{specs.AcsLanes.path_metric, proofs.{AcsSteps.{pair_at, pair_and_after}, Viterbi.{IsSurvivor-none, IsSurvivor-same}}},
-  trellis_decode.proofs.SurvivorLists.{HaveHeadroom16-even, AreMetricsWithin-best, IsSurvivor-closed},
+  trellis_decode.proofs.SurvivorLists.{HaveHeadroom16-even, AreMetricsWithin-best, IsSurvivor-zero_tail},
 }
 use Rattle.trellis_decode.proofs.backward.tail_metrics.Goals as goal
 
@@ -33,7 +33,7 @@ loop-k-preserved c =
     let next : 2 * before + 2 ≡ 2 * k = omega arith in
     record {
       best = λ s lt. IsSurvivor-same s (ap (λ n. replicate n 0) one_more) (pair_and_after soft (2 * before) (2 * k) next) refl
-          (IsSurvivor-closed (path_metric c.loop-k.values)
+          (IsSurvivor-zero_tail (path_metric c.loop-k.values)
           (path_metric c.tail_step-values.result) (pair_at soft (2 * before)) (drop (2 * k) soft) (4 - k)
           has.count (omega arith) c.loop-k.invariant.best (c.tail_step-values.ensures.each (pair_at soft (2 * before)) has) s lt);
       even = c.tail_step-values.ensures.even;

@@ -2,7 +2,7 @@ use Rattle.{
   std.proofs.{Common.{arith, rules, ◌≡◌, ◌*◌, ◌^◌, ◌<◌, length, ap, ◌∙◌, w32}, lemmas.Int.to_z-of_z},
   conv_code.{specs.{Code.encoding, Likelihood.likelihood}, proofs.Lemmas.IsMostLikely-only},
   trellis_decode.proofs.{
-    Viterbi.{less_by_test, most_by_test, new_leads, old_leads, IsMostLikely-chosen},
+    Viterbi.{less_by_test, most_by_test, RanksBehind-new, RanksBehind-old, IsMostLikely-chosen},
     exhaustive.search.Goals.{then-value-best, else-value-best},
   },
 }
@@ -27,13 +27,13 @@ loop-number-preserved c =
       | then-value-best w ↦ record {
         before = omega (arith, w.chosen-is);
         value = rw (← same_length, w.chosen-is) (w.best-is ∙ value);
-        others = rw (← same_length, w.chosen-is) (new_leads _ n _ _ kept.before within kept.others
+        others = rw (← same_length, w.chosen-is) (RanksBehind-new _ n _ _ kept.before within kept.others
             (less_by_test _ _ _ _ kept.value value w.if-value-best.true));
       }
       | else-value-best w ↦ record {
         before = omega (arith, w.chosen-is);
         value = rw (← same_length, w.chosen-is) (w.best-is ∙ kept.value);
-        others = rw (← same_length, w.chosen-is) (old_leads _ n _ _ kept.before within kept.others
+        others = rw (← same_length, w.chosen-is) (RanksBehind-old _ n _ _ kept.before within kept.others
             (most_by_test _ _ _ _ kept.value value w.if-value-best.false));
       }
     ]

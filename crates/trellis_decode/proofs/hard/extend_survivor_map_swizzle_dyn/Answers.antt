@@ -1,8 +1,8 @@
-use Rattle.trellis_decode.proofs.HardLanes.{lane-extend_survivor_map, length-extend_survivor_map, places_stand}
+use Rattle.trellis_decode.proofs.HardLanes.{lane-extend_survivor_map, length-extend_survivor_map, SwzOk-next_places}
 use Rattle.trellis_decode.proofs.hard.extend_survivor_map_swizzle_dyn.Goals as goal
 
 pub swizzle : goal.swizzle
-swizzle c = places_stand _ _ c.requires.zero c.requires.one
+swizzle c = SwzOk-next_places _ _ c.requires.zero c.requires.one
 
 pub returns-clause-each : goal.returns-clause-each
 returns-clause-each c = lane-extend_survivor_map _ _ c.requires.zero c.requires.one _

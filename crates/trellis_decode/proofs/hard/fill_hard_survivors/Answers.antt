@@ -6,7 +6,7 @@ use Rattle.{
   },
   trellis_decode.{
     specs.{Hard.{IsHardBit, hard_lane_metrics}, AcsLanes.lane_of_state, SurvivorPaths.{survivor_traceback, HoldLanesFrom}},
-    proofs.{AcsSteps.hard_octets, SurvivorLists.{last_holds_lanes, map_holds_lanes, one_more_map, last_map, more_survivors}},
+    proofs.{AcsSteps.hard_octets, SurvivorLists.{HoldLanesFrom-last, AreSurvivors-map_lanes, HoldLanesFrom-more, last_map, more_survivors}},
     proofs.{SurvivorLists.{AreMetricsWithin-best, AreMetricsWithin-most}, Viterbi.IsSurvivor-to_end},
   },
 }
@@ -30,7 +30,7 @@ loop-group-init c =
       low = (AreMetricsWithin-best (8 * last) values soft _
           (hard_octets soft c.requires.hard) (omega (arith, c.requires.count, c.requires.at_least)) closing).lower_bound;
       lanes = c.hard_tail_metrics-values.ensures.lanes;
-      maps = last_holds_lanes c.args.survivors.now (length c.args.survivors.now - 1) (omega (arith, c.requires.at_least));
+      maps = HoldLanesFrom-last c.args.survivors.now (length c.args.survivors.now - 1) (omega (arith, c.requires.at_least));
     }
 
 pub extend_hard_survivors-walk-requires-clause-hard : goal.extend_hard_survivors-walk-requires-clause-hard
@@ -68,9 +68,9 @@ loop-group-preserved c =
           (omega (arith, same, within, c.requires.at_least, c.requires.count)) walk c.loop-group.invariant.best;
       low = c.extend_hard_survivors-walk.ensures.within.lower_bound;
       lanes = c.extend_hard_survivors-walk.ensures.lanes;
-      maps = one_more_map survivors c.extend_hard_survivors-walk.result.survivor_map before group (omega arith)
+      maps = HoldLanesFrom-more survivors c.extend_hard_survivors-walk.result.survivor_map before group (omega arith)
           (omega (arith, same, within, c.requires.at_least))
-          (map_holds_lanes _ _ c.extend_hard_survivors-walk.result.survivor_map _ walk) c.loop-group.invariant.maps;
+          (AreSurvivors-map_lanes _ _ c.extend_hard_survivors-walk.result.survivor_map _ walk) c.loop-group.invariant.maps;
     }
 
 pub returns-clause-best : goal.returns-clause-best

@@ -1,6 +1,6 @@
 use Rattle.{
   std.proofs.Common.{◌∷◌, [], ◌%◌, sym, subst, arith},
-  trellis_decode.{specs.Hard.{AreMinusOneToOne, HasHardBranchMetrics}, proofs.AcsSteps.{HasHardBranchMetrics-row, first_row, row_units}},
+  trellis_decode.{specs.Hard.{AreWithinOne, HasHardBranchMetrics}, proofs.AcsSteps.{HasHardBranchMetrics-row, first_row, hard_row-units}},
 }
 use Rattle.trellis_decode.proofs.hard.first_branch_metrics.Goals as goal
 
@@ -9,7 +9,7 @@ returns-clause-has c p q hp hq is =
     subst (λ row. HasHardBranchMetrics row (p ∷ q ∷ [])) (sym (first_row _ c.args.signs c.requires))
     (HasHardBranchMetrics-row _ _ p q hp hq is)
 
-pub returns-clause-units : goal.returns-clause-units
-returns-clause-units c =
+pub returns-clause-within_one : goal.returns-clause-within_one
+returns-clause-within_one c =
     let small = c.requires in
-    subst AreMinusOneToOne (sym (first_row _ c.args.signs c.requires)) (row_units _ (c.args.signs % 4) (omega arith))
+    subst AreWithinOne (sym (first_row _ c.args.signs c.requires)) (hard_row-units _ (c.args.signs % 4) (omega arith))

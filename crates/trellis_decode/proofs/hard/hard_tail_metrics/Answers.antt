@@ -3,8 +3,17 @@ use Rattle.{
   std.proofs.lemmas.{Int.ints, List.drop_all},
   trellis_decode.{
     specs.Hard.hard_lane_metrics,
-    proofs.AcsSteps.{pair_at, pair_and_after, AreInt8-splat, HaveHeadroom8-within, hard_octets, hard_metric, start_metric, zero_candidate},
-    proofs.{Viterbi.{IsSurvivor-none, IsSurvivor-same}, SurvivorLists.{AreMetricsWithin-best, IsSurvivor-closed}},
+    proofs.AcsSteps.{
+      pair_at,
+      pair_and_after,
+      AreInt8-splat,
+      HaveHeadroom8-within,
+      hard_octets,
+      hard_metrics-lane,
+      start-metric,
+      bit_0_candidate-metric,
+    },
+    proofs.{Viterbi.{IsSurvivor-none, IsSurvivor-same}, SurvivorLists.{AreMetricsWithin-best, IsSurvivor-zero_tail}},
   },
 }
 use Rattle.trellis_decode.proofs.hard.hard_tail_metrics.Goals as goal
@@ -13,7 +22,7 @@ pub loop-k-init : goal.loop-k-init
 loop-k-init c =
     let soft = c.args.soft.now in
     record {
-      best = λ s lt. IsSurvivor-same s refl (sym (drop_all 8 soft (omega arith))) (sym (start_metric s lt)) (IsSurvivor-none s);
+      best = λ s lt. IsSurvivor-same s refl (sym (drop_all 8 soft (omega arith))) (sym (start-metric s lt)) (IsSurvivor-none s);
       lanes = AreInt8-splat (negsuc 119) (omega (arith, ints));
     }
 
@@ -37,11 +46,11 @@ loop-k-preserved c =
     let next : 2 * before + 2 ≡ 2 * k = omega arith in
     record {
       best = λ s lt. IsSurvivor-same s (ap (λ n. replicate n 0) one_more) (pair_and_after soft (2 * before) (2 * k) next) refl
-          (IsSurvivor-closed (hard_lane_metrics c.loop-k.values.lanes) (hard_lane_metrics values) (pair_at soft (2 * before))
+          (IsSurvivor-zero_tail (hard_lane_metrics c.loop-k.values.lanes) (hard_lane_metrics values) (pair_at soft (2 * before))
           (drop (2 * k) soft)
           (4 - k) has.count (omega arith) c.loop-k.invariant.best
-          (λ s lt. hard_metric values s lt
-          ∙ zero_candidate c.loop-k.values.lanes _ _ has values c.bit_0_candidates-values.ensures.each s lt) s lt);
+          (λ s lt. hard_metrics-lane values s lt
+          ∙ bit_0_candidate-metric c.loop-k.values.lanes _ _ has values c.bit_0_candidates-values.ensures.each s lt) s lt);
       lanes = c.bit_0_candidates-values.ensures.lanes;
     }
 

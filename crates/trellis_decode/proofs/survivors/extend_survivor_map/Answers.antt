@@ -1,6 +1,6 @@
 use Rattle.{
   std.proofs.Common.{arith, pos},
-  trellis_decode.proofs.AcsSteps.{AreInt8-joined, AreInt8-splat, inside, joined_choice, next_lane},
+  trellis_decode.proofs.AcsSteps.{AreInt8-joined, AreInt8-splat, inside, joined-decision, next_lane-state},
 }
 use Rattle.trellis_decode.proofs.survivors.extend_survivor_map.Goals as goal
 
@@ -14,7 +14,7 @@ pub returns-clause-each : goal.returns-clause-each
 returns-clause-each c s lt =
     cc (
       c.extend_survivor_map_swizzle_fixed.ensures.each _ (inside s lt),
-      next_lane s lt _,
-      joined_choice c.args.low.lanes c.args.high.lanes
+      next_lane-state s lt _,
+      joined-decision c.args.low.lanes c.args.high.lanes
           c.requires.low c.requires.high s lt,
     )

@@ -4,10 +4,15 @@ use Rattle.{
   trellis_decode.{
     specs.{Lanes.{IsSignedOctet, lane}, AcsLanes.{HasBranchMetrics, path_metric}},
     proofs.{
-      AcsSteps.{AreSignedOctets-pair, pair_at, pair_of_part, pair_and_after},
-      SurvivorLists.{HasDecisionsAndMetrics-more, HasDecisionsAndMetrics-same, HasDecisionsAndMetrics-close, HasDecisionsAndMetrics-even},
+      AcsSteps.{AreSignedOctets-pair, pair_at, pair_at-take_drop, pair_and_after},
+      SurvivorLists.{
+        HasDecisionsAndMetrics-more,
+        HasDecisionsAndMetrics-same,
+        HasDecisionsAndMetrics-differences,
+        HasDecisionsAndMetrics-even,
+      },
       SurvivorLists.HasDecisionsAndMetrics-odd,
-      AcsVectors.{passed, passed-subtract_lanes},
+      AcsVectors.{cast_lanes, cast_lanes-subtract_lanes},
     },
   },
 }
@@ -27,7 +32,7 @@ new-step-requires-clause-odd c =
     (omega (arith, length-drop (c.args.first + c.loop-k.k) c.loop-k.rows)) c.loop-k.invariant.odd.count
 
 pub new-step-requires-clause-close : goal.new-step-requires-clause-close
-new-step-requires-clause-close c = HasDecisionsAndMetrics-close _ _ _ _ _ c.loop-k.invariant.decided
+new-step-requires-clause-close c = HasDecisionsAndMetrics-differences _ _ _ _ _ c.loop-k.invariant.decided
 
 pub loop-k-preserved : goal.loop-k-preserved
 loop-k-preserved c =
@@ -42,9 +47,9 @@ loop-k-preserved c =
     let next_pair : 2 * j + 2 ≡ 2 * at = omega arith in
     let within : k - 1 < 4 = omega arith in
     let has = subst (HasBranchMetrics _)
-    (pair_of_part soft (2 * c.args.first) (2 * c.args.first + 8 - 2 * c.args.first) (2 * (k - 1)) (2 * j) (omega arith) (omega arith))
+    (pair_at-take_drop soft (2 * c.args.first) (2 * c.args.first + 8 - 2 * c.args.first) (2 * (k - 1)) (2 * j) (omega arith) (omega arith))
     (c.four_branch_metrics-branch_metrics.ensures.has (k - 1) _ within) in
-    let lost = passed c.new-step.result.losses.lanes in
+    let lost = cast_lanes c.new-step.result.losses.lanes in
     record {
       decided = HasDecisionsAndMetrics-same
           (cc (next, drop-set rows j c.new-step.result.decision_bits (omega (arith, c.loop-k.auto.rows))))
@@ -54,7 +59,7 @@ loop-k-preserved c =
           (HasDecisionsAndMetrics-more (path_metric c.loop-k.values) (path_metric c.new-step.result.values) lost pair (drop (2 * at) soft)
           (drop at rows) (drop at losses) c.new-step.result.decision_bits has.count (AreSignedOctets-pair soft (2 * j) c.requires.octets)
           (c.new-step.ensures.each pair has)
-          (λ s lt. ap (λ l. lane l s) (passed-subtract_lanes c.new-step.result.losses.lanes c.new-step.ensures.lanes)
+          (λ s lt. ap (λ l. lane l s) (cast_lanes-subtract_lanes c.new-step.result.losses.lanes c.new-step.ensures.lanes)
           ∙ c.new-step.ensures.losses pair has s lt) c.loop-k.invariant.decided);
       even = c.new-step.ensures.even;
       odd = c.new-step.ensures.odd;

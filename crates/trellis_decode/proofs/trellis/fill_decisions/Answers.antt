@@ -5,7 +5,7 @@ use Rattle.{
   },
   trellis_decode.{
     specs.{Lanes.IsSignedOctet, AcsLanes.path_metric},
-    proofs.{SurvivorLists.HasDecisionsAndMetrics-closing, Viterbi.IsSurvivor-to_end},
+    proofs.{SurvivorLists.HasDecisionsAndMetrics-tail, Viterbi.IsSurvivor-to_end},
   },
 }
 use Rattle.trellis_decode.proofs.trellis.fill_decisions.Goals as goal
@@ -22,7 +22,7 @@ loop-group-init c =
     let last = length rows - 4 in
     let at : last ≡ length rows % 4 + 4 * (length rows / 4 - 1) = omega (arith, c.requires.at_least) in
     record {
-      decided = rw (← at) (HasDecisionsAndMetrics-closing (drop last rows) (drop last losses) (drop (2 * last) soft)
+      decided = rw (← at) (HasDecisionsAndMetrics-tail (drop last rows) (drop last losses) (drop (2 * last) soft)
           (path_metric c.tail_metrics-values.result) (omega (arith, length-drop last rows, c.requires.at_least))
           (omega (arith, length-drop last losses, c.requires.same, c.requires.at_least))
           (omega (arith, length-drop (2 * last) soft, c.requires.count, c.requires.at_least))

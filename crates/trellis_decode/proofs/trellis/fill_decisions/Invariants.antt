@@ -4,7 +4,7 @@ use Rattle.{
 }
 use Rattle.trellis_decode.proofs.trellis.fill_decisions.Given as goal
 
--- from the current group of four positions on, the decision rows and losses are those of the best lists
+-- from the current group of four positions to the end, each decision and its loss are those of the Viterbi algorithm
 abbrev pub invariant-loop-group : goal.invariant-loop-group
 invariant-loop-group l = record {
   decided : HasDecisionsAndMetrics (drop (l.few + 4 * l.group) l.rows) (drop (l.few + 4 * l.group) l.losses) (drop (2 *

@@ -1,5 +1,5 @@
-use Rattle.{std.proofs.Common.{subst, sym}, bit_blocks.specs.Bits.AllBits, conv_code.proofs.Lemmas.AllBits-coded}
+use Rattle.conv_code.proofs.Lemmas.{AllBits-coded}
 use Rattle.um_block.proofs.counting.wrong_sync_bits.Goals as goal
 
 pub count_wrong_bits-requires-clause-bits : goal.count_wrong_bits-requires-clause-bits
-count_wrong_bits-requires-clause-bits c = subst AllBits (sym c.encode.ensures) (AllBits-coded c.args.input.now)
+count_wrong_bits-requires-clause-bits c = rw c.encode.ensures (AllBits-coded c.args.input.now)

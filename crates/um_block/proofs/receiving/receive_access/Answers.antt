@@ -1,15 +1,13 @@
 use Rattle.{
-  bit_blocks.specs.SoftValues.AllSoftBits,
   burst_map.specs.AccessBurst.body,
-  std.proofs.Common.{ap, length, rules, subst, sym, ◌∙◌},
+  std.proofs.Common.rules,
   um_block.proofs.ReceivedBursts.{AllSoftBits-range, clean_access, one_received_access, restored_access},
 }
 use Rattle.um_block.proofs.receiving.receive_access.Goals as goal
 
 pub decode-metric-requires-clause-soft : goal.decode-metric-requires-clause-soft
 decode-metric-requires-clause-soft c =
-    subst AllSoftBits (sym (c.body.ensures.value ∙ ap body c.new-parts.ensures.value))
-    (AllSoftBits-range c.args.burst.now 49 85 c.requires)
+    rw (c.body.ensures.value, c.new-parts.ensures.value) (AllSoftBits-range c.args.burst.now 49 85 c.requires)
 
 pub returns-clause-received : goal.returns-clause-received
 returns-clause-received c = search rules
@@ -22,6 +20,5 @@ returns-clause-clean c info sent s same = clean_access info c.args.bsic.now sent
 
 pub returns-clause-restores : goal.returns-clause-restores
 returns-clause-restores c info d code damage =
-    let is_body = c.body.ensures.value ∙ ap body c.new-parts.ensures.value in
-    restored_access c.args.burst.now info c.args.bsic.now d _ (ap length (sym is_body) ∙ c.body.ensures.count) code damage
-    (returns-clause-received c)
+    restored_access c.args.burst.now info c.args.bsic.now d _
+    (rw (c.body.ensures.value, c.new-parts.ensures.value) at c.body.ensures.count) code damage (returns-clause-received c)

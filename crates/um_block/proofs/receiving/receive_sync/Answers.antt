@@ -1,16 +1,13 @@
 use Rattle.{
-  bit_blocks.specs.SoftValues.{AllSoftBits, IsSoftBit},
-  burst_map.specs.SyncBurst.{first_coded_half, second_coded_half},
-  std.proofs.{Common.{ap, length, rules, subst, sym, ◌∙◌}, lemmas.List.Elements.All-append},
+  bit_blocks.specs.SoftValues.IsSoftBit,
+  std.proofs.{Common.rules, lemmas.List.Elements.All-append},
   um_block.proofs.ReceivedBursts.{AllSoftBits-range, clean_sync, one_received_sync, restored_sync},
 }
 use Rattle.um_block.proofs.receiving.receive_sync.Goals as goal
 
 pub decode-metric-requires-clause-soft : goal.decode-metric-requires-clause-soft
 decode-metric-requires-clause-soft c =
-    let burst = c.new-parts.ensures.value in
-    subst AllSoftBits
-    (sym (c.join_sync_halves-halves.ensures ∙ rw (c.first.ensures.value, c.second.ensures.value, burst)))
+    rw (c.join_sync_halves-halves.ensures, c.first.ensures.value, c.second.ensures.value, c.new-parts.ensures.value)
     (All-append IsSoftBit _ _ (AllSoftBits-range c.args.burst.now 3 42 c.requires) (AllSoftBits-range c.args.burst.now 106 145 c.requires))
 
 pub returns-clause-received : goal.returns-clause-received
@@ -25,6 +22,5 @@ returns-clause-clean c info sent s same = clean_sync info sent _ s (rw same at (
 pub returns-clause-restores : goal.returns-clause-restores
 returns-clause-restores c info d code damage =
     let burst = c.new-parts.ensures.value in
-    let first = ap length (sym (c.first.ensures.value ∙ ap first_coded_half burst)) ∙ c.first.ensures.count in
-    let second = ap length (sym (c.second.ensures.value ∙ ap second_coded_half burst)) ∙ c.second.ensures.count in
-    restored_sync c.args.burst.now info d _ first second code damage (returns-clause-received c)
+    restored_sync c.args.burst.now info d _ (rw (c.first.ensures.value, burst) at c.first.ensures.count)
+    (rw (c.second.ensures.value, burst) at c.second.ensures.count) code damage (returns-clause-received c)

@@ -9,5 +9,5 @@ returns c coded parts are whole =
     let part = get_or _ c.args.b [] in
     let full : length part ≡ 114 = whole.burst_lengths _ [] (omega arith) in
     both_written _ _ _ _ _ (drop 57 part) _ (omega (arith, length-take 57 part)) (omega (arith, length-drop 57 part))
-    c.requires.known c.new-parts.ensures.value (c.write_half_burst.ensures coded parts are whole)
+    c.requires.tsc_in_range c.new-parts.ensures.value (c.write_half_burst.ensures coded parts are whole)
     (c.write_half_burst-2.ensures coded parts are whole ∙ take_all 57 (drop 57 part) (omega (arith, length-drop 57 part))) (search rules)

@@ -1,9 +1,9 @@
 use Rattle.{
-  std.proofs.{Common.{◌<◌, get_or, refl, subst, arith}, lemmas.List.get_or_default},
-  bit_blocks.specs.Octets.bits_of,
+  std.proofs.{Common.{refl, arith}, lemmas.List.Elements.All-from_get_or},
+  bit_blocks.specs.Octets.{IsOctet, bits_of},
   conv_code.specs.Code.encoding,
   fire_code.specs.Words.IsXcchWord,
-  um_block.{specs.Sent.with_tail, proofs.SentBursts.{AreCodedBitsPacked-block, carries}},
+  um_block.{specs.Sent.with_tail, proofs.ReceivedBursts.{AreCodedBitsPacked-block, carries}},
 }
 use Rattle.um_block.proofs.sending.encode_block.Goals as goal
 
@@ -16,9 +16,7 @@ returns c =
       record {
         u = u;
         count = c.told-octets;
-        all_octets = λ k e lt.
-            let fits : get_or octets k 0 < 256 = omega (arith, c.fits-octets k) in
-            subst (λ octet. octet < 256) (get_or_default octets k 0 e lt) fits;
+        all_octets = All-from_get_or IsOctet octets 0 (λ k h. omega (arith, c.fits-octets k));
         information = carries IsXcchWord (bits_of octets) (bits_of crc) c.octets_with_crc.ensures.1;
         code = refl;
       },

@@ -1,8 +1,8 @@
 use Rattle.{
-  std.proofs.Common.{[], List, ℕ, map, take, drop, sym, ap, ◌∙◌},
+  std.proofs.Common.{[], List, ℕ, map, take, drop, ap},
   interleave.proofs.Lemmas.some_spread,
   burst_map.specs.NormalBurst.normal_burst,
-  um_block.proofs.SentBursts.{one_sent_block, sent_block_bits, four, same_four, coded_block_bits},
+  um_block.proofs.ReceivedBursts.{one_sent_block, sent_block_bits, four, coded_block_bits},
 }
 use Rattle.um_block.proofs.sending.send_block.Goals as goal
 
@@ -19,12 +19,13 @@ returns-clause-sent c =
       valid_tsc = c.requires;
       code = block.1;
       interleaved = spread.1;
-      layout = same_four _ _ _ _ _ _ _ _
-          (c.build_normal_burst.ensures coded interleaved_bits block.2 spread.1)
-          (c.build_normal_burst-2.ensures coded interleaved_bits block.2 spread.1)
-          (c.build_normal_burst-3.ensures coded interleaved_bits block.2 spread.1)
-          (c.build_normal_burst-4.ensures coded interleaved_bits block.2 spread.1)
-          ∙ sym (ap (map burst) (four interleaved_bits [] spread.1.burst_count));
+      layout = cc (
+        ap (map burst) (four interleaved_bits [] spread.1.burst_count),
+        c.build_normal_burst.ensures coded interleaved_bits block.2 spread.1,
+        c.build_normal_burst-2.ensures coded interleaved_bits block.2 spread.1,
+        c.build_normal_burst-3.ensures coded interleaved_bits block.2 spread.1,
+        c.build_normal_burst-4.ensures coded interleaved_bits block.2 spread.1,
+      );
     }
 
 pub returns-clause-only : goal.returns-clause-only

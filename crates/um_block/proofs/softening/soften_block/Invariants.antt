@@ -2,5 +2,4 @@ use Rattle.{std.proofs.Common.{◌≡◌, ℕ, ◌<◌, length, get_or, []}, um_
 use Rattle.um_block.proofs.softening.soften_block.Given as goal
 
 abbrev pub invariant-loop-b : goal.invariant-loop-b
-invariant-loop-b l =
-    (length l.soft ≡ 4) × ((k : ℕ) → k < l.b → get_or l.soft k [] ≡ soft_bits (get_or l.block k []))
+invariant-loop-b l = (length l.soft ≡ 4) × ((k : ℕ) → k < l.b → get_or l.soft k [] ≡ soft_bits (get_or l.block k []))

@@ -5,7 +5,7 @@ use Rattle.{
     specs.declared.reports.ListDecodedBlock.ListDecodedBlock,
     proofs.Lemmas.{one_block_among, block_best, block_none, block_information, block_first},
   },
-  um_c.{specs.Reports.ReportsBlock, proofs.Calls.{some_flagged, none_flagged, equal_reports}},
+  um_c.{specs.Reports.ReportsBlock, proofs.Calls.{IsFlagged-some, IsFlagged-none, equal_reports}},
 }
 use Rattle.um_c.proofs.blocks.um_receive_block_among.Goals as goal
 
@@ -17,7 +17,7 @@ pub returns-clause-best : goal.returns-clause-best
 returns-clause-best c = λ _ one soft v deinterleaved candidate holds other.
     let output = c.block_report_of.ensures in
     let among = c.receive_deinterleaved_among-among.result in
-    let some = some_flagged among.report.accepted c.block_report_of.result.accepted c.block_report_of.result.octets output.accepted one in
+    let some = IsFlagged-some among.report.accepted c.block_report_of.result.accepted c.block_report_of.result.octets output.accepted one in
     subst (λ (u : List ℕ). RanksAfter soft v u) (sym output.word)
     (block_best c.args.bursts.now c.args.most among c.receive_deinterleaved_among-among.ensures some soft v deinterleaved candidate holds
     (λ same. other (same ∙ sym output.word)))
@@ -25,7 +25,7 @@ returns-clause-best c = λ _ one soft v deinterleaved candidate holds other.
 pub returns-clause-none : goal.returns-clause-none
 returns-clause-none c = λ _ soft deinterleaved.
     let among = c.receive_deinterleaved_among-among.result in
-    let flag = none_flagged among.report.accepted c.block_report_of.result.accepted c.block_report_of.result.octets
+    let flag = IsFlagged-none among.report.accepted c.block_report_of.result.accepted c.block_report_of.result.octets
     c.block_report_of.ensures.accepted in
     let none = block_none c.args.bursts.now c.args.most among c.receive_deinterleaved_among-among.ensures soft deinterleaved in
     (λ zero. none.0 (flag.0 zero), λ fail. flag.1 (none.1 fail))

@@ -1,7 +1,7 @@
 use Rattle.{
   std.proofs.{Common.refl, lemmas.Result.IfErr-weaker},
   um_air.specs.lapdm_window.{Ends.EndpointState, Calls.{Call, SendsUi, SendsFill, SendsUiFrame, endpoint_call_of}},
-  um_c.{specs.EndCalls.EndpointSupportsCall, proofs.Calls.{answered_by, is_read, on_ok}},
+  um_c.{specs.EndCalls.EndpointSupportsCall, proofs.Calls.{answered_by, is_read, OnOk-map}},
 }
 use Rattle.um_c.proofs.ends.send_ui_frame.Goals as goal
 
@@ -12,11 +12,11 @@ placeholder_endpoint other e h = absurd h
 
 pub returns : goal.returns
 returns c =
-    answered_by (is_read c.read_endpoint.ensures.represents c.read_endpoint.ensures.known c.if-not-read_endpoint.false)
+    answered_by (is_read c.read_endpoint.ensures.represents c.read_endpoint.ensures.valid c.if-not-read_endpoint.false)
     c.call-answer.new.self c.call-answer.new.effects c.call-answer.result
     (λ e h. placeholder_endpoint (endpoint_call_of c.args.call.now) e c.requires) c.call-answer.ensures.refusal
     c.call-answer.ensures.refines
-    (on_ok c.call-answer.result (λ done. (
+    (OnOk-map c.call-answer.result (λ done. (
       done.0,
       rw (c.call-answer.ensures.unchanged c.requires) (c.read_endpoint.ensures.decoded c.if-not-read_endpoint.false),
       done.1,

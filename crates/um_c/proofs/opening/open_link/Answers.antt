@@ -1,7 +1,7 @@
 use Rattle.{
   std.proofs.{Common.{ap, arith, length, nat_eq, sym, true, ℕ, ◌≡◌, ◌∙◌}, lemmas.Bool.{Decides.nat_tests, false≢true}},
   um_air.specs.segmenting.Buffers.octets_in,
-  um_c.proofs.Sessions.{opened_run, was-asked, asked-one, was-answered, answered-one, was-opened, allowed-exchange, both-open},
+  um_c.proofs.Sessions.{opening-IsProgramRun, was-asked, asked-one, was-answered, answered-one, was-opened, allowed-exchange, both-open},
 }
 use Rattle.um_c.proofs.opening.open_link.Goals as goal
 
@@ -60,7 +60,7 @@ returns-clause-run c =
     let asked = c.first_block.ensures in
     let answered = c.first_block-2.ensures in
     λ ok channel.
-    opened_run channel (octets_in c.args.info.now)
+    opening-IsProgramRun channel (octets_in c.args.info.now)
     (record {
       answer_is_0 = c.if-um_end_open-ne0.false;
       count = c.if-asked-ne1.false;

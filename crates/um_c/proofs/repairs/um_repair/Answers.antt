@@ -1,11 +1,11 @@
 use Rattle.{
   std.proofs.Common.{ℕ, List, inl, inr, refl, subst, rules},
   fire_repair.specs.{fire_code.Words.IsXcchWord, Repairs.IsRepair},
-  um_c.proofs.Calls.repaired_once,
+  um_c.proofs.Calls.repair-unique,
 }
 use Rattle.um_c.proofs.repairs.um_repair.Goals as goal
 
--- the CRC of the word does not hold, and the word has no repair
+-- the CRC of the word is wrong, and the word has no repair
 abbrev Lost : List ℕ → Type 0
 Lost w = (IsXcchWord w → ⊥) × ((v : List ℕ) → IsRepair w v → ⊥)
 
@@ -14,21 +14,21 @@ returns-in_default-clause-answer c = search rules
 
 pub returns-in_default-clause-only : goal.returns-in_default-clause-only
 returns-in_default-clause-only c = λ answer other h.
-    repaired_once c.args.word.now answer _ _ other _ h (returns-in_default-clause-answer c)
+    repair-unique c.args.word.now answer _ _ other _ h (returns-in_default-clause-answer c)
 
 pub returns-in-Holds-clause-answer : goal.returns-in-Holds-clause-answer
 returns-in-Holds-clause-answer c = search rules
 
 pub returns-in-Holds-clause-only : goal.returns-in-Holds-clause-only
 returns-in-Holds-clause-only c = λ answer other h.
-    repaired_once c.args.word.now answer _ _ other _ h (returns-in-Holds-clause-answer c)
+    repair-unique c.args.word.now answer _ _ other _ h (returns-in-Holds-clause-answer c)
 
 pub returns-in-Repaired-clause-answer : goal.returns-in-Repaired-clause-answer
 returns-in-Repaired-clause-answer c = search rules
 
 pub returns-in-Repaired-clause-only : goal.returns-in-Repaired-clause-only
 returns-in-Repaired-clause-only c = λ answer other h.
-    repaired_once c.args.word.now answer _ _ other _ h (returns-in-Repaired-clause-answer c)
+    repair-unique c.args.word.now answer _ _ other _ h (returns-in-Repaired-clause-answer c)
 
 pub returns-in-NoRepair-clause-answer : goal.returns-in-NoRepair-clause-answer
 returns-in-NoRepair-clause-answer c =
@@ -37,4 +37,4 @@ returns-in-NoRepair-clause-answer c =
 
 pub returns-in-NoRepair-clause-only : goal.returns-in-NoRepair-clause-only
 returns-in-NoRepair-clause-only c = λ answer other h.
-    repaired_once c.args.word.now answer _ _ other _ h (returns-in-NoRepair-clause-answer c)
+    repair-unique c.args.word.now answer _ _ other _ h (returns-in-NoRepair-clause-answer c)

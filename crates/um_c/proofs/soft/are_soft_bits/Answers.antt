@@ -10,9 +10,9 @@ use Rattle.um_c.proofs.soft.are_soft_bits.Goals as goal
 abbrev IsInRange : ℤ → Type 0
 IsInRange value = value ≤ℤ pos 127
 
-least_soft : (xs : List ℤ) (least : ℤ) → All IsInRange xs → least ≡ fold int_min (pos 0) xs →
+least_value-AllSoftBits : (xs : List ℤ) (least : ℤ) → All IsInRange xs → least ≡ fold int_min (pos 0) xs →
     (IsSoftBit least ↔ AllSoftBits xs)
-least_soft xs least highest is =
+least_value-AllSoftBits xs least highest is =
     let bounds = fold-int_min_bounds (pos 0) xs least is in (
       λ soft. All-from_get_or IsSoftBit xs (pos 0) (λ k h.
           let above : least ≤ℤ get_or xs k (pos 0) = bounds.1 k (pos 0) h in
@@ -34,6 +34,6 @@ pub returns : goal.returns
 returns c =
     let values = c.args.values.now in
     let whole_bursts = take_all c.loop-value.value-index values (omega arith) in
-    let all = least_soft values _ (subst (All IsInRange) whole_bursts c.loop-value.invariant.1)
+    let all = least_value-AllSoftBits values _ (subst (All IsInRange) whole_bursts c.loop-value.invariant.1)
     (c.loop-value.invariant.0 ∙ ap (fold int_min (pos 0)) whole_bursts) in
     (λ yes. all.0 (c.is_soft_bit.ensures.0 yes), λ soft. c.is_soft_bit.ensures.1 (all.1 soft))

@@ -11,11 +11,11 @@ use Rattle.{
 }
 use Rattle.um_c.proofs.soft.are_soft_bursts.Goals as goal
 
-all_joined : (bursts : List (List ℤ)) → AllSoftBits (flat_map (λ burst. burst) bursts) ↔ All AllSoftBits bursts
-all_joined [] = (λ _. All-nil AllSoftBits, λ _. All-nil IsSoftBit)
-all_joined (burst ∷ bursts) =
+AllSoftBits-flat_map : (bursts : List (List ℤ)) → AllSoftBits (flat_map (λ burst. burst) bursts) ↔ All AllSoftBits bursts
+AllSoftBits-flat_map [] = (λ _. All-nil AllSoftBits, λ _. All-nil IsSoftBit)
+AllSoftBits-flat_map (burst ∷ bursts) =
     let rest = flat_map (λ burst. burst) bursts in
-    let both = all_joined bursts in (
+    let both = AllSoftBits-flat_map bursts in (
       λ soft. All-cons AllSoftBits burst bursts
           (subst AllSoftBits (take_at burst rest (length burst) refl) (All-take IsSoftBit (length burst) (burst ++ rest) soft))
           (both.0 (subst AllSoftBits (drop_at burst rest (length burst) refl) (All-drop IsSoftBit (length burst) (burst ++ rest) soft))),
@@ -24,7 +24,7 @@ all_joined (burst ∷ bursts) =
 
 pub returns : goal.returns
 returns c =
-    let all = all_joined c.args.bursts.now in
+    let all = AllSoftBits-flat_map c.args.bursts.now in
     let same = c.as_flattened.ensures.value in (
       λ yes. all.0 (subst AllSoftBits same (c.are_soft_bits.ensures.0 yes)),
       λ soft. c.are_soft_bits.ensures.1 (subst AllSoftBits (sym same) (all.1 soft)),

@@ -4,10 +4,10 @@ use Rattle.{
   um_driver.specs.{Table.IsRun, declared.status.Status.Status},
   um_cli.{
     specs.{
-      Brought.end_rules_with_ml_decoding,
+      EndAnswers.end_rules_with_ml_decoding,
       declared.words.Invocation.{Invocation, TheVariants.{Code, Replay, Show, Margin, Repair, End}},
     },
-    proofs.Lemmas.{table_of, due_of, at_shape, restores, replay_headline, best_brought},
+    proofs.Lemmas.{table_of, due_of, at_shape, recovers_code, replay_headline, end-most_likely},
   },
   um_bursts.proofs.Lemmas.replay_is_determined,
   um_code.proofs.CodeRules.code_is_determined,
@@ -18,10 +18,10 @@ use Rattle.{
 }
 use Rattle.um_cli.proofs.top.run.Goals as goal
 
-abbrev IsBrought : Invocation → Status → (left left' taken taken' : Option (List ℕ)) → Type 0
-IsBrought (End side tsc) status left left' taken taken' =
+abbrev EndIsMostLikely : Invocation → Status → (left left' taken taken' : Option (List ℕ)) → Type 0
+EndIsMostLikely (End side tsc) status left left' taken taken' =
     IsRun end_rules_with_ml_decoding (initial_run (spec_role_of side) tsc) (λ last. Unit {0}) status left left' taken taken'
-IsBrought command status left left' taken taken' = Unit {0}
+EndIsMostLikely command status left left' taken taken' = Unit {0}
 
 pub returns-in-Some-Code-clause-due : goal.returns-in-Some-Code-clause-due
 returns-in-Some-Code-clause-due g c =
@@ -47,7 +47,7 @@ returns-in-Some-Replay-clause-replay_most_likely g c = λ is.
 
 pub returns-in-Some-Replay-clause-restores : goal.returns-in-Some-Replay-clause-restores
 returns-in-Some-Replay-clause-restores g c = λ is.
-    restores _ c.new.ensures c.drive-in-Some-Replay.result _ _ _ c.drive-in-Some-Replay.ensures.due
+    recovers_code _ c.new.ensures c.drive-in-Some-Replay.result _ _ _ c.drive-in-Some-Replay.ensures.due
 
 pub returns-in-Some-Show-clause-due : goal.returns-in-Some-Show-clause-due
 returns-in-Some-Show-clause-due g c =
@@ -91,6 +91,6 @@ returns-in-Some-End-clause-end_most_likely g c = λ side tsc is.
     let begun = initial_run (spec_role_of c.in-Some-End.side) c.in-Some-End.tsc in
     at_shape _ _ (End c.in-Some-End.side c.in-Some-End.tsc) (λ P p. p) _ _ c.in-Some-End.ensures.command
     c.in-Some-End.field-0-is _ c.new-in-Some-End.ensures.start run.result
-    (λ command. IsBrought command run.result (g.S.Source.left c.args.input.now) (g.S.Source.left run.new.input)
+    (λ command. EndIsMostLikely command run.result (g.S.Source.left c.args.input.now) (g.S.Source.left run.new.input)
     (g.K.Sink.taken c.args.output.now) (g.K.Sink.taken run.new.output))
-    (best_brought begun c.new-in-Some-End.ensures.start _ run.result _ _ _ _ run.ensures.table) (End side tsc) is
+    (end-most_likely begun c.new-in-Some-End.ensures.start _ run.result _ _ _ _ run.ensures.table) (End side tsc) is

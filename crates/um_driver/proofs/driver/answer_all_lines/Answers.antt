@@ -1,5 +1,5 @@
--- Each round of the loop preserves `IsRunUnderway` or ends the run. The loop ends because each round answers at least one octet of the
--- input, and at most `input_limit` octets are answered.
+-- Each round of the loop preserves `IsRunUnderway` or ends the run. The loop ends because each further round processes at least one octet
+-- of the input, and a run processes at most `input_limit` octets.
 use Rattle.{std.proofs.Common.{arith, refl, ◌<◌, ◌∙◌}, um_driver.proofs.Runs.{at_first, run_ends, underway_cut, underway_gathers}}
 use Rattle.um_driver.proofs.driver.answer_all_lines.Goals as goal
 
@@ -49,5 +49,5 @@ loop-command-smaller g c =
     let way = underway_gathers c.loop-command.invariant.underway c.in-Ok.ensures.gathers c.flush_before_read.ensures.unchanged in
     let limit = (c.in-None.ensures.comes _ _ _ _ _ way c.in-Ok.ensures.ready).valid.limit in
     let rises : c.loop-command.lines.octet_count < c.answer_next_line.new.lines.octet_count =
-    rw c.flush_before_read.ensures.unchanged at (c.in-None.ensures.goes_on refl) in
+    rw c.flush_before_read.ensures.unchanged at (c.in-None.ensures.makes_progress refl) in
     omega (arith, rises, limit)

@@ -1,4 +1,4 @@
-use Rattle.um_driver.proofs.Outputs.{law_command_output_exists}
+use Rattle.um_driver.proofs.Runs.{law_command_output_exists}
 use Rattle.um_driver.proofs.laws.law_command_output_exists.Goals as goal
 
 pub returns : goal.returns

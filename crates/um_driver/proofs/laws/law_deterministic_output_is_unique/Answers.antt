@@ -1,4 +1,4 @@
-use Rattle.um_driver.proofs.Outputs.{output_unique}
+use Rattle.um_driver.proofs.Runs.{output_unique}
 use Rattle.um_driver.proofs.laws.law_deterministic_output_is_unique.Goals as goal
 
 pub returns : goal.returns

@@ -1,14 +1,10 @@
 use Rattle.{
-  std.proofs.Common.{List, Option, arith, drop, length-drop, length-take, sym, take, take-append-drop, ℕ, ◌∙◌},
-  std.{proofs.lemmas.Result.MatchResult-from_err, specs.Io.KnownBytes.Appends},
+  std.proofs.Common.{arith, length-drop, length-take, sym, take-append-drop, ◌∙◌},
+  std.{proofs.{KnownBytes.Appends-kept, lemmas.Result.MatchResult-from_err}, specs.Io.KnownBytes.Appends},
   um_driver.specs.Table.SinkTakesPrefix,
-  um_io.proofs.Lemmas.{Appends-front, Appends-keeps},
+  um_io.proofs.Lemmas.Appends-front,
 }
 use Rattle.um_driver.proofs.writing.put_all.Goals as goal
-
--- if the sink received the first n octets, it received a prefix of the octets
-SinkTakesPrefix-take : (a b : Option (List ℕ)) (n : ℕ) (piece : List ℕ) → Appends a b (take n piece) → SinkTakesPrefix a b piece
-SinkTakesPrefix-take a b n piece taken = (take n piece, (drop n piece, sym (take-append-drop n piece)), taken)
 
 pub returns-in_err-written-clause-taken : goal.returns-in_err-written-clause-taken
 returns-in_err-written-clause-taken g c =
@@ -16,8 +12,11 @@ returns-in_err-written-clause-taken g c =
     (λ _. Appends (g.K.Sink.taken c.args.output.now) (g.K.Sink.taken c.put.new.self) c.args.piece.now)
     (λ _. SinkTakesPrefix (g.K.Sink.taken c.args.output.now) (g.K.Sink.taken c.put.new.self) c.args.piece.now)
     c.from_residual.ensures.0
-    (λ _. SinkTakesPrefix-take _ _ c.loop-written.written _
-    (Appends-keeps _ _ _ _ c.loop-written.invariant.front c.in_err-written.ensures.octets))
+    (λ _. (
+      _,
+      (_, sym (take-append-drop c.loop-written.written c.args.piece.now)),
+      Appends-kept _ _ _ _ c.loop-written.invariant.front c.in_err-written.ensures.octets,
+    ))
 
 pub loop-written-preserved : goal.loop-written-preserved
 loop-written-preserved g c = record {

@@ -3,7 +3,7 @@
 use Rattle.{
   std.proofs.{Common.{◌*◌, ◌^◌, nat_eq, nat_lt, nat_abs, append-nil}, lemmas.{Bool.Decides.nat_tests, Fmt.length-decimal-le}},
   std.{proofs.lemmas.{Fmt.length_signed_le, List.length-map}, specs.{Int.Signed.mag, Fmt.{decimal, signed_decimal}, List.join_with_byte}},
-  um_lines.{specs.{Hex.encode_lower, Spelled.octets_word}, proofs.FormLaws.length-encode_lower},
+  um_lines.{specs.{Hex.encode_lower, LineTexts.octets_word}, proofs.FormLaws.length-encode_lower},
   um_link.{
     specs.{
       lapdm_frame.{Content.{Content, I}, Frames.{InformationFits, IsFrameCoding}},
@@ -18,7 +18,7 @@ use Rattle.{
         Tables.reply_to_frame,
       },
     },
-    proofs.lapdm_window.Lemmas.{IsReplyTo, cause_of, few-frame, few-call},
+    proofs.lapdm_window.Lemmas.{IsReplyTo, cause_of, bound-frame, bound-call},
   },
   um_script.{
     specs.{AnswerWords.{actor_word, sapi_suffix}, AnswerLines.{AnswerLine, reception_quality, reception_words, notice_words}},
@@ -64,20 +64,20 @@ IsAtMostAckAndOne (notice ∷ []) = HasSmallContents notice
 IsAtMostAckAndOne (N.Acked n ∷ notice ∷ []) = (n < 2 ^ 64) × HasSmallContents notice
 IsAtMostAckAndOne other = ⊥
 
-one_brief : (ns : List Notice) → IsOne ns → IsAtMostAckAndOne ns
-one_brief [] h = tt
-one_brief (n ∷ []) h = h
-one_brief (n ∷ m ∷ ns) h = absurd h
+ack_and_one-one : (ns : List Notice) → IsOne ns → IsAtMostAckAndOne ns
+ack_and_one-one [] h = tt
+ack_and_one-one (n ∷ []) h = h
+ack_and_one-one (n ∷ m ∷ ns) h = absurd h
 
-joined : (ns ms : List Notice) → IsAcked ns → IsOne ms → IsAtMostAckAndOne (ns ++ ms)
-joined [] ms a o = one_brief ms o
-joined (N.Acked n ∷ []) [] a o = a
-joined (N.Acked n ∷ []) (m ∷ []) a o = (a, o)
-joined (N.Acked n ∷ []) ms a o = absurd o
-joined ns ms a o = absurd a
+ack_and_one-append : (ns ms : List Notice) → IsAcked ns → IsOne ms → IsAtMostAckAndOne (ns ++ ms)
+ack_and_one-append [] ms a o = ack_and_one-one ms o
+ack_and_one-append (N.Acked n ∷ []) [] a o = a
+ack_and_one-append (N.Acked n ∷ []) (m ∷ []) a o = (a, o)
+ack_and_one-append (N.Acked n ∷ []) ms a o = absurd o
+ack_and_one-append ns ms a o = absurd a
 
-all_three : (ns ms ls : List Notice) → IsAcked ns → IsOne ms → ls ≡ [] → IsAtMostAckAndOne ((ns ++ ms) ++ ls)
-all_three ns ms ls a o none = rw (none, append-nil) (joined ns ms a o)
+ack_and_one-three : (ns ms ls : List Notice) → IsAcked ns → IsOne ms → ls ≡ [] → IsAtMostAckAndOne ((ns ++ ms) ++ ls)
+ack_and_one-three ns ms ls a o none = rw (none, append-nil) (ack_and_one-append ns ms a o)
 
 by_test : (P : List Notice → Type 0) (b : Bool) (o p : Outcome) → P o.notices → P p.notices → P (if b then o else p).notices
 by_test P true o p h g = h
@@ -112,40 +112,40 @@ counted : (nr : ℕ) (first second : EndpointState → Outcome) (e : EndpointSta
     ((x : EndpointState) → IsOne (first x).notices) →
     ((x : EndpointState) → (second x).notices ≡ []) → IsAtMostAckAndOne (evaluates_nr nr e then first then second).notices
 counted nr first second e h g =
-    let o = evaluates_nr nr e in all_three o.notices _ (second (o then first).new_state).notices (acked nr e) (h o.new_state) (g _)
+    let o = evaluates_nr nr e in ack_and_one-three o.notices _ (second (o then first).new_state).notices (acked nr e) (h o.new_state) (g _)
 
-brief-i : (ns nr : ℕ) (p : Bool) (segment : Segment) (e : EndpointState) → IsAtMostAckAndOne (takes_i_frame ns nr p segment e).notices
-brief-i ns nr p segment e =
+notices-i : (ns nr : ℕ) (p : Bool) (segment : Segment) (e : EndpointState) → IsAtMostAckAndOne (takes_i_frame ns nr p segment e).notices
+notices-i ns nr p segment e =
     by_test IsAtMostAckAndOne (nat_eq ns (vr e)) _ _
     (counted nr (accepts_segment segment) (answers_segment p) e (accepted segment) (answered p))
     (counted nr (rejects_segment p) sends_next_segment e (rejected p) next)
 
-brief-rr : (nr : ℕ) (b : Bool) (e : EndpointState) → IsAtMostAckAndOne (takes_rr nr b e).notices
-brief-rr nr b e = counted nr (answers_poll b) sends_next_segment e (notices_of_poll b) next
+notices-rr : (nr : ℕ) (b : Bool) (e : EndpointState) → IsAtMostAckAndOne (takes_rr nr b e).notices
+notices-rr nr b e = counted nr (answers_poll b) sends_next_segment e (notices_of_poll b) next
 
-brief-rej : (nr : ℕ) (b : Bool) (e : EndpointState) → IsAtMostAckAndOne (takes_rej nr b e).notices
-brief-rej nr b e = counted nr (answers_poll b) resends_outstanding_segment e (notices_of_poll b) again
+notices-rej : (nr : ℕ) (b : Bool) (e : EndpointState) → IsAtMostAckAndOne (takes_rej nr b e).notices
+notices-rej nr b e = counted nr (answers_poll b) resends_outstanding_segment e (notices_of_poll b) again
 
 -- ---- the tables of replies
 
-brief-reply : (r : Reply) (c : Content) (e : EndpointState) → IsReplyTo c e r → length (information c) ≤ 251 →
+notices-reply : (r : Reply) (c : Content) (e : EndpointState) → IsReplyTo c e r → length (information c) ≤ 251 →
     IsAtMostAckAndOne (outcome_of_reply r e).notices
-brief-reply (AcceptsSabm info) c e cause h = rw cause.1 at h
-brief-reply (ConfirmsEstablishment info) c e cause h = rw cause.0 at h
-brief-reply (TakesUi info) c e cause h = rw cause.1 at h
-brief-reply (TakesI ns nr p segment) c e cause h = brief-i ns nr p segment e
-brief-reply (TakesRr nr poll) c e cause h = brief-rr nr poll e
-brief-reply (TakesRej nr poll) c e cause h = brief-rej nr poll e
-brief-reply r c e cause h = tt
+notices-reply (AcceptsSabm info) c e cause h = rw cause.1 at h
+notices-reply (ConfirmsEstablishment info) c e cause h = rw cause.0 at h
+notices-reply (TakesUi info) c e cause h = rw cause.1 at h
+notices-reply (TakesI ns nr p segment) c e cause h = notices-i ns nr p segment e
+notices-reply (TakesRr nr poll) c e cause h = notices-rr nr poll e
+notices-reply (TakesRej nr poll) c e cause h = notices-rej nr poll e
+notices-reply r c e cause h = tt
 
 -- a frame, or (below) a call, leads to at most one notice, perhaps after an acknowledgement
-brief-frame : (f : Frame) (e : EndpointState) → length (information f.content) ≤ 251 → IsAtMostAckAndOne (frame_outcome f e).notices
-brief-frame f e h = brief-reply (reply_to_frame f e) f.content e (cause_of e f) h
+notices-frame : (f : Frame) (e : EndpointState) → length (information f.content) ≤ 251 → IsAtMostAckAndOne (frame_outcome f e).notices
+notices-frame f e h = notices-reply (reply_to_frame f e) f.content e (cause_of e f) h
 
-brief-call : (call : Call) (e : EndpointState) → IsAtMostAckAndOne (call_outcome call e).notices
-brief-call (Sends m) e = rw (next (with_queued_message m e)) tt
-brief-call T200Expires e = by_test IsAtMostAckAndOne (nat_lt e.retries (n200 e.channel e.state)) _ (closes_and_reports _ e) tt tt
-brief-call call e = tt
+notices-call : (call : Call) (e : EndpointState) → IsAtMostAckAndOne (call_outcome call e).notices
+notices-call (Sends m) e = rw (next (with_queued_message m e)) tt
+notices-call T200Expires e = by_test IsAtMostAckAndOne (nat_lt e.retries (n200 e.channel e.state)) _ (closes_and_reports _ e) tt tt
+notices-call call e = tt
 
 -- ---- texts
 
@@ -202,15 +202,15 @@ frames_short role tsc (f ∷ fs) (b ∷ bs) h =
     omega (arith, length-append {A = ℕ}, who_three role, length-encode_lower f, h.0.code.count, frames_short role tsc fs bs h.1)
 frames_short role tsc fs bs h = absurd h
 
-mag_is : (z : ℤ) → mag z ≤ nat_abs z
-mag_is z = grind arith
+mag-nat_abs : (z : ℤ) → mag z ≤ nat_abs z
+mag-nat_abs z = grind arith
 
 reception_short : (r : Received) → r.tsc ≤ 7 → ReceptionIsInRange (reception_quality r) →
     length (spaced_words (reception_words (reception_quality r))) ≤ 61
 reception_short r tsc h =
     let t = length-decimal-le 1 r.tsc (omega arith) (omega (arith, tsc)) (omega (arith, tsc)) in
     let w = length-decimal-le 20 r.wrong_training (omega arith) (omega (arith, h.wrong_training)) h.wrong_training in
-    let m = length_signed_le 19 r.metric (omega (arith, h.metric, mag_is r.metric)) (omega (arith, h.metric, mag_is r.metric)) in
+    let m = length_signed_le 19 r.metric (omega (arith, h.metric, mag-nat_abs r.metric)) (omega (arith, h.metric, mag-nat_abs r.metric)) in
     let last = signed_decimal r.metric ++ [] in
     let back = decimal r.wrong_training ++ (codes " metric " ++ last) in
     omega (
@@ -277,7 +277,7 @@ asked_short : (role : Role) (a : SideState) (sapi : Sapi) (call : Call) (b : Sid
 asked_short role a sapi call b (Refuses why) tsc blocks h coded lines = omega (arith, lines)
 asked_short role a sapi call b (Accepts step) tsc blocks h coded lines =
     let o = call_outcome call (endpoint_on sapi a) in
-    rw h.2 (outcome_short role None sapi o a tsc blocks (few-call call _).frames (brief-call call _) (omega arith) (rw h.2 at coded))
+    rw h.2 (outcome_short role None sapi o a tsc blocks (bound-call call _).frames (notices-call call _) (omega arith) (rw h.2 at coded))
 
 -- the answer to a call has fewer than 2000 octets
 pub call_short : (role : Role) (a : SideState) (event : Event) (b : SideState) (answer : Answer) (tsc : ℕ) (text : List ℕ) →
@@ -290,12 +290,12 @@ call_short role a (Ask other sapi request) b answer tsc text h t lines =
 call_short role a event b answer tsc text h t lines = absurd h
 
 -- an answer that sends nothing satisfies `IsShort` if its own lines have fewer than 2000 octets
-unsent : (step : Step) → step.frames ≡ [] → length (answer_text (Accepts step)) < 2000 → IsShort (Accepts step)
-unsent step none lines = let n = ap (λ fs. length fs) none in omega (arith, n, lines)
+IsShort-unsent : (step : Step) → step.frames ≡ [] → length (answer_text (Accepts step)) < 2000 → IsShort (Accepts step)
+IsShort-unsent step none lines = let n = ap (λ fs. length fs) none in omega (arith, n, lines)
 
-has_room : (c : Content) → InformationFits Sdcch c → length (information c) ≤ 251
-has_room (I ns nr p more info) h = omega (arith, h.1)
-has_room other h = omega (arith, h)
+at_most_251 : (c : Content) → InformationFits Sdcch c → length (information c) ≤ 251
+at_most_251 (I ns nr p more info) h = omega (arith, h.1)
+at_most_251 other h = omega (arith, h)
 
 taken_short : (role : Role) (a : SideState) (r : Received) (f : Frame) (octets : Octets) (tsc : ℕ) (blocks : List Block) →
     r.accepted ≡ Some octets → IsFrameCoding Sdcch f octets → r.tsc ≤ 7 → ReceptionIsInRange (reception_quality r) →
@@ -304,13 +304,13 @@ taken_short : (role : Role) (a : SideState) (r : Received) (f : Frame) (octets :
     → IsShort (Accepts (terminal_step_of role (Some r) (step_for_frame f a)))
 taken_short role a r f octets tsc blocks is frame known fits =
     let arrived = arrival_short role r octets is frame.count known fits in
-    let room = has_room f.content frame.fits.information in
+    let room = at_most_251 f.content frame.fits.information in
     by_sapi f a (λ d. AreCodedBlocks tsc (terminal_step_of role (Some r) d).frames blocks →
     length (answer_text (Accepts (terminal_step_of role (Some r) d))) < 2000 → IsShort (Accepts (terminal_step_of role (Some r) d)))
-    (λ q coded lines. outcome_short role (Some r) Zero (frame_outcome f a.link0) a tsc blocks (few-frame f _).frames
-    (brief-frame f _ room) arrived coded)
-    (λ q coded lines. outcome_short role (Some r) Three (frame_outcome f a.link3) a tsc blocks (few-frame f _).frames
-    (brief-frame f _ room) arrived coded) (λ p q coded lines. unsent (terminal_step_of role (Some r) (no_op_step a)) refl lines)
+    (λ q coded lines. outcome_short role (Some r) Zero (frame_outcome f a.link0) a tsc blocks (bound-frame f _).frames
+    (notices-frame f _ room) arrived coded)
+    (λ q coded lines. outcome_short role (Some r) Three (frame_outcome f a.link3) a tsc blocks (bound-frame f _).frames
+    (notices-frame f _ room) arrived coded) (λ p q coded lines. IsShort-unsent (terminal_step_of role (Some r) (no_op_step a)) refl lines)
 
 -- the answer to a block has fewer than 2000 octets
 pub block_short : (role : Role) (a : SideState) (bursts : List (List ℤ)) (b : SideState) (step : Step) (tsc : ℕ) (text : List ℕ) →
@@ -320,7 +320,7 @@ block_short role a bursts b step tsc text h fits t lines = by_read h.frame h.rep
   where
     by_read : (read : Option Frame) (accepted : Option Octets) → ReadsFrame Sdcch accepted read → h.report.accepted ≡ accepted →
         step ≡ terminal_step_of role (Some h.report) (step_for_read_frame read a) → IsShort (Accepts step)
-    by_read None accepted reads is same = unsent step (ap (λ (s : Step). s.frames) same) lines
+    by_read None accepted reads is same = IsShort-unsent step (ap (λ (s : Step). s.frames) same) lines
     by_read (Some f) None reads is same = absurd reads
     by_read (Some f) (Some octets) reads is same =
         rw same (taken_short role a h.report f octets tsc t.blocks is reads h.received.tsc.in_range (fits h.report (rw same refl))

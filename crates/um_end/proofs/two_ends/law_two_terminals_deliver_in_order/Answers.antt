@@ -1,5 +1,5 @@
-use Rattle.um_end.proofs.EndSteps.{two_claims, two_counts, two_in_order}
+use Rattle.um_end.proofs.EndSteps.{two_terminals-claims, two_terminals-counts, two_terminals-order}
 use Rattle.um_end.proofs.two_ends.law_two_terminals_deliver_in_order.Goals as goal
 
 pub returns : goal.returns
-returns c = record { delivery = two_claims; acked_at_most_delivered = two_counts; order = two_in_order }
+returns c = record { delivery = two_terminals-claims; acked_at_most_delivered = two_terminals-counts; order = two_terminals-order }

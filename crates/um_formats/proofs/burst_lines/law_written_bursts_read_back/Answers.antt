@@ -17,5 +17,4 @@ returns-clause-access c bsic burst line few bits many each text =
 
 pub returns-clause-sync : goal.returns-clause-sync
 returns-clause-sync c burst line many each text =
-    rw (← append_cancel_right (sync_line burst) line (codes "\n") text)
-    (sync_whole burst many each, sync_restored burst many each)
+    rw (← append_cancel_right (sync_line burst) line (codes "\n") text) (sync_whole burst many each, sync_restored burst many each)

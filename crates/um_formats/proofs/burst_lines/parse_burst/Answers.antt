@@ -7,8 +7,6 @@ use Rattle.um_formats.proofs.burst_lines.parse_burst.Goals as goal
 
 pub returns : goal.returns
 returns c =
-    let stays = sym c.is_skipped_line.ensures ∙ c.if-is_skipped_line.false in
-    let short = c.if-line-gt-LINE_LIMIT.false in
-    let read = read_of_words burst_line_forms (is_burst_out_of_order c.args.held) burst_line_of_meaning _ _ short stays
-    c.parse_words.ensures in
+    let read = read_of_words burst_line_forms (is_burst_out_of_order c.args.held) burst_line_of_meaning _ _
+    c.if-line-gt-LINE_LIMIT.false (sym c.is_skipped_line.ensures ∙ c.if-is_skipped_line.false) c.parse_words.ensures in
     record { means = read.0; refused = read.1 }

@@ -7,7 +7,6 @@ use Rattle.um_formats.proofs.code.parse_code.Goals as goal
 
 pub returns : goal.returns
 returns c =
-    let stays = sym c.is_skipped_line.ensures ∙ c.if-is_skipped_line.false in
-    let read = read_of_words code_line_forms no_order_fault code_line_of_meaning _ _ c.if-line-gt-LINE_LIMIT.false stays
-    c.parse_words.ensures in
+    let read = read_of_words code_line_forms no_order_fault code_line_of_meaning _ _ c.if-line-gt-LINE_LIMIT.false
+    (sym c.is_skipped_line.ensures ∙ c.if-is_skipped_line.false) c.parse_words.ensures in
     record { means = read.0; refused = read.1 }

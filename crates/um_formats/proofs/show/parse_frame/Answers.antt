@@ -22,8 +22,7 @@ octets-requires-clause-digits c = not-true _ (sym c.have_valid_digits.ensures �
 pub returns : goal.returns
 returns c =
     let f = c.octets.ensures.0 in
-    ap (λ octets. Ok (S.Frame octets)) c.octets.ensures.2
-    ∙ read_frame _ c.in_ok-found.found c.in_ok-found.ensures f
+    ap (λ octets. Ok (S.Frame octets)) c.octets.ensures.2 ∙ read_frame _ c.in_ok-found.found c.in_ok-found.ensures f
     (not-true _ (sym c.have_valid_digits.ensures ∙ c.if-not-have_valid_digits.false))
     (not-true _ (sym c.have_valid_length.ensures ∙ c.if-not-have_valid_length.false))
     c.octets.ensures.1

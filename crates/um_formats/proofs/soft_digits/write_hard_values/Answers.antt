@@ -7,7 +7,5 @@ use Rattle.um_formats.proofs.soft_digits.write_hard_values.Goals as goal
 
 pub returns-clause-soft : goal.returns-clause-soft
 returns-clause-soft g c =
-    let digits = take c.loop-i.i c.args.digits.now in
     subst AllSoftBits (sym c.loop-i.invariant.0 ∙ take_all c.loop-i.i c.loop-i.values
-    (omega (arith, c.loop-i.invariant.1, c.loop-i-test.false)))
-    (hard_values digits)
+    (omega (arith, c.loop-i.invariant.1, c.loop-i-test.false))) (hard_values (take c.loop-i.i c.args.digits.now))

@@ -1,5 +1,5 @@
 use Rattle.{
-  std.proofs.Common.{◌≡◌, ◌&&◌, ◌+◌, ◌-◌, ◌*◌, length, take, drop, ap, ap₂, ◌∙◌, arith},
+  std.proofs.Common.{◌≡◌, ◌&&◌, ◌+◌, ◌-◌, ◌*◌, length, drop, ap, ap₂, ◌∙◌, arith},
   std.{proofs.lemmas.List.{take_all, length-drop}, specs.List.list_all},
   hex.specs.Hex.is_hex_digit,
   um_lines.proofs.Texts.{all_more, all_overlapping},
@@ -15,9 +15,7 @@ loop-at-preserved c =
       c.decode_sixteen_octets.ensures.length ∙ inv.0,
       c.decode_sixteen_octets.ensures.written,
       c.maxima-codes.ensures.test
-          ∙ ap₂ (λ a b. a && b) inv.2 c.decode_sixteen_octets.ensures.test
-          ∙ all_more is_hex_digit digits (2 * at) 32
-          ∙ ap (λ n. list_all is_hex_digit (take n digits)) next,
+          ∙ rw (inv.2, c.decode_sixteen_octets.ensures.test, ← next) (all_more is_hex_digit digits (2 * at) 32),
       c.maxima-codes.ensures.count,
       omega (arith, inv.5, c.decode_sixteen_octets.ensures.length),
       omega (arith, inv.5, c.decode_sixteen_octets.ensures.length),
@@ -30,9 +28,7 @@ returns-clause-test c =
     let inv = c.loop-at.invariant in
     let last = length c.args.octets.now - 16 in
     let rest = take_all 32 (drop (2 * last) digits) (omega (arith, length-drop (2 * last) digits, c.requires.size)) in
-    let back : 2 * at ≡ 2 * last + (2 * at - 2 * last) = omega (arith, c.loop-at-test.false) in
     c.are_digits.ensures
     ∙ c.maxima.ensures.test
-    ∙ ap₂ (λ a b. a && b) (inv.2 ∙ ap (λ n. list_all is_hex_digit (take n digits)) back)
-    (c.decode_sixteen_octets-2.ensures.test ∙ ap (list_all is_hex_digit) rest)
-    ∙ all_overlapping is_hex_digit digits (2 * last) (2 * at - 2 * last)
+    ∙ ap₂ ◌&&◌ inv.2 (c.decode_sixteen_octets-2.ensures.test ∙ ap (list_all is_hex_digit) rest)
+    ∙ all_overlapping is_hex_digit digits (2 * last) (2 * at) (omega (arith, c.loop-at-test.false))

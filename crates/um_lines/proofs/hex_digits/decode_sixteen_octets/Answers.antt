@@ -18,7 +18,7 @@ loop-i-preserved c =
         | inl same ↦ rw same (get_or-set_same octets at _ 0 (omega arith)
             ∙ c.join_pairs-decoded.ensures c.loop-i.i small
             ∙ decoded_at c.args.digits.now _ _ c.args.at c.loop-i.i (omega arith) small all
-            c.of_digits-front.ensures.values c.of_digits-back.ensures.values)
+            c.from_digits-front.ensures.values c.from_digits-back.ensures.values)
         | inr other ↦ get_or-set_other octets at k _ 0 other ∙ c.loop-i.invariant.1 all k (omega arith)
       ],
     )
@@ -26,5 +26,5 @@ loop-i-preserved c =
 pub returns-clause-test : goal.returns-clause-test
 returns-clause-test c =
     c.maxima.ensures.test
-    ∙ ap₂ (λ a b. a && b) c.of_digits-front.ensures.test c.of_digits-back.ensures.test
+    ∙ ap₂ ◌&&◌ c.from_digits-front.ensures.test c.from_digits-back.ensures.test
     ∙ two_sixteens is_hex_digit c.args.digits.now (2 * c.args.at)

@@ -9,9 +9,7 @@ loop-at-preserved g c =
     let at = c.loop-at.at in
     let has = g.S.OctetSet.has in
     let width : at + g.row.N - at ≡ g.row.N = omega arith in (
-      ap₂ (λ a b. a && b) c.loop-at.invariant.0 (c.all_in_set_one_by_one-all.ensures
-          ∙ ap (λ n. list_all has (take n (drop at word))) width)
-          ∙ all_more has word at g.row.N,
+      rw (c.loop-at.invariant.0, c.all_in_set_one_by_one-all.ensures, width) (all_more has word at g.row.N),
       omega (arith, c.loop-at.invariant.2),
       c.loop-at.invariant.2,
     )
@@ -23,7 +21,5 @@ returns g c =
     let has = g.S.OctetSet.has in
     let rest : take (last + g.row.N - last) (drop last word) ≡ drop last word =
     take_all (last + g.row.N - last) (drop last word) (omega (arith, length-drop last word, c.loop-at.invariant.2)) in
-    let back : c.loop-at.at ≡ last + (c.loop-at.at - last) = omega arith in
-    ap₂ (λ a b. a && b) (c.loop-at.invariant.0 ∙ ap (λ n. list_all has (take n word)) back)
-    (c.all_in_set_one_by_one.ensures ∙ ap (list_all has) rest)
-    ∙ all_overlapping has word last (c.loop-at.at - last)
+    ap₂ ◌&&◌ c.loop-at.invariant.0 (c.all_in_set_one_by_one.ensures ∙ ap (list_all has) rest)
+    ∙ all_overlapping has word last c.loop-at.at (omega arith)

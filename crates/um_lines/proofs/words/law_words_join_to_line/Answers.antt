@@ -5,7 +5,7 @@ pub returns-clause-whole : goal.returns-clause-whole
 returns-clause-whole c _ = join_with_byte-slice_split 32 _
 
 pub returns-clause-no_spaces : goal.returns-clause-no_spaces
-returns-clause-no_spaces c line = words-no_spaces line
+returns-clause-no_spaces c = words-no_spaces
 
 pub returns-clause-only : goal.returns-clause-only
-returns-clause-only c parts some each = words-join parts some each
+returns-clause-only c = words-join

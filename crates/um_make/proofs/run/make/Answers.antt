@@ -4,14 +4,22 @@ use Rattle.{
   um_link.specs.{um_block.Tallies.counter_plus, Naming.step_result, Abstraction.{sent_frame_count, blocks_received_in_step}},
   um_make.{
     specs.Generated.generated_events,
-    proofs.Lemmas.{goes_on, small_enough, is_summary_of_events, is_delivered, raised_by-more, frames_are, arrivals_are},
+    proofs.Lemmas.{
+      progress-step,
+      counters_bound,
+      is_summary_of_events,
+      acked_at_most_received,
+      raised_by-more,
+      same_frame_count,
+      same_block_count,
+    },
   },
 }
 use Rattle.um_make.proofs.run.make.Goals as goal
 
 pub count_step-requires : goal.count_step-requires
 count_step-requires g c =
-    small_enough c.args.tsc c.args.n c.loop-event.script c.loop-event.world c.loop-event.summary c.requires.most
+    counters_bound c.args.tsc c.args.n c.loop-event.script c.loop-event.world c.loop-event.summary c.requires.most
     c.loop-event.invariant.underway
 
 pub loop-event-preserved : goal.loop-event-preserved
@@ -21,11 +29,11 @@ loop-event-preserved g c =
     let new = c.count_step.new.self in
     let counts = c.count_step.ensures.counts in
     let sent : new.sent_blocks ≡ old.sent_blocks + sent_frame_count answer = counts.sent_blocks
-    ∙ ap (λ (k : ℕ). old.sent_blocks + k) (frames_are answer) in
+    ∙ ap (λ (k : ℕ). old.sent_blocks + k) (same_frame_count answer) in
     let heard : new.good_blocks + new.bad_blocks ≡ (old.good_blocks + old.bad_blocks) + blocks_received_in_step answer =
-    omega (arith, counts.good_blocks, counts.bad_blocks, arrivals_are answer) in
+    omega (arith, counts.good_blocks, counts.bad_blocks, same_block_count answer) in
     record {
-      underway = goes_on c.args.tsc (generated_events c.args.n) c.loop-event.script c.next.new.self c.loop-event.world
+      underway = progress-step c.args.tsc (generated_events c.args.n) c.loop-event.script c.next.new.self c.loop-event.world
           c.step_into-done.new.self old new _ answer c.loop-event.invariant.underway c.in-Some.ensures.event
           c.step_into-done.ensures.session counts c.count_step.ensures.rises;
       sent = c.step_into-done.ensures.sent ∙ ap (counter_plus (sent_frame_count answer)) c.loop-event.invariant.sent
@@ -42,4 +50,4 @@ returns-clause-run g c =
 
 pub returns-clause-delivered_messages : goal.returns-clause-delivered_messages
 returns-clause-delivered_messages g c =
-    is_delivered c.args.tsc c.args.n c.loop-event.summary (returns-clause-run g c)
+    acked_at_most_received c.args.tsc c.args.n c.loop-event.summary (returns-clause-run g c)

@@ -3,7 +3,7 @@ use Rattle.{
 }
 use Rattle.um_script.proofs.places.bit_index_of_word.Given as goal
 
--- the value so far, with the remaining digits appended, is the value of the word
+-- the value so far, with the remaining digits appended, is the value of the word; both are capped at 592
 abbrev pub invariant-loop-digit : goal.invariant-loop-digit
 invariant-loop-digit l =
     record {

@@ -5,7 +5,7 @@ use Rattle.{
 }
 use Rattle.um_script.proofs.places.hold_places.Given as goal
 
--- the indices written so far, followed by those of the remaining words, are all indices
+-- the indices written so far, followed by those of the remaining words, are the indices of all words
 abbrev pub invariant-loop-rest : goal.invariant-loop-rest
 invariant-loop-rest l =
     record {

@@ -1,7 +1,7 @@
 use Rattle.{
   std.proofs.Common.{ap, sym, ◌∙◌},
   um_lines.specs.Words.words,
-  um_script.{specs.{Names.link_endpoint_of, ScriptReading.{parsed_layer3_call, parsed_octets_call}}, proofs.ScriptLines.more_call},
+  um_script.{specs.{Names.link_endpoint_of, ScriptReading.{parsed_layer3_call, parsed_octets_call}}, proofs.ScriptLines.layer3_call-verb},
 }
 use Rattle.um_script.proofs.script.parse_layer3_call.Goals as goal
 
@@ -11,5 +11,5 @@ returns-in-Some-clause-read c =
     let octets = c.in-Some.octets.now in
     c.parse_octets_call.ensures.read
     ∙ ap (λ request. parsed_octets_call end request (words octets)) c.request_of_word-in-Some.ensures
-    ∙ more_call end c.in-Some.verb.now octets
+    ∙ layer3_call-verb end c.in-Some.verb.now octets
     ∙ ap (parsed_layer3_call end) (sym c.in-Some.ensures.parts)

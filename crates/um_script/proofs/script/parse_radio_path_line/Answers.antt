@@ -1,7 +1,10 @@
 use Rattle.{
   std.proofs.Common.{ap, sym, ◌∙◌},
   um_lines.specs.Words.words,
-  um_script.{specs.{Names.link_direction_of, ScriptReading.{parsed_radio_event, parsed_bit_inversion}}, proofs.ScriptLines.more_air},
+  um_script.{
+    specs.{Names.link_direction_of, ScriptReading.{parsed_radio_event, parsed_bit_inversion}},
+    proofs.ScriptLines.radio_event-verb,
+  },
 }
 use Rattle.um_script.proofs.script.parse_radio_path_line.Goals as goal
 
@@ -11,5 +14,5 @@ returns-in-Some-clause-read c =
     let places = c.in-Some.places.now in
     c.parse_flip.ensures.read
     ∙ ap (λ done. parsed_bit_inversion way done (words places)) c.action_of_word-in-Some.ensures
-    ∙ more_air way c.in-Some.verb.now places
+    ∙ radio_event-verb way c.in-Some.verb.now places
     ∙ ap (parsed_radio_event way) (sym c.in-Some.ensures.parts)

@@ -10,9 +10,9 @@ use Rattle.bit_blocks.proofs.bits.Bits.xor.Goals as goal
 pub loop-i-preserved : goal.loop-i-preserved
 loop-i-preserved g c =
     let h : c.loop-i.i < length c.self.inside.values = omega arith in
-    let h' : c.loop-i.i < length c.other.inside.values = omega arith in
-    let same : length c.self.inside.values ≡ length c.other.inside.values = omega arith in (
-      All-set (λ bit. bit ≤ 1) _ _ _ (bit_xor-at_most_1 _ _ (c.self.invariant _ 0 h) (c.other.invariant _ 0 h')) c.loop-i.invariant.0,
+    let same : length c.self.inside.values ≡ length c.other.inside.values = omega arith in
+    let bit = bit_xor-at_most_1 _ _ (c.self.invariant c.loop-i.i 0 h) (c.other.invariant c.loop-i.i 0 (omega arith)) in (
+      All-set (λ bit. bit ≤ 1) _ _ _ bit c.loop-i.invariant.0,
       simp length-set c.loop-i.invariant.1,
       add_bits_more _ _ _ _ c.loop-i.invariant.1 same h c.self.invariant c.other.invariant c.loop-i.invariant.2,
     )
@@ -23,4 +23,4 @@ returns-clause-value g c =
     rw (← c.self.view_is, ← c.other.view_is)
     (same_number_lists _ _
     (c.loop-i.invariant.1 ∙ sym (length-xor_bits _ _ same))
-    (λ k lt. let lt' : k < c.loop-i.i = omega arith in c.loop-i.invariant.2 k lt'))
+    (λ k lt. c.loop-i.invariant.2 k (omega arith)))

@@ -1,9 +1,9 @@
-use Rattle.{std.proofs.Common.◌∙◌, interleave.proofs.Lemmas.{written_whole, turned_places}}
+use Rattle.{std.proofs.Common.◌∙◌, interleave.proofs.Lemmas.{put_chunk-whole, interleave_lanes-coded_bits}}
 use Rattle.interleave.proofs.columns.Columns.write_32_positions.Goals as goal
 
 pub returns : goal.returns
 returns c coded i are hi =
-    written_whole _ _ i c.requires.count c.interleave_lanes.ensures.count hi
+    put_chunk-whole _ _ i c.requires.count c.interleave_lanes.ensures.count hi
     ∙ c.interleave_lanes.ensures.each i hi
-    ∙ turned_places coded c.sixteen_row_bits.result _ _ _ i c.sixteen_row_bits.ensures.count hi
+    ∙ interleave_lanes-coded_bits coded c.sixteen_row_bits.result _ _ _ i c.sixteen_row_bits.ensures.count hi
     (λ p. c.sixteen_row_bits.ensures.each _ p are) (λ p. c.sixteen_row_bits-2.ensures.each _ p are)

@@ -1,11 +1,11 @@
--- `restore` succeeds if and only if it restores the window and the values satisfy `AreConsistent`: `in_step` proves one direction,
+-- `restore` succeeds if and only if it restores the window and the values satisfy `AreConsistent`: `is_consistent` proves one direction,
 -- `represents_one` the other.
 use Rattle.{
   std.proofs.{Common.{◌≡◌, refl, sym, ◌∙◌, ap, subst}, lemmas.Bool.false≢true},
   lapdm_window.{specs.{segmenting.Segments.Message, Parts.WindowValues}, proofs.Lemmas.Represents-values},
   lapdm_end.{
     specs.{declared.ends.Endpoint.Endpoint, Parts.{EndpointValues, values_of, values_of_parts, SomeEndpointHasValues, AreConsistent}},
-    proofs.Lemmas.{Represents-same_values, in_step, window_of, represents_one},
+    proofs.Lemmas.{Represents-same_values, is_consistent, window_of, represents_one},
     proofs.ends.Endpoint.restore.Goals.then-not-are_consistent-via-then-not-are_consistent,
     proofs.ends.Endpoint.restore.Goals.then-not-are_consistent-via-else-not-are_consistent+then-not-restore,
   },
@@ -13,28 +13,28 @@ use Rattle.{
 use Rattle.lapdm_window.specs.Parts as W
 use Rattle.lapdm_end.proofs.ends.Endpoint.restore.Goals as goal
 
-stepped : (x : EndpointValues) → SomeEndpointHasValues x → AreConsistent x
-stepped x h = subst AreConsistent h.1.values_match (in_step h.1.endpoint h.0 h.1.represents)
+SomeEndpointHasValues-consistent : (x : EndpointValues) → SomeEndpointHasValues x → AreConsistent x
+SomeEndpointHasValues-consistent x h = subst AreConsistent h.1.values_match (is_consistent h.1.endpoint h.0 h.1.represents)
 
-of_a_window : (x : EndpointValues) → SomeEndpointHasValues x → W.SomeWindowHasValues x.window
-of_a_window x h =
+has_values-window : (x : EndpointValues) → SomeEndpointHasValues x → W.SomeWindowHasValues x.window
+has_values-window x h =
     let f = window_of h.1.endpoint h.0 h.1.represents in
     (f.0, record { window = h.1.endpoint.window; values_match = ap (λ (y : EndpointValues). y.window) h.1.values_match; represents = f.1 })
 
-pub returns-then-not-are_consistent-clause-known : goal.returns-then-not-are_consistent-clause-known
-returns-then-not-are_consistent-clause-known c = (
+pub returns-then-not-are_consistent-clause-valid : goal.returns-then-not-are_consistent-clause-valid
+returns-then-not-are_consistent-clause-valid c = (
   λ s. absurd (false≢true s),
   λ h. elim c.then-not-are_consistent.branch [
     | then-not-are_consistent-via-then-not-are_consistent w ↦
         absurd (false≢true (sym w.if-not-are_consistent.true
-        ∙ c.are_consistent.ensures.1 (stepped (values_of_parts c.args.parts.now) h)))
+        ∙ c.are_consistent.ensures.1 (SomeEndpointHasValues-consistent (values_of_parts c.args.parts.now) h)))
     | then-not-are_consistent-via-else-not-are_consistent+then-not-restore w ↦
-        absurd (false≢true (sym w.if-not-restore.true ∙ w.restore.ensures.known.1 (of_a_window (values_of_parts c.args.parts.now) h)))
+        absurd (false≢true (sym w.if-not-restore.true ∙ w.restore.ensures.valid.1 (has_values-window (values_of_parts c.args.parts.now) h)))
   ],
 )
 
-pub returns-clause-known : goal.returns-clause-known
-returns-clause-known c =
+pub returns-clause-valid : goal.returns-clause-valid
+returns-clause-valid c =
     let p = c.args.parts.now in
     let x = values_of_parts p in
     let step : AreConsistent x = c.are_consistent.ensures.0 c.if-not-are_consistent.false in
@@ -49,7 +49,7 @@ returns-clause-known c =
       sabm_info_fits = step.sabm_info_fits;
     } in
     let same : values_of m ≡ x = ap (λ (w : WindowValues). let y : EndpointValues = record x { window = w } in y) window in
-    let known = c.restore.ensures.known.0 c.if-not-restore.false in
+    let known = c.restore.ensures.valid.0 c.if-not-restore.false in
     let found = represents_one m known.0 (subst AreConsistent (sym same) step)
     (Represents-values (known.1.values_match ∙ sym window) known.1.represents) in
     (λ s. (found.0, record { endpoint = m; values_match = same; represents = found.1 }), λ h. refl)

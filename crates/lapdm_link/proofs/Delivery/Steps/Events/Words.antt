@@ -56,12 +56,12 @@ pub use Rattle.lapdm_window.specs.{Rules.{acked_message_number, segment_notices}
 pub use Rattle.lapdm_window.specs.Calls.{call_outcome, Sends, SendsUi, Closes, T200Expires, SendsFill, is_idle, message_refusals}
 pub use Rattle.lapdm_window.specs.{Calls.{frame_refusals, with_queued_message, frame_to_retransmit, IsCallOfEndpoint}, Tables.frame_outcome}
 pub use Rattle.lapdm_window.{specs.{Tables.closes_and_reports, Steps.IsSameEndpoint}, proofs.segmenting.Lemmas.ended_messages-all}
-pub use Rattle.lapdm_window.proofs.segmenting.Lemmas.{ended_messages-append, ended-take, ended-ended_messages, messages_of}
+pub use Rattle.lapdm_window.proofs.segmenting.Lemmas.{ended_messages-append, count-take, message_count-ended_messages, filter_map-some}
 pub use Rattle.lapdm_window.proofs.{segmenting.Lemmas.{ended_messages-more, ended_messages-last}, Lemmas.{HasBegun, MayOpen, IsReplyTo}}
-pub use Rattle.lapdm_window.proofs.Lemmas.{cause_of, by_sapi, acked_message_count-taken, all_segments-taken, HasWindowOfOne-taken}
+pub use Rattle.lapdm_window.proofs.Lemmas.{cause_of, by_sapi, acked_message_count-push, all_segments-push, HasWindowOfOne-push}
 pub use Rattle.lapdm_window.proofs.Lemmas.{is_valid_message, not_false, passes, is_idle-is, is_open-is, acked_message_count-more}
 pub use Rattle.lapdm_window.proofs.Lemmas.{acked_message_count-last, acked_message_count-most, HasWindowOfOne-acked, Keeps, keeps-frame}
-pub use Rattle.lapdm_window.proofs.Lemmas.{keeps-call, few-frame, few-call}
+pub use Rattle.lapdm_window.proofs.Lemmas.{keeps-call, bound-frame, bound-call}
 pub use Rattle.lapdm_link.specs.Claims.{is_same_sapi, LogLine, Asked, RivalSabm, Notified, is_same_role, call_in_line, notice_in_line}
 pub use Rattle.lapdm_link.specs.Claims.{
   calls_in_log,
@@ -76,7 +76,7 @@ pub use Rattle.lapdm_link.specs.Claims.{delivered_messages, acked_message_number
 pub use Rattle.lapdm_link.specs.Claims.{ui_message_in_notice, HasEstablishmentTrigger, opened_info_in_notice, HasNoticesInOrder}
 pub use Rattle.lapdm_link.specs.Claims.{AckedAtMostDelivered, Claims, message_sent_by_call, acked_number_in_notice, as_close_notice}
 pub use Rattle.lapdm_link.specs.{Claims.{establishment_infos, close_notices, session_log, NeedsOpenLink, IsOpenEndpoint}, Events.other}
-pub use Rattle.lapdm_link.specs.Events.{side_with_role, step_of_both_sides, endpoint_at, with_endpoint_at, Request, Send, Event, Open}
+pub use Rattle.lapdm_link.specs.Events.{side_with_role, step_with_peer_unchanged, endpoint_at, with_endpoint_at, Request, Send, Event, Open}
 pub use Rattle.lapdm_link.specs.Events.{OpenBare, Ask, Deliver, Lose, Rival, rival_sabm, SideStep, no_op_step, event_step, BySide}
 pub use Rattle.lapdm_link.specs.Events.{EventRefusal, AirFull, as_event_refusal, refusal_if, rival_refusal, endpoint_call_of, BothSides}
 pub use Rattle.lapdm_link.specs.{Events.{sending_role, queues_after_removal, Close, T200Expiry, QueueCapacity}, Worlds.World}

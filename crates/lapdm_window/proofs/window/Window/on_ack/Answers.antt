@@ -7,8 +7,16 @@ use Rattle.{
   lapdm_window.{
     specs.{Ends.{next_segment, acked_message_count, capped_at_64_bits}, Rules.acked_message_number, Abstraction.Represents},
     proofs.{
-      Windows.{capped-more, goes_on, ends, acked_message_count-more, acked_message_count-last, next_is, is_left, one_outstanding},
-      Windows.{acked-represents, acks, Holds-more, Holds-last, nr_acknowledges-not_waiting, nr_acknowledges-other, evaluates_nr-nothing},
+      Windows.{capped-more, goes_on, ends, acked_message_count-more, acked_message_count-last, next_segment-is, is_left, one_outstanding},
+      Windows.{
+        acked-represents,
+        nr_acknowledges-vs,
+        Holds-more,
+        Holds-last,
+        nr_acknowledges-not_waiting,
+        nr_acknowledges-other,
+        evaluates_nr-nothing,
+      },
       Windows.{acked_by_nr-segment, acked_by_nr-message},
       window.Window.on_ack.Goals.{then-self-via-then-self, then-self-via-else-self+then-nr-self},
     },
@@ -58,15 +66,15 @@ returns-then-self-clause-counted c e h =
 
 pub returns-then-more-clause-answer : goal.returns-then-more-clause-answer
 returns-then-more-clause-answer c e h =
-    sym (acked_by_nr-segment e c.args.nr (acks h c.if-self.false c.args.nr c.if-nr-self.false)
-    (ap (λ p. p.1) (next_is h (c.args.self.now.waiting c.if-self.false) c.next-more.ensures) ∙ c.if-more.true))
+    sym (acked_by_nr-segment e c.args.nr (nr_acknowledges-vs h c.if-self.false c.args.nr c.if-nr-self.false)
+    (ap (λ p. p.1) (next_segment-is h (c.args.self.now.waiting c.if-self.false) c.next-more.ensures) ∙ c.if-more.true))
 
 pub returns-then-more-clause-counted : goal.returns-then-more-clause-counted
 returns-then-more-clause-counted c e h =
     let w = c.args.self.now in
     let some = w.waiting c.if-self.false in
     let one = one_outstanding h c.if-self.false in
-    let more : (next_segment e).1 ≡ true = ap (λ p. p.1) (next_is h some c.next-more.ensures) ∙ c.if-more.true in
+    let more : (next_segment e).1 ≡ true = ap (λ p. p.1) (next_segment-is h some c.next-more.ensures) ∙ c.if-more.true in
     acked-represents h c.if-self.false c.args.nr c.if-nr-self.false refl
     (h.variables.acked_messages ∙ ap capped_at_64_bits (sym (acked_message_count-more e one (is_left h some) more)))
     (Holds-more e w.held.items w.segment_index one h.unacked_messages (is_left h some) more)
@@ -75,12 +83,12 @@ pub returns-clause-answer : goal.returns-clause-answer
 returns-clause-answer c e h =
     let w = c.args.self.now in
     let some = w.waiting c.if-self.false in
-    let last : (next_segment e).1 ≡ false = ap (λ p. p.1) (next_is h some c.next-more.ensures) ∙ c.if-more.false in
+    let last : (next_segment e).1 ≡ false = ap (λ p. p.1) (next_segment-is h some c.next-more.ensures) ∙ c.if-more.false in
     let number : c.saturating_add-self.result ≡ acked_message_number e = c.saturating_add-self.ensures
     ∙ capped-more (acked_message_count e) w.acked_messages h.variables.acked_messages ∙ ap capped_at_64_bits
     (sym (acked_message_count-last e (one_outstanding h c.if-self.false) (is_left h some) last)) in
     ap (λ n. V.Message n) number
-    ∙ sym (acked_by_nr-message e c.args.nr (acks h c.if-self.false c.args.nr c.if-nr-self.false) last)
+    ∙ sym (acked_by_nr-message e c.args.nr (nr_acknowledges-vs h c.if-self.false c.args.nr c.if-nr-self.false) last)
 
 pub returns-clause-counted : goal.returns-clause-counted
 returns-clause-counted c e h =
@@ -88,7 +96,7 @@ returns-clause-counted c e h =
     let m = slice_index_or w.held.items 0 [] in
     let some = w.waiting c.if-self.false in
     let one = one_outstanding h c.if-self.false in
-    let last : (next_segment e).1 ≡ false = ap (λ p. p.1) (next_is h some c.next-more.ensures) ∙ c.if-more.false in
+    let last : (next_segment e).1 ≡ false = ap (λ p. p.1) (next_segment-is h some c.next-more.ensures) ∙ c.if-more.false in
     let at_the_end : w.segment_index + 1 ≡ length (segments (n201 e.channel) m) =
     ends (n201 w.channel) w.segment_index m c.next-more.result.octets.now
     (c.next-more.ensures ∙ ap (λ b. Some (c.next-more.result.octets.now, b)) c.if-more.false) ∙ ap

@@ -1,7 +1,7 @@
 use Rattle.{
   std.proofs.{Common.{arith, ◌≤◌, length}, lemmas.Bool.Decides.nat_tests},
-  segmenting.{specs.{lapdm_frame.Layout.n201, Segments.IsValidMessage}, proofs.Lemmas.room_of},
-  lapdm_window.proofs.Windows.{acked_message_count-taken, HasWindowOfOne-taken, Holds-taken, within_held},
+  segmenting.{specs.{lapdm_frame.Layout.n201, Segments.IsValidMessage}, proofs.Lemmas.IsN201-n201},
+  lapdm_window.proofs.Windows.{acked_message_count-push, HasWindowOfOne-push, Holds-push, within_held},
 }
 use Rattle.lapdm_window.proofs.window.Window.put.Goals as goal
 
@@ -13,9 +13,9 @@ returns-clause-taken c e h =
     let some_octets : 1 ≤ length m = grind (arith, nat_tests) in
     let good : IsValidMessage m = record { nonempty = some_octets; at_most = c.if-message-gt-LONGEST_MESSAGE.false } in
     record {
-      window_of_one = HasWindowOfOne-taken e m h.window_of_one good;
-      variables = grind (arith, acked_message_count-taken e m h.window_of_one);
-      unacked_messages = rw c.push.ensures.items (Holds-taken e m w.held.items w.segment_index h.window_of_one h.unacked_messages
-          (within_held n w.segment_index w.held.items (room_of e.channel).positive (rw h.variables.channel at w.in_range)));
+      window_of_one = HasWindowOfOne-push e m h.window_of_one good;
+      variables = grind (arith, acked_message_count-push e m h.window_of_one);
+      unacked_messages = rw c.push.ensures.items (Holds-push e m w.held.items w.segment_index h.window_of_one h.unacked_messages
+          (within_held n w.segment_index w.held.items (IsN201-n201 e.channel).positive (rw h.variables.channel at w.in_range)));
       retries = h.retries;
     }

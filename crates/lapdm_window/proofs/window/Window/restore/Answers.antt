@@ -1,18 +1,18 @@
--- `restore` succeeds if and only if the values satisfy `AreConsistent`: `in_step` proves one direction, `represents_one` the other.
+-- `restore` succeeds if and only if the values satisfy `AreConsistent`: `is_consistent` proves one direction, `represents_one` the other.
 use Rattle.{
   std.proofs.Common.{◌≡◌, ◌≢◌, refl, sym, ◌∙◌, ap, subst, arith, ℕ, ◌+◌, ◌%◌, ◌≤◌, ◌⊎◌, inl, inr},
   std.proofs.{Common.{length, map}, lemmas.Bool.false≢true},
   segmenting.specs.{Parts.JoinerValues, Buffers.octets_in},
   lapdm_window.{
     specs.{declared.window.Window.Window, Parts.{WindowValues, values_of, values_of_parts, SomeWindowHasValues, AreConsistent}},
-    proofs.{Windows.{in_step, represents_one}, window.Window.restore.Goals.then-not-are_consistent-via-then-not-are_consistent},
+    proofs.{Windows.{is_consistent, represents_one}, window.Window.restore.Goals.then-not-are_consistent-via-then-not-are_consistent},
     proofs.window.Window.restore.Goals.then-not-are_consistent-via-else-not-are_consistent+then-not-restore,
   },
 }
 use Rattle.lapdm_window.proofs.window.Window.restore.Goals as goal
 
-stepped : (x : WindowValues) → SomeWindowHasValues x → AreConsistent x
-stepped x h = grind (arith, in_step h.1.window h.0 h.1.represents)
+SomeWindowHasValues-consistent : (x : WindowValues) → SomeWindowHasValues x → AreConsistent x
+SomeWindowHasValues-consistent x h = grind (arith, is_consistent h.1.window h.0 h.1.represents)
 
 fits : (vs va : ℕ) (A : Type 0) → va ≤ 7 → (vs ≡ va) ⊎ ((vs ≡ (va + 1) % 8) × A) → vs ≤ 7
 fits vs va A few (inl same) = omega (arith, few, same)
@@ -21,21 +21,21 @@ fits vs va A few (inr more) = let number : vs ≡ (va + 1) % 8 = more.0 in grind
 some_held : (vs va : ℕ) (A : Type 0) → (vs ≡ va) ⊎ ((vs ≡ (va + 1) % 8) × A) → vs ≢ va → A
 some_held vs va A h g = grind arith
 
-pub returns-then-not-are_consistent-clause-known : goal.returns-then-not-are_consistent-clause-known
-returns-then-not-are_consistent-clause-known c = (
+pub returns-then-not-are_consistent-clause-valid : goal.returns-then-not-are_consistent-clause-valid
+returns-then-not-are_consistent-clause-valid c = (
   λ s. absurd (false≢true s),
   λ h. elim c.then-not-are_consistent.branch [
     | then-not-are_consistent-via-then-not-are_consistent w ↦
-        absurd (false≢true (sym w.if-not-are_consistent.true ∙ c.are_consistent.ensures.consistent.1 (stepped
+        absurd (false≢true (sym w.if-not-are_consistent.true ∙ c.are_consistent.ensures.consistent.1 (SomeWindowHasValues-consistent
         (values_of_parts c.args.parts.now) h)))
     | then-not-are_consistent-via-else-not-are_consistent+then-not-restore w ↦
         absurd (false≢true (sym w.if-not-restore.true
-        ∙ w.restore.ensures.known.1 (h.1.window.joiner, ap (λ (x : WindowValues). x.joiner) h.1.values_match)))
+        ∙ w.restore.ensures.valid.1 (h.1.window.joiner, ap (λ (x : WindowValues). x.joiner) h.1.values_match)))
   ],
 )
 
-pub returns-clause-known : goal.returns-clause-known
-returns-clause-known c =
+pub returns-clause-valid : goal.returns-clause-valid
+returns-clause-valid c =
     let p = c.args.parts.now in
     let x = values_of_parts p in
     let h : AreConsistent x = c.are_consistent.ensures.consistent.0 c.if-not-are_consistent.false in

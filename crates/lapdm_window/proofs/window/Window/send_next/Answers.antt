@@ -18,7 +18,7 @@ returns-clause-sent c e h =
     record {
       window_of_one = HasWindowOfOne-next e h.window_of_one (sym h.variables.vs ∙ c.if-self.false ∙ h.variables.va)
           (is_left h some_held);
-      variables = grind (arith, next_number e.sent w.vs h.variables.vs);
+      variables = grind (arith, next_number e.sent_segments w.vs h.variables.vs);
       unacked_messages = grind arith;
       retries = λ _. refl;
     }

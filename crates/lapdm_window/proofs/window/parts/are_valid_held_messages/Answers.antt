@@ -7,12 +7,12 @@ use Rattle.{
 }
 use Rattle.lapdm_window.proofs.window.parts.are_valid_held_messages.Goals as goal
 
-each : (buffers : List MessageBuffer) → All IsValidMessage (map octets_in buffers) →
+All-octets_in : (buffers : List MessageBuffer) → All IsValidMessage (map octets_in buffers) →
     All (λ room. IsValidMessage (octets_in room)) buffers
-each [] h = All-nil (λ room. IsValidMessage (octets_in room))
-each (room ∷ buffers) h =
+All-octets_in [] h = All-nil (λ room. IsValidMessage (octets_in room))
+All-octets_in (room ∷ buffers) h =
     All-cons (λ room. IsValidMessage (octets_in room)) room buffers (All-head IsValidMessage (octets_in room) (map octets_in buffers) h)
-    (each buffers (All-tail IsValidMessage (octets_in room) (map octets_in buffers) h))
+    (All-octets_in buffers (All-tail IsValidMessage (octets_in room) (map octets_in buffers) h))
 
 pub returns-then-messages-gt8 : goal.returns-then-messages-gt8
 returns-then-messages-gt8 c =
@@ -26,5 +26,5 @@ returns c =
         at_most_8 = omega (arith, length-map buffers octets_in, c.if-messages-gt8.false);
         messages = All-map IsValidMessage octets_in buffers (c.are_valid_messages.ensures.0 s);
       },
-      λ h. c.are_valid_messages.ensures.1 (each buffers h.messages),
+      λ h. c.are_valid_messages.ensures.1 (All-octets_in buffers h.messages),
     )

@@ -3,7 +3,7 @@ use Rattle.{
     Common.{arith, rules, ◌≡◌, ap₂, ◌∙◌, pos, ◌-ℤ◌, to_z, of_z, w16, w32, FitsSigned},
     lemmas.Int.{ints, to_z-of_z},
   },
-  list_decode.proofs.{Spans.{spot_kept, spot_taken}, branch.LeastLossSoFar.or_better_position.Goals.After-from},
+  list_decode.proofs.{Spans.{least_so_far-old, least_so_far-new}, branch.LeastLossSoFar.or_better_position.Goals.After-from},
 }
 use Rattle.list_decode.proofs.branch.LeastLossSoFar.or_better_position.Goals as goal
 
@@ -22,7 +22,7 @@ returns-then-from-self c u losses from old state lost bit bits =
     let less = c.if-from-self.true in
     let is = c.new.ensures in
     let small : FitsSigned w16 c.args.loss = search rules in
-    spot_taken u _ _ _ _ c.new.result bits old is.place (is.state ∙ state)
+    least_so_far-new u _ _ _ _ c.new.result bits old is.place (is.state ∙ state)
     (is.loss_limit ∙ ap₂ (λ loss bit. loss -ℤ pos bit) (to_z-of_z w16 c.args.loss small ∙ lost) bit)
     (omega (arith, ints))
 
@@ -32,4 +32,4 @@ returns-else-from-self c u losses from old state lost bit bits =
     let a = same_loss at in
     let b = same_limit at in
     let most = c.if-from-self.false in
-    spot_kept u _ _ _ _ bits old (omega (arith, ints))
+    least_so_far-old u _ _ _ _ bits old (omega (arith, ints))

@@ -2,7 +2,7 @@ use Rattle.{
   std.proofs.Common.{arith, rules, ◌<◌, ◌-ℤ◌, take, refl, ap, ap₂, sym, ◌∙◌, subst, w32, FitsSigned, to_z, of_z},
   std.proofs.lemmas.Int.to_z-of_z,
   list_decode.specs.{Branches.is_in_range, LeastLosses.IsLeastLossDeviationOrNone, Passes.losses_of_pass},
-  list_decode.proofs.{DeviatingWords.reached_small, Spans.{best_deviation, value_fits}},
+  list_decode.proofs.{DeviatingWords.state_after-below, Spans.{best_deviation, deviation-fits}},
 }
 use Rattle.list_decode.proofs.branch.WordBranch.new.Goals as goal
 
@@ -16,7 +16,7 @@ overflow_sub-best c =
     let a : FitsSigned w32 span.likelihood = search rules in
     let b : FitsSigned w32 departure.loss = search rules in
     subst (FitsSigned w32) (sym (ap₂ (λ x y. x -ℤ y) (to_z-of_z w32 span.likelihood a) (to_z-of_z w32 departure.loss b)))
-    (value_fits c.args.pass.now c.args.u.now span c.requires.pass c.requires.list c.requires.span departure found)
+    (deviation-fits c.args.pass.now c.args.u.now span c.requires.pass c.requires.list c.requires.span departure found)
 
 pub returns-in-Some-clause-branch : goal.returns-in-Some-clause-branch
 returns-in-Some-clause-branch c =
@@ -28,7 +28,7 @@ returns-in-Some-clause-branch c =
     let a : FitsSigned w32 span.likelihood = search rules in
     let b : FitsSigned w32 departure.loss = search rules in
     let both = ap₂ (λ x y. x -ℤ y) (to_z-of_z w32 span.likelihood a) (to_z-of_z w32 departure.loss b) in
-    let fits = value_fits c.args.pass.now c.args.u.now span c.requires.pass c.requires.list c.requires.span departure found in
+    let fits = deviation-fits c.args.pass.now c.args.u.now span c.requires.pass c.requires.list c.requires.span departure found in
     record {
       span = c.requires.span;
       best = best_deviation c.args.pass.now c.args.u.now span c.requires.pass c.requires.list c.requires.span departure found _ refl
@@ -42,4 +42,4 @@ new-requires-clause-state c =
     let found = subst (IsLeastLossDeviationOrNone c.args.u.now (losses_of_pass c.args.pass.now) (is_in_range span.from span.to) span.to)
     c.in-Some.is
     c.find_least_loss.ensures in
-    subst (λ s. s < 16) (sym found.0.state) (reached_small 0 (take c.in-Some.departure.place c.args.u.now) (omega arith))
+    subst (λ s. s < 16) (sym found.0.state) (state_after-below 0 (take c.in-Some.departure.place c.args.u.now) (omega arith))

@@ -2,7 +2,7 @@ use Rattle.{
   std.proofs.Common.{arith, rules, ◌≡◌, ◌/◌, ◌%◌, ◌^◌, ◌+◌, ◌*◌, ◌<◌, ℤ, [], pos, length, get_or, ap},
   std.proofs.{Common.{◌∙◌, to_z, of_z, w16, w32}, lemmas.{Int.{ints, to_z-of_z}, Nat.and_mask}},
   list_decode.proofs.{
-    DeviatingWords.{best_kept, best_taken, read_more},
+    DeviatingWords.{least_loss-old, least_loss-new, partial_traceback-more},
     departure.PartialTraceback.trace_back_bit.Goals.After-is_improved_by,
   },
 }
@@ -29,9 +29,9 @@ returns-then-is_improved_by c =
     let is = compared at in
     let new = c.new.ensures in
     record {
-      reading = read_more rows c.args.losses.now c.args.u.now k c.args.self c.requires.reading (inside at) _ _
+      reading = partial_traceback-more rows c.args.losses.now c.args.u.now k c.args.self c.requires.reading (inside at) _ _
           (let within = c.requires.within in omega arith) bit (ap (λ bit. (2 * c.args.self.state + bit) % 16) c.from.ensures)
-          (best_taken rows c.args.losses.now c.args.u.now k c.args.self c.requires.reading (inside at) c.new.result
+          (least_loss-new rows c.args.losses.now c.args.u.now k c.args.self c.requires.reading (inside at) c.new.result
           (let h = c.is_improved_by.ensures.after c.if-is_improved_by.true in omega (arith, ints))
           new.place new.state (new.loss ∙ is_lost at) (let l = new.loss_limit in omega (arith, ints)));
     }
@@ -44,8 +44,8 @@ returns-else-is_improved_by c =
     let bit = and_mask (get_or rows k 0 / 2 ^ c.args.self.state) 1 in
     let is = compared at in
     record {
-      reading = read_more rows c.args.losses.now c.args.u.now k c.args.self c.requires.reading (inside at) _ _
+      reading = partial_traceback-more rows c.args.losses.now c.args.u.now k c.args.self c.requires.reading (inside at) _ _
           (let within = c.requires.within in omega arith) bit (ap (λ bit. (2 * c.args.self.state + bit) % 16) c.from.ensures)
-          (best_kept rows c.args.losses.now c.args.u.now k c.args.self c.requires.reading (inside at)
+          (least_loss-old rows c.args.losses.now c.args.u.now k c.args.self c.requires.reading (inside at)
           (let h = c.is_improved_by.ensures.not_after c.if-is_improved_by.false in omega (arith, ints)));
     }

@@ -1,6 +1,6 @@
 use Rattle.{
   std.proofs.{Common.{arith, ◌≡◌, ◌+◌, ◌-◌, drop, get_or, set, subst, sym, ◌∙◌}, lemmas.List.length-set},
-  list_decode.{specs.WordStorage.{IsChainOfDeviations, placeholder_deviation}, proofs.Choices.leads_more},
+  list_decode.{specs.WordStorage.{IsChainOfDeviations, placeholder_deviation}, proofs.Choices.chain-more},
 }
 use Rattle.list_decode.proofs.lists.StoredWords.chain_to_word.Goals as goal
 
@@ -25,6 +25,6 @@ loop-at-preserved c =
       left = omega arith;
       chain = subst (λ n. IsChainOfDeviations lists (drop (start - 1) (set c.loop-at.chain.word_indices (start - 1) at))
           (get_or lists.deviations (n - 1) placeholder_deviation).word_index c.args.word_index) (sym is)
-          (leads_more lists c.loop-at.chain.word_indices (start - 1) at c.args.word_index (omega arith) (omega arith) old.within
+          (chain-more lists c.loop-at.chain.word_indices (start - 1) at c.args.word_index (omega arith) (omega arith) old.within
           (subst (λ n. IsChainOfDeviations lists (drop n c.loop-at.chain.word_indices) at c.args.word_index) back old.chain));
     }

@@ -7,6 +7,6 @@ invariant_of-result c = record {
   at_most = search rules;
   ranked = search rules;
   first_metric = λ some. absurd (omega arith);
-  metrics = (λ k lt. rw (get_or-replicate 127 k placeholder_branch placeholder_branch lt) tt);
+  best_metrics = (λ k lt. rw (get_or-replicate 127 k placeholder_branch placeholder_branch lt) tt);
   later = λ more. absurd (omega arith);
 }

@@ -4,16 +4,22 @@ use Rattle.{
   weight_bound.specs.conv_code.{Code.encoding, Likelihood.likelihood},
   list_decode.{
     specs.{Ranking.IsRankingDone, declared.ranked.ListDecoder.TheInside.Inside, DecoderInvariant.IsSoundRanking},
-    proofs.{Choices.{metric_stored, metrics_taken}, Chosen.{all_given, count_is, given_is, metrics_more, next_given, same_ranking}},
-    proofs.{Chosen.{same_soft, soft_is, sound_next, sound_prepared}, ranked.ListDecoder.write_next_best_word.Goals.After-prepare_branches},
+    proofs.{
+      Choices.{likelihood-stored, HasMetrics-take},
+      Chosen.{every_word_returned, view-count, view-returned, HasMetrics-partition, stored_words-next, ranking-same},
+    },
+    proofs.{
+      Chosen.{soft_bits-same, view-soft, sound_next, sound_prepared},
+      ranked.ListDecoder.write_next_best_word.Goals.After-prepare_branches,
+    },
   },
 }
 use Rattle.list_decode.proofs.ranked.ListDecoder.write_next_best_word.Goals as goal
 
-some_count : (c : After-prepare_branches) → 0 < c.self.inside.lists.count
-some_count c =
+at_least_one_word : (c : After-prepare_branches) → 0 < c.self.inside.lists.count
+at_least_one_word c =
     let many : length c.self.inside.lists.deviations ≡ 63 = search rules in
-    let count = count_is c.self.inside c.args.self.now c.self.view_is many c.self.invariant.at_most in
+    let count = view-count c.self.inside c.args.self.now c.self.view_is many c.self.invariant.at_most in
     let some = c.requires.some in
     omega arith
 
@@ -22,7 +28,7 @@ prepared c = record {
   pass = c.prepare_branches.new.pass;
   lists = c.self.inside.lists;
   branches = c.prepare_branches.new.branches;
-  metrics = c.prepare_branches.new.metrics;
+  best_metrics = c.prepare_branches.new.metrics;
   first_metric = c.self.inside.first_metric;
 }
 
@@ -35,14 +41,14 @@ is_prepared c =
 pub prepare_branches-requires-clause-metric : goal.prepare_branches-requires-clause-metric
 prepare_branches-requires-clause-metric c =
     let many : length c.self.inside.lists.deviations ≡ 63 = search rules in
-    let count = count_is c.self.inside c.args.self.now c.self.view_is many c.self.invariant.at_most in
+    let count = view-count c.self.inside c.args.self.now c.self.view_is many c.self.invariant.at_most in
     let some = c.requires.some in
     let fits : FitsSigned w32 c.self.inside.first_metric = search rules in
     to_z-of_z w32 c.self.inside.first_metric fits ∙ c.self.invariant.first_metric (omega arith)
 
 pub find_next_word-requires-clause-metrics : goal.find_next_word-requires-clause-metrics
 find_next_word-requires-clause-metrics c =
-    metrics_taken c.prepare_branches.new.branches c.prepare_branches.new.metrics _ c.prepare_branches.ensures.branches.values
+    HasMetrics-take c.prepare_branches.new.branches c.prepare_branches.new.metrics _ c.prepare_branches.ensures.branches.values
 
 pub find_next_word-requires-clause-pass : goal.find_next_word-requires-clause-pass
 find_next_word-requires-clause-pass c = c.prepare_branches.ensures.branches.complete
@@ -54,7 +60,7 @@ invariant_of-self-2 c =
     let has = c.prepare_branches.ensures.branches in
     let many : length c.self.inside.lists.deviations ≡ 63 = search rules in
     let room : length c.prepare_branches.new.branches ≡ 127 = search rules in
-    let count = count_is c.self.inside c.args.self.now c.self.view_is many c.self.invariant.at_most in
+    let count = view-count c.self.inside c.args.self.now c.self.view_is many c.self.invariant.at_most in
     let some = c.requires.some in
     let few = c.requires.space in
     let same : length c.prepare_branches.new.metrics ≡ 127 = search rules in
@@ -64,13 +70,13 @@ invariant_of-self-2 c =
     let parts = c.in_ok-next.next.parts in
     sound_next r (is_prepared at) has (omega arith) (omega arith) many room c.find_next_word.new.u
     c.in_ok-next.next c.in_ok-next.ensures.next _
-    (metrics_more r.branches r.metrics c.in_ok-next.next.branch n parts.branch_before parts.branch_of_new_word
+    (HasMetrics-partition r.branches r.best_metrics c.in_ok-next.next.branch n parts.branch_before parts.branch_of_new_word
     parts.branch_after
     (to_z w32 (of_z w32 c.metric.result)) (to_z w32 (of_z w32 c.metric-2.result)) (to_z w32 (of_z w32 c.metric-3.result))
     within (omega arith) (omega arith) has.values
-    (metric_stored parts.branch_before c.metric.result (search rules) c.metric.ensures)
-    (metric_stored parts.branch_of_new_word c.metric-2.result (search rules) c.metric-2.ensures)
-    (metric_stored parts.branch_after c.metric-3.result (search rules) c.metric-3.ensures))
+    (likelihood-stored parts.branch_before c.metric.result (search rules) c.metric.ensures)
+    (likelihood-stored parts.branch_of_new_word c.metric-2.result (search rules) c.metric-2.ensures)
+    (likelihood-stored parts.branch_after c.metric-3.result (search rules) c.metric-3.ensures))
 
 pub invariant_of-self : goal.invariant_of-self
 invariant_of-self c = is_prepared (goal.at.invariant_of-self c).After-prepare_branches
@@ -80,12 +86,13 @@ returns-in_err-next-clause-returned c =
     let is = c.prepare_branches.ensures in
     let lists = c.self.inside.lists in
     let none = c.in_err-next.ensures.next in
-    let same = same_ranking c.self.inside.pass c.prepare_branches.new.pass lists is.soft is.bits is.words ∙ c.self.view_is in
+    let same = ranking-same c.self.inside.pass c.prepare_branches.new.pass lists is.soft is.bits is.words ∙ c.self.view_is in
     rw c.from_residual.ensures (
       same,
       none.1,
       subst IsRankingDone same
-          (inr (all_given c.prepare_branches.new.pass lists c.prepare_branches.new.branches c.prepare_branches.new.metrics is.branches
+          (inr (every_word_returned c.prepare_branches.new.pass lists c.prepare_branches.new.branches c.prepare_branches.new.metrics
+          is.branches
           none.0)),
     )
 
@@ -98,50 +105,50 @@ returns-clause-returned c =
     let is = c.prepare_branches.ensures in
     let many : length c.self.inside.lists.deviations ≡ 63 = search rules in
     let room : length c.prepare_branches.new.branches ≡ 127 = search rules in
-    let count = count_is c.self.inside c.args.self.now c.self.view_is many c.self.invariant.at_most in
+    let count = view-count c.self.inside c.args.self.now c.self.view_is many c.self.invariant.at_most in
     let some = c.requires.some in
     let few = c.requires.space in
     let u = c.find_next_word.new.u in
     let next = c.in_ok-next.ensures.next in
     let fits : FitsSigned w32 c.in_ok-next.next.deviation.likelihood = search rules in (
-      next_given r.pass r.lists r.branches r.metrics is.branches (omega arith) (omega arith) many room u c.in_ok-next.next next
-          ∙ ap (λ us. us ++ u ∷ []) (is.words ∙ given_is c.self.inside c.args.self.now c.self.view_is),
+      stored_words-next r.pass r.lists r.branches r.best_metrics is.branches (omega arith) (omega arith) many room u c.in_ok-next.next next
+          ∙ ap (λ us. us ++ u ∷ []) (is.words ∙ view-returned c.self.inside c.args.self.now c.self.view_is),
       to_z-of_z w32 c.in_ok-next.next.deviation.likelihood fits ∙ next.value
-          ∙ ap (λ s. likelihood s (encoding u)) (same_soft c.self.inside.pass r.pass is.soft is.bits
-          ∙ soft_is c.self.inside c.args.self.now c.self.view_is),
+          ∙ ap (λ s. likelihood s (encoding u)) (soft_bits-same c.self.inside.pass r.pass is.soft is.bits
+          ∙ view-soft c.self.inside c.args.self.now c.self.view_is),
     )
 
 pub bounds-self-inside-count : goal.bounds-self-inside-count
 bounds-self-inside-count c =
     let many : length c.self.inside.lists.deviations ≡ 63 = search rules in
-    let count = count_is c.self.inside c.args.self.now c.self.view_is many c.self.invariant.at_most in
+    let count = view-count c.self.inside c.args.self.now c.self.view_is many c.self.invariant.at_most in
     let few = c.requires.space in
     omega arith
 
 pub bounds-self-inside-count-2 : goal.bounds-self-inside-count-2
 bounds-self-inside-count-2 c =
     let many : length c.self.inside.lists.deviations ≡ 63 = search rules in
-    let count = count_is c.self.inside c.args.self.now c.self.view_is many c.self.invariant.at_most in
+    let count = view-count c.self.inside c.args.self.now c.self.view_is many c.self.invariant.at_most in
     let few = c.requires.space in
     omega arith
 
 pub bounds-self-inside-count-3 : goal.bounds-self-inside-count-3
 bounds-self-inside-count-3 c =
     let many : length c.self.inside.lists.deviations ≡ 63 = search rules in
-    let count = count_is c.self.inside c.args.self.now c.self.view_is many c.self.invariant.at_most in
+    let count = view-count c.self.inside c.args.self.now c.self.view_is many c.self.invariant.at_most in
     let few = c.requires.space in
     omega arith
 
 pub bounds-self-inside-count-4 : goal.bounds-self-inside-count-4
 bounds-self-inside-count-4 c =
     let many : length c.self.inside.lists.deviations ≡ 63 = search rules in
-    let count = count_is c.self.inside c.args.self.now c.self.view_is many c.self.invariant.at_most in
+    let count = view-count c.self.inside c.args.self.now c.self.view_is many c.self.invariant.at_most in
     let few = c.requires.space in
     omega arith
 
 pub bounds-self-inside-returned : goal.bounds-self-inside-returned
 bounds-self-inside-returned c =
     let many : length c.self.inside.lists.deviations ≡ 63 = search rules in
-    let count = count_is c.self.inside c.args.self.now c.self.view_is many c.self.invariant.at_most in
+    let count = view-count c.self.inside c.args.self.now c.self.view_is many c.self.invariant.at_most in
     let few = c.requires.space in
     omega arith

@@ -1,14 +1,14 @@
 use Rattle.{
   std.proofs.{Common.{◌≡◌, refl, ap, arith, ◌++◌, [], length}, lemmas.List.take_at},
-  segmenting.{specs.declared.joiner.{ReassemblyState.TheVariants.Discarding, Joiner.Joiner}, proofs.Lemmas.buffer_past},
+  segmenting.{specs.declared.joiner.{ReassemblyState.TheVariants.Discarding, Joiner.Joiner}, proofs.Lemmas.HasHistory-buffer},
 }
 use Rattle.segmenting.proofs.joiner.Joiner.restore.Goals as goal
 
 none_over : (c : goal.After-self-1) → c.args.part ≡ Discarding → length c.args.octets.now ≡ 0
 none_over c over = grind arith
 
-pub returns-clause-known : goal.returns-clause-known
-returns-clause-known c =
+pub returns-clause-valid : goal.returns-clause-valid
+returns-clause-valid c =
     let octets = c.args.octets.now in
     let part = c.args.part in
     let j : Joiner = record {
@@ -24,5 +24,5 @@ returns-clause-known c =
 
 pub returns-clause-taken : goal.returns-clause-taken
 returns-clause-taken c =
-    let past = buffer_past _ _ _ 0 c.if-octets-gt-LONGEST_MESSAGE.false (none_over c) (omega arith) in
+    let past = HasHistory-buffer _ _ _ 0 c.if-octets-gt-LONGEST_MESSAGE.false (none_over c) (omega arith) in
     λ s. (past.taken, past.reassembly)

@@ -1,4 +1,4 @@
-use Rattle.{std.proofs.Common.arith, segmenting.proofs.Lemmas.{begins_at, segment_at}}
+use Rattle.{std.proofs.Common.arith, segmenting.proofs.Lemmas.{begins_at, slice_get-n201}}
 use Rattle.segmenting.proofs.pieces.Pieces.piece.Goals as goal
 
 pub overflow_mul-start : goal.overflow_mul-start
@@ -22,4 +22,4 @@ slice_bounds-result-end c =
 pub returns-clause-value : goal.returns-clause-value
 returns-clause-value c =
     let p = c.args.self.now in
-    segment_at _ _ _ _ _ c.n201-most.ensures c.min.ensures (omega arith) c.requires
+    slice_get-n201 _ _ _ _ _ c.n201-most.ensures c.min.ensures (omega arith) c.requires

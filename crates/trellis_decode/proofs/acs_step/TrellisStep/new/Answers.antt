@@ -3,25 +3,25 @@
 use Rattle.{
   std.proofs.Common.{ap, ap₂, ◌∙◌, ◌+◌},
   trellis_decode.{specs.{AcsLanes.{bit_reversed, lane_metric, metrics_of_lanes}, Lanes.lane}, proofs.AcsVectors.AreDecisionLanes-each},
-  trellis_decode.proofs.AcsSteps.{each_state, low_choice, high_choice, chosen_lane, candidates_at, low_metric, high_metric},
+  trellis_decode.proofs.AcsSteps.{each_state, low_choice, high_choice, IsDecision-lane, candidate_at-lanes, low_metric, high_metric},
 }
 use Rattle.trellis_decode.proofs.acs_step.TrellisStep.new.Goals as goal
 
 pub returns-clause-each : goal.returns-clause-each
 returns-clause-each c pair has =
-    let at = candidates_at c.args.after.even_states.lanes c.args.after.odd_states.lanes _ pair has in
+    let at = candidate_at-lanes c.args.after.even_states.lanes c.args.after.odd_states.lanes _ pair has in
     let low = c.lane_maxima-low.result.lanes in
     let high = c.lane_maxima-high.result.lanes in
     let first = c.greater_lane_decisions.result.lanes in
     let last = c.greater_lane_decisions-2.result.lanes in
     let is = ap₂ metrics_of_lanes c.interleave_first_lanes.ensures.each c.interleave_last_lanes.ensures.each in each_state _
-    (λ k lt. rw (ap (λ l. lane l (bit_reversed k)) is ∙ low_metric low high k lt, low_choice first last k lt) (chosen_lane _ pair _
+    (λ k lt. rw (ap (λ l. lane l (bit_reversed k)) is ∙ low_metric low high k lt, low_choice first last k lt) (IsDecision-lane _ pair _
     (lane c.add_branch_metrics-low_states_bit_0.result.lanes k)
     (lane c.subtract_branch_metrics-low_states_bit_1.result.lanes k) _ _
     (ap lane_metric (c.add_branch_metrics-low_states_bit_0.ensures.each k lt) ∙ (at k lt).0)
     (ap lane_metric (c.subtract_branch_metrics-low_states_bit_1.ensures.each k lt) ∙ (at k lt).1)
     (c.lane_maxima-low.ensures.each k lt) (c.greater_lane_decisions.ensures.each k lt)))
-    (λ k lt. rw (ap (λ l. lane l (8 + bit_reversed k)) is ∙ high_metric low high k lt, high_choice first last k lt) (chosen_lane _
+    (λ k lt. rw (ap (λ l. lane l (8 + bit_reversed k)) is ∙ high_metric low high k lt, high_choice first last k lt) (IsDecision-lane _
     pair _ (lane c.subtract_branch_metrics-high_states_bit_0.result.lanes k)
     (lane c.add_branch_metrics-high_states_bit_1.result.lanes k) _ _
     (ap lane_metric (c.subtract_branch_metrics-high_states_bit_0.ensures.each k lt) ∙ (at k lt).2)

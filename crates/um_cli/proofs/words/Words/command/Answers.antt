@@ -1,6 +1,6 @@
 use Rattle.{
   std.proofs.{Common.{◌≡◌, [], ◌∷◌, map, ap, sym, ◌∙◌}, lemmas.List.length-map},
-  um_cli.{specs.Shapes.command_of_words, proofs.Lemmas.{many_words, map-single}},
+  um_cli.{specs.Shapes.command_of_words, proofs.Lemmas.{too_many_words, map-single}},
 }
 use Rattle.um_cli.proofs.words.Words.command.Goals as goal
 
@@ -17,4 +17,4 @@ returns-in-len1 c =
 pub returns-in_default-2-clause-command : goal.returns-in_default-2-clause-command
 returns-in_default-2-clause-command c =
     let words_are = sym c.self.view_is ∙ ap (map (λ word. word.bytes)) (sym c.as_slice.ensures.value) in
-    many_words c.args.self.now (simp (words_are, length-map) c.in_default.len_at_least)
+    too_many_words c.args.self.now (simp (words_are, length-map) c.in_default.len_at_least)

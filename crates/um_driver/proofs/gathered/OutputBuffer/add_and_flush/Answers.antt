@@ -1,7 +1,6 @@
 use Rattle.{
-  std.proofs.Common.{Err, List, Ok, Option, Result, ap, append_assoc, sym, ℕ, ◌++◌, ◌∙◌},
-  um_driver.specs.Taking.{BuffersUnwrittenText, SinkTakesText},
-  um_io.proofs.Lemmas.Appends-append,
+  std.proofs.{Common.{Err, List, Ok, Option, Result, append_assoc, ℕ, ◌++◌}, KnownBytes.Appends-trans},
+  um_driver.specs.Writing.{BuffersUnwrittenText, SinkTakesText},
 }
 use Rattle.um_driver.proofs.gathered.OutputBuffer.add_and_flush.Goals as goal
 
@@ -9,11 +8,11 @@ use Rattle.um_driver.proofs.gathered.OutputBuffer.add_and_flush.Goals as goal
 prefix_then_rest : {T E : Type 0} (text rest : List ℕ) (taken mid taken' : Option (List ℕ)) (result : Result T E) →
     BuffersUnwrittenText text rest taken mid → SinkTakesText mid taken' result rest → SinkTakesText taken taken' result text
 prefix_then_rest text rest taken mid taken' (Ok _) (w, text_is, written) then = rw text_is
-    (Appends-append taken mid taken' w rest written then)
+    (Appends-trans taken mid taken' w rest written then)
 prefix_then_rest text rest taken mid taken' (Err _) (w, text_is, written) (v, (more, rest_is), then) = (
   w ++ v,
-  (more, text_is ∙ ap (λ o. w ++ o) rest_is ∙ sym (append_assoc w v more)),
-  Appends-append taken mid taken' w v written then,
+  (more, rw (text_is, rest_is, append_assoc)),
+  Appends-trans taken mid taken' w v written then,
 )
 
 pub returns-clause-taken : goal.returns-clause-taken

@@ -12,7 +12,7 @@ use Rattle.{
       },
       um_block.Received.IsReceivedBlock,
     },
-    proofs.lapdm_link.Lemmas.{KnowsBy, IsFitting, fits-step, initial_endpoint-fits, claims, acked_at_most_delivered, order_claims},
+    proofs.lapdm_link.Lemmas.{KnowsBy, IsFitting, fits-step, initial-fits, claims, acked_at_most_delivered, order_claims},
     proofs.um_air.Lemmas.{zip-rest, AreAlike, alike-more, read_back, all-written, damaged_received},
   },
   um_end.specs.TwoTerminals.{TwoTerminals, idle_terminals, TerminalStep, Calls, TakesBurst, Loses, state_after_step, IsTerminalStep},
@@ -42,19 +42,19 @@ data IsPlayed (a b : TwoTerminals) (turn : TerminalStep) (fs : Queues Frame) : T
       (DeliversOldestBlock a turn → IsBenignEvent (refusal event (world_of a fs)) event (world_of a fs)) →
       step_log_lines turn ≡ answer_log_lines event (answer event (world_of a fs)) → IsPlayed a b turn fs
 
-rest-written : (sender : Role) (fs : Queues Frame) (os : Queues Octets) → Written fs os →
+Written-rest : (sender : Role) (fs : Queues Frame) (os : Queues Octets) → Written fs os →
     Written (without_first sender fs) (without_first sender os)
-rest-written Mobile fs os h Mobile = zip-rest (λ f o. o ≡ octets_of Sdcch f) fs.up os.up (h Mobile)
-rest-written Network fs os h Network = zip-rest (λ f o. o ≡ octets_of Sdcch f) fs.down os.down (h Network)
-rest-written sender fs os h r = h r
+Written-rest Mobile fs os h Mobile = zip-rest (λ f o. o ≡ octets_of Sdcch f) fs.up os.up (h Mobile)
+Written-rest Network fs os h Network = zip-rest (λ f o. o ≡ octets_of Sdcch f) fs.down os.down (h Network)
+Written-rest sender fs os h r = h r
 
-same_ends : (side : Role) (es : BothSides) → with_side side (side_with_role side es) es ≡ es
-same_ends Mobile es = refl
-same_ends Network es = refl
+with_side-same : (side : Role) (es : BothSides) → with_side side (side_with_role side es) es ≡ es
+with_side-same Mobile es = refl
+with_side-same Network es = refl
 
-none_more : (side : Role) (ws : Queues Octets) → with_appended side [] ws ≡ ws
-none_more Mobile ws = rw append-nil refl
-none_more Network ws = rw append-nil refl
+with_appended-none : (side : Role) (ws : Queues Octets) → with_appended side [] ws ≡ ws
+with_appended-none Mobile ws = rw append-nil refl
+with_appended-none Network ws = rw append-nil refl
 
 -- a frame that is read from accepted octets fits in a block
 known_read : (sender : Role) (accepted : Option Octets) (read : Option Frame) → IfSome accepted AreOctets →
@@ -62,11 +62,11 @@ known_read : (sender : Role) (accepted : Option Octets) (read : Option Frame) �
 known_read sender accepted None small h = tt
 known_read sender accepted (Some f) small h = (reads-well Sdcch accepted f small h).0
 
--- lightly damaged bursts are accepted with the octets that were sent
-received_first : (bursts : List (List ℤ)) (os : List Octets) (r : Received) → IsReceivedBlock bursts r →
+-- a block whose bursts are lightly damaged is accepted with the octets that were sent
+IsOldestSent-received : (bursts : List (List ℤ)) (os : List Octets) (r : Received) → IsReceivedBlock bursts r →
     AreBurstsOfFirstBlock bursts os → IsOldestSentOrNone r.accepted os
-received_first bursts (first ∷ others) r is damage = rw (damaged_received first bursts r damage is) refl
-received_first bursts [] r is damage = absurd damage
+IsOldestSent-received bursts (first ∷ others) r is damage = rw (damaged_received first bursts r damage is) refl
+IsOldestSent-received bursts [] r is damage = absurd damage
 
 module _ {a : TwoTerminals} {fs : Queues Frame} (seen : IsSeen a fs) where
   abbrev w : World
@@ -74,9 +74,9 @@ module _ {a : TwoTerminals} {fs : Queues Frame} (seen : IsSeen a fs) where
 
   -- if a side does not change and sends nothing, the state is the same
   quiet : (side : Role) → state_after_step side (side_with_role side a.sides) [] a.queues a ≡ a
-  quiet side = rw (same_ends side a.sides, none_more side a.queues) refl
+  quiet side = rw (with_side-same side a.sides, with_appended-none side a.queues) refl
 
-  -- below, the event is not refused, and side `side` does d in it
+  -- below, the event is not refused, and d is the step of side `side` in it
   module _ (event : E.Event) (side : Role) (d : S.SideStep) (left : Queues Frame) (from : Queues Octets) (none : refusal event w ≡ None)
       (later : world_unless_refused None event w ≡ record w {
         ends = with_side side d.new_state a.sides;
@@ -146,7 +146,7 @@ module _ {a : TwoTerminals} {fs : Queues Frame} (seen : IsSeen a fs) where
     carried : DeliversOldestBlock a (TakesBurst side bursts step) → IsBenignEvent None event w
     carried q =
         read_back Sdcch h.report.accepted h.frame (queue_of (other side) fs) (queue_of (other side) a.queues) (seen.written (other side))
-        (seen.fit.queues (other side)) h.reads (received_first bursts (queue_of (other side) a.queues) h.report h.received q)
+        (seen.fit.queues (other side)) h.reads (IsOldestSent-received bursts (queue_of (other side) a.queues) h.report h.received q)
 
     brings : world_unless_refused None event w ≡ record w {
       ends = with_side side side_step_is.new_state a.sides;
@@ -156,7 +156,7 @@ module _ {a : TwoTerminals} {fs : Queues Frame} (seen : IsSeen a fs) where
         IsPlayed a (state_after_step side links step.frames (without_first (other side) a.queues) a) (TakesBurst side bursts step) fs
     brings later says = played event side side_step_is (without_first (other side) fs) (without_first (other side) a.queues) refl later
         (known_read (other side) h.report.accepted h.frame (accepted_octets bursts h.report h.received) h.reads)
-        (rest-written (other side) fs a.queues seen.written) (TakesBurst side bursts step) _ (rw (h.new_state_is, h.step_is) refl)
+        (Written-rest (other side) fs a.queues seen.written) (TakesBurst side bursts step) _ (rw (h.new_state_is, h.step_is) refl)
         carried (rw (h.step_is, says) refl)
 
   brought : (side : Role) (bursts : List (List ℤ)) (step : Step) (links : SideState) →
@@ -171,7 +171,7 @@ module _ {a : TwoTerminals} {fs : Queues Frame} (seen : IsSeen a fs) where
       let z : World = world_of (record a { queues = without_first sender a.queues }) later in
       let now : world_after (Lose sender) w ≡ z = rw append-nil refl in
       endpoint_step (Lose sender) later now (record {
-        written = rest-written sender fs a.queues seen.written;
+        written = Written-rest sender fs a.queues seen.written;
         fit = subst (IsFitting Sdcch) now (fits-step Sdcch w (Lose sender) tt seen.fit);
       }) (λ q. tt) refl
 
@@ -207,26 +207,26 @@ module _ (May : TwoTerminals → TerminalStep → Type 0) where
   session (turn ∷ turns) a fs seen run =
       goes a run.1 turn turns fs seen run.0 (turn-step seen turn run.1 run.2) (λ gs later. session turns run.1 gs later run.3)
 
-start_seen : IsSeen idle_terminals empty_queues
-start_seen = record { written = alike; fit = initial_endpoint-fits unbounded_capacity Sdcch }
+IsSeen-start : IsSeen idle_terminals empty_queues
+IsSeen-start = record { written = alike; fit = initial-fits unbounded_capacity Sdcch }
   where
     alike : Written empty_queues empty_queues
     alike Mobile = tt
     alike Network = tt
 
-pub two_claims : (turns : List TerminalStep) → AreStepsFrom DeliversOldestBlock idle_terminals turns → Claims (session_log turns)
-two_claims turns run =
-    let x = session DeliversOldestBlock turns idle_terminals empty_queues start_seen run in
+pub two_terminals-claims : (turns : List TerminalStep) → AreStepsFrom DeliversOldestBlock idle_terminals turns → Claims (session_log turns)
+two_terminals-claims turns run =
+    let x = session DeliversOldestBlock turns idle_terminals empty_queues IsSeen-start run in
     rw x.same_lines (claims unbounded_capacity Sdcch x.events (x.benign (λ a turn may. may)))
 
-pub two_counts : (turns : List TerminalStep) → AreStepsFrom DeliversOldestBlock idle_terminals turns →
+pub two_terminals-counts : (turns : List TerminalStep) → AreStepsFrom DeliversOldestBlock idle_terminals turns →
     AckedAtMostDelivered (session_log turns)
-two_counts turns run =
-    let x = session DeliversOldestBlock turns idle_terminals empty_queues start_seen run in
+two_terminals-counts turns run =
+    let x = session DeliversOldestBlock turns idle_terminals empty_queues IsSeen-start run in
     rw x.same_lines (acked_at_most_delivered unbounded_capacity Sdcch x.events (x.benign (λ a turn may. may)))
 
-pub two_in_order : (turns : List TerminalStep) → AreStepsFrom AnyStepAllowed idle_terminals turns
+pub two_terminals-order : (turns : List TerminalStep) → AreStepsFrom AnyStepAllowed idle_terminals turns
     → HasNoticesInOrder (session_log turns)
-two_in_order turns run =
-    let x = session AnyStepAllowed turns idle_terminals empty_queues start_seen run in
+two_terminals-order turns run =
+    let x = session AnyStepAllowed turns idle_terminals empty_queues IsSeen-start run in
     rw x.same_lines (order_claims unbounded_capacity Sdcch x.events)

@@ -6,7 +6,7 @@ use Rattle.{
     Naming.{spec_step_of, spec_event_of, spec_event_refusal_of},
     um_air.Air.{Refuses, Accepts},
   },
-  um_end.{specs.{Terminals.layer3_call_step, Abstraction.role_of_terminal}, proofs.EndSteps.{done_step, asks_event, one_asking}},
+  um_end.{specs.{Terminals.layer3_call_step, Abstraction.role_of_terminal}, proofs.EndSteps.{terminal_step-is, asks_event, event-unique}},
   lapdm_end.proofs.Lemmas.represents_at,
 }
 use Rattle.um_end.proofs.terminal.Terminal.ask_into.Goals as goal
@@ -24,14 +24,14 @@ returns-in-Ok-clause-refines c a st =
           c.sapi_of_event-sapi.ensures c.endpoint_call_of_event-call.ensures.asked_call (
             ap as_event_refusal (sym (c.in-Ok.ensures.refusal _ (represents_at sapi c.args.self.now.links a st))),
             refl,
-            done_step role _ None d _ _ _ _ c.set_side_and_sapi.ensures.step refl done,
+            terminal_step-is role _ None d _ _ _ _ c.set_side_and_sapi.ensures.step refl done,
           ),
     )
 
 pub returns-in-Ok-clause-only : goal.returns-in-Ok-clause-only
 returns-in-Ok-clause-only c a st b answer h =
     let f = returns-in-Ok-clause-refines c a st in
-    (one_asking (role_of_terminal c.args.self.now) a (spec_event_of c.args.event.now) b f.0 answer _ h f.2).1
+    (event-unique (role_of_terminal c.args.self.now) a (spec_event_of c.args.event.now) b f.0 answer _ h f.2).1
 
 pub returns-in-Err-clause-refines : goal.returns-in-Err-clause-refines
 returns-in-Err-clause-refines c a st = (
@@ -49,4 +49,4 @@ returns-in-Err-clause-refines c a st = (
 pub returns-in-Err-clause-only : goal.returns-in-Err-clause-only
 returns-in-Err-clause-only c a st b answer h =
     let f = returns-in-Err-clause-refines c a st in
-    (one_asking (role_of_terminal c.args.self.now) a (spec_event_of c.args.event.now) b f.0 answer _ h f.2).1
+    (event-unique (role_of_terminal c.args.self.now) a (spec_event_of c.args.event.now) b f.0 answer _ h f.2).1

@@ -1,7 +1,7 @@
 use Rattle.{
   std.proofs.Common.{refl, ap},
   um_link.specs.Naming.spec_role_of,
-  um_end.{specs.Terminals.step_for_read_frame, proofs.EndSteps.{done_step, one_reception}},
+  um_end.{specs.Terminals.step_for_read_frame, proofs.EndSteps.{terminal_step-is, reception-unique}},
 }
 use Rattle.um_end.proofs.terminal.Terminal.receive_into.Goals as goal
 
@@ -17,7 +17,7 @@ returns-clause-refines c a st =
         received = c.receive_block-report.ensures.received;
         reads = h.reads;
         new_state_is = refl;
-        step_is = done_step _ _ _ d _ _ _ _ c.set_side_and_sapi.ensures.step
+        step_is = terminal_step-is _ _ _ d _ _ _ _ c.set_side_and_sapi.ensures.step
             (ap spec_role_of c.take_received_block-sapi.ensures.same.side) h.carried_out;
       },
     )
@@ -25,4 +25,4 @@ returns-clause-refines c a st =
 pub returns-clause-only : goal.returns-clause-only
 returns-clause-only c a st b step h =
     let f = returns-clause-refines c a st in
-    (one_reception _ _ _ _ _ _ _ h f.2).1
+    (reception-unique _ _ _ _ _ _ _ h f.2).1

@@ -1,6 +1,6 @@
 use Rattle.{
   std.proofs.{Common.{rules, ◌≡◌, sym, ap, subst, arith, refl}, lemmas.Grind.common_steps},
-  um_io.{specs.Reading.NeedsMoreOctets, proofs.Lemmas.{so_far-none, asked-once, turns_left, turns_left-read}},
+  um_io.{specs.Reading.NeedsMoreOctets, proofs.Lemmas.{so_far-none, asked-once, reads_left, reads_left-read}},
 }
 use Rattle.um_io.proofs.lines.Lines.find_line.Goals as goal
 
@@ -23,7 +23,7 @@ loop-found-smaller g c =
     let known = c.in_ok-read.ensures in
     let more = subst NeedsMoreOctets (sym c.find_in_held_octets.ensures.unchanged) c.in_default.ensures.found in
     let fewer =
-    turns_left-read _ _ _ _ known.read.0 more known.read.1 known.read.2 known.valid in
-    let same : turns_left c.find_in_held_octets.new.self ≡ turns_left c.loop-found.self = ap turns_left
+    reads_left-read _ _ _ _ known.read.0 more known.read.1 known.read.2 known.valid in
+    let same : reads_left c.find_in_held_octets.new.self ≡ reads_left c.loop-found.self = ap reads_left
     c.find_in_held_octets.ensures.unchanged in
     omega arith

@@ -1,6 +1,6 @@
 use Rattle.{
   std.proofs.Common.{◌≡◌, ◌⊎◌, ℕ, List},
-  um_io.{specs.Reading.NeedsMoreOctets, proofs.Lemmas.{AskedSoFar, IsFinding, turns_left}},
+  um_io.{specs.Reading.NeedsMoreOctets, proofs.Lemmas.{AskedSoFar, IsFinding, reads_left}},
 }
 use Rattle.um_io.proofs.lines.Lines.find_line.Given as goal
 
@@ -12,4 +12,4 @@ invariant-loop-found g l =
     × AskedSoFar g.S.Source.is_call l.initial.source l.source l.self.ended
 
 abbrev pub decreases-loop-found : goal.decreases-loop-found
-decreases-loop-found g l = turns_left l.self
+decreases-loop-found g l = reads_left l.self

@@ -1,9 +1,9 @@
--- One case for each `LineSearchResult` and for a failure, by the lemmas of `Lemmas`.
+-- The proof has one case for each `LineSearchResult` and one for a failure; each follows from `Lemmas`.
 use Rattle.{
-  std.proofs.Common.{Err, Ok, ap, false, refl, rules, subst, sym, true, ◌∙◌, ◌≡◌},
+  std.proofs.Common.{ap, false, refl, rules, subst, sym, ◌∙◌, ◌≡◌},
   um_io.proofs.Lemmas.{IsNextLineCall-found, IsNextLineCall-stopped, IsValidReader-from, asked-none, counts-after, source_unchanged},
   um_io.specs.{Buffer.octets_of, Reading.{IsValidReader, ReaderState}, contracts.lines.Lines.{the_invariant, the_view}},
-  um_io.specs.declared.lines.{LineSearchResult.TheVariants.{LineTooLong, PastInputLimit}, Lines.TheInside.Inside},
+  um_io.specs.declared.lines.Lines.TheInside.Inside,
 }
 use Rattle.um_io.proofs.lines.Lines.next.Goals as goal
 
@@ -11,7 +11,7 @@ use Rattle.um_io.proofs.lines.Lines.next.Goals as goal
 valid : (inside : Inside) → the_invariant inside → IsValidReader (the_view inside)
 valid inside holds = IsValidReader-from inside.buffer inside.octet_count inside.number inside.ended inside.is_over holds.0 holds.1
 
--- the field `is_over` of a `Lines` is that of the value that contracts see
+-- if `is_over` is false in a `Lines`, it is false in the value that contracts see
 goes_on : (r : ReaderState) (inside : Inside) → the_view inside ≡ r → inside.is_over ≡ false → r.is_over ≡ false
 goes_on r inside view going = sym (ap (λ (s : ReaderState). s.is_over) view) ∙ going
 
@@ -20,7 +20,8 @@ invariant_of-self g c =
     let inside = c.self-2.inside in
     let arm = c.in-Ok-Line in
     let found = rw (← c.self-2.view_is) at (rw arm.field-0-is at arm.ensures.found) in
-    let counts = counts-after (octets_of inside.buffer) inside.octet_count inside.number arm.length arm.whole inside.ended inside.is_over
+    let counts = counts-after (octets_of inside.buffer) inside.octet_count inside.number arm.length arm.with_feed inside.ended
+    inside.is_over
     c.self-2.invariant.0 c.self-2.invariant.1 found.outcome in
     (counts.0, counts.1, tt)
 
@@ -29,15 +30,14 @@ returns-in-Ok-Line g c =
     let inside = c.self-2.inside in
     let arm = c.in-Ok-Line in
     let found = rw (← c.self-2.view_is) at (rw arm.field-0-is at arm.ensures.found) in
-    let going = goes_on c.args.self.now c.self.inside c.self.view_is c.if-self.false in
-    let answers = IsNextLineCall-found c.args.self.now inside.buffer c.skip-from.new.self inside.octet_count inside.number arm.whole
-    inside.ended
-    inside.is_over _ _ found.octets_read going found.has_read found.read_if_needed c.self-2.invariant.0 c.self-2.invariant.1
+    let going = goes_on _ c.self.inside c.self.view_is c.if-self.false in
+    let answers = IsNextLineCall-found c.args.self.now inside.buffer c.skip-from.new.self inside.octet_count inside.number arm.with_feed
+    inside.ended inside.is_over _ _ found.octets_read going found.has_read found.read_if_needed c.self-2.invariant.0 c.self-2.invariant.1
     c.skip-from.ensures.rest c.skip-from.result arm.length c.slice.result c.skip-from.ensures.skipped c.slice.ensures found.outcome in (
       (refl, λ _. tt, answers),
       record {
         ends = tt;
-        source_unchanged = source_unchanged c.args.self.now _ _ going c.find_line.ensures.source_unchanged;
+        source_unchanged = source_unchanged _ _ _ going c.find_line.ensures.source_unchanged;
         asked = c.find_line.ensures.asked;
         failed = arm.ensures.counted;
       },
@@ -45,18 +45,16 @@ returns-in-Ok-Line g c =
 
 pub returns-in-Ok-LineTooLong : goal.returns-in-Ok-LineTooLong
 returns-in-Ok-LineTooLong g c =
-    let known = rw c.in-Ok-LineTooLong.field-0-is at c.in-Ok-LineTooLong.ensures.found in
-    let found = rw (← c.self-2.view_is) at known in
-    let going = goes_on c.args.self.now c.self.inside c.self.view_is c.if-self.false in (
+    let found = rw (← c.self-2.view_is) at (rw c.in-Ok-LineTooLong.field-0-is at c.in-Ok-LineTooLong.ensures.found) in
+    let going = goes_on _ c.self.inside c.self.view_is c.if-self.false in (
       (
         refl,
         λ _. tt,
-        IsNextLineCall-stopped c.args.self.now (the_view c.self-2.inside) _ _ _ (Ok LineTooLong) going
-            (valid c.self-2.inside c.self-2.invariant) found found.outcome.0 found.outcome.1,
+        IsNextLineCall-stopped going (valid c.self-2.inside c.self-2.invariant) found found.outcome.0 (λ held. (held, found.outcome.1)),
       ),
       record {
         ends = tt;
-        source_unchanged = source_unchanged c.args.self.now _ _ going c.find_line.ensures.source_unchanged;
+        source_unchanged = source_unchanged _ _ _ going c.find_line.ensures.source_unchanged;
         asked = c.find_line.ensures.asked;
         failed = c.in-Ok-LineTooLong.ensures.counted;
       },
@@ -64,18 +62,17 @@ returns-in-Ok-LineTooLong g c =
 
 pub returns-in-Ok-PastInputLimit : goal.returns-in-Ok-PastInputLimit
 returns-in-Ok-PastInputLimit g c =
-    let known = rw c.in-Ok-PastInputLimit.field-0-is at c.in-Ok-PastInputLimit.ensures.found in
-    let found = rw (← c.self-2.view_is) at known in
-    let going = goes_on c.args.self.now c.self.inside c.self.view_is c.if-self.false in (
+    let found = rw (← c.self-2.view_is) at (rw c.in-Ok-PastInputLimit.field-0-is at c.in-Ok-PastInputLimit.ensures.found) in
+    let going = goes_on _ c.self.inside c.self.view_is c.if-self.false in (
       (
         refl,
         λ _. tt,
-        IsNextLineCall-stopped c.args.self.now (the_view c.self-2.inside) _ _ _ (Ok PastInputLimit) going
-            (valid c.self-2.inside c.self-2.invariant) found found.outcome.0 found.outcome.1,
+        IsNextLineCall-stopped going (valid c.self-2.inside c.self-2.invariant) found found.outcome.0
+            (λ held. (held, found.outcome.1.0, found.outcome.1.1)),
       ),
       record {
         ends = tt;
-        source_unchanged = source_unchanged c.args.self.now _ _ going c.find_line.ensures.source_unchanged;
+        source_unchanged = source_unchanged _ _ _ going c.find_line.ensures.source_unchanged;
         asked = c.find_line.ensures.asked;
         failed = c.in-Ok-PastInputLimit.ensures.counted;
       },
@@ -83,20 +80,26 @@ returns-in-Ok-PastInputLimit g c =
 
 pub returns-in-Err : goal.returns-in-Err
 returns-in-Err g c =
-    let known = c.in-Err.ensures in
-    let found = rw (← c.self-2.view_is) at known.found in
-    let going = goes_on c.args.self.now c.self.inside c.self.view_is c.if-self.false in (
+    let found = rw (← c.self-2.view_is) at c.in-Err.ensures.found in
+    let going = goes_on _ c.self.inside c.self.view_is c.if-self.false in (
       (
         refl,
         λ _. tt,
-        IsNextLineCall-stopped c.args.self.now (the_view c.self-2.inside) _ _ _ (Err c.in-Err.field-0) going
-            (valid c.self-2.inside c.self-2.invariant) found found.outcome.no_line_feed found.outcome,
+        IsNextLineCall-stopped going (valid c.self-2.inside c.self-2.invariant) found found.outcome.no_line_feed (λ held. (
+          held,
+          record {
+            no_line_feed = found.outcome.no_line_feed;
+            in_limit = found.outcome.in_limit;
+            excess = found.outcome.excess;
+            ended = found.outcome.ended;
+          },
+        )),
       ),
       record {
         ends = tt;
-        source_unchanged = source_unchanged c.args.self.now _ _ going c.find_line.ensures.source_unchanged;
+        source_unchanged = source_unchanged _ _ _ going c.find_line.ensures.source_unchanged;
         asked = c.find_line.ensures.asked;
-        failed = (known.cause, known.later);
+        failed = (c.in-Err.ensures.cause, c.in-Err.ensures.later);
       },
     )
 
@@ -110,7 +113,7 @@ returns-then-self g c =
         record {
           valid = reading;
           already_stopped = λ _. (refl, tt, search rules);
-          not_stopped = λ going. absurd (let e : true ≡ false = sym is_over ∙ going in cc e);
+          not_stopped = λ going. cc (is_over, going);
         },
       ),
       record {

@@ -1,6 +1,6 @@
 use Rattle.{
   std.proofs.Common.{sym, ◌∙◌},
-  um_link.{specs.Naming.{spec_role_of, spec_step_of}, proofs.Lemmas.{arrived, arrives-full, room-other}},
+  um_link.{specs.Naming.{spec_role_of, spec_step_of}, proofs.Lemmas.{receive-oldest, deliver-full_queue, room-other}},
 }
 use Rattle.um_link.proofs.links.WorldState.deliver.Goals as goal
 
@@ -11,7 +11,8 @@ send_step_frames-requires-clause-space g c =
 
 pub returns-clause-refines : goal.returns-clause-refines
 returns-clause-refines g c =
-    arrived (spec_role_of c.args.sender) (spec_role_of c.other_end-end.result) c.args.inverted_bits.now c.args.self.now c.receive.new.self
+    receive-oldest (spec_role_of c.args.sender) (spec_role_of c.other_end-end.result) c.args.inverted_bits.now c.args.self.now
+    c.receive.new.self
     c.send_step_frames.new.self c.take_received_block-step.new.ends c.receive.new.received _ _ (spec_step_of c.send_step_frames.new.step)
     c.other_end-end.ensures c.receive.ensures.receives c.take_received_block-step.ensures.takes (sym c.has_no_queued_block.ensures
     ∙ c.if-has_no_queued_block.false)
@@ -19,5 +20,5 @@ returns-clause-refines g c =
 
 pub returns-then-is_queue_full-clause-refines : goal.returns-then-is_queue_full-clause-refines
 returns-then-is_queue_full-clause-refines g c =
-    arrives-full (spec_role_of c.args.sender) _ c.args.inverted_bits.now c.args.self.now c.other_end-end.ensures
+    deliver-full_queue (spec_role_of c.args.sender) _ c.args.inverted_bits.now c.args.self.now c.other_end-end.ensures
     (sym c.has_no_queued_block.ensures ∙ c.if-has_no_queued_block.false) (sym c.is_queue_full.ensures ∙ c.if-is_queue_full.true)

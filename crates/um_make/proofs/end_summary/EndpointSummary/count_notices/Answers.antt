@@ -1,7 +1,7 @@
 use Rattle.{
   std.proofs.{Common.{◌≡◌, ◌∙◌, sym, ap, rules, [], ◌+◌, ◌∷◌, ◌++◌, take, arith}, lemmas.List.take_more},
   um_link.specs.lapdm_window.declared.Notice.Notice,
-  um_make.proofs.Lemmas.counts-more,
+  um_make.proofs.Lemmas.counts-append,
 }
 use Rattle.um_make.proofs.end_summary.EndpointSummary.count_notices.Goals as goal
 
@@ -14,6 +14,6 @@ loop-notice-preserved c =
     ∙ ap (λ (m : Notice). take i ns ++ m ∷ []) (sym c.notice-item.is) in
     let old = c.loop-notice.invariant in
     record {
-      counts = rw next (counts-more (take i ns) (n ∷ []) _ _ _ old.counts c.count_notice.ensures.counts);
+      counts = rw next (counts-append (take i ns) (n ∷ []) _ _ _ old.counts c.count_notice.ensures.counts);
       most = search rules;
     }

@@ -4,7 +4,7 @@ use Rattle.{
   um_script.specs.ScriptLines.ScriptLineMeans,
   um_session.{
     specs.{Courses.{sent_frame_count, blocks_received_in_step}, Sessions.session_with_step},
-    proofs.Lemmas.{same_frames, same_arrivals, sent_more, reception_more},
+    proofs.Lemmas.{same_frames, same_arrivals, frames_sent-push, blocks_received-push},
   },
 }
 use Rattle.um_session.proofs.link.LinkCommandCommand.answer.Goals as goal
@@ -31,9 +31,9 @@ returns-in-Step-clause-answered g c = λ a (represents, sent_is, reception_is).
         next.1,
         done.sent ∙ ap (λ n. counter_plus n (g.R.Radio.sent c.args.self.now.radio.now)) (same_frames result)
             ∙ ap (counter_plus (sent_frame_count answer)) sent_is
-            ∙ sent_more a.session.answers answer a.initial_counters.sent_blocks,
+            ∙ frames_sent-push a.session.answers answer a.initial_counters.sent_blocks,
         done.heard ∙ ap (λ n. counter_plus n (g.R.Radio.heard c.args.self.now.radio.now)) (same_arrivals result)
             ∙ ap (counter_plus (blocks_received_in_step answer)) reception_is
-            ∙ reception_more a.session.answers answer a.initial_counters.received_blocks,
+            ∙ blocks_received-push a.session.answers answer a.initial_counters.received_blocks,
       ),
     )

@@ -1,4 +1,4 @@
--- How a line reader calls its source: it makes no further call after one that reached the end of the input or failed.
+-- How a line reader calls its source: it makes no further call after one that reaches the end of the input or fails.
 use Rattle.std.specs.Prelude.{ℕ, ◌≡◌, ◌<◌, ◌⊎◌, Bool, false, Option, Some, None, Result, MatchResult}
 
 -- calls that each return at least one octet lead from one state of the source to another; `IsCall` relates the states before and after a
@@ -13,7 +13,7 @@ pub record StopsAtEndOrFailure {S : Type 0} (IsCall : S → Option ℕ → S →
   pub earlier_calls : CallsReturnOctets IsCall first before_last
   pub last_call : (before_last ≡ last) ⊎ ((answer : Option ℕ) × IsCall before_last answer last)
 
--- the source is called exactly once; a successful call that returns no octet marks the end of the input
+-- the source is called exactly once; a successful call that returns no octets marks the end of the input
 abbrev pub IsOneSourceCall : {S T E : Type 0} (IsCall : (S → Option ℕ → S → Type 0)) (first last : S) (ended : Bool)
     (result : Result T E) → Type 0
 IsOneSourceCall IsCall first last ended result =

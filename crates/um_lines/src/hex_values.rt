@@ -1,76 +1,76 @@
-//! The codes of sixteen octets at a time: the code of a hexadecimal digit is its value, and the code of any other octet is above 15.
+//! The values of sixteen hexadecimal digits at a time; an octet that is not a hexadecimal digit has a value above 15.
 ghost use Rattle.std.specs.Prelude.{◌≡◌, ℕ, ◌+◌, ◌*◌, ◌%◌, ◌<◌, ◌≤◌, ◌&&◌, true, length, map, take, drop};
 ghost use Rattle.std.specs.Prelude.{◌++◌, slice_index};
 ghost use Rattle.std.specs.Prelude.{IsTrue};
 ghost use Rattle.std.specs.List.{list_all};
 ghost use Rattle.hex.specs.Hex.{is_hex_digit};
 ghost use Rattle.um_lines.specs.Fields.{digit_value};
-ghost use Rattle.um_lines.specs.HexPlaces.{are_digit_codes};
+ghost use Rattle.um_lines.specs.HexPlaces.{are_hex_values};
 
 use std::simd::prelude::*;
 
-/// The codes of sixteen octets.
+/// The values of sixteen hexadecimal digits, above 15 for any other octet.
 #[derive(Clone, Copy)]
-pub(crate) struct DigitCodes {
+pub(crate) struct HexValues {
     pub(crate) lanes: u8x16,
 }
 
-impl DigitCodes {
-    /// Sixteen codes 0.
+impl HexValues {
+    /// Returns sixteen values, all of them 0.
     #[inline(always)]
-    pub(crate) fn new() -> DigitCodes
+    pub(crate) fn new() -> HexValues
         ensures count { length result.lanes ≡ 16 }
-        ensures test { are_digit_codes result.lanes ≡ true }
+        ensures test { are_hex_values result.lanes ≡ true }
     {
-        DigitCodes {
+        HexValues {
             lanes: u8x16::splat(0),
         }
     }
 
-    /// The codes of the sixteen octets from index `from` on.
+    /// Returns the values of sixteen octets of `digits`, from index `from` on.
     #[inline(always)]
-    pub(crate) fn of_digits(digits: &[u8], from: usize) -> DigitCodes
+    pub(crate) fn from_digits(digits: &[u8], from: usize) -> HexValues
         requires { from + 16 ≤ length digits.now }
         ensures count { length result.lanes ≡ 16 }
-        ensures test { are_digit_codes result.lanes ≡ list_all is_hex_digit (take 16 (drop from digits.now)) }
+        ensures test { are_hex_values result.lanes ≡ list_all is_hex_digit (take 16 (drop from digits.now)) }
         ensures values { IsTrue (list_all is_hex_digit (take 16 (drop from digits.now)))
             → result.lanes ≡ map digit_value (take 16 (drop from digits.now)) }
     {
         let octets = u8x16::from_slice(&digits[from..from + 16]);
         let decimal = (octets + u8x16::splat(198)).saturating_sub(u8x16::splat(6));
         let letter = (octets & u8x16::splat(223)) + u8x16::splat(191);
-        DigitCodes {
+        HexValues {
             lanes: (decimal + u8x16::splat(16)).simd_min(
                 letter.simd_min(u8x16::splat(245)) + u8x16::splat(10),
             ),
         }
     }
 
-    /// The greater of the two codes at each index.
+    /// Returns, for each index, the greater of the two values at that index.
     #[inline(always)]
-    pub(crate) fn maxima(self, other: DigitCodes) -> DigitCodes
+    pub(crate) fn maxima(self, other: HexValues) -> HexValues
         requires count { length self.lanes ≡ 16 }
         requires other { length other.lanes ≡ 16 }
         ensures count { length result.lanes ≡ 16 }
-        ensures test { are_digit_codes result.lanes ≡ (are_digit_codes self.lanes && are_digit_codes other.lanes) }
+        ensures test { are_hex_values result.lanes ≡ (are_hex_values self.lanes && are_hex_values other.lanes) }
     {
-        DigitCodes {
+        HexValues {
             lanes: self.lanes.simd_max(other.lanes),
         }
     }
 
-    /// Whether all codes are those of hexadecimal digits.
+    /// Returns whether all values are those of hexadecimal digits.
     #[inline(always)]
     pub(crate) fn are_digits(self) -> bool
         requires { length self.lanes ≡ 16 }
-        ensures { result ≡ are_digit_codes self.lanes }
+        ensures { result ≡ are_hex_values self.lanes }
     {
         self.lanes.simd_gt(u8x16::splat(15)).to_bitmask() == 0
     }
 
-    /// The octets that these codes and, after them, `second_half` represent in pairs, high digit first.
+    /// Joins these values, followed by those of `second_half`, in pairs into octets, high digit first.
     #[inline(always)]
-    pub(crate) fn join_pairs(self, second_half: DigitCodes) -> [u8; 16]
+    pub(crate) fn join_pairs(self, second_half: HexValues) -> [u8; 16]
         requires front { length self.lanes ≡ 16 }
         requires back { length second_half.lanes ≡ 16 }
         ensures { (i : ℕ) → i < 16 → slice_index result i

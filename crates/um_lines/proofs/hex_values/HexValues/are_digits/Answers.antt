@@ -3,7 +3,7 @@ use Rattle.{
   um_lines.proofs.Texts.{below, none_above},
 }
 use lib.Lanes.{zip2, top}
-use Rattle.um_lines.proofs.digit_codes.DigitCodes.are_digits.Goals as goal
+use Rattle.um_lines.proofs.hex_values.HexValues.are_digits.Goals as goal
 
 pub returns : goal.returns
 returns c =

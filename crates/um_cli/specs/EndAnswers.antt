@@ -3,7 +3,7 @@
 use Rattle.std.specs.Prelude.{ℕ, ℤ, ◌≡◌, ◌<◌, ◌⊎◌, List, [], ◌∷◌, ◌++◌, length}
 use Rattle.um_driver.specs.Rules.{Rules}
 use Rattle.um_end.specs.EndLines.{EndLineMeaning, TakesBurst, EndLineMeans}
-use Rattle.um_end.specs.EndRuns.{EndCommandState, IsAnswerToFourBursts, IsStepForLineMeaning, end_command_rules}
+use Rattle.um_end.specs.EndRuns.{EndCommandState, IsAnswerToFourBursts, IsParsedLineStep, end_command_rules}
 use Rattle.um_cli.specs.Headline.{IsMostLikelyWord}
 
 -- four bursts are received as a block, which is decoded to a most likely word
@@ -22,7 +22,7 @@ IsMaxLikelihoodAnswerToBursts s bursts text after =
 abbrev pub IsMaxLikelihoodAnswerToLine : (state : EndCommandState) (meaning : EndLineMeaning) (output : List ℕ)
     (after : EndCommandState) → Type 0
 IsMaxLikelihoodAnswerToLine s (TakesBurst soft) text after = IsMaxLikelihoodAnswerToBursts s (s.held_bursts ++ soft ∷ []) text after
-IsMaxLikelihoodAnswerToLine s meaning text after = IsStepForLineMeaning s meaning text after
+IsMaxLikelihoodAnswerToLine s meaning text after = IsParsedLineStep s meaning text after
 
 -- the rules of `end`, with the further claim that each received block is decoded to a most likely word
 abbrev pub end_rules_with_ml_decoding : Rules EndCommandState

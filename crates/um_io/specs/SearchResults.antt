@@ -11,7 +11,7 @@ use Rattle.um_io.specs.declared.streams.Failed.{Failed}
 -- what a reader finds in buffered octets without a line feed, given the numbers of octets within and past the input limit, and whether the
 -- source has ended
 abbrev pub IsFoundWithoutLineFeed : (octets_within_limit octets_past_limit : ℕ) (ended : Bool) (found : LineSearchResult) → Type 0
-IsFoundWithoutLineFeed within past ended (Line n whole) = (n ≡ within) × (whole ≡ within) × (0 < within) × (within ≤ line_limit) ×
+IsFoundWithoutLineFeed within past ended (Line n with_feed) = (n ≡ within) × (with_feed ≡ within) × (0 < within) × (within ≤ line_limit) ×
     (past ≡ 0)
     × (ended ≡ true)
 IsFoundWithoutLineFeed within past ended NoOctets = (within ≡ 0) × (past ≡ 0) × (ended ≡ true)
@@ -27,8 +27,8 @@ pub record HasNoResultYet (octets_within_limit octets_past_limit : ℕ) (ended :
 
 -- what a reader finds in its buffered octets
 abbrev pub IsFoundInBuffer : (state : ReaderState) (found : LineSearchResult) → Type 0
-IsFoundInBuffer r (Line n whole) = (IsFirstLineFeed r.held n × (whole ≡ n + 1)) ⊎ (IsLine r.held
-    × IsFoundWithoutLineFeed (length r.held) (length r.excess) r.ended (Line n whole))
+IsFoundInBuffer r (Line n with_feed) = (IsFirstLineFeed r.held n × (with_feed ≡ n + 1)) ⊎ (IsLine r.held
+    × IsFoundWithoutLineFeed (length r.held) (length r.excess) r.ended (Line n with_feed))
 IsFoundInBuffer r found = IsLine r.held × IsFoundWithoutLineFeed (length r.held) (length r.excess) r.ended found
 
 -- the octets `octets_read` were read from the source and added to the buffer; no line was returned
