@@ -2,16 +2,18 @@
 use Rattle.{
   bit_blocks.specs.{Bits.{AllBits, IsBit, xor_bits}, Octets.{AllOctets, IsOctet, bits_of, octet_bits, octets_of}, Packed.bit_of},
   bit_blocks.specs.{Polynomials.{IsDivisibleBy, product_coefficient}, SoftValues.count_wrong_bits},
-  std.specs.{Int.{from_le_bytes, to_le_bytes, w64}, List.list_all, Str.bytes_eq},
-  std.proofs.{
-    Common.{Bool, List, [], ap, append_assoc, arith, bit_and, bit_xor, drop, eqb, get_or, get_or-set_other, get_or-set_same, leb, length},
-    Common.{refl, replicate, rules, suc, sym, take, tests, true, zero, ℕ, ℤ, ◌%◌, ◌&&◌, ◌*◌, ◌++◌, ◌+◌, ◌-◌, ◌/◌, ◌<◌, ◌^◌, ◌∙◌, ◌∷◌, ◌≡◌},
-    Common.◌≤◌,
-    Math.{ListN.set, Nat.zero-div, Seq.{get_or-append_seam, take-add}},
-    lemmas.{Bool.Decides.Decides-eqb, Grind.same_number_lists, Nat.mul-mod_first, Slice.Eq.bytes_eq-Decides},
-    lemmas.List.{append-nil, get_or-append-add, get_or-replicate, get_or_append_left, get_or_past, length-append, length-replicate},
-    lemmas.List.{length-take, take_more_set, Sums.AllPass-from_list_all},
-    lemmas.List.Elements.{All-append, All-cons, All-drop, All-head, All-nil, All-replicate, All-tail, recursion_from_All},
+  std.{
+    specs.{Int.{from_le_bytes, to_le_bytes, w64}, List.list_all, Str.bytes_eq},
+    proofs.{
+      Common.{Bool, List, [], ap, append_assoc, arith, bit_and, bit_xor, drop, eqb, get_or, get_or-set_other, get_or-set_same, leb, length},
+      Common.{refl, replicate, rules, suc, sym, take, tests, true, zero, ℕ, ℤ, ◌%◌, ◌&&◌, ◌*◌, ◌++◌, ◌+◌, ◌-◌},
+      Common.{◌/◌, ◌<◌, ◌^◌, ◌∙◌, ◌∷◌, ◌≡◌, ◌≤◌},
+      Math.{ListN.set, Nat.zero-div, Seq.{get_or-append_seam, take-add}},
+      lemmas.{Bool.Decides.Decides-eqb, Grind.same_number_lists, Nat.mul-mod_first, Slice.Eq.bytes_eq-Decides, List.append-nil},
+      lemmas.List.{get_or-append-add, get_or-replicate, get_or_append_left, get_or_past, length-append, length-replicate, length-take},
+      lemmas.List.{take_more_set, Sums.AllPass-from_list_all, Elements.{All-append, All-cons, All-drop, All-head, All-nil, All-replicate}},
+      lemmas.List.Elements.{All-tail, recursion_from_All},
+    },
   },
 }
 
@@ -105,7 +107,7 @@ add_bits_self : (xs : List ℕ) → xor_bits xs xs ≡ replicate (length xs) 0
 add_bits_self [] = refl
 add_bits_self (x ∷ xs) = grind (arith, add_bits_self xs)
 
--- XOR with the same list twice gives back the first list
+-- XOR with the same list twice gives back the original list
 pub add_bits_twice : (xs ys : List ℕ) → AllBits xs → length xs ≡ length ys → xor_bits (xor_bits xs ys) ys ≡ xs
 add_bits_twice xs ys b e = cc (xor_bits-assoc xs ys ys, add_bits_self ys, xor_bits-zeros xs (length ys) b e)
 
@@ -131,7 +133,7 @@ product_coefficient-xor_bits (x ∷ q) (y ∷ r) g (suc m) e =
     omega (arith, term_of_sum x y (get_or g (suc m) 0), product_coefficient-xor_bits q r g m (omega arith))
 product_coefficient-xor_bits q r g m e = absurd (omega arith)
 
--- past the length of a product, its coefficients are 0
+-- beyond the length of a product of two polynomials, all its coefficients are 0
 product_at_past : (q g : List ℕ) (m : ℕ) → length q + length g ≤ m + 1 → product_coefficient q g m ≡ 0
 product_at_past [] g m h = refl
 product_at_past (x ∷ q) g zero h = grind (arith, get_or_past)
@@ -177,7 +179,7 @@ IsDivisibleBy-xor_bits x y g same (q, qx) (r, ry) =
       },
     )
 
--- a multiple multiplied by a power of D is a multiple
+-- a multiple of a polynomial remains a multiple of it after multiplication by a power of D
 IsDivisibleBy-append_zeros : (n : ℕ) (x g : List ℕ) → IsDivisibleBy x g → IsDivisibleBy (x ++ replicate n 0) g
 IsDivisibleBy-append_zeros zero x g h = rw append-nil h
 IsDivisibleBy-append_zeros (suc n) x g (q, qx) =
@@ -193,7 +195,7 @@ IsDivisibleBy-append_zeros (suc n) x g (q, qx) =
       },
     ))
 
--- a multiple with zeros put before it is a multiple
+-- a multiple of a polynomial remains a multiple of it when zeros are put before it
 pub IsDivisibleBy-zeros_append : (n : ℕ) (x g : List ℕ) → IsDivisibleBy x g → IsDivisibleBy (replicate n 0 ++ x) g
 IsDivisibleBy-zeros_append zero x g h = h
 IsDivisibleBy-zeros_append (suc n) x g h = let (q, qx) = IsDivisibleBy-zeros_append n x g h in (
@@ -205,7 +207,7 @@ IsDivisibleBy-zeros_append (suc n) x g h = let (q, qx) = IsDivisibleBy-zeros_app
   },
 )
 
--- if the quotient has k coefficients and the first k coefficients of the product are 0, the quotient is 0
+-- if the first k coefficients of the product of a generator and a quotient of length k are 0, the quotient is 0
 quotient_of_zeros : (k : ℕ) (q t : List ℕ) → length q ≡ k → AllBits q →
     ((m : ℕ) → m < k → 0 ≡ product_coefficient q (1 ∷ t) m % 2) → q ≡ replicate k 0
 quotient_of_zeros zero [] t e b h = refl
@@ -262,7 +264,8 @@ divided_more front out rest next start tail g bits es et sum before multiple =
     rw parts at (IsDivisibleBy-xor_bits (front ++ (out ++ (rest ++ zeros))) (padding ++ (start ++ tail)) g
     (simp (length-append, length-replicate) (omega arith)) moved padded)
 
--- ## OctetLists: `bits_of` and `octets_of` undo each other, and loops extend their results by one octet at a time.
+-- ## OctetLists: `bits_of` and `octets_of` are inverses of each other, and the loops that compute them extend their results by one octet at
+-- a time.
 
 pub AllBits-bits_of : (octets : List ℕ) → AllBits (bits_of octets)
 AllBits-bits_of [] = All-nil IsBit
@@ -295,7 +298,11 @@ pub bits_of-octets_of : (bits : List ℕ) (n : ℕ) → length bits ≡ 8 * n �
 bits_of-octets_of [] n count all = refl
 bits_of-octets_of (a ∷ b ∷ c ∷ d ∷ e ∷ f ∷ g ∷ h ∷ bits) n count all =
     let each = recursion_from_All IsBit (a ∷ b ∷ c ∷ d ∷ e ∷ f ∷ g ∷ h ∷ bits) all in
-    grind (arith, bits_of-octets_of bits (n - 1) (omega arith) (All-drop IsBit 8 (a ∷ b ∷ c ∷ d ∷ e ∷ f ∷ g ∷ h ∷ bits) all))
+    grind (
+      arith,
+      bits_of-octets_of bits (n - 1) (omega arith)
+          (All-drop IsBit 8 (a ∷ b ∷ c ∷ d ∷ e ∷ f ∷ g ∷ h ∷ bits) all),
+    )
 bits_of-octets_of bits n count all = absurd (omega arith)
 
 -- ---- one step of the loops: one more octet is unpacked or packed
@@ -305,7 +312,7 @@ octets_of-append zero [] ys e = refl
 octets_of-append (suc n) (a ∷ b ∷ c ∷ d ∷ f ∷ g ∷ h ∷ i ∷ xs) ys e = cc (octets_of-append n xs ys (omega arith))
 octets_of-append n xs ys e = absurd (omega arith)
 
--- the octet that eight bits are packed into has these bits
+-- eight bits are packed into one octet, whose bits are these eight
 octet_of_eight : (bits : List ℕ) → length bits ≡ 8 → AllBits bits →
     (n : ℕ) × (n < 256) × (octet_bits n ≡ bits) × (octets_of bits ≡ n ∷ [])
 octet_of_eight (a ∷ b ∷ c ∷ d ∷ e ∷ f ∷ g ∷ h ∷ []) count all =
@@ -329,7 +336,7 @@ octets_of_more octets bits m octet n within count eight here before =
 
 -- ## OctetPlaces: The single bits of a list that `bits_of` unpacks from octets.
 
--- bit 8 m + i of the unpacked list is bit i of octet m
+-- bit 8 m + i of the list that `bits_of` unpacks is bit i of octet m
 pub get_or-bits_of : (octets : List ℕ) (m i : ℕ) → i < 8 → get_or (bits_of octets) (8 * m + i) 0 ≡ bit_of (get_or octets m 0) i
 get_or-bits_of [] m i lt = rw (zero-div (2 ^ i))
 get_or-bits_of (octet ∷ octets) zero (suc (suc (suc (suc (suc (suc (suc (suc i)))))))) lt = absurd (omega arith)
@@ -364,7 +371,7 @@ octets_of-packing bits count all =
     let same = (Decides-eqb (packing (octet_bits of.0)) of.0).0
     (at_passes_below (λ n. eqb (packing (octet_bits n)) n) 256 refl of.0 of.1) in cc (of.3, of.2, same)
 
--- ## WrongPlaces: The number of wrong bits in a list is the sum of the numbers in its two parts.
+-- ## WrongPlaces: The number of wrong bits in a list is the sum of the numbers of wrong bits in its first m elements and in the rest.
 
 none : (soft : List ℤ) → count_wrong_bits soft [] ≡ 0
 none [] = refl

@@ -1,6 +1,6 @@
--- The parts of a burst.
+-- Lemmas about the parts of a burst: its slices, a burst filled from the front, and a normal burst whose halves are written.
 use Rattle.{
-  burst_map.specs.{NormalBurst.normal_burst, Parts.with_part_replaced, Tails.tail_bits},
+  burst_map.specs.{NormalBurst.normal_burst, Parts.with_range_replaced, Tails.tail_bits},
   std.proofs.Common.{List, [], ap, arith, drop, length, refl, replicate, sym, take, ℕ, ◌++◌, ◌+◌, ◌-◌, ◌∙◌, ◌∷◌},
   std.proofs.{Common.{◌≡◌, ◌≤◌}, Math.Seq.take-add, lemmas.List.{Elements.{All-append, All-replicate}, append_assoc}},
   std.{proofs.lemmas.List.{drop-drop, drop-replicate, drop_at, length-append, take_at}, specs.Prelude.slice_range},
@@ -47,16 +47,16 @@ AllBits-filled {front} {rest} filled = rw filled.content
 
 -- ## WrittenHalves: Writing both halves of a normal burst, in either order, gives the burst of these halves.
 
--- in a list of three parts, `with_part_replaced` replaces the middle one
-with_part_replaced-middle : (places front old back part : List ℕ) (from to : ℕ) → places ≡ front ++ (old ++ back) →
-    length front ≡ from → length (front ++ old) ≡ to → with_part_replaced places from to part ≡ front ++ (part ++ back)
-with_part_replaced-middle places front old back part from to is f t =
+-- in a list of three parts, `with_range_replaced` replaces the middle one
+with_range_replaced-middle : (places front old back part : List ℕ) (from to : ℕ) → places ≡ front ++ (old ++ back) →
+    length front ≡ from → length (front ++ old) ≡ to → with_range_replaced places from to part ≡ front ++ (part ++ back)
+with_range_replaced-middle places front old back part from to is f t =
     let before : take from places ≡ front = ap (take from) is ∙ take_at front (old ++ back) from f in
     let after : drop to places ≡ back =
     ap (drop to) (is ∙ sym (append_assoc front old back)) ∙ drop_at (front ++ old) back to t in
     cc
 
--- the bits of a normal burst after the first half, and those before the second half
+-- the bits of a normal burst after its first half (`after_first`) and before its second half (`before_second`)
 abbrev after_first : List ℕ → ℕ → List ℕ
 after_first second tsc = 1 ∷ [] ++ midamble tsc ++ 1 ∷ [] ++ second ++ tail_bits
 
@@ -74,41 +74,41 @@ length-before_second first tsc f known =
     simp length-append (omega (arith, length-midamble tsc known))
 
 write_first : (old first second : List ℕ) (tsc : ℕ) → length old ≡ 57 →
-    with_part_replaced (normal_burst old second tsc) 3 60 first ≡ normal_burst first second tsc
+    with_range_replaced (normal_burst old second tsc) 3 60 first ≡ normal_burst first second tsc
 write_first old first second tsc o =
-    with_part_replaced-middle (normal_burst old second tsc) tail_bits old (after_first second tsc) first 3 60
+    with_range_replaced-middle (normal_burst old second tsc) tail_bits old (after_first second tsc) first 3 60
     (around_first old second tsc) refl
     (omega (arith, length-append tail_bits old))
     ∙ sym (around_first first second tsc)
 
 write_second : (first old second : List ℕ) (tsc : ℕ) → length first ≡ 57 → length old ≡ 57 → tsc ≤ 7 →
-    with_part_replaced (normal_burst first old tsc) 88 145 second ≡ normal_burst first second tsc
+    with_range_replaced (normal_burst first old tsc) 88 145 second ≡ normal_burst first second tsc
 write_second first old second tsc f o known =
     let long = length-before_second first tsc f known in
-    with_part_replaced-middle (normal_burst first old tsc) (before_second first tsc) old tail_bits second 88 145
+    with_range_replaced-middle (normal_burst first old tsc) (before_second first tsc) old tail_bits second 88 145
     (around_second first old tsc) long
     (omega (arith, length-append (before_second first tsc) old))
     ∙ sym (around_second first second tsc)
 
 pub write_first-second : (first second : List ℕ) (tsc : ℕ) → length first ≡ 57 → length second ≡ 57 → tsc ≤ 7 →
-    with_part_replaced (with_part_replaced (normal_burst (replicate 57 0) (replicate 57 0) tsc) 3 60 first) 88 145 second
+    with_range_replaced (with_range_replaced (normal_burst (replicate 57 0) (replicate 57 0) tsc) 3 60 first) 88 145 second
     ≡ normal_burst first second tsc
 write_first-second first second tsc f s known =
     let zeros : List ℕ = replicate 57 0 in
-    ap (λ burst. with_part_replaced burst 88 145 second) (write_first zeros first zeros tsc refl)
+    ap (λ burst. with_range_replaced burst 88 145 second) (write_first zeros first zeros tsc refl)
     ∙ write_second first zeros second tsc f refl known
 
 pub write_second-first : (first second : List ℕ) (tsc : ℕ) → length first ≡ 57 → length second ≡ 57 → tsc ≤ 7 →
-    with_part_replaced (with_part_replaced (normal_burst (replicate 57 0) (replicate 57 0) tsc) 88 145 second) 3 60 first
+    with_range_replaced (with_range_replaced (normal_burst (replicate 57 0) (replicate 57 0) tsc) 88 145 second) 3 60 first
     ≡ normal_burst first second tsc
 write_second-first first second tsc f s known =
     let zeros : List ℕ = replicate 57 0 in
-    ap (λ burst. with_part_replaced burst 3 60 first) (write_second zeros zeros second tsc refl refl known)
+    ap (λ burst. with_range_replaced burst 3 60 first) (write_second zeros zeros second tsc refl refl known)
     ∙ write_first zeros first second tsc refl
 
 -- writing both halves into a normal burst with zeros in their places gives the normal burst of these halves
 pub both_written : (left burst half other first second : List ℕ) (tsc : ℕ) → length first ≡ 57 → length second ≡ 57 →
     tsc ≤ 7 → burst ≡ normal_burst (replicate 57 0) (replicate 57 0) tsc → half ≡ first → other ≡ second →
-    left ≡ with_part_replaced (with_part_replaced burst 3 60 half) 88 145 other → left ≡ normal_burst first second tsc
+    left ≡ with_range_replaced (with_range_replaced burst 3 60 half) 88 145 other → left ≡ normal_burst first second tsc
 both_written left burst half other first second tsc f s known zeros h o is =
     rw (is, zeros, h, o) (write_first-second first second tsc f s known)

@@ -31,7 +31,8 @@ module _ {M : Type 1} {𝓤 : Ura M} (𝓛 : Logic 𝓤) (ℓ : Lifetime) (κ : 
   abbrev p : ℕ
   p = from + o
 
-  -- what is lent: the slice under a new name, the token for it, and the final value of the array
+  -- what the borrow hands out: the slice with its own ghost name, the lifetime token, and the relation between the final values of the
+  -- slice and of the array
   abbrev pub part_lent : GName → Item 𝓤
   part_lent δ =
       given (length mid ≡ to - from)

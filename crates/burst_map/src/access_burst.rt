@@ -44,7 +44,7 @@ pub struct AccessView<'a> {
     burst: &'a [i8; 88],
 }
 
-// In contracts, an `AccessView` is the burst that it borrows.
+// In contracts, an `AccessView` represents the burst that it borrows.
 impl<'a> Model for AccessView<'a> {
     ghost use Rattle.std.specs.Prelude.{◌≡◌, List, ℤ, length};
     ghost use Rattle.std.specs.Borrow.{Bor};

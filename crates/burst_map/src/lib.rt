@@ -18,6 +18,3 @@ pub use sync_burst::{SyncView, sync, sync_sequence};
 
 /// The number of bits in a normal burst, and also in a synchronisation burst.
 pub const BURST_BITS: usize = 148;
-
-#[cfg(test)]
-mod tests;

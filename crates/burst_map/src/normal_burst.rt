@@ -35,7 +35,7 @@ pub struct NormalView<'a> {
     burst: &'a [i8; BURST_BITS],
 }
 
-// In contracts, a `NormalView` is the burst that it borrows.
+// In contracts, a `NormalView` represents the burst that it borrows.
 impl<'a> Model for NormalView<'a> {
     ghost use Rattle.std.specs.Prelude.{◌≡◌, List, ℤ, length};
     ghost use Rattle.std.specs.Borrow.{Bor};

@@ -44,7 +44,7 @@ pub struct SyncView<'a> {
     burst: &'a [i8; BURST_BITS],
 }
 
-// In contracts, a `SyncView` is the burst that it borrows.
+// In contracts, a `SyncView` represents the burst that it borrows.
 impl<'a> Model for SyncView<'a> {
     ghost use Rattle.std.specs.Prelude.{◌≡◌, List, ℤ, length};
     ghost use Rattle.std.specs.Borrow.{Bor};

@@ -179,7 +179,7 @@ coded_from_start u bits = coded_from_place u 0 _ bits (omega arith)
 -- ## PackedCode: `encode_packed` writes the coded bits. Its operations on one octet are checked by computation for all 256 octets. Each
 -- octet gives two groups of four coded pairs; the first group is computed from eight bits that begin in the octet before.
 
--- ---- the coded bits that `encode_upper_four_bits` computes from eight information bits
+-- ---- lemmas about the coded bits that `encode_upper_four_bits` computes from eight information bits
 
 -- the octet of coded bits that `encode_upper_four_bits` computes from eight bits
 abbrev pub quad_of : ℕ → ℕ
@@ -213,7 +213,7 @@ quad_second x i hx hi =
     (Decides-eqb (bit_of (quad_of x) (i + 4)) _).0
     (at_passes_below (is_second x) 4 octet i hi)
 
--- ---- the window: the last four bits of an octet and the first four of the next
+-- ---- lemmas about the octet that joins the last four bits of an octet and the first four of the next
 
 abbrev joined : ℕ → ℕ → ℕ
 joined low high = bit_or low (high * 2 ^ 4 % 2 ^ 8)
@@ -278,7 +278,7 @@ module _ (before here : ℕ) (hb : before < 256) (hh : here < 256) where
   pub window_high : (i : ℕ) → i < 4 → bit_of (joined (before / 2 ^ 4) (bit_and here 15)) (i + 4) ≡ bit_of here i
   window_high i hi = rw (upper, lower) at (joined_bits i hi).high_bit ∙ (window_bits here i hh hi).masked
 
--- ---- one step of the loop: two more octets of coded bits
+-- ---- lemmas about one step of the loop, which writes two more octets of coded bits
 
 module _ (bits : List ℕ) (straddling_octet octet t : ℕ)
     (is : (n : ℕ) → n < 8 → bit_of straddling_octet n ≡ get_or bits (4 * t + 4 + n) 0)
@@ -344,7 +344,7 @@ quads_more bits packed m a b long hm even odd before t ht =
           ])
     ]
 
--- ---- each coded bit, as the definition gives it
+-- ---- lemmas about each coded bit, as the definition gives it
 
 pairs_at : (u ks : List ℕ) (k : ℕ) → k < length ks → (get_or (flat_map (coded_pair u) ks) (2 * k) 0 ≡ g0_bit u (get_or ks k 0)) ×
     (get_or (flat_map (coded_pair u) ks) (2 * k + 1) 0 ≡ g1_bit u (get_or ks k 0))
@@ -362,7 +362,7 @@ coded_at u k lt =
     let at : get_or (range_with_len 0 (length u)) k 0 ≡ k = get_or-range_with_len 0 (length u) k 0 lt ∙ zero-add k in
     rw at at (pairs_at u (range_with_len 0 (length u)) k (omega (arith, length-range_with_len)))
 
--- ---- the information bits with eight zeros before them
+-- ---- lemmas about the information bits with eight zeros before them
 
 module _ (octets : List ℕ) (k : ℕ) where
   abbrev bits : List ℕ
@@ -434,7 +434,7 @@ AreCodedBitsPacked-encode_four_bits_per_octet octets packed long encode_four_bit
           ∙ ap (λ n. get_or (encoding (bits_of octets)) n 0) (omega arith)
     ]
 
--- ---- the coded bits of the front of a list
+-- ---- lemmas about the coded bits of the front of a list
 
 module _ (u rest : List ℕ) (k : ℕ) (lt : k < length u) where
   longer : k < length (u ++ rest)
@@ -471,7 +471,7 @@ AreCodedBitsPacked-front m n u rest octets le long are t r ht hr =
           let at : 2 * k + 1 ≡ 8 * t + r = omega arith in rw (← at) (front_second u rest k within)
     ]
 
--- ## OneBest: The most likely encoder input is unique, since two lists cannot each rank after the other.
+-- ## OneBest: The most likely encoder input is unique, since two encoder inputs cannot each rank after the other.
 
 pub same_number : (x y : ℕ) → (x ≡ y) ⊎ (x ≢ y)
 same_number x y = grind arith
@@ -522,8 +522,8 @@ coded-block = refl
 coded-zeros : encoding (replicate 228 0) ≡ replicate 456 0
 coded-zeros = cc
 
--- one wrong soft bit of strength 7 among 35 right ones of strength 1: two other encoder inputs have a greater path metric than the list of
--- zeros
+-- one wrong soft bit of strength 7 among 35 right ones of strength 1: two other encoder inputs have a greater path metric than the sent
+-- one, which consists of zeros
 abbrev one_strong : List ℤ
 one_strong = negsuc 6 ∷ replicate 35 (pos 1)
 

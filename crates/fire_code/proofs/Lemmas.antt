@@ -6,19 +6,21 @@ use Rattle.{
     proofs.Lemmas.{xor_bits-append, xor_bits-zeros},
     specs.{Bits.{AllBits, IsBit, xor_bits}, Octets.octet_bits, Polynomials.{IsDivisibleBy, IsMultiple, product_coefficient}},
   },
-  fire_code.specs.{Registers.low_bits, Words.{IsRachWord, IsSchWord, IsXcchWord, fire_generator}, declared.octets.TheConstants.REMAINDERS},
+  fire_code.specs.{
+    Registers.low_bits,
+    Words.{IsRachCodeword, IsSchCodeword, IsXcchCodeword, fire_generator},
+    declared.octets.TheConstants.OCTET_REMAINDERS,
+  },
   std.{
     proofs.{
       Common.{Bool, List, [], add-one, append-nil, append_assoc, ap, ap₂, arith, bit_and, bit_or, bit_xor, drop, eqb, fold, get_or},
       Common.{length-append, length, lit<, lit≤, one-add, one-mul, pow-add, pow-suc, pow_pos, refl, replicate, shr-shr, suc, sym, take},
-      Common.{take-add, take-append-drop, true, w64, zero, zero-mul, ℕ, ◌%◌, ◌*◌, ◌++◌, ◌+◌, ◌/◌, ◌<◌, ◌^◌, ◌∙◌, ◌∷◌, ◌≡◌, ◌≤◌, ◌↔◌},
+      Common.{take-add, take-append-drop, true, w64, zero, zero-mul, ℕ, ◌%◌, ◌*◌, ◌++◌, ◌+◌, ◌/◌, ◌<◌, ◌^◌},
+      Common.{◌∙◌, ◌∷◌, ◌≡◌, ◌≤◌, ◌↔◌},
       Math.{Nat.{div-div-eq-div-mul, div-eq_of_lt}, Pow.mod-mod-pow},
-      lemmas.{
-        Bool.eqb-true,
-        List.{Elements.{All-cons, All-drop, All-head, All-nil, All-push, All-tail, All-take}, length-replicate},
-        Nat.{Bits.{bit_at-suc, bit_at_lowest, bit_at_xor, same_from_bits_below}, and_le_r, and_mask, field_of, mod_low},
-        Nat.{mul-add-lt, mul-le, shl_whole, shr_below, shr_high, xor_comm, xor_lt, xor_shr},
-      },
+      lemmas.{Bool.eqb-true, List.{Elements.{All-cons, All-drop, All-head, All-nil, All-push, All-tail, All-take}, length-replicate}},
+      lemmas.Nat.{Bits.{bit_at-suc, bit_at_lowest, bit_at_xor, same_from_bits_below}, and_le_r, and_mask, field_of, mod_low, mul-add-lt},
+      lemmas.Nat.{mul-le, shl_whole, shr_below, shr_high, xor_comm, xor_lt, xor_shr},
     },
     specs.Int.{Bits.{or_shifted_r, xor_assoc, xor_self, xor_zero_l, xor_zero_r}, bit_at, bit_not},
   },
@@ -120,7 +122,7 @@ number_of_within (bit ∷ bits) all =
     rw (pow-suc 2 (length bits))
     (omega (arith, All-head IsBit bit bits all, number_of_within bits (All-tail IsBit bit bits all)))
 
--- ## OctetBits: The bits of an octet, and how octets make up a register.
+-- ## OctetBits: The bits of an octet are its eight lowest bits, and the bits of a register are the bits of its octets, in order.
 
 pub octet_bits-low_bits : (octet : ℕ) → octet_bits octet ≡ low_bits 8 octet
 unfolding low_bits
@@ -183,7 +185,7 @@ remainder_more (suc n) front register bit taps positive bits within is_bit befor
     (omega (arith, length-low_bits)) (cc) (rw low_bits-suc at before)
     (carry_multiple (suc n) carry taps (and_le_r (bit_xor register bit) 1)))
 
--- the shift register after one more bit is shifted in
+-- the contents of the shift register after `bit` is shifted in
 abbrev pub shifted : (taps register bit : ℕ) → ℕ
 shifted taps register bit = bit_xor (register / 2) (bit_and (bit_xor register bit) 1 * taps)
 
@@ -217,7 +219,7 @@ unfolding low_bits
 taps_of_g40 = refl
 
 is_entry : ℕ → Bool
-is_entry octet = eqb (get_or REMAINDERS octet 0) (fold (shifted 618479558656) 0 (low_bits 8 octet))
+is_entry octet = eqb (get_or OCTET_REMAINDERS octet 0) (fold (shifted 618479558656) 0 (low_bits 8 octet))
 
 all_entries : tested is_entry 256 ≡ true
 unfolding tested is_entry low_bits
@@ -230,8 +232,8 @@ IsRemainder bits register = IsDivisibleBy (bits ++ low_bits 40 register) fire_ge
 pub empty_register : IsRemainder [] 0
 empty_register = (rw low_bits-zero (IsDivisibleBy-zeros 40 fire_generator (omega arith)), omega arith)
 
--- a table entry is the remainder of its octet
-pub entry_multiple : (octet : ℕ) → octet < 256 → IsRemainder (low_bits 8 octet) (get_or REMAINDERS octet 0)
+-- each entry of the table is the Fire code remainder of its octet
+pub entry_multiple : (octet : ℕ) → octet < 256 → IsRemainder (low_bits 8 octet) (get_or OCTET_REMAINDERS octet 0)
 unfolding is_entry
 entry_multiple octet within =
     rw (eqb-true _ _ (passed is_entry 256 all_entries octet within), ← taps_of_g40)
@@ -308,7 +310,7 @@ add_after n d p added count bits =
     xor_bits-append d (replicate n 0) p added (count ∙ sym (length-replicate n 0))
     ∙ ap (λ front. front ++ xor_bits p added) (xor_bits-zeros d n bits count)
 
--- n information bits and k check bits; with its check bits inverted, the word is a multiple of the generator
+-- a codeword of n information bits and k check bits: with its check bits inverted, it is a multiple of the generator
 abbrev Word : (n k taps : ℕ) (word : List ℕ) → Type 0
 Word n k taps w =
     (length w ≡ n + k) × AllBits w × IsMultiple (xor_bits w (replicate n 0 ++ replicate k 1)) (1 ∷ low_bits k taps)
@@ -346,17 +348,18 @@ pub cut : (n : ℕ) (w s front back : List ℕ) → s ≡ w → AllBits s → fr
 cut n w s front back same bits first second =
     (cc (take-append-drop n s), rw first (All-take IsBit n s bits), rw second (All-drop IsBit n s bits))
 
--- ## XcchWords: Codewords of the Fire code consist of information bits and check bits. The syndrome of a word of 224 bits.
+-- ## XcchWords: A codeword of the Fire code consists of 184 information bits and 40 check bits. The syndrome of a word of 224 bits is 0
+-- exactly if the word is a codeword.
 
-xcch_word : (d p : List ℕ) → length d ≡ 184 → AllBits d → IsCrc 40 618479558656 d p → IsXcchWord (d ++ p)
+xcch_word : (d p : List ℕ) → length d ≡ 184 → AllBits d → IsCrc 40 618479558656 d p → IsXcchCodeword (d ++ p)
 unfolding low_bits
 xcch_word d p ed bits is = assumption (word_of_crc 184 40 618479558656 d ed p (lit< tt) bits is)
 
-pub some_xcch_crc : (d : List ℕ) → length d ≡ 184 → AllBits d → (p : List ℕ) × IsXcchWord (d ++ p)
+pub some_xcch_crc : (d : List ℕ) → length d ≡ 184 → AllBits d → (p : List ℕ) × IsXcchCodeword (d ++ p)
 some_xcch_crc d ed bits =
     let p = some_crc 40 618479558656 d (lit< tt) (lit< tt) bits in (p.0, xcch_word d p.0 ed bits p.1)
 
-pub one_xcch_crc : (d p p' : List ℕ) → length d ≡ 184 → IsXcchWord (d ++ p) → IsXcchWord (d ++ p') → p ≡ p'
+pub one_xcch_crc : (d p p' : List ℕ) → length d ≡ 184 → IsXcchCodeword (d ++ p) → IsXcchCodeword (d ++ p') → p ≡ p'
 unfolding low_bits
 one_xcch_crc d p p' ed w w' = one_word 184 40 618479558656 d ed p p' (assumption) (assumption)
 
@@ -371,15 +374,15 @@ module _ (d : List ℕ) (register : ℕ) (ed : length d ≡ 184) (bits : AllBits
     (multiple : IsDivisibleBy (d ++ low_bits 40 register) fire_generator) where
   -- 184 information bits followed by their inverted remainder are a codeword
   inverted_remainder : (check : ℕ) → xor_bits (low_bits 40 check) (replicate 40 1) ≡ low_bits 40 register →
-      IsXcchWord (d ++ low_bits 40 check)
+      IsXcchCodeword (d ++ low_bits 40 check)
   inverted_remainder check is =
       xcch_word d (low_bits 40 check) ed bits
       (record { count = length-low_bits 40 check; bits = AllBits-low_bits 40 check; quotient = rw (is, taps_of_g40) multiple })
 
-  pub xcch_of_remainder : (p : List ℕ) → register < 2 ^ 64 → p ≡ low_bits 40 (bit_not w64 register) → IsXcchWord (d ++ p)
+  pub xcch_of_remainder : (p : List ℕ) → register < 2 ^ 64 → p ≡ low_bits 40 (bit_not w64 register) → IsXcchCodeword (d ++ p)
   xcch_of_remainder p within is = rw is (inverted_remainder _ (inverted_register 40 register (lit≤ tt) within))
 
-  xcch_of_sum : (check : ℕ) → bit_xor register check ≡ 0xffffffffff → IsXcchWord (d ++ low_bits 40 check)
+  xcch_of_sum : (check : ℕ) → bit_xor register check ≡ 0xffffffffff → IsXcchCodeword (d ++ low_bits 40 check)
   xcch_of_sum check same =
       inverted_remainder check (cc (
         forty_ones,
@@ -390,7 +393,7 @@ module _ (d : List ℕ) (register : ℕ) (ed : length d ≡ 184) (bits : AllBits
       ))
 
   pub xcch_sum : (check : ℕ) → register < 2 ^ 40 → check < 2 ^ 40 →
-      (bit_xor register check ≡ 0xffffffffff) ↔ IsXcchWord (d ++ low_bits 40 check)
+      (bit_xor register check ≡ 0xffffffffff) ↔ IsXcchCodeword (d ++ low_bits 40 check)
   xcch_sum check within within' = (
     xcch_of_sum check,
     λ word.
@@ -405,9 +408,10 @@ module _ (d : List ℕ) (register : ℕ) (ed : length d ≡ 184) (bits : AllBits
 
   -- the syndrome is the XOR of the remainder of the information bits and the inverted check bits; adding it to the check bits gives a
   -- codeword, and it is 0 exactly if the word is a codeword
-  pub syndrome_of : (check : ℕ) → register < 2 ^ 40 → check < 2 ^ 40 → let syndrome = bit_xor (bit_xor register check) 0xffffffffff in
-      IsXcchWord (xor_bits (d ++ low_bits 40 check) (replicate 184 0 ++ low_bits 40 syndrome)) ×
-      ((syndrome ≡ 0) ↔ IsXcchWord (d ++ low_bits 40 check)) ×
+  pub syndrome_of : (check : ℕ) → register < 2 ^ 40 → check < 2 ^ 40 → let syndrome =
+      bit_xor (bit_xor register check) 0xffffffffff in
+      IsXcchCodeword (xor_bits (d ++ low_bits 40 check) (replicate 184 0 ++ low_bits 40 syndrome)) ×
+      ((syndrome ≡ 0) ↔ IsXcchCodeword (d ++ low_bits 40 check)) ×
       (syndrome < 2 ^ 40)
   syndrome_of check within within' =
       let sum = bit_xor register check in
@@ -420,28 +424,30 @@ module _ (d : List ℕ) (register : ℕ) (ed : length d ≡ 184) (bits : AllBits
         xor_lt 40 sum _ (xor_lt 40 register check within within') (omega arith),
       )
 
--- ## RachWords: RACH codewords consist of information bits and check bits.
+-- ## RachWords: A RACH codeword consists of 8 information bits and 6 check bits.
 
-pub rach_word : (d p b : List ℕ) → length d ≡ 8 → AllBits d → IsCrc 6 61 d p → length b ≡ 6 → AllBits b → IsRachWord (d ++ xor_bits p b) b
+pub rach_word : (d p b : List ℕ) → length d ≡ 8 → AllBits d → IsCrc 6 61 d p → length b ≡ 6 → AllBits b →
+    IsRachCodeword (d ++ xor_bits p b) b
 unfolding low_bits
 rach_word d p b ed bd is eb bb =
     let e : length p ≡ length b = omega (arith, is.count) in
     record {
       count = length-append d (xor_bits p b) ∙ omega (arith, length-xor_bits p b e, is.count);
       bits = AllBits-append d _ bd (AllBits-xor_bits p b);
-      bsic_count = eb;
+      bsic_bit_count = eb;
       bsic_bits = bb;
       multiple = rw (add_after 8 d (xor_bits p b) b ed bd, add_bits_twice p b is.bits e)
           (word_of_crc 8 6 61 d ed p (lit< tt) bd is).2;
     }
 
--- the XOR of the check bits and the BSIC is the CRC of the information bits
-rach_crc : (d p b : List ℕ) → length d ≡ 8 → IsRachWord (d ++ p) b → IsCrc 6 61 d (xor_bits p b) × (xor_bits (xor_bits p b) b ≡ p)
+-- the XOR of the check bits of a RACH codeword and the BSIC is the CRC of the information bits
+rach_crc : (d p b : List ℕ) → length d ≡ 8 → IsRachCodeword (d ++ p) b → IsCrc 6 61 d (xor_bits p b)
+    × (xor_bits (xor_bits p b) b ≡ p)
 unfolding low_bits
 rach_crc d p b ed word =
     let bits = AllBits-front d p word.bits in
     let ep : length p ≡ 6 = omega (arith, word.count, length-append d p) in
-    let e = ep ∙ sym word.bsic_count in (
+    let e = ep ∙ sym word.bsic_bit_count in (
       record {
         count = length-xor_bits p b e ∙ ep;
         bits = AllBits-xor_bits p b;
@@ -451,41 +457,42 @@ rach_crc d p b ed word =
     )
 
 pub some_rach_crc : (d b : List ℕ) → length d ≡ 8 → AllBits d → length b ≡ 6 → AllBits b →
-    (p : List ℕ) × IsRachWord (d ++ p) b
+    (p : List ℕ) × IsRachCodeword (d ++ p) b
 some_rach_crc d b ed bd eb bb =
     let p = some_crc 6 61 d (lit< tt) (lit< tt) bd in (xor_bits p.0 b, rach_word d p.0 b ed bd p.1 eb bb)
 
-pub one_rach_crc : (d p p' b : List ℕ) → length d ≡ 8 → IsRachWord (d ++ p) b → IsRachWord (d ++ p') b → p ≡ p'
+pub one_rach_crc : (d p p' b : List ℕ) → length d ≡ 8 → IsRachCodeword (d ++ p) b → IsRachCodeword (d ++ p') b → p ≡ p'
 one_rach_crc d p p' b ed word word' =
     let crc = rach_crc d p b ed word in
     let crc' = rach_crc d p' b ed word' in
     cc (crc.1, crc'.1, one_crc 6 61 d (xor_bits p b) (xor_bits p' b) crc.0 crc'.0)
 
 -- the bits d followed by six bits x are a codeword for the BSIC b exactly if b is the XOR of x and the CRC of d
-pub rach_code : (d p x b : List ℕ) → length d ≡ 8 → AllBits d → IsCrc 6 61 d p → length x ≡ 6 → AllBits x → length b ≡ 6 →
-    AllBits b → (xor_bits p x ≡ b) ↔ IsRachWord (d ++ x) b
+pub rach_code : (d p x b : List ℕ) → length d ≡ 8 → AllBits d → IsCrc 6 61 d p → length x ≡ 6 → AllBits x →
+    length b ≡ 6 →
+    AllBits b → (xor_bits p x ≡ b) ↔ IsRachCodeword (d ++ x) b
 rach_code d p x b ed bd is ex bx eb bb =
     let word = rach_word d p b ed bd is eb bb in (
       λ same. rw (← add_bits_again p x bx (omega (arith, is.count)), same) word,
       λ held. cc (one_rach_crc d x (xor_bits p b) b ed held word, add_bits_again p b bb (omega (arith, is.count))),
     )
 
--- ## SchWords: SCH codewords consist of information bits and check bits.
+-- ## SchWords: An SCH codeword consists of 25 information bits and 10 check bits.
 
-pub sch_word : (d p : List ℕ) → length d ≡ 25 → AllBits d → IsCrc 10 698 d p → IsSchWord (d ++ p)
+pub sch_word : (d p : List ℕ) → length d ≡ 25 → AllBits d → IsCrc 10 698 d p → IsSchCodeword (d ++ p)
 unfolding low_bits
 sch_word d p ed bits is = assumption (word_of_crc 25 10 698 d ed p (lit< tt) bits is)
 
-pub some_sch_crc : (d : List ℕ) → length d ≡ 25 → AllBits d → (p : List ℕ) × IsSchWord (d ++ p)
+pub some_sch_crc : (d : List ℕ) → length d ≡ 25 → AllBits d → (p : List ℕ) × IsSchCodeword (d ++ p)
 some_sch_crc d ed bits = let p = some_crc 10 698 d (lit< tt) (lit< tt) bits in (p.0, sch_word d p.0 ed bits p.1)
 
-pub one_sch_crc : (d p p' : List ℕ) → length d ≡ 25 → IsSchWord (d ++ p) → IsSchWord (d ++ p') → p ≡ p'
+pub one_sch_crc : (d p p' : List ℕ) → length d ≡ 25 → IsSchCodeword (d ++ p) → IsSchCodeword (d ++ p') → p ≡ p'
 unfolding low_bits
 one_sch_crc d p p' ed w w' = one_word 25 10 698 d ed p p' (assumption) (assumption)
 
 -- ## WorkedWords: The definitions of codewords, checked on worked examples.
 
--- the coefficients m to m + n - 1 of a product, modulo 2
+-- n coefficients, modulo 2, of the product of two polynomials, beginning with the coefficient at index m
 product_from : List ℕ → List ℕ → ℕ → ℕ → List ℕ
 product_from q g m zero = []
 product_from q g m (suc n) = product_coefficient q g m % 2 ∷ product_from q g (m + 1) n
@@ -503,52 +510,52 @@ multiple_of_zeros n t small = record {
   quotient = IsDivisibleBy-zeros n (1 ∷ t) (omega arith);
 }
 
--- eight zeros and six ones are a codeword for BSIC 0
-zeros_of_rach : IsRachWord (replicate 8 0 ++ replicate 6 1) (replicate 6 0)
+-- eight zeros and six ones are a RACH codeword for BSIC 0
+zeros_of_rach : IsRachCodeword (replicate 8 0 ++ replicate 6 1) (replicate 6 0)
 zeros_of_rach = record {
   count = refl;
   bits = AllBits-table (replicate 8 0 ++ replicate 6 1) refl;
-  bsic_count = refl;
+  bsic_bit_count = refl;
   bsic_bits = AllBits-table (replicate 6 0) refl;
   multiple = multiple_of_zeros 14 _ (lit< tt);
 }
 
--- fourteen zeros are a codeword for BSIC 63, and not for BSIC 0
-zeros_of_rach_under_ones : IsRachWord (replicate 14 0) (replicate 6 1)
+-- fourteen zeros are a RACH codeword for BSIC 63, and not for BSIC 0
+zeros_of_rach_under_ones : IsRachCodeword (replicate 14 0) (replicate 6 1)
 zeros_of_rach_under_ones = record {
   count = refl;
   bits = AllBits-table (replicate 14 0) refl;
-  bsic_count = refl;
+  bsic_bit_count = refl;
   bsic_bits = AllBits-table (replicate 6 1) refl;
   multiple = multiple_of_zeros 14 _ (lit< tt);
 }
 
-not_under_zeros : IsRachWord (replicate 14 0) (replicate 6 0) → ⊥
+not_under_zeros : IsRachCodeword (replicate 14 0) (replicate 6 0) → ⊥
 not_under_zeros word =
     let first : 0 ≡ 1 = ap (λ (xs : List ℕ). get_or xs 0 0)
     (one_rach_crc (replicate 8 0) (replicate 6 0) (replicate 6 1) (replicate 6 0) refl word zeros_of_rach) in
     omega (arith, first)
 
-zeros_of_sch : IsSchWord (replicate 25 0 ++ replicate 10 1)
+zeros_of_sch : IsSchCodeword (replicate 25 0 ++ replicate 10 1)
 zeros_of_sch = record {
   count = refl;
   bits = AllBits-table (replicate 25 0 ++ replicate 10 1) refl;
   multiple = multiple_of_zeros 35 _ (lit< tt);
 }
 
-zeros_of_xcch : IsXcchWord (replicate 184 0 ++ replicate 40 1)
+zeros_of_xcch : IsXcchCodeword (replicate 184 0 ++ replicate 40 1)
 zeros_of_xcch = record {
   count = refl;
   bits = AllBits-table (replicate 184 0 ++ replicate 40 1) refl;
   multiple = multiple_of_zeros 224 _ (lit< tt);
 }
 
--- if only the last information bit is 1, all check bits of the Fire code are 1 except check bits 13, 16, 22, 36 and 39
+-- a codeword of the Fire code in which only the last information bit is 1; all its check bits are 1 except check bits 13, 16, 22, 36 and 39
 last_of_xcch_word : List ℕ
 last_of_xcch_word = replicate 183 0 ++ 1 ∷ replicate 13 1 ++ 0 ∷ 1 ∷ 1 ∷ 0 ∷ replicate 5 1 ++ 0 ∷ replicate 13 1 ++ 0 ∷ 1
     ∷ 1 ∷ 0 ∷ []
 
-last_of_xcch : IsXcchWord last_of_xcch_word
+last_of_xcch : IsXcchCodeword last_of_xcch_word
 unfolding last_of_xcch_word
 last_of_xcch = record {
   count = refl;

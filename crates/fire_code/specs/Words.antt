@@ -22,21 +22,21 @@ abbrev pub sch_generator : List ℕ
 sch_generator = 1 ∷ 0 ∷ 1 ∷ 0 ∷ 1 ∷ 1 ∷ 1 ∷ 0 ∷ 1 ∷ 0 ∷ 1 ∷ []
 
 -- `word` is a codeword of the Fire code on xCCH: 184 information bits and 40 inverted check bits (GSM 05.03 section 4.1.2)
-pub record IsXcchWord (word : List ℕ) : Type 0 where
+pub record IsXcchCodeword (word : List ℕ) : Type 0 where
   pub count : length word ≡ 224
   pub bits : AllBits word
   pub multiple : IsMultiple (xor_bits word (replicate 184 0 ++ replicate 40 1)) fire_generator
 
 -- `word` is a codeword of an access burst: 8 information bits and the modulo 2 sum of 6 check bits and the BSIC (GSM 05.03 section 4.6)
-pub record IsRachWord (word bsic : List ℕ) : Type 0 where
+pub record IsRachCodeword (word bsic : List ℕ) : Type 0 where
   pub count : length word ≡ 14
   pub bits : AllBits word
-  pub bsic_count : length bsic ≡ 6
+  pub bsic_bit_count : length bsic ≡ 6
   pub bsic_bits : AllBits bsic
   pub multiple : IsMultiple (xor_bits (xor_bits word (replicate 8 0 ++ bsic)) (replicate 8 0 ++ replicate 6 1)) rach_generator
 
 -- `word` is a codeword of a synchronisation burst: 25 information bits and 10 check bits (GSM 05.03 section 4.7)
-pub record IsSchWord (word : List ℕ) : Type 0 where
+pub record IsSchCodeword (word : List ℕ) : Type 0 where
   pub count : length word ≡ 35
   pub bits : AllBits word
   pub multiple : IsMultiple (xor_bits word (replicate 25 0 ++ replicate 10 1)) sch_generator

@@ -12,7 +12,7 @@ use bit_blocks::Bits;
 
 // The remainder of each octet: the octet followed by the 40 bits of its entry, bit 0 first, is a multiple of the Fire code's generator.
 // `tools/remainders.py` prints the table.
-static REMAINDERS: [u64; 256] = [
+static OCTET_REMAINDERS: [u64; 256] = [
     0x00_0000_0000,
     0x01_2000_8240,
     0x02_4001_0480,
@@ -318,5 +318,5 @@ fn table_remainder(octet: u8) -> u64
     ensures multiple { IsDivisibleBy (low_bits 8 octet ++ low_bits 40 result) fire_generator }
     ensures within { result < 2 ^ 40 }
 {
-    REMAINDERS[octet as usize]
+    OCTET_REMAINDERS[octet as usize]
 }

@@ -2,7 +2,7 @@
 //! bit by bit.
 ghost use Rattle.std.specs.Prelude.{◌≡◌, ◌↔◌, ◌++◌, List, ℕ, length, IsTrue};
 ghost use Rattle.bit_blocks.specs.Bits.{AllBits};
-ghost use Rattle.fire_code.specs.Words.{IsSchWord};
+ghost use Rattle.fire_code.specs.Words.{IsSchCodeword};
 
 use crate::division::crc;
 use bit_blocks::Bits;
@@ -12,8 +12,8 @@ const CRC_TAPS: u64 = 0b10_1011_1010;
 
 /// Returns the CRC of the 25 information bits of a synchronisation burst (GSM 05.03 section 4.7).
 pub fn sch_parity(d: &Bits<25>) -> Bits<10>
-    ensures word { IsSchWord (d.now ++ result) }
-    ensures only { (p : List ℕ) → IsSchWord (d.now ++ p) → p ≡ result }
+    ensures word { IsSchCodeword (d.now ++ result) }
+    ensures only { (p : List ℕ) → IsSchCodeword (d.now ++ p) → p ≡ result }
     ensures count { length result ≡ 10 }
     ensures bits { AllBits result }
 {
@@ -22,7 +22,7 @@ pub fn sch_parity(d: &Bits<25>) -> Bits<10>
 
 /// Returns whether the last 10 of 35 bits are the CRC of the first 25.
 pub fn sch_holds(w: &Bits<35>) -> bool
-    ensures { IsTrue result ↔ IsSchWord w.now }
+    ensures { IsTrue result ↔ IsSchCodeword w.now }
 {
     let (info, check) = w.as_slice().split_at(25);
     crc::<10>(info, CRC_TAPS).as_slice() == check

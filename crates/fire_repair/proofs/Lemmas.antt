@@ -8,7 +8,8 @@ use Rattle.{
       bit_blocks.Lemmas.{AllBits-back, AllBits-table, AllBits-xor_bits, HasQuotient_self, IsDivisibleBy-zeros, IsDivisibleBy-zeros_append},
       bit_blocks.Lemmas.{add_bits_again, add_bits_more, divided_more, get_or-xor_bits, length-xor_bits, xor_bits-zeros},
     },
-    specs.{Registers.low_bits, Words.{IsXcchWord, fire_generator}, bit_blocks.{Bits.{AllBits, IsBit, xor_bits}, Polynomials.IsDivisibleBy}},
+    specs.{Registers.low_bits, Words.{IsXcchCodeword, fire_generator}, bit_blocks.Bits.{AllBits, IsBit, xor_bits}},
+    specs.bit_blocks.Polynomials.IsDivisibleBy,
   },
   fire_repair.specs.{
     Answers.IsRepairResult,
@@ -121,7 +122,7 @@ syndrome_within b = moved_within (212 - b.start) (b.shape * 2 ^ 28) (omega arith
 is_plain : ℕ → ℕ → ℕ → Bool
 is_plain place shape register = elim (register % 2 ^ 28) [ zero ↦ eqb (register / 2 ^ 28 * 2 ^ place) shape | suc _ ↦ true ]
 
--- for each i below n, `is_plain` holds for the register multiplied by D^i, with `place + i`
+-- for each i below n, `is_plain` holds for `place + i`, the shape, and the register multiplied by D^i
 stays_plain : ℕ → ℕ → ℕ → ℕ → Bool
 stays_plain zero place shape register = true
 stays_plain (suc n) place shape register = is_plain place shape register && stays_plain n (suc place) shape (lfsr_step register)
@@ -173,7 +174,7 @@ same_burst b b' same =
 abbrev IsDivisible : ℕ → Type 0
 IsDivisible n = IsDivisibleBy (low_bits 224 n) fire_generator
 
--- two numbers, as 224 bits each, have the same remainder
+-- the words of 224 bits that two numbers represent leave the same remainder on division by the generator
 abbrev AreCongruent : ℕ → ℕ → Type 0
 AreCongruent a b = IsDivisible (bit_xor a b)
 
@@ -187,7 +188,7 @@ AreCongruent-trans a b c ab bc =
     (divided_more [] [] (low_bits 224 (bit_xor a b)) [] [] (low_bits 224 (bit_xor b c)) fire_generator (All-nil IsBit) refl
     (simp length-low_bits) refl ab bc)
 
--- a leading zero of a multiple can be dropped
+-- dropping a leading zero of a multiple of the generator (of at least 41 bits) gives a multiple of the generator
 without_leading_zero : (x : List ℕ) → 40 ≤ length x → IsDivisibleBy (0 ∷ x) fire_generator → IsDivisibleBy x fire_generator
 without_leading_zero x room ([], p) = absurd (omega (arith, p.count))
 without_leading_zero x room (zero ∷ q, p) = (
@@ -263,7 +264,7 @@ syndrome_of_burst b =
 
 -- ## BurstBits: The bits of an error burst.
 
--- a shifted shape has no bits below the shift
+-- a shape that is shifted left by `start` bits has only zeros below bit `start`
 bit_before : (shape start k : ℕ) → k < start → bit_at (shape * 2 ^ start) k ≡ 0
 bit_before shape start k before = rw (add-zero, bit_at-zero) at (bit_at_cat_low shape start 0 k before)
 
@@ -272,7 +273,7 @@ bit_from shape start k i at =
     let same : k - start ≡ i = omega arith in
     rw (add-zero, same) at (bit_at_cat_high shape start 0 k (pow_pos start) (omega arith))
 
--- a number with ones only in twelve consecutive places is a shape, shifted
+-- a number whose bits are 0 outside twelve consecutive positions is a twelve-bit shape, shifted left to the first of these positions
 split : (n start : ℕ) → ((k : ℕ) → ((start ≤ k) × (k < start + 12) → ⊥) → bit_at n k ≡ 0) →
     (n / 2 ^ start * 2 ^ start ≡ n) × (n / 2 ^ start < 2 ^ 12)
 split n start outside =
@@ -291,13 +292,13 @@ pattern_within b =
     let most = pow-le-pow_right {n = 2} (omega arith) {i = 12 + b.start} {j = 224} (omega arith) in
     omega (arith, shl_below b.shape 12 b.start b.short_shape)
 
--- the number with the n bits of a list has these n lowest bits and is below 2 ^ n
+-- the number that the n bits of a list represent is below 2 ^ n, and its n lowest bits are the list
 as_number : (n : ℕ) (xs : List ℕ) → length xs ≡ n → AllBits xs → (low_bits n (number_of xs) ≡ xs) × (number_of xs < 2 ^ n)
 as_number n xs count bits = rw (← count) (low_bits-number_of xs bits, number_of_within xs bits)
 
 -- ## Words: Adding an error pattern to a word of 224 bits gives a codeword exactly if the pattern has the word's syndrome.
 
--- a word with every bit inverted that is 1 in the number
+-- the word with bit k inverted for every bit k of the number that is 1
 abbrev pub flipped : List ℕ → ℕ → List ℕ
 flipped w n = xor_bits w (low_bits 224 n)
 
@@ -315,7 +316,7 @@ at_crc register =
     let none : register * 2 ^ 184 % 2 ^ 184 ≡ 0 = omega arith in
     rw (register_bits_split 184 40 224 (register * 2 ^ 184) refl, ← low_bits-mod 184 (register * 2 ^ 184), none, low_bits-zero, shl-shr)
 
--- adding `burst` to w gives v, and w has the same syndrome as `burst`
+-- `v` is the sum of `w` and the error burst `burst`, and `burst` has the same syndrome as `w`
 record IsTurned (w v : List ℕ) : Type 0 where
   burst : Burst
   sum : v ≡ flipped w (pattern burst)
@@ -401,8 +402,8 @@ searched_here {syndrome} {start} {register} next is at low =
 -- w is not a codeword, and `syndrome` is its syndrome: adding it to the check bits gives a codeword
 pub record HasSyndrome (w : List ℕ) (syndrome : ℕ) : Type 0 where
   pub within : syndrome < 2 ^ 40
-  pub not_codeword : IsXcchWord w → ⊥
-  pub word : IsXcchWord (xor_bits w (replicate 184 0 ++ low_bits 40 syndrome))
+  pub not_codeword : IsXcchCodeword w → ⊥
+  pub word : IsXcchCodeword (xor_bits w (replicate 184 0 ++ low_bits 40 syndrome))
 
 module _ (w : List ℕ) (ew : length w ≡ 224) (bw : AllBits w) where
   unchanged : flipped w 0 ≡ w
@@ -422,10 +423,10 @@ module _ (w : List ℕ) (ew : length w ≡ 224) (bw : AllBits w) where
       let order : bit_xor (bit_xor x o) n ≡ bit_xor (bit_xor x n) o = cc (xor_assoc x o n, xor_assoc x n o, xor_comm o n) in
       rw (order, low_bits-xor 224 (bit_xor x n) o, low_bits-xor 224 x n, (as_number 224 w ew bw).0, inverted_crc)
 
-  congruent_of : (n : ℕ) → IsXcchWord (flipped w n) → AreCongruent (inverted w) n
+  congruent_of : (n : ℕ) → IsXcchCodeword (flipped w n) → AreCongruent (inverted w) n
   congruent_of n word = rw (multiple_is n) word.multiple.quotient
 
-  word_of : (n : ℕ) → AreCongruent (inverted w) n → IsXcchWord (flipped w n)
+  word_of : (n : ℕ) → AreCongruent (inverted w) n → IsXcchCodeword (flipped w n)
   word_of n same = record {
     count = length-flipped n;
     bits = AllBits-xor_bits w (low_bits 224 n);
@@ -489,7 +490,7 @@ module _ (w : List ℕ) (ew : length w ≡ 224) (bw : AllBits w) where
       ap (xor_bits w) number.0 ∙ add_bits_again w v r.codeword.bits (r.codeword.count ∙ sym ew) in
       let start = min r.start 212 in
       let parts = split n start (λ k outside.
-      grind (arith, bit_of n k number.1, bit_at_above n 224 k number.1, r.changes_within_12 k, sum, outside)) in
+      grind (arith, bit_of n k number.1, bit_at_above n 224 k number.1, r.changes_within_twelve_bits k, sum, outside)) in
       let b : Burst = record { start = start; shape = n / 2 ^ start; start_fits = omega arith; short_shape = parts.1 } in
       record {
         burst = b;
@@ -542,7 +543,7 @@ module _ (w : List ℕ) (ew : length w ≡ 224) (bw : AllBits w) where
     same = congruent_of (syndrome * 2 ^ 184) (rw at_crc has.word)
 
     -- if a burst has the word's syndrome, adding it to the word gives a codeword
-    word_of_burst : (b : Burst) → syndrome_of b ≡ syndrome → IsXcchWord (flipped w (pattern b))
+    word_of_burst : (b : Burst) → syndrome_of b ≡ syndrome → IsXcchCodeword (flipped w (pattern b))
     word_of_burst b is =
         word_of (pattern b) (AreCongruent-trans (inverted w) (syndrome * 2 ^ 184) (pattern b) same
         (rw (is, xor_comm) at (syndrome_of_burst b)))
@@ -564,7 +565,7 @@ module _ (w : List ℕ) (ew : length w ≡ 224) (bw : AllBits w) where
         not_codeword = has.not_codeword;
         codeword = word_of_burst b is;
         start = b.start;
-        changes_within_12 = differs_near b;
+        changes_within_twelve_bits = differs_near b;
       },
       record {
         nonzero = omega arith;

@@ -2,17 +2,17 @@
 -- own rule).
 use Rattle.std.specs.Prelude.{ℕ, ◌≡◌, ◌≢◌, ◌+◌, ◌<◌, ◌≤◌, List, length, slice_index}
 use Rattle.fire_code.specs.bit_blocks.Bits.{AllBits}
-use Rattle.fire_code.specs.Words.{IsXcchWord}
+use Rattle.fire_code.specs.Words.{IsXcchCodeword}
 
 -- `repaired` is a repair of `received`: `received` is not a codeword, `repaired` is one, and they differ only within twelve consecutive
 -- bits
 pub record IsRepair (received repaired : List ℕ) : Type 0 where
   pub count : length received ≡ 224
   pub bits : AllBits received
-  pub not_codeword : IsXcchWord received → ⊥
-  pub codeword : IsXcchWord repaired
+  pub not_codeword : IsXcchCodeword received → ⊥
+  pub codeword : IsXcchCodeword repaired
   pub start : ℕ
-  pub changes_within_12 : (k : ℕ) → slice_index received k ≢ slice_index repaired k → (start ≤ k) × (k < start + 12)
+  pub changes_within_twelve_bits : (k : ℕ) → slice_index received k ≢ slice_index repaired k → (start ≤ k) × (k < start + 12)
 
 -- `received` and `repaired` differ at bit `first` and at the last of the `span` bits that begin there, and nowhere outside these bits
 pub record IsSpanOfChangedBits (received repaired : List ℕ) (first span : ℕ) : Type 0 where

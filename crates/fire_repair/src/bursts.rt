@@ -57,7 +57,7 @@ pub(crate) fn flip_error_burst(w: &Bits<224>, found: ErrorBurst) -> Bits<224>
 }
 
 /// Returns the indexes, each 0 to 11, of the first and the last wrong bit in a shape.
-pub(crate) fn first_and_last_bit(shape: u64) -> (u32, u32)
+pub(crate) fn first_and_last_wrong_bit(shape: u64) -> (u32, u32)
     requires nonzero { 0 < shape }
     requires twelve { shape < 2 ^ 12 }
     ensures first { bit_at shape result.0 ≡ 1 }

@@ -10,6 +10,3 @@ mod repairs;
 
 pub use laws::law_error_burst_repair_is_unique;
 pub use repairs::{RepairAnswer, repair};
-
-#[cfg(test)]
-mod tests;

@@ -2,7 +2,7 @@
 ghost use Rattle.std.specs.Prelude.{◌≡◌};
 ghost use Rattle.fire_repair.specs.Answers.{IsRepairResult};
 
-use crate::bursts::{find_error_burst, first_and_last_bit, flip_error_burst};
+use crate::bursts::{find_error_burst, first_and_last_wrong_bit, flip_error_burst};
 use fire_code::{Bits, xcch_syndrome};
 
 /// The result of `repair`.
@@ -34,7 +34,7 @@ pub fn repair(w: &Bits<224>) -> RepairAnswer
     match find_error_burst(syndrome) {
         None => RepairAnswer::NoRepair,
         Some(found) => {
-            let (first, last) = first_and_last_bit(found.shape);
+            let (first, last) = first_and_last_wrong_bit(found.shape);
             RepairAnswer::Repaired {
                 word: flip_error_burst(w, found),
                 first: (found.start + first as usize) as u8,

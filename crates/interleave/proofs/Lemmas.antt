@@ -6,10 +6,10 @@ use Rattle.{
   },
   interleave.specs.{
     Bursts.{AreDeinterleaved, IsBurstDeinterleaved, IsInterleaved},
-    ColumnPositions.{coded_bit_of_column, coded_index_at, column_bit_position},
+    ColumnPositions.{coded_bit_number_in_column, coded_bit_number_in_burst, burst_position_of_column_bit},
     Columns.AreColumnsOfCodedBits,
-    Positions.{burst_of_bit, burst_position, four_burst_position},
-    declared.table.TheConstants.HALF_BURST_BITS,
+    Positions.{burst_of_bit, position_in_burst, position_in_four_bursts},
+    declared.table.TheConstants.HALF_BURST_CODED_BIT_NUMBERS,
   },
   std.{
     proofs.{
@@ -31,28 +31,28 @@ use borrow.Rule.Slice.PartMut.{mid_of, put_mid}
 use lib.Lanes.{Each1, chunk, digits_l, number_l, pick_l, put_chunk, zip2}
 use mir.{Syntax.Width, Val.bits}
 
--- ## Rows: `coded_index_at` is the inverse of `burst_of_bit` and `burst_position`, checked by computation for all 456 coded bits.
+-- ## Rows: `coded_bit_number_in_burst` is the inverse of `burst_of_bit` and `position_in_burst`, computed for all 456 coded bits.
 
 -- coded bit k is at position j of burst b
 pub record IsCodedBitAt (k b j : ℕ) : Type 0 where
   pub in_range : k < 456
   pub burst : burst_of_bit k ≡ b
-  pub place : burst_position k ≡ j
+  pub place : position_in_burst k ≡ j
 
 abbrev is_coded_index_right : ℕ → ℕ → Bool
-is_coded_index_right b j = ltb (coded_index_at b j) 456 &&
-    (eqb (burst_of_bit (coded_index_at b j)) b && eqb (burst_position (coded_index_at b j)) j)
+is_coded_index_right b j = ltb (coded_bit_number_in_burst b j) 456 &&
+    (eqb (burst_of_bit (coded_bit_number_in_burst b j)) b && eqb (position_in_burst (coded_bit_number_in_burst b j)) j)
 
 every_coded_index_is_right : passes_below (λ b. passes_below (is_coded_index_right b) 114) 4 ≡ true
-unfolding coded_index_at coded_bit_of_column burst_of_bit burst_position passes_below
+unfolding coded_bit_number_in_burst coded_bit_number_in_column burst_of_bit position_in_burst passes_below
 every_coded_index_is_right = cc
 
-IsCodedBitAt-coded_index_at : (b j : ℕ) → b < 4 → j < 114 → IsCodedBitAt (coded_index_at b j) b j
-IsCodedBitAt-coded_index_at b j hb hj =
+IsCodedBitAt-coded_bit_number_in_burst : (b j : ℕ) → b < 4 → j < 114 → IsCodedBitAt (coded_bit_number_in_burst b j) b j
+IsCodedBitAt-coded_bit_number_in_burst b j hb hj =
     let here = at_passes_below _ 114 (at_passes_below (λ b. passes_below _ 114) 4 every_coded_index_is_right b hb) j hj in
     let burst = eqb _ b in
     let place = eqb _ j in
-    let rest = both_true burst place (both_true (ltb (coded_index_at b j) 456) (burst && place) here).1 in
+    let rest = both_true burst place (both_true (ltb (coded_bit_number_in_burst b j) 456) (burst && place) here).1 in
     record {
       in_range = search (rules, tests);
       burst = search (rules, tests);
@@ -60,43 +60,45 @@ IsCodedBitAt-coded_index_at b j hb hj =
     }
 
 abbrev is_coded_bit_recovered : ℕ → Bool
-is_coded_bit_recovered k = eqb (coded_index_at (burst_of_bit k) (burst_position k)) k
+is_coded_bit_recovered k = eqb (coded_bit_number_in_burst (burst_of_bit k) (position_in_burst k)) k
 
 every_coded_bit_is_recovered : passes_below is_coded_bit_recovered 456 ≡ true
-unfolding coded_index_at coded_bit_of_column burst_of_bit burst_position passes_below
+unfolding coded_bit_number_in_burst coded_bit_number_in_column burst_of_bit position_in_burst passes_below
 every_coded_bit_is_recovered = cc
 
-coded_index_at-inverse : (k : ℕ) → k < 456 → coded_index_at (burst_of_bit k) (burst_position k) ≡ k
-coded_index_at-inverse k hk =
+coded_bit_number_in_burst-inverse : (k : ℕ) → k < 456 → coded_bit_number_in_burst (burst_of_bit k) (position_in_burst k) ≡ k
+coded_bit_number_in_burst-inverse k hk =
     let found = at_passes_below _ 456 every_coded_bit_is_recovered k hk in
     search rules
 
 -- the burst and the position in it determine the coded bit
-pub same_coded_bit : (k l : ℕ) → k < 456 → l < 456 → burst_of_bit k ≡ burst_of_bit l → burst_position k ≡ burst_position l →
+pub same_coded_bit : (k l : ℕ) → k < 456 → l < 456 → burst_of_bit k ≡ burst_of_bit l →
+    position_in_burst k ≡ position_in_burst l →
     k ≡ l
 same_coded_bit k l hk hl burst place =
-    let at_k = coded_index_at-inverse k hk in
-    let at_l = coded_index_at-inverse l hl in
+    let at_k = coded_bit_number_in_burst-inverse k hk in
+    let at_l = coded_bit_number_in_burst-inverse l hl in
     cc
 
-pub coded_index_at-unique : (k b j : ℕ) → k < 456 → burst_of_bit k ≡ b → burst_position k ≡ j → coded_index_at b j ≡ k
-coded_index_at-unique k b j hk burst place = let found = coded_index_at-inverse k hk in cc
+pub coded_bit_number_in_burst-unique : (k b j : ℕ) → k < 456 → burst_of_bit k ≡ b → position_in_burst k ≡ j →
+    coded_bit_number_in_burst b j ≡ k
+coded_bit_number_in_burst-unique k b j hk burst place = let found = coded_bit_number_in_burst-inverse k hk in cc
 
 -- ## Bijection: Interleaving is a bijection between coded bits and burst positions, so the coded bits and the bursts determine each other.
 
--- the coded bit at position j of burst b
-pub coded_bit_at : (b j : ℕ) → b < 4 → j < 114 → (k : ℕ) × (k < 456) × (burst_of_bit k ≡ b) × (burst_position k ≡ j)
+-- each position j of each burst b holds a coded bit
+pub coded_bit_at : (b j : ℕ) → b < 4 → j < 114 → (k : ℕ) × (k < 456) × (burst_of_bit k ≡ b) × (position_in_burst k ≡ j)
 coded_bit_at b j hb hj =
-    let stands = IsCodedBitAt-coded_index_at b j hb hj in
-    (coded_index_at b j, stands.in_range, stands.burst, stands.place)
+    let stands = IsCodedBitAt-coded_bit_number_in_burst b j hb hj in
+    (coded_bit_number_in_burst b j, stands.in_range, stands.burst, stands.place)
 
 module _ {X : Type 0} where
   -- each value in the bursts is the value of a coded bit
   from_coded : (coded : List X) (bursts : List (List X)) → IsInterleaved coded bursts → (b j : ℕ) (d : X) → b < 4 → j < 114 →
-      get_or (get_or bursts b []) j d ≡ get_or coded (coded_index_at b j) d
+      get_or (get_or bursts b []) j d ≡ get_or coded (coded_bit_number_in_burst b j) d
   from_coded coded bursts whole b j d hb hj =
-      let stands = IsCodedBitAt-coded_index_at b j hb hj in
-      let holds = whole.positions (coded_index_at b j) d stands.in_range in
+      let stands = IsCodedBitAt-coded_bit_number_in_burst b j hb hj in
+      let holds = whole.positions (coded_bit_number_in_burst b j) d stands.in_range in
       rw (stands.burst, stands.place) at holds
 
   pub same_coded : (coded coded' : List X) (bursts : List (List X)) → IsInterleaved coded bursts → IsInterleaved coded' bursts →
@@ -125,26 +127,29 @@ AllBits-bursts coded bursts whole bits b none lt j d le =
     let hb : b < 4 = rw whole.burst_count at lt in
     let hj : j < 114 = rw whole.burst_lengths at le in
     rw (get_or_default bursts b none [] lt, from_coded coded bursts whole b j d hb hj)
-    (bits (coded_index_at b j) d (rw whole.coded_count (IsCodedBitAt-coded_index_at b j hb hj).in_range))
+    (bits (coded_bit_number_in_burst b j) d (rw whole.coded_count (IsCodedBitAt-coded_bit_number_in_burst b j hb hj).in_range))
 
--- ## CodedBits: The entries of the table `HALF_BURST_BITS` are what `coded_index_at` gives, checked by computation.
+-- ## CodedBits: The entries of the table `HALF_BURST_CODED_BIT_NUMBERS` are what `coded_bit_number_in_burst` gives, checked by computation.
 
 abbrev is_table_entry_right : ℕ → ℕ → Bool
-is_table_entry_right r i = eqb (get_or (get_or HALF_BURST_BITS r []) i 0) (coded_index_at (r / 2) (57 * (r % 2) + i))
+is_table_entry_right r i =
+    eqb (get_or (get_or HALF_BURST_CODED_BIT_NUMBERS r []) i 0) (coded_bit_number_in_burst (r / 2) (57 * (r % 2) + i))
 
 every_table_entry_is_right : passes_below (λ r. passes_below (is_table_entry_right r) 57) 8 ≡ true
-unfolding coded_index_at coded_bit_of_column passes_below
+unfolding coded_bit_number_in_burst coded_bit_number_in_column passes_below
 every_table_entry_is_right = cc
 
-pub table_entry : (b half i : ℕ) → b < 4 → half ≤ 1 → i < 57 → get_or (get_or HALF_BURST_BITS (2 * b + half) []) i 0 ≡
-    coded_index_at b
+pub table_entry : (b half i : ℕ) → b < 4 → half ≤ 1 → i < 57 →
+    get_or (get_or HALF_BURST_CODED_BIT_NUMBERS (2 * b + half) []) i 0 ≡
+    coded_bit_number_in_burst b
     (57 * half + i)
 table_entry b half i hb hh hi =
     let r : ℕ = 2 * b + half in
     let row = at_passes_below (λ r. passes_below (is_table_entry_right r) 57) 8 every_table_entry_is_right r (omega arith) in
-    (Decides-eqb (get_or (get_or HALF_BURST_BITS r []) i 0) (coded_index_at (r / 2) (57 * (r % 2) + i))).0 (at_passes_below
+    (Decides-eqb (get_or (get_or HALF_BURST_CODED_BIT_NUMBERS r []) i 0) (coded_bit_number_in_burst (r / 2) (57 * (r % 2) + i))).0
+    (at_passes_below
     (is_table_entry_right r) 57 row i hi)
-    ∙ ap₂ coded_index_at (omega arith) (omega arith)
+    ∙ ap₂ coded_bit_number_in_burst (omega arith) (omega arith)
 
 -- ## WholeBursts: A burst consists of two halves.
 
@@ -152,22 +157,22 @@ pub burst_of_bit-below : (k : ℕ) → burst_of_bit k < 4
 unfolding burst_of_bit
 burst_of_bit-below k = omega arith
 
-pub burst_position-below : (k : ℕ) → burst_position k < 114
-unfolding burst_position
-burst_position-below k = omega arith
+pub position_in_burst-below : (k : ℕ) → position_in_burst k < 114
+unfolding position_in_burst
+position_in_burst-below k = omega arith
 
--- if both halves have the right value at their positions, so has the whole burst
+-- if both halves of a burst have the right value at the position of coded bit k, so has the whole burst
 pub halves-at : {X : Type 0} (first second : List X) (k : ℕ) (d value : X) → length first ≡ 57 →
-    ((i : ℕ) → i < 57 → burst_position k ≡ 57 * 0 + i → get_or first i d ≡ value) →
-    ((i : ℕ) → i < 57 → burst_position k ≡ 57 * 1 + i → get_or second i d ≡ value) →
-    get_or (first ++ second) (burst_position k) d ≡ value
+    ((i : ℕ) → i < 57 → position_in_burst k ≡ 57 * 0 + i → get_or first i d ≡ value) →
+    ((i : ℕ) → i < 57 → position_in_burst k ≡ 57 * 1 + i → get_or second i d ≡ value) →
+    get_or (first ++ second) (position_in_burst k) d ≡ value
 halves-at first second k d value long in_first in_second =
-    let within = burst_position-below k in
-    elim (cases_lt (burst_position k) 57) [
+    let within = position_in_burst-below k in
+    elim (cases_lt (position_in_burst k) 57) [
       | inl lower ↦
-          get_or_append_left _ _ d (burst_position k) (omega arith) ∙ in_first _ lower (omega arith)
+          get_or_append_left _ _ d (position_in_burst k) (omega arith) ∙ in_first _ lower (omega arith)
       | inr upper ↦
-          get_or-append_right first second 57 (burst_position k) d long upper
+          get_or-append_right first second 57 (position_in_burst k) d long upper
           ∙ in_second _ (omega arith) (omega arith)
     ]
 
@@ -183,12 +188,12 @@ put_mid-halves first old second f o s =
 module _ (b half : ℕ) (hb : b < 4) (hh : half ≤ 1) where
   -- the coded bit at position i of the half
   abbrev pub bit_of_half : ℕ → ℕ
-  bit_of_half i = coded_index_at b (57 * half + i)
+  bit_of_half i = coded_bit_number_in_burst b (57 * half + i)
 
   pub half-position : (i : ℕ) → i < 57 → IsCodedBitAt (bit_of_half i) b (57 * half + i)
-  half-position i hi = IsCodedBitAt-coded_index_at b _ hb (omega arith)
+  half-position i hi = IsCodedBitAt-coded_bit_number_in_burst b _ hb (omega arith)
 
-  -- the coded bits that are read by the table are this half of the burst
+  -- the coded bits at the 57 indexes `bit_of_half` are this half of the burst
   pub IsInterleaved-half_burst : (coded : List ℕ) (bursts : List (List ℕ)) (out : List ℕ) → IsInterleaved coded bursts →
       length out ≡ 57 → ((i : ℕ) → i < 57 → get_or out i 0 ≡ get_or coded (bit_of_half i) 0) →
       out ≡ slice_range (get_or bursts b []) (57 * half) (57 * half + 57)
@@ -206,10 +211,11 @@ module _ (b half : ℕ) (hb : b < 4) (hh : half ≤ 1) where
 
   half-differs : (i j : ℕ) → i < 57 → j < 57 → i ≢ j → bit_of_half i ≢ bit_of_half j
   half-differs i j hi hj other same =
-      let places : 57 * half + i ≡ 57 * half + j = sym (half-position i hi).place ∙ ap burst_position same ∙ (half-position j hj).place in
+      let places : 57 * half + i ≡ 57 * half + j = sym (half-position i hi).place ∙ ap position_in_burst same
+      ∙ (half-position j hj).place in
       other (omega arith)
 
-  -- one more value is written; the earlier values and those of the other half are unchanged
+  -- lemmas about one step of the loop: one more value is written, and the earlier values and those of the other half are unchanged
   module _ (soft old values : List ℤ) (i : ℕ) (value : ℤ) (hi : i < 57) (full : length soft ≡ 456)
       (read : value ≡ get_or values i (pos 0)) where
     pub updated_bits-more : ((j : ℕ) → j < i → get_or soft (bit_of_half j) (pos 0) ≡ get_or values j (pos 0)) →
@@ -232,26 +238,27 @@ module _ (b half : ℕ) (hb : b < 4) (hh : half ≤ 1) where
 -- ## BurstPlaces: A coded bit is determined by its position among the 592 bits of four bursts.
 
 -- the first half of a burst's coded bits comes after three tail bits
-pub four_burst_position-lower : (k : ℕ) → burst_position k < 57 →
-    four_burst_position k ≡ 148 * burst_of_bit k + burst_position k + 3
-unfolding four_burst_position
-four_burst_position-lower k h = grind arith
+pub position_in_four_bursts-lower : (k : ℕ) → position_in_burst k < 57 →
+    position_in_four_bursts k ≡ 148 * burst_of_bit k + position_in_burst k + 3
+unfolding position_in_four_bursts
+position_in_four_bursts-lower k h = grind arith
 
--- the second half comes after 28 more bits: two stealing flags and the training sequence
-pub four_burst_position-upper : (k : ℕ) → 57 ≤ burst_position k →
-    four_burst_position k ≡ 148 * burst_of_bit k + burst_position k + 31
-unfolding four_burst_position
-four_burst_position-upper k h = grind arith
+-- the second half of a burst's coded bits comes after 28 more bits: two stealing flags and the training sequence
+pub position_in_four_bursts-upper : (k : ℕ) → 57 ≤ position_in_burst k →
+    position_in_four_bursts k ≡ 148 * burst_of_bit k + position_in_burst k + 31
+unfolding position_in_four_bursts
+position_in_four_bursts-upper k h = grind arith
 
-pub four_burst_position-below : (k : ℕ) → four_burst_position k < 592
-unfolding four_burst_position
-four_burst_position-below k = grind (arith, burst_of_bit-below k, burst_position-below k)
+pub position_in_four_bursts-below : (k : ℕ) → position_in_four_bursts k < 592
+unfolding position_in_four_bursts
+position_in_four_bursts-below k = grind (arith, burst_of_bit-below k, position_in_burst-below k)
 
-pub four_burst_position-differs : (k l : ℕ) → k < 456 → l < 456 → four_burst_position k ≡ four_burst_position l → k ≡ l
-unfolding four_burst_position
-four_burst_position-differs k l hk hl same =
-    let place_k = burst_position-below k in
-    let place_l = burst_position-below l in
+pub position_in_four_bursts-differs : (k l : ℕ) → k < 456 → l < 456 → position_in_four_bursts k ≡ position_in_four_bursts l →
+    k ≡ l
+unfolding position_in_four_bursts
+position_in_four_bursts-differs k l hk hl same =
+    let place_k = position_in_burst-below k in
+    let place_l = position_in_burst-below l in
     same_coded_bit k l hk hl (grind arith) (grind arith)
 
 -- ## Orders: Bursts may be deinterleaved in any order: each writes only its own coded bits.
@@ -260,16 +267,16 @@ Contains-tail : (b x : ℕ) (order : List ℕ) → Contains (b ∷ order) x → 
 Contains-tail b x _ h other = grind arith
 
 module _ {X : Type 0} (bursts : List (List X)) (k : ℕ) (d : X) (hk : k < 456) where
-  -- the value of this coded bit in the bursts
+  -- the value of coded bit k in the bursts
   abbrev held : X
-  held = get_or (get_or bursts (burst_of_bit k) []) (burst_position k) d
+  held = get_or (get_or bursts (burst_of_bit k) []) (position_in_burst k) d
 
   gathered_own : (b : ℕ) (old new : List X) → IsBurstDeinterleaved b (get_or bursts b []) old new → burst_of_bit k ≡ b →
       get_or new k d ≡ held
   gathered_own b old new step same =
-      step.updated_bits k d hk same ∙ ap (λ n. get_or (get_or bursts n []) (burst_position k) d) (sym same)
+      step.updated_bits k d hk same ∙ ap (λ n. get_or (get_or bursts n []) (position_in_burst k) d) (sym same)
 
-  -- a value that has been written stays the same
+  -- deinterleaving further bursts does not change a value that has been written
   gathered_keeps : (order : List ℕ) (old new : List X) → AreDeinterleaved bursts order old new → get_or old k d ≡ held →
       get_or new k d ≡ held
   gathered_keeps [] old new same there = ap (λ xs. get_or xs k d) (sym same) ∙ there
@@ -289,7 +296,8 @@ module _ {X : Type 0} (bursts : List (List X)) (k : ℕ) (d : X) (hk : k < 456) 
         | inr other ↦ gathered_reaches order next new rest (Contains-tail b (burst_of_bit k) order among other)
       ]
 
-length-deinterleaved : {X : Type 0} (bursts : List (List X)) (order : List ℕ) (old new : List X) → AreDeinterleaved bursts order old new →
+length-deinterleaved : {X : Type 0} (bursts : List (List X)) (order : List ℕ) (old new : List X) →
+    AreDeinterleaved bursts order old new →
     length new ≡ length old
 length-deinterleaved bursts [] old new same = ap length (sym same)
 length-deinterleaved bursts (b ∷ order) old new (next, step, rest) = length-deinterleaved bursts order next new rest ∙ step.count
@@ -306,11 +314,11 @@ IsInterleaved-any_order bursts order old new long four each every steps = record
 
 -- ## Existence: Any 456 coded bits can be interleaved, and any four bursts can be deinterleaved.
 
--- ---- interleaving
+-- ---- lemmas about interleaving
 
 -- the coded bits of burst b, by position
 burst_bits : List ℕ → ℕ → List ℕ
-burst_bits c b = map (λ j. get_or c (coded_index_at b j) 0) (range_with_len 0 114)
+burst_bits c b = map (λ j. get_or c (coded_bit_number_in_burst b j) 0) (range_with_len 0 114)
 
 all_burst_bits : List ℕ → List (List ℕ)
 all_burst_bits c = map (burst_bits c) (range_with_len 0 4)
@@ -325,23 +333,24 @@ some_spread c count = (
     burst_lengths = λ b d h.
         let within : b < 4 = rw (length-map-range_with_len (burst_bits c) 0 4) at h in
         ap length (get_or-map-range_with_len (burst_bits c) 0 4 b b d within (omega arith))
-        ∙ length-map-range_with_len (λ j. get_or c (coded_index_at b j) 0) 0 114;
+        ∙ length-map-range_with_len (λ j. get_or c (coded_bit_number_in_burst b j) 0) 0 114;
     positions = λ k d within.
         let b = burst_of_bit k in
-        let j = burst_position k in
+        let j = position_in_burst k in
         ap (λ bits. get_or bits j d) (get_or-map-range_with_len (burst_bits c) 0 4 b b [] (burst_of_bit-below k) (omega arith))
-        ∙ get_or-map-range_with_len (λ i. get_or c (coded_index_at b i) 0) 0 114 j j d (burst_position-below k) (omega arith)
-        ∙ ap (λ i. get_or c i 0) (coded_index_at-inverse k within)
+        ∙ get_or-map-range_with_len (λ i. get_or c (coded_bit_number_in_burst b i) 0) 0 114 j j d (position_in_burst-below k)
+        (omega arith)
+        ∙ ap (λ i. get_or c i 0) (coded_bit_number_in_burst-inverse k within)
         ∙ get_or_default c k 0 d (omega arith);
   },
 )
 
--- ---- deinterleaving
+-- ---- lemmas about deinterleaving
 
 module _ {X : Type 0} (none : X) (parts : List (List X)) (four : length parts ≡ 4) (each : All (λ part. length part ≡ 114) parts) where
   -- the value of coded bit k in the bursts
   held_at : ℕ → X
-  held_at k = get_or (get_or parts (burst_of_bit k) []) (burst_position k) none
+  held_at k = get_or (get_or parts (burst_of_bit k) []) (position_in_burst k) none
 
   pub some_gathered : (c : List X) × IsInterleaved c parts
   unfolding held_at
@@ -354,13 +363,13 @@ module _ {X : Type 0} (none : X) (parts : List (List X)) (four : length parts �
       positions = λ k d h.
           let within : burst_of_bit k < length parts = omega (arith, burst_of_bit-below k) in
           let long : length (get_or parts (burst_of_bit k) []) ≡ 114 = each (burst_of_bit k) [] within in
-          let inside : burst_position k < length (get_or parts (burst_of_bit k) []) = omega (arith, burst_position-below k) in
-          get_or_default (get_or parts (burst_of_bit k) []) (burst_position k) d none inside
+          let inside : position_in_burst k < length (get_or parts (burst_of_bit k) []) = omega (arith, position_in_burst-below k) in
+          get_or_default (get_or parts (burst_of_bit k) []) (position_in_burst k) d none inside
           ∙ sym (get_or-map-range_with_len held_at 0 456 k k d h (omega arith));
     },
   )
 
--- ---- what holds for values before and after interleaving
+-- ---- lemmas about properties that values keep when they are interleaved or deinterleaved
 
 -- mapping a function over all values before or after interleaving gives the same bursts
 pub IsInterleaved-map : {X Y : Type 0} (f : X → Y) (none : X) (c : List X) (parts : List (List X)) → IsInterleaved c parts →
@@ -375,11 +384,11 @@ IsInterleaved-map f none c parts spread = record {
       ∙ spread.burst_lengths i [] within;
   positions = λ k d h.
       let b = burst_of_bit k in
-      let j = burst_position k in
+      let j = position_in_burst k in
       let within : b < length parts = rw spread.burst_count (burst_of_bit-below k) in
       let here : k < length c = rw spread.coded_count h in
       ap (λ values. get_or values j d) (get_or-map (map f) parts b [] [] within)
-      ∙ get_or-map f (get_or parts b []) j none d (rw (spread.burst_lengths b [] within) (burst_position-below k))
+      ∙ get_or-map f (get_or parts b []) j none d (rw (spread.burst_lengths b [] within) (position_in_burst-below k))
       ∙ ap f (spread.positions k none h)
       ∙ sym (get_or-map f c k none d here);
 }
@@ -390,9 +399,9 @@ pub All-interleaved : {X : Type 0} (P : X → Type 0) (c : List X) (parts : List
 All-interleaved P c parts spread all k d h =
     let within : k < 456 = rw (← spread.coded_count) h in
     let burst : burst_of_bit k < length parts = rw spread.burst_count (burst_of_bit-below k) in
-    let place : burst_position k < length (get_or parts (burst_of_bit k) []) =
-    rw (spread.burst_lengths (burst_of_bit k) [] burst) (burst_position-below k) in
-    subst P (spread.positions k d within) (all (burst_of_bit k) [] burst (burst_position k) d place)
+    let place : position_in_burst k < length (get_or parts (burst_of_bit k) []) =
+    rw (spread.burst_lengths (burst_of_bit k) [] burst) (position_in_burst-below k) in
+    subst P (spread.positions k d within) (all (burst_of_bit k) [] burst (position_in_burst k) d place)
 
 -- ## InColumns: Coded bit k is in column 50 (k / 8) mod 57, since 50 is the inverse of 8 modulo 57.
 
@@ -400,12 +409,12 @@ All-interleaved P c parts spread all k d h =
 pub record IsInColumn (k q r : ℕ) : Type 0 where
   pub column : q < 57
   pub bit : r < 8
-  pub coded_bit : coded_bit_of_column q r ≡ k
+  pub coded_bit : coded_bit_number_in_column q r ≡ k
   pub burst : burst_of_bit k ≡ r % 4
-  pub place : burst_position k ≡ column_bit_position q r
+  pub place : position_in_burst k ≡ burst_position_of_column_bit q r
 
 pub in_column : (k : ℕ) → k < 456 → IsInColumn k (50 * (k / 8) % 57) (k % 8)
-unfolding coded_bit_of_column column_bit_position burst_of_bit burst_position
+unfolding coded_bit_number_in_column burst_position_of_column_bit burst_of_bit position_in_burst
 in_column k h = grind arith
 
 -- ## JoinedLanes: Interleaving the lanes of two vectors and reading the result as lanes of twice the width joins lanes in pairs. Three such
@@ -446,7 +455,7 @@ pub octet_of_joined : (e : ℕ → ℕ) → ((r : ℕ) → e r < 256) → (r : �
 octet_of_joined e h = each_below _ 8
     (omega arith)
 
--- two adjacent lanes, read as one lane of twice the width
+-- two adjacent lanes, read as one lane of twice the width, form a number whose lower half is the first lane
 lane_of_two_lanes : (p q n : ℕ) (lanes : List ℕ) → q ≡ p ^ 2 → p ^ length lanes ≡ 256 ^ 16 → Each1 (λ x. x < p) lanes →
     (j : ℕ) → j < n → suc (2 * j) < length lanes → get_or (digits_l q n (number_l 256 (digits_l 256 16 (number_l p lanes)))) j 0
     ≡ get_or lanes (2 * j) 0 + p * get_or lanes (suc (2 * j)) 0
@@ -469,14 +478,14 @@ module _ (p : ℕ) (some : 0 < p) where
   below-picked xs h [] = tt
   below-picked xs h (k ∷ ks) = (below_at xs h k, below-picked xs h ks)
 
--- lane s of two concatenated vectors
+-- in two concatenated vectors of n lanes, lane s of the first vector is at index s and lane s of the second at index n + s
 get_or-append_pair : (p n : ℕ) (x y : List ℕ) → length x ≡ n → (s : ℕ) → s < n →
     get_or (x ++ y) s 0 + p * get_or (x ++ y) (n + s) 0 ≡ get_or x s 0 + p * get_or y s 0
 get_or-append_pair p n x y long s h =
     ap₂ (λ a b. a + p * b) (get_or_append_left x y 0 s (omega arith))
     (get_or-append_right x y n _ 0 long (omega arith) ∙ ap (λ k. get_or y k 0) (omega arith))
 
--- lane s of both vectors, moved next to each other and read as one lane of twice the width
+-- if lane s of x and lane s of y are moved next to each other and read as one lane of twice the width, lane s of x is the lower half
 pub paired_lane : (w : Width) (q n m : ℕ) (x y : List ℕ) → q ≡ (2 ^ bits w) ^ 2 → length x ≡ m → Each1 (Fits w) x →
     Each1 (Fits w) y → (order : List ℕ) (j s : ℕ) → (2 ^ bits w) ^ length order ≡ 256 ^ 16 → j < n
     → suc (2 * j) < length order →
@@ -495,7 +504,7 @@ paired_lane w q n m x y square long fits_x fits_y order j s whole h within hs fi
     (at (suc (2 * j)) within ∙ ap (λ k. get_or (x ++ y) k 0) second)
     ∙ get_or-append_pair p m x y long s hs
 
--- the result, in one lane, of an operation whose second vector has the same number in all lanes
+-- if f is applied lane by lane to x and to a vector with n in all lanes, lane s of the result is f of lane s of x and n
 lane_by : (f : ℕ → ℕ → ℕ) (x : List ℕ) (m n s : ℕ) → length x ≡ m → s < m →
     get_or (zip2 f x (replicate m n)) s 0 ≡ f (get_or x s 0) n
 lane_by f x m n s long h =
@@ -537,8 +546,9 @@ module _ (x y : List ℕ) (long_x : length x ≡ 8) (long_y : length y ≡ 8) wh
       let long_g : length (zip2 g y (replicate 8 n)) ≡ 8 = length-zip2 g y (replicate 8 n) long_y ∙ long_y in
       length-zip2 _ _ _ (long_f ∙ sym long_g) ∙ long_f
 
--- two adjacent octets, read as one 16-bit lane
-pub octet_pairs-lane : (octets : List ℕ) (from s : ℕ) → from + 16 ≤ length octets → ((k : ℕ) → Fits w8 (get_or octets k 0)) →
+-- two adjacent octets, read as one 16-bit lane, form a number whose lower half is the first octet
+pub octet_pairs-lane : (octets : List ℕ) (from s : ℕ) → from + 16 ≤ length octets →
+    ((k : ℕ) → Fits w8 (get_or octets k 0)) →
     s < 8 → get_or (digits_l 65536 8 (number_l 256 (chunk 0 16 (mid_of from (from + 16 - from) octets)))) s 0
     ≡ get_or octets (from + 2 * s) 0 + 256 * get_or octets (from + suc (2 * s)) 0
 octet_pairs-lane octets from s room fits h =
@@ -556,7 +566,7 @@ octet_pairs-lane octets from s room fits h =
 
 -- ## ColumnBits: `Columns` holds the coded bits in columns, and each row of a burst is the same bit of consecutive columns.
 
--- ---- the octets of the columns
+-- ---- lemmas about packed octets that hold one column of the interleaving table
 
 -- for each column, the index of the octet that holds it in the packed coded bits
 abbrev order : List ℕ
@@ -570,7 +580,7 @@ columns_of_packed packed long q hq =
     ∙ ap (λ k. get_or (packed ++ packed) k 0) at
     ∙ get_or_append_left packed packed 0 (8 * q % 57) (omega arith)
 
--- a list overwritten from index n on
+-- lemmas about a list whose elements from index n on are overwritten
 module _ (n m : ℕ) (first rest second : List ℕ) (within : n ≤ length first) where
   pub put_mid-first : (q : ℕ) → q < n → get_or (put_mid n m (first ++ rest) second) q 0 ≡ get_or first q 0
   put_mid-first q hq =
@@ -592,7 +602,7 @@ pub AreColumnsOfCodedBits-repeat_columns : (coded packed columns octets : List �
     ((q : ℕ) → q < 64 → get_or columns q 0 ≡ get_or packed (8 * q % 57) 0) →
     ((q : ℕ) → q < 57 → get_or octets q 0 ≡ get_or columns q 0) →
     ((q : ℕ) → q < 64 → get_or octets (57 + q) 0 ≡ get_or columns q 0) → AreColumnsOfCodedBits coded octets
-unfolding coded_bit_of_column
+unfolding coded_bit_number_in_column
 AreColumnsOfCodedBits-repeat_columns coded packed columns octets are ordered front back = record {
   each_bit = λ q r hq hr. ap (λ octet. bit_of octet (packed_bit_index r)) (column q hq) ∙ are _ r (omega arith) hr;
 } where
@@ -607,16 +617,17 @@ AreColumnsOfCodedBits-repeat_columns coded packed columns octets are ordered fro
             ∙ ap (λ n. get_or packed n 0) (omega arith)
       ]
 
--- ---- the bits of a burst, read from the columns
+-- ---- lemmas about the bits of a burst, read from the columns
 
--- the next position of a row comes from the next column
+-- one bit position of sixteen consecutive columns holds the coded bits at every other position of a burst
 pub row_bit : (coded columns : List ℕ) (b place p : ℕ) → AreColumnsOfCodedBits coded columns → b < 4 → place ≤ 90 → p < 16 →
     let row = b + 4 * (place % 2) in
-    bit_of (get_or columns (8 * row + place / 2 + p) 0) (packed_bit_index row) ≡ get_or coded (coded_index_at b (place + 2 * p)) 0
-unfolding coded_index_at
+    bit_of (get_or columns (8 * row + place / 2 + p) 0) (packed_bit_index row) ≡ get_or coded
+    (coded_bit_number_in_burst b (place + 2 * p)) 0
+unfolding coded_bit_number_in_burst
 row_bit _ _ b _ p are hb hj hp = grind arith
 
--- bit i of each of sixteen octets
+-- lemmas about a vector that holds bit i of each of sixteen octets
 module _ (octets : List ℕ) (i : ℕ) (long : length octets ≡ 16) where
   abbrev lanes : List ℕ
   lanes = zip2 bit_and (zip2 (λ a b. a / 2 ^ b) (chunk 0 16 octets) (replicate 16 i)) (replicate 16 1)
@@ -639,7 +650,7 @@ module _ (octets : List ℕ) (i : ℕ) (long : length octets ≡ 16) where
       (lane_by _ _ 16 i p read hp
       ∙ ap (λ a. a / 2 ^ i) (get_or-chunk 0 16 octets p 0 hp ∙ ap (λ k. get_or octets k 0) (zero-add p)))
 
--- two vectors of sixteen lanes, interleaved
+-- the lane order that interleaves two vectors of sixteen lanes
 abbrev alternating_lanes : List ℕ
 alternating_lanes = map (λ i. i / 2 + 16 * (i % 2)) (range_with_len 0 32)
 
@@ -651,17 +662,18 @@ interleave_lanes first second i hi =
     get_or-map (λ k. get_or (first ++ second) k 0) alternating_lanes i 0 0 (omega (arith, length-map-range_with_len))
     ∙ ap (λ k. get_or (first ++ second) k 0) at
 
--- a list of the same length as the vector is overwritten completely
+-- a vector written to a list of the same length replaces all elements of the list
 pub put_chunk-whole : (old lanes : List ℕ) (i : ℕ) → length old ≡ 32 → length lanes ≡ 32 → i < 32 →
     get_or (put_chunk 0 old lanes) i 0 ≡ get_or lanes i 0
 put_chunk-whole old lanes i o l hi =
     ap (λ xs. get_or xs i 0) (put_chunk_is 0 old _ (omega arith)) ∙ get_or_append_left _ _ 0 i (omega arith)
 
--- two rows, interleaved, are consecutive positions of a burst
+-- if one vector holds the coded bits at every other position of a burst and a second vector those in between, the interleaved vectors hold
+-- the coded bits at consecutive positions
 pub interleave_lanes-coded_bits : (coded first second : List ℕ) (b from i : ℕ) → length first ≡ 16 → i < 32 →
-    ((p : ℕ) → p < 16 → get_or first p 0 ≡ get_or coded (coded_index_at b (from + 2 * p)) 0) →
-    ((p : ℕ) → p < 16 → get_or second p 0 ≡ get_or coded (coded_index_at b (from + 1 + 2 * p)) 0) →
-    get_or (first ++ second) (i / 2 + 16 * (i % 2)) 0 ≡ get_or coded (coded_index_at b (from + i)) 0
+    ((p : ℕ) → p < 16 → get_or first p 0 ≡ get_or coded (coded_bit_number_in_burst b (from + 2 * p)) 0) →
+    ((p : ℕ) → p < 16 → get_or second p 0 ≡ get_or coded (coded_bit_number_in_burst b (from + 1 + 2 * p)) 0) →
+    get_or (first ++ second) (i / 2 + 16 * (i % 2)) 0 ≡ get_or coded (coded_bit_number_in_burst b (from + i)) 0
 interleave_lanes-coded_bits coded first second b from i long hi even odd =
     let half : i / 2 < 16 = omega arith in
     elim (cases_lt (i % 2) 1) [
@@ -669,19 +681,20 @@ interleave_lanes-coded_bits coded first second b from i long hi even odd =
           ap (λ k. get_or (first ++ second) k 0) (omega arith)
           ∙ get_or_append_left _ second 0 (i / 2) (omega arith)
           ∙ even (i / 2) half
-          ∙ ap (λ j. get_or coded (coded_index_at b j) 0) (omega arith)
+          ∙ ap (λ j. get_or coded (coded_bit_number_in_burst b j) 0) (omega arith)
       | inr upper ↦
           get_or-append_right first second 16 (i / 2 + 16 * (i % 2)) 0 long (omega arith)
           ∙ ap (λ k. get_or second k 0) (omega arith)
           ∙ odd (i / 2) half
-          ∙ ap (λ j. get_or coded (coded_index_at b j) 0) (omega arith)
+          ∙ ap (λ j. get_or coded (coded_bit_number_in_burst b j) 0) (omega arith)
     ]
 
 -- half a burst is written in two parts: positions 0 to 31, and from position 32 on
-pub half_burst-coded_bits : (coded front rest back : List ℕ) (b half m i : ℕ) → length front ≡ 32 → length back ≡ 32 → i < 57 →
-    ((j : ℕ) → j < 32 → get_or front j 0 ≡ get_or coded (coded_index_at b (57 * half + j)) 0) →
-    ((j : ℕ) → j < 32 → get_or back j 0 ≡ get_or coded (coded_index_at b (57 * half + 32 + j)) 0) →
-    get_or (put_mid 32 m (front ++ rest) back) i 0 ≡ get_or coded (coded_index_at b (57 * half + i)) 0
+pub half_burst-coded_bits : (coded front rest back : List ℕ) (b half m i : ℕ) → length front ≡ 32 → length back ≡ 32 →
+    i < 57 →
+    ((j : ℕ) → j < 32 → get_or front j 0 ≡ get_or coded (coded_bit_number_in_burst b (57 * half + j)) 0) →
+    ((j : ℕ) → j < 32 → get_or back j 0 ≡ get_or coded (coded_bit_number_in_burst b (57 * half + 32 + j)) 0) →
+    get_or (put_mid 32 m (front ++ rest) back) i 0 ≡ get_or coded (coded_bit_number_in_burst b (57 * half + i)) 0
 half_burst-coded_bits coded front rest back b half m i long long' hi first second =
     elim (cases_lt i 32) [
       | inl lower ↦ put_mid-first 32 m _ _ _ (omega arith) i lower ∙ first i (omega arith)
@@ -689,5 +702,5 @@ half_burst-coded_bits coded front rest back b half m i long long' hi first secon
           ap (λ k. get_or (put_mid 32 m (front ++ rest) back) k 0) (sym (omega arith))
           ∙ put_mid-second 32 m front rest back (omega arith) (i - 32) (omega arith)
           ∙ second (i - 32) (omega arith)
-          ∙ ap (λ j. get_or coded (coded_index_at b j) 0) (omega arith)
+          ∙ ap (λ j. get_or coded (coded_bit_number_in_burst b j) 0) (omega arith)
     ]

@@ -1,6 +1,6 @@
 -- Block rectangular interleaving of a whole block over four bursts (GSM 05.03 section 4.1.4).
 use Rattle.std.specs.Prelude.{ℕ, ◌≡◌, ◌≢◌, ◌<◌, List, [], ◌∷◌, length, All, slice_index_or}
-use Rattle.interleave.specs.Positions.{burst_of_bit, burst_position}
+use Rattle.interleave.specs.Positions.{burst_of_bit, position_in_burst}
 
 -- the four `bursts` of 114 values each hold the 456 values of `coded` (coded bits or soft bits), each at its interleaved position
 pub record IsInterleaved {X : Type 0} (coded : List X) (bursts : List (List X)) : Type 0 where
@@ -8,14 +8,14 @@ pub record IsInterleaved {X : Type 0} (coded : List X) (bursts : List (List X)) 
   pub burst_count : length bursts ≡ 4
   pub burst_lengths : All (λ burst. length burst ≡ 114) bursts
   pub positions : (k : ℕ) (d : X) → k < 456 →
-      slice_index_or (slice_index_or bursts (burst_of_bit k) []) (burst_position k) d ≡ slice_index_or coded k d
+      slice_index_or (slice_index_or bursts (burst_of_bit k) []) (position_in_burst k) d ≡ slice_index_or coded k d
 
 -- `new` results from `old` by deinterleaving burst number `burst_number`: each of the 114 values of `burst` is written to the index of its
 -- coded bit, and all other values are unchanged
 pub record IsBurstDeinterleaved {X : Type 0} (burst_number : ℕ) (burst old new : List X) : Type 0 where
   pub count : length new ≡ length old
   pub updated_bits : (k : ℕ) (d : X) → k < 456 → burst_of_bit k ≡ burst_number →
-      slice_index_or new k d ≡ slice_index_or burst (burst_position k) d
+      slice_index_or new k d ≡ slice_index_or burst (position_in_burst k) d
   pub unchanged_bits : (k : ℕ) (d : X) → k < 456 → burst_of_bit k ≢ burst_number → slice_index_or new k d ≡ slice_index_or old
       k d
 

@@ -6,10 +6,10 @@ unfoldable pub burst_of_bit : (coded_bit : ℕ) → ℕ
 burst_of_bit k = k % 4
 
 -- the position of a given coded bit among the 114 coded bits of its burst
-unfoldable pub burst_position : (coded_bit : ℕ) → ℕ
-burst_position k = 2 * (49 * k % 57) + k % 8 / 4
+unfoldable pub position_in_burst : (coded_bit : ℕ) → ℕ
+position_in_burst k = 2 * (49 * k % 57) + k % 8 / 4
 
 -- the position of a given coded bit among the 592 bits of the four bursts. In each burst, three tail bits precede the first 57 coded bits;
 -- the stealing flags and the training sequence lie between these and the other 57 (GSM 05.02 section 5.2.3)
-unfoldable pub four_burst_position : (coded_bit : ℕ) → ℕ
-four_burst_position k = 148 * burst_of_bit k + burst_position k + (if nat_le (burst_position k) 56 then 3 else 31)
+unfoldable pub position_in_four_bursts : (coded_bit : ℕ) → ℕ
+position_in_four_bursts k = 148 * burst_of_bit k + position_in_burst k + (if nat_le (position_in_burst k) 56 then 3 else 31)

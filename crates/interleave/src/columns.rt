@@ -4,7 +4,7 @@ ghost use Rattle.std.specs.Prelude.{◌≡◌, ℕ, ◌+◌, ◌*◌, ◌/◌, �
 ghost use Rattle.std.specs.Prelude.{slice_index, slice_index_or, slice_range};
 ghost use Rattle.bit_blocks.specs.Packed.{AreCodedBitsPacked, bit_of};
 ghost use Rattle.interleave.specs.Bursts.{IsInterleaved};
-ghost use Rattle.interleave.specs.ColumnPositions.{coded_index_at};
+ghost use Rattle.interleave.specs.ColumnPositions.{coded_bit_number_in_burst};
 ghost use Rattle.interleave.specs.Columns.{AreColumnsOfCodedBits};
 
 use std::simd::prelude::*;
@@ -60,22 +60,22 @@ impl Columns {
         requires from { first_position ≤ 89 }
         requires count { length out.old ≡ 32 }
         ensures { (coded : List ℕ) (i : ℕ) → AreColumnsOfCodedBits coded self.now.octets → i < 32 →
-            slice_index out.new i ≡ slice_index coded (coded_index_at burst_number (first_position + i)) }
+            slice_index out.new i ≡ slice_index coded (coded_bit_number_in_burst burst_number (first_position + i)) }
     {
         interleave_lanes(
-            self.sixteen_row_bits(burst_number, first_position),
-            self.sixteen_row_bits(burst_number, first_position + 1),
+            self.sixteen_alternate_bits(burst_number, first_position),
+            self.sixteen_alternate_bits(burst_number, first_position + 1),
         )
         .copy_to_slice(out);
     }
 
     /// Returns sixteen bits of a burst, at every other position starting at `place`: one bit of each of sixteen consecutive columns.
-    fn sixteen_row_bits(&self, burst_number: usize, place: usize) -> u8x16
+    fn sixteen_alternate_bits(&self, burst_number: usize, place: usize) -> u8x16
         requires burst { burst_number < 4 }
         requires place { place ≤ 90 }
         ensures count { length result ≡ 16 }
         ensures each { (coded : List ℕ) (p : ℕ) → AreColumnsOfCodedBits coded self.now.octets → p < 16 →
-            slice_index result p ≡ slice_index coded (coded_index_at burst_number (place + 2 * p)) }
+            slice_index result p ≡ slice_index coded (coded_bit_number_in_burst burst_number (place + 2 * p)) }
     {
         let row = burst_number + 4 * (place % 2);
         let column = 8 * row + place / 2;

@@ -3,8 +3,8 @@ ghost use Rattle.std.specs.Prelude.{◌≡◌, ◌≢◌, ℕ, ℤ, pos, ◌+◌
 ghost use Rattle.std.specs.Prelude.{◌++◌, List, [], map, length, slice_index, slice_index_or};
 ghost use Rattle.std.specs.Int.{cast_signed, w8};
 ghost use Rattle.interleave.specs.Bursts.{IsInterleaved, IsBurstDeinterleaved};
-ghost use Rattle.interleave.specs.ColumnPositions.{coded_bit_of_column, column_bit_position};
-ghost use Rattle.interleave.specs.Positions.{burst_of_bit, burst_position};
+ghost use Rattle.interleave.specs.ColumnPositions.{coded_bit_number_in_column, burst_position_of_column_bit};
+ghost use Rattle.interleave.specs.Positions.{burst_of_bit, position_in_burst};
 
 use crate::joining::eight_columns;
 use crate::table::coded_bit_numbers;
@@ -44,7 +44,7 @@ fn soft_bits_as_octets(part: &[i8; 114]) -> [u8; 114]
 /// Returns the soft bits of column 56, the only column outside the groups of eight.
 fn last_column(bursts: &[[u8; 114]; 4]) -> [u8; 8]
     ensures { (r : ℕ) → r < 8 →
-        slice_index result r ≡ slice_index (slice_index_or bursts.now (r % 4) []) (column_bit_position 56 r) }
+        slice_index result r ≡ slice_index (slice_index_or bursts.now (r % 4) []) (burst_position_of_column_bit 56 r) }
 {
     [
         bursts[0][112],
@@ -62,10 +62,11 @@ fn last_column(bursts: &[[u8; 114]; 4]) -> [u8; 8]
 fn write_columns(columns: &[u64; 8], group: usize, soft: &mut [i8; CODED_BITS])
     requires { group < 7 }
     ensures updated_bits { (s r : ℕ) → s < 8 → r < 8 →
-        slice_index_or soft.new (coded_bit_of_column (8 * group + s) r) (pos 0)
+        slice_index_or soft.new (coded_bit_number_in_column (8 * group + s) r) (pos 0)
         ≡ cast_signed w8 (slice_index columns.now s / 256 ^ r % 256) }
     ensures unchanged_bits { (q r : ℕ) → q < 8 * group → r < 8 →
-        slice_index_or soft.new (coded_bit_of_column q r) (pos 0) ≡ slice_index_or soft.old (coded_bit_of_column q r) (pos 0) }
+        slice_index_or soft.new (coded_bit_number_in_column q r) (pos 0) ≡ slice_index_or soft.old (coded_bit_number_in_column q r)
+        (pos 0) }
 {
     for (s, column) in columns.iter().enumerate() {
         write_column(&column.to_le_bytes(), 8 * group + s, soft);
@@ -76,9 +77,10 @@ fn write_columns(columns: &[u64; 8], group: usize, soft: &mut [i8; CODED_BITS])
 fn write_column(octets: &[u8; 8], q: usize, soft: &mut [i8; CODED_BITS])
     requires { q < 57 }
     ensures updated_bits { (r : ℕ) → r < 8 →
-        slice_index_or soft.new (coded_bit_of_column q r) (pos 0) ≡ cast_signed w8 (slice_index octets.now r) }
+        slice_index_or soft.new (coded_bit_number_in_column q r) (pos 0) ≡ cast_signed w8 (slice_index octets.now r) }
     ensures unchanged_bits { (p r : ℕ) → p < 57 → p ≢ q → r < 8 →
-        slice_index_or soft.new (coded_bit_of_column p r) (pos 0) ≡ slice_index_or soft.old (coded_bit_of_column p r) (pos 0) }
+        slice_index_or soft.new (coded_bit_number_in_column p r) (pos 0) ≡ slice_index_or soft.old (coded_bit_number_in_column p r)
+        (pos 0) }
 {
     let first = 8 * (8 * q % 57);
     for (r, octet) in octets.iter().enumerate() {
@@ -102,10 +104,10 @@ fn deinterleave_half_burst(b: usize, half: usize, values: &[i8], soft: &mut [i8;
     requires burst { b < 4 }
     requires half { half ≤ 1 }
     requires count { length values.now ≡ 57 }
-    ensures updated_bits { (k i : ℕ) → k < CODED_BITS → burst_of_bit k ≡ b → i < 57 → burst_position k ≡ 57 * half + i →
+    ensures updated_bits { (k i : ℕ) → k < CODED_BITS → burst_of_bit k ≡ b → i < 57 → position_in_burst k ≡ 57 * half + i →
         slice_index_or soft.new k (pos 0) ≡ slice_index_or values.now i (pos 0) }
     ensures unchanged_bits { (k : ℕ) → k < CODED_BITS →
-        (burst_of_bit k ≡ b → (i : ℕ) → i < 57 → burst_position k ≢ 57 * half + i) →
+        (burst_of_bit k ≡ b → (i : ℕ) → i < 57 → position_in_burst k ≢ 57 * half + i) →
         slice_index_or soft.new k (pos 0) ≡ slice_index_or soft.old k (pos 0) }
 {
     for (i, k) in coded_bit_numbers(b, half).iter().enumerate() {

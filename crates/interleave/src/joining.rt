@@ -2,7 +2,7 @@
 //! eight rows. Octets are joined into pairs, pairs into fours, and fours into the eight octets of a column.
 ghost use Rattle.std.specs.Prelude.{◌≡◌, ℕ, ◌+◌, ◌*◌, ◌/◌, ◌%◌, ◌^◌, ◌<◌, ◌≤◌, [], length};
 ghost use Rattle.std.specs.Prelude.{slice_index, slice_index_or};
-ghost use Rattle.interleave.specs.ColumnPositions.{column_bit_position};
+ghost use Rattle.interleave.specs.ColumnPositions.{burst_position_of_column_bit};
 
 use std::simd::prelude::*;
 
@@ -11,26 +11,26 @@ pub(crate) fn eight_columns(bursts: &[[u8; 114]; 4], column_group: usize) -> [u6
     requires { column_group < 7 }
     ensures { (s r : ℕ) → s < 8 → r < 8 →
         slice_index result s / 256 ^ r % 256
-        ≡ slice_index (slice_index_or bursts.now (r % 4) []) (column_bit_position (8 * column_group + s) r) }
+        ≡ slice_index (slice_index_or bursts.now (r % 4) []) (burst_position_of_column_bit (8 * column_group + s) r) }
 {
     let (a, b) = join_octet_pairs(
         join_lower_octets(
-            octet_pairs(&bursts[0], column_in_row(column_group, 0)),
-            octet_pairs(&bursts[1], column_in_row(column_group, 1)),
+            octet_pairs(&bursts[0], column_index_in_row(column_group, 0)),
+            octet_pairs(&bursts[1], column_index_in_row(column_group, 1)),
         ),
         join_lower_octets(
-            octet_pairs(&bursts[2], column_in_row(column_group, 2)),
-            octet_pairs(&bursts[3], column_in_row(column_group, 3)),
+            octet_pairs(&bursts[2], column_index_in_row(column_group, 2)),
+            octet_pairs(&bursts[3], column_index_in_row(column_group, 3)),
         ),
     );
     let (c, d) = join_octet_pairs(
         join_upper_octets(
-            octet_pairs(&bursts[0], column_in_row(column_group, 4)),
-            octet_pairs(&bursts[1], column_in_row(column_group, 5)),
+            octet_pairs(&bursts[0], column_index_in_row(column_group, 4)),
+            octet_pairs(&bursts[1], column_index_in_row(column_group, 5)),
         ),
         join_upper_octets(
-            octet_pairs(&bursts[2], column_in_row(column_group, 6)),
-            octet_pairs(&bursts[3], column_in_row(column_group, 7)),
+            octet_pairs(&bursts[2], column_index_in_row(column_group, 6)),
+            octet_pairs(&bursts[3], column_index_in_row(column_group, 7)),
         ),
     );
     let [first, second, third, fourth] = join_octet_fours(a, c);
@@ -39,7 +39,7 @@ pub(crate) fn eight_columns(bursts: &[[u8; 114]; 4], column_group: usize) -> [u6
 }
 
 /// The index of column `8 * column_group` in row number `row`.
-fn column_in_row(column_group: usize, row: usize) -> usize
+fn column_index_in_row(column_group: usize, row: usize) -> usize
     requires group { column_group < 7 }
     requires row { row < 8 }
     ensures place { result ≡ (8 * column_group + 49 * row) % 57 }

@@ -1,7 +1,7 @@
 //! Properties of the interleaving as laws: a law is a function with an empty body whose contract states a theorem.
 ghost use Rattle.std.specs.Prelude.{◌≡◌, ℕ, ℤ, ◌<◌, List, All, Contains, length};
 ghost use Rattle.interleave.specs.Bursts.{IsInterleaved, AreDeinterleaved};
-ghost use Rattle.interleave.specs.Positions.{burst_of_bit, burst_position, four_burst_position};
+ghost use Rattle.interleave.specs.Positions.{burst_of_bit, position_in_burst, position_in_four_bursts};
 
 use bit_blocks::CODED_BITS;
 
@@ -9,11 +9,12 @@ use bit_blocks::CODED_BITS;
 /// 592 bits of these bursts.
 pub fn law_interleaver_positions_are_one_to_one()
     ensures onto { (b i : ℕ) → b < 4 → i < 114 → (k : ℕ) × (k < CODED_BITS) × (burst_of_bit k ≡ b)
-        × (burst_position k ≡ i) }
+        × (position_in_burst k ≡ i) }
     ensures one_to_one { (k l : ℕ) → k < CODED_BITS → l < CODED_BITS → burst_of_bit k ≡ burst_of_bit l →
-        burst_position k ≡ burst_position l → k ≡ l }
-    ensures within { (k : ℕ) → k < CODED_BITS → four_burst_position k < 592 }
-    ensures distinct { (k l : ℕ) → k < CODED_BITS → l < CODED_BITS → four_burst_position k ≡ four_burst_position l → k ≡ l }
+        position_in_burst k ≡ position_in_burst l → k ≡ l }
+    ensures within { (k : ℕ) → k < CODED_BITS → position_in_four_bursts k < 592 }
+    ensures distinct { (k l : ℕ) → k < CODED_BITS → l < CODED_BITS → position_in_four_bursts k ≡ position_in_four_bursts l →
+        k ≡ l }
 {}
 
 /// Law: deinterleaving the four bursts in any order produces the soft bits of the whole block.

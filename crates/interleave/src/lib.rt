@@ -23,8 +23,8 @@ mod tests {
     const LAST_88_BITS: &[u8; 88] =
         b"1110100110101010101010101010101010101010101010101010101010101010101010101010101001000011";
 
-    // The positions of the ones in each of the four bursts.
-    const ONE_POSITIONS: [&[usize]; 4] = [
+    // The positions of the 1 bits in each of the four bursts.
+    const POSITIONS_OF_ONES: [&[usize]; 4] = [
         &[
             7, 12, 21, 26, 28, 35, 40, 42, 49, 56, 63, 70, 77, 79, 84, 91, 93, 98, 107, 112,
         ],
@@ -45,7 +45,7 @@ mod tests {
             for (place, bit) in burst.iter().enumerate() {
                 assert_eq!(rt;
                     *bit == 1,
-                    ONE_POSITIONS[b].contains(&place),
+                    POSITIONS_OF_ONES[b].contains(&place),
                     "burst {b}, place {place}"
                 );
             }

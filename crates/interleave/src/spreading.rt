@@ -3,7 +3,7 @@ ghost use Rattle.std.specs.Prelude.{◌≡◌, ℕ, ◌+◌, ◌*◌, ◌<◌, �
 ghost use Rattle.std.specs.Prelude.{slice_index_or, slice_range};
 ghost use Rattle.bit_blocks.specs.Bits.{AllBits};
 ghost use Rattle.interleave.specs.Bursts.{IsInterleaved};
-ghost use Rattle.interleave.specs.Positions.{burst_of_bit, burst_position};
+ghost use Rattle.interleave.specs.Positions.{burst_of_bit, position_in_burst};
 
 use crate::table::coded_bit_numbers;
 use bit_blocks::CODED_BITS;
@@ -16,7 +16,7 @@ pub fn spread(coded: &[u8; CODED_BITS]) -> [[u8; 114]; 4]
 {
     let mut bursts = [[0; 114]; 4];
     for b in 0..4 {
-        bursts[b] = burst_of_block(coded, b);
+        bursts[b] = interleaved_bits_of_burst(coded, b);
     }
     bursts
 }
@@ -26,7 +26,7 @@ pub fn spread_burst(coded: &[u8; CODED_BITS], b: usize, half: usize, out: &mut [
     requires burst { b < 4 }
     requires half { half ≤ 1 }
     requires count { length out.old ≡ 57 }
-    ensures places { (k i : ℕ) → k < CODED_BITS → burst_of_bit k ≡ b → i < 57 → burst_position k ≡ 57 * half + i →
+    ensures places { (k i : ℕ) → k < CODED_BITS → burst_of_bit k ≡ b → i < 57 → position_in_burst k ≡ 57 * half + i →
         slice_index out.new i ≡ slice_index coded.now k }
     ensures part { (bursts : List (List ℕ)) → IsInterleaved coded.now bursts →
         out.new ≡ slice_range (slice_index_or bursts b []) (57 * half) (57 * half + 57) }
@@ -38,10 +38,10 @@ pub fn spread_burst(coded: &[u8; CODED_BITS], b: usize, half: usize, out: &mut [
 }
 
 /// The 114 coded bits of burst number `burst_number`, in order of position.
-fn burst_of_block(coded: &[u8; CODED_BITS], burst_number: usize) -> [u8; 114]
+fn interleaved_bits_of_burst(coded: &[u8; CODED_BITS], burst_number: usize) -> [u8; 114]
     requires { burst_number < 4 }
     ensures places { (k : ℕ) → k < CODED_BITS → burst_of_bit k ≡ burst_number →
-        slice_index result (burst_position k) ≡ slice_index coded.now k }
+        slice_index result (position_in_burst k) ≡ slice_index coded.now k }
 {
     let mut burst = [0; 114];
     spread_burst(coded, burst_number, 0, &mut burst[..57]);

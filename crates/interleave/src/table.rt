@@ -1,13 +1,13 @@
 //! The inverse of the interleaving, as a table: for each position, the number of its coded bit. The formula would take four times as many
 //! instructions.
 ghost use Rattle.std.specs.Prelude.{◌≡◌, ℕ, ◌+◌, ◌*◌, ◌<◌, ◌≤◌, slice_index};
-ghost use Rattle.interleave.specs.ColumnPositions.{coded_index_at};
+ghost use Rattle.interleave.specs.ColumnPositions.{coded_bit_number_in_burst};
 
 use bit_blocks::CODED_BITS;
 
 // The numbers of the coded bits in the eight half bursts, in order of transmission; half `h` of burst `b` is at index `2 * b + h`.
 // `tools/interleaving.py` prints the table.
-static HALF_BURST_BITS: [[u16; 57]; 8] = [
+static HALF_BURST_CODED_BIT_NUMBERS: [[u16; 57]; 8] = [
     [
         0, 228, 64, 292, 128, 356, 192, 420, 256, 28, 320, 92, 384, 156, 448, 220, 56, 284, 120,
         348, 184, 412, 248, 20, 312, 84, 376, 148, 440, 212, 48, 276, 112, 340, 176, 404, 240, 12,
@@ -54,8 +54,8 @@ static HALF_BURST_BITS: [[u16; 57]; 8] = [
 pub fn coded_bit_numbers(burst_number: usize, half: usize) -> &'static [u16; 57]
     requires burst { burst_number < 4 }
     requires half { half ≤ 1 }
-    ensures value { (i : ℕ) → i < 57 → slice_index result.now i ≡ coded_index_at burst_number (57 * half + i) }
+    ensures value { (i : ℕ) → i < 57 → slice_index result.now i ≡ coded_bit_number_in_burst burst_number (57 * half + i) }
     ensures within { (i : ℕ) → i < 57 → slice_index result.now i < CODED_BITS }
 {
-    &HALF_BURST_BITS[2 * burst_number + half]
+    &HALF_BURST_CODED_BIT_NUMBERS[2 * burst_number + half]
 }

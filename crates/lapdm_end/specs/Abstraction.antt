@@ -7,7 +7,7 @@ use Rattle.lapdm_window.specs.declared.State.{State}
 use Rattle.lapdm_window.specs.declared.State.TheVariants.{Idle, Opening, Open, Closing, Closed}
 use Rattle.lapdm_window.specs.declared.window.Window.{Window}
 use Rattle.lapdm_window.specs.Ends.{EndpointState, IsValidEndpoint}
-use Rattle.lapdm_window.specs.Abstraction.{HasSameVariables}
+use Rattle.lapdm_window.specs.Abstraction.{HasSameStateVariables}
 use Rattle.lapdm_window.specs.Abstraction as W
 use Rattle.lapdm_end.specs.declared.ends.Endpoint.{Endpoint}
 use Rattle.lapdm_end.specs.Addresses.{IsAddressOf}
@@ -25,12 +25,12 @@ abbrev pub state_of : Endpoint → State
 state_of m = m.state
 
 -- in Opening, window `w` represents endpoint `e`, and `retries` counts the repetitions of the SABM
-pub record RepresentsOpening (w : Window) (retries : ℕ) (e : EndpointState) : Type 0 where
+pub record RepresentsInOpening (w : Window) (retries : ℕ) (e : EndpointState) : Type 0 where
   pub window : W.Represents w e
   pub retry_count : retries ≡ e.retries
 
 -- in Closing, window `w` still holds the unacknowledged messages of `e`, and `retries` counts the repetitions of the DISC
-pub record RepresentsClosing (w : Window) (retries : ℕ) (e : EndpointState) : Type 0 where
+pub record RepresentsInClosing (w : Window) (retries : ℕ) (e : EndpointState) : Type 0 where
   pub unacked_messages : W.HoldsUnackedMessages w.held.items w.segment_index e
   pub retry_count : retries ≡ e.retries
 
@@ -38,9 +38,9 @@ pub record RepresentsClosing (w : Window) (retries : ℕ) (e : EndpointState) : 
 -- it still holds the unacknowledged messages
 abbrev pub RepresentsInState : (state : State) (window : Window) (retries : ℕ) (endpoint : EndpointState) → Type 0
 RepresentsInState Idle w retries e = W.Represents w e
-RepresentsInState Opening w retries e = RepresentsOpening w retries e
+RepresentsInState Opening w retries e = RepresentsInOpening w retries e
 RepresentsInState Open w retries e = W.Represents w e
-RepresentsInState Closing w retries e = RepresentsClosing w retries e
+RepresentsInState Closing w retries e = RepresentsInClosing w retries e
 RepresentsInState Closed w retries e = W.HoldsUnackedMessages w.held.items w.segment_index e
 
 -- the Rust endpoint `m` represents the abstract endpoint `e`
@@ -49,5 +49,5 @@ pub record Represents (m : Endpoint) (e : EndpointState) : Type 0 where
   pub address : IsAddressOf m.address e
   pub state : m.state ≡ e.state
   pub sabm_info : m.sabm_info ≡ e.sabm_info
-  pub variables : HasSameVariables m.window e
-  pub in_state : RepresentsInState m.state m.window m.retries e
+  pub variables : HasSameStateVariables m.window e
+  pub represents_in_state : RepresentsInState m.state m.window m.retries e

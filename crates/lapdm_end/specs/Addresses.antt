@@ -7,7 +7,7 @@ use Rattle.lapdm_end.specs.declared.Role.{Role}
 use Rattle.lapdm_end.specs.declared.Role.TheVariants.{Mobile, Network}
 use Rattle.lapdm_end.specs.declared.link.Address.{Address}
 
--- the specification's `Role` for this Rust `Role`
+-- the `Role` of the specification that corresponds to a Rust `Role`
 abbrev pub spec_role_of : Role → E.Role
 spec_role_of Mobile = E.Mobile
 spec_role_of Network = E.Network

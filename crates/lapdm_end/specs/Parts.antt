@@ -56,7 +56,8 @@ pub record ValuesRepresent (x : EndpointValues) (e : EndpointState) : Type 0 whe
 abbrev pub SomeEndpointHasValues : EndpointValues → Type 0
 SomeEndpointHasValues x = (e : EndpointState) × ValuesRepresent x e
 
--- the window is in its initial state: it holds no message, its variables are 0, and nothing has been reassembled
+-- the window is in its initial state: it holds no message, V(S), V(A), V(R) and the number of acknowledged messages are 0, and it has
+-- accepted no segment
 pub record IsInitialWindow (x : WindowValues) : Type 0 where
   pub held : x.held ≡ []
   pub vs : x.vs ≡ 0
@@ -66,15 +67,15 @@ pub record IsInitialWindow (x : WindowValues) : Type 0 where
   pub reassembly : HoldsReassemblyOf x.joiner.part x.joiner.octets []
 
 -- before state Open, the window is in its initial state; from Open on, there is no condition
-abbrev pub IsInitialBeforeOpen : (state : State) (values : WindowValues) → Type 0
-IsInitialBeforeOpen Idle x = IsInitialWindow x
-IsInitialBeforeOpen Opening x = IsInitialWindow x
-IsInitialBeforeOpen Open x = Unit {0}
-IsInitialBeforeOpen Closing x = Unit {0}
-IsInitialBeforeOpen Closed x = Unit {0}
+abbrev pub IsWindowInitialBeforeOpen : (state : State) (values : WindowValues) → Type 0
+IsWindowInitialBeforeOpen Idle x = IsInitialWindow x
+IsWindowInitialBeforeOpen Opening x = IsInitialWindow x
+IsWindowInitialBeforeOpen Open x = Unit {0}
+IsWindowInitialBeforeOpen Closing x = Unit {0}
+IsWindowInitialBeforeOpen Closed x = Unit {0}
 
--- the conditions for restoring an endpoint from this state, in addition to the conditions on its window
+-- the conditions under which an endpoint can be restored from this state, in addition to the conditions on its window
 pub record AreConsistent (x : EndpointValues) : Type 0 where
   pub sabm_info_fits : length x.sabm_info ≤ n201 x.window.channel
   pub empty_on_sapi3 : x.sapi ≡ Three → x.sabm_info ≡ []
-  pub initial_before_open : IsInitialBeforeOpen x.state x.window
+  pub window_initial_before_open : IsWindowInitialBeforeOpen x.state x.window

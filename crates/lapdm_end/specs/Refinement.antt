@@ -28,5 +28,5 @@ pub record AppendsOutcome (m : Endpoint) (old new : Effects) (o : Outcome) : Typ
 
 -- for every state that the old `Endpoint` represents, the new `Endpoint` represents the state after this rule, and the frames and notices
 -- of the rule are appended to the effects
-abbrev pub StepRefinesByAppending : (rule : (EndpointState → Outcome)) (endpoint new_endpoint : Endpoint) (old new : Effects) → Type 0
-StepRefinesByAppending rule m n old new = (e : EndpointState) → Represents m e → AppendsOutcome n old new (rule e)
+abbrev pub StepAppendsOutcomeOfRule : (rule : (EndpointState → Outcome)) (endpoint new_endpoint : Endpoint) (old new : Effects) → Type 0
+StepAppendsOutcomeOfRule rule m n old new = (e : EndpointState) → Represents m e → AppendsOutcome n old new (rule e)

@@ -10,7 +10,7 @@ use Rattle.lapdm_end.specs.Abstraction.{channel_of, sapi_of, state_of}
 use Rattle.lapdm_end.specs.declared.replies.Reply.{Reply}
 use Rattle.lapdm_end.specs.declared.replies.Reply.TheVariants as C
 
--- the specification's `Reply` for this Rust `Reply`
+-- the `Reply` of the specification that corresponds to a Rust `Reply`
 abbrev pub spec_reply_of : Reply → T.Reply
 spec_reply_of C.Nothing = T.Nothing
 spec_reply_of C.Dm = T.SendsDm
@@ -19,8 +19,8 @@ spec_reply_of (C.AcceptSabm info) = T.AcceptsSabm info.now
 spec_reply_of (C.Opened info) = T.ConfirmsEstablishment info.now
 spec_reply_of (C.Closed reason) = T.ClosesLink reason
 spec_reply_of C.Released = T.AcceptsDisc
-spec_reply_of (C.Unit info) = T.TakesUi info.now
-spec_reply_of (C.I ns nr p more info) = T.TakesI ns nr p (info.now, more)
+spec_reply_of (C.Unit info) = T.ReportsUiInformation info.now
+spec_reply_of (C.I ns nr p more info) = T.TakesIFrame ns nr p (info.now, more)
 spec_reply_of (C.Rr nr poll) = T.TakesRr nr poll
 spec_reply_of (C.Rej nr poll) = T.TakesRej nr poll
 

@@ -10,7 +10,7 @@ use Rattle.lapdm_end.specs.declared.ends.Endpoint.{Endpoint}
 use Rattle.lapdm_end.specs.declared.sides.Side.{Side}
 use Rattle.lapdm_end.specs.Abstraction as L
 
--- the endpoint of the side with this SAPI
+-- the endpoint that a Rust `Side` has for this SAPI
 abbrev pub endpoint_of : Sapi → Side → Endpoint
 endpoint_of Zero m = m.link0
 endpoint_of Three m = m.link3

@@ -29,9 +29,11 @@ pub record AppendsOutcomeInOpen (l : Address) (w : Window) (old new : Effects) (
 
 -- for every endpoint in Open with this address that the old window represents, the new window and the appended effects are those of this
 -- rule
-abbrev pub StepRefinesInOpen : (rule : (EndpointState → Outcome)) (address : Address) (window new_window : Window) (old new : Effects)
+abbrev pub OpenStepAppendsOutcomeOfRule : (rule : (EndpointState → Outcome)) (address : Address) (window new_window : Window)
+    (old new : Effects)
     → Type 0
-StepRefinesInOpen rule l w v old new = (e : EndpointState) → RepresentsOpenEndpoint l w e → AppendsOutcomeInOpen l v old new e (rule e)
+OpenStepAppendsOutcomeOfRule rule l w v old new = (e : EndpointState) → RepresentsOpenEndpoint l w e →
+    AppendsOutcomeInOpen l v old new e (rule e)
 
 -- the endpoint sends the outstanding segment with this P bit, if there is one
 abbrev pub sends_outstanding_segment : (poll_bit : Bool) (endpoint : EndpointState) → Outcome
@@ -42,8 +44,8 @@ abbrev pub sends_rej : (due final_bit : Bool) (endpoint : EndpointState) → Out
 sends_rej due p e = if due then sends_frame (response_frame e (Rej (vr e) p)) e else no_effect e
 
 -- the endpoint answers an out-of-sequence segment: with a REJ if one is due, then with its next I frame if it may send one
-abbrev pub refuses_segment : (due final_bit : Bool) (endpoint : EndpointState) → Outcome
-refuses_segment due p e = sends_rej due p e then sends_next_segment
+abbrev pub answers_out_of_sequence_segment : (due final_bit : Bool) (endpoint : EndpointState) → Outcome
+answers_out_of_sequence_segment due p e = sends_rej due p e then sends_next_segment
 
 -- the endpoint accepts or discards the segment of a received I frame and answers it, after the N(R) has been evaluated
 abbrev pub takes_segment : (ns : ℕ) (poll : Bool) (segment : Segment) (endpoint : EndpointState) → Outcome

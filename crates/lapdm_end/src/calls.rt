@@ -1,9 +1,9 @@
 //! The entry points of an endpoint, for layer 3 calls and received frames. A refused call changes nothing.
 
 ghost use Rattle.std.specs.Prelude.{◌≡◌, OnErr, OnOk, IfOk};
-ghost use Rattle.lapdm_frame.specs.Content.{frame_of};
+ghost use Rattle.lapdm_frame.specs.Content.{frame_of_view};
 ghost use Rattle.lapdm_frame.specs.Frames.{FrameFits};
-ghost use Rattle.lapdm_window.specs.Calls.{endpoint_call_of, IsCallOfSapi, SendsUiFrame, call_outcome, SendsFill};
+ghost use Rattle.lapdm_window.specs.Calls.{endpoint_call_of, IsCallAllowedForSapi, IsUiFrameCall, call_outcome, SendsFillFrame};
 ghost use Rattle.lapdm_window.specs.Tables.{frame_outcome};
 
 use crate::ends::Endpoint;
@@ -18,25 +18,25 @@ impl Endpoint {
     // Inlined because most callers pass a constant call, which leaves only one arm of the match.
     #[inline(always)]
     pub fn call(&mut self, call: &Call<'_>, effects: &mut Effects) -> Result<(), Refused>
-        requires { IsCallOfSapi (sapi_of self.old) (endpoint_call_of call.now) }
+        requires { IsCallAllowedForSapi (sapi_of self.old) (endpoint_call_of call.now) }
         ensures refusal { RefusesAsSpecified (endpoint_call_of call.now) self.old result }
         ensures refines { OnOk result
             (StepRefines (call_outcome (endpoint_call_of call.now)) self.old effects.new self.new) }
         ensures refused { OnErr result (self.new ≡ self.old) }
         ensures out_unchanged { OnErr result (effects.new ≡ effects.old) }
-        ensures unchanged { SendsUiFrame (endpoint_call_of call.now) → self.new ≡ self.old }
+        ensures unchanged { IsUiFrameCall (endpoint_call_of call.now) → self.new ≡ self.old }
         ensures sapi { sapi_of self.new ≡ sapi_of self.old }
         ensures channel { channel_of self.new ≡ channel_of self.old }
     {
         match *call {
             Call::Open(info) => self.open_into(info, effects),
-            Call::OpenBare => self.open_bare_into(effects),
+            Call::OpenBare => self.open_without_info_into(effects),
             Call::Send(message) => self.send_into(message, effects),
             Call::Unit(message) => self.send_ui_into(message, effects),
             Call::Close => self.close_into(effects),
-            Call::Timer => self.t200_expiry_into(effects),
+            Call::Timer => self.handle_t200_expiry_into(effects),
             Call::Idle => {
-                self.send_fill_into(effects);
+                self.send_fill_frame_into(effects);
                 Ok(())
             }
         }
@@ -44,12 +44,12 @@ impl Endpoint {
 
     /// Carries out a layer 3 call and returns its frames and notices.
     pub fn call_returning_effects(&mut self, call: &Call<'_>) -> Result<Effects, Refused>
-        requires { IsCallOfSapi (sapi_of self.old) (endpoint_call_of call.now) }
+        requires { IsCallAllowedForSapi (sapi_of self.old) (endpoint_call_of call.now) }
         ensures refusal { RefusesAsSpecified (endpoint_call_of call.now) self.old result }
         ensures refines { IfOk result
             (λ effects. StepRefines (call_outcome (endpoint_call_of call.now)) self.old effects self.new) }
         ensures refused { OnErr result (self.new ≡ self.old) }
-        ensures unchanged { SendsUiFrame (endpoint_call_of call.now) → self.new ≡ self.old }
+        ensures unchanged { IsUiFrameCall (endpoint_call_of call.now) → self.new ≡ self.old }
         ensures sapi { sapi_of self.new ≡ sapi_of self.old }
         ensures channel { channel_of self.new ≡ channel_of self.old }
     {
@@ -62,17 +62,17 @@ impl Endpoint {
 
     /// Sends the fill frame, for use when there is nothing else to send in a block.
     pub fn idle(&self) -> Effects
-        ensures { StepRefines (call_outcome SendsFill) self.now result self.now }
+        ensures { StepRefines (call_outcome SendsFillFrame) self.now result self.now }
     {
         let mut effects = Effects::new();
-        self.send_fill_into(&mut effects);
+        self.send_fill_frame_into(&mut effects);
         effects
     }
 
-    /// Processes a received frame.
+    /// Processes a received frame, and returns the frames that the endpoint sends and the notices that it reports.
     pub fn take(&mut self, frame: &FrameView<'_>) -> Effects
-        requires { FrameFits (channel_of self.old) (frame_of frame.now) }
-        ensures refines { StepRefines (frame_outcome (frame_of frame.now)) self.old result self.new }
+        requires { FrameFits (channel_of self.old) (frame_of_view frame.now) }
+        ensures refines { StepRefines (frame_outcome (frame_of_view frame.now)) self.old result self.new }
         ensures sapi { sapi_of self.new ≡ sapi_of self.old }
         ensures channel { channel_of self.new ≡ channel_of self.old }
     {

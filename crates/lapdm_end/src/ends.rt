@@ -28,10 +28,19 @@ impl Endpoint {
     ghost use Rattle.lapdm_frame.specs.Frames.{octets_of};
     ghost use Rattle.lapdm_window.specs.declared.State.TheVariants as S;
     ghost use Rattle.lapdm_window.specs.Ends.{EndpointState, initial_endpoint};
-    ghost use Rattle.lapdm_window.specs.Calls.{first_refusal, frame_refusals, call_outcome, sends_sabm, sabm, disc, t200_expiry, Opens};
+    ghost use Rattle.lapdm_window.specs.Calls.{
+      first_refusal,
+      single_frame_refusal_checks,
+      call_outcome,
+      sends_sabm,
+      sabm,
+      disc,
+      t200_expiry,
+      Opens,
+    };
     ghost use Rattle.lapdm_window.specs.Calls.{OpensWithoutInfo};
     ghost use Rattle.lapdm_window.specs.Calls.{Sends};
-    ghost use Rattle.lapdm_window.specs.Calls.{SendsUi, Closes, T200Expires, SendsFill};
+    ghost use Rattle.lapdm_window.specs.Calls.{SendsUi, Closes, T200Expires, SendsFillFrame};
     ghost use Rattle.lapdm_window.specs.Tables.{closes_and_reports};
     ghost use Rattle.lapdm_end.specs.Addresses.{spec_role_of};
     ghost use Rattle.lapdm_end.specs.Abstraction.{Represents, channel_of, sapi_of, state_of};
@@ -83,7 +92,7 @@ impl Endpoint {
         if self.state != State::Idle {
             return Err(Refused::NotIdle);
         }
-        if let Some(refusal) = self.frame_refusal(info) {
+        if let Some(refusal) = self.single_frame_refusal(info) {
             return Err(refusal);
         }
         self.begin_establishment(info, effects);
@@ -91,7 +100,7 @@ impl Endpoint {
     }
 
     /// Begins to establish the link: sends a SABM without information.
-    pub(crate) fn open_bare_into(&mut self, effects: &mut Effects) -> Result<(), Refused>
+    pub(crate) fn open_without_info_into(&mut self, effects: &mut Effects) -> Result<(), Refused>
         requires { sapi_of self.old ≡ Sapi.Three }
         ensures refusal { RefusesAsSpecified OpensWithoutInfo self.old result }
         ensures refines { OnOk result
@@ -141,7 +150,7 @@ impl Endpoint {
         ensures unchanged { self.new ≡ self.old }
         ensures out_unchanged { OnErr result (effects.new ≡ effects.old) }
     {
-        if let Some(refusal) = self.frame_refusal(message) {
+        if let Some(refusal) = self.single_frame_refusal(message) {
             return Err(refusal);
         }
         let body = Body::Ui {
@@ -171,8 +180,8 @@ impl Endpoint {
         Ok(())
     }
 
-    /// Handles T200 expiry.
-    pub(crate) fn t200_expiry_into(&mut self, effects: &mut Effects) -> Result<(), Refused>
+    /// Handles T200 expiry: repeats the frame that awaits an answer or, if it was already repeated N200 times, closes the link.
+    pub(crate) fn handle_t200_expiry_into(&mut self, effects: &mut Effects) -> Result<(), Refused>
         ensures refusal { RefusesAsSpecified T200Expires self.old result }
         ensures refines { OnOk result
             (StepRefines (call_outcome T200Expires) self.old effects.new self.new) }
@@ -195,17 +204,17 @@ impl Endpoint {
         }
     }
 
-    /// Sends the fill frame, for use when there is nothing else to send in a block. Replaces the contents of `effects`.
-    pub fn send_fill_into(&self, effects: &mut Effects)
-        ensures { StepRefines (call_outcome SendsFill) self.now effects.new self.now }
+    /// Sends the fill frame, for use when there is nothing else to send in a block. Replaces the effects with this frame.
+    pub fn send_fill_frame_into(&self, effects: &mut Effects)
+        ensures { StepRefines (call_outcome SendsFillFrame) self.now effects.new self.now }
     {
-        self.address.send_only_fill(effects);
+        self.address.send_only_fill_frame(effects);
     }
 
     // Returns why this message cannot be sent in one frame (it is empty or longer than N201), or `None` if it can.
-    fn frame_refusal(&self, message: &[u8]) -> Option<Refused>
+    fn single_frame_refusal(&self, message: &[u8]) -> Option<Refused>
         ensures refusal { (e : EndpointState) → Represents self.now e
-            → result ≡ first_refusal (frame_refusals message.now e) }
+            → result ≡ first_refusal (single_frame_refusal_checks message.now e) }
         ensures fits { IfNone result (length message.now ≤ n201 (channel_of self.now)) }
     {
         if message.is_empty() {
@@ -306,7 +315,8 @@ impl Endpoint {
             }
             Timer::Again => {
                 effects.clear();
-                self.address.send_outstanding(true, &self.window, effects);
+                self.address
+                    .send_outstanding_segment(true, &self.window, effects);
                 Ok(())
             }
         }

@@ -1,7 +1,7 @@
 //! Encodes the frames that an endpoint sends.
 
 ghost use Rattle.std.specs.Prelude.{◌≡◌, ◌<◌, ◌≤◌, [], ◌∷◌, ◌++◌, not, length};
-ghost use Rattle.lapdm_frame.specs.Content.{content_of, fill_frame};
+ghost use Rattle.lapdm_frame.specs.Content.{content_of_body, fill_frame};
 ghost use Rattle.lapdm_frame.specs.Frames.{NsAndNrFit, InformationFits, octets_of};
 ghost use Rattle.lapdm_window.specs.Ends.{command_cr, sapi_number};
 
@@ -41,11 +41,11 @@ impl Address {
 
     // Encodes a frame with this C/R bit and body, and appends it to the effects.
     fn send(self, cr: bool, body: Body<'_>, effects: &mut Effects)
-        requires numbers { NsAndNrFit (content_of body) }
-        requires information { InformationFits self.channel (content_of body) }
+        requires numbers { NsAndNrFit (content_of_body body) }
+        requires information { InformationFits self.channel (content_of_body body) }
         requires space { length effects.old.frames < 2 }
         ensures frames { effects.new.frames ≡ effects.old.frames
-            ++ octets_of self.channel (frame_with_cr self cr (content_of body.entry)) ∷ [] }
+            ++ octets_of self.channel (frame_with_cr self cr (content_of_body body.entry)) ∷ [] }
         ensures notices { effects.new.notices ≡ effects.old.notices }
     {
         let sapi = self.sapi_number();
@@ -54,22 +54,22 @@ impl Address {
     }
 
     pub(crate) fn send_command(self, body: Body<'_>, effects: &mut Effects)
-        requires numbers { NsAndNrFit (content_of body) }
-        requires information { InformationFits self.channel (content_of body) }
+        requires numbers { NsAndNrFit (content_of_body body) }
+        requires information { InformationFits self.channel (content_of_body body) }
         requires space { length effects.old.frames < 2 }
         ensures frames { effects.new.frames ≡ effects.old.frames
-            ++ octets_of self.channel (command_frame_from self (content_of body.entry)) ∷ [] }
+            ++ octets_of self.channel (command_frame_from self (content_of_body body.entry)) ∷ [] }
         ensures notices { effects.new.notices ≡ effects.old.notices }
     {
         self.send(self.command_cr(), body, effects);
     }
 
     pub(crate) fn send_response(self, body: Body<'_>, effects: &mut Effects)
-        requires numbers { NsAndNrFit (content_of body) }
-        requires information { InformationFits self.channel (content_of body) }
+        requires numbers { NsAndNrFit (content_of_body body) }
+        requires information { InformationFits self.channel (content_of_body body) }
         requires space { length effects.old.frames < 2 }
         ensures frames { effects.new.frames ≡ effects.old.frames
-            ++ octets_of self.channel (response_frame_from self (content_of body.entry)) ∷ [] }
+            ++ octets_of self.channel (response_frame_from self (content_of_body body.entry)) ∷ [] }
         ensures notices { effects.new.notices ≡ effects.old.notices }
     {
         self.send(!self.command_cr(), body, effects);
@@ -77,10 +77,10 @@ impl Address {
 
     // Replaces the effects with one command frame and no notices.
     pub(crate) fn send_only_command(self, body: Body<'_>, effects: &mut Effects)
-        requires numbers { NsAndNrFit (content_of body) }
-        requires information { InformationFits self.channel (content_of body) }
+        requires numbers { NsAndNrFit (content_of_body body) }
+        requires information { InformationFits self.channel (content_of_body body) }
         ensures frames { effects.new.frames
-            ≡ octets_of self.channel (command_frame_from self (content_of body.entry)) ∷ [] }
+            ≡ octets_of self.channel (command_frame_from self (content_of_body body.entry)) ∷ [] }
         ensures notices { effects.new.notices ≡ [] }
     {
         effects.clear();
@@ -88,7 +88,7 @@ impl Address {
     }
 
     // Replaces the effects with the fill frame and no notices.
-    pub(crate) fn send_only_fill(self, effects: &mut Effects)
+    pub(crate) fn send_only_fill_frame(self, effects: &mut Effects)
         ensures frames { effects.new.frames
             ≡ octets_of self.channel (fill_frame (command_cr (spec_role_of self.role))) ∷ [] }
         ensures notices { effects.new.notices ≡ [] }

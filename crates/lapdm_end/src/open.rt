@@ -19,7 +19,7 @@ fn report_message(joined: Joined, more: bool, window: &Window, effects: &mut Eff
     requires space { length effects.old.notices ≤ 2 }
     ensures frames { effects.new.frames ≡ effects.old.frames }
     ensures notices { (e : EndpointState) → Represents window.now e
-        → effects.new.notices ≡ effects.old.notices ++ segment_notices joined more (completed_message e.peer_segments) }
+        → effects.new.notices ≡ effects.old.notices ++ segment_notices joined more (completed_message e.accepted_segments) }
 {
     match joined {
         Joined::Whole => effects
@@ -35,14 +35,20 @@ fn report_message(joined: Joined, more: bool, window: &Window, effects: &mut Eff
 }
 
 impl Address {
-    ghost use Rattle.lapdm_end.specs.Windows.{StepRefinesInOpen, sends_outstanding_segment, sends_rej, refuses_segment, takes_segment};
+    ghost use Rattle.lapdm_end.specs.Windows.{
+      OpenStepAppendsOutcomeOfRule,
+      sends_outstanding_segment,
+      sends_rej,
+      answers_out_of_sequence_segment,
+      takes_segment,
+    };
 
     // Sends the outstanding segment with P bit `p`, if there is one.
-    pub(crate) fn send_outstanding(self, p: bool, window: &Window, effects: &mut Effects)
+    pub(crate) fn send_outstanding_segment(self, p: bool, window: &Window, effects: &mut Effects)
         requires channel { channel_of window.now ≡ self.channel }
         requires space { length effects.old.frames ≤ 1 }
         ensures most { length effects.new.frames ≤ length effects.old.frames + 1 }
-        ensures refines { StepRefinesInOpen (sends_outstanding_segment p) self window.now window.now
+        ensures refines { OpenStepAppendsOutcomeOfRule (sends_outstanding_segment p) self window.now window.now
             effects.old effects.new }
     {
         let Some(piece) = window.waiting() else {
@@ -63,13 +69,13 @@ impl Address {
         requires space { length effects.old.frames ≤ 1 }
         ensures channel { channel_of window.new ≡ channel_of window.old }
         ensures most { length effects.new.frames ≤ length effects.old.frames + 1 }
-        ensures refines { StepRefinesInOpen sends_next_segment self window.old window.new
+        ensures refines { OpenStepAppendsOutcomeOfRule sends_next_segment self window.old window.new
             effects.old effects.new }
     {
         if !window.send_next() {
             return;
         }
-        self.send_outstanding(false, window, effects);
+        self.send_outstanding_segment(false, window, effects);
     }
 
     // Evaluates a received N(R), and reports a message that it fully acknowledges.
@@ -79,7 +85,7 @@ impl Address {
         ensures channel { channel_of window.new ≡ channel_of window.old }
         ensures frames { effects.new.frames ≡ effects.old.frames }
         ensures most { length effects.new.notices ≤ length effects.old.notices + 1 }
-        ensures refines { StepRefinesInOpen (evaluates_nr nr) self window.old window.new
+        ensures refines { OpenStepAppendsOutcomeOfRule (evaluates_nr nr) self window.old window.new
             effects.old effects.new }
     {
         match window.on_ack(nr) {
@@ -91,7 +97,7 @@ impl Address {
     fn send_rr(self, final_bit: bool, window: &Window, effects: &mut Effects)
         requires space { length effects.old.frames ≤ 1 }
         ensures most { length effects.new.frames ≤ length effects.old.frames + 1 }
-        ensures refines { StepRefinesInOpen (sends_rr final_bit) self window.now window.now
+        ensures refines { OpenStepAppendsOutcomeOfRule (sends_rr final_bit) self window.now window.now
             effects.old effects.new }
     {
         let nr = window.vr();
@@ -104,7 +110,7 @@ impl Address {
         requires channel { channel_of window.old ≡ self.channel }
         requires space { effects.old.frames ≡ [] }
         ensures channel { channel_of window.new ≡ channel_of window.old }
-        ensures refines { StepRefinesInOpen (answers_segment p) self window.old window.new
+        ensures refines { OpenStepAppendsOutcomeOfRule (answers_segment p) self window.old window.new
             effects.old effects.new }
     {
         if p {
@@ -113,7 +119,7 @@ impl Address {
             return;
         }
         if window.send_next() {
-            self.send_outstanding(false, window, effects);
+            self.send_outstanding_segment(false, window, effects);
             return;
         }
         self.send_rr(false, window, effects);
@@ -122,7 +128,7 @@ impl Address {
     fn send_rej(self, rej_due: bool, poll: bool, window: &Window, effects: &mut Effects)
         requires space { length effects.old.frames ≤ 1 }
         ensures most { length effects.new.frames ≤ length effects.old.frames + 1 }
-        ensures refines { StepRefinesInOpen (sends_rej rej_due poll) self window.now window.now
+        ensures refines { OpenStepAppendsOutcomeOfRule (sends_rej rej_due poll) self window.now window.now
             effects.old effects.new }
     {
         if !rej_due {
@@ -133,11 +139,17 @@ impl Address {
     }
 
     // Answers an out-of-sequence segment: sends a REJ if one is due, then the next I frame if one may be sent.
-    fn refuse_segment(self, rej_due: bool, poll: bool, window: &mut Window, effects: &mut Effects)
+    fn answer_out_of_sequence_segment(
+        self,
+        rej_due: bool,
+        poll: bool,
+        window: &mut Window,
+        effects: &mut Effects,
+    )
         requires channel { channel_of window.old ≡ self.channel }
         requires space { effects.old.frames ≡ [] }
         ensures channel { channel_of window.new ≡ channel_of window.old }
-        ensures refines { StepRefinesInOpen (refuses_segment rej_due poll) self window.old window.new
+        ensures refines { OpenStepAppendsOutcomeOfRule (answers_out_of_sequence_segment rej_due poll) self window.old window.new
             effects.old effects.new }
     {
         self.send_rej(rej_due, poll, window, effects);
@@ -147,7 +159,7 @@ impl Address {
     fn answer_poll(self, poll: bool, window: &Window, effects: &mut Effects)
         requires space { length effects.old.frames ≤ 1 }
         ensures most { length effects.new.frames ≤ length effects.old.frames + 1 }
-        ensures refines { StepRefinesInOpen (answers_poll poll) self window.now window.now
+        ensures refines { OpenStepAppendsOutcomeOfRule (answers_poll poll) self window.now window.now
             effects.old effects.new }
     {
         if !poll {
@@ -157,15 +169,15 @@ impl Address {
     }
 
     // Sends the outstanding segment again or, if none is outstanding, the next one.
-    fn resend_outstanding(self, window: &mut Window, effects: &mut Effects)
+    fn resend_outstanding_segment(self, window: &mut Window, effects: &mut Effects)
         requires channel { channel_of window.old ≡ self.channel }
         requires space { length effects.old.frames ≤ 1 }
         ensures channel { channel_of window.new ≡ channel_of window.old }
-        ensures refines { StepRefinesInOpen resends_outstanding_segment self window.old window.new
+        ensures refines { OpenStepAppendsOutcomeOfRule resends_outstanding_segment self window.old window.new
             effects.old effects.new }
     {
         if window.on_reject() {
-            self.send_outstanding(false, window, effects);
+            self.send_outstanding_segment(false, window, effects);
             return;
         }
         self.send_next(window, effects);
@@ -177,7 +189,7 @@ impl Address {
         requires no_frames { effects.old.frames ≡ [] }
         requires no_notices { effects.old.notices ≡ [] }
         ensures channel { channel_of window.new ≡ channel_of window.old }
-        ensures refines { StepRefinesInOpen (takes_rr nr poll) self window.old window.new
+        ensures refines { OpenStepAppendsOutcomeOfRule (takes_rr nr poll) self window.old window.new
             effects.old effects.new }
     {
         self.evaluate_nr(nr, window, effects);
@@ -191,12 +203,12 @@ impl Address {
         requires no_frames { effects.old.frames ≡ [] }
         requires no_notices { effects.old.notices ≡ [] }
         ensures channel { channel_of window.new ≡ channel_of window.old }
-        ensures refines { StepRefinesInOpen (takes_rej nr poll) self window.old window.new
+        ensures refines { OpenStepAppendsOutcomeOfRule (takes_rej nr poll) self window.old window.new
             effects.old effects.new }
     {
         self.evaluate_nr(nr, window, effects);
         self.answer_poll(poll, window, effects);
-        self.resend_outstanding(window, effects);
+        self.resend_outstanding_segment(window, effects);
     }
 
     // Accepts or discards the segment of a received I frame and answers it, after the N(R) has been evaluated.
@@ -215,7 +227,7 @@ impl Address {
         requires no_frames { effects.old.frames ≡ [] }
         requires space { length effects.old.notices ≤ 1 }
         ensures channel { channel_of window.new ≡ channel_of window.old }
-        ensures refines { StepRefinesInOpen (takes_segment ns poll (segment.entry.octets.now, segment.entry.more))
+        ensures refines { OpenStepAppendsOutcomeOfRule (takes_segment ns poll (segment.entry.octets.now, segment.entry.more))
             self window.old window.new effects.old effects.new }
     {
         match window.on_info(ns, poll, segment.octets, segment.more) {
@@ -223,11 +235,13 @@ impl Address {
                 report_message(joined, segment.more, window, effects);
                 self.answer_segment(poll, window, effects);
             }
-            Info::OutOfSequence { reject } => self.refuse_segment(reject, poll, window, effects),
+            Info::OutOfSequence { reject } => self.answer_out_of_sequence_segment(
+                reject, poll, window, effects,
+            ),
         }
     }
 
-    pub(crate) fn take_i(
+    pub(crate) fn take_i_frame(
         self,
         ns: u8,
         nr: u8,
@@ -244,7 +258,7 @@ impl Address {
         requires no_frames { effects.old.frames ≡ [] }
         requires no_notices { effects.old.notices ≡ [] }
         ensures channel { channel_of window.new ≡ channel_of window.old }
-        ensures refines { StepRefinesInOpen (takes_i_frame ns nr poll (segment.entry.octets.now, segment.entry.more))
+        ensures refines { OpenStepAppendsOutcomeOfRule (takes_i_frame ns nr poll (segment.entry.octets.now, segment.entry.more))
             self window.old window.new effects.old effects.new }
     {
         self.evaluate_nr(nr, window, effects);

@@ -8,7 +8,7 @@ ghost use Rattle.lapdm_window.specs.Ends.{EndpointState};
 ghost use Rattle.lapdm_window.specs.Parts.{values_of_parts as window_by};
 ghost use Rattle.lapdm_end.specs.Addresses.{spec_role_of};
 ghost use Rattle.lapdm_end.specs.Parts.{values_of, values_of_parts, ValuesRepresent, SomeEndpointHasValues, IsInitialWindow};
-ghost use Rattle.lapdm_end.specs.Parts.{IsInitialBeforeOpen};
+ghost use Rattle.lapdm_end.specs.Parts.{IsWindowInitialBeforeOpen};
 ghost use Rattle.lapdm_end.specs.Parts.{AreConsistent};
 ghost use Rattle.lapdm_end.specs.Abstraction.{Represents, channel_of};
 
@@ -36,7 +36,7 @@ impl EndpointView<'_> {
     fn are_consistent(&self) -> bool
         ensures { IsTrue result ↔ AreConsistent (values_of_parts self.now) }
     {
-        self.has_valid_sabm_information() && is_initial_before_open(self.state, &self.window)
+        self.has_valid_sabm_information() && is_window_initial_before_open(self.state, &self.window)
     }
 
     fn has_valid_sabm_information(&self) -> bool
@@ -53,8 +53,8 @@ impl EndpointView<'_> {
     }
 }
 
-fn is_initial_before_open(state: State, window: &LapdmWindowView<'_>) -> bool
-    ensures { IsTrue result ↔ IsInitialBeforeOpen state (window_by window.now) }
+fn is_window_initial_before_open(state: State, window: &LapdmWindowView<'_>) -> bool
+    ensures { IsTrue result ↔ IsWindowInitialBeforeOpen state (window_by window.now) }
 {
     match state {
         State::Idle | State::Opening => is_initial_window(window),

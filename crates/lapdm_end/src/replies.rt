@@ -2,7 +2,7 @@
 
 ghost use Rattle.std.specs.Prelude.{◌≡◌, ◌≤◌, length};
 ghost use Rattle.lapdm_frame.specs.Layout.{largest_n201};
-ghost use Rattle.lapdm_frame.specs.Content.{content_of};
+ghost use Rattle.lapdm_frame.specs.Content.{content_of_body};
 ghost use Rattle.lapdm_frame.specs.Frames.{InformationFits};
 ghost use Rattle.lapdm_window.specs.Ends.{EndpointState};
 ghost use Rattle.lapdm_window.specs.Tables.{is_accepted_kind, is_poll, dm_if_polled, reply_to_ui};
@@ -45,9 +45,10 @@ pub(crate) enum Reply<'a> {
     },
 }
 
-// Returns whether an endpoint accepts this kind of frame as a command or as a response; RNR is never accepted.
+// Returns whether an endpoint accepts a frame of this kind as a command, or as a response if `is_command` is false. It never accepts an
+// RNR.
 pub(crate) fn is_accepted_kind(is_command: bool, body: &Body<'_>) -> bool
-    ensures { result ≡ is_accepted_kind is_command (content_of body.now) }
+    ensures { result ≡ is_accepted_kind is_command (content_of_body body.now) }
 {
     match *body {
         Body::I { .. } | Body::Sabm { .. } | Body::Ui { .. } | Body::Disc { .. } => is_command,
@@ -58,7 +59,7 @@ pub(crate) fn is_accepted_kind(is_command: bool, body: &Body<'_>) -> bool
 }
 
 fn is_poll(is_command: bool, body: &Body<'_>) -> bool
-    ensures { result ≡ is_poll is_command (content_of body.now) }
+    ensures { result ≡ is_poll is_command (content_of_body body.now) }
 {
     match *body {
         Body::I { p, .. } => is_command && p,
@@ -132,9 +133,9 @@ impl Endpoint {
 
     fn reply_in_idle<'a>(&self, poll: bool, body: &Body<'a>) -> Reply<'a>
         requires idle { state_of self.now ≡ S.Idle }
-        requires information { InformationFits (channel_of self.now) (content_of body.now) }
+        requires information { InformationFits (channel_of self.now) (content_of_body body.now) }
         ensures reply { (e : EndpointState) → Represents self.now e
-            → spec_reply_of result ≡ reply_in_idle poll (content_of body.now) e }
+            → spec_reply_of result ≡ reply_in_idle poll (content_of_body body.now) e }
         ensures possible { IsPossibleReply self.now result }
     {
         match *body {
@@ -182,9 +183,9 @@ impl Endpoint {
 
     fn reply_in_opening<'a>(&self, body: &Body<'a>) -> Reply<'a>
         requires opening { state_of self.now ≡ S.Opening }
-        requires information { InformationFits (channel_of self.now) (content_of body.now) }
+        requires information { InformationFits (channel_of self.now) (content_of_body body.now) }
         ensures reply { (e : EndpointState) → Represents self.now e
-            → spec_reply_of result ≡ reply_in_opening (content_of body.now) e }
+            → spec_reply_of result ≡ reply_in_opening (content_of_body body.now) e }
         ensures possible { IsPossibleReply self.now result }
     {
         match *body {
@@ -214,10 +215,10 @@ impl Endpoint {
 
     fn reply_in_open<'a>(&self, command: bool, body: &Body<'a>) -> Reply<'a>
         requires open { state_of self.now ≡ S.Open }
-        requires numbers { NsAndNrFit (content_of body.now) }
-        requires information { InformationFits (channel_of self.now) (content_of body.now) }
+        requires numbers { NsAndNrFit (content_of_body body.now) }
+        requires information { InformationFits (channel_of self.now) (content_of_body body.now) }
         ensures reply { (e : EndpointState) → Represents self.now e
-            → spec_reply_of result ≡ reply_in_open command (content_of body.now) e }
+            → spec_reply_of result ≡ reply_in_open command (content_of_body body.now) e }
         ensures possible { IsPossibleReply self.now result }
     {
         match *body {
@@ -250,7 +251,7 @@ impl Endpoint {
     }
 
     fn reply_in_closing<'a>(&self, body: &Body<'a>) -> Reply<'a>
-        ensures reply { spec_reply_of result ≡ reply_in_closing (content_of body.now) }
+        ensures reply { spec_reply_of result ≡ reply_in_closing (content_of_body body.now) }
         ensures possible { IsPossibleReply self.now result }
     {
         match *body {
@@ -268,7 +269,7 @@ impl Endpoint {
     }
 
     fn reply_in_closed<'a>(&self, poll: bool, body: &Body<'a>) -> Reply<'a>
-        ensures reply { spec_reply_of result ≡ reply_in_closed poll (content_of body.now) }
+        ensures reply { spec_reply_of result ≡ reply_in_closed poll (content_of_body body.now) }
         ensures possible { IsPossibleReply self.now result }
     {
         match *body {
@@ -278,10 +279,10 @@ impl Endpoint {
     }
 
     fn reply_in_state<'a>(&self, command: bool, body: &Body<'a>) -> Reply<'a>
-        requires numbers { NsAndNrFit (content_of body.now) }
-        requires information { InformationFits (channel_of self.now) (content_of body.now) }
+        requires numbers { NsAndNrFit (content_of_body body.now) }
+        requires information { InformationFits (channel_of self.now) (content_of_body body.now) }
         ensures reply { (e : EndpointState) → Represents self.now e
-            → spec_reply_of result ≡ reply_in_state e.state command (content_of body.now) e }
+            → spec_reply_of result ≡ reply_in_state e.state command (content_of_body body.now) e }
         ensures possible { IsPossibleReply self.now result }
     {
         match self.state {
@@ -295,10 +296,10 @@ impl Endpoint {
 
     /// Returns the reply to a frame with the endpoint's SAPI and an accepted kind.
     pub(crate) fn reply<'a>(&self, command: bool, body: &Body<'a>) -> Reply<'a>
-        requires numbers { NsAndNrFit (content_of body.now) }
-        requires information { InformationFits (channel_of self.now) (content_of body.now) }
+        requires numbers { NsAndNrFit (content_of_body body.now) }
+        requires information { InformationFits (channel_of self.now) (content_of_body body.now) }
         ensures reply { (e : EndpointState) → Represents self.now e
-            → spec_reply_of result ≡ reply command (content_of body.now) e }
+            → spec_reply_of result ≡ reply command (content_of_body body.now) e }
         ensures possible { IsPossibleReply self.now result }
     {
         if let Body::Ui { info, .. } = *body {

@@ -1,10 +1,10 @@
 //! A side (mobile or network): its endpoints for SAPI 0 and SAPI 3.
 
 ghost use Rattle.std.specs.Prelude.{◌≡◌, ◌≢◌, OnOk, OnErr};
-ghost use Rattle.lapdm_frame.specs.Content.{frame_of};
+ghost use Rattle.lapdm_frame.specs.Content.{frame_of_view};
 ghost use Rattle.lapdm_frame.specs.Frames.{FrameFits};
 ghost use Rattle.lapdm_window.specs.declared.Sapi.TheVariants as S;
-ghost use Rattle.lapdm_window.specs.Calls.{endpoint_call_of, IsCallOfSapi};
+ghost use Rattle.lapdm_window.specs.Calls.{endpoint_call_of, IsCallAllowedForSapi};
 ghost use Rattle.lapdm_window.specs.Sides.{idle_side, layer3_call_step, step_for_frame};
 ghost use Rattle.lapdm_end.specs.Addresses.{spec_role_of};
 ghost use Rattle.lapdm_end.specs.Abstraction.{channel_of as end_channel, sapi_of};
@@ -48,7 +48,7 @@ impl Side {
         call: &Call<'_>,
         effects: &mut Effects,
     ) -> Result<(), Refused>
-        requires { IsCallOfSapi sapi (endpoint_call_of call.now) }
+        requires { IsCallAllowedForSapi sapi (endpoint_call_of call.now) }
         ensures refusal { RefusesAsSpecified (endpoint_call_of call.now) (endpoint_of sapi self.old) result }
         ensures refines { OnOk result
             (StepRefines (layer3_call_step sapi (endpoint_call_of call.now)) self.old sapi effects.new self.new) }
@@ -63,11 +63,11 @@ impl Side {
         }
     }
 
-    /// Passes a received frame to the endpoint with its SAPI, and replaces the contents of `effects`. Returns that SAPI, or 0 if no
-    /// endpoint has it.
+    /// Passes a received frame to the endpoint with the SAPI of the frame, and replaces the effects with the frames and notices of that
+    /// endpoint. Returns the SAPI of the endpoint, or SAPI 0 if no endpoint has the SAPI of the frame.
     pub fn take(&mut self, frame: &FrameView<'_>, effects: &mut Effects) -> Sapi
-        requires { FrameFits (channel_of self.old) (frame_of frame.now) }
-        ensures refines { StepRefines (step_for_frame (frame_of frame.now)) self.old result effects.new self.new }
+        requires { FrameFits (channel_of self.old) (frame_of_view frame.now) }
+        ensures refines { StepRefines (step_for_frame (frame_of_view frame.now)) self.old result effects.new self.new }
         ensures others { endpoint_of (other result) self.new ≡ endpoint_of (other result) self.old }
         ensures other_sapi { frame.now.sapi ≢ 0 → frame.now.sapi ≢ 3 → self.new ≡ self.old }
         ensures channel { channel_of self.new ≡ channel_of self.old }

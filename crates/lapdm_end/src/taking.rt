@@ -2,7 +2,7 @@
 
 ghost use Rattle.std.specs.Prelude.{◌≡◌, ◌≤◌, [], ◌∷◌, ◌++◌, length};
 ghost use Rattle.lapdm_frame.specs.Layout.{n201};
-ghost use Rattle.lapdm_frame.specs.Content.{content_of, frame_of};
+ghost use Rattle.lapdm_frame.specs.Content.{content_of_body, frame_of_view};
 ghost use Rattle.lapdm_frame.specs.Frames.{NsAndNrFit, InformationFits, FrameFits, octets_of};
 ghost use Rattle.lapdm_window.specs.declared.State.TheVariants as S;
 ghost use Rattle.lapdm_window.specs.Ends.{EndpointState, response_frame};
@@ -17,12 +17,12 @@ use lapdm_window::{Effects, Message, Notice, Piece, Reason, State};
 impl Endpoint {
     ghost use Rattle.lapdm_end.specs.Replies.{spec_reply_of, IsPossibleReply, MayAcceptSabmWith};
     ghost use Rattle.lapdm_end.specs.Abstraction.{Represents, channel_of, sapi_of, state_of};
-    ghost use Rattle.lapdm_end.specs.Refinement.{StepRefines, StepRefinesByAppending};
+    ghost use Rattle.lapdm_end.specs.Refinement.{StepRefines, StepAppendsOutcomeOfRule};
 
-    /// Processes a received frame and replaces the contents of `effects`.
+    /// Processes a received frame, and replaces the effects with the frames that the endpoint sends and the notices that it reports.
     pub fn take_frame_into(&mut self, frame: &FrameView<'_>, effects: &mut Effects)
-        requires { FrameFits (channel_of self.old) (frame_of frame.now) }
-        ensures refines { StepRefines (frame_outcome (frame_of frame.now)) self.old effects.new self.new }
+        requires { FrameFits (channel_of self.old) (frame_of_view frame.now) }
+        ensures refines { StepRefines (frame_outcome (frame_of_view frame.now)) self.old effects.new self.new }
         ensures sapi { sapi_of self.new ≡ sapi_of self.old }
         ensures channel { channel_of self.new ≡ channel_of self.old }
     {
@@ -39,7 +39,8 @@ impl Endpoint {
         requires ready { IsPossibleReply self.old reply }
         requires no_frames { effects.old.frames ≡ [] }
         requires no_notices { effects.old.notices ≡ [] }
-        ensures refines { StepRefinesByAppending (outcome_of_reply (spec_reply_of reply.entry)) self.old self.new effects.old effects.new }
+        ensures refines { StepAppendsOutcomeOfRule
+            (outcome_of_reply (spec_reply_of reply.entry)) self.old self.new effects.old effects.new }
         ensures sapi { sapi_of self.new ≡ sapi_of self.old }
         ensures channel { channel_of self.new ≡ channel_of self.old }
     {
@@ -61,7 +62,7 @@ impl Endpoint {
             } => {
                 let piece = Piece { octets: info, more };
                 self.address
-                    .take_i(ns, nr, p, piece, &mut self.window, effects);
+                    .take_i_frame(ns, nr, p, piece, &mut self.window, effects);
             }
             Reply::Rr { nr, poll } => self.address.take_rr(nr, poll, &mut self.window, effects),
             Reply::Rej { nr, poll } => self.address.take_rej(nr, poll, &mut self.window, effects),
@@ -70,12 +71,12 @@ impl Endpoint {
 
     // Encodes a response, and appends it to the effects.
     fn answer(&self, body: Body<'_>, effects: &mut Effects)
-        requires numbers { NsAndNrFit (content_of body) }
-        requires information { InformationFits (channel_of self.now) (content_of body) }
+        requires numbers { NsAndNrFit (content_of_body body) }
+        requires information { InformationFits (channel_of self.now) (content_of_body body) }
         requires no_frames { effects.old.frames ≡ [] }
         ensures frames { (e : EndpointState) → Represents self.now e
             → effects.new.frames ≡ effects.old.frames
-            ++ octets_of (channel_of self.now) (response_frame e (content_of body.entry)) ∷ [] }
+            ++ octets_of (channel_of self.now) (response_frame e (content_of_body body.entry)) ∷ [] }
         ensures notices { effects.new.notices ≡ effects.old.notices }
     {
         self.address.send_response(body, effects);
@@ -86,7 +87,7 @@ impl Endpoint {
         requires may { MayAcceptSabmWith self.old info.now }
         requires no_frames { effects.old.frames ≡ [] }
         requires no_notices { effects.old.notices ≡ [] }
-        ensures refines { StepRefinesByAppending (outcome_of_reply (AcceptsSabm info.now)) self.old self.new effects.old effects.new }
+        ensures refines { StepAppendsOutcomeOfRule (outcome_of_reply (AcceptsSabm info.now)) self.old self.new effects.old effects.new }
         ensures sapi { sapi_of self.new ≡ sapi_of self.old }
         ensures channel { channel_of self.new ≡ channel_of self.old }
     {
@@ -101,7 +102,7 @@ impl Endpoint {
         requires opening { state_of self.old ≡ S.Opening }
         requires information { length info.now ≤ n201 (channel_of self.old) }
         requires no_notices { effects.old.notices ≡ [] }
-        ensures refines { StepRefinesByAppending (opens_and_reports info.now) self.old self.new effects.old effects.new }
+        ensures refines { StepAppendsOutcomeOfRule (opens_and_reports info.now) self.old self.new effects.old effects.new }
         ensures sapi { sapi_of self.new ≡ sapi_of self.old }
         ensures channel { channel_of self.new ≡ channel_of self.old }
     {
@@ -112,7 +113,7 @@ impl Endpoint {
     pub(crate) fn close_and_report(&mut self, reason: Reason, effects: &mut Effects)
         requires no_notices { effects.old.notices ≡ [] }
         ensures frames { effects.new.frames ≡ effects.old.frames }
-        ensures refines { StepRefinesByAppending (closes_and_reports reason) self.old self.new effects.old effects.new }
+        ensures refines { StepAppendsOutcomeOfRule (closes_and_reports reason) self.old self.new effects.old effects.new }
         ensures sapi { sapi_of self.new ≡ sapi_of self.old }
         ensures channel { channel_of self.new ≡ channel_of self.old }
     {
@@ -124,7 +125,7 @@ impl Endpoint {
     fn accept_disc(&mut self, effects: &mut Effects)
         requires no_frames { effects.old.frames ≡ [] }
         requires no_notices { effects.old.notices ≡ [] }
-        ensures refines { StepRefinesByAppending (outcome_of_reply AcceptsDisc) self.old self.new effects.old effects.new }
+        ensures refines { StepAppendsOutcomeOfRule (outcome_of_reply AcceptsDisc) self.old self.new effects.old effects.new }
         ensures sapi { sapi_of self.new ≡ sapi_of self.old }
         ensures channel { channel_of self.new ≡ channel_of self.old }
     {

@@ -1,15 +1,15 @@
 -- Frames and their 23 octets: each list of octets encodes one frame or is refused, and each frame has one canonical list of octets.
 use Rattle.{
   lapdm_frame.specs.{
-    Content.{Content, Fields, Frame, I, Rr, content_of_fields, content_with_fields, fields_of, fill_frame, information, kind_number},
-    Content.{all_frame_kinds, more_follows},
+    Content.{Content, Fields, Frame, I, Rr, content_of_fields, content_with_fields, fields_of_content, fill_frame, information},
+    Content.{kind_number, all_frame_kinds, more_follows},
     Frames.{FrameFits, InformationFits, IsCanonicalCoding, IsFrameCoding, NsAndNrFit, address_octet, bit_of_bool, control_octet},
     Frames.{length_octet, octets_of},
     Layout.{address_in_block, control_in_block, information_in_block, layer1_octet_count, length_in_block, n201},
     Lengths.{HasNoLengthFault, IsAllowedLengthOctet, IsLengthFault},
-    Readings.{HasUniqueReading, IsOnlyCanonicalCoding, IsOnlyFrame, IsOnlyRefusal},
+    Readings.{HasUniqueReading, IsOnlyCanonicalCoding, IsOnlyEncodedFrame, IsOnlyRefusalReason},
     Refusals.{HasNoInformation, IsControlOctetOf, IsInformationFrame, IsRefused, RefusalAppliesToBlock, el_bit, length_field, m_bit},
-    Refusals.refusal_order,
+    Refusals.refusal_test_index,
     declared.{Channel.{TheVariants.{Sacch, Sdcch}, Channel}, Kind.Kind, Refusal.TheVariants.{Control, Ea, El, Empty, Length, Lpd, More}},
     declared.Refusal.Refusal,
   },
@@ -28,14 +28,14 @@ use Rattle.lapdm_frame.specs.declared.Kind.TheVariants as K
 
 -- ## Controls: A control octet determines the content of its frame, apart from the information and the M bit.
 
--- the content with its information replaced, and in an I frame also its M bit
+-- the content with the given information in place of its own and, if it is an I frame, with the given M bit
 abbrev pub with_information : Content → Bool → List ℕ → Content
-with_information a goes info = let f = fields_of a in content_with_fields f.kind f.ns f.nr f.pf goes info
+with_information a goes info = let f = fields_of_content a in content_with_fields f.kind f.ns f.nr f.pf goes info
 
 pub bit_bound : (b : Bool) → bit_of_bool b ≤ 1
 bit_bound x = grind arith
 
--- if a control octet is that of an I frame, it is the control octet of I frames only
+-- the control octet of an I frame is not the control octet of a frame of any other kind
 information_frame : (octet : ℕ) (a b : Content) → IsControlOctetOf octet a → IsControlOctetOf octet b → IsInformationFrame a →
     IsInformationFrame b
 information_frame _ a x h h' is_i = grind arith
@@ -43,9 +43,9 @@ information_frame _ a x h h' is_i = grind arith
 information-empty : (a : Content) → HasNoInformation a → information a ≡ []
 information-empty x none = grind arith
 
--- ## FieldLaws: Lemmas about frames that are given by their kind and fields.
+-- ## FieldLaws: Lemmas about frame contents that are given by a kind and fields.
 
--- a frame on this channel can have these fields
+-- a frame that fits on the channel can have these fields
 pub record FieldsFit (channel : Channel) (f : Fields) : Type 0 where
   pub sent : f.ns ≤ 7
   pub received : f.nr ≤ 7
@@ -53,11 +53,12 @@ pub record FieldsFit (channel : Channel) (f : Fields) : Type 0 where
   pub at_most : length f.info ≤ n201 channel
 
 pub fields_fit : (channel : Channel) (content : Content) → NsAndNrFit content → InformationFits channel content
-    → FieldsFit channel (fields_of content)
+    → FieldsFit channel (fields_of_content content)
 fields_fit _ x ns_nr_fit information = grind arith
 
 -- no frame has more than 20 octets of information
-pub few_octets : (channel : Channel) (content : Content) → InformationFits channel content → length (fields_of content).info ≤ 20
+pub few_octets : (channel : Channel) (content : Content) → InformationFits channel content →
+    length (fields_of_content content).info ≤ 20
 few_octets x y information = grind arith
 
 ns_and_nr_fit : (kind : Kind) (ns nr : ℕ) (pf more : Bool) (info : List ℕ) → ns ≤ 7 → nr ≤ 7
@@ -90,7 +91,8 @@ pub same_reason : (channel : Channel) (octets : List ℕ) (a b : Refusal) → Is
     a ≡ b
 same_reason _ _ a b is_a is_b = grind arith
 
-pub only_frame : (channel : Channel) (f : Frame) (octets : List ℕ) → IsFrameCoding channel f octets → IsOnlyFrame channel f octets
+pub only_frame : (channel : Channel) (f : Frame) (octets : List ℕ) → IsFrameCoding channel f octets →
+    IsOnlyEncodedFrame channel f octets
 only_frame channel f octets is_f = record {
   frame = is_f;
   unique = λ other is_other. same_frame channel octets other f is_other is_f;
@@ -98,30 +100,31 @@ only_frame channel f octets is_f = record {
 }
 
 only_refusal : (channel : Channel) (octets : List ℕ) (reason : Refusal) → IsRefused channel octets reason →
-    IsOnlyRefusal channel octets reason
+    IsOnlyRefusalReason channel octets reason
 only_refusal _ _ reason refused = record {
   refused = refused;
   unique = grind arith;
   no_frame = grind arith;
 }
 
--- ## Order: At most one reason is the first that applies. Octets to which no reason applies encode a frame.
+-- ## Order: At most one reason for refusal is the first that applies to a block. A block to which no reason applies encodes a frame.
 
--- none of the first n reasons applies
+-- none of the first n reasons for refusal applies to the octets
 pub record NoneBefore (channel : Channel) (octets : List ℕ) (n : ℕ) : Type 0 where
-  pub none : (reason : Refusal) → refusal_order reason < n → ¬ RefusalAppliesToBlock channel octets reason
+  pub none : (reason : Refusal) → refusal_test_index reason < n → ¬ RefusalAppliesToBlock channel octets reason
 
 module _ (channel : Channel) (octets : List ℕ) where
   none_yet : NoneBefore channel octets 0
   none_yet = record { none = λ reason before. absurd (omega arith) }
 
-  one_more : (n : ℕ) (reason : Refusal) → refusal_order reason ≡ n → NoneBefore channel octets n →
+  one_more : (n : ℕ) (reason : Refusal) → refusal_test_index reason ≡ n → NoneBefore channel octets n →
       ¬ RefusalAppliesToBlock channel octets reason → NoneBefore channel octets (n + 1)
   one_more n _ here passed fails = grind arith
 
-  pub refused : (reason : Refusal) → NoneBefore channel octets (refusal_order reason) → RefusalAppliesToBlock channel octets reason →
-      IsOnlyRefusal channel octets reason
-  refused reason passed applies = only_refusal _ octets reason (record { applies = applies; no_earlier = passed.none })
+  pub refused : (reason : Refusal) → NoneBefore channel octets (refusal_test_index reason) →
+      RefusalAppliesToBlock channel octets reason →
+      IsOnlyRefusalReason channel octets reason
+  refused reason passed applies = only_refusal _ octets reason (record { applies = applies; no_earlier_reason_applies = passed.none })
 
   pub past_lpd : address_in_block channel octets < 32 → NoneBefore channel octets 1
   past_lpd low = grind arith
@@ -139,7 +142,7 @@ module _ (channel : Channel) (octets : List ℕ) where
 
       -- if the length octet has a fault, that fault is the reason why the octets are refused
       pub fault_refuses : (reason : Refusal) → IsLengthFault (n201 channel) content (length_in_block channel octets) reason →
-          IsOnlyRefusal channel octets reason
+          IsOnlyRefusalReason channel octets reason
       fault_refuses El el_bit_value = refused El past_control el_bit_value
       fault_refuses Length fault = refused Length (one_more 3 El refl past_control fault.0) (elim fault.1 [
         | inl above ↦ inl above
@@ -165,7 +168,7 @@ kind_known x = grind arith
 room_is_whole : (channel : Channel) → layer1_octet_count channel + 3 + n201 channel ≡ 23
 room_is_whole x = grind arith
 
--- no reason applies to the octets, and `content` is what their control octet and their information encode
+-- no reason for refusal applies to the octets, and `content` is what their control octet and their information encode
 pub record Passes (channel : Channel) (octets : List ℕ) (content : Content) : Type 0 where
   pub count : length octets ≡ 23
   pub address_in_range : address_in_block channel octets < 32
@@ -221,7 +224,7 @@ module _ (channel : Channel) (octets : List ℕ) (content : Content) (passes : P
     information_matches = information_found;
   }
 
--- ## Existence: Every list of 23 octets encodes a frame or is refused. The proof tests the reasons in their order.
+-- ## Existence: Every list of 23 octets encodes a frame or is refused. The proof tests the reasons for refusal in their order.
 
 module _ (k : ℕ) where
   abbrev final : Bool
@@ -230,14 +233,14 @@ module _ (k : ℕ) where
   final_is : bit_of_bool final ≡ k / 16 % 2
   final_is = grind arith
 
-  -- the content of this kind with the numbers and the P or F bit that the control octet k would encode
+  -- the content of a given kind, with the sequence numbers and the P or F bit read from the control octet k
   abbrev candidate : Kind → Content
   candidate kind = content_with_fields kind (k / 2 % 8) (k / 32) final false []
 
-  -- if k is the control octet of none of the candidates, it is the control octet of no content
+  -- k is the control octet of no content if no frame kind, with the fields read from k, has the control octet k
   unknown : ((kind : Kind) → k ≢ control_octet (candidate kind)) → (content : Content) → ¬ IsControlOctetOf k content
   unknown none (I ns nr p more info) is_k = none K.I (omega (arith, final_is, bit_bound p))
-  unknown none other is_k = none (fields_of other).kind (omega (arith, final_is, bit_bound (fields_of other).pf))
+  unknown none other is_k = none (fields_of_content other).kind (omega (arith, final_is, bit_bound (fields_of_content other).pf))
 
   candidate_of : (ks : List Kind)
       → ((kind : Kind) × (k ≡ control_octet (candidate kind))) ⊎ AllByRecursion (λ kind. k ≢ control_octet (candidate kind)) ks
@@ -364,7 +367,7 @@ module _ (channel : Channel) (octets : List ℕ) (count : length octets ≡ 23) 
     | inr high ↦ inr (Lpd, refused channel octets Lpd (none_yet channel octets) high)
   ]
 
--- ## Canonical: The canonical octets of a frame: exactly one list is canonical, and it reads back as that frame.
+-- ## Canonical: Each frame has exactly one canonical list of octets, and this list reads back as that frame.
 
 information_at : (o : List ℕ) (start n k : ℕ) → k < n → get_or (slice_range o start (start + n)) k 0 ≡ get_or o (start + k) 0
 information_at o start n k below = let within : k < start + n - start = omega arith in rw (get_or-take, get_or-drop)
@@ -388,7 +391,7 @@ same_octet : (channel : Channel) (f : Frame) (o p : List ℕ) → IsCanonicalCod
 same_octet channel f o p is_o is_p k within =
     let start = layer1_octet_count channel in
     elim (cases_lt k start) [
-      | inl before ↦ is_o.layer1_is_zero k before ∙ sym (is_p.layer1_is_zero k before)
+      | inl before ↦ is_o.layer1_octets_are_zero k before ∙ sym (is_p.layer1_octets_are_zero k before)
       | inr from ↦ elim (cases_lt k (start + 3)) [
         | inl head ↦ elim (cases_eq k start) [
           | inl e ↦ rw e (is_o.frame.address_matches ∙ sym is_p.frame.address_matches)
@@ -403,7 +406,7 @@ same_octet channel f o p is_o is_p k within =
           | inl inside ↦ same_information channel f o p is_o.frame is_p.frame k rest inside
           | inr past ↦
               let below : k < 23 = omega (arith, is_o.frame.count) in
-              is_o.fill_after k past below ∙ sym (is_p.fill_after k past below)
+              is_o.fill_octets_after_information k past below ∙ sym (is_p.fill_octets_after_information k past below)
         ]
       ]
     ]
@@ -412,7 +415,7 @@ pub same_canonical : (channel : Channel) (f : Frame) (o p : List ℕ) → IsCano
     IsCanonicalCoding channel f p → o ≡ p
 same_canonical _ f o p is_o is_p = ext_get_or 0 o p (omega arith) (same_octet _ f o p is_o is_p)
 
--- the octets after the length octet: the information, then fill up to the given size
+-- the octets after the length octet of a block: the information, then fill octets 2b up to the given size
 abbrev pub filled : ℕ → List ℕ → List ℕ
 filled size info = info ++ replicate (size - length info) 0x2b
 
@@ -429,10 +432,11 @@ module _ (size : ℕ) (info : List ℕ) (fits : length info ≤ size) where
       get_or-append_right info _ (length info) k 0 refl low
       ∙ get_or-replicate _ _ 0x2b 0 within
 
--- an octet after the first three octets of a block (SDCCH), or after the first five (SACCH), is an octet of the rest
+-- on SDCCH, octet k of a block, for k from 3 on, is octet k - 3 of the octets after the address, control and length octets
 past_sdcch : (a b c : ℕ) (xs : List ℕ) (k : ℕ) → 3 ≤ k → get_or (a ∷ b ∷ c ∷ xs) k 0 ≡ get_or xs (k - 3) 0
 past_sdcch a b c xs k low = grind arith
 
+-- on SACCH, octet k of a block, for k from 5 on, is octet k - 5 of the octets after the layer 1, address, control and length octets
 past_sacch : (a b c d e : ℕ) (xs : List ℕ) (k : ℕ) → 5 ≤ k →
     get_or (a ∷ b ∷ c ∷ d ∷ e ∷ xs) k 0 ≡ get_or xs (k - 5) 0
 past_sacch a b c d e xs k low = grind arith
@@ -450,8 +454,8 @@ octets_canonical Sdcch f fits =
         length_matches = refl;
         information_matches = filled_front 20 info length_bound 3;
       };
-      layer1_is_zero = λ k below. absurd (omega arith);
-      fill_after = λ k low high.
+      layer1_octets_are_zero = λ k below. absurd (omega arith);
+      fill_octets_after_information = λ k low high.
           let there : length info ≤ k - 3 = omega arith in
           let within : k - 3 < 20 = omega arith in
           let past : 3 ≤ k = omega arith in
@@ -470,8 +474,8 @@ octets_canonical Sacch f fits =
         length_matches = refl;
         information_matches = filled_front 18 info length_bound 5;
       };
-      layer1_is_zero = below_two;
-      fill_after = λ k low high.
+      layer1_octets_are_zero = below_two;
+      fill_octets_after_information = λ k low high.
           let there : length info ≤ k - 5 = omega arith in
           let within : k - 5 < 18 = omega arith in
           let past : 5 ≤ k = omega arith in
@@ -490,10 +494,11 @@ only_canonical channel f fits =
     record {
       canonical = canonical;
       unique = λ others is_other. same_canonical channel f others _ is_other canonical;
-      reads_back = only_frame channel f (octets_of channel f) canonical.frame;
+      encodes_only_this_frame = only_frame channel f (octets_of channel f) canonical.frame;
     }
 
--- the octets that the writer produces: a block of fill, overwritten from index `start` by address a, control k, length l and `info`
+-- the octets that the writer produces: `zeros`, then fill octets, overwritten from index `start` on by address octet a, control octet k,
+-- length octet l and `info`
 abbrev pub overwritten : (start a k l : ℕ) → (zeros info : List ℕ) → List ℕ
 overwritten start a k l zeros info = put_mid (start + 3) (start + 3 + length info - (start + 3))
     (set (set (set (zeros ++ drop start (replicate {A = ℕ} 23 0x2b)) start a) (start + 1) k) (start + 2) l) info

@@ -27,21 +27,21 @@ pub record Frame : Type 0 where
   pub cr : Bool
   pub content : Content
 
--- the content of a Rust `Body`
-abbrev pub content_of : Body → Content
-content_of (B.I ns nr p more info) = I ns nr p more info.now
-content_of (B.Rr nr pf) = Rr nr pf
-content_of (B.Rnr nr pf) = Rnr nr pf
-content_of (B.Rej nr pf) = Rej nr pf
-content_of (B.Sabm p info) = Sabm p info.now
-content_of (B.Dm f) = Dm f
-content_of (B.Ui p info) = Ui p info.now
-content_of (B.Disc p) = Disc p
-content_of (B.Ua f info) = Ua f info.now
+-- the content that a Rust `Body` represents
+abbrev pub content_of_body : Body → Content
+content_of_body (B.I ns nr p more info) = I ns nr p more info.now
+content_of_body (B.Rr nr pf) = Rr nr pf
+content_of_body (B.Rnr nr pf) = Rnr nr pf
+content_of_body (B.Rej nr pf) = Rej nr pf
+content_of_body (B.Sabm p info) = Sabm p info.now
+content_of_body (B.Dm f) = Dm f
+content_of_body (B.Ui p info) = Ui p info.now
+content_of_body (B.Disc p) = Disc p
+content_of_body (B.Ua f info) = Ua f info.now
 
--- the frame of a Rust `FrameView`
-abbrev pub frame_of : FrameView → Frame
-frame_of view = record { sapi = view.sapi; cr = view.cr; content = content_of view.body }
+-- the frame that a Rust `FrameView` represents
+abbrev pub frame_of_view : FrameView → Frame
+frame_of_view view = record { sapi = view.sapi; cr = view.cr; content = content_of_body view.body }
 
 -- the information octets that a `Body` borrows from its block, or `None` if its kind has no information
 abbrev pub borrowed_information : Body → Option (Bor (List ℕ))
@@ -92,16 +92,16 @@ abbrev pub fields : (kind : Kind) (ns nr : ℕ) (pf more : Bool) (info : List �
 fields kind ns nr pf more info = record { kind = kind; ns = ns; nr = nr; pf = pf; more = more; info = info }
 
 -- the kind and the fields of this content; the fields that its kind does not have are 0, false or empty
-abbrev pub fields_of : Content → Fields
-fields_of (I ns nr p more info) = fields K.I ns nr p more info
-fields_of (Rr nr pf) = fields K.Rr 0 nr pf false []
-fields_of (Rnr nr pf) = fields K.Rnr 0 nr pf false []
-fields_of (Rej nr pf) = fields K.Rej 0 nr pf false []
-fields_of (Sabm p info) = fields K.Sabm 0 0 p false info
-fields_of (Dm f) = fields K.Dm 0 0 f false []
-fields_of (Ui p info) = fields K.Ui 0 0 p false info
-fields_of (Disc p) = fields K.Disc 0 0 p false []
-fields_of (Ua f info) = fields K.Ua 0 0 f false info
+abbrev pub fields_of_content : Content → Fields
+fields_of_content (I ns nr p more info) = fields K.I ns nr p more info
+fields_of_content (Rr nr pf) = fields K.Rr 0 nr pf false []
+fields_of_content (Rnr nr pf) = fields K.Rnr 0 nr pf false []
+fields_of_content (Rej nr pf) = fields K.Rej 0 nr pf false []
+fields_of_content (Sabm p info) = fields K.Sabm 0 0 p false info
+fields_of_content (Dm f) = fields K.Dm 0 0 f false []
+fields_of_content (Ui p info) = fields K.Ui 0 0 p false info
+fields_of_content (Disc p) = fields K.Disc 0 0 p false []
+fields_of_content (Ua f info) = fields K.Ua 0 0 f false info
 
 -- the content of a given kind with the given fields; fields that this kind does not have are ignored
 abbrev pub content_with_fields : (kind : Kind) (ns nr : ℕ) (pf more : Bool) (info : List ℕ) → Content
@@ -115,9 +115,9 @@ content_with_fields K.Ui ns nr pf more info = Ui pf info
 content_with_fields K.Disc ns nr pf more info = Disc pf
 content_with_fields K.Ua ns nr pf more info = Ua pf info
 
--- the fields of a Rust `FrameFields`
-abbrev pub abstract_fields : FrameFields → Fields
-abstract_fields f = fields f.kind f.ns f.nr f.pf f.more f.info.now
+-- the fields that a Rust `FrameFields` represents
+abbrev pub field_values_of_frame_fields : FrameFields → Fields
+field_values_of_frame_fields f = fields f.kind f.ns f.nr f.pf f.more f.info.now
 
 abbrev pub content_of_fields : Fields → Content
 content_of_fields f = content_with_fields f.kind f.ns f.nr f.pf f.more f.info

@@ -62,8 +62,9 @@ pub record IsFrameCoding (channel : Channel) (f : Frame) (octets : List ℕ) : T
 -- information are fill octets 2b (section 2.2)
 pub record IsCanonicalCoding (channel : Channel) (f : Frame) (octets : List ℕ) : Type 0 where
   pub frame : IsFrameCoding channel f octets
-  pub layer1_is_zero : (k : ℕ) → k < layer1_octet_count channel → slice_index octets k ≡ 0
-  pub fill_after : (k : ℕ) → layer1_octet_count channel + 3 + length (information f.content) ≤ k → k < 23 → slice_index octets k
+  pub layer1_octets_are_zero : (k : ℕ) → k < layer1_octet_count channel → slice_index octets k ≡ 0
+  pub fill_octets_after_information : (k : ℕ) → layer1_octet_count channel + 3 + length (information f.content) ≤ k → k < 23 →
+      slice_index octets k
       ≡ 0x2b
 
 -- the canonical coding (23 octets) of a frame that fits on the channel

@@ -13,7 +13,7 @@ abbrev pub n201 : Channel → ℕ
 n201 Sdcch = 20
 n201 Sacch = 18
 
--- the larger of the two values of N201
+-- the larger of the two values of N201: 20, on SDCCH
 abbrev pub largest_n201 : ℕ
 largest_n201 = n201 Sdcch
 

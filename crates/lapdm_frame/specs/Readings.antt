@@ -10,13 +10,13 @@ use Rattle.lapdm_frame.specs.Frames.{IsFrameCoding, IsCanonicalCoding}
 use Rattle.lapdm_frame.specs.Refusals.{IsRefused}
 
 -- the octets encode the frame `f` and no other, and no reason to refuse them applies
-pub record IsOnlyFrame (channel : Channel) (f : Frame) (octets : List ℕ) : Type 0 where
+pub record IsOnlyEncodedFrame (channel : Channel) (f : Frame) (octets : List ℕ) : Type 0 where
   pub frame : IsFrameCoding channel f octets
   pub unique : (other : Frame) → IsFrameCoding channel other octets → other ≡ f
   pub not_refused : (reason : Refusal) → ¬ IsRefused channel octets reason
 
 -- the octets are refused for `reason` and no other reason, and encode no frame
-pub record IsOnlyRefusal (channel : Channel) (octets : List ℕ) (reason : Refusal) : Type 0 where
+pub record IsOnlyRefusalReason (channel : Channel) (octets : List ℕ) (reason : Refusal) : Type 0 where
   pub refused : IsRefused channel octets reason
   pub unique : (other : Refusal) → IsRefused channel octets other → other ≡ reason
   pub no_frame : (f : Frame) → ¬ IsFrameCoding channel f octets
@@ -25,12 +25,12 @@ pub record IsOnlyRefusal (channel : Channel) (octets : List ℕ) (reason : Refus
 pub record IsOnlyCanonicalCoding (channel : Channel) (f : Frame) (octets : List ℕ) : Type 0 where
   pub canonical : IsCanonicalCoding channel f octets
   pub unique : (others : List ℕ) → IsCanonicalCoding channel f others → others ≡ octets
-  pub reads_back : IsOnlyFrame channel f octets
+  pub encodes_only_this_frame : IsOnlyEncodedFrame channel f octets
 
 -- the octets either encode exactly one frame or are refused for exactly one reason, but not both
 abbrev pub HasUniqueReading : (channel : Channel) (octets : List ℕ) → Type 0
-HasUniqueReading channel octets = ((f : Frame) × IsOnlyFrame channel f octets) ⊎ ((reason : Refusal) ×
-    IsOnlyRefusal channel octets reason)
+HasUniqueReading channel octets = ((f : Frame) × IsOnlyEncodedFrame channel f octets) ⊎ ((reason : Refusal) ×
+    IsOnlyRefusalReason channel octets reason)
 
 -- the information of a frame body, if its kind has any, is a borrowed slice of the block that begins directly after the length octet
 abbrev pub InformationIsBorrowed : (channel : Channel) (block : Bor (List ℕ)) (body : Body) → Type 0

@@ -6,7 +6,7 @@ use Rattle.lapdm_frame.specs.declared.Refusal.TheVariants.{Lpd, Ea, Control, El,
 use Rattle.lapdm_frame.specs.Layout.{n201, address_in_block, control_in_block, length_in_block}
 use Rattle.lapdm_frame.specs.declared.Kind.{Kind}
 use Rattle.lapdm_frame.specs.declared.Kind.TheVariants as K
-use Rattle.lapdm_frame.specs.Content.{Content, I, fields_of}
+use Rattle.lapdm_frame.specs.Content.{Content, I, fields_of_content}
 use Rattle.lapdm_frame.specs.Frames.{control_octet, NsAndNrFit}
 
 -- the octet is the control octet of a frame with the given content
@@ -27,9 +27,9 @@ lacks_information K.Ua = false
 lacks_information other = true
 
 abbrev pub HasNoInformation : Content → Type 0
-HasNoInformation content = lacks_information (fields_of content).kind ≡ true
+HasNoInformation content = lacks_information (fields_of_content content).kind ≡ true
 
--- the octet is the control octet of some content that meets a given condition
+-- the octet is the control octet of some content that satisfies the given condition
 abbrev pub IsControlOctetOfKind : (HasKind : (Content → Type 0)) (octet : ℕ) → Type 0
 IsControlOctetOfKind Kind octet = (content : Content) × IsControlOctetOf octet content × Kind content
 
@@ -60,16 +60,17 @@ RefusalAppliesToBlock channel octets = RefusalApplies channel (address_in_block 
     (length_in_block channel octets)
 
 -- the position of a reason for refusal in the order of the tests, from 0
-abbrev pub refusal_order : Refusal → ℕ
-refusal_order Lpd = 0
-refusal_order Ea = 1
-refusal_order Control = 2
-refusal_order El = 3
-refusal_order Length = 4
-refusal_order Empty = 5
-refusal_order More = 6
+abbrev pub refusal_test_index : Refusal → ℕ
+refusal_test_index Lpd = 0
+refusal_test_index Ea = 1
+refusal_test_index Control = 2
+refusal_test_index El = 3
+refusal_test_index Length = 4
+refusal_test_index Empty = 5
+refusal_test_index More = 6
 
 -- `reason` applies to the octets, and no reason tested earlier applies
 pub record IsRefused (channel : Channel) (octets : List ℕ) (reason : Refusal) : Type 0 where
   pub applies : RefusalAppliesToBlock channel octets reason
-  pub no_earlier : (earlier : Refusal) → refusal_order earlier < refusal_order reason → ¬ RefusalAppliesToBlock channel octets earlier
+  pub no_earlier_reason_applies : (earlier : Refusal) → refusal_test_index earlier < refusal_test_index reason →
+      ¬ RefusalAppliesToBlock channel octets earlier

@@ -14,7 +14,7 @@ pub fn law_frame_reading_is_unique()
         → HasUniqueReading channel octets }
 {}
 
-/// Law: every frame that fits the channel has exactly one canonical coding, and the reader reads exactly this frame from it.
+/// Law: every frame that fits the channel has exactly one canonical coding, and reading it gives back exactly this frame.
 pub fn law_canonical_frame_coding_is_unique()
     ensures { (channel : Channel) (f : Frame) → FrameFits channel f
         → IsOnlyCanonicalCoding channel f (octets_of channel f) }

@@ -3,7 +3,7 @@
 #![tactic(auto)]
 
 ghost use Rattle.std.specs.Prelude.{◌≡◌, ◌+◌, false, [], slice_get};
-ghost use Rattle.lapdm_frame.specs.Content.{fields, abstract_fields};
+ghost use Rattle.lapdm_frame.specs.Content.{fields, field_values_of_frame_fields};
 
 mod laws;
 mod reader;
@@ -164,11 +164,11 @@ pub struct FrameFields<'a> {
 }
 
 impl<'a> FrameFields<'a> {
-    ghost use Rattle.lapdm_frame.specs.Content.{content_of, content_of_fields, abstract_fields};
+    ghost use Rattle.lapdm_frame.specs.Content.{content_of_body, content_of_fields, field_values_of_frame_fields};
 
     /// Builds a frame body from the kind and the fields. Ignores fields that this kind does not have.
     pub fn body(&self) -> Body<'a>
-        ensures { content_of result ≡ content_of_fields (abstract_fields self.now) }
+        ensures { content_of_body result ≡ content_of_fields (field_values_of_frame_fields self.now) }
     {
         let FrameFields {
             kind,
@@ -199,11 +199,11 @@ impl<'a> FrameFields<'a> {
 }
 
 impl<'a> Body<'a> {
-    ghost use Rattle.lapdm_frame.specs.Content.{content_of, fields_of, abstract_fields};
+    ghost use Rattle.lapdm_frame.specs.Content.{content_of_body, fields_of_content, field_values_of_frame_fields};
 
     /// Returns the kind and the fields of this frame body. The fields that this kind does not have are 0, false or empty.
     pub fn fields(&self) -> FrameFields<'a>
-        ensures { abstract_fields result ≡ fields_of (content_of self.now) }
+        ensures { field_values_of_frame_fields result ≡ fields_of_content (content_of_body self.now) }
     {
         match *self {
             Body::I {
@@ -245,7 +245,7 @@ impl<'a> Body<'a> {
 
 // Returns the fields of an I frame.
 fn i_frame_fields(ns: u8, nr: u8, poll: bool, more: bool, info: &[u8]) -> FrameFields<'_>
-    ensures { abstract_fields result ≡ fields Kind.I ns nr poll more info.now }
+    ensures { field_values_of_frame_fields result ≡ fields Kind.I ns nr poll more info.now }
 {
     FrameFields {
         ns,
@@ -258,7 +258,7 @@ fn i_frame_fields(ns: u8, nr: u8, poll: bool, more: bool, info: &[u8]) -> FrameF
 
 // Returns the fields of a frame that has a P or F bit, but no N(S), no N(R) and no information.
 fn fields_with_only_pf(kind: Kind, pf: bool) -> FrameFields<'static>
-    ensures { abstract_fields result ≡ fields kind 0 0 pf false [] }
+    ensures { field_values_of_frame_fields result ≡ fields kind 0 0 pf false [] }
 {
     FrameFields {
         kind,
@@ -274,7 +274,7 @@ fn fields_with_only_pf(kind: Kind, pf: bool) -> FrameFields<'static>
 /// returned.
 #[derive(Clone, Copy, PartialEq, Eq, Debug, Error)]
 pub enum Refusal {
-    /// One of bits 8 to 6 of the address is 1, so the link protocol discriminator is not 0.
+    /// Bit 8 of the address octet (spare) or its bits 7 and 6 (link protocol discriminator) are not 0.
     #[error("bits 8 to 6 of the address octet are not 0")]
     Lpd,
     /// EA is 0: another octet of the address field follows.
@@ -296,6 +296,3 @@ pub enum Refusal {
     #[error("the M bit is 1, which only an I frame may have")]
     More,
 }
-
-#[cfg(test)]
-mod tests;

@@ -1,25 +1,25 @@
 //! Reads frames from blocks.
 
 ghost use Rattle.std.specs.Prelude.{◌≡◌, ◌⊎◌, ◌↔◌, IsTrue, IfSome, IfNone, IfOk, IfErr};
-ghost use Rattle.lapdm_frame.specs.Content.{Content, content_of, frame_of, information, more_follows, borrowed_information};
+ghost use Rattle.lapdm_frame.specs.Content.{Content, content_of_body, frame_of_view, information, more_follows, borrowed_information};
 ghost use Rattle.lapdm_frame.specs.Refusals.{IsControlOctetOf, IsInformationFrame, HasNoInformation};
 ghost use Rattle.lapdm_frame.specs.Lengths.{IsLengthFault, HasNoLengthFault};
-ghost use Rattle.lapdm_frame.specs.Readings.{IsOnlyFrame, IsOnlyRefusal, InformationIsBorrowed};
+ghost use Rattle.lapdm_frame.specs.Readings.{IsOnlyEncodedFrame, IsOnlyRefusalReason, InformationIsBorrowed};
 
 use crate::{Body, Channel, FrameView, Refusal};
 use bit_blocks::BLOCK_OCTETS;
 
-// Returns the frame body that the control octet encodes, or `None` if it encodes none. Uses `more` and `info` only if the kind has these
-// fields.
+// Returns the frame body that the control octet encodes, or `None` if it encodes none. Uses `more` and `info` only if the frame kind has
+// these fields.
 fn body_from_control<'a>(control: u8, more: bool, info: &'a [u8]) -> Option<Body<'a>>
-    ensures known { IfSome result (λ body. IsControlOctetOf control (content_of body)) }
+    ensures known { IfSome result (λ body. IsControlOctetOf control (content_of_body body)) }
     ensures unknown { IfNone result ((content : Content) → ¬ IsControlOctetOf control content) }
     ensures carried { IfSome result
-        (λ body. HasNoInformation (content_of body) ⊎ (information (content_of body) ≡ info.now)) }
+        (λ body. HasNoInformation (content_of_body body) ⊎ (information (content_of_body body) ≡ info.now)) }
     ensures borrowed { IfSome result
         (λ body. IfSome (borrowed_information body) (λ part. part.ref_ptr ≡ info.entry.ref_ptr)) }
     ensures goes_on { IfSome result
-        (λ body. IsInformationFrame (content_of body) → more_follows (content_of body) ≡ more) }
+        (λ body. IsInformationFrame (content_of_body body) → more_follows (content_of_body body) ≡ more) }
 {
     let nr = control / 32;
     let pf = control / 16 % 2 == 1;
@@ -50,13 +50,13 @@ fn body_from_control<'a>(control: u8, more: bool, info: &'a [u8]) -> Option<Body
 }
 
 fn is_information_frame(body: &Body<'_>) -> bool
-    ensures { IsTrue result ↔ IsInformationFrame (content_of body.now) }
+    ensures { IsTrue result ↔ IsInformationFrame (content_of_body body.now) }
 {
     matches!(*body, Body::I { .. })
 }
 
 fn has_no_information(body: &Body<'_>) -> bool
-    ensures { IsTrue result ↔ HasNoInformation (content_of body.now) }
+    ensures { IsTrue result ↔ HasNoInformation (content_of_body body.now) }
 {
     match *body {
         Body::I { .. } | Body::Sabm { .. } | Body::Ui { .. } | Body::Ua { .. } => false,
@@ -70,8 +70,8 @@ fn has_no_information(body: &Body<'_>) -> bool
 
 // Returns the first reason why a frame of this kind cannot have the length octet `length`, or `None` if it can.
 fn length_fault(body: &Body<'_>, length: u8, max_length: usize) -> Option<Refusal>
-    ensures fault { IfSome result (IsLengthFault max_length (content_of body.now) length) }
-    ensures none { IfNone result (HasNoLengthFault max_length (content_of body.now) length) }
+    ensures fault { IfSome result (IsLengthFault max_length (content_of_body body.now) length) }
+    ensures none { IfNone result (HasNoLengthFault max_length (content_of_body body.now) length) }
 {
     let size = usize::from(length / 4);
     let more = length / 2 % 2 == 1;
@@ -99,9 +99,9 @@ pub fn read_on<'a>(
     octets: &'a [u8; BLOCK_OCTETS],
     channel: Channel,
 ) -> Result<FrameView<'a>, Refusal>
-    ensures frame { IfOk result (λ f. IsOnlyFrame channel (frame_of f) octets.now) }
+    ensures frame { IfOk result (λ f. IsOnlyEncodedFrame channel (frame_of_view f) octets.now) }
     ensures borrowed { IfOk result (λ f. InformationIsBorrowed channel octets.entry f.body) }
-    ensures refusal { IfErr result (λ reason. IsOnlyRefusal channel octets.now reason) }
+    ensures refusal { IfErr result (λ reason. IsOnlyRefusalReason channel octets.now reason) }
 {
     let start = channel.layer1_octet_count();
     let most = channel.n201();
@@ -130,9 +130,9 @@ pub fn read_on<'a>(
 
 /// Reads the frame in an SDCCH block (see `read_on`).
 pub fn read<'a>(octets: &'a [u8; BLOCK_OCTETS]) -> Result<FrameView<'a>, Refusal>
-    ensures frame { IfOk result (λ f. IsOnlyFrame Channel.Sdcch (frame_of f) octets.now) }
+    ensures frame { IfOk result (λ f. IsOnlyEncodedFrame Channel.Sdcch (frame_of_view f) octets.now) }
     ensures borrowed { IfOk result (λ f. InformationIsBorrowed Channel.Sdcch octets.entry f.body) }
-    ensures refusal { IfErr result (λ reason. IsOnlyRefusal Channel.Sdcch octets.now reason) }
+    ensures refusal { IfErr result (λ reason. IsOnlyRefusalReason Channel.Sdcch octets.now reason) }
 {
     read_on(octets, Channel::Sdcch)
 }

@@ -2,7 +2,7 @@
 
 ghost use Rattle.std.specs.Prelude.{◌≡◌, ◌≤◌, ◌↔◌, IsTrue, length};
 ghost use Rattle.lapdm_frame.specs.Layout.{n201, largest_n201};
-ghost use Rattle.lapdm_frame.specs.Content.{content_of, frame_of, information, more_follows, fill_frame};
+ghost use Rattle.lapdm_frame.specs.Content.{content_of_body, frame_of_view, information, more_follows, fill_frame};
 ghost use Rattle.lapdm_frame.specs.Frames.{address_octet, control_octet, length_octet, NsAndNrFit, InformationFits, FrameFits, octets_of};
 ghost use Rattle.lapdm_frame.specs.Readings.{IsOnlyCanonicalCoding};
 
@@ -13,7 +13,7 @@ use bit_blocks::BLOCK_OCTETS;
 const FILL_OCTET: u8 = 0x2b;
 
 fn information_of<'a>(body: &Body<'a>) -> &'a [u8]
-    ensures { result.now ≡ information (content_of body.now) }
+    ensures { result.now ≡ information (content_of_body body.now) }
 {
     match *body {
         Body::I { info, .. }
@@ -30,13 +30,13 @@ fn information_of<'a>(body: &Body<'a>) -> &'a [u8]
 
 fn address_octet_of(frame: &FrameView<'_>) -> u8
     requires { frame.now.sapi ≤ 7 }
-    ensures { result ≡ address_octet (frame_of frame.now) }
+    ensures { result ≡ address_octet (frame_of_view frame.now) }
 {
     4 * frame.sapi + 2 * u8::from(frame.cr) + 1
 }
 
 fn ns_and_nr_fit(body: &Body<'_>) -> bool
-    ensures { IsTrue result ↔ NsAndNrFit (content_of body.now) }
+    ensures { IsTrue result ↔ NsAndNrFit (content_of_body body.now) }
 {
     match *body {
         Body::I { ns, nr, .. } => ns <= 7 && nr <= 7,
@@ -46,8 +46,8 @@ fn ns_and_nr_fit(body: &Body<'_>) -> bool
 }
 
 fn control_octet_of(body: &Body<'_>) -> u8
-    requires { NsAndNrFit (content_of body.now) }
-    ensures { result ≡ control_octet (content_of body.now) }
+    requires { NsAndNrFit (content_of_body body.now) }
+    ensures { result ≡ control_octet (content_of_body body.now) }
 {
     match *body {
         Body::I { ns, nr, p, .. } => 32 * nr + 16 * u8::from(p) + 2 * ns,
@@ -63,8 +63,8 @@ fn control_octet_of(body: &Body<'_>) -> u8
 }
 
 fn length_octet_of(body: &Body<'_>) -> u8
-    requires { length (information (content_of body.now)) ≤ largest_n201 }
-    ensures { result ≡ length_octet (content_of body.now) }
+    requires { length (information (content_of_body body.now)) ≤ largest_n201 }
+    ensures { result ≡ length_octet (content_of_body body.now) }
 {
     let more = matches!(*body, Body::I { more: true, .. });
     4 * information_of(body).len() as u8 + 2 * u8::from(more) + 1
@@ -73,7 +73,7 @@ fn length_octet_of(body: &Body<'_>) -> u8
 /// Returns whether the frame can be written on the channel: its SAPI, N(S) and N(R) must be at most 7, an I frame must have information,
 /// and the information must have at most N201 octets.
 pub fn fits_on(f: &FrameView<'_>, channel: Channel) -> bool
-    ensures { IsTrue result ↔ FrameFits channel (frame_of f.now) }
+    ensures { IsTrue result ↔ FrameFits channel (frame_of_view f.now) }
 {
     let size = information_of(&f.body).len();
     let least = if matches!(f.body, Body::I { .. }) {
@@ -86,9 +86,9 @@ pub fn fits_on(f: &FrameView<'_>, channel: Channel) -> bool
 
 /// Writes the canonical block of the frame: on SACCH it begins with two layer 1 octets 00; fill octets 2b follow the information.
 pub fn write_on(f: &FrameView<'_>, channel: Channel) -> [u8; BLOCK_OCTETS]
-    requires { FrameFits channel (frame_of f.now) }
-    ensures octets { result ≡ octets_of channel (frame_of f.now) }
-    ensures canonical { IsOnlyCanonicalCoding channel (frame_of f.now) result }
+    requires { FrameFits channel (frame_of_view f.now) }
+    ensures octets { result ≡ octets_of channel (frame_of_view f.now) }
+    ensures canonical { IsOnlyCanonicalCoding channel (frame_of_view f.now) result }
 {
     let mut octets = [FILL_OCTET; BLOCK_OCTETS];
     let start = channel.layer1_octet_count();
@@ -116,16 +116,16 @@ pub fn fill_on(cr: bool, channel: Channel) -> [u8; BLOCK_OCTETS]
 
 /// Returns whether the frame can be written on SDCCH (see `fits_on`).
 pub fn fits(f: &FrameView<'_>) -> bool
-    ensures { IsTrue result ↔ FrameFits Channel.Sdcch (frame_of f.now) }
+    ensures { IsTrue result ↔ FrameFits Channel.Sdcch (frame_of_view f.now) }
 {
     fits_on(f, Channel::Sdcch)
 }
 
 /// Writes the canonical SDCCH block of the frame (see `write_on`).
 pub fn write(f: &FrameView<'_>) -> [u8; BLOCK_OCTETS]
-    requires { FrameFits Channel.Sdcch (frame_of f.now) }
-    ensures octets { result ≡ octets_of Channel.Sdcch (frame_of f.now) }
-    ensures canonical { IsOnlyCanonicalCoding Channel.Sdcch (frame_of f.now) result }
+    requires { FrameFits Channel.Sdcch (frame_of_view f.now) }
+    ensures octets { result ≡ octets_of Channel.Sdcch (frame_of_view f.now) }
+    ensures canonical { IsOnlyCanonicalCoding Channel.Sdcch (frame_of_view f.now) result }
 {
     write_on(f, Channel::Sdcch)
 }

@@ -1,10 +1,10 @@
--- Delivery in benign sessions: both directions, UI frames, causes of establishment, each link by itself.
+-- The claims about delivery hold in benign sessions, in which frames may be lost, but not damaged or reordered.
 pub use Steps.*
 pub mod Steps
 use Rattle.{
   lapdm_link.specs.{
     Claims.{is_log_line_of_sapi, log_lines_of_sapi},
-    Worlds.{AllowsRrForRej, EventAllowsRrForRej, IsOldestSentOrRr, rr_for_rej},
+    Worlds.{IsBenignExceptRrForRej, IsBenignEventExceptRrForRej, IsOldestSentOrRrForRej, rej_replaced_by_rr},
   },
 }
 use Rattle.lapdm_window.specs.declared.Notice.TheVariants as N
@@ -49,15 +49,16 @@ rivals info x y = record (act Mobile Zero [] (record { new_state = x.endpoint; f
 abbrev pub lines : Step → List LogLine
 lines a = lines_of_step a.role a.sapi a.rivals a.layer3_call_step a.endpoint_step.notices
 
--- the possible steps: layer 3 calls the endpoint, the oldest frame from the other endpoint arrives, or another mobile sends a SABM
+-- the possible steps of endpoint x, whose peer is y: layer 3 makes a call to x, the oldest frame from y arrives, or another mobile sends a
+-- SABM
 pub data IsStep (x y : Side) : Step → Type 0 where
   called : {r : Role} {s : Sapi} {call : Call} {o : Outcome} → IsPlaced r s call → IsCalled x.endpoint call o →
       IsStep x y (act r s (call ∷ []) o y.outgoing)
-  took : {r : Role} {s : Sapi} {c : Content} {o : Outcome} {left : List Content} → y.outgoing ≡ cons_option (content_of c) left →
+  took : {r : Role} {s : Sapi} {c : Content} {o : Outcome} {left : List Content} → y.outgoing ≡ cons_option (content_of_body c) left →
       IsTaken c x.endpoint o → IsStep x y (act r s [] o left)
   rival : {info : Message} → IsStep x y (rivals info x y)
 
--- the endpoint that acts, and (below) the other endpoint, after the step
+-- the side of the endpoint that acts, as it is after the step
 abbrev pub after : Step → Side → Side
 after a x = record {
   endpoint = a.endpoint_step.new_state;
@@ -66,6 +67,7 @@ after a x = record {
   notified = x.notified ++ a.endpoint_step.notices;
 }
 
+-- the peer of the side that acts, as it is after the step: only its frames in transit change
 abbrev pub other_after : Step → Side → Side
 other_after a y = record y { outgoing = a.remaining }
 
@@ -89,7 +91,7 @@ invariant-step (called p c) h = c.arrives _ _ _ h
 invariant-step (took e t) h = t.arrives _ _ _ (rw e at h)
 invariant-step rival h = sends_plain _ _ h
 
--- a prefix of a list of complete messages contains complete messages only
+-- a prefix of a list of complete messages contains no oversize message, only complete ones
 prefix_is_complete : (xs ys : List (Option Message)) (ms : List Message) → xs ++ ys ≡ map (λ m. Some m) ms →
     length (filter_map (λ x. x) xs) ≡ length xs
 prefix_is_complete [] ys ms h = refl
@@ -102,23 +104,25 @@ no_oversize (x ∷ xs) ys zs (m ∷ ms) h = no_oversize xs ys zs ms (cc h)
 no_oversize [] ys zs (m ∷ ms) h = cc h
 no_oversize xs ys zs ms h = cc h
 
--- below, the accepted segments qs are the first r segments of the messages ms
+-- in this module, the accepted segments qs are the first r segments of the messages ms
 module _ (n : ℕ) (ms : List Message) (good : All IsValidMessage ms) (r : ℕ) (qs : List Segment)
     (accepted : qs ≡ take r (flat_map (segments n) ms))
   where
     -- the messages that the accepted segments complete are a prefix of all messages
-    delivered_prefix : (more : List (Option Message)) × (ended_messages [] qs ++ more ≡ map (λ m. Some m) ms)
+    delivered_prefix : (more : List (Option Message)) × (messages_ending_in_segments [] qs ++ more ≡ map (λ m. Some m) ms)
     delivered_prefix =
         let left = drop r (flat_map (segments n) ms) in
         let whole = ap (λ ps. ps ++ left) accepted ∙ take-append-drop r _ in (
-          ended_messages (partial_message_after [] qs) left,
-          sym (ended_messages-append [] qs _) ∙ ap (ended_messages []) whole ∙ ended_messages-all n ms good,
+          messages_ending_in_segments (partial_message_after [] qs) left,
+          sym (messages_ending_in_segments-append [] qs _) ∙ ap (messages_ending_in_segments []) whole
+              ∙ messages_ending_in_segments-all n ms good,
         )
 
     prefix : IsPrefix (messages qs) ms
     prefix = (
       filter_map (λ x. x) delivered_prefix.0,
-      sym (filter_map-append (λ x. x) (ended_messages [] qs) delivered_prefix.0) ∙ ap (filter_map (λ x. x)) delivered_prefix.1
+      sym (filter_map-append (λ x. x) (messages_ending_in_segments [] qs) delivered_prefix.0)
+          ∙ ap (filter_map (λ x. x)) delivered_prefix.1
           ∙ filter_map-some ms,
     )
 
@@ -127,18 +131,18 @@ module _ (n : ℕ) (ms : List Message) (good : All IsValidMessage ms) (r : ℕ) 
       arith,
       count-take a r (flat_map (segments n) ms) h,
       ap message_count accepted,
-      message_count-ended_messages qs,
-      prefix_is_complete (ended_messages [] qs) delivered_prefix.0 ms delivered_prefix.1,
+      message_count-messages_ending_in_segments qs,
+      prefix_is_complete (messages_ending_in_segments [] qs) delivered_prefix.0 ms delivered_prefix.1,
     )
 
 got-messages : (ns : List Notice) → filter_map message_in_got_notice ns ≡ filter_map (λ x. x) (filter_map ending_in ns)
 got-messages [] = refl
 got-messages (n ∷ ns) = grind (arith, got-messages ns)
 
--- below, x and y are the endpoints of a link in some state of a benign session
+-- in this module, x and y are the endpoints of a link in some state of a benign session
 module _ {r q : Role} {s : Sapi} {x y : EndpointState} {ls : List LogLine} {out comes hears : List Content} (here : IsReported r s x ls)
     (there : IsReported q s y ls) (both : BothHold x y out comes hears) where
-  delivered_is : delivered_messages q s ls ≡ messages y.peer_segments
+  delivered_is : delivered_messages q s ls ≡ messages y.accepted_segments
   delivered_is = got-messages (notices_in_log q s ls) ∙ ap (filter_map (λ x. x)) there.notified.got
 
   delivered_in_order : IsPrefix (delivered_messages q s ls) (sent_messages r s ls)
@@ -214,8 +218,8 @@ sent : {x y : Side} {a : Step} → IsStep x y a → filter_map unit_in (contents
 sent h = grind arith
 
 no_more : (c : Content) (ns : List Notice) (cs : List Content) → ReportsUnit c ns →
-    IsSome (filter_map ui_message_in_notice ns ++ filter_map unit_in cs) (filter_map unit_in (cons_option (content_of c) cs))
-no_more c ns cs (inl h) = rw h (IsSome-unit_lost (content_of c) cs)
+    IsSome (filter_map ui_message_in_notice ns ++ filter_map unit_in cs) (filter_map unit_in (cons_option (content_of_body c) cs))
+no_more c ns cs (inl h) = rw h (IsSome-unit_lost (content_of_body c) cs)
 no_more c ns cs (inr h) = rw (h, ← filter_map-append, in_front _ cs) (all _)
 
 taken : {x y : Side} {a : Step} → IsStep x y a →
@@ -236,18 +240,19 @@ ui_in_order-lost : (x y : Side) (o : Option Content) (cs : List Content) → Has
     HasUnits (record x { outgoing = cs }) y
 ui_in_order-lost x y o cs h = record { units_sent = trans (append (all _) (IsSome-unit_lost o cs)) h.units_sent }
 
--- ## Octets: The invariant that the information of all frames in transit consists of octets (0 to 255), if all messages do.
+-- ## Octets: If all messages consist of octets (numbers from 0 to 255), so does the information of every frame in transit.
 
 abbrev pub AreOctets : List ℕ → Type 0
 AreOctets m = All (λ octet. octet < 256) m
 
--- the messages in a call, and (below) in a log line, consist of octets
+-- the message or information that a call contains consists of octets
 abbrev pub CallOctets : Call → Type 0
 CallOctets (Opens info) = AreOctets info
 CallOctets (Sends m) = AreOctets m
 CallOctets (SendsUi m) = AreOctets m
 CallOctets other = Unit {0}
 
+-- the messages and information in the calls and SABM frames of these log lines consist of octets
 abbrev pub LineOctets : List LogLine → Type 0
 LineOctets [] = Unit {0}
 LineOctets (Asked r s call ∷ ls) = CallOctets call × LineOctets ls
@@ -280,6 +285,7 @@ none_sent : AllMessages []
 none_sent = All-nil _
 
 -- ---- segments
+-- the segments of a message of octets consist of octets
 cut_segments-octets : (n k : ℕ) (m : Message) → AreOctets m → All SegmentOctets (cut_segments n k m)
 cut_segments-octets n zero m h = All-cons SegmentOctets _ [] h (All-nil _)
 cut_segments-octets n (suc k) m h =
@@ -291,11 +297,13 @@ all-octets n (m ∷ ms) h =
     All-append SegmentOctets (segments n m) (flat_map (segments n) ms) (cut_segments-octets n _ m (All-head AreOctets m ms h))
     (all-octets n ms (All-tail AreOctets m ms h))
 
-octets_carried : (x : EndpointState) (info : List ℕ) (more : Bool) (i : ℕ) → EndOctets x → i < length (all_segments x) →
-    get_or (all_segments x) i ([], false) ≡ (info, more) → AreOctets info
+octets_carried : (x : EndpointState) (info : List ℕ) (more : Bool) (i : ℕ) → EndOctets x →
+    i < length (segments_of_all_messages x) →
+    get_or (segments_of_all_messages x) i ([], false) ≡ (info, more) → AreOctets info
 octets_carried x info more i h l e = rw e at (all-octets (n201 x.channel) x.messages h.messages i ([], false) l)
 
 -- ---- frames sent
+-- the message or information in the call, if there is a call, consists of octets
 abbrev OctetsBy : Option Call → Type 0
 OctetsBy None = Unit {0}
 OctetsBy (Some call) = CallOctets call
@@ -315,7 +323,7 @@ frames-octets : (Says : Content → Type 0) → ((c : Content) → Says c → Ar
 frames-octets Says octets s [] h = All-nil _
 frames-octets Says octets s (f ∷ fs) h = All-cons SaysOctets f fs (octets f.content h.1) (frames-octets _ octets s fs h.2)
 
--- ---- the kept information and the messages sent
+-- ---- the SABM information that an endpoint keeps and the messages that it sends
 
 kept-octets : (call : Option Call) (c : Content) (x : EndpointState) (o : Outcome) → OctetsBy call → AreOctets (information c) →
     AreOctets x.sabm_info → Goes call c x o → AreOctets o.new_state.sabm_info
@@ -388,7 +396,7 @@ IsCaused r s ls (Sabm p info) = WasAsked r s ls info ⊎ ((s ≡ Zero) × Contai
 IsCaused r s ls (Ua f info) = WasOpened r s ls info ⊎ ((info ≡ []) × ((k : Message) × (WasAsked r s ls k ⊎ WasOpened r s ls k)))
 IsCaused r s ls c = Unit {0}
 
--- the log contains the reason why the endpoint is in this state and keeps this information
+-- the log contains the reason why the endpoint is in this state and keeps this SABM information
 abbrev pub IsReached : Role → Sapi → List LogLine → State → Message → Type 0
 IsReached r s ls S.Opening k = WasAsked r s ls k
 IsReached r s ls S.Open k = WasOpened r s ls k
@@ -401,7 +409,7 @@ HasReached r s ls x = IsReached r s ls x.state x.sabm_info
 abbrev pub HasOpenings : Role → Sapi → Side → List LogLine → Type 0
 HasOpenings r s x ls = AllOf (IsCaused r s ls) x.outgoing × HasReached r s ls x.endpoint
 
--- these reasons remain valid when lines are added to the log
+-- the log still contains the reason for each frame in transit and each link state when lines are added to it
 module _ (r : Role) (s : Sapi) (ls new : List LogLine) where
   asked-more : (k : Message) → WasAsked r s ls k → WasAsked r s (ls ++ new) k
   asked-more k h = (Contains-append_left ls new _ h.0, h.1)
@@ -423,11 +431,12 @@ module _ (r : Role) (s : Sapi) (ls new : List LogLine) where
   openings-more : (x : Side) → HasOpenings r s x ls → HasOpenings r s x (ls ++ new)
   openings-more x h = (of-as _ _ caused-more _ h.0, reached-more _ _ h.1)
 
--- a SABM, or (below) a UA, that can establish a link has a cause in the log
+-- a SABM that can establish a link has a cause in the log
 sabm-cause : (r : Role) (s : Sapi) (ls : List LogLine) (info : Message) → MayOpen s r info →
     WasAsked (other r) s ls info ⊎ ((s ≡ Zero) × Contains ls (RivalSabm info)) → HasEstablishmentTrigger r s info ls × IsBare s info
 sabm-cause r s ls info h g = grind arith
 
+-- a UA that can establish a link has a cause in the log
 ua-cause : (r : Role) (s : Sapi) (ls : List LogLine) (info : Message) → WasAsked r s ls info →
     WasOpened (other r) s ls info ⊎ ((info ≡ []) × ((k : Message) × (WasAsked (other r) s ls k ⊎ WasOpened (other r) s ls k))) →
     HasEstablishmentTrigger r s info ls × IsBare s info
@@ -439,7 +448,7 @@ IsOpenedAfter before (Notified r s (N.Opened info)) = HasEstablishmentTrigger r 
 IsOpenedAfter before other = Unit {0}
 
 module _ (r : Role) (s : Sapi) where
-  none-opened : (ns : List Notice) (ls : List LogLine) → filter_map opened_info_in_notice ns ≡ [] →
+  none-opened : (ns : List Notice) (ls : List LogLine) → filter_map establishment_info_in_notice ns ≡ [] →
       AllOccur IsOpenedAfter ls (map (Notified r s) ns)
   none-opened [] ls h = tt
   none-opened (N.Opened i ∷ ns) ls h = cc h
@@ -460,13 +469,13 @@ module _ (r : Role) (s : Sapi) where
       (left : List Content)
     where
       opening-cause : (c : Content) (info : Message) → OpensBy c x.endpoint info →
-          AllOf (IsCaused (other r) s ls) (cons_option (content_of c) left) → HasEstablishmentTrigger r s info ls × IsBare s info
+          AllOf (IsCaused (other r) s ls) (cons_option (content_of_body c) left) → HasEstablishmentTrigger r s info ls × IsBare s info
       opening-cause (Sabm p i) info o sent = sabm-cause r s ls info (rw (same, role) at o.2) (let g = sent.0 in rw o.0 at g)
       opening-cause (Ua f i) info o sent = ua-cause r s ls info (rw o.2 (rw o.1 at h.1)) (let g = sent.0 in rw o.0 at g)
       opening-cause c info o sent = absurd o
 
       module _ (call : Option Call) (c : Content) (o : Outcome) (asked : HasAsked ls call)
-          (sent : AllOf (IsCaused (other r) s ls) (cons_option (content_of c) left)) where
+          (sent : AllOf (IsCaused (other r) s ls) (cons_option (content_of_body c) left)) where
         abbrev notified : List LogLine
         notified = map (Notified r s) o.notices
 
@@ -511,15 +520,15 @@ openings-there {y = y} {a = a} ls i g = openings-more _ _ ls _ (other_after a y)
   where
     left : {x y : Side} {a : Step} (P : Content → Type 0) → IsStep x y a → AllOf P y.outgoing → AllOf P a.remaining
     left P (called p c) g = g
-    left P (took {c = c} e t) g = of-rest P (content_of c) _ (rw e at g)
+    left P (took {c = c} e t) g = of-rest P (content_of_body c) _ (rw e at g)
     left P rival g = g
 
--- ## Sessions: The claims about delivery hold in every benign session. The invariant `IsSession` combines the directions, UI frames and
--- causes of both links.
+-- ## Sessions: The claims about delivery hold in every benign session. The invariant `IsSession` says for both links that messages and UI
+-- frames arrive in order and that each establishment has a cause.
 
--- ---- one link
+-- ---- the invariant of one link
 
--- the invariant of one link, stated for both of its endpoints
+-- the invariant of one link, stated for its two endpoints
 pub data IsLink (r q : Role) (s : Sapi) (x y : Side) (ls : List LogLine) : Type 0 where
   link : LinkInvariant x y → HasUnits x y → HasUnits y x → HasOpenings r s x ls → HasOpenings q s y ls → IsLink r q s x y ls
 
@@ -545,7 +554,7 @@ more {r} {q} {s} {x} {y} {ls} new (link c u v o p) =
     link c u v (openings-more r s ls new x o) (openings-more q s ls new y p)
 
 module _ {r q : Role} {s : Sapi} (x y : Side) {ls : List LogLine} where
-  -- the invariant holds after the oldest frame in transit is lost
+  -- the invariant of a link still holds after the oldest frame in transit is lost
   IsLink-first_gone : (o : Option Content) (cs : List Content) → IsLink r q s x (record y { outgoing = cons_option o cs }) ls →
       IsLink r q s x (record y { outgoing = cs }) ls
   IsLink-first_gone d cs (link c u v o p) =
@@ -556,7 +565,7 @@ module _ {r q : Role} {s : Sapi} (x y : Side) {ls : List LogLine} where
   IsLink-rest_gone [] h = h
   IsLink-rest_gone (f ∷ fs) h = IsLink-first_gone _ _ h
 
--- the invariant holds after a REJ in transit is replaced by an RR with the same N(R)
+-- the invariant of a link still holds after an RR with the same N(R) replaces a REJ in transit
 link-rr : {r q : Role} {s : Sapi} (x y : Side) {ls : List LogLine} (nr : ℕ) (pf : Bool) (cs : List Content) →
     IsLink r q s x (record y { outgoing = Rej nr pf ∷ cs }) ls → IsLink r q s x (record y { outgoing = Rr nr pf ∷ cs }) ls
 link-rr x y nr pf cs (link c u v o p) =
@@ -564,12 +573,12 @@ link-rr x y nr pf cs (link c u v o p) =
     (record { units_sent = v.units_sent }) o p
 
 first-rr : {r q : Role} {s : Sapi} (x y : Side) {ls : List LogLine} (c : Content) (cs : List Content) →
-    IsLink r q s x (record y { outgoing = cons_option (content_of c) cs }) ls →
-    IsLink r q s x (record y { outgoing = cons_option (content_of (rr_for_rej c)) cs }) ls
+    IsLink r q s x (record y { outgoing = cons_option (content_of_body c) cs }) ls →
+    IsLink r q s x (record y { outgoing = cons_option (content_of_body (rej_replaced_by_rr c)) cs }) ls
 first-rr x y (Rej nr pf) cs h = link-rr x y nr pf cs h
 first-rr x y c cs h = h
 
--- ---- both links
+-- ---- the invariants of both links
 
 abbrev pub Links : Role → Sapi → World → List LogLine → Type 0
 Links r s w ls = IsLink r (other r) s (side r s w ls) (side (other r) s w ls) ls
@@ -583,11 +592,13 @@ AllLinks-by_role Network w ls h Network s = h s
 AllLinks-by_role Mobile w ls h r s = IsLink-swapped (h s)
 AllLinks-by_role Network w ls h r s = IsLink-swapped (h s)
 
-Links-first_lost : (r : Role) (s : Sapi) (w : World) (ls : List LogLine) → Links r s w ls → Links r s (without_first (other r) w) ls
+Links-first_lost : (r : Role) (s : Sapi) (w : World) (ls : List LogLine) → Links r s w ls →
+    Links r s (without_oldest_item (other r) w) ls
 Links-first_lost Mobile s w ls h = IsLink-rest_gone _ (side Network s w ls) _ h
 Links-first_lost Network s w ls h = IsLink-rest_gone _ (side Mobile s w ls) _ h
 
-Side-equal : {x y : Side} → x.endpoint ≡ y.endpoint → x.outgoing ≡ y.outgoing → x.calls ≡ y.calls → x.notified ≡ y.notified → x
+Side-equal : {x y : Side} → x.endpoint ≡ y.endpoint → x.outgoing ≡ y.outgoing → x.calls ≡ y.calls →
+    x.notified ≡ y.notified → x
     ≡ y
 Side-equal h g k l = grind arith
 
@@ -615,15 +626,15 @@ module _ (v : World) (ls : List LogLine) (a : Step) (own : AllOf (IsForSapi a.sa
       (λ s n. rw (side-else _ s (link_else a.role a.role s a.sapi n), side-else (other a.role) s (link_else _ a.role s a.sapi n))
       (more (lines a) (others s n))))
 
--- ---- an acknowledgement is reported after the delivery
+-- ---- each message is delivered before it is reported as acknowledged
 
 abbrev pub IsAfterDelivered : List LogLine → LogLine → Type 0
 IsAfterDelivered before (Notified r s (N.Acked n)) = length (acked_message_numbers r s before) + 1 ≤ length
     (delivered_messages (other r) s before)
 IsAfterDelivered before other = Unit {0}
 
--- the step delivers no message to the other endpoint, so if after it no more messages are acknowledged than delivered, each acknowledgement
--- in it follows the delivery of its message
+-- if no more messages are acknowledged than delivered after a step in which one endpoint acts, this endpoint reports each acknowledgement
+-- after the delivery of the message
 notified-after : (r : Role) (s : Sapi) (is : List Message) (cs : List Call) (ns : List Notice) (ls : List LogLine) →
     (let zs = ls ++ lines_of_step r s is cs ns in length (acked_message_numbers r s zs) ≤ length (delivered_messages (other r) s zs)) →
     AllOccur IsAfterDelivered ls (lines_of_step r s is cs ns)
@@ -636,9 +647,10 @@ notified-after r s [] [] (N.Acked i ∷ ns) ls h =
 notified-after r s [] [] (n ∷ ns) ls h = (tt, notified-after r s [] [] ns (ls ++ Notified r s n ∷ []) (rw append_assoc h))
 notified-after r s [] [] [] ls h = tt
 
--- ---- a session
+-- ---- the invariant of a session
 
--- the invariant of a session: what its log says, both links, and the order of its lines
+-- the invariant of a session: its log agrees with the endpoints, the invariant of each link holds, each acknowledgement follows the
+-- delivery of its message, and each establishment follows its cause
 pub record IsSession (w : World) (ls : List LogLine) : Type 0 where
   pub reported : AllReported w ls
   pub links : AllLinks w ls
@@ -660,47 +672,51 @@ session-acts ls v {x} {y} {a} i role same e e' h others reported =
     (all, notified-after _ _ _ _ _ ls most, link.1)
 
 comes-first : (s : Sapi) (f : Frame) (fs : List Frame) → is_on s f ≡ true → IsOldestSentOrNone (Some f) fs →
-    contents_on s fs ≡ cons_option (content_of f.content) (contents_on s (rest fs))
+    contents_on s fs ≡ cons_option (content_of_body f.content) (contents_on s (rest fs))
 comes-first s f fs on sent = grind arith
 
-left-here : (r : Role) (s : Sapi) (w : World) (ls : List LogLine) → side r s (without_first (other r) w) ls ≡ side r s w ls
+left-here : (r : Role) (s : Sapi) (w : World) (ls : List LogLine) → side r s (without_oldest_item (other r) w) ls ≡ side r s w ls
 left-here r s w ls = grind arith
 
-left-there : (r : Role) (s : Sapi) (w : World) (ls : List LogLine) → side (other r) s (without_first (other r) w) ls ≡
+left-there : (r : Role) (s : Sapi) (w : World) (ls : List LogLine) → side (other r) s (without_oldest_item (other r) w) ls ≡
     record (side (other r) s w ls) { outgoing = contents_on s (rest (way (other r) w)) }
 left-there r s w ls = grind arith
 
-AllLinks-lost : (sender : Role) (w : World) (ls : List LogLine) → AllLinks w ls → AllLinks (without_first sender w) ls
-AllLinks-lost Mobile w ls h = AllLinks-by_role Network (without_first Mobile w) ls (λ s. Links-first_lost _ s w ls (h _ s))
-AllLinks-lost Network w ls h = AllLinks-by_role Mobile (without_first Network w) ls (λ s. Links-first_lost _ s w ls (h _ s))
+AllLinks-lost : (sender : Role) (w : World) (ls : List LogLine) → AllLinks w ls → AllLinks (without_oldest_item sender w) ls
+AllLinks-lost Mobile w ls h = AllLinks-by_role Network (without_oldest_item Mobile w) ls (λ s. Links-first_lost _ s w ls (h _ s))
+AllLinks-lost Network w ls h = AllLinks-by_role Mobile (without_oldest_item Network w) ls (λ s. Links-first_lost _ s w ls (h _ s))
 
--- the link invariant holds with the arriving frame at the front of the queue: it is the frame that was sent, or an RR in place of a REJ
+-- the invariant of a link still holds if the arriving frame, either the oldest frame sent or an RR in place of a REJ, stands at the front
+-- of the queue
 IsLink-frame_arrived : (r : Role) (s : Sapi) (w : World) (ls : List LogLine) (f : Frame) (fs : List Frame) → way (other r) w ≡ fs →
-    is_on s f ≡ true → IsOldestSentOrRr (Some f) fs → Links r s w ls → IsLink r (other r) s (side r s w ls)
-    (record (side (other r) s w ls) { outgoing = cons_option (content_of f.content) (contents_on s (rest fs)) }) ls
+    is_on s f ≡ true → IsOldestSentOrRrForRej (Some f) fs → Links r s w ls → IsLink r (other r) s (side r s w ls)
+    (record (side (other r) s w ls) { outgoing = cons_option (content_of_body f.content) (contents_on s (rest fs)) }) ls
 IsLink-frame_arrived r s w ls f (g ∷ gs) is on (inl same) h = rw (ap (contents_on s) is ∙ comes-first s f (g ∷ gs) on same) at h
 IsLink-frame_arrived r s w ls f (g ∷ gs) is on (inr same) h =
     let as_sent = rw (ap (contents_on s) is ∙ comes-first s g (g ∷ gs) (rw same at on) refl) at h in
     rw same (first-rr (side r s w ls) (side (other r) s w ls) g.content (contents_on s gs) as_sent)
 IsLink-frame_arrived r s w ls f [] is on sent h = absurd sent
 
-KnowsBy-oldest_sent_or_rr : (o : Option EventRefusal) (event : Event) (w : World) → EventAllowsRrForRej o event w →
-    KnowsBy o (λ sender f. IsOldestSentOrRr (Some f) (way sender w)) event
+KnowsBy-oldest_sent_or_rr : (o : Option EventRefusal) (event : Event) (w : World) → IsBenignEventExceptRrForRej o event w →
+    KnowsBy o (λ sender f. IsOldestSentOrRrForRej (Some f) (way sender w)) event
 KnowsBy-oldest_sent_or_rr o event w h = grind arith
 
-GoesInSession-event : (w : World) (ls : List LogLine) (event : Event) → EventAllowsRrForRej (refusal event w) event w → IsSession w ls →
+GoesInSession-event : (w : World) (ls : List LogLine) (event : Event) → IsBenignEventExceptRrForRej (refusal event w) event w →
+    IsSession w ls →
     GoesInSession ls (world_after event w) (answer_log_lines event (answer event w))
-GoesInSession-event w ls event benign h = by_kind w (GoesInSession ls) (λ sender f. IsOldestSentOrRr (Some f) (way sender w))
+GoesInSession-event w ls event benign h = by_kind w (GoesInSession ls) (λ sender f. IsOldestSentOrRrForRej (Some f) (way sender w))
     (λ g. (rw append-nil h.links, tt, tt)) (λ r s call placed ok. (let x = h.reported r s in
     session-acts ls w (called placed (is_called _ x.window_of_one _ ok)) x.role x.sapi refl refl (h.links r s) (λ t n. h.links r t)))
     (λ r s f on known. (let x = h.reported r s in
-    session-acts ls (without_first (other r) w) (took refl (taken-frame _ x.window_of_one f)) x.role
+    session-acts ls (without_oldest_item (other r) w) (took refl (taken-frame _ x.window_of_one f)) x.role
     x.sapi (left-here r s w ls) (left-there r s w ls) (IsLink-frame_arrived r s w ls f (way (other r) w) refl on known (h.links r s))
     (λ t n. Links-first_lost r t w ls (h.links r t)))) (λ sender g. (rw append-nil (AllLinks-lost sender w ls h.links), tt, tt))
-    (λ info ok. (let x = h.reported Mobile Zero in session-acts ls w rival x.role x.sapi refl refl (h.links _ _) (λ t n. h.links Mobile t)))
+    (λ info ok. (let x = h.reported Mobile Zero in
+    session-acts ls w rival x.role x.sapi refl refl (h.links _ _) (λ t n. h.links Mobile t)))
     _ (KnowsBy-oldest_sent_or_rr _ _ w benign)
 
-session-step : (w : World) (ls : List LogLine) (event : Event) → EventAllowsRrForRej (refusal event w) event w → IsSession w ls →
+session-step : (w : World) (ls : List LogLine) (event : Event) → IsBenignEventExceptRrForRej (refusal event w) event w →
+    IsSession w ls →
     IsSession (world_after event w) (ls ++ answer_log_lines event (answer event w))
 session-step w ls event benign h =
     let new : List LogLine = answer_log_lines event (answer event w) in
@@ -709,17 +725,18 @@ session-step w ls event benign h =
     let after_delivered : AllOccur IsAfterDelivered [] (ls ++ new) = occur-append IsAfterDelivered [] ls new h.after_delivered g.1 in
     record { reported = reported; links = g.0; after_delivered = after_delivered; after_cause = occur-append _ [] ls new h.after_cause g.2 }
 
-session-run : (events : List Event) (w : World) (ls : List LogLine) → AllowsRrForRej events w → IsSession w ls →
+session-run : (events : List Event) (w : World) (ls : List LogLine) → IsBenignExceptRrForRej events w → IsSession w ls →
     ((z : World) × IsSession z (ls ++ C.session_log events (answers events w)))
 session-run [] w ls benign h = (w, rw append-nil h)
 session-run (event ∷ events) w ls benign h =
     rw (← append_assoc) (session-run events (world_after event w) _ benign.1 (session-step w ls event benign.0 h))
 
--- a benign event also satisfies `EventAllowsRrForRej`
-benign_allows_rr : (o : Option EventRefusal) (event : Event) (w : World) → IsBenignEvent o event w → EventAllowsRrForRej o event w
+-- a benign event also satisfies `IsBenignEventExceptRrForRej`
+benign_allows_rr : (o : Option EventRefusal) (event : Event) (w : World) → IsBenignEvent o event w →
+    IsBenignEventExceptRrForRej o event w
 benign_allows_rr o event w h = grind arith
 
-allows_rr : (events : List Event) (w : World) → IsBenign events w → AllowsRrForRej events w
+allows_rr : (events : List Event) (w : World) → IsBenign events w → IsBenignExceptRrForRej events w
 allows_rr [] w h = tt
 allows_rr (event ∷ events) w h = (benign_allows_rr (refusal event w) event w h.0, allows_rr events _ h.1)
 
@@ -753,12 +770,12 @@ module _ (capacity : QueueCapacity) (channel : Channel) where
     abbrev pub log : List LogLine
     log = C.session_log events (answers events origin)
 
-    pub counts_with_rr : AllowsRrForRej events origin → AckedAtMostDelivered log
+    pub counts_with_rr : IsBenignExceptRrForRej events origin → AckedAtMostDelivered log
     counts_with_rr benign r s =
         let (z, h) = session-run events origin [] benign IsSession-origin in
         acked_most (h.reported r s) (h.reported (other r) s) (carried_by_link (h.links r s))
 
-    pub claims_with_rr : AllowsRrForRej events origin → Claims log
+    pub claims_with_rr : IsBenignExceptRrForRej events origin → Claims log
     claims_with_rr benign =
         let in_order : HasNoticesInOrder log = order_claims capacity channel events in
         let (z, h) = session-run events origin [] benign IsSession-origin in
@@ -784,11 +801,12 @@ module _ (s : Sapi) where
   abbrev chosen : Bool → LogLine → Option LogLine
   chosen b l = if b then Some l else None
 
-  -- the calls and the notices of a link are the same if read from the lines of this link alone
+  -- the calls to an endpoint are the same in the whole log and in the log lines of its link
   calls_in_log-kept : (r : Role) (ls : List LogLine) → calls_in_log r s (log_lines_of_sapi s ls) ≡ calls_in_log r s ls
   calls_in_log-kept r [] = refl
   calls_in_log-kept r (l ∷ ls) = grind (arith, calls_in_log-kept r ls)
 
+  -- the notices of an endpoint are the same in the whole log and in the log lines of its link
   notices_in_log-kept : (r : Role) (ls : List LogLine) → notices_in_log r s (log_lines_of_sapi s ls) ≡ notices_in_log r s ls
   notices_in_log-kept r [] = refl
   notices_in_log-kept r (l ∷ ls) = grind (arith, notices_in_log-kept r ls)

@@ -35,7 +35,7 @@ lines_of events = session_log events (answers events (initial_session Sdcch))
 abbrev notified : List Move → List LogLine
 notified plain_step = lines_of (played plain_step (initial_session Sdcch))
 
--- ---- contention: another mobile's SABM arrives first, so the UA has other information and this mobile gives up
+-- ---- contention resolution: another mobile's SABM arrives first, so the UA has other information and this mobile gives up
 
 contention : notified (Happens (Rival (7 ∷ [])) ∷ Happens (Open (1 ∷ [])) ∷ Arrives Mobile ∷ Arrives Mobile ∷ Arrives Network
     ∷ []) ≡ RivalSabm (7 ∷ []) ∷ Asked Mobile Zero (Opens (1 ∷ [])) ∷ Notified Network Zero (N.Opened (7 ∷ []))
@@ -81,7 +81,7 @@ collision : notified (Happens (OpenBare Mobile) ∷ Happens (OpenBare Network) �
     ∷ Notified Network Three (N.Got (5 ∷ [])) ∷ Notified Mobile Three (N.Acked 1) ∷ []
 collision = refl
 
--- ---- release
+-- ---- the mobile releases the link, and both endpoints report the release
 
 release : notified (opening ++ Happens (Ask Mobile Zero Close) ∷ Arrives Mobile ∷ Arrives Network ∷ [])
     ≡ opened ++ Asked Mobile Zero Closes ∷ Notified Network Zero (N.Closed R.Released) ∷ Notified Mobile Zero (N.Closed R.Released)

@@ -12,7 +12,8 @@ use Rattle.lapdm_window.specs.declared.Notice.TheVariants as N
 use Rattle.lapdm_window.specs.Ends.{Role, Mobile, Network, sapi_number, capped_at_64_bits}
 pub use Rattle.lapdm_window.specs.Steps.{message_in_got_notice}
 use Rattle.lapdm_window.specs.Calls.{Call, Opens, OpensWithoutInfo, Sends, SendsUi, Closes}
-use Rattle.lapdm_link.specs.Events.{EventWith, Open, OpenBare, Ask, Rival, Answer, Refuses, Accepts, Who, BySide, endpoint_call_of, other}
+use Rattle.lapdm_link.specs.Events.{SessionEvent, Open, OpenBare, Ask, Rival, Answer, Refuses, Accepts, Who, BySide, endpoint_call_of}
+use Rattle.lapdm_link.specs.Events.{other}
 
 -- a line of the log: a call that was not refused, a SABM sent by another mobile, or a notice that an endpoint reported
 pub data LogLine : Type 0 where
@@ -21,7 +22,7 @@ pub data LogLine : Type 0 where
   Notified : Role → Sapi → Notice → LogLine
 
 -- the log lines of an event: one for a call to an endpoint or for the SABM of another mobile, none for any other event
-abbrev pub event_log_lines : {Arrival : Type 0} → EventWith Arrival → List LogLine
+abbrev pub event_log_lines : {Arrival : Type 0} → SessionEvent Arrival → List LogLine
 event_log_lines (Open info) = Asked Mobile Zero (Opens info) ∷ []
 event_log_lines (OpenBare role) = Asked role Three OpensWithoutInfo ∷ []
 event_log_lines (Ask role sapi request) = Asked role sapi (endpoint_call_of request) ∷ []
@@ -34,12 +35,12 @@ notice_log_lines (BySide role) sapi ns = map (Notified role sapi) ns
 notice_log_lines who sapi ns = []
 
 -- the log lines of an event and its answer: first the event, then the notices; a refused event has no lines
-abbrev pub answer_log_lines : {Arrival : Type 0} → EventWith Arrival → Answer → List LogLine
+abbrev pub answer_log_lines : {Arrival : Type 0} → SessionEvent Arrival → Answer → List LogLine
 answer_log_lines event (Refuses why) = []
 answer_log_lines event (Accepts who sapi frames notices) = event_log_lines event ++ notice_log_lines who sapi notices
 
 -- the log of a session with these events and answers
-abbrev pub session_log : {Arrival : Type 0} (events : List (EventWith Arrival)) (answers : List Answer) → List LogLine
+abbrev pub session_log : {Arrival : Type 0} (events : List (SessionEvent Arrival)) (answers : List Answer) → List LogLine
 session_log (event ∷ events) (answer ∷ answers) = answer_log_lines event answer ++ session_log events answers
 session_log events answers = []
 
@@ -92,14 +93,14 @@ acked_number_in_notice (N.Acked n) = Some n
 acked_number_in_notice other = None
 
 -- the information in a notice that reports the establishment of the link, or `None` for any other notice
-abbrev pub opened_info_in_notice : Notice → Option Message
-opened_info_in_notice (N.Opened info) = Some info
-opened_info_in_notice other = None
+abbrev pub establishment_info_in_notice : Notice → Option Message
+establishment_info_in_notice (N.Opened info) = Some info
+establishment_info_in_notice other = None
 
 -- the notice itself if it reports that the link is closed, otherwise `None`
-abbrev pub as_close_notice : Notice → Option Notice
-as_close_notice (N.Closed reason) = Some (N.Closed reason)
-as_close_notice other = None
+abbrev pub close_notice_or_none : Notice → Option Notice
+close_notice_or_none (N.Closed reason) = Some (N.Closed reason)
+close_notice_or_none other = None
 
 -- whether the log line belongs to the link with this SAPI; the SABM of another mobile belongs to SAPI 0
 abbrev pub is_log_line_of_sapi : Sapi → LogLine → Bool
@@ -133,11 +134,11 @@ acked_message_numbers r s ls = filter_map acked_number_in_notice (notices_in_log
 
 -- the information in each notice in which the endpoint with this role and SAPI reports that its link is established, in order
 abbrev pub establishment_infos : (role : Role) (sapi : Sapi) (log : List LogLine) → List Message
-establishment_infos r s ls = filter_map opened_info_in_notice (notices_in_log r s ls)
+establishment_infos r s ls = filter_map establishment_info_in_notice (notices_in_log r s ls)
 
 -- the notices in which the endpoint with this role and SAPI reports that its link is closed, in order
 abbrev pub close_notices : (role : Role) (sapi : Sapi) (log : List LogLine) → List Notice
-close_notices r s ls = filter_map as_close_notice (notices_in_log r s ls)
+close_notices r s ls = filter_map close_notice_or_none (notices_in_log r s ls)
 
 -- the first list is a prefix of the second
 abbrev pub IsPrefix : {T : Type 0} (front whole : List T) → Type 0
@@ -170,7 +171,8 @@ HasEstablishmentTrigger r Three info before =
 -- a call or SABM; and no message is oversize.
 pub record Claims (log : List LogLine) : Type 0 where
   pub in_order : (role : Role) (sapi : Sapi) → IsPrefix (delivered_messages (other role) sapi log) (sent_messages role sapi log)
-  pub acked_in_order : (role : Role) (sapi : Sapi) (n : ℕ) (before : List LogLine) → OccursAfter before (Notified role sapi (N.Acked n)) log
+  pub acked_in_order : (role : Role) (sapi : Sapi) (n : ℕ) (before : List LogLine) →
+      OccursAfter before (Notified role sapi (N.Acked n)) log
       →
       (n ≡ capped_at_64_bits (length (acked_message_numbers role sapi before) + 1))
       × (length (acked_message_numbers role sapi before) + 1 ≤ length (delivered_messages (other role) sapi before))
@@ -201,7 +203,8 @@ pub record IsOpenEndpoint (role : Role) (sapi : Sapi) (before : List LogLine) : 
 -- - 1), and each message is sent before it is acknowledged; the link is established at most once and closed at most once; and deliveries,
 -- acknowledgements and oversize messages are reported only while the link is open.
 pub record HasNoticesInOrder (log : List LogLine) : Type 0 where
-  pub acked_in_order : (role : Role) (sapi : Sapi) (n : ℕ) (before : List LogLine) → OccursAfter before (Notified role sapi (N.Acked n)) log
+  pub acked_in_order : (role : Role) (sapi : Sapi) (n : ℕ) (before : List LogLine) →
+      OccursAfter before (Notified role sapi (N.Acked n)) log
       →
       (n ≡ capped_at_64_bits (length (acked_message_numbers role sapi before) + 1))
       × (length (acked_message_numbers role sapi before) + 1 ≤ length (sent_messages role sapi before))

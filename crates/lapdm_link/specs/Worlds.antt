@@ -3,7 +3,7 @@ use Rattle.std.specs.Prelude.{◌≡◌, ◌≤◌, ◌⊎◌, All, List, [], �
 use Rattle.lapdm_window.specs.lapdm_frame.declared.Channel.{Channel}
 use Rattle.lapdm_window.specs.lapdm_frame.Content.{Content, Rr, Rej, Frame}
 use Rattle.lapdm_window.specs.lapdm_frame.Frames.{FrameFits}
-use Rattle.lapdm_link.specs.Queues.{Queues, empty_queues, queue_of, with_appended, queue_length, IsOldestSentOrNone}
+use Rattle.lapdm_link.specs.Queues.{Queues, empty_queues, queue_of, with_items_appended, queue_length, IsOldestSentOrNone}
 use Rattle.lapdm_link.specs.Events.{Event, Deliver, BothSides, idle_endpoints, sending_role, SideStep}
 use Rattle.lapdm_link.specs.Events.{event_step, queues_after_removal, QueueCapacity}
 use Rattle.lapdm_link.specs.Events.{bounded_capacity}
@@ -47,23 +47,24 @@ answer event w = answer_unless_refused (refusal event w) (event_step event w.end
 -- the state of the session after a step: the endpoints are in their new state, and the frames sent are appended to the queue of the side
 -- that acted
 abbrev pub world_after_step : SideStep → World → World
-world_after_step d w = record w { ends = d.new_state; queues = with_appended (sending_role d.who) d.frames w.queues }
+world_after_step d w = record w { ends = d.new_state; queues = with_items_appended (sending_role d.who) d.frames w.queues }
 
--- the state after an event, given the reason for its refusal, if any
-abbrev pub world_unless_refused : (refused : Option EventRefusal) (event : Event) (world : World) → World
-world_unless_refused (Some why) event w = w
-world_unless_refused None event w = world_after_step (event_step event w.ends) (record w { queues = queues_after_removal event w.queues })
+-- the state of the session after an event, given the reason for the refusal of the event, if any
+abbrev pub world_after_possible_refusal : (refused : Option EventRefusal) (event : Event) (world : World) → World
+world_after_possible_refusal (Some why) event w = w
+world_after_possible_refusal None event w =
+    world_after_step (event_step event w.ends) (record w { queues = queues_after_removal event w.queues })
 
--- the state after an event; a refused event does not change the state
+-- the state of the session after an event; a refused event does not change the state
 abbrev pub world_after : Event → World → World
-world_after event w = world_unless_refused (refusal event w) event w
+world_after event w = world_after_possible_refusal (refusal event w) event w
 
 -- the answers to a list of events, in order
 abbrev pub answers : (events : List Event) (world : World) → List Answer
 answers [] w = []
 answers (event ∷ events) w = answer event w ∷ answers events (world_after event w)
 
--- if the event delivers a frame and is not refused, the receiver reads the oldest frame in transit, or none
+-- the event is benign: if it delivers a frame and is not refused, the receiver reads the oldest frame in transit, or none
 abbrev pub IsBenignEvent : (refused : Option EventRefusal) (event : Event) (world : World) → Type 0
 IsBenignEvent None (Deliver sender read) w = IsOldestSentOrNone read (queue_of sender w.queues)
 IsBenignEvent refused event w = Unit {0}
@@ -74,26 +75,27 @@ IsBenign [] w = Unit {0}
 IsBenign (event ∷ events) w = IsBenignEvent (refusal event w) event w × IsBenign events (world_after event w)
 
 -- replaces a REJ by an RR with the same N(R) and P/F bit; any other content is unchanged
-abbrev pub rr_for_rej : Content → Content
-rr_for_rej (Rej nr pf) = Rr nr pf
-rr_for_rej c = c
+abbrev pub rej_replaced_by_rr : Content → Content
+rej_replaced_by_rr (Rej nr pf) = Rr nr pf
+rej_replaced_by_rr c = c
 
 -- the frame read, if any, is the oldest frame sent; an RR with the same N(R) may replace a REJ
-abbrev pub IsOldestSentOrRr : (arrived : Option Frame) (sent : List Frame) → Type 0
-IsOldestSentOrRr None sent = Unit {0}
-IsOldestSentOrRr (Some f) [] = ⊥
-IsOldestSentOrRr (Some f) (first ∷ others) = (f ≡ first) ⊎ (f ≡ record first { content = rr_for_rej first.content })
+abbrev pub IsOldestSentOrRrForRej : (arrived : Option Frame) (sent : List Frame) → Type 0
+IsOldestSentOrRrForRej None sent = Unit {0}
+IsOldestSentOrRrForRej (Some f) [] = ⊥
+IsOldestSentOrRrForRej (Some f) (first ∷ others) = (f ≡ first) ⊎ (f ≡ record first { content = rej_replaced_by_rr first.content })
 
 -- if the event delivers a frame and is not refused, the receiver reads the oldest frame in transit, or none, or an RR in place of a REJ
 -- with the same N(R)
-abbrev pub EventAllowsRrForRej : (refused : Option EventRefusal) (event : Event) (world : World) → Type 0
-EventAllowsRrForRej None (Deliver sender read) w = IsOldestSentOrRr read (queue_of sender w.queues)
-EventAllowsRrForRej refused event w = Unit {0}
+abbrev pub IsBenignEventExceptRrForRej : (refused : Option EventRefusal) (event : Event) (world : World) → Type 0
+IsBenignEventExceptRrForRej None (Deliver sender read) w = IsOldestSentOrRrForRej read (queue_of sender w.queues)
+IsBenignEventExceptRrForRej refused event w = Unit {0}
 
 -- the session is benign, except that the receiver may read an RR where a REJ with the same N(R) was sent
-abbrev pub AllowsRrForRej : (events : List Event) (world : World) → Type 0
-AllowsRrForRej [] w = Unit {0}
-AllowsRrForRej (event ∷ events) w = EventAllowsRrForRej (refusal event w) event w × AllowsRrForRej events (world_after event w)
+abbrev pub IsBenignExceptRrForRej : (events : List Event) (world : World) → Type 0
+IsBenignExceptRrForRej [] w = Unit {0}
+IsBenignExceptRrForRej (event ∷ events) w = IsBenignEventExceptRrForRej (refusal event w) event w
+    × IsBenignExceptRrForRej events (world_after event w)
 
 -- if the event delivers a frame, the frame fits in a block of the channel (every frame that is read from a block does)
 abbrev pub ArrivingFrameFits : (channel : Channel) (event : Event) → Type 0

@@ -6,7 +6,7 @@ ghost use Rattle.std.specs.Prelude.{All, List};
 ghost use Rattle.lapdm_window.specs.declared.Sapi.TheVariants.{Zero, Three};
 ghost use Rattle.lapdm_window.specs.lapdm_frame.declared.Channel.{Channel};
 ghost use Rattle.lapdm_link.specs.Events.{QueueCapacity, Event};
-ghost use Rattle.lapdm_link.specs.Worlds.{initial_world, answers, IsBenign, AllowsRrForRej, ArrivingFrameFits, SentFramesFit};
+ghost use Rattle.lapdm_link.specs.Worlds.{initial_world, answers, IsBenign, IsBenignExceptRrForRej, ArrivingFrameFits, SentFramesFit};
 ghost use Rattle.lapdm_link.specs.Claims.{LogLine, log_lines_of_sapi, session_log, Claims, HasNoticesInOrder, AckedAtMostDelivered};
 
 /// Law: if each frame arrives in order and unchanged, or is lost, each endpoint delivers a prefix of the messages that its peer sent, and
@@ -22,10 +22,10 @@ pub fn law_lapdm_delivers_in_order()
 /// messages are delivered in order, and before they are reported as acknowledged.
 pub fn law_rr_may_replace_rej()
     ensures delivery { (capacity : QueueCapacity) (channel : Channel) (events : List Event) →
-        AllowsRrForRej events (initial_world capacity channel)
+        IsBenignExceptRrForRej events (initial_world capacity channel)
         → Claims (session_log events (answers events (initial_world capacity channel))) }
     ensures acked_at_most_delivered { (capacity : QueueCapacity) (channel : Channel) (events : List Event) →
-        AllowsRrForRej events (initial_world capacity channel)
+        IsBenignExceptRrForRej events (initial_world capacity channel)
         → AckedAtMostDelivered (session_log events (answers events (initial_world capacity channel))) }
 {}
 
@@ -52,7 +52,8 @@ pub fn law_session_frames_fit_blocks()
         → All (SentFramesFit channel) (answers events (initial_world capacity channel)) }
 {}
 
-/// Law: if the claims hold for the log lines of each SAPI, they hold for the whole log, so each link may have its own channel or queues.
+/// Law: if the claims about delivery, order or acknowledgement counts hold for the log lines of each SAPI, they hold for the whole log. So
+/// each link may have its own channel or queues.
 pub fn law_claims_per_sapi_hold_for_whole_log()
     ensures delivery { (ls : List LogLine) → Claims (log_lines_of_sapi Zero ls) → Claims (log_lines_of_sapi Three ls) → Claims ls }
     ensures order { (ls : List LogLine) → HasNoticesInOrder (log_lines_of_sapi Zero ls)

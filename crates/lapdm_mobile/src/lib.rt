@@ -4,6 +4,3 @@
 mod mobile;
 
 pub use mobile::Mobile;
-
-#[cfg(test)]
-mod tests;

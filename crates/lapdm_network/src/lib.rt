@@ -4,6 +4,3 @@
 mod network;
 
 pub use network::Network;
-
-#[cfg(test)]
-mod tests;

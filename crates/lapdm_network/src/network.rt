@@ -2,12 +2,12 @@
 
 ghost use Rattle.std.specs.Prelude.{◌≡◌, IfOk, OnErr};
 ghost use Rattle.lapdm_end.specs.lapdm_frame.declared.Channel.TheVariants as C;
-ghost use Rattle.lapdm_end.specs.lapdm_frame.Content.{frame_of};
+ghost use Rattle.lapdm_end.specs.lapdm_frame.Content.{frame_of_view};
 ghost use Rattle.lapdm_end.specs.lapdm_frame.Frames.{FrameFits};
 ghost use Rattle.lapdm_end.specs.lapdm_window.declared.Sapi.TheVariants as S;
 ghost use Rattle.lapdm_end.specs.lapdm_window.Ends.{EndpointState, initial_endpoint};
 ghost use Rattle.lapdm_end.specs.lapdm_window.Ends as E;
-ghost use Rattle.lapdm_end.specs.lapdm_window.Calls.{call_outcome, OpensWithoutInfo, Sends, SendsUi, Closes, T200Expires, SendsFill};
+ghost use Rattle.lapdm_end.specs.lapdm_window.Calls.{call_outcome, OpensWithoutInfo, Sends, SendsUi, Closes, T200Expires, SendsFillFrame};
 ghost use Rattle.lapdm_end.specs.lapdm_window.Tables.{frame_outcome};
 ghost use Rattle.lapdm_end.specs.Abstraction.{Represents, sapi_of, channel_of};
 ghost use Rattle.lapdm_end.specs.Refinement.{StepRefines, RefusesAsSpecified};
@@ -117,7 +117,8 @@ impl Network {
         self.endpoint.call_returning_effects(&Call::Close)
     }
 
-    /// Handles T200 expiry. Refusal: `NotRunning`.
+    /// Handles T200 expiry: repeats the frame that awaits an answer or, if it was already repeated N200 times, closes the link. Refusal:
+    /// `NotRunning`.
     pub fn timer(&mut self) -> Result<Effects, Refused>
         ensures refusal { RefusesAsSpecified T200Expires (endpoint_of self.old) result }
         ensures refines { IfOk result
@@ -131,15 +132,15 @@ impl Network {
 
     /// Sends the fill frame, for use when there is nothing else to send in a block.
     pub fn idle(&self) -> Effects
-        ensures { StepRefines (call_outcome SendsFill) (endpoint_of self.now) result (endpoint_of self.now) }
+        ensures { StepRefines (call_outcome SendsFillFrame) (endpoint_of self.now) result (endpoint_of self.now) }
     {
         self.endpoint.idle()
     }
 
-    /// Processes a received frame.
+    /// Processes a received frame, and returns the frames that the network sends and the notices that it reports.
     pub fn take(&mut self, frame: &FrameView<'_>) -> Effects
-        requires { FrameFits (channel_of (endpoint_of self.old)) (frame_of frame.now) }
-        ensures refines { StepRefines (frame_outcome (frame_of frame.now)) (endpoint_of self.old) result
+        requires { FrameFits (channel_of (endpoint_of self.old)) (frame_of_view frame.now) }
+        ensures refines { StepRefines (frame_outcome (frame_of_view frame.now)) (endpoint_of self.old) result
             (endpoint_of self.new) }
         ensures sapi { sapi_of (endpoint_of self.new) ≡ sapi_of (endpoint_of self.old) }
         ensures channel { channel_of (endpoint_of self.new) ≡ channel_of (endpoint_of self.old) }

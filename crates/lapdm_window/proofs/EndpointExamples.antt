@@ -15,7 +15,7 @@ use Rattle.lapdm_window.specs.declared.Notice.TheVariants as N
 use Rattle.lapdm_window.specs.declared.Reason.TheVariants as R
 use Rattle.lapdm_window.specs.declared.Refused.TheVariants as No
 
--- what is visible of a step: the blocks sent and the notices, or the reason for the refusal
+-- the visible result of a step: the blocks sent and the notices, or the reason for the refusal
 abbrev Seen : Type 0
 Seen = Result (List (List ℕ) × List Notice) Refused
 
@@ -31,12 +31,12 @@ abbrev session : EndpointState → List StepInput → List Seen
 session e [] = []
 session e (input ∷ inputs) = let r = step input e in seen_in e r ∷ session (state_after e r) inputs
 
--- the n octets of this number, most significant first
+-- the lowest n octets of a number, most significant octet first
 abbrev hex : ℕ → ℕ → List ℕ
 hex zero value = []
 hex (suc n) value = value / 256 ^ n % 256 ∷ hex n value
 
--- a block: the n octets of this number, then fill octets 2b
+-- a block of 23 octets: the lowest n octets of a number, then fill octets 2b
 abbrev block : ℕ → ℕ → List ℕ
 block n value = hex n value ++ replicate (23 - n) 0x2b
 
@@ -49,14 +49,15 @@ sent n value = Ok (block n value ∷ [], [])
 abbrev reported : Notice → Seen
 reported n = Ok ([], n ∷ [])
 
--- frames from the mobile and from the network: C/R is 0 in commands of the mobile and responses of the network, and 1 in the others
+-- a frame of SAPI 0 that the network receives from the mobile; C/R 0 makes it a command
 abbrev from_mobile : Content → StepInput
 from_mobile content = Received (record { sapi = 0; cr = false; content = content })
 
+-- a frame of SAPI 0 that the mobile receives from the network; C/R 0 makes it a response
 abbrev from_network : Content → StepInput
 from_network content = Received (record { sapi = 0; cr = false; content = content })
 
--- a mobile establishes the link at the network, and then repeats its frames
+-- the mobile establishes the link, sends an I frame, and then repeats its SABM and its I frame
 network_opened_by_mobile : session (initial_endpoint Network Zero Sdcch)
     (from_mobile (Sabm true (0x01 ∷ [])) ∷ from_mobile (I 0 0 false false (0xaa ∷ [])) ∷ from_mobile (Sabm true (0x01 ∷ []))
     ∷ from_mobile (Sabm true (0x02 ∷ [])) ∷ from_mobile (I 0 0 false false (0xaa ∷ []))
@@ -66,7 +67,7 @@ network_opened_by_mobile : session (initial_endpoint Network Zero Sdcch)
     ∷ sent 4 0x01730501 ∷ nothing ∷ sent 3 0x012901 ∷ nothing ∷ []
 network_opened_by_mobile = refl
 
--- a mobile refuses each call that its state does not allow, then receives the UA for another mobile
+-- a mobile refuses several calls and sends its SABM; then it receives the UA for another mobile and closes the link
 mobile_losing_contention : session (initial_endpoint Mobile Zero Sdcch)
     (Asked (Sends (0xaa ∷ [])) ∷ Asked Closes ∷ Asked T200Expires ∷ Asked (Opens []) ∷ Asked (Opens (0x01 ∷ []))
     ∷ Asked (Opens (0x01 ∷ []))
@@ -79,7 +80,7 @@ refused_mobile : session (initial_endpoint Mobile Zero Sdcch) (Asked (Opens (0x0
     ≡ sent 4 0x013f0501 ∷ reported (N.Closed R.Refused) ∷ []
 refused_mobile = refl
 
--- both sides establish SAPI 3 at the same time
+-- both sides establish the link of SAPI 3 at the same time, so the mobile receives a SABM while it waits for the UA
 collision_on_sapi_3 : session (initial_endpoint Mobile Three Sdcch)
     (Asked OpensWithoutInfo ∷ Asked OpensWithoutInfo ∷ Received (record { sapi = 3; cr = true; content = Sabm true [] })
     ∷ Received (record { sapi = 3; cr = false; content = Ua true [] }) ∷ [])
@@ -100,7 +101,7 @@ ignored_frames : session (record (initial_endpoint Network Zero Sdcch) { state =
     ≡ replicate 4 nothing
 ignored_frames = refl
 
--- an oversize message is reported at its last segment, and the next message is delivered whole
+-- an I frame from the mobile with the given N(S), M bit and information
 abbrev segment_of : ℕ → Bool → List ℕ → StepInput
 segment_of ns more octets = from_mobile (I ns 0 false more octets)
 
@@ -110,6 +111,7 @@ sevens ns = segment_of ns true (replicate 20 7)
 abbrev ready : ℕ → Seen
 ready control = sent 3 (0x010001 + 256 * control)
 
+-- an oversize message is reported at its last segment, and the next message is delivered
 oversize_message : session (record (initial_endpoint Network Zero Sdcch) { state = S.Open; sabm_info = 0x01 ∷ [] })
     (sevens 0 ∷ sevens 1 ∷ sevens 2 ∷ sevens 3 ∷ sevens 4 ∷ sevens 5 ∷ sevens 6 ∷ sevens 7 ∷ sevens 0 ∷ sevens 1
     ∷ sevens 2 ∷ sevens 3 ∷ sevens 4 ∷ segment_of 5 false (7 ∷ []) ∷ segment_of 6 false (0xaa ∷ []) ∷ [])

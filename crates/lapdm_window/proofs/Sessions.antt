@@ -33,7 +33,7 @@ record Pair : Type 0 where
   up : List Frame
   down : List Frame
 
--- what is visible of an event: the notices and the blocks sent, or the reason for the refusal
+-- the visible result of an event: the notices and the blocks sent, or the reason for the refusal
 abbrev Seen : Type 0
 Seen = Result (List Notice × List (List ℕ)) Refused
 
@@ -49,7 +49,7 @@ abbrev with_network : Result Outcome Refused → Pair → Pair
 with_network (Ok o) p = record p { network = o.new_state; down = p.down ++ o.frames }
 with_network (Err refusal) p = p
 
--- the endpoint receives the oldest frame in transit
+-- the step in which an endpoint receives the oldest frame in transit
 abbrev step_on_oldest : List Frame → EndpointState → Result Outcome Refused
 step_on_oldest [] e = Err No.NotRunning
 step_on_oldest (f ∷ fs) e = step (Received f) e
@@ -91,7 +91,7 @@ idle_on channel = record {
       [];
 }
 
--- both endpoints in Open; the link was established with information 01
+-- the state of a session in which both endpoints are in Open; the link was established with information 01
 abbrev open_pair : Pair
 open_pair =
     let idle = idle_on Sdcch in
@@ -100,19 +100,19 @@ open_pair =
       network = record idle.network { state = S.Open; sabm_info = 0x01 ∷ [] };
     }
 
--- the n octets of this number, most significant first
+-- the lowest n octets of a number, most significant octet first
 abbrev hex : ℕ → ℕ → List ℕ
 hex zero value = []
 hex (suc n) value = value / 256 ^ n % 256 ∷ hex n value
 
--- a block: the n octets of this number, then fill octets 2b
+-- a block of 23 octets: the lowest n octets of a number, then fill octets 2b
 abbrev block : ℕ → ℕ → List ℕ
 block n value = hex n value ++ replicate (23 - n) 0x2b
 
 abbrev sent : ℕ → ℕ → Seen
 sent n value = Ok ([], block n value ∷ [])
 
--- another mobile establishes the link at the network first
+-- another mobile establishes the link with the network first, so this mobile gives up (contention resolution)
 contention : session (idle_on Sdcch)
     (Rival (0x02 ∷ []) ∷ Mob (Opens (0x01 ∷ [])) ∷ Up ∷ Net (Sends (0xaa ∷ [])) ∷ Net T200Expires ∷ Up ∷ Down ∷ Down
     ∷ Down ∷ Up ∷ [])
@@ -123,7 +123,7 @@ contention : session (idle_on Sdcch)
     ∷ []
 contention = refl
 
--- messages in both directions, one of which is acknowledged by an I frame
+-- both endpoints send messages, and an I frame acknowledges one of them
 both_ways : session open_pair
     (Mob (Sends (0xaa ∷ [])) ∷ Mob (Sends (0xcc ∷ [])) ∷ Up ∷ LoseDown ∷ Net (Sends (0xbb ∷ [])) ∷ Down ∷ Up ∷ Down
     ∷ [])
@@ -151,7 +151,7 @@ unanswered_message : session open_pair (Mob (Sends (0xaa ∷ [])) ∷ replicate 
     ++ Ok (N.Closed R.Failed ∷ [], []) ∷ Err No.NotRunning ∷ []
 unanswered_message = refl
 
--- a release discards the messages that are not acknowledged
+-- releasing the link discards the messages that are not acknowledged
 release : session open_pair
     (Mob (Sends (0xaa ∷ [])) ∷ Mob (Sends (0xbb ∷ [])) ∷ Mob (Sends (0xcc ∷ [])) ∷ Mob Closes ∷ Up ∷ Up ∷ Down ∷ Down
     ∷ Mob Closes ∷ [])
@@ -171,7 +171,7 @@ eight_messages : session open_pair (replicate 9 (Mob (Sends (0xaa ∷ []))))
     ≡ sent 4 0x010005aa ∷ replicate 7 nothing ++ Err No.Full ∷ []
 eight_messages = refl
 
--- on SACCH a message of 19 octets has two segments
+-- a message of 19 octets, which has two segments on SACCH
 abbrev message_of_19_octets : Message
 message_of_19_octets = hex 19 0x000102030405060708090a0b0c0d0e0f101112
 

@@ -3,18 +3,19 @@ use Rattle.{
   lapdm_window.{
     proofs.Windows.{HasSize, HasWindowOfOne-push},
     specs.{
-      Calls.{Call, IsCallOfEndpoint, Sends, T200Expires, call_outcome, first_refusal, is_idle, message_refusals, refusal_of},
+      Calls.{Call, IsCallAllowedForEndpoint, Sends, T200Expires, call_outcome, first_refusal, is_idle, message_refusal_checks, refusal_of},
       Calls.{frame_to_retransmit, with_queued_message},
-      Ends.{EndpointState, HasWindowOfOne, IsValidEndpoint, Network, Outcome, Role, all_segments, awaits_ack, awaits_answer_in_state},
-      Ends.{awaits_answer, n200, next_segment, no_effect, sapi_number, sends_frame, initial_endpoint, vr, ◌then◌},
+      Ends.{EndpointState, HasWindowOfOne, IsValidEndpoint, Network, Outcome, Role, segments_of_all_messages, awaits_ack},
+      Ends.{awaits_answer_in_state, awaits_answer, n200, first_unacked_segment, no_effect, sapi_number, sends_frame, initial_endpoint, vr},
+      Ends.◌then◌,
       Rules.{accepts_segment, answers_poll, answers_segment, evaluates_nr, is_open, may_send_next_segment, outstanding_frame},
       Rules.{rejects_segment, resends_outstanding_segment, sends_next_segment, sends_segment, takes_i_frame, takes_rej, takes_rr},
       Rules.with_segment_sent,
       Sides.{SideState, SideStep, endpoint_step, no_op_step, step_for_frame},
       Steps.{Asked, IsPossibleInput, IsSameEndpoint, Received, StepInput, message_in_got_notice, outcome_unless_refused, step},
-      Tables.{AcceptsDisc, AcceptsSabm, ClosesLink, ConfirmsEstablishment, Nothing, Reply, SendsDm, SendsUa, TakesI, TakesRej, TakesRr},
-      Tables.{TakesUi, answers_repeated_sabm, closes_and_reports, frame_outcome, is_command, outcome_of_reply, reply_in_state},
-      Tables.{reply_to_frame, reply},
+      Tables.{AcceptsDisc, AcceptsSabm, ClosesLink, ConfirmsEstablishment, Nothing, Reply, SendsDm, SendsUa, TakesIFrame, TakesRej},
+      Tables.{TakesRr, ReportsUiInformation, answers_repeated_sabm, closes_and_reports, frame_outcome, is_command, outcome_of_reply},
+      Tables.{reply_in_state, reply_to_frame, reply},
       declared.{Refused.Refused, Sapi.{TheVariants.{Three, Zero}, Sapi}, State.{TheVariants.{Closing, Idle, Opening, Open}, State}},
     },
   },
@@ -56,7 +57,7 @@ pub not_false : (b : Bool) → not b ≡ false → b ≡ true
 not_false true h = refl
 not_false false h = sym h
 
-pub is_valid_message : (m : Message) (x : EndpointState) → first_refusal (message_refusals m x) ≡ None → IsValidMessage m
+pub is_valid_message : (m : Message) (x : EndpointState) → first_refusal (message_refusal_checks m x) ≡ None → IsValidMessage m
 is_valid_message m x h = grind arith
 
 pub is_idle-is : (s : State) → is_idle s ≡ true → s ≡ S.Idle
@@ -65,30 +66,32 @@ is_idle-is s h = grind arith
 pub is_open-is : (s : State) → is_open s ≡ true → s ≡ S.Open
 is_open-is s h = grind arith
 
--- ## Sequencing: Properties of `o then rule` that follow from the same properties of `o` and of `rule`.
+-- ## Sequencing: If an outcome `o`, and a rule applied after it, deliver the messages that their accepted segments complete, so does `o
+-- then rule`.
 
--- the notices deliver exactly the messages completed by the segments that were accepted since the endpoint was in state e
+-- the notices of the outcome deliver exactly the messages completed by the segments that the endpoint accepted after state e
 abbrev pub Delivers : EndpointState → Outcome → Type 0
-Delivers e o = messages o.new_state.peer_segments ≡ messages e.peer_segments ++ filter_map message_in_got_notice o.notices
+Delivers e o = messages o.new_state.accepted_segments ≡ messages e.accepted_segments ++ filter_map message_in_got_notice o.notices
 
 then-delivers : (e : EndpointState) (o : Outcome) (rule : EndpointState → Outcome) → Delivers e o →
     Delivers o.new_state (rule o.new_state) →
     Delivers e (o then rule)
 then-delivers e o rule h g = rw (filter_map-append, g, h, append_assoc)
 
--- ## Causes: What each reply of the tables implies for the endpoint and for the frame received, by cases on the state and the frame kind.
+-- ## Causes: Each reply to a received frame implies facts about the frame and about the state of the endpoint; for example, only an
+-- endpoint in Open accepts a DISC. The proof is by cases on the state and the frame kind.
 
--- the endpoint has at least started to establish its link: Opening, Open or Closing
+-- the endpoint has started to establish its link, and the link has not ended: the state is Opening, Open or Closing
 abbrev pub HasBegun : EndpointState → Type 0
 HasBegun x = (x.state ≡ Opening) ⊎ ((x.state ≡ Open) ⊎ (x.state ≡ Closing))
 
--- a SABM with this information can establish the link at this side and SAPI
+-- an endpoint with this SAPI and role can accept a SABM with this information, so that the link is established
 abbrev pub MayOpen : Sapi → Role → Message → Type 0
 MayOpen Zero Network (i ∷ is) = Unit {0}
 MayOpen Three r [] = Unit {0}
 MayOpen s r info = ⊥
 
--- what follows if this is the reply to the content c: about c, and about the endpoint x before the reply
+-- the facts about a received content and the endpoint that receives it, if the endpoint gives this reply
 abbrev pub IsReplyTo : Content → EndpointState → Reply → Type 0
 IsReplyTo c x Nothing = Unit {0}
 IsReplyTo c x SendsDm = Unit {0}
@@ -97,8 +100,8 @@ IsReplyTo c x (AcceptsSabm info) = (p : Bool) × (c ≡ Sabm p info) × (x.state
 IsReplyTo c x (ConfirmsEstablishment info) = (c ≡ Ua true info) × (x.state ≡ Opening) × (info ≡ x.sabm_info)
 IsReplyTo c x (ClosesLink reason) = HasBegun x
 IsReplyTo c x AcceptsDisc = x.state ≡ Open
-IsReplyTo c x (TakesUi info) = (p : Bool) × (c ≡ Ui p info) × (1 ≤ length info)
-IsReplyTo c x (TakesI ns nr p segment) = (c ≡ I ns nr p segment.1 segment.0) × (x.state ≡ Open)
+IsReplyTo c x (ReportsUiInformation info) = (p : Bool) × (c ≡ Ui p info) × (1 ≤ length info)
+IsReplyTo c x (TakesIFrame ns nr p segment) = (c ≡ I ns nr p segment.1 segment.0) × (x.state ≡ Open)
 IsReplyTo c x (TakesRr nr poll) = (pf : Bool) × (c ≡ Rr nr pf) × (x.state ≡ Open)
 IsReplyTo c x (TakesRej nr poll) = (pf : Bool) × (c ≡ Rej nr pf) × (x.state ≡ Open)
 
@@ -111,20 +114,20 @@ module _ (x : EndpointState) where
   IsReplyTo-sabm_in_open p true true info e same = inl (e, sym (bytes_eq-true info x.sabm_info same))
   IsReplyTo-sabm_in_open p answers same info e h = tt
 
-  IsReplyTo-in_state : (s : State) (cmd : Bool) (c : Content) → x.state ≡ s → IsReplyTo c x (reply_in_state s cmd c x)
-  IsReplyTo-in_state Open cmd (Sabm p info) e =
+  IsReplyTo-represents_in_state : (s : State) (cmd : Bool) (c : Content) → x.state ≡ s → IsReplyTo c x (reply_in_state s cmd c x)
+  IsReplyTo-represents_in_state Open cmd (Sabm p info) e =
       IsReplyTo-sabm_in_open p (answers_repeated_sabm x.sapi x.role) (bytes_eq info x.sabm_info) info e refl
-  IsReplyTo-in_state s cmd c e = grind (arith, bytes_eq-true)
+  IsReplyTo-represents_in_state s cmd c e = grind (arith, bytes_eq-true)
 
   IsReplyTo-reply : (b cmd : Bool) (c : Content) → IsReplyTo c x (if b then reply cmd c x else Nothing)
   IsReplyTo-reply true cmd (Ui p info) = grind arith
-  IsReplyTo-reply true cmd c = IsReplyTo-in_state x.state cmd c refl
+  IsReplyTo-reply true cmd c = IsReplyTo-represents_in_state x.state cmd c refl
   IsReplyTo-reply false cmd c = tt
 
   pub cause_of : (f : Frame) → IsReplyTo f.content x (reply_to_frame f x)
   cause_of f = IsReplyTo-reply _ (is_command x f) f.content
 
--- ## SidesBySapi: What a side does with a received frame, by cases on the SAPI of the frame.
+-- ## SidesBySapi: A side passes a received frame to its endpoint of SAPI 0 or 3, or ignores the frame if it has another SAPI.
 
 pub by_sapi : (f : Frame) (a : SideState) (P : SideStep → Type 0) →
     (f.sapi ≡ 0 → P (endpoint_step Zero (frame_outcome f a.link0) a)) →
@@ -155,27 +158,28 @@ AtMost-then m n k l {x} o rule h g =
       then-delivers x o rule h.delivered g.delivered,
     )
 
--- ---- the rules of the window
+-- ---- bounds on the frames and notices of the window rules
 
 bound-next : (e : EndpointState) → AtMost 1 0 e (sends_next_segment e)
-bound-next e = grind (arith, append-nil (messages e.peer_segments))
+bound-next e = grind (arith, append-nil (messages e.accepted_segments))
 
 bound-evaluates_nr : (nr : ℕ) (e : EndpointState) → AtMost 0 1 e (evaluates_nr nr e)
-bound-evaluates_nr nr e = grind (arith, append-nil (messages e.peer_segments))
+bound-evaluates_nr nr e = grind (arith, append-nil (messages e.accepted_segments))
 
 bound-accepts_segment : (segment : Segment) (e : EndpointState) → AtMost 0 1 e (accepts_segment segment e)
-bound-accepts_segment segment e = grind (arith, messages-push e.peer_segments segment)
+bound-accepts_segment segment e = grind (arith, messages-push e.accepted_segments segment)
 
 bound-answers : (p : Bool) (e : EndpointState) → AtMost 2 0 e (answers_segment p e)
-bound-answers p e = grind (arith, append-nil (messages e.peer_segments))
+bound-answers p e = grind (arith, append-nil (messages e.accepted_segments))
 
 bound-rejects_segment : (p : Bool) (e : EndpointState) → AtMost 1 0 e (rejects_segment p e)
-bound-rejects_segment p e = grind (arith, append-nil (messages e.peer_segments))
+bound-rejects_segment p e = grind (arith, append-nil (messages e.accepted_segments))
 
 bound-poll : (b : Bool) (e : EndpointState) → AtMost 1 0 e (answers_poll b e)
-bound-poll b e = grind (arith, append-nil (messages e.peer_segments))
+bound-poll b e = grind (arith, append-nil (messages e.accepted_segments))
 
--- the bounds on the frames and notices of a rule that evaluates an N(R) and then applies two further rules
+-- a rule that evaluates an N(R) and then applies two further rules produces at most two frames and two notices, if the bounds of its parts
+-- add up to at most two
 counted : (m n k l : ℕ) (nr : ℕ) (first second : EndpointState → Outcome) (e : EndpointState) →
     ((x : EndpointState) → AtMost m n x (first x)) → ((x : EndpointState) → AtMost k l x (second x)) → m + k ≤ 2 →
     1 + n + l ≤ 2 →
@@ -201,22 +205,22 @@ bound-rr nr b e = grind (arith, bound-poll b)
 bound-rej : (nr : ℕ) (b : Bool) (e : EndpointState) → AtMost 2 2 e (takes_rej nr b e)
 bound-rej nr b e = grind (arith, bound-poll b)
 
--- ---- the tables
+-- ---- bounds on the frames and notices of replies and calls
 
 bound-reply : (r : Reply) (e : EndpointState) → AtMost 2 2 e (outcome_of_reply r e)
-bound-reply (TakesI ns nr p segment) e = bound-i ns nr p segment e
-bound-reply r e = grind (arith, append-nil (messages e.peer_segments), bound-rr, bound-rej)
+bound-reply (TakesIFrame ns nr p segment) e = bound-i ns nr p segment e
+bound-reply r e = grind (arith, append-nil (messages e.accepted_segments), bound-rr, bound-rej)
 
 pub bound-frame : (f : Frame) (e : EndpointState) → AtMost 2 2 e (frame_outcome f e)
 bound-frame f e = bound-reply (reply_to_frame f e) e
 
 pub bound-call : (call : Call) (e : EndpointState) → AtMost 2 2 e (call_outcome call e)
-bound-call call e = grind (arith, append-nil (messages e.peer_segments))
+bound-call call e = grind (arith, append-nil (messages e.accepted_segments))
 
--- ## Keeping: Every call and every received frame preserves the invariant `IsValidEndpoint`, and every frame sent fits its channel. The
--- proof is by cases on the rules, the tables and the calls.
+-- ## Keeping: Every call and every received frame preserves the invariant `IsValidEndpoint`, and every frame sent fits in a block of its
+-- channel. The proof is by cases on the rules, the replies and the calls.
 
--- ---- frames that fit
+-- ---- conditions under which a frame fits in a block
 
 -- each segment has 1 to n octets
 abbrev AllSized : ℕ → List Segment → Type 0
@@ -241,14 +245,18 @@ pub plain_fits : (channel : Channel) (f : Frame) (s : Sapi) → f.sapi ≡ sapi_
     InformationFits channel f.content → FrameFits channel f
 plain_fits channel f s at n i = grind arith
 
-waiting_fits : (p : Bool) (x : EndpointState) → All IsValidMessage x.messages → x.acked_segments < length (all_segments x) →
+waiting_fits : (p : Bool) (x : EndpointState) → All IsValidMessage x.messages →
+    x.acked_segments < length (segments_of_all_messages x) →
     FrameFits x.channel (outstanding_frame p x)
 waiting_fits p x good within =
     let n = n201 x.channel in
-    let size : HasSize n (next_segment x).0 =
-    All-get_or (λ (q : Segment). HasSize n q.0) (all_segments x) x.acked_segments ([], false) within
+    let size : HasSize n (first_unacked_segment x).0 =
+    All-get_or (λ (q : Segment). HasSize n q.0) (segments_of_all_messages x) x.acked_segments ([], false) within
     (sized-all n x.messages (IsN201-n201 x.channel).positive good) in
-    plain_fits x.channel (outstanding_frame p x) x.sapi refl (three_bits x.acked_segments, three_bits (length x.peer_segments))
+    plain_fits x.channel (outstanding_frame p x) x.sapi refl (
+      three_bits x.acked_segments,
+      three_bits (length x.accepted_segments),
+    )
     (size.nonempty, size.at_most)
 
 abbrev AllFit : EndpointState → List Frame → Type 0
@@ -260,9 +268,10 @@ none x = All-nil (FrameFits x.channel)
 one : (x : EndpointState) (f : Frame) → FrameFits x.channel f → AllFit x (f ∷ [])
 one x f h = All-cons (FrameFits x.channel) f [] h (none x)
 
--- ---- the rules of the window
+-- ---- the window rules preserve the invariant and send frames that fit in a block
 
--- what every rule of the window preserves: these fields do not change, the window size remains 1, and all frames sent fit in a block
+-- after a window rule with outcome o, the role, channel, SAPI, SABM information and link state of endpoint x are unchanged, at most one
+-- segment is outstanding, and all frames sent fit in a block
 record Runs (x : EndpointState) (o : Outcome) : Type 0 where
   role : o.new_state.role ≡ x.role
   channel : o.new_state.channel ≡ x.channel
@@ -309,7 +318,8 @@ runs-sends_segment x has h = grind (arith, waiting_fits false (with_segment_sent
 runs-sends_next_segment : AllSatisfyRuns sends_next_segment
 runs-sends_next_segment x h = Runs-if (may_send_next_segment x) (λ has. runs-sends_segment x has h) (runs-no_effect x h)
 
-pub waits_within : (x : EndpointState) → HasWindowOfOne x → awaits_ack x ≡ true → x.acked_segments < length (all_segments x)
+pub waits_within : (x : EndpointState) → HasWindowOfOne x → awaits_ack x ≡ true →
+    x.acked_segments < length (segments_of_all_messages x)
 waits_within x h w = grind arith
 
 runs-resends_outstanding_segment : AllSatisfyRuns resends_outstanding_segment
@@ -334,7 +344,7 @@ runs-takes_i_frame ns nr p segment x h =
     Runs-if (nat_eq ns (vr x)) (λ e. runs-nr nr (runs-accepts_segment segment) (runs-answers_segment p) x h)
     (runs-nr nr (runs-rejects_segment p) runs-sends_next_segment x h)
 
--- ---- the tables
+-- ---- the replies to received frames preserve the invariant
 
 pub record Keeps (x : EndpointState) (o : Outcome) : Type 0 where
   pub role : o.new_state.role ≡ x.role
@@ -359,7 +369,7 @@ ua_information_fits info x h g = grind arith
 keeps-reply : (r : Reply) (c : Content) (x : EndpointState) → IsReplyTo c x r → IsValidEndpoint x → InformationFits x.channel c →
     Keeps x (outcome_of_reply r x)
 keeps-reply (AcceptsSabm info) c x cause h fits = grind (arith, sapi3_sabm_is_empty x.sapi x.role info cause.3)
-keeps-reply (TakesI ns nr p segment) c x cause h fits = keeps-runs x _ cause.1 h (runs-takes_i_frame ns nr p segment x h.window)
+keeps-reply (TakesIFrame ns nr p segment) c x cause h fits = keeps-runs x _ cause.1 h (runs-takes_i_frame ns nr p segment x h.window)
 keeps-reply (TakesRr nr poll) c x cause h fits =
     keeps-runs x _ cause.2 h (runs-nr nr (runs-answers_poll poll) runs-sends_next_segment x h.window)
 keeps-reply (TakesRej nr poll) c x cause h fits =
@@ -370,7 +380,7 @@ keeps-reply r c x cause h fits = grind arith
 pub keeps-frame : (f : Frame) (x : EndpointState) → IsValidEndpoint x → FrameFits x.channel f → Keeps x (frame_outcome f x)
 keeps-frame f x h fits = keeps-reply (reply_to_frame f x) f.content x (cause_of x f) h fits.information
 
--- ---- the calls
+-- ---- the calls preserve the invariant
 
 repeated_fits : (t : State) (x : EndpointState) → awaits_answer_in_state t (awaits_ack x) ≡ true → IsValidEndpoint x →
     FrameFits x.channel (frame_to_retransmit t x)
@@ -386,10 +396,11 @@ IsValidEndpoint-push : (x : EndpointState) (m : Message) → x.state ≡ S.Open 
     IsValidEndpoint (with_queued_message m x)
 IsValidEndpoint-push x m is h good = grind (arith, HasWindowOfOne-push x m h.window good)
 
-pub keeps-call : (call : Call) (x : EndpointState) → IsValidEndpoint x → IsCallOfEndpoint x call → refusal_of call x ≡ None →
+pub keeps-call : (call : Call) (x : EndpointState) → IsValidEndpoint x → IsCallAllowedForEndpoint x call →
+    refusal_of call x ≡ None →
     Keeps x (call_outcome call x)
 keeps-call (Sends m) x h has ok =
-    let open_now = passes (not (is_open x.state)) No.NotOpen (message_refusals m x) ok in
+    let open_now = passes (not (is_open x.state)) No.NotOpen (message_refusal_checks m x) ok in
     let is : x.state ≡ S.Open = is_open-is x.state (not_false (is_open x.state) open_now.not_refused) in
     let y : EndpointState = with_queued_message m x in
     let end : IsValidEndpoint y = IsValidEndpoint-push x m is h (is_valid_message m x open_now.others_allow) in
@@ -401,13 +412,13 @@ keeps-call T200Expires x h has ok =
     h
 keeps-call call x h has ok = grind arith
 
--- ---- the initial state
+-- ---- the initial state satisfies the invariant
 
 pub IsValidEndpoint-initial : (role : Role) (sapi : Sapi) (channel : Channel)
     → IsValidEndpoint (initial_endpoint role sapi channel)
 IsValidEndpoint-initial role sapi channel = grind arith
 
--- ## Stepping: The laws that hold for every step, combined from the lemmas on calls and those on received frames.
+-- ## Stepping: The laws for every step of an endpoint follow from the lemmas on calls and on received frames.
 
 IfOk-unless_refused : (refusal : Option Refused) (o : Outcome) (P : Outcome → Type 0) → (refusal ≡ None → P o) →
     IfOk (outcome_unless_refused refusal o) P

@@ -1,13 +1,13 @@
--- The window of outstanding segments: its counts, its parts and its moves.
+-- The window of an endpoint: its counts of segments and messages, what its operations change, and which values it can have.
 use Rattle.{
   lapdm_window.specs.{
-    Abstraction.{HasSameVariables, HoldsUnackedMessages, Represents},
-    Answers.{acked_by_nr, outstanding_segment},
+    Abstraction.{HasSameStateVariables, HoldsUnackedMessages, Represents},
+    Answers.{acknowledgement_by_nr, outstanding_segment},
     Calls.with_queued_message,
-    Ends.{EndpointState, HasWindowOfOne, Mobile, Outcome, acked_message_count, all_segments, awaits_ack, capped_at_64_bits, next_segment},
-    Ends.{no_effect, reports_notice, va, vr, vs},
+    Ends.{EndpointState, HasWindowOfOne, Mobile, Outcome, acked_message_count, segments_of_all_messages, awaits_ack, capped_at_64_bits},
+    Ends.{first_unacked_segment, no_effect, reports_notice, va, vr, vs},
     Parts.{AreConsistent, WindowValues, values_of},
-    Rules.{acked_message_number, nr_acknowledges, evaluates_nr, has_segment_to_send, with_segment_acked, with_segment_sent},
+    Rules.{acked_message_number, nr_acknowledges_segment, evaluates_nr, has_segment_to_send, with_segment_acked, with_segment_sent},
     declared.{Sapi.TheVariants.Zero, State.TheVariants.Open, window.Window.Window},
   },
   segmenting.{
@@ -33,9 +33,9 @@ use Rattle.lapdm_window.specs.declared.Acked as A
 use Rattle.lapdm_window.specs.declared.Acked.TheVariants as V
 use Rattle.lapdm_window.specs.declared.Notice.TheVariants as N
 
--- ## Numbers: What V(S) and V(A), which count modulo 8, say about the unbounded counts if at most one segment is outstanding.
+-- ## Numbers: If at most one segment is outstanding, V(S) and V(A), which count modulo 8, show whether one is outstanding.
 
--- one segment is outstanding if V(S) ≠ V(A)
+-- exactly one segment is outstanding if V(S) ≠ V(A)
 pub one_sent : (e : EndpointState) → HasWindowOfOne e → vs e ≢ va e → e.sent_segments ≡ e.acked_segments + 1
 one_sent e h other = grind (arith, h.acked_at_most_sent, h.window)
 
@@ -48,11 +48,11 @@ next_number n v h = grind arith
 pub capped-more : (n d : ℕ) → d ≡ capped_at_64_bits n → min (d + 1) (2 ^ 64 - 1) ≡ capped_at_64_bits (n + 1)
 capped-more n d h = omega arith
 
--- ## Counting: How the number of fully acknowledged messages changes.
+-- ## Counting: How acknowledged segments and new messages change the number of fully acknowledged messages.
 
 pub acked_message_count-most : (e : EndpointState) → acked_message_count e ≤ length e.messages
 acked_message_count-most e =
-    let all = all_segments e in
+    let all = segments_of_all_messages e in
     omega (
       arith,
       count-append (take e.acked_segments all) (drop e.acked_segments all),
@@ -60,42 +60,50 @@ acked_message_count-most e =
       count-all (n201 e.channel) e.messages,
     )
 
--- acknowledging a segment with M = 1 leaves the number of fully acknowledged messages unchanged; (below) a segment with M = 0 adds one
-pub acked_message_count-more : (e : EndpointState) → e.sent_segments ≡ e.acked_segments + 1 → e.acked_segments < length (all_segments e) →
-    (next_segment e).1 ≡ true → acked_message_count (with_segment_acked e) ≡ acked_message_count e
+-- acknowledging a segment with M = 1 leaves the number of fully acknowledged messages unchanged
+pub acked_message_count-more : (e : EndpointState) → e.sent_segments ≡ e.acked_segments + 1 →
+    e.acked_segments < length (segments_of_all_messages e) →
+    (first_unacked_segment e).1 ≡ true → acked_message_count (with_segment_acked e) ≡ acked_message_count e
 acked_message_count-more e one within more =
-    rw one (count_by_more_no (λ p. not p.1) (all_segments e) e.acked_segments ([], false) within (ap not more))
+    rw one (count_by_more_no (λ p. not p.1) (segments_of_all_messages e) e.acked_segments ([], false) within (ap not more))
 
-pub acked_message_count-last : (e : EndpointState) → e.sent_segments ≡ e.acked_segments + 1 → e.acked_segments < length (all_segments e) →
-    (next_segment e).1 ≡ false → acked_message_count (with_segment_acked e) ≡ acked_message_count e + 1
+-- acknowledging a segment with M = 0 adds one to the number of fully acknowledged messages
+pub acked_message_count-last : (e : EndpointState) → e.sent_segments ≡ e.acked_segments + 1 →
+    e.acked_segments < length (segments_of_all_messages e) →
+    (first_unacked_segment e).1 ≡ false → acked_message_count (with_segment_acked e) ≡ acked_message_count e + 1
 acked_message_count-last e one within more =
-    rw one (count_by_more_yes (λ p. not p.1) (all_segments e) e.acked_segments ([], false) within (ap not more))
+    rw one (count_by_more_yes (λ p. not p.1) (segments_of_all_messages e) e.acked_segments ([], false) within (ap not more))
 
--- a further message from layer 3 appends its segments, and (below) leaves the number of fully acknowledged messages unchanged
-pub all_segments-push : (e : EndpointState) (m : Message) →
-    all_segments (with_queued_message m e) ≡ all_segments e ++ segments (n201 e.channel) m
-all_segments-push e m = rw (flat_map-append, append-nil)
+-- a further message from layer 3 appends its segments to the list of all segments
+pub segments_of_all_messages-push : (e : EndpointState) (m : Message) →
+    segments_of_all_messages (with_queued_message m e) ≡ segments_of_all_messages e ++ segments (n201 e.channel) m
+segments_of_all_messages-push e m = rw (flat_map-append, append-nil)
 
+-- a further message from layer 3 leaves the number of fully acknowledged messages unchanged
 pub acked_message_count-push : (e : EndpointState) (m : Message) → HasWindowOfOne e →
     acked_message_count (with_queued_message m e) ≡ acked_message_count e
 acked_message_count-push e m h =
     rw (
-      all_segments-push e m,
-      take-append-le e.acked_segments (all_segments e) (segments (n201 e.channel) m) (omega (arith, h.acked_at_most_sent, h.sent_segments)),
+      segments_of_all_messages-push e m,
+      take-append-le e.acked_segments (segments_of_all_messages e) (segments (n201 e.channel) m) (omega (
+        arith,
+        h.acked_at_most_sent,
+        h.sent_segments,
+      )),
     )
 
 -- ## FirstSegments: The next segment has two indices: one among the segments of the first message held, and one among all segments. These
 -- lemmas relate them.
 
-abbrev octets_in : Option Segment → List ℕ
-octets_in None = []
-octets_in (Some p) = p.0
+abbrev octets_in_buffer : Option Segment → List ℕ
+octets_in_buffer None = []
+octets_in_buffer (Some p) = p.0
 
 abbrev m_bit_in : Option Segment → Bool
 m_bit_in None = false
 m_bit_in (Some p) = p.1
 
--- a segment with M = 1 is not the last of its message, and a segment with M = 0 is
+-- a segment with M = 1 is not the last segment of its message
 goes_on-cut_segments : (n k i : ℕ) (m : List ℕ) (octets : List ℕ) → slice_get (cut_segments n k m) i ≡ Some (octets, true) →
     i < k
 goes_on-cut_segments n zero zero m octets h = absurd (false≢true (ap m_bit_in h))
@@ -103,6 +111,7 @@ goes_on-cut_segments n zero (suc i) m octets h = cc
 goes_on-cut_segments n (suc k) zero m octets h = omega arith
 goes_on-cut_segments n (suc k) (suc i) m octets h = omega (arith, goes_on-cut_segments n k i (drop n m) octets h)
 
+-- a segment with M = 0 is the last segment of its message
 ends-cut_segments : (n k i : ℕ) (m : List ℕ) (octets : List ℕ) → slice_get (cut_segments n k m) i ≡ Some (octets, false) →
     i ≡ k
 ends-cut_segments n zero zero m octets h = refl
@@ -118,22 +127,23 @@ pub ends : (n i : ℕ) (m : Message) (octets : List ℕ) → slice_get (segments
     i + 1 ≡ length (segments n m)
 ends n i m octets h = omega (arith, ends-cut_segments n _ i m octets h, length-segments n m)
 
--- the segment has 1 to n octets
+-- a segment that carries `octets` has 1 to `n` octets
 pub record HasSize (n : ℕ) (octets : List ℕ) : Type 0 where
   pub nonempty : 1 ≤ length octets
   pub at_most : length octets ≤ n
 
-pub HasSize-segment : (n i : ℕ) (m : Message) (octets : List ℕ) (more : Bool) → 0 < n → IsValidMessage m → i < length (segments n m) →
+pub HasSize-segment : (n i : ℕ) (m : Message) (octets : List ℕ) (more : Bool) → 0 < n → IsValidMessage m →
+    i < length (segments n m) →
     slice_get (segments n m) i ≡ Some (octets, more) → HasSize n octets
 HasSize-segment n i m octets more room h within is =
     let l = length m - i * n in
     let sends_sabm : i * n < length m = begins_within n i m room h.nonempty within in
-    let same : octets ≡ take (min l n) (drop (i * n) m) = ap octets_in (sym is ∙ slice_get-segment n i m room h within) in
+    let same : octets ≡ take (min l n) (drop (i * n) m) = ap octets_in_buffer (sym is ∙ slice_get-segment n i m room h within) in
     let size : length (take (min l n) (drop (i * n) m)) ≡ min l n = length-take-le (min l n) (drop (i * n) m)
     (omega (arith, length-drop (i * n) m)) in
     record { nonempty = omega (arith, ap length same); at_most = omega (arith, ap length same) }
 
--- an index into the segments of the first message gives the same segment among the segments of all messages
+-- the segment with a given index in the first message has the same index among the segments of all messages
 first_message_segment_count : (n place : ℕ) (held : List Message) (d : Segment) → 1 ≤ length held →
     place < length (segments n (get_or held 0 [])) → get_or (flat_map (segments n) held) place d ≡
     get_or (segments n (get_or held 0 [])) place d
@@ -145,7 +155,7 @@ pub within_all : (n place : ℕ) (held : List Message) → 1 ≤ length held →
 within_all n place [] some_held h = absurd (omega (arith, some_held))
 within_all n place (m ∷ ms) some_held h = omega (arith, length-append (segments n m) (flat_map (segments n) ms), h)
 
--- the segments of the other messages follow those of the first message
+-- after the segments of the first message come the segments of the other messages
 other_segments : (n place : ℕ) (held : List Message) → 1 ≤ length held → place ≡ length (segments n (get_or held 0 [])) →
     drop place (flat_map (segments n) held) ≡ flat_map (segments n) (drop 1 held)
 other_segments n place [] some_held h = absurd (omega (arith, some_held))
@@ -161,40 +171,45 @@ get_or-same xs ys i j d h = grind (arith, get_or-drop i xs 0 d, get_or-drop j ys
 within-same : (xs ys : List Segment) (i j : ℕ) → drop i xs ≡ drop j ys → i < length xs → j < length ys
 within-same xs ys i j h below = omega (arith, length-drop i xs, length-drop j ys, ap length h)
 
--- ## ByWindowAnswers: The rules of an endpoint, written in terms of the answers of its window.
+-- ## ByWindowAnswers: How an endpoint reacts to a received N(R), in terms of what its window returns.
 
--- the outcome of a received N(R), given the window's answer: it acknowledges nothing, a segment before the last, or a whole message
+-- the outcome of a received N(R), given what it acknowledges: nothing, a segment that is not the last of its message, or the last segment
+-- of a message
 abbrev pub counted : A.Acked → EndpointState → Outcome
 counted V.Nothing e = no_effect e
 counted V.Piece e = no_effect (with_segment_acked e)
 counted (V.Message number) e = reports_notice (N.Acked number) (with_segment_acked e)
 
-pub evaluates_nr-is : (nr : ℕ) (e : EndpointState) → evaluates_nr nr e ≡ counted (acked_by_nr nr e) e
+pub evaluates_nr-is : (nr : ℕ) (e : EndpointState) → evaluates_nr nr e ≡ counted (acknowledgement_by_nr nr e) e
 evaluates_nr-is nr e = grind arith
 
--- ## Moves: After each call a window still holds the unacknowledged segments, and it gives the answer that the rules define.
+-- ## Moves: After each operation, a window still holds the unacknowledged segments of the endpoint, and the operation returns what the
+-- rules of the endpoint define.
 
 module _ {w : Window} {e : EndpointState} (h : Represents w e) (some_held : 1 ≤ length w.held.items) where
   within_first : w.segment_index < length (segments (n201 e.channel) (get_or w.held.items 0 []))
   within_first =
       rw (← h.variables.channel) (omega (arith, w.in_range, length-segments (n201 w.channel) (get_or w.held.items 0 [])))
 
-  pub is_left : e.acked_segments < length (all_segments e)
+  pub is_left : e.acked_segments < length (segments_of_all_messages e)
   is_left =
-      within-same (flat_map (segments (n201 e.channel)) w.held.items) (all_segments e) w.segment_index e.acked_segments
+      within-same (flat_map (segments (n201 e.channel)) w.held.items) (segments_of_all_messages e) w.segment_index e.acked_segments
       h.unacked_messages.unacked_segments (within_all _ _ w.held.items some_held within_first)
 
   -- the segment at the window's index in the first held message is the outstanding segment of the endpoint or, if there is none, the next
   -- one
-  pub next_segment-is : {x : Segment} → slice_get (segments (n201 w.channel) (get_or w.held.items 0 [])) w.segment_index ≡ Some x →
-      next_segment e ≡ x
-  next_segment-is at =
-      sym (get_or-same (flat_map (segments (n201 e.channel)) w.held.items) (all_segments e) w.segment_index e.acked_segments ([], false)
+  pub first_unacked_segment-is : {x : Segment} →
+      slice_get (segments (n201 w.channel) (get_or w.held.items 0 [])) w.segment_index ≡ Some x →
+      first_unacked_segment e ≡ x
+  first_unacked_segment-is at =
+      sym (get_or-same (flat_map (segments (n201 e.channel)) w.held.items) (segments_of_all_messages e) w.segment_index e.acked_segments
+      ([], false)
       h.unacked_messages.unacked_segments)
       ∙ first_message_segment_count _ _ w.held.items ([], false) some_held within_first
       ∙ get_or_from_slice_get _ w.segment_index _ ([], false) (rw h.variables.channel at at)
 
--- ---- layer 3 sends a message
+-- ---- the window when layer 3 sends a message
+-- 0 divided by a positive number is 0
 zero-div : (n : ℕ) → 0 < n → 0 / n ≡ 0
 zero-div n h = grind arith
 
@@ -212,8 +227,8 @@ HasWindowOfOne-push e m h good =
     grind (
       arith,
       All-push IsValidMessage e.messages m h.messages good,
-      all_segments-push e m,
-      length-append (all_segments e) (segments (n201 e.channel) m),
+      segments_of_all_messages-push e m,
+      length-append (segments_of_all_messages e) (segments (n201 e.channel) m),
     )
 
 pub Holds-push : (e : EndpointState) (m : Message) (held : List Message) (place : ℕ) → HasWindowOfOne e →
@@ -232,79 +247,92 @@ Holds-push e m held place end h within =
         flat_map-append (segments n) e.messages (m ∷ []),
         append-nil (segments n m),
         drop-append-le place (flat_map (segments n) held) (segments n m) within,
-        drop-append-le e.acked_segments (all_segments e) (segments n m) (omega (arith, end.acked_at_most_sent, end.sent_segments)),
+        drop-append-le e.acked_segments (segments_of_all_messages e) (segments n m) (omega (
+          arith,
+          end.acked_at_most_sent,
+          end.sent_segments,
+        )),
         h.unacked_segments,
       );
     }
 
--- ---- the next segment becomes outstanding
+-- ---- the window when the next segment becomes outstanding
 
-pub has_segment_to_send-left : (e : EndpointState) → HasWindowOfOne e → vs e ≡ va e → e.acked_segments < length (all_segments e) →
+pub has_segment_to_send-left : (e : EndpointState) → HasWindowOfOne e → vs e ≡ va e →
+    e.acked_segments < length (segments_of_all_messages e) →
     has_segment_to_send e ≡ true
 has_segment_to_send-left e h same left = grind arith
 
-pub HasWindowOfOne-next : (e : EndpointState) → HasWindowOfOne e → vs e ≡ va e → e.acked_segments < length (all_segments e) →
+pub HasWindowOfOne-next : (e : EndpointState) → HasWindowOfOne e → vs e ≡ va e →
+    e.acked_segments < length (segments_of_all_messages e) →
     HasWindowOfOne (with_segment_sent e)
 HasWindowOfOne-next e h same left = grind arith
 
--- ---- the outstanding segment is acknowledged
+-- ---- the window when the outstanding segment is acknowledged
+-- acknowledging the outstanding segment preserves `HasWindowOfOne`: at most one segment is outstanding
 pub HasWindowOfOne-acked : (e : EndpointState) → HasWindowOfOne e → HasWindowOfOne (with_segment_acked e)
 HasWindowOfOne-acked e h = grind arith
 
 pub Holds-more : (e : EndpointState) (held : List Message) (place : ℕ) → e.sent_segments ≡ e.acked_segments + 1 →
     HoldsUnackedMessages held place e →
-    e.acked_segments < length (all_segments e) → (next_segment e).1 ≡ true → HoldsUnackedMessages held (place + 1) (with_segment_acked e)
+    e.acked_segments < length (segments_of_all_messages e) → (first_unacked_segment e).1 ≡ true →
+    HoldsUnackedMessages held (place + 1) (with_segment_acked e)
 Holds-more e held place one h within more = record {
   messages = rw (acked_message_count-more e one within more) h.messages;
-  unacked_segments = rw one (drop-next (flat_map (segments (n201 e.channel)) held) (all_segments e) place e.acked_segments
+  unacked_segments = rw one (drop-next (flat_map (segments (n201 e.channel)) held) (segments_of_all_messages e) place e.acked_segments
       h.unacked_segments);
 }
 
 pub Holds-last : (e : EndpointState) (held : List Message) (place : ℕ) → e.sent_segments ≡ e.acked_segments + 1 →
     HoldsUnackedMessages held place e →
-    e.acked_segments < length (all_segments e) → (next_segment e).1 ≡ false → 1 ≤ length held →
+    e.acked_segments < length (segments_of_all_messages e) → (first_unacked_segment e).1 ≡ false → 1 ≤ length held →
     place + 1 ≡ length (segments (n201 e.channel) (get_or held 0 [])) → HoldsUnackedMessages (drop 1 held) 0 (with_segment_acked e)
 Holds-last e held place one h within last some_held ends =
     let n = n201 e.channel in
     record {
       messages = rw (acked_message_count-last e one within last, h.messages) (drop-drop 1 (acked_message_count e) e.messages);
       unacked_segments = rw one (sym (other_segments n (place + 1) held some_held ends)
-          ∙ drop-next (flat_map (segments n) held) (all_segments e) place e.acked_segments h.unacked_segments);
+          ∙ drop-next (flat_map (segments n) held) (segments_of_all_messages e) place e.acked_segments h.unacked_segments);
     }
 
 -- ---- what an N(R) acknowledges
-pub nr_acknowledges-not_waiting : (e : EndpointState) (nr : ℕ) → HasWindowOfOne e → vs e ≡ va e → nr_acknowledges nr e ≡ false
-nr_acknowledges-not_waiting e nr h same = grind arith
+-- an N(R) acknowledges nothing if no segment is outstanding
+pub nr_acknowledges_segment-not_waiting : (e : EndpointState) (nr : ℕ) → HasWindowOfOne e → vs e ≡ va e →
+    nr_acknowledges_segment nr e ≡ false
+nr_acknowledges_segment-not_waiting e nr h same = grind arith
 
-pub nr_acknowledges-other : (e : EndpointState) (nr : ℕ) → nr ≢ vs e → nr_acknowledges nr e ≡ false
-nr_acknowledges-other e nr h = grind (arith, nat_tests)
+pub nr_acknowledges_segment-other : (e : EndpointState) (nr : ℕ) → nr ≢ vs e → nr_acknowledges_segment nr e ≡ false
+nr_acknowledges_segment-other e nr h = grind (arith, nat_tests)
 
-pub nr_acknowledges-waiting : (e : EndpointState) (nr : ℕ) → HasWindowOfOne e → vs e ≢ va e → nr ≡ vs e →
-    nr_acknowledges nr e ≡ true
-nr_acknowledges-waiting e nr h other same = grind arith
+pub nr_acknowledges_segment-waiting : (e : EndpointState) (nr : ℕ) → HasWindowOfOne e → vs e ≢ va e → nr ≡ vs e →
+    nr_acknowledges_segment nr e ≡ true
+nr_acknowledges_segment-waiting e nr h other same = grind arith
 
-pub evaluates_nr-nothing : (e : EndpointState) (nr : ℕ) → nr_acknowledges nr e ≡ false → (evaluates_nr nr e).new_state ≡ e
+pub evaluates_nr-nothing : (e : EndpointState) (nr : ℕ) → nr_acknowledges_segment nr e ≡ false → (evaluates_nr nr e).new_state ≡ e
 evaluates_nr-nothing e nr h = rw h
 
-pub evaluates_nr-something : (e : EndpointState) (nr : ℕ) → nr_acknowledges nr e ≡ true →
+pub evaluates_nr-something : (e : EndpointState) (nr : ℕ) → nr_acknowledges_segment nr e ≡ true →
     (evaluates_nr nr e).new_state ≡ with_segment_acked e
 evaluates_nr-something e nr h = grind arith
 
-pub acked_by_nr-segment : (e : EndpointState) (nr : ℕ) → nr_acknowledges nr e ≡ true → (next_segment e).1 ≡ true →
-    acked_by_nr nr e ≡ V.Piece
-acked_by_nr-segment e nr h more = rw (h, more)
+pub acknowledgement_by_nr-segment : (e : EndpointState) (nr : ℕ) → nr_acknowledges_segment nr e ≡ true →
+    (first_unacked_segment e).1 ≡ true →
+    acknowledgement_by_nr nr e ≡ V.Piece
+acknowledgement_by_nr-segment e nr h more = rw (h, more)
 
-pub acked_by_nr-message : (e : EndpointState) (nr : ℕ) → nr_acknowledges nr e ≡ true → (next_segment e).1 ≡ false →
-    acked_by_nr nr e ≡ V.Message (acked_message_number e)
-acked_by_nr-message e nr h more = rw (h, more)
+pub acknowledgement_by_nr-message : (e : EndpointState) (nr : ℕ) → nr_acknowledges_segment nr e ≡ true →
+    (first_unacked_segment e).1 ≡ false →
+    acknowledgement_by_nr nr e ≡ V.Message (acked_message_number e)
+acknowledgement_by_nr-message e nr h more = rw (h, more)
 
-pub outstanding_segment-next : (e : EndpointState) (x : Segment) → awaits_ack e ≡ true → next_segment e ≡ x → Some x ≡ outstanding_segment e
+pub outstanding_segment-next : (e : EndpointState) (x : Segment) → awaits_ack e ≡ true → first_unacked_segment e ≡ x →
+    Some x ≡ outstanding_segment e
 outstanding_segment-next e x waiting next = rw (waiting, next)
 
 pub acked-awaits_ack : (e : EndpointState) → IsTrue (awaits_ack (with_segment_acked e)) → ⊥
 acked-awaits_ack e t = grind arith
 
--- below, window w represents endpoint e and has an outstanding segment
+-- in this module, window w represents endpoint e and has an outstanding segment
 module _ {w : Window} {e : EndpointState} (h : Represents w e) (waits : w.vs ≢ w.va) where
   differ : vs e ≢ va e
   differ same = waits (h.variables.vs ∙ same ∙ sym h.variables.va)
@@ -312,23 +340,23 @@ module _ {w : Window} {e : EndpointState} (h : Represents w e) (waits : w.vs ≢
   pub one_outstanding : e.sent_segments ≡ e.acked_segments + 1
   one_outstanding = one_sent e h.window_of_one differ
 
-  pub nr_acknowledges-vs : (nr : ℕ) → nr ≡ w.vs → nr_acknowledges nr e ≡ true
-  nr_acknowledges-vs nr same = nr_acknowledges-waiting e nr h.window_of_one differ (same ∙ h.variables.vs)
+  pub nr_acknowledges_segment-vs : (nr : ℕ) → nr ≡ w.vs → nr_acknowledges_segment nr e ≡ true
+  nr_acknowledges_segment-vs nr same = nr_acknowledges_segment-waiting e nr h.window_of_one differ (same ∙ h.variables.vs)
 
   pub acked-represents : {v : Window} {done place : ℕ} {held : List Message} (nr : ℕ) → nr ≡ w.vs →
       values_of v ≡ record (values_of w) { held = held; segment_index = place; va = w.vs; acked_messages = done } →
       done ≡ capped_at_64_bits (acked_message_count (with_segment_acked e)) → HoldsUnackedMessages held place (with_segment_acked e) →
       Represents v (evaluates_nr nr e).new_state
   acked-represents {v} nr same values count holds =
-      subst (Represents v) (sym (evaluates_nr-something e nr (nr_acknowledges-vs nr same))) (record {
+      subst (Represents v) (sym (evaluates_nr-something e nr (nr_acknowledges_segment-vs nr same))) (record {
         window_of_one = HasWindowOfOne-acked e h.window_of_one;
         variables = grind arith;
         unacked_messages = grind arith;
         retries = λ t. absurd (acked-awaits_ack e t);
       })
 
--- ## Histories: Constructs a history that leads to given contents of a window: first `done` acknowledged messages, of which the first is
--- long enough to bring V(A) to the value given, then the messages held.
+-- ## Histories: For given contents of a window, there is a history that leads to them: first `done` acknowledged messages, of which the
+-- first is long enough to bring V(A) to its value, then the messages that the window holds.
 
 -- d messages of one octet each, so each has one segment
 abbrev one_octet_messages : ℕ → List Message
@@ -354,7 +382,7 @@ segments-one_octet_messages n (suc d) room =
       segments-one_octet_messages n d room,
     )
 
--- a message with k + 1 segments
+-- a message that has k + 1 segments if each segment carries at most n octets
 abbrev pub message_of : ℕ → ℕ → Message
 message_of n k = replicate (k * n + 1) 0
 
@@ -370,7 +398,7 @@ few_octets n k room few = grind arith
 pub is_message_of : (n k : ℕ) → n ≤ 20 → k ≤ 7 → IsValidMessage (message_of n k)
 is_message_of n k room few = grind (arith, length-message_of n k, few_octets n k room few)
 
--- `done` acknowledged messages such that, with `place` further segments acknowledged, V(A) is `va`
+-- there are `done` messages such that V(A) is `va` after all their segments and `place` further segments are acknowledged
 pub record HasAckedMessages (n done va place : ℕ) : Type 0 where
   pub front : List Message
   pub messages : All IsValidMessage front
@@ -400,7 +428,7 @@ HasAckedMessages-exists n (suc d) va place room most few none =
       number = ap (λ i. i % 8) size ∙ missing va (d + place) few;
     }
 
--- the segments of the first message before its last one complete no message
+-- the first `place` segments complete no message if the last segment of the first message is not among them
 ended_before : (n place : ℕ) (held : List Message) → 0 < n → place < number_of_segments n (get_or held 0 []) →
     message_count (take place (flat_map (segments n) held)) ≡ 0
 ended_before n zero [] room h = refl
@@ -412,8 +440,8 @@ ended_before n place (m ∷ ms) room h =
     (arith, front, h, (count-whole n place 1 (m ∷ ms) (omega arith)).0 one) in
     omega (arith, not_one)
 
--- if the first `acked` segments of the messages `taken` are acknowledged, the unacknowledged segments are exactly those of `held` from
--- segment `place` on
+-- after the first `acked` segments of the messages `taken` are acknowledged, V(A) is `va`, `done` messages are fully acknowledged, and the
+-- unacknowledged segments are those of `held` from index `place` on
 pub record IsHistory (n done va place sent : ℕ) (held taken : List Message) (acked : ℕ) : Type 0 where
   pub messages : All IsValidMessage taken
   pub in_range : acked + sent ≤ length (flat_map (segments n) taken)
@@ -451,16 +479,16 @@ history_of n done va place sent held room most few messages below within none =
       };
     }
 
--- ## Parts: A window represents some endpoint if and only if its values satisfy `AreConsistent`. `Histories` constructs the history of
--- that endpoint.
+-- ## Parts: A window represents some endpoint if and only if its values satisfy `AreConsistent`. The section Histories constructs the
+-- history of that endpoint.
 
--- the joiner values represent the reassembly of these segments
+-- the octets and the state of a joiner represent the reassembly of the segments taken
 abbrev Joins : JoinerValues → List Segment → Type 0
 Joins j taken = HoldsReassemblyOf j.part j.octets taken
 
-pub HasSameVariables-values : {w v : Window} {e : EndpointState} → values_of w ≡ values_of v → HasSameVariables w e →
-    HasSameVariables v e
-HasSameVariables-values {w} {v} {e} same h = grind arith
+pub HasSameStateVariables-values : {w v : Window} {e : EndpointState} → values_of w ≡ values_of v → HasSameStateVariables w e →
+    HasSameStateVariables v e
+HasSameStateVariables-values {w} {v} {e} same h = grind arith
 
 pub Represents-values : {w v : Window} {e : EndpointState} → values_of w ≡ values_of v → Represents w e → Represents v e
 Represents-values {w} {v} {e} same h = grind arith
@@ -492,7 +520,7 @@ place_is_counted w e h none =
     let held : w.held.items ≡ e.messages = h.unacked_messages.messages ∙ ap (λ i. drop i e.messages) whole in
     let below : w.segment_index < number_of_segments n (get_or w.held.items 0 []) = omega
     (arith, w.in_range, ap (λ c. number_of_segments (n201 c) (get_or w.held.items 0 [])) h.variables.channel) in
-    let place : w.segment_index ≤ length (all_segments e) = omega (
+    let place : w.segment_index ≤ length (segments_of_all_messages e) = omega (
       arith,
       within_held n w.segment_index w.held.items (IsN201-n201 e.channel).positive below,
       ap (λ ms. length (flat_map (segments n) ms)) held,
@@ -501,7 +529,7 @@ place_is_counted w e h none =
       arith,
       ap length h.unacked_messages.unacked_segments,
       length-drop w.segment_index (flat_map (segments n) w.held.items),
-      length-drop e.acked_segments (all_segments e),
+      length-drop e.acked_segments (segments_of_all_messages e),
       ap (λ ms. length (flat_map (segments n) ms)) held,
       place,
       h.window_of_one.sent_segments,
@@ -543,7 +571,7 @@ sent_number acked va sent h = grind arith
 capped-fits : (n : ℕ) → n < 2 ^ 64 → n ≡ capped_at_64_bits n
 capped-fits n h = omega arith
 
--- an endpoint in Open with this history
+-- an endpoint in Open with the given messages, numbers of acknowledged and sent segments, and accepted segments
 abbrev with_history : Window → List Message → ℕ → ℕ → List Segment → EndpointState
 with_history w taken acked sent accepted = record {
   role = Mobile;
@@ -554,7 +582,7 @@ with_history w taken acked sent accepted = record {
   messages = taken;
   acked_segments = acked;
   sent_segments = sent;
-  peer_segments = accepted;
+  accepted_segments = accepted;
   rejecting = w.rejecting;
   retries = w.retries;
 }

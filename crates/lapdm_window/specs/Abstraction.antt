@@ -6,7 +6,7 @@ use Rattle.segmenting.specs.lapdm_frame.Layout.{n201}
 use Rattle.segmenting.specs.Segments.{Message, segments}
 use Rattle.segmenting.specs.Joiners.{HasTakenSegments}
 use Rattle.lapdm_window.specs.declared.window.Window.{Window}
-use Rattle.lapdm_window.specs.Ends.{EndpointState, HasWindowOfOne, all_segments, awaits_ack, acked_message_count, vs, va, vr}
+use Rattle.lapdm_window.specs.Ends.{EndpointState, HasWindowOfOne, segments_of_all_messages, awaits_ack, acked_message_count, vs, va, vr}
 use Rattle.lapdm_window.specs.Ends.{capped_at_64_bits}
 
 -- the channel of a window
@@ -19,25 +19,25 @@ HasOutstandingSegment w = w.vs ≢ w.va
 
 -- window `w` and endpoint `e` agree on the channel, V(S), V(A), V(R), the number of fully acknowledged messages, the reject condition and
 -- the accepted segments
-pub record HasSameVariables (w : Window) (e : EndpointState) : Type 0 where
+pub record HasSameStateVariables (w : Window) (e : EndpointState) : Type 0 where
   pub channel : w.channel ≡ e.channel
   pub vs : w.vs ≡ vs e
   pub va : w.va ≡ va e
   pub vr : w.vr ≡ vr e
   pub acked_messages : w.acked_messages ≡ capped_at_64_bits (acked_message_count e)
   pub rejecting : w.rejecting ≡ e.rejecting
-  pub reassembly : HasTakenSegments w.joiner e.peer_segments
+  pub reassembly : HasTakenSegments w.joiner e.accepted_segments
 
 -- `held` lists the messages of `e` that are not fully acknowledged; their segments from index `place` on are exactly the unacknowledged
 -- segments
 pub record HoldsUnackedMessages (held : List Message) (place : ℕ) (e : EndpointState) : Type 0 where
   pub messages : held ≡ drop (acked_message_count e) e.messages
-  pub unacked_segments : drop place (flat_map (segments (n201 e.channel)) held) ≡ drop e.acked_segments (all_segments e)
+  pub unacked_segments : drop place (flat_map (segments (n201 e.channel)) held) ≡ drop e.acked_segments (segments_of_all_messages e)
 
 -- window `w` represents endpoint `e`: their variables agree, `w` holds the unacknowledged messages, and the retry counts agree while a
 -- segment is outstanding
 pub record Represents (w : Window) (e : EndpointState) : Type 0 where
   pub window_of_one : HasWindowOfOne e
-  pub variables : HasSameVariables w e
+  pub variables : HasSameStateVariables w e
   pub unacked_messages : HoldsUnackedMessages w.held.items w.segment_index e
   pub retries : IsTrue (awaits_ack e) → w.retries ≡ e.retries

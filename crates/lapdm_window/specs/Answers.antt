@@ -10,29 +10,30 @@ use Rattle.lapdm_window.specs.declared.Info.{Info}
 use Rattle.lapdm_window.specs.declared.Info.TheVariants.{Accepted, OutOfSequence}
 use Rattle.lapdm_window.specs.declared.Timer.{Timer}
 use Rattle.lapdm_window.specs.declared.Timer.TheVariants as T
-use Rattle.lapdm_window.specs.Ends.{EndpointState, awaits_ack, next_segment, vr, n200}
-use Rattle.lapdm_window.specs.Rules.{nr_acknowledges, acked_message_number, reject_is_due, with_accepted_segment, with_reject_condition}
-use Rattle.lapdm_window.specs.Calls.{first_refusal, message_refusals}
+use Rattle.lapdm_window.specs.Ends.{EndpointState, awaits_ack, first_unacked_segment, vr, n200}
+use Rattle.lapdm_window.specs.Rules.{nr_acknowledges_segment, acked_message_number, reject_is_due, with_accepted_segment}
+use Rattle.lapdm_window.specs.Rules.{with_reject_condition}
+use Rattle.lapdm_window.specs.Calls.{first_refusal, message_refusal_checks}
 
 -- the reason why the window refuses this message, or `None` if it accepts it
 abbrev pub message_refusal : Message → EndpointState → Option Refused
-message_refusal m e = first_refusal (message_refusals m e)
+message_refusal m e = first_refusal (message_refusal_checks m e)
 
 -- the outstanding segment, if there is one
 abbrev pub outstanding_segment : EndpointState → Option Segment
-outstanding_segment e = if awaits_ack e then Some (next_segment e) else None
+outstanding_segment e = if awaits_ack e then Some (first_unacked_segment e) else None
 
--- the result of a received N(R): it acknowledges nothing, the last segment of a message, or an earlier segment
-abbrev pub acked_by_nr : (nr : ℕ) (endpoint : EndpointState) → A.Acked
-acked_by_nr nr e =
-    if nr_acknowledges nr e
-    then (if (next_segment e).1 then V.Piece else V.Message (acked_message_number e))
+-- what a received N(R) acknowledges: nothing, the last segment of a message, or an earlier segment of a message
+abbrev pub acknowledgement_by_nr : (nr : ℕ) (endpoint : EndpointState) → A.Acked
+acknowledgement_by_nr nr e =
+    if nr_acknowledges_segment nr e
+    then (if (first_unacked_segment e).1 then V.Piece else V.Message (acked_message_number e))
     else V.Nothing
 
 -- whether the segment of a received I frame with this N(S) and P bit is accepted and, if not, whether a REJ must be sent
 abbrev pub received_segment_result : (ns : ℕ) (poll : Bool) (segment : Segment) (endpoint : EndpointState) → Info
 received_segment_result ns p segment e =
-    if nat_eq ns (vr e) then Accepted (reassembly_result e.peer_segments segment) else OutOfSequence (reject_is_due p e)
+    if nat_eq ns (vr e) then Accepted (reassembly_result e.accepted_segments segment) else OutOfSequence (reject_is_due p e)
 
 -- the endpoint state after the segment of an I frame is accepted, or discarded as out of sequence
 abbrev pub state_after_i_frame : Info → Segment → EndpointState → EndpointState

@@ -28,9 +28,9 @@ pub data Call : Type 0 where
   SendsUi : (m : Message) → Call
   Closes : Call
   T200Expires : Call
-  SendsFill : Call
+  SendsFillFrame : Call
 
--- the specification's `Call` for this Rust `Call`
+-- the `Call` of the specification that corresponds to a Rust `Call`
 abbrev pub endpoint_call_of : Asked → Call
 endpoint_call_of (A.Open info) = Opens info.now
 endpoint_call_of A.OpenBare = OpensWithoutInfo
@@ -38,30 +38,30 @@ endpoint_call_of (A.Send m) = Sends m.now
 endpoint_call_of (A.Unit m) = SendsUi m.now
 endpoint_call_of A.Close = Closes
 endpoint_call_of A.Timer = T200Expires
-endpoint_call_of A.Idle = SendsFill
+endpoint_call_of A.Idle = SendsFillFrame
 
 -- the call exists for this SAPI: `Opens` only for SAPI 0, `OpensWithoutInfo` only for SAPI 3, every other call for both
-abbrev pub IsCallOfSapi : (sapi : Sapi) (call : Call) → Type 0
-IsCallOfSapi sapi (Opens info) = sapi ≡ Zero
-IsCallOfSapi sapi OpensWithoutInfo = sapi ≡ Three
-IsCallOfSapi sapi other = Unit {0}
+abbrev pub IsCallAllowedForSapi : (sapi : Sapi) (call : Call) → Type 0
+IsCallAllowedForSapi sapi (Opens info) = sapi ≡ Zero
+IsCallAllowedForSapi sapi OpensWithoutInfo = sapi ≡ Three
+IsCallAllowedForSapi sapi other = Unit {0}
 
 -- this call exists for the SAPI of this endpoint
-abbrev pub IsCallOfEndpoint : (endpoint : EndpointState) (call : Call) → Type 0
-IsCallOfEndpoint e call = IsCallOfSapi e.sapi call
+abbrev pub IsCallAllowedForEndpoint : (endpoint : EndpointState) (call : Call) → Type 0
+IsCallAllowedForEndpoint e call = IsCallAllowedForSapi e.sapi call
 
 -- the call sends a UI frame and leaves the endpoint state unchanged
-abbrev pub SendsUiFrame : Call → Type 0
-SendsUiFrame (SendsUi m) = Unit {0}
-SendsUiFrame SendsFill = Unit {0}
-SendsUiFrame other = ⊥
+abbrev pub IsUiFrameCall : Call → Type 0
+IsUiFrameCall (SendsUi m) = Unit {0}
+IsUiFrameCall SendsFillFrame = Unit {0}
+IsUiFrameCall other = ⊥
 
 -- whether the state is Idle
 abbrev pub is_idle : State → Bool
 is_idle Idle = true
 is_idle other = false
 
--- the refusal of the first pair whose condition holds, or `None` if none holds
+-- the reason in the first pair of condition and reason whose condition holds, or `None` if no condition holds
 abbrev pub first_refusal : (checks : List (Bool × Refused)) → Option Refused
 first_refusal [] = None
 first_refusal ((true, refusal) ∷ others) = Some refusal
@@ -69,8 +69,8 @@ first_refusal ((false, refusal) ∷ others) = first_refusal others
 
 -- the conditions for refusing a message to be sent in I frames, in the order tested: it is empty, it has more than 251 octets, or eight
 -- messages are not yet fully acknowledged
-abbrev pub message_refusals : Message → EndpointState → List (Bool × Refused)
-message_refusals m e =
+abbrev pub message_refusal_checks : Message → EndpointState → List (Bool × Refused)
+message_refusal_checks m e =
     (nat_eq (length m) 0, No.Empty) ∷ (nat_lt max_message_octets (length m), No.TooLong) ∷ (
       nat_le 8
           (unacked_message_count e),
@@ -79,23 +79,23 @@ message_refusals m e =
 
 -- the conditions for refusing information or a message to be sent in one frame, in the order tested: it is empty, or it has more than N201
 -- octets
-abbrev pub frame_refusals : Message → EndpointState → List (Bool × Refused)
-frame_refusals m e =
+abbrev pub single_frame_refusal_checks : Message → EndpointState → List (Bool × Refused)
+single_frame_refusal_checks m e =
     (nat_eq (length m) 0, No.Empty) ∷ (nat_lt (n201 e.channel) (length m), No.TooLong) ∷ []
 
 -- the conditions for refusing a call, each with the reason returned, in the order tested
-abbrev pub call_refusals : Call → EndpointState → List (Bool × Refused)
-call_refusals (Opens info) e = (not (is_idle e.state), No.NotIdle) ∷ frame_refusals info e
-call_refusals OpensWithoutInfo e = (not (is_idle e.state), No.NotIdle) ∷ []
-call_refusals (Sends m) e = (not (is_open e.state), No.NotOpen) ∷ message_refusals m e
-call_refusals (SendsUi m) e = frame_refusals m e
-call_refusals Closes e = (not (is_open e.state), No.NotOpen) ∷ []
-call_refusals T200Expires e = (not (awaits_answer e), No.NotRunning) ∷ []
-call_refusals SendsFill e = []
+abbrev pub call_refusal_checks : Call → EndpointState → List (Bool × Refused)
+call_refusal_checks (Opens info) e = (not (is_idle e.state), No.NotIdle) ∷ single_frame_refusal_checks info e
+call_refusal_checks OpensWithoutInfo e = (not (is_idle e.state), No.NotIdle) ∷ []
+call_refusal_checks (Sends m) e = (not (is_open e.state), No.NotOpen) ∷ message_refusal_checks m e
+call_refusal_checks (SendsUi m) e = single_frame_refusal_checks m e
+call_refusal_checks Closes e = (not (is_open e.state), No.NotOpen) ∷ []
+call_refusal_checks T200Expires e = (not (awaits_answer e), No.NotRunning) ∷ []
+call_refusal_checks SendsFillFrame e = []
 
 -- the reason why the call is refused, or `None` if it is accepted
 abbrev pub refusal_of : Call → EndpointState → Option Refused
-refusal_of call e = first_refusal (call_refusals call e)
+refusal_of call e = first_refusal (call_refusal_checks call e)
 
 -- the SABM that an endpoint sends, with P = 1 and the information kept in its state
 abbrev pub sabm : EndpointState → Frame
@@ -109,7 +109,7 @@ disc e = command_frame e (Disc true)
 abbrev pub sends_sabm : Message → EndpointState → Outcome
 sends_sabm info e = let later = record e { state = Opening; sabm_info = info; retries = 0 } in sends_frame (sabm later) later
 
--- the endpoint state after layer 3 has passed it this message to send
+-- the endpoint state after layer 3 passes a message to the endpoint to send in I frames
 abbrev pub with_queued_message : Message → EndpointState → EndpointState
 with_queued_message m e = record e { messages = e.messages ++ m ∷ [] }
 
@@ -135,4 +135,4 @@ call_outcome (Sends m) e = sends_next_segment (with_queued_message m e)
 call_outcome (SendsUi m) e = sends_frame (command_frame e (Ui false m)) e
 call_outcome Closes e = sends_frame (disc e) (record e { state = Closing; retries = 0 })
 call_outcome T200Expires e = t200_expiry e
-call_outcome SendsFill e = sends_frame (fill_frame (command_cr e.role)) e
+call_outcome SendsFillFrame e = sends_frame (fill_frame (command_cr e.role)) e

@@ -15,12 +15,12 @@ use Rattle.lapdm_window.specs.declared.State.{State}
 use Rattle.lapdm_window.specs.declared.State.TheVariants.{Idle, Opening, Open, Closing}
 use Rattle.lapdm_window.specs.declared.Notice.{Notice}
 
--- the side of an endpoint
+-- the side of an endpoint: mobile or network
 pub data Role : Type 0 where
   Mobile : Role
   Network : Role
 
--- the state of an endpoint
+-- the state of an endpoint, with the whole history of its link
 pub record EndpointState : Type 0 where
   pub role : Role
   pub sapi : Sapi
@@ -35,7 +35,7 @@ pub record EndpointState : Type 0 where
   -- the number of segments sent so far, over all messages
   pub sent_segments : ℕ
   -- all segments that this endpoint has accepted from its peer, in order
-  pub peer_segments : List Segment
+  pub accepted_segments : List Segment
   -- the reject condition: a REJ was sent, and no segment has been accepted since
   pub rejecting : Bool
   -- how many times the frame that awaits a response or an acknowledgement has been repeated
@@ -52,23 +52,23 @@ initial_endpoint role sapi channel = record {
   messages = [];
   acked_segments = 0;
   sent_segments = 0;
-  peer_segments = [];
+  accepted_segments = [];
   rejecting = false;
   retries = 0;
 }
 
 -- the segments of all messages that layer 3 has passed to this endpoint, in order
-abbrev pub all_segments : EndpointState → List Segment
-all_segments e = flat_map (segments (n201 e.channel)) e.messages
+abbrev pub segments_of_all_messages : EndpointState → List Segment
+segments_of_all_messages e = flat_map (segments (n201 e.channel)) e.messages
 
 -- the outstanding segment or, if none is outstanding, the next segment to send
-abbrev pub next_segment : EndpointState → Segment
-next_segment e = slice_index_or (all_segments e) e.acked_segments ([], false)
+abbrev pub first_unacked_segment : EndpointState → Segment
+first_unacked_segment e = slice_index_or (segments_of_all_messages e) e.acked_segments ([], false)
 
 -- the window size is 1 (section 5.8.4): at most one segment has been sent but not yet acknowledged
 pub record HasWindowOfOne (e : EndpointState) : Type 0 where
   pub messages : All IsValidMessage e.messages
-  pub sent_segments : e.sent_segments ≤ length (all_segments e)
+  pub sent_segments : e.sent_segments ≤ length (segments_of_all_messages e)
   pub acked_at_most_sent : e.acked_segments ≤ e.sent_segments
   pub window : e.sent_segments ≤ e.acked_segments + 1
 
@@ -85,7 +85,7 @@ pub record IsValidEndpoint (e : EndpointState) : Type 0 where
   pub sabm_info_fits : length e.sabm_info ≤ n201 e.channel
   pub empty_on_sapi3 : e.sapi ≡ Three → e.sabm_info ≡ []
   pub no_message_before_open : IsBeforeOpen e.state → e.messages ≡ []
-  pub no_segment_before_open : IsBeforeOpen e.state → e.peer_segments ≡ []
+  pub no_segment_before_open : IsBeforeOpen e.state → e.accepted_segments ≡ []
 
 -- whether an I frame is outstanding, that is, sent but not yet acknowledged
 abbrev pub awaits_ack : EndpointState → Bool
@@ -101,11 +101,11 @@ va e = e.acked_segments % 8
 
 -- the receive state variable V(R), 0 to 7 (section 3.5.2)
 abbrev pub vr : EndpointState → ℕ
-vr e = length e.peer_segments % 8
+vr e = length e.accepted_segments % 8
 
 -- the number of fully acknowledged messages: all segments of these messages are acknowledged
 abbrev pub acked_message_count : EndpointState → ℕ
-acked_message_count e = message_count (take e.acked_segments (all_segments e))
+acked_message_count e = message_count (take e.acked_segments (segments_of_all_messages e))
 
 -- the number of messages with at least one unacknowledged segment
 abbrev pub unacked_message_count : EndpointState → ℕ
@@ -150,7 +150,8 @@ sends_frame f e = record { new_state = e; frames = f ∷ []; notices = [] }
 abbrev pub reports_notice : Notice → EndpointState → Outcome
 reports_notice n e = record { new_state = e; frames = []; notices = n ∷ [] }
 
--- sequential composition: the rule starts in the state after the outcome, and its frames and notices follow those of the outcome
+-- sequential composition of an outcome and a rule: the rule starts in the state after the outcome, and its frames and notices follow those
+-- of the outcome
 infixl 30 ◌then◌
 abbrev pub ◌then◌ : Outcome → (EndpointState → Outcome) → Outcome
 o then rule =

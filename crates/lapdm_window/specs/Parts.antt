@@ -4,7 +4,7 @@ use Rattle.std.specs.Prelude.{slice_index_or, All}
 use Rattle.segmenting.specs.lapdm_frame.declared.Channel.{Channel}
 use Rattle.segmenting.specs.lapdm_frame.Layout.{n201}
 use Rattle.segmenting.specs.Segments.{Message, IsValidMessage, number_of_segments, max_message_octets}
-use Rattle.segmenting.specs.Buffers.{octets_in}
+use Rattle.segmenting.specs.Buffers.{octets_in_buffer}
 use Rattle.segmenting.specs.Parts.{JoinerValues}
 use Rattle.segmenting.specs.Parts as J
 use Rattle.lapdm_window.specs.declared.window.Window.{Window}
@@ -44,7 +44,7 @@ values_of w = record {
 abbrev pub values_of_parts : LapdmWindowView → WindowValues
 values_of_parts p = record {
   channel = p.channel;
-  held = map octets_in p.held.now;
+  held = map octets_in_buffer p.held.now;
   segment_index = p.segment_index;
   vs = p.vs;
   va = p.va;
@@ -70,7 +70,7 @@ pub record AreValidHeldMessages (held : List Message) : Type 0 where
   pub at_most_8 : length held ≤ 8
   pub messages : All IsValidMessage held
 
--- the conditions for restoring a window from this state
+-- the conditions under which a window can be restored from this state
 pub record AreConsistent (x : WindowValues) : Type 0 where
   pub held : AreValidHeldMessages x.held
   pub segment_index_in_range : x.segment_index < number_of_segments (n201 x.channel) (slice_index_or x.held 0 [])

@@ -13,16 +13,16 @@ use Rattle.lapdm_window.specs.declared.Notice.{Notice}
 use Rattle.lapdm_window.specs.declared.Notice.TheVariants.{Got, Acked, Oversize}
 use Rattle.lapdm_window.specs.Ends.{EndpointState, Outcome, no_effect, sends_frame, reports_notice, ◌then◌}
 use Rattle.lapdm_window.specs.Ends.{command_frame, response_frame, awaits_ack}
-use Rattle.lapdm_window.specs.Ends.{all_segments}
-use Rattle.lapdm_window.specs.Ends.{next_segment, acked_message_count, vs, va, vr, capped_at_64_bits}
+use Rattle.lapdm_window.specs.Ends.{segments_of_all_messages}
+use Rattle.lapdm_window.specs.Ends.{first_unacked_segment, acked_message_count, vs, va, vr, capped_at_64_bits}
 
 -- the I frame that carries the outstanding segment, with this P bit (section 5.5.1)
 abbrev pub outstanding_frame : (poll_bit : Bool) (endpoint : EndpointState) → Frame
-outstanding_frame p e = let segment = next_segment e in command_frame e (I (va e) (vr e) p segment.1 segment.0)
+outstanding_frame p e = let segment = first_unacked_segment e in command_frame e (I (va e) (vr e) p segment.1 segment.0)
 
--- whether an unsent segment remains and none is outstanding
+-- whether an unsent segment remains and no segment is outstanding
 abbrev pub has_segment_to_send : EndpointState → Bool
-has_segment_to_send e = not (awaits_ack e) && nat_lt e.sent_segments (length (all_segments e))
+has_segment_to_send e = not (awaits_ack e) && nat_lt e.sent_segments (length (segments_of_all_messages e))
 
 -- the endpoint state after its next segment is sent, with the retry count reset to 0
 abbrev pub with_segment_sent : EndpointState → EndpointState
@@ -37,7 +37,7 @@ abbrev pub is_open : State → Bool
 is_open Open = true
 is_open other = false
 
--- whether the endpoint may send its next I frame: the link is open, an unsent segment remains and none is outstanding
+-- whether the endpoint may send its next I frame: the link is open, an unsent segment remains, and no segment is outstanding
 abbrev pub may_send_next_segment : EndpointState → Bool
 may_send_next_segment e = is_open e.state && has_segment_to_send e
 
@@ -46,8 +46,8 @@ abbrev pub sends_next_segment : EndpointState → Outcome
 sends_next_segment e = if may_send_next_segment e then sends_segment e else no_effect e
 
 -- whether this N(R) acknowledges the outstanding segment: it must equal V(S) (this project's own rule)
-abbrev pub nr_acknowledges : (nr : ℕ) (endpoint : EndpointState) → Bool
-nr_acknowledges nr e = awaits_ack e && nat_eq nr (vs e)
+abbrev pub nr_acknowledges_segment : (nr : ℕ) (endpoint : EndpointState) → Bool
+nr_acknowledges_segment nr e = awaits_ack e && nat_eq nr (vs e)
 
 -- the endpoint state after the outstanding segment is acknowledged
 abbrev pub with_segment_acked : EndpointState → EndpointState
@@ -58,13 +58,13 @@ abbrev pub acked_message_number : EndpointState → ℕ
 acked_message_number e = capped_at_64_bits (acked_message_count (with_segment_acked e))
 
 -- marks the outstanding segment as acknowledged and, if it is the last of its message (M = 0), reports the message as acknowledged
-abbrev pub acks_outstanding_segment : (more : Bool) (endpoint : EndpointState) → Outcome
-acks_outstanding_segment true e = no_effect (with_segment_acked e)
-acks_outstanding_segment false e = reports_notice (Acked (acked_message_number e)) (with_segment_acked e)
+abbrev pub marks_segment_acked : (more : Bool) (endpoint : EndpointState) → Outcome
+marks_segment_acked true e = no_effect (with_segment_acked e)
+marks_segment_acked false e = reports_notice (Acked (acked_message_number e)) (with_segment_acked e)
 
 -- evaluates a received N(R), which may acknowledge the outstanding segment (section 5.5.3)
 abbrev pub evaluates_nr : (nr : ℕ) (endpoint : EndpointState) → Outcome
-evaluates_nr nr e = if nr_acknowledges nr e then acks_outstanding_segment (next_segment e).1 e else no_effect e
+evaluates_nr nr e = if nr_acknowledges_segment nr e then marks_segment_acked (first_unacked_segment e).1 e else no_effect e
 
 -- the notices for an accepted segment: `Got` with the message that it completes, or `Oversize` at the end of an oversize message
 abbrev pub segment_notices : (joined : Joined) (more : Bool) (message : Message) → List Notice
@@ -75,14 +75,16 @@ segment_notices J.More more m = []
 
 -- the state of the endpoint after it accepts a segment
 abbrev pub with_accepted_segment : Segment → EndpointState → EndpointState
-with_accepted_segment segment e = record e { peer_segments = e.peer_segments ++ segment ∷ []; rejecting = false }
+with_accepted_segment segment e =
+    record e { accepted_segments = e.accepted_segments ++ segment ∷ []; rejecting = false }
 
 -- the endpoint accepts a segment, and reports the message that it completes or the oversize message that it ends
 abbrev pub accepts_segment : Segment → EndpointState → Outcome
 accepts_segment segment e = record {
   new_state = with_accepted_segment segment e;
   frames = [];
-  notices = segment_notices (reassembly_result e.peer_segments segment) segment.1 (partial_message e.peer_segments ++ segment.0);
+  notices = segment_notices (reassembly_result e.accepted_segments segment) segment.1
+      (partial_message e.accepted_segments ++ segment.0);
 }
 
 -- the endpoint sends an RR response with this F bit

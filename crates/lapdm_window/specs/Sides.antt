@@ -18,15 +18,15 @@ pub record SideState : Type 0 where
 abbrev pub idle_side : Role → Channel → SideState
 idle_side role channel = record { link0 = initial_endpoint role Zero channel; link3 = initial_endpoint role Three channel }
 
--- the endpoint of the side with this SAPI
-abbrev pub endpoint_on : Sapi → SideState → EndpointState
-endpoint_on Zero a = a.link0
-endpoint_on Three a = a.link3
+-- the endpoint that a side has for this SAPI
+abbrev pub endpoint_with_sapi : Sapi → SideState → EndpointState
+endpoint_with_sapi Zero a = a.link0
+endpoint_with_sapi Three a = a.link3
 
 -- the side with its endpoint of this SAPI replaced by the given one
-abbrev pub with_endpoint_on : Sapi → EndpointState → SideState → SideState
-with_endpoint_on Zero e a = record a { link0 = e }
-with_endpoint_on Three e a = record a { link3 = e }
+abbrev pub with_sapi_endpoint_replaced : Sapi → EndpointState → SideState → SideState
+with_sapi_endpoint_replaced Zero e a = record a { link0 = e }
+with_sapi_endpoint_replaced Three e a = record a { link3 = e }
 
 -- the result of a step of a side: the SAPI of the endpoint that acted, the frames and notices of that endpoint, and the state of the side
 -- afterwards
@@ -38,17 +38,19 @@ pub record SideStep : Type 0 where
 
 -- the step of a side whose endpoint with this SAPI has this outcome
 abbrev pub endpoint_step : Sapi → Outcome → SideState → SideStep
-endpoint_step sapi o a = record { sapi = sapi; frames = o.frames; notices = o.notices; new_state = with_endpoint_on sapi o.new_state a }
+endpoint_step sapi o a =
+    record { sapi = sapi; frames = o.frames; notices = o.notices; new_state = with_sapi_endpoint_replaced sapi o.new_state a }
 
 -- the step of a side that changes neither endpoint
 abbrev pub no_op_step : SideState → SideStep
 no_op_step a = record { sapi = Zero; frames = []; notices = []; new_state = a }
 
--- the step of a side for this layer 3 call to its endpoint with this SAPI
+-- the step of a side when layer 3 makes this call to the endpoint with this SAPI
 abbrev pub layer3_call_step : Sapi → Call → SideState → SideStep
-layer3_call_step sapi call a = endpoint_step sapi (call_outcome call (endpoint_on sapi a)) a
+layer3_call_step sapi call a = endpoint_step sapi (call_outcome call (endpoint_with_sapi sapi a)) a
 
--- the step of a side that receives a frame: the frame goes to the endpoint with its SAPI, and is ignored if its SAPI is not 0 or 3
+-- the step of a side that receives a frame: the endpoint with the SAPI of the frame receives it, and the side ignores a frame whose SAPI is
+-- not 0 or 3
 abbrev pub step_for_frame : Frame → SideState → SideStep
 step_for_frame f a =
     if nat_eq f.sapi 0 then endpoint_step Zero (frame_outcome f a.link0) a

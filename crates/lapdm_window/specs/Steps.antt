@@ -9,7 +9,7 @@ use Rattle.lapdm_window.specs.declared.Notice.TheVariants.{Got}
 use Rattle.lapdm_window.specs.declared.Refused.{Refused}
 use Rattle.lapdm_window.specs.declared.effects.Effects.{Effects}
 use Rattle.lapdm_window.specs.Ends.{EndpointState, Outcome}
-use Rattle.lapdm_window.specs.Calls.{Call, IsCallOfEndpoint, refusal_of, call_outcome}
+use Rattle.lapdm_window.specs.Calls.{Call, IsCallAllowedForEndpoint, refusal_of, call_outcome}
 use Rattle.lapdm_window.specs.Tables.{frame_outcome}
 
 -- the input of an endpoint step: a call or a received frame
@@ -19,10 +19,10 @@ pub data StepInput : Type 0 where
 
 -- the input is possible for this endpoint: a call that exists for its SAPI, or any frame that fits in a block of its channel
 abbrev pub IsPossibleInput : (endpoint : EndpointState) (input : StepInput) → Type 0
-IsPossibleInput e (Asked call) = IsCallOfEndpoint e call
+IsPossibleInput e (Asked call) = IsCallAllowedForEndpoint e call
 IsPossibleInput e (Received f) = FrameFits e.channel f
 
--- the refusal if there is one, otherwise the outcome
+-- the result of a call: the reason for its refusal if there is one, otherwise its outcome
 abbrev pub outcome_unless_refused : (refused : Option Refused) (outcome : Outcome) → Result Outcome Refused
 outcome_unless_refused None o = Ok o
 outcome_unless_refused (Some refusal) o = Err refusal
@@ -37,7 +37,7 @@ abbrev pub message_in_got_notice : Notice → Option Message
 message_in_got_notice (Got m) = Some m
 message_in_got_notice other = None
 
--- both endpoints have the same side, SAPI and channel
+-- endpoints `e` and `f` have the same side, SAPI and channel
 pub record IsSameEndpoint (e f : EndpointState) : Type 0 where
   pub role : f.role ≡ e.role
   pub sapi : f.sapi ≡ e.sapi

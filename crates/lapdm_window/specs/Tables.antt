@@ -22,7 +22,7 @@ use Rattle.lapdm_window.specs.Rules.{takes_i_frame, takes_rr, takes_rej}
 abbrev pub is_command : EndpointState → Frame → Bool
 is_command e f = not (beq f.cr (command_cr e.role))
 
--- whether an endpoint accepts this kind of frame as a command or as a response; RNR is never accepted
+-- whether an endpoint accepts a frame of this kind as a command, or as a response if `is_command` is false; it never accepts an RNR
 abbrev pub is_accepted_kind : (is_command : Bool) (content : Content) → Bool
 is_accepted_kind is_command (I ns nr p more info) = is_command
 is_accepted_kind is_command (Rr nr pf) = true
@@ -54,9 +54,9 @@ pub data Reply : Type 0 where
   -- the peer's DISC releases the link, and the endpoint answers with a UA
   AcceptsDisc : Reply
   -- the endpoint reports the information of a UI frame to layer 3
-  TakesUi : (info : Message) → Reply
+  ReportsUiInformation : (info : Message) → Reply
   -- the endpoint applies the window rules to a received I frame
-  TakesI : (ns nr : ℕ) (p : Bool) (segment : Segment) → Reply
+  TakesIFrame : (ns nr : ℕ) (p : Bool) (segment : Segment) → Reply
   -- the endpoint applies the window rules to a received RR, which is a poll if `poll` is true
   TakesRr : (nr : ℕ) (poll : Bool) → Reply
   -- the endpoint applies the window rules to a received REJ, which is a poll if `poll` is true
@@ -83,8 +83,8 @@ outcome_of_reply (AcceptsSabm info) e = opens_and_reports info (record e { sabm_
 outcome_of_reply (ConfirmsEstablishment info) e = opens_and_reports info e
 outcome_of_reply (ClosesLink reason) e = closes_and_reports reason e
 outcome_of_reply AcceptsDisc e = closes_and_reports R.Released e then sends_ua []
-outcome_of_reply (TakesUi info) e = reports_notice (N.Unit info) e
-outcome_of_reply (TakesI ns nr p segment) e = takes_i_frame ns nr p segment e
+outcome_of_reply (ReportsUiInformation info) e = reports_notice (N.Unit info) e
+outcome_of_reply (TakesIFrame ns nr p segment) e = takes_i_frame ns nr p segment e
 outcome_of_reply (TakesRr nr poll) e = takes_rr nr poll e
 outcome_of_reply (TakesRej nr poll) e = takes_rej nr poll e
 
@@ -97,7 +97,7 @@ reply_to_sabm_in_idle Zero Network (x ∷ xs) = AcceptsSabm (x ∷ xs)
 reply_to_sabm_in_idle Three role [] = AcceptsSabm []
 reply_to_sabm_in_idle Three role (x ∷ xs) = Nothing
 
--- a DM if the received frame is a poll, otherwise no reply (section 5.4.5)
+-- the reply to a frame that an endpoint ignores unless it is a poll: a DM if it is a poll, otherwise nothing (section 5.4.5)
 abbrev pub dm_if_polled : Bool → Reply
 dm_if_polled poll = if poll then SendsDm else Nothing
 
@@ -145,7 +145,7 @@ reply_to_sabm_in_open info e = if answers_repeated_sabm e.sapi e.role && bytes_e
 -- the reply to a frame in Open: I, RR and REJ follow the window rules, a DISC releases the link (section 5.4.4.2), and a DM closes it as
 -- failed
 abbrev pub reply_in_open : (is_command : Bool) (content : Content) (endpoint : EndpointState) → Reply
-reply_in_open is_command (I ns nr p more info) e = TakesI ns nr p (info, more)
+reply_in_open is_command (I ns nr p more info) e = TakesIFrame ns nr p (info, more)
 reply_in_open is_command (Rr nr pf) e = TakesRr nr (is_command && pf)
 reply_in_open is_command (Rej nr pf) e = TakesRej nr (is_command && pf)
 reply_in_open is_command (Sabm p info) e = reply_to_sabm_in_open info e
@@ -177,7 +177,7 @@ reply_in_state Closed is_command content e = reply_in_closed (is_poll is_command
 -- the reply to a UI frame, in every state: its information is reported to layer 3 if it is not empty
 abbrev pub reply_to_ui : Message → Reply
 reply_to_ui [] = Nothing
-reply_to_ui (x ∷ xs) = TakesUi (x ∷ xs)
+reply_to_ui (x ∷ xs) = ReportsUiInformation (x ∷ xs)
 
 -- the reply to a frame that has the endpoint's SAPI and an accepted kind
 abbrev pub reply : (is_command : Bool) (content : Content) (endpoint : EndpointState) → Reply

@@ -6,7 +6,7 @@ use crate::Notice;
 use segmenting::BLOCK_OCTETS;
 use std::marker::Model;
 
-/// The frames that a call sends and the notices that it reports.
+/// The frames that an endpoint sends and the notices that it reports when it handles one call or one received frame.
 #[derive(Debug, Drop)]
 pub struct Effects {
     pub frames: Frames,
@@ -42,7 +42,7 @@ pub struct Frames {
     len: usize,
 }
 
-// In contracts, a `Frames` is a list of blocks, each a list of octets.
+// Contracts treat a `Frames` value as a list of blocks, each a list of octets.
 impl Model for Frames {
     ghost use Rattle.std.specs.Prelude.{◌≤◌, List, ℕ, take};
 
@@ -95,7 +95,7 @@ pub struct Notices {
     len: usize,
 }
 
-// In contracts, a `Notices` is a list of notices.
+// Contracts treat a `Notices` value as a list of notices.
 impl Model for Notices {
     ghost use Rattle.std.specs.Prelude.{◌≤◌, List, take};
     ghost use Rattle.lapdm_window.specs.declared.Notice.{Notice};
@@ -111,7 +111,7 @@ impl Notices {
     pub fn new() -> Notices
         ensures { result ≡ [] }
     {
-        // Unused slots hold a variant with a field: for a variant without a field, the compiler would build and copy a temporary.
+        // Unused elements hold a notice with a field. For a notice without a field, the compiler would build a temporary and copy it.
         Notices {
             items: [Notice::Acked(0), Notice::Acked(0), Notice::Acked(0)],
             len: 0,

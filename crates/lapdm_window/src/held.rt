@@ -2,7 +2,7 @@
 //! rotates the array.
 
 ghost use Rattle.std.specs.Prelude.{◌≡◌, ◌<◌, ◌≤◌, ◌==◌, [], ◌∷◌, ◌++◌, length, map, drop, slice_index_or};
-ghost use Rattle.segmenting.specs.Buffers.{octets_in};
+ghost use Rattle.segmenting.specs.Buffers.{octets_in_buffer};
 
 use segmenting::MessageBuffer;
 use std::marker::Model;
@@ -14,15 +14,15 @@ pub(crate) struct HeldMessageBuffers {
     len: usize,
 }
 
-// In contracts, a `HeldMessageBuffers` is a list of messages.
+// Contracts treat a `HeldMessageBuffers` value as a list of messages.
 impl Model for HeldMessageBuffers {
     ghost use Rattle.std.specs.Prelude.{◌≤◌, map, take};
-    ghost use Rattle.segmenting.specs.Buffers.{octets_in};
+    ghost use Rattle.segmenting.specs.Buffers.{octets_in_buffer};
     ghost use Rattle.lapdm_window.specs.Held.{HeldMessages};
 
     ghost Value = { HeldMessages };
 
-    ghost view = { λ h. record { items = map octets_in (take h.len h.buffers) } };
+    ghost view = { λ h. record { items = map octets_in_buffer (take h.len h.buffers) } };
 
     ghost invariant = { λ h. h.len ≤ 8 };
 }
@@ -67,7 +67,7 @@ impl HeldMessageBuffers {
         self.len = len + 1;
     }
 
-    pub(crate) fn remove_first(&mut self)
+    pub(crate) fn remove_first_message(&mut self)
         requires { 1 ≤ length self.old.items }
         ensures items { self.new.items ≡ drop 1 self.old.items }
     {
@@ -84,16 +84,16 @@ impl HeldMessageBuffers {
     }
 
     pub(crate) fn as_slice(&self) -> &[MessageBuffer]
-        ensures value { map octets_in result.now ≡ self.now.items }
+        ensures value { map octets_in_buffer result.now ≡ self.now.items }
         ensures most { length result.now ≤ 8 }
     {
         &self.buffers[..self.len]
     }
 
-    /// Replaces the list with these messages.
+    /// Replaces the list with the messages in `buffers`.
     pub(crate) fn restore(&mut self, buffers: &[MessageBuffer])
         requires { length buffers.now ≤ 8 }
-        ensures items { self.new.items ≡ map octets_in buffers.now }
+        ensures items { self.new.items ≡ map octets_in_buffer buffers.now }
     {
         let len = buffers.len();
         self.buffers[0..len].copy_from_slice(buffers);

@@ -12,7 +12,8 @@ ghost use Rattle.lapdm_window.specs.declared.Sapi.{Sapi};
 ghost use Rattle.lapdm_window.specs.Ends.{Role, EndpointState, IsValidEndpoint, initial_endpoint, acked_message_count};
 ghost use Rattle.lapdm_window.specs.Steps.{StepInput, IsPossibleInput, step, message_in_got_notice, IsSameEndpoint};
 
-/// The initial endpoint satisfies the invariant `IsValidEndpoint`, and every step preserves it and the endpoint's role, SAPI and channel.
+/// Law: the initial state of an endpoint satisfies the invariant `IsValidEndpoint`. Every step of the endpoint preserves this invariant and
+/// leaves its role, SAPI and channel unchanged.
 pub fn law_endpoint_stays_valid()
     ensures start { (role : Role) (sapi : Sapi) (channel : Channel)
         → IsValidEndpoint (initial_endpoint role sapi channel) }
@@ -22,27 +23,28 @@ pub fn law_endpoint_stays_valid()
         → IfOk (step input e) (λ o. IsSameEndpoint e o.new_state) }
 {}
 
-/// Every frame that an endpoint sends fits in a block of its channel, and the reader reads exactly this frame from its canonical octets.
+/// Law: every frame that an endpoint sends fits in a block of its channel, and reading the canonical octets of the frame gives back exactly
+/// this frame.
 pub fn law_endpoint_frames_fit_blocks()
     ensures { (input : StepInput) (e : EndpointState) → IsValidEndpoint e → IsPossibleInput e input
         → IfOk (step input e)
         (λ o. All (λ f. IsOnlyCanonicalCoding e.channel f (octets_of e.channel f)) o.frames) }
 {}
 
-/// A step of an endpoint produces at most two frames and two notices.
+/// Law: a step of an endpoint produces at most two frames and two notices.
 pub fn law_at_most_two_frames_and_notices()
     ensures { (input : StepInput) (e : EndpointState)
         → IfOk (step input e) (λ o. (length o.frames ≤ 2) × (length o.notices ≤ 2)) }
 {}
 
-/// The notices of a step deliver exactly the messages that its accepted segments complete.
+/// Law: in its notices, a step of an endpoint delivers exactly the messages that the segments accepted in this step complete.
 pub fn law_notices_deliver_completed_messages()
     ensures { (input : StepInput) (e : EndpointState) → IfOk (step input e) (λ o.
-        messages o.new_state.peer_segments ≡ messages e.peer_segments ++ filter_map message_in_got_notice o.notices) }
+        messages o.new_state.accepted_segments ≡ messages e.accepted_segments ++ filter_map message_in_got_notice o.notices) }
 {}
 
-/// The first `k` messages sent count as acknowledged if and only if all their segments are acknowledged; the number of messages that count
-/// as acknowledged never exceeds the number sent.
+/// Law: the first `k` messages sent count as acknowledged if and only if all their segments are acknowledged. The number of messages that
+/// count as acknowledged never exceeds the number sent.
 pub fn law_message_acked_iff_segments_acked()
     ensures most { (e : EndpointState) → acked_message_count e ≤ length e.messages }
     ensures whole { (e : EndpointState) (k : ℕ) → k ≤ length e.messages

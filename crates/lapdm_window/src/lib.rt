@@ -45,7 +45,7 @@ pub enum Sapi {
 /// The state of an endpoint.
 #[derive(Clone, Copy, PartialEq, Eq, Debug)]
 pub enum State {
-    /// The link is not established.
+    /// The initial state: the link is not established, and no SABM was sent.
     Idle,
     /// A SABM was sent, and the endpoint waits for the response.
     Opening,
@@ -137,13 +137,13 @@ pub enum Refused {
     Full,
 }
 
-/// The result of a received N(R).
+/// What a received N(R) acknowledges.
 #[derive(Clone, Copy, PartialEq, Eq, Debug)]
 pub enum Acked {
     Nothing,
-    /// A segment other than the last one of its message.
+    /// The N(R) acknowledges a segment that is not the last one of its message.
     Piece,
-    /// The last segment of a message; the field is the number of the message, from 1.
+    /// The N(R) acknowledges the last segment of a message. The field is the number of this message, counted from 1.
     Message(u64),
 }
 
@@ -151,7 +151,7 @@ pub enum Acked {
 #[derive(Clone, Copy, PartialEq, Eq, Debug)]
 pub enum Info {
     Accepted(Joined),
-    /// The segment is discarded.
+    /// The N(S) of the segment differs from V(R), so the segment is discarded.
     OutOfSequence {
         /// Whether a REJ must be sent.
         reject: bool,
@@ -161,13 +161,10 @@ pub enum Info {
 /// The result of T200 expiry for the outstanding segment.
 #[derive(Clone, Copy, PartialEq, Eq, Debug)]
 pub enum Timer {
-    /// The segment is sent again.
+    /// The outstanding segment must be sent again.
     Again,
-    /// The segment was already repeated N200 times.
+    /// The outstanding segment was already repeated N200 times.
     Spent,
     /// No segment is outstanding.
     NotRunning,
 }
-
-#[cfg(test)]
-mod tests;

@@ -12,7 +12,7 @@ pub struct Message {
     len: usize,
 }
 
-// In contracts, a `Message` is a list of octets.
+// Contracts treat a `Message` value as a list of octets.
 impl Model for Message {
     ghost use Rattle.std.specs.Prelude.{◌≤◌, List, ℕ, take};
     ghost use Rattle.segmenting.specs.Segments.{max_message_octets};
@@ -49,7 +49,7 @@ impl Message {
         Message { buffer: held, len }
     }
 
-    /// Replaces the message with these octets.
+    /// Replaces the octets of the message with `octets`.
     pub fn write(&mut self, octets: &[u8])
         requires { length octets.now ≤ max_message_octets }
         ensures { self.new ≡ octets.now }

@@ -18,7 +18,7 @@ pub use parts::LapdmWindowView;
 pub struct Window {
     held: HeldMessageBuffers,
     joiner: Joiner,
-    // The index, within the first held message, of the outstanding segment or, if none is outstanding, of the next segment.
+    // The index of the outstanding segment in the first held message or, if none is outstanding, the index of the next segment to send.
     segment_index: usize,
     // The number of fully acknowledged messages.
     acked_messages: u64,
@@ -50,7 +50,7 @@ impl Window {
     ghost use Rattle.lapdm_window.specs.Answers.{
       message_refusal,
       outstanding_segment,
-      acked_by_nr,
+      acknowledgement_by_nr,
       received_segment_result,
       state_after_i_frame,
     };
@@ -137,10 +137,10 @@ impl Window {
         Some(self.next())
     }
 
-    /// Evaluates a received N(R). It acknowledges the outstanding segment if it equals V(S); otherwise it acknowledges nothing.
+    /// Evaluates a received N(R). If a segment is outstanding, an N(R) equal to V(S) acknowledges it; any other N(R) acknowledges nothing.
     pub fn on_ack(&mut self, nr: u8) -> Acked
         requires { nr ≤ 7 }
-        ensures answer { (e : EndpointState) → Represents self.old e → result ≡ acked_by_nr nr e }
+        ensures answer { (e : EndpointState) → Represents self.old e → result ≡ acknowledgement_by_nr nr e }
         ensures counted { (e : EndpointState) → Represents self.old e → Represents self.new (evaluates_nr nr e).new_state }
         ensures channel { channel_of self.new ≡ channel_of self.old }
     {
@@ -153,7 +153,7 @@ impl Window {
             self.segment_index += 1;
             return Acked::Piece;
         }
-        self.held.remove_first();
+        self.held.remove_first_message();
         self.segment_index = 0;
         self.acked_messages = self.acked_messages.saturating_add(1);
         Acked::Message(self.acked_messages)
@@ -188,7 +188,7 @@ impl Window {
         self.vs != self.va
     }
 
-    /// Handles T200 expiry.
+    /// Handles T200 expiry: returns whether the outstanding segment must be repeated and, if so, counts the repetition.
     pub fn on_timer(&mut self) -> Timer
         ensures answer { (e : EndpointState) → Represents self.old e → result ≡ t200_result e }
         ensures counted { (e : EndpointState) → Represents self.old e
@@ -233,13 +233,14 @@ impl Window {
 
     /// Returns the message that the last accepted segment completed, or no octets if it completed none.
     pub fn message(&self) -> &[u8]
-        ensures completed_message { (e : EndpointState) → Represents self.now e → result.now ≡ completed_message e.peer_segments }
+        ensures completed_message { (e : EndpointState) → Represents self.now e →
+            result.now ≡ completed_message e.accepted_segments }
         ensures most { length result.now ≤ max_message_octets }
     {
         self.joiner.message()
     }
 
-    // Returns the outstanding segment or, if none is outstanding, the next segment, in the first held message.
+    // Returns the outstanding segment or, if none is outstanding, the next segment to send; either belongs to the first held message.
     fn next(&self) -> Piece<'_>
         requires { 1 ≤ length self.now.held.items }
         ensures { let first = slice_index_or self.now.held.items 0 [] in

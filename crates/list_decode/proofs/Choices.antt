@@ -4,24 +4,15 @@ use Rattle.{
     proofs.{
       DeviatingWords.order-cases,
       Deviations.{FollowsFrom, follows-deviation, LosesAtLeast-in_class, is_deviation},
-      Rankings.Disjoint,
+      Rankings.{Disjoint, ranking-begins_with, deviations_after_place-place, DeviatesAt-earlier, DeviatesAt-unique, classes-parted, parts},
+      Rankings.{IsPartWithout, lex_before-fork, lex_behind-fork, RanksAfter-trans, without_position-free},
+      Spans.{between_from, between_to, is_between},
     },
-    proofs.Rankings.{
-      ranking-begins_with,
-      deviations_after_place-place,
-      DeviatesAt-earlier,
-      DeviatesAt-unique,
-      classes-parted,
-      parts,
-      IsPartWithout,
-      lex_before-fork,
-    },
-    proofs.{Rankings.{lex_behind-fork, RanksAfter-trans, without_position-free}, Spans.{between_from, between_to, is_between}},
     specs.{
       DeviatingWords.{is_in_range, FollowsSurvivors},
       Branches.{IsBranchOfReturnedWord, IsDeviation, IsMostLikelyDeviation, deviations_in_span, word_of_deviation},
-      Choices.{DecidesLexicographicOrder, DeviatesFromReturnedWord, HasMetrics, IsFirstRankedBranch, RanksNotBefore, deviating_word},
-      Choices.placeholder_branch,
+      Choices.{DecidesLexicographicOrder, DeviatesFromReturnedWord, AreMetricsOfBranches, IsFirstRankedBranch, IsNotOutrankedBy},
+      Choices.{deviating_word, placeholder_branch},
       Classes.{DeviatesAt, DeviationClass, IsInClass, PartitionsUnreturnedWords, deviations_after_place, deviations_anywhere},
       WordStorage.{DeviatesAtSamePosition, IsChainOfDeviations, IsDeviationTree, IsMadeByDeviation, placeholder_deviation, stored_words},
       WordStorage.with_deviating_words,
@@ -70,14 +61,14 @@ pub deviating_word-candidate : (pass : ViterbiPass) (us : List (List ℕ)) (x : 
 deviating_word-candidate pass us x is all deviation =
     deviation-candidate _ _ x is (all _ [] deviation.in_range) deviation.deviation
 
--- the word deviates at the position that the deviation states
+-- the word that the deviation x produces from u deviates from u at the position of x
 deviation_departs_at : (pass : ViterbiPass) (u : List ℕ) (x : Deviation) → IsCompletePass pass →
     IsCandidate (soft_bits_of_pass pass) u → IsDeviation pass u x → DeviatesAt u (word_of_deviation pass u x) x.departure.place
 deviation_departs_at pass u x is candidate deviation =
     (is_deviation _ u _ _ _ 0 _ is.decisions (omega arith)
     (HasTailBits-from_tail u candidate.information.bits candidate.information.tail) deviation.follows (omega arith) (omega arith)).deviates
 
--- ---- one step of the loop: the most likely word of one more branch
+-- ---- each step of the loop compares the best word so far with the most likely word of the next branch
 
 slice_get-last : (bs : List WordBranch) (b : WordBranch) (k : ℕ) → k ≡ length bs → slice_get (bs ++ b ∷ []) k ≡ Some b
 slice_get-last [] b zero at = refl
@@ -103,9 +94,9 @@ branch_deviation pass us branch x is at =
 
 module _ (pass : ViterbiPass) (us : List (List ℕ)) (branches : List WordBranch) (branch : WordBranch) where
   abbrev AtMost : Deviation → WordBranch → Type 0
-  AtMost x b = RanksNotBefore pass us x b.best
+  AtMost x b = IsNotOutrankedBy pass us x b.best
 
-  -- a branch without a word changes nothing
+  -- if the next branch has no word, the first-ranked branch stays the same
   pub first_ranked-empty : (first : Option BranchChoice) → IsFirstRankedBranch pass us branches first → branch.best ≡ None →
       IsFirstRankedBranch pass us (branches ++ branch ∷ []) first
   first_ranked-empty None all none = All-push (λ b. b.best ≡ None) branches branch all none
@@ -114,8 +105,9 @@ module _ (pass : ViterbiPass) (us : List (List ℕ)) (branches : List WordBranch
     All-push (AtMost choice.deviation) branches branch old.1 (rw none tt),
   )
 
-  -- the most likely word of the branch ranks before all words found so far
-  pub first_ranked-new : (old new : BranchChoice) → IsFirstRankedBranch pass us branches (Some old) → branch.best ≡ Some new.deviation →
+  -- if the most likely word of the next branch ranks before the best word so far, this branch becomes the first-ranked branch
+  pub first_ranked-new : (old new : BranchChoice) → IsFirstRankedBranch pass us branches (Some old) →
+      branch.best ≡ Some new.deviation →
       new.branch ≡ length branches →
       RanksAfter (soft_bits_of_pass pass) (deviating_word pass us old.deviation) (deviating_word pass us new.deviation) →
       IsFirstRankedBranch pass us (branches ++ branch ∷ []) (Some new)
@@ -123,7 +115,7 @@ module _ (pass : ViterbiPass) (us : List (List ℕ)) (branches : List WordBranch
     (branch, slice_get-last branches branch new.branch at, best),
     All-push (AtMost new.deviation) branches branch (λ k d lt. over _ (first.1 k d lt)) (rw best (inl refl)),
   ) where
-    over : (best : Option Deviation) → RanksNotBefore pass us old.deviation best → RanksNotBefore pass us new.deviation best
+    over : (best : Option Deviation) → IsNotOutrankedBy pass us old.deviation best → IsNotOutrankedBy pass us new.deviation best
     over None most = tt
     over (Some y) most = elim most [
       | inl same ↦ inr (rw same before)
@@ -132,8 +124,9 @@ module _ (pass : ViterbiPass) (us : List (List ℕ)) (branches : List WordBranch
           (deviating_word pass us new.deviation) deviations_after_place before)
     ]
 
-  -- the most likely word of the branch does not rank before the first word so far
-  pub first_ranked-old : (old new : BranchChoice) → IsFirstRankedBranch pass us branches (Some old) → branch.best ≡ Some new.deviation →
+  -- if the most likely word of the next branch does not rank before the best word so far, the first-ranked branch stays the same
+  pub first_ranked-old : (old new : BranchChoice) → IsFirstRankedBranch pass us branches (Some old) →
+      branch.best ≡ Some new.deviation →
       (deviating_word pass us new.deviation ≡ deviating_word pass us old.deviation)
       ⊎ RanksAfter (soft_bits_of_pass pass) (deviating_word pass us new.deviation) (deviating_word pass us old.deviation) →
       IsFirstRankedBranch pass us (branches ++ branch ∷ []) (Some old)
@@ -142,7 +135,7 @@ module _ (pass : ViterbiPass) (us : List (List ℕ)) (branches : List WordBranch
     All-push (AtMost old.deviation) branches branch first.1 (rw best deviations_after_place),
   )
 
-  -- a branch is passed over because its path metric is below that of the first word so far
+  -- if the path metric of the next branch is below that of the best word so far, the first-ranked branch stays the same
   pub first_ranked-lower : (first : Option BranchChoice) (metric least : ℤ) → IsFirstRankedBranch pass us branches first →
       IfSome first (λ choice. DeviatesFromReturnedWord pass us choice.deviation) →
       IfSome first (λ choice. least ≤ℤ choice.deviation.likelihood) → (first ≡ None → least ≤ℤ metric) →
@@ -163,9 +156,9 @@ pub w32-lowest : (x : ℤ) → FitsSigned w32 x → negsuc 2147483647 ≤ℤ x
 w32-lowest (pos n) fits = omega (arith, ints)
 w32-lowest (negsuc n) fits = let s = fits.sfits in omega (arith, ints)
 
--- ---- the most likely word of a branch
+-- ---- lemmas about the most likely word of a branch
 
--- an element has every property that all elements have
+-- an element of a list has every property that all elements of the list have
 pub All-slice_get : {X : Type 0} (P : X → Type 0) (xs : List X) (x : X) (k : ℕ) → All P xs → slice_get xs k ≡ Some x → P x
 All-slice_get P xs x k all at = subst P (get_or_from_slice_get xs k x x at) (all k x (slice_get_within xs k x at))
 
@@ -176,32 +169,32 @@ first_ranked-deviation pass us branches None all first = tt
 first_ranked-deviation pass us branches (Some choice) all first =
     branch_deviation _ us first.0.0 _ (All-slice_get (IsBranchOfReturnedWord _ us) _ first.0.0 choice.branch all first.0.1) first.0.2
 
--- ---- the path metrics of the branches
+-- ---- lemmas about the list of the branches' path metrics
 
 pub likelihood-stored : (branch : WordBranch) (metric : ℤ) → FitsSigned w32 metric →
     IfSome branch.best (λ best. metric ≡ best.likelihood) →
     IfSome branch.best (λ best. to_z w32 (of_z w32 metric) ≡ best.likelihood)
 likelihood-stored branch metric fits is = rw (to_z-of_z w32 metric fits) is
 
-pub HasMetrics-set : (branches : List WordBranch) (metrics : List ℤ) (i : ℕ) (branch : WordBranch) (metric : ℤ) →
-    i < length branches → i < length metrics → HasMetrics branches metrics →
+pub AreMetricsOfBranches-set : (branches : List WordBranch) (metrics : List ℤ) (i : ℕ) (branch : WordBranch) (metric : ℤ) →
+    i < length branches → i < length metrics → AreMetricsOfBranches branches metrics →
     IfSome branch.best (λ best. metric ≡ best.likelihood) →
-    HasMetrics (set branches i branch) (set metrics i metric)
-HasMetrics-set branches metrics i branch metric in_branches in_metrics old new k lt = elim (same_number k i) [
+    AreMetricsOfBranches (set branches i branch) (set metrics i metric)
+AreMetricsOfBranches-set branches metrics i branch metric in_branches in_metrics old new k lt = elim (same_number k i) [
   | inl here ↦ rw (get_or-set_at branches i k branch placeholder_branch here in_branches)
       (rw (get_or-set_at metrics i k metric (pos 0) here in_metrics) new)
   | inr other ↦ rw (get_or-set_other branches i k branch placeholder_branch other)
       (rw (get_or-set_other metrics i k metric (pos 0) other) (old k (omega (arith, length-set branches i branch))))
 ]
 
-pub HasMetrics-take : (branches : List WordBranch) (metrics : List ℤ) (n : ℕ) → HasMetrics branches metrics →
-    HasMetrics (take n branches) (take n metrics)
-HasMetrics-take branches metrics n old k lt =
+pub AreMetricsOfBranches-take : (branches : List WordBranch) (metrics : List ℤ) (n : ℕ) → AreMetricsOfBranches branches metrics →
+    AreMetricsOfBranches (take n branches) (take n metrics)
+AreMetricsOfBranches-take branches metrics n old k lt =
     let within : k < n = omega (arith, length-take n branches) in
     rw (get_or-take n branches k placeholder_branch within) (rw (get_or-take n metrics k (pos 0) within)
     (old k (omega (arith, length-take n branches))))
 
--- a default value for an index out of range
+-- the default branch, used when an index is out of range
 abbrev pub blank : WordBranch
 blank = record { span = record { likelihood = pos 0; word_index = 0; from = 0; to = 0; state = 0 }; best = None }
 
@@ -211,7 +204,7 @@ None-if_not_some (Some x) none = absurd (none x refl)
 
 -- ## Trees: How returned words are stored: each word but the first is a deviation from an earlier word.
 
--- ---- the list of the returned words
+-- ---- lemmas about the list of the returned words
 
 length-with_deviating_words : (pass : ViterbiPass) (us : List (List ℕ)) (xs : List Deviation) →
     length (with_deviating_words pass us xs) ≡ length us + length xs
@@ -236,7 +229,7 @@ with_deviating_words-first pass us (x ∷ xs) some =
     ))
     ∙ get_or_append_left us (deviating_word pass us x ∷ []) [] 0 some
 
--- the stored words and one more, which deviates from one of them
+-- the stored words after one more word is stored, which deviates from one of them
 abbrev pub one_more_word : StoredWords → Deviation → StoredWords
 one_more_word lists x =
     record { first_word = lists.first_word; deviations = set lists.deviations (lists.count - 1) x; count = lists.count + 1 }
@@ -266,7 +259,7 @@ module _ (pass : ViterbiPass) (lists : StoredWords) (many : length lists.deviati
       )
       (with_deviating_words-push pass first (take (lists.count - 1) lists.deviations) x)
 
--- ---- one more word is stored as a deviation
+-- ---- lemmas about storing one more word as a deviation
 
 IsMadeByDeviation-push : (pass : ViterbiPass) (us : List (List ℕ)) (w : List ℕ) (i : ℕ) (x : Deviation) → i < length us →
     IsMadeByDeviation pass us i x → IsMadeByDeviation pass (us ++ w ∷ []) i x
@@ -308,7 +301,7 @@ IsDeviationTree-more pass lists x many tree some few is = record {
         (IsMadeByDeviation-new pass us (k + 1) x (let n = length-words pass lists many tree.at_most in omega arith) is)
   ]
 
--- ---- the lexicographic order of two words that deviate from a common word
+-- ---- lemmas about the lexicographic order of two words that deviate from a common word
 
 module _ (pass : ViterbiPass) (us : List (List ℕ)) (w : List ℕ) (x up : Deviation) (is : IsCompletePass pass) (all : All (IsCandidate
     (soft_bits_of_pass pass)) us) (returned : IsMadeByDeviation pass us x.word_index up) (before : up.departure.place < x.departure.place)
@@ -361,7 +354,8 @@ module _ (pass : ViterbiPass) (us : List (List ℕ)) (v w : List ℕ) (x y : Dev
       order-cases v w _
       (λ on. lex_before-fork here v w _ _ fx.deviates left_y early is_v.information.bits (equal_lengths v is_v) (equal_lengths w is_w)
       (grind arith))
-      (λ off. inr (lex_behind-fork here v w _ _ fx.deviates left_y early is_v.information.bits (equal_lengths v is_v) (equal_lengths w is_w)
+      (λ off. inr (lex_behind-fork here v w _ _ fx.deviates left_y early is_v.information.bits (equal_lengths v is_v)
+      (equal_lengths w is_w)
       (grind arith)))
 
   pub order-later : y.departure.place < x.departure.place → DecidesLexicographicOrder v w (nat_eq y.departure.bit 0)
@@ -371,10 +365,11 @@ module _ (pass : ViterbiPass) (us : List (List ℕ)) (v w : List ℕ) (x y : Dev
       order-cases v w _
       (λ on. lex_behind-fork here w v _ _ left_y fx.deviates early is_w.information.bits (equal_lengths w is_w) (equal_lengths v is_v)
       (grind arith))
-      (λ off. inr (lex_before-fork here w v _ _ left_y fx.deviates early is_w.information.bits (equal_lengths w is_w) (equal_lengths v is_v)
+      (λ off. inr (lex_before-fork here w v _ _ left_y fx.deviates early is_w.information.bits (equal_lengths w is_w)
+      (equal_lengths v is_v)
       (grind arith)))
 
--- ---- writing out a word along its chain of deviations
+-- ---- lemmas about writing out a word along its chain of deviations
 
 drop-at : (xs : List ℕ) (k : ℕ) → k < length xs → drop k xs ≡ get_or xs k 0 ∷ drop (k + 1) xs
 drop-at xs k within = rw (add-one, drop-cons xs k 0)
@@ -394,12 +389,12 @@ pub chain-more : (lists : StoredWords) (xs : List ℕ) (start at i : ℕ) → st
 chain-more lists xs start at i within some small leads =
     rw drop-set (some, small, refl, leads)
 
--- u is the word that has been reached along the chain, and cs is the rest of the chain
+-- u is a word on the chain of deviations that leads to word number i, and cs is the rest of the chain
 abbrev pub IsOnChain : ViterbiPass → StoredWords → List ℕ → ℕ → List ℕ → Type 0
 IsOnChain pass lists cs i u = (at : ℕ) × (u ≡ get_or (stored_words pass lists) at []) × (at < lists.count) ×
     IsChainOfDeviations lists cs at i
 
--- the next word of the chain
+-- the chain of deviations continues from the word u with word number c, which deviates from u
 pub record HasNextDeviation (pass : ViterbiPass) (lists : StoredWords) (cs : List ℕ) (i c : ℕ) (u : List ℕ) : Type 0 where
   pub positive : 0 < c
   pub in_range : c < lists.count
@@ -408,7 +403,8 @@ pub record HasNextDeviation (pass : ViterbiPass) (lists : StoredWords) (cs : Lis
   pub next : (v : List ℕ) → v ≡ word_of_deviation pass u (get_or lists.deviations (c - 1) placeholder_deviation)
       → IsOnChain pass lists cs i v
 
-pub chain-next : (pass : ViterbiPass) (lists : StoredWords) (xs : List ℕ) (k i : ℕ) (u : List ℕ) → length lists.deviations ≡ 63 →
+pub chain-next : (pass : ViterbiPass) (lists : StoredWords) (xs : List ℕ) (k i : ℕ) (u : List ℕ) →
+    length lists.deviations ≡ 63 →
     IsDeviationTree pass lists →
     All (IsCandidate (soft_bits_of_pass pass)) (stored_words pass lists) → k < length xs → IsOnChain pass lists (drop k xs) i u →
     HasNextDeviation pass lists (drop (k + 1) xs) i (get_or xs k 0) u
@@ -416,7 +412,8 @@ chain-next pass lists xs k i u many tree all within path =
     from path.0 path.1 path.2 (rw (drop-at xs k within) at path.3)
   where
     from : (at : ℕ) → u ≡ get_or (stored_words pass lists) at [] → at < lists.count →
-        IsChainOfDeviations lists (get_or xs k 0 ∷ drop (k + 1) xs) at i → HasNextDeviation pass lists (drop (k + 1) xs) i (get_or xs k 0) u
+        IsChainOfDeviations lists (get_or xs k 0 ∷ drop (k + 1) xs) at i →
+        HasNextDeviation pass lists (drop (k + 1) xs) i (get_or xs k 0) u
     from at is small leads =
         let c = get_or xs k 0 in
         let back : c - 1 + 1 ≡ c = let s = leads.0 in omega arith in
@@ -434,9 +431,10 @@ chain-next pass lists xs k i u many tree all within path =
 
 -- ## NextLists: The next word of a ranking is the most likely word of all branches.
 
--- a word other than x that deviates in a span ranks after x, if the most likely word of the span does not rank before x
+-- if the most likely word of a span does not rank before the word of the deviation x, every other word that deviates in the span ranks
+-- after the word of x
 pub below_best : (pass : ViterbiPass) (us : List (List ℕ)) (span : WordSpan) (x : Deviation) (w : List ℕ) (best : Option Deviation) →
-    IsMostLikelyDeviation pass (get_or us span.word_index []) span best → RanksNotBefore pass us x best →
+    IsMostLikelyDeviation pass (get_or us span.word_index []) span best → IsNotOutrankedBy pass us x best →
     IsCandidate (soft_bits_of_pass pass) w →
     IsInClass (deviations_in_span (get_or us span.word_index []) span) w → w ≢ deviating_word pass us x →
     RanksAfter (soft_bits_of_pass pass) w (deviating_word pass us x)
@@ -458,10 +456,10 @@ below_best pass us span x w (Some y) best most is at ne =
           ]
     ]
 
--- no candidate deviates in the last four positions
+-- no candidate deviates from another candidate in the last four positions, since tail bits are 0
 before_the_last : (pass : ViterbiPass) (c : DeviationClass) (from : ℕ) (w : List ℕ) → IsCompletePass pass →
     IsCandidate (soft_bits_of_pass pass) c.word →
-    FollowsSurvivors from c.word (decision_rows pass) 0 → ((k : ℕ) → c.can_deviate k ≡ true → from ≤ k) →
+    FollowsSurvivors from c.word (decision_rows pass) 0 → ((k : ℕ) → c.may_deviate_at k ≡ true → from ≤ k) →
     IsCandidate (soft_bits_of_pass pass) w →
     (at : IsInClass c w) → at.place + 4 < pass.bits
 before_the_last pass c from w is candidate follows later is_w at =
@@ -480,7 +478,8 @@ before_the_last pass c from w is candidate follows later is_w at =
     omega arith
 
 -- the ranking begins with the most likely word, and all other words deviate from it before its last four positions
-pub ranking-begins : (pass : ViterbiPass) (u : List ℕ) (span : WordSpan) → IsCompletePass pass → IsMostLikely (soft_bits_of_pass pass) u →
+pub ranking-begins : (pass : ViterbiPass) (u : List ℕ) (span : WordSpan) → IsCompletePass pass →
+    IsMostLikely (soft_bits_of_pass pass) u →
     FollowsSurvivors 0 u (decision_rows pass) 0 → span.from ≡ 0 → span.to + 4 ≡ pass.bits →
     IsRanked (soft_bits_of_pass pass) (u ∷ []) ×
     PartitionsUnreturnedWords (soft_bits_of_pass pass) (u ∷ []) (deviations_in_span u span ∷ [])
@@ -531,7 +530,7 @@ module _ (pass : ViterbiPass) (us : List (List ℕ)) (u : List ℕ) (span : Word
         IsInClass (deviations_in_span t part) w
     in_span t part w k at f l = record { place = k; deviates = at; allowed = is_between part.from part.to k f l }
 
-    -- the words of the three parts deviate from u before the position of v, after it, or at it
+    -- the words of the three parts deviate from u before the position where v deviates, after it, or at it
     in_first : (w : List ℕ) → IsInClass a w → (k : ℕ) × DeviatesAt u w k × (span.from ≤ k) × (k < place)
     in_first w at =
         let f = between_from _ _ at.place at.allowed in
@@ -583,7 +582,7 @@ module _ (pass : ViterbiPass) (us : List (List ℕ)) (u : List ℕ) (span : Word
     behind_rest : Disjoint b r
     behind_rest w at at' = let g = in_rest w at' in let same = DeviatesAt-unique u w _ _ (in_behind w at) g.1 in omega arith
 
-    -- a candidate of the class other than v belongs to one of the parts
+    -- every candidate of the class other than v belongs to one of the three parts
     in_one : (w : List ℕ) → IsCandidate s w → IsInClass c w → w ≢ v
         → (p : DeviationClass) × Contains (a ∷ b ∷ r ∷ []) p × IsInClass p w
     in_one w is_w at ne = elim (parts s c v place candidate v_is left (is_between span.from span.to place from to) w is_w at ne) [

@@ -1,28 +1,18 @@
--- After a word is returned: its branches, and the invariant of `ListDecoder`.
+-- The branches of a `ListDecoder` after it returns a word, and the invariant of `ListDecoder`.
 use Rattle.{
   list_decode.{
-    proofs.Choices.{
-      ranking-begins,
-      below_best,
-      blank,
-      branch_deviation,
-      deviation-candidate,
-      ranking-goes_on,
-      length-words,
-      stored_words-push,
-      HasMetrics-set,
-      IsDeviationTree-more,
-    },
-    proofs.{DeviatingWords.survivor-best, Rankings.{ends_ranked, most_likely_is_ranked, IsRanked-not_repeated}},
+    proofs.Choices.{ranking-begins, below_best, blank, branch_deviation, deviation-candidate, ranking-goes_on, length-words},
+    proofs.{Choices.{stored_words-push, AreMetricsOfBranches-set, IsDeviationTree-more}, DeviatingWords.survivor-best},
+    proofs.Rankings.{ends_ranked, most_likely_is_ranked, IsRanked-not_repeated},
     specs.{
       Branches.{IsBranchOfReturnedWord, IsBranch, IsDeviation, IsMostLikelyDeviation, IsSpanOfWord, class_of_branch, deviations_in_span},
       Branches.word_of_deviation,
-      Choices.{HasMetrics, IsFirstRankedBranch, RanksNotBefore},
+      Choices.{AreMetricsOfBranches, IsFirstRankedBranch, IsNotOutrankedBy},
       Classes.{DeviationClass, IsInClass, PartitionsUnreturnedWords},
       WordStorage.{stored_words, with_deviating_words},
       Partitioning.{IsNextRankedWord, NoBranchHasUnreturnedWord, branches_after_word},
       Passes.{HasSoftBits, IsCompletePass, decision_rows, losses_of_pass, soft_bits_of_pass},
-      DecoderInvariant.{HasBranches, IsSoundRanking, ranking_of, returned_words},
+      DecoderInvariant.{HasPartitioningBranches, IsSoundListDecoder, ranking_of_decoder, returned_words},
       Ranking.{IsCandidate, IsRanked, IsRankingDone, Ranking},
       declared.{branch.{Deviation.Deviation, WordBranch.WordBranch, WordSpan.WordSpan}, choice.BranchChoice.BranchChoice},
       declared.{lists.StoredWords.StoredWords, partitioning.NextWord.NextWord, pass.ViterbiPass.ViterbiPass},
@@ -52,7 +42,7 @@ use Rattle.{
 
 -- ## Chosen: The branch whose most likely word is the next word, and the branches after this word is returned.
 
--- ---- the chosen branch
+-- ---- lemmas about the branch whose most likely word is the next word
 
 -- u is a candidate, `span` is a span of u, and x gives the most likely word that deviates from u in this span
 pub record IsDeviationInSpan (pass : ViterbiPass) (u : List ℕ) (span : WordSpan) (x : Deviation) : Type 0 where
@@ -88,7 +78,7 @@ module _ (pass : ViterbiPass) (us : List (List ℕ)) (branches : List WordBranch
     to = best_chosen.3;
   }
 
--- ---- the branches after one more word is returned
+-- ---- lemmas about the branches after one more word is returned
 
 get_or-push : (us : List (List ℕ)) (u : List ℕ) (i : ℕ) → i < length us → get_or us i [] ≡ get_or (us ++ u ∷ []) i []
 get_or-push us u i lt = sym (get_or_append_left us _ [] i lt)
@@ -107,7 +97,7 @@ classes-push pass us u (b ∷ bs) all =
     ap₂ (λ c cs. c ∷ cs) (ap (λ chosen_word. deviations_in_span chosen_word b.span) (get_or-push us u _ (all 0 b
     (omega arith)).in_range)) (classes-push pass us u bs (All-tail (IsBranchOfReturnedWord pass us) b bs all))
 
--- each of the classes is the class of one of the branches
+-- every class in the list of the branches' classes is the class of one of the branches
 Contains-class : (us : List (List ℕ)) (bs : List WordBranch) (P : WordBranch → Type 0) (e : DeviationClass) → All P bs →
     Contains (map (class_of_branch us) bs) e → (b : WordBranch) × P b × (class_of_branch us b ≡ e)
 Contains-class us [] P e all found = absurd (omega arith)
@@ -157,7 +147,7 @@ module _ (pass : ViterbiPass) (us : List (List ℕ)) (branches : List WordBranch
       IsCandidate (soft_bits_of_pass pass) w → IsInClass e w → w ≢ chosen_word → RanksAfter (soft_bits_of_pass pass) w chosen_word
   best e w member is_w in_class ne =
       let here = ap (λ k. word_of_deviation pass (get_or us k []) choice.deviation) (best_chosen _ us _ _ lists all first).1 in
-      let found = Contains-class us branches (λ b. IsBranchOfReturnedWord pass us b × RanksNotBefore pass us choice.deviation b.best) e
+      let found = Contains-class us branches (λ b. IsBranchOfReturnedWord pass us b × IsNotOutrankedBy pass us choice.deviation b.best) e
       (λ k d lt. (all k d lt, first.1 k d lt)) member in
       rw (← here)
       (below_best pass us found.0.span choice.deviation w found.0.best found.1.0.is_branch.best found.1.1 is_w
@@ -191,7 +181,7 @@ module _ (pass : ViterbiPass) (us : List (List ℕ)) (branches : List WordBranch
     abbrev f : WordBranch → DeviationClass
     f = class_of_branch (us ++ chosen_word ∷ [])
 
-    -- the words that were returned before the new word v are unchanged
+    -- the word u, returned before the new word, keeps its number
     same_u : (k : ℕ) → k ≡ b.span.word_index → get_or us' k [] ≡ u
     same_u k same = ap (λ k. get_or us' k []) same ∙ sym (get_or-push us chosen_word b.span.word_index u_within)
 
@@ -258,7 +248,7 @@ module _ (pass : ViterbiPass) (us : List (List ℕ)) (branches : List WordBranch
 
 -- The invariant of `ListDecoder` holds after one more word is returned.
 
--- ---- after the first word is returned
+-- ---- lemmas about the invariant after the first word is returned
 
 most_likely-traceback : (pass : ViterbiPass) (u : List ℕ) → IsCompletePass pass → IsMostLikely (soft_bits_of_pass pass) u →
     u ≡ traceback (decision_rows pass) 0
@@ -280,7 +270,7 @@ IsSpanOfWord-first pass u span is best value from to state =
       follows = rw from (most_likely-traceback pass u is best);
       value = value;
       order = omega arith;
-      before_tail = omega arith;
+      span_ends_before_tail = omega arith;
       state_in_range = omega arith;
       state = rw from state;
     }
@@ -299,9 +289,10 @@ module _ (pass : ViterbiPass) (lists : StoredWords) (one : lists.count ≡ 1) (b
   one_branch : take (2 * lists.count - 1) (set branches 0 b) ≡ b ∷ []
   one_branch = take-set_at _ 0 (2 * lists.count - 1) b (omega arith) (omega arith)
 
-  pub HasBranches-first : IsBranch pass first b → b.span.word_index ≡ 0 → b.span.from ≡ 0 → b.span.to + 4 ≡ pass.bits →
-      HasMetrics (set branches 0 b) metrics → HasBranches pass lists (set branches 0 b) metrics
-  HasBranches-first is_b list from to has =
+  pub HasPartitioningBranches-first : IsBranch pass first b → b.span.word_index ≡ 0 → b.span.from ≡ 0 →
+      b.span.to + 4 ≡ pass.bits →
+      AreMetricsOfBranches (set branches 0 b) metrics → HasPartitioningBranches pass lists (set branches 0 b) metrics
+  HasPartitioningBranches-first is_b list from to has =
       let begun = ranking-begins pass first b.span is_pass best (most_likely-traceback pass first is_pass best) from to in
       let read : get_or (first ∷ []) b.span.word_index [] ≡ first = ap (λ k. get_or (first ∷ []) k []) list in
       record {
@@ -322,7 +313,7 @@ module _ (pass : ViterbiPass) (lists : StoredWords) (one : lists.count ≡ 1) (b
             (sym read) begun.1));
       }
 
--- the ranking of a pass and its stored words
+-- the ranking that consists of the soft bits of a pass and the stored words
 abbrev pub ranking : ViterbiPass → StoredWords → Ranking
 ranking pass lists = record { soft = soft_bits_of_pass pass; returned = stored_words pass lists }
 
@@ -343,7 +334,8 @@ IsMostLikely-first_word old new lists one soft bits ranked =
     (subst (λ s. IsMostLikely s (take old.bits lists.first_word)) (sym (soft_bits-same old new soft bits))
     ((most_likely_is_ranked _ _).1 (subst (IsRanked (soft_bits_of_pass old)) (stored_words-one old lists one) ranked)))
 
-pub likelihood-first_word : (old new : ViterbiPass) (first : List ℕ) (metric : ℤ) → new.soft ≡ old.soft → new.bits ≡ old.bits →
+pub likelihood-first_word : (old new : ViterbiPass) (first : List ℕ) (metric : ℤ) → new.soft ≡ old.soft →
+    new.bits ≡ old.bits →
     metric ≡ likelihood (soft_bits_of_pass old) (encoding (take old.bits first)) →
     metric ≡ likelihood (soft_bits_of_pass new) (encoding (take new.bits first))
 likelihood-first_word old new first metric soft bits value =
@@ -351,8 +343,8 @@ likelihood-first_word old new first metric soft bits value =
 
 pub sound_first : (pass : ViterbiPass) (row u : List ℕ) (deviations : List Deviation) (branches : List WordBranch) (metrics : List ℤ)
     (metric : ℤ) → HasSoftBits pass → take pass.bits row ≡ u → IsMostLikely (soft_bits_of_pass pass) u →
-    metric ≡ likelihood (soft_bits_of_pass pass) (encoding u) → HasMetrics branches metrics →
-    IsSoundRanking (record {
+    metric ≡ likelihood (soft_bits_of_pass pass) (encoding u) → AreMetricsOfBranches branches metrics →
+    IsSoundListDecoder (record {
       pass = pass;
       lists = record { first_word = row; deviations = deviations; count = 1 };
       branches = branches;
@@ -368,11 +360,11 @@ sound_first pass row u deviations branches metrics metric has reads best value h
   later = λ more. absurd (omega arith);
 }
 
--- the invariant after the branches are prepared
-pub sound_prepared : (r : Inside) (pass : ViterbiPass) (branches : List WordBranch) (metrics : List ℤ) → IsSoundRanking r →
+-- the invariant of `ListDecoder` still holds after the backward pass has run and the branches are prepared
+pub sound_prepared : (r : Inside) (pass : ViterbiPass) (branches : List WordBranch) (metrics : List ℤ) → IsSoundListDecoder r →
     pass.soft ≡ r.pass.soft → pass.bits ≡ r.pass.bits → stored_words pass r.lists ≡ stored_words r.pass r.lists →
-    HasBranches pass r.lists branches metrics →
-    IsSoundRanking (record {
+    HasPartitioningBranches pass r.lists branches metrics →
+    IsSoundListDecoder (record {
       pass = pass;
       lists = r.lists;
       branches = branches;
@@ -394,9 +386,10 @@ sound_prepared r pass branches metrics sound soft bits words has = record {
   later = λ more. has;
 }
 
--- ---- after each next word is returned
+-- ---- lemmas about the invariant after each word that follows the first
 
-module _ (pass : ViterbiPass) (lists : StoredWords) (branches : List WordBranch) (metrics : List ℤ) (has : HasBranches pass lists
+module _ (pass : ViterbiPass) (lists : StoredWords) (branches : List WordBranch) (metrics : List ℤ)
+    (has : HasPartitioningBranches pass lists
     branches metrics) (some : 0 < lists.count) (few : lists.count < 64) (many : length lists.deviations ≡ 63)
     (room : length branches ≡ 127) (u : List ℕ) (next : NextWord)
     (is : IsNextRankedWord pass (stored_words pass lists) (take (2 * lists.count - 1) branches) u next) where
@@ -436,11 +429,11 @@ module _ (pass : ViterbiPass) (lists : StoredWords) (branches : List WordBranch)
       IsRanked (soft_bits_of_pass pass) (stored_words pass lists')
   IsRanked-next ranked = subst (IsRanked (soft_bits_of_pass pass)) (sym stored_words-next) (is.ranking_continues ranked has.partition).0
 
-  pub HasBranches-next : IsRanked (soft_bits_of_pass pass) (stored_words pass lists) → (metrics' : List ℤ) →
-      HasMetrics (set
+  pub HasPartitioningBranches-next : IsRanked (soft_bits_of_pass pass) (stored_words pass lists) → (metrics' : List ℤ) →
+      AreMetricsOfBranches (set
       (set (set branches next.branch next.parts.branch_before) (2 * lists.count - 1) next.parts.branch_of_new_word)
-      (2 * lists.count - 1 + 1) next.parts.branch_after) metrics' → HasBranches pass lists' branches' metrics'
-  HasBranches-next ranked metrics' values = record {
+      (2 * lists.count - 1 + 1) next.parts.branch_after) metrics' → HasPartitioningBranches pass lists' branches' metrics'
+  HasPartitioningBranches-next ranked metrics' values = record {
     complete = has.complete;
     tree = IsDeviationTree-more pass lists next.deviation many has.tree some few is.deviation;
     values = values;
@@ -452,13 +445,15 @@ module _ (pass : ViterbiPass) (lists : StoredWords) (branches : List WordBranch)
         (stored_words pass lists ++ u ∷ [])) bs)) (sym next_branches) (is.ranking_continues ranked has.partition).1);
   }
 
--- the invariant after a next word is returned
-pub sound_next : (r : Inside) (sound : IsSoundRanking r) (has : HasBranches r.pass r.lists r.branches r.best_metrics) → 0 < r.lists.count →
+-- the invariant of `ListDecoder` still holds after the decoder returns the next word
+pub sound_next : (r : Inside) (sound : IsSoundListDecoder r) (has : HasPartitioningBranches r.pass r.lists r.branches r.best_metrics) →
+    0 < r.lists.count →
     r.lists.count < 64 → length r.lists.deviations ≡ 63 → length r.branches ≡ 127 → (u : List ℕ) (next : NextWord) →
     IsNextRankedWord r.pass (stored_words r.pass r.lists) (take (2 * r.lists.count - 1) r.branches) u next → (metrics : List ℤ) →
-    HasMetrics (set (set (set r.branches next.branch next.parts.branch_before) (2 * r.lists.count - 1) next.parts.branch_of_new_word)
+    AreMetricsOfBranches (set
+    (set (set r.branches next.branch next.parts.branch_before) (2 * r.lists.count - 1) next.parts.branch_of_new_word)
     (2 * r.lists.count - 1 + 1) next.parts.branch_after) metrics →
-    IsSoundRanking (record {
+    IsSoundListDecoder (record {
       pass = r.pass;
       lists = record {
         first_word = r.lists.first_word;
@@ -476,31 +471,34 @@ sound_next r sound has some few many room u next is metrics values = record {
   ranked = IsRanked-next r.pass r.lists r.branches r.best_metrics has some few many room u next is sound.ranked;
   first_metric = λ more. sound.first_metric some;
   best_metrics = values;
-  later = λ more. HasBranches-next r.pass r.lists r.branches r.best_metrics has some few many room u next is sound.ranked metrics values;
+  later = λ more.
+      HasPartitioningBranches-next r.pass r.lists r.branches r.best_metrics has some few many room u next is sound.ranked metrics values;
 }
 
--- the branches and their path metrics after a next word is returned
-pub HasMetrics-partition : (branches : List WordBranch) (metrics : List ℤ) (i n : ℕ) (before behind after : WordBranch) (a b c : ℤ) →
-    i < n → n + 1 < length branches → length metrics ≡ length branches → HasMetrics branches metrics →
+-- after the next word is returned, `metrics` still holds the path metric of each branch's most likely word
+pub AreMetricsOfBranches-partition : (branches : List WordBranch) (metrics : List ℤ) (i n : ℕ) (before behind after : WordBranch)
+    (a b c : ℤ) →
+    i < n → n + 1 < length branches → length metrics ≡ length branches → AreMetricsOfBranches branches metrics →
     IfSome before.best (λ best. a ≡ best.likelihood) → IfSome behind.best (λ best. b ≡ best.likelihood) →
     IfSome after.best (λ best. c ≡ best.likelihood) →
-    HasMetrics (set (set (set branches i before) n behind) (n + 1) after) (set (set (set metrics i a) n b) (n + 1) c)
-HasMetrics-partition branches metrics i n before behind after a b c within room same has is_a is_b is_c =
+    AreMetricsOfBranches (set (set (set branches i before) n behind) (n + 1) after) (set (set (set metrics i a) n b) (n + 1) c)
+AreMetricsOfBranches-partition branches metrics i n before behind after a b c within room same has is_a is_b is_c =
     let bs = set branches i before in
     let ms = set metrics i a in
     let long = length-set branches i before in
     let long' = length-set metrics i a in
     let more = length-set bs n behind in
     let more' = length-set ms n b in
-    HasMetrics-set (set bs n behind) (set ms n b) (n + 1) after c (omega arith) (omega arith)
-    (HasMetrics-set bs ms n behind b (omega arith) (omega arith)
-    (HasMetrics-set branches metrics i before a (omega arith) (omega arith) has is_a) is_b) is_c
+    AreMetricsOfBranches-set (set bs n behind) (set ms n b) (n + 1) after c (omega arith) (omega arith)
+    (AreMetricsOfBranches-set bs ms n behind b (omega arith) (omega arith)
+    (AreMetricsOfBranches-set branches metrics i before a (omega arith) (omega arith) has is_a) is_b) is_c
 
--- ---- when no word is left
+-- ---- lemmas about the case that no branch has a word left
 
--- if no branch has a word left, all words were returned
+-- if no branch has a word left, all candidates have been returned
 pub every_word_returned : (pass : ViterbiPass) (lists : StoredWords) (branches : List WordBranch) (metrics : List ℤ) →
-    HasBranches pass lists branches metrics → NoBranchHasUnreturnedWord (take (2 * lists.count - 1) branches) → (w : List ℕ) →
+    HasPartitioningBranches pass lists branches metrics → NoBranchHasUnreturnedWord (take (2 * lists.count - 1) branches) →
+    (w : List ℕ) →
     IsCandidate (soft_bits_of_pass pass) w → Contains (stored_words pass lists) w
 every_word_returned pass lists branches metrics has none w is_w =
     ends_ranked (soft_bits_of_pass pass) _ (map _ _) has.partition
@@ -514,18 +512,18 @@ every_word_returned pass lists branches metrics has none w is_w =
     w is_w
 
 IsCandidate-last : (s : List ℤ) (us : List (List ℕ)) (u : List ℕ) → IsRanked s (us ++ u ∷ []) → IsCandidate s u
-IsCandidate-last s us u ranked = All-contains (IsCandidate s) (us ++ u ∷ []) u ranked.all_candidates (Contains-push us u)
+IsCandidate-last s us u ranked = All-contains (IsCandidate s) (us ++ u ∷ []) u ranked.ranked_words_are_candidates (Contains-push us u)
 
--- if another word is returned, not all words were returned before
+-- a ranking of fewer than 64 words is not finished if another word can follow
 not_done : (old : Ranking) (u : List ℕ) → length old.returned < 64 → IsRanked old.soft (old.returned ++ u ∷ []) →
     IsRankingDone old → ⊥
 not_done old u few ranked (inl full) = omega arith
 not_done old u few ranked (inr all) =
     IsRanked-not_repeated old.soft old.returned u ranked (all u (IsCandidate-last old.soft old.returned u ranked))
 
--- ---- the fields of a `ListDecoder`, from the value that contracts see
+-- ---- the fields of a `ListDecoder` agree with the `Ranking` that represents it in contracts
 
-module _ (r : Inside) (view : Ranking) (is : ranking_of r ≡ view) where
+module _ (r : Inside) (view : Ranking) (is : ranking_of_decoder r ≡ view) where
   pub view-soft : soft_bits_of_pass r.pass ≡ view.soft
   view-soft = ap (λ (v : Ranking). v.soft) is
 
@@ -541,7 +539,7 @@ module _ (r : Inside) (view : Ranking) (is : ranking_of r ≡ view) where
 pub take-same_length : (bits : ℕ) (row u : List ℕ) → take (length u) row ≡ u → length u ≡ bits → take bits row ≡ u
 take-same_length bits row u reads same = rw (← same) reads
 
--- ---- the result of `next`
+-- ---- lemmas about the result of `next`
 
 pub not_done_at_first : (old new : Ranking) (u : List ℕ) → length old.returned ≡ 0 → new.soft ≡ old.soft →
     new.returned ≡ u ∷ [] → IsRanked new.soft new.returned → IsRankingDone old → ⊥
@@ -563,7 +561,8 @@ module _ (old new : Ranking) (u : List ℕ) (P Q : Type 0) (few : length old.ret
       × (value ≡ likelihood old.soft (encoding u))) →
       (result ≡ None → IsRankingDone old) × (IsRankingDone old → result ≡ None)
   IsRankingDone-none None none = ((λ e. none.2), (λ done. refl))
-  IsRankingDone-none (Some value) some = ((λ e. absurd (Some-not_none e)), (λ done. absurd (not_done old u few (last_ranked some.0) done)))
+  IsRankingDone-none (Some value) some =
+      ((λ e. absurd (Some-not_none e)), (λ done. absurd (not_done old u few (last_ranked some.0) done)))
 
   pub information : (result : Option ℤ) →
       MatchOption result (P × Q × IsRankingDone old) (λ value. (new.returned ≡ old.returned ++ u ∷ [])

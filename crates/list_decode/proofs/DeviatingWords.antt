@@ -1,4 +1,4 @@
--- Words that deviate from the best word of a state: where they do, and what they lose.
+-- Words that deviate from the best word of a state: the positions where they deviate, and how much path metric they lose.
 use Rattle.{
   list_decode.{
     specs.{
@@ -33,10 +33,11 @@ test [] (y ∷ v) = true
 test (x ∷ u) [] = false
 test (x ∷ u) (y ∷ v) = cond (eqb x y) (test u v) (ltb x y)
 
-pub test-slice_cmp : (u v : List ℕ) (r : Bool) → r ≡ is_some_and is_lt (slice_partial_cmp (λ x y. Some (nat_cmp x y)) u v) → r ≡ test u v
+pub test-slice_cmp : (u v : List ℕ) (r : Bool) → r ≡ is_some_and is_lt (slice_partial_cmp (λ x y. Some (nat_cmp x y)) u v) →
+    r ≡ test u v
 test-slice_cmp = same_from_slice_cmp_tested _ _ _ refl (λ _ _. refl) (λ _ _. refl) (λ x y xs ys o h. grind (arith))
 
--- the first difference decides the comparison
+-- the comparison of two words gives the order of their bits at the first position where the words differ
 test-deviates : (u v : List ℕ) (place : ℕ) → length v ≡ length u → DeviatesAt u v place →
     test u v ≡ ltb (get_or u place 0) (get_or v place 0)
 test-deviates (x ∷ u) (y ∷ v) zero same at = ap (λ t. cond t (test u v) (ltb x y)) (ne_eqb x y at.differs)
@@ -87,7 +88,8 @@ pub IsNoBetterPath-more : (state x : ℕ) (w u : List ℕ) (soft : List ℤ) →
 IsNoBetterPath-more state x w u soft four_rows h =
     rw (← take-append-drop 2 soft) (IsNoBetterPath-same _ x w u _ (drop 2 soft) (omega (arith, length-take 2 soft)) h)
 
-pub survivor-best : (rows : List ℕ) (losses : List (List ℤ)) (soft : List ℤ) → AreDecisions rows losses soft → 1 ≤ length rows →
+pub survivor-best : (rows : List ℕ) (losses : List (List ℤ)) (soft : List ℤ) → AreDecisions rows losses soft →
+    1 ≤ length rows →
     (s : ℕ) → s < 16 → IsSurvivor s (traceback rows s) soft (metric_from_state s (traceback rows s) soft)
 survivor-best [] losses soft kept some s lt = absurd (omega arith)
 survivor-best (row ∷ rows) [] soft kept some s lt = absurd kept
@@ -97,7 +99,7 @@ pub AllBits-traceback : (rows : List ℕ) (losses : List (List ℤ)) (soft : Lis
     1 ≤ length rows → AllBits (traceback rows 0)
 AllBits-traceback rows losses soft kept some = HasTailBits-bits _ (survivor-best _ losses soft kept some 0 (omega arith)).tail_bits
 
--- The position with the least loss, when one more position is examined.
+-- How the position with the least loss changes when one more position is examined.
 
 pub state_after-more : (u : List ℕ) (k state : ℕ) → k < length u →
     state_after_bits state (take (k + 1) u) ≡ next_trellis_state (state_after_bits state (take k u)) (get_or u k 0)
@@ -116,7 +118,7 @@ length-follows zero u rows state h = ap length h ∙ length-traceback _ _
 length-follows (suc from) (x ∷ u) (row ∷ rows) state h = ap suc (length-follows from u _ _ h)
 length-follows from u rows state h = absurd h
 
--- ---- words that follow the survivors
+-- ---- lemmas about words that follow the survivors
 
 pub follows_all : (n : ℕ) (rows : List ℕ) (state : ℕ) → n ≤ length rows → FollowsSurvivors n (traceback rows state) rows state
 follows_all zero rows state within = refl
@@ -132,14 +134,14 @@ follows_later (suc from) (suc n) (x ∷ u) (row ∷ rows) state follows le withi
     follows_later from n u _ _ follows (omega arith) (omega arith)
 follows_later from n u rows state follows le within = absurd (omega arith)
 
--- if a word follows the survivors from position n on, it is from there on what traceback reads from the state reached at n
+-- if a word follows the survivors from position n on, its bits from n on are those that traceback reads from the state reached at n
 pub follows-drop : (n : ℕ) (u rows : List ℕ) (state : ℕ) → FollowsSurvivors n u rows state →
     drop n u ≡ traceback (drop n rows) (state_after_bits state (take n u))
 follows-drop zero u rows state follows = follows
 follows-drop (suc n) (x ∷ u) (row ∷ rows) state follows = follows-drop n u rows _ follows
 follows-drop n u rows state follows = absurd follows
 
--- from a position on, the survivor of a state is what traceback reads from the state reached at that position
+-- from a position on, the bits of the survivor of a state are those that traceback reads from the state reached at that position
 pub traceback-drop : (rows : List ℕ) (state place : ℕ) → place ≤ length rows →
     drop place (traceback rows state) ≡ traceback (drop place rows) (state_after_bits state (take place (traceback rows state)))
 traceback-drop rows state place within = follows-drop place (traceback rows state) rows state (follows_all place rows state within)
@@ -155,7 +157,7 @@ pub traceback-small : (rows : List ℕ) (state k : ℕ) → get_or (traceback ro
 traceback-small (row ∷ rows) state (suc k) = traceback-small rows _ k
 traceback-small rows state k = omega arith
 
--- after a position that follows the survivors, the word is what traceback reads from the next state
+-- if a word follows the survivors from a position on, its bits after this position are those that traceback reads from the next state
 pub follows_past : (u rows : List ℕ) (place state : ℕ) → FollowsSurvivors place u rows 0 → place < length rows →
     state ≡ state_after_bits 0 (take place u)
     → drop (place + 1) u ≡ traceback (drop (place + 1) rows) (next_trellis_state state (get_or u place 0))
@@ -221,7 +223,7 @@ pub loss_limit-not_below : (loss least : ℤ) (kept_bit : ℕ) → kept_bit ≤ 
 loss_limit-not_below loss least zero one h = inl (omega (arith, ints))
 loss_limit-not_below loss least (suc kept_bit) one h = by_lt_z least loss inl (λ not_less. inr (omega (arith, ints), (λ e. omega arith)))
 
--- ---- one step of the traceback: one more position is read out
+-- ---- lemmas about one step of the traceback, which reads the bit at one more position
 
 module _ (rows : List ℕ) (losses : List (List ℤ)) (u : List ℕ) (k : ℕ) (old : PartialTraceback)
     (reading : IsPartialTraceback rows losses u k old) (inside : k + 4 < length rows) where
@@ -252,10 +254,14 @@ module _ (rows : List ℕ) (losses : List (List ℤ)) (u : List ℕ) (k : ℕ) (
       let small = traceback-small rows 0 old.best.place in
       let better = loss_limit-below _ _ _ small (omega (arith, ints)) in
       record {
-        at_most_k = omega arith;
+        place_at_most_limit = omega arith;
         in_range = omega arith;
         state = rw place (state ∙ reading.state);
-        least = rw (place, loss, is) (IsLeastLossPosition-new chosen losses k old.best.place old.best.loss best.at_most_k best.least
+        least = rw (
+          place,
+          loss,
+          is,
+        ) (IsLeastLossPosition-new chosen losses k old.best.place old.best.loss best.place_at_most_limit best.least
             better);
         loss_limit = rw (place, loss, ← bit_is) loss_limit;
       }
@@ -268,7 +274,7 @@ module _ (rows : List ℕ) (losses : List (List ℤ)) (u : List ℕ) (k : ℕ) (
       let small = traceback-small rows 0 old.best.place in
       let worse = loss_limit-not_below _ _ _ small (omega (arith, ints)) in
       record {
-        at_most_k = let f = best.at_most_k in omega arith;
+        place_at_most_limit = let f = best.place_at_most_limit in omega arith;
         in_range = best.in_range;
         state = best.state;
         least = IsLeastLossPosition-old chosen losses k old.best.place old.best.loss small best.least worse;

@@ -1,4 +1,5 @@
--- The most likely word that deviates from a returned word at a free position, where the returned word follows the survivors.
+-- The most likely word of a class: it deviates from a returned word at a position that the class allows, where the returned word follows
+-- the survivors.
 use Rattle.{
   std.proofs.Common.{◌≡◌, ◌≢◌, ◌⊎◌, ℕ, zero, suc, ◌+◌, ◌-◌, ◌*◌, ◌/◌, ◌%◌, ◌^◌, ◌<◌},
   std.proofs.Common.{◌≤◌, true, inl, inr, ℤ, ◌-ℤ◌, List, ◌∷◌, ◌++◌, length, get_or, take, drop, refl, ap, sym},
@@ -24,9 +25,10 @@ use Rattle.{
   },
 }
 
--- ---- the word that deviates from another
+-- ---- lemmas about a word that deviates from another
 
--- one step next, the rest of the word follows the survivors
+-- if a word follows the survivors from a position on, the word without its first bit does so from one position earlier on, starting in the
+-- next state
 follows_next : (from x : ℕ) (u : List ℕ) (row : ℕ) (rows : List ℕ) (state : ℕ)
     → FollowsSurvivors from (x ∷ u) (row ∷ rows) state →
     FollowsSurvivors (from - 1) u rows (next_trellis_state state x)
@@ -50,7 +52,7 @@ pub is_deviation : (from : ℕ) (u rows : List ℕ) (losses : List (List ℤ)) (
 is_deviation zero (x ∷ u) (row ∷ rows) (lost ∷ losses) soft state zero kept lt ends follows le within =
     let bit = row / 2 ^ state % 2 in
     let best = survivor-best rows losses (drop 2 soft) kept.2 (omega arith) (next_trellis_state state (1 - bit)) (omega arith) in
-    let loss = kept.1.each_loss state lt (omega arith) in
+    let loss = kept.1.loss_of_each_state state lt (omega arith) in
     rw follows (record {
       has_metric = omega (arith, ints);
       tail_bits = (omega arith, (λ short. absurd (omega (arith, length-traceback))), best.tail_bits);
@@ -72,7 +74,8 @@ is_deviation from (x ∷ u) (row ∷ rows) (lost ∷ losses) soft state (suc pla
 is_deviation from u rows losses soft state place kept lt ends follows le within =
     absurd (let n = length-follows from u rows state follows in omega arith)
 
--- a word that deviates from u where u follows the survivors loses at least the loss stored there
+-- against u, the word w loses more path metric than the loss stored at `place`, or it loses the same and does not come before the best
+-- deviating word in lexicographic order
 pub record LosesAtLeast (u rows : List ℕ) (losses : List (List ℤ)) (soft : List ℤ) (state place : ℕ) (w : List ℕ) : Type 0 where
   pub in_range : place + 4 < length rows
   pub short : (metric_from_state state w soft <ℤ (metric_from_state state u soft -ℤ deviation_loss state u losses place)) ⊎
@@ -94,9 +97,9 @@ loses_at_least zero (x ∷ u) (row ∷ rows) (lost ∷ losses) soft state zero (
     ] in
     let flipped : y ≡ 1 - bit = omega arith in
     let best = survivor-best rows losses (drop 2 soft) kept.2 (omega arith) (next_trellis_state state (1 - bit)) (omega arith) in
-    let loss = kept.1.each_loss state lt four in
+    let loss = kept.1.loss_of_each_state state lt four in
     let worse = IsNoBetterPath-more state (1 - bit) w _ soft kept.0
-    (best.beats_others w wends.2 (let m = length-traceback rows (next_trellis_state state (1 - bit)) in omega arith)) in
+    (best.no_other_path_is_better w wends.2 (let m = length-traceback rows (next_trellis_state state (1 - bit)) in omega arith)) in
     rw (flipped, follows) (record {
       in_range = omega arith;
       short = elim worse [
@@ -125,7 +128,7 @@ loses_at_least from (x ∷ u) (row ∷ rows) (lost ∷ losses) soft state (suc p
 loses_at_least from u rows losses soft state place w kept lt ends wends same follows le at =
     absurd (let n = length-follows from u rows state follows in let i = at.in_range in omega arith)
 
--- a word follows the survivors after the position of its deviation
+-- the word that deviates from u at position `place` follows the survivors after this position
 pub follows-deviation : (u rows : List ℕ) (state place : ℕ) → length u ≡ length rows → place < length rows →
     FollowsSurvivors (place + 1) (word_deviating_at u rows state place) rows state
 follows-deviation (x ∷ u) (row ∷ rows) state zero same within = refl
@@ -134,7 +137,7 @@ follows-deviation (x ∷ u) (row ∷ rows) state (suc place) same within =
     rw more (follows-deviation u _ _ _ (omega arith) (omega arith))
 follows-deviation u rows state place same within = absurd (omega arith)
 
--- the deviating word consists of the word up to the position, the other bit, and then the survivor from the next state
+-- the deviating word consists of the bits of u before the position, the other bit, and then the survivor from the next state
 pub deviation_written : (u rows : List ℕ) (state place : ℕ) → place < length u → length rows ≡ length u →
     take place u ++ (1 - get_or u place 0) ∷ traceback (drop (place + 1) rows)
     (next_trellis_state (state_after_bits state (take place u)) (1 - get_or u place 0)) ≡ word_deviating_at u rows state place
@@ -144,15 +147,16 @@ deviation_written (x ∷ u) (row ∷ rows) state (suc place) within same =
     rw more (ap (λ rest. x ∷ rest) (deviation_written u _ _ _ (omega arith) (omega arith)))
 deviation_written u rows state place within same = absurd (omega arith)
 
--- ---- the most likely word of a class
+-- ---- lemmas about the most likely word of a class
 
--- a class whose word is a candidate that follows the survivors from a position on, before which no position is free
+-- the word of the class is a candidate that follows the survivors from position `from` on, and the class allows no deviation before that
+-- position
 pub record FollowsFrom (soft : List ℤ) (rows : List ℕ) (losses : List (List ℤ)) (c : DeviationClass) (from : ℕ) : Type 0 where
   pub decisions : AreDecisions rows losses soft
   pub pairs : length soft ≡ 2 * length rows
   pub candidate : IsCandidate soft c.word
   pub follows : FollowsSurvivors from c.word rows 0
-  pub later : (k : ℕ) → c.can_deviate k ≡ true → from ≤ k
+  pub later : (k : ℕ) → c.may_deviate_at k ≡ true → from ≤ k
 
 module _ (soft : List ℤ) (rows : List ℕ) (losses : List (List ℤ)) (c : DeviationClass) (from : ℕ)
     (followed : FollowsFrom soft rows losses c from) where
@@ -162,14 +166,15 @@ module _ (soft : List ℤ) (rows : List ℕ) (losses : List (List ℤ)) (c : Dev
   same_length : length c.word ≡ length rows
   same_length = length-follows from _ _ 0 followed.follows
 
-  -- a word of the class deviates before the last four positions and loses at least the loss stored there
-  pub LosesAtLeast-in_class : (w : List ℕ) → IsCandidate soft w → (at : IsInClass c w) → LosesAtLeast c.word rows losses soft 0 at.place w
+  -- a candidate of the class deviates before the last four positions and loses at least the loss stored there
+  pub LosesAtLeast-in_class : (w : List ℕ) → IsCandidate soft w → (at : IsInClass c w) →
+      LosesAtLeast c.word rows losses soft 0 at.place w
   LosesAtLeast-in_class w candidate at =
       loses_at_least from _ _ _ _ 0 _ w followed.decisions (omega arith) list_ends
       (HasTailBits-from_tail w candidate.information.bits candidate.information.tail) (omega arith) followed.follows
       (followed.later _ at.allowed) at.deviates
 
-  module _ (place : ℕ) (least : IsLeastLossFreePosition c.word losses c.can_deviate (length c.word - 4) place) where
+  module _ (place : ℕ) (least : IsLeastLossFreePosition c.word losses c.may_deviate_at (length c.word - 4) place) where
     abbrev v : List ℕ
     v = word_deviating_at c.word rows 0 place
 
@@ -187,10 +192,10 @@ module _ (soft : List ℤ) (rows : List ℕ) (losses : List (List ℤ)) (c : Dev
         let g = here.has_metric in
         omega (arith, ints)
 
-    -- an equally likely word that deviates at another position comes later in lexicographic order
+    -- a word that deviates from the word of the class at another position but with the same loss comes after v in lexicographic order
     before_at : (w : List ℕ)
         (k : ℕ) → AllBits w → length w ≡ length c.word → k + 4 < length rows → DeviatesAt c.word w k
-        → c.can_deviate k ≡ true →
+        → c.may_deviate_at k ≡ true →
         deviation_loss 0 c.word losses k ≡ deviation_loss 0 c.word losses place → k ≢ place → IsLexicographicallyBefore v w
     before_at w k bits long_w within at free tie other =
         let n = here.count in
@@ -228,7 +233,7 @@ module _ (soft : List ℤ) (rows : List ℕ) (losses : List (List ℤ)) (c : Dev
               ))
         ]
 
--- ---- the two words that `margin` writes
+-- ---- lemmas about the two words that `margin` writes
 
 pub record AreFirstTwo (soft : List ℤ) (u v : List ℕ) (margin : ℤ) : Type 0 where
   pub best : IsMostLikely soft u

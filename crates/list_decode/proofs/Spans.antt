@@ -2,17 +2,8 @@
 use Rattle.{
   list_decode.{
     proofs.{
-      DeviatingWords.{
-        loss_limit-below,
-        traceback-small,
-        chosen_bit,
-        traceback-drop,
-        loss_limit-not_below,
-        state_after-more,
-        state_after-below,
-        follows_past,
-      },
-      DeviatingWords.{follows_later, follows-drop, zero_at},
+      DeviatingWords.{loss_limit-below, traceback-small, chosen_bit, traceback-drop, loss_limit-not_below, state_after-more},
+      DeviatingWords.{state_after-below, follows_past, follows_later, follows-drop, zero_at},
       Deviations.{FollowsFrom, deviation_best, deviation_value, deviation_written, follows-deviation},
     },
     specs.{
@@ -43,7 +34,7 @@ use Rattle.{
 
 -- ## Spans: A span of a word, and the most likely word that deviates in it.
 
--- ---- the positions of a span
+-- ---- lemmas about the positions of a span
 
 pub is_between : (from to k : ℕ) → from ≤ k → k < to → is_in_range from to k ≡ true
 is_between from to k h g = grind (arith)
@@ -95,7 +86,7 @@ likelihood-fits s c soft bits few = let within = likelihood-bounds s c soft bits
     fits_wide (pos m) n few low high = record { sfits = omega (arith, ints) }
     fits_wide (negsuc m) n few low high = record { sfits = omega (arith, ints) }
 
--- ---- the most likely word that deviates from u in a span
+-- ---- lemmas about the most likely word that deviates from u in a span
 
 module _ (pass : ViterbiPass) (u : List ℕ) (span : WordSpan) (is : IsCompletePass pass)
     (candidate : IsCandidate (soft_bits_of_pass pass) u)
@@ -118,7 +109,7 @@ module _ (pass : ViterbiPass) (u : List ℕ) (span : WordSpan) (is : IsCompleteP
     least : IsLeastLossFreePosition u (losses_of_pass pass) (is_in_range span.from span.to) (length u - 4) departure.place
     least =
         let old = best.1 in
-        let end = is_span.before_tail in record {
+        let end = is_span.span_ends_before_tail in record {
           in_range = let i = old.in_range in omega arith;
           place_is_free = old.place_is_free;
           least = (λ k lt free. old.least k (between_to _ _ k free) free);
@@ -152,7 +143,7 @@ module _ (pass : ViterbiPass) (u : List ℕ) (span : WordSpan) (is : IsCompleteP
     best_deviation x list place state bit likely =
         let within = best.1.in_range in
         let after = between_from span.from span.to departure.place best.1.place_is_free in
-        let end = is_span.before_tail in
+        let end = is_span.span_ends_before_tail in
         let n = long in (
           record {
             in_range = omega arith;
@@ -169,7 +160,7 @@ module _ (pass : ViterbiPass) (u : List ℕ) (span : WordSpan) (is : IsCompleteP
               (deviations_in_span u span) span.from followed departure.place least),
         )
 
--- ---- the spans after the position of a deviation from u
+-- ---- lemmas about the spans after the position of a deviation from u
 
 apply_deviation : (u rows : List ℕ) (state place : ℕ) → length rows ≡ length u →
     take place (word_deviating_at u rows state place) ≡ take place u
@@ -189,17 +180,18 @@ module _ (pass : ViterbiPass) (u : List ℕ) (x : Deviation) (is : IsCompletePas
       span.likelihood ≡ old.likelihood → span.state ≡ next_trellis_state x.departure.state (get_or u x.departure.place 0) →
       IsSpanOfWord pass u span
   IsSpanOfWord-after old span old_is within from to likely state =
-      let end = old_is.before_tail in record {
+      let end = old_is.span_ends_before_tail in record {
         follows = rw from (follows_later _ _ u _ 0 is_deviation.follows (omega arith) (omega arith));
         value = likely ∙ old_is.value;
         order = omega arith;
-        before_tail = omega arith;
+        span_ends_before_tail = omega arith;
         state_in_range = omega arith;
         state = rw (from, state_after-more u x.departure.place 0 (omega arith), ← is_deviation.state) state;
       }
 
   -- the positions of the deviating word after the deviation are a span of that word
-  pub IsSpanOfWord-deviation : (v : List ℕ) (span : WordSpan) → v ≡ word_of_deviation pass u x → IsCandidate (soft_bits_of_pass pass) v →
+  pub IsSpanOfWord-deviation : (v : List ℕ) (span : WordSpan) → v ≡ word_of_deviation pass u x →
+      IsCandidate (soft_bits_of_pass pass) v →
       span.from ≡ x.departure.place + 1 →
       span.to + 4 ≡ pass.bits → span.likelihood ≡ x.likelihood →
       span.state ≡ next_trellis_state x.departure.state (get_or v x.departure.place 0) →
@@ -210,7 +202,7 @@ module _ (pass : ViterbiPass) (u : List ℕ) (x : Deviation) (is : IsCompletePas
         follows = rw from (rw written (follows-deviation u (decision_rows pass) 0 x.departure.place n (omega arith)));
         value = rw written (likely ∙ is_deviation.value);
         order = omega arith;
-        before_tail = omega arith;
+        span_ends_before_tail = omega arith;
         state_in_range = omega arith;
         state = state
             ∙ ap (λ s. next_trellis_state s (get_or v x.departure.place 0))
@@ -219,9 +211,10 @@ module _ (pass : ViterbiPass) (u : List ℕ) (x : Deviation) (is : IsCompletePas
             ∙ rw from (sym (state_after-more v x.departure.place 0 (omega arith)));
       }
 
--- The free position with the least loss: of two ranges, one behind the other, and when one more position is examined.
+-- The position with the least loss: in two adjacent ranges of positions, and after one more position is examined.
 
--- the values that are stored for a position that was found
+-- a `PossibleDeviation` describes a deviation from u at position k if it holds this position, the state before it and the loss stored for
+-- it
 pub is_departure : (u : List ℕ) (losses : List (List ℤ)) (k state : ℕ) (lost : ℤ) (departure : PossibleDeviation) → AllBits u →
     state ≡ state_after_bits 0 (take k u) → lost ≡ deviation_loss 0 u losses k → departure.place ≡ k →
     departure.state ≡ state → departure.loss ≡ lost →
@@ -233,7 +226,7 @@ is_departure u losses k state lost departure bits found is_lost at s l m = recor
   loss_limit = rw (at, l) m;
 }
 
--- ---- two ranges, one behind the other
+-- ---- lemmas about two adjacent ranges of positions
 
 module _ (u : List ℕ) (losses : List (List ℤ)) (from k n place other : ℕ) (bit : get_or u place 0 ≤ 1)
     (early : IsLeastLossFreePosition u losses (is_in_range from k) k place)
@@ -303,7 +296,7 @@ module _ (u : List ℕ) (losses : List (List ℤ)) (from k n place other : ℕ) 
         tie_after = (λ j late lt is_free equal. later.tie_after j late lt (is_between k n j (omega arith) lt) equal);
       }
 
--- a range of one position
+-- in the range that consists of position k only, this position has the least loss
 pub alone : (u : List ℕ) (losses : List (List ℤ)) (k : ℕ) → IsLeastLossFreePosition u losses (is_in_range k (k + 1)) (k + 1) k
 alone u losses k = record {
   in_range = omega arith;
@@ -324,7 +317,7 @@ least_so_far-first u losses k new at state loss_limit = record {
   least = rw at (alone u losses k);
 }
 
--- the best position of a range after one more position has been examined
+-- lemmas about the position with the least loss after one more position is examined
 module _ (u : List ℕ) (losses : List (List ℤ)) (from k : ℕ) where
   pub least_so_far-new : (best new : LeastLossSoFar) → AllBits u → IsLeastLossSoFar u losses (is_in_range from k) k best →
       new.place ≡ k → new.state ≡ state_after_bits 0 (take k u) →
@@ -351,7 +344,7 @@ module _ (u : List ℕ) (losses : List (List ℤ)) (from k : ℕ) where
 
 -- Words that agree from a position on have the same best deviation from there on.
 
--- ---- words that agree from a position on
+-- ---- lemmas about words that agree from a position on
 
 states_agree : (k j : ℕ) (u w : List ℕ) (s t : ℕ) → drop k u ≡ drop k w →
     state_after_bits s (take k u) ≡ state_after_bits t (take k w) → k ≤ length u → k ≤ length w → k ≤ j →
@@ -379,7 +372,7 @@ module _ (u w : List ℕ) (losses : List (List ℤ)) (k n : ℕ) (rest : drop k 
   same_bit : (j : ℕ) → k ≤ j → get_or u j 0 ≡ get_or w j 0
   same_bit j le = bits_agree k j u w rest le
 
-  -- the best deviation from one word is the best deviation from the other
+  -- if u and w agree from position k on and reach the same state there, the best deviation from w at or after k is also the best one from u
   pub moved : (x : PossibleDeviation) → IsPossibleDeviation w losses x →
       IsLeastLossFreePosition w losses (is_in_range k n) n x.place →
       IsLeastLossDeviationOrNone u losses (is_in_range k n) n (Some x)
@@ -407,7 +400,7 @@ module _ (u w : List ℕ) (losses : List (List ℤ)) (k n : ℕ) (rest : drop k 
         },
       )
 
--- ---- a deviation from the survivor of state 0
+-- ---- lemmas about a deviation from the survivor of state 0
 
 pub IsPossibleDeviation-survivor : (rows : List ℕ) (losses : List (List ℤ)) (k state bit : ℕ) (lost : ℤ) (x : PossibleDeviation) →
     k < length rows → state ≡ state_after_bits 0 (take k (traceback rows 0)) → lost ≡ get_or (get_or losses k []) state (pos 0) →
@@ -421,7 +414,8 @@ IsPossibleDeviation-survivor rows losses k state bit lost x within reached is_lo
       loss_limit = rw (at, l, chosen_bit rows 0 k within, ← reached, ← is_bit) m;
     }
 
--- if a word that follows the survivors reaches a state of the most likely word, both words have the same best deviation from there on
+-- if a word that follows the survivors is at some position in the same state as the most likely word, both words have the same best
+-- deviation from there on
 pub merged_tail : (pass : ViterbiPass) (u : List ℕ) (span : WordSpan) (m : ℕ) (x : PossibleDeviation) → IsCompletePass pass →
     IsCandidate (soft_bits_of_pass pass) u → IsSpanOfWord pass u span → pass.bits ≤ span.to + 4 → span.from ≤ m →
     m < span.to →
@@ -435,7 +429,7 @@ merged_tail pass u span m x is candidate is_span last from to state place possib
     let places = is.row_count in
     let pairs = is.soft_bit_count in
     let count = candidate.count in
-    let end = is_span.before_tail in
+    let end = is_span.span_ends_before_tail in
     let long : length u ≡ length rows = omega arith in
     let same = length-traceback rows 0 in
     let n : length rows - 4 ≡ span.to = omega arith in

@@ -16,7 +16,7 @@ use Rattle.list_decode.specs.declared.pass.ViterbiPass.{ViterbiPass}
 
 -- the class of words whose first difference from a given word lies in a span
 abbrev pub deviations_in_span : (word : List ℕ) (span : WordSpan) → DeviationClass
-deviations_in_span u span = record { word = u; can_deviate = is_in_range span.from span.to }
+deviations_in_span u span = record { word = u; may_deviate_at = is_in_range span.from span.to }
 
 -- the word that results from applying a deviation to a given word
 abbrev pub word_of_deviation : (pass : ViterbiPass) (word : List ℕ) (deviation : Deviation) → List ℕ
@@ -28,7 +28,7 @@ pub record IsSpanOfWord (pass : ViterbiPass) (word : List ℕ) (span : WordSpan)
   pub follows : FollowsSurvivors span.from word (decision_rows pass) 0
   pub value : span.likelihood ≡ likelihood (soft_bits_of_pass pass) (encoding word)
   pub order : span.from ≤ span.to
-  pub before_tail : span.to + 4 ≤ length word
+  pub span_ends_before_tail : span.to + 4 ≤ length word
   pub state_in_range : span.state < 16
   pub state : span.state ≡ state_after_bits 0 (take span.from word)
 

@@ -20,9 +20,9 @@ pub record DeviatesFromReturnedWord (pass : ViterbiPass) (returned : List (List 
   pub deviation : IsDeviation pass (slice_index_or returned x.word_index []) x
 
 -- the word that `best` produces, if there is one, equals the word that `deviation` produces or ranks after it
-abbrev pub RanksNotBefore : (pass : ViterbiPass) (returned : List (List ℕ)) (deviation : Deviation) (best : Option Deviation) → Type 0
-RanksNotBefore pass us x None = Unit {0}
-RanksNotBefore pass us x (Some y) = (deviating_word pass us y ≡ deviating_word pass us x) ⊎
+abbrev pub IsNotOutrankedBy : (pass : ViterbiPass) (returned : List (List ℕ)) (deviation : Deviation) (best : Option Deviation) → Type 0
+IsNotOutrankedBy pass us x None = Unit {0}
+IsNotOutrankedBy pass us x (Some y) = (deviating_word pass us y ≡ deviating_word pass us x) ⊎
     RanksAfter (soft_bits_of_pass pass) (deviating_word pass us y) (deviating_word pass us x)
 
 -- `answer` is true if and only if `first` comes before `second` in lexicographic order
@@ -35,8 +35,8 @@ abbrev pub placeholder_branch : WordBranch
 placeholder_branch = record { span = record { likelihood = pos 0; word_index = 0; from = 0; to = 0; state = 0 }; best = None }
 
 -- `metrics` holds the path metric of the most likely word of each branch that has one
-abbrev pub HasMetrics : (branches : List WordBranch) (metrics : List ℤ) → Type 0
-HasMetrics branches metrics = (k : ℕ) → k < length branches →
+abbrev pub AreMetricsOfBranches : (branches : List WordBranch) (metrics : List ℤ) → Type 0
+AreMetricsOfBranches branches metrics = (k : ℕ) → k < length branches →
     IfSome (slice_index_or branches k placeholder_branch).best (λ best. slice_index_or metrics k (pos 0) ≡ best.likelihood)
 
 -- `choice` is the branch whose most likely word ranks first, or `None` if no branch has a word
@@ -45,4 +45,4 @@ abbrev pub IsFirstRankedBranch : (pass : ViterbiPass) (returned : List (List ℕ
 IsFirstRankedBranch pass us branches None = All (λ branch. branch.best ≡ None) branches
 IsFirstRankedBranch pass us branches (Some choice) =
     ((branch : WordBranch) × (slice_get branches choice.branch ≡ Some branch) × (branch.best ≡ Some choice.deviation)) ×
-    All (λ branch. RanksNotBefore pass us choice.deviation branch.best) branches
+    All (λ branch. IsNotOutrankedBy pass us choice.deviation branch.best) branches

@@ -49,8 +49,8 @@ word_deviating_at (x ∷ u) (row ∷ rows) state (suc place) = x ∷ word_deviat
 abbrev pub is_in_range : (from to place : ℕ) → Bool
 is_in_range from to k = nat_le from k && nat_lt k to
 
--- of all deviations from `word` at free positions before `limit`, the one at `place` loses least; of those that lose the same, it produces
--- the first word in lexicographic order
+-- of all deviations from `word` at positions before `limit` where `free` is true, the one at `place` loses the least path metric; of those
+-- that lose the same, it produces the first word in lexicographic order
 pub record IsLeastLossFreePosition (word : List ℕ) (losses : List (List ℤ)) (free : ℕ → Bool) (limit place : ℕ) : Type 0 where
   pub in_range : place < limit
   pub place_is_free : free place ≡ true

@@ -8,7 +8,7 @@ use Rattle.list_decode.specs.declared.departure.PartialTraceback.{PartialTraceba
 
 -- `best` describes the position before `limit` where a deviation from `word` loses least (position 0 if `limit` is 0)
 pub record IsLeastLossDeviation (word : List ℕ) (losses : List (List ℤ)) (limit : ℕ) (best : PossibleDeviation) : Type 0 where
-  pub at_most_k : best.place ≤ limit
+  pub place_at_most_limit : best.place ≤ limit
   pub in_range : best.place + 4 < length word
   pub state : best.state ≡ state_after_bits 0 (take best.place word)
   pub least : IsLeastLossPosition word losses limit best.place best.loss

@@ -2,7 +2,7 @@
 use Rattle.std.specs.Prelude.{ℕ, ◌≡◌, ◌≤◌, ◌*◌, ℤ, List, length, take}
 use Rattle.weight_bound.specs.conv_code.Likelihood.{AllSoftBits}
 use Rattle.trellis_decode.specs.Trellis.{AreDecisions}
-use Rattle.list_decode.specs.SurvivorTails.{AreTails}
+use Rattle.list_decode.specs.SurvivorTails.{AreBestLaterDeviations}
 use Rattle.list_decode.specs.declared.pass.ViterbiPass.{ViterbiPass}
 
 -- the soft bits of a pass, two for each information bit
@@ -34,4 +34,4 @@ pub record IsCompletePass (pass : ViterbiPass) : Type 0 where
   pub row_count : length (decision_rows pass) ≡ pass.bits
   pub soft : AllSoftBits (soft_bits_of_pass pass)
   pub decisions : AreDecisions (decision_rows pass) (losses_of_pass pass) (soft_bits_of_pass pass)
-  pub tails : AreTails (decision_rows pass) (losses_of_pass pass) pass.tails
+  pub tails : AreBestLaterDeviations (decision_rows pass) (losses_of_pass pass) pass.tails

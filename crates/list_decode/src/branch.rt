@@ -88,8 +88,8 @@ impl Deviation {
     }
 }
 
-/// Finds the position in a span where a deviation has the least loss, as `find_least_loss_in_span` does. If the span extends to the tail,
-/// it walks only to where the word merges with the most likely word, and takes the best deviation after that from `tails`.
+/// Finds the position in a span where a deviation costs the least path metric, as `find_least_loss_in_span` does. If the span extends to
+/// the tail, it walks only to where the word merges with the most likely word, and takes the best deviation after that from `tails`.
 fn find_least_loss(pass: &ViterbiPass, u: &[u8], span: &WordSpan) -> Option<PossibleDeviation>
     requires pass { IsCompletePass pass.now }
     requires list { IsCandidate (soft_bits_of_pass pass.now) u.now }
@@ -120,12 +120,12 @@ fn find_least_loss(pass: &ViterbiPass, u: &[u8], span: &WordSpan) -> Option<Poss
     );
     match early {
         None => Some(later),
-        Some(early) => Some(early.or_better_later(later)),
+        Some(early) => Some(early.or_later_deviation_if_better(later)),
     }
 }
 
-/// Finds the position in a span where a deviation has the least loss. On a tie, it takes the position whose deviating word comes first in
-/// lexicographic order. Returns `None` if the span is empty.
+/// Finds the position in a span where a deviation costs the least path metric. On a tie, it takes the position whose deviating word comes
+/// first in lexicographic order. Returns `None` if the span is empty.
 fn find_least_loss_in_span(
     list: &[u8],
     losses: &[[i16; 16]],
@@ -149,7 +149,7 @@ fn find_least_loss_in_span(
     let mut best = LeastLossSoFar::new(from, state, losses[from][state], list[from]);
     let mut state = (2 * state + usize::from(list[from])) % 16;
     for k in from + 1..to {
-        best = best.or_better_position(k, state, losses[k][state], list[k]);
+        best = best.or_later_position_if_better(k, state, losses[k][state], list[k]);
         state = (2 * state + usize::from(list[k])) % 16;
     }
     Some(PossibleDeviation::new(
@@ -160,7 +160,8 @@ fn find_least_loss_in_span(
     ))
 }
 
-/// The best position so far, the trellis state before it, and a limit: a later position is better if its loss is at most this limit.
+/// The best position for a deviation so far, the trellis state before it, and a limit: a later position is better if the loss of a
+/// deviation there is at most this limit.
 #[derive(Clone, Copy)]
 struct LeastLossSoFar {
     place: usize,
@@ -182,8 +183,14 @@ impl LeastLossSoFar {
         }
     }
 
-    /// Returns the better of this position and a later one.
-    fn or_better_position(self, place: usize, state: usize, loss: i16, bit: u8) -> LeastLossSoFar
+    /// Returns the better position for a deviation: the best so far, or the later position `place`.
+    fn or_later_position_if_better(
+        self,
+        place: usize,
+        state: usize,
+        loss: i16,
+        bit: u8,
+    ) -> LeastLossSoFar
         requires { bit ≤ 1 }
         ensures { (u : List ℕ) (losses : List (List ℤ)) (from : ℕ) →
             IsLeastLossSoFar u losses (is_in_range from place) place self →

@@ -5,7 +5,7 @@ ghost use Rattle.std.specs.Prelude.{None, IfSome, MatchOption, ◌≤ℤ◌, len
 ghost use Rattle.std.specs.List.{All};
 ghost use Rattle.weight_bound.specs.conv_code.Likelihood.{RanksAfter};
 ghost use Rattle.list_decode.specs.Branches.{IsBranchOfReturnedWord};
-ghost use Rattle.list_decode.specs.Choices.{HasMetrics, IsFirstRankedBranch, DecidesLexicographicOrder};
+ghost use Rattle.list_decode.specs.Choices.{AreMetricsOfBranches, IsFirstRankedBranch, DecidesLexicographicOrder};
 ghost use Rattle.list_decode.specs.Choices.{DeviatesFromReturnedWord, deviating_word};
 ghost use Rattle.list_decode.specs.WordStorage.{IsDeviationTree, stored_words};
 ghost use Rattle.list_decode.specs.Passes.{IsCompletePass, soft_bits_of_pass};
@@ -37,7 +37,7 @@ pub(crate) fn find_first_ranked_branch(
     requires lists { All (IsCandidate (soft_bits_of_pass pass.now)) (stored_words pass.now lists.now) }
     requires branches { All (IsBranchOfReturnedWord pass.now (stored_words pass.now lists.now)) branches.now }
     requires count { length metrics.now ≡ length branches.now }
-    requires metrics { HasMetrics branches.now metrics.now }
+    requires metrics { AreMetricsOfBranches branches.now metrics.now }
     ensures first { IsFirstRankedBranch pass.now (stored_words pass.now lists.now) branches.now result }
 {
     let mut first = None;

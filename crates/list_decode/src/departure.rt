@@ -75,7 +75,7 @@ impl PossibleDeviation {
     }
 
     /// Returns the better of this position, the best of a range, and `later`, the best of the range that follows.
-    pub(crate) fn or_better_later(self, later: PossibleDeviation) -> PossibleDeviation
+    pub(crate) fn or_later_deviation_if_better(self, later: PossibleDeviation) -> PossibleDeviation
         ensures { (u : List ℕ) (losses : List (List ℤ)) (from k n : ℕ) →
             IsLeastLossDeviationOrNone u losses (is_in_range from k) k (Some self) →
             IsLeastLossDeviationOrNone u losses (is_in_range k n) n (Some later) →
@@ -181,7 +181,12 @@ fn trace_back_groups_of_four(
 
 /// Writes to `v` the word that deviates from `word` at the given position and then follows the survivors. After it, `word` must follow
 /// the survivors too.
-pub(crate) fn write_deviation(word: &[u8], rows: &[u16], departure: DeviationPoint, v: &mut [u8])
+pub(crate) fn write_deviating_word(
+    word: &[u8],
+    rows: &[u16],
+    departure: DeviationPoint,
+    v: &mut [u8],
+)
     requires bits { AllBits word.now }
     requires rows { length rows.now ≡ length word.now }
     requires chosen { drop (departure.place + 1) word.now ≡

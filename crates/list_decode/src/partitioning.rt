@@ -3,7 +3,7 @@
 ghost use Rattle.std.specs.Prelude.{◌≡◌, ◌≤◌, ◌+◌, ◌<◌, length, MatchOption};
 ghost use Rattle.std.specs.List.{All};
 ghost use Rattle.list_decode.specs.Branches.{IsBranch, IsBranchOfReturnedWord, IsSpanOfWord, IsDeviation, word_of_deviation};
-ghost use Rattle.list_decode.specs.Choices.{HasMetrics};
+ghost use Rattle.list_decode.specs.Choices.{AreMetricsOfBranches};
 ghost use Rattle.list_decode.specs.WordStorage.{IsDeviationTree, stored_words};
 ghost use Rattle.list_decode.specs.Partitioning.{NoBranchHasUnreturnedWord, IsNextRankedWord};
 ghost use Rattle.list_decode.specs.Passes.{IsCompletePass, soft_bits_of_pass};
@@ -21,12 +21,12 @@ pub(crate) struct NextWord {
     pub(crate) branch: usize,
     /// How this word deviates from an earlier word.
     pub(crate) deviation: Deviation,
-    pub(crate) parts: BranchParts,
+    pub(crate) parts: ReplacementBranches,
 }
 
 /// The three branches that replace a branch when its most likely word is returned (see `partition`).
 #[derive(Clone, Copy)]
-pub(crate) struct BranchParts {
+pub(crate) struct ReplacementBranches {
     pub(crate) branch_before: WordBranch,
     pub(crate) branch_of_new_word: WordBranch,
     pub(crate) branch_after: WordBranch,
@@ -45,7 +45,7 @@ pub(crate) fn find_next_word(
     requires lists { All (IsCandidate (soft_bits_of_pass pass.now)) (stored_words pass.now lists.now) }
     requires branches { All (IsBranchOfReturnedWord pass.now (stored_words pass.now lists.now)) branches.now }
     requires same { length metrics.now ≡ length branches.now }
-    requires metrics { HasMetrics branches.now metrics.now }
+    requires metrics { AreMetricsOfBranches branches.now metrics.now }
     requires count { length u.old ≡ pass.now.bits }
     ensures next { MatchOption result (NoBranchHasUnreturnedWord branches.now × (u.new ≡ u.old))
         (IsNextRankedWord pass.now (stored_words pass.now lists.now) branches.now u.new) }
@@ -70,7 +70,7 @@ fn partition(
     span: WordSpan,
     deviation: &Deviation,
     new_index: u8,
-) -> BranchParts
+) -> ReplacementBranches
     requires pass { IsCompletePass pass.now }
     requires list { IsCandidate (soft_bits_of_pass pass.now) u.old }
     requires span { IsSpanOfWord pass.now u.old span }
@@ -107,7 +107,7 @@ fn partition(
         to: (pass.bits - 4) as u8,
         state: (2 * deviation.departure.state + u[usize::from(place)]) % 16,
     };
-    BranchParts {
+    ReplacementBranches {
         branch_before,
         branch_of_new_word: WordBranch::new(pass, u, behind),
         branch_after,

@@ -10,8 +10,8 @@ ghost use Rattle.std.specs.Prelude.{◌≡◌, ◌↔◌, ◌≤◌, ◌+◌, �
 ghost use Rattle.std.specs.Prelude.{[], length, take, None, IfSome, MatchOption};
 ghost use Rattle.weight_bound.specs.conv_code.Code.{encoding, IsEncoderInput};
 ghost use Rattle.weight_bound.specs.conv_code.Likelihood.{AllSoftBits, IsMostLikely, likelihood};
-ghost use Rattle.list_decode.specs.Choices.{HasMetrics};
-ghost use Rattle.list_decode.specs.DecoderInvariant.{HasBranches};
+ghost use Rattle.list_decode.specs.Choices.{AreMetricsOfBranches};
+ghost use Rattle.list_decode.specs.DecoderInvariant.{HasPartitioningBranches};
 ghost use Rattle.list_decode.specs.Passes.{HasSoftBits, soft_bits_of_pass};
 ghost use Rattle.list_decode.specs.Ranking.{IsRankingDone, IsRanked};
 ghost use Rattle.list_decode.specs.WordStorage.{stored_words};
@@ -31,7 +31,7 @@ use trellis_decode::{CODED_BITS, ENCODER_INPUT_BITS, decode};
 pub struct ListDecoder {
     pass: ViterbiPass,
     lists: StoredWords,
-    /// One branch for the first word, and two more for each word after it.
+    /// The branches: one for the first word, and two more for each word after it.
     branches: [WordBranch; 127],
     /// The path metrics of the best deviations of the branches.
     best_metrics: [i32; 127],
@@ -44,11 +44,11 @@ impl Model for ListDecoder {
 
     ghost Value = { Ranking };
 
-    ghost use Rattle.list_decode.specs.DecoderInvariant.{IsSoundRanking, ranking_of};
+    ghost use Rattle.list_decode.specs.DecoderInvariant.{IsSoundListDecoder, ranking_of_decoder};
 
-    ghost view = { ranking_of };
+    ghost view = { ranking_of_decoder };
 
-    ghost invariant = { IsSoundRanking };
+    ghost invariant = { IsSoundListDecoder };
 }
 
 impl ListDecoder {
@@ -213,12 +213,12 @@ fn prepare_branches(
     requires has_soft_bits { HasSoftBits pass.old }
     requires ranked { IsRanked (soft_bits_of_pass pass.old) (stored_words pass.old lists.now) }
     requires metric { first_metric ≡ likelihood (soft_bits_of_pass pass.old) (encoding (take pass.old.bits lists.now.first_word)) }
-    requires metrics { HasMetrics branches.old metrics.old }
-    requires later { 1 < lists.now.count → HasBranches pass.old lists.now branches.old metrics.old }
+    requires metrics { AreMetricsOfBranches branches.old metrics.old }
+    requires later { 1 < lists.now.count → HasPartitioningBranches pass.old lists.now branches.old metrics.old }
     ensures soft { pass.new.soft ≡ pass.old.soft }
     ensures bits { pass.new.bits ≡ pass.old.bits }
     ensures words { stored_words pass.new lists.now ≡ stored_words pass.old lists.now }
-    ensures branches { HasBranches pass.new lists.now branches.new metrics.new }
+    ensures branches { HasPartitioningBranches pass.new lists.now branches.new metrics.new }
 {
     if lists.count > 1 {
         return;

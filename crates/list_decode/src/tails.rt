@@ -1,13 +1,13 @@
 //! The best deviation from the most likely word at or after each position.
 //!
-//! A word that follows the survivors and reaches the same state as the most likely word agrees with it from there on, and a deviation there
-//! loses the same from both. So a search for the best deviation from the word can end at that position.
+//! If a word that follows the survivors reaches the same state as the most likely word, the two words agree from there on, and a deviation
+//! there costs both the same path metric. So a search for the best deviation from the word can end at that position.
 
 ghost use Rattle.std.specs.Prelude.{◌≡◌, ◌+◌, ◌<◌, ◌≤◌, length, take, slice_index};
 ghost use Rattle.trellis_decode.specs.Trellis.{traceback};
 ghost use Rattle.list_decode.specs.DeviatingWords.{state_after_bits};
 ghost use Rattle.list_decode.specs.LeastLosses.{IsPossibleDeviation};
-ghost use Rattle.list_decode.specs.SurvivorTails.{AreTails, AreSurvivorStates, AreBestLaterPlaces};
+ghost use Rattle.list_decode.specs.SurvivorTails.{AreBestLaterDeviations, AreSurvivorStates, AreBestLaterPlaces};
 
 use crate::branch::WordSpan;
 use crate::departure::PossibleDeviation;
@@ -26,7 +26,7 @@ impl BestLaterDeviations {
         requires same { length losses.now ≡ length rows.now }
         requires at_least { 5 ≤ length rows.now }
         requires at_most { length rows.now ≤ ENCODER_INPUT_BITS }
-        ensures { AreTails rows.now losses.now self.new }
+        ensures { AreBestLaterDeviations rows.now losses.now self.new }
     {
         fill_survivor_states(rows, &mut self.states);
         fill_best_later_places(rows, losses, &self.states, &mut self.places);
@@ -63,7 +63,7 @@ fn fill_best_later_places(
     let mut best = survivor_deviation(rows, losses, states, last);
     places[last] = best.place as u8;
     for k in (0..last).rev() {
-        best = survivor_deviation(rows, losses, states, k).or_better_later(best);
+        best = survivor_deviation(rows, losses, states, k).or_later_deviation_if_better(best);
         places[k] = best.place as u8;
     }
 }

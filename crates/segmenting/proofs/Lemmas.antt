@@ -3,9 +3,8 @@ use Rattle.{
   lapdm_frame.specs.{Layout.n201, declared.Channel.Channel},
   segmenting.specs.{
     Joiners.HoldsReassemblyOf,
-    Joining.{delivered_by_segment, ended_messages, completed_message_after, completed_message, message_count, message_if_fits},
-    Joining.{message_if_whole},
-    Joining.{messages, partial_message_after, partial_message, reassembly_result},
+    Joining.{message_delivered_by_segment, messages_ending_in_segments, completed_message_after, completed_message, message_count},
+    Joining.{message_if_fits, message_if_whole, messages, partial_message_after, partial_message, reassembly_result},
     Segments.{AreFullExceptLast, AreSegments, IsFullSegment, IsValidMessage, Message, Segment, cut_segments, max_message_octets},
     Segments.{max_segments_per_message, reassembled_octets, segments},
     declared.joiner.{Joined.TheVariants.{More, Oversize, Whole}, Joiner.Joiner, ReassemblyState.ReassemblyState},
@@ -26,7 +25,8 @@ use Rattle.{
 use borrow.Rule.Slice.PartMut.{put_mid}
 use Rattle.segmenting.specs.declared.joiner.ReassemblyState.TheVariants as P
 
--- ## Joins: Reassembling the segments of messages gives these messages, and one more segment adds the message that it completes.
+-- ## Joins: Reassembling the segments of a list of messages gives these messages. Each further segment adds the message that it completes,
+-- if any.
 
 pub message_if_fits-some : (m : List ℕ) → length m ≤ max_message_octets → message_if_fits m ≡ Some m
 message_if_fits-some m h = grind arith
@@ -34,38 +34,42 @@ message_if_fits-some m h = grind arith
 message_if_fits-none : (m : List ℕ) → max_message_octets < length m → message_if_fits m ≡ None
 message_if_fits-none m h = grind arith
 
-ended_messages-cut_segments : (n k : ℕ) (partial m : List ℕ) (ps : List Segment) →
-    ended_messages partial (cut_segments n k m ++ ps) ≡ message_if_fits (partial ++ m) ∷ ended_messages [] ps
-ended_messages-cut_segments n zero partial m ps = refl
-ended_messages-cut_segments n (suc k) partial m ps =
-    rw (ended_messages-cut_segments n k (partial ++ take n m) (drop n m) ps, append_assoc, take-append-drop n m) refl
+messages_ending_in_segments-cut_segments : (n k : ℕ) (partial m : List ℕ) (ps : List Segment) →
+    messages_ending_in_segments partial (cut_segments n k m ++ ps) ≡ message_if_fits (partial ++ m) ∷ messages_ending_in_segments [] ps
+messages_ending_in_segments-cut_segments n zero partial m ps = refl
+messages_ending_in_segments-cut_segments n (suc k) partial m ps =
+    rw (messages_ending_in_segments-cut_segments n k (partial ++ take n m) (drop n m) ps, append_assoc, take-append-drop n m) refl
 
--- how `partial_message_after`, `ended_messages` and `completed_message_after` change when one segment is appended
+-- appending a segment with M = 1 appends its octets to the incomplete message
 partial_message_after-more : (partial : List ℕ) (ps : List Segment) (octets : List ℕ) →
     partial_message_after partial (ps ++ (octets, true) ∷ []) ≡ partial_message_after partial ps ++ octets
 partial_message_after-more partial [] octets = refl
 partial_message_after-more partial ((o, true) ∷ ps) octets = partial_message_after-more _ ps _
 partial_message_after-more partial ((o, false) ∷ ps) octets = partial_message_after-more [] ps _
 
+-- after a segment with M = 0, no message is incomplete
 partial_message_after-last : (partial : List ℕ) (ps : List Segment) (octets : List ℕ) →
     partial_message_after partial (ps ++ (octets, false) ∷ []) ≡ []
 partial_message_after-last partial [] octets = refl
 partial_message_after-last partial ((o, true) ∷ ps) octets = partial_message_after-last _ ps _
 partial_message_after-last partial ((o, false) ∷ ps) octets = partial_message_after-last [] ps _
 
-pub ended_messages-more : (partial : List ℕ) (ps : List Segment) (octets : List ℕ) →
-    ended_messages partial (ps ++ (octets, true) ∷ []) ≡ ended_messages partial ps
-ended_messages-more partial [] octets = refl
-ended_messages-more partial ((o, true) ∷ ps) octets = ended_messages-more _ ps _
-ended_messages-more partial ((o, false) ∷ ps) octets = rw (ended_messages-more [] ps octets)
+-- appending a segment with M = 1 does not change the list of ended messages
+pub messages_ending_in_segments-more : (partial : List ℕ) (ps : List Segment) (octets : List ℕ) →
+    messages_ending_in_segments partial (ps ++ (octets, true) ∷ []) ≡ messages_ending_in_segments partial ps
+messages_ending_in_segments-more partial [] octets = refl
+messages_ending_in_segments-more partial ((o, true) ∷ ps) octets = messages_ending_in_segments-more _ ps _
+messages_ending_in_segments-more partial ((o, false) ∷ ps) octets = rw (messages_ending_in_segments-more [] ps octets)
 
-pub ended_messages-last : (partial : List ℕ) (ps : List Segment) (octets : List ℕ) →
-    ended_messages partial (ps ++ (octets, false) ∷ []) ≡ ended_messages partial ps ++ message_if_fits
+-- appending a segment with M = 0 adds one ended message: the incomplete message followed by the octets of the segment
+pub messages_ending_in_segments-last : (partial : List ℕ) (ps : List Segment) (octets : List ℕ) →
+    messages_ending_in_segments partial (ps ++ (octets, false) ∷ []) ≡ messages_ending_in_segments partial ps ++ message_if_fits
     (partial_message_after partial ps ++ octets) ∷ []
-ended_messages-last partial [] octets = refl
-ended_messages-last partial ((o, true) ∷ ps) octets = ended_messages-last _ ps _
-ended_messages-last partial ((o, false) ∷ ps) octets = rw (ended_messages-last [] ps octets)
+messages_ending_in_segments-last partial [] octets = refl
+messages_ending_in_segments-last partial ((o, true) ∷ ps) octets = messages_ending_in_segments-last _ ps _
+messages_ending_in_segments-last partial ((o, false) ∷ ps) octets = rw (messages_ending_in_segments-last [] ps octets)
 
+-- a segment with M = 1 completes no message
 completed_message_after-more : (partial : List ℕ) (ps : List Segment) (octets : List ℕ) →
     completed_message_after partial (ps ++ (octets, true) ∷ []) ≡ []
 completed_message_after-more partial [] octets = refl
@@ -73,6 +77,7 @@ completed_message_after-more partial ((o, true) ∷ ps) octets = completed_messa
 completed_message_after-more partial ((o, false) ∷ []) octets = refl
 completed_message_after-more partial ((o, false) ∷ p ∷ ps) octets = completed_message_after-more [] (p ∷ ps) _
 
+-- a segment with M = 0 completes the incomplete message followed by its own octets, if the message has at most 251 octets
 pub completed_message_after-last : (partial : List ℕ) (ps : List Segment) (octets : List ℕ) →
     completed_message_after partial (ps ++ (octets, false) ∷ []) ≡
     unwrap_or (message_if_fits (partial_message_after partial ps ++ octets)) []
@@ -81,19 +86,23 @@ completed_message_after-last partial ((o, true) ∷ ps) octets = completed_messa
 completed_message_after-last partial ((o, false) ∷ []) octets = refl
 completed_message_after-last partial ((o, false) ∷ p ∷ ps) octets = completed_message_after-last [] (p ∷ ps) _
 
-delivered_by_segment-more : (ps : List Segment) (octets : List ℕ) → delivered_by_segment ps (octets, true) ≡ []
-delivered_by_segment-more ps octets = grind arith
+message_delivered_by_segment-more : (ps : List Segment) (octets : List ℕ) → message_delivered_by_segment ps (octets, true) ≡ []
+message_delivered_by_segment-more ps octets = grind arith
 
-delivered_by_segment-last : (ps : List Segment) (octets : List ℕ) → delivered_by_segment ps (octets, false) ≡ filter_map
+message_delivered_by_segment-last : (ps : List Segment) (octets : List ℕ) →
+    message_delivered_by_segment ps (octets, false) ≡ filter_map
     (λ ending. ending) (message_if_fits (partial_message ps ++ octets) ∷ [])
-delivered_by_segment-last ps octets = grind arith
+message_delivered_by_segment-last ps octets = grind arith
 
-pub messages-push : (ps : List Segment) (p : Segment) → messages (ps ++ p ∷ []) ≡ messages ps ++ delivered_by_segment ps p
-messages-push ps (octets, true) = rw (ended_messages-more [] ps octets, delivered_by_segment-more ps octets, append-nil (messages ps))
-messages-push ps (octets, false) = rw (ended_messages-last [] ps octets, filter_map-append, delivered_by_segment-last ps octets)
+pub messages-push : (ps : List Segment) (p : Segment) → messages (ps ++ p ∷ []) ≡ messages ps ++ message_delivered_by_segment ps p
+messages-push ps (octets, true) =
+    rw (messages_ending_in_segments-more [] ps octets, message_delivered_by_segment-more ps octets, append-nil (messages ps))
+messages-push ps (octets, false) =
+    rw (messages_ending_in_segments-last [] ps octets, filter_map-append, message_delivered_by_segment-last ps octets)
 
--- the message delivered is the one that `completed_message` gives
-pub delivered_is_completed : (ps : List Segment) (p : Segment) → delivered_by_segment ps p ≡ message_if_whole (reassembly_result ps p)
+-- the message that a segment delivers is the one that `completed_message` gives after this segment
+pub delivered_is_completed : (ps : List Segment) (p : Segment) →
+    message_delivered_by_segment ps p ≡ message_if_whole (reassembly_result ps p)
     (completed_message (ps ++ p ∷ []))
 delivered_is_completed ps (octets, true) = grind arith
 delivered_is_completed ps (octets, false) =
@@ -102,7 +111,7 @@ delivered_is_completed ps (octets, false) =
 -- ## Cutting: `segments` is the only correct segmentation of a message, and each segment can be computed from its index. The proofs are by
 -- induction on the number of full segments.
 
--- the message m gives k full segments of n octets and leaves 1 to n octets for the last segment
+-- the message m fills k segments of n octets and leaves 1 to n octets for the last segment
 pub record Fills (n k : ℕ) (m : List ℕ) : Type 0 where
   pub above : k * n < length m
   pub below : length m ≤ k * n + n
@@ -186,7 +195,7 @@ length-segments n m = length-cut_segments n _ m
 drop-drop_next : (n i : ℕ) (m : List ℕ) → drop (i * n) (drop n m) ≡ drop (suc i * n) m
 drop-drop_next n i m = drop-drop _ n m ∙ ap (λ j. drop j m) (omega arith)
 
--- the segment with index i is full if i < k; otherwise it is the rest of the message
+-- if i < k, the segment with index i has M = 1 and carries at most n octets, from position i * n of the message on
 slice_get-cut_full : (n k i : ℕ) (m : List ℕ) → i < k →
     slice_get (cut_segments n k m) i ≡ Some (take n (drop (i * n) m), true)
 slice_get-cut_full n zero i m h = absurd (omega (arith, h))
@@ -194,6 +203,7 @@ slice_get-cut_full n (suc k) zero m h = grind arith
 slice_get-cut_full n (suc k) (suc i) m h = slice_get-cut_full n k i _ (omega arith) ∙ ap
     (λ rest. Some (take n rest, true)) (drop-drop_next n i m)
 
+-- the segment with index k has M = 0 and carries the rest of the message
 slice_get-cut_last : (n k : ℕ) (m : List ℕ) → slice_get (cut_segments n k m) k ≡ Some (drop (k * n) m, false)
 slice_get-cut_last n zero m = grind arith
 slice_get-cut_last n (suc k) m = slice_get-cut_last n k _ ∙ ap (λ rest. Some (rest, false)) (drop-drop_next n k m)
@@ -229,7 +239,7 @@ slice_get-segment n i m room h within =
           (λ p. Some p) (grind (arith, nat_tests))
     ]
 
--- the same as `begins_within`, for a number r that equals N201 of the channel
+-- the segment with index i begins before the end of the message; r is N201 of the channel
 pub begins_at : (channel : Channel) (r i : ℕ) (m : Message) → r ≡ n201 channel → 1 ≤ length m →
     i < length (segments (n201 channel) m) → i * r < length m
 begins_at channel r i m same some_octets h =
@@ -246,18 +256,17 @@ pub few_segments : (channel : Channel) (r l : ℕ) → r ≡ n201 channel → l 
     (l - 1) / r + 1 ≤ max_segments_per_message channel
 few_segments _ r l same h = grind arith
 
--- ## Fronts: The first segments of a list of messages complete the first messages of that list: `ended_messages` of a prefix is a prefix of
--- `ended_messages`.
+-- ## Fronts: The first segments of a list of messages complete the first messages of that list.
 
-pub ended_messages-all : (n : ℕ) (ms : List Message) → All IsValidMessage ms →
-    ended_messages [] (flat_map (segments n) ms) ≡ map (λ m. Some m) ms
-ended_messages-all n [] h = refl
-ended_messages-all n (m ∷ ms) h =
+pub messages_ending_in_segments-all : (n : ℕ) (ms : List Message) → All IsValidMessage ms →
+    messages_ending_in_segments [] (flat_map (segments n) ms) ≡ map (λ m. Some m) ms
+messages_ending_in_segments-all n [] h = refl
+messages_ending_in_segments-all n (m ∷ ms) h =
     let first = All-head IsValidMessage m ms h in
     rw (
-      ended_messages-cut_segments n ((length m - 1) / n) [] m (flat_map (segments n) ms),
+      messages_ending_in_segments-cut_segments n ((length m - 1) / n) [] m (flat_map (segments n) ms),
       message_if_fits-some m first.at_most,
-      ended_messages-all n ms (All-tail IsValidMessage m ms h),
+      messages_ending_in_segments-all n ms (All-tail IsValidMessage m ms h),
     )
 
 pub filter_map-some : (ms : List Message) → filter_map (λ ending. ending) (map (λ m. Some m) ms) ≡ ms
@@ -265,18 +274,20 @@ filter_map-some [] = refl
 filter_map-some (m ∷ ms) = rw (filter_map-some ms)
 
 pub messages-segments : (n : ℕ) (ms : List Message) → All IsValidMessage ms → messages (flat_map (segments n) ms) ≡ ms
-messages-segments n ms h = rw (ended_messages-all n ms h) (filter_map-some ms)
+messages-segments n ms h = rw (messages_ending_in_segments-all n ms h) (filter_map-some ms)
 
-pub ended_messages-append : (partial : List ℕ) (ps qs : List Segment) → ended_messages partial (ps ++ qs) ≡ ended_messages partial ps
-    ++ ended_messages (partial_message_after partial ps) qs
-ended_messages-append partial [] qs = refl
-ended_messages-append partial ((o, true) ∷ ps) qs = ended_messages-append _ ps qs
-ended_messages-append partial ((o, false) ∷ ps) qs = grind (arith, ended_messages-append [] ps qs)
+pub messages_ending_in_segments-append : (partial : List ℕ) (ps qs : List Segment) →
+    messages_ending_in_segments partial (ps ++ qs) ≡ messages_ending_in_segments partial ps
+    ++ messages_ending_in_segments (partial_message_after partial ps) qs
+messages_ending_in_segments-append partial [] qs = refl
+messages_ending_in_segments-append partial ((o, true) ∷ ps) qs = messages_ending_in_segments-append _ ps qs
+messages_ending_in_segments-append partial ((o, false) ∷ ps) qs = grind (arith, messages_ending_in_segments-append [] ps qs)
 
--- `end_count` is a recursive form of `message_count`, the number of segments with M = 0
+-- whether a segment is the last of its message, that is, has M = 0
 abbrev is_last : Segment → Bool
 is_last p = not p.1
 
+-- the number of segments with M = 0, as a recursive form of `message_count`
 abbrev end_count : List Segment → ℕ
 end_count [] = 0
 end_count (p ∷ ps) = cond (is_last p) (1 + end_count ps) (end_count ps)
@@ -284,13 +295,14 @@ end_count (p ∷ ps) = cond (is_last p) (1 + end_count ps) (end_count ps)
 count-is_end_count : (ps : List Segment) → message_count ps ≡ end_count ps
 count-is_end_count ps = sym (is_count_by end_count _ refl (λ x xs. refl) ps)
 
-end_count-ended_messages : (partial : List ℕ) (ps : List Segment) → end_count ps ≡ length (ended_messages partial ps)
-end_count-ended_messages partial [] = refl
-end_count-ended_messages partial ((o, true) ∷ ps) = end_count-ended_messages _ ps
-end_count-ended_messages partial ((o, false) ∷ ps) = let e = end_count-ended_messages [] ps in omega arith
+end_count-messages_ending_in_segments : (partial : List ℕ) (ps : List Segment) →
+    end_count ps ≡ length (messages_ending_in_segments partial ps)
+end_count-messages_ending_in_segments partial [] = refl
+end_count-messages_ending_in_segments partial ((o, true) ∷ ps) = end_count-messages_ending_in_segments _ ps
+end_count-messages_ending_in_segments partial ((o, false) ∷ ps) = let e = end_count-messages_ending_in_segments [] ps in omega arith
 
-pub message_count-ended_messages : (ps : List Segment) → message_count ps ≡ length (ended_messages [] ps)
-message_count-ended_messages ps = count-is_end_count ps ∙ end_count-ended_messages [] ps
+pub message_count-messages_ending_in_segments : (ps : List Segment) → message_count ps ≡ length (messages_ending_in_segments [] ps)
+message_count-messages_ending_in_segments ps = count-is_end_count ps ∙ end_count-messages_ending_in_segments [] ps
 
 pub count-append : (ps qs : List Segment) → message_count (ps ++ qs) ≡ message_count ps + message_count qs
 count-append ps qs = sum_by-append _ ps qs
@@ -299,11 +311,12 @@ pub count-take : (a r : ℕ) (ps : List Segment) → a ≤ r → message_count (
 count-take a r ps h =
     grind (arith, count-append (take a (take r ps)) (drop a (take r ps)), take-append-drop a (take r ps), take-take a r ps h)
 
--- among the segments of one message, only the last completes the message
+-- exactly one of the segments of a message has M = 0
 end_count-cut_segments : (n k : ℕ) (m : List ℕ) (ps : List Segment) → end_count (cut_segments n k m ++ ps) ≡ 1 + end_count ps
 end_count-cut_segments n zero m ps = refl
 end_count-cut_segments n (suc k) m ps = end_count-cut_segments n k _ ps
 
+-- all segments of a message before its last one have M = 1
 end_count-zero : (n k r : ℕ) (m : List ℕ) (ps : List Segment) → r ≤ k → end_count (take r (cut_segments n k m ++ ps)) ≡ 0
 end_count-zero n k zero m ps h = refl
 end_count-zero n zero (suc r) m ps h = absurd (omega arith)
@@ -353,38 +366,41 @@ count-whole n r zero ms h = ((λ _. omega arith), (λ _. omega arith))
 count-whole n r (suc k) [] h = absurd (omega (arith, h))
 count-whole n r (suc k) (m ∷ ms) h = completed_by_length n r k m ms (λ j. count-whole n j k ms (omega (arith, h)))
 
--- the first segments of valid messages complete the first of these messages, and none of them is oversize
+-- a prefix of a list consists of the first elements of the list
 prefix_is_take : {T : Type 0} (xs ys zs : List T) → xs ++ ys ≡ zs → xs ≡ take (length xs) zs
 prefix_is_take xs ys zs h = sym (take-append_seam xs ys) ∙ ap (take _) h
 
-pub ended_messages-front : (n r : ℕ) (ms : List Message) → All IsValidMessage ms →
-    ended_messages [] (take r (flat_map (segments n) ms)) ≡ map (λ m. Some m)
+-- the first r segments of a list of valid messages complete the first messages of the list, and none of these is oversize
+pub messages_ending_in_segments-front : (n r : ℕ) (ms : List Message) → All IsValidMessage ms →
+    messages_ending_in_segments [] (take r (flat_map (segments n) ms)) ≡ map (λ m. Some m)
     (take (message_count (take r (flat_map (segments n) ms))) ms)
-ended_messages-front n r ms h =
+messages_ending_in_segments-front n r ms h =
     let front = take r (flat_map (segments n) ms) in
-    let whole = sym (ended_messages-append [] front _) ∙ ap (ended_messages []) (take-append-drop r _) ∙ ended_messages-all n ms h in
+    let whole = sym (messages_ending_in_segments-append [] front _) ∙ ap (messages_ending_in_segments []) (take-append-drop r _)
+    ∙ messages_ending_in_segments-all n ms h in
     prefix_is_take _ _ _ whole
-    ∙ ap (λ k. take k (map (λ m. Some m) ms)) (sym (message_count-ended_messages front))
+    ∙ ap (λ k. take k (map (λ m. Some m) ms)) (sym (message_count-messages_ending_in_segments front))
     ∙ take-map (λ m. Some m) _ ms
 
--- ## Taking: What a joiner represents after it takes one more segment, by cases on the M bit and the length.
+-- ## Taking: What a joiner holds after it takes one more segment, by cases on the M bit and on the length of the message.
 
 too_long : (ps : List Segment) (octets : List ℕ) → None ≡ message_if_fits (partial_message ps) →
     max_message_octets < length (partial_message ps ++ octets)
 too_long ps octets h = grind (arith, length-append (partial_message ps) octets)
 
--- if the message with this segment appended is not too long, the joiner holds its octets
+-- after a segment with M = 1 that leaves the message at most 251 octets long, the joiner holds the octets of the incomplete message
 pub goes_on : (ps : List Segment) (octets held : List ℕ) → held ≡ partial_message ps ++ octets →
     length held ≤ max_message_octets → HoldsReassemblyOf P.Open held (ps ++ (octets, true) ∷ [])
 goes_on ps octets held e h =
     grind (arith, message_if_fits-some held h, partial_message_after-more [] ps octets, completed_message_after-more [] ps octets)
 
+-- after a segment with M = 0 that completes a message of at most 251 octets, the joiner holds this message
 pub completes : (ps : List Segment) (octets held : List ℕ) → held ≡ partial_message ps ++ octets →
     length held ≤ max_message_octets → HoldsReassemblyOf P.Whole held (ps ++ (octets, false) ∷ [])
 completes ps octets held e h =
     grind (arith, message_if_fits-some held h, partial_message_after-last [] ps octets, completed_message_after-last [] ps octets)
 
--- if the message with this segment appended is too long, the joiner discards it
+-- after a segment with M = 1 that makes the message longer than 251 octets, the joiner holds no octets and discards the rest of the message
 pub taken_oversize : (ps : List Segment) (octets : List ℕ) → max_message_octets < length (partial_message ps ++ octets) →
     HoldsReassemblyOf P.Discarding [] (ps ++ (octets, true) ∷ [])
 taken_oversize ps octets h =
@@ -395,6 +411,7 @@ taken_oversize ps octets h =
       completed_message_after-more [] ps octets,
     )
 
+-- after a segment with M = 0 that makes the message longer than 251 octets, the joiner holds no octets and expects a new message
 pub drops : (ps : List Segment) (octets : List ℕ) → max_message_octets < length (partial_message ps ++ octets) →
     HoldsReassemblyOf P.Open [] (ps ++ (octets, false) ∷ [])
 drops ps octets h =
@@ -405,7 +422,7 @@ drops ps octets h =
       completed_message_after-last [] ps octets,
     )
 
--- `held` is the incomplete message with these octets appended, and is not too long
+-- `held` consists of the incomplete message and the given octets, and has at most 251 octets
 pub record IsWritten (ps : List Segment) (octets held : List ℕ) : Type 0 where
   pub held_is : held ≡ partial_message ps ++ octets
   pub fits : length held ≤ max_message_octets
@@ -427,10 +444,10 @@ pub HoldsReassemblyOf-same : (part part' : ReassemblyState) (held : List ℕ) (p
     HoldsReassemblyOf part' held (ps ++ (octets, more') ∷ [])
 HoldsReassemblyOf-same _ _ _ ps _ _ _ e f h = grind arith
 
--- ## Histories: For every state of a joiner, some list of segments leads to it. The length of the list modulo 8 can be chosen: empty
--- segments with M = 0, then one segment with the octets held.
+-- ## Histories: For every state of a joiner, some list of segments leads to it, and the length of this list modulo 8 can be chosen. The
+-- list consists of empty segments with M = 0 and one last segment that brings the joiner into the state.
 
--- a list of segments that leads a joiner to hold these octets, and whose length modulo 8 is `number`
+-- there is a list of segments after which a joiner holds these octets, and the length of the list modulo 8 is `number`
 pub record HasHistory (part : ReassemblyState) (held : List ℕ) (number : ℕ) : Type 0 where
   pub taken : List Segment
   pub count : length taken % 8 ≡ number
@@ -507,11 +524,12 @@ thirteen_on_sdcch = refl
 fourteen_on_sacch : segments 18 (replicate 251 7) ≡ replicate 13 (replicate 18 7, true) ++ (replicate 17 7, false) ∷ []
 fourteen_on_sacch = refl
 
--- 251 octets are delivered as a message, 252 are not; the segment after the oversize message begins a new message
+-- a message of 251 octets is delivered
 longest_message : messages (replicate 12 (replicate 20 7, true) ++ (replicate 11 8, false) ∷ []) ≡ (replicate 240 7 ++ replicate 11 8)
     ∷ []
 longest_message = refl
 
+-- a message of 252 octets is discarded, and the next segment begins a new message
 one_octet_too_many : messages (replicate 12 (replicate 20 7, true) ++ (replicate 12 8, false) ∷ (9 ∷ [], false) ∷ []) ≡ (9 ∷ [])
     ∷ []
 one_octet_too_many = refl
@@ -528,5 +546,8 @@ oversize_until_last = refl
 whole_after_drop : reassembly_result (replicate 13 (replicate 20 7, true) ++ (9 ∷ [], false) ∷ []) (9 ∷ [], false) ≡ Whole
 whole_after_drop = refl
 
-completed_after_oversize : completed_message (replicate 13 (replicate 20 7, true) ++ (9 ∷ [], false) ∷ (9 ∷ [], false) ∷ []) ≡ 9 ∷ []
+completed_after_oversize : completed_message (replicate 13 (replicate 20 7, true) ++ (9 ∷ [], false) ∷ (
+  9 ∷ [],
+  false,
+) ∷ []) ≡ 9 ∷ []
 completed_after_oversize = refl

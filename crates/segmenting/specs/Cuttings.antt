@@ -7,8 +7,8 @@ use Rattle.segmenting.specs.declared.pieces.Pieces.{Pieces}
 use Rattle.segmenting.specs.Segments.{Segment, segments}
 
 -- the segments that a Rust `Pieces` represents
-abbrev pub segments_of : Pieces → List Segment
-segments_of p = segments (n201 p.channel) p.message.now
+abbrev pub segments_of_pieces : Pieces → List Segment
+segments_of_pieces p = segments (n201 p.channel) p.message.now
 
 abbrev pub channel_of_pieces : Pieces → Channel
 channel_of_pieces p = p.channel

@@ -13,14 +13,14 @@ message_if_fits octets = if nat_lt max_message_octets (length octets) then None 
 
 -- the messages that end in the given segments, one for each segment with M = 0; `None` is an oversize message. The first message begins
 -- with `partial`, the octets of earlier segments
-abbrev pub ended_messages : (partial : List ℕ) (taken : List Segment) → List (Option Message)
-ended_messages partial [] = []
-ended_messages partial ((octets, true) ∷ ps) = ended_messages (partial ++ octets) ps
-ended_messages partial ((octets, false) ∷ ps) = message_if_fits (partial ++ octets) ∷ ended_messages [] ps
+abbrev pub messages_ending_in_segments : (partial : List ℕ) (taken : List Segment) → List (Option Message)
+messages_ending_in_segments partial [] = []
+messages_ending_in_segments partial ((octets, true) ∷ ps) = messages_ending_in_segments (partial ++ octets) ps
+messages_ending_in_segments partial ((octets, false) ∷ ps) = message_if_fits (partial ++ octets) ∷ messages_ending_in_segments [] ps
 
 -- the messages that a list of segments completes, without oversize messages
 abbrev pub messages : (taken : List Segment) → List Message
-messages ps = filter_map (λ ending. ending) (ended_messages [] ps)
+messages ps = filter_map (λ ending. ending) (messages_ending_in_segments [] ps)
 
 -- the number of messages that a list of segments completes, oversize ones included: the number of segments with M = 0
 abbrev pub message_count : (taken : List Segment) → ℕ
@@ -48,8 +48,8 @@ message_if_whole Whole m = m ∷ []
 message_if_whole other m = []
 
 -- the message, if any, that a segment completes when it follows the given segments
-abbrev pub delivered_by_segment : (taken : List Segment) (segment : Segment) → List Message
-delivered_by_segment ps p = message_if_whole (reassembly_result ps p) (partial_message ps ++ p.0)
+abbrev pub message_delivered_by_segment : (taken : List Segment) (segment : Segment) → List Message
+message_delivered_by_segment ps p = message_if_whole (reassembly_result ps p) (partial_message ps ++ p.0)
 
 -- the message that the last segment of a list completes, or no octets if it completes no message. The first message begins with `partial`,
 -- the octets of earlier segments

@@ -12,6 +12,6 @@ pub record JoinerValues : Type 0 where
 abbrev pub values_of : Joiner → JoinerValues
 values_of j = record { octets = take j.len j.octets; part = j.part }
 
--- there is a joiner that holds the given octets and part
+-- some joiner can hold the given octets, which form the given part of a message
 abbrev pub SomeJoinerHasValues : JoinerValues → Type 0
 SomeJoinerHasValues x = (j : Joiner) × (values_of j ≡ x)

@@ -1,7 +1,7 @@
 //! Messages in buffers of fixed size.
 
 ghost use Rattle.std.specs.Prelude.{◌≡◌, ◌≤◌, [], length};
-ghost use Rattle.segmenting.specs.Buffers.{octets_in, message_buffer};
+ghost use Rattle.segmenting.specs.Buffers.{octets_in_buffer, message_buffer};
 
 /// A message as plain data, with the memory layout of C. It may be longer than the 251 octets that a link accepts.
 #[repr(C)]
@@ -24,7 +24,7 @@ impl MessageBuffer {
     }
 
     pub fn octets(&self) -> &[u8]
-        ensures value { result.now ≡ octets_in self.now }
+        ensures value { result.now ≡ octets_in_buffer self.now }
         ensures most { length result.now ≤ 255 }
     {
         &self.octets[..usize::from(self.count)]

@@ -9,7 +9,7 @@ use crate::LONGEST_MESSAGE;
 
 mod parts;
 
-/// The result of taking a segment.
+/// What a `Joiner` returns when it takes a segment.
 #[derive(Clone, Copy, PartialEq, Eq, Debug)]
 pub enum Joined {
     /// The message continues in the next segment.
@@ -47,7 +47,7 @@ impl Joiner {
     ghost use Rattle.segmenting.specs.Joining.{reassembly_result, partial_message, completed_message};
     ghost use Rattle.segmenting.specs.Joiners.{HasTakenSegments};
 
-    /// Creates a joiner that has not taken any segments.
+    /// Creates a `Joiner` that has not taken any segments.
     pub fn new() -> Joiner
         ensures { HasTakenSegments result [] }
     {

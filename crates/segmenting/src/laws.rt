@@ -6,8 +6,8 @@ ghost use Rattle.std.specs.List.{flat_map};
 ghost use Rattle.lapdm_frame.specs.declared.Channel.{Channel};
 ghost use Rattle.lapdm_frame.specs.Layout.{n201};
 ghost use Rattle.segmenting.specs.Segments.{Message, Segment, IsValidMessage, AreSegments, segments};
-ghost use Rattle.segmenting.specs.Joining.{ended_messages, messages, message_count, reassembly_result, message_if_whole};
-ghost use Rattle.segmenting.specs.Joining.{delivered_by_segment};
+ghost use Rattle.segmenting.specs.Joining.{messages_ending_in_segments, messages, message_count, reassembly_result, message_if_whole};
+ghost use Rattle.segmenting.specs.Joining.{message_delivered_by_segment};
 ghost use Rattle.segmenting.specs.Joining.{completed_message};
 
 /// Law: for any segment size above 0, there is exactly one way to cut a message of 1 to 251 octets into segments.
@@ -26,9 +26,9 @@ pub fn law_messages_are_reassembled()
 /// has returned `Whole`.
 pub fn law_segment_delivers_completed_message()
     ensures messages { (ps : List Segment) (p : Segment)
-        → messages (ps ++ p ∷ []) ≡ messages ps ++ delivered_by_segment ps p }
+        → messages (ps ++ p ∷ []) ≡ messages ps ++ message_delivered_by_segment ps p }
     ensures delivered_is_completed { (ps : List Segment) (p : Segment)
-        → delivered_by_segment ps p ≡ message_if_whole (reassembly_result ps p) (completed_message (ps ++ p ∷ [])) }
+        → message_delivered_by_segment ps p ≡ message_if_whole (reassembly_result ps p) (completed_message (ps ++ p ∷ [])) }
 {}
 
 /// Law: the first `r` segments of a list of messages complete the first `c` messages, none of them oversize, where `c` is the number of
@@ -36,7 +36,7 @@ pub fn law_segment_delivers_completed_message()
 pub fn law_segments_complete_messages_in_order()
     ensures front { (channel : Channel) (ms : List Message) (r : ℕ) → All IsValidMessage ms
         → let front = take r (flat_map (segments (n201 channel)) ms) in
-        ended_messages [] front ≡ map (λ (m : Message). Some m) (take (message_count front) ms) }
+        messages_ending_in_segments [] front ≡ map (λ (m : Message). Some m) (take (message_count front) ms) }
     ensures whole { (channel : Channel) (ms : List Message) (r k : ℕ) → k ≤ length ms
         → let all = λ (ms : List Message). flat_map (segments (n201 channel)) ms in
         (k ≤ message_count (take r (all ms))) ↔ (length (all (take k ms)) ≤ r) }

@@ -18,6 +18,3 @@ pub use pieces::{Piece, Pieces};
 
 /// The maximum length of a message, in octets.
 pub const LONGEST_MESSAGE: usize = 251;
-
-#[cfg(test)]
-mod tests;

@@ -26,13 +26,13 @@ pub struct Pieces<'a> {
 impl<'a> Pieces<'a> {
     ghost use Rattle.std.specs.Prelude.{slice_get, Some};
     ghost use Rattle.segmenting.specs.Segments.{segments, max_segments_per_message};
-    ghost use Rattle.segmenting.specs.Cuttings.{segments_of, channel_of_pieces, SegmentIsBorrowed};
+    ghost use Rattle.segmenting.specs.Cuttings.{segments_of_pieces, channel_of_pieces, SegmentIsBorrowed};
 
     /// Returns the segments of the message for SDCCH, of at most 20 octets each.
     pub fn new(message: &'a [u8]) -> Pieces<'a>
         requires some { 1 ≤ length message.now }
         requires most { length message.now ≤ max_message_octets }
-        ensures pieces { segments_of result ≡ segments (n201 Channel.Sdcch) message.now }
+        ensures pieces { segments_of_pieces result ≡ segments (n201 Channel.Sdcch) message.now }
         ensures channel { channel_of_pieces result ≡ Channel.Sdcch }
     {
         Pieces::new_on(message, Channel::Sdcch)
@@ -42,7 +42,7 @@ impl<'a> Pieces<'a> {
     pub fn new_on(message: &'a [u8], channel: Channel) -> Pieces<'a>
         requires some { 1 ≤ length message.now }
         requires most { length message.now ≤ max_message_octets }
-        ensures pieces { segments_of result ≡ segments (n201 channel) message.now }
+        ensures pieces { segments_of_pieces result ≡ segments (n201 channel) message.now }
         ensures channel { channel_of_pieces result ≡ channel }
     {
         Pieces { message, channel }
@@ -50,7 +50,7 @@ impl<'a> Pieces<'a> {
 
     /// Returns the number of segments: at most 13 on SDCCH, 14 on SACCH.
     pub fn count(&self) -> usize
-        ensures count { result ≡ length (segments_of self.now) }
+        ensures count { result ≡ length (segments_of_pieces self.now) }
         ensures some { 1 ≤ result }
         ensures most { result ≤ max_segments_per_message (channel_of_pieces self.now) }
     {
@@ -59,8 +59,8 @@ impl<'a> Pieces<'a> {
 
     /// Returns the segment with index `i`, counted from 0.
     pub fn piece(&self, i: usize) -> Piece<'a>
-        requires { i < length (segments_of self.now) }
-        ensures value { slice_get (segments_of self.now) i ≡ Some (result.octets.now, result.more) }
+        requires { i < length (segments_of_pieces self.now) }
+        ensures value { slice_get (segments_of_pieces self.now) i ≡ Some (result.octets.now, result.more) }
         ensures borrowed { SegmentIsBorrowed self.now i result.octets }
     {
         let most = self.channel.n201();

@@ -59,7 +59,7 @@ pub small_sign : (tsc i : ℕ) → tsc ≤ 7 → i < 26 → IsMagnitudeWithin 1 
 small_sign tsc i h lt =
     rw (sign_at (midamble tsc) i (omega (arith, lt, length-midamble tsc h))) (small_in_row tsc i h lt)
 
--- A multiple of eight signs is added to eight totals, lane by lane, in 16-bit arithmetic.
+-- The product of a value with each of eight signs is added to eight totals, lane by lane, in 16-bit arithmetic.
 
 abbrev plus : ℕ → ℕ → ℕ
 plus a b = (a + b) % 2 ^ 16
@@ -117,7 +117,7 @@ passed (suc n) (total ∷ totals) zero e lt h = to_z-of_z w16 total (omega (arit
 passed (suc n) (total ∷ totals) (suc k) e lt h = passed n totals k (omega arith) (omega arith) h
 passed n totals k e lt h = absurd (omega arith)
 
--- ## Correlations: Correlations with one more soft bit, and the correlation of a sum of soft bits.
+-- ## Correlations: How one more soft bit changes a correlation, and the correlation of a sum of soft bits.
 
 pub correlation_more : (soft : List ℤ) (bits : List ℕ) (i : ℕ) (total all : ℤ) → i < length soft → i < length bits →
     total +ℤ likelihood (drop i soft) (drop i bits) ≡ all →
@@ -169,7 +169,7 @@ correlation-vector_sum xs ys bits e b = absurd (omega arith)
 
 -- ## Greatest: A loop finds the greatest of several scores, and the first if several are equal.
 
--- every other index below `end` has a smaller score, or an equal one and comes later
+-- `best` is below `end`, and every other index below `end` has a smaller score, or an equal score and comes later
 pub record LeadsBelow (score : ℕ → ℤ) (end best : ℕ) : Type 0 where
   pub in_range : best < end
   pub others : (n : ℕ) → n < end → n ≢ best → (score n <ℤ score best) ⊎ ((score n ≡ score best) × (best < n))

@@ -15,8 +15,8 @@ total_correlation a b c d tsc =
     ((likelihood a bits +ℤ likelihood b bits) +ℤ likelihood c bits) +ℤ likelihood d bits
 
 -- the training sequence code, 0 to 7, has the greatest total correlation with four midambles; on a tie, it is the lowest such code
-abbrev pub CorrelatesBest : (first_midamble second_midamble third_midamble fourth_midamble : List ℤ) (tsc : ℕ) → Type 0
-CorrelatesBest a b c d tsc = IsFirstMaximum (total_correlation a b c d) 7 tsc
+abbrev pub IsBestCorrelatedTsc : (first_midamble second_midamble third_midamble fourth_midamble : List ℤ) (tsc : ℕ) → Type 0
+IsBestCorrelatedTsc a b c d tsc = IsFirstMaximum (total_correlation a b c d) 7 tsc
 
 -- the number of soft bits, of the 104 in four midambles, that disagree with a training sequence
 abbrev pub wrong_midamble_bits : (first_midamble second_midamble third_midamble fourth_midamble : List ℤ) (tsc : ℕ) → ℕ

@@ -1,7 +1,7 @@
 //! The choice of a training sequence by correlation (this project's own rule): the midambles of four bursts are added element by element,
 //! and the sums are correlated with each of the eight sequences.
 ghost use Rattle.std.specs.Prelude.{◌≡◌, ◌+◌, ◌<◌, ◌≤◌, ◌+ℤ◌, length, All};
-ghost use Rattle.training_seq.specs.Choice.{IsFirstMaximum, CorrelatesBest, wrong_midamble_bits};
+ghost use Rattle.training_seq.specs.Choice.{IsFirstMaximum, IsBestCorrelatedTsc, wrong_midamble_bits};
 ghost use Rattle.bit_blocks.specs.SoftValues.{likelihood};
 ghost use Rattle.training_seq.specs.Ranges.{IsMagnitudeWithin};
 ghost use Rattle.training_seq.specs.Sequences.{midamble};
@@ -17,7 +17,7 @@ pub fn best(a: &[i8], b: &[i8], c: &[i8], d: &[i8]) -> (u8, u32)
     requires b { length b.now ≡ 26 }
     requires c { length c.now ≡ 26 }
     requires d { length d.now ≡ 26 }
-    ensures tsc { CorrelatesBest a.now b.now c.now d.now result.0 }
+    ensures tsc { IsBestCorrelatedTsc a.now b.now c.now d.now result.0 }
     ensures wrong { result.1 ≡ wrong_midamble_bits a.now b.now c.now d.now result.0 }
 {
     let tsc = most_correlated_tsc(&add_midambles(a, b, c, d));

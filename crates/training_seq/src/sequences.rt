@@ -63,7 +63,7 @@ static TRAINING_SIGNS: [[i16; 26]; 8] = [
 ];
 
 // The signs of the eight training sequences at each of the 26 indexes.
-static SIGNS_BY_INDEX: [[i16; 8]; 26] = [
+static TRAINING_SIGNS_BY_BIT_INDEX: [[i16; 8]; 26] = [
     [1, 1, 1, 1, 1, 1, -1, -1],
     [1, 1, -1, -1, 1, -1, 1, -1],
     [-1, -1, 1, 1, 1, 1, -1, -1],
@@ -115,5 +115,5 @@ pub(crate) fn all_tsc_signs_at(bit_index: usize) -> &'static [i16; 8]
     requires { bit_index < 26 }
     ensures { result.now ≡ map (λ bits. sign_of_bit (slice_index bits bit_index)) training_sequences }
 {
-    &SIGNS_BY_INDEX[bit_index]
+    &TRAINING_SIGNS_BY_BIT_INDEX[bit_index]
 }

@@ -1,4 +1,4 @@
--- Viterbi steps in lanes: branch metrics, decisions and survivor maps.
+-- Viterbi steps in SIMD lanes: branch metrics, decisions and survivor maps.
 use Rattle.{
   conv_code.specs.Likelihood.bit_metric,
   std.{
@@ -16,11 +16,12 @@ use Rattle.{
   trellis_decode.{
     proofs.AcsVectors.{difference-lane, sum-lane, at_is},
     specs.{
-      AcsLanes.{AbsFit16Bits, AreBranchMetrics, AreDecisionLanes, DifferByAtMost4096, DifferencesFit16Bits, HasBranchMetrics, bit_reversed},
-      AcsLanes.{interleaved_lanes, lane_decisions, lane_decision, lane_metric, lane_of_state, lanes_in_state_order, metrics_of_lanes},
+      AcsLanes.{AbsFit16Bits, AreBranchMetrics, AreDecisionLanes, DifferByAtMost4096, DifferencesFit16Bits, HasBranchMetrics},
+      AcsLanes.{three_bits_reversed, interleaved_lanes, lane_decisions, lane_decision, path_metric_of_lane, lane_of_state},
+      AcsLanes.{lanes_in_state_order, metrics_of_lanes},
       Candidates.AreAcsCandidates,
-      Hard.{AreInt8, AreWithinOne, HasHardBranchMetrics, HaveHeadroom8, IsHardBit, hard_lane_metrics, lane_of_next_state_0},
-      Hard.{lane_of_next_state_1, metric_of_hard_lane, sign_bit_of},
+      Hard.{AreInt8, HaveMagnitudeAtMostOne, HasHardBranchMetrics, HaveHeadroom8, IsHardBit, hard_lane_metrics, lane_after_bit_0},
+      Hard.{lane_after_bit_1, metric_of_hard_lane, sign_bit_of},
       Lanes.{AreSignedOctets, IsSignedOctet, lane},
       SurvivorPaths.AreMetricsWithin,
       Trellis.{IsDecision, branch_metric, candidate_metric, next_trellis_state, first_coded_bit, second_coded_bit},
@@ -47,7 +48,7 @@ abbrev values : {A : Type 0} → (ℕ → A) → ℕ → List A
 values f zero = []
 values f (suc n) = f n ∷ values f n
 
--- two functions agree below n if the lists of their values do, which `refl` computes
+-- two functions agree for all numbers below n if the lists of their values are equal; `refl` proves this equality by computation
 pub same_below : {A : Type 0} (f g : ℕ → A) {n : ℕ} → values f n ≡ values g n → (k : ℕ) → k < n → f k ≡ g k
 same_below f g {n = zero} h = λ k lt. absurd (omega arith)
 same_below f g {n = suc n} h = λ k lt. below_more (λ k. f k ≡ g k) n (same_below f g (cc)) (cc) k (omega arith)
@@ -81,7 +82,7 @@ branch_metric-high pair two s lt = branch_metric-opposite pair (8 + s) s 0 0 two
 
 -- ## FourPairs: The branch metrics of four positions, computed from eight soft bits in one vector.
 
--- ---- soft bits widened to 16-bit lanes
+-- ---- lemmas about soft bits widened to 16-bit lanes
 
 pub widen_to_i16-fits : (soft : List ℤ) → AreSignedOctets soft →
     Each1 (λ a. FitsSigned w16 (cast_signed w8 a)) (map (cast_unsigned w8) soft)
@@ -97,7 +98,7 @@ widen_to_i16-same (x ∷ soft) octets =
     let head = All-head IsSignedOctet x soft octets in
     ap₂ (λ y ys. y ∷ ys) (omega (arith, ints)) (widen_to_i16-same _ (All-tail IsSignedOctet x _ octets))
 
--- ---- the branch metrics of one position
+-- ---- lemmas about the branch metrics of one position
 
 -- the branch metrics of bit 0 in states 0 to 7, in bit-reversed order, from two soft bits as unsigned lanes
 abbrev metrics_of_bits : ℕ → ℕ → List ℤ
@@ -132,7 +133,8 @@ metrics_of_pair-are p q hp hq =
     let d = negated-cast_signed ((cast_unsigned w16 p + (65536 - cast_unsigned w16 q)) % 65536) (omega arith) (omega (arith, ints)) in (
       record {
         count = refl;
-        each_lane = each (λ k. lane (metrics_of_pair p q) k ≡ branch_metric (bit_reversed k) 0 (p ∷ q ∷ [])) 8 (omega (arith, ints));
+        each_lane = each (λ k. lane (metrics_of_pair p q) k ≡ branch_metric (three_bits_reversed k) 0 (p ∷ q ∷ [])) 8
+            (omega (arith, ints));
       },
       record {
         count = refl;
@@ -141,7 +143,7 @@ metrics_of_pair-are p q hp hq =
       },
     )
 
--- ---- the branch metrics of four positions
+-- ---- lemmas about the branch metrics of four positions
 
 -- the branch metrics of bit 0 in states 0 to 7 for the pair of soft bits at index i
 abbrev pub branch_metrics_at : List ℤ → ℕ → List ℤ
@@ -167,7 +169,7 @@ four_pairs (p ∷ q ∷ r ∷ s ∷ t ∷ u ∷ v ∷ w ∷ []) octets count =
     )
 four_pairs soft octets count = absurd (omega arith)
 
--- ---- the pairs of soft bits in a list
+-- ---- lemmas about the pairs of soft bits in a list
 
 -- the pair of soft bits at index i
 abbrev pub pair_at : List ℤ → ℕ → List ℤ
@@ -180,7 +182,7 @@ pub pair_and_after : (soft : List ℤ) (i j : ℕ) → i + 2 ≡ j → pair_at s
 pair_and_after soft i j e =
     rw (← e, ← drop-drop 2 i soft) (take-append-drop 2 (drop i soft))
 
--- a pair of soft bits in a slice is a pair in the whole list
+-- the pair of soft bits at index i of a slice is the pair at index `from` + i of the whole list
 pub pair_at-take_drop : (soft : List ℤ) (from n i j : ℕ) → i + 2 ≤ n → from + i ≡ j →
     pair_at (take n (drop from soft)) i ≡ pair_at soft j
 pair_at-take_drop soft from n i j inside e =
@@ -192,18 +194,19 @@ pair_at-take_drop soft from n i j inside e =
 -- the next states after bit 0 are one whole vector, and those after bit 1 the other.
 
 -- in one lane, the greater candidate metric is the path metric, and its bit is the decision
-pub IsDecision-lane : (after pair : List ℤ) (s : ℕ) (z o value taken : ℤ) → lane_metric z ≡ candidate_metric after pair s 0 →
-    lane_metric o ≡ candidate_metric after pair s 1 → value ≡ (if int_lt z o then o else z) →
-    taken ≡ (if int_lt z o then negsuc 0 else pos 0) → IsDecision after pair s (lane_metric value) (lane_decision taken)
+pub IsDecision-lane : (after pair : List ℤ) (s : ℕ) (z o value taken : ℤ) →
+    path_metric_of_lane z ≡ candidate_metric after pair s 0 →
+    path_metric_of_lane o ≡ candidate_metric after pair s 1 → value ≡ (if int_lt z o then o else z) →
+    taken ≡ (if int_lt z o then negsuc 0 else pos 0) → IsDecision after pair s (path_metric_of_lane value) (lane_decision taken)
 IsDecision-lane after pair s z o value taken zero_is one_is chosen bit = rw (chosen, bit) (by _ refl) where
   by : (t : Bool) → int_lt z o ≡ t →
-      IsDecision after pair s (lane_metric (if t then o else z)) (lane_decision (if t then negsuc 0 else pos 0))
+      IsDecision after pair s (path_metric_of_lane (if t then o else z)) (lane_decision (if t then negsuc 0 else pos 0))
   by true e = inr (refl, one_is, omega (arith, ints))
   by false e = inl (refl, zero_is, omega (arith, ints))
 
--- ---- the lanes of the states in two vectors
+-- ---- lemmas about the lanes of the states in two vectors
 
-bit_reversed_twice : (k : ℕ) → k < 8 → bit_reversed (bit_reversed k) ≡ k
+bit_reversed_twice : (k : ℕ) → k < 8 → three_bits_reversed (three_bits_reversed k) ≡ k
 bit_reversed_twice = same_below _ _ refl
 
 halves : (P : ℕ → Type 0) → ((k : ℕ) → k < 8 → P k) → ((k : ℕ) → k < 8 → P (8 + k)) → (k : ℕ) → k < 16 → P k
@@ -211,53 +214,60 @@ halves P low high k lt =
     elim (cases_lt k 8) [ inl below ↦ low k below | inr from ↦ subst P (omega arith) (high (k - 8) (omega arith)) ]
 
 -- a statement that holds for the state of each lane holds for each state
-pub each_state : (P : ℕ → Type 0) → ((k : ℕ) → k < 8 → P (bit_reversed k)) →
-    ((k : ℕ) → k < 8 → P (8 + bit_reversed k)) → (s : ℕ) → s < 16 → P s
+pub each_state : (P : ℕ → Type 0) → ((k : ℕ) → k < 8 → P (three_bits_reversed k)) →
+    ((k : ℕ) → k < 8 → P (8 + three_bits_reversed k)) → (s : ℕ) → s < 16 → P s
 each_state P low high =
     halves P (λ k lt. subst P (bit_reversed_twice k lt) (low _ (omega arith)))
     (λ k lt. rw (← bit_reversed_twice k lt) (high _ (omega arith)))
 
-low_in_order : (low high : List ℤ) (k : ℕ) → k < 8 → lane (lanes_in_state_order low high) (bit_reversed k) ≡ lane low k
+low_in_order : (low high : List ℤ) (k : ℕ) → k < 8 →
+    lane (lanes_in_state_order low high) (three_bits_reversed k) ≡ lane low k
 low_in_order low high = same_below _ _ refl
 
-high_in_order : (low high : List ℤ) (k : ℕ) → k < 8 → lane (lanes_in_state_order low high) (8 + bit_reversed k) ≡ lane high k
+high_in_order : (low high : List ℤ) (k : ℕ) → k < 8 →
+    lane (lanes_in_state_order low high) (8 + three_bits_reversed k) ≡ lane high k
 high_in_order low high = same_below _ _ refl
 
-pub low_choice : (low high : List ℤ) (k : ℕ) → k < 8 → get_or (lane_decisions low high) (bit_reversed k) 0 ≡
+pub low_choice : (low high : List ℤ) (k : ℕ) → k < 8 → get_or (lane_decisions low high) (three_bits_reversed k) 0 ≡
     lane_decision (lane low k)
 low_choice low high = same_below _ _ refl
 
 pub high_choice : (low high : List ℤ) (k : ℕ) → k < 8 →
-    get_or (lane_decisions low high) (8 + bit_reversed k) 0 ≡ lane_decision (lane high k)
+    get_or (lane_decisions low high) (8 + three_bits_reversed k) 0 ≡ lane_decision (lane high k)
 high_choice low high = same_below _ _ refl
 
-pub even_metric : (even odd : List ℤ) (k : ℕ) → k < 8 → lane (metrics_of_lanes even odd) (next_trellis_state (bit_reversed k) 0) ≡
-    lane_metric (lane even k)
+pub even_metric : (even odd : List ℤ) (k : ℕ) → k < 8 →
+    lane (metrics_of_lanes even odd) (next_trellis_state (three_bits_reversed k) 0) ≡
+    path_metric_of_lane (lane even k)
 even_metric _ odd = same_below _ _ refl
 
-pub odd_metric : (even odd : List ℤ) (k : ℕ) → k < 8 → lane (metrics_of_lanes even odd) (next_trellis_state (bit_reversed k) 1) ≡
-    lane_metric (lane odd k)
+pub odd_metric : (even odd : List ℤ) (k : ℕ) → k < 8 →
+    lane (metrics_of_lanes even odd) (next_trellis_state (three_bits_reversed k) 1) ≡
+    path_metric_of_lane (lane odd k)
 odd_metric _ odd = same_below _ _ refl
 
 -- the path metrics that result from a step, from the lanes of states 0 to 7 (low) and 8 to 15 (high)
 abbrev pub step_metrics : List ℤ → List ℤ → List ℤ
 step_metrics low high = metrics_of_lanes (interleaved_lanes low high 0 1 2 3) (interleaved_lanes low high 4 5 6 7)
 
-pub low_metric : (low high : List ℤ) (k : ℕ) → k < 8 → lane (step_metrics low high) (bit_reversed k) ≡ lane_metric (lane low k)
+pub low_metric : (low high : List ℤ) (k : ℕ) → k < 8 →
+    lane (step_metrics low high) (three_bits_reversed k) ≡ path_metric_of_lane (lane low k)
 low_metric low high = same_below _ _ refl
 
-pub high_metric : (low high : List ℤ) (k : ℕ) → k < 8 → lane (step_metrics low high) (8 + bit_reversed k) ≡ lane_metric (lane high k)
+pub high_metric : (low high : List ℤ) (k : ℕ) → k < 8 →
+    lane (step_metrics low high) (8 + three_bits_reversed k) ≡ path_metric_of_lane (lane high k)
 high_metric low high = same_below _ _ refl
 
--- the candidate metrics in one lane
+-- in each lane, the sums and differences of path metrics and branch metrics are the candidate metrics of two states
 module _ (even odd branch_metrics pair : List ℤ) (has : HasBranchMetrics branch_metrics pair) where
   abbrev candidate_at : ℕ → ℕ → ℤ
   candidate_at = candidate_metric (metrics_of_lanes even odd) pair
 
-  pub candidate_at-lanes : (k : ℕ) → k < 8 → (lane_metric (lane even k +ℤ lane branch_metrics k) ≡ candidate_at (bit_reversed k) 0)
-      × (lane_metric (lane odd k -ℤ lane branch_metrics k) ≡ candidate_at (bit_reversed k) 1)
-      × (lane_metric (lane even k -ℤ lane branch_metrics k) ≡ candidate_at (8 + bit_reversed k) 0)
-      × (lane_metric (lane odd k +ℤ lane branch_metrics k) ≡ candidate_at (8 + bit_reversed k) 1)
+  pub candidate_at-lanes : (k : ℕ) → k < 8 →
+      (path_metric_of_lane (lane even k +ℤ lane branch_metrics k) ≡ candidate_at (three_bits_reversed k) 0)
+      × (path_metric_of_lane (lane odd k -ℤ lane branch_metrics k) ≡ candidate_at (three_bits_reversed k) 1)
+      × (path_metric_of_lane (lane even k -ℤ lane branch_metrics k) ≡ candidate_at (8 + three_bits_reversed k) 0)
+      × (path_metric_of_lane (lane odd k +ℤ lane branch_metrics k) ≡ candidate_at (8 + three_bits_reversed k) 1)
   unfolding candidate_metric
   candidate_at-lanes k lt =
       omega (
@@ -266,13 +276,15 @@ module _ (even odd branch_metrics pair : List ℤ) (has : HasBranchMetrics branc
         has.each_lane k lt,
         even_metric even odd k lt,
         odd_metric even odd k lt,
-        same_below (λ k. lane (metrics_of_lanes even odd) (next_trellis_state (8 + bit_reversed k) 0)) (λ k. lane_metric (lane even k))
+        same_below (λ k. lane (metrics_of_lanes even odd) (next_trellis_state (8 + three_bits_reversed k) 0))
+            (λ k. path_metric_of_lane (lane even k))
             refl k lt,
-        same_below (λ k. lane (metrics_of_lanes even odd) (next_trellis_state (8 + bit_reversed k) 1)) (λ k. lane_metric (lane odd k))
+        same_below (λ k. lane (metrics_of_lanes even odd) (next_trellis_state (8 + three_bits_reversed k) 1))
+            (λ k. path_metric_of_lane (lane odd k))
             refl k lt,
-        branch_metric-one pair has.count (bit_reversed k),
-        branch_metric-one pair has.count (8 + bit_reversed k),
-        branch_metric-high pair has.count (bit_reversed k) (omega arith),
+        branch_metric-one pair has.count (three_bits_reversed k),
+        branch_metric-one pair has.count (8 + three_bits_reversed k),
+        branch_metric-high pair has.count (three_bits_reversed k) (omega arith),
       )
 
 -- a path metric is no less than the smaller path metric of the two next states, since one of the two branch metrics is not negative
@@ -285,20 +297,20 @@ IsDecision-lower_bound after pair s bit value floor count lt low0 low1 h = omega
 -- ## Leads: The difference between the candidate metrics of bit 0 and bit 1: its sign is the decision, and its absolute value the cost of
 -- the other bit.
 
--- the decision is 1 if the difference is negative
+-- the decision is bit 1 if the difference, the candidate metric of bit 0 minus that of bit 1, is negative
 pub IsDecision-bit : (after pair : List ℤ) (s bit bit' : ℕ) (value lead : ℤ) → IsDecision after pair s value bit →
     lead ≡ candidate_metric after pair s 0 -ℤ candidate_metric after pair s 1 → bit' ≡ (if int_lt lead (pos 0) then 1 else 0) →
     IsDecision after pair s value bit'
 IsDecision-bit after pair s bit bit' value lead h is b = grind arith
 
--- the absolute value of the difference is the cost of the other bit
+-- the absolute value of the difference is the path metric that the other bit would lose
 pub IsDecision-loss : (after pair : List ℤ) (s bit : ℕ) (value lead loss : ℤ) → IsDecision after pair s value bit →
     lead ≡ candidate_metric after pair s 0 -ℤ candidate_metric after pair s 1 →
     loss ≡ (if int_lt lead (pos 0 -ℤ lead) then pos 0 -ℤ lead else lead) →
     loss ≡ candidate_metric after pair s bit -ℤ candidate_metric after pair s (1 - bit)
 IsDecision-loss after pair s bit value lead loss h is l = grind arith
 
--- ---- the differences in all sixteen states
+-- ---- lemmas about the differences in all sixteen states
 
 pub record AreLeads (even odd branch_metrics leads : List ℤ) : Type 0 where
   pub subtract_lanes : AbsFit16Bits leads
@@ -314,8 +326,8 @@ module _ (even odd branch_metrics : List ℤ) (candidates : Candidates) (is : Ar
   low_fits k lt = omega (
     arith,
     ints,
-    is.low_states_bit_0_lane k lt,
-    is.low_states_bit_1_lane k lt,
+    is.low_states_bit_0_sums k lt,
+    is.low_states_bit_1_differences k lt,
     close.lower_bound k,
     close.upper_bound k,
     bounded.lower_bound k,
@@ -326,8 +338,8 @@ module _ (even odd branch_metrics : List ℤ) (candidates : Candidates) (is : Ar
   high_fits k lt = omega (
     arith,
     ints,
-    is.high_states_bit_0_lane k lt,
-    is.high_states_bit_1_lane k lt,
+    is.high_states_bit_0_differences k lt,
+    is.high_states_bit_1_sums k lt,
     close.lower_bound k,
     close.upper_bound k,
     bounded.lower_bound k,
@@ -355,9 +367,9 @@ module _ (even odd branch_metrics : List ℤ) (candidates : Candidates) (is : Ar
           subtract_lanes = record { count = refl; lower_bound = λ s lt. (fit s lt).0; upper_bound = λ s lt. (fit s lt).1 };
           each = λ pair has. each_state _
               (λ k lt. rw (low_in_order low high k lt) (let at = candidate_at-lanes even odd branch_metrics pair has k lt in
-              omega (arith, ints, low_lane k lt, is.low_states_bit_0_lane k lt, is.low_states_bit_1_lane k lt)))
+              omega (arith, ints, low_lane k lt, is.low_states_bit_0_sums k lt, is.low_states_bit_1_differences k lt)))
               (λ k lt. rw (high_in_order low high k lt) (let at = candidate_at-lanes even odd branch_metrics pair has k lt in
-              omega (arith, ints, high_lane k lt, is.high_states_bit_0_lane k lt, is.high_states_bit_1_lane k lt)));
+              omega (arith, ints, high_lane k lt, is.high_states_bit_0_differences k lt, is.high_states_bit_1_sums k lt)));
         })
 
 -- ## Followed: The decisions of the sixteen states, in one vector of lanes, select the entries of the extended survivor map.
@@ -378,10 +390,10 @@ zero_lanes-at = same_below _ _ refl
 pub AreInt8-splat : (x : ℤ) → FitsSigned w8 x → AreInt8 (replicate 16 x)
 AreInt8-splat x fits = record { count = refl; fits = λ k lt. rw (same_below (lane (replicate 16 x)) (λ _. x) refl k lt) fits }
 
-lane_of_state-low : (k : ℕ) → k < 8 → lane_of_state (bit_reversed k) ≡ k
+lane_of_state-low : (k : ℕ) → k < 8 → lane_of_state (three_bits_reversed k) ≡ k
 lane_of_state-low = same_below _ _ refl
 
-lane_of_state-high : (k : ℕ) → k < 8 → lane_of_state (8 + bit_reversed k) ≡ 8 + k
+lane_of_state-high : (k : ℕ) → k < 8 → lane_of_state (8 + three_bits_reversed k) ≡ 8 + k
 lane_of_state-high = same_below _ _ refl
 
 module _ (low high : List ℤ) (hl : AreDecisionLanes low) (hh : AreDecisionLanes high) where
@@ -424,22 +436,22 @@ module _ (low high : List ℤ) (hl : AreDecisionLanes low) (hh : AreDecisionLane
 -- ## HardSteps: One Viterbi step (add, compare, select) for hard bits, in sixteen 8-bit lanes. The branch metrics are a table indexed by
 -- the signs of the two soft bits, which is checked by computation.
 
--- ---- states and their lanes
+-- ---- lemmas about states and their lanes
 
 pub hard_metrics-lane : (lanes : List ℤ) (s : ℕ) → s < 16 →
     lane (hard_lane_metrics lanes) s ≡ metric_of_hard_lane (lane lanes (lane_of_state s))
 hard_metrics-lane lanes = same_below _ _ refl
 
-next_state_0-lane : (s : ℕ) → s < 16 → lane_of_next_state_0 (lane_of_state s) ≡ lane_of_state (next_trellis_state s 0)
+next_state_0-lane : (s : ℕ) → s < 16 → lane_after_bit_0 (lane_of_state s) ≡ lane_of_state (next_trellis_state s 0)
 next_state_0-lane = same_below _ _ refl
 
-next_state_1-lane : (s : ℕ) → s < 16 → lane_of_next_state_1 (lane_of_state s) ≡ lane_of_state (next_trellis_state s 1)
+next_state_1-lane : (s : ℕ) → s < 16 → lane_after_bit_1 (lane_of_state s) ≡ lane_of_state (next_trellis_state s 1)
 next_state_1-lane = same_below _ _ refl
 
 pub inside : (s : ℕ) → s < 16 → lane_of_state s < 16
 inside s lt = omega arith
 
--- ---- the candidate metrics of bit 0 and of bit 1
+-- ---- lemmas about the candidate metrics of bit 0 and of bit 1
 
 IsDecision-hard_lane : (after pair : List ℤ) (s : ℕ) (z o value : ℤ) → metric_of_hard_lane z ≡ candidate_metric after pair s 0 →
     metric_of_hard_lane o ≡ candidate_metric after pair s 1 →
@@ -453,7 +465,7 @@ IsDecision-hard_lane after pair s z o value zero_is one_is is =
 
 module _ (after branch_metrics pair : List ℤ) (has : HasHardBranchMetrics branch_metrics pair) where
   pub bit_0_candidate-metric : (candidates : List ℤ) → ((k : ℕ) → k < 16 →
-      lane candidates k ≡ lane after (lane_of_next_state_0 k) +ℤ lane branch_metrics k) →
+      lane candidates k ≡ lane after (lane_after_bit_0 k) +ℤ lane branch_metrics k) →
       (s : ℕ) → s < 16 → metric_of_hard_lane (lane candidates (lane_of_state s)) ≡
       candidate_metric (hard_lane_metrics after) pair s 0
   unfolding candidate_metric
@@ -462,7 +474,7 @@ module _ (after branch_metrics pair : List ℤ) (has : HasHardBranchMetrics bran
       omega (arith, ints, hard_metrics-lane after (next_trellis_state s 0) (omega arith), has.at_state s lt)
 
   one_candidate : (candidates : List ℤ) → ((k : ℕ) → k < 16 →
-      lane candidates k ≡ lane after (lane_of_next_state_1 k) -ℤ lane branch_metrics k) →
+      lane candidates k ≡ lane after (lane_after_bit_1 k) -ℤ lane branch_metrics k) →
       (s : ℕ) → s < 16 → metric_of_hard_lane (lane candidates (lane_of_state s)) ≡
       candidate_metric (hard_lane_metrics after) pair s 1
   unfolding candidate_metric
@@ -478,8 +490,8 @@ module _ (after branch_metrics pair : List ℤ) (has : HasHardBranchMetrics bran
       )
 
   pub IsDecision-hard : (zeros ones values : List ℤ) →
-      ((k : ℕ) → k < 16 → lane zeros k ≡ lane after (lane_of_next_state_0 k) +ℤ lane branch_metrics k) →
-      ((k : ℕ) → k < 16 → lane ones k ≡ lane after (lane_of_next_state_1 k) -ℤ lane branch_metrics k) →
+      ((k : ℕ) → k < 16 → lane zeros k ≡ lane after (lane_after_bit_0 k) +ℤ lane branch_metrics k) →
+      ((k : ℕ) → k < 16 → lane ones k ≡ lane after (lane_after_bit_1 k) -ℤ lane branch_metrics k) →
       ((k : ℕ) → k < 16 → lane values k ≡ (if int_lt (lane zeros k) (lane ones k) then lane ones k else lane zeros k)) →
       (s : ℕ) → s < 16 → IsDecision (hard_lane_metrics after) pair s (lane (hard_lane_metrics values) s)
       (if int_lt (lane zeros (lane_of_state s)) (lane ones (lane_of_state s)) then 1 else 0)
@@ -488,14 +500,14 @@ module _ (after branch_metrics pair : List ℤ) (has : HasHardBranchMetrics bran
       (bit_0_candidate-metric zeros zeros-candidates s lt) (one_candidate ones ones-candidates s lt)
       (better _ (inside s lt)))
 
--- the lane of the next state after the decided bit
+-- from the lane of a state and the decided bit, `lane_after_bit_0` or `lane_after_bit_1` gives the lane of the next state
 pub next_lane-state : (s : ℕ) → s < 16 → (t : Bool) →
-    (if t then lane_of_next_state_1 (lane_of_state s) else lane_of_next_state_0 (lane_of_state s))
+    (if t then lane_after_bit_1 (lane_of_state s) else lane_after_bit_0 (lane_of_state s))
     ≡ lane_of_state (next_trellis_state s (if t then 1 else 0))
 next_lane-state s lt true = next_state_1-lane s lt
 next_lane-state s lt false = next_state_0-lane s lt
 
--- ---- bounds of the path metrics
+-- ---- lemmas about bounds of the path metrics
 
 pub HaveHeadroom8-within : (lanes : List ℤ) (most : ℕ) → most ≤ 60000 → length lanes ≡ 16 →
     AreMetricsWithin most (hard_lane_metrics lanes) → HaveHeadroom8 lanes
@@ -525,7 +537,7 @@ pair_lanes (x ∷ soft) (suc i) within =
     pair_lanes _ i (omega arith) ∙ ap (λ k. lane soft i ∷ lane (x ∷ soft) k ∷ []) (sym at)
 pair_lanes soft i within = absurd (omega arith)
 
--- ---- the table of branch metrics
+-- ---- lemmas about the table of branch metrics
 
 abbrev pub hard_table : List (List ℤ)
 hard_table =
@@ -551,7 +563,7 @@ HasHardBranchMetrics-row d n p q (inr hp) (inl hq) is = rw (is, hp, hq) (record 
 HasHardBranchMetrics-row d n p q (inl hp) (inr hq) is = rw (is, hp, hq) (record { count = refl; at_state = same_below _ _ refl })
 HasHardBranchMetrics-row d n p q (inr hp) (inr hq) is = rw (is, hp, hq) (record { count = refl; at_state = same_below _ _ refl })
 
--- the rows for two pairs of soft bits: the first pair, and the second
+-- row n of a table of branch metrics, converted to octets and back; there is a table for the first pair of soft bits and one for the second
 abbrev pub row_of : List (List ℤ) → ℕ → List ℤ → List ℤ
 row_of table n d = map (cast_signed w8) (map (cast_unsigned w8) (get_or table n d))
 
@@ -569,7 +581,7 @@ first_row d = same_below (λ n. row_of first_table n d) (λ n. hard_row (n % 4) 
 pub second_row : (d : List ℤ) (n : ℕ) → n < 16 → row_of second_table n d ≡ hard_row (n / 4) d
 second_row d = same_below (λ n. row_of second_table n d) (λ n. hard_row (n / 4) d) refl
 
--- every number in a row is -1, 0 or 1
+-- whether a number is -1, 0 or 1, as every branch metric in the table is
 abbrev is_unit : ℤ → Bool
 is_unit (pos zero) = true
 is_unit (pos (suc zero)) = true
@@ -584,7 +596,7 @@ unit_bounds (pos (suc (suc n))) e = absurd cc
 unit_bounds (negsuc zero) e = (omega (arith, ints), omega (arith, ints))
 unit_bounds (negsuc (suc n)) e = absurd cc
 
-pub hard_row-units : (d : List ℤ) (n : ℕ) → n < 4 → AreWithinOne (hard_row n d)
+pub hard_row-units : (d : List ℤ) (n : ℕ) → n < 4 → HaveMagnitudeAtMostOne (hard_row n d)
 hard_row-units d n lt =
     let unit : (k : ℕ) → k < 16 → is_unit (lane (hard_row n d) k) ≡ true =
     each (λ n. (k : ℕ) → k < 16 → is_unit (lane (hard_row n d) k) ≡ true) 4 (

@@ -38,7 +38,8 @@ FitEach w n a = (k : ℕ) → k < n → FitsSigned w (lane a k)
 abbrev pub Lanewise : Width → ℕ → (ℤ → ℤ → ℤ) → List ℤ → List ℤ → List ℤ → Type 0
 Lanewise w n h a b c = (length c ≡ n) × ((k : ℕ) → k < n → lane c k ≡ h (lane a k) (lane b k)) × FitEach w n c
 
-pub Lanewise-by_lane : (w : Width) (n : ℕ) (F : ℕ → List ℤ → List ℤ → List ℤ) (g h : ℤ → ℤ → ℤ) → F 0 [] [] ≡ [] →
+pub Lanewise-by_lane : (w : Width) (n : ℕ) (F : ℕ → List ℤ → List ℤ → List ℤ) (g h : ℤ → ℤ → ℤ) →
+    F 0 [] [] ≡ [] →
     ((n : ℕ) (x y : ℤ) (xs ys : List ℤ) → F (suc n) (x ∷ xs) (y ∷ ys) ≡ g x y ∷ F n xs ys) →
     ((x y : ℤ) → FitsSigned w x → FitsSigned w y → FitsSigned w (h x y) → g x y ≡ h x y) → (a b : List ℤ) →
     length a ≡ n → length b ≡ n → FitEach w n a → FitEach w n b →
@@ -58,7 +59,7 @@ pub if_map : {A B : Type 0} (f : A → B) (t : Bool) {m n : A} {x y : B} → f m
 if_map f true ex ey = ex
 if_map f false ex ey = ey
 
--- ---- sums and differences
+-- ---- lemmas about sums and differences
 
 abbrev bits : List ℤ → List ℕ
 bits = map (cast_unsigned w16)
@@ -83,7 +84,8 @@ difference-lane x y hx hy h = wrapping_sub_is _ x y hx hy ∙ int_wrap_fits _ _ 
 pub Lanewise-differences : (a b : List ℤ) → AreInt16 a → AreInt16 b → DifferencesFit16Bits a b →
     Lanewise w16 8 ◌-ℤ◌ a b (subtract_lanes a b)
 Lanewise-differences a b ha hb fit =
-    Lanewise-by_lane w16 8 (λ _. subtract_lanes) _ ◌-ℤ◌ refl (λ n x y xs ys. refl) difference-lane a b ha.count hb.count ha.fits hb.fits
+    Lanewise-by_lane w16 8 (λ _. subtract_lanes) _ ◌-ℤ◌ refl
+    (λ n x y xs ys. refl) difference-lane a b ha.count hb.count ha.fits hb.fits
     fit.fits
 
 module _ (a b : List ℤ) (ha : HaveHeadroom16 a) (hb : AreBranchMetrics b) where
@@ -101,9 +103,9 @@ module _ (a b : List ℤ) (ha : HaveHeadroom16 a) (hb : AreBranchMetrics b) wher
   pub branch_metrics_subtracted : Lanewise w16 8 ◌-ℤ◌ a b (subtract_lanes a b)
   branch_metrics_subtracted = Lanewise-differences a b in_16_bits metrics_in_16_bits (grind (arith, ints))
 
--- ---- comparisons
+-- ---- lemmas about comparisons
 
--- the comparison "less than" of one lane: all bits one if it is true, else 0
+-- the result of the comparison "less than" in one lane: all bits are 1 if it is true, and 0 if not
 abbrev pub compared : Width → ℕ → ℕ → ℕ
 compared w x y = if int_lt (cast_signed w x) (cast_signed w y) then 2 ^ width w - 1 else 0
 
@@ -132,7 +134,7 @@ Lanewise-maxima w n a b ca cb fa fb =
     (map (cast_unsigned w) a))) _ (λ x y. if int_lt x y then y else x) refl (λ n x y xs ys. refl) (larger w) a b ca cb fa fb
     (λ k lt. if_either (FitsSigned w) _ (fb k lt) (fa k lt))
 
--- the result of comparing two vectors, in 8-bit lanes
+-- the result of comparing two vectors of 16-bit lanes, in 8-bit lanes: -1 where a is less than b, else 0
 abbrev decision_lanes : ℕ → List ℤ → List ℤ → List ℤ
 decision_lanes n a b =
     map (cast_signed w8) (sel_l (map (top 7) (map (λ x. cast_unsigned w8 (cast_signed w16 x))
@@ -165,16 +167,16 @@ AreDecisionLanes-each lanes t count is = record { count = count; each_lane = λ 
   one_of true is = inl is
   one_of false is = inr is
 
--- ---- lanes in a new order
+-- ---- lemmas about vectors whose lanes are in a new order
 
--- a vector passed to a function or returned, converted to unsigned and back
+-- lanes that fit in their width do not change when they are converted to unsigned numbers and back
 pub cast_lanes-each : (w : Width) (a : List ℤ) → FitEach w (length a) a → map (cast_signed w) (map (cast_unsigned w) a) ≡ a
 cast_lanes-each w [] fits = refl
 cast_lanes-each w (x ∷ a) fits =
     ap₂ (λ y ys. y ∷ ys) (to_z-of_z w x (fits 0 (omega arith))) (cast_lanes-each w _ (λ s lt. fits (suc s) (omega arith)))
 
 module _ (w : Width) (zero_is : cast_signed w 0 ≡ pos 0) where
-  -- a lane of two concatenated vectors
+  -- lane k of two concatenated vectors
   abbrev pub at : List ℤ → List ℤ → ℕ → ℤ
   at a b k = cast_signed w (get_or (map (cast_unsigned w) a ++ map (cast_unsigned w) b) k 0)
 
@@ -186,7 +188,8 @@ module _ (w : Width) (zero_is : cast_signed w 0 ≡ pos 0) where
   pub at_is : (a b : List ℤ) → FitEach w (length a) a → FitEach w (length b) b → (k : ℕ) → at a b k ≡ lane (a ++ b) k
   at_is a b fa fb k =
       signed_at _ k
-      ∙ ap (λ l. lane l k) (map-append _ (map (cast_unsigned w) a) _ ∙ ap₂ ◌++◌ (cast_lanes-each w a fa) (cast_lanes-each w b fb))
+      ∙ ap (λ l. lane l k) (map-append _ (map (cast_unsigned w) a) _
+      ∙ ap₂ ◌++◌ (cast_lanes-each w a fa) (cast_lanes-each w b fb))
 
   -- the lanes of two vectors of eight, taken in the order f, form the vector g
   pub in_order : (f : (ℕ → ℤ) → List ℤ) (g : List ℤ → List ℤ → List ℤ) → ((i j k l m n p q : ℤ) (b : List ℤ) →
@@ -197,7 +200,7 @@ module _ (w : Width) (zero_is : cast_signed w 0 ≡ pos 0) where
       ∙ is i j k l m n p q b
   in_order f g is a b ca cb fa fb = absurd (omega arith)
 
--- ---- differences of lanes, their absolute values and signs
+-- ---- lemmas about differences of lanes, their absolute values and their signs
 
 pub AbsFit16Bits-fits : (a : List ℤ) → AbsFit16Bits a → FitEach w16 16 a
 AbsFit16Bits-fits a h = grind arith
@@ -248,7 +251,7 @@ AbsFit16Bits-absolute_values a h =
       upper_bound = λ s lt. omega (arith, ints, is.2 s lt);
     }
 
--- below, `signs` says for each lane whether it is negative
+-- in this module, `signs` states for each lane whether it is negative
 module _ (w : Width) (zero_is : cast_signed w 0 ≡ pos 0) (n : ℕ) (few : n ≤ 64) (a : List ℤ) (count : length a ≡ n) where
   abbrev signs : ℕ → List ℤ → List ℤ → List Bool
   signs n a b = map (top (hbits w)) (zip2 (compared w) (map (cast_unsigned w) a) (replicate n 0))

@@ -11,7 +11,7 @@ use Rattle.{
     specs.Int.{cast_signed, cast_unsigned},
   },
   trellis_decode.{
-    specs.{Lanes.lane, Hard.{AreInt8, AreWithinOne, HaveHeadroom8, lane_of_next_state_1, lane_of_next_state_0}},
+    specs.{Lanes.lane, Hard.{AreInt8, HaveMagnitudeAtMostOne, HaveHeadroom8, lane_after_bit_1, lane_after_bit_0}},
     proofs.{AcsSteps.same_below, AcsVectors.{FitEach, compared, if_either, if_map, lanewise-at, length-lanewise, tested}},
   },
 }
@@ -26,9 +26,9 @@ sum x y = (x + y) % 256
 abbrev difference : ℕ → ℕ → ℕ
 difference x y = (x + (256 - y)) % 256
 
--- ---- the candidate metrics of bit 0 and of bit 1
+-- ---- lemmas about the candidate metrics of bit 0 and of bit 1
 
--- a vector permuted so that the lane of each state holds the lane of its next state after bit 0, and after bit 1
+-- a vector permuted so that the lane of each state holds the lane of its next state, after bit 0 (`next_zero`) or bit 1 (`next_one`)
 abbrev pub next_zero : List ℕ → List ℕ
 next_zero xs =
     get_or xs 0 0 ∷ get_or xs 8 0 ∷ get_or xs 1 0 ∷ get_or xs 9 0 ∷ get_or xs 2 0 ∷ get_or xs 10 0 ∷ get_or xs 3 0
@@ -43,13 +43,13 @@ next_one xs =
     get_or xs 4 0 ∷ get_or xs 12 0 ∷ get_or xs 5 0 ∷ get_or xs 13 0 ∷ get_or xs 6 0 ∷ get_or xs 14 0 ∷ get_or xs 7 0
     ∷ get_or xs 15 0 ∷ []
 
-next_zero-at : (xs : List ℕ) (k : ℕ) → k < 16 → get_or (next_zero xs) k 0 ≡ get_or xs (lane_of_next_state_0 k) 0
+next_zero-at : (xs : List ℕ) (k : ℕ) → k < 16 → get_or (next_zero xs) k 0 ≡ get_or xs (lane_after_bit_0 k) 0
 next_zero-at xs = same_below _ _ refl
 
-next_one-at : (xs : List ℕ) (k : ℕ) → k < 16 → get_or (next_one xs) k 0 ≡ get_or xs (lane_of_next_state_1 k) 0
+next_one-at : (xs : List ℕ) (k : ℕ) → k < 16 → get_or (next_one xs) k 0 ≡ get_or xs (lane_after_bit_1 k) 0
 next_one-at xs = same_below _ _ refl
 
-module _ (a branch_metrics : List ℤ) (ha : HaveHeadroom8 a) (he : AreWithinOne branch_metrics) where
+module _ (a branch_metrics : List ℤ) (ha : HaveHeadroom8 a) (he : HaveMagnitudeAtMostOne branch_metrics) where
   abbrev twice : List ℕ
   twice = bits a ++ bits a
 
@@ -91,34 +91,34 @@ module _ (a branch_metrics : List ℤ) (ha : HaveHeadroom8 a) (he : AreWithinOne
       metric_at k lt = get_or-map (cast_unsigned w8) branch_metrics k (pos 0) 0 (omega (arith, he.count))
 
   pub zeros-candidates : ((k : ℕ) → k < 16 → lane (map (cast_signed w8) (zip2 sum (next_zero twice) (bits branch_metrics))) k ≡
-      lane a (lane_of_next_state_0 k) +ℤ lane branch_metrics k)
+      lane a (lane_after_bit_0 k) +ℤ lane branch_metrics k)
       × AreInt8 (map (cast_signed w8) (zip2 sum (next_zero twice) (bits branch_metrics)))
   zeros-candidates =
-      candidates sum ◌+ℤ◌ (next_zero twice) lane_of_next_state_0 refl (next_zero-at _) (λ k lt. omega arith)
+      candidates sum ◌+ℤ◌ (next_zero twice) lane_after_bit_0 refl (next_zero-at _) (λ k lt. omega arith)
       (λ x y hx hy h. wrapping_add_is w8 x y hx hy ∙ int_wrap_fits w8 _ h)
       (λ i k li lk. omega (arith, ints, ha.lower_bound i, ha.upper_bound i, he.lower_bound k, he.upper_bound k))
 
   pub ones-candidates : ((k : ℕ) → k < 16 → lane (map (cast_signed w8) (zip2 difference (next_one twice) (bits branch_metrics))) k ≡
-      lane a (lane_of_next_state_1 k) -ℤ lane branch_metrics k)
+      lane a (lane_after_bit_1 k) -ℤ lane branch_metrics k)
       × AreInt8 (map (cast_signed w8) (zip2 difference (next_one twice) (bits branch_metrics)))
   ones-candidates =
-      candidates difference ◌-ℤ◌ (next_one twice) lane_of_next_state_1 refl (next_one-at _) (λ k lt. omega arith)
+      candidates difference ◌-ℤ◌ (next_one twice) lane_after_bit_1 refl (next_one-at _) (λ k lt. omega arith)
       (λ x y hx hy h. wrapping_sub_is w8 x y hx hy ∙ int_wrap_fits w8 _ h)
       (λ i k li lk. omega (arith, ints, ha.lower_bound i, ha.upper_bound i, he.lower_bound k, he.upper_bound k))
 
--- ---- the survivor map of the greater candidate metrics
+-- ---- lemmas about the survivor map of the greater candidate metrics
 
--- for each lane, the lane of the next state after bit 0, and after bit 1
+-- for each lane, the lane of the next state, after bit 0 (`zero_places`) or bit 1 (`one_places`)
 abbrev zero_places : List ℕ
 zero_places = 0 ∷ 8 ∷ 1 ∷ 9 ∷ 2 ∷ 10 ∷ 3 ∷ 11 ∷ 0 ∷ 8 ∷ 1 ∷ 9 ∷ 2 ∷ 10 ∷ 3 ∷ 11 ∷ []
 
 abbrev one_places : List ℕ
 one_places = 4 ∷ 12 ∷ 5 ∷ 13 ∷ 6 ∷ 14 ∷ 7 ∷ 15 ∷ 4 ∷ 12 ∷ 5 ∷ 13 ∷ 6 ∷ 14 ∷ 7 ∷ 15 ∷ []
 
-zero_places-at : (k : ℕ) → k < 16 → get_or zero_places k 0 ≡ lane_of_next_state_0 k
+zero_places-at : (k : ℕ) → k < 16 → get_or zero_places k 0 ≡ lane_after_bit_0 k
 zero_places-at = same_below _ _ refl
 
-one_places-at : (k : ℕ) → k < 16 → get_or one_places k 0 ≡ lane_of_next_state_1 k
+one_places-at : (k : ℕ) → k < 16 → get_or one_places k 0 ≡ lane_after_bit_1 k
 one_places-at = same_below _ _ refl
 
 -- for each lane, whether the candidate metric of bit 1 is the greater
@@ -151,19 +151,19 @@ module _ (zeros ones : List ℤ) (hz : AreInt8 zeros) (ho : AreInt8 ones) where
   abbrev next_places : List ℕ
   next_places = choice one_places zero_places
 
-  next_place : (k : ℕ) → k < 16 → get_or next_places k 0 ≡ (if less k then lane_of_next_state_1 k else lane_of_next_state_0 k)
+  next_place : (k : ℕ) → k < 16 → get_or next_places k 0 ≡ (if less k then lane_after_bit_1 k else lane_after_bit_0 k)
   next_place k lt = picked _ _ refl refl k lt
       ∙ ap₂ (λ x y. if less k then x else y) (one_places-at k lt) (zero_places-at k lt)
 
-  inside : (k : ℕ) (t : Bool) → k < 16 → (if t then lane_of_next_state_1 k else lane_of_next_state_0 k) < 16
+  inside : (k : ℕ) (t : Bool) → k < 16 → (if t then lane_after_bit_1 k else lane_after_bit_0 k) < 16
   inside k t lt = if_either (λ n. n < 16) t (omega arith) (omega arith)
 
   pub lane-extend_survivor_map : (xs : List ℕ) (k : ℕ) → k < 16 →
-      get_or (swz_l w8 16 xs 0 next_places) k 0 ≡ get_or xs (if less k then lane_of_next_state_1 k else lane_of_next_state_0 k) 0
+      get_or (swz_l w8 16 xs 0 next_places) k 0 ≡ get_or xs (if less k then lane_after_bit_1 k else lane_after_bit_0 k) 0
   lane-extend_survivor_map xs k lt =
       let is = next_place k lt in
       let small = inside k (less k) lt in
-      let first : 16 * ((0 + k) / 16) + get_or next_places k 0 ≡ (if less k then lane_of_next_state_1 k else lane_of_next_state_0 k) =
+      let first : 16 * ((0 + k) / 16) + get_or next_places k 0 ≡ (if less k then lane_after_bit_1 k else lane_after_bit_0 k) =
       omega arith in
       get_or-swz_l_below w8 16 xs 0 _ k (let n = length-picked one_places zero_places refl refl in omega arith) (omega arith)
       ∙ ap (λ n. get_or xs n 0) first
@@ -183,7 +183,7 @@ module _ (zeros ones : List ℤ) (hz : AreInt8 zeros) (ho : AreInt8 ones) where
   selected xs = choice (next_one (xs ++ xs)) (next_zero (xs ++ xs))
 
   pub lane-selected : (xs : List ℕ) → length xs ≡ 16 → (k : ℕ) → k < 16 →
-      get_or (selected xs) k 0 ≡ get_or xs (if less k then lane_of_next_state_1 k else lane_of_next_state_0 k) 0
+      get_or (selected xs) k 0 ≡ get_or xs (if less k then lane_after_bit_1 k else lane_after_bit_0 k) 0
   lane-selected xs counted k lt =
       picked _ _ refl refl k lt
       ∙ ap₂ (λ x y. if less k then x else y) (next_one-at _ k lt ∙ get_or_append_left xs xs 0 _ (omega arith))

@@ -14,17 +14,14 @@ use Rattle.{
   },
   conv_code.specs.bit_blocks.Bits.{AllBits, IsBit},
   trellis_decode.{
-    proofs.{
-      AcsSteps.{each, even_metric, IsDecision-lower_bound, odd_metric, same_below},
-      Viterbi.{AllBits-encoding_from_state, lex_not_after-refl, IsSurvivor-bit, IsSurvivor-tail_bit, IsSurvivor-more},
-      Viterbi.{IsSurvivor-same, candidate-survivor, traceback-tail_rows, length-traceback, length-to_binary, likelihood_bound},
-      Viterbi.{metric_from_state-cons, traceback-zeros},
-    },
+    proofs.{AcsSteps.{each, even_metric, IsDecision-lower_bound, odd_metric, same_below}, Viterbi.AllBits-encoding_from_state},
+    proofs.Viterbi.{lex_not_after-refl, IsSurvivor-bit, IsSurvivor-tail_bit, IsSurvivor-more, IsSurvivor-same, candidate-survivor},
+    proofs.Viterbi.{traceback-tail_rows, length-traceback, length-to_binary, likelihood_bound, metric_from_state-cons, traceback-zeros},
     specs.{
-      AcsLanes.{DifferByAtMost4096, HaveHeadroom16, bit_reversed, lane_metric, lane_of_state, metrics_of_lanes},
+      AcsLanes.{DifferByAtMost4096, HaveHeadroom16, three_bits_reversed, path_metric_of_lane, lane_of_state, metrics_of_lanes},
       Decisions.HasDecisionsAndMetrics,
       Lanes.{AreSignedOctets, IsSignedOctet, lane},
-      SurvivorPaths.{AreMetricsWithin, AreSurvivors, HoldLanesFrom, state_after_bits, survivor_traceback},
+      SurvivorPaths.{AreMetricsWithin, AreSurvivors, HoldLaneNumbersFromIndex, state_after_bits, survivor_traceback},
       Trellis.{AreDecisions, EqualMetricButLater, HasTailBits, IsDecision, IsSurvivor, LessMetric, branch_metric, candidate_metric},
       Trellis.{first_coded_bit, metric_from_state, next_trellis_state, second_coded_bit, traceback},
       Words.to_binary,
@@ -39,14 +36,14 @@ state_after-inside : (s : ℕ) (u : List ℕ) → s < 16 → state_after_bits s 
 state_after-inside s [] lt = lt
 state_after-inside s (x ∷ u) lt = state_after-inside (next_trellis_state s x) u (omega arith)
 
--- the lists from all states have equal length
+-- if the bit lists from all states have n bits, a survivor followed by such a list has n bits and one more for each pair of soft bits
 same_lengths : {after values soft : List ℤ} {map : List ℕ} (walk : AreSurvivors after values map soft) (lists : ℕ →
     List ℕ) (n : ℕ) → ((s : ℕ) → s < 16 → length (lists s) ≡ n) → (s : ℕ) → s < 16 →
     2 * length (walk.bits s ++ lists (state_after_bits s (walk.bits s))) ≡ length soft + 2 * n
 same_lengths walk lists n same s lt =
     omega (arith, same _ (state_after-inside s (walk.bits s) lt), length-append (walk.bits s) (lists (state_after_bits s (walk.bits s))))
 
--- the survivor map over zero positions: each state leads to itself
+-- over zero positions, the survivor map leads each state to itself
 pub AreSurvivors-none : (values : List ℤ) →
     AreSurvivors values values (0 ∷ 1 ∷ 2 ∷ 3 ∷ 4 ∷ 5 ∷ 6 ∷ 7 ∷ 8 ∷ 9 ∷ 10 ∷ 11 ∷ 12 ∷ 13 ∷ 14 ∷ 15 ∷ []) []
 AreSurvivors-none values = record {
@@ -85,7 +82,7 @@ module _ (after middle values pair soft : List ℤ) (map map' : List ℕ) (bit :
         (IsSurvivor-bit middle pair (soft ++ rest) s (bit s) longer (lane values s) two (omega arith) (omega arith)
         (from (next_trellis_state s 0) (omega arith)) (from (next_trellis_state s 1) (omega arith)) (chosen s lt))
 
--- ---- bounds of the path metrics
+-- ---- lemmas about bounds of the path metrics
 
 -- a branch metric lies between -256 and 256
 branch_metric_bound : (pair : List ℤ) (s bit : ℕ) → length pair ≡ 2 → AreSignedOctets pair →
@@ -121,7 +118,8 @@ AreMetricsWithin-more after values pair most bit two octets chosen within = reco
 -- the sum of a bounded path metric and a branch metric fits in 16 bits
 module _ (even odd : List ℤ) (most : ℕ) (few : most ≤ 63000) (within : AreMetricsWithin most (metrics_of_lanes even odd)) where
   has_headroom : (lanes : List ℤ) (bit : ℕ) → length lanes ≡ 8 →
-      ((k : ℕ) → k < 8 → lane (metrics_of_lanes even odd) (next_trellis_state (bit_reversed k) bit) ≡ lane_metric (lane lanes k))
+      ((k : ℕ) → k < 8 → lane (metrics_of_lanes even odd)
+      (next_trellis_state (three_bits_reversed k) bit) ≡ path_metric_of_lane (lane lanes k))
       →
       HaveHeadroom16 lanes
   has_headroom lanes bit count path_metric = record {
@@ -130,13 +128,13 @@ module _ (even odd : List ℤ) (most : ℕ) (few : most ≤ 63000) (within : Are
       arith,
       ints,
       path_metric k lt,
-      within.lower_bound (next_trellis_state (bit_reversed k) bit) (omega arith),
+      within.lower_bound (next_trellis_state (three_bits_reversed k) bit) (omega arith),
     );
     upper_bound = λ k lt. omega (
       arith,
       ints,
       path_metric k lt,
-      within.upper_bound (next_trellis_state (bit_reversed k) bit) (omega arith),
+      within.upper_bound (next_trellis_state (three_bits_reversed k) bit) (omega arith),
     );
   }
 
@@ -146,14 +144,14 @@ module _ (even odd : List ℤ) (most : ℕ) (few : most ≤ 63000) (within : Are
   pub HaveHeadroom16-odd : length odd ≡ 8 → HaveHeadroom16 odd
   HaveHeadroom16-odd count = has_headroom odd 1 count (odd_metric even odd)
 
--- the absolute value of a path metric is at most 128 for each soft bit
+-- the absolute value of a path metric is at most 128 times the number of soft bits
 IsSurvivor-bounds : (s : ℕ) (u : List ℕ) (soft : List ℤ) (value : ℤ) → AreSignedOctets soft → IsSurvivor s u soft value →
     ((pos 0 -ℤ pos (128 * length soft)) ≤ℤ value) × (value ≤ℤ pos (128 * length soft))
 unfolding metric_from_state
 IsSurvivor-bounds s u soft value octets best =
     omega (arith, ints, likelihood_bound soft _ octets (AllBits-encoding_from_state s u))
 
--- bounds of the path metrics from position n on, where the soft bits are at most eight
+-- the path metrics lie between -1,024 and 1,024 if at most eight soft bits remain, from index n on
 pub AreMetricsWithin-best : (n : ℕ) (values soft : List ℤ) (lists : ℕ → List ℕ) → AreSignedOctets soft
     → length soft ≤ n + 8 →
     ((s : ℕ) → s < 16 → IsSurvivor s (lists s) (drop n soft) (lane values s)) → AreMetricsWithin 1024 values
@@ -180,8 +178,8 @@ IsSurvivor-zero_tail after values pair soft n two few best candidates s lt =
     rw (candidates s lt) (IsSurvivor-tail_bit _ _ _ s _ two (omega (arith, length-replicate {A = ℕ} n 0))
     (best (next_trellis_state s 0) (omega arith)))
 
--- ## MapLists: The list that traceback reads out of survivor maps of four positions each, extended by one map at the front. A state
--- consists of the four bits that led to it.
+-- ## MapLists: The bits that traceback reads from survivor maps of four positions each, extended by one map at the front. A state consists
+-- of the four bits that led to it.
 
 -- `lane_of_state` is its own inverse
 lane_of_state-twice : (s : ℕ) → s < 16 → lane_of_state (lane_of_state s) ≡ s
@@ -230,7 +228,7 @@ module _ {after values soft rest : List ℤ} {map : List ℕ} (survivors : List 
   abbrev bits : ℕ → List ℕ
   bits = walk.bits
 
-  -- the map entry of s is the lane of the state that its bits lead to
+  -- the survivor map's entry for state s is the lane of the state that the bits of its survivor lead to
   maps_to_end_state : (s : ℕ) → s < 16 → get_or map (lane_of_state s) 0 % 16 ≡ lane_of_state (state_after_bits s (bits s))
   maps_to_end_state s lt =
       omega (arith, walk.maps_to_end_state s lt, state_after-inside s (bits s) lt)
@@ -259,7 +257,7 @@ read_last : (s : ℕ) → s < 16 →
     survivor_traceback (replicate 16 0 ∷ []) (lane_of_state s) ≡ replicate 4 0
 read_last = same_below _ _ refl
 
--- ---- survivor maps, filled from the last to the first
+-- ---- lemmas about survivor maps, filled from the last to the first
 
 pub last_map : (survivors : List (List ℕ)) (soft values : List ℤ) (last : ℕ) → last + 1 ≡ length survivors →
     ((s : ℕ) → s < 16 → IsSurvivor s (replicate 4 0) soft (lane values s)) → (s : ℕ) → s < 16 →
@@ -311,11 +309,11 @@ IsSurvivor-short : (s : ℕ) (u : List ℕ) (soft : List ℤ) → HasTailBits u 
 IsSurvivor-short s u soft ends short = record {
   has_metric = refl;
   tail_bits = ends;
-  beats_others = λ v ends_v count. rw (HasTailBits-same u v ends ends_v count short) (EqualMetricButLater refl
+  no_other_path_is_better = λ v ends_v count. rw (HasTailBits-same u v ends ends_v count short) (EqualMetricButLater refl
       (lex_not_after-refl u));
 }
 
--- in the last four positions, decision rows of zeros are right
+-- in the last four positions, decision rows of zeros are correct, since tail bits are 0
 AreDecisions-tail : (rows : List ℕ) (losses : List (List ℤ)) (soft : List ℤ) → length rows ≤ 4 →
     length losses ≡ length rows → length soft ≡ 2 * length rows → All (λ row. row ≡ 0) rows → AreDecisions rows losses soft
 AreDecisions-tail [] losses soft short same pairs blank = pairs
@@ -326,13 +324,13 @@ AreDecisions-tail (row ∷ rows) (lost ∷ losses) soft short same pairs blank =
     best = λ s lt. IsSurvivor-short s (traceback (row ∷ rows) s) soft
         (subst HasTailBits (sym (traceback-zeros (row ∷ rows) s blank)) (HasTailBits-zeros (suc (length rows))))
         (omega (arith, length-traceback (row ∷ rows) s));
-    each_loss = λ s lt four. absurd (omega arith);
+    loss_of_each_state = λ s lt four. absurd (omega arith);
   },
   AreDecisions-tail rows losses (drop 2 soft) (omega arith) (omega arith) (omega (arith, length-drop 2 soft))
       (All-tail (λ row. row ≡ 0) row rows blank),
 )
 
--- ---- decisions and costs for one more position at the front
+-- ---- lemmas about the decisions and costs that a step adds when it puts one earlier position in front of the soft bits
 
 drop-pair : (pair soft : List ℤ) → length pair ≡ 2 → drop 2 (pair ++ soft) ≡ soft
 drop-pair (p ∷ q ∷ []) soft two = refl
@@ -359,7 +357,7 @@ module _ (after values lost pair soft : List ℤ) (rows : List ℕ) (losses : Li
       omega (arith, length-append pair soft),
       record {
         best = λ s lt. rw (← (best_more s lt).has_metric) (best_more s lt);
-        each_loss = λ s lt long. loses s lt ∙ ap₂ (λ a b. a -ℤ b) (candidate_is s _) (candidate_is s _);
+        loss_of_each_state = λ s lt long. loses s lt ∙ ap₂ (λ a b. a -ℤ b) (candidate_is s _) (candidate_is s _);
       },
       rw (drop-pair pair soft two) old.decisions,
     );
@@ -373,7 +371,7 @@ module _ (after values lost pair soft : List ℤ) (rows : List ℕ) (losses : Li
     best = best_more;
   }
 
--- ---- how far apart two path metrics can be
+-- ---- lemmas about how far apart two path metrics can be
 
 metric_from_state-more : (state x : ℕ) (u : List ℕ) (soft : List ℤ) → 2 ≤ length soft →
     metric_from_state state (x ∷ u) soft ≡ branch_metric state x (take 2 soft) +ℤ metric_from_state (next_trellis_state state x) u
@@ -406,7 +404,8 @@ near_more n s t x u soft long octets fits_16_bits =
 
 -- if two states are equal modulo m, the path metrics of a list from them differ by at most n
 abbrev NearIfCongruent : ℕ → ℕ → Type 0
-NearIfCongruent n m = (s t : ℕ) (u : List ℕ) (soft : List ℤ) → length soft ≡ 2 * length u → AreSignedOctets soft → s % m ≡ t % m
+NearIfCongruent n m = (s t : ℕ) (u : List ℕ) (soft : List ℤ) → length soft ≡ 2 * length u → AreSignedOctets soft →
+    s % m ≡ t % m
     → IsNear n s t u soft
 
 near_step : (n m k : ℕ) → ((s t x : ℕ) → s % m ≡ t % m → next_trellis_state s x % k ≡ next_trellis_state t x % k)
@@ -428,7 +427,7 @@ fits_16_bits =
         near_more 0 s t x u _ (omega arith) octets
         (let same : next_trellis_state s x ≡ next_trellis_state t x = omega arith in rw same (omega (arith, ints)))
 
--- ---- the preconditions of a trellis step
+-- ---- lemmas about the preconditions of a trellis step
 
 module _ (rows : List ℕ) (losses : List (List ℤ)) (soft even odd : List ℤ)
     (decided : HasDecisionsAndMetrics rows losses soft (metrics_of_lanes even odd)) where
@@ -439,7 +438,7 @@ module _ (rows : List ℕ) (losses : List (List ℤ)) (soft even odd : List ℤ)
       let apart = fits_16_bits s t (traceback rows s) soft count decided.octets (omega arith) in
       let here = (decided.best s hs).has_metric in
       let there = (decided.best t ht).has_metric in
-      elim ((decided.best t ht).beats_others (traceback rows s) (decided.best s hs).tail_bits (length-traceback rows s ∙ sym
+      elim ((decided.best t ht).no_other_path_is_better (traceback rows s) (decided.best s hs).tail_bits (length-traceback rows s ∙ sym
       (length-traceback rows t))) [
         | LessMetric h ↦ omega (arith, ints)
         | EqualMetricButLater h later ↦ omega (arith, ints)
@@ -452,14 +451,16 @@ module _ (rows : List ℕ) (losses : List (List ℤ)) (soft even odd : List ℤ)
       ints,
       even_metric even odd k lt,
       odd_metric even odd k lt,
-      value_near (next_trellis_state (bit_reversed k) 1) (next_trellis_state (bit_reversed k) 0) (omega arith) (omega arith),
+      value_near (next_trellis_state (three_bits_reversed k) 1) (next_trellis_state (three_bits_reversed k) 0) (omega arith)
+          (omega arith),
     );
     upper_bound = λ k lt. omega (
       arith,
       ints,
       even_metric even odd k lt,
       odd_metric even odd k lt,
-      value_near (next_trellis_state (bit_reversed k) 0) (next_trellis_state (bit_reversed k) 1) (omega arith) (omega arith),
+      value_near (next_trellis_state (three_bits_reversed k) 0) (next_trellis_state (three_bits_reversed k) 1) (omega arith)
+          (omega arith),
     );
   }
 
@@ -474,7 +475,7 @@ module _ (rows : List ℕ) (losses : List (List ℤ)) (soft even odd : List ℤ)
     pub HasDecisionsAndMetrics-odd : length odd ≡ 8 → HaveHeadroom16 odd
     HasDecisionsAndMetrics-odd = HaveHeadroom16-odd even odd 58368 (lit≤ tt) within
 
--- ---- the last four positions, which are the tail
+-- ---- lemmas about the last four positions, which are the tail
 
 pub HasDecisionsAndMetrics-tail : (rows : List ℕ) (losses : List (List ℤ)) (soft values : List ℤ) → length rows ≡ 4 →
     length losses ≡ 4 → length soft ≡ 8 → AreSignedOctets soft → All (λ row. row ≡ 0) rows →
@@ -502,7 +503,8 @@ lane_of_state-inside k lt = omega arith
 lane_of_state-involution : (k : ℕ) → k < 16 → lane_of_state (lane_of_state k) ≡ k
 lane_of_state-involution = same_below (λ k. lane_of_state (lane_of_state k)) (λ k. k) refl
 
-pub AreSurvivors-map_lanes : (after values : List ℤ) (map : List ℕ) (soft : List ℤ) → AreSurvivors after values map soft → (k : ℕ) →
+pub AreSurvivors-map_lanes : (after values : List ℤ) (map : List ℕ) (soft : List ℤ) → AreSurvivors after values map soft →
+    (k : ℕ) →
     k < 16 → get_or map k 0 < 16
 AreSurvivors-map_lanes after values map soft walk k lt =
     let s = lane_of_state k in
@@ -512,19 +514,19 @@ AreSurvivors-map_lanes after values map soft walk k lt =
     ap (λ k. get_or map k 0) (sym (lane_of_state-involution k lt)) ∙ walk.maps_to_end_state s low in
     rw is (lane_of_state-inside _ end)
 
-pub HoldLanesFrom-more : (survivors : List (List ℕ)) (map : List ℕ) (before from : ℕ) → before + 1 ≡ from →
-    before < length survivors → ((k : ℕ) → k < 16 → get_or map k 0 < 16) → HoldLanesFrom from survivors →
-    HoldLanesFrom before (set survivors before map)
-HoldLanesFrom-more survivors map before from at within small old group k low member lt = elim (cases_lt before group) [
+pub HoldLaneNumbersFromIndex-more : (survivors : List (List ℕ)) (map : List ℕ) (before from : ℕ) → before + 1 ≡ from →
+    before < length survivors → ((k : ℕ) → k < 16 → get_or map k 0 < 16) → HoldLaneNumbersFromIndex from survivors →
+    HoldLaneNumbersFromIndex before (set survivors before map)
+HoldLaneNumbersFromIndex-more survivors map before from at within small old group k low member lt = elim (cases_lt before group) [
   | inl less ↦ rw (get_or-set_other survivors before group map [] (λ e. omega arith)) (old group k (omega arith)
       (omega (arith, length-set survivors before map)) lt)
   | inr most ↦ rw (get_or-set_at survivors before group map [] (omega arith) within) (small k lt)
 ]
 
-pub HoldLanesFrom-last : (survivors : List (List ℕ)) (last : ℕ) → last + 1 ≡ length survivors →
-    HoldLanesFrom last (set survivors last
+pub HoldLaneNumbersFromIndex-last : (survivors : List (List ℕ)) (last : ℕ) → last + 1 ≡ length survivors →
+    HoldLaneNumbersFromIndex last (set survivors last
     (0 ∷ 0 ∷ 0 ∷ 0 ∷ 0 ∷ 0 ∷ 0 ∷ 0 ∷ 0 ∷ 0 ∷ 0 ∷ 0 ∷ 0 ∷ 0 ∷ 0 ∷ 0 ∷ []))
-HoldLanesFrom-last survivors last end =
+HoldLaneNumbersFromIndex-last survivors last end =
     let blank : List ℕ = 0 ∷ 0 ∷ 0 ∷ 0 ∷ 0 ∷ 0 ∷ 0 ∷ 0 ∷ 0 ∷ 0 ∷ 0 ∷ 0 ∷ 0 ∷ 0 ∷ 0 ∷ 0 ∷ [] in
-    HoldLanesFrom-more survivors blank last (last + 1) refl (omega arith)
+    HoldLaneNumbersFromIndex-more survivors blank last (last + 1) refl (omega arith)
     (λ k lt. rw (get_or-replicate {A = ℕ} 16 k 0 0 lt) (omega arith)) (λ group k low member lt. absurd (omega arith))

@@ -24,7 +24,7 @@ use Rattle.{
   },
 }
 
--- ## Likelihoods: The path metric of one more soft bit.
+-- ## Likelihoods: How one more soft bit changes the path metric.
 
 pub likelihood-more : (s : List ℤ) (c : List ℕ) (k : ℕ) → k < length s → k < length c →
     likelihood (take (suc k) s) (take (suc k) c) ≡ likelihood (take k s) (take k c) +ℤ bit_metric (get_or s k (pos 0)) (get_or c k 0)
@@ -33,8 +33,8 @@ likelihood-more (p ∷ s) (x ∷ c) (suc k) hs hc =
     omega (arith, ints, likelihood-more s c k (omega arith) (omega arith))
 likelihood-more s c k hs hc = absurd (omega arith)
 
--- ## Paths: Viterbi's argument about survivors, applied backward: the best list from a state is the better of two candidates, each a first
--- bit followed by the best list from the next state. Bit 0 wins a tie, so the best list is the first in lexicographic order.
+-- ## Paths: Viterbi's argument about survivors, applied backward: the survivor of a state is the better of two candidates, each a first bit
+-- followed by the survivor of the next state. Bit 0 wins a tie, so the survivor is the first in lexicographic order.
 
 -- the path metric of a list is the branch metric of its first bit plus the path metric of the rest
 pub metric_from_state-cons : (state x : ℕ) (u : List ℕ) (pair soft : List ℤ) → length pair ≡ 2 →
@@ -52,7 +52,7 @@ pub lex_not_after-refl : (u : List ℕ) → IsNotLexicographicallyAfter u u
 lex_not_after-refl [] = tt
 lex_not_after-refl (x ∷ u) = inr (refl, lex_not_after-refl u)
 
--- an equal first bit keeps the order of two lists
+-- the order of two lists does not change if the same bit is put in front of both
 pub IsNoBetterPath-same : (state x : ℕ) (v u : List ℕ) (pair soft : List ℤ) → length pair ≡ 2 →
     IsNoBetterPath (next_trellis_state state x) soft v u → IsNoBetterPath state (pair ++ soft) (x ∷ v) (x ∷ u)
 IsNoBetterPath-same state x v u pair soft e (LessMetric h) =
@@ -69,7 +69,13 @@ candidate-bound : (after pair soft : List ℤ) (state bit : ℕ) (u v : List ℕ
 unfolding candidate_metric
 candidate-bound after pair soft state bit u v e best ends count =
     let g = metric_from_state-cons state bit v pair soft e in
-    elim (best.beats_others v ends count) [ LessMetric h ↦ omega (arith, ints) | EqualMetricButLater h later ↦ omega (arith, ints) ]
+    elim (best.no_other_path_is_better v ends count) [
+      | LessMetric h ↦ omega (arith, ints)
+      | EqualMetricButLater h later ↦ omega (
+        arith,
+        ints,
+      )
+    ]
 
 pub candidate-survivor : (after pair soft : List ℤ) (state bit : ℕ) (u : List ℕ) → length pair ≡ 2 →
     IsSurvivor (next_trellis_state state bit) u soft (get_or after (next_trellis_state state bit) (pos 0)) →
@@ -77,13 +83,14 @@ pub candidate-survivor : (after pair soft : List ℤ) (state bit : ℕ) (u : Lis
 unfolding candidate_metric
 candidate-survivor after pair soft state bit u e best = omega (arith, ints, metric_from_state-cons state bit u pair soft e)
 
--- given the survivors of both next states: the better candidate is the survivor of the state
+-- given the survivors of both next states, the survivor of a state begins with the bit that has the greater candidate metric, or with bit 0
+-- on a tie
 module _ (after pair soft : List ℤ) (state : ℕ) (zeros ones : List ℕ) (e : length pair ≡ 2) (same : length ones ≡ length zeros)
     (best0 : IsSurvivor (next_trellis_state state 0) zeros soft (get_or after (next_trellis_state state 0) (pos 0)))
     (best1 : IsSurvivor (next_trellis_state state 1) ones soft (get_or after (next_trellis_state state 1) (pos 0))) where
   zero_wins : (candidate_metric after pair state 1) ≤ℤ (candidate_metric after pair state 0) → (v : List ℕ) → HasTailBits v →
       length v ≡ suc (length zeros) → IsNoBetterPath state (pair ++ soft) v (0 ∷ zeros)
-  zero_wins h (zero ∷ v) ends count = IsNoBetterPath-same _ 0 v _ _ _ e (best0.beats_others v ends.2 (omega arith))
+  zero_wins h (zero ∷ v) ends count = IsNoBetterPath-same _ 0 v _ _ _ e (best0.no_other_path_is_better v ends.2 (omega arith))
   zero_wins h (suc zero ∷ v) ends count =
       let bound = candidate-bound after pair soft state 1 ones v e best1 ends.2 (omega arith) in
       let value = candidate-survivor after pair soft state 0 zeros e best0 in
@@ -96,10 +103,10 @@ module _ (after pair soft : List ℤ) (state : ℕ) (zeros ones : List ℕ) (e :
   one_wins h (zero ∷ v) ends count =
       let bound = candidate-bound after pair soft state 0 zeros v e best0 ends.2 (omega arith) in
       LessMetric (omega (arith, ints, candidate-survivor after pair soft state 1 ones e best1))
-  one_wins h (suc zero ∷ v) ends count = IsNoBetterPath-same _ 1 v _ _ _ e (best1.beats_others v ends.2 (omega arith))
+  one_wins h (suc zero ∷ v) ends count = IsNoBetterPath-same _ 1 v _ _ _ e (best1.no_other_path_is_better v ends.2 (omega arith))
   one_wins h v ends count = absurd (omega arith)
 
--- the survivor over one more position at the front, before the tail
+-- before the tail, the survivor of a state is the decided bit followed by the survivor of the next state
 pub IsSurvivor-bit : (after pair soft : List ℤ) (state bit : ℕ) (lists : ℕ → List ℕ) (value : ℤ) → length pair ≡ 2 →
     4 ≤ length (lists (next_trellis_state state 1))
     → length (lists (next_trellis_state state 1)) ≡ length (lists (next_trellis_state state 0)) →
@@ -117,12 +124,12 @@ IsSurvivor-bit after pair soft state bit lists value e free same best0 best1 cho
       | inl h ↦ subst BestAt (sym h.0) (record {
         has_metric = h.1 ∙ candidate-survivor after pair soft state 0 zeros e best0;
         tail_bits = (omega arith, (λ _. refl), best0.tail_bits);
-        beats_others = zero_wins after pair soft state zeros ones e same best0 best1 h.2;
+        no_other_path_is_better = zero_wins after pair soft state zeros ones e same best0 best1 h.2;
       })
       | inr h ↦ subst BestAt (sym h.0) (record {
         has_metric = h.1 ∙ candidate-survivor after pair soft state 1 ones e best1;
         tail_bits = (omega arith, (λ short. absurd (omega arith)), best1.tail_bits);
-        beats_others = one_wins after pair soft state zeros ones e same best0 best1 h.2;
+        no_other_path_is_better = one_wins after pair soft state zeros ones e same best0 best1 h.2;
       })
     ]
 
@@ -137,29 +144,29 @@ IsSurvivor-more after pair soft state row rows value e free =
     let count1 = length-traceback rows (next_trellis_state state 1) in
     IsSurvivor-bit after pair soft state (row / 2 ^ state % 2) (traceback rows) value e (omega arith) (count1 ∙ sym count0)
 
--- the survivor over one more position of the tail, where the bit must be 0
+-- in the tail, the survivor of a state is bit 0 followed by the survivor of the next state
 pub IsSurvivor-tail_bit : (after pair soft : List ℤ) (state : ℕ) (u : List ℕ) → length pair ≡ 2 → length u < 4 →
     IsSurvivor (next_trellis_state state 0) u soft (get_or after (next_trellis_state state 0) (pos 0)) →
     IsSurvivor state (0 ∷ u) (pair ++ soft) (candidate_metric after pair state 0)
 IsSurvivor-tail_bit after pair soft state u e closing best = record {
   has_metric = candidate-survivor _ _ _ _ 0 u e best;
   tail_bits = (omega arith, (λ _. refl), best.tail_bits);
-  beats_others = closing_wins;
+  no_other_path_is_better = closing_wins;
 } where
   closing_wins : (v : List ℕ) → HasTailBits v → length v ≡ suc (length u) → IsNoBetterPath state (pair ++ soft) v (0 ∷ u)
   closing_wins (x ∷ v) ends count =
-      rw (ends.1 (omega arith)) (IsNoBetterPath-same _ 0 v u _ _ e (best.beats_others v ends.2 (omega arith)))
+      rw (ends.1 (omega arith)) (IsNoBetterPath-same _ 0 v u _ _ e (best.no_other_path_is_better v ends.2 (omega arith)))
   closing_wins v ends count = absurd (omega arith)
 
 -- at the end of the trellis each path metric is 0
 pub IsSurvivor-none : (state : ℕ) → IsSurvivor state [] [] (pos 0)
 unfolding metric_from_state
-IsSurvivor-none state = record { has_metric = refl; tail_bits = tt; beats_others = none } where
+IsSurvivor-none state = record { has_metric = refl; tail_bits = tt; no_other_path_is_better = none } where
   none : (v : List ℕ) → HasTailBits v → length v ≡ 0 → IsNoBetterPath state [] v []
   none [] ends count = EqualMetricButLater refl tt
   none _ ends count = absurd (omega arith)
 
--- ---- bounds of the path metric, since soft bits are signed octets
+-- ---- lemmas about bounds of the path metric, since soft bits are signed octets
 
 pub likelihood_bound : (soft : List ℤ) (c : List ℕ) → AreSignedOctets soft → AllBits c →
     ((pos 0 -ℤ pos (128 * length soft)) ≤ℤ likelihood soft c) × (likelihood soft c ≤ℤ pos (128 * length soft))
@@ -208,7 +215,7 @@ pub traceback-tail_rows : (rows : List ℕ) (state : ℕ) → length rows ≡ 4 
     replicate 4 0 ≡ traceback rows state
 traceback-tail_rows rows state four zeros = cc (four, traceback-zeros _ _ zeros)
 
--- ## Lists: The best list from state 0 is the most likely encoder input: the encoder starts in state 0.
+-- ## Lists: The survivor of state 0 is the most likely encoder input, since the encoder starts in state 0.
 
 pub metric_from_state-start : (soft : List ℤ) (u : List ℕ) → AllBits u → metric_from_state 0 u soft ≡ likelihood soft (encoding u)
 unfolding metric_from_state
@@ -274,7 +281,7 @@ IsMostLikely-best soft u value count pairs best = record {
   others v information count ne =
       let gu = metric_from_state-start soft u (HasTailBits-bits u best.tail_bits) in
       let gv = metric_from_state-start soft v information.bits in
-      elim (best.beats_others v (HasTailBits-from_tail v information.bits information.tail) count) [
+      elim (best.no_other_path_is_better v (HasTailBits-from_tail v information.bits information.tail) count) [
         | LessMetric h ↦ inl (rw (← gu, ← gv) h)
         | EqualMetricButLater h after ↦ inr (sym gv ∙ h ∙ gu, lex_before-not_after u v information.bits count after ne)
       ]
@@ -283,7 +290,7 @@ pub likelihood-best : (soft : List ℤ) (u : List ℕ) (value : ℤ) → IsSurvi
     value ≡ likelihood soft (encoding u)
 likelihood-best soft u value best = best.has_metric ∙ metric_from_state-start _ u (HasTailBits-bits u best.tail_bits)
 
--- ## WordLists: All encoder inputs in lexicographic order. The number of a list is the binary number that its bits form.
+-- ## WordLists: All encoder inputs in lexicographic order. The number of a bit list is the binary number that its bits form.
 
 pub length-to_binary : (n number : ℕ) → length (to_binary n number) ≡ n
 length-to_binary zero number = refl
@@ -349,7 +356,7 @@ div-le a b power above le = elim (cases_lt (b / power) (a / power)) [
   | inr fine ↦ fine
 ]
 
--- numeric order is lexicographic order
+-- binary numbers with equally many bits have the same order as numbers and as bit lists
 pub lex_before-to_binary : (n a b : ℕ) → a < b → a / 2 ^ n ≡ b / 2 ^ n →
     IsLexicographicallyBefore (to_binary n a) (to_binary n b)
 lex_before-to_binary zero a b less same = absurd (omega arith)
@@ -396,9 +403,9 @@ to_binary-information v h =
     omega (arith, zeros 0 0 (omega arith), zeros 1 0 (omega arith), zeros 2 0 (omega arith), zeros 3 0 (omega arith)) in
     (number / 16, rw sixteen spelt.1, ap (to_binary (length v)) sixteen ∙ spelt.2)
 
--- ## Searching: The exhaustive search keeps the most likely list so far, and the first of equally likely ones.
+-- ## Searching: The exhaustive search keeps the most likely encoder input so far, and the first of equally likely ones.
 
--- the result of a comparison, as an inequality of the compared values
+-- if the comparison of two values is true, the corresponding inequality holds
 pub less_by_test : (a b x y : ℤ) → a ≡ x → b ≡ y → int_lt a b ≡ true → x <ℤ y
 less_by_test a b x y ex ey test = grind arith
 
@@ -417,8 +424,9 @@ RanksBehind soft n m k = RanksAfter soft (nth_input n m) (nth_input n k)
 
 module _ (soft : List ℤ) (n chosen number : ℕ) (before : chosen < number) (within : 16 * number < 2 ^ n)
     (others : (m : ℕ) → m < number → m ≢ chosen → RanksBehind soft n m chosen) where
-  -- a list with a greater path metric becomes the best so far
-  pub RanksBehind-new : nth_likelihood soft n chosen <ℤ nth_likelihood soft n number → (m : ℕ) → m < number + 1 → m ≢ number → RanksBehind
+  -- an encoder input with a greater path metric than the best so far becomes the best
+  pub RanksBehind-new : nth_likelihood soft n chosen <ℤ nth_likelihood soft n number → (m : ℕ) → m < number + 1 → m ≢ number →
+      RanksBehind
       soft n m number
   RanksBehind-new more m lt ne =
       elim (cases_eq m chosen) [ inl same ↦ inl (rw same more) | inr other ↦ behind (others m (omega arith) other) ]
@@ -427,7 +435,7 @@ module _ (soft : List ℤ) (n chosen number : ℕ) (before : chosen < number) (w
       behind (inl less) = inl (omega (arith, ints))
       behind (inr same) = inl (omega (arith, ints))
 
-  -- if the path metric of a list is not greater, the best list so far stays the best
+  -- if the path metric of an encoder input is not greater, the best encoder input so far stays the best
   pub RanksBehind-old : nth_likelihood soft n number ≤ℤ nth_likelihood soft n chosen → (m : ℕ) → m < number + 1 → m ≢ chosen
       → RanksBehind soft n m chosen
   RanksBehind-old most m lt ne = elim (cases_lt m number) [
@@ -441,7 +449,7 @@ module _ (soft : List ℤ) (n chosen number : ℕ) (before : chosen < number) (w
         let chosen_within : 16 * chosen < 2 ^ n = omega arith in
         lex_before-to_binary n _ _ (omega arith) (div-eq_of_lt chosen_within ∙ sym (div-eq_of_lt within))
 
--- the best of all lists that the search tries is the most likely encoder input
+-- the best of all encoder inputs that the search tries is the most likely encoder input
 pub IsMostLikely-chosen : (soft : List ℤ) (n chosen lists : ℕ) → 5 ≤ n → length soft ≡ 2 * n → 16 * lists ≡ 2 ^ n →
     ((m : ℕ) → m < lists → m ≢ chosen → RanksBehind soft n m chosen) →
     IsMostLikely soft (nth_input n chosen)
@@ -460,9 +468,9 @@ IsMostLikely-chosen soft n chosen lists long pairs all others = record {
       let below : 16 * m < 2 ^ n = rw (← long) spelt.1 in
       rw (← is) (others m (omega arith) (λ same. ne (sym is ∙ ap (λ m. nth_input n m) same)))
 
--- ## Existence: For any soft bits, a most likely encoder input exists: by induction over all lists in lexicographic order.
+-- ## Existence: For any soft bits, a most likely encoder input exists: by induction over all encoder inputs in lexicographic order.
 
--- the best of the first `number` lists, and the first if several are equally likely
+-- the best of the first `number` encoder inputs in lexicographic order, and the first of them if several are equally likely
 record IsBestOfFirst (soft : List ℤ) (n number : ℕ) : Type 0 where
   chosen : ℕ
   in_range : chosen < number

@@ -12,23 +12,27 @@ pub record AreInt16 (lanes : List ℤ) : Type 0 where
   pub fits : (k : ℕ) → k < 8 → FitsSigned w16 (lane lanes k)
 
 -- the path metric that a 16-bit lane represents: a lane holds the path metric minus 31,000
-abbrev pub lane_metric : (value : ℤ) → ℤ
-lane_metric value = value +ℤ pos 31000
+abbrev pub path_metric_of_lane : (value : ℤ) → ℤ
+path_metric_of_lane value = value +ℤ pos 31000
 
 -- the path metrics of states 0 to 15, from one vector for the even states and one for the odd states. The lanes of each are in the
 -- bit-reversed order of the upper three bits of the state
 abbrev pub metrics_of_lanes : (even odd : List ℤ) → List ℤ
 metrics_of_lanes even odd =
-    lane_metric (lane even 0) ∷ lane_metric (lane odd 0) ∷ lane_metric (lane even 4) ∷ lane_metric (lane odd 4) ∷
-    lane_metric (lane even 2) ∷ lane_metric (lane odd 2) ∷ lane_metric (lane even 6) ∷ lane_metric (lane odd 6) ∷
-    lane_metric (lane even 1) ∷ lane_metric (lane odd 1) ∷ lane_metric (lane even 5) ∷ lane_metric (lane odd 5) ∷
-    lane_metric (lane even 3) ∷ lane_metric (lane odd 3) ∷ lane_metric (lane even 7) ∷ lane_metric (lane odd 7) ∷ []
+    path_metric_of_lane (lane even 0) ∷ path_metric_of_lane (lane odd 0) ∷ path_metric_of_lane (lane even 4) ∷ path_metric_of_lane
+    (lane odd 4) ∷
+    path_metric_of_lane (lane even 2) ∷ path_metric_of_lane (lane odd 2) ∷ path_metric_of_lane (lane even 6) ∷ path_metric_of_lane
+    (lane odd 6) ∷
+    path_metric_of_lane (lane even 1) ∷ path_metric_of_lane (lane odd 1) ∷ path_metric_of_lane (lane even 5) ∷ path_metric_of_lane
+    (lane odd 5) ∷
+    path_metric_of_lane (lane even 3) ∷ path_metric_of_lane (lane odd 3) ∷ path_metric_of_lane (lane even 7) ∷ path_metric_of_lane
+    (lane odd 7) ∷ []
 
 -- the path metrics of states 0 to 15 that a `PathMetrics` holds
 abbrev pub path_metric : PathMetrics → List ℤ
 path_metric values = metrics_of_lanes values.even_states.lanes values.odd_states.lanes
 
--- there are eight lanes, and adding a branch metric to any of them or subtracting it does not overflow 16 bits
+-- there are eight lanes, and a branch metric can be added to or subtracted from each without overflow of 16 bits
 pub record HaveHeadroom16 (lanes : List ℤ) : Type 0 where
   pub count : length lanes ≡ 8
   pub lower_bound : (k : ℕ) → k < 8 → negsuc 32499 ≤ℤ lane lanes k
@@ -71,17 +75,17 @@ lane_decision (pos n) = 0
 lane_decision (negsuc n) = 1
 
 -- a number below 8 with its three bits in reverse order
-abbrev pub bit_reversed : (state : ℕ) → ℕ
-bit_reversed k = 4 * (k % 2) + 2 * (k / 2 % 2) + k / 4
+abbrev pub three_bits_reversed : (state : ℕ) → ℕ
+three_bits_reversed k = 4 * (k % 2) + 2 * (k / 2 % 2) + k / 4
 
 -- `lanes` holds the branch metrics of bit 0 in states 0 to 7, in bit-reversed order, for the `pair` of soft bits
 pub record HasBranchMetrics (lanes pair : List ℤ) : Type 0 where
   pub count : length pair ≡ 2
-  pub each_lane : (k : ℕ) → k < 8 → lane lanes k ≡ branch_metric (bit_reversed k) 0 pair
+  pub each_lane : (k : ℕ) → k < 8 → lane lanes k ≡ branch_metric (three_bits_reversed k) 0 pair
 
 -- the lane of a state in a survivor map: the number of the state with its lower three bits in reverse order
 abbrev pub lane_of_state : (state : ℕ) → ℕ
-lane_of_state s = 8 * (s / 8) + bit_reversed (s % 8)
+lane_of_state s = 8 * (s / 8) + three_bits_reversed (s % 8)
 
 -- the decisions of states 0 to 15 in state order, read from two vectors (states 0 to 7 and 8 to 15) whose lanes are in bit-reversed order
 abbrev pub lane_decisions : (low high : List ℤ) → List ℕ

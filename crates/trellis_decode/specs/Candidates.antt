@@ -11,7 +11,9 @@ pub record AreAcsCandidates (even odd branch_metrics : List ℤ) (candidates : C
   pub low_states_bit_1 : AreInt16 candidates.low_states_bit_1.lanes
   pub high_states_bit_0 : AreInt16 candidates.high_states_bit_0.lanes
   pub high_states_bit_1 : AreInt16 candidates.high_states_bit_1.lanes
-  pub low_states_bit_0_lane : (k : ℕ) → k < 8 → lane candidates.low_states_bit_0.lanes k ≡ lane even k +ℤ lane branch_metrics k
-  pub low_states_bit_1_lane : (k : ℕ) → k < 8 → lane candidates.low_states_bit_1.lanes k ≡ lane odd k -ℤ lane branch_metrics k
-  pub high_states_bit_0_lane : (k : ℕ) → k < 8 → lane candidates.high_states_bit_0.lanes k ≡ lane even k -ℤ lane branch_metrics k
-  pub high_states_bit_1_lane : (k : ℕ) → k < 8 → lane candidates.high_states_bit_1.lanes k ≡ lane odd k +ℤ lane branch_metrics k
+  pub low_states_bit_0_sums : (k : ℕ) → k < 8 → lane candidates.low_states_bit_0.lanes k ≡ lane even k +ℤ lane branch_metrics k
+  pub low_states_bit_1_differences : (k : ℕ) → k < 8 →
+      lane candidates.low_states_bit_1.lanes k ≡ lane odd k -ℤ lane branch_metrics k
+  pub high_states_bit_0_differences : (k : ℕ) → k < 8 →
+      lane candidates.high_states_bit_0.lanes k ≡ lane even k -ℤ lane branch_metrics k
+  pub high_states_bit_1_sums : (k : ℕ) → k < 8 → lane candidates.high_states_bit_1.lanes k ≡ lane odd k +ℤ lane branch_metrics k

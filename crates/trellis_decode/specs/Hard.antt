@@ -20,14 +20,14 @@ pub record AreInt8 (lanes : List ℤ) : Type 0 where
   pub count : length lanes ≡ 16
   pub fits : (k : ℕ) → k < 16 → FitsSigned w8 (lane lanes k)
 
--- there are sixteen lanes, and adding 1 to any of them or subtracting it does not overflow 8 bits
+-- there are sixteen lanes, and 1 can be added to or subtracted from each without overflow of 8 bits
 pub record HaveHeadroom8 (lanes : List ℤ) : Type 0 where
   pub count : length lanes ≡ 16
   pub lower_bound : (k : ℕ) → k < 16 → negsuc 126 ≤ℤ lane lanes k
   pub upper_bound : (k : ℕ) → k < 16 → lane lanes k ≤ℤ pos 126
 
 -- `lanes` consists of sixteen numbers, each -1, 0 or 1
-pub record AreWithinOne (lanes : List ℤ) : Type 0 where
+pub record HaveMagnitudeAtMostOne (lanes : List ℤ) : Type 0 where
   pub count : length lanes ≡ 16
   pub lower_bound : (k : ℕ) → k < 16 → negsuc 0 ≤ℤ lane lanes k
   pub upper_bound : (k : ℕ) → k < 16 → lane lanes k ≤ℤ pos 1
@@ -51,12 +51,12 @@ hard_lane_metrics lanes =
     (lane lanes 15) ∷ []
 
 -- the lane of the state that bit 0 leads to, given the lane of the current state
-abbrev pub lane_of_next_state_0 : (index : ℕ) → ℕ
-lane_of_next_state_0 k = 8 * (k % 2) + k % 8 / 2
+abbrev pub lane_after_bit_0 : (index : ℕ) → ℕ
+lane_after_bit_0 k = 8 * (k % 2) + k % 8 / 2
 
 -- the lane of the state that bit 1 leads to, given the lane of the current state
-abbrev pub lane_of_next_state_1 : (index : ℕ) → ℕ
-lane_of_next_state_1 k = lane_of_next_state_0 k + 4
+abbrev pub lane_after_bit_1 : (index : ℕ) → ℕ
+lane_after_bit_1 k = lane_after_bit_0 k + 4
 
 -- `lanes` holds the branch metrics of bit 0 in all sixteen states, divided by 254, for the `pair` of soft bits
 pub record HasHardBranchMetrics (lanes pair : List ℤ) : Type 0 where

@@ -12,8 +12,8 @@ state_after_bits state [] = state
 state_after_bits state (x ∷ u) = state_after_bits (next_trellis_state state x) u
 
 -- `lane_map` and `metrics` describe the survivors over the positions of `soft`: `lane_map` holds the end state of each survivor, and
--- `metrics` and `metrics_after` are the path metrics before and after these positions. A survivor followed by the best list from its end
--- state is the best list from its start state
+-- `metrics` and `metrics_after` are the path metrics before and after these positions. A survivor over these positions, followed by the
+-- survivor of its end state, is the survivor of its start state
 pub record AreSurvivors (metrics_after metrics : List ℤ) (lane_map : List ℕ) (soft : List ℤ) : Type 0 where
   pub bits : ℕ → List ℕ
   pub count : (s : ℕ) → s < 16 → 2 * length (bits s) ≡ length soft
@@ -35,6 +35,6 @@ survivor_traceback (map ∷ survivors) at = to_binary 4 (lane_of_state (slice_in
     (slice_index map at % 16)
 
 -- from map `from` on, every entry of every survivor map is the number of a lane, that is, below 16
-abbrev pub HoldLanesFrom : (from : ℕ) (survivors : List (List ℕ)) → Type 0
-HoldLanesFrom from survivors = (group k : ℕ) → from ≤ group → group < length survivors → k < 16 →
+abbrev pub HoldLaneNumbersFromIndex : (from : ℕ) (survivors : List (List ℕ)) → Type 0
+HoldLaneNumbersFromIndex from survivors = (group k : ℕ) → from ≤ group → group < length survivors → k < 16 →
     slice_index (slice_index_or survivors group []) k < 16

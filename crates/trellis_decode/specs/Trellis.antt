@@ -42,7 +42,7 @@ traceback (row ∷ rows) state = (row / 2 ^ state % 2) ∷ traceback rows (next_
 pub record IsSurvivor (state : ℕ) (path : List ℕ) (soft : List ℤ) (metric : ℤ) : Type 0 where
   pub has_metric : metric ≡ metric_from_state state path soft
   pub tail_bits : HasTailBits path
-  pub beats_others : (v : List ℕ) → HasTailBits v → length v ≡ length path → IsNoBetterPath state soft v path
+  pub no_other_path_is_better : (v : List ℕ) → HasTailBits v → length v ≡ length path → IsNoBetterPath state soft v path
 
 -- the candidate metric of a bit in a state: its branch metric for a pair of soft bits, plus the path metric of the next state
 unfoldable pub candidate_metric : (metrics_after pair : List ℤ) (state bit : ℕ) → ℤ
@@ -61,12 +61,12 @@ IsDecision after pair state value bit =
 pub record IsDecisionRow (decision_row : ℕ) (later_rows : List ℕ) (losses : List ℤ) (soft : List ℤ) : Type 0 where
   pub best : (s : ℕ) → s < 16 → IsSurvivor s (traceback (decision_row ∷ later_rows) s) soft (metric_from_state s (traceback
       (decision_row ∷ later_rows) s) soft)
-  pub each_loss : (s : ℕ) → s < 16 → 4 ≤ length later_rows → slice_index_or losses s (pos 0) ≡
+  pub loss_of_each_state : (s : ℕ) → s < 16 → 4 ≤ length later_rows → slice_index_or losses s (pos 0) ≡
       metric_from_state s (traceback (decision_row ∷ later_rows) s) soft -ℤ metric_from_state s ((1 - decision_row / 2 ^ s % 2) ∷
       traceback later_rows (next_trellis_state s
       (1 - decision_row / 2 ^ s % 2))) soft
 
--- the lists hold one decision row and its costs for each position, that is, for each pair of soft bits
+-- `rows` and `losses` hold one decision row and its costs for each position, that is, for each pair of soft bits
 abbrev pub AreDecisions : (rows : List ℕ) (losses : List (List ℤ)) (soft : List ℤ) → Type 0
 AreDecisions [] losses soft = length soft ≡ 0
 AreDecisions (row ∷ rows) [] soft = ⊥

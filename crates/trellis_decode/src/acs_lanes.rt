@@ -93,7 +93,7 @@ pub fn interleave_last_lanes(first: EightLanes, second: EightLanes) -> EightLane
 }
 
 /// Returns -1 in each lane where `bit_1` is greater than `bit_0`, and 0 in the others.
-pub fn greater_lane_decisions(bit_0: EightLanes, bit_1: EightLanes) -> EightDecisions
+pub fn decisions_from_candidates(bit_0: EightLanes, bit_1: EightLanes) -> EightDecisions
     requires first { AreInt16 bit_0.lanes }
     requires second { AreInt16 bit_1.lanes }
     ensures count { length result.lanes ≡ 8 }

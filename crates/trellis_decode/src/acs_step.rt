@@ -13,8 +13,8 @@ ghost use Rattle.trellis_decode.specs.AcsLanes.{HaveHeadroom16};
 ghost use Rattle.trellis_decode.specs.AcsLanes.{path_metric};
 
 use crate::acs_lanes::{
-    EightDecisions, EightLanes, add_branch_metrics, greater_lane_decisions, interleave_first_lanes,
-    interleave_last_lanes, lane_maxima, subtract_branch_metrics,
+    EightDecisions, EightLanes, add_branch_metrics, decisions_from_candidates,
+    interleave_first_lanes, interleave_last_lanes, lane_maxima, subtract_branch_metrics,
 };
 use std::simd::prelude::*;
 
@@ -109,8 +109,8 @@ impl TrellisStep {
                 high_states_bit_1,
             },
             values,
-            low_decisions: greater_lane_decisions(low_states_bit_0, low_states_bit_1),
-            high_decisions: greater_lane_decisions(high_states_bit_0, high_states_bit_1),
+            low_decisions: decisions_from_candidates(low_states_bit_0, low_states_bit_1),
+            high_decisions: decisions_from_candidates(high_states_bit_0, high_states_bit_1),
         }
     }
 }

@@ -5,7 +5,7 @@ ghost use Rattle.std.specs.Prelude.{◌≡◌, ℕ, ◌*◌, ◌<◌, ◌≤◌,
 ghost use Rattle.trellis_decode.specs.Lanes.{AreSignedOctets, lane};
 ghost use Rattle.trellis_decode.specs.Trellis.{IsSurvivor};
 ghost use Rattle.trellis_decode.specs.AcsLanes.{AreInt16, lane_of_state, path_metric};
-ghost use Rattle.trellis_decode.specs.SurvivorPaths.{AreMetricsWithin, AreSurvivors, HoldLanesFrom, survivor_traceback};
+ghost use Rattle.trellis_decode.specs.SurvivorPaths.{AreMetricsWithin, AreSurvivors, HoldLaneNumbersFromIndex, survivor_traceback};
 
 use crate::acs_step::{PathMetrics, tail_step};
 use crate::branch_metrics::four_branch_metrics;
@@ -25,11 +25,11 @@ pub fn fill_survivors(soft: &[i8], survivors: &mut [[u8; 16]]) -> PathMetrics
     ensures even { AreInt16 result.even_states.lanes }
     ensures odd { AreInt16 result.odd_states.lanes }
     ensures at_least { 1 ≤ length survivors.new }
-    ensures maps { HoldLanesFrom 0 survivors.new }
+    ensures maps { HoldLaneNumbersFromIndex 0 survivors.new }
 {
     let last = survivors.len() - 1;
     survivors[last] = [0; 16];
-    let mut values = tail_metrics(&soft[8 * last..]);
+    let mut values = path_metrics_before_tail(&soft[8 * last..]);
     for group in (0..last).rev() {
         let walk = extend_survivors(values, &soft[8 * group..8 * group + 8], 4);
         values = walk.values;
@@ -39,7 +39,7 @@ pub fn fill_survivors(soft: &[i8], survivors: &mut [[u8; 16]]) -> PathMetrics
 }
 
 /// Returns the path metrics before the four tail bits, from the eight soft bits of the tail.
-pub fn tail_metrics(soft: &[i8]) -> PathMetrics
+pub fn path_metrics_before_tail(soft: &[i8]) -> PathMetrics
     requires count { length soft.now ≡ 8 }
     requires octets { AreSignedOctets soft.now }
     ensures best { (s : ℕ) → s < 16 → IsSurvivor s (replicate 4 0) soft.now (lane (path_metric result) s) }

@@ -9,14 +9,15 @@ ghost use Rattle.std.specs.Prelude.{length, slice_index, slice_index_or, replica
 ghost use Rattle.std.specs.List.{All};
 ghost use Rattle.conv_code.specs.Code.{encoding};
 ghost use Rattle.conv_code.specs.Likelihood.{IsMostLikely, likelihood};
-ghost use Rattle.trellis_decode.specs.Hard.{AreInt8, AreWithinOne, HasHardBranchMetrics, HaveHeadroom8, IsHardBit, hard_lane_metrics};
-ghost use Rattle.trellis_decode.specs.Hard.{lane_of_next_state_1};
+ghost use Rattle.trellis_decode.specs.Hard.{AreInt8, HaveMagnitudeAtMostOne, HasHardBranchMetrics, HaveHeadroom8, IsHardBit};
+ghost use Rattle.trellis_decode.specs.Hard.{hard_lane_metrics};
+ghost use Rattle.trellis_decode.specs.Hard.{lane_after_bit_1};
 ghost use Rattle.trellis_decode.specs.Hard.{sign_bit_of};
-ghost use Rattle.trellis_decode.specs.Hard.{lane_of_next_state_0};
+ghost use Rattle.trellis_decode.specs.Hard.{lane_after_bit_0};
 ghost use Rattle.trellis_decode.specs.Lanes.{AreSignedOctets, lane};
 ghost use Rattle.trellis_decode.specs.Trellis.{IsSurvivor};
 ghost use Rattle.trellis_decode.specs.AcsLanes.{lane_of_state};
-ghost use Rattle.trellis_decode.specs.SurvivorPaths.{AreMetricsWithin, AreSurvivors, HoldLanesFrom, survivor_traceback};
+ghost use Rattle.trellis_decode.specs.SurvivorPaths.{AreMetricsWithin, AreSurvivors, HoldLaneNumbersFromIndex, survivor_traceback};
 
 use crate::survivors::trace_back_survivors;
 use conv_code::ENCODER_INPUT_BITS;
@@ -37,52 +38,56 @@ pub struct HardSurvivors {
 }
 
 // The branch metric of bit 0 in each state, divided by 254, for each of the four combinations of signs of the two soft bits.
-const BOTH_POSITIVE: [i8; 16] = [1, -1, 1, -1, 0, 0, 0, 0, -1, 1, -1, 1, 0, 0, 0, 0];
+const BOTH_POSITIVE_BRANCH_METRICS: [i8; 16] = [1, -1, 1, -1, 0, 0, 0, 0, -1, 1, -1, 1, 0, 0, 0, 0];
 
-const FIRST_NEGATIVE: [i8; 16] = [0, 0, 0, 0, -1, 1, -1, 1, 0, 0, 0, 0, 1, -1, 1, -1];
+const FIRST_NEGATIVE_BRANCH_METRICS: [i8; 16] = [
+    0, 0, 0, 0, -1, 1, -1, 1, 0, 0, 0, 0, 1, -1, 1, -1,
+];
 
-const SECOND_NEGATIVE: [i8; 16] = [0, 0, 0, 0, 1, -1, 1, -1, 0, 0, 0, 0, -1, 1, -1, 1];
+const SECOND_NEGATIVE_BRANCH_METRICS: [i8; 16] = [
+    0, 0, 0, 0, 1, -1, 1, -1, 0, 0, 0, 0, -1, 1, -1, 1,
+];
 
-const BOTH_NEGATIVE: [i8; 16] = [-1, 1, -1, 1, 0, 0, 0, 0, 1, -1, 1, -1, 0, 0, 0, 0];
+const BOTH_NEGATIVE_BRANCH_METRICS: [i8; 16] = [-1, 1, -1, 1, 0, 0, 0, 0, 1, -1, 1, -1, 0, 0, 0, 0];
 
 /// The branch metrics of the first of two information bits, for each combination of the signs of their four soft bits.
-static FIRST_BRANCH_METRICS: [[i8; 16]; 16] = [
-    BOTH_POSITIVE,
-    FIRST_NEGATIVE,
-    SECOND_NEGATIVE,
-    BOTH_NEGATIVE,
-    BOTH_POSITIVE,
-    FIRST_NEGATIVE,
-    SECOND_NEGATIVE,
-    BOTH_NEGATIVE,
-    BOTH_POSITIVE,
-    FIRST_NEGATIVE,
-    SECOND_NEGATIVE,
-    BOTH_NEGATIVE,
-    BOTH_POSITIVE,
-    FIRST_NEGATIVE,
-    SECOND_NEGATIVE,
-    BOTH_NEGATIVE,
+static FIRST_BIT_BRANCH_METRICS: [[i8; 16]; 16] = [
+    BOTH_POSITIVE_BRANCH_METRICS,
+    FIRST_NEGATIVE_BRANCH_METRICS,
+    SECOND_NEGATIVE_BRANCH_METRICS,
+    BOTH_NEGATIVE_BRANCH_METRICS,
+    BOTH_POSITIVE_BRANCH_METRICS,
+    FIRST_NEGATIVE_BRANCH_METRICS,
+    SECOND_NEGATIVE_BRANCH_METRICS,
+    BOTH_NEGATIVE_BRANCH_METRICS,
+    BOTH_POSITIVE_BRANCH_METRICS,
+    FIRST_NEGATIVE_BRANCH_METRICS,
+    SECOND_NEGATIVE_BRANCH_METRICS,
+    BOTH_NEGATIVE_BRANCH_METRICS,
+    BOTH_POSITIVE_BRANCH_METRICS,
+    FIRST_NEGATIVE_BRANCH_METRICS,
+    SECOND_NEGATIVE_BRANCH_METRICS,
+    BOTH_NEGATIVE_BRANCH_METRICS,
 ];
 
 /// The branch metrics of the second of two information bits, for each combination of the signs of their four soft bits.
-static SECOND_BRANCH_METRICS: [[i8; 16]; 16] = [
-    BOTH_POSITIVE,
-    BOTH_POSITIVE,
-    BOTH_POSITIVE,
-    BOTH_POSITIVE,
-    FIRST_NEGATIVE,
-    FIRST_NEGATIVE,
-    FIRST_NEGATIVE,
-    FIRST_NEGATIVE,
-    SECOND_NEGATIVE,
-    SECOND_NEGATIVE,
-    SECOND_NEGATIVE,
-    SECOND_NEGATIVE,
-    BOTH_NEGATIVE,
-    BOTH_NEGATIVE,
-    BOTH_NEGATIVE,
-    BOTH_NEGATIVE,
+static SECOND_BIT_BRANCH_METRICS: [[i8; 16]; 16] = [
+    BOTH_POSITIVE_BRANCH_METRICS,
+    BOTH_POSITIVE_BRANCH_METRICS,
+    BOTH_POSITIVE_BRANCH_METRICS,
+    BOTH_POSITIVE_BRANCH_METRICS,
+    FIRST_NEGATIVE_BRANCH_METRICS,
+    FIRST_NEGATIVE_BRANCH_METRICS,
+    FIRST_NEGATIVE_BRANCH_METRICS,
+    FIRST_NEGATIVE_BRANCH_METRICS,
+    SECOND_NEGATIVE_BRANCH_METRICS,
+    SECOND_NEGATIVE_BRANCH_METRICS,
+    SECOND_NEGATIVE_BRANCH_METRICS,
+    SECOND_NEGATIVE_BRANCH_METRICS,
+    BOTH_NEGATIVE_BRANCH_METRICS,
+    BOTH_NEGATIVE_BRANCH_METRICS,
+    BOTH_NEGATIVE_BRANCH_METRICS,
+    BOTH_NEGATIVE_BRANCH_METRICS,
 ];
 
 /// Returns whether all soft bits are 127 or -127. The loop has no early exit, so the compiler can vectorize it.
@@ -143,11 +148,11 @@ fn fill_hard_survivors(soft: &[i8], survivors: &mut [[u8; 16]]) -> StateMetrics
         (hard_lane_metrics result.lanes) s) }
     ensures lanes { AreInt8 result.lanes }
     ensures at_least { 1 ≤ length survivors.new }
-    ensures maps { HoldLanesFrom 0 survivors.new }
+    ensures maps { HoldLaneNumbersFromIndex 0 survivors.new }
 {
     let last = survivors.len() - 1;
     survivors[last] = [0; 16];
-    let mut values = hard_tail_metrics(&soft[8 * last..]);
+    let mut values = hard_path_metrics_before_tail(&soft[8 * last..]);
     for group in (0..last).rev() {
         let walk = extend_hard_survivors(values, &soft[8 * group..8 * group + 8]);
         values = walk.values;
@@ -157,7 +162,7 @@ fn fill_hard_survivors(soft: &[i8], survivors: &mut [[u8; 16]]) -> StateMetrics
 }
 
 /// Returns the path metrics before the four tail bits, from the eight soft bits of the tail.
-fn hard_tail_metrics(soft: &[i8]) -> StateMetrics
+fn hard_path_metrics_before_tail(soft: &[i8]) -> StateMetrics
     requires count { length soft.now ≡ 8 }
     requires hard { All IsHardBit soft.now }
     ensures best { (s : ℕ) → s < 16 → IsSurvivor s (replicate 4 0) soft.now (lane (hard_lane_metrics result.lanes) s) }
@@ -202,7 +207,7 @@ impl HardSurvivors {
     fn step(self, branch_metrics: StateMetrics) -> HardSurvivors
         requires headroom { HaveHeadroom8 self.values.lanes }
         requires count { length self.survivor_map ≡ 16 }
-        requires branch_metrics { AreWithinOne branch_metrics.lanes }
+        requires branch_metrics { HaveMagnitudeAtMostOne branch_metrics.lanes }
         ensures walk { (pair : List ℤ) → HasHardBranchMetrics branch_metrics.lanes pair → (after soft : List ℤ) →
             AreSurvivors after (hard_lane_metrics self.values.lanes) self.survivor_map soft →
             AreSurvivors after (hard_lane_metrics result.values.lanes) result.survivor_map (pair ++ soft) }
@@ -225,9 +230,9 @@ impl HardSurvivors {
 #[inline]
 fn bit_0_candidates(metrics_after: StateMetrics, branch_metrics: StateMetrics) -> StateMetrics
     requires headroom { HaveHeadroom8 metrics_after.lanes }
-    requires branch_metrics { AreWithinOne branch_metrics.lanes }
+    requires branch_metrics { HaveMagnitudeAtMostOne branch_metrics.lanes }
     ensures each { (k : ℕ) → k < 16 → lane result.lanes k ≡
-        lane metrics_after.lanes (lane_of_next_state_0 k) +ℤ lane branch_metrics.lanes k }
+        lane metrics_after.lanes (lane_after_bit_0 k) +ℤ lane branch_metrics.lanes k }
     ensures lanes { AreInt8 result.lanes }
 {
     let next = metrics_after
@@ -242,9 +247,9 @@ fn bit_0_candidates(metrics_after: StateMetrics, branch_metrics: StateMetrics) -
 #[inline]
 fn bit_1_candidates(metrics_after: StateMetrics, branch_metrics: StateMetrics) -> StateMetrics
     requires headroom { HaveHeadroom8 metrics_after.lanes }
-    requires branch_metrics { AreWithinOne branch_metrics.lanes }
+    requires branch_metrics { HaveMagnitudeAtMostOne branch_metrics.lanes }
     ensures each { (k : ℕ) → k < 16 → lane result.lanes k ≡
-        lane metrics_after.lanes (lane_of_next_state_1 k) -ℤ lane branch_metrics.lanes k }
+        lane metrics_after.lanes (lane_after_bit_1 k) -ℤ lane branch_metrics.lanes k }
     ensures lanes { AreInt8 result.lanes }
 {
     let next = metrics_after
@@ -277,7 +282,7 @@ fn extend_survivor_map_swizzle_dyn(map: u8x16, zero: StateMetrics, one: StateMet
     requires zero { AreInt8 zero.lanes }
     requires one { AreInt8 one.lanes }
     ensures each { (k : ℕ) → k < 16 → slice_index result k ≡
-        slice_index map (if int_lt (lane zero.lanes k) (lane one.lanes k) then lane_of_next_state_1 k else lane_of_next_state_0 k) }
+        slice_index map (if int_lt (lane zero.lanes k) (lane one.lanes k) then lane_after_bit_1 k else lane_after_bit_0 k) }
     ensures count { length result ≡ 16 }
 {
     let zeros = u8x16::from_array([0, 8, 1, 9, 2, 10, 3, 11, 0, 8, 1, 9, 2, 10, 3, 11]);
@@ -293,7 +298,7 @@ pub fn extend_survivor_map_swizzle_fixed(map: u8x16, zero: StateMetrics, one: St
     requires zero { AreInt8 zero.lanes }
     requires one { AreInt8 one.lanes }
     ensures each { (k : ℕ) → k < 16 → slice_index result k ≡
-        slice_index map (if int_lt (lane zero.lanes k) (lane one.lanes k) then lane_of_next_state_1 k else lane_of_next_state_0 k) }
+        slice_index map (if int_lt (lane zero.lanes k) (lane one.lanes k) then lane_after_bit_1 k else lane_after_bit_0 k) }
     ensures count { length result ≡ 16 }
 {
     let zeros = map.swizzle::<16>([0, 8, 1, 9, 2, 10, 3, 11, 0, 8, 1, 9, 2, 10, 3, 11]);
@@ -308,21 +313,21 @@ fn hard_branch_metrics(soft: &[i8]) -> [StateMetrics; 4]
     requires hard { All IsHardBit soft.now }
     ensures has { (k : ℕ) (d : StateMetrics) → k < 4 →
         HasHardBranchMetrics (slice_index_or result k d).lanes (take 2 (drop (2 * k) soft.now)) }
-    ensures within_one { (k : ℕ) (d : StateMetrics) → k < 4 → AreWithinOne (slice_index_or result k d).lanes }
+    ensures within_one { (k : ℕ) (d : StateMetrics) → k < 4 → HaveMagnitudeAtMostOne (slice_index_or result k d).lanes }
 {
-    let signs = signs_of(soft);
+    let signs = sign_bits_of_soft_bits(soft);
     [
-        first_branch_metrics(signs % 16),
-        second_branch_metrics(signs % 16),
-        first_branch_metrics(signs / 16 % 16),
-        second_branch_metrics(signs / 16 % 16),
+        first_bit_branch_metrics(signs % 16),
+        second_bit_branch_metrics(signs % 16),
+        first_bit_branch_metrics(signs / 16 % 16),
+        second_bit_branch_metrics(signs / 16 % 16),
     ]
 }
 
-/// Bit `k` of the result is 1 if soft bit `k` is negative. The other eight lanes are 0, so that the signs take two instructions instead of
-/// three.
+/// Bit `k` of the result is 1 if soft bit `k` is negative. The vector has sixteen lanes, of which the last eight stay 0, so that computing
+/// the signs takes two instructions instead of three.
 #[inline(always)]
-fn signs_of(soft: &[i8]) -> u64
+fn sign_bits_of_soft_bits(soft: &[i8]) -> u64
     requires count { length soft.now ≡ 8 }
     requires octets { AreSignedOctets soft.now }
     ensures { (k : ℕ) → k < 8 → result / 2 ^ k % 2 ≡ sign_bit_of (lane soft.now k) }
@@ -337,26 +342,26 @@ fn signs_of(soft: &[i8]) -> u64
 /// The branch metrics of the first of two information bits, from the signs of their four soft bits: bit `k` of `signs` is 1 if soft bit `k`
 /// is negative.
 #[inline(always)]
-fn first_branch_metrics(signs: u64) -> StateMetrics
+fn first_bit_branch_metrics(signs: u64) -> StateMetrics
     requires { signs < 16 }
     ensures has { (p q : ℤ) → IsHardBit p → IsHardBit q → signs % 4 ≡ sign_bit_of p + 2 * sign_bit_of q →
         HasHardBranchMetrics result.lanes (p ∷ q ∷ []) }
-    ensures within_one { AreWithinOne result.lanes }
+    ensures within_one { HaveMagnitudeAtMostOne result.lanes }
 {
     StateMetrics {
-        lanes: i8x16::from_array(FIRST_BRANCH_METRICS[signs as usize]),
+        lanes: i8x16::from_array(FIRST_BIT_BRANCH_METRICS[signs as usize]),
     }
 }
 
 /// The branch metrics of the second of two information bits, from the signs of their four soft bits.
 #[inline(always)]
-fn second_branch_metrics(signs: u64) -> StateMetrics
+fn second_bit_branch_metrics(signs: u64) -> StateMetrics
     requires { signs < 16 }
     ensures has { (p q : ℤ) → IsHardBit p → IsHardBit q → signs / 4 ≡ sign_bit_of p + 2 * sign_bit_of q →
         HasHardBranchMetrics result.lanes (p ∷ q ∷ []) }
-    ensures within_one { AreWithinOne result.lanes }
+    ensures within_one { HaveMagnitudeAtMostOne result.lanes }
 {
     StateMetrics {
-        lanes: i8x16::from_array(SECOND_BRANCH_METRICS[signs as usize]),
+        lanes: i8x16::from_array(SECOND_BIT_BRANCH_METRICS[signs as usize]),
     }
 }

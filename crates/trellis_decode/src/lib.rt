@@ -12,8 +12,6 @@ mod decision_step;
 mod exhaustive;
 mod hard;
 mod survivors;
-#[cfg(test)]
-mod tests;
 mod trellis;
 
 ghost use Rattle.std.specs.Prelude.{◌≡◌, ℕ, ◌*◌, ◌≤◌, List, length};

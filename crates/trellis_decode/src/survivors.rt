@@ -7,7 +7,7 @@ ghost use Rattle.trellis_decode.specs.Trellis.{next_trellis_state};
 ghost use Rattle.trellis_decode.specs.AcsLanes.{AreBranchMetrics, AreInt16, AreDecisionLanes, lane_decisions, HasBranchMetrics};
 ghost use Rattle.trellis_decode.specs.AcsLanes.{HaveHeadroom16, lane_of_state};
 ghost use Rattle.trellis_decode.specs.AcsLanes.{path_metric};
-ghost use Rattle.trellis_decode.specs.SurvivorPaths.{AreMetricsWithin, AreSurvivors, HoldLanesFrom, survivor_traceback};
+ghost use Rattle.trellis_decode.specs.SurvivorPaths.{AreMetricsWithin, AreSurvivors, HoldLaneNumbersFromIndex, survivor_traceback};
 ghost use Rattle.trellis_decode.specs.Words.{to_binary};
 
 use crate::acs_lanes::{EightDecisions, EightLanes};
@@ -124,7 +124,7 @@ fn bits_of_state_in_lane(lane_index: u8) -> [u8; 4]
 pub fn trace_back_survivors(survivors: &[[u8; 16]], at: u8, u: &mut [u8])
     requires count { length u.old ≡ 4 * length survivors.now }
     requires at { at < 16 }
-    requires maps { HoldLanesFrom 0 survivors.now }
+    requires maps { HoldLaneNumbersFromIndex 0 survivors.now }
     ensures { u.new ≡ survivor_traceback survivors.now at }
 {
     let mut at = at;

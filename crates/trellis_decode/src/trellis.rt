@@ -9,7 +9,7 @@ ghost use Rattle.trellis_decode.specs.Trellis.{AreDecisions, traceback};
 ghost use Rattle.trellis_decode.specs.AcsLanes.{AreInt16, path_metric};
 
 use crate::acs_step::PathMetrics;
-use crate::backward::tail_metrics;
+use crate::backward::path_metrics_before_tail;
 use crate::branch_metrics::four_branch_metrics;
 use crate::decision_step::DecisionStep;
 use conv_code::ENCODER_INPUT_BITS;
@@ -28,7 +28,7 @@ pub fn fill_decisions(soft: &[i8], rows: &mut [u16], losses: &mut [[i16; 16]])
 {
     prove_octet_range(soft);
     let few = rows.len() % 4;
-    let mut values = tail_metrics(&soft[2 * (rows.len() - 4)..]);
+    let mut values = path_metrics_before_tail(&soft[2 * (rows.len() - 4)..]);
     for group in (0..rows.len() / 4 - 1).rev() {
         values = fill_decision_rows(values, soft, few + 4 * group, 4, rows, losses);
     }

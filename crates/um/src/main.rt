@@ -7,10 +7,10 @@ use std::process::ExitCode;
 use um_cli::{PlainRadio, ReadSource, Words, WriteSink, run};
 
 /// The exit status if there is too little memory to read the command-line words; after any other failure to read them, it is
-/// `UNREADABLE_WORDS_STATUS`.
+/// `UNREADABLE_ARGUMENTS_STATUS`.
 const NO_MEMORY_STATUS: u8 = 6;
 
-const UNREADABLE_WORDS_STATUS: u8 = 8;
+const UNREADABLE_ARGUMENTS_STATUS: u8 = 8;
 
 fn main(rt: HostRuntime) -> ExitCode {
     let arguments = match env::args(&rt) {
@@ -18,7 +18,7 @@ fn main(rt: HostRuntime) -> ExitCode {
         Err(error) if error.kind() == ErrorKind::OutOfMemory => return ExitCode::from(
             NO_MEMORY_STATUS,
         ),
-        Err(_) => return ExitCode::from(UNREADABLE_WORDS_STATUS),
+        Err(_) => return ExitCode::from(UNREADABLE_ARGUMENTS_STATUS),
     };
     let mut words = Words::new();
     for word in arguments.skip(1) {

@@ -1,48 +1,49 @@
 -- Sessions over blocks: every event has an answer, the events determine the session, and its log is that of a session of frames.
 use Rattle.{
-  lapdm_link.proofs.{
-    Lemmas.{AllFit, AllReported, AllSay, EndOctets, IsFitting, KnowsBy, LineOctets, SaysOctets, WorldOctets, acked_at_most_delivered},
-    Lemmas.{claims, event_step-fits, event_step-holds, fits-step, in_order-step, initial-fits, initial-octets},
-    Lemmas.{initial-reported, octets-step, order_claims},
-    lapdm_frame.Lemmas.{bit_bound, information_bound, octets_canonical, one_reading, same_frame},
+  lapdm_link.{
+    proofs.{
+      Lemmas.{AllFit, AllReported, AllSay, EndOctets, IsFitting, KnowsBy, LineOctets, SaysOctets, WorldOctets, acked_at_most_delivered},
+      Lemmas.{claims, event_step-fits, event_step-holds, fits-step, in_order-step, initial-fits, initial-octets, initial-reported},
+      Lemmas.{octets-step, order_claims},
+      lapdm_frame.Lemmas.{bit_bound, information_bound, octets_canonical, one_reading, same_frame},
+    },
+    specs.{
+      Claims.{AckedAtMostDelivered, Claims, HasNoticesInOrder, LogLine, answer_log_lines, notice_log_lines, session_log as frame_log},
+      Events.{BySide, Deliver, EventRefusal, Nothing, Who, bounded_capacity, event_step, queues_after_removal, refusal_if, sending_role},
+      Queues.{IsOldestSentOrNone, Queues, empty_queues, queue_of, with_items_appended},
+      Worlds.World,
+      lapdm_frame.{Content.{Frame, information}, Frames.{FrameFits, IsFrameCoding, octets_of}, Refusals.IsRefused},
+      lapdm_frame.declared.{Channel.Channel, Refusal.Refusal},
+      lapdm_window.{Ends.{Mobile, Network, Role}, declared.{Notice.Notice, Sapi.Sapi}},
+    },
   },
-  lapdm_link.specs.{
-    Claims.{AckedAtMostDelivered, Claims, HasNoticesInOrder, LogLine, answer_log_lines, notice_log_lines, session_log as frame_log},
-    Events.{BySide, Deliver, EventRefusal, Nothing, Who, bounded_capacity, event_step, queues_after_removal, refusal_if, sending_role},
-    Queues.{IsOldestSentOrNone, Queues, empty_queues, queue_of, with_appended},
-    Worlds.World,
-    lapdm_frame.{Content.{Frame, information}, Frames.{FrameFits, IsFrameCoding, octets_of}, Refusals.IsRefused},
-    lapdm_frame.declared.{Channel.Channel, Refusal.Refusal},
-    lapdm_window.{Ends.{Mobile, Network, Role}, declared.{Notice.Notice, Sapi.Sapi}},
-  },
-  std.specs.{List.AllZip, Prelude.{IfSome, unsigned_abs}},
-  std.proofs.{
-    Common.{All, List, None, Option, Some, [], ap, arith, drop, false, get_or, get_or-set_same, inl, inr, length, map, nat_eq, pos, refl},
-    Common.{sym, ℕ, ℤ, ◌%◌, ◌++◌, ◌-◌, ◌/◌, ◌<◌, ◌∙◌, ◌∷◌, ◌≡◌, ◌≢◌, ◌≤◌},
-    Math.ListN.get_or-map,
-    lemmas.{Bool.Decides.nat_tests, Slice.Zip.AllZip-long},
-    lemmas.List.{get_or-append_right, get_or-set_other, get_or_append_left, get_or_default, length-map, length-set, set_past},
-    lemmas.List.Elements.{All-append, All-cons, All-drop, All-head, All-map, All-nil, All-replicate, All-set, All-tail, All-take},
+  std.{
+    specs.{List.AllZip, Prelude.{IfSome, unsigned_abs}},
+    proofs.{
+      Common.{All, List, None, Option, Some, [], ap, arith, drop, false, get_or, get_or-set_same, inl, inr, length, map, nat_eq, pos, refl},
+      Common.{sym, ℕ, ℤ, ◌%◌, ◌++◌, ◌-◌, ◌/◌, ◌<◌, ◌∙◌, ◌∷◌, ◌≡◌, ◌≢◌, ◌≤◌},
+      Math.ListN.get_or-map,
+      lemmas.{
+        Bool.Decides.nat_tests,
+        Slice.Zip.AllZip-long,
+        List.{get_or-append_right, get_or-set_other, get_or_append_left, get_or_default, length-map, length-set, set_past},
+        List.Elements.{All-append, All-cons, All-drop, All-head, All-map, All-nil, All-replicate, All-set, All-tail, All-take},
+      },
+    },
   },
   um_air.specs.{
-    Air.{Accepts, AirState, Answer, AreCodedFrames, Block, Event, EventDelivers, IsAirRun, IsAirStep, Octets, ReadsFrame, ReceivesBlock},
+    Air.{Accepts, AirState, Answer, AreBlocksOfFrames, Block, Event, EventDelivers, IsAirRun, IsAirStep, Octets, ReadsFrame, ReceivesBlock},
     Air.{Refuses, Step, event_with_frame, initial_session, refusal, with_bit_inverted, with_bits_inverted},
     Damage.AreCorrectableBursts,
     Sessions.{AllEventsInvertFewBits, AreOctets, EventInvertsFewBits, EventMessageIsOctets, IsBenign, IsBenignFrom, IsBenignStep},
     Sessions.{answer_without_blocks, queues_after_event, session_log},
   },
-  um_block.proofs.{
-    Lemmas.{accepted_count, accepted_octets, clean_gathered, coded_block_bits, few_listed_positions, listed, one_received_block},
-    Lemmas.{one_sent_block, received_place, restored_block, sent_block_bits, some_received_block, some_sent_block},
-    interleave.Lemmas.four_burst_position-below,
-    weight_bound.Lemmas.IsCorrectable-equal,
-  },
-  um_block.specs.{
-    Received.{IsReceivedBlock, coded_soft_bits, joined_bursts, soft_bit_of, soft_bits},
-    Sent.IsSentBlock,
-    bit_blocks.Octets.IsOctet,
-    declared.received.Received.Received,
-    interleave.{Bursts.IsInterleaved, Positions.four_burst_position},
+  um_block.{
+    proofs.Lemmas.{accepted_count, accepted_octets, clean_gathered, coded_block_bits, few_listed_positions, listed, one_received_block},
+    proofs.Lemmas.{one_sent_block, received_place, restored_block, sent_block_bits, some_received_block, some_sent_block},
+    proofs.{interleave.Lemmas.position_in_four_bursts-below, weight_bound.Lemmas.IsCorrectable-equal},
+    specs.{Received.{IsReceivedBlock, coded_soft_bits, joined_bursts, soft_bit_of, soft_bits}, Sent.IsSentBlock, bit_blocks.Octets.IsOctet},
+    specs.{declared.received.Received.Received, interleave.{Bursts.IsInterleaved, Positions.position_in_four_bursts}},
   },
 }
 use Rattle.lapdm_link.specs.Events as E
@@ -73,8 +74,8 @@ one_arrival : (a : AirState) (event : Event) (o p : Option Received) (f g : Opti
     EventDelivers a event p g → (o ≡ p) × (event_with_frame f event ≡ event_with_frame g event)
 one_arrival a event o p f g h k = grind (arith, one_reception)
 
-same_blocks : (channel : Channel) (tsc : ℕ) (fs : List Frame) (bs cs : List Block) → AreCodedFrames channel tsc fs bs →
-    AreCodedFrames channel tsc fs cs → bs ≡ cs
+same_blocks : (channel : Channel) (tsc : ℕ) (fs : List Frame) (bs cs : List Block) → AreBlocksOfFrames channel tsc fs bs →
+    AreBlocksOfFrames channel tsc fs cs → bs ≡ cs
 same_blocks channel tsc [] [] [] h k = refl
 same_blocks channel tsc (f ∷ fs) (b ∷ bs) (c ∷ cs) h k =
     cc (one_sent_block _ _ b c h.0 k.0, same_blocks channel tsc fs bs cs h.1 k.1)
@@ -84,7 +85,8 @@ pub same_step : (s t : Step) → s.who ≡ t.who → s.sapi ≡ t.sapi → s.rec
     s.notices ≡ t.notices → s ≡ t
 same_step s t who sapi received frames notices = grind arith
 
--- the result of an event over blocks: that of the event `e` of frames, with the frames as octets, and the report on a received block
+-- the result of an event in a session over blocks: the result of the frame event `e`, with its frames as octets and with the report on a
+-- received block
 abbrev done : AirState → E.Event → Option Received → Step
 done a e report =
     let d = event_step e a.ends in
@@ -112,7 +114,7 @@ one_run a events b c xs ys h k = absurd assumption
 -- ## FewFlipped: A block with at most three inverted bits is accepted with the octets that were sent: at most three of its 456 soft values
 -- are wrong, and the decoder corrects that many.
 
--- bit q, 0 to 591, of the four bursts of a block put end to end
+-- bit q (0 to 591) of a block, counted through its four bursts in order
 abbrev bit_at : Block → ℕ → ℕ
 bit_at block q = get_or (get_or block (q / 148) []) (q % 148) 0
 
@@ -141,7 +143,7 @@ flipped-whole_bursts (p ∷ ps) block h =
 
 -- ---- the soft values of a block
 
--- bit i of burst b is bit 148 b + i of the bursts put end to end
+-- value q of the concatenated bursts is value q % 148 of burst q / 148
 joined-at : (bursts : List (List ℤ)) (q : ℕ) (d : ℤ) → All IsBurst bursts →
     get_or (joined_bursts bursts) q d ≡ get_or (get_or bursts (q / 148) []) (q % 148) d
 joined-at [] q d each = refl
@@ -154,17 +156,21 @@ module _ (octets : Octets) (tsc : ℕ) (block : Block) (s : IsSentBlock octets t
   flipped_shape : (places : List ℕ) → IsWhole (map soft_bits (with_bits_inverted places block))
   flipped_shape places =
       let bits = sent_block_bits octets tsc block s in
-      let whole = flipped-whole_bursts places block (bits.0, λ k d l. (bits.1 k d l).right_length) in
-      (length-map (with_bits_inverted places block) _ ∙ whole.0, All-map IsBurst _ _ (λ k d l. length-map (get_or _ k d) _ ∙ whole.1 k d l))
+      let whole = flipped-whole_bursts places block (bits.0, λ k d l. (bits.1 k d l).right_length) in (
+        length-map (with_bits_inverted places block) _ ∙ whole.0,
+        All-map IsBurst _ _ (λ k d l. length-map (get_or _ k d) _ ∙ whole.1 k d l),
+      )
 
-  soft_at : (places : List ℕ) (soft : List ℤ) → IsInterleaved soft (map coded_soft_bits (map soft_bits (with_bits_inverted places block))) →
-      (k : ℕ) (d : ℤ) → k < 456 → get_or soft k d ≡ soft_bit_of (bit_at (with_bits_inverted places block) (four_burst_position k))
+  soft_at : (places : List ℕ) (soft : List ℤ) →
+      IsInterleaved soft (map coded_soft_bits (map soft_bits (with_bits_inverted places block))) →
+      (k : ℕ) (d : ℤ) → k < 456 →
+      get_or soft k d ≡ soft_bit_of (bit_at (with_bits_inverted places block) (position_in_four_bursts k))
   soft_at places soft deinterleaved k d h =
       let flipped = with_bits_inverted places block in
-      let q = four_burst_position k in
+      let q = position_in_four_bursts k in
       let shape = flipped_shape places in
       let burst = get_or (map soft_bits flipped) (q / 148) [] in
-      let below = four_burst_position-below k in
+      let below = position_in_four_bursts-below k in
       let long : length burst ≡ 148 = shape.1 (q / 148) [] (omega (arith, shape.0, below)) in
       get_or_default soft k d (pos 0) (omega arith) ∙ received_place _ soft shape.0 shape.1 deinterleaved k h
       ∙ joined-at _ q _ shape.1 ∙ get_or_default burst (q % 148) (pos 0) (pos 127) (omega (arith, long))
@@ -219,7 +225,7 @@ module _ {X Y : Type 0} (R : X → Y → Type 0) where
   AreAlike xs ys = (r : Role) → AllZip R (queue_of r xs) (queue_of r ys)
 
   pub alike-more : (sender : Role) (x : List X) (y : List Y) (xs : Queues X) (ys : Queues Y) → AreAlike xs ys → AllZip R x y →
-      AreAlike (with_appended sender x xs) (with_appended sender y ys)
+      AreAlike (with_items_appended sender x xs) (with_items_appended sender y ys)
   alike-more sender x y xs ys h g = grind (arith, zip-append)
 
   alike-taken : (read : Option Frame) (event : Event) (xs : Queues X) (ys : Queues Y) → AreAlike xs ys →
@@ -249,9 +255,9 @@ refusal-same : (a : AirState) (fs : Queues Frame) (read : Option Frame) (event :
     W.refusal (event_with_frame read event) (world_of a fs) ≡ refusal event a
 refusal-same a fs read event h = grind (arith, AllZip-long, h Mobile, h Network)
 
--- ---- the frame that is read
+-- ---- the frame that a receiver reads from a block
 
--- a frame that is read fits in a block, and its information consists of octets
+-- a frame that is read from accepted octets fits in a block, and its information consists of octets
 pub reads-well : (channel : Channel) (accepted : Option Octets) (f : Frame) → IfSome accepted AreOctets →
     ReadsFrame channel accepted (Some f) → FrameFits channel f × AreOctets (information f.content)
 reads-well channel (Some octets) f all h =
@@ -279,7 +285,7 @@ read_back channel accepted read fs os z fit h s = absurd assumption
 -- a block with at most three inverted bits is accepted with the octets that were sent
 block_of_few_inverted : (channel : Channel) (tsc : ℕ) (fs : List Frame) (os : List Octets) (block : Block) (others : List Block)
     (places : List ℕ) (report : Received) → AllZip (λ f o. o ≡ octets_of channel f) fs os →
-    AreCodedFrames channel tsc fs (block ∷ others) → length places ≤ 3 →
+    AreBlocksOfFrames channel tsc fs (block ∷ others) → length places ≤ 3 →
     IsReceivedBlock (map soft_bits (with_bits_inverted places block)) report → IsOldestSentOrNone report.accepted os
 block_of_few_inverted channel tsc (f ∷ fs) (o ∷ os) block others places report z sent few received =
     rw (accepted_as_sent _ tsc block places report sent.0 few received) (sym z.0)
@@ -291,11 +297,11 @@ pub all-written : (channel : Channel) (fs : List Frame) → AllZip (λ f o. o �
 all-written channel [] = tt
 all-written channel (f ∷ fs) = (refl, all-written channel fs)
 
--- a step over blocks is also a step of frames on the event `e`; `o` is the refusal of `e`, if it is refused
+-- the step over blocks corresponds to a step over frames with the event `e`; `o` is the reason if `e` is refused, otherwise `None`
 record IsSeenBy (a : AirState) (octets : Queues Octets) (fs : Queues Frame) (event : Event) (answer : Answer) (b : AirState)
     (e : E.Event) (o : Option EventRefusal) : Type 0 where
   next : IsSeenAt b (queues_after_event event answer octets)
-  world_is : W.world_unless_refused o e (world_of a fs) ≡ world_of b next.frames
+  world_is : W.world_after_possible_refusal o e (world_of a fs) ≡ world_of b next.frames
   tsc : b.tsc ≡ a.tsc
   same_lines : answer_log_lines event (answer_without_blocks answer) ≡
       answer_log_lines e (W.answer_unless_refused o (event_step e a.ends))
@@ -304,8 +310,8 @@ record IsSeenBy (a : AirState) (octets : Queues Octets) (fs : Queues Frame) (eve
   few_inverted : EventInvertsFewBits event → IsBenignStep event answer octets
 
 module _ (a : AirState) (octets : Queues Octets) (h : IsSeenAt a octets) where
-  -- if an arriving block is accepted with the octets that were sent, the frame that was sent is read; at most three inverted bits ensure
-  -- this
+  -- if an arriving block is accepted with the octets that were sent, the receiver reads the frame that was sent; a block with at most three
+  -- inverted bits is accepted in this way
   arrived : (event : Event) (report : Option Received) (read : Option Frame) → EventDelivers a event report read →
       (let e = event_with_frame read event in let now = IsBenignStep event (Accepts (done a e report)) octets in
       (now → W.IsBenignEvent None e (world_of a h.frames)) × (EventInvertsFewBits event → now))
@@ -342,7 +348,7 @@ module _ (a : AirState) (octets : Queues Octets) (h : IsSeenAt a octets) where
         s.read,
         rw (known, s.step_matches, s.new_state_is) (record {
           next = record {
-            frames = with_appended r d.frames (queues_after_removal e h.frames);
+            frames = with_items_appended r d.frames (queues_after_removal e h.frames);
             log = h.log ++ answer_log_lines e (W.answer_unless_refused None d);
             blocks = alike-more _ r d.frames s.blocks _ _ (alike-taken _ s.read event h.frames a.queues h.blocks) s.sent;
             written = alike-more _ r d.frames _ _ _ (alike-taken _ s.read event h.frames octets h.written) (all-written a.channel d.frames);
@@ -358,7 +364,7 @@ module _ (a : AirState) (octets : Queues Octets) (h : IsSeenAt a octets) where
         }),
       )
 
--- ---- a whole session
+-- ---- a session of several steps
 
 abbrev initial-seen : (tsc : ℕ) (channel : Channel) → IsSeenAt (initial_session tsc channel) empty_queues
 initial-seen tsc channel = record {
@@ -370,7 +376,7 @@ initial-seen tsc channel = record {
   reported = initial-reported bounded_capacity channel;
 }
 
--- the session over blocks is also a session of frames
+-- the session over blocks corresponds to a session over frames with the same log
 record IsSeen (a : AirState) (octets : Queues Octets) (h : IsSeenAt a octets) (events : List Event) (answers : List Answer) : Type 0 where
   frame_events : List E.Event
   same_lines : session_log events answers ≡ frame_log frame_events (W.answers frame_events (world_of a h.frames))
@@ -441,7 +447,7 @@ some_reading channel (Some octets) h = elim (one_reading channel octets h) [
 ]
 
 some_reception : (a : AirState) (sender : Role) (places : List ℕ) (fs : List Frame) (blocks : List Block) (more : Option EventRefusal) →
-    AreCodedFrames a.channel a.tsc fs blocks → queue_of sender a.queues ≡ blocks →
+    AreBlocksOfFrames a.channel a.tsc fs blocks → queue_of sender a.queues ≡ blocks →
     refusal_if (nat_eq (length blocks) 0) Nothing more ≡ None →
     (report : Received) × (read : Option Frame) × ReceivesBlock a sender places report read
 some_reception a sender places fs [] more sent is none = absurd (cc none)
@@ -461,7 +467,7 @@ some_arrival a fs event sent none = (None, None, tt)
 -- ---- every frame that is sent can be coded
 
 some_blocks : (channel : Channel) (tsc : ℕ) (fs : List Frame) → tsc ≤ 7 → AllFit channel fs → AllSay fs →
-    (bs : List Block) × AreCodedFrames channel tsc fs bs
+    (bs : List Block) × AreBlocksOfFrames channel tsc fs bs
 some_blocks channel tsc [] known h said = ([], tt)
 some_blocks channel tsc (f ∷ fs) known h said =
     let fits = All-head (FrameFits channel) f fs h in
@@ -480,7 +486,8 @@ line_octets : (read : Option Frame) (event : Event) (answer : E.Answer) → Even
     LineOctets (answer_log_lines (event_with_frame read event) answer)
 line_octets read event answer h = grind (arith, notified_octets)
 
--- the invariant between two events of a session whose messages consist of octets
+-- the invariant of a session whose messages consist of octets: `IsSeenAt` holds, the messages of the endpoints and the information in
+-- transit consist of octets, and the training sequence code is 0 to 7
 record IsOctetSession (a : AirState) : Type 0 where
   octets : Queues Octets
   seen : IsSeenAt a octets

@@ -14,9 +14,9 @@ use Rattle.lapdm_link.specs.lapdm_window.Ends.{Role}
 use Rattle.um_block.specs.declared.received.Received.{Received}
 use Rattle.um_block.specs.Sent.{IsSentBlock}
 use Rattle.um_block.specs.Received.{IsReceivedBlock, soft_bits}
-use Rattle.lapdm_link.specs.Queues.{Queues, empty_queues, queue_of, with_appended, queue_length}
+use Rattle.lapdm_link.specs.Queues.{Queues, empty_queues, queue_of, with_items_appended, queue_length}
 use Rattle.lapdm_link.specs.Events as E
-use Rattle.lapdm_link.specs.Events.{EventWith, Open, OpenBare, Ask, Deliver, Lose, Rival, BothSides, idle_endpoints, Who, sending_role}
+use Rattle.lapdm_link.specs.Events.{SessionEvent, Open, OpenBare, Ask, Deliver, Lose, Rival, BothSides, idle_endpoints, Who, sending_role}
 use Rattle.lapdm_link.specs.Events.{SideStep}
 use Rattle.lapdm_link.specs.Events.{event_step}
 use Rattle.lapdm_link.specs.Events.{queues_after_removal, EventRefusal, refusal_with_bounded_queues}
@@ -31,7 +31,7 @@ Block = List (List ℕ)
 
 -- an event of a session; an arrival lists the indices, 0 to 591, of the bits that are inverted in the block
 abbrev pub Event : Type 0
-Event = EventWith (List ℕ)
+Event = SessionEvent (List ℕ)
 
 -- the event as the endpoints see it: an arriving block becomes the frame read from it, or `None` if there is none
 abbrev pub event_with_frame : (read : Option Frame) (event : Event) → E.Event
@@ -88,8 +88,8 @@ EventDelivers a event None None = Unit {0}
 EventDelivers a event report read = ⊥
 
 -- the blocks carry these frames, in order, each coded with this training sequence code
-abbrev pub AreCodedFrames : (channel : Channel) (tsc : ℕ) (frames : List Frame) (blocks : List Block) → Type 0
-AreCodedFrames channel tsc fs blocks = AllZip (λ f block. IsSentBlock (octets_of channel f) tsc block) fs blocks
+abbrev pub AreBlocksOfFrames : (channel : Channel) (tsc : ℕ) (frames : List Frame) (blocks : List Block) → Type 0
+AreBlocksOfFrames channel tsc fs blocks = AllZip (λ f block. IsSentBlock (octets_of channel f) tsc block) fs blocks
 
 -- the result of an accepted event: who acted, the SAPI, the report on a received block, the octets of the frames sent, and the notices
 -- reported
@@ -111,11 +111,11 @@ pub record CarriesOutEvent (before : AirState) (event : Event) (after : AirState
   pub read : Option Frame
   pub blocks : List Block
   pub delivery : EventDelivers before event step.received read
-  pub sent : AreCodedFrames before.channel before.tsc (event_step (event_with_frame read event) before.ends).frames blocks
+  pub sent : AreBlocksOfFrames before.channel before.tsc (event_step (event_with_frame read event) before.ends).frames blocks
   pub new_state_is : let d = event_step (event_with_frame read event) before.ends in
       after ≡ record before {
         ends = d.new_state;
-        queues = with_appended (sending_role d.who) blocks (queues_after_removal event
+        queues = with_items_appended (sending_role d.who) blocks (queues_after_removal event
             before.queues);
       }
   pub step_matches : let d = event_step (event_with_frame read event) before.ends in

@@ -1,7 +1,7 @@
 -- Sessions that exchange blocks: their logs; benign sessions (each block is accepted with the octets that were sent, or not at all); and
 -- sessions with at most three inverted bits in each block.
 use Rattle.std.specs.Prelude.{◌<◌, ◌≤◌, ℕ, All, List, [], ◌∷◌, map, length, IfSome}
-use Rattle.lapdm_link.specs.Queues.{Queues, empty_queues, queue_of, with_appended, IsOldestSentOrNone}
+use Rattle.lapdm_link.specs.Queues.{Queues, empty_queues, queue_of, with_items_appended, IsOldestSentOrNone}
 use Rattle.lapdm_link.specs.Events.{Open, Ask, Deliver, Rival, Send, SendUi, sending_role, queues_after_removal}
 use Rattle.lapdm_link.specs.Events as E
 use Rattle.lapdm_link.specs.Claims.{LogLine}
@@ -20,7 +20,7 @@ session_log events answers = C.session_log events (map answer_without_blocks ans
 -- the octets of the blocks in transit after an event with this answer, given the blocks in transit before it
 abbrev pub queues_after_event : Event → Answer → Queues Octets → Queues Octets
 queues_after_event event (Refuses why) ws = ws
-queues_after_event event (Accepts step) ws = with_appended (sending_role step.who) step.frames (queues_after_removal event ws)
+queues_after_event event (Accepts step) ws = with_items_appended (sending_role step.who) step.frames (queues_after_removal event ws)
 
 -- if a block arrives, it is accepted with the octets that were sent, or not at all
 abbrev pub IsBenignStep : (event : Event) (answer : Answer) (queues : Queues Octets) → Type 0

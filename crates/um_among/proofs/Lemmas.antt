@@ -75,7 +75,7 @@ module _ (CrcHolds : List ℕ → Type 0) (s : List ℤ) (most : ℕ) where
           let e : length h.earlier_words ≡ length g.earlier_words = omega arith in
           let whole = one_ranking s (h.earlier_words ++ u ∷ []) (g.earlier_words ++ u' ∷ []) h.ranked g.ranked
           (simp length-append (ap (λ n. n + 1) e)) in (
-            h.rank_is ∙ ap (λ n. n + 1) e ∙ sym g.rank_is,
+            h.rank_follows_earlier_words ∙ ap (λ n. n + 1) e ∙ sym g.rank_follows_earlier_words,
             sym (get_or-append_seam h.earlier_words u [] [])
                 ∙ ap₂ (λ us n. get_or us n []) whole e
                 ∙ get_or-append_seam g.earlier_words u' [] [],
@@ -84,11 +84,16 @@ module _ (CrcHolds : List ℕ → Type 0) (s : List ℤ) (most : ℕ) where
   ]
 
   candidate : (r : ℕ) (u : List ℕ) → IsFirstCrcMatch CrcHolds s most r u → IsCandidate s u
-  candidate r u h = All-last (IsCandidate s) h.earlier_words u h.ranked.all_candidates
+  candidate r u h = All-last (IsCandidate s) h.earlier_words u h.ranked.ranked_words_are_candidates
 
   not_both : (r : ℕ) (u : List ℕ) → IsFirstCrcMatch CrcHolds s most r u → NoCrcHolds CrcHolds s most → ⊥
   not_both r u h none = elim none.all_tried [
-    | inl many ↦ fails_earlier h.earlier_words none.tried_words u h.ranked none.ranked (omega (arith, h.rank_is, h.rank_limit, many))
+    | inl many ↦ fails_earlier h.earlier_words none.tried_words u h.ranked none.ranked (omega (
+      arith,
+      h.rank_follows_earlier_words,
+      h.rank_limit,
+      many,
+    ))
         none.crcs_fail h.crc_holds
     | inr all ↦ All-contains (λ v. ¬ CrcHolds v) none.tried_words u none.crcs_fail (all u (candidate r u h)) h.crc_holds
   ]
@@ -115,13 +120,13 @@ module _ (CrcHolds : List ℕ → Type 0) (s : List ℤ) (most : ℕ) where
   most_likely_holds u some best holds = record {
     earlier_words = [];
     ranked = (most_likely_is_ranked s u).0 best;
-    rank_is = refl;
+    rank_follows_earlier_words = refl;
     rank_limit = some;
     crcs_fail = All-nil _;
     crc_holds = holds;
   }
 
-  -- ---- which word is taken
+  -- ---- lemmas about the word that the list decoder takes
 
   -- the first word whose CRC holds is the most likely of all words whose CRC holds
   pub taken_best : {X : Type 0} (data_of : List ℕ → X) (r : ℕ) (u : List ℕ) (a : Option X) →
@@ -141,12 +146,12 @@ module _ (CrcHolds : List ℕ → Type 0) (s : List ℤ) (most : ℕ) where
       × MatchOption a (¬ CrcHolds u) (λ x. CrcHolds u × (x ≡ data_of u))
   taken_first data_of r u None some e h = (h.1, λ holds. not_both 1 u (most_likely_holds u some h.1 holds) h.0)
   taken_first data_of r u (Some x) some e h =
-      (alone s h.0.earlier_words u h.0.ranked (omega (arith, h.0.rank_is, e)), (h.0.crc_holds, h.1))
+      (alone s h.0.earlier_words u h.0.ranked (omega (arith, h.0.rank_follows_earlier_words, e)), (h.0.crc_holds, h.1))
 
   pub taken_of_one : {X : Type 0} (data_of : List ℕ → X) (r : ℕ) (u : List ℕ) (a : Option X) → most ≡ 1 →
       IsListDecoderChoice CrcHolds data_of s most r u a → r ≡ 1
   taken_of_one data_of r u None e h = h.2
-  taken_of_one data_of r u (Some x) e h = omega (arith, h.0.rank_is, h.0.rank_limit)
+  taken_of_one data_of r u (Some x) e h = omega (arith, h.0.rank_follows_earlier_words, h.0.rank_limit)
 
   -- if a value is accepted for the most likely word, this word is taken at rank 1
   taken_at_once : {X : Type 0} (data_of : List ℕ → X) (u : List ℕ) (a : Option X) → 1 ≤ most → IsMostLikely s u →
@@ -155,7 +160,7 @@ module _ (CrcHolds : List ℕ → Type 0) (s : List ℤ) (most : ℕ) where
   taken_at_once data_of u None some best h is = absurd (never is)
   taken_at_once data_of u (Some x) some best h is = (most_likely_holds u some best h.0, h.1)
 
-  -- the first word whose CRC holds is the word taken
+  -- the first word whose CRC holds is the word that the list decoder takes
   pub taken_found : {X : Type 0} (data_of : List ℕ → X) (r : ℕ) (soft : List ℤ) (u v : List ℕ) (a : Option X) → soft ≡ s →
       v ≡ u → IsFirstCrcMatch CrcHolds soft most r u → MatchOption a (¬ CrcHolds u) (λ x. CrcHolds u × (x ≡ data_of u)) →
       IsListDecoderChoice CrcHolds data_of s most r v a
@@ -173,7 +178,7 @@ module _ (CrcHolds : List ℕ → Type 0) (s : List ℤ) (most : ℕ) where
   taken_information data_of r u None h = h.1.information
   taken_information data_of r u (Some x) h = (candidate r u h.0).information
 
--- ## UniqueReports: The report is unique. If the word of rank 1 is taken, it is the report of `receive_block`, `receive_access` or
+-- ## UniqueReports: The report is unique. If the word of rank 1 is taken, the report is that of `receive_block`, `receive_access` or
 -- `receive_sync`.
 
 same_report : {R : Type 0} (make : ℕ → List ℕ → ℤ → ℕ → ℕ → Option (List ℕ) →
@@ -182,7 +187,7 @@ same_report : {R : Type 0} (make : ℕ → List ℕ → ℤ → ℕ → ℕ → 
     make n a b c d e ≡ make n' a' b' c' d' e'
 same_report make rank u metric tsc wrong accepted = cc
 
--- ---- blocks: the report is unique; which word is taken
+-- ---- lemmas about blocks: the report is unique, and which word is taken
 
 abbrev pub octets_if_crc_holds : List ℕ → List ℕ
 octets_if_crc_holds u = octets_of (take 184 u)
@@ -237,7 +242,7 @@ module _ (bursts : List (List ℤ)) (most : ℕ) where
   block_first r some h alone received accepted =
       one_block_among r (record { report = alone; rank = 1 }) h (block_at_once alone some received accepted)
 
--- ---- access bursts: the report is unique; which word is taken
+-- ---- lemmas about access bursts: the report is unique, and which word is taken
 
 module _ (burst : List ℤ) (bsic : List ℕ) (most : ℕ) where
   pub one_access_among : (r r' : ListDecodedAccess) → IsListDecodedAccess burst bsic most r → IsListDecodedAccess burst bsic most r' →
@@ -258,7 +263,7 @@ module _ (burst : List ℤ) (bsic : List ℕ) (most : ℕ) where
     wrong_training = h.wrong_training;
   }
 
--- ---- synchronisation bursts: the report is unique; which word is taken
+-- ---- lemmas about synchronisation bursts: the report is unique, and which word is taken
 
 module _ (burst : List ℤ) (most : ℕ) where
   pub one_sync_among : (r r' : ListDecodedSync) → IsListDecodedSync burst most r → IsListDecodedSync burst most r' → r ≡ r'

@@ -21,7 +21,7 @@ use Rattle.um_among.specs.ChannelCrcs.{BlockCrcHolds, AccessCrcHolds, SyncCrcHol
 pub record IsFirstCrcMatch (CrcHolds : List ℕ → Type 0) (soft : List ℤ) (max_words rank : ℕ) (word : List ℕ) : Type 0 where
   pub earlier_words : List (List ℕ)
   pub ranked : IsRanked soft (earlier_words ++ word ∷ [])
-  pub rank_is : rank ≡ length earlier_words + 1
+  pub rank_follows_earlier_words : rank ≡ length earlier_words + 1
   pub rank_limit : rank ≤ max_words
   pub crcs_fail : All (λ v. ¬ CrcHolds v) earlier_words
   pub crc_holds : CrcHolds word

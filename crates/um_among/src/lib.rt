@@ -10,8 +10,6 @@ mod bursts;
 mod crc;
 mod reports;
 mod search;
-#[cfg(test)]
-mod tests;
 
 pub use blocks::{receive_block_among, receive_deinterleaved_among};
 pub use bursts::{receive_access_among, receive_sync_among};

@@ -7,9 +7,9 @@ use Rattle.{
     specs.{Likelihood.{IsMostLikely, bit_metric, likelihood as code_likelihood}, States.{encoding_from_state, next_trellis_state}},
   },
   interleave.{
-    proofs.Lemmas.{All-interleaved, IsInterleaved-map, burst_of_bit-below, four_burst_position-below, four_burst_position-differs},
-    proofs.Lemmas.{four_burst_position-lower, four_burst_position-upper, halves-at, same_coded, some_gathered},
-    specs.{Bursts.IsInterleaved, Positions.{burst_of_bit, burst_position, four_burst_position}},
+    proofs.Lemmas.{All-interleaved, IsInterleaved-map, burst_of_bit-below, position_in_four_bursts-below, position_in_four_bursts-differs},
+    proofs.Lemmas.{position_in_four_bursts-lower, position_in_four_bursts-upper, halves-at, same_coded, some_gathered},
+    specs.{Bursts.IsInterleaved, Positions.{burst_of_bit, position_in_burst, position_in_four_bursts}},
   },
   std.{
     proofs.Common.{Bool, Contains, None, Option, Some, ap₂, eqb, false, if◌then◌else◌, inl, inr, int_lt, lit≤, map, nat_eq},
@@ -41,7 +41,7 @@ mod SentBursts
 abbrev pub IsBurst : {X : Type 0} → List X → Type 0
 IsBurst burst = length burst ≡ 148
 
--- ## Softness: Loops convert the bits of bursts to soft bits, one after another; the range of these soft bits.
+-- ## Softness: The loops that convert the bits of bursts to soft bits, one bit at a time, and the range of these soft bits.
 
 IsSoftBit-soft_bit_of : (bit : ℕ) → IsSoftBit (soft_bit_of bit)
 IsSoftBit-soft_bit_of bit = grind (arith, ints, nat_tests)
@@ -95,7 +95,8 @@ if_accepted : (P : Type 0) (Q : List ℕ → Type 0) (x : List ℕ) (accepted : 
     MatchOption accepted (¬ P) (λ octets. P × (octets ≡ x)) → Q x → IfSome accepted Q
 if_accepted P Q x accepted h q = grind arith
 
-pub accepted_count : (bursts : List (List ℤ)) (r : Received) → IsReceivedBlock bursts r → IfSome r.accepted (λ octets. length octets ≡ 23)
+pub accepted_count : (bursts : List (List ℤ)) (r : Received) → IsReceivedBlock bursts r →
+    IfSome r.accepted (λ octets. length octets ≡ 23)
 accepted_count bursts r h =
     if_accepted _ (λ octets. length octets ≡ 23) _ r.accepted h.accepted
     (length-octets_of 23 _ (length-take-le 184 r.u (omega (arith, h.best.count, h.deinterleaved.coded_count))))
@@ -104,7 +105,7 @@ pub accepted_octets : (bursts : List (List ℤ)) (r : Received) → IsReceivedBl
 accepted_octets bursts r h =
     if_accepted _ AllOctets _ r.accepted h.accepted (AllOctets-octets_of _ (AllBits-front 184 r.u h.best.information.bits))
 
--- ## ReceivedExists: Every burst and every block has a report: a most likely list exists, and its CRC either holds or does not.
+-- ## ReceivedExists: Every burst and every block has a report: a most likely encoder input exists, and its CRC either holds or does not.
 
 -- ---- a CRC either holds or does not
 
@@ -123,12 +124,13 @@ answered P k n u x less within bits some only =
       | inr other ↦ (None, λ h. other (only d p _ long holds (subst P (sym whole) h)))
     ]
 
--- ---- the report of a block
+-- ---- lemmas about the report of a block
 
 length-coded_soft_bits : (burst : List ℤ) → length burst ≡ 148 → length (coded_soft_bits burst) ≡ 114
 length-coded_soft_bits burst long = simp (length-append, length-take, length-drop) (omega arith)
 
-pub some_received_block : (bursts : List (List ℤ)) → length bursts ≡ 4 → All IsBurst bursts → (r : Received) × IsReceivedBlock bursts r
+pub some_received_block : (bursts : List (List ℤ)) → length bursts ≡ 4 → All IsBurst bursts → (r : Received)
+    × IsReceivedBlock bursts r
 some_received_block bursts four each =
     let (soft, deinterleaved) = some_gathered (pos 0) (map coded_soft_bits bursts) (length-map bursts coded_soft_bits ∙ four)
     (All-map (λ part. length part ≡ 114) coded_soft_bits bursts (λ i d h. length-coded_soft_bits (get_or bursts i d) (each i d h))) in
@@ -136,7 +138,7 @@ some_received_block bursts four each =
     let (tsc, first) = some_first_greatest
     (total_correlation (midamble_of_burst bursts 0) (midamble_of_burst bursts 1) (midamble_of_burst bursts 2)
     (midamble_of_burst bursts 3)) in
-    let (accepted, is) = answered IsXcchWord 184 224 u (octets_of (take 184 u)) (lit≤ tt) (omega (arith, best.count))
+    let (accepted, is) = answered IsXcchCodeword 184 224 u (octets_of (take 184 u)) (lit≤ tt) (omega (arith, best.count))
     best.information.bits some_xcch_crc one_xcch_crc in (
       record {
         u = u;
@@ -148,7 +150,7 @@ some_received_block bursts four each =
       record { soft = soft; deinterleaved = deinterleaved; best = best; metric = refl; tsc = first; wrong_training = refl; accepted = is },
     )
 
--- ---- the reports of an access burst and of a synchronisation burst
+-- ---- lemmas about the reports of an access burst and of a synchronisation burst
 
 pub some_received_access : (burst : List ℤ) (bsic : List ℕ) → length burst ≡ 88 → length bsic ≡ 6 → AllBits bsic →
     (r : ReceivedAccess) × IsReceivedAccess burst bsic r
@@ -156,7 +158,10 @@ some_received_access burst bsic count code code_bits =
     let soft = access_soft_bits burst in
     let long : length soft ≡ 36 = simp (length-take, length-drop) (omega arith) in
     let (u, best, _) = some_most_likely soft 18 long (lit≤ tt) in
-    let (accepted, is) = answered (λ w. IsRachWord w bsic) 8 14 u (take 8 u) (lit≤ tt) (omega (arith, best.count)) best.information.bits
+    let (accepted, is) = answered (λ w. IsRachCodeword w bsic) 8 14 u (take 8 u) (lit≤ tt) (omega (
+      arith,
+      best.count,
+    )) best.information.bits
     (λ d e bits. some_rach_crc d bsic e bits code code_bits) (λ d p q. one_rach_crc d p q bsic) in (
       record {
         u = u;
@@ -172,7 +177,7 @@ some_received_sync burst count =
     let soft = sync_soft_bits burst in
     let long : length soft ≡ 78 = simp (length-append, length-take, length-drop) (omega arith) in
     let (u, best, _) = some_most_likely soft 39 long (lit≤ tt) in
-    let (accepted, is) = answered IsSchWord 25 35 u (take 25 u) (lit≤ tt) (omega (arith, best.count)) best.information.bits
+    let (accepted, is) = answered IsSchCodeword 25 35 u (take 25 u) (lit≤ tt) (omega (arith, best.count)) best.information.bits
     some_sch_crc one_sch_crc in (
       record {
         u = u;
@@ -190,7 +195,8 @@ one_accepted : {X : Type 0} (P : Type 0) (x : X) (a b : Option X) →
     MatchOption a (¬ P) (λ v. P × (v ≡ x)) → MatchOption b (¬ P) (λ v. P × (v ≡ x)) → a ≡ b
 one_accepted P x a b h g = grind arith
 
-pub one_received_block : (bursts : List (List ℤ)) (r r' : Received) → IsReceivedBlock bursts r → IsReceivedBlock bursts r' → r ≡ r'
+pub one_received_block : (bursts : List (List ℤ)) (r r' : Received) → IsReceivedBlock bursts r → IsReceivedBlock bursts r' →
+    r ≡ r'
 one_received_block bursts r r' h g =
     let soft = same_coded _ g.soft (map _ bursts) h.deinterleaved g.deinterleaved in
     let u = IsMostLikely-only g.soft r'.u r.u g.best (rw (← soft) h.best) in
@@ -211,9 +217,10 @@ one_received_sync burst r r' h g =
     let accepted = one_accepted _ _ r.accepted r'.accepted (rw u at h.accepted) g.accepted in
     grind (arith, u, accepted)
 
--- ## CleanBursts: The parts of a burst that is received as it was sent.
+-- ## CleanBursts: If a burst is received as it was sent, each part of its soft bits consists of the soft bits of the same part of the
+-- burst.
 
--- ---- slices of a burst
+-- ---- lemmas about slices of a burst
 
 softened-range : (bits : List ℕ) (i j : ℕ) → slice_range (soft_bits bits) i j ≡ soft_bits (slice_range bits i j)
 softened-range bits i j = simp (drop-map, take-map)
@@ -228,7 +235,7 @@ softened_part : (burst front part back : List ℕ) (i j : ℕ) → burst ≡ fro
     length part ≡ j - i → slice_range (soft_bits burst) i j ≡ soft_bits part
 softened_part burst front part back i j whole hf hp = softened-range _ i j ∙ ap soft_bits (part_at _ front part back i j whole hf hp)
 
--- ---- the parts of the normal burst
+-- ---- lemmas about the parts of the normal burst
 
 abbrev flag : List ℕ
 flag = 1 ∷ []
@@ -237,7 +244,7 @@ flag = 1 ∷ []
 abbrev pub halves : {X : Type 0} → List X → List X
 halves burst = slice_range burst 3 60 ++ slice_range burst 88 145
 
--- the normal burst with this training sequence code and these 114 coded bits
+-- the normal burst with a given training sequence code and 114 given coded bits
 abbrev pub burst_of_part : ℕ → List ℕ → List ℕ
 burst_of_part tsc part = N.normal_burst (take 57 part) (drop 57 part) tsc
 
@@ -263,7 +270,8 @@ module _ (part : List ℕ) (tsc : ℕ) (known : tsc ≤ 7) (count : length part 
 abbrev IsPart : List ℕ → Type 0
 IsPart part = length part ≡ 114
 
-parts_of_bursts : (parts : List (List ℕ)) (tsc : ℕ) → tsc ≤ 7 → All IsPart parts → map halves (map (burst_of_part tsc) parts) ≡ parts
+parts_of_bursts : (parts : List (List ℕ)) (tsc : ℕ) → tsc ≤ 7 → All IsPart parts →
+    map halves (map (burst_of_part tsc) parts) ≡ parts
 parts_of_bursts [] tsc known each = refl
 parts_of_bursts (part ∷ parts) tsc known each =
     ap₂ (λ x y. x ∷ y) (part_halves part tsc known (All-head IsPart part parts each))
@@ -282,7 +290,7 @@ clean_training_of parts tsc b known each h =
       get_or-map (burst_of_part tsc) parts b [] [] h,
     ) (clean_training (get_or parts b []) tsc known (each b [] h))
 
--- ---- the training sequence that is found
+-- ---- lemmas about the training sequence that the receiver detects
 
 right : (x : ℕ) → x ≤ 1 → is_wrong_bit (soft_bit_of x) x ≡ false
 right x h = grind (arith, ints, nat_tests)
@@ -306,7 +314,8 @@ sequences_differ : passes_below (λ sent. passes_below (correlates_less sent) 8)
 unfolding total passes_below
 sequences_differ = refl
 
-best_own : (sent : ℕ) → sent ≤ 7 → let soft = soft_bits (midamble sent) in IsFirstMaximum (total_correlation soft soft soft soft) 7 sent
+best_own : (sent : ℕ) → sent ≤ 7 → let soft = soft_bits (midamble sent) in
+    IsFirstMaximum (total_correlation soft soft soft soft) 7 sent
 unfolding total
 best_own sent known = record {
   in_range = known;
@@ -318,7 +327,7 @@ best_own sent known = record {
       ];
 }
 
--- ## CleanCodewords: Coded bits received as sent decode to the sent encoder input: all other lists have other coded bits, and so a
+-- ## CleanCodewords: Coded bits received as sent decode to the sent encoder input: every other encoder input has other coded bits, and so a
 -- smaller path metric.
 
 -- a soft bit of full confidence adds 127 to the path metric for its own bit, and -127 for the opposite bit
@@ -345,7 +354,7 @@ agrees_less (x ∷ c) (y ∷ d) bc bd e =
     grind (arith, ints, bit_metric-own x hx, bit_metric-other x y hx hy, own, rest)
 agrees_less c d bc bd e = absurd (omega arith)
 
--- from the same state, different lists give different coded bits
+-- from the same state, different input bits give different coded bits
 same_information : (state : ℕ) (u v : List ℕ) → AllBits u → AllBits v → length u ≡ length v →
     encoding_from_state state u ≡ encoding_from_state state v → u ≡ v
 same_information state [] [] bu bv e same = refl
@@ -372,10 +381,11 @@ clean_most_likely w information = record {
       ];
 }
 
--- if the soft bits are those of the sent encoder input w of n + 4 bits, the most likely list v is w, and its path metric is 127 for each
--- coded bit
+-- if the soft bits are those of the sent encoder input w of n + 4 bits, the most likely encoder input v is w, and its path metric is 127
+-- for each coded bit
 heard : {IsWord : List ℕ → Type 0} {n k : ℕ} {w d : List ℕ} (soft : List ℤ) (v : List ℕ) → Carried IsWord n k w d →
-    soft ≡ soft_bits (encoding w) → IsMostLikely soft v → (v ≡ w) × (code_likelihood soft (encoding v) ≡ pos (127 * (2 * (n + 4))))
+    soft ≡ soft_bits (encoding w) → IsMostLikely soft v → (v ≡ w)
+    × (code_likelihood soft (encoding v) ≡ pos (127 * (2 * (n + 4))))
 heard {w = w} soft v c sure best =
     let same : v ≡ w = IsMostLikely-only (soft_bits _) w v (clean_most_likely w c.information) (rw (← sure) best) in
     (same, rw (sure, same, likelihood-own (encoding w) (AllBits-coded w), length-coded w, c.count))
@@ -388,7 +398,7 @@ accepted_of : {X : Type 0} {IsWord : List ℕ → Type 0} {n k : ℕ} {u v d : L
     MatchOption a (¬ IsWord (take n v)) (λ y. IsWord (take n v) × (y ≡ answer (take k v))) → a ≡ Some x
 accepted_of answer x c same is h = grind (arith, c.word, c.front)
 
--- ---- a block received as sent
+-- ---- lemmas about a block received as sent
 
 -- the deinterleaved soft bits of a block received as sent are those of its coded bits
 pub clean_gathered : (octets : List ℕ) (tsc : ℕ) (sent : List (List ℕ)) (s : IsSentBlock octets tsc sent) →
@@ -421,7 +431,7 @@ clean_block octets tsc sent r s h =
       metric = h.metric ∙ best.1;
     }
 
--- ---- an access burst and a synchronisation burst received as sent
+-- ---- lemmas about an access burst and a synchronisation burst received as sent
 
 pub clean_access : (info bsic sent : List ℕ) (r : ReceivedAccess) → IsSentAccess info bsic sent →
     IsReceivedAccess (soft_bits sent) bsic r → IsErrorFreeAccess info bsic r
@@ -442,7 +452,8 @@ clean_access info bsic sent r s h =
       metric = g.metric ∙ best.1;
     }
 
-pub clean_sync : (info sent : List ℕ) (r : ReceivedSync) → IsSentSync info sent → IsReceivedSync (soft_bits sent) r → IsErrorFreeSync info r
+pub clean_sync : (info sent : List ℕ) (r : ReceivedSync) → IsSentSync info sent → IsReceivedSync (soft_bits sent) r →
+    IsErrorFreeSync info r
 clean_sync info sent r s h =
     let c = s.coded_bits in
     let g = rw s.burst at h in
@@ -452,7 +463,8 @@ clean_sync info sent r s h =
     let b = drop 39 c in
     let burst = S.sync_burst a b in
     let first : length a ≡ 39 = omega (arith, length-take 39 c) in
-    let soft = ap₂ (λ x y. x ++ y) (softened_part burst tail_bits a (S.sync_sequence ++ b ++ tail_bits) 3 42 (simp append_assoc) refl first)
+    let soft = ap₂ (λ x y. x ++ y)
+    (softened_part burst tail_bits a (S.sync_sequence ++ b ++ tail_bits) 3 42 (simp append_assoc) refl first)
     (softened_part burst (tail_bits ++ a ++ S.sync_sequence) b tail_bits 106 145 (simp append_assoc) (simp length-append (omega arith))
     (omega (arith, length-drop 39 c))) ∙ sym (map-append soft_bit_of a b) ∙ ap soft_bits (take-append-drop 39 c ∙ s.code.code) in
     let training = softened_part burst (tail_bits ++ a) S.sync_sequence (b ++ tail_bits) 42 106 (simp append_assoc) (omega arith) refl in
@@ -467,7 +479,7 @@ clean_sync info sent r s h =
 -- ## BlockPlaces: Each coded bit has a position of its own among the 592 bits of four bursts, so n wrong bits make at most n coded bits
 -- wrong.
 
--- ---- the positions of the coded bits among the 592 bits
+-- ---- lemmas about the positions of the coded bits among the 592 bits
 
 -- bit i of burst b is bit 148 b + i of the bursts put end to end
 joined_bursts-at : {X : Type 0} (bursts : List (List X)) (b i : ℕ) (d : X) → All IsBurst bursts → b < length bursts → i < 148 →
@@ -487,22 +499,22 @@ slice-at bursts b i j k p d each within below h at =
     get_or-take _ _ k d h ∙ get_or-drop i (get_or bursts b []) k d ∙ sym (joined_bursts-at bursts b (i + k) d each within below)
     ∙ ap (λ q. get_or (joined_bursts bursts) q d) at
 
--- coded bit k is the bit at position `four_burst_position k` of the bursts put end to end
+-- coded bit k is the bit at position `position_in_four_bursts k` of the bursts put end to end
 at_burst_place : {X : Type 0} (bursts : List (List X)) (c : List X) (k : ℕ) (d : X) → length bursts ≡ 4 → All IsBurst bursts →
-    IsInterleaved c (map halves bursts) → k < 456 → get_or c k d ≡ get_or (joined_bursts bursts) (four_burst_position k) d
+    IsInterleaved c (map halves bursts) → k < 456 → get_or c k d ≡ get_or (joined_bursts bursts) (position_in_four_bursts k) d
 at_burst_place bursts c k d four each deinterleaved h =
     let b = burst_of_bit k in
     let s = get_or bursts b [] in
     let below : b < 4 = burst_of_bit-below k in
     let within : b < length bursts = omega arith in
     let first : length (slice_range s 3 60) ≡ 57 = omega (arith, length-take 57 (drop 3 s), length-drop 3 s) in
-    sym (deinterleaved.positions k d h) ∙ ap (λ xs. get_or xs (burst_position k) d) (get_or-map halves bursts b [] [] within)
-    ∙ halves-at (slice_range s 3 60) (slice_range s 88 145) k d (get_or (joined_bursts bursts) (four_burst_position k) d) first
-    (λ i l e. slice-at bursts b 3 60 i _ d each within (omega arith) l (omega (arith, four_burst_position-lower k (omega arith))))
-    (λ i l e. slice-at bursts b 88 145 i _ d each within (omega arith) l (omega (arith, four_burst_position-upper k (omega arith))))
+    sym (deinterleaved.positions k d h) ∙ ap (λ xs. get_or xs (position_in_burst k) d) (get_or-map halves bursts b [] [] within)
+    ∙ halves-at (slice_range s 3 60) (slice_range s 88 145) k d (get_or (joined_bursts bursts) (position_in_four_bursts k) d) first
+    (λ i l e. slice-at bursts b 3 60 i _ d each within (omega arith) l (omega (arith, position_in_four_bursts-lower k (omega arith))))
+    (λ i l e. slice-at bursts b 88 145 i _ d each within (omega arith) l (omega (arith, position_in_four_bursts-upper k (omega arith))))
 
 pub sent_place : (octets c : List ℕ) (tsc : ℕ) (sent : List (List ℕ)) → IsSentBlock octets tsc sent → IsCodedBlock octets c →
-    (k : ℕ) → k < 456 → get_or (joined_bursts sent) (four_burst_position k) 0 ≡ get_or c k 0
+    (k : ℕ) → k < 456 → get_or (joined_bursts sent) (position_in_four_bursts k) 0 ≡ get_or c k 0
 sent_place octets c tsc sent s code k h =
     let parts = sym (ap (map halves) s.layout ∙ parts_of_bursts _ tsc s.valid_tsc s.interleaved.burst_lengths) in
     let shape = sent_block_bits octets tsc sent s in
@@ -511,18 +523,18 @@ sent_place octets c tsc sent s code k h =
 
 pub received_place : (bursts : List (List ℤ)) (soft : List ℤ) → length bursts ≡ 4 →
     All IsBurst bursts → IsInterleaved soft (map coded_soft_bits bursts) →
-    (k : ℕ) → k < 456 → get_or soft k (pos 0) ≡ get_or (joined_bursts bursts) (four_burst_position k) (pos 0)
+    (k : ℕ) → k < 456 → get_or soft k (pos 0) ≡ get_or (joined_bursts bursts) (position_in_four_bursts k) (pos 0)
 received_place bursts soft four each deinterleaved k h = at_burst_place bursts _ k (pos 0) four each deinterleaved h
 
--- ---- the number of wrong coded bits
+-- ---- lemmas about the number of wrong coded bits
 
 unfoldable pub listed : ℕ → List ℕ → Bool
 listed q [] = false
 listed q (p ∷ ps) = nat_eq q p || listed q ps
 
--- whether the position of coded bit k is in the list
+-- whether the position of coded bit k is in the list `places`
 is_listed_position : List ℕ → ℕ → Bool
-is_listed_position places k = listed (four_burst_position k) places
+is_listed_position places k = listed (position_in_four_bursts k) places
 
 -- the number of indices from a to a + n - 1 that pass a test
 count_where : (ℕ → Bool) → ℕ → ℕ → ℕ
@@ -530,7 +542,8 @@ count_where test a zero = 0
 count_where test a (suc n) = (if test a then 1 else 0) + count_where test (a + 1) n
 
 wrong-count_where : (soft : List ℤ) (c places : List ℕ) (a : ℕ) → length soft ≡ length c → AllBits c →
-    ((k : ℕ) → k < length soft → is_listed_position places (a + k) ≡ false → get_or soft k (pos 0) ≡ soft_bit_of (get_or c k 0)) →
+    ((k : ℕ) → k < length soft → is_listed_position places (a + k) ≡ false →
+    get_or soft k (pos 0) ≡ soft_bit_of (get_or c k 0)) →
     count_wrong_bits soft c ≤ count_where (is_listed_position places) a (length soft)
 unfolding count_where
 wrong-count_where [] [] places a e bits same = omega arith
@@ -545,7 +558,7 @@ wrong-count_where soft c places a e bits same = absurd (omega arith)
 
 -- whether p is the position of coded bit k; this is so for at most one k
 stands_at : ℕ → ℕ → Bool
-stands_at p k = nat_eq (four_burst_position k) p
+stands_at p k = nat_eq (position_in_four_bursts k) p
 
 no_hits : (test : ℕ → Bool) (a n : ℕ) → ((k : ℕ) → a ≤ k → k < a + n → test k ≡ false) → count_where test a n ≡ 0
 unfolding count_where
@@ -554,20 +567,20 @@ no_hits test a (suc n) none =
     let rest = no_hits _ (a + 1) n (λ k low high. none k (omega arith) (omega arith)) in
     rw (none a (omega arith) (omega arith)) (omega arith)
 
-one_more : (p a n : ℕ) (t : Bool) → nat_eq (four_burst_position a) p ≡ t → a + suc n ≤ 456 →
+one_more : (p a n : ℕ) (t : Bool) → nat_eq (position_in_four_bursts a) p ≡ t → a + suc n ≤ 456 →
     count_where (stands_at p) (a + 1) n ≤ 1 → (if t then 1 else 0) + count_where (stands_at p) (a + 1) n ≤ 1
 unfolding stands_at
 one_more p a n false e h rest = omega arith
 one_more p a n true e h rest =
-    let here : four_burst_position a ≡ p = eqb-true (four_burst_position a) p e in
-    let none = no_hits (stands_at p) (a + 1) n (λ k low high. ne_eqb (four_burst_position k) p
-    (λ same. let again = four_burst_position-differs k a (omega arith) (omega arith) (same ∙ sym here) in omega arith)) in
+    let here : position_in_four_bursts a ≡ p = eqb-true (position_in_four_bursts a) p e in
+    let none = no_hits (stands_at p) (a + 1) n (λ k low high. ne_eqb (position_in_four_bursts k) p
+    (λ same. let again = position_in_four_bursts-differs k a (omega arith) (omega arith) (same ∙ sym here) in omega arith)) in
     omega arith
 
 one_hit : (p a n : ℕ) → a + n ≤ 456 → count_where (stands_at p) a n ≤ 1
 unfolding count_where stands_at
 one_hit p a zero h = omega arith
-one_hit p a (suc n) h = one_more p a n (nat_eq (four_burst_position a) p) refl h (one_hit p (a + 1) n (omega arith))
+one_hit p a (suc n) h = one_more p a n (nat_eq (position_in_four_bursts a) p) refl h (one_hit p (a + 1) n (omega arith))
 
 either_hits : (p : ℕ) (ps : List ℕ) (a n : ℕ) →
     count_where (is_listed_position (p ∷ ps)) a n ≤ count_where (stands_at p) a n + count_where (is_listed_position ps) a n
@@ -583,15 +596,16 @@ few_hits (p ∷ ps) a n h = omega (arith, one_hit p a n h, either_hits p ps a n,
 
 -- if soft bits differ from those of the coded bits only at the listed positions, no more soft bits are wrong than positions are listed
 pub few_listed_positions : (soft : List ℤ) (c places : List ℕ) → length soft ≡ 456 → length c ≡ 456 → AllBits c →
-    ((k : ℕ) → k < 456 → listed (four_burst_position k) places ≡ false → get_or soft k (pos 0) ≡ soft_bit_of (get_or c k 0)) →
+    ((k : ℕ) → k < 456 → listed (position_in_four_bursts k) places ≡ false →
+    get_or soft k (pos 0) ≡ soft_bit_of (get_or c k 0)) →
     count_wrong_bits soft c ≤ length places
 unfolding is_listed_position
 few_listed_positions soft c places count long bits same =
     let most = wrong-count_where soft c places 0 (count ∙ sym long) bits
-    (λ k lt h. let e : k ≡ 0 + k = omega arith in same k (omega arith) (ap (λ i. listed (four_burst_position i) places) e ∙ h)) in
+    (λ k lt h. let e : k ≡ 0 + k = omega arith in same k (omega arith) (ap (λ i. listed (position_in_four_bursts i) places) e ∙ h)) in
     omega (arith, most, few_hits places 0 (length soft) (omega arith))
 
--- a position for which `listed` is false is not in the list
+-- if `listed q places` is false, the position q is not in the list `places`
 not_among : (q : ℕ) (places : List ℕ) → listed q places ≡ false → Contains places q → ⊥
 unfolding listed
 not_among q [] h (n, lt, e) = omega arith
@@ -610,8 +624,8 @@ few_wrong octets c tsc sent bursts soft places s code four each deinterleaved sa
     rw (← one_coded_block octets s.coded_bits c s.code code) (clean_gathered octets tsc sent s) in
     let shape = sent_block_bits octets tsc sent s in
     few_listed_positions soft c places deinterleaved.coded_count bits.right_length bits.each (λ k h unlisted.
-    let q = four_burst_position k in
-    received_place bursts soft four each deinterleaved k h ∙ same q (four_burst_position-below k) (not_among q places unlisted)
+    let q = position_in_four_bursts k in
+    received_place bursts soft four each deinterleaved k h ∙ same q (position_in_four_bursts-below k) (not_among q places unlisted)
     ∙ sym (received_place (map soft_bits sent) (soft_bits c) (length-map sent soft_bits ∙ shape.0)
     (All-map IsBurst soft_bits sent (λ b d lt. length-map _ soft_bit_of ∙ (shape.1 b d lt).right_length)) clean k h)
     ∙ get_or-map soft_bit_of c k 0 (pos 0) (omega arith))
@@ -642,10 +656,12 @@ restored_access burst info bsic c r pairs code damage h =
     accepted_of (λ d. d) _ carried u refl h.accepted
 
 pub restored_sync : (burst : List ℤ) (info c : List ℕ) (r : ReceivedSync) → length (S.first_coded_half burst) ≡ 39 →
-    length (S.second_coded_half burst) ≡ 39 → IsCodedSync info c → IsCorrectable (sync_soft_bits burst) c → IsReceivedSync burst r →
+    length (S.second_coded_half burst) ≡ 39 → IsCodedSync info c → IsCorrectable (sync_soft_bits burst) c →
+    IsReceivedSync burst r →
     r.accepted ≡ Some info
 restored_sync burst info c r first second code damage h =
     let carried = sch_carried _ _ code.count code.information in
-    let pairs : length (sync_soft_bits burst) ≡ 78 = omega (arith, length-append (S.first_coded_half burst) (S.second_coded_half burst)) in
+    let pairs : length (sync_soft_bits burst) ≡ 78 =
+    omega (arith, length-append (S.first_coded_half burst) (S.second_coded_half burst)) in
     let u = restored_list (sync_soft_bits burst) _ c carried pairs code.code damage h.best in
     accepted_of (λ d. d) _ carried u refl h.accepted

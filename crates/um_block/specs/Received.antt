@@ -5,11 +5,11 @@ use Rattle.std.specs.Prelude.{slice_index_or, MatchOption}
 use Rattle.std.specs.List.{flat_map}
 use Rattle.bit_blocks.specs.Octets.{octets_of}
 use Rattle.bit_blocks.specs.SoftValues.{likelihood, count_wrong_bits}
-use Rattle.fire_code.specs.Words.{IsXcchWord, IsRachWord, IsSchWord}
+use Rattle.fire_code.specs.Words.{IsXcchCodeword, IsRachCodeword, IsSchCodeword}
 use Rattle.conv_code.specs.Code.{encoding}
 use Rattle.conv_code.specs.Likelihood.{IsMostLikely}
 use Rattle.interleave.specs.Bursts.{IsInterleaved}
-use Rattle.training_seq.specs.Choice.{CorrelatesBest, wrong_midamble_bits}
+use Rattle.training_seq.specs.Choice.{IsBestCorrelatedTsc, wrong_midamble_bits}
 use Rattle.burst_map.specs.NormalBurst as normal
 use Rattle.burst_map.specs.AccessBurst as access
 use Rattle.burst_map.specs.SyncBurst as sync
@@ -48,7 +48,7 @@ midamble_of_burst bursts b = normal.training (slice_index_or bursts b [])
 -- the training sequence code has the greatest total correlation with the midambles of four bursts
 abbrev pub IsReceivedTsc : (bursts : List (List ℤ)) (tsc : ℕ) → Type 0
 IsReceivedTsc bursts tsc =
-    CorrelatesBest (midamble_of_burst bursts 0) (midamble_of_burst bursts 1) (midamble_of_burst bursts 2)
+    IsBestCorrelatedTsc (midamble_of_burst bursts 0) (midamble_of_burst bursts 1) (midamble_of_burst bursts 2)
     (midamble_of_burst bursts 3) tsc
 
 -- how many of the 104 soft bits in the midambles of four bursts disagree with the training sequence of a given code
@@ -67,8 +67,8 @@ pub record IsReceivedBlock (bursts : List (List ℤ)) (report : Received) : Type
   pub tsc : IsReceivedTsc bursts report.tsc
   pub wrong_training : report.wrong_training ≡ wrong_training_bits bursts report.tsc
   pub accepted : MatchOption report.accepted
-      (¬ IsXcchWord (take 224 report.u))
-      (λ octets. IsXcchWord (take 224 report.u) × (octets ≡ octets_of (take 184 report.u)))
+      (¬ IsXcchCodeword (take 224 report.u))
+      (λ octets. IsXcchCodeword (take 224 report.u) × (octets ≡ octets_of (take 184 report.u)))
 
 -- `report` is the report of an access burst of 88 soft bits, checked with the BSIC `bsic`. Its `accepted` holds the eight information bits
 -- if the CRC is correct, and is `None` otherwise
@@ -77,8 +77,8 @@ pub record IsReceivedAccess (burst : List ℤ) (bsic : List ℕ) (report : Recei
   pub metric : report.metric ≡ likelihood (access_soft_bits burst) (encoding report.u)
   pub wrong_training : report.wrong_training ≡ count_wrong_bits (access.training burst) access.access_sequence
   pub accepted : MatchOption report.accepted
-      (¬ IsRachWord (take 14 report.u) bsic)
-      (λ info. IsRachWord (take 14 report.u) bsic × (info ≡ take 8 report.u))
+      (¬ IsRachCodeword (take 14 report.u) bsic)
+      (λ info. IsRachCodeword (take 14 report.u) bsic × (info ≡ take 8 report.u))
 
 -- `report` is the report of a synchronisation burst of 148 soft bits. Its `accepted` holds the 25 information bits if the CRC is correct,
 -- and is `None` otherwise
@@ -87,5 +87,5 @@ pub record IsReceivedSync (burst : List ℤ) (report : ReceivedSync) : Type 0 wh
   pub metric : report.metric ≡ likelihood (sync_soft_bits burst) (encoding report.u)
   pub wrong_training : report.wrong_training ≡ count_wrong_bits (sync.training burst) sync.sync_sequence
   pub accepted : MatchOption report.accepted
-      (¬ IsSchWord (take 35 report.u))
-      (λ info. IsSchWord (take 35 report.u) × (info ≡ take 25 report.u))
+      (¬ IsSchCodeword (take 35 report.u))
+      (λ info. IsSchCodeword (take 35 report.u) × (info ≡ take 25 report.u))

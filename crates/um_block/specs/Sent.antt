@@ -1,7 +1,7 @@
 -- The bursts that are sent: information bits, their CRC and four tail bits are convolutionally coded and placed in bursts.
 use Rattle.std.specs.Prelude.{ℕ, ◌≡◌, ◌≤◌, List, ◌++◌, length, map, take, drop, replicate}
 use Rattle.bit_blocks.specs.Octets.{AllOctets, bits_of}
-use Rattle.fire_code.specs.Words.{IsXcchWord, IsRachWord, IsSchWord}
+use Rattle.fire_code.specs.Words.{IsXcchCodeword, IsRachCodeword, IsSchCodeword}
 use Rattle.conv_code.specs.Code.{encoding}
 use Rattle.interleave.specs.Bursts.{IsInterleaved}
 use Rattle.burst_map.specs.NormalBurst.{normal_burst}
@@ -17,28 +17,28 @@ with_tail word = word ++ replicate 4 0
 pub record CarriesDataAndCrc (IsWord : List ℕ → Type 0) (encoder_input info : List ℕ) : Type 0 where
   pub crc : List ℕ
   pub word : IsWord (info ++ crc)
-  pub is_with_tail : encoder_input ≡ with_tail (info ++ crc)
+  pub has_tail_bits_appended : encoder_input ≡ with_tail (info ++ crc)
 
 -- `coded` consists of the 456 coded bits of a block of 23 octets (GSM 05.03 section 4.1)
 pub record IsCodedBlock (octets coded : List ℕ) : Type 0 where
   pub u : List ℕ
   pub count : length octets ≡ 23
   pub all_octets : AllOctets octets
-  pub information : CarriesDataAndCrc IsXcchWord u (bits_of octets)
+  pub information : CarriesDataAndCrc IsXcchCodeword u (bits_of octets)
   pub code : coded ≡ encoding u
 
 -- `coded` consists of the 36 coded bits of the eight information bits `info` for the BSIC `bsic` (GSM 05.03 section 4.6)
 pub record IsCodedAccess (info bsic coded : List ℕ) : Type 0 where
   pub u : List ℕ
   pub count : length info ≡ 8
-  pub information : CarriesDataAndCrc (λ w. IsRachWord w bsic) u info
+  pub information : CarriesDataAndCrc (λ w. IsRachCodeword w bsic) u info
   pub code : coded ≡ encoding u
 
 -- `coded` consists of the 78 coded bits of the 25 information bits `info` (GSM 05.03 section 4.7)
 pub record IsCodedSync (info coded : List ℕ) : Type 0 where
   pub u : List ℕ
   pub count : length info ≡ 25
-  pub information : CarriesDataAndCrc IsSchWord u info
+  pub information : CarriesDataAndCrc IsSchCodeword u info
   pub code : coded ≡ encoding u
 
 -- `bursts` are the four normal bursts of a block of 23 octets with training sequence code `tsc`: the coded bits are interleaved over the

@@ -4,23 +4,23 @@ ghost use Rattle.std.specs.Prelude.{◌≡◌, ℕ, ℤ, pos, ◌<◌, ◌≤◌
 ghost use Rattle.std.specs.Prelude.{slice_index_or};
 ghost use Rattle.bit_blocks.specs.SoftValues.{count_wrong_bits};
 ghost use Rattle.interleave.specs.Bursts.{IsInterleaved};
-ghost use Rattle.interleave.specs.Positions.{four_burst_position};
+ghost use Rattle.interleave.specs.Positions.{position_in_four_bursts};
 ghost use Rattle.um_block.specs.Received.{coded_soft_bits, joined_bursts, soft_bits};
 ghost use Rattle.um_block.specs.Sent.{IsCodedBlock, IsSentBlock};
 
 use bit_blocks::CODED_BITS;
 use burst_map::BURST_BITS;
 
-/// Law: among the 592 bits of its four bursts, each coded bit of a block is sent at its `four_burst_position`, and its soft bit is read
+/// Law: among the 592 bits of its four bursts, each coded bit of a block is sent at its `position_in_four_bursts`, and its soft bit is read
 /// from there.
 pub fn law_coded_bits_are_at_burst_positions()
     ensures sent { (octets c : List ℕ) (tsc : ℕ) (bursts : List (List ℕ)) → IsSentBlock octets tsc bursts →
-        IsCodedBlock octets c → (k : ℕ) → k < CODED_BITS → slice_index (joined_bursts bursts) (four_burst_position k) ≡
+        IsCodedBlock octets c → (k : ℕ) → k < CODED_BITS → slice_index (joined_bursts bursts) (position_in_four_bursts k) ≡
         slice_index c k }
     ensures received { (bursts : List (List ℤ)) (soft : List ℤ) → length bursts ≡ 4 →
         All (λ burst. length burst ≡ BURST_BITS) bursts → IsInterleaved soft (map coded_soft_bits bursts) →
         (k : ℕ) → k < CODED_BITS → slice_index_or soft k (pos 0)
-        ≡ slice_index_or (joined_bursts bursts) (four_burst_position k) (pos 0) }
+        ≡ slice_index_or (joined_bursts bursts) (position_in_four_bursts k) (pos 0) }
 {}
 
 /// Law: if four bursts are received exactly as sent except at some of their 592 positions (`places`), at most that many of the 456 coded

@@ -9,8 +9,6 @@ mod received;
 mod receiving;
 mod sending;
 mod softening;
-#[cfg(test)]
-mod tests;
 
 pub use bit_blocks::{
     BLOCK_BITS, BLOCK_OCTETS, Bits, CODED_BITS, ENCODER_INPUT_BITS, from_octets, to_octets,

@@ -4,7 +4,7 @@ ghost use Rattle.std.specs.Prelude.{◌≡◌, ℕ, ◌≤◌, ◌++◌, ℤ, Li
 ghost use Rattle.bit_blocks.specs.Bits.{AllBits};
 ghost use Rattle.bit_blocks.specs.Octets.{bits_of, octets_of};
 ghost use Rattle.bit_blocks.specs.SoftValues.{AllSoftBits};
-ghost use Rattle.fire_code.specs.Words.{IsXcchWord, IsRachWord, IsSchWord};
+ghost use Rattle.fire_code.specs.Words.{IsXcchCodeword, IsRachCodeword, IsSchCodeword};
 ghost use Rattle.interleave.specs.Bursts.{IsInterleaved};
 ghost use Rattle.weight_bound.specs.Restoring.{IsCorrectable};
 ghost use Rattle.um_block.specs.Sent.{IsCodedBlock, IsCodedAccess, IsCodedSync, IsSentBlock, IsSentAccess, IsSentSync};
@@ -97,8 +97,8 @@ fn detect_tsc(bursts: &[[i8; BURST_BITS]; 4]) -> (u8, u32)
 pub fn octets_if_crc_holds(u: &[u8; ENCODER_INPUT_BITS]) -> Option<[u8; BLOCK_OCTETS]>
     requires { AllBits u.now }
     ensures { MatchOption result
-        (¬ IsXcchWord (take 224 u.now))
-        (λ octets. IsXcchWord (take 224 u.now) × (octets ≡ octets_of (take BLOCK_BITS u.now))) }
+        (¬ IsXcchCodeword (take 224 u.now))
+        (λ octets. IsXcchCodeword (take 224 u.now) × (octets ≡ octets_of (take BLOCK_BITS u.now))) }
 {
     let mut octets = [0; BLOCK_OCTETS];
     pack_information_bits(u, &mut octets);
@@ -147,8 +147,8 @@ pub fn receive_access(burst: &[i8; 88], bsic: &Bits<6>) -> ReceivedAccess
 pub fn access_bits_if_crc_holds(decoded: &[u8; 18], bsic: &Bits<6>) -> Option<Bits<8>>
     requires { AllBits decoded.now }
     ensures { MatchOption result
-        (¬ IsRachWord (take 14 decoded.now) bsic.now)
-        (λ info. IsRachWord (take 14 decoded.now) bsic.now × (info ≡ take 8 decoded.now)) }
+        (¬ IsRachCodeword (take 14 decoded.now) bsic.now)
+        (λ info. IsRachCodeword (take 14 decoded.now) bsic.now × (info ≡ take 8 decoded.now)) }
 {
     let mut word = [0; 14];
     word.copy_from_slice(&decoded[..14]);
@@ -197,8 +197,8 @@ pub fn join_sync_halves(first: &[i8], second: &[i8]) -> [i8; 78]
 pub fn sync_bits_if_crc_holds(decoded: &[u8; 39]) -> Option<Bits<25>>
     requires { AllBits decoded.now }
     ensures { MatchOption result
-        (¬ IsSchWord (take 35 decoded.now))
-        (λ info. IsSchWord (take 35 decoded.now) × (info ≡ take 25 decoded.now)) }
+        (¬ IsSchCodeword (take 35 decoded.now))
+        (λ info. IsSchCodeword (take 35 decoded.now) × (info ≡ take 25 decoded.now)) }
 {
     let mut word = [0; 35];
     word.copy_from_slice(&decoded[..35]);

@@ -4,7 +4,7 @@ ghost use Rattle.std.specs.Prelude.{slice_index_or, All};
 ghost use Rattle.bit_blocks.specs.Bits.{AllBits};
 ghost use Rattle.bit_blocks.specs.Octets.{bits_of};
 ghost use Rattle.burst_map.specs.NormalBurst.{normal_burst};
-ghost use Rattle.fire_code.specs.Words.{IsXcchWord};
+ghost use Rattle.fire_code.specs.Words.{IsXcchCodeword};
 ghost use Rattle.interleave.specs.Bursts.{IsInterleaved};
 ghost use Rattle.interleave.specs.Columns.{AreColumnsOfCodedBits};
 ghost use Rattle.um_block.specs.Sent.{with_tail, IsCodedBlock, IsSentBlock, IsSentAccess, IsSentSync};
@@ -40,7 +40,7 @@ fn encode_block(octets: &[u8; BLOCK_OCTETS]) -> Columns
 
 /// The 23 octets of a block, followed by their five Fire code octets and four zero octets.
 fn octets_with_crc(octets: &[u8; BLOCK_OCTETS]) -> [u8; 32]
-    ensures { (crc : List ℕ) × IsXcchWord (bits_of octets.now ++ bits_of crc) × (result ≡ octets.now ++ crc ++ replicate 4 0) }
+    ensures { (crc : List ℕ) × IsXcchCodeword (bits_of octets.now ++ bits_of crc) × (result ≡ octets.now ++ crc ++ replicate 4 0) }
 {
     let mut word = [0; 32];
     word[..BLOCK_OCTETS].copy_from_slice(octets);

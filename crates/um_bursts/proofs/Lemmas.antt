@@ -6,15 +6,15 @@ use Rattle.{
   um_block.proofs.Lemmas.{accepted_count, one_received_access, one_received_block, one_received_sync, some_received_access},
   um_block.{proofs.Lemmas.{some_received_block, some_received_sync}, specs.bit_blocks.Bits.AllBits},
   um_bursts.specs.{
-    BurstRules.{AnswersBurstLine, AnswersBursts, AnswersNormalBurst, BurstAnswers, burst_rules},
+    BurstRules.{AnswersBurstLine, IsAnswerToBurstsToDecode, AnswersNormalBurst, BurstAnswers, burst_rules},
     Replay.{replay_answers, replay_rules},
   },
   um_driver.proofs.{Outputs.{IsWeaker, Runs-keep, has_one_output}, um_lines.FormLaws.{good_meaning, same_meaning}},
-  um_driver.specs.{Laws.HasOneOutput, Rules.{IsLineAnswerOrFault as Answered, IsDeterministic, IsTotal}},
+  um_driver.specs.{Laws.HasOneOutput, Rules.{IsLineAnswerOrFault as Answered, IsDeterministic, AnswersEveryAcceptedLine}},
   um_formats.{
     proofs.Lemmas.{access_burst, normal_burst, one_block_report, one_burst_meaning, some_block_report, sync_burst},
     specs.{
-      BurstLines.{BurstLineMeans, burst_fault},
+      BurstLines.{BurstLineMeans, burst_line_fault},
       Held.{AddsNormalBurst, BurstBuffer, GivesBurstsToDecode, normal_burst_result},
       Reports.{IsBlockReportText, access_report_text, sync_report_text},
       declared.{burst_lines.BurstLine.{TheVariants.{Access, Normal, Skip, Sync}, BurstLine}, held.BurstsToDecode.BurstsToDecode},
@@ -22,32 +22,33 @@ use Rattle.{
   },
 }
 
--- ## NextAnswers: An answer to the bursts that a line gives is an answer to the line.
+-- ## NextAnswers: An answer that the rules allow for the bursts that a line makes ready to decode is one that they allow for the line.
 
 module _ (a : BurstAnswers) (old new : BurstBuffer) (text : List ℕ) where
   normal_answered : (soft : List ℤ) (whole : Bool) → AddsNormalBurst old soft whole new →
-      AnswersBursts a (normal_burst_result whole) new text →
+      IsAnswerToBurstsToDecode a (normal_burst_result whole) new text →
       AnswersNormalBurst a (old.held ++ soft ∷ []) text new.held
   normal_answered soft false h wrote = inl (subst (λ (bs : List (List ℤ)). length bs < 4) h.0 h.1, wrote, h.0)
   normal_answered soft true h wrote =
       inr (sym (ap length h.0) ∙ h.1, h.2, subst (λ (bs : List (List ℤ)). a.block bs text) h.0 wrote)
 
   next_answered : (meaning : BurstLine) (next : BurstsToDecode) → GivesBurstsToDecode old meaning next new →
-      AnswersBursts a next new text → AnswersBurstLine a old.held meaning text new.held
+      IsAnswerToBurstsToDecode a next new text → AnswersBurstLine a old.held meaning text new.held
   next_answered Skip next h wrote = (
-    subst (λ (n : BurstsToDecode). AnswersBursts a n new text) h.0 wrote,
+    subst (λ (n : BurstsToDecode). IsAnswerToBurstsToDecode a n new text) h.0 wrote,
     ap (λ (s : BurstBuffer). s.held) h.1,
   )
   next_answered (Normal soft) next h wrote =
-      normal_answered soft h.0 h.2 (subst (λ (n : BurstsToDecode). AnswersBursts a n new text) h.1 wrote)
+      normal_answered soft h.0 h.2 (subst (λ (n : BurstsToDecode). IsAnswerToBurstsToDecode a n new text) h.1 wrote)
   next_answered (Access bsic soft) next h wrote =
-      (ap (λ (s : BurstBuffer). s.held) h.1, subst (λ (n : BurstsToDecode). AnswersBursts a n new text) h.0 wrote)
+      (ap (λ (s : BurstBuffer). s.held) h.1, subst (λ (n : BurstsToDecode). IsAnswerToBurstsToDecode a n new text) h.0 wrote)
   next_answered (Sync soft) next h wrote =
-      (ap (λ (s : BurstBuffer). s.held) h.1, subst (λ (n : BurstsToDecode). AnswersBursts a n new text) h.0 wrote)
+      (ap (λ (s : BurstBuffer). s.held) h.1, subst (λ (n : BurstsToDecode). IsAnswerToBurstsToDecode a n new text) h.0 wrote)
 
-  -- an answer to the bursts that the line gives is an answer to the line
+  -- an answer that the rules allow for the bursts that a line makes ready to decode is one that they allow for the line
   pub line_answered : (line : List ℕ) (meaning : BurstLine) (next : BurstsToDecode) → BurstLineMeans (length old.held) line meaning
-      → burst_fault (length old.held) line ≡ None → GivesBurstsToDecode old meaning next new → AnswersBursts a next new text
+      → burst_line_fault (length old.held) line ≡ None → GivesBurstsToDecode old meaning next new →
+      IsAnswerToBurstsToDecode a next new text
       → Answered (burst_rules a) old.held line (Ok tt) text (λ after. new.held ≡ after)
   line_answered line meaning next means good brings wrote =
       (new.held, good, (meaning, means, next_answered meaning next brings wrote), refl)
@@ -70,7 +71,7 @@ pub record HaveSomeAnswer (a : BurstAnswers) : Type 0 where
       (y : List ℕ) × a.access bsic burst y
   pub sync : (burst : List ℤ) → length burst ≡ 148 → (y : List ℕ) × a.sync burst y
 
--- each answer that `a` allows is an answer that `b` allows
+-- every answer to bursts that `a` allows is also an answer that `b` allows
 pub record AreAlso (a b : BurstAnswers) : Type 0 where
   pub block : (bursts : List (List ℤ)) (y : List ℕ) → a.block bursts y → b.block bursts y
   pub access : (bsic : List ℕ) (burst : List ℤ) (y : List ℕ) → a.access bsic burst y → b.access bsic burst y
@@ -91,7 +92,7 @@ weaker_bursts a b also = record {
   step = λ held after line y (m, means, answer). (m, means, also_answer a b also held m y after answer);
 }
 
--- the bursts held are fewer than four, of 148 soft bits each
+-- the buffer holds fewer than four bursts, each of 148 soft bits
 record IsHeld (held : List (List ℤ)) : Type 0 where
   at_most_3 : length held ≤ 3
   each : AreWhole held
@@ -123,7 +124,7 @@ module _ (a : BurstAnswers) where
   pub bursts_are_determined : HaveOneAnswer a → IsDeterministic (burst_rules a)
   bursts_are_determined one held line y y' b b' (m, means, answer) (m', means', answer') =
       let at = length held in
-      let same = same_meaning (BurstLineMeans at line) (burst_fault at line) (one_burst_meaning at line) m m' means means' in
+      let same = same_meaning (BurstLineMeans at line) (burst_line_fault at line) (one_burst_meaning at line) m m' means means' in
       same_answer one held m' y y' b b' (subst (λ n. AnswersBurstLine a held n y b) same answer) answer'
 
   block_keeps : (bursts after : List (List ℤ)) (y : List ℕ) → AreWhole bursts → AnswersNormalBurst a bursts y after → IsHeld after
@@ -138,7 +139,7 @@ module _ (a : BurstAnswers) where
   step_keeps held after line y h (Access bsic soft, means, (s, _)) = subst IsHeld (sym s) h
   step_keeps held after line y h (Sync soft, means, (s, _)) = subst IsHeld (sym s) h
 
-  -- when one more normal burst arrives, there is an answer to the bursts that are then held
+  -- when a normal burst is added to the bursts held, there is an answer to the bursts that are then held
   some_block_answer : HaveSomeAnswer a → (held : List (List ℤ)) (soft : List ℤ) → IsHeld held → length soft ≡ 148 →
       (y : List ℕ) × (after : List (List ℤ)) × AnswersNormalBurst a (held ++ soft ∷ []) y after
   some_block_answer some held soft h count =
@@ -165,9 +166,9 @@ module _ (a : BurstAnswers) where
       let answer = some.sync soft (sync_burst (length held) line soft means).1 in
       (answer.0, held, (refl, answer.1))
 
-  bursts_are_total : HaveSomeAnswer a → IsTotal (burst_rules a) []
+  bursts_are_total : HaveSomeAnswer a → AnswersEveryAcceptedLine (burst_rules a) []
   bursts_are_total some lines answers b runs line plain good =
-      let meant = good_meaning (BurstLineMeans (length b) line) (burst_fault (length b) line) (one_burst_meaning (length b) line)
+      let meant = good_meaning (BurstLineMeans (length b) line) (burst_line_fault (length b) line) (one_burst_meaning (length b) line)
       good.no_fault in
       let held = Runs-keep (burst_rules a) IsHeld (λ c after line y h step. step_keeps c after line y h step) [] b lines answers
       held_none runs in

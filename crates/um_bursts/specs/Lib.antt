@@ -3,5 +3,5 @@ pub use Rattle.um_driver.specs.um_lines as um_lines
 -- The definitions that the contracts of this crate cite.
 pub mod BurstRules
 pub mod Replay
--- the crates that the definitions of this crate use
+-- definitions of other crates that the definitions of this crate use
 pub use Rattle.um_driver.specs.Rules

@@ -1,13 +1,15 @@
 //! A command that reads bursts as text lines.
 ghost use Rattle.std.specs.Prelude.{◌≡◌, ◌<◌, ℤ, List, [], ◌∷◌, ◌++◌, length};
 ghost use Rattle.um_formats.specs.Held.{HasValidSoftValues};
-ghost use Rattle.um_bursts.specs.BurstRules.{burst_rules, AnswersBursts};
+ghost use Rattle.um_bursts.specs.BurstRules.{burst_rules, IsAnswerToBurstsToDecode};
 ghost use Rattle.um_driver.specs.Rules.{IsLineAnswerOrFault};
 
 use crate::reports::Reports;
 use std::marker::Model;
 use um_driver::Command;
-use um_formats::{BurstsToDecode, HeldBursts, LineFault, Text, hold_normal_burst, read_burst_into};
+use um_formats::{
+    BurstsToDecode, HeldBursts, LineFault, Text, hold_normal_burst, parse_and_hold_burst,
+};
 
 /// A command that holds the bursts of an incomplete block, and lets `reports` answer complete blocks and single bursts.
 #[derive(Drop)]
@@ -40,7 +42,7 @@ impl<R: Reports> BurstCommand<R> {
     /// space for its result.
     #[cold]
     #[inline(never)]
-    fn answer_line_other_than_normal(
+    fn answer_other_than_normal_burst(
         &mut self,
         line: &[u8],
         out: &mut Text,
@@ -49,7 +51,7 @@ impl<R: Reports> BurstCommand<R> {
         ensures answered { IsLineAnswerOrFault (burst_rules R.answers) self.old line.now result out.new (λ after. self.new ≡ after) }
         ensures size { length out.new < 2000 }
     {
-        let next = read_burst_into(line, &mut self.held)?;
+        let next = parse_and_hold_burst(line, &mut self.held)?;
         write_answer(out, &self.reports, &next, &self.held);
         Ok(())
     }
@@ -82,7 +84,7 @@ impl<R: Reports> Command for BurstCommand<R> {
                 }
                 Ok(())
             }
-            None => self.answer_line_other_than_normal(line, out),
+            None => self.answer_other_than_normal_burst(line, out),
         }
     }
 
@@ -99,7 +101,7 @@ impl<R: Reports> Command for BurstCommand<R> {
 fn write_answer<R: Reports>(out: &mut Text, reports: &R, next: &BurstsToDecode, held: &HeldBursts)
     requires empty { out.old ≡ [] }
     requires soft { HasValidSoftValues next.now }
-    ensures answer { AnswersBursts R.answers next.now held.now out.new }
+    ensures answer { IsAnswerToBurstsToDecode R.answers next.now held.now out.new }
     ensures size { length out.new < 2000 }
 {
     match next {

@@ -1,4 +1,4 @@
--- What each call from C answers, once.
+-- What each C call returns and writes.
 use Rattle.{
   fire_repair.{
     proofs.Lemmas.one_answer,
@@ -6,7 +6,12 @@ use Rattle.{
   },
   lapdm_end.specs.{Abstraction.Represents, Parts.{EndpointValues, values_of}, Refinement.{RefusesAsSpecified, StepRefines}},
   lapdm_end.specs.declared.{Role.Role, ends.Endpoint.Endpoint},
-  lapdm_frame.specs.{Content.Frame, Frames.bit_of_bool, Readings.{IsOnlyFrame, IsOnlyRefusal}, declared.{Channel.Channel, Refusal.Refusal}},
+  lapdm_frame.specs.{
+    Content.Frame,
+    Frames.bit_of_bool,
+    Readings.{IsOnlyEncodedFrame, IsOnlyRefusalReason},
+    declared.{Channel.Channel, Refusal.Refusal},
+  },
   std.proofs.Common.{Bool, Err, IfErr, List, None, Ok, OnOk, Option, Result, Some, [], add-one, ap, arith, get_or, inl, inr, length, map},
   std.proofs.Common.{nat_le, refl, replicate, slice_index_or, slice_set, suc, sym, take, true, zero, ℕ, ℤ, ◌++◌, ◌+◌, ◌-◌},
   std.proofs.{Common.{◌<◌, ◌↔◌, ◌∙◌, ◌∷◌, ◌≡◌, ◌≤◌}, lemmas.{Bool.Decides.nat_tests, List.take_at}},
@@ -14,7 +19,7 @@ use Rattle.{
   um_air.specs.{
     lapdm_window.{Calls.{Call, call_outcome}, Ends.{EndpointState, Outcome, initial_endpoint}, Steps.HasEffects, Tables.frame_outcome},
     lapdm_window.declared.{Notice.Notice, Refused.Refused, Sapi.Sapi, State.State, effects.Effects.Effects},
-    segmenting.{Buffers.{message_buffer, octets_in}, Segments.Message, declared.buffers.MessageBuffer.MessageBuffer},
+    segmenting.{Buffers.{message_buffer, octets_in_buffer}, Segments.Message, declared.buffers.MessageBuffer.MessageBuffer},
     segmenting.declared.joiner.ReassemblyState.ReassemblyState,
   },
   um_among.proofs.list_decode.Lemmas.{both_unique, one_margin},
@@ -26,7 +31,7 @@ use Rattle.{
     EndCalls.call_refusal_number,
     MarginReports.IsMarginReport,
     Plain.{channel_of, is_nonzero},
-    RepairReports.{IsBitRepairResult, IsRepairCallResult},
+    RepairReports.{IsRepairResultForBitWord, IsRepairCallResult},
     Reports.{IsAccessReport, IsBlockReport, IsSyncReport, ReportsBlock},
     States.{RepresentsSomeEndpoint, StructRepresents, buffers_of_messages, c_endpoint, channel_number, endpoint_values_from},
     States.{reassembly_from_number, reassembly_number, role_number, role_of, sapi_number, sapi_of, state_number, state_of},
@@ -36,7 +41,7 @@ use Rattle.{
 }
 use Rattle.lapdm_end.specs.Addresses as L
 
--- ## Plain: Reading back a written state gives the values that were written.
+-- ## Plain: Reading back the C struct of an endpoint gives the values that were written to it.
 
 role-number : (r : Role) → role_of (role_number r) ≡ Some r
 role-number r = grind arith
@@ -56,11 +61,11 @@ part-number p = grind arith
 is_nonzero-bit_of_bool : (b : Bool) → is_nonzero (bit_of_bool b) ≡ b
 is_nonzero-bit_of_bool b = grind arith
 
-pub octets-c_struct : (octets : List ℕ) → octets_in (message_buffer octets) ≡ octets
+pub octets-c_struct : (octets : List ℕ) → octets_in_buffer (message_buffer octets) ≡ octets
 octets-c_struct octets = take_at octets _ _ refl
 
 messages-c_struct : (k : ℕ) (held : List Message) → length held ≤ k →
-    map octets_in (take (length held) (buffers_of_messages k held)) ≡ held
+    map octets_in_buffer (take (length held) (buffers_of_messages k held)) ≡ held
 messages-c_struct k [] few = refl
 messages-c_struct zero (m ∷ ms) few = absurd (omega arith)
 messages-c_struct (suc k) (m ∷ ms) few = rw (octets-c_struct m, messages-c_struct k ms (omega arith)) refl
@@ -81,7 +86,7 @@ end-c_struct x few =
       octets-c_struct x.sabm_info,
     )
 
--- ## Places: What an array contains after its elements have been written one by one.
+-- ## Places: An array that is written one element at a time contains the notices or messages, followed by unused elements.
 
 abbrev place : List Notice → ℕ → CNotice
 place notices i = slice_index_or (map c_notice notices) i blank_notice
@@ -100,18 +105,19 @@ pub c_notices-written : (old : List CNotice) (notices : List Notice) (a b c : CN
 c_notices-written (x ∷ y ∷ z ∷ []) notices a b c three few at at1 at2 = rw (at, at1, at2) (c_notices-three notices few)
 c_notices-written old notices a b c three few at at1 at2 = absurd (omega arith)
 
--- the array after one more message is written
+-- if an array holds the first i messages, writing message i gives the array that holds the first i + 1 messages
 buffers-next : (k i : ℕ) (held : List MessageBuffer) (other : MessageBuffer) → i < length held → i < k →
-    slice_set (buffers_of_messages k (map octets_in (take i held))) i (message_buffer (octets_in (get_or held i other)))
-    ≡ buffers_of_messages k (map octets_in (take (suc i) held))
+    slice_set (buffers_of_messages k (map octets_in_buffer (take i held))) i (message_buffer (octets_in_buffer (get_or held i other)))
+    ≡ buffers_of_messages k (map octets_in_buffer (take (suc i) held))
 buffers-next (suc k) zero (m ∷ ms) other at room = refl
 buffers-next (suc k) (suc i) (m ∷ ms) other at room = rw (buffers-next k i ms other (omega arith) (omega arith))
 buffers-next k i held other at room = absurd (omega arith)
 
-pub buffers-written : (held : List MessageBuffer) (i : ℕ) (buffers : List MessageBuffer) (room other : MessageBuffer) (octets : List ℕ) →
-    i < length held → length held ≤ 8 → buffers ≡ buffers_of_messages 8 (map octets_in (take i held)) →
-    octets ≡ octets_in (get_or held i other) →
-    room ≡ message_buffer octets → slice_set buffers i room ≡ buffers_of_messages 8 (map octets_in (take (i + 1) held))
+pub buffers-written : (held : List MessageBuffer) (i : ℕ) (buffers : List MessageBuffer) (room other : MessageBuffer)
+    (octets : List ℕ) →
+    i < length held → length held ≤ 8 → buffers ≡ buffers_of_messages 8 (map octets_in_buffer (take i held)) →
+    octets ≡ octets_in_buffer (get_or held i other) →
+    room ≡ message_buffer octets → slice_set buffers i room ≡ buffers_of_messages 8 (map octets_in_buffer (take (i + 1) held))
 buffers-written held i buffers room other octets at few so_far is written =
     rw (so_far, written, is, add-one) (buffers-next 8 i held other at (omega arith))
 
@@ -126,7 +132,8 @@ IsFlagged-unique : (n : ℕ) (accepted : Option (List ℕ)) {flag flag' : ℕ} {
 IsFlagged-unique n None h g = (cc, cc)
 IsFlagged-unique n _ h g = (cc, cc)
 
-pub IsFlagged-some : (accepted : Option (List ℕ)) (flag : ℕ) (output : List ℕ) → IsFlagged 23 accepted flag output → flag ≡ 1 →
+pub IsFlagged-some : (accepted : Option (List ℕ)) (flag : ℕ) (output : List ℕ) → IsFlagged 23 accepted flag output →
+    flag ≡ 1 →
     IsSome accepted
 IsFlagged-some None flag output h one = absurd (omega arith)
 IsFlagged-some _ flag output h one = refl
@@ -136,10 +143,10 @@ pub IsFlagged-none : (accepted : Option (List ℕ)) (flag : ℕ) (output : List 
 IsFlagged-none None flag output h = (λ zero. refl, λ none. h.0)
 IsFlagged-none (Some octets) flag output h = (λ zero. absurd (omega arith), λ none. absurd cc)
 
--- ## Calls: What a call from C answers, derived from what the endpoint in `lapdm_end` does. The endpoint that was read represents the same
--- endpoints as the state in the caller's memory.
+-- ## Calls: A C call reads the caller's struct into a Rust endpoint (`lapdm_end`) and calls this endpoint. The contract of the Rust
+-- endpoint determines what the C call returns and writes, because both represent the same abstract endpoint.
 
--- the endpoint m was read from the state s: it represents every endpoint that s represents, and s represents at least one
+-- the Rust endpoint `m` was read from the struct `s`: `s` represents an endpoint, and `m` represents every endpoint that `s` represents
 pub record IsRead (s : CEndpoint) (m : Endpoint) : Type 0 where
   pub represents : (e : EndpointState) → StructRepresents s e → Represents m e
   pub is_endpoint : RepresentsSomeEndpoint s
@@ -149,7 +156,7 @@ pub is_read : {s : CEndpoint} {m : Endpoint} {read : Bool} →
     IsTrue read → IsRead s m
 is_read represents known is = record { represents = represents is; is_endpoint = known.0 is }
 
--- the answer, the state and the effects after a call that succeeds
+-- the call succeeded: it returned 0, `after` holds the values of the endpoint `n`, and `output` holds these effects
 abbrev pub IsDone : Effects → Endpoint → ℕ → CEndpoint → CEffects → Type 0
 IsDone effects n answer after output =
     (answer ≡ 0) × (endpoint_values_from after ≡ Some (values_of n)) × (output ≡ c_effects effects.frames effects.notices)
@@ -204,12 +211,13 @@ module _ {before after : CEndpoint} {output_old output : CEffects} {m : Endpoint
         unchanged = λ other. (is.1, is.2);
       }
 
-  -- if the block encodes a frame, an endpoint that carries out this frame satisfies `EndpointReceivesBlock`
+  -- if the block encodes the frame `f`, an endpoint that receives `f` satisfies `EndpointReceivesBlock`
   pub given_by : {octets : List ℕ} {channel : Channel} → ((e : EndpointState) → Represents m e → channel ≡ e.channel) →
-      (f : Frame) (n : Endpoint) (effects : Effects) → IsOnlyFrame channel f octets → StepRefines (frame_outcome f) m effects n →
+      (f : Frame) (n : Endpoint) (effects : Effects) → IsOnlyEncodedFrame channel f octets →
+      StepRefines (frame_outcome f) m effects n →
       IsDone effects n answer after output → EndpointReceivesBlock octets answer before after output_old output
   given_by {octets} same f n effects frame follows is =
-      let known : (e : EndpointState) → StructRepresents before e → IsOnlyFrame e.channel f octets =
+      let known : (e : EndpointState) → StructRepresents before e → IsOnlyEncodedFrame e.channel f octets =
       λ e h. rw (same e (read.represents e h)) at frame in
       record {
         carried_out = λ e h g only. rw ((known e h).unique g only.frame) (carried_out (follows e (read.represents e h)) is);
@@ -218,7 +226,7 @@ module _ {before after : CEndpoint} {output_old output : CEffects} {m : Endpoint
         unchanged = λ other. absurd (other is.0);
       }
 
--- the endpoint has no such call, so the answer is 8 and nothing is written
+-- if the endpoint does not support the call, the C call must return 8 and write nothing
 pub not_asked : {call : Call} {s : CEndpoint} {output : CEffects} {m : Endpoint} → IsRead s m →
     ((e : EndpointState) → StructRepresents s e → EndpointSupportsCall e call → ⊥) → EndpointAnswersCall call 8 s s output output
 not_asked read never = record {
@@ -229,9 +237,9 @@ not_asked read never = record {
   unchanged = λ other. (refl, refl);
 }
 
--- if the block encodes no frame, the answer is 9 and nothing is written
+-- if the block encodes no frame, the C call must return 9 and write nothing
 pub not_given : {octets : List ℕ} {channel : Channel} {reason : Refusal} {s : CEndpoint} {output : CEffects} {m : Endpoint} →
-    IsRead s m → ((e : EndpointState) → Represents m e → channel ≡ e.channel) → IsOnlyRefusal channel octets reason →
+    IsRead s m → ((e : EndpointState) → Represents m e → channel ≡ e.channel) → IsOnlyRefusalReason channel octets reason →
     EndpointReceivesBlock octets 9 s s output output
 not_given read same refusal = record {
   carried_out = λ e h f only. absurd ((rw (same e (read.represents e h)) at refusal).no_frame f only.frame);
@@ -240,7 +248,7 @@ not_given read same refusal = record {
   unchanged = λ other. (refl, refl);
 }
 
--- the state of a new endpoint
+-- if role, SAPI and channel are valid, writing an initial endpoint to `after` satisfies `IsNewEndpointResult`
 pub new_endpoint : (role sapi channel : ℕ) (before : CEndpoint) {r : Role} {s : Sapi} {c : Channel} {after : CEndpoint} (m : Endpoint) →
     Some r ≡ role_of role → Some s ≡ sapi_of sapi → Some c ≡ channel_of channel → after ≡ c_endpoint (values_of m) →
     Represents m (initial_endpoint (L.spec_role_of r) s c) →
@@ -251,7 +259,7 @@ new_endpoint role sapi channel before m of_role of_sapi of_channel is represents
       struct_represents (ap endpoint_values_from is ∙ end-c_struct (values_of m) m.window.at_most_8) represents,
     )
 
--- ## UniqueReports: The definitions leave only one possible report for each reception.
+-- ## UniqueReports: The definitions allow only one report for each reception.
 
 -- two reports on the same reception are equal
 pub equal_reports : (bursts : List (List ℤ)) (soft : List ℤ) (a b : Received) (r r' : BlockReport) →
@@ -268,7 +276,8 @@ equal_reports bursts soft a b r r' deinterleaved same h g =
       word = (rw same at h.word ∙ sym g.word) i;
     }
 
-pub IsBlockReport-unique : (bursts : List (List ℤ)) (r r' : BlockReport) → IsBlockReport bursts r → IsBlockReport bursts r' → r ≡ r'
+pub IsBlockReport-unique : (bursts : List (List ℤ)) (r r' : BlockReport) → IsBlockReport bursts r → IsBlockReport bursts r' →
+    r ≡ r'
 IsBlockReport-unique bursts r r' h g =
     equal_reports bursts h.is_received.soft _ _ r r' h.is_received.deinterleaved (one_received_block bursts _ _ h.is_received g.is_received)
     h.reports_block g.reports_block
@@ -308,7 +317,7 @@ IsMarginReport-unique bursts r r' h g =
     let equal = one_margin g.soft r'.word r.margin r'.margin (rw (soft, both.0) at h.margin) g.margin in
     λ i. record { margin = equal i; word = both.0 i; next = both.1 i }
 
--- ## UniqueRepairs: The definitions leave only one possible answer and report for each word.
+-- ## UniqueRepairs: The definitions allow only one return value and one report for each word.
 
 abbrev number : RepairAnswer → ℕ
 number Holds = 0
@@ -320,8 +329,8 @@ reported Holds before = before
 reported (Repaired word first span) before = record { first = first; span = span; word = word }
 reported NoRepair before = before
 
--- the answer and the report describe a repair of the word w
-describes_repair : (w : List ℕ) (answer : ℕ) (before after : RepairReport) → IsBitRepairResult w answer before after →
+-- the return value and the report encode a result of `repair` for the word `w`
+describes_repair : (w : List ℕ) (answer : ℕ) (before after : RepairReport) → IsRepairResultForBitWord w answer before after →
     (repair : RepairAnswer) × IsRepairResult w repair × (answer ≡ number repair) × (after ≡ reported repair before)
 describes_repair w answer before after (inl holds) = (Holds, holds.0, holds.1, holds.2)
 describes_repair w answer before after (inr (inl right)) =

@@ -1,9 +1,9 @@
--- Programs that join endpoints through C calls, as sessions of frames.
+-- Programs that connect endpoints through C calls correspond to sessions of frames.
 use Rattle.{
   lapdm_frame.{
     proofs.Lemmas.{octets_canonical, one_reading, only_canonical, same_frame},
-    specs.{Content.{Frame, Ua}, Frames.{FrameFits, IsFrameCoding, octets_of}, Readings.{HasUniqueReading, IsOnlyFrame, IsOnlyRefusal}},
-    specs.declared.{Channel.{TheVariants.{Sacch, Sdcch}, Channel}, Refusal.Refusal},
+    specs.{Content.{Frame, Ua}, Frames.{FrameFits, IsFrameCoding, octets_of}, Readings.{HasUniqueReading, IsOnlyEncodedFrame}},
+    specs.{Readings.IsOnlyRefusalReason, declared.{Channel.{TheVariants.{Sacch, Sdcch}, Channel}, Refusal.Refusal}},
   },
   std.{
     proofs.{
@@ -14,24 +14,20 @@ use Rattle.{
     specs.{List.{AllZip, filter_map}, Prelude.◌⊎◌, Str.bytes_eq},
   },
   um_air.{
-    proofs.{
-      Lemmas.damaged_received,
-      lapdm_link.Lemmas.{AllReported, IsFitting, IsPlaced, KnowsBy, acted, claims_with_rr, counts_with_rr, each_start, each_way, end_of},
-      lapdm_link.Lemmas.{ends_do, event_step-fits, fits-step, in_order-step, is_end, order_claims, initial-fits},
-      lapdm_link.Lemmas.{initial-reported, without_first},
-      lapdm_window.Lemmas.{keeps-call, keeps-frame},
-    },
+    proofs.{Lemmas.damaged_received, lapdm_link.Lemmas.{AllReported, IsFitting, IsPlaced, KnowsBy, acted, claims_with_rr, counts_with_rr}},
+    proofs.lapdm_link.Lemmas.{each_start, each_way, end_of, ends_do, event_step-fits, fits-step, in_order-step, is_end, order_claims},
+    proofs.{lapdm_link.Lemmas.{initial-fits, initial-reported, without_oldest_item}, lapdm_window.Lemmas.{keeps-call, keeps-frame}},
     specs.{
       lapdm_link.{
         Claims.{AckedAtMostDelivered, Asked, Claims, HasNoticesInOrder, LogLine, Notified, answer_log_lines, is_same_role, is_same_sapi},
         Events.{Ask, Close, Deliver, Event, Idle, Lose, OpenBare, Open, Request, Rival, SendUi, Send, T200Expiry, as_event_refusal},
         Events.{endpoint_call_of, event_step, other, rival_sabm, unbounded_capacity},
-        Queues.{Queues, with_appended, without_first as queues_without_first},
-        Worlds.{AllowsRrForRej, EventAllowsRrForRej, IsOldestSentOrRr, World, answer_unless_refused, answers, answer, initial_world},
-        Worlds.{refusal, rr_for_rej, world_after, world_unless_refused},
+        Queues.{Queues, with_items_appended, without_oldest_item as queues_without_first},
+        Worlds.{IsBenignExceptRrForRej, IsBenignEventExceptRrForRej, IsOldestSentOrRrForRej, World, answer_unless_refused, answers, answer},
+        Worlds.{initial_world, refusal, rej_replaced_by_rr, world_after, world_after_possible_refusal},
       },
       lapdm_window.{
-        Calls.{Call, Closes, OpensWithoutInfo, Opens, SendsFill, SendsUi, Sends, T200Expires, call_outcome, refusal_of, sends_sabm},
+        Calls.{Call, Closes, OpensWithoutInfo, Opens, SendsFillFrame, SendsUi, Sends, T200Expires, call_outcome, refusal_of, sends_sabm},
         Ends.{EndpointState, IsValidEndpoint, Mobile, Network, Outcome, Role, no_effect, response_frame, sapi_number, initial_endpoint},
         Tables.frame_outcome,
         declared.{Notice.Notice, Refused.Refused, Sapi.{TheVariants.{Three, Zero}, Sapi}},
@@ -47,8 +43,8 @@ use Rattle.{
       Effects.c_notice,
       EndCalls.{EndpointReceivesBlock, EndpointAnswersCall, EndpointSupportsCall, SucceedsWithOutcome, call_refusal_number},
       Joined.{AnyStepAllowed, Calls, DeliversOldestBlock, EncodeSameFrame, FirstBlockSatisfies, HasNoFrameOnSapi, ChangesOneEndpoint},
-      Joined.{IsNewEndpointOrNone, IsProgramRun, IsProgramStart, IsProgramStep, IsReceptionOf, LosesOldestBlock, ProgramState, ProgramStep},
-      Joined.{ReceivesOldestBlock, RivalSabm, TakesOldestBlock, TakesOtherSapiBlock, blocks_sent, session_log, notice_from_c},
+      Joined.{IsNewEndpointOrNone, IsProgramRun, IsProgramStart, IsProgramStep, IsDecodedFromSentBlock, LosesOldestBlock, ProgramState},
+      Joined.{ProgramStep, ReceivesOldestBlock, RivalSabm, TakesOldestBlock, TakesOtherSapiBlock, blocks_sent, session_log, notice_from_c},
       Joined.{notices_from_c, step_log_lines},
       Opening.{BothAreIdle, CanEstablishLink, first_block, mobile_after_establishment, network_after_establishment, establishment_steps},
       Opening.{program_of_two_endpoints, sabm_with_info},
@@ -63,11 +59,11 @@ use Rattle.um_air.specs.lapdm_window.declared.Notice.TheVariants as N
 use Rattle.um_air.specs.lapdm_link.Queues as W
 use Rattle.um_air.specs.lapdm_link.Claims as C
 
--- ## AsFrameSessions: The steps of a program that joins endpoints correspond to a session of frames, so the laws about sessions hold for
--- them. The proof is by induction over the steps: each state represents the endpoint of the session, and the blocks in transit encode the
--- session's frames in transit.
+-- ## AsFrameSessions: The steps of a program that connects endpoints correspond to a session of frames, so the laws about sessions hold for
+-- them. The proof is by induction over the steps: each C struct represents an endpoint of the session, and the blocks in transit encode the
+-- frames in transit of the session.
 
--- ---- what can be read from the effects of a call
+-- ---- the notices and blocks in the effects of a call
 
 notice-read : (n : Notice) → notice_from_c (c_notice n) ≡ Some n
 notice-read (N.Opened m) = rw (octets-c_struct m)
@@ -82,7 +78,7 @@ all_notices-read : (ns : List Notice) → filter_map notice_from_c (map c_notice
 all_notices-read [] = refl
 all_notices-read (n ∷ ns) = rw (notice-read n, all_notices-read ns) refl
 
--- what can be read from the effects of a call that succeeded
+-- in this module, the call succeeded; its effects contain the notices and the frames of its outcome
 module _ {channel : Channel} {o : Outcome} {answer : ℕ} {s : CEndpoint} {output : CEffects}
     (h : SucceedsWithOutcome channel o answer s output) where
   output-notices : notices_from_c output ≡ o.notices
@@ -93,7 +89,7 @@ module _ {channel : Channel} {o : Outcome} {answer : ℕ} {s : CEndpoint} {outpu
   output-blocks : blocks_sent answer output ≡ map (octets_of channel) o.frames
   output-blocks = rw (h.answer_is_0, h.effects) (take_at (map (octets_of channel) o.frames) _ _ refl)
 
--- ---- what follows from an answer other than 0
+-- ---- a call that does not return 0 sends no block
 
 refuses : (reason : Refused) → call_refusal_number reason ≢ 0
 refuses reason = grind arith
@@ -103,20 +99,21 @@ blocks_sent-refused _ h = grind arith
 
 -- ---- the session that corresponds to the steps
 
--- the state represents the endpoint e, unless the program does not have this endpoint
+-- the struct, if the program has one, represents the endpoint `e`
 abbrev pub MayRepresent : Option CEndpoint → EndpointState → Type 0
 MayRepresent None e = Unit {0}
 MayRepresent (Some x) e = StructRepresents x e
 
--- the states represent the endpoints of the session w
+-- the structs of the program represent the endpoints of the session state `w`
 abbrev pub AreStates : ProgramState → World → Type 0
 AreStates b w = (r : Role) (s : Sapi) → MayRepresent (b.state r s) (end_of r s w)
 
--- the blocks in the queues encode these frames, in order
+-- the blocks in transit encode these frames, in order
 abbrev pub AreCoded : Channel → Queues (List ℕ) → Queues Frame → Type 0
 AreCoded channel ws fs = (r : Role) → AllZip (IsFrameCoding channel) (W.queue_of r fs) (W.queue_of r ws)
 
--- the states represent the endpoints of the session w, and the blocks in transit encode its frames in transit
+-- the program state `a` corresponds to the session state `w`: its structs represent the endpoints of `w`, and its blocks in transit encode
+-- the frames in transit of `w`
 pub record Matches (channel : Channel) (a : ProgramState) (w : World) : Type 0 where
   pub capacity : w.capacity ≡ unbounded_capacity
   pub represents : AreStates a w
@@ -125,23 +122,24 @@ pub record Matches (channel : Channel) (a : ProgramState) (w : World) : Type 0 w
   pub log : List LogLine
   pub reported : AllReported w log
 
--- a step either has no effect on the session, or corresponds to this event
+-- the step either has no effect on the session or corresponds to an event of the session
 pub data IsPlayed (channel : Channel) (a b : ProgramState) (turn : ProgramStep) (w : World) : Type 0 where
   idle : Matches channel b w → step_log_lines turn ≡ [] → IsPlayed channel a b turn w
-  does : (event : Event) → (DeliversOldestBlock channel a turn → EventAllowsRrForRej (refusal event w) event w) →
+  does : (event : Event) → (DeliversOldestBlock channel a turn → IsBenignEventExceptRrForRej (refusal event w) event w) →
       Matches channel b (world_after event w) →
       step_log_lines turn ≡ answer_log_lines event (answer event w) → IsPlayed channel a b turn w
 
--- ---- the queues of blocks
+-- ---- appending blocks to a queue and removing blocks from it
 
 module _ {T : Type 0} where
-  queue_of-append : (r : Role) (xs : List T) (ws : Queues T) → W.queue_of r (with_appended r xs ws) ≡ W.queue_of r ws ++ xs
+  queue_of-append : (r : Role) (xs : List T) (ws : Queues T) → W.queue_of r (with_items_appended r xs ws) ≡ W.queue_of r ws ++ xs
   queue_of-append r xs ws = grind arith
 
-  queue_of-append_other : (r : Role) (xs : List T) (ws : Queues T) → W.queue_of (other r) (with_appended r xs ws) ≡ W.queue_of (other r) ws
+  queue_of-append_other : (r : Role) (xs : List T) (ws : Queues T) →
+      W.queue_of (other r) (with_items_appended r xs ws) ≡ W.queue_of (other r) ws
   queue_of-append_other r xs ws = grind arith
 
-  queue_of-append_none : (r r' : Role) (ws : Queues T) → W.queue_of r' (with_appended r [] ws) ≡ W.queue_of r' ws
+  queue_of-append_none : (r r' : Role) (ws : Queues T) → W.queue_of r' (with_items_appended r [] ws) ≡ W.queue_of r' ws
   queue_of-append_none Mobile Mobile ws = append-nil ws.up
   queue_of-append_none Network Network ws = append-nil ws.down
   queue_of-append_none r r' ws = refl
@@ -156,16 +154,16 @@ module _ {X Y : Type 0} (R : X → Y → Type 0) where
   AllZip-append xs xs' ys ys' h g = absurd assumption
 
 module _ {channel : Channel} {ws : Queues (List ℕ)} {fs : Queues Frame} (h : AreCoded channel ws fs) where
-  AreCoded-rest : (sender : Role) → AreCoded channel (W.without_first sender ws) (W.without_first sender fs)
+  AreCoded-rest : (sender : Role) → AreCoded channel (W.without_oldest_item sender ws) (W.without_oldest_item sender fs)
   AreCoded-rest Mobile Mobile = AllZip-rest _ fs.up ws.up (h Mobile)
   AreCoded-rest Network Network = AllZip-rest _ fs.down ws.down (h Network)
   AreCoded-rest sender r = h r
 
   AreCoded-append : (r : Role) (sent : List Frame) (blocks : List (List ℕ)) → AllZip (IsFrameCoding channel) sent blocks →
-      AreCoded channel (with_appended r blocks ws) (with_appended r sent fs)
+      AreCoded channel (with_items_appended r blocks ws) (with_items_appended r sent fs)
   AreCoded-append r sent blocks g =
       let R : Frame → List ℕ → Type 0 = IsFrameCoding channel in
-      each_way (λ q. AllZip R (W.queue_of q (with_appended r sent fs)) (W.queue_of q (with_appended r blocks ws))) r
+      each_way (λ q. AllZip R (W.queue_of q (with_items_appended r sent fs)) (W.queue_of q (with_items_appended r blocks ws))) r
       (rw (queue_of-append r sent fs, queue_of-append r blocks ws)
       (AllZip-append R (W.queue_of r fs) sent (W.queue_of r ws) blocks (h r) g))
       (rw (queue_of-append_other r sent fs, queue_of-append_other r blocks ws) (h (other r)))
@@ -181,15 +179,15 @@ each_state : (P : Role → Sapi → Type 0) (r : Role) (s : Sapi) → P r s →
     ((r' : Role) (s' : Sapi) → is_end r' s' r s ≡ false → P r' s') → (r' : Role) (s' : Sapi) → P r' s'
 each_state P r s h g r' s' = grind arith
 
--- ---- calls as events
+-- ---- each call corresponds to an event of the session
 
 abbrev AllFit : Channel → Role → Frame → Type 0
 AllFit channel sender f = FrameFits channel f
 
--- in this event of the session, the endpoint of this role and SAPI has the outcome o
+-- the event makes the endpoint with this role and SAPI act with the outcome `o`
 record IsSideStep (channel : Channel) (r : Role) (s : Sapi) (o : Outcome) (asked : List LogLine) (w z : World) (event : Event) : Type 0
   where
-    after : world_unless_refused None event w ≡ acted r s o z
+    after : world_after_possible_refusal None event w ≡ acted r s o z
     frames : (event_step event w.ends).frames ≡ o.frames
     output : answer_log_lines event (answer_unless_refused None (event_step event w.ends)) ≡ asked ++ map (Notified r s) o.notices
 
@@ -197,7 +195,7 @@ record IsAsked (channel : Channel) (r : Role) (s : Sapi) (call : Call) (w : Worl
   refused : refusal event w ≡ as_event_refusal (refusal_of call (end_of r s w))
   carried_out : IsSideStep channel r s (call_outcome call (end_of r s w)) (Asked r s call ∷ []) w w event
   event_known : KnowsBy None (AllFit channel) event
-  benign : EventAllowsRrForRej None event w
+  benign : IsBenignEventExceptRrForRej None event w
 
 module _ (channel : Channel) (w : World) (room : w.capacity ≡ unbounded_capacity) where
   by_request : (r : Role) (s : Sapi) (request : Request) →
@@ -237,18 +235,18 @@ module _ (channel : Channel) (w : World) (room : w.capacity ≡ unbounded_capaci
   asked r s (SendsUi m) placed = by_request r s (SendUi m)
   asked r s Closes placed = by_request r s Close
   asked r s T200Expires placed = by_request r s T200Expiry
-  asked r s SendsFill placed = by_request r s Idle
+  asked r s SendsFillFrame placed = by_request r s Idle
 
-  -- the arrival of a frame with the SAPI of this endpoint
+  -- if a frame with the SAPI of an endpoint arrives, this endpoint receives the frame
   delivered : (r : Role) (s : Sapi) (f : Frame) → nat_eq f.sapi (sapi_number s) ≡ true →
-      IsSideStep channel r s (frame_outcome f (end_of r s w)) [] w (without_first (other r) w) (Deliver (other r) (Some f))
+      IsSideStep channel r s (frame_outcome f (end_of r s w)) [] w (without_oldest_item (other r) w) (Deliver (other r) (Some f))
   delivered Mobile Zero f on = record { after = rw on refl; frames = rw on refl; output = rw on refl }
   delivered Network Zero f on = record { after = rw on refl; frames = rw on refl; output = rw on refl }
   delivered r s f on =
       let no : nat_eq f.sapi 0 ≡ false = grind (arith, nat_tests) in
       record { after = rw (no, on) refl; frames = rw (no, on) refl; output = rw (no, on) refl }
 
--- an endpoint with this role and SAPI either has this call or does not have it
+-- an endpoint with this role and SAPI either supports this call or does not support it
 IsPlaced-or_not : (r : Role) (s : Sapi) (call : Call) → IsPlaced r s call ⊎ (IsPlaced r s call → ⊥)
 IsPlaced-or_not Mobile Zero (Opens info) = inl (refl, refl)
 IsPlaced-or_not r s (Opens info) = inr (λ h. grind arith)
@@ -267,18 +265,18 @@ module _ {r : Role} {s : Sapi} (e : EndpointState) (role : e.role ≡ r) (sapi :
   placed OpensWithoutInfo h = sym sapi ∙ h
   placed call h = tt
 
--- ---- one step
+-- ---- one step of the program
 
--- each state still represents its endpoint, and the blocks in transit encode these frames
+-- each struct represents its endpoint of the session state `w`, and the blocks in transit encode the frames `left`
 record IsQuiet (channel : Channel) (b : ProgramState) (w : World) (left : Queues Frame) : Type 0 where
   represents : AreStates b w
   queues : AreCoded channel b.queues left
 
 module _ {channel : Channel} {a : ProgramState} {w : World} (m : Matches channel a w) where
-  -- below, the event is not refused
+  -- in this module, the session does not refuse the event
   module _ {b : ProgramState} (event : Event) (none : refusal event w ≡ None) where
     next : KnowsBy None (AllFit channel) event →
-        (let z : World = world_unless_refused None event w in (AreStates b z →
+        (let z : World = world_after_possible_refusal None event w in (AreStates b z →
         AreCoded channel b.queues z.queues → Matches channel b (world_after event w)))
     next known represents queues =
         record {
@@ -290,10 +288,10 @@ module _ {channel : Channel} {a : ProgramState} {w : World} (m : Matches channel
           reported = in_order-step w m.log event m.reported;
         }
 
-    -- the step corresponds to this event
+    -- a step corresponds to an event if the structs, the queues and the log lines after the step agree with the session after the event
     plays : {turn : ProgramStep} → KnowsBy None (AllFit channel) event →
-        (DeliversOldestBlock channel a turn → EventAllowsRrForRej None event w) →
-        (let z : World = world_unless_refused None event w in (AreStates b z → AreCoded channel b.queues z.queues →
+        (DeliversOldestBlock channel a turn → IsBenignEventExceptRrForRej None event w) →
+        (let z : World = world_after_possible_refusal None event w in (AreStates b z → AreCoded channel b.queues z.queues →
         step_log_lines turn ≡ answer_log_lines event (answer_unless_refused None (event_step event w.ends)) →
         IsPlayed channel a b turn w))
     plays known benign represents queues same =
@@ -309,32 +307,34 @@ module _ {channel : Channel} {a : ProgramState} {w : World} (m : Matches channel
     reported = m.reported;
   }
 
-  -- the step in which the oldest block from a side is lost
-  loses : {b : ProgramState} {turn : ProgramStep} (sender : Role) → IsQuiet channel b w (W.without_first sender w.queues) →
+  -- a step that only removes the oldest block from a side corresponds to the loss of the oldest frame from that side
+  loses : {b : ProgramState} {turn : ProgramStep} (sender : Role) → IsQuiet channel b w (W.without_oldest_item sender w.queues) →
       step_log_lines turn ≡ [] → IsPlayed channel a b turn w
   loses sender q none =
       plays (Lose sender) (rw m.capacity refl) tt (λ h. tt) q.represents
-      (λ r. rw (queue_of-append_none Mobile r (W.without_first sender w.queues)) (q.queues r)) none
+      (λ r. rw (queue_of-append_none Mobile r (W.without_oldest_item sender w.queues)) (q.queues r)) none
 
   module _ {b : ProgramState} {r : Role} {s : Sapi} {old new : CEndpoint} {out : List (List ℕ)} {left : Queues (List ℕ)}
       (l : ChangesOneEndpoint r s old new out left a b) where
     here : StructRepresents old (end_of r s w)
     here = rw l.old_state at (m.represents r s)
 
-    -- if the new state represents the same endpoint, and no block is sent, all states represent the same endpoints
-    quiet : (fs : Queues Frame) → AreCoded channel left fs → out ≡ [] → StructRepresents new (end_of r s w) → IsQuiet channel b w fs
+    -- if the new struct represents the same endpoint as before and the call sends no block, all structs represent the same endpoints as
+    -- before
+    quiet : (fs : Queues Frame) → AreCoded channel left fs → out ≡ [] → StructRepresents new (end_of r s w) →
+        IsQuiet channel b w fs
     quiet fs same none represents = record {
       represents = each_state (λ r' s'. MayRepresent (b.state r' s') (end_of r' s' w)) r s (rw l.new_state represents)
           (λ r' s' n. rw (l.others_unchanged r' s' n) (m.represents r' s'));
       queues = rw (l.queues, none) (λ q. rw (queue_of-append_none r q left) (same q));
     }
 
-    -- an endpoint acts, and its frames are sent
+    -- a call that succeeds corresponds to an event in which the endpoint acts and its frames are sent
     acts : {turn : ProgramStep} {o : Outcome} {answer : ℕ} {output : CEffects} {z : World} (event : Event) {asked : List LogLine} →
         out ≡ blocks_sent answer output → refusal event w ≡ None → KnowsBy None (AllFit channel) event →
         IsSideStep channel r s o asked w z event → AreStates a z →
         AreCoded channel left z.queues → SucceedsWithOutcome channel o answer new output →
-        (DeliversOldestBlock channel a turn → EventAllowsRrForRej None event w) →
+        (DeliversOldestBlock channel a turn → IsBenignEventExceptRrForRej None event w) →
         step_log_lines turn ≡ asked ++ map (Notified r s) o.notices → IsPlayed channel a b turn w
     acts {o} {z} event sent none known d represents queues c benign same =
         let fit : All (FrameFits channel) o.frames = rw d.frames at (event_step-fits channel w event (rw none known) m.fit none) in
@@ -378,7 +378,7 @@ module _ {channel : Channel} {a : ProgramState} {w : World} (m : Matches channel
         (λ asks. never (placed (end_of r s w) (m.reported r s).role (m.reported r s).sapi call asks)) in
         not_called (λ zero. omega arith)
 
-  -- below, an endpoint gets this block
+  -- in this module, an endpoint receives a block
   module _ {b : ProgramState} {r : Role} {s : Sapi} {old new : CEndpoint} {block : List ℕ} {answer : ℕ} {output output_old : CEffects}
       (answers_block : EndpointReceivesBlock block answer old new output_old output) where
     module _ {left : Queues (List ℕ)} (l : ChangesOneEndpoint r s old new (blocks_sent answer output) left a b) (fs : Queues Frame)
@@ -386,8 +386,8 @@ module _ {channel : Channel} {a : ProgramState} {w : World} (m : Matches channel
       abbrev HasNoEffect : Type 0
       HasNoEffect = IsQuiet channel b w fs × (step_log_lines (TakesOldestBlock r s block answer output) ≡ [])
 
-      -- the block encodes no frame
-      no_frame : (reason : Refusal) → IsOnlyRefusal channel block reason → HasNoEffect
+      -- a block that encodes no frame has no effect
+      no_frame : (reason : Refusal) → IsOnlyRefusalReason channel block reason → HasNoEffect
       no_frame reason only =
           let invalid = answers_block.invalid_frame _ (here l) reason (rw (on_channel r s) only) in
           let other : answer ≢ 0 = λ zero. omega arith in (
@@ -395,13 +395,13 @@ module _ {channel : Channel} {a : ProgramState} {w : World} (m : Matches channel
             grind (arith, nat_tests),
           )
 
-      module _ (f : Frame) (only : IsOnlyFrame channel f block) where
+      module _ (f : Frame) (only : IsOnlyEncodedFrame channel f block) where
         carried : SucceedsWithOutcome channel (frame_outcome f (end_of r s w)) answer new output
         carried =
             subst (λ k. SucceedsWithOutcome k (frame_outcome f (end_of r s w)) answer new output) (on_channel r s)
             (answers_block.carried_out _ (here l) f (rw (on_channel r s) only))
 
-        -- the block encodes a frame with another SAPI
+        -- a block that encodes a frame with another SAPI has no effect
         passes_by : nat_eq f.sapi (sapi_number s) ≡ false → HasNoEffect
         passes_by off =
             let x : EndpointState = end_of r s w in
@@ -415,24 +415,24 @@ module _ {channel : Channel} {a : ProgramState} {w : World} (m : Matches channel
           let no : f.sapi ≢ sapi_number s = none f only.frame in passes_by f only (grind (arith, nat_tests, no))
       unheard (inr (reason, only)) none = no_frame reason only
 
-    -- an endpoint is shown a block that stays in transit
+    -- if an endpoint receives a block without a frame on its SAPI, and no block leaves its queue, the step has no effect on the session
     shows : ChangesOneEndpoint r s old new (blocks_sent answer output) a.queues a b → length block ≡ 23 →
         HasNoFrameOnSapi channel s block →
         IsPlayed channel a b (TakesOtherSapiBlock r s block answer output) w
     shows l size none = let h = unheard l w.queues m.queues (one_reading channel block size) none in idle (idles h.0) h.1
 
-    -- below, the block is removed from its queue
-    module _ (l : ChangesOneEndpoint r s old new (blocks_sent answer output) (W.without_first (other r) a.queues) a b) where
+    -- in this module, the oldest block in transit to this side leaves its queue
+    module _ (l : ChangesOneEndpoint r s old new (blocks_sent answer output) (W.without_oldest_item (other r) a.queues) a b) where
       abbrev fewer : Queues Frame
-      fewer = W.without_first (other r) w.queues
+      fewer = W.without_oldest_item (other r) w.queues
 
-      module _ (f : Frame) (only : IsOnlyFrame channel f block) where
-        -- the block encodes the oldest frame in transit, or an RR in place of that REJ
+      module _ (f : Frame) (only : IsOnlyEncodedFrame channel f block) where
+        -- the frame that the block encodes is the oldest frame in transit, or an RR in place of a REJ
         first : (fs : List Frame) (os : List (List ℕ)) → AllZip (IsFrameCoding channel) fs os →
-            FirstBlockSatisfies (λ sent. EncodeSameFrame channel sent block) os → IsOldestSentOrRr (Some f) fs
+            FirstBlockSatisfies (λ sent. EncodeSameFrame channel sent block) os → IsOldestSentOrRrForRej (Some f) fs
         first (g ∷ gs) (o ∷ os) same sent = elim (sent g same.0) [
           | inl is ↦ inl (same_frame channel block f g only.frame is)
-          | inr rr ↦ inr (same_frame channel block f (record g { content = rr_for_rej g.content }) only.frame rr)
+          | inr rr ↦ inr (same_frame channel block f (record g { content = rej_replaced_by_rr g.content }) only.frame rr)
         ]
         first fs [] same sent = absurd sent
         first fs os same sent = absurd assumption
@@ -463,13 +463,14 @@ module _ {channel : Channel} {a : ProgramState} {w : World} (m : Matches channel
       rw t.0 (plays (Rival info) (rw (m.capacity, m.fit.on_channel, t.2) refl) tt (λ q. tt) m.represents
       (AreCoded-append m.queues Mobile (rival_sabm info ∷ []) (block ∷ []) (t.1, tt)) refl)
 
--- ---- several steps
+-- ---- several steps of the program
 
--- the steps correspond to a session of frames; it is benign if every block that an endpoint gets is the oldest in transit to it
+-- the steps have the same log as a session of frames; if each endpoint receives only the oldest block in transit to it (`Sound`), each
+-- receiver in the session reads the oldest frame in transit, or none, or an RR in place of a REJ
 record IsSession (turns : List ProgramStep) (w : World) (Sound : Type 0) : Type 0 where
   events : List Event
   same_lines : session_log turns ≡ C.session_log events (answers events w)
-  benign : Sound → AllowsRrForRej events w
+  benign : Sound → IsBenignExceptRrForRej events w
 
 module _ (channel : Channel) (May : Channel → ProgramState → ProgramStep → Type 0) where
   abbrev Sound : Type 0
@@ -516,7 +517,8 @@ Matches-initial channel a h = record {
   reported = initial-reported unbounded_capacity channel;
 }
 
--- if each block that an endpoint gets is the oldest in transit to it, the claims about sessions hold for the steps
+-- in this module, each block that an endpoint receives is the oldest in transit to it; then the claims about delivery and acknowledgement
+-- hold for the steps
 module _ (May : Channel → ProgramState → ProgramStep → Type 0) (channel : Channel) (sound : Sound channel May) (a z : ProgramState)
     (turns : List ProgramStep) (h : IsProgramStart channel a) (run : IsProgramRun channel May a turns z) where
   pub claims_of : Claims (session_log turns)
@@ -541,7 +543,7 @@ joined_order channel a z turns h run =
     let x = session channel AnyStepAllowed turns a z _ (Matches-initial channel a h) run in
     rw x.same_lines (order_claims unbounded_capacity channel x.events)
 
--- ---- blocks received from bursts
+-- ---- blocks that are decoded from bursts
 
 accepted-is : (accepted : Option (List ℕ)) (flag : ℕ) (output octets : List ℕ) → IsFlagged 23 accepted flag output →
     accepted ≡ Some octets →
@@ -549,11 +551,11 @@ accepted-is : (accepted : Option (List ℕ)) (flag : ℕ) (output octets : List 
 accepted-is (Some x) flag output octets h same = cc
 accepted-is None flag output octets h same = absurd cc
 
-module _ (sent block : List ℕ) (h : IsReceptionOf sent block) where
+module _ (sent block : List ℕ) (h : IsDecodedFromSentBlock sent block) where
   restored : (r : Received) → IsReceivedBlock h.bursts r → r.accepted ≡ Some sent
   restored r is = damaged_received sent h.bursts r h.damage is
 
-  -- with either way of receiving bursts, the report contains the block that was sent
+  -- the report on lightly damaged bursts contains the block that was sent, with or without list decoding
   output-sent : IsBlockReport h.bursts h.report ⊎ ((most rank : ℕ) × (1 ≤ most)
       × IsListDecodedReport h.bursts most rank h.report) → h.report.octets ≡ sent
   output-sent (inl one) =
@@ -567,7 +569,7 @@ module _ (sent block : List ℕ) (h : IsReceptionOf sent block) where
       (ap (λ (r : ListDecodedBlock). r.report.accepted) same ∙ accepted)
 
 heard-first : (channel : Channel) (sent : List (List ℕ)) (block : List ℕ) →
-    FirstBlockSatisfies (λ first. IsReceptionOf first block) sent →
+    FirstBlockSatisfies (λ first. IsDecodedFromSentBlock first block) sent →
     FirstBlockSatisfies (λ first. EncodeSameFrame channel first block) sent
 heard-first channel (first ∷ others) block h = λ f is. inl (rw (h.octets, output-sent first block h h.received) is)
 heard-first channel [] block h = absurd h
@@ -577,13 +579,13 @@ pub heard : (channel : Channel) (a : ProgramState) (turn : ProgramStep) → Rece
 heard channel a (TakesOldestBlock r s block answer output) h = heard-first channel (W.queue_of (other r) a.queues) block h
 heard channel a turn h = tt
 
--- ---- the answer to each call is a possible step of the program
+-- ---- each call, whatever it returns, is a possible step of the program
 
 abbrev pub with_state : Role → Sapi → CEndpoint → ProgramState → Role → Sapi → Option CEndpoint
 with_state r s new a r' s' = if is_same_role r' r && is_same_sapi s' s then Some new else a.state r' s'
 
 abbrev pub left_in : ProgramState → Role → Sapi → CEndpoint → List (List ℕ) → Queues (List ℕ) → ProgramState
-left_in a r s new out left = record { state = with_state r s new a; queues = with_appended r out left }
+left_in a r s new out left = record { state = with_state r s new a; queues = with_items_appended r out left }
 
 pub endpoint-left : {a : ProgramState} {r : Role} {s : Sapi} {old : CEndpoint} (new : CEndpoint) (out : List (List ℕ))
     (left : Queues (List ℕ)) →
@@ -597,12 +599,13 @@ program_step-call channel a r s call answer old new output_old output before ans
     let x = endpoint-left new (blocks_sent answer output) a.queues before in
     (_, (old, new, output_old, answers_call, x), x.new_state)
 
-pub program_step-block : (channel : Channel) (a : ProgramState) (r : Role) (s : Sapi) (block : List ℕ) (answer : ℕ) (old new : CEndpoint)
+pub program_step-block : (channel : Channel) (a : ProgramState) (r : Role) (s : Sapi) (block : List ℕ) (answer : ℕ)
+    (old new : CEndpoint)
     (output_old output : CEffects) → a.state r s ≡ Some old → length block ≡ 23 →
     EndpointReceivesBlock block answer old new output_old output →
     (b : ProgramState) × IsProgramStep channel a (TakesOldestBlock r s block answer output) b × (b.state r s ≡ Some new)
 program_step-block channel a r s block answer old new output_old output before size answers_block =
-    let x = endpoint-left new (blocks_sent answer output) (W.without_first (other r) a.queues) before in
+    let x = endpoint-left new (blocks_sent answer output) (W.without_oldest_item (other r) a.queues) before in
     (_, (old, new, output_old, answers_block, x, size), x.new_state)
 
 pub program_step-other_sapi : (channel : Channel) (a : ProgramState) (r : Role) (s : Sapi) (block : List ℕ) (answer : ℕ)
@@ -616,7 +619,7 @@ program_step-other_sapi channel a r s block answer old new output_old output bef
 
 -- ## Exchanged: If two endpoints satisfy `CanEstablishLink`, they exchange a SABM and a UA, and both are in Open afterwards.
 
--- if a call succeeded and sent one block, its outcome has one frame
+-- a list of length 1 consists of a single frame
 length_1-single_frame : (fs : List Frame) → length fs ≡ 1 → (g : Frame) × (fs ≡ g ∷ [])
 length_1-single_frame (g ∷ []) h = (g, refl)
 length_1-single_frame fs h = absurd (omega arith)
@@ -630,13 +633,14 @@ module _ {channel : Channel} {o : Outcome} {answer : ℕ} {s : CEndpoint} {outpu
     block : (g : Frame) → o.frames ≡ g ∷ [] → first_block output ≡ octets_of channel g
     block g one = rw (done.effects, one) refl
 
--- an endpoint that gets the block of a frame that fits receives that frame
-receives_coded_frame : {f : EndpointState} (g : Frame) {octets : List ℕ} {answer : ℕ} {n n' : CEndpoint} {output_old output : CEffects} →
+-- if the octets are the canonical octets of a frame that fits in a block, the endpoint receives that frame
+receives_coded_frame : {f : EndpointState}
+    (g : Frame) {octets : List ℕ} {answer : ℕ} {n n' : CEndpoint} {output_old output : CEffects} →
     StructRepresents n f →
     FrameFits f.channel g → octets ≡ octets_of f.channel g → EndpointReceivesBlock octets answer n n' output_old output →
     SucceedsWithOutcome f.channel (frame_outcome g f) answer n' output
 receives_coded_frame {f} g represents fits same answers_block =
-    answers_block.carried_out f represents g (rw same (only_canonical f.channel g fits).reads_back)
+    answers_block.carried_out f represents g (rw same (only_canonical f.channel g fits).encodes_only_this_frame)
 
 StructRepresents-valid : {s : CEndpoint} {e : EndpointState} → StructRepresents s e → IsValidEndpoint e
 StructRepresents-valid h = h.represents_values.represents.valid
@@ -691,7 +695,7 @@ module _ {info : Message} {e f : EndpointState} {m n : CEndpoint} (mobile : Stru
             (at' ∙ block was-answered answer-one.0 answer-one.1 ∙ ap (λ x. octets_of x answer-one.0) (sym can_establish.same_channel))
             answers_block'
 
--- ---- two endpoints in Idle
+-- ---- the exchange of SABM and UA between two endpoints in Idle
 
 taken : (info : Message) (e f : EndpointState) → BothAreIdle info e f → frame_outcome (sabm_with_info info) f
     ≡ record {
@@ -735,7 +739,7 @@ module _ {info : Message} {e f : EndpointState} (idle : BothAreIdle info e f) wh
               (was-answered mobile network allowed-exchange answers_call at answers_block).represents,
         )
 
--- ## Opened: If all three calls of `open_link` succeed, they are a run that establishes the link.
+-- ## Opened: If all three calls of `open_link` succeed, they are a run of the program that establishes the link.
 
 -- the call succeeded and sent exactly one block
 pub record SentOneBlock (answer : ℕ) (output : CEffects) : Type 0 where
@@ -744,11 +748,12 @@ pub record SentOneBlock (answer : ℕ) (output : CEffects) : Type 0 where
   pub capacity : length output.frames ≡ 2
   pub size : length (first_block output) ≡ 23
 
-take_1-first_block : (blocks : List (List ℕ)) (n : ℕ) → n ≡ 1 → 1 ≤ length blocks → take n blocks ≡ slice_index_or blocks 0 [] ∷ []
+take_1-first_block : (blocks : List (List ℕ)) (n : ℕ) → n ≡ 1 → 1 ≤ length blocks →
+    take n blocks ≡ slice_index_or blocks 0 [] ∷ []
 take_1-first_block (b ∷ bs) n one some = rw one refl
 take_1-first_block [] n one some = absurd (omega arith)
 
--- the only block in transit arrives as it was sent
+-- if a call sent one block, the receiver gets that block unchanged
 arrives_unchanged : (channel : Channel) {answer : ℕ} {output : CEffects} → SentOneBlock answer output →
     FirstBlockSatisfies (λ first. EncodeSameFrame channel first (first_block output)) (blocks_sent 0 output)
 arrives_unchanged channel {output} h =

@@ -16,21 +16,21 @@ reason_number R.Refused = 2
 reason_number R.Released = 3
 
 -- the C struct of a notice with this kind, message number, reason and octets
-abbrev pub notice_struct : (kind number reason : ℕ) (octets : List ℕ) → CNotice
-notice_struct kind number reason octets = record { number = number; kind = kind; reason = reason; message = message_buffer octets }
+abbrev pub c_notice_of_fields : (kind number reason : ℕ) (octets : List ℕ) → CNotice
+c_notice_of_fields kind number reason octets = record { number = number; kind = kind; reason = reason; message = message_buffer octets }
 
 -- the contents of an unused element of the array of notices
 abbrev pub blank_notice : CNotice
-blank_notice = notice_struct 0 0 0 []
+blank_notice = c_notice_of_fields 0 0 0 []
 
 -- the C struct of a notice, with kind 1 to 6
 abbrev pub c_notice : Notice → CNotice
-c_notice (N.Opened info) = notice_struct 1 0 0 info
-c_notice (N.Got m) = notice_struct 2 0 0 m
-c_notice (N.Unit m) = notice_struct 3 0 0 m
-c_notice (N.Acked number) = notice_struct 4 number 0 []
-c_notice N.Oversize = notice_struct 5 0 0 []
-c_notice (N.Closed reason) = notice_struct 6 0 (reason_number reason) []
+c_notice (N.Opened info) = c_notice_of_fields 1 0 0 info
+c_notice (N.Got m) = c_notice_of_fields 2 0 0 m
+c_notice (N.Unit m) = c_notice_of_fields 3 0 0 m
+c_notice (N.Acked number) = c_notice_of_fields 4 number 0 []
+c_notice N.Oversize = c_notice_of_fields 5 0 0 []
+c_notice (N.Closed reason) = c_notice_of_fields 6 0 (reason_number reason) []
 
 -- the C struct of these frames and notices, in order, with zeros in the unused array elements
 abbrev pub c_effects : (frames : List (List ℕ)) (notices : List Notice) → CEffects

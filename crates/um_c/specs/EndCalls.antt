@@ -4,13 +4,13 @@ use Rattle.lapdm_frame.specs.declared.Channel.{Channel}
 use Rattle.lapdm_frame.specs.declared.Refusal.{Refusal}
 use Rattle.lapdm_frame.specs.Content.{Frame}
 use Rattle.lapdm_frame.specs.Frames.{octets_of}
-use Rattle.lapdm_frame.specs.Readings.{IsOnlyFrame, IsOnlyRefusal}
+use Rattle.lapdm_frame.specs.Readings.{IsOnlyEncodedFrame, IsOnlyRefusalReason}
 use Rattle.um_air.specs.lapdm_window.declared.Sapi.{Sapi}
 use Rattle.um_air.specs.lapdm_window.declared.Refused.{Refused}
 use Rattle.um_air.specs.lapdm_window.declared.Refused.TheVariants as No
 use Rattle.um_air.specs.lapdm_window.declared.Sapi.TheVariants.{Zero}
 use Rattle.um_air.specs.lapdm_window.Ends.{Mobile, EndpointState, Outcome, initial_endpoint}
-use Rattle.um_air.specs.lapdm_window.Calls.{Call, Opens, IsCallOfEndpoint, refusal_of, call_outcome}
+use Rattle.um_air.specs.lapdm_window.Calls.{Call, Opens, IsCallAllowedForEndpoint, refusal_of, call_outcome}
 use Rattle.um_air.specs.lapdm_window.Tables.{frame_outcome}
 use Rattle.lapdm_end.specs.Addresses as L
 use Rattle.lapdm_end.specs.declared.Role.{Role}
@@ -40,7 +40,7 @@ pub record SucceedsWithOutcome (channel : Channel) (outcome : Outcome) (answer :
 -- of SAPI 3, without information
 abbrev pub EndpointSupportsCall : (endpoint : EndpointState) (call : Call) → Type 0
 EndpointSupportsCall e (Opens info) = (e.sapi ≡ Zero) × (e.role ≡ Mobile)
-EndpointSupportsCall e call = IsCallOfEndpoint e call
+EndpointSupportsCall e call = IsCallAllowedForEndpoint e call
 
 -- the endpoint in `before` carries out or refuses the call; the call returns 8 if the endpoint does not support it, and 7 if `before`
 -- represents no endpoint; unless it returns 0, it writes nothing
@@ -56,9 +56,10 @@ pub record EndpointAnswersCall (call : Call) (answer : ℕ) (before after : CEnd
 -- the endpoint receives the frame that the block encodes; the call returns 9 if the block encodes no frame, and 7 if `before` represents no
 -- endpoint; unless it returns 0, it writes nothing
 pub record EndpointReceivesBlock (octets : List ℕ) (answer : ℕ) (before after : CEndpoint) (output_old output : CEffects) : Type 0 where
-  pub carried_out : (e : EndpointState) → StructRepresents before e → (f : Frame) → IsOnlyFrame e.channel f octets →
+  pub carried_out : (e : EndpointState) → StructRepresents before e → (f : Frame) → IsOnlyEncodedFrame e.channel f octets →
       SucceedsWithOutcome e.channel (frame_outcome f e) answer after output
-  pub invalid_frame : (e : EndpointState) → StructRepresents before e → (reason : Refusal) → IsOnlyRefusal e.channel octets reason →
+  pub invalid_frame : (e : EndpointState) → StructRepresents before e → (reason : Refusal) →
+      IsOnlyRefusalReason e.channel octets reason →
       answer ≡ 9
   pub invalid_struct : ((e : EndpointState) → StructRepresents before e → ⊥) → answer ≡ 7
   pub unchanged : answer ≢ 0 → (after ≡ before) × (output ≡ output_old)

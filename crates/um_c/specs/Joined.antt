@@ -6,7 +6,7 @@ use Rattle.lapdm_frame.specs.declared.Channel.{Channel}
 use Rattle.lapdm_frame.specs.Content.{Frame}
 use Rattle.lapdm_frame.specs.Frames.{IsFrameCoding}
 use Rattle.um_air.specs.segmenting.Segments.{Message}
-use Rattle.um_air.specs.segmenting.Buffers.{octets_in}
+use Rattle.um_air.specs.segmenting.Buffers.{octets_in_buffer}
 use Rattle.um_air.specs.lapdm_window.declared.Sapi.{Sapi}
 use Rattle.um_air.specs.lapdm_window.declared.Notice.{Notice}
 use Rattle.um_air.specs.lapdm_window.declared.Notice.TheVariants as N
@@ -14,9 +14,9 @@ use Rattle.um_air.specs.lapdm_window.declared.Reason.{Reason}
 use Rattle.um_air.specs.lapdm_window.declared.Reason.TheVariants as R
 use Rattle.um_air.specs.lapdm_window.Ends.{Role, Mobile, Network, sapi_number}
 use Rattle.um_air.specs.lapdm_window.Calls.{Call}
-use Rattle.um_air.specs.lapdm_link.Queues.{Queues, empty_queues, queue_of, with_appended, without_first}
+use Rattle.um_air.specs.lapdm_link.Queues.{Queues, empty_queues, queue_of, with_items_appended, without_oldest_item}
 use Rattle.um_air.specs.lapdm_link.Events.{other, rival_sabm, rival_refusal}
-use Rattle.um_air.specs.lapdm_link.Worlds.{rr_for_rej}
+use Rattle.um_air.specs.lapdm_link.Worlds.{rej_replaced_by_rr}
 use Rattle.um_air.specs.lapdm_link.Claims.{LogLine, Asked, Notified, is_same_role, is_same_sapi}
 use Rattle.um_air.specs.lapdm_link.Claims as C
 use Rattle.um_air.specs.Damage.{AreCorrectableBursts}
@@ -38,9 +38,9 @@ close_reason_from_number number =
 -- the notice that a C struct represents, or `None` if its kind is not 1 to 6
 abbrev pub notice_from_c : CNotice → Option Notice
 notice_from_c n =
-    if n.kind == 1 then Some (N.Opened (octets_in n.message))
-    else if n.kind == 2 then Some (N.Got (octets_in n.message))
-    else if n.kind == 3 then Some (N.Unit (octets_in n.message))
+    if n.kind == 1 then Some (N.Opened (octets_in_buffer n.message))
+    else if n.kind == 2 then Some (N.Got (octets_in_buffer n.message))
+    else if n.kind == 3 then Some (N.Unit (octets_in_buffer n.message))
     else if n.kind == 4 then Some (N.Acked n.number)
     else if n.kind == 5 then Some N.Oversize
     else if n.kind == 6 then Some (N.Closed (close_reason_from_number n.reason))
@@ -65,7 +65,7 @@ pub data ProgramStep : Type 0 where
   LosesOldestBlock : (sender : Role) → ProgramStep
   RivalSabm : (info : Message) (block : List ℕ) → ProgramStep
 
--- the states of the endpoints that the program has, and the blocks in transit in each direction, in order
+-- the state of the program: the structs of the endpoints that it has, and the blocks in transit in each direction, in order
 pub record ProgramState : Type 0 where
   pub state : Role → Sapi → Option CEndpoint
   pub queues : Queues (List ℕ)
@@ -79,7 +79,7 @@ pub record ChangesOneEndpoint (role : Role) (sapi : Sapi) (old new : CEndpoint) 
   pub new_state : after.state role sapi ≡ Some new
   pub others_unchanged : (r' : Role) (s' : Sapi) → is_same_role r' role && is_same_sapi s' sapi ≡ false → after.state r' s' ≡
       before.state r' s'
-  pub queues : after.queues ≡ with_appended role sent_blocks remaining_queues
+  pub queues : after.queues ≡ with_items_appended role sent_blocks remaining_queues
 
 -- the block encodes no frame with this SAPI
 abbrev pub HasNoFrameOnSapi : (channel : Channel) (sapi : Sapi) (block : List ℕ) → Type 0
@@ -92,16 +92,16 @@ IsProgramStep channel a (Calls r s call answer output) b =
     × ChangesOneEndpoint r s old new (blocks_sent answer output) a.queues a b
 IsProgramStep channel a (TakesOldestBlock r s block answer output) b =
     (old new : CEndpoint) × (output_old : CEffects) × EndpointReceivesBlock block answer old new output_old output
-    × ChangesOneEndpoint r s old new (blocks_sent answer output) (without_first (other r) a.queues) a b × (length block ≡ 23)
+    × ChangesOneEndpoint r s old new (blocks_sent answer output) (without_oldest_item (other r) a.queues) a b × (length block ≡ 23)
 IsProgramStep channel a (TakesOtherSapiBlock r s block answer output) b =
     (old new : CEndpoint) × (output_old : CEffects) × EndpointReceivesBlock block answer old new output_old output
     × ChangesOneEndpoint r s old new (blocks_sent answer output) a.queues a b × (length block ≡ 23) × HasNoFrameOnSapi channel s block
-IsProgramStep channel a (LosesOldestBlock sender) b = b ≡ record a { queues = without_first sender a.queues }
+IsProgramStep channel a (LosesOldestBlock sender) b = b ≡ record a { queues = without_oldest_item sender a.queues }
 IsProgramStep channel a (RivalSabm info block) b =
-    (b ≡ record a { queues = with_appended Mobile (block ∷ []) a.queues }) × IsFrameCoding channel (rival_sabm info) block
+    (b ≡ record a { queues = with_items_appended Mobile (block ∷ []) a.queues }) × IsFrameCoding channel (rival_sabm info) block
     × (rival_refusal channel info ≡ None)
 
--- ---- several steps
+-- ---- several steps of the program
 
 -- the number of a role in the C API
 abbrev pub role_number : Role → ℕ
@@ -135,7 +135,7 @@ FirstBlockSatisfies Like (first ∷ others) = Like first
 -- N(R) instead
 abbrev pub EncodeSameFrame : (channel : Channel) (sent block : List ℕ) → Type 0
 EncodeSameFrame channel sent block = (f : Frame) → IsFrameCoding channel f sent →
-    IsFrameCoding channel f block ⊎ IsFrameCoding channel (record f { content = rr_for_rej f.content }) block
+    IsFrameCoding channel f block ⊎ IsFrameCoding channel (record f { content = rej_replaced_by_rr f.content }) block
 
 -- an endpoint that takes the oldest block in transit receives the frame that was sent, perhaps with other fill octets, or an RR with the
 -- same N(R) in place of a REJ
@@ -147,7 +147,7 @@ DeliversOldestBlock channel a turn = Unit {0}
 
 -- a receiver decodes lightly damaged bursts of the block `sent` to `block`: to their most likely word, or to the first of the most likely
 -- words whose CRC holds
-pub record IsReceptionOf (sent block : List ℕ) : Type 0 where
+pub record IsDecodedFromSentBlock (sent block : List ℕ) : Type 0 where
   pub bursts : List (List ℤ)
   pub damage : AreCorrectableBursts sent bursts
   pub report : BlockReport
@@ -157,7 +157,7 @@ pub record IsReceptionOf (sent block : List ℕ) : Type 0 where
 -- an endpoint that takes the oldest block in transit receives it as decoded from its bursts, which may be lightly damaged
 abbrev pub ReceivesOldestBlock : (channel : Channel) (state : ProgramState) (turn : ProgramStep) → Type 0
 ReceivesOldestBlock channel a (TakesOldestBlock r s block answer output) =
-    FirstBlockSatisfies (λ first. IsReceptionOf first block) (queue_of
+    FirstBlockSatisfies (λ first. IsDecodedFromSentBlock first block) (queue_of
     (other r) a.queues)
 ReceivesOldestBlock channel a turn = Unit {0}
 
@@ -173,7 +173,7 @@ step_log_lines (TakesOtherSapiBlock r s block answer output) = if answer == 0 th
 step_log_lines (LosesOldestBlock sender) = []
 step_log_lines (RivalSabm info block) = C.RivalSabm info ∷ []
 
--- the log of these steps, in order
+-- the log of these steps: the log lines of all steps, in order
 abbrev pub session_log : (turns : List ProgramStep) → List LogLine
 session_log [] = []
 session_log (turn ∷ turns) = step_log_lines turn ++ session_log turns

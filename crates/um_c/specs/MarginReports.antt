@@ -4,7 +4,7 @@ use Rattle.um_block.specs.bit_blocks.SoftValues.{likelihood}
 use Rattle.um_block.specs.conv_code.Code.{encoding}
 use Rattle.um_block.specs.conv_code.Likelihood.{IsMostLikely}
 use Rattle.um_block.specs.interleave.Bursts.{IsInterleaved}
-use Rattle.um_among.specs.list_decode.Ranking.{IsSecondMostLikely, IsMargin, HasTiedWord}
+use Rattle.um_among.specs.list_decode.Ranking.{IsSecondMostLikely, IsLikelihoodMargin, HasTiedWord}
 use Rattle.um_block.specs.Received.{coded_soft_bits}
 use Rattle.um_c.specs.declared.margins.MarginReport.{MarginReport}
 
@@ -15,6 +15,6 @@ pub record IsMarginReport (bursts : List (List ℤ)) (report : MarginReport) : T
   pub deinterleaved : IsInterleaved soft (map coded_soft_bits bursts)
   pub best : IsMostLikely soft report.word
   pub next : IsSecondMostLikely soft report.word report.next
-  pub margin : IsMargin soft report.word report.margin
+  pub margin : IsLikelihoodMargin soft report.word report.margin
   pub margin_is_difference : report.margin ≡ likelihood soft (encoding report.word) -ℤ likelihood soft (encoding report.next)
-  pub zero_iff_tied : (report.margin ≡ pos 0) ↔ HasTiedWord soft report.word
+  pub margin_zero_iff_word_tied : (report.margin ≡ pos 0) ↔ HasTiedWord soft report.word

@@ -15,7 +15,7 @@ use Rattle.um_c.specs.declared.effects.CEffects.{CEffects}
 use Rattle.um_c.specs.EndCalls.{EndpointSupportsCall}
 use Rattle.um_c.specs.Joined.{ProgramState, ProgramStep, Calls, TakesOldestBlock}
 
--- the endpoints of a program that has only these two, both of SAPI 0
+-- the struct of the endpoint with this role and SAPI in a program that has only these two endpoints of SAPI 0; `None` for SAPI 3
 abbrev pub endpoint_with_role_and_sapi : (mobile network : CEndpoint) (role : Role) (sapi : Sapi) → Option CEndpoint
 endpoint_with_role_and_sapi mobile network Mobile Zero = Some mobile
 endpoint_with_role_and_sapi mobile network Network Zero = Some network
@@ -35,7 +35,7 @@ establishment_steps info asked answered opened =
     Calls Mobile Zero (Opens info) 0 asked ∷ TakesOldestBlock Network Zero (first_block asked) 0 answered
     ∷ TakesOldestBlock Mobile Zero (first_block answered) 0 opened ∷ []
 
--- ---- when all three calls succeed
+-- ---- the endpoints when all three calls succeed
 
 -- the SABM of a mobile that establishes the link of SAPI 0 with this information
 abbrev pub sabm_with_info : Message → Frame
@@ -48,7 +48,7 @@ pub record CanEstablishLink (info : Message) (mobile network : EndpointState) : 
   pub not_refused : refusal_of (Opens info) mobile ≡ None
   pub one_answer : length (frame_outcome (sabm_with_info info) network).frames ≡ 1
 
--- the endpoint of SAPI 0 with this role is in Idle
+-- the endpoint has this role and SAPI 0, and is in Idle
 pub record IsIdleEndpoint (r : Role) (e : EndpointState) : Type 0 where
   pub role : e.role ≡ r
   pub sapi : e.sapi ≡ Zero
@@ -62,10 +62,10 @@ pub record BothAreIdle (info : Message) (mobile network : EndpointState) : Type 
   pub nonempty : 1 ≤ length info
   pub fits : length info ≤ n201 mobile.channel
 
--- the mobile's endpoint after the three calls
+-- the mobile's endpoint after the three calls that establish the link
 abbrev pub mobile_after_establishment : Message → EndpointState → EndpointState
 mobile_after_establishment info e = record e { state = Open; sabm_info = info; retries = 0 }
 
--- the network's endpoint after the three calls
+-- the network's endpoint after the three calls that establish the link
 abbrev pub network_after_establishment : Message → EndpointState → EndpointState
 network_after_establishment info e = record e { state = Open; sabm_info = info }

@@ -7,9 +7,9 @@ use Rattle.lapdm_frame.specs.declared.Channel.TheVariants.{Sdcch, Sacch}
 use Rattle.lapdm_frame.specs.declared.Refusal.{Refusal}
 use Rattle.lapdm_frame.specs.declared.Refusal.TheVariants.{Lpd, Ea, Control, El, Length, Empty, More}
 use Rattle.lapdm_frame.specs.declared.Kind.{Kind}
-use Rattle.lapdm_frame.specs.Content.{Content, Fields, Frame, all_frame_kinds, kind_number, fields_of, content_with_fields}
+use Rattle.lapdm_frame.specs.Content.{Content, Fields, Frame, all_frame_kinds, kind_number, fields_of_content, content_with_fields}
 use Rattle.lapdm_frame.specs.Frames.{bit_of_bool, FrameFits, octets_of}
-use Rattle.lapdm_frame.specs.Readings.{IsOnlyFrame, IsOnlyRefusal}
+use Rattle.lapdm_frame.specs.Readings.{IsOnlyEncodedFrame, IsOnlyRefusalReason}
 use Rattle.um_c.specs.declared.frames.CFrame.{CFrame}
 
 -- the channel with this number: 0 is SDCCH, 1 is SACCH, any other number is invalid
@@ -32,7 +32,7 @@ c_frame_of_fields sapi cr f = record {
 
 -- converts a frame to a C struct
 abbrev pub c_struct : Frame → CFrame
-c_struct f = c_frame_of_fields f.sapi f.cr (fields_of f.content)
+c_struct f = c_frame_of_fields f.sapi f.cr (fields_of_content f.content)
 
 -- the number in the C API for the reason why a block is not a valid frame, 1 to 7; 0 means success
 abbrev pub frame_refusal_number : Refusal → ℕ
@@ -48,25 +48,25 @@ frame_refusal_number More = 7
 -- returns the number of the reason and writes nothing
 abbrev pub IsFrameReadResult : (channel : Channel) (octets : List ℕ) (answer : ℕ) (before after : CFrame) → Type 0
 IsFrameReadResult channel octets answer before after =
-    ((f : Frame) × IsOnlyFrame channel f octets × (answer ≡ 0) × (after ≡ c_struct f))
-    ⊎ ((reason : Refusal) × IsOnlyRefusal channel octets reason × (answer ≡ frame_refusal_number reason) × (after ≡ before))
+    ((f : Frame) × IsOnlyEncodedFrame channel f octets × (answer ≡ 0) × (after ≡ c_struct f))
+    ⊎ ((reason : Refusal) × IsOnlyRefusalReason channel octets reason × (answer ≡ frame_refusal_number reason) × (after ≡ before))
 
 -- whether a number in a C struct counts as bit 1: every nonzero number does
 abbrev pub is_nonzero : (field : ℕ) → Bool
 is_nonzero field = not (field == 0)
 
--- the content, if its information has this number of octets; otherwise `None`
+-- the frame content, if its information has this number of octets; otherwise `None`
 abbrev pub content_if_info_length : (count : ℕ) (content : Content) → Option Content
-content_if_info_length count content = if length (fields_of content).info == count then Some content else None
+content_if_info_length count content = if length (fields_of_content content).info == count then Some content else None
 
--- the content that the fields describe for this kind, or `None` if there is no kind, or if a kind without information has a nonzero count;
--- fields that the kind does not have are ignored
+-- the frame content that the fields describe for this kind, or `None` if there is no kind, or if a kind without information has a nonzero
+-- count; fields that the kind does not have are ignored
 abbrev pub content_of_kind : (frame : CFrame) (kind : Option Kind) → Option Content
 content_of_kind f None = None
 content_of_kind f (Some kind) = content_if_info_length f.count (content_with_fields kind f.ns f.nr (is_nonzero f.pf) (is_nonzero f.more)
     (take f.count f.info))
 
--- the content that the fields describe, or `None` if they describe none
+-- the frame content that the fields describe, or `None` if they describe none
 abbrev pub content_from_fields : CFrame → Option Content
 content_from_fields f = content_of_kind f (slice_get all_frame_kinds f.kind)
 

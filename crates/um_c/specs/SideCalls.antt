@@ -2,7 +2,7 @@
 use Rattle.std.specs.Prelude.{ℕ, ◌≡◌, ◌≢◌, Bool, List, Some, None}
 use Rattle.lapdm_frame.specs.declared.Channel.{Channel}
 use Rattle.lapdm_frame.specs.Content.{Frame}
-use Rattle.lapdm_frame.specs.Readings.{IsOnlyFrame}
+use Rattle.lapdm_frame.specs.Readings.{IsOnlyEncodedFrame}
 use Rattle.um_air.specs.lapdm_window.declared.Sapi.{Sapi}
 use Rattle.um_air.specs.lapdm_window.declared.Sapi.TheVariants.{Zero, Three}
 use Rattle.um_air.specs.lapdm_window.Calls.{Call}
@@ -43,7 +43,8 @@ pub record SideAnswersCall (sapi : ℕ) (call : Call) (answer : ℕ) (before aft
 
 -- the block encodes a frame with SAPI 3
 abbrev pub IsFrameOnSapi3 : (channel : ℕ) (octets : List ℕ) → Type 0
-IsFrameOnSapi3 channel octets = (c : Channel) × (f : Frame) × (Some c ≡ channel_of channel) × IsOnlyFrame c f octets × (f.sapi ≡ 3)
+IsFrameOnSapi3 channel octets = (c : Channel) × (f : Frame) × (Some c ≡ channel_of channel) × IsOnlyEncodedFrame c f octets
+    × (f.sapi ≡ 3)
 
 -- the endpoint with SAPI `s` receives the block, the other stays unchanged, and `reported_sapi` is the number of `s` if the call returns 0
 pub record SidePassesBlock (s : Sapi) (octets : List ℕ) (answer : ℕ) (before after : CSide) (reported_sapi : ℕ)
@@ -57,9 +58,9 @@ pub record SidePassesBlock (s : Sapi) (octets : List ℕ) (answer : ℕ) (before
 pub record SideReceivesBlock (octets : List ℕ) (answer : ℕ) (before after : CSide) (old_sapi reported_sapi : ℕ)
     (output_old output : CEffects) : Type 0
   where
-    pub on_sapi3 : IsValidSide before → IsFrameOnSapi3 before.link0.channel octets →
+    pub sapi3_frame_to_sapi3_endpoint : IsValidSide before → IsFrameOnSapi3 before.link0.channel octets →
         SidePassesBlock Three octets answer before after reported_sapi output_old output
-    pub on_sapi0 : IsValidSide before → ¬ IsFrameOnSapi3 before.link0.channel octets →
+    pub other_block_to_sapi0_endpoint : IsValidSide before → ¬ IsFrameOnSapi3 before.link0.channel octets →
         SidePassesBlock Zero octets answer before after reported_sapi output_old output
     pub not_a_side : (IsValidSide before → ⊥) → answer ≡ 7
     pub unchanged : answer ≢ 0 → (after ≡ before) × (reported_sapi ≡ old_sapi) × (output ≡ output_old)

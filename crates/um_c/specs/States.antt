@@ -8,7 +8,7 @@ use Rattle.um_air.specs.segmenting.declared.joiner.ReassemblyState.{ReassemblySt
 use Rattle.um_air.specs.segmenting.declared.joiner.ReassemblyState.TheVariants as P
 use Rattle.um_air.specs.segmenting.declared.buffers.MessageBuffer.{MessageBuffer}
 use Rattle.um_air.specs.segmenting.Segments.{Message}
-use Rattle.um_air.specs.segmenting.Buffers.{octets_in, message_buffer}
+use Rattle.um_air.specs.segmenting.Buffers.{octets_in_buffer, message_buffer}
 use Rattle.um_air.specs.lapdm_window.declared.Sapi.{Sapi}
 use Rattle.um_air.specs.lapdm_window.declared.Sapi.TheVariants.{Zero, Three}
 use Rattle.um_air.specs.lapdm_window.declared.State.{State}
@@ -45,13 +45,14 @@ reassembly_from_number number = if number == 0 then Some P.Open else if number =
     P.Discarding else
     None
 
--- the values of the window in the struct, if its channel and reassembly state are valid and it holds at most eight messages
+-- the window variables in the struct (V(S), V(A), V(R), held messages, reassembly buffer), if its channel and reassembly state are valid
+-- and it holds at most eight messages; otherwise `None`
 abbrev pub window_values_if_valid : (endpoint : CEndpoint) (channel : Option Channel) (part : Option ReassemblyState) (valid : Bool) →
     Option WindowValues
 window_values_if_valid s (Some channel) (Some part) true =
     Some (record {
       channel = channel;
-      held = map octets_in (take s.held_count s.held);
+      held = map octets_in_buffer (take s.held_count s.held);
       segment_index = s.place;
       vs = s.vs;
       va = s.va;
@@ -59,22 +60,22 @@ window_values_if_valid s (Some channel) (Some part) true =
       acked_messages = s.done;
       rejecting = is_nonzero s.rejecting;
       retries = s.repeats;
-      joiner = record { octets = octets_in s.joined; part = part };
+      joiner = record { octets = octets_in_buffer s.joined; part = part };
     })
 window_values_if_valid s channel part few = None
 
--- the values of the window in the struct, or `None` if its numbers are invalid
+-- the window variables in the struct, or `None` if its channel or reassembly state is invalid or it holds more than eight messages
 abbrev pub window_values_from : CEndpoint → Option WindowValues
 window_values_from s = window_values_if_valid s (channel_of s.channel) (reassembly_from_number s.part) (nat_le s.held_count 8)
 
--- the values of the endpoint in the struct, if role, SAPI, link state and window are valid
+-- the values of the endpoint in the struct, if role, SAPI, link state and window are valid; otherwise `None`
 abbrev pub endpoint_values_if_valid : (endpoint : CEndpoint) (role : Option Role) (sapi : Option Sapi) (state : Option State)
     (window : Option WindowValues) → Option EndpointValues
 endpoint_values_if_valid s (Some role) (Some sapi) (Some state) (Some window) =
-    Some (record { role = role; sapi = sapi; state = state; sabm_info = octets_in s.kept; retries = s.retries; window = window })
+    Some (record { role = role; sapi = sapi; state = state; sabm_info = octets_in_buffer s.kept; retries = s.retries; window = window })
 endpoint_values_if_valid s role sapi state window = None
 
--- the values of the endpoint in the struct, if all its numbers are in range and it holds at most eight messages
+-- the values of the endpoint in the struct, if all its numbers are in range and it holds at most eight messages; otherwise `None`
 abbrev pub endpoint_values_from : CEndpoint → Option EndpointValues
 endpoint_values_from s = endpoint_values_if_valid s (role_of s.role) (sapi_of s.sapi) (state_of s.state) (window_values_from s)
 
@@ -145,6 +146,6 @@ c_endpoint x = record {
   held = buffers_of_messages 8 x.window.held;
 }
 
--- the struct is in canonical form, the form that the C calls write; each endpoint has exactly one such struct
+-- the struct is in canonical form, the form that the C calls write; the values of an endpoint have exactly one such struct
 abbrev pub IsCanonicalStruct : CEndpoint → Type 0
 IsCanonicalStruct s = (x : EndpointValues) × (s ≡ c_endpoint x)

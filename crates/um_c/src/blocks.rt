@@ -25,7 +25,7 @@ use um_block::{
 #[repr(C)]
 #[derive(Drop)]
 pub struct BlockReport {
-    /// The path metric of the word, at most 456 * 127.
+    /// The path metric of the reported word, at most 456 * 127.
     pub metric: i32,
     /// How many of the 104 training bits are wrong. A soft value of 0 counts as wrong.
     pub wrong_training: u32,

@@ -15,11 +15,11 @@ use um_block::{
 #[repr(C)]
 #[derive(Drop)]
 pub struct AccessReport {
-    /// The path metric of the word, at most 36 * 127.
+    /// The path metric of the most likely word, at most 36 * 127.
     pub metric: i32,
     /// How many of the 41 training bits are wrong. A soft value of 0 counts as wrong.
     pub wrong_training: u32,
-    /// How many of the 36 coded bits differ from the coded bits of the word. A soft value of 0 counts as wrong.
+    /// How many of the 36 coded bits differ from the coded bits of the most likely word. A soft value of 0 counts as wrong.
     pub wrong_coded: u32,
     /// 1 if the CRC holds for this BSIC, otherwise 0.
     pub accepted: u8,
@@ -33,11 +33,11 @@ pub struct AccessReport {
 #[repr(C)]
 #[derive(Drop)]
 pub struct SyncReport {
-    /// The path metric of the word, at most 78 * 127.
+    /// The path metric of the most likely word, at most 78 * 127.
     pub metric: i32,
     /// How many of the 64 training bits are wrong. A soft value of 0 counts as wrong.
     pub wrong_training: u32,
-    /// How many of the 78 coded bits differ from the coded bits of the word. A soft value of 0 counts as wrong.
+    /// How many of the 78 coded bits differ from the coded bits of the most likely word. A soft value of 0 counts as wrong.
     pub wrong_coded: u32,
     /// 1 if the CRC holds, otherwise 0.
     pub accepted: u8,

@@ -1,7 +1,7 @@
 //! The frames and notices of a call, in arrays of fixed size.
 ghost use Rattle.std.specs.Prelude.{◌≡◌, ◌≤◌, ◌-◌, ◌++◌, map, length, replicate, slice_index_or};
 ghost use Rattle.um_air.specs.segmenting.Segments.{max_message_octets};
-ghost use Rattle.um_c.specs.Effects.{notice_struct, c_notice, c_effects, blank_notice, reason_number};
+ghost use Rattle.um_c.specs.Effects.{c_notice_of_fields, c_notice, c_effects, blank_notice, reason_number};
 
 use lapdm_end::{Effects, MessageBuffer, Notice, Reason};
 use lapdm_frame::BLOCK_OCTETS;
@@ -12,7 +12,8 @@ use lapdm_frame::BLOCK_OCTETS;
 pub struct CNotice {
     /// The number of the acknowledged message, from 1; 0 in other notices.
     pub number: u64,
-    /// The kind of the notice: 0 none, 1 opened, 2 got, 3 unit, 4 acked, 5 oversize, 6 closed.
+    /// The kind of the notice: 0 none, 1 opened (link established), 2 got (message received in I frames), 3 unit (message received in a UI
+    /// frame), 4 acked (message acknowledged), 5 oversize (received message too long), 6 closed (link closed).
     pub kind: u8,
     /// Why the link was closed: 0 contention, 1 failed, 2 refused, 3 released; 0 in other notices.
     pub reason: u8,
@@ -92,7 +93,7 @@ fn write_notice(reported_notices: &[Notice], notice_index: usize, place: &mut CN
 impl CNotice {
     fn write(&mut self, kind: u8, number: u64, reason: u8, octets: &[u8])
         requires { length octets.now ≤ max_message_octets }
-        ensures { self.new ≡ notice_struct kind number reason octets.now }
+        ensures { self.new ≡ c_notice_of_fields kind number reason octets.now }
     {
         self.number = number;
         self.kind = kind;

@@ -1,14 +1,16 @@
 //! C functions for one endpoint, whose state the caller holds.
 //!
-//! Each call creates the buffer for its effects before the endpoint, so that the compiler fills the buffer with zeros only once.
+//! Each function creates the buffer for its effects before it creates the endpoint, so that the compiler fills the buffer with zeros only
+//! once.
 ghost use Rattle.std.specs.Prelude.{◌≡◌, false, OnOk, IfErr, IsTrue};
-ghost use Rattle.um_air.specs.segmenting.Buffers.{octets_in};
+ghost use Rattle.um_air.specs.segmenting.Buffers.{octets_in_buffer};
 ghost use Rattle.um_air.specs.lapdm_window.Ends.{EndpointState};
 ghost use Rattle.lapdm_end.specs.Abstraction.{Represents, sapi_of as link_sapi};
-ghost use Rattle.um_air.specs.lapdm_window.Calls.{endpoint_call_of, IsCallOfSapi, SendsUiFrame, Opens, OpensWithoutInfo, Sends, SendsUi};
+ghost use Rattle.um_air.specs.lapdm_window.Calls.{endpoint_call_of, IsCallAllowedForSapi, IsUiFrameCall, Opens, OpensWithoutInfo, Sends};
+ghost use Rattle.um_air.specs.lapdm_window.Calls.{SendsUi};
 ghost use Rattle.um_air.specs.lapdm_window.Calls.{Closes};
 ghost use Rattle.um_air.specs.lapdm_window.Calls.{T200Expires};
-ghost use Rattle.um_air.specs.lapdm_window.Calls.{SendsFill};
+ghost use Rattle.um_air.specs.lapdm_window.Calls.{SendsFillFrame};
 ghost use Rattle.lapdm_end.specs.Parts.{values_of};
 ghost use Rattle.um_c.specs.States.{c_endpoint, IsCanonicalStruct};
 ghost use Rattle.um_c.specs.Effects.{c_effects};
@@ -59,7 +61,7 @@ pub extern "C" fn um_end_open(
     info: &MessageBuffer,
     effects: &mut CEffects,
 ) -> u8
-    ensures answers_call { EndpointAnswersCall (Opens (octets_in info.now)) result end.old end.new effects.old effects.new }
+    ensures answers_call { EndpointAnswersCall (Opens (octets_in_buffer info.now)) result end.old end.new effects.old effects.new }
     ensures c_struct { result ≡ 0 → IsCanonicalStruct end.new }
 {
     call_endpoint(end, &Call::Open(info.octets()), effects)
@@ -81,7 +83,7 @@ pub extern "C" fn um_end_send(
     message: &MessageBuffer,
     effects: &mut CEffects,
 ) -> u8
-    ensures answers_call { EndpointAnswersCall (Sends (octets_in message.now)) result end.old end.new effects.old effects.new }
+    ensures answers_call { EndpointAnswersCall (Sends (octets_in_buffer message.now)) result end.old end.new effects.old effects.new }
     ensures c_struct { result ≡ 0 → IsCanonicalStruct end.new }
 {
     call_endpoint(end, &Call::Send(message.octets()), effects)
@@ -94,7 +96,7 @@ pub extern "C" fn um_end_unit(
     message: &MessageBuffer,
     effects: &mut CEffects,
 ) -> u8
-    ensures { EndpointAnswersCall (SendsUi (octets_in message.now)) result end.now end.now effects.old effects.new }
+    ensures { EndpointAnswersCall (SendsUi (octets_in_buffer message.now)) result end.now end.now effects.old effects.new }
 {
     send_ui_frame(end, &Call::Unit(message.octets()), effects)
 }
@@ -120,14 +122,14 @@ pub extern "C" fn um_end_timer(end: &mut CEndpoint, effects: &mut CEffects) -> u
 /// Sends the fill frame, for use when there is nothing else to send in a block. Returns 0, or 7 if the struct represents no endpoint.
 #[unsafe(no_mangle)]
 pub extern "C" fn um_end_idle(end: &CEndpoint, effects: &mut CEffects) -> u8
-    ensures { EndpointAnswersCall SendsFill result end.now end.now effects.old effects.new }
+    ensures { EndpointAnswersCall SendsFillFrame result end.now end.now effects.old effects.new }
 {
     let mut output = Effects::new();
     let mut held = placeholder_endpoint();
     if !read_endpoint(end, &mut held) {
         return INVALID_ENDPOINT;
     }
-    held.send_fill_into(&mut output);
+    held.send_fill_frame_into(&mut output);
     write_call_effects(Ok(()), &output, effects)
 }
 
@@ -174,7 +176,7 @@ pub(crate) fn call_endpoint(end: &mut CEndpoint, call: &Call<'_>, effects: &mut 
 /// Carries out a call that sends a UI frame and leaves the endpoint unchanged.
 #[inline(always)]
 pub(crate) fn send_ui_frame(end: &CEndpoint, call: &Call<'_>, effects: &mut CEffects) -> u8
-    requires { SendsUiFrame (endpoint_call_of call.now) }
+    requires { IsUiFrameCall (endpoint_call_of call.now) }
     ensures { EndpointAnswersCall (endpoint_call_of call.now) result end.now end.now effects.old effects.new }
 {
     let mut output = Effects::new();
@@ -189,7 +191,7 @@ pub(crate) fn send_ui_frame(end: &CEndpoint, call: &Call<'_>, effects: &mut CEff
 /// Returns whether the endpoint supports this call: only a mobile establishes the link of SAPI 0, with information in its SABM; either side
 /// establishes that of SAPI 3, without information.
 fn endpoint_supports_call(endpoint: &Endpoint, call: &Call<'_>) -> bool
-    ensures sapi { IsTrue result → IsCallOfSapi (link_sapi endpoint.now) (endpoint_call_of call.now) }
+    ensures sapi { IsTrue result → IsCallAllowedForSapi (link_sapi endpoint.now) (endpoint_call_of call.now) }
     ensures allowed { IsTrue result → (e : EndpointState) → Represents endpoint.now e
         → EndpointSupportsCall e (endpoint_call_of call.now) }
     ensures never { result ≡ false → (e : EndpointState) → Represents endpoint.now e

@@ -1,7 +1,7 @@
 //! C functions that read and write LAPDm frames.
 ghost use Rattle.std.specs.Prelude.{◌≡◌, ◌≤◌, Some, None, false, length, MatchOption};
 ghost use Rattle.lapdm_frame.specs.declared.Channel.{Channel as ChannelOf};
-ghost use Rattle.lapdm_frame.specs.Content.{content_of, abstract_fields, frame_of};
+ghost use Rattle.lapdm_frame.specs.Content.{content_of_body, field_values_of_frame_fields, frame_of_view};
 ghost use Rattle.lapdm_frame.specs.Frames.{FrameFits};
 ghost use Rattle.um_c.specs.Plain.{channel_of, frame_refusal_number, c_struct, c_frame_of_fields, frame_from_fields, content_from_fields};
 ghost use Rattle.um_c.specs.Plain.{IsFrameReadResult};
@@ -108,15 +108,15 @@ fn frame_refusal_number(refusal: Refusal) -> u8
 /// Converts the frame, which must fit in a block, to a C struct.
 #[tactic(auto, using(lapdm_frame::proofs::Lemmas::few_octets))]
 fn c_frame_of_view(view: &FrameView<'_>) -> CFrame
-    requires { (channel : ChannelOf) × FrameFits channel (frame_of view.now) }
-    ensures { result ≡ c_struct (frame_of view.now) }
+    requires { (channel : ChannelOf) × FrameFits channel (frame_of_view view.now) }
+    ensures { result ≡ c_struct (frame_of_view view.now) }
 {
     c_frame_of_fields(view.sapi, view.cr, &view.body.fields())
 }
 
 fn c_frame_of_fields(sapi: u8, cr: bool, fields: &FrameFields<'_>) -> CFrame
     requires { length fields.now.info.now ≤ 20 }
-    ensures { result ≡ c_frame_of_fields sapi cr (abstract_fields fields.now) }
+    ensures { result ≡ c_frame_of_fields sapi cr (field_values_of_frame_fields fields.now) }
 {
     let mut info = [0; 20];
     info[..fields.info.len()].copy_from_slice(fields.info);
@@ -135,7 +135,8 @@ fn c_frame_of_fields(sapi: u8, cr: bool, fields: &FrameFields<'_>) -> CFrame
 
 /// The frame that the fields describe, whether or not it fits in a block, or `None` if they describe none.
 fn frame_view_of_c_frame(frame: &CFrame) -> Option<FrameView<'_>>
-    ensures { MatchOption result (frame_from_fields frame.now ≡ None) (λ view. frame_from_fields frame.now ≡ Some (frame_of view)) }
+    ensures { MatchOption result (frame_from_fields frame.now ≡ None)
+        (λ view. frame_from_fields frame.now ≡ Some (frame_of_view view)) }
 {
     if frame.count > 20 {
         return None;
@@ -151,7 +152,7 @@ fn frame_view_of_c_frame(frame: &CFrame) -> Option<FrameView<'_>>
 fn body_of_c_frame(frame: &CFrame) -> Option<Body<'_>>
     requires { frame.now.count ≤ 20 }
     ensures { MatchOption result (content_from_fields frame.now ≡ None) (λ body. content_from_fields frame.now ≡
-        Some (content_of body)) }
+        Some (content_of_body body)) }
 {
     let kind = Kind::from_number(frame.kind)?;
     let fields = FrameFields {

@@ -1,7 +1,7 @@
-//! An example of a caller: it connects two endpoints, and its contract says that the laws of connected endpoints apply.
+//! An example of a caller: it connects two endpoints, and its contract shows that the laws of connected endpoints apply to it.
 ghost use Rattle.std.specs.Prelude.{◌≡◌, length, IsTrue, Some};
 ghost use Rattle.lapdm_frame.specs.declared.Channel.{Channel};
-ghost use Rattle.um_air.specs.segmenting.Buffers.{octets_in};
+ghost use Rattle.um_air.specs.segmenting.Buffers.{octets_in_buffer};
 ghost use Rattle.um_air.specs.lapdm_window.declared.Sapi.TheVariants.{Zero};
 ghost use Rattle.um_air.specs.lapdm_window.Ends.{Mobile, Network, EndpointState};
 ghost use Rattle.um_c.specs.Joined.{ProgramState, IsProgramRun, DeliversOldestBlock};
@@ -29,13 +29,14 @@ pub fn open_link(
 ) -> bool
     ensures run { IsTrue result → (channel : Channel) → (z : ProgramState)
         × IsProgramRun channel DeliversOldestBlock (program_of_two_endpoints mobile.old network.old)
-        (establishment_steps (octets_in info.now) asked.new answered.new opened.new) z
+        (establishment_steps (octets_in_buffer info.now) asked.new answered.new opened.new) z
         × (z.state Mobile Zero ≡ Some mobile.new) × (z.state Network Zero ≡ Some network.new) }
     ensures succeeds_from_idle { (e f : EndpointState) → StructRepresents mobile.old e → StructRepresents network.old f →
-        CanEstablishLink (octets_in info.now) e f → IsTrue result }
+        CanEstablishLink (octets_in_buffer info.now) e f → IsTrue result }
     ensures opens { (e f : EndpointState) → StructRepresents mobile.old e → StructRepresents network.old f →
-        BothAreIdle (octets_in info.now) e f → StructRepresents mobile.new (mobile_after_establishment (octets_in info.now) e)
-        × StructRepresents network.new (network_after_establishment (octets_in info.now) f) }
+        BothAreIdle (octets_in_buffer info.now) e f →
+        StructRepresents mobile.new (mobile_after_establishment (octets_in_buffer info.now) e)
+        × StructRepresents network.new (network_after_establishment (octets_in_buffer info.now) f) }
 {
     if um_end_open(mobile, info, asked) != 0 {
         return false;

@@ -1,9 +1,9 @@
-//! C functions for a side, whose state the caller holds: its endpoints for SAPI 0 and SAPI 3.
+//! C functions for one side, mobile or network: its endpoints for SAPI 0 and SAPI 3. The caller holds the state.
 ghost use Rattle.std.specs.Prelude.{◌≡◌, ◌≢◌, ◌↔◌, Some, IsTrue};
-ghost use Rattle.um_air.specs.segmenting.Buffers.{octets_in};
+ghost use Rattle.um_air.specs.segmenting.Buffers.{octets_in_buffer};
 ghost use Rattle.um_air.specs.lapdm_window.declared.Sapi.{Sapi as LinkSapi};
 ghost use Rattle.um_air.specs.lapdm_window.Calls.{endpoint_call_of, Opens, OpensWithoutInfo, Sends, SendsUi, Closes, T200Expires};
-ghost use Rattle.um_air.specs.lapdm_window.Calls.{SendsFill};
+ghost use Rattle.um_air.specs.lapdm_window.Calls.{SendsFillFrame};
 ghost use Rattle.um_c.specs.States.{sapi_of, IsCanonicalStruct};
 ghost use Rattle.um_c.specs.SideCalls.{IsValidSide, endpoint_of, IsFrameOnSapi3, IsNewSideResult, SideAnswersCall, SideReceivesBlock};
 
@@ -45,7 +45,7 @@ pub extern "C" fn um_side_new(side: &mut CSide, role: u8, channel: u8) -> bool
 /// number.
 #[unsafe(no_mangle)]
 pub extern "C" fn um_side_open(side: &mut CSide, info: &MessageBuffer, effects: &mut CEffects) -> u8
-    ensures answers_call { SideAnswersCall 0 (Opens (octets_in info.now)) result side.old side.new effects.old effects.new }
+    ensures answers_call { SideAnswersCall 0 (Opens (octets_in_buffer info.now)) result side.old side.new effects.old effects.new }
     ensures c_struct { result ≡ 0 → IsCanonicalStruct side.new.link0 }
 {
     call_endpoint_of_side(side, 0, &Call::Open(info.octets()), effects)
@@ -68,7 +68,7 @@ pub extern "C" fn um_side_send(
     message: &MessageBuffer,
     effects: &mut CEffects,
 ) -> u8
-    ensures answers_call { SideAnswersCall sapi (Sends (octets_in message.now)) result side.old side.new effects.old effects.new }
+    ensures answers_call { SideAnswersCall sapi (Sends (octets_in_buffer message.now)) result side.old side.new effects.old effects.new }
     ensures c_struct { result ≡ 0 → (s : LinkSapi) → Some s ≡ sapi_of sapi → IsCanonicalStruct (endpoint_of s side.new) }
 {
     call_endpoint_of_side(side, sapi, &Call::Send(message.octets()), effects)
@@ -82,7 +82,7 @@ pub extern "C" fn um_side_unit(
     message: &MessageBuffer,
     effects: &mut CEffects,
 ) -> u8
-    ensures { SideAnswersCall sapi (SendsUi (octets_in message.now)) result side.now side.now effects.old effects.new }
+    ensures { SideAnswersCall sapi (SendsUi (octets_in_buffer message.now)) result side.now side.now effects.old effects.new }
 {
     if !is_valid_side(side) {
         return INVALID_ENDPOINT;
@@ -116,7 +116,7 @@ pub extern "C" fn um_side_timer(side: &mut CSide, sapi: u8, effects: &mut CEffec
 /// Sends the fill frame, for use when there is nothing else to send in a block.
 #[unsafe(no_mangle)]
 pub extern "C" fn um_side_idle(side: &CSide, effects: &mut CEffects) -> u8
-    ensures { SideAnswersCall 0 SendsFill result side.now side.now effects.old effects.new }
+    ensures { SideAnswersCall 0 SendsFillFrame result side.now side.now effects.old effects.new }
 {
     if !is_valid_side(side) {
         return INVALID_ENDPOINT;
@@ -141,16 +141,16 @@ pub extern "C" fn um_side_take(
     }
     if is_frame_on_sapi_3(octets, side.link0.channel) {
         let answer = um_end_take(&mut side.link3, octets, effects);
-        write_sapi(answer, 3, sapi);
+        write_sapi_if_successful(answer, 3, sapi);
         return answer;
     }
     let answer = um_end_take(&mut side.link0, octets, effects);
-    write_sapi(answer, 0, sapi);
+    write_sapi_if_successful(answer, 0, sapi);
     answer
 }
 
 /// If the call returns 0, writes the SAPI of the endpoint that received the block.
-fn write_sapi(call_status: u8, answering_sapi: u8, sapi: &mut u8)
+fn write_sapi_if_successful(call_status: u8, answering_sapi: u8, sapi: &mut u8)
     ensures written { call_status ≡ 0 → sapi.new ≡ answering_sapi }
     ensures unchanged { call_status ≢ 0 → sapi.new ≡ sapi.old }
 {

@@ -1,7 +1,7 @@
 //! The state of an endpoint as numbers and arrays in the caller's memory. A call reads the state, changes it, and writes it back in place;
 //! only the octets in use are copied from each message.
 ghost use Rattle.std.specs.Prelude.{◌≡◌, ◌≤◌, ◌↔◌, Some, None, length, map, IsTrue, MatchOption};
-ghost use Rattle.um_air.specs.segmenting.Buffers.{octets_in};
+ghost use Rattle.um_air.specs.segmenting.Buffers.{octets_in_buffer};
 ghost use Rattle.um_air.specs.lapdm_window.Ends.{EndpointState};
 ghost use Rattle.um_air.specs.lapdm_window.Parts.{values_of_parts as window_by};
 ghost use Rattle.lapdm_end.specs.Parts.{values_of, values_of_parts};
@@ -183,7 +183,7 @@ pub(crate) fn write_endpoint(endpoint: &Endpoint, c_struct: &mut CEndpoint)
 /// Writes these messages to the array, and fills the rest of it with empty messages.
 fn write_buffers(messages: &[MessageBuffer], buffers: &mut [MessageBuffer; 8])
     requires { length messages.now ≤ 8 }
-    ensures { buffers.new ≡ buffers_of_messages 8 (map octets_in messages.now) }
+    ensures { buffers.new ≡ buffers_of_messages 8 (map octets_in_buffer messages.now) }
 {
     *buffers = [MessageBuffer::empty(); 8];
     for (i, message) in messages.iter().enumerate() {

@@ -1,4 +1,4 @@
--- The clauses of `run`: which command the words name, which codewords decoding chooses, and what `replay` recovers.
+-- Lemmas for the contract of `run`: which command the words name, which codewords decoding chooses, and what `replay` recovers.
 use Rattle.{
   std.{
     proofs.{
@@ -17,8 +17,8 @@ use Rattle.{
   um_cli.specs.{
     Arrivals.{IsMaxLikelihoodAnswerToLine, ReceivesMostLikelyWord, ReportsMostLikelyWord, link_rules_with_ml_decoding},
     Headline.{IsMaximumLikelihood, IsMostLikelyWord, replay_answers_with_ml_decoding, replay_rules_with_ml_decoding},
-    Machines.{CommandEndsAsPrescribed, HasOneOutputPerInput, HoldsForMachine, IsRunOfCommand, machine},
-    Restored.{AreReportsOfCodeLines, IsReportOfCodeLine, ReplayRecoversCode},
+    Machines.{CommandEndsAsPrescribed, HasOneOutputPerInput, HoldsForCommandMachine, IsRunOfCommand, machine},
+    Restored.{AreReplayReportsOfCodeLines, IsReplayReportOfCodeLine, ReplayRecoversCodeInput},
     Shapes.{HasValidOperands, command_of_words, message_count_of_word},
     declared.words.Invocation.{TheVariants.{Code, End, Link, Make, Margin, Repair, Replay, Show}, Invocation},
   },
@@ -30,7 +30,7 @@ use Rattle.{
     },
     specs.{
       Code.{IsCodeCommandAnswer, code_command_rules},
-      um_formats.{BurstLines.{BurstLineMeans, burst_fault}, BurstTexts.{access_burst_text, bursts_text, normal_burst_text}},
+      um_formats.{BurstLines.{BurstLineMeans, burst_line_fault}, BurstTexts.{access_burst_text, bursts_text, normal_burst_text}},
       um_formats.{BurstTexts.sync_burst_text, CodeLines.CodeLineMeans, Reports.{IsBlockReportText, access_report_text, sync_report_text}},
       um_formats.declared.{burst_lines.BurstLine.{TheVariants.{Access, Normal, Sync}, BurstLine}, code.CodeLine.CodeLine},
     },
@@ -48,7 +48,7 @@ use Rattle.{
       um_lines.FormLaws.no_fault_if_meant,
     },
     specs.{
-      EndLines.{Calls, EndLineMeaning, Nothing, TakesBurst},
+      EndLines.{Calls, EndCommandLineMeaning, Nothing, TakesBurst},
       EndRuns.{EndCommandState, end_command_rules},
       lapdm_frame.{Content.Frame, declared.Channel.Channel},
       um_block.{Received.{IsReceivedBlock, soft_bit_of, soft_bits}, Sent.{IsSentAccess, IsSentBlock, IsSentSync}, bit_blocks.Bits.AllBits},
@@ -63,7 +63,7 @@ use Rattle.{
   um_repair.proofs.Lemmas.repair_has_one_output,
   um_session.{
     proofs.Lemmas.link_has_one_output,
-    specs.{Courses.RadioCounters, Promises.IsLinkRun, Sessions.{IsParsedLineStep, Session, link_command_rules, new_session}},
+    specs.{Courses.RadioCounters, Promises.IsLinkCommandRun, Sessions.{IsParsedLineStep, LinkSession, link_command_rules, new_session}},
   },
   um_show.proofs.ShowRules.show_has_one_output,
 }
@@ -73,7 +73,7 @@ use Rattle.um_end.specs.EndRuns as M
 use Rattle.um_cli.specs.EndAnswers as B
 use Rattle.um_code.specs.um_formats.declared.code.CodeLine.TheVariants as C
 
--- ## WordListsLemmas: Lists of words whose length is known.
+-- ## WordListsLemmas: Lemmas about lists of words whose length is known.
 
 -- mapping f over a list of one element gives the list that contains only the value of f at this element
 pub map-single : {A B : Type 0} (f : A → B) (xs : List A) (d : A) → 1 ≤ length xs → length xs < 2 →
@@ -91,7 +91,7 @@ not_empty : (word : List ℕ) → 49 ≤ slice_index word 0 → 0 < length word
 not_empty [] first = absurd (omega arith)
 not_empty (octet ∷ word) first = omega arith
 
--- r is the value of the word if the word consists of digits and its value is below 2 ^ 32, and otherwise an error
+-- r is the value of the word if the word consists of digits and its value is below 2 ^ 32; otherwise r is an error
 abbrev IsReadAs : {E : Type 0} → List ℕ → Result ℕ E → Type 0
 IsReadAs word r = OkIff r ((all_ascii_digits word ≡ true) × (0 < length word) × (digits_value 10 word < 2 ^ 32)) (digits_value 10 word)
 
@@ -107,7 +107,8 @@ message_count-some word r n parsed first is some most =
     let value : n ≡ v = read.1 in
     rw (le-leb 49 (slice_index word 0) first, read.0.0, le-leb 1 v (omega arith), le-leb v 1000 (omega arith)) (ap (λ k. Some k) value)
 
-pub message_count-none : {E : Type 0} (word : List ℕ) (r : Result ℕ E) (e : E) → ParsesUnsigned 32 10 word r → 49 ≤ slice_index word 0 →
+pub message_count-none : {E : Type 0} (word : List ℕ) (r : Result ℕ E) (e : E) → ParsesUnsigned 32 10 word r →
+    49 ≤ slice_index word 0 →
     r ≡ Err e → None ≡ message_count_of_word word
 message_count-none word r e parsed first is =
     let read = read_as word r (Err e) parsed first is in
@@ -190,7 +191,8 @@ step-most_likely : (a : AirState) (event : Event) (b : AirState) (answer : Answe
 step-most_likely a event b (Refuses why) step = tt
 step-most_likely a event b (Accepts s) (none, happens) = event-most_likely a event s.received happens.read happens.delivery
 
-line-most_likely : (s : Session) (meaning : Option Event) (text : List ℕ) (after : Session) → IsParsedLineStep s meaning text after →
+line-most_likely : (s : LinkSession) (meaning : Option Event) (text : List ℕ) (after : LinkSession) →
+    IsParsedLineStep s meaning text after →
     IsMaxLikelihoodAnswerToLine s meaning text after
 line-most_likely s None text after h = h
 line-most_likely s (Some event) text after h = record { event_step = h; most_likely = step-most_likely s.air event h.air h.answer h.step }
@@ -203,16 +205,16 @@ link_rules-weaker = record {
 }
 
 pub link-most_likely : (tsc : ℕ) (channel : Channel) (status : Status) (left left' taken taken' : Option (List ℕ))
-    (before after : RadioCounters) → IsLinkRun tsc channel status left left' taken taken' before after →
+    (before after : RadioCounters) → IsLinkCommandRun tsc channel status left left' taken taken' before after →
     IsRun link_rules_with_ml_decoding (new_session tsc channel) (λ last. Unit {0}) status left left' taken taken'
 link-most_likely tsc channel status left left' taken taken' before after h =
     weaker_run link_command_rules link_rules_with_ml_decoding link_rules-weaker (new_session tsc channel) (λ last. Unit {0})
     (λ last. Unit {0})
     (λ last represents. represents) status left left' taken taken' h.run
 
--- ---- the command `end`
+-- ---- blocks that the `end` command receives
 
-end_line-best : (s : EndCommandState) (meaning : EndLineMeaning) (text : List ℕ) (after : EndCommandState) →
+end_line-best : (s : EndCommandState) (meaning : EndCommandLineMeaning) (text : List ℕ) (after : EndCommandState) →
     M.IsParsedLineStep s meaning text after → B.IsMaxLikelihoodAnswerToLine s meaning text after
 end_line-best s Nothing text after h = h
 end_line-best s (TakesBurst soft) text after (inl few) = inl few
@@ -241,10 +243,10 @@ end-most_likely begun same Represents status left left' taken taken' run =
     rw same at (weaker_run end_command_rules B.end_rules_with_ml_decoding end_rules-weaker _ Represents (λ last. Unit {0})
     (λ last represents. tt) status left left' taken taken' run)
 
--- ## Restoring: `replay` recovers what `code` was given. The proof goes line by line: each line that `code` writes is a line of `replay`,
--- and a block without damage is decoded correctly.
+-- ## Restoring: `replay` recovers the information given to `code`. The proof goes line by line: each line that `code` writes is a line of
+-- `replay`, and an undamaged block is decoded correctly.
 
--- the octets are lines of `replay` with these reports; no burst is held before the first line or after the last
+-- `octets` are complete lines, which `replay` answers with `reports`; no burst is held before the first line or after the last
 pub record ReplayReads (octets reports : List ℕ) : Type 0 where
   pub lines : List (List ℕ)
   pub answers : List (List ℕ)
@@ -271,14 +273,14 @@ ReplayReads-append x x' y y' r r' = record {
   reports_are = (let p = r.reports_are in let q = r'.reports_are in cc (p, q)) ∙ sym (joined-append r.answers r'.answers);
 }
 
--- a run over one line, followed by a run over other lines, is a run over all of them
+-- a run of `replay` over one line, followed by a run over other lines, is a run over all of them
 replay-first : (held mid after : List (List ℤ)) (line answer : List ℕ) (lines others : List (List ℕ)) (m : BurstLine) →
     BurstLineMeans (length held) line m → AnswersBurstLine replay_answers held m answer mid →
     Runs replay_rules mid lines others after →
     Runs replay_rules held (line ∷ lines) (answer ∷ others) after
 replay-first held mid after line answer lines others m means answers runs =
     let at = length held in
-    let fault = no_fault_if_meant (BurstLineMeans at line) (burst_fault at line) (one_burst_meaning at line) m means in
+    let fault = no_fault_if_meant (BurstLineMeans at line) (burst_line_fault at line) (one_burst_meaning at line) m means in
     (mid, record { in_limit = short at line m means; no_fault = fault }, (m, means, answers), runs)
 
 replay-last : (held : List (List ℤ)) (line answer : List ℕ) (m : BurstLine) → BurstLineMeans (length held) line m →
@@ -288,16 +290,16 @@ replay-last held line answer m means answers = replay-first held [] [] line answ
 length-soft_bits : (bits : List ℕ) (n : ℕ) → length bits ≡ n → length (soft_bits bits) ≡ n
 length-soft_bits bits n e = length-map bits soft_bit_of ∙ e
 
--- ---- access and synchronisation bursts
+-- ---- `replay` recovers access and synchronisation bursts
 
--- `replay` can read the answer of `code` to a line, and its report gives back what the line means
+-- `replay` can read the answer of `code` to a line, and its report gives back the information in this line
 pub record ReplayRestores (meaning : CodeLine) (answer : List ℕ) : Type 0 where
   pub report : List ℕ
-  pub restored : IsReportOfCodeLine meaning report
+  pub restored : IsReplayReportOfCodeLine meaning report
   pub read : ReplayReads answer report
 
--- `replay` can read an answer of one line and gives back what it means if the report on this line is right
-restores-line : {m : CodeLine} (line report : List ℕ) (b : BurstLine) → IsReportOfCodeLine m report → IsLine line →
+-- if the answer of `code` is a single line, and `replay` reports the encoded information for this line, `replay` recovers the information
+restores-line : {m : CodeLine} (line report : List ℕ) (b : BurstLine) → IsReplayReportOfCodeLine m report → IsLine line →
     BurstLineMeans 0 line b → AnswersBurstLine replay_answers [] b report [] → ReplayRestores m (text_of_lines (line ∷ []))
 restores-line line report b restored whole means answers = record {
   report = report;
@@ -330,7 +332,7 @@ restores-sync info burst sent =
     (received.0, clean_sync info burst received.0 sent received.1, refl) (sync_whole burst b.right_length b.each).no_line_feed
     (sync_restored burst b.right_length b.each) (refl, (received.0, received.1, refl))
 
--- ---- blocks
+-- ---- `replay` recovers blocks
 
 bursts_text-lines : (bursts : List (List ℕ)) → bursts_text bursts ≡ text_of_lines (map normal_line bursts)
 bursts_text-lines [] = refl
@@ -348,7 +350,7 @@ length-all_soft_bits bursts each =
     All-map (λ soft. length soft ≡ 148) soft_bits bursts (All-weaker (AreBits 148) (λ burst. length (soft_bits burst) ≡ 148)
     (λ burst b. length-soft_bits burst 148 b.right_length) bursts each)
 
--- a burst that does not complete a block is held
+-- `replay` holds a burst that does not complete a block, and gives no answer to it
 hold_burst : (held : List (List ℤ)) (burst : List ℕ) (lines answers : List (List ℕ)) → AreBits 148 burst →
     length (held ++ soft_bits burst ∷ []) < 4 → Runs replay_rules (held ++ soft_bits burst ∷ []) lines answers [] →
     Runs replay_rules held (normal_line burst ∷ lines) ([] ∷ answers) []
@@ -356,7 +358,7 @@ hold_burst held burst lines answers b few runs =
     replay-first held (held ++ soft_bits burst ∷ []) [] (normal_line burst) [] lines answers (Normal (soft_bits burst))
     (normal_restored (length held) burst b.right_length b.each) (inl (few, refl, refl)) runs
 
--- `replay` answers the first three bursts of a block with no text, and the fourth with the report of the block
+-- `replay` gives no answer to the first three bursts of a block, and answers the fourth with the report on the block
 replay-block : (bursts : List (List ℕ)) (report : List ℕ) (r : Received) → length bursts ≡ 4 → All (AreBits 148) bursts →
     IsReceivedBlock (map soft_bits bursts) r → IsBlockReportText r report →
     Runs replay_rules [] (map normal_line bursts) ([] ∷ [] ∷ [] ∷ report ∷ []) []
@@ -389,7 +391,7 @@ restores-block octets tsc bursts sent =
       };
     }
 
--- ---- lines and whole inputs
+-- ---- `replay` recovers every line, and so the whole input
 
 restores-code_line : (line : List ℕ) (m : CodeLine) (answer : List ℕ) → CodeLineMeans line m → IsCodeCommandAnswer m answer →
     ReplayRestores m answer
@@ -402,10 +404,10 @@ restores-code_line line (C.Rach info bsic) answer means (burst, sent, text) =
 restores-code_line line (C.Sch info) answer means (burst, sent, text) =
     rw text (restores-sync info burst sent)
 
--- `replay` can read the answers of `code` to these lines, and its reports give back what the lines mean
+-- `replay` can read the answers of `code` to these lines, and its reports give back the information in the lines
 pub record ReplayRestoresAll (lines answers : List (List ℕ)) : Type 0 where
   pub reports : List ℕ
-  pub restored : AreReportsOfCodeLines lines reports
+  pub restored : AreReplayReportsOfCodeLines lines reports
   pub read : ReplayReads (concatenated_text answers) reports
 
 restores-all_lines : (lines answers : List (List ℕ)) (state : Unit {0}) → Runs code_command_rules tt lines answers state →
@@ -421,7 +423,7 @@ restores-all_lines (line ∷ lines) (y ∷ ys) state (mid, good, (m, means, a), 
     }
 restores-all_lines lines answers state none = absurd none
 
--- ## Tops: The clauses of `run` for the command that the words name follow from the clauses of that command.
+-- ## Tops: The clauses of `run` follow from the clauses of the command that the command-line words name.
 
 pub one_output : (command : Invocation) → HasValidOperands command → HasOneOutputPerInput command
 one_output Code fits = code_has_one_output
@@ -433,9 +435,9 @@ one_output (Link tsc channel) fits = link_has_one_output tsc channel fits
 one_output (Make n tsc) fits = one_generated_summary n tsc fits.2
 one_output (End side tsc) fits = end_has_one_output (spec_role_of side) tsc fits
 
--- in this module, r are the rules of the command that the words name, and `begun` is the first state of a run by them
+-- in this module, `r` are the rules of the command that the command-line words name, and `begun` is its state at the start of a run
 module _ {State : Type 0} (r : Rules State) (begun : State) (s : Invocation) (is : (P : Machine → Type 0) → P (machine r begun) →
-    HoldsForMachine s P)
+    HoldsForCommandMachine s P)
     (found : Option Invocation) (field : Invocation) (named : Some field ≡ found) (field_is : field ≡ s)
     (start : State) (starts : start ≡ begun) (status : Status) where
   same : (t : Invocation) → found ≡ Some t → s ≡ t
@@ -458,11 +460,11 @@ module _ {State : Type 0} (r : Rules State) (begun : State) (s : Invocation) (is
       subst (λ t. CommandEndsAsPrescribed t status left taken taken') (same t k) (is _
       (rw starts at (due determined)))
 
--- if a run of `replay` ends as its rules prescribe, it gives back what `code` was given: what `code` writes for an input without refused
--- lines is an input of `replay` without refused lines, and its reports give back what the lines mean
+-- if a run of `replay` ends as its rules prescribe, it recovers the information given to `code`: the output of `code` for an input without
+-- refused lines is an input of `replay` without refused lines, and the reports of `replay` give the information back
 prescribed-recovers_code : (status : Status) (left taken taken' : Option (List ℕ)) → EndsAsPrescribed replay_rules [] status left taken
     taken' →
-    ReplayRecoversCode status left taken taken'
+    ReplayRecoversCodeInput status left taken taken'
 prescribed-recovers_code status None taken taken' due = tt
 prescribed-recovers_code status (Some x) taken taken' due = λ z out limit.
     let good = good_from_output code_command_rules tt z x out in
@@ -481,7 +483,7 @@ prescribed-recovers_code status (Some x) taken taken' due = λ z out limit.
 
 pub recovers_code : (start : List (List ℤ)) → start ≡ [] → (status : Status) (left taken taken' : Option (List ℕ)) →
     (IsDeterministic replay_rules → EndsAsPrescribed replay_rules start status left taken taken') →
-    ReplayRecoversCode status left taken taken'
+    ReplayRecoversCodeInput status left taken taken'
 recovers_code start none status left taken taken' due =
     prescribed-recovers_code status left taken taken' (rw none at (due replay_is_determined))
 

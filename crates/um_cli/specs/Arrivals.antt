@@ -9,11 +9,11 @@ use Rattle.um_end.specs.um_block.declared.received.Received.{Received}
 use Rattle.um_end.specs.um_link.um_air.Air.{Block, AirState, Event, Answer, Refuses, Accepts, with_bits_inverted}
 use Rattle.um_make.specs.um_script.ScriptLines.{ScriptLineMeans}
 use Rattle.um_driver.specs.Rules.{Rules}
-use Rattle.um_session.specs.Sessions.{Session, IsEventStep, IsParsedLineStep, link_command_rules}
+use Rattle.um_session.specs.Sessions.{LinkSession, IsEventStep, IsParsedLineStep, link_command_rules}
 use Rattle.um_cli.specs.Headline.{IsMostLikelyWord}
 
 -- `report` is the report on the oldest block of `sender`, received with the bits at `places` inverted and decoded to a most likely word
-pub record IsMostLikelyArrival (state : AirState) (sender : Role) (places : List ℕ) (report : Received) : Type 0 where
+pub record IsArrivalWithMostLikelyWord (state : AirState) (sender : Role) (places : List ℕ) (report : Received) : Type 0 where
   pub block : Block
   pub later_blocks : List Block
   pub queue_front : queue_of sender state.queues ≡ block ∷ later_blocks
@@ -21,7 +21,7 @@ pub record IsMostLikelyArrival (state : AirState) (sender : Role) (places : List
 
 -- if the event delivers a block, the block is decoded to a most likely word
 abbrev pub ReceivesMostLikelyWord : (state : AirState) (event : Event) (received : Option Received) → Type 0
-ReceivesMostLikelyWord a (Deliver sender places) (Some r) = IsMostLikelyArrival a sender places r
+ReceivesMostLikelyWord a (Deliver sender places) (Some r) = IsArrivalWithMostLikelyWord a sender places r
 ReceivesMostLikelyWord a event received = Unit {0}
 
 abbrev pub ReportsMostLikelyWord : (state : AirState) (event : Event) (answer : Answer) → Type 0
@@ -29,16 +29,17 @@ ReportsMostLikelyWord a event (Refuses why) = Unit {0}
 ReportsMostLikelyWord a event (Accepts step) = ReceivesMostLikelyWord a event step.received
 
 -- the event is carried out as the rules of `link` prescribe, and a block that it delivers is decoded to a most likely word
-pub record IsStepWithMostLikelyWord (session : Session) (event : Event) (output : List ℕ) (after : Session) : Type 0 where
+pub record IsStepWithMostLikelyWord (session : LinkSession) (event : Event) (output : List ℕ) (after : LinkSession) : Type 0 where
   pub event_step : IsEventStep session event output after
   pub most_likely : ReportsMostLikelyWord session.air event event_step.answer
 
-abbrev pub IsMaxLikelihoodAnswerToLine : (session : Session) (meaning : Option Event) (output : List ℕ) (after : Session) → Type 0
+abbrev pub IsMaxLikelihoodAnswerToLine : (session : LinkSession) (meaning : Option Event) (output : List ℕ) (after : LinkSession) →
+    Type 0
 IsMaxLikelihoodAnswerToLine s None text after = IsParsedLineStep s None text after
 IsMaxLikelihoodAnswerToLine s (Some event) text after = IsStepWithMostLikelyWord s event text after
 
 -- the rules of `link`, with the further claim that each received block is decoded to a most likely word
-abbrev pub link_rules_with_ml_decoding : Rules Session
+abbrev pub link_rules_with_ml_decoding : Rules LinkSession
 link_rules_with_ml_decoding = record {
   fault = link_command_rules.fault;
   end_fault = link_command_rules.end_fault;

@@ -2,7 +2,7 @@
 -- bursts, and is accepted if and only if its CRC holds (this project's own rule).
 use Rattle.std.specs.Prelude.{ℕ, ℤ, ◌≡◌, ◌<◌, ◌⊎◌, List, [], ◌∷◌, ◌++◌, length}
 use Rattle.um_driver.specs.Rules.{Rules}
-use Rattle.um_end.specs.EndLines.{EndLineMeaning, TakesBurst, EndLineMeans}
+use Rattle.um_end.specs.EndLines.{EndCommandLineMeaning, TakesBurst, EndCommandLineMeans}
 use Rattle.um_end.specs.EndRuns.{EndCommandState, IsAnswerToFourBursts, IsParsedLineStep, end_command_rules}
 use Rattle.um_cli.specs.Headline.{IsMostLikelyWord}
 
@@ -19,7 +19,7 @@ IsMaxLikelihoodAnswerToBursts s bursts text after =
     ((length bursts < 4) × (text ≡ []) × (after ≡ record s { held_bursts = bursts })) ⊎ ((length bursts ≡ 4) ×
     IsMaxLikelihoodAnswerToFourBursts s bursts text after)
 
-abbrev pub IsMaxLikelihoodAnswerToLine : (state : EndCommandState) (meaning : EndLineMeaning) (output : List ℕ)
+abbrev pub IsMaxLikelihoodAnswerToLine : (state : EndCommandState) (meaning : EndCommandLineMeaning) (output : List ℕ)
     (after : EndCommandState) → Type 0
 IsMaxLikelihoodAnswerToLine s (TakesBurst soft) text after = IsMaxLikelihoodAnswerToBursts s (s.held_bursts ++ soft ∷ []) text after
 IsMaxLikelihoodAnswerToLine s meaning text after = IsParsedLineStep s meaning text after
@@ -29,6 +29,6 @@ abbrev pub end_rules_with_ml_decoding : Rules EndCommandState
 end_rules_with_ml_decoding = record {
   fault = end_command_rules.fault;
   end_fault = end_command_rules.end_fault;
-  Step = λ s line text after. (meaning : EndLineMeaning) × EndLineMeans s.role (length s.held_bursts) line meaning
+  Step = λ s line text after. (meaning : EndCommandLineMeaning) × EndCommandLineMeans s.role (length s.held_bursts) line meaning
       × IsMaxLikelihoodAnswerToLine s meaning text after;
 }

@@ -1,7 +1,7 @@
 -- For each block, `replay` reports a codeword that is at least as likely as any other, given the soft values read, and accepts its data if
 -- and only if its CRC holds (this project's own rule).
 use Rattle.std.specs.Prelude.{ℕ, ℤ, ◌≡◌, ◌≤ℤ◌, List, ◌++◌, length, map, take, MatchOption}
-use Rattle.um_end.specs.um_block.fire_code.Words.{IsXcchWord, IsRachWord, IsSchWord}
+use Rattle.um_end.specs.um_block.fire_code.Words.{IsXcchCodeword, IsRachCodeword, IsSchCodeword}
 use Rattle.um_end.specs.um_block.conv_code.Code.{encoding, IsCodeword}
 use Rattle.um_end.specs.um_block.conv_code.Likelihood.{likelihood}
 use Rattle.um_end.specs.um_block.interleave.Bursts.{IsInterleaved}
@@ -29,40 +29,40 @@ pub record IsMostLikelyWord (bursts : List (List ℤ)) (report : Received) : Typ
   pub deinterleaved : IsInterleaved soft (map coded_soft_bits bursts)
   pub max_likelihood : IsMaximumLikelihood soft report.u
   pub accepted : MatchOption report.accepted
-      (¬ IsXcchWord (take 224 report.u))
-      (λ octets. IsXcchWord (take 224 report.u) × (octets ≡ octets_of (take 184 report.u)))
+      (¬ IsXcchCodeword (take 224 report.u))
+      (λ octets. IsXcchCodeword (take 224 report.u) × (octets ≡ octets_of (take 184 report.u)))
 
 -- `report` describes a block that was received from `bursts` and decoded to a most likely word
-pub record IsMostLikelyBlock (bursts : List (List ℤ)) (report : List ℕ) : Type 0 where
+pub record IsBlockReportWithMostLikelyWord (bursts : List (List ℤ)) (report : List ℕ) : Type 0 where
   pub received : Received
   pub most_likely : IsMostLikelyWord bursts received
   pub text : IsBlockReportText received report
 
 -- `report` describes an access burst that was decoded to a most likely word, and was accepted if and only if its CRC holds for `bsic`
-pub record IsMostLikelyAccess (burst : List ℤ) (bsic report : List ℕ) : Type 0 where
+pub record IsAccessReportWithMostLikelyWord (burst : List ℤ) (bsic report : List ℕ) : Type 0 where
   pub received : ReceivedAccess
   pub max_likelihood : IsMaximumLikelihood (A.body burst) received.u
   pub accepted : MatchOption received.accepted
-      (¬ IsRachWord (take 14 received.u) bsic)
-      (λ info. IsRachWord (take 14 received.u) bsic × (info ≡ take 8 received.u))
+      (¬ IsRachCodeword (take 14 received.u) bsic)
+      (λ info. IsRachCodeword (take 14 received.u) bsic × (info ≡ take 8 received.u))
   pub text : report ≡ access_report_text bsic received
 
 -- `report` describes a synchronisation burst that was decoded to a most likely word, and was accepted if and only if its CRC holds
-pub record IsMostLikelySync (burst : List ℤ) (report : List ℕ) : Type 0 where
+pub record IsSyncReportWithMostLikelyWord (burst : List ℤ) (report : List ℕ) : Type 0 where
   pub received : ReceivedSync
   pub max_likelihood : IsMaximumLikelihood (S.first_coded_half burst ++ S.second_coded_half burst) received.u
   pub accepted : MatchOption received.accepted
-      (¬ IsSchWord (take 35 received.u))
-      (λ info. IsSchWord (take 35 received.u) × (info ≡ take 25 received.u))
+      (¬ IsSchCodeword (take 35 received.u))
+      (λ info. IsSchCodeword (take 35 received.u) × (info ≡ take 25 received.u))
   pub text : report ≡ sync_report_text received
 
 -- the answers of `replay`, with the further claim that the bursts are decoded to a most likely word
 abbrev pub replay_answers_with_ml_decoding : BurstAnswers
 replay_answers_with_ml_decoding = record {
-  block = IsMostLikelyBlock;
-  access = λ bsic burst. IsMostLikelyAccess burst bsic;
+  block = IsBlockReportWithMostLikelyWord;
+  access = λ bsic burst. IsAccessReportWithMostLikelyWord burst bsic;
   sync =
-      IsMostLikelySync;
+      IsSyncReportWithMostLikelyWord;
 }
 
 abbrev pub replay_rules_with_ml_decoding : Rules (List (List ℤ))

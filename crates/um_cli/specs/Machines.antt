@@ -23,30 +23,30 @@ abbrev pub machine : {State : Type 0} → Rules State → State → Machine
 machine {State} rules start = record { State = State; rules = rules; start = start }
 
 -- `Property` holds for the state machine of the command; `make` reads no lines, so nothing is claimed about it
-abbrev pub HoldsForMachine : (invocation : Invocation) (Property : (Machine → Type 0)) → Type 0
-HoldsForMachine Code P = P (machine code_command_rules tt)
-HoldsForMachine Replay P = P (machine replay_rules [])
-HoldsForMachine Show P = P (machine show_command_rules tt)
-HoldsForMachine Margin P = P (machine margin_command_rules [])
-HoldsForMachine Repair P = P (machine repair_command_rules tt)
-HoldsForMachine (Link tsc channel) P = P (machine link_command_rules (new_session tsc channel))
-HoldsForMachine (Make n tsc) P = Unit {0}
-HoldsForMachine (End side tsc) P = P (machine end_command_rules (E.initial_run (spec_role_of side) tsc))
+abbrev pub HoldsForCommandMachine : (invocation : Invocation) (Property : (Machine → Type 0)) → Type 0
+HoldsForCommandMachine Code P = P (machine code_command_rules tt)
+HoldsForCommandMachine Replay P = P (machine replay_rules [])
+HoldsForCommandMachine Show P = P (machine show_command_rules tt)
+HoldsForCommandMachine Margin P = P (machine margin_command_rules [])
+HoldsForCommandMachine Repair P = P (machine repair_command_rules tt)
+HoldsForCommandMachine (Link tsc channel) P = P (machine link_command_rules (new_session tsc channel))
+HoldsForCommandMachine (Make n tsc) P = Unit {0}
+HoldsForCommandMachine (End side tsc) P = P (machine end_command_rules (E.initial_end_command_state (spec_role_of side) tsc))
 
 -- for a command that reads lines, the status determines what the run has read and written
 abbrev pub IsRunOfCommand : (command : Invocation) (status : Status)
     (unread_before unread_after written_before written_after : Option (List ℕ)) → Type 0
 IsRunOfCommand command status left left' taken taken' =
-    HoldsForMachine command (λ m. IsRun m.rules m.start (λ _. Unit {0}) status left left' taken taken')
+    HoldsForCommandMachine command (λ m. IsRun m.rules m.start (λ _. Unit {0}) status left left' taken taken')
 
 -- a run of a command that reads lines ends and writes as its rules prescribe for the input, unless the source, the sink or an allocation
 -- fails
 abbrev pub CommandEndsAsPrescribed : (command : Invocation) (status : Status) (unread written_before written_after : Option (List ℕ))
     → Type 0
-CommandEndsAsPrescribed command status left taken taken' = HoldsForMachine command
+CommandEndsAsPrescribed command status left taken taken' = HoldsForCommandMachine command
     (λ m. EndsAsPrescribed m.rules m.start status left taken taken')
 
 -- every input of the command has exactly one output and one status; the session that `make` generates has exactly one summary
 abbrev pub HasOneOutputPerInput : Invocation → Type 0
 HasOneOutputPerInput (Make n tsc) = HasOneSummary tsc (generated_events n)
-HasOneOutputPerInput command = HoldsForMachine command (λ m. HasOneOutput m.rules m.start)
+HasOneOutputPerInput command = HoldsForCommandMachine command (λ m. HasOneOutput m.rules m.start)

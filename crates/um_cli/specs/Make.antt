@@ -13,7 +13,7 @@ use Rattle.um_session.specs.Courses.{RadioCounters}
 
 -- `summary` is the summary of the generated session; the radio encoded and decoded each of its blocks, and neither side has more messages
 -- acknowledged than the other has delivered
-pub record IsMakeSummary (message_count tsc : ℕ) (summary : Summary) (before after : RadioCounters) : Type 0 where
+pub record IsMakeCommandSummary (message_count tsc : ℕ) (summary : Summary) (before after : RadioCounters) : Type 0 where
   pub session : IsSummaryOfEvents tsc (generated_events message_count) summary
   pub acked_at_most_got : AckedAtMostReceived summary
   pub sent : after.sent_blocks ≡ counter_plus summary.sent_blocks before.sent_blocks
@@ -27,8 +27,8 @@ IsTextWritten text status taken taken' = ⊥
 
 -- the summary was written, or a prefix of it before the sink failed; or an allocation failed, nothing was written, and the radio's counters
 -- are unchanged
-abbrev pub IsMakeRun : (message_count tsc : ℕ) (status : Status) (written_before written_after : Option (List ℕ))
+abbrev pub IsMakeCommandRun : (message_count tsc : ℕ) (status : Status) (written_before written_after : Option (List ℕ))
     (before after : RadioCounters) → Type 0
-IsMakeRun n tsc NoMemory taken taken' before after = Keeps taken taken' × (after ≡ before)
-IsMakeRun n tsc status taken taken' before after =
-    (s : Summary) × IsMakeSummary n tsc s before after × IsTextWritten (summary_text n tsc s) status taken taken'
+IsMakeCommandRun n tsc NoMemory taken taken' before after = Keeps taken taken' × (after ≡ before)
+IsMakeCommandRun n tsc status taken taken' before after =
+    (s : Summary) × IsMakeCommandSummary n tsc s before after × IsTextWritten (summary_text n tsc s) status taken taken'

@@ -1,6 +1,6 @@
 -- `replay` recovers the information given to `code` from the bursts that `code` writes (this project's own rule).
 use Rattle.std.specs.Prelude.{ℕ, ◌≡◌, ◌≤◌, List, [], ◌∷◌, ◌++◌, length, Option, IfSome}
-use Rattle.um_end.specs.um_io.Lines.{IsDivided}
+use Rattle.um_end.specs.um_io.Lines.{IsDividedIntoLines}
 use Rattle.um_end.specs.um_io.Reading.{input_limit}
 use Rattle.um_end.specs.um_block.Restored.{IsErrorFreeBlock, IsErrorFreeAccess, IsErrorFreeSync}
 use Rattle.um_end.specs.um_block.declared.received.Received.{Received}
@@ -18,23 +18,25 @@ use Rattle.um_code.specs.Code.{code_command_rules}
 
 -- the report of `replay` on the undamaged bursts that `code` writes for a line: the encoded information, a CRC that holds, no wrong
 -- training bits, and the maximum path metric
-abbrev pub IsReportOfCodeLine : (line : CodeLine) (report : List ℕ) → Type 0
-IsReportOfCodeLine Skip report = report ≡ []
-IsReportOfCodeLine (Block tsc octets) report = (r : Received) × IsErrorFreeBlock octets tsc r × IsBlockReportText r report
-IsReportOfCodeLine (Rach info bsic) report = (r : ReceivedAccess) × IsErrorFreeAccess info bsic r × (report ≡ access_report_text bsic r)
-IsReportOfCodeLine (Sch info) report = (r : ReceivedSync) × IsErrorFreeSync info r × (report ≡ sync_report_text r)
+abbrev pub IsReplayReportOfCodeLine : (line : CodeLine) (report : List ℕ) → Type 0
+IsReplayReportOfCodeLine Skip report = report ≡ []
+IsReplayReportOfCodeLine (Block tsc octets) report = (r : Received) × IsErrorFreeBlock octets tsc r × IsBlockReportText r report
+IsReplayReportOfCodeLine (Rach info bsic) report = (r : ReceivedAccess) × IsErrorFreeAccess info bsic r
+    × (report ≡ access_report_text bsic r)
+IsReplayReportOfCodeLine (Sch info) report = (r : ReceivedSync) × IsErrorFreeSync info r × (report ≡ sync_report_text r)
 
 -- the concatenated reports of `replay` on the bursts that `code` writes for these lines
-abbrev pub AreReportsOfCodeLines : (lines : List (List ℕ)) (reports : List ℕ) → Type 0
-AreReportsOfCodeLines [] reports = reports ≡ []
-AreReportsOfCodeLines (line ∷ lines) reports =
+abbrev pub AreReplayReportsOfCodeLines : (lines : List (List ℕ)) (reports : List ℕ) → Type 0
+AreReplayReportsOfCodeLines [] reports = reports ≡ []
+AreReplayReportsOfCodeLines (line ∷ lines) reports =
     (meaning : CodeLine) × (report : List ℕ) × (rest : List ℕ) ×
-    CodeLineMeans line meaning × IsReportOfCodeLine meaning report × AreReportsOfCodeLines lines rest × (reports ≡ report ++ rest)
+    CodeLineMeans line meaning × IsReplayReportOfCodeLine meaning report × AreReplayReportsOfCodeLines lines rest
+    × (reports ≡ report ++ rest)
 
 -- if the input of `replay` is the output of `code` for lines without a refusal, `replay` reports the information in these lines, unless the
 -- source, the sink or an allocation fails
-abbrev pub ReplayRecoversCode : (status : Status) (unread written_before written_after : Option (List ℕ)) → Type 0
-ReplayRecoversCode status left taken taken' = IfSome left (λ x. (z : List ℕ) → IsOutput code_command_rules tt z Done x →
-    length x ≤ input_limit → (lines : List (List ℕ)) × (reports : List ℕ) × IsDivided z lines
-    × AreReportsOfCodeLines lines reports ×
+abbrev pub ReplayRecoversCodeInput : (status : Status) (unread written_before written_after : Option (List ℕ)) → Type 0
+ReplayRecoversCodeInput status left taken taken' = IfSome left (λ x. (z : List ℕ) → IsOutput code_command_rules tt z Done x →
+    length x ≤ input_limit → (lines : List (List ℕ)) × (reports : List ℕ) × IsDividedIntoLines z lines
+    × AreReplayReportsOfCodeLines lines reports ×
     WritesAsPrescribed status Done reports taken taken')

@@ -5,7 +5,7 @@ ghost use Rattle.um_driver.specs.Table.{IsRun, FailureCountsMatch, EndsAsPrescri
 ghost use Rattle.um_end.specs.um_link.um_air.Air.{initial_session};
 ghost use Rattle.um_end.specs.um_link.Abstraction.{Represents};
 ghost use Rattle.um_session.specs.Sessions.{new_session, link_command_rules};
-ghost use Rattle.um_session.specs.Promises.{IsLinkRun};
+ghost use Rattle.um_session.specs.Promises.{IsLinkCommandRun};
 
 use std::alloc::Global;
 use um_driver::{Sink, Source, Status, drive};
@@ -23,7 +23,7 @@ pub(crate) fn run_link<S: Source, K: Sink, R: Radio>(
 ) -> Status
     requires { tsc ≤ 7 }
 
-    ensures session { IsLinkRun tsc channel result
+    ensures session { IsLinkCommandRun tsc channel result
         (S.left input.old) (S.left input.new) (K.taken output.old) (K.taken output.new)
         (record { sent_blocks = R.sent radio.old; received_blocks = R.heard radio.old })
         (record { sent_blocks = R.sent radio.new; received_blocks = R.heard radio.new }) }
@@ -61,7 +61,7 @@ fn run_link_session<S: Source, K: Sink, R: Radio>(
     requires { Represents link.old.world.now (initial_session link.old.world.now.tsc link.old.world.now.channel) }
     ensures same_radio { link.new.radio.ghost_name ≡ link.old.radio.ghost_name }
 
-    ensures session { IsLinkRun link.old.world.now.tsc link.old.world.now.channel result
+    ensures session { IsLinkCommandRun link.old.world.now.tsc link.old.world.now.channel result
         (S.left input.old) (S.left input.new) (K.taken output.old) (K.taken output.new)
         (record { sent_blocks = R.sent link.old.radio.now; received_blocks = R.heard link.old.radio.now })
         (record { sent_blocks = R.sent link.new.radio.now; received_blocks = R.heard link.new.radio.now }) }

@@ -1,12 +1,12 @@
 //! Runs the `make` command: carries out the generated session, and writes its summary.
 ghost use Rattle.std.specs.Prelude.{◌≡◌, ◌≤◌, ℕ};
 ghost use Rattle.um_driver.specs.Table.{FailureCountsMatch};
-ghost use Rattle.um_cli.specs.Make.{IsMakeRun, IsTextWritten};
+ghost use Rattle.um_cli.specs.Make.{IsMakeCommandRun, IsTextWritten};
 ghost use Rattle.um_make.specs.Texts.{summary_text};
 
 use std::alloc::Global;
 use um_driver::{Sink, Status, Text, put_all};
-use um_make::{Summary, make, summary_lines};
+use um_make::{Summary, make, write_summary_lines};
 use um_session::Radio;
 
 /// Carries out the generated session of `message_count` messages with training sequence code `tsc`, and writes its summary.
@@ -23,7 +23,7 @@ pub(crate) fn run_make<K: Sink, R: Radio>(
     requires most { message_count ≤ 1000 }
     requires tsc { tsc ≤ 7 }
 
-    ensures made { IsMakeRun message_count tsc result (K.taken output.old) (K.taken output.new)
+    ensures made { IsMakeCommandRun message_count tsc result (K.taken output.old) (K.taken output.new)
         (record { sent_blocks = R.sent radio.old; received_blocks = R.heard radio.old })
         (record { sent_blocks = R.sent radio.new; received_blocks = R.heard radio.new }) }
 
@@ -42,7 +42,7 @@ fn write_summary<K: Sink>(message_count: u32, tsc: u8, summary: &Summary, output
     ensures cause { (read : ℕ) → FailureCountsMatch result read read (K.faults output.old) (K.faults output.new) }
 {
     let mut out = Text::new();
-    summary_lines(&mut out, message_count, tsc, summary);
+    write_summary_lines(&mut out, message_count, tsc, summary);
     match put_all(output, out.octets()) {
         Ok(()) => Status::Done,
         Err(_) => Status::WriteFault,

@@ -4,16 +4,16 @@ ghost use Rattle.um_driver.specs.Table.{IsRun, FailureCountsMatch};
 ghost use Rattle.um_cli.specs.Arrivals.{link_rules_with_ml_decoding};
 ghost use Rattle.um_cli.specs.EndAnswers.{end_rules_with_ml_decoding};
 ghost use Rattle.um_cli.specs.Headline.{replay_rules_with_ml_decoding};
-ghost use Rattle.um_cli.specs.Make.{IsMakeRun};
+ghost use Rattle.um_cli.specs.Make.{IsMakeCommandRun};
 ghost use Rattle.um_cli.specs.Machines.{IsRunOfCommand, CommandEndsAsPrescribed, HasOneOutputPerInput};
-ghost use Rattle.um_cli.specs.Restored.{ReplayRecoversCode};
+ghost use Rattle.um_cli.specs.Restored.{ReplayRecoversCodeInput};
 ghost use Rattle.um_cli.specs.Shapes.{command_of_words, HasValidOperands, UsesNoRadio};
-ghost use Rattle.um_session.specs.Promises.{IsLinkRun};
+ghost use Rattle.um_session.specs.Promises.{IsLinkCommandRun};
 ghost use Rattle.um_session.specs.Sessions.{new_session};
 ghost use Rattle.um_end.specs.lapdm_frame.declared.Channel.{Channel as ChannelOf};
 ghost use Rattle.um_end.specs.um_link.declared.events.End.{End as SideOf};
 ghost use Rattle.um_end.specs.um_link.Naming.{spec_role_of};
-ghost use Rattle.um_end.specs.EndRuns.{initial_run as idle_end};
+ghost use Rattle.um_end.specs.EndRuns.{initial_end_command_state as idle_end};
 
 use crate::link::run_link;
 use crate::make::run_make;
@@ -73,7 +73,7 @@ pub fn run<S: Source, K: Sink, R: Radio>(
         (S.left input.old) (S.left input.new) (K.taken output.old) (K.taken output.new) }
 
     // `replay` recovers the information given to `code` from the output of `code`.
-    ensures restores { command_of_words words.now ≡ Some Invocation.Replay → ReplayRecoversCode result
+    ensures restores { command_of_words words.now ≡ Some Invocation.Replay → ReplayRecoversCodeInput result
         (S.left input.old) (K.taken output.old) (K.taken output.new) }
 
     // If the status is `ReadFault`, the source has counted a failure; if it is `WriteFault`, the sink has. Otherwise, both counts are
@@ -84,7 +84,7 @@ pub fn run<S: Source, K: Sink, R: Radio>(
     // A run of `link` is a session whose blocks the radio encodes and decodes. The claims about sessions hold for all lines whose answers
     // were written at least in part.
     ensures session { (tsc : ℕ) (channel : ChannelOf) → command_of_words words.now ≡ Some (Invocation.Link tsc channel) →
-        IsLinkRun tsc channel result
+        IsLinkCommandRun tsc channel result
         (S.left input.old) (S.left input.new) (K.taken output.old) (K.taken output.new)
         (record { sent_blocks = R.sent radio.old; received_blocks = R.heard radio.old })
         (record { sent_blocks = R.sent radio.new; received_blocks = R.heard radio.new }) }
@@ -92,7 +92,7 @@ pub fn run<S: Source, K: Sink, R: Radio>(
     // `make` reads nothing, and writes the summary of the generated session, whose blocks the radio encodes and decodes.
     ensures unread { (n tsc : ℕ) → command_of_words words.now ≡ Some (Invocation.Make n tsc) → input.new ≡ input.old }
     ensures made { (n tsc : ℕ) → command_of_words words.now ≡ Some (Invocation.Make n tsc)
-        → IsMakeRun n tsc result (K.taken output.old) (K.taken output.new)
+        → IsMakeCommandRun n tsc result (K.taken output.old) (K.taken output.new)
         (record { sent_blocks = R.sent radio.old; received_blocks = R.heard radio.old })
         (record { sent_blocks = R.sent radio.new; received_blocks = R.heard radio.new }) }
 

@@ -149,13 +149,13 @@ fn message_count_of_word(word: &str) -> Option<u32>
     ensures fits { IfSome result (λ n. (1 ≤ n) × (n ≤ 1000)) }
 {
     match word.as_bytes() {
-        [first, ..] if *first >= b'1' => number_of_word(word),
+        [first, ..] if *first >= b'1' => parse_message_count(word),
         _ => None,
     }
 }
 
 /// The number that a word represents, if it is 1 to 1000. The word must not begin with a sign or a zero.
-fn number_of_word(word: &str) -> Option<u32>
+fn parse_message_count(word: &str) -> Option<u32>
     requires { 49 ≤ slice_index word.now 0 }
     ensures value { result ≡ message_count_of_word word.now }
     ensures fits { IfSome result (λ n. (1 ≤ n) × (n ≤ 1000)) }

@@ -1,14 +1,14 @@
 -- The command `code` has exactly one output for every input, since a line with a meaning has exactly one answer.
 use Rattle.{
   std.proofs.Common.{◌≡◌, ℕ, List, [], refl, sym, ap, ◌∙◌},
-  um_formats.specs.{declared.code.CodeLine.{CodeLine, TheVariants.{Skip, Block, Rach, Sch}}, CodeLines.{code_fault, CodeLineMeans}},
+  um_formats.specs.{declared.code.CodeLine.{CodeLine, TheVariants.{Skip, Block, Rach, Sch}}, CodeLines.{code_line_fault, CodeLineMeans}},
   um_formats.{specs.BurstTexts.{bursts_text, access_burst_text, sync_burst_text}, proofs.Lemmas.{one_code_meaning, can_be_sent}},
   um_block.proofs.Lemmas.{one_sent_block, one_access_burst, one_sync_burst, some_sent_block, some_access_burst, some_sync_burst},
   um_driver.{specs.{Rules.IsDeterministic, Laws.HasOneOutput}, proofs.Outputs.{stateless_is_determined, stateless_has_one_output}},
   um_code.specs.Code.{IsCodeCommandAnswer, code_command_rules},
 }
 
--- a line with a given meaning has at most one answer
+-- the command has at most one answer to a line with a given meaning
 same_answer : (m : CodeLine) (y y' : List ℕ) → IsCodeCommandAnswer m y → IsCodeCommandAnswer m y' → y ≡ y'
 same_answer Skip y y' a a' = a ∙ sym a'
 same_answer (Block tsc octets) y y' a a' =
@@ -19,9 +19,9 @@ same_answer (Sch info) y y' a a' =
     a.2 ∙ ap sync_burst_text (one_sync_burst info a.0 a'.0 a.1 a'.1) ∙ sym a'.2
 
 pub code_is_determined : IsDeterministic code_command_rules
-code_is_determined = stateless_is_determined code_fault CodeLineMeans IsCodeCommandAnswer one_code_meaning same_answer
+code_is_determined = stateless_is_determined code_line_fault CodeLineMeans IsCodeCommandAnswer one_code_meaning same_answer
 
--- every line that has a meaning has an answer
+-- the command has an answer to every line that has a meaning
 some_answer : (line : List ℕ) (m : CodeLine) → CodeLineMeans line m → (answer : List ℕ) × IsCodeCommandAnswer m answer
 some_answer line Skip means = ([], refl)
 some_answer line (Block tsc octets) means =
@@ -38,4 +38,4 @@ some_answer line (Sch info) means =
     (sync_burst_text sent.0, (sent.0, sent.1, refl))
 
 pub code_has_one_output : HasOneOutput code_command_rules tt
-code_has_one_output = stateless_has_one_output code_fault CodeLineMeans IsCodeCommandAnswer one_code_meaning same_answer some_answer
+code_has_one_output = stateless_has_one_output code_line_fault CodeLineMeans IsCodeCommandAnswer one_code_meaning same_answer some_answer

@@ -1,4 +1,4 @@
 pub use Rattle.um_lines.proofs as um_lines
--- other crates cite the lemmas of `Outputs` by this name
+-- other crates refer to the lemmas of `Outputs` by this name
 pub use Runs.Outputs
 pub mod Runs

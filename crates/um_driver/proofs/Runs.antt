@@ -1,26 +1,25 @@
--- A run: what it has read, what it has written, and the table of how it ends.
+-- Lemmas about a run of a command: what it has read, what it has written, and how it ends for each exit status.
 pub use Outputs.*
 pub mod Outputs
 use Rattle.{
-  std.{
-    proofs.{KnownBytes.{Appends-nil, Appends-trans, Consumes-nil, Consumes-trans}, lemmas.{Bool.cases_Bool, List.nil_from_length}},
-    specs.{Borrow.Bor, Io.KnownBytes.{Appends, Consumes, IsAtEnd, Keeps}},
-  },
+  std.proofs.{KnownBytes.{Appends-nil, Appends-trans, Consumes-nil, Consumes-trans}, lemmas.{Bool.cases_Bool, List.nil_from_length}},
+  std.specs.{Borrow.Bor, Io.KnownBytes.{Appends, Consumes, IsAtEnd, Keeps}},
   um_driver.specs.{
     Progress.{AreLinesRead, IsLastWriteResult, IsLineOutcome, IsPointOfRun, IsRunEnding, IsRunUnderway, SourceHasEnded},
-    Table.{EndsAsPrescribed, EndsInUnfinishedLine, IsReadFromSource, ReadsAtMostABuffer, SinkTakesPrefix, WritesAsPrescribed},
+    Table.{EndsAsPrescribed, EndsInUnfinishedLine, IsReadFromSource, ReadsAtMostOneBufferAhead, SinkTakesPrefix, WritesAsPrescribed},
     Writing.BuffersUnwrittenText,
   },
-  um_io.{
-    specs.{Next.{IsNextLineCall, IsReaderStep, ReturnsLine, ReturnsNoLine}, declared.lines.Next.Next},
-    specs.Reading.{IsResultReady, IsValidReader, NeedsMoreOctets, ReaderState, buffer_limit, new_reader},
+  um_io.specs.{
+    Next.{IsNextLineCall, IsReaderStep, ReturnsLine, ReturnsNoLine},
+    declared.lines.Next.Next,
+    Reading.{IsResultReady, IsValidReader, NeedsMoreOctets, ReaderState, buffer_limit, new_reader},
   },
 }
 use Rattle.um_io.specs.declared.lines.Next.TheVariants as next
 
--- ## ReadLemmas: What has been read: the lines that have been answered, and the octets that the reader still holds.
+-- ## ReadLemmas: What a run has read: the lines that the command has answered, and the octets that the reader still buffers.
 
--- after q is read, some octets remain in the source; if its octets are not known, nothing is known about these
+-- after the octets q are read, a list of octets remains in the source; if the octets of the source are unknown, so is this list
 rest_of : (left left' : Option (List ℕ)) (q : List ℕ) → Consumes left left' q →
     (rest : List ℕ) × IsReadFromSource left left' q rest × (SourceHasEnded left left' → rest ≡ [])
 rest_of None left' q h = ([], tt, λ _. refl)
@@ -37,14 +36,15 @@ SourceHasEnded-still None mid left' q h k e = tt
 SourceHasEnded-still (Some x) (Some y) (Some z) q h k e = sym k ∙ e
 SourceHasEnded-still left mid left' q h k e = absurd assumption
 
--- `AreLinesRead` remains true when more octets are read
-arrive : {q : List ℕ} {lines : List (List ℕ)} {r r' : ReaderState} {left mid left' : Option (List ℕ)} {next : Next} {came : List ℕ} →
+-- `AreLinesRead` still holds after the reader reads more octets
+arrive : {q : List ℕ} {lines : List (List ℕ)} {r r' : ReaderState} {left mid left' : Option
+    (List ℕ)} {next : Next} {came : List ℕ} →
     AreLinesRead q lines (r.held ++ r.excess) r.octet_count r.ended left mid → IsReaderStep r r' mid left' next came →
     AreLinesRead (q ++ came) lines (r.held ++ r.excess ++ came) r.octet_count r'.ended left left'
 arrive {r = r} u step = record {
   read = Consumes-trans _ _ _ _ _ u.read step.consumed;
   no_line_feed = u.no_line_feed;
-  accounts_for = elim u.accounts_for [
+  lines_account_for_octets = elim u.lines_account_for_octets [
     | inl (q_is, answered) ↦ inl (rw (q_is, append_assoc), answered)
     | inr (cut, none, ended, answered) ↦
         let (nil, still) = step.no_read_after_end ended in
@@ -60,13 +60,13 @@ arrive {r = r} u step = record {
 
 module _ {q : List ℕ} {lines : List (List ℕ)} {held : List ℕ} {answered : ℕ} {ended : Bool} {left left' : Option (List ℕ)}
     (u : AreLinesRead q lines held answered ended left left') where
-  -- unless the source has ended and nothing is held, the octets read are lines with line feeds, followed by the octets held
+  -- unless the source has ended and the buffer is empty, the octets read are complete lines, followed by the buffered octets
   read_is_lines_and_held : (held ≡ [] → ended ≡ true → ⊥) →
       (q ≡ text_of_lines lines ++ held) × (answered ≡ length (text_of_lines lines))
-  read_is_lines_and_held some = elim u.accounts_for [ inl whole ↦ whole | inr (_, none, e, _) ↦ absurd (some none e) ]
+  read_is_lines_and_held some = elim u.lines_account_for_octets [ inl whole ↦ whole | inr (_, none, e, _) ↦ absurd (some none e) ]
 
   size_of : length q ≡ answered + length held
-  size_of = elim u.accounts_for [
+  size_of = elim u.lines_account_for_octets [
     | inl (q_is, here) ↦ omega (arith, ap length q_is, here, length-append {A = ℕ})
     | inr (_, none, _, here) ↦ omega (arith, here, ap length none)
   ]
@@ -75,19 +75,27 @@ module _ {q : List ℕ} {lines : List (List ℕ)} {held : List ℕ} {answered : 
   bound_of = omega (arith, size_of)
 
   module _ (rest : List ℕ) (at_end : SourceHasEnded left left' → rest ≡ []) where
-    -- if the source has ended and nothing is held, the lines so far are all lines of the input
+    -- if the source has ended and the buffer is empty, the lines answered so far are all lines of the input
     whole_of : held ≡ [] → ended ≡ true → IsWholeInputRead q rest lines
     whole_of none e = record {
       nothing_left = at_end (u.at_end e);
       divided = record {
         no_line_feed = u.no_line_feed;
-        octets_split = elim u.accounts_for [ inl (q_is, _) ↦ inl (q_is ∙ rw (none, append-nil)) | inr (cut, _, _, _) ↦ inr cut ];
+        octets_split = elim u.lines_account_for_octets [
+          | inl (q_is, _) ↦ inl (q_is ∙ rw (none, append-nil))
+          | inr (
+            cut,
+            _,
+            _,
+            _,
+          ) ↦ inr cut
+        ];
       };
       limit = omega (arith, size_of, ap length none, u.in_range);
     }
 
     first_of : AreFirstLines q rest lines
-    first_of = elim u.accounts_for [
+    first_of = elim u.lines_account_for_octets [
       | inl (q_is, here) ↦ inl (held, begins_with u.no_line_feed q_is, omega arith)
       | inr (_, none, e, _) ↦ inr (whole_of none e)
     ]
@@ -103,14 +111,15 @@ answered_of (inr (l, _, _)) = ([], l)
 
 module _ {q : List ℕ} {lines : List (List ℕ)} {r r' : ReaderState} {all : List ℕ} {left left' : Option (List ℕ)}
     (u : AreLinesRead q lines all r.octet_count r'.ended left left') (valid : IsValidReader r') where
-  -- at the end of the source, a line is returned only if `all` contains some octets
+  -- at the end of the source, the reader returns a line only if the octets `all` that it has are not empty
   some_held : (line feed : List ℕ) → ReturnsLine r r' all line feed → all ≡ [] → r'.ended ≡ true → ⊥
   some_held line feed l none e =
       omega (arith, ap length none, ap length l.octets, length-append {A = ℕ})
 
-  -- the line that is returned is the next line among the octets read
+  -- the line that the reader returns is the next line among the octets read
   stands_next : (line : List ℕ) → HasLine r r' all line →
-      ((q ≡ text_of_lines lines ++ (line ++ 10 ∷ (r'.held ++ r'.excess))) × (r'.octet_count ≡ length (text_of_lines lines ++ line) + 1))
+      ((q ≡ text_of_lines lines ++ (line ++ 10 ∷ (r'.held ++ r'.excess)))
+      × (r'.octet_count ≡ length (text_of_lines lines ++ line) + 1))
       ⊎ ((q ≡ text_of_lines lines ++ line) × (0 < length line) × (r'.held ++ r'.excess ≡ []) × (r'.ended ≡ true)
       × (r'.octet_count ≡ length q))
   stands_next line (inl l) =
@@ -135,7 +144,7 @@ module _ {q : List ℕ} {lines : List (List ℕ)} {r r' : ReaderState} {all : Li
     next_line = record {
       read = u.read;
       no_line_feed = All-push IsLine lines line u.no_line_feed (answered_of h).1.no_line_feed;
-      accounts_for = elim (stands_next line h) [
+      lines_account_for_octets = elim (stands_next line h) [
         | inl (q_is, answered) ↦ inl (rw text-push q_is, rw length-text-push answered)
         | inr (q_is, some, none, e, answered) ↦
             inr (record { front = lines; last = line; lines_split = refl; octets_split = q_is; nonempty = some }, none, e, answered)
@@ -148,14 +157,14 @@ module _ {q : List ℕ} {lines : List (List ℕ)} {r r' : ReaderState} {all : Li
     line_judged : (rest : List ℕ) → (SourceHasEnded left left' → rest ≡ []) → IsNextLineProcessed q rest lines line
     line_judged rest at_end = elim (stands_next line h) [
       | inl (q_is, answered) ↦ record {
-        after_line = 10 ∷ (r'.held ++ r'.excess);
+        octets_after_line = 10 ∷ (r'.held ++ r'.excess);
         begins = begins_with u.no_line_feed q_is;
         no_line_feed = (answered_of h).1.no_line_feed;
         limit = omega arith;
         is_complete = inl (r'.held ++ r'.excess, refl, omega arith);
       }
       | inr (q_is, some, none, e, answered) ↦ record {
-        after_line = [];
+        octets_after_line = [];
         begins = begins_with u.no_line_feed (rw append-nil q_is);
         no_line_feed = (answered_of h).1.no_line_feed;
         limit = omega (arith, ap length q_is);
@@ -164,7 +173,8 @@ module _ {q : List ℕ} {lines : List (List ℕ)} {r r' : ReaderState} {all : Li
     ]
 
   module _ {stops : Bool} (h : ReturnsNoLine r r' all stops) where
-    -- if no line is returned while octets are held or the source has not ended, the octets read are the lines, then the octets held
+    -- if the reader returns no line while it buffers octets or the source has not ended, the octets read are the answered lines, then the
+    -- buffered octets
     held_next : (r'.held ++ r'.excess ≡ [] → r'.ended ≡ true → ⊥) →
         (q ≡ text_of_lines lines ++ (r'.held ++ r'.excess)) × (r'.octet_count ≡ length (text_of_lines lines))
     held_next some =
@@ -175,7 +185,7 @@ module _ {q : List ℕ} {lines : List (List ℕ)} {r r' : ReaderState} {all : Li
     long_judged rest long =
         let w = held_next (λ none _. omega (arith, long, ap length none, length-append {A = ℕ})) in
         record {
-          after_line = r'.excess;
+          octets_after_line = r'.excess;
           begins = begins_with u.no_line_feed w.0;
           no_line_feed = h.no_line_feed;
           limit = omega (arith, w.1, valid.limit, length-append {A = ℕ});
@@ -216,13 +226,13 @@ module _ {q : List ℕ} {lines : List (List ℕ)} {r r' : ReaderState} {all : Li
           ),
         )
 
--- if the reader could return its next result without reading, it read nothing
+-- if the reader can return its next result without a read from the source, it reads nothing
 nothing_read_if_ready : {r r' : ReaderState} {left left' : Option (List ℕ)} {next : Next} {came : List ℕ} →
     IsReaderStep r r' left left' next came → r.is_over ≡ false → IsResultReady r → came ≡ []
 nothing_read_if_ready step open_ (inl is_over) = cc is_over
 nothing_read_if_ready step open_ (inr answer) = elim step.read_if_needed [ inl needs ↦ absurd (answer needs) | inr none ↦ none ]
 
--- a reader fails only if it had to read: not if it could return its next result without reading
+-- a reader fails only if it must read from the source, and not if it can return its next result without a read
 failed_unready : {r r' : ReaderState} {left left' : Option (List ℕ)} {came : List ℕ} → IsValidReader r → IsValidReader r' →
     IsReaderStep r r' left left' next.Failed came → r.is_over ≡ false → IsResultReady r → ⊥
 failed_unready {r} {r'} valid valid' step open_ ready =
@@ -242,12 +252,13 @@ failed_unready {r} {r'} valid valid' step open_ ready =
           (record { no_line_feed = rw held needs.no_line_feed; in_limit = rw held needs.in_limit; excess = past; ended = ended })
     ]
 
--- ## Turns: How a run processes one line, before it writes the answer. The proof is by cases on what the reader of lines returns.
+-- ## Turns: How a run processes one line, before it writes the answer. The proof considers each result that the line reader can return.
 
--- `ReadsAtMostABuffer` remains true when more octets are written and more lines answered
-ReadsAtMostABuffer-more : {q y : List ℕ} {lines answers : List (List ℕ)} → ReadsAtMostABuffer q y lines answers → (w : List ℕ)
-    (lines' answers' : List (List ℕ)) → ReadsAtMostABuffer q (y ++ w) (lines ++ lines') (answers ++ answers')
-ReadsAtMostABuffer-more n w lines' answers' = record {
+-- `ReadsAtMostOneBufferAhead` remains true when more octets are written and more lines are answered
+ReadsAtMostOneBufferAhead-more : {q y : List ℕ} {lines answers : List (List ℕ)} → ReadsAtMostOneBufferAhead q y lines answers →
+    (w : List ℕ)
+    (lines' answers' : List (List ℕ)) → ReadsAtMostOneBufferAhead q (y ++ w) (lines ++ lines') (answers ++ answers')
+ReadsAtMostOneBufferAhead-more n w lines' answers' = record {
   answered_lines = n.answered_lines;
   later_lines = n.later_lines ++ lines';
   written = n.written;
@@ -261,10 +272,11 @@ ReadsAtMostABuffer-more n w lines' answers' = record {
   reads_little_ahead = n.reads_little_ahead;
 }
 
--- `ReadsAtMostABuffer` holds if the answers to all lines have been written
-ReadsAtMostABuffer-all : {q y rest : List ℕ} {lines answers : List (List ℕ)} → BeginsWithLines q lines rest →
-    length rest ≤ buffer_limit → length lines ≡ length answers → concatenated_text answers ≡ y → ReadsAtMostABuffer q y lines answers
-ReadsAtMostABuffer-all {rest = rest} {lines = lines} {answers = answers} begins room count written = record {
+-- `ReadsAtMostOneBufferAhead` holds if the answers to all lines are written and the octets after these lines fit in the buffer
+ReadsAtMostOneBufferAhead-all : {q y rest : List ℕ} {lines answers : List (List ℕ)} → BeginsWithLines q lines rest →
+    length rest ≤ buffer_limit → length lines ≡ length answers → concatenated_text answers ≡ y →
+    ReadsAtMostOneBufferAhead q y lines answers
+ReadsAtMostOneBufferAhead-all {rest = rest} {lines = lines} {answers = answers} begins room count written = record {
   answered_lines = lines;
   later_lines = [];
   written = answers;
@@ -282,22 +294,22 @@ module _ {State : Type 0} {r : Rules State} {a : State} {Represents : State → 
     {left mid left' taken taken' : Option (List ℕ)} {gathered : List ℕ}
     (u : IsRunUnderway r a Represents reading left mid taken taken' gathered) (ready : IsResultReady reading ⊎ (gathered ≡ [])) where
   module _ {next : Next} {came : List ℕ} (step : IsReaderStep reading reading' mid left' next came) where
-    -- when the source is read, the answers to all earlier lines have been written
-    near_now : ReadsAtMostABuffer (u.point.input_read ++ came) u.point.output u.point.lines u.point.answers
+    -- after a read from the source, the reader is still at most one buffer ahead of the output
+    near_now : ReadsAtMostOneBufferAhead (u.point.input_read ++ came) u.point.output u.point.lines u.point.answers
     near_now = elim ready [
       | inl answer ↦ stays (nothing_read_if_ready step u.not_stopped answer)
-      | inr none ↦ elim u.point.reads.accounts_for [
-        | inl (q_is, _) ↦ ReadsAtMostABuffer-all
+      | inr none ↦ elim u.point.reads.lines_account_for_octets [
+        | inl (q_is, _) ↦ ReadsAtMostOneBufferAhead-all
             (begins_with_more came (begins_with u.point.reads.no_line_feed q_is)) step.fits_buffer
             (Runs-length r _ _ _ _ u.point.runs) (u.output ∙ rw (none, append-nil))
         | inr (_, _, ended, _) ↦ stays (step.no_read_after_end ended).0
       ]
     ]
       where
-        stays : came ≡ [] → ReadsAtMostABuffer (u.point.input_read ++ came) u.point.output u.point.lines u.point.answers
+        stays : came ≡ [] → ReadsAtMostOneBufferAhead (u.point.input_read ++ came) u.point.output u.point.lines u.point.answers
         stays none = rw (none, append-nil) u.point.reads_little_ahead
 
-    -- the point that the run reaches when the octets `came` are read
+    -- the point that the run reaches when the reader reads the octets `came`
     abbrev now : IsPointOfRun r a (reading.held ++ reading.excess ++ came) reading.octet_count reading.line_count reading'.ended left left'
         taken taken'
     now = record {
@@ -307,16 +319,16 @@ module _ {State : Type 0} {r : Rules State} {a : State} {Represents : State → 
       answers = u.point.answers;
       state = u.point.state;
       reads = arrive u.point.reads step;
-      number_counts_lines = u.point.number_counts_lines;
+      line_count_matches_lines = u.point.line_count_matches_lines;
       written = u.point.written;
       runs = u.point.runs;
       reads_little_ahead = near_now;
     }
 
-    -- the run ends with this status and has this text still to write
+    -- the run ends with `status` once it has written the pending output and then `text`
     ending : {Stands' : State → Type 0} {status : Status} {text : List ℕ} → Stands' u.point.state →
         ((rest : List ℕ) → (SourceHasEnded left left' → rest ≡ []) →
-        InputHasStatus r status (u.point.input_read ++ came) rest u.point.lines u.point.state text) →
+        InputJustifiesStatus r status (u.point.input_read ++ came) rest u.point.lines u.point.state text) →
         IsRunEnding r a Stands' status left left' taken taken' gathered text
     ending represents ends = record {
       held = reading.held ++ reading.excess ++ came;
@@ -326,10 +338,10 @@ module _ {State : Type 0} {r : Rules State} {a : State} {Represents : State → 
       point = now;
       represents = represents;
       output = u.output;
-      input_has_status = ends;
+      input_justifies_status = ends;
     }
 
-  -- the run is still underway after the command answers a line
+  -- the run continues after the command answers a line, and the answer is added to the pending output
   pub line_answered : {Stands' : State → Type 0} {line : Bor (List ℕ)} {text : List ℕ} →
       IsNextLineCall reading mid left' (next.Line line) reading' →
       ((b : State) → Represents b → (c : State) × (r.fault b line.now ≡ None) × r.Step b line.now text c × Stands' c) →
@@ -347,11 +359,11 @@ module _ {State : Type 0} {r : Rules State} {a : State} {Represents : State → 
           answers = at.answers ++ text ∷ [];
           state = state;
           reads = next_line at.reads n.valid line.now step.outcome;
-          number_counts_lines = omega (arith, l.line_count, at.number_counts_lines, length-append at.lines (line.now ∷ []));
+          line_count_matches_lines = omega (arith, l.line_count, at.line_count_matches_lines, length-append at.lines (line.now ∷ []));
           written = at.written;
           runs = Runs-append r a at.state state at.lines (line.now ∷ []) at.answers (text ∷ []) at.runs
               (state, record { in_limit = l.in_limit; no_fault = none }, answer, refl);
-          reads_little_ahead = rw append-nil at (ReadsAtMostABuffer-more at.reads_little_ahead [] (line.now ∷ []) (text ∷ []));
+          reads_little_ahead = rw append-nil at (ReadsAtMostOneBufferAhead-more at.reads_little_ahead [] (line.now ∷ []) (text ∷ []));
         };
         represents = represents;
         output = joined-append at.answers (text ∷ []) ∙ rw (u.output, append-nil, append_assoc);
@@ -360,7 +372,8 @@ module _ {State : Type 0} {r : Rules State} {a : State} {Represents : State → 
       }
 
   pub line_refused : {Stands' : State → Type 0} {line : Bor (List ℕ)} {text text' : List ℕ} {number : ℕ} {fault : LineFault} →
-      IsNextLineCall reading mid left' (next.Line line) reading' → number ≡ reading'.line_count → text ≡ refused_text number fault →
+      IsNextLineCall reading mid left' (next.Line line) reading' → number ≡ reading'.line_count →
+      text ≡ refused_text number fault →
       ((b : State) → Represents b → (r.fault b line.now ≡ Some fault) × (text' ≡ []) × Stands' b) →
       IsRunEnding r a Stands' BadInput left left' taken taken' gathered text
   line_refused {line = line} n number_is text_is answers =
@@ -370,10 +383,11 @@ module _ {State : Type 0} {r : Rules State} {a : State} {Represents : State → 
       ending step represents (λ rest at_end. (
         _,
         inl (line.now, line_judged (now step).reads n.valid line.now step.outcome rest at_end, inr (l.in_limit, reason)),
-        text_is ∙ rw (number_is, l.line_count, u.point.number_counts_lines),
+        text_is ∙ rw (number_is, l.line_count, u.point.line_count_matches_lines),
       ))
 
-  pub end_good : {reason : Option LineFault} {text : List ℕ} → IsNextLineCall reading mid left' next.End reading' → reason ≡ None →
+  pub end_good : {reason : Option LineFault} {text : List ℕ} → IsNextLineCall reading mid left' next.End reading' →
+      reason ≡ None →
       text ≡ [] → ((b : State) → Represents b → reason ≡ r.end_fault b) →
       IsRunEnding r a Represents Done left left' taken taken' gathered text
   end_good n none text_is says =
@@ -392,7 +406,7 @@ module _ {State : Type 0} {r : Rules State} {a : State} {Represents : State → 
       ending step u.represents (λ rest at_end. (
         _,
         inr (whole_of (now step).reads rest at_end none_held ended, sym (says u.point.state u.represents) ∙ some),
-        text_is ∙ rw (number_is, h.line_count, u.point.number_counts_lines),
+        text_is ∙ rw (number_is, h.line_count, u.point.line_count_matches_lines),
       ))
 
   pub long_refused : {text : List ℕ} {number : ℕ} → IsNextLineCall reading mid left' next.Long reading' →
@@ -404,7 +418,7 @@ module _ {State : Type 0} {r : Rules State} {a : State} {Represents : State → 
       ending step u.represents (λ rest at_end. (
         Long,
         inl (reading'.held, long_judged (now step).reads n.valid h rest long, inl (long, refl)),
-        text_is ∙ rw (number_is, h.line_count, u.point.number_counts_lines),
+        text_is ∙ rw (number_is, h.line_count, u.point.line_count_matches_lines),
       ))
 
   pub ends_too_long : {text : List ℕ} → IsNextLineCall reading mid left' next.TooMany reading' → text ≡ [] →
@@ -424,12 +438,11 @@ module _ {State : Type 0} {r : Rules State} {a : State} {Represents : State → 
         elim ready [ inl answer ↦ absurd (failed_unready u.valid n.valid step u.not_stopped answer) | inr none ↦ none ],
       )
 
--- ## AfterWrites: The state of a run after a write. The table of `RunEndsWithStatus` holds whether all of the text was written or only a
--- prefix of it.
+-- ## AfterWrites: The state of a run after a write. `RunEndsWithStatus` holds whether the whole text or only a prefix of it was written.
 
 module _ {State : Type 0} (r : Rules State) (q more y text : List ℕ) (lines answers : List (List ℕ)) (b : State) where
-  -- a run that wrote all answers and the text after them satisfies the row of the table for its status
-  full_row : (status : Status) → InputHasStatus r status q more lines b text → y ≡ concatenated_text answers ++ text →
+  -- a run that has written all answers and the text after them satisfies `RunEndsWithStatus` for its status
+  full_row : (status : Status) → InputJustifiesStatus r status q more lines b text → y ≡ concatenated_text answers ++ text →
       RunEndsWithStatus r status q more y lines answers [] b
   full_row WriteFault none e = absurd none
   full_row NoMemory none e = absurd none
@@ -438,7 +451,7 @@ module _ {State : Type 0} (r : Rules State) (q more y text : List ℕ) (lines an
 
 module _ {State : Type 0} {r : Rules State} {a : State} {held : List ℕ} {answered number : ℕ} {ended : Bool}
     {left left' taken taken' : Option (List ℕ)} where
-  -- the point that a run reaches when it writes more octets, w
+  -- the point that a run reaches when it writes the further octets w
   abbrev after_write : {mid : Option (List ℕ)} → IsPointOfRun r a held answered number ended left left' taken mid → (w : List ℕ) →
       Appends mid taken' w → IsPointOfRun r a held answered number ended left left' taken taken'
   after_write at w written = record {
@@ -448,10 +461,10 @@ module _ {State : Type 0} {r : Rules State} {a : State} {held : List ℕ} {answe
     answers = at.answers;
     state = at.state;
     reads = at.reads;
-    number_counts_lines = at.number_counts_lines;
+    line_count_matches_lines = at.line_count_matches_lines;
     written = Appends-trans _ _ _ _ _ at.written written;
     runs = at.runs;
-    reads_little_ahead = rw (append-nil, append-nil) at (ReadsAtMostABuffer-more at.reads_little_ahead w [] []);
+    reads_little_ahead = rw (append-nil, append-nil) at (ReadsAtMostOneBufferAhead-more at.reads_little_ahead w [] []);
   }
 
   module _ (at : IsPointOfRun r a held answered number ended left left' taken taken') where
@@ -462,12 +475,13 @@ module _ {State : Type 0} {r : Rules State} {a : State} {held : List ℕ} {answe
     at_end = (rest_of _ _ _ at.reads.read).2
 
     module _ {Represents : State → Type 0} {status : Status} (represents : Represents at.state) where
-      -- `IsRun` holds if the answers are split into those of which at least one octet was written and the others
+      -- a run satisfies `IsRun` if its answers consist of those that were written at least in part and those that were not written at all
       run_in_two : (lines further answers unwritten : List (List ℕ)) (mid : State) → Runs r a lines answers mid →
           Runs r mid further unwritten at.state → at.lines ≡ lines ++ further → at.answers ≡ answers ++ unwritten →
-          AllAnswersHaveStarted at.output answers → RunEndsWithStatus r status at.input_read rest at.output lines answers further mid →
+          AllAnswersAtLeastPartlyWritten at.output answers →
+          RunEndsWithStatus r status at.input_read rest at.output lines answers further mid →
           IsRun r a Represents status left left' taken taken'
-      run_in_two lines further answers unwritten mid runs unwritten_run lines_split answers_split reached table_row = record {
+      run_in_two lines further answers unwritten mid runs unwritten_lines_answered lines_split answers_split reached table_row = record {
         input_read = at.input_read;
         unread = rest;
         output = at.output;
@@ -482,21 +496,21 @@ module _ {State : Type 0} {r : Rules State} {a : State} {held : List ℕ} {answe
         read_bound = bound_of at.reads;
         first_lines = rw (← lines_split) (first_of at.reads rest at_end);
         runs = runs;
-        unwritten_run = unwritten_run;
+        unwritten_lines_answered = unwritten_lines_answered;
         represents = represents;
-        answers_started = reached;
+        answers_at_least_partly_written = reached;
         reads_little_ahead = rw (lines_split, answers_split) at at.reads_little_ahead;
         ends_with_status = table_row;
       }
 
-      -- `IsRun` holds for a run that has written all answers and some text after them
+      -- a run that has written all answers and some text after them satisfies `IsRun`
       ends_after_answers : (part : List ℕ) → at.output ≡ concatenated_text at.answers ++ part →
           RunEndsWithStatus r status at.input_read rest at.output at.lines at.answers [] at.state →
           IsRun r a Represents status left left' taken taken'
       ends_after_answers part output_split = run_in_two at.lines [] at.answers [] at.state at.runs refl (rw append-nil)
           (rw append-nil) (inl (part, output_split))
 
-    -- a run that has written a prefix of the answers can end with a write fault
+    -- a run that has written only a prefix of the answers satisfies `IsRun` with the status `WriteFault`
     ends_within_answers : {Represents : State → Type 0} → Represents at.state → (more : List ℕ) →
         concatenated_text at.answers ≡ at.output ++ more → IsRun r a Represents WriteFault left left' taken taken'
     ends_within_answers represents more e =
@@ -506,7 +520,7 @@ module _ {State : Type 0} {r : Rules State} {a : State} {held : List ℕ} {answe
 
 module _ {State : Type 0} {r : Rules State} {a : State} {Represents : State → Type 0} {left left' taken mid taken' : Option (List ℕ)}
     {gathered : List ℕ} where
-  -- the run is still underway after a prefix of the gathered octets is written and the reader is unchanged
+  -- a run continues after it writes a prefix of the pending output, if the reader is unchanged
   pub underway_gathers : {reading reading' : ReaderState} {gathered' : List ℕ} →
       IsRunUnderway r a Represents reading left left' taken mid gathered →
       BuffersUnwrittenText gathered gathered' mid taken' → reading' ≡ reading →
@@ -519,22 +533,22 @@ module _ {State : Type 0} {r : Rules State} {a : State} {Represents : State → 
     not_stopped = u.not_stopped;
   })
 
-  -- if the sink fails after a prefix of the gathered octets, the run ends with a write fault
+  -- if the sink fails after it has taken a prefix of the pending output, the run ends with `WriteFault`
   pub underway_cut : {reading : ReaderState} → IsRunUnderway r a Represents reading left left' taken mid gathered →
       SinkTakesPrefix mid taken' gathered → IsRun r a Represents WriteFault left left' taken taken'
   underway_cut u (w, (more, gathered_is), written) =
       ends_within_answers (after_write u.point w written) u.represents more (u.output ∙ rw (gathered_is, append_assoc))
 
   module _ {status : Status} {text : List ℕ} (h : IsRunEnding r a Represents status left left' taken mid gathered text) where
-    -- if the gathered octets and the text are written in full, the run ends with its own status
+    -- if the pending output and the final text are written in full, the run ends with its own status
     ending_taken : Appends mid taken' (gathered ++ text) → IsRun r a Represents status left left' taken taken'
     ending_taken written =
         let at = after_write h.point (gathered ++ text) written in
         let split : at.output ≡ concatenated_text at.answers ++ text = rw (h.output, append_assoc) in
         ends_after_answers at h.represents text split
-        (full_row r _ _ _ text _ _ _ status (h.input_has_status (rest at) (at_end at)) split)
+        (full_row r _ _ _ text _ _ _ status (h.input_justifies_status (rest at) (at_end at)) split)
 
-    -- if the sink fails after a prefix of the gathered octets and the text, the run ends with a write fault
+    -- if the sink fails after it has taken a prefix of the pending output and the final text, the run ends with `WriteFault`
     ending_cut : SinkTakesPrefix mid taken' (gathered ++ text) → IsRun r a Represents WriteFault left left' taken taken'
     ending_cut (w, (more, text_is), written) =
         let at = after_write h.point w written in
@@ -542,15 +556,16 @@ module _ {State : Type 0} {r : Rules State} {a : State} {Represents : State → 
         elim (prefix_of_joined at.output more (concatenated_text at.answers) text whole) [
           | inl (more', e) ↦ ends_within_answers at h.represents more' e
           | inr (part, front, split) ↦ ends_after_answers at h.represents part split
-              (inr (status, text, part, h.input_has_status (rest at) (at_end at), refl, front, split))
+              (inr (status, text, part, h.input_justifies_status (rest at) (at_end at), refl, front, split))
         ]
 
     ending_concludes : (result : Status) → ((result ≡ status) × Appends mid taken' (gathered ++ text))
-        ⊎ ((result ≡ WriteFault) × SinkTakesPrefix mid taken' (gathered ++ text)) → IsRun r a Represents result left left' taken taken'
+        ⊎ ((result ≡ WriteFault) × SinkTakesPrefix mid taken' (gathered ++ text)) →
+        IsRun r a Represents result left left' taken taken'
     ending_concludes result (inl (e, written)) = rw e (ending_taken written)
     ending_concludes result (inr (e, written)) = rw e (ending_cut written)
 
--- the case where processing a line ends the run: the last write determines the final status
+-- if processing a line ends the run, the result of the last write determines the final status
 pub run_ends : {State : Type 0} (r : Rules State) (a : State) (Represents : State → Type 0) (reading : ReaderState)
     (left left' taken mid taken' : Option (List ℕ)) (gathered text : List ℕ) (status result : Status) →
     IsLineOutcome r a Represents reading left left' taken mid gathered text (Some status) →
@@ -559,7 +574,7 @@ run_ends r a Represents reading left left' taken mid taken' gathered text ReadFa
     rw e (ending_taken ending (rw (kept, none) (Appends-nil mid)))
 run_ends r a Represents reading left left' taken mid taken' gathered text _ result ending written = ending_concludes ending result written
 
--- the point of a run at which nothing has been read or written
+-- the point of a run before anything has been read or written
 abbrev before_any_read : {State : Type 0} (r : Rules State) (a : State) (left taken : Option (List ℕ)) →
     IsPointOfRun r a [] 0 0 false left left taken taken
 before_any_read r a left taken = record {
@@ -571,15 +586,15 @@ before_any_read r a left taken = record {
   reads = record {
     read = Consumes-nil left;
     no_line_feed = All-nil IsLine;
-    accounts_for = inl (refl, refl);
+    lines_account_for_octets = inl (refl, refl);
     in_range = omega arith;
     fits_buffer = omega arith;
     at_end = λ e. cc e;
   };
-  number_counts_lines = refl;
+  line_count_matches_lines = refl;
   written = Appends-nil taken;
   runs = refl;
-  reads_little_ahead = ReadsAtMostABuffer-all {rest = []} (begins_with (All-nil IsLine) refl) (omega arith)
+  reads_little_ahead = ReadsAtMostOneBufferAhead-all {rest = []} (begins_with (All-nil IsLine) refl) (omega arith)
       refl refl;
 }
 
@@ -599,15 +614,16 @@ pub without_memory : {State : Type 0} (r : Rules State) (a : State) (Represents 
 without_memory r a Represents left taken represents =
     ends_after_answers (before_any_read r a left taken) represents [] refl (refl, refl, refl, refl)
 
--- `IsLastWriteResult` holds if the whole text was written, or a prefix of it before the sink failed
-pub last_written : (status : Status) (text : List ℕ) (taken taken' : Option (List ℕ)) (result : Status) → (status ≡ ReadFault → ⊥) →
+-- `IsLastWriteResult` holds if the whole text was written, or if the sink failed after it had taken a prefix of the text
+pub last_written : (status : Status) (text : List ℕ) (taken taken' : Option (List ℕ)) (result : Status) →
+    (status ≡ ReadFault → ⊥) →
     ((result ≡ status) × Appends taken taken' text) ⊎ ((result ≡ WriteFault) × SinkTakesPrefix taken taken' text) →
     IsLastWriteResult status text taken taken' result
 last_written ReadFault text taken taken' result unlike written = absurd (unlike refl)
 last_written _ text taken taken' result unlike written = written
 
--- ## TableLemmas: The table of a run determines how the run ends for the whole input: the lines that it answered are the first lines of the
--- input, so what it wrote is the beginning of the output.
+-- ## TableLemmas: `RunEndsWithStatus` determines how the run ends for the whole input: the lines that the run answered are the first lines
+-- of the input, so what it wrote is the beginning of the prescribed output.
 
 IsPrefixOf-append : (x y z : List ℕ) → IsPrefixOf x y → IsPrefixOf y z → IsPrefixOf x z
 IsPrefixOf-append x y z (u, e) (v, f) = (u ++ v, rw (f, e, append_assoc))
@@ -619,7 +635,7 @@ Keeps-nil (Some xs) (Some ys) h = rw append-nil at h
 
 module _ {State : Type 0} (r : Rules State) (det : IsDeterministic r) (a : State) (q rest : List ℕ) (due : Status) (z : List ℕ)
     (out : IsOutput r a (q ++ rest) due z) where
-  -- the output begins with the answers to the first lines
+  -- the prescribed output begins with the answers to the first lines of the input
   begins_with_answers : (b : State) (lines answers : List (List ℕ)) → Runs r a lines answers b → AreFirstLines q rest lines →
       IsPrefixOf (concatenated_text answers) z
   begins_with_answers b lines answers runs first =
@@ -630,19 +646,19 @@ module _ {State : Type 0} (r : Rules State) (det : IsDeterministic r) (a : State
 
   module _ (b : State) (lines answers : List (List ℕ)) (runs : Runs r a lines answers b) where
     -- the status and the output after these lines are those that the rules prescribe for the whole input
-    due_is : (s : Status) (text : List ℕ) → (s ≡ ReadFault → ⊥) → InputHasStatus r s q rest lines b text →
+    due_is : (s : Status) (text : List ℕ) → (s ≡ ReadFault → ⊥) → InputJustifiesStatus r s q rest lines b text →
         (s ≡ due) × (concatenated_text answers ++ text ≡ z)
     due_is s text unlike ends = output_unique r det _ _ _ _ _ _ (ends_output r _ _ _ _ runs _ _ s _ unlike ends) out
 
-    -- the output begins with the answers to these lines and the text after them
-    ends_front : (s : Status) (text : List ℕ) → AreFirstLines q rest lines → InputHasStatus r s q rest lines b text →
+    -- the prescribed output begins with the answers to these lines and the text that follows the answers
+    ends_front : (s : Status) (text : List ℕ) → AreFirstLines q rest lines → InputJustifiesStatus r s q rest lines b text →
         IsPrefixOf (concatenated_text answers ++ text) z
     ends_front ReadFault text first (_, _, none) = rw (none, append-nil) (begins_with_answers _ _ _ runs first)
     ends_front s text first ends = ([], rw append-nil (sym (due_is s text (λ e. cc e) ends).1))
 
     module _ (c : State) (y : List ℕ) (further unwritten : List (List ℕ)) (taken taken' : Option (List ℕ))
         (ahead : Runs r b further unwritten c) (first : AreFirstLines q rest (lines ++ further)) (written : Appends taken taken' y) where
-      -- each row of the table agrees with the output that the rules prescribe
+      -- for each status, a run that satisfies `RunEndsWithStatus` writes what the rules prescribe
       agrees : (s : Status) → RunEndsWithStatus r s q rest y lines answers further b → WritesAsPrescribed s due z taken taken'
       agrees ReadFault (text, ends, none, split) =
           (y, rw split (ends_front ReadFault text (rw (none, append-nil) at first) ends), written)
@@ -657,11 +673,11 @@ module _ {State : Type 0} (r : Rules State) (det : IsDeterministic r) (a : State
       agrees BadWords table_row = absurd table_row
       agrees s row = let (due, z_is) = due_is s row.0 (λ e. cc e) row.1 in (due, rw (row.3, z_is) at written)
 
--- a run that satisfies the table ends as the rules prescribe for its whole input
+-- a run that satisfies `IsRun` ends as the rules prescribe for its whole input
 pub EndsAsPrescribed-from_run : {State : Type 0} {r : Rules State} {a : State} {Represents : State → Type 0} {status : Status}
     (left : Option (List ℕ)) {left' taken taken' : Option (List ℕ)} → IsRun r a Represents status left left' taken taken' →
     IsDeterministic r → EndsAsPrescribed r a status left taken taken'
 EndsAsPrescribed-from_run None run det = tt
 EndsAsPrescribed-from_run {r = r} {a = a} {status = status} (Some x) run det = λ due z out.
     agrees r det a run.input_read run.unread due z (rw run.read.0 at out) _ _ _ run.runs _ _
-    _ _ _ _ run.unwritten_run run.first_lines run.written status run.ends_with_status
+    _ _ _ _ run.unwritten_lines_answered run.first_lines run.written status run.ends_with_status

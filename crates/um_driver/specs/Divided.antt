@@ -1,4 +1,4 @@
--- Octets that begin with complete lines.
+-- How octets begin with complete lines.
 use Rattle.std.specs.Prelude.{ℕ, ◌≡◌, List, ◌++◌, All}
 use Rattle.um_io.specs.Lines.{IsLine, text_of_lines}
 

@@ -40,18 +40,19 @@ pub record AreProcessedLines (input : List ℕ) (judged : List (List ℕ)) (ende
   pub in_limit : AreOctetsWithinLimit input octets ended
   pub begins : BeginsWithLines octets lines last
   pub no_line_feed : IsLine last
-  pub processed_split : ((judged ≡ lines) × LastLineIsNotProcessed last ended)
+  pub last_line_processed_or_not : ((judged ≡ lines) × LastLineIsNotProcessed last ended)
       ⊎ ((judged ≡ lines ++ last ∷ []) × LastLineIsProcessed last ended)
 
 -- the line is not refused, the output begins with its answer, and `Then` holds for the next state and the rest of the output
-pub record AnswersLineThen {State : Type 0} (rules : Rules State) (state : State) (line : List ℕ) (Then : State → List ℕ →
+pub record AnswersLineThenRestOfOutput {State : Type 0} (rules : Rules State) (state : State) (line : List ℕ) (Then : State →
+    List ℕ →
     Type 0) (text : List ℕ) : Type 0 where
   pub answer : List ℕ
   pub later_output : List ℕ
-  pub mid_state : State
+  pub state_after_line : State
   pub line_accepted : IsLineAccepted rules state line
-  pub step : rules.Step state line answer mid_state
-  pub rest_follows : Then mid_state later_output
+  pub step : rules.Step state line answer state_after_line
+  pub rest_satisfies_condition : Then state_after_line later_output
   pub output : text ≡ answer ++ later_output
 
 -- the rules refuse `line`, which is line number `line_number` of the input, and `text` is the output line that reports the reason
@@ -79,7 +80,8 @@ abbrev pub IsOutputOfLines : {State : Type 0} (rules : Rules State) (state : Sta
 IsOutputOfLines r a n [] true status z = ((r.end_fault a ≡ None) × (status ≡ Done) × (z ≡ [])) ⊎ RefusesInputEnd r a n status z
 IsOutputOfLines r a n [] false status z = (status ≡ TooLong) × (z ≡ [])
 IsOutputOfLines r a n (line ∷ judged) ended status z =
-    AnswersLineThen r a line (λ mid rest. IsOutputOfLines r mid (n + 1) judged ended status rest) z ⊎ RefusesLine r a n line status z
+    AnswersLineThenRestOfOutput r a line (λ mid rest. IsOutputOfLines r mid (n + 1) judged ended status rest) z
+    ⊎ RefusesLine r a n line status z
 
 -- the rules prescribe this status and output for the whole input of a command that starts in `state`
 abbrev pub IsOutput : {State : Type 0} (rules : Rules State) (state : State) (input : List ℕ) (status : Status) (output : List ℕ) →

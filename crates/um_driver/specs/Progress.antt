@@ -5,7 +5,7 @@ use Rattle.um_io.specs.Lines.{IsLine, EndsWithoutLineFeed, text_of_lines}
 use Rattle.um_io.specs.Reading.{ReaderState, IsValidReader, input_limit, buffer_limit}
 use Rattle.um_io.specs.Streams.{FailureCountRose}
 use Rattle.um_driver.specs.Rules.{Rules, Runs, concatenated_text}
-use Rattle.um_driver.specs.Table.{ReadsAtMostABuffer, InputHasStatus, SinkTakesPrefix}
+use Rattle.um_driver.specs.Table.{ReadsAtMostOneBufferAhead, InputJustifiesStatus, SinkTakesPrefix}
 use Rattle.um_driver.specs.declared.status.Status.{Status}
 use Rattle.um_driver.specs.declared.status.Status.TheVariants.{BadWords, ReadFault, WriteFault, NoMemory}
 
@@ -16,9 +16,9 @@ SourceHasEnded (Some x) left' = IsAtEnd left'
 
 -- the octets read are `lines`, each with its line feed, followed by the octets `held` in the buffer; or the source has ended, the last line
 -- has no line feed, and the buffer is empty. The lines account for `answered_octet_count` octets
-abbrev pub AccountsForOctets : (input_read : List ℕ) (lines : List (List ℕ)) (held : List ℕ) (answered_octet_count : ℕ)
+abbrev pub LinesAccountForOctets : (input_read : List ℕ) (lines : List (List ℕ)) (held : List ℕ) (answered_octet_count : ℕ)
     (ended : Bool) → Type 0
-AccountsForOctets q lines held answered ended =
+LinesAccountForOctets q lines held answered ended =
     ((q ≡ text_of_lines lines ++ held) × (answered ≡ length (text_of_lines lines)))
     ⊎ (EndsWithoutLineFeed q lines × (held ≡ []) × (ended ≡ true) × (answered ≡ length q))
 
@@ -28,7 +28,7 @@ pub record AreLinesRead (input : List ℕ) (lines : List (List ℕ)) (held : Lis
     (unread_before unread_after : Option (List ℕ)) : Type 0 where
   pub read : Consumes unread_before unread_after input
   pub no_line_feed : All IsLine lines
-  pub accounts_for : AccountsForOctets input lines held answered_octet_count ended
+  pub lines_account_for_octets : LinesAccountForOctets input lines held answered_octet_count ended
   pub in_range : answered_octet_count ≤ input_limit
   pub fits_buffer : length held ≤ buffer_limit
   pub at_end : ended ≡ true → SourceHasEnded unread_before unread_after
@@ -43,10 +43,10 @@ pub record IsPointOfRun {State : Type 0} (rules : Rules State) (start : State) (
   pub answers : List (List ℕ)
   pub state : State
   pub reads : AreLinesRead input_read lines held answered_octet_count ended unread_before unread_after
-  pub number_counts_lines : line_count ≡ length lines
+  pub line_count_matches_lines : line_count ≡ length lines
   pub written : Appends written_before written_after output
   pub runs : Runs rules start lines answers state
-  pub reads_little_ahead : ReadsAtMostABuffer input_read output lines answers
+  pub reads_little_ahead : ReadsAtMostOneBufferAhead input_read output lines answers
 
 -- the run continues: all answers so far have been written, except for the octets `gathered`, which are in the output buffer
 pub record IsRunUnderway {State : Type 0} (rules : Rules State) (start : State) (Represents : State → Type 0) (reading : ReaderState)
@@ -68,8 +68,8 @@ pub record IsRunEnding {State : Type 0} (rules : Rules State) (start : State) (R
   pub point : IsPointOfRun rules start held octet_count line_count ended unread_before unread_after written_before written_after
   pub represents : Represents point.state
   pub output : concatenated_text point.answers ≡ point.output ++ gathered
-  pub input_has_status : (rest : List ℕ) → (SourceHasEnded unread_before unread_after → rest ≡ []) →
-      InputHasStatus rules status point.input_read rest point.lines point.state text
+  pub input_justifies_status : (rest : List ℕ) → (SourceHasEnded unread_before unread_after → rest ≡ []) →
+      InputJustifiesStatus rules status point.input_read rest point.lines point.state text
 
 -- the result of processing one line, before its output is written: the run continues (`None`), or ends with a status
 abbrev pub IsLineOutcome : {State : Type 0} (rules : Rules State) (state : State) (Represents : (State → Type 0))

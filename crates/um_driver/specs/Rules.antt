@@ -45,7 +45,7 @@ Runs {State} r a (line ∷ lines) (answer ∷ answers) b =
 Runs r a [] (answer ∷ answers) b = ⊥
 Runs r a (line ∷ lines) [] b = ⊥
 
--- the concatenation of the texts
+-- the concatenation of a list of texts, in order
 abbrev pub concatenated_text : (texts : List (List ℕ)) → List ℕ
 concatenated_text [] = []
 concatenated_text (text ∷ texts) = text ++ concatenated_text texts
@@ -64,7 +64,7 @@ IsDeterministic {State} r =
     (a : State) (line y y' : List ℕ) (b b' : State) → r.Step a line y b → r.Step a line y' b' → (y ≡ y') × (b ≡ b')
 
 -- in every state that the command can reach from `state`, each line that is not refused has an answer
-abbrev pub IsTotal : {State : Type 0} (rules : Rules State) (state : State) → Type 0
-IsTotal {State} r a =
+abbrev pub AnswersEveryAcceptedLine : {State : Type 0} (rules : Rules State) (state : State) → Type 0
+AnswersEveryAcceptedLine {State} r a =
     (lines answers : List (List ℕ)) (b : State) → Runs r a lines answers b →
     (line : List ℕ) → IsLine line → IsLineAccepted r b line → (answer : List ℕ) × (c : State) × r.Step b line answer c

@@ -2,7 +2,7 @@
 use Rattle.std.specs.Prelude.{ℕ, ◌≡◌, ◌≤◌, ◌<◌, ◌+◌, List, [], ◌∷◌, ◌++◌, length, Option, Some, None}
 use Rattle.std.specs.Prelude.{IfSome, ◌⊎◌}
 use Rattle.std.specs.Io.KnownBytes.{Appends, Keeps}
-use Rattle.um_io.specs.Lines.{IsLine, IsDivided, text_of_lines}
+use Rattle.um_io.specs.Lines.{IsLine, IsDividedIntoLines, text_of_lines}
 use Rattle.um_io.specs.Streams.{FailureCountRose}
 use Rattle.um_io.specs.Reading.{input_limit, line_limit, buffer_limit}
 use Rattle.um_lines.specs.declared.fault.LineFault.{LineFault}
@@ -18,7 +18,7 @@ use Rattle.um_driver.specs.declared.status.Status.TheVariants.{Done, BadWords, B
 -- the whole input was read; it is within the input limit, and consists of `lines`
 pub record IsWholeInputRead (input rest : List ℕ) (lines : List (List ℕ)) : Type 0 where
   pub nothing_left : rest ≡ []
-  pub divided : IsDivided input lines
+  pub divided : IsDividedIntoLines input lines
   pub limit : length input ≤ input_limit
 
 -- `lines` are the first lines of the input, within the input limit together with their line feeds, or they are all lines of the input
@@ -36,13 +36,13 @@ pub record EndsInUnfinishedLine (octets : List ℕ) (lines : List (List ℕ)) (l
 -- the run processes `line`, which follows `lines`, because its line feed was read within the input limit, it exceeds the line limit, or it
 -- ends the input
 pub record IsNextLineProcessed (input rest : List ℕ) (lines : List (List ℕ)) (line : List ℕ) : Type 0 where
-  pub after_line : List ℕ
-  pub begins : BeginsWithLines input lines (line ++ after_line)
+  pub octets_after_line : List ℕ
+  pub begins : BeginsWithLines input lines (line ++ octets_after_line)
   pub no_line_feed : IsLine line
   pub limit : length (text_of_lines lines ++ line) ≤ input_limit
-  pub is_complete : ((after : List ℕ) × (after_line ≡ 10 ∷ after) × (length (text_of_lines lines ++ line) < input_limit))
+  pub is_complete : ((after : List ℕ) × (octets_after_line ≡ 10 ∷ after) × (length (text_of_lines lines ++ line) < input_limit))
       ⊎ ((line_limit < length line)
-      ⊎ ((0 < length line) × (after_line ≡ []) × (rest ≡ [])))
+      ⊎ ((0 < length line) × (octets_after_line ≡ []) × (rest ≡ [])))
 
 -- after these lines, the next line or the end of the input is refused with this fault
 abbrev pub IsNextLineRefused : {State : Type 0} (rules : Rules State) (input_read unread : List ℕ) (lines : List (List ℕ))
@@ -68,12 +68,12 @@ pub record EndsWithinLastAnswer (output : List ℕ) (answers : List (List ℕ)) 
   pub output_split : output ≡ concatenated_text earlier_answers ++ written_part
 
 -- the output contains at least one octet of every answer that is not empty
-abbrev pub AllAnswersHaveStarted : (output : List ℕ) (answers : List (List ℕ)) → Type 0
-AllAnswersHaveStarted y answers = IsPrefixOf (concatenated_text answers) y ⊎ EndsWithinLastAnswer y answers
+abbrev pub AllAnswersAtLeastPartlyWritten : (output : List ℕ) (answers : List (List ℕ)) → Type 0
+AllAnswersAtLeastPartlyWritten y answers = IsPrefixOf (concatenated_text answers) y ⊎ EndsWithinLastAnswer y answers
 
 -- the reader is at most one buffer ahead of the output: beyond the lines whose answers are fully written, no more octets were read than the
 -- reader can hold
-pub record ReadsAtMostABuffer (input output : List ℕ) (lines answers : List (List ℕ)) : Type 0 where
+pub record ReadsAtMostOneBufferAhead (input output : List ℕ) (lines answers : List (List ℕ)) : Type 0 where
   pub answered_lines : List (List ℕ)
   pub later_lines : List (List ℕ)
   pub written : List (List ℕ)
@@ -86,19 +86,21 @@ pub record ReadsAtMostABuffer (input output : List ℕ) (lines answers : List (L
   pub is_prefix : IsPrefixOf (concatenated_text written) output
   pub reads_little_ahead : length partial_line ≤ buffer_limit
 
--- ---- the table of statuses
+-- ---- what each exit status says about a run
 
 -- how the input ends after `lines` if the run ends with this status, and the `text` that is written after the answers to these lines
-abbrev pub InputHasStatus : {State : Type 0} (rules : Rules State) (status : Status) (input_read unread : List ℕ) (lines : List (List ℕ))
+abbrev pub InputJustifiesStatus : {State : Type 0} (rules : Rules State) (status : Status) (input_read unread : List ℕ)
+    (lines : List (List ℕ))
     (state : State) (text : List ℕ) → Type 0
-InputHasStatus r Done q rest lines b text = IsWholeInputRead q rest lines × (r.end_fault b ≡ None) × (text ≡ [])
-InputHasStatus r BadInput q rest lines b text =
+InputJustifiesStatus r Done q rest lines b text = IsWholeInputRead q rest lines × (r.end_fault b ≡ None) × (text ≡ [])
+InputJustifiesStatus r BadInput q rest lines b text =
     (fault : LineFault) × IsNextLineRefused r q rest lines b fault × (text ≡ refused_text (length lines + 1) fault)
-InputHasStatus r ReadFault q rest lines b text = (length q ≤ input_limit) × ((line : List ℕ) × EndsInUnfinishedLine q lines line)
+InputJustifiesStatus r ReadFault q rest lines b text = (length q ≤ input_limit)
+    × ((line : List ℕ) × EndsInUnfinishedLine q lines line)
     × (text ≡ [])
-InputHasStatus r TooLong q rest lines b text =
+InputJustifiesStatus r TooLong q rest lines b text =
     ((counted past line : List ℕ) × ExceedsInputLimit q counted past × EndsInUnfinishedLine counted lines line) × (text ≡ [])
-InputHasStatus r _ q rest lines b text = ⊥
+InputJustifiesStatus r _ q rest lines b text = ⊥
 
 -- what a run that ends with this status has read (`input_read`), left in the source (`unread`) and written (`output`)
 abbrev pub RunEndsWithStatus : {State : Type 0} (rules : Rules State) (status : Status) (input_read unread output : List ℕ) →
@@ -106,13 +108,14 @@ abbrev pub RunEndsWithStatus : {State : Type 0} (rules : Rules State) (status : 
 -- after a write failure, the output is a prefix of the answers, or all answers and a prefix of the text that follows them
 RunEndsWithStatus r WriteFault q rest y lines answers further b =
     IsPrefixOf y (concatenated_text answers)
-    ⊎ ((due : Status) × (text part : List ℕ) × InputHasStatus r due q rest lines b text × (further ≡ []) × IsPrefixOf part text
+    ⊎ ((due : Status) × (text part : List ℕ) × InputJustifiesStatus r due q rest lines b text × (further ≡ [])
+    × IsPrefixOf part text
     × (y ≡ concatenated_text answers ++ part))
 RunEndsWithStatus r NoMemory q rest y lines answers further b = (q ≡ []) × (y ≡ []) × (lines ≡ []) × (further ≡ [])
 RunEndsWithStatus r BadWords q rest y lines answers further b = ⊥
 -- for any other status, the output is all answers and the text that follows them
 RunEndsWithStatus r status q rest y lines answers further b =
-    (text : List ℕ) × InputHasStatus r status q rest lines b text × (further ≡ []) × (y ≡ concatenated_text answers ++ text)
+    (text : List ℕ) × InputJustifiesStatus r status q rest lines b text × (further ≡ []) × (y ≡ concatenated_text answers ++ text)
 
 -- if the octets of the source were known before the run, they are those that were read, followed by those that are still unread
 abbrev pub IsReadFromSource : (source_before source_after : Option (List ℕ)) (input_read unread : List ℕ) → Type 0
@@ -137,10 +140,10 @@ pub record IsRun {State : Type 0} (rules : Rules State) (start : State) (Represe
   pub read_bound : length input_read ≤ input_limit + buffer_limit
   pub first_lines : AreFirstLines input_read unread (lines ++ unwritten_lines)
   pub runs : Runs rules start lines answers state
-  pub unwritten_run : Runs rules state unwritten_lines unwritten_answers last
+  pub unwritten_lines_answered : Runs rules state unwritten_lines unwritten_answers last
   pub represents : Represents last
-  pub answers_started : AllAnswersHaveStarted output answers
-  pub reads_little_ahead : ReadsAtMostABuffer input_read output (lines ++ unwritten_lines) (answers ++ unwritten_answers)
+  pub answers_at_least_partly_written : AllAnswersAtLeastPartlyWritten output answers
+  pub reads_little_ahead : ReadsAtMostOneBufferAhead input_read output (lines ++ unwritten_lines) (answers ++ unwritten_answers)
   pub ends_with_status : RunEndsWithStatus rules status input_read unread output lines answers unwritten_lines state
 
 -- the failure count of the source has risen if the status is `ReadFault`, that of the sink if it is `WriteFault`; otherwise both are

@@ -5,9 +5,11 @@ use Rattle.um_io.specs.Streams.{FailureCountRose}
 use Rattle.um_driver.specs.Table.{SinkTakesPrefix}
 
 -- the sink received the whole text if the result is `Ok`, and a prefix of it if the result is `Err`
-abbrev pub SinkTakesText : {T E : Type 0} (written_before written_after : Option (List ℕ)) (result : Result T E) (piece : List ℕ) →
+abbrev pub SinkTakesTextIfOk : {T E : Type 0} (written_before written_after : Option (List ℕ)) (result : Result T E)
+    (piece : List ℕ) →
     Type 0
-SinkTakesText taken taken' result piece = MatchResult result (λ _. Appends taken taken' piece) (λ _. SinkTakesPrefix taken taken' piece)
+SinkTakesTextIfOk taken taken' result piece =
+    MatchResult result (λ _. Appends taken taken' piece) (λ _. SinkTakesPrefix taken taken' piece)
 
 -- the sink received a prefix of the text, and the output buffer holds the rest (used inside this crate)
 abbrev pub BuffersUnwrittenText : (text buffered : List ℕ) (written_before written_after : Option (List ℕ)) → Type 0

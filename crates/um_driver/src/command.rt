@@ -6,7 +6,7 @@ ghost use Rattle.um_driver.specs.Rules.{Rules, IsLineAnswerOrFault};
 
 use um_lines::{LineFault, Text};
 
-/// A command that reads its input line by line.
+/// A command that reads its input line by line and answers each line.
 pub trait Command {
     /// The type of the command's abstract states.
     ghost State: { Type 0 };

@@ -1,6 +1,6 @@
 //! An output buffer, which collects several answers so that one call can write them.
 ghost use Rattle.std.specs.Prelude.{◌≡◌, ◌≤◌, ◌+◌, [], ◌++◌, length, OnOk, false, IsTrue};
-ghost use Rattle.um_driver.specs.Writing.{SinkTakesText, BuffersUnwrittenText, BuffersTextIfOk, CountsWriteFailure};
+ghost use Rattle.um_driver.specs.Writing.{SinkTakesTextIfOk, BuffersUnwrittenText, BuffersTextIfOk, CountsWriteFailure};
 
 use crate::writing::put_all;
 use std::marker::Model;
@@ -9,7 +9,7 @@ use um_io::{Failed, Sink};
 /// The capacity of the output buffer in octets.
 const BUFFER_SIZE: usize = 16384;
 
-/// A buffer for output that has not been written yet.
+/// A buffer for output octets that have not been written to the sink yet.
 #[derive(Drop)]
 pub(crate) struct OutputBuffer {
     buffer: [u8; BUFFER_SIZE],
@@ -63,7 +63,7 @@ impl OutputBuffer {
     #[cold]
     #[inline(never)]
     pub(crate) fn flush<K: Sink>(&mut self, output: &mut K) -> Result<(), Failed>
-        ensures taken { SinkTakesText (K.taken output.old) (K.taken output.new) result self.old }
+        ensures taken { SinkTakesTextIfOk (K.taken output.old) (K.taken output.new) result self.old }
         ensures empty { OnOk result (self.new ≡ []) }
         ensures counted { CountsWriteFailure result (K.faults output.old) (K.faults output.new) }
     {
@@ -104,7 +104,7 @@ impl OutputBuffer {
         output: &mut K,
     ) -> Result<(), Failed>
         requires { length octets.now ≤ 4096 }
-        ensures taken { SinkTakesText (K.taken output.old) (K.taken output.new) result (self.old ++ octets.now) }
+        ensures taken { SinkTakesTextIfOk (K.taken output.old) (K.taken output.new) result (self.old ++ octets.now) }
         ensures counted { CountsWriteFailure result (K.faults output.old) (K.faults output.new) }
     {
         self.add(octets, output)?;

@@ -17,6 +17,3 @@ pub use status::Status;
 pub use um_io::{MemorySink, MemorySource, PlainSource, ReadSource, Sink, Source, WriteSink};
 pub use um_lines::Text;
 pub use writing::put_all;
-
-#[cfg(test)]
-mod tests;

@@ -22,7 +22,7 @@ pub trait Answer {
             (λ reason. (fault line.now ≡ Some reason) × (out.new ≡ [])) };
 }
 
-/// A command without state, made from an `Answer`.
+/// A command without a state, which an `Answer` defines.
 #[derive(Clone, Copy, Debug)]
 pub struct StatelessCommand<A>(pub A);
 

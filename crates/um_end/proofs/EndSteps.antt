@@ -1,4 +1,4 @@
--- The steps of a terminal, and the command `end`: one answer and one output.
+-- A terminal has exactly one answer to each call and each block, and the `end` command has exactly one output for each input.
 use Rattle.{
   lapdm_end.specs.{Sides.CarriesOutStep, declared.sides.Side.Side},
   std.{
@@ -8,15 +8,15 @@ use Rattle.{
     },
     specs.List.{All, flat_map},
   },
-  um_driver.{proofs.Outputs.{Runs-keep, has_one_output}, specs.{Laws.HasOneOutput, Rules.{IsDeterministic, IsTotal}}},
+  um_driver.{proofs.Outputs.{Runs-keep, has_one_output}, specs.{Laws.HasOneOutput, Rules.{IsDeterministic, AnswersEveryAcceptedLine}}},
   um_end.specs.{
     Abstraction.role_of_terminal,
-    CallEvents.{call_of_call_event, sapi_of_call_event},
+    CallEvents.{endpoint_call_in_event, sapi_of_call_event},
     Commands.CommandRepresents,
     EndLines.{Calls, Nothing as NoLine, TakesBurst},
-    EndRuns.{IsAnswerToBursts, AnswersEndLine, IsAnswerToFourBursts, IsParsedLineStep, AppendsCodedFrames, EndCommandState},
-    EndRuns.{IsCallLineAnswer, end_command_rules, initial_run},
-    Terminals.{SideStep, layer3_call_step, with_endpoint_on},
+    EndRuns.{IsAnswerToBursts, AnswersEndCommandLine, IsAnswerToFourBursts, IsParsedLineStep, AppendsCodedFrames, EndCommandState},
+    EndRuns.{IsCallLineAnswer, end_command_rules, initial_end_command_state},
+    Terminals.{SideStep, layer3_call_step, with_sapi_endpoint_replaced},
     declared.command.EndCommand.EndCommand,
   },
   um_formats.specs.BurstTexts.bursts_text,
@@ -30,14 +30,14 @@ use Rattle.{
       um_air.Lemmas.{octets_small, one_read, same_step, some_reading},
       um_block.Lemmas.{accepted_count, one_received_block, one_sent_block, some_received_block, some_sent_block},
     },
-    specs.{lapdm_link.Events.ByEndpoint, lapdm_window.{Calls.IsCallOfEndpoint, Ends.{IsValidEndpoint, initial_endpoint}}},
+    specs.{lapdm_link.Events.RefusedByEndpoint, lapdm_window.{Calls.IsCallAllowedForEndpoint, Ends.{IsValidEndpoint, initial_endpoint}}},
     specs.{lapdm_window.declared.{Refused.Refused, effects.Effects.Effects}, um_block.Sent.IsSentBlock},
   },
 }
 pub use EndLineLaws.*
 pub mod EndLineLaws
 
--- ## SideSteps: What a terminal answers, given what its endpoints did.
+-- ## SideSteps: The step of an endpoint determines the answer of its terminal.
 
 -- the step that a terminal reports is the one that `terminal_step_of` defines
 pub terminal_step-is : (role role' : Role) (received : Option Received) (d : SideStep) (sapi : Sapi) (effects : Effects) (new : Side)
@@ -47,9 +47,9 @@ pub terminal_step-is : (role role' : Role) (received : Option Received) (d : Sid
 terminal_step-is role role' received d sapi effects new step is same h =
     is ∙ same_step _ (terminal_step_of role received d) (ap BySide same) h.sapi_matches refl h.frames h.notices
 
--- a call of an event is answered as `SideAnswersCall` defines
+-- if the endpoint answers the call that an event requests, the side answers the event as `SideAnswersCall` defines
 pub asks_event : (role : Role) (a : SideState) (event : Event) (b : SideState) (answer : Answer) (sapi : Sapi) (call : Call) →
-    IsCallOfRole role event → sapi ≡ sapi_of_call_event event → call ≡ call_of_call_event event →
+    IsCallOfRole role event → sapi ≡ sapi_of_call_event event → call ≡ endpoint_call_in_event event →
     EndpointAnswersCall role a sapi call b answer → SideAnswersCall role a event b answer
 asks_event role a (Open info) b answer sapi call own e is h = rw (e, is) at h
 asks_event role a (OpenBare other) b answer sapi call own e is h = rw (e, is) at h
@@ -59,12 +59,13 @@ asks_event role a event b answer sapi call own e is h = absurd own
 -- ## Answering: The command answers a line with a call as the terminal answers the call, and the fourth burst as the terminal answers the
 -- block.
 
--- ---- texts
+-- ---- the text of the burst lines
 
 blocks-append : (bs : List Block) (b : Block) → flat_map bursts_text bs ++ bursts_text b ≡ flat_map bursts_text (bs ++ b ∷ [])
 blocks-append bs b = rw (flat_map-append, append-nil) refl
 
-AppendsCodedFrames-push : (tsc : ℕ) (os : List Octets) (o : Octets) (old mid new : List ℕ) (b : Block) → AppendsCodedFrames tsc os old mid →
+AppendsCodedFrames-push : (tsc : ℕ) (os : List Octets) (o : Octets) (old mid new : List ℕ) (b : Block) →
+    AppendsCodedFrames tsc os old mid →
     IsSentBlock o tsc b → new ≡ mid ++ bursts_text b → AppendsCodedFrames tsc (os ++ o ∷ []) old new
 AppendsCodedFrames-push tsc os o old mid new b h sent is =
     let a = Appends-more tsc os [] h.blocks o b (record { blocks = h.blocks; coded = h.coded; appended = refl }) sent in
@@ -82,12 +83,13 @@ AppendsCodedFrames-next tsc os i old mid new b within h sent is =
 
 -- ---- the state of a run that the command represents
 
--- if P holds for the command's side and its number of held bursts, it holds for those of the state that the command represents
+-- if P holds for the command's side and its number of held bursts, it holds for the side and the number of held bursts of the state that
+-- the command represents
 pub at_state : (P : Role → ℕ → Type 0) (c : EndCommand) (s : EndCommandState) (count : ℕ) → CommandRepresents c s →
     count ≡ length c.held.held → P (role_of_terminal c.terminal) count → P s.role (length s.held_bursts)
 at_state P c s count st e h = rw (st.role, st.held_bursts, ← e) h
 
--- ## Determined: A call, or the bursts of a block, has only one answer and only one state of the endpoints after it.
+-- ## Determined: A call, or the four bursts of a block, leads to only one answer and one new state of the endpoints.
 
 call-unique : (role : Role) (a : SideState) (sapi : Sapi) (call : Call) (b c : SideState) (x y : Answer) →
     EndpointAnswersCall role a sapi call b x → EndpointAnswersCall role a sapi call c y → (b ≡ c) × (x ≡ y)
@@ -107,10 +109,10 @@ pub reception-unique : (role : Role) (a : SideState) (bursts : List (List ℤ)) 
 reception-unique role a bursts b c s t h k =
     let report : h.report ≡ k.report = one_received_block bursts h.report k.report h.received k.received in
     let read : h.frame ≡ k.frame = one_read Sdcch k.report.accepted h.frame k.frame (rw report at h.reads) k.reads in
-    (rw (h.new_state_is, k.new_state_is, read) refl, rw (h.step_is, k.step_is, report, read) refl)
+    (rw (h.new_state_is, k.new_state_is, read) refl, rw (h.step_is_terminal_step, k.step_is_terminal_step, report, read) refl)
 
--- ## EndRules: The command `end` has exactly one output for every input. Calls and bursts have at most one answer, and they have one
--- because the endpoints only ever send frames that fit in a block and consist of octets.
+-- ## EndRules: The `end` command has exactly one output for every input. Each call or block has at most one answer. It has one, because
+-- endpoints only send frames that fit in a block and consist of octets.
 
 -- ---- at most one answer
 
@@ -148,7 +150,8 @@ call_line-unique s event y y' b b' h k =
       rw (h.after_is, k.after_is, same.0) refl,
     )
 
-answer-unique : (s : EndCommandState) (m : EndLineMeaning) (y y' : List ℕ) (b b' : EndCommandState) → IsParsedLineStep s m y b →
+answer-unique : (s : EndCommandState) (m : EndCommandLineMeaning) (y y' : List ℕ) (b b' : EndCommandState) →
+    IsParsedLineStep s m y b →
     IsParsedLineStep s m y' b' → (y ≡ y') × (b ≡ b')
 answer-unique s NoLine y y' b b' (e, h) (e', h') = (e ∙ sym e', h ∙ sym h')
 answer-unique s (TakesBurst soft) y y' b b' h h' = bursts-unique s (s.held_bursts ++ soft ∷ []) y y' b b' h h'
@@ -161,7 +164,7 @@ end_is_determined s line y y' b b' (m, means, answer) (m', means', answer') =
 
 -- ---- at least one answer
 
--- an endpoint of this SAPI on SDCCH, all of whose frames fit in a block and consist of octets
+-- the endpoint is valid, has this SAPI, is on SDCCH, and its SABM information and its messages consist of octets
 record IsFit (sapi : Sapi) (e : EndpointState) : Type 0 where
   pub valid : IsValidEndpoint e
   pub sapi_matches : e.sapi ≡ sapi
@@ -172,20 +175,22 @@ record AreFit (a : SideState) : Type 0 where
   pub link0 : IsFit Zero a.link0
   pub link3 : IsFit Three a.link3
 
-AreFit-endpoint : (sapi : Sapi) (a : SideState) → AreFit a → IsFit sapi (endpoint_on sapi a)
+AreFit-endpoint : (sapi : Sapi) (a : SideState) → AreFit a → IsFit sapi (endpoint_with_sapi sapi a)
 AreFit-endpoint sapi a h = grind arith
 
-AreFit-with : (sapi : Sapi) (e : EndpointState) (a : SideState) → AreFit a → IsFit sapi e → AreFit (with_endpoint_on sapi e a)
+AreFit-with : (sapi : Sapi) (e : EndpointState) (a : SideState) → AreFit a → IsFit sapi e →
+    AreFit (with_sapi_endpoint_replaced sapi e a)
 AreFit-with Zero e a h fit = record { link0 = fit; link3 = h.link3 }
 AreFit-with Three e a h fit = record { link0 = h.link0; link3 = fit }
 
--- after this step the endpoints satisfy `IsFit`, and the frames that it sends fit and consist of octets
+-- after the step `d`, both endpoints satisfy `IsFit`, and the frames sent fit in a block and consist of octets
 record IsFitSideStep (d : SideStep) : Type 0 where
   pub new_state_fits : AreFit d.new_state
   pub frames : All (FrameFits Sdcch) d.frames
   pub said : AllSay d.frames
 
-IsFitSideStep-outcome : (sapi : Sapi) (o : Outcome) (a : SideState) → AreFit a → Keeps (endpoint_on sapi a) o → OutcomeOctets o →
+IsFitSideStep-outcome : (sapi : Sapi) (o : Outcome) (a : SideState) → AreFit a → Keeps (endpoint_with_sapi sapi a) o →
+    OutcomeOctets o →
     IsFitSideStep (endpoint_step sapi o a)
 IsFitSideStep-outcome sapi o a h keeps octets =
     let fit = AreFit-endpoint sapi a h in
@@ -200,14 +205,15 @@ IsFitSideStep-outcome sapi o a h keeps octets =
       said = octets.frames;
     }
 
-fit_call : (sapi : Sapi) (call : Call) (a : SideState) → CallOctets call → IsCallOfEndpoint (endpoint_on sapi a) call → AreFit a →
-    refusal_of call (endpoint_on sapi a) ≡ None → IsFitSideStep (layer3_call_step sapi call a)
+fit_call : (sapi : Sapi) (call : Call) (a : SideState) → CallOctets call → IsCallAllowedForEndpoint (endpoint_with_sapi sapi a) call →
+    AreFit a →
+    refusal_of call (endpoint_with_sapi sapi a) ≡ None → IsFitSideStep (layer3_call_step sapi call a)
 fit_call sapi call a octets has h ok =
     let fit = AreFit-endpoint sapi a h in
     IsFitSideStep-outcome sapi _ a h (keeps-call call _ fit.valid has ok) (call-octets call _ octets ok fit.valid.window fit.octets)
 
 fit_frame : (sapi : Sapi) (f : Frame) (a : SideState) → FrameFits Sdcch f → AreOctets (information f.content) → AreFit a →
-    IsFitSideStep (endpoint_step sapi (frame_outcome f (endpoint_on sapi a)) a)
+    IsFitSideStep (endpoint_step sapi (frame_outcome f (endpoint_with_sapi sapi a)) a)
 fit_frame sapi f a fits octets h =
     let fit = AreFit-endpoint sapi a h in
     IsFitSideStep-outcome sapi _ a h (keeps-frame f _ fit.valid (rw fit.channel fits)) (frame-octets f _ octets fit.valid.window fit.octets)
@@ -223,7 +229,7 @@ fit_read a accepted (Some f) octets reads h =
     by_sapi f a IsFitSideStep (λ e. fit_frame Zero f a well.0 well.1 h) (λ e. fit_frame Three f a well.0 well.1 h)
     (λ e g. fit_nothing a h)
 
--- frames that fit in a block can be coded
+-- frames that fit in a block and consist of octets have coded blocks
 coded-exists : (tsc : ℕ) (fs : List Frame) → tsc ≤ 7 → All (FrameFits Sdcch) fs → AllSay fs →
     (bs : List Block) × AreCodedBlocks tsc (map (octets_of Sdcch) fs) bs
 coded-exists tsc [] known h said = ([], tt)
@@ -245,7 +251,8 @@ text-exists tsc role received d known h =
 abbrev Whole : List ℤ → Type 0
 Whole burst = length burst ≡ 148
 
--- the invariant that every step of a run preserves
+-- the invariant of a run of `end`: side and training sequence code are unchanged, the endpoints satisfy `IsFit`, and at most three bursts
+-- of 148 soft values are held
 record Invariant (role : Role) (tsc : ℕ) (s : EndCommandState) : Type 0 where
   pub role_is : s.role ≡ role
   pub tsc_is : s.tsc ≡ tsc
@@ -262,14 +269,15 @@ record SomeAnswer (s : EndCommandState) (Answers : SideState → Answer → Type
   pub text : List ℕ
   pub text_is : IsAnswerText s.tsc answer text
 
-call-answered : (s : EndCommandState) (sapi : Sapi) (call : Call) (o : Option Refused) → refusal_of call (endpoint_on sapi s.links) ≡ o →
-    s.tsc ≤ 7 → CallOctets call → IsCallOfEndpoint (endpoint_on sapi s.links) call → AreFit s.links →
+call-answered : (s : EndCommandState) (sapi : Sapi) (call : Call) (o : Option Refused) →
+    refusal_of call (endpoint_with_sapi sapi s.links) ≡ o →
+    s.tsc ≤ 7 → CallOctets call → IsCallAllowedForEndpoint (endpoint_with_sapi sapi s.links) call → AreFit s.links →
     SomeAnswer s (EndpointAnswersCall s.role s.links sapi call)
 call-answered s sapi call (Some why) is known octets has h = record {
   links = s.links;
-  answer = Refuses (ByEndpoint why);
+  answer = Refuses (RefusedByEndpoint why);
   asked_call = (ap as_event_refusal is, refl);
-  text = answer_text (Refuses (ByEndpoint why)) ++ [];
+  text = answer_text (Refuses (RefusedByEndpoint why)) ++ [];
   text_is = record { blocks = []; coded = tt; text_is = refl };
 }
 call-answered s sapi call None is known octets has h =
@@ -283,13 +291,13 @@ call-answered s sapi call None is known octets has h =
       text_is = text.1;
     }
 
--- if the message in a request consists of octets, so does the message in its call
+-- if the message in a request consists of octets, so does the message in the endpoint call of this request
 request_octets : (role : Role) (sapi : Sapi) (request : Request) → EventMessageIsOctets (Ask role sapi request) →
     CallOctets (endpoint_call_of request)
 request_octets role sapi request h = grind arith
 
--- every endpoint has the call of a request
-request-of_endpoint : (e : EndpointState) (request : Request) → IsCallOfEndpoint e (endpoint_call_of request)
+-- every endpoint supports the call of every request
+request-of_endpoint : (e : EndpointState) (request : Request) → IsCallAllowedForEndpoint e (endpoint_call_of request)
 request-of_endpoint e request = grind arith
 
 asking-exists : (s : EndCommandState) (event : Event) → IsCallOfRole s.role event × EventMessageIsOctets event → s.tsc ≤ 7 →
@@ -298,7 +306,7 @@ asking-exists s (Open info) own known h = call-answered s Zero (Opens info) _ re
 asking-exists s (OpenBare other) own known h = call-answered s Three OpensWithoutInfo _ refl known tt h.link3.sapi_matches h
 asking-exists s (Ask other sapi request) own known h =
     call-answered s sapi (endpoint_call_of request) _ refl known (request_octets other sapi request own.1)
-    (request-of_endpoint (endpoint_on sapi s.links) request) h
+    (request-of_endpoint (endpoint_with_sapi sapi s.links) request) h
 asking-exists s event own known h = absurd own.0
 
 -- ---- at least one answer to bursts
@@ -322,7 +330,7 @@ arrival-exists s bursts four each known h =
           received = report.1;
           reads = read.1;
           new_state_is = refl;
-          step_is = refl;
+          step_is_terminal_step = refl;
         };
         text_is = text.1;
         after_is = refl;
@@ -344,9 +352,10 @@ bursts-exists role tsc s soft known k count =
           (a.0, a.1, inr (four, a.2))
     ]
 
-meaning-exists : (role : Role) (tsc : ℕ) (s : EndCommandState) (line : List ℕ) (m : EndLineMeaning) → tsc ≤ 7 → Invariant role tsc s
+meaning-exists : (role : Role) (tsc : ℕ) (s : EndCommandState) (line : List ℕ) (m : EndCommandLineMeaning) → tsc ≤ 7 →
+    Invariant role tsc s
     →
-    EndLineMeans s.role (length s.held_bursts) line m → (y : List ℕ) × (after : EndCommandState) × IsParsedLineStep s m y after
+    EndCommandLineMeans s.role (length s.held_bursts) line m → (y : List ℕ) × (after : EndCommandState) × IsParsedLineStep s m y after
 meaning-exists role tsc s line NoLine known k means = ([], s, (refl, refl))
 meaning-exists role tsc s line (TakesBurst soft) known k means = bursts-exists role tsc s soft known k
     (line-possible s.role _ line (TakesBurst soft) means).0
@@ -367,7 +376,7 @@ IsFit-initial role sapi = record {
   octets = record { sabm_info = All-nil (λ octet. octet < 256); messages = All-nil AreOctets };
 }
 
-invariant-start : (role : Role) (tsc : ℕ) → Invariant role tsc (initial_run role tsc)
+invariant-start : (role : Role) (tsc : ℕ) → Invariant role tsc (initial_end_command_state role tsc)
 invariant-start role tsc = record {
   role_is = refl;
   tsc_is = refl;
@@ -377,15 +386,17 @@ invariant-start role tsc = record {
 }
 
 AreFit-call : (role : Role) (a : SideState) (sapi : Sapi) (call : Call) (b : SideState) (answer : Answer) → CallOctets call →
-    IsCallOfEndpoint (endpoint_on sapi a) call → AreFit a → EndpointAnswersCall role a sapi call b answer → AreFit b
+    IsCallAllowedForEndpoint (endpoint_with_sapi sapi a) call → AreFit a → EndpointAnswersCall role a sapi call b answer → AreFit b
 AreFit-call role a sapi call b (Refuses why) octets has h asked_call = rw asked_call.1 h
 AreFit-call role a sapi call b (Accepts step) octets has h asked_call =
-    rw asked_call.1 (fit_call sapi call a octets has h (not_because (refusal_of call (endpoint_on sapi a)) asked_call.0)).new_state_fits
+    rw asked_call.1 (fit_call sapi call a octets has h
+    (not_because (refusal_of call (endpoint_with_sapi sapi a)) asked_call.0)).new_state_fits
   where
     not_because : (o : Option Refused) → as_event_refusal o ≡ None → o ≡ None
     not_because o e = grind arith
 
-AreFit-event : (role : Role) (a : SideState) (event : Event) (b : SideState) (answer : Answer) → EventMessageIsOctets event → AreFit a →
+AreFit-event : (role : Role) (a : SideState) (event : Event) (b : SideState) (answer : Answer) → EventMessageIsOctets event →
+    AreFit a →
     SideAnswersCall role a event b answer → AreFit b
 AreFit-event role a (Open info) b answer octets h asked_call =
     AreFit-call role a Zero (Opens info) b answer octets h.link0.sapi_matches h asked_call
@@ -393,7 +404,7 @@ AreFit-event role a (OpenBare other) b answer octets h asked_call =
     AreFit-call role a Three OpensWithoutInfo b answer tt h.link3.sapi_matches h asked_call
 AreFit-event role a (Ask other sapi request) b answer octets h asked_call =
     AreFit-call role a sapi (endpoint_call_of request) b answer (request_octets other sapi request octets)
-    (request-of_endpoint (endpoint_on sapi a) request) h asked_call
+    (request-of_endpoint (endpoint_with_sapi sapi a) request) h asked_call
 AreFit-event role a event b answer octets h asked_call = absurd asked_call
 
 module _ (role : Role) (tsc : ℕ) where
@@ -412,7 +423,8 @@ module _ (role : Role) (tsc : ℕ) where
       (accepted_octets _ heard.report heard.received) heard.reads k.links).new_state_fits in
       rw h.after_is (record { role_is = k.role_is; tsc_is = k.tsc_is; links = fit; at_most_3 = omega arith; each = All-nil Whole })
 
-  Invariant-step : (s b : EndCommandState) (line y : List ℕ) → Invariant role tsc s → AnswersEndLine s line y b → Invariant role tsc b
+  Invariant-step : (s b : EndCommandState) (line y : List ℕ) → Invariant role tsc s → AnswersEndCommandLine s line y b →
+      Invariant role tsc b
   Invariant-step s b line y k (NoLine, means, (_, same)) = rw same k
   Invariant-step s b line y k (TakesBurst soft, means, answer) =
       Invariant-bursts s b soft y k (line-possible s.role _ line (TakesBurst soft) means).0 answer
@@ -425,12 +437,12 @@ module _ (role : Role) (tsc : ℕ) where
   })
 
   module _ (known : tsc ≤ 7) where
-    pub end_is_total : IsTotal end_command_rules (initial_run role tsc)
+    pub end_is_total : AnswersEveryAcceptedLine end_command_rules (initial_end_command_state role tsc)
     end_is_total lines answers b runs line plain good =
         let meant = good_meaning _ _ (end_one_meaning b.role (length b.held_bursts) line) good.no_fault in
         let kept = Runs-keep end_command_rules (Invariant role tsc) Invariant-step _ b lines answers (invariant-start role tsc) runs in
         let answer = meaning-exists role tsc b line meant.0 known kept meant.1 in
         (answer.0, answer.1, (meant.0, meant.1, answer.2))
 
-    pub end_has_one_output : HasOneOutput end_command_rules (initial_run role tsc)
-    end_has_one_output = has_one_output end_command_rules (initial_run role tsc) end_is_total end_is_determined
+    pub end_has_one_output : HasOneOutput end_command_rules (initial_end_command_state role tsc)
+    end_has_one_output = has_one_output end_command_rules (initial_end_command_state role tsc) end_is_total end_is_determined

@@ -10,7 +10,7 @@ use Rattle.um_link.specs.Naming.{spec_role_of, spec_step_of, spec_answer_of}
 use Rattle.um_end.specs.Terminals.{SideState, SideAnswersCall, ReceivesBursts}
 use Rattle.um_end.specs.declared.terminal.Terminal.{Terminal}
 
--- the side of a terminal
+-- the role of a terminal: mobile or network
 abbrev pub role_of_terminal : Terminal → Role
 role_of_terminal t = spec_role_of t.side
 

@@ -1,7 +1,7 @@
 -- Which events are calls to an endpoint, the SAPI of that endpoint, and its call (internal).
 use Rattle.um_link.specs.lapdm_window.declared.Sapi.{Sapi}
 use Rattle.um_link.specs.lapdm_window.declared.Sapi.TheVariants.{Zero, Three}
-use Rattle.um_link.specs.lapdm_window.Calls.{Call, Opens, OpensWithoutInfo, SendsFill}
+use Rattle.um_link.specs.lapdm_window.Calls.{Call, Opens, OpensWithoutInfo, SendsFillFrame}
 use Rattle.um_link.specs.lapdm_link.Events.{Open, OpenBare, Ask, Deliver, Lose, Rival, endpoint_call_of}
 use Rattle.um_link.specs.um_air.Air.{Event}
 
@@ -19,8 +19,8 @@ sapi_of_call_event (Ask role sapi request) = sapi
 sapi_of_call_event event = Zero
 
 -- the endpoint call that the event requests
-abbrev pub call_of_call_event : Event → Call
-call_of_call_event (Open info) = Opens info
-call_of_call_event (OpenBare role) = OpensWithoutInfo
-call_of_call_event (Ask role sapi request) = endpoint_call_of request
-call_of_call_event event = SendsFill
+abbrev pub endpoint_call_in_event : Event → Call
+endpoint_call_in_event (Open info) = Opens info
+endpoint_call_in_event (OpenBare role) = OpensWithoutInfo
+endpoint_call_in_event (Ask role sapi request) = endpoint_call_of request
+endpoint_call_in_event event = SendsFillFrame

@@ -10,7 +10,7 @@ use Rattle.um_script.specs.AnswerLines.{answer_text}
 use Rattle.um_driver.specs.Rules.{Rules}
 use Rattle.um_link.specs.lapdm_frame.declared.Channel.TheVariants.{Sdcch}
 use Rattle.um_end.specs.Terminals.{SideState, idle_side, SideAnswersCall, ReceivesBursts}
-use Rattle.um_end.specs.EndLines.{EndLineMeaning, Nothing, TakesBurst, Calls, end_line_fault, EndLineMeans}
+use Rattle.um_end.specs.EndLines.{EndCommandLineMeaning, Nothing, TakesBurst, Calls, end_command_line_fault, EndCommandLineMeans}
 
 -- the state of a run of the `end` command: the side, its training sequence code, its two endpoints, and the bursts of an unfinished block
 -- in order
@@ -21,8 +21,8 @@ pub record EndCommandState : Type 0 where
   pub held_bursts : List (List ℤ)
 
 -- the state of a run before its first line
-abbrev pub initial_run : (role : Role) (tsc : ℕ) → EndCommandState
-initial_run role tsc = record { role = role; tsc = tsc; links = idle_side role Sdcch; held_bursts = [] }
+abbrev pub initial_end_command_state : (role : Role) (tsc : ℕ) → EndCommandState
+initial_end_command_state role tsc = record { role = role; tsc = tsc; links = idle_side role Sdcch; held_bursts = [] }
 
 -- the octets of the frames that an answer reports as sent
 abbrev pub frames_in_answer : Answer → List Octets
@@ -65,21 +65,22 @@ pub record IsCallLineAnswer (state : EndCommandState) (event : Event) (output : 
   pub after_is : after ≡ record state { links = links }
 
 -- `output` answers a line with this meaning in `state`, and `after` is the state after it
-abbrev pub IsParsedLineStep : (state : EndCommandState) (meaning : EndLineMeaning) (output : List ℕ) (after : EndCommandState) →
+abbrev pub IsParsedLineStep : (state : EndCommandState) (meaning : EndCommandLineMeaning) (output : List ℕ) (after : EndCommandState) →
     Type 0
 IsParsedLineStep s Nothing text after = (text ≡ []) × (after ≡ s)
 IsParsedLineStep s (TakesBurst soft) text after = IsAnswerToBursts s (s.held_bursts ++ soft ∷ []) text after
 IsParsedLineStep s (Calls event) text after = IsCallLineAnswer s event text after
 
 -- `output` answers a line in `state`, and `after` is the state after it
-abbrev pub AnswersEndLine : (state : EndCommandState) (line output : List ℕ) (after : EndCommandState) → Type 0
-AnswersEndLine s line text after = (meaning : EndLineMeaning) × EndLineMeans s.role (length s.held_bursts) line meaning
+abbrev pub AnswersEndCommandLine : (state : EndCommandState) (line output : List ℕ) (after : EndCommandState) → Type 0
+AnswersEndCommandLine s line text after = (meaning : EndCommandLineMeaning)
+    × EndCommandLineMeans s.role (length s.held_bursts) line meaning
     × IsParsedLineStep s meaning text after
 
 -- the rules of the `end` command; its input must not end inside a block
 abbrev pub end_command_rules : Rules EndCommandState
 end_command_rules = record {
-  fault = λ s line. end_line_fault s.role (length s.held_bursts) line;
+  fault = λ s line. end_command_line_fault s.role (length s.held_bursts) line;
   end_fault = λ s. unfinished_block_fault s.held_bursts;
-  Step = AnswersEndLine;
+  Step = AnswersEndCommandLine;
 }

@@ -15,8 +15,8 @@ use Rattle.um_link.specs.lapdm_link.Events.{Open, OpenBare, Ask, Idle, BySide, e
 pub use Rattle.um_link.specs.lapdm_window.Sides.{
   SideState,
   idle_side,
-  endpoint_on,
-  with_endpoint_on,
+  endpoint_with_sapi,
+  with_sapi_endpoint_replaced,
   SideStep,
   endpoint_step,
   no_op_step,
@@ -39,9 +39,10 @@ terminal_step_of role received d = record {
 -- nothing
 abbrev pub EndpointAnswersCall : (role : Role) (state : SideState) (sapi : Sapi) (call : Call) (after : SideState) (answer : Answer) →
     Type 0
-EndpointAnswersCall role a sapi call b (Refuses why) = (as_event_refusal (refusal_of call (endpoint_on sapi a)) ≡ Some why) × (b ≡ a)
+EndpointAnswersCall role a sapi call b (Refuses why) = (as_event_refusal (refusal_of call (endpoint_with_sapi sapi a)) ≡ Some why)
+    × (b ≡ a)
 EndpointAnswersCall role a sapi call b (Accepts step) =
-    (as_event_refusal (refusal_of call (endpoint_on sapi a)) ≡ None) × (b ≡ (layer3_call_step sapi call a).new_state) ×
+    (as_event_refusal (refusal_of call (endpoint_with_sapi sapi a)) ≡ None) × (b ≡ (layer3_call_step sapi call a).new_state) ×
     (step ≡ terminal_step_of role None (layer3_call_step sapi call a))
 
 -- the event is a call that this side supports: only the mobile establishes SAPI 0, either side establishes SAPI 3, and only the endpoint of
@@ -67,4 +68,4 @@ pub record ReceivesBursts (role : Role) (before : SideState) (bursts : List (Lis
   pub received : IsReceivedBlock bursts report
   pub reads : ReadsFrame Sdcch report.accepted frame
   pub new_state_is : after ≡ (step_for_read_frame frame before).new_state
-  pub step_is : step ≡ terminal_step_of role (Some report) (step_for_read_frame frame before)
+  pub step_is_terminal_step : step ≡ terminal_step_of role (Some report) (step_for_read_frame frame before)

@@ -2,8 +2,8 @@
 use Rattle.std.specs.Prelude.{◌≡◌, ℤ, List, [], ◌∷◌, ◌++◌}
 use Rattle.um_link.specs.lapdm_frame.declared.Channel.TheVariants.{Sdcch}
 use Rattle.um_link.specs.lapdm_window.Ends.{Role}
-use Rattle.um_link.specs.lapdm_link.Queues.{Queues, empty_queues, queue_of, with_appended, without_first}
-use Rattle.um_link.specs.lapdm_link.Events.{BothSides, idle_endpoints, side_with_role, with_side, other}
+use Rattle.um_link.specs.lapdm_link.Queues.{Queues, empty_queues, queue_of, with_items_appended, without_oldest_item}
+use Rattle.um_link.specs.lapdm_link.Events.{BothSides, idle_endpoints, side_with_role, with_side_replaced, other}
 use Rattle.um_link.specs.lapdm_link.Claims.{LogLine, answer_log_lines, notice_log_lines}
 use Rattle.um_link.specs.um_air.Air.{Octets, Event, Answer, Step}
 use Rattle.um_link.specs.um_air.Damage.{AreCorrectableBursts}
@@ -30,7 +30,8 @@ pub data TerminalStep : Type 0 where
 -- the state after a side has changed to a new state and its blocks have been added to the blocks in transit
 abbrev pub state_after_step : (side : Role) (links : SideState) (sent : List Octets) (remaining : Queues Octets)
     (terminals : TwoTerminals) → TwoTerminals
-state_after_step side links sent left a = record { sides = with_side side links a.sides; queues = with_appended side sent left }
+state_after_step side links sent left a =
+    record { sides = with_side_replaced side links a.sides; queues = with_items_appended side sent left }
 
 -- `step` leads from the state `terminals` to the state `after`
 abbrev pub IsTerminalStep : (terminals : TwoTerminals) (step : TerminalStep) (after : TwoTerminals) → Type 0
@@ -39,8 +40,8 @@ IsTerminalStep a (Calls side event answer) b = (links : SideState) × IsCallOfRo
     × (b ≡ state_after_step side links (frames_in_answer answer) a.queues a)
 IsTerminalStep a (TakesBurst side bursts step) b = (links : SideState)
     × ReceivesBursts side (side_with_role side a.sides) bursts links step
-    × (b ≡ state_after_step side links step.frames (without_first (other side) a.queues) a)
-IsTerminalStep a (Loses sender) b = b ≡ record a { queues = without_first sender a.queues }
+    × (b ≡ state_after_step side links step.frames (without_oldest_item (other side) a.queues) a)
+IsTerminalStep a (Loses sender) b = b ≡ record a { queues = without_oldest_item sender a.queues }
 
 -- the steps can follow one another from this state, and each satisfies the condition `MayTake`
 abbrev pub AreStepsFrom : (MayTake : (TwoTerminals → TerminalStep → Type 0)) (terminals : TwoTerminals) (turns : List TerminalStep)
@@ -68,7 +69,7 @@ step_log_lines (Calls side event answer) = answer_log_lines event (answer_withou
 step_log_lines (TakesBurst side bursts step) = notice_log_lines step.who step.sapi step.notices
 step_log_lines (Loses sender) = []
 
--- the log of these steps, in order
+-- the log of these steps: the log lines of all steps, in order
 abbrev pub session_log : (turns : List TerminalStep) → List LogLine
 session_log [] = []
 session_log (turn ∷ turns) = step_log_lines turn ++ session_log turns

@@ -1,8 +1,8 @@
 //! Converts events into endpoint calls.
 ghost use Rattle.std.specs.Prelude.{◌≡◌};
-ghost use Rattle.um_link.specs.lapdm_window.Calls.{endpoint_call_of, IsCallOfSapi};
+ghost use Rattle.um_link.specs.lapdm_window.Calls.{endpoint_call_of, IsCallAllowedForSapi};
 ghost use Rattle.um_link.specs.Naming.{spec_event_of};
-ghost use Rattle.um_end.specs.CallEvents.{IsCallEvent, sapi_of_call_event, call_of_call_event};
+ghost use Rattle.um_end.specs.CallEvents.{IsCallEvent, sapi_of_call_event, endpoint_call_in_event};
 
 use lapdm_end::{Call, Sapi};
 use um_link::Event;
@@ -23,8 +23,8 @@ pub(crate) fn sapi_of_event(event: &Event<'_>) -> Sapi
 /// The endpoint call that the event requests.
 pub(crate) fn endpoint_call_of_event<'a>(event: &Event<'a>) -> Call<'a>
     requires call { IsCallEvent (spec_event_of event.now) }
-    ensures asked_call { endpoint_call_of result ≡ call_of_call_event (spec_event_of event.now) }
-    ensures sapi { IsCallOfSapi (sapi_of_call_event (spec_event_of event.now)) (endpoint_call_of result) }
+    ensures asked_call { endpoint_call_of result ≡ endpoint_call_in_event (spec_event_of event.now) }
+    ensures sapi { IsCallAllowedForSapi (sapi_of_call_event (spec_event_of event.now)) (endpoint_call_of result) }
 {
     match *event {
         Event::Open(info) => Call::Open(info),

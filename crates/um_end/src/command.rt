@@ -2,7 +2,7 @@
 ghost use Rattle.std.specs.Prelude.{◌≡◌, ◌+◌, ◌*◌, ◌<◌, ◌≤◌, ℕ, [], ◌∷◌, ◌++◌, length, OnOk};
 ghost use Rattle.um_link.specs.um_block.conv_code.Likelihood.{AllSoftBits};
 ghost use Rattle.um_link.specs.Coded.{AreCodedBlocks};
-ghost use Rattle.um_link.specs.Naming.{spec_role_of, spec_step_of, spec_answer_of, step_result};
+ghost use Rattle.um_link.specs.Naming.{spec_role_of, spec_step_of, spec_answer_of, result_with_step};
 ghost use Rattle.um_link.specs.Abstraction.{StepFitsItsActor};
 ghost use Rattle.um_link.specs.lapdm_window.Ends.{Role};
 ghost use Rattle.um_link.specs.um_io.Lines.{IsLine};
@@ -10,11 +10,12 @@ ghost use Rattle.um_link.specs.um_io.Reading.{line_limit};
 ghost use Rattle.um_driver.specs.Laws.{HasOneOutput};
 ghost use Rattle.um_driver.specs.Rules.{IsLineAnswerOrFault};
 ghost use Rattle.um_script.specs.AnswerLines.{answer_text};
-ghost use Rattle.um_end.specs.EndRuns.{EndCommandState, initial_run, end_command_rules, frames_in_answer, IsAnswerText, IsAnswerToBursts};
+ghost use Rattle.um_end.specs.EndRuns.{EndCommandState, initial_end_command_state, end_command_rules, frames_in_answer, IsAnswerText};
+ghost use Rattle.um_end.specs.EndRuns.{IsAnswerToBursts};
 ghost use Rattle.um_end.specs.EndRuns.{AppendsCodedFrames};
-ghost use Rattle.um_end.specs.Commands.{CommandRepresents, start_state_of};
+ghost use Rattle.um_end.specs.Commands.{CommandRepresents, start_state_of_end_command};
 
-use crate::lines::{EndLine, parse_end};
+use crate::lines::{EndCommandLine, parse_end};
 use crate::terminal::Terminal;
 use um_driver::Command;
 use um_formats::{BLOCK_OCTETS, BURST_BITS, HeldBursts, push_block};
@@ -22,9 +23,9 @@ use um_lines::{LineFault, Text};
 use um_link::{End, No, Step};
 use um_script::{Room, write_step_lines};
 
-/// For the `end` command, every input has exactly one output and one status.
+/// Law: the `end` command has exactly one output and one status for every input.
 pub fn law_end_command_output_is_unique()
-    ensures { (role : Role) (tsc : ℕ) → tsc ≤ 7 → HasOneOutput end_command_rules (initial_run role tsc) }
+    ensures { (role : Role) (tsc : ℕ) → tsc ≤ 7 → HasOneOutput end_command_rules (initial_end_command_state role tsc) }
 {}
 
 /// The state of the `end` command: its terminal, and the bursts received so far of a block.
@@ -41,8 +42,8 @@ impl EndCommand {
     /// Creates the command for a side with idle endpoints and no held bursts. The training sequence code `tsc` must be 0 to 7.
     pub fn new(side: End, tsc: u8) -> EndCommand
         requires { tsc ≤ 7 }
-        ensures represents { CommandRepresents result (start_state_of result) }
-        ensures start { start_state_of result ≡ initial_run (spec_role_of side) tsc }
+        ensures represents { CommandRepresents result (start_state_of_end_command result) }
+        ensures start { start_state_of_end_command result ≡ initial_end_command_state (spec_role_of side) tsc }
     {
         EndCommand {
             terminal: Terminal::new(side, tsc),
@@ -74,7 +75,7 @@ impl Command for EndCommand {
 
     ghost rules = { end_command_rules };
 
-    ghost start = { start_state_of };
+    ghost start = { start_state_of_end_command };
 
     ghost represents = { CommandRepresents };
 
@@ -92,9 +93,9 @@ impl Command for EndCommand {
         ensures size { (s : EndCommandState) → CommandRepresents self.old s → length out.new < 2000 }
     {
         match parse_end(line, self.terminal.side, self.held.count(), &mut self.room)? {
-            EndLine::Skip => {}
-            EndLine::Burst(burst) => self.add_burst_to_block(burst, out),
-            EndLine::Ask(event) => {
+            EndCommandLine::Skip => {}
+            EndCommandLine::Burst(burst) => self.add_burst_to_block(burst, out),
+            EndCommandLine::Ask(event) => {
                 let done = self.terminal.ask_into(&event, &mut self.step);
                 write_answer(out, &self.terminal, &done, &self.step);
             }
@@ -115,11 +116,11 @@ impl Command for EndCommand {
 fn write_answer(out: &mut Text, terminal: &Terminal, outcome: &Result<(), No>, step: &Step)
     requires empty { out.old ≡ [] }
     requires fits { OnOk outcome.now (StepFitsItsActor (spec_step_of step.now)) }
-    ensures text { IsAnswerText terminal.now.tsc (spec_answer_of (step_result outcome.now step.now)) out.new }
-    ensures lines { length (answer_text (spec_answer_of (step_result outcome.now step.now))) < 2000 }
+    ensures text { IsAnswerText terminal.now.tsc (spec_answer_of (result_with_step outcome.now step.now)) out.new }
+    ensures lines { length (answer_text (spec_answer_of (result_with_step outcome.now step.now))) < 2000 }
     ensures length { length out.new ≡
-        length (answer_text (spec_answer_of (step_result outcome.now step.now))) + 604 * length
-        (frames_in_answer (spec_answer_of (step_result outcome.now step.now))) }
+        length (answer_text (spec_answer_of (result_with_step outcome.now step.now))) + 604 * length
+        (frames_in_answer (spec_answer_of (result_with_step outcome.now step.now))) }
 {
     write_step_lines(out, outcome, step);
     if outcome.is_ok() {
@@ -127,7 +128,7 @@ fn write_answer(out: &mut Text, terminal: &Terminal, outcome: &Result<(), No>, s
     }
 }
 
-/// Appends the burst lines of each frame.
+/// Appends the burst lines of each frame to `out`.
 fn push_block_lines(out: &mut Text, terminal: &Terminal, frames: &[[u8; BLOCK_OCTETS]])
     requires space { length out.old < 2000 }
     requires size { length frames.now ≤ 2 }

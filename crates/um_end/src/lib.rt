@@ -8,7 +8,7 @@ mod terminal;
 mod two_ends;
 
 pub use command::{EndCommand, law_end_command_output_is_unique};
-pub use lines::{EndLine, law_end_line_meaning_is_unique, parse_end};
+pub use lines::{EndCommandLine, law_end_line_meaning_is_unique, parse_end};
 pub use terminal::Terminal;
 pub use two_ends::law_two_terminals_deliver_in_order;
 pub use um_link::End;

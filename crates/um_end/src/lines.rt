@@ -9,9 +9,10 @@ ghost use Rattle.um_lines.specs.Meanings.{HasOneMeaningOrFault};
 ghost use Rattle.um_link.specs.lapdm_window.Ends.{Role};
 ghost use Rattle.um_link.specs.Naming.{spec_role_of};
 ghost use Rattle.um_script.specs.Naming.{event_of_script_line as script_meaning};
-ghost use Rattle.um_end.specs.EndLines.{end_line_fault, EndLineMeans, meaning_of_parsed_line, IsPossibleLine, names_endpoint_of_side};
+ghost use Rattle.um_end.specs.EndLines.{end_command_line_fault, EndCommandLineMeans, meaning_of_parsed_line, TerminalCanCarryOutLine};
+ghost use Rattle.um_end.specs.EndLines.{names_endpoint_of_side};
 ghost use Rattle.um_end.specs.EndLines.{meaning_of_burst_line};
-ghost use Rattle.um_end.specs.EndLines.{meaning_of_call, call_line_fault_inside_block};
+ghost use Rattle.um_end.specs.EndLines.{meaning_of_script_event, call_line_fault_inside_block};
 ghost use Rattle.um_end.specs.EndLines.{burst_line_fault_in_end_command};
 
 use um_formats::{BURST_BITS, BurstLine, parse_burst};
@@ -21,7 +22,7 @@ use um_script::{Room, ScriptLine, parse_script};
 
 /// The meaning of a line of the `end` command.
 #[derive(Clone, Copy, Drop)]
-pub enum EndLine<'a> {
+pub enum EndCommandLine<'a> {
     /// The line is skipped: it is empty, or begins with `#`.
     Skip,
     /// One of the four bursts of a block, as soft values, which are positive for 0 and negative for 1.
@@ -40,21 +41,21 @@ pub fn parse_end<'a>(
     side: End,
     held: u8,
     room: &'a mut Room,
-) -> Result<EndLine<'a>, LineFault>
+) -> Result<EndCommandLine<'a>, LineFault>
     requires { held ≤ 3 }
-    ensures means { IfOk result (λ read. EndLineMeans (spec_role_of side) held line.now (meaning_of_parsed_line read)) }
-    ensures refused { result_err result ≡ end_line_fault (spec_role_of side) held line.now }
+    ensures means { IfOk result (λ read. EndCommandLineMeans (spec_role_of side) held line.now (meaning_of_parsed_line read)) }
+    ensures refused { result_err result ≡ end_command_line_fault (spec_role_of side) held line.now }
 
     // A terminal of this side can carry out the line.
-    ensures possible { IfOk result (IsPossibleLine (spec_role_of side)) }
+    ensures possible { IfOk result (TerminalCanCarryOutLine (spec_role_of side)) }
 {
     if line.len() > LINE_LIMIT {
         return Err(LineFault::Long);
     }
     if is_skipped_line(line) {
-        return Ok(EndLine::Skip);
+        return Ok(EndCommandLine::Skip);
     }
-    if begins_with_side_endpoint(line, side) {
+    if begins_with_own_endpoint_name(line, side) {
         parse_call_line(line, side, held, room)
     } else {
         parse_burst_line(line, side, held)
@@ -62,7 +63,7 @@ pub fn parse_end<'a>(
 }
 
 /// Returns whether a line begins with the name of an endpoint of this side.
-fn begins_with_side_endpoint(line: &[u8], side: End) -> bool
+fn begins_with_own_endpoint_name(line: &[u8], side: End) -> bool
     ensures { result ≡ names_endpoint_of_side (spec_role_of side) (words line.now) }
 {
     let name = match first_word(line) {
@@ -80,34 +81,34 @@ fn parse_call_line<'a>(
     side: End,
     held: u8,
     room: &'a mut Room,
-) -> Result<EndLine<'a>, LineFault>
+) -> Result<EndCommandLine<'a>, LineFault>
     requires size { length line.now ≤ 4096 }
     requires not_skipped { is_skipped_line line.now ≡ false }
     requires own { names_endpoint_of_side (spec_role_of side) (words line.now) ≡ true }
-    ensures means { IfOk result (λ read. EndLineMeans (spec_role_of side) held line.now (meaning_of_parsed_line read)) }
-    ensures refused { result_err result ≡ end_line_fault (spec_role_of side) held line.now }
+    ensures means { IfOk result (λ read. EndCommandLineMeans (spec_role_of side) held line.now (meaning_of_parsed_line read)) }
+    ensures refused { result_err result ≡ end_command_line_fault (spec_role_of side) held line.now }
 {
     let read = parse_script(line, room);
     if held > 0 {
-        return Err(block_fault_from_call_fault(read.err()));
+        return Err(call_line_fault_in_block(read.err()));
     }
     match read {
-        Ok(script) => Ok(as_end_line(script)),
+        Ok(script) => Ok(end_command_line_of_script_line(script)),
         Err(fault) => Err(fault),
     }
 }
 
-fn as_end_line(script_line: ScriptLine<'_>) -> EndLine<'_>
-    ensures { meaning_of_parsed_line result ≡ meaning_of_call (script_meaning script_line.entry) }
+fn end_command_line_of_script_line(script_line: ScriptLine<'_>) -> EndCommandLine<'_>
+    ensures { meaning_of_parsed_line result ≡ meaning_of_script_event (script_meaning script_line.entry) }
 {
     match script_line {
-        ScriptLine::Skip => EndLine::Skip,
-        ScriptLine::Step(event) => EndLine::Ask(event),
+        ScriptLine::Skip => EndCommandLine::Skip,
+        ScriptLine::Step(event) => EndCommandLine::Ask(event),
     }
 }
 
 /// Converts the fault of a call line outside a block, if any, to its fault inside a block.
-fn block_fault_from_call_fault(fault: Option<LineFault>) -> LineFault
+fn call_line_fault_in_block(fault: Option<LineFault>) -> LineFault
     ensures { Some result ≡ call_line_fault_inside_block fault }
 {
     match fault {
@@ -117,32 +118,36 @@ fn block_fault_from_call_fault(fault: Option<LineFault>) -> LineFault
 }
 
 /// Parses a line with one burst of a block. The `end` command does not allow access bursts or synchronisation bursts.
-fn parse_burst_line<'a>(line: &[u8], side: End, held_bursts: u8) -> Result<EndLine<'a>, LineFault>
+fn parse_burst_line<'a>(
+    line: &[u8],
+    side: End,
+    held_bursts: u8,
+) -> Result<EndCommandLine<'a>, LineFault>
     requires size { length line.now ≤ 4096 }
     requires not_skipped { is_skipped_line line.now ≡ false }
     requires other { names_endpoint_of_side (spec_role_of side) (words line.now) ≡ false }
-    ensures means { IfOk result (λ read. EndLineMeans (spec_role_of side) held_bursts line.now (meaning_of_parsed_line read)) }
-    ensures refused { result_err result ≡ end_line_fault (spec_role_of side) held_bursts line.now }
+    ensures means { IfOk result (λ read. EndCommandLineMeans (spec_role_of side) held_bursts line.now (meaning_of_parsed_line read)) }
+    ensures refused { result_err result ≡ end_command_line_fault (spec_role_of side) held_bursts line.now }
 {
     match parse_burst(line, 3) {
-        Ok(burst) => Ok(end_line_of_burst_line(burst)),
-        Err(fault) => Err(end_fault_from_burst_fault(fault)),
+        Ok(burst) => Ok(end_command_line_of_burst_line(burst)),
+        Err(fault) => Err(end_command_fault_of_burst_line(fault)),
     }
 }
 
-fn end_line_of_burst_line<'a>(burst_line: BurstLine) -> EndLine<'a>
+fn end_command_line_of_burst_line<'a>(burst_line: BurstLine) -> EndCommandLine<'a>
     ensures { meaning_of_parsed_line result ≡ meaning_of_burst_line burst_line }
 {
     match burst_line {
-        BurstLine::Normal(soft) => EndLine::Burst(soft),
-        BurstLine::Skip => EndLine::Skip,
-        BurstLine::Access { .. } => EndLine::Skip,
-        BurstLine::Sync(_) => EndLine::Skip,
+        BurstLine::Normal(soft) => EndCommandLine::Burst(soft),
+        BurstLine::Skip => EndCommandLine::Skip,
+        BurstLine::Access { .. } => EndCommandLine::Skip,
+        BurstLine::Sync(_) => EndCommandLine::Skip,
     }
 }
 
 /// Converts the fault of a burst line inside a block in `replay` to its fault in the `end` command.
-fn end_fault_from_burst_fault(fault: LineFault) -> LineFault
+fn end_command_fault_of_burst_line(fault: LineFault) -> LineFault
     ensures { Some result ≡ burst_line_fault_in_end_command (Some fault) }
 {
     match fault {
@@ -154,5 +159,5 @@ fn end_fault_from_burst_fault(fault: LineFault) -> LineFault
 /// A line of the `end` command either has exactly one meaning, or is refused for the first reason that applies.
 pub fn law_end_line_meaning_is_unique()
     ensures { (role : Role) (held : ℕ) (line : List ℕ) →
-        HasOneMeaningOrFault (end_line_fault role held line) (EndLineMeans role held line) }
+        HasOneMeaningOrFault (end_command_line_fault role held line) (EndCommandLineMeans role held line) }
 {}

@@ -7,7 +7,7 @@ ghost use Rattle.um_link.specs.um_block.Sent.{IsSentBlock};
 ghost use Rattle.um_link.specs.lapdm_frame.declared.Channel.TheVariants.{Sdcch};
 ghost use Rattle.lapdm_end.specs.Sides.{channel_of};
 ghost use Rattle.um_link.specs.lapdm_link.Events as E;
-ghost use Rattle.um_link.specs.Naming.{spec_role_of, spec_event_of, spec_who_of, spec_step_of, step_result};
+ghost use Rattle.um_link.specs.Naming.{spec_role_of, spec_event_of, spec_who_of, spec_step_of, result_with_step};
 ghost use Rattle.um_link.specs.um_block.declared.received.Received.{Received};
 ghost use Rattle.um_script.specs.AnswerLines.{reception_quality, ReceptionIsInRange};
 
@@ -72,8 +72,8 @@ impl Terminal {
     /// Carries out a layer 3 call to an endpoint of this side and writes the result into `step`. A refused call leaves `step` unchanged.
     pub fn ask_into(&mut self, event: &Event<'_>, step: &mut Step) -> Result<(), No>
         requires own { IsCallOfRole (role_of_terminal self.old) (spec_event_of event.now) }
-        ensures refines { CallRefinesSideStep (spec_event_of event.now) self.old (step_result result step.new) self.new }
-        ensures only { IsOnlyPossibleAnswer (spec_event_of event.now) self.old (step_result result step.new) }
+        ensures refines { CallRefinesSideStep (spec_event_of event.now) self.old (result_with_step result step.new) self.new }
+        ensures only { IsOnlyPossibleAnswer (spec_event_of event.now) self.old (result_with_step result step.new) }
         ensures refused { OnErr result (self.new ≡ self.old) }
         ensures out_unchanged { OnErr result (step.new ≡ step.old) }
         ensures who { OnOk result (spec_who_of step.new.who ≡ E.BySide (role_of_terminal self.old)) }

@@ -1,12 +1,12 @@
--- The lines of `code`, `replay` and `show`: what they mean, when they are refused, and that what is written can be read back.
+-- Lemmas about the lines of `code`, `replay` and `show`: what a line means, when it is refused, and that a written line can be parsed back.
 use Rattle.{
   lapdm_frame.{
     proofs.Lemmas.{FieldsFit, content_fits, fields_fit, never_refused, octets_canonical, one_reading, same_canonical, same_frame},
     proofs.Lemmas.{same_reason, bit_bound},
     specs.{
-      Content.{Content, Fields, Frame, I, Rnr, Ui, content_of_fields, fields_of, fields, information, all_frame_kinds},
+      Content.{Content, Fields, Frame, I, Rnr, Ui, content_of_fields, fields_of_content, fields, information, all_frame_kinds},
       Frames.{FrameFits, InformationFits, IsCanonicalCoding, bit_of_bool, octets_of, IsFrameCoding},
-      Refusals.{IsRefused, RefusalAppliesToBlock, refusal_order},
+      Refusals.{IsRefused, RefusalAppliesToBlock, refusal_test_index},
       declared.{Channel.TheVariants.Sdcch, Kind.Kind, Refusal.{TheVariants.Ea, Refusal}},
     },
   },
@@ -28,13 +28,13 @@ use Rattle.{
     specs.{bit_blocks.SoftValues.{AllSoftBits, IsSoftBit}, declared.received.Received.Received},
   },
   um_formats.specs.{
-    BurstLines.{BurstLineMeans, burst_fault, burst_line_of_meaning, burst_parse_result},
-    CodeLines.{CodeLineMeans, code_fault, code_line_of_meaning},
-    FrameTexts.{IsTextOfOctets, frame_text, frame_values, octets_text, line_values_of_fields, kind_syntax_of_frame, unreadable_frame_text},
-    Held.{IsHardNormalLine, IsSoftNormalLine},
+    BurstLines.{BurstLineMeans, burst_line_fault, burst_line_of_meaning, burst_parse_result},
+    CodeLines.{CodeLineMeans, code_line_fault, code_line_of_meaning},
+    FrameTexts.{IsTextOfOctets, frame_text, frame_values, octets_text, line_values_of_fields, line_syntax_of_frame, unreadable_frame_text},
+    Held.{IsHardNormalBurstLine, IsSoftNormalBurstLine},
     Reports.{IsBlockReportText, block_report_line},
-    ShowLines.{ShowLineMeans, content_from_values, frame_from_values, is_bit_set, show_fault, show_line_of_frame, show_line_of_meaning},
-    ShowLines.{show_line_of_values, show_parse_result},
+    ShowLines.{ShowLineMeans, content_from_values, frame_from_values, is_bit_set, show_line_fault, show_line_of_frame},
+    ShowLines.{show_line_of_meaning, show_line_of_values, show_parse_result},
     ShowReading.{frame_line_words, min_info_octets},
     SoftOctets.signed_octets,
     WrittenBursts.IsUnskippedLine,
@@ -47,15 +47,14 @@ use Rattle.{
   },
   um_lines.{
     proofs.FormLaws.{AreOctets, Each, Fitting, fixed_words_lack, length-encode_lower, line_by_forms, line_short, passing_lack},
-    proofs.FormLaws.{read_of_words},
-    proofs.{FormLaws.{spelled_means, spelled_uncut, one_made, one_meaning}, Texts.words-join},
+    proofs.{FormLaws.{read_of_words, spelled_means, spelled_uncut, one_made, one_meaning}, Texts.words-join},
     specs.{BurstForms.{burst_line_forms, is_burst_out_of_order}, CodeForms.code_line_forms, Fields.{BitDigits, LineField, FixedWord}},
     specs.Fields.{HexOctets, NumberList, Number, Value, bit_digits, fits_field, has_wrong_digits, has_wrong_length, is_bit_digit},
     specs.{Fields.octets_from_hex, Forms.{AreDistinct, Exactly, IsTableEntry, LineMeans, fault_or_value, has_faulty_word, line_meaning}},
-    specs.{Forms.{no_order_fault, bit_indices_of_values, values_of_words}, Hex.{encode_lower, encode_with, is_hex_digit}},
+    specs.{Forms.{never_misplaced, bit_indices_of_values, values_of_words}, Hex.{encode_lower, encode_with, is_hex_digit}},
     specs.{Meanings.HasOneMeaningOrFault, ShowForms.{FrameFormat, NumberedInfo, ShowLineKind, Supervisory, WithInfo, WithoutInfo}},
-    specs.{ShowForms.{frame_fields, shape_fields, show_line_forms, syntax}, LineTexts.{line_of_values, octets_word}, Words.IsNotSpace},
-    specs.{Words.{is_skipped_line, words}, declared.fault.LineFault.TheVariants.{Digits, Length, Word}},
+    specs.{ShowForms.{frame_fields, fields_of_frame_format, show_line_forms, syntax}, LineTexts.{line_of_values, octets_word}},
+    specs.{Words.{IsNotSpace, is_skipped_line, words}, declared.fault.LineFault.TheVariants.{Digits, Length, Word}},
   },
 }
 use Rattle.um_lines.specs.BurstForms as F
@@ -84,15 +83,16 @@ hex_word = one_word_of is_hex_digit refl
 pub whole_word : (text word : List ℕ) → words text ≡ word ∷ [] → words text ≡ text ∷ []
 whole_word text word one = one ∙ ap (λ w. w ∷ []) (rw one at (join_with_byte-slice_split 32 text))
 
--- ## OtherBursts: Input lines that are not valid burst lines.
+-- ## OtherBursts: Lemmas about input lines that are not valid burst lines.
 
--- if the first word is one letter that begins no form of a burst line, parsing gives the fault `Word`
-pub other_letter : (held letter : ℕ) (rest : List (List ℕ)) → letter ≢ 110 → letter ≢ 78 → letter ≢ 97 → letter ≢ 65 → letter ≢ 115
+-- if the first word of a line is one letter with which no form of a burst line begins, parsing the line gives the fault `Word`
+pub other_letter : (held letter : ℕ) (rest : List (List ℕ)) → letter ≢ 110 → letter ≢ 78 → letter ≢ 97 → letter ≢ 65 →
+    letter ≢ 115
     → letter ≢ 83 → burst_parse_result held ((letter ∷ []) ∷ rest) ≡ Err Word
 other_letter held letter rest n N a A s S =
     rw (ne_eqb _ _ n, ne_eqb _ _ N, and_right (eqb letter 108) false refl, ne_eqb _ _ a, ne_eqb _ _ A, ne_eqb _ _ s, ne_eqb _ _ S)
 
--- if the first word is not one letter and another word follows, parsing gives the fault `Word`
+-- if the first word of a line is not one letter and another word follows, parsing the line gives the fault `Word`
 pub other_kind : (held : ℕ) (kind text : List ℕ) → length kind ≢ 1 → burst_parse_result held (kind ∷ words text) ≡ Err Word
 other_kind held [] text many = refl
 other_kind held (first ∷ []) text many = absurd (many refl)
@@ -106,10 +106,10 @@ other_kind held (first ∷ second ∷ kind) text many =
     lost [] some = absurd (omega arith)
     lost (word ∷ rest) some = and_right (bytes_eq (first ∷ second ∷ kind) (codes "lost")) false refl
 
--- ## BurstLaws: Each line of `replay` either has exactly one meaning or is refused. The bursts that lines mean consist of soft values, -127
--- to 127.
+-- ## BurstLaws: Each line of `replay` either has exactly one meaning or is refused. A burst in a line consists of soft values from -127 to
+-- 127.
 
-pub one_burst_meaning : (held : ℕ) (line : List ℕ) → HasOneMeaningOrFault (burst_fault held line) (BurstLineMeans held line)
+pub one_burst_meaning : (held : ℕ) (line : List ℕ) → HasOneMeaningOrFault (burst_line_fault held line) (BurstLineMeans held line)
 one_burst_meaning held line = one_made burst_line_of_meaning _ _ (one_meaning burst_line_forms (is_burst_out_of_order held) line refl)
 
 -- an octet other than 0x80 stands for a soft value, -127 to 127
@@ -123,7 +123,8 @@ AreSoft count values = (length values ≡ count) × AllSoftBits values
 pub hard : (count : ℕ) (bits : List ℕ) → (length bits ≡ count) × AllBits bits → AreSoft count (soft_bits bits)
 hard count bits known = (length-map bits soft_bit_of ∙ known.0, AllSoftBits-softened bits)
 
-pub soft : (count : ℕ) (octets : List ℕ) → AreOctets count octets × All (λ octet. octet ≢ 128) octets → AreSoft count (signed_octets octets)
+pub soft : (count : ℕ) (octets : List ℕ) → AreOctets count octets × All (λ octet. octet ≢ 128) octets →
+    AreSoft count (signed_octets octets)
 soft count octets known = (
   length-map octets (cast_signed w8) ∙ known.0.0,
   All-map IsSoftBit (cast_signed w8) octets (λ i d h. soft_octet _ (known.0.1 i d h) (known.1 i d h)),
@@ -135,7 +136,8 @@ lost = (length-replicate 148 (pos 0), All-replicate IsSoftBit 148 (pos 0) (omega
 none_held : (held : ℕ) → (not (held == 0) && true) ≡ false → held ≡ 0
 none_held held e = grind (arith, nat_tests)
 
--- a burst has the number of soft values that its kind requires, and no burst is held when an access or synchronisation burst comes
+-- a burst has the number of soft values that its kind requires, and no burst of an incomplete block is held before an access or
+-- synchronisation burst
 abbrev IsBurst : (held : ℕ) → BurstLine → Type 0
 IsBurst held Skip = Unit {0}
 IsBurst held (Normal values) = AreSoft 148 values
@@ -156,19 +158,20 @@ is_burst held =
     & (λ _ _ here (octets, _, is, known, none). rw (is, none) (none_held held here, soft 148 octets known))
     & tt)
 
--- a normal burst has 148 soft values
+-- if the meaning of a line is a normal burst, the burst has 148 soft values
 pub normal_burst : (held : ℕ) (line : List ℕ) (values : List ℤ) → BurstLineMeans held line (Normal values)
     → (length values ≡ 148) × AllSoftBits values
 normal_burst held line values = is_burst held line (Normal values)
 
--- an access burst has 88 soft values and six bits of BSIC, and no burst is held when it comes
+-- if the meaning of a line is an access burst, the burst has 88 soft values, the BSIC has six bits, and no burst of an incomplete block is
+-- held
 pub access_burst : (held : ℕ) (line bsic : List ℕ) (values : List ℤ) → BurstLineMeans held line (Access bsic values)
     → (held ≡ 0) × (length bsic ≡ 6) × AllBits bsic × (length values ≡ 88) × AllSoftBits values
 access_burst held line bsic values means =
     let known = is_burst held line (Access bsic values) means in
     (known.0, known.1, known.2, known.3.0, known.3.1)
 
--- a synchronisation burst has 148 soft values, and no burst is held when it comes
+-- if the meaning of a line is a synchronisation burst, the burst has 148 soft values, and no burst of an incomplete block is held
 pub sync_burst : (held : ℕ) (line : List ℕ) (values : List ℤ) → BurstLineMeans held line (Sync values)
     → (held ≡ 0) × (length values ≡ 148) × AllSoftBits values
 sync_burst held line values means =
@@ -180,7 +183,8 @@ pub short : (held : ℕ) (line : List ℕ) (meaning : BurstLine) → BurstLineMe
 short held = line_short burst_line_forms (is_burst_out_of_order held) burst_line_of_meaning
 
 -- writing the fourth burst into the buffer appends it to the first three
-pub fourth_burst_completes : (bursts : List (List ℤ)) (held : ℕ) (burst : List ℤ) → length bursts ≡ 4 → held ≡ 3 → set bursts held burst
+pub fourth_burst_completes : (bursts : List (List ℤ)) (held : ℕ) (burst : List ℤ) → length bursts ≡ 4 → held ≡ 3 →
+    set bursts held burst
     ≡ take held bursts ++ burst ∷ []
 fourth_burst_completes bursts held burst four last =
     cc (set_split bursts held burst (omega arith), drop_all (suc held) bursts (omega arith))
@@ -188,15 +192,15 @@ fourth_burst_completes bursts held burst four last =
 pub hard_values : (digits : List ℕ) → AllSoftBits (soft_bits (map (λ octet. octet - 48) digits))
 hard_values digits = AllSoftBits-softened (map (λ octet. octet - 48) digits)
 
--- ## NormalLines: The line of a normal burst means the soft values of the burst, and is not refused.
+-- ## NormalLines: A valid line of a normal burst is not refused, and means the soft values of the burst.
 
--- a normal burst is never out of order
+-- a line with a normal burst is never out of order
 never_out_of_order : (held : ℕ) → (not (held == 0) && false) ≡ false
 never_out_of_order held = and_right (not (held == 0)) false refl
 
--- the line means the normal burst with these soft values, and is not refused
+-- the meaning of a line is the normal burst with the given soft values, and the line is not refused
 abbrev IsRead : ℕ → List ℕ → List ℤ → Type 0
-IsRead held line soft = BurstLineMeans held line (Normal soft) × (None ≡ burst_fault held line)
+IsRead held line soft = BurstLineMeans held line (Normal soft) × (None ≡ burst_line_fault held line)
 
 read_line : (held : ℕ) (line : List ℕ) (ws : List (List ℕ)) (soft : List ℤ) → words line ≡ ws → length line ≤ 4096 →
     is_skipped_line line ≡ false → burst_parse_result held ws ≡ Ok (Normal soft) → IsRead held line soft
@@ -204,24 +208,25 @@ read_line held line ws soft is short stays read =
     read_of_words burst_line_forms (is_burst_out_of_order held) burst_line_of_meaning line (Ok (Normal soft)) short stays
     (sym (ap (burst_parse_result held) is ∙ read))
 
-pub hard_line : (held : ℕ) (line digits : List ℕ) → IsHardNormalLine line digits →
+pub hard_line : (held : ℕ) (line digits : List ℕ) → IsHardNormalBurstLine line digits →
     IsRead held line (soft_bits (map (λ octet. octet - 48) digits))
 hard_line held line digits h =
     rw h.line_form (read_line held (codes "n " ++ digits) _ _ (ap (λ ws. codes "n" ∷ ws) (bit_word digits h.all_bit_digits))
     (omega (arith, h.right_length)) refl (rw (never_out_of_order held, h.all_bit_digits, h.right_length)))
 
-pub soft_line : (held : ℕ) (line digits : List ℕ) → IsSoftNormalLine line digits → IsRead held line (signed_octets (octets_from_hex digits))
+pub soft_line : (held : ℕ) (line digits : List ℕ) → IsSoftNormalBurstLine line digits →
+    IsRead held line (signed_octets (octets_from_hex digits))
 soft_line held line digits h =
     let o = h.octets in
     rw o.line_form (read_line held (codes "N " ++ digits) _ _ (ap (λ ws. codes "N" ∷ ws) (hex_word digits o.all_hex_digits))
     (omega (arith, o.right_length)) refl (rw (never_out_of_order held, o.all_hex_digits, o.right_length, h.in_range)))
 
-pub soft_within : (line digits : List ℕ) → IsSoftNormalLine line digits → AllSoftBits (signed_octets (octets_from_hex digits))
+pub soft_within : (line digits : List ℕ) → IsSoftNormalBurstLine line digits → AllSoftBits (signed_octets (octets_from_hex digits))
 soft_within line digits h = (normal_burst 0 line _ (soft_line 0 line digits h).0).1
 
 -- ## WrittenBursts: Parsing the line that is written for a burst gives the burst back.
 
--- the line of a burst, without its line feed
+-- the text line of a normal burst, without its line feed
 abbrev pub normal_line : List ℕ → List ℕ
 normal_line burst = codes "n " ++ bit_digits burst
 
@@ -234,7 +239,7 @@ sync_line burst = codes "s " ++ bit_digits burst
 length-bit_digits : (bits : List ℕ) → length (bit_digits bits) ≡ length bits
 length-bit_digits bits = length-map bits (λ bit. 48 + bit)
 
--- ---- each line that is written means its burst
+-- ---- parsing the line that is written for a burst gives the soft values of the burst
 
 pub normal_restored : (held : ℕ) (burst : List ℕ) → length burst ≡ 148 → AllBits burst
     → BurstLineMeans held (normal_line burst) (Normal (soft_bits burst))
@@ -245,7 +250,8 @@ normal_restored held burst many each = (
   refl,
 )
 
-pub sync_restored : (burst : List ℕ) → length burst ≡ 148 → AllBits burst → BurstLineMeans 0 (sync_line burst) (Sync (soft_bits burst))
+pub sync_restored : (burst : List ℕ) → length burst ≡ 148 → AllBits burst →
+    BurstLineMeans 0 (sync_line burst) (Sync (soft_bits burst))
 sync_restored burst many each = (
   Some (F.Sync, NumberList burst ∷ []),
   spelled_means burst_line_forms (is_burst_out_of_order 0) F.Sync (codes "s") (BitDigits 148 ∷ []) (NumberList burst ∷ [])
@@ -265,7 +271,7 @@ access_restored bsic burst few bits many each = rw append_assoc (
   refl,
 )
 
--- ---- no line that is written contains a line feed
+-- ---- the line that is written for a burst contains no line feed
 
 pub normal_whole : (burst : List ℕ) → length burst ≡ 148 → AllBits burst → IsUnskippedLine (normal_line burst)
 normal_whole burst many each = record {
@@ -291,12 +297,12 @@ access_whole bsic burst few bits many each = record {
   not_skipped = refl;
 }
 
--- ## CodeLaws: Each line of `code` either has exactly one meaning or is refused, and what a line means can be sent.
+-- ## CodeLaws: Each line of `code` either has exactly one meaning or is refused, and the information in a line can be sent.
 
-pub one_code_meaning : (line : List ℕ) → HasOneMeaningOrFault (code_fault line) (CodeLineMeans line)
-one_code_meaning line = one_made code_line_of_meaning _ _ (one_meaning code_line_forms no_order_fault line refl)
+pub one_code_meaning : (line : List ℕ) → HasOneMeaningOrFault (code_line_fault line) (CodeLineMeans line)
+one_code_meaning line = one_made code_line_of_meaning _ _ (one_meaning code_line_forms never_misplaced line refl)
 
--- this meaning can be sent: a training sequence code and 23 octets, or 8 bits and a BSIC, or 25 bits
+-- the information in a line can be sent: a training sequence code and 23 octets, or 8 bits and a BSIC, or 25 bits
 abbrev pub CanBeSent : CodeLine → Type 0
 CanBeSent CodeSkip = Unit {0}
 CanBeSent (Block tsc octets) = (tsc ≤ 7) × AreOctets 23 octets
@@ -305,19 +311,19 @@ CanBeSent (Sch info) = (length info ≡ 25) × AllBits info
 
 pub can_be_sent : (line : List ℕ) (meaning : CodeLine) → CodeLineMeans line meaning → CanBeSent meaning
 can_be_sent =
-    line_by_forms code_line_forms no_order_fault code_line_of_meaning CanBeSent tt
+    line_by_forms code_line_forms never_misplaced code_line_of_meaning CanBeSent tt
     ((λ _ _ _ (tsc, _, is, within, (octets, _, is', known, none)). rw (is, is', none) (within, known))
     & (λ _ _ _ (info, _, is, known, (bsic, _, is', known', none)). rw (is, is', none) (known, known'))
     & (λ _ _ _ (info, _, is, known, none). rw (is, none) known)
     & tt)
 
--- ## ReportLaws: Any 23 octets can be written as exactly one text, and so can the report on a received block.
+-- ## ReportLaws: Any 23 octets have exactly one text, and so has the report on a received block.
 
--- octets can be written as at most one text
+-- a list of octets has at most one text
 pub one_frame_text : (octets a b : List ℕ) → IsTextOfOctets octets a → IsTextOfOctets octets b → a ≡ b
 one_frame_text octets a b x y = grind (arith, same_frame, same_reason, never_refused)
 
--- any 23 octets can be written as text
+-- every list of 23 octets has a text
 pub some_frame_text : (octets : List ℕ) → length octets ≡ 23 → (text : List ℕ) × IsTextOfOctets octets text
 some_frame_text octets count =
     elim (one_reading Sdcch octets count) [
@@ -330,7 +336,8 @@ abbrev Reported : List ℕ → Option (List ℕ) → List ℕ → Type 0
 Reported line accepted text =
     MatchOption accepted (text ≡ line) (λ octets. (second : List ℕ) × IsTextOfOctets octets second × (text ≡ line ++ second))
 
-one_reported : (line : List ℕ) (accepted : Option (List ℕ)) (a b : List ℕ) → Reported line accepted a → Reported line accepted b → a ≡ b
+one_reported : (line : List ℕ) (accepted : Option (List ℕ)) (a b : List ℕ) → Reported line accepted a →
+    Reported line accepted b → a ≡ b
 one_reported line None a b is_a is_b = is_a ∙ sym is_b
 one_reported line (Some octets) a b (x, is_x, e) (y, is_y, e') = cc (one_frame_text octets x y is_x is_y)
 
@@ -345,15 +352,16 @@ some_reported line (Some octets) count =
 pub one_block_report : (r : Received) (a b : List ℕ) → IsBlockReportText r a → IsBlockReportText r b → a ≡ b
 one_block_report r = one_reported (block_report_line r) r.accepted
 
--- the report on a received block can be written as text if 23 octets, or none, are accepted
-pub some_block_report : (r : Received) → IfSome r.accepted (λ octets. length octets ≡ 23) → (text : List ℕ) × IsBlockReportText r text
+-- the report on a received block has a text if the receiver accepts 23 octets or none
+pub some_block_report : (r : Received) → IfSome r.accepted (λ octets. length octets ≡ 23) → (text : List ℕ)
+    × IsBlockReportText r text
 some_block_report r = some_reported (block_report_line r) r.accepted
 
--- ## ShowReading: What the words of a line of `show` mean: which lines have no form, and which frame a line spells.
+-- ## ShowReading: The meaning of the words in a line of `show`: when the line matches no form, and which frame it describes.
 
--- ---- the first word
+-- ---- if a line begins with neither `octets` nor `frame`, parsing it gives the fault `Word`
 
--- if the first word of a line is `name` and no space follows it, it is the only word
+-- if the first word of a line is `name`, but the line does not begin with `name` and a space, `name` is its only word
 alone : (name line word : List ℕ) (more : List (List ℕ)) → join_with_byte 32 (word ∷ more) ≡ line
     → ((rest : List ℕ) → line ≢ name ++ 32 ∷ rest) → bytes_eq word name ≡ true → name ∷ [] ≡ word ∷ more
 alone name line word [] whole other same = rw ((bytes_eq-Decides word name).0 same)
@@ -372,14 +380,16 @@ unknown_first_word line (word ∷ more) whole octets frame =
       ]
     ]
 
--- a line that begins with neither `octets ` nor `frame ` has no form: parsing it gives the fault `Word`
-pub no_name : (line : List ℕ) → ((rest : List ℕ) → line ≢ codes "octets " ++ rest) → ((rest : List ℕ) → line ≢ codes "frame " ++ rest)
+-- a line that begins with neither `octets ` nor `frame ` matches no form: parsing it gives the fault `Word`
+pub no_name : (line : List ℕ) → ((rest : List ℕ) → line ≢ codes "octets " ++ rest) →
+    ((rest : List ℕ) → line ≢ codes "frame " ++ rest)
     → Err Word ≡ show_parse_result (words line)
 no_name line = unknown_first_word line (words line) (join_with_byte-slice_split 32 line)
 
--- ---- the words of a frame
+-- ---- the words of a line determine the frame that the line describes, or the fault
 
--- parsing these words gives a fault if digits are wrong, or else if a length is wrong; otherwise it gives the frame that the words spell
+-- parsing the words `parts` gives the fault `Digits` if digits in `found` are wrong, otherwise `Length` if a length is wrong, otherwise the
+-- frame that the words `found` describe
 abbrev IsReadAs : List (List ℕ) → Kind → List (List ℕ) → Type 0
 IsReadAs parts kind found =
     let form = frame_fields (syntax kind) in
@@ -401,7 +411,8 @@ module _ (parts : List (List ℕ)) (w : FrameWords) (e : parts ≡ frame_line_wo
   pub refused_for_digits : is_faulty has_wrong_digits w ≡ true → Err Digits ≡ show_parse_result parts
   refused_for_digits wrong = sym (read ∙ rw wrong)
 
-  pub refused_for_length : is_faulty has_wrong_digits w ≡ false → is_faulty has_wrong_length w ≡ true → Err Length ≡ show_parse_result parts
+  pub refused_for_length : is_faulty has_wrong_digits w ≡ false → is_faulty has_wrong_length w ≡ true →
+      Err Length ≡ show_parse_result parts
   refused_for_length right wrong = sym (read ∙ rw (right, wrong))
 
   pub read_frame : (f : Frame) → is_faulty has_wrong_digits w ≡ false → is_faulty has_wrong_length w ≡ false →
@@ -409,23 +420,23 @@ module _ (parts : List (List ℕ)) (w : FrameWords) (e : parts ≡ frame_line_wo
       Ok (S.Frame (octets_of Sdcch f)) ≡ show_parse_result parts
   read_frame f right many is = sym (read ∙ rw (right, many, is))
 
--- ## ShowLaws: Each line of `show` either has exactly one meaning or is refused, and a frame that a line spells fits in a block.
+-- ## ShowLaws: Each line of `show` either has exactly one meaning or is refused, and a frame that a line describes fits in a block.
 
-pub one_show_meaning : (line : List ℕ) → HasOneMeaningOrFault (show_fault line) (ShowLineMeans line)
-one_show_meaning line = one_made show_line_of_meaning _ _ (one_meaning show_line_forms no_order_fault line refl)
+pub one_show_meaning : (line : List ℕ) → HasOneMeaningOrFault (show_line_fault line) (ShowLineMeans line)
+one_show_meaning line = one_made show_line_of_meaning _ _ (one_meaning show_line_forms never_misplaced line refl)
 
--- what a line asks for, together with the frame that it spells, if any
+-- the meaning of a line, together with the frame that the line describes, if any
 abbrev line_said : Option (ShowLineKind × List Value) → ShowLine × Option Frame
 line_said None = (S.Skip, None)
 line_said (Some meaning) = (show_line_of_values meaning.0 meaning.1, frame_from_values meaning.0 meaning.1)
 
--- the line asks for 23 octets, or spells a frame that fits in a block
+-- a line holds 23 octets, or the frame that it describes, if any, fits in a block
 abbrev IsKnown : ShowLine × Option Frame → Type 0
 IsKnown (S.Octets octets, f) = AreOctets 23 octets
 IsKnown (other, f) = IfSome f (FrameFits Sdcch)
 
--- values that fit the fields of a frame shape spell a frame of the given kind, whose fields are in range
-said_fields : (shape : FrameFormat) (kind : Kind) (values : List Value) → Fitting (shape_fields shape) values →
+-- values that fit the fields of a frame format describe a frame of the given kind, whose N(S), N(R) and information length are in range
+said_fields : (shape : FrameFormat) (kind : Kind) (values : List Value) → Fitting (fields_of_frame_format shape) values →
     (f : Fields) × (content_from_values shape kind values ≡ Some (content_of_fields f)) × (f.kind ≡ kind) × (f.ns ≤ 7)
     × (f.nr ≤ 7) × (min_info_octets shape ≤ length f.info) × (length f.info ≤ 20)
 said_fields NumberedInfo kind values (ns, _, e1, sent, (nr, _, e2, got, (p, _, e3, _, (m, _, e4, _, (info, _, e5, fits, none))))) =
@@ -437,13 +448,13 @@ said_fields (WithInfo name) kind values (pf, _, e1, _, (info, _, e2, fits, none)
 said_fields (WithoutInfo name) kind values (pf, _, e1, _, none) =
     rw (e1, none) (fields kind 0 0 (is_bit_set pf) false [], refl, refl, omega arith, omega arith, omega arith, omega arith)
 
--- for each of these frame kinds, values that fit its form spell a frame that fits in a block
-each_frame : (ks : List Kind) → Each no_order_fault (λ name values. IsKnown (line_said (Some (name, values))))
+-- for each of these frame kinds, values that fit the form of the kind describe a frame that fits in a block
+each_frame : (ks : List Kind) → Each never_misplaced (λ name values. IsKnown (line_said (Some (name, values))))
     (map (λ kind. (SF.Frame kind, Exactly (frame_fields (syntax kind)))) ks)
 each_frame [] = tt
 each_frame (kind ∷ ks) = (
   λ _ _ _ (s, _, e1, small, (cr, vs, e2, _, rest)).
-      let x = said_fields (syntax kind).shape kind vs (rw (append-nil (shape_fields (syntax kind).shape)) at rest) in
+      let x = said_fields (syntax kind).shape kind vs (rw (append-nil (fields_of_frame_format (syntax kind).shape)) at rest) in
       let fits = content_fits Sdcch x.0 (record {
         sent = x.3;
         received = x.4;
@@ -454,42 +465,43 @@ each_frame (kind ∷ ks) = (
   each_frame ks,
 )
 
-known : (line : List ℕ) (meaning : Option (ShowLineKind × List Value)) → LineMeans show_line_forms no_order_fault line meaning →
+known : (line : List ℕ) (meaning : Option (ShowLineKind × List Value)) → LineMeans show_line_forms never_misplaced line meaning →
     IsKnown (line_said meaning)
 known line meaning means =
-    line_by_forms show_line_forms no_order_fault line_said IsKnown tt
+    line_by_forms show_line_forms never_misplaced line_said IsKnown tt
     (λ _ _ _ (octets, _, is, known, none). rw (is, none) known, each_frame all_frame_kinds)
     line (line_said meaning) (meaning, means, refl)
 
--- every frame that a line spells fits in a block
+-- every frame that a line of `show` describes fits in a block
 said_fits : (line : List ℕ) (name : ShowLineKind) (values : List Value) (f : Frame)
-    → LineMeans show_line_forms no_order_fault line (Some (name, values)) → frame_from_values name values ≡ Some f → FrameFits Sdcch f
+    → LineMeans show_line_forms never_misplaced line (Some (name, values)) → frame_from_values name values ≡ Some f →
+    FrameFits Sdcch f
 said_fits line x values f means is = let k = known line (Some (x, values)) means in grind arith
 
--- if a line of `show` asks for octets, it asks for 23 of them
+-- if the meaning of a line of `show` is a list of octets, the list has 23 octets
 pub shown_octets : (line octets : List ℕ) → ShowLineMeans line (S.Octets octets) → length octets ≡ 23
 shown_octets line octets (x, means, is) = let k = known line x means in grind arith
 
--- ## WrittenFrames: Parsing what `show` writes for frames and octets gives them back.
+-- ## WrittenFrames: Parsing the lines that `show` writes for frames and octets gives these frames and octets back.
 
 length-octets_word : (octets : List ℕ) → length octets ≤ 20 → length (octets_word octets) ≤ 40
 length-octets_word x few = grind (arith, length-encode_lower)
 
--- ---- the line of a frame
+-- ---- definitions for the line that is written for a frame
 
 abbrev kind : Content → Kind
-kind content = (fields_of content).kind
+kind content = (fields_of_content content).kind
 
 abbrev frame : ℕ → Bool → Content → Frame
 frame s cr content = record { sapi = s; cr = cr; content = content }
 
 abbrev written : Frame → List ℕ
-written f = line_of_values (frame_fields (kind_syntax_of_frame f)) (frame_values f)
+written f = line_of_values (frame_fields (line_syntax_of_frame f)) (frame_values f)
 
 set_bit : (b : Bool) → is_bit_set (bit_of_bool b) ≡ b
 set_bit x = grind arith
 
--- the form of a frame's kind is in the table, and the values written for a frame spell that frame
+-- the line form for the kind of a frame is in the table, and the values that are written for the frame describe this frame
 record IsWritten (s : ℕ) (cr : Bool) (content : Content) : Type 0 where
   pub form_of_table : IsTableEntry show_line_forms (SF.Frame (kind content), Exactly (frame_fields (syntax (kind content))))
   pub frame_is : frame_from_values (SF.Frame (kind content)) (frame_values (frame s cr content)) ≡ Some (frame s cr content)
@@ -507,29 +519,30 @@ least : (kind : Kind) (count : ℕ) → (kind ≡ K.I → 1 ≤ count) → min_i
 least x count some = grind arith
 
 fitting : (shape : FrameFormat) (f : Fields) → FieldsFit Sdcch f → min_info_octets shape ≤ length f.info → AllOctets f.info
-    → Fitting (shape_fields shape) (line_values_of_fields shape f)
+    → Fitting (fields_of_frame_format shape) (line_values_of_fields shape f)
 fitting x f fit many small = grind (arith, bit_bound)
 
-same_information : (content : Content) → (fields_of content).info ≡ information content
+same_information : (content : Content) → (fields_of_content content).info ≡ information content
 same_information x = grind arith
 
 -- parsing the text of a frame that fits in a block gives the canonical octets of the frame
-frame_back : (f : Frame) (line : List ℕ) → FrameFits Sdcch f → AllOctets (information f.content) → frame_text f ≡ line ++ codes "\n"
+frame_back : (f : Frame) (line : List ℕ) → FrameFits Sdcch f → AllOctets (information f.content) →
+    frame_text f ≡ line ++ codes "\n"
     → IsUnskippedLine line × ShowLineMeans line (S.Frame (octets_of Sdcch f))
 frame_back f line fits small text =
     let w = is_written f.sapi f.cr f.content in
     let vs = frame_values f in
     let fit = fields_fit Sdcch f.content fits.ns_nr_fit fits.information in
     let many = least (kind f.content) _ fit.nonempty in
-    let rest = fitting (kind_syntax_of_frame f).shape (fields_of f.content) fit many (rw (same_information f.content) small) in
-    let fitted : Fitting (frame_fields (kind_syntax_of_frame f)) vs = (_, _, refl, fits.sapi, (_, _, refl, bit_bound f.cr, rest)) in
+    let rest = fitting (line_syntax_of_frame f).shape (fields_of_content f.content) fit many (rw (same_information f.content) small) in
+    let fitted : Fitting (frame_fields (line_syntax_of_frame f)) vs = (_, _, refl, fits.sapi, (_, _, refl, bit_bound f.cr, rest)) in
     let same : written f ≡ line = append_cancel_right _ line (codes "\n") text in
     let short : length (written f) ≤ 4096 = omega (arith, few f.sapi f.cr f.content fits.information) in
     rw (← same) (
-      record { no_line_feed = spelled_uncut (frame_fields (kind_syntax_of_frame f)) vs w.no_line_feed fitted; not_skipped = refl },
+      record { no_line_feed = spelled_uncut (frame_fields (line_syntax_of_frame f)) vs w.no_line_feed fitted; not_skipped = refl },
       (
         Some (SF.Frame (kind f.content), vs),
-        spelled_means show_line_forms no_order_fault (SF.Frame (kind f.content)) (codes "frame") _ vs w.form_of_table refl w.no_spaces
+        spelled_means show_line_forms never_misplaced (SF.Frame (kind f.content)) (codes "frame") _ vs w.form_of_table refl w.no_spaces
             fitted w.once short refl,
         sym (ap show_line_of_frame w.frame_is),
       ),
@@ -556,13 +569,13 @@ octets_back octets line count small text =
       record { no_line_feed = spelled_uncut form values refl fits; not_skipped = refl },
       (
         Some (SF.Octets, values),
-        spelled_means show_line_forms no_order_fault SF.Octets (codes "octets") (HexOctets 23 ∷ []) values
+        spelled_means show_line_forms never_misplaced SF.Octets (codes "octets") (HexOctets 23 ∷ []) values
             (inl refl) refl refl fits tt short refl,
         refl,
       ),
     )
 
--- ---- if a line spells a frame, the text of its octets is the text of that frame
+-- ---- if a line describes a frame, the text of the octets of this frame is the text that is written for the frame
 
 from_shown : (octets : List ℕ) (said : Option Frame) → S.Frame octets ≡ show_line_of_frame said
     → (f : Frame) × (said ≡ Some f) × (octets ≡ octets_of Sdcch f)
@@ -574,7 +587,7 @@ says_frame x values octets e = grind (arith, from_shown)
 
 pub frame_again : (written octets : List ℕ) → ShowLineMeans written (S.Frame octets) →
     (name : ShowLineKind) × (values : List Value) × (f : Frame)
-    × LineMeans show_line_forms no_order_fault written (Some (name, values)) × (frame_from_values name values ≡ Some f)
+    × LineMeans show_line_forms never_misplaced written (Some (name, values)) × (frame_from_values name values ≡ Some f)
     × ((text : List ℕ) → IsTextOfOctets octets text → text ≡ frame_text f)
 frame_again written octets (None, means, e) = absurd cc
 frame_again written octets (Some (name, values), means, e) =
@@ -585,7 +598,7 @@ frame_again written octets (Some (name, values), means, e) =
 
 -- ## WorkedLines: Worked examples of frames, octets and soft values, computed by hand.
 
--- a frame with information, first written and then read back
+-- an example frame with information: an I frame with N(S) = 5 and N(R) = 2, which is written and then parsed
 asked : Frame
 asked = record { sapi = 0; cr = false; content = I 5 2 true false (6 ∷ 1 ∷ []) }
 
@@ -596,7 +609,10 @@ example_text = refl
 abbrev example_values : List Value
 example_values = Number 0 ∷ Number 0 ∷ Number 5 ∷ Number 2 ∷ Number 1 ∷ Number 0 ∷ NumberList (6 ∷ 1 ∷ []) ∷ []
 
-example_line : line_meaning show_line_forms (codes "frame sapi 0 cr 0 i ns 5 nr 2 p 1 m 0 info 0601") ≡ Some (SF.Frame K.I, example_values)
+example_line : line_meaning show_line_forms (codes "frame sapi 0 cr 0 i ns 5 nr 2 p 1 m 0 info 0601") ≡ Some (
+  SF.Frame K.I,
+  example_values,
+)
 example_line = refl
 
 example_frame : frame_from_values (SF.Frame K.I) example_values ≡ Some asked
@@ -606,7 +622,7 @@ example_frame = refl
 example_octets : octets_from_hex (codes "0601") ≡ 6 ∷ 1 ∷ []
 example_octets = refl
 
--- other octets after the information do not change the text of a frame
+-- the octets that fill the block after the information do not change the text of a frame
 other_fill_same_text : IsTextOfOctets (3 ∷ 3 ∷ 1 ∷ replicate 20 255) (codes "frame sapi 0 cr 1 ui p 0 info -\n")
 other_fill_same_text = inl (
   record { sapi = 0; cr = true; content = Ui false [] },
@@ -623,15 +639,15 @@ rnr_text = inl (
 
 -- a block of zeros is refused as a frame, since its EA bit is 0
 zeros_refused : IsRefused Sdcch (replicate 23 0) Ea
-zeros_refused = record { applies = refl; no_earlier = earlier }
+zeros_refused = record { applies = refl; no_earlier_reason_applies = earlier }
   where
-    earlier : (reason : Refusal) → refusal_order reason < 1 → ¬ RefusalAppliesToBlock Sdcch (replicate 23 0) reason
+    earlier : (reason : Refusal) → refusal_test_index reason < 1 → ¬ RefusalAppliesToBlock Sdcch (replicate 23 0) reason
     earlier x before applies = grind arith
 
 zeros_text : IsTextOfOctets (replicate 23 0) (codes "unread ea\n")
 zeros_text = inr (Ea, zeros_refused, refl)
 
--- the data and the CRC of a block of zeros: the CRC is 40 ones
+-- written in hexadecimal, the 184 data bits of a block of zeros are 46 zeros; the CRC of the block is 40 ones
 zeros_data : encode_lower (octets_of_bits (take 184 (replicate 184 0 ++ replicate 40 1 ++ replicate 4 0)))
     ≡ codes "0000000000000000000000000000000000000000000000"
 unfolding encode_with

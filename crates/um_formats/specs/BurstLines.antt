@@ -29,15 +29,15 @@ burst_line_of_meaning None = B.Skip
 burst_line_of_meaning (Some meaning) = burst_line_of_values meaning.0 meaning.1
 
 -- why a line of `replay` is refused after this number of bursts of an incomplete block: the first fault, or `None`
-abbrev pub burst_fault : (held_burst_count : ℕ) (line : List ℕ) → Option LineFault
-burst_fault held line = line_fault burst_line_forms (is_burst_out_of_order held) line
+abbrev pub burst_line_fault : (held_burst_count : ℕ) (line : List ℕ) → Option LineFault
+burst_line_fault held line = line_fault burst_line_forms (is_burst_out_of_order held) line
 
 -- why an input that ends with these bursts of an incomplete block is refused: `Order`, or `None` if there are no bursts
 abbrev pub unfinished_block_fault : (held_bursts : List (List ℤ)) → Option LineFault
 unfinished_block_fault [] = None
 unfinished_block_fault (burst ∷ bursts) = Some Order
 
--- the line of `replay` has this meaning after this number of bursts of an incomplete block
+-- a line of the `replay` command has the given meaning after this number of bursts of an incomplete block
 abbrev pub BurstLineMeans : (held_burst_count : ℕ) (line : List ℕ) (meaning : BurstLine) → Type 0
 BurstLineMeans held line = LineParsesTo burst_line_forms (is_burst_out_of_order held) burst_line_of_meaning line
 

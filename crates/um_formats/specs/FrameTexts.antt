@@ -4,11 +4,11 @@ use Rattle.um_lines.specs.Hex.{encode_lower}
 use Rattle.lapdm_frame.specs.declared.Channel.TheVariants.{Sdcch}
 use Rattle.lapdm_frame.specs.declared.Refusal.{Refusal}
 use Rattle.lapdm_frame.specs.declared.Refusal.TheVariants.{Lpd, Ea, Control, El, Length, Empty, More}
-use Rattle.lapdm_frame.specs.Content.{Fields, Frame, fields_of}
+use Rattle.lapdm_frame.specs.Content.{Fields, Frame, fields_of_content}
 use Rattle.lapdm_frame.specs.Frames.{bit_of_bool, IsFrameCoding}
 use Rattle.lapdm_frame.specs.Refusals.{IsRefused}
 use Rattle.um_lines.specs.Fields.{Value, Number, NumberList}
-use Rattle.um_lines.specs.ShowForms.{FrameFormat, NumberedInfo, Supervisory, WithInfo, WithoutInfo, KindSyntax, syntax, frame_fields}
+use Rattle.um_lines.specs.ShowForms.{FrameFormat, NumberedInfo, Supervisory, WithInfo, WithoutInfo, FrameLineSyntax, syntax, frame_fields}
 use Rattle.um_lines.specs.LineTexts.{line_of_values}
 
 -- the values of the fields that follow the word that names the frame kind
@@ -19,17 +19,18 @@ line_values_of_fields Supervisory f = Number f.nr ∷ Number (bit_of_bool f.pf) 
 line_values_of_fields (WithInfo name) f = Number (bit_of_bool f.pf) ∷ NumberList f.info ∷ []
 line_values_of_fields (WithoutInfo name) f = Number (bit_of_bool f.pf) ∷ []
 
--- the word that names the kind of this frame, and the shape of the fields that follow it
-abbrev pub kind_syntax_of_frame : Frame → KindSyntax
-kind_syntax_of_frame f = syntax (fields_of f.content).kind
+-- the word that names the kind of this frame, and the format of the fields that follow it
+abbrev pub line_syntax_of_frame : Frame → FrameLineSyntax
+line_syntax_of_frame f = syntax (fields_of_content f.content).kind
 
 -- the values of all fields in the text line of a frame
 abbrev pub frame_values : Frame → List Value
-frame_values f = Number f.sapi ∷ Number (bit_of_bool f.cr) ∷ line_values_of_fields (kind_syntax_of_frame f).shape (fields_of f.content)
+frame_values f = Number f.sapi ∷ Number (bit_of_bool f.cr) ∷ line_values_of_fields (line_syntax_of_frame f).shape
+    (fields_of_content f.content)
 
 -- the text line of a frame: the line form of its kind, filled with the values of the frame
 abbrev pub frame_text : Frame → List ℕ
-frame_text f = line_of_values (frame_fields (kind_syntax_of_frame f)) (frame_values f) ++ codes "\n"
+frame_text f = line_of_values (frame_fields (line_syntax_of_frame f)) (frame_values f) ++ codes "\n"
 
 -- the word that gives the reason why octets are not a valid frame
 abbrev pub refusal_word : Refusal → List ℕ

@@ -8,7 +8,7 @@ use Rattle.um_formats.specs.declared.burst_lines.BurstLine.{BurstLine}
 use Rattle.um_formats.specs.declared.burst_lines.BurstLine.TheVariants as B
 use Rattle.um_formats.specs.declared.held.BurstsToDecode.{BurstsToDecode}
 use Rattle.um_formats.specs.declared.held.BurstsToDecode.TheVariants as N
-use Rattle.um_formats.specs.BurstLines.{burst_fault, BurstLineMeans}
+use Rattle.um_formats.specs.BurstLines.{burst_line_fault, BurstLineMeans}
 
 -- a buffer for the four bursts of a block: `held` lists the bursts of the incomplete block, in order; `slots` is the whole buffer, which
 -- keeps the last complete block until the next normal burst overwrites it
@@ -42,25 +42,25 @@ HasValidSoftValues next = Unit {0}
 -- ---- definitions that only the contracts of the parser use
 
 -- `line` holds the 148 hard bits of a normal burst: `n ` and 148 `digits`, each `0` or `1`
-pub record IsHardNormalLine (line digits : List ℕ) : Type 0 where
+pub record IsHardNormalBurstLine (line digits : List ℕ) : Type 0 where
   pub line_form : line ≡ codes "n " ++ digits
   pub all_bit_digits : list_all is_bit_digit digits ≡ true
   pub right_length : length digits ≡ 148
 
 -- `line` holds the 148 soft values of a normal burst, perhaps including -128: `N ` and 296 hexadecimal `digits`
-pub record IsHexNormalLine (line digits : List ℕ) : Type 0 where
+pub record IsHexNormalBurstLine (line digits : List ℕ) : Type 0 where
   pub line_form : line ≡ codes "N " ++ digits
   pub all_hex_digits : list_all is_hex_digit digits ≡ true
   pub right_length : length digits ≡ 296
 
 -- `line` holds the 148 soft values of a normal burst, none of them -128
-pub record IsSoftNormalLine (line digits : List ℕ) : Type 0 where
-  pub octets : IsHexNormalLine line digits
+pub record IsSoftNormalBurstLine (line digits : List ℕ) : Type 0 where
+  pub octets : IsHexNormalBurstLine line digits
   pub in_range : list_any (λ octet. octet == 128) (octets_from_hex digits) ≡ false
 
 -- `line` holds a valid normal burst, which is added to the buffer and, if `completes_block`, completes the block
 pub record HoldsBurstOfLine (old : BurstBuffer) (line : List ℕ) (new : BurstBuffer) (completes_block : Bool) : Type 0 where
   pub soft : List ℤ
   pub means : BurstLineMeans (length old.held) line (B.Normal soft)
-  pub no_fault : None ≡ burst_fault (length old.held) line
+  pub no_fault : None ≡ burst_line_fault (length old.held) line
   pub adds_burst : AddsNormalBurst old soft completes_block new

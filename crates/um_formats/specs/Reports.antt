@@ -10,15 +10,15 @@ use Rattle.um_lines.specs.Fields.{bit_digits}
 use Rattle.um_formats.specs.FrameTexts.{IsTextOfOctets}
 
 -- the word for the result of the CRC: `ok` or `bad`
-abbrev pub crc_word : Bool → List ℕ
-crc_word true = codes "ok"
-crc_word false = codes "bad"
+abbrev pub crc_result_word : Bool → List ℕ
+crc_result_word true = codes "ok"
+crc_result_word false = codes "bad"
 
 -- the words for reception quality: the number of wrong training bits, the metric, and whether the CRC is correct
 abbrev pub quality_text : (wrong_bit_count : ℕ) (metric : ℤ) (crc_holds : Bool) → List ℕ
 quality_text wrong metric holds =
     codes " train " ++ decimal wrong ++ codes " metric " ++ signed_decimal metric
-    ++ codes " parity " ++ crc_word holds
+    ++ codes " parity " ++ crc_result_word holds
 
 -- the words for the received data and CRC, which end the report line
 abbrev pub data_and_check_text : (data_word check : List ℕ) → List ℕ

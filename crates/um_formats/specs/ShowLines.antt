@@ -6,7 +6,7 @@ use Rattle.lapdm_frame.specs.Content.{Content, Frame, content_with_fields}
 use Rattle.lapdm_frame.specs.Frames.{octets_of}
 use Rattle.um_lines.specs.declared.fault.LineFault.{LineFault}
 use Rattle.um_lines.specs.Fields.{Value, Number, NumberList}
-use Rattle.um_lines.specs.Forms.{no_order_fault, line_fault}
+use Rattle.um_lines.specs.Forms.{never_misplaced, line_fault}
 use Rattle.um_lines.specs.Reading.{LineParsesTo, words_parse_result}
 use Rattle.um_lines.specs.ShowForms as F
 use Rattle.um_lines.specs.ShowForms.{ShowLineKind, FrameFormat, NumberedInfo, Supervisory, WithInfo, WithoutInfo, syntax, show_line_forms}
@@ -17,7 +17,7 @@ use Rattle.um_formats.specs.declared.show.ShowLine.TheVariants as S
 abbrev pub is_bit_set : (number : ℕ) → Bool
 is_bit_set number = number == 1
 
--- the content of a frame of this kind, from the values in fields of this shape; `None` if the values do not fit the shape
+-- the content of a frame of this kind, from the values of the fields in this format; `None` if the values do not fit the format
 abbrev pub content_from_values : (shape : FrameFormat) (kind : Kind) (values : List Value) → Option Content
 content_from_values NumberedInfo kind (Number ns ∷ Number nr ∷ Number p ∷ Number m ∷ NumberList info ∷ []) =
     Some (content_with_fields kind ns nr (is_bit_set p) (is_bit_set m) info)
@@ -43,7 +43,7 @@ abbrev pub show_line_of_frame : Option Frame → ShowLine
 show_line_of_frame None = S.Skip
 show_line_of_frame (Some f) = S.Frame (octets_of Sdcch f)
 
--- the meaning of a line of this form with these values
+-- the meaning of a line of `show` that has this form and these values
 abbrev pub show_line_of_values : (name : ShowLineKind) (values : List Value) → ShowLine
 show_line_of_values F.Octets (NumberList octets ∷ []) = S.Octets octets
 show_line_of_values name values = show_line_of_frame (frame_from_values name values)
@@ -53,13 +53,13 @@ show_line_of_meaning None = S.Skip
 show_line_of_meaning (Some meaning) = show_line_of_values meaning.0 meaning.1
 
 -- why a line of `show` is refused: the first fault, or `None`
-abbrev pub show_fault : (line : List ℕ) → Option LineFault
-show_fault line = line_fault show_line_forms no_order_fault line
+abbrev pub show_line_fault : (line : List ℕ) → Option LineFault
+show_line_fault line = line_fault show_line_forms never_misplaced line
 
--- the line of `show` has this meaning
+-- a line of the `show` command has the given meaning
 abbrev pub ShowLineMeans : (line : List ℕ) (meaning : ShowLine) → Type 0
-ShowLineMeans line = LineParsesTo show_line_forms no_order_fault show_line_of_meaning line
+ShowLineMeans line = LineParsesTo show_line_forms never_misplaced show_line_of_meaning line
 
 -- the result of parsing the words of a line of `show` (used only inside the parser)
 abbrev pub show_parse_result : (words : List (List ℕ)) → Result ShowLine LineFault
-show_parse_result words = words_parse_result show_line_forms no_order_fault show_line_of_meaning words
+show_parse_result words = words_parse_result show_line_forms never_misplaced show_line_of_meaning words

@@ -1,4 +1,4 @@
--- Strings that are exactly one line (this project's own rule).
+-- Lists of octets that form exactly one line (this project's own rule).
 use Rattle.std.specs.Prelude.{ℕ, ◌≡◌, ◌≢◌, false, List}
 use Rattle.std.specs.List.{All}
 use Rattle.um_lines.specs.Words.{is_skipped_line}

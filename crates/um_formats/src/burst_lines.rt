@@ -5,12 +5,12 @@ ghost use Rattle.um_block.specs.bit_blocks.Bits.{AllBits};
 ghost use Rattle.um_block.specs.Received.{soft_bits};
 ghost use Rattle.um_lines.specs.Words.{words};
 ghost use Rattle.um_lines.specs.Meanings.{HasOneMeaningOrFault};
-ghost use Rattle.um_formats.specs.BurstLines.{burst_fault, BurstLineMeans, burst_parse_result};
-ghost use Rattle.um_formats.specs.Held.{IsHardNormalLine, IsHexNormalLine};
+ghost use Rattle.um_formats.specs.BurstLines.{burst_line_fault, BurstLineMeans, burst_parse_result};
+ghost use Rattle.um_formats.specs.Held.{IsHardNormalBurstLine, IsHexNormalBurstLine};
 ghost use Rattle.um_formats.specs.BurstTexts.{normal_burst_text, access_burst_text, sync_burst_text};
 ghost use Rattle.um_formats.specs.WrittenBursts.{IsUnskippedLine};
 
-use crate::soft_digits::{hard_values, soft_values};
+use crate::soft_digits::{hard_values, soft_values_of_hex_digits};
 use um_block::{BURST_BITS, Bits};
 use um_lines::{
     LINE_LIMIT, LineFault, are_bit_digits, are_hex_digits, bits_of, first_word, is_skipped_line,
@@ -38,7 +38,7 @@ pub enum BurstLine {
 pub fn parse_burst(line: &[u8], held: u8) -> Result<BurstLine, LineFault>
     requires { held ≤ 3 }
     ensures means { IfOk result (BurstLineMeans held line.now) }
-    ensures refused { result_err result ≡ burst_fault held line.now }
+    ensures refused { result_err result ≡ burst_line_fault held line.now }
 {
     if line.len() > LINE_LIMIT {
         return Err(LineFault::Long);
@@ -67,12 +67,12 @@ fn parse_line_with_letter(letter: u8, operands: &[u8], held: u8) -> Result<Burst
     ensures { result ≡ burst_parse_result held ((letter ∷ []) ∷ words operands.now) }
 {
     match letter {
-        b'n' => parse_hard_normal(operands),
-        b'N' => parse_soft_normal(operands),
-        b'a' => parse_hard_access(operands, held),
-        b'A' => parse_soft_access(operands, held),
-        b's' => parse_hard_sync(operands, held),
-        b'S' => parse_soft_sync(operands, held),
+        b'n' => parse_hard_normal_burst(operands),
+        b'N' => parse_soft_normal_burst(operands),
+        b'a' => parse_hard_access_burst(operands, held),
+        b'A' => parse_soft_access_burst(operands, held),
+        b's' => parse_hard_sync_burst(operands, held),
+        b'S' => parse_soft_sync_burst(operands, held),
         _ => Err(LineFault::Word),
     }
 }
@@ -88,7 +88,7 @@ fn parse_lost_burst(word: &[u8]) -> Result<BurstLine, LineFault>
 
 // Parses the digits of a line `n DIGITS148`. Searches the text for a space only if some octet is not a digit, to return the right fault.
 #[tactic(auto, using(crate::proofs::Lemmas::bit_word, crate::proofs::Lemmas::whole_word))]
-fn parse_hard_normal(operands: &[u8]) -> Result<BurstLine, LineFault>
+fn parse_hard_normal_burst(operands: &[u8]) -> Result<BurstLine, LineFault>
     ensures { (held : ℕ) → result ≡ burst_parse_result held (codes "n" ∷ words operands.now) }
 {
     if !are_bit_digits(operands) {
@@ -102,7 +102,7 @@ fn parse_hard_normal(operands: &[u8]) -> Result<BurstLine, LineFault>
 }
 
 #[tactic(auto, using(crate::proofs::Lemmas::hex_word, crate::proofs::Lemmas::whole_word))]
-fn parse_soft_normal(operands: &[u8]) -> Result<BurstLine, LineFault>
+fn parse_soft_normal_burst(operands: &[u8]) -> Result<BurstLine, LineFault>
     ensures { (held : ℕ) → result ≡ burst_parse_result held (codes "N" ∷ words operands.now) }
 {
     if !are_hex_digits(operands) {
@@ -112,10 +112,10 @@ fn parse_soft_normal(operands: &[u8]) -> Result<BurstLine, LineFault>
     if operands.len() != 296 {
         return Err(LineFault::Length);
     }
-    Ok(BurstLine::Normal(soft_values(operands)?))
+    Ok(BurstLine::Normal(soft_values_of_hex_digits(operands)?))
 }
 
-fn parse_hard_access(operands: &[u8], held_bursts: u8) -> Result<BurstLine, LineFault>
+fn parse_hard_access_burst(operands: &[u8], held_bursts: u8) -> Result<BurstLine, LineFault>
     ensures { result ≡ burst_parse_result held_bursts (codes "a" ∷ words operands.now) }
 {
     let (bsic, digits) = parse_two_words(operands)?;
@@ -134,7 +134,7 @@ fn parse_hard_access(operands: &[u8], held_bursts: u8) -> Result<BurstLine, Line
     })
 }
 
-fn parse_soft_access(operands: &[u8], held_bursts: u8) -> Result<BurstLine, LineFault>
+fn parse_soft_access_burst(operands: &[u8], held_bursts: u8) -> Result<BurstLine, LineFault>
     ensures { result ≡ burst_parse_result held_bursts (codes "A" ∷ words operands.now) }
 {
     let (bsic, digits) = parse_two_words(operands)?;
@@ -149,11 +149,11 @@ fn parse_soft_access(operands: &[u8], held_bursts: u8) -> Result<BurstLine, Line
     }
     Ok(BurstLine::Access {
         bsic: bits_of(bsic),
-        soft: soft_values(digits)?,
+        soft: soft_values_of_hex_digits(digits)?,
     })
 }
 
-fn parse_hard_sync(operands: &[u8], held_bursts: u8) -> Result<BurstLine, LineFault>
+fn parse_hard_sync_burst(operands: &[u8], held_bursts: u8) -> Result<BurstLine, LineFault>
     ensures { result ≡ burst_parse_result held_bursts (codes "s" ∷ words operands.now) }
 {
     let digits = parse_only_word(operands)?;
@@ -169,7 +169,7 @@ fn parse_hard_sync(operands: &[u8], held_bursts: u8) -> Result<BurstLine, LineFa
     Ok(BurstLine::Sync(hard_values(digits)))
 }
 
-fn parse_soft_sync(operands: &[u8], held_bursts: u8) -> Result<BurstLine, LineFault>
+fn parse_soft_sync_burst(operands: &[u8], held_bursts: u8) -> Result<BurstLine, LineFault>
     ensures { result ≡ burst_parse_result held_bursts (codes "S" ∷ words operands.now) }
 {
     let digits = parse_only_word(operands)?;
@@ -182,14 +182,14 @@ fn parse_soft_sync(operands: &[u8], held_bursts: u8) -> Result<BurstLine, LineFa
     if digits.len() != 296 {
         return Err(LineFault::Length);
     }
-    Ok(BurstLine::Sync(soft_values(digits)?))
+    Ok(BurstLine::Sync(soft_values_of_hex_digits(digits)?))
 }
 
 /// Returns the 148 digits of a line `n DIGITS148`, or `None` for any other line.
 #[inline(always)]
-pub(crate) fn hard_line_digits(line: &[u8]) -> Option<&[u8]>
-    ensures { MatchOption result ((digits : List ℕ) → ¬ IsHardNormalLine line.now digits)
-        (λ digits. IsHardNormalLine line.now digits.now) }
+pub(crate) fn hard_normal_burst_digits(line: &[u8]) -> Option<&[u8]>
+    ensures { MatchOption result ((digits : List ℕ) → ¬ IsHardNormalBurstLine line.now digits)
+        (λ digits. IsHardNormalBurstLine line.now digits.now) }
 {
     let digits = line.strip_prefix(b"n ")?;
     if digits.len() != BURST_BITS {
@@ -202,8 +202,8 @@ pub(crate) fn hard_line_digits(line: &[u8]) -> Option<&[u8]>
 }
 
 /// Returns the 296 octets after `N ` in a line of 298 octets, or `None` for any other line.
-pub(crate) fn soft_line_digits(line: &[u8]) -> Option<&[u8]>
-    ensures { MatchOption result ((digits : List ℕ) → ¬ IsHexNormalLine line.now digits)
+pub(crate) fn soft_normal_burst_digits(line: &[u8]) -> Option<&[u8]>
+    ensures { MatchOption result ((digits : List ℕ) → ¬ IsHexNormalBurstLine line.now digits)
         (λ digits. (line.now ≡ codes "N " ++ digits.now) × (length digits.now ≡ 296)) }
 {
     let digits = line.strip_prefix(b"N ")?;
@@ -215,7 +215,7 @@ pub(crate) fn soft_line_digits(line: &[u8]) -> Option<&[u8]>
 
 /// Law: a line that is not refused has exactly one meaning; a line that is refused has none.
 pub fn law_burst_line_meaning_is_unique()
-    ensures { (held : ℕ) (line : List ℕ) → HasOneMeaningOrFault (burst_fault held line) (BurstLineMeans held line) }
+    ensures { (held : ℕ) (line : List ℕ) → HasOneMeaningOrFault (burst_line_fault held line) (BurstLineMeans held line) }
 {}
 
 /// Law: parsing the line written for a burst of hard bits returns its soft values, 127 for 0 and -127 for 1.

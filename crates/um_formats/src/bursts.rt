@@ -18,7 +18,7 @@ pub fn normal_line(out: &mut Text, burst: &[u8; BURST_BITS])
 }
 
 /// Writes the text lines of the four normal bursts of a block.
-pub fn block_lines(out: &mut Text, bursts: &[[u8; BURST_BITS]; 4])
+pub fn write_block_burst_lines(out: &mut Text, bursts: &[[u8; BURST_BITS]; 4])
     requires empty { out.old ≡ [] }
     requires bits { All AllBits bursts.now }
     ensures lines { out.new ≡ bursts_text bursts.now }

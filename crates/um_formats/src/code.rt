@@ -3,7 +3,7 @@ ghost use Rattle.std.specs.Prelude.{◌≡◌, ℕ, List, ◌∷◌, IfOk, codes
 ghost use Rattle.std.specs.Result.{result_err};
 ghost use Rattle.um_lines.specs.Words.{words};
 ghost use Rattle.um_lines.specs.Meanings.{HasOneMeaningOrFault};
-ghost use Rattle.um_formats.specs.CodeLines.{code_fault, CodeLineMeans, code_parse_result};
+ghost use Rattle.um_formats.specs.CodeLines.{code_line_fault, CodeLineMeans, code_parse_result};
 
 use um_block::{BLOCK_OCTETS, Bits};
 use um_lines::{
@@ -29,7 +29,7 @@ pub enum CodeLine {
 /// If several faults apply, returns the first in this order, wherever it occurs in the line: `Long`, `Word`, `Digits`, `Length`.
 pub fn parse_code(line: &[u8]) -> Result<CodeLine, LineFault>
     ensures means { IfOk result (CodeLineMeans line.now) }
-    ensures refused { result_err result ≡ code_fault line.now }
+    ensures refused { result_err result ≡ code_line_fault line.now }
 {
     if line.len() > LINE_LIMIT {
         return Err(LineFault::Long);
@@ -112,5 +112,5 @@ fn parse_sch(operands: &[u8]) -> Result<CodeLine, LineFault>
 
 /// Law: a line that is not refused has exactly one meaning; a line that is refused has none.
 pub fn law_code_line_meaning_is_unique()
-    ensures { (line : List ℕ) → HasOneMeaningOrFault (code_fault line) (CodeLineMeans line) }
+    ensures { (line : List ℕ) → HasOneMeaningOrFault (code_line_fault line) (CodeLineMeans line) }
 {}

@@ -4,15 +4,17 @@ ghost use Rattle.std.specs.Prelude.{◌≡◌, ◌-◌, ◌≤◌, ◌∷◌, �
 ghost use Rattle.std.specs.Prelude.{IsTrue, IfSome, IfNone, MatchResult, map};
 ghost use Rattle.std.specs.List.{list_any};
 ghost use Rattle.std.specs.Str.{bytes_eq};
-ghost use Rattle.lapdm_frame.specs.Content.{Frame, all_frame_kinds, content_of_fields, abstract_fields};
+ghost use Rattle.lapdm_frame.specs.Content.{Frame, all_frame_kinds, content_of_fields, field_values_of_frame_fields};
 ghost use Rattle.lapdm_frame.specs.Frames.{octets_of};
 ghost use Rattle.um_lines.specs.Words.{words};
 ghost use Rattle.um_lines.specs.Fields.{has_wrong_digits, has_wrong_length, octets_from_hex, is_digit_up_to};
 ghost use Rattle.um_lines.specs.Forms.{has_faulty_word, values_of_words};
-ghost use Rattle.um_lines.specs.ShowForms.{syntax, prepend_named_digit, info_fields, m_bit_and_info_fields, shape_fields, frame_fields};
+ghost use Rattle.um_lines.specs.ShowForms.{syntax, prepend_named_digit, info_fields, m_bit_and_info_fields, fields_of_frame_format};
+ghost use Rattle.um_lines.specs.ShowForms.{frame_fields};
 ghost use Rattle.um_lines.specs.ShowForms as F;
 ghost use Rattle.um_formats.specs.ShowLines.{is_bit_set, content_from_values, frame_from_values};
-ghost use Rattle.um_formats.specs.ShowReading.{spec_shape_of, pf_bit_name, words_fit_fields, first_show_fault, begins_with_name_and_value};
+ghost use Rattle.um_formats.specs.ShowReading.{spec_frame_format_of, pf_bit_name, words_fit_fields, first_fault_of_show_words};
+ghost use Rattle.um_formats.specs.ShowReading.{begins_with_name_and_value};
 ghost use Rattle.um_formats.specs.ShowReading.{is_name_and_value};
 ghost use Rattle.um_formats.specs.ShowReading.{field_words, frame_line_words, info_word, min_info_octets};
 
@@ -36,12 +38,12 @@ pub(crate) enum FrameFormat {
     WithoutInfo(&'static [u8]),
 }
 
-/// Returns the word that names a frame kind, and the shape of the fields that follow it.
-pub(crate) fn word_and_shape(kind: Kind) -> (&'static [u8], FrameFormat)
+/// Returns the word that names a frame kind, and the format of the fields that follow it.
+pub(crate) fn kind_word_and_frame_format(kind: Kind) -> (&'static [u8], FrameFormat)
     ensures word { result.0.now ≡ (syntax kind).word }
-    ensures shape { spec_shape_of result.1 ≡ (syntax kind).shape }
+    ensures shape { spec_frame_format_of result.1 ≡ (syntax kind).shape }
     ensures size { length result.0.now ≤ 4 }
-    ensures name { length (pf_bit_name (spec_shape_of result.1)) ≤ 1 }
+    ensures name { length (pf_bit_name (spec_frame_format_of result.1)) ≤ 1 }
 {
     match kind {
         Kind::I => (b"i", FrameFormat::NumberedInfo),
@@ -78,7 +80,7 @@ fn kind_of_word(word: &[u8]) -> Option<Kind>
 /// The words for the field values in the text line of a frame, without the field names. Values of fields that the frame kind does not have
 /// are not used.
 #[derive(Clone, Copy)]
-pub(crate) struct FieldWords<'a> {
+pub(crate) struct FrameFieldWords<'a> {
     pub(crate) ns: &'a [u8],
     pub(crate) nr: &'a [u8],
     pub(crate) pf: &'a [u8],
@@ -92,14 +94,15 @@ pub(crate) struct FrameWords<'a> {
     pub(crate) sapi: &'a [u8],
     pub(crate) cr: &'a [u8],
     pub(crate) kind: Kind,
-    pub(crate) fields: FieldWords<'a>,
+    pub(crate) fields: FrameFieldWords<'a>,
 }
 
 /// Splits the text after the word `frame` into fields, or returns the fault `Word`.
 pub(crate) fn frame_words<'a>(frame_text: &'a [u8]) -> Result<FrameWords<'a>, LineFault>
     ensures { MatchResult result
         (λ found. codes "frame" ∷ words frame_text.now ≡ frame_line_words found)
-        (λ fault. (fault ≡ LineFault.Word) × (first_show_fault (codes "frame" ∷ words frame_text.now) ≡ Some LineFault.Word)) }
+        (λ fault. (fault ≡ LineFault.Word)
+        × (first_fault_of_show_words (codes "frame" ∷ words frame_text.now) ≡ Some LineFault.Word)) }
 {
     let (sapi, rest) = parse_name_and_value(frame_text, b"sapi")?;
     let (cr, rest) = parse_name_and_value(rest, b"cr")?;
@@ -109,7 +112,7 @@ pub(crate) fn frame_words<'a>(frame_text: &'a [u8]) -> Result<FrameWords<'a>, Li
     let Some(kind) = kind_of_word(word) else {
         return Err(LineFault::Word);
     };
-    let (_, shape) = word_and_shape(kind);
+    let (_, shape) = kind_word_and_frame_format(kind);
     let fields = field_words(shape, rest)?;
     Ok(FrameWords {
         sapi,
@@ -119,10 +122,11 @@ pub(crate) fn frame_words<'a>(frame_text: &'a [u8]) -> Result<FrameWords<'a>, Li
     })
 }
 
-fn field_words<'a>(shape: FrameFormat, fields: &'a [u8]) -> Result<FieldWords<'a>, LineFault>
+fn field_words<'a>(shape: FrameFormat, fields: &'a [u8]) -> Result<FrameFieldWords<'a>, LineFault>
     ensures { MatchResult result
-        (λ found. words fields.now ≡ field_words (spec_shape_of shape) found)
-        (λ fault. (fault ≡ LineFault.Word) × (words_fit_fields (words fields.now) (shape_fields (spec_shape_of shape)) ≡ false)) }
+        (λ found. words fields.now ≡ field_words (spec_frame_format_of shape) found)
+        (λ fault. (fault ≡ LineFault.Word)
+        × (words_fit_fields (words fields.now) (fields_of_frame_format (spec_frame_format_of shape)) ≡ false)) }
 {
     let (ns, nr, more, none): (&[u8], &[u8], &[u8], &[u8]) = (b"0", b"0", b"0", b"-");
     match shape {
@@ -130,7 +134,7 @@ fn field_words<'a>(shape: FrameFormat, fields: &'a [u8]) -> Result<FieldWords<'a
         FrameFormat::Supervisory => {
             let (nr, rest) = parse_name_and_value(fields, b"nr")?;
             let pf = parse_last_name_and_value(rest, b"pf")?;
-            Ok(FieldWords {
+            Ok(FrameFieldWords {
                 ns,
                 nr,
                 pf,
@@ -140,7 +144,7 @@ fn field_words<'a>(shape: FrameFormat, fields: &'a [u8]) -> Result<FieldWords<'a
         }
         FrameFormat::WithInfo(name) => {
             let (pf, info) = parse_bit_and_information::<0>(fields, name)?;
-            Ok(FieldWords {
+            Ok(FrameFieldWords {
                 ns,
                 nr,
                 pf,
@@ -150,7 +154,7 @@ fn field_words<'a>(shape: FrameFormat, fields: &'a [u8]) -> Result<FieldWords<'a
         }
         FrameFormat::WithoutInfo(name) => {
             let pf = parse_last_name_and_value(fields, name)?;
-            Ok(FieldWords {
+            Ok(FrameFieldWords {
                 ns,
                 nr,
                 pf,
@@ -161,15 +165,15 @@ fn field_words<'a>(shape: FrameFormat, fields: &'a [u8]) -> Result<FieldWords<'a
     }
 }
 
-fn parse_i_frame_words<'a>(fields: &'a [u8]) -> Result<FieldWords<'a>, LineFault>
+fn parse_i_frame_words<'a>(fields: &'a [u8]) -> Result<FrameFieldWords<'a>, LineFault>
     ensures { MatchResult result
         (λ found. words fields.now ≡ field_words F.NumberedInfo found)
-        (λ fault. (fault ≡ LineFault.Word) × (words_fit_fields (words fields.now) (shape_fields F.NumberedInfo) ≡ false)) }
+        (λ fault. (fault ≡ LineFault.Word) × (words_fit_fields (words fields.now) (fields_of_frame_format F.NumberedInfo) ≡ false)) }
 {
     let (ns, rest) = parse_name_and_value(fields, b"ns")?;
     let (nr, rest) = parse_name_and_value(rest, b"nr")?;
-    let (pf, more, info) = parse_p_m_and_information(rest)?;
-    Ok(FieldWords {
+    let (pf, more, info) = parse_p_bit_m_bit_and_info(rest)?;
+    Ok(FrameFieldWords {
         ns,
         nr,
         pf,
@@ -178,7 +182,7 @@ fn parse_i_frame_words<'a>(fields: &'a [u8]) -> Result<FieldWords<'a>, LineFault
     })
 }
 
-fn parse_p_m_and_information<'a>(
+fn parse_p_bit_m_bit_and_info<'a>(
     fields: &'a [u8],
 ) -> Result<(&'a [u8], &'a [u8], &'a [u8]), LineFault>
     ensures { MatchResult result
@@ -251,14 +255,16 @@ impl FrameWords<'_> {
     {
         is_digit_up_to(7, self.sapi)
             & is_digit_up_to(1, self.cr)
-            & self.fields.have_valid_digits(word_and_shape(self.kind).1)
+            & self
+                .fields
+                .have_valid_digits(kind_word_and_frame_format(self.kind).1)
     }
 
     /// Whether the number of information octets is within the limits of its field.
-    pub(crate) fn have_valid_length(&self) -> bool
+    pub(crate) fn has_valid_info_length(&self) -> bool
         ensures { result ≡ not (has_faulty_word has_wrong_length (frame_fields (syntax self.now.kind)) (frame_line_words self.now)) }
     {
-        let (_, shape) = word_and_shape(self.kind);
+        let (_, shape) = kind_word_and_frame_format(self.kind);
         has_octet_count(
             shape.min_info_octets(),
             Some(20),
@@ -275,7 +281,7 @@ impl FrameWords<'_> {
             (frame_line_words self.now)) ≡ Some f)
             × (result ≡ octets_of Channel.Sdcch f) }
     {
-        let (_, shape) = word_and_shape(self.kind);
+        let (_, shape) = kind_word_and_frame_format(self.kind);
         let (room, count) = octets_of_hex_word(self.fields.info_word(shape));
         let sapi = value_of_digit(self.sapi);
         let cr = is_digit_one(self.cr);
@@ -289,7 +295,7 @@ impl FrameWords<'_> {
 
 impl FrameFormat {
     fn min_info_octets(self) -> usize
-        ensures { result ≡ min_info_octets (spec_shape_of self) }
+        ensures { result ≡ min_info_octets (spec_frame_format_of self) }
     {
         match self {
             FrameFormat::NumberedInfo => 1,
@@ -298,10 +304,10 @@ impl FrameFormat {
     }
 }
 
-impl<'a> FieldWords<'a> {
+impl<'a> FrameFieldWords<'a> {
     fn have_valid_digits(&self, shape: FrameFormat) -> bool
-        ensures { result ≡ not (has_faulty_word has_wrong_digits (shape_fields (spec_shape_of shape))
-            (field_words (spec_shape_of shape) self.now)) }
+        ensures { result ≡ not (has_faulty_word has_wrong_digits (fields_of_frame_format (spec_frame_format_of shape))
+            (field_words (spec_frame_format_of shape) self.now)) }
     {
         match shape {
             FrameFormat::NumberedInfo => {
@@ -318,7 +324,7 @@ impl<'a> FieldWords<'a> {
     }
 
     fn info_word(&self, shape: FrameFormat) -> &'a [u8]
-        ensures { result.now ≡ info_word (spec_shape_of shape) self.now }
+        ensures { result.now ≡ info_word (spec_frame_format_of shape) self.now }
     {
         match shape {
             FrameFormat::NumberedInfo | FrameFormat::WithInfo(_) => self.info,
@@ -326,19 +332,19 @@ impl<'a> FieldWords<'a> {
         }
     }
 
-    /// Returns the fields of the frame, given its kind, the shape of that kind, and its information octets.
+    /// Returns the fields of the frame, given its kind, the format of that kind, and its information octets.
     fn frame_fields_of_kind<'b>(
         &self,
         kind: Kind,
         shape: FrameFormat,
         info: &'b [u8],
     ) -> FrameFields<'b>
-        requires digits { has_faulty_word has_wrong_digits (shape_fields (spec_shape_of shape))
-            (field_words (spec_shape_of shape) self.now) ≡ false }
-        requires octets { info.now ≡ octets_from_hex (info_word (spec_shape_of shape) self.now) }
-        ensures said { content_from_values (spec_shape_of shape) kind
-            (values_of_words (shape_fields (spec_shape_of shape)) (field_words (spec_shape_of shape) self.now))
-            ≡ Some (content_of_fields (abstract_fields result)) }
+        requires digits { has_faulty_word has_wrong_digits (fields_of_frame_format (spec_frame_format_of shape))
+            (field_words (spec_frame_format_of shape) self.now) ≡ false }
+        requires octets { info.now ≡ octets_from_hex (info_word (spec_frame_format_of shape) self.now) }
+        ensures said { content_from_values (spec_frame_format_of shape) kind
+            (values_of_words (fields_of_frame_format (spec_frame_format_of shape)) (field_words (spec_frame_format_of shape) self.now))
+            ≡ Some (content_of_fields (field_values_of_frame_fields result)) }
         ensures kind { result.kind ≡ kind }
         ensures ns_nr_fit { (result.ns ≤ 7) × (result.nr ≤ 7) }
         ensures information { result.info.now ≡ info.now }

@@ -1,15 +1,15 @@
 //! Writes frames as text lines.
 ghost use Rattle.std.specs.Prelude.{◌≡◌, ℕ, ◌+◌, ◌<◌, ◌≤◌, List, [], ◌∷◌, ◌++◌, length, codes};
-ghost use Rattle.lapdm_frame.specs.Content.{frame_of, abstract_fields};
+ghost use Rattle.lapdm_frame.specs.Content.{frame_of_view, field_values_of_frame_fields};
 ghost use Rattle.lapdm_frame.specs.Frames.{bit_of_bool, FrameFits};
 ghost use Rattle.um_lines.specs.Fields.{FixedWord};
-ghost use Rattle.um_lines.specs.ShowForms.{shape_fields};
+ghost use Rattle.um_lines.specs.ShowForms.{fields_of_frame_format};
 ghost use Rattle.um_lines.specs.LineTexts.{octets_word, line_of_values};
 ghost use Rattle.um_formats.specs.FrameTexts.{line_values_of_fields, frame_text, refusal_word, unreadable_frame_text, octets_text};
 ghost use Rattle.um_formats.specs.FrameTexts.{IsTextOfOctets};
-ghost use Rattle.um_formats.specs.ShowReading.{spec_shape_of, pf_bit_name, digit};
+ghost use Rattle.um_formats.specs.ShowReading.{spec_frame_format_of, pf_bit_name, digit};
 
-use crate::frame_words::{FrameFormat, word_and_shape};
+use crate::frame_words::{FrameFormat, kind_word_and_frame_format};
 use lapdm_frame::{Channel, FrameFields, FrameView, Refusal};
 use um_block::BLOCK_OCTETS;
 use um_lines::Text;
@@ -42,18 +42,18 @@ pub(crate) fn push_frame(out: &mut Text, octets: &[u8; BLOCK_OCTETS])
 {
     match lapdm_frame::read(octets) {
         Ok(f) => push_frame_view(out, &f),
-        Err(reason) => push_unread_line(out, reason),
+        Err(reason) => push_unreadable_frame_line(out, reason),
     }
 }
 
 fn push_frame_view(out: &mut Text, view: &FrameView<'_>)
     requires space { length out.old + 100 ≤ 4096 }
-    requires fits { FrameFits Channel.Sdcch (frame_of view.now) }
-    ensures text { out.new ≡ out.old ++ frame_text (frame_of view.now) }
+    requires fits { FrameFits Channel.Sdcch (frame_of_view view.now) }
+    ensures text { out.new ≡ out.old ++ frame_text (frame_of_view view.now) }
     ensures length { length out.new ≤ length out.old + 100 }
 {
     let fields = view.body.fields();
-    let (word, shape) = word_and_shape(fields.kind);
+    let (word, shape) = kind_word_and_frame_format(fields.kind);
     push_number(out, b"frame sapi ", view.sapi);
     push_named_bit(out, b" cr ", view.cr);
     push_fields(out, word, shape, &fields);
@@ -63,11 +63,12 @@ fn push_frame_view(out: &mut Text, view: &FrameView<'_>)
 fn push_fields(out: &mut Text, kind_word: &[u8], shape: FrameFormat, fields: &FrameFields<'_>)
     requires space { length out.old + 75 ≤ 4096 }
     requires size { length kind_word.now ≤ 4 }
-    requires name { length (pf_bit_name (spec_shape_of shape)) ≤ 1 }
+    requires name { length (pf_bit_name (spec_frame_format_of shape)) ≤ 1 }
     requires ns_nr_fit { (fields.now.ns ≤ 7) × (fields.now.nr ≤ 7) }
     requires information { length fields.now.info.now ≤ 20 }
-    ensures text { out.new ≡ out.old ++ 32 ∷ line_of_values (FixedWord kind_word.now ∷ shape_fields (spec_shape_of shape))
-        (line_values_of_fields (spec_shape_of shape) (abstract_fields fields.now)) }
+    ensures text { out.new ≡ out.old ++ 32 ∷ line_of_values
+        (FixedWord kind_word.now ∷ fields_of_frame_format (spec_frame_format_of shape))
+        (line_values_of_fields (spec_frame_format_of shape) (field_values_of_frame_fields fields.now)) }
     ensures length { length out.new ≤ length out.old + 75 }
 {
     out.push(b" ");
@@ -145,7 +146,7 @@ fn push_info(out: &mut Text, info: &[u8])
     }
 }
 
-fn push_unread_line(out: &mut Text, reason: Refusal)
+fn push_unreadable_frame_line(out: &mut Text, reason: Refusal)
     requires { length out.old + 15 ≤ 4096 }
     ensures text { out.new ≡ out.old ++ unreadable_frame_text reason }
     ensures length { length out.new ≤ length out.old + 15 }

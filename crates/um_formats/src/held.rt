@@ -8,13 +8,16 @@ ghost use Rattle.um_block.specs.Received.{soft_bits};
 ghost use Rattle.um_lines.specs.Fields.{is_bit_digit};
 ghost use Rattle.um_formats.specs.SoftOctets.{signed_octets};
 ghost use Rattle.um_formats.specs.declared.burst_lines.BurstLine.{BurstLine as Meaning};
-ghost use Rattle.um_formats.specs.BurstLines.{burst_fault, BurstLineMeans};
-ghost use Rattle.um_formats.specs.Held.{AddsNormalBurst, HoldsBurstOfLine, IsHardNormalLine, IsSoftNormalLine, GivesBurstsToDecode};
+ghost use Rattle.um_formats.specs.BurstLines.{burst_line_fault, BurstLineMeans};
+ghost use Rattle.um_formats.specs.Held.{AddsNormalBurst, HoldsBurstOfLine, IsHardNormalBurstLine, IsSoftNormalBurstLine};
+ghost use Rattle.um_formats.specs.Held.{GivesBurstsToDecode};
 ghost use Rattle.um_formats.specs.Held.{HasValidSoftValues};
 ghost use Rattle.um_formats.specs.Held.{normal_burst_result};
 
-use crate::burst_lines::{BurstLine, hard_line_digits, parse_burst, soft_line_digits};
-use crate::soft_digits::{has_minus_128, write_hard_values, write_signed_values};
+use crate::burst_lines::{
+    BurstLine, hard_normal_burst_digits, parse_burst, soft_normal_burst_digits,
+};
+use crate::soft_digits::{has_minus_128, write_signed_values, write_soft_values_of_bit_digits};
 use std::marker::Model;
 use um_block::{BURST_BITS, Bits};
 use um_lines::{LineFault, decode_hex};
@@ -106,7 +109,7 @@ impl HeldBursts {
         requires size { length digits.now ≡ BURST_BITS }
         ensures { AddsNormalBurst self.old (soft_bits (map (λ octet. octet - 48) digits.now)) result self.new }
     {
-        write_hard_values(digits, &mut self.bursts[self.count as usize]);
+        write_soft_values_of_bit_digits(digits, &mut self.bursts[self.count as usize]);
         if self.count < 3 {
             self.count += 1;
             false
@@ -139,10 +142,10 @@ impl HeldBursts {
 pub fn hold_normal_burst(line: &[u8], held: &mut HeldBursts) -> Option<bool>
     ensures { MatchOption result
         ((held.new ≡ held.old) × ((digits : List ℕ) →
-        (¬ IsHardNormalLine line.now digits) × (¬ IsSoftNormalLine line.now digits)))
+        (¬ IsHardNormalBurstLine line.now digits) × (¬ IsSoftNormalBurstLine line.now digits)))
         (HoldsBurstOfLine held.old line.now held.new) }
 {
-    match hard_line_digits(line) {
+    match hard_normal_burst_digits(line) {
         Some(digits) => Some(held.add_hard_burst(digits)),
         None => hold_soft_burst(line, held),
     }
@@ -150,10 +153,10 @@ pub fn hold_normal_burst(line: &[u8], held: &mut HeldBursts) -> Option<bool>
 
 #[inline(never)]
 fn hold_soft_burst(line: &[u8], held: &mut HeldBursts) -> Option<bool>
-    ensures { MatchOption result ((held.new ≡ held.old) × ((digits : List ℕ) → ¬ IsSoftNormalLine line.now digits))
+    ensures { MatchOption result ((held.new ≡ held.old) × ((digits : List ℕ) → ¬ IsSoftNormalBurstLine line.now digits))
         (HoldsBurstOfLine held.old line.now held.new) }
 {
-    let digits = soft_line_digits(line)?;
+    let digits = soft_normal_burst_digits(line)?;
     let mut octets = [0; BURST_BITS];
     if !decode_hex(digits, &mut octets) {
         return None;
@@ -166,10 +169,10 @@ fn hold_soft_burst(line: &[u8], held: &mut HeldBursts) -> Option<bool>
 
 /// Parses a line as `parse_burst` does, and adds a normal burst to `held`. Any other line, or a fault, leaves `held` unchanged.
 #[inline(never)]
-pub fn read_burst_into(line: &[u8], held: &mut HeldBursts) -> Result<BurstsToDecode, LineFault>
+pub fn parse_and_hold_burst(line: &[u8], held: &mut HeldBursts) -> Result<BurstsToDecode, LineFault>
     ensures means { IfOk result (λ next. (meaning : Meaning) × BurstLineMeans (length held.old.held) line.now meaning
         × GivesBurstsToDecode held.old meaning next held.new) }
-    ensures refused { result_err result ≡ burst_fault (length held.old.held) line.now }
+    ensures refused { result_err result ≡ burst_line_fault (length held.old.held) line.now }
     ensures soft { IfOk result HasValidSoftValues }
     ensures unchanged { OnErr result (held.new ≡ held.old) }
 {

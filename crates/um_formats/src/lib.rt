@@ -16,10 +16,10 @@ mod soft_digits;
 pub use burst_lines::{
     BurstLine, law_burst_line_meaning_is_unique, law_written_bursts_read_back, parse_burst,
 };
-pub use bursts::{access_line, block_lines, normal_line, push_block, sync_line};
+pub use bursts::{access_line, normal_line, push_block, sync_line, write_block_burst_lines};
 pub use code::{CodeLine, law_code_line_meaning_is_unique, parse_code};
 pub use frames::{frame_line, octets_line};
-pub use held::{BurstsToDecode, HeldBursts, hold_normal_burst, read_burst_into};
+pub use held::{BurstsToDecode, HeldBursts, hold_normal_burst, parse_and_hold_burst};
 pub use reports::{access_report, block_report, sync_report};
 pub use show::{
     ShowLine, law_show_line_meaning_is_unique, law_written_frames_read_back, parse_show,
@@ -29,6 +29,3 @@ pub use um_block::{
     from_octets, to_octets,
 };
 pub use um_lines::{LineFault, Text, law_words_join_to_line, octets_from_bits_at, refused_line};
-
-#[cfg(test)]
-mod tests;

@@ -4,7 +4,7 @@ ghost use Rattle.um_block.specs.bit_blocks.Bits.{AllBits};
 ghost use Rattle.um_block.specs.bit_blocks.Octets.{bits_of, octets_of};
 ghost use Rattle.um_lines.specs.Hex.{encode_lower};
 ghost use Rattle.um_lines.specs.Fields.{bit_digits};
-ghost use Rattle.um_formats.specs.Reports.{crc_word, quality_text, data_and_check_text, block_report_line, IsBlockReportText};
+ghost use Rattle.um_formats.specs.Reports.{crc_result_word, quality_text, data_and_check_text, block_report_line, IsBlockReportText};
 ghost use Rattle.um_formats.specs.Reports.{access_report_text};
 ghost use Rattle.um_formats.specs.Reports.{sync_report_text};
 
@@ -33,7 +33,7 @@ pub fn access_report(out: &mut Text, bsic: &Bits<6>, r: &ReceivedAccess)
     out.push(b"access ");
     out.push_digits(bsic.as_slice());
     push_quality(out, r.wrong_training, r.metric, r.accepted.is_some());
-    push_bits(out, &r.u, 8, 14);
+    push_data_and_crc_bits(out, &r.u, 8, 14);
 }
 
 /// Writes the report on a synchronisation burst.
@@ -44,7 +44,7 @@ pub fn sync_report(out: &mut Text, r: &ReceivedSync)
 {
     out.push(b"sync");
     push_quality(out, r.wrong_training, r.metric, r.accepted.is_some());
-    push_bits(out, &r.u, 25, 35);
+    push_data_and_crc_bits(out, &r.u, 25, 35);
 }
 
 fn push_block(out: &mut Text, report: &Received)
@@ -77,12 +77,12 @@ fn push_quality(out: &mut Text, wrong_bits: u32, metric: i32, crc_holds: bool)
     out.push(b" metric ");
     out.push(itoa::Buffer::new().format(metric).as_bytes());
     out.push(b" parity ");
-    push_crc_word(out, crc_holds);
+    push_crc_result_word(out, crc_holds);
 }
 
-fn push_crc_word(out: &mut Text, crc_holds: bool)
+fn push_crc_result_word(out: &mut Text, crc_holds: bool)
     requires { length out.old + 3 ≤ 4096 }
-    ensures text { out.new ≡ out.old ++ crc_word crc_holds }
+    ensures text { out.new ≡ out.old ++ crc_result_word crc_holds }
     ensures size { length out.new ≤ length out.old + 3 }
 {
     if crc_holds {
@@ -93,7 +93,12 @@ fn push_crc_word(out: &mut Text, crc_holds: bool)
 }
 
 // Appends the first `first_bit` bits of `word` as the data, and the bits from `first_bit` up to `end_bit` as the CRC.
-fn push_bits<const N: usize>(out: &mut Text, word: &Bits<N>, first_bit: usize, end_bit: usize)
+fn push_data_and_crc_bits<const N: usize>(
+    out: &mut Text,
+    word: &Bits<N>,
+    first_bit: usize,
+    end_bit: usize,
+)
     requires space { length out.old + end_bit + 14 ≤ 4096 }
     requires order { first_bit ≤ end_bit }
     requires within { end_bit ≤ N }

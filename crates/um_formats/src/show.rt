@@ -6,11 +6,11 @@ ghost use Rattle.lapdm_frame.specs.Content.{Frame, information};
 ghost use Rattle.lapdm_frame.specs.Frames.{IsCanonicalCoding};
 ghost use Rattle.um_lines.specs.Words.{words};
 ghost use Rattle.um_lines.specs.Fields.{Value};
-ghost use Rattle.um_lines.specs.Forms.{LineMeans, no_order_fault};
+ghost use Rattle.um_lines.specs.Forms.{LineMeans, never_misplaced};
 ghost use Rattle.um_lines.specs.ShowForms.{ShowLineKind, show_line_forms};
 ghost use Rattle.um_lines.specs.Meanings.{HasOneMeaningOrFault};
 ghost use Rattle.um_formats.specs.FrameTexts.{frame_text, octets_text, IsTextOfOctets};
-ghost use Rattle.um_formats.specs.ShowLines.{frame_from_values, show_fault, ShowLineMeans, show_parse_result};
+ghost use Rattle.um_formats.specs.ShowLines.{frame_from_values, show_line_fault, ShowLineMeans, show_parse_result};
 ghost use Rattle.um_formats.specs.WrittenBursts.{IsUnskippedLine};
 
 use crate::frame_words::frame_words;
@@ -37,7 +37,7 @@ pub enum ShowLine {
 /// If several faults apply, returns the first in this order, wherever it occurs in the line: `Long`, `Word`, `Digits`, `Length`.
 pub fn parse_show(line: &[u8]) -> Result<ShowLine, LineFault>
     ensures means { IfOk result (ShowLineMeans line.now) }
-    ensures refused { result_err result ≡ show_fault line.now }
+    ensures refused { result_err result ≡ show_line_fault line.now }
 {
     if line.len() > LINE_LIMIT {
         return Err(LineFault::Long);
@@ -82,7 +82,7 @@ fn parse_frame(frame_text: &[u8]) -> Result<ShowLine, LineFault>
     if !found.have_valid_digits() {
         return Err(LineFault::Digits);
     }
-    if !found.have_valid_length() {
+    if !found.has_valid_info_length() {
         return Err(LineFault::Length);
     }
     Ok(ShowLine::Frame(found.octets()))
@@ -90,7 +90,7 @@ fn parse_frame(frame_text: &[u8]) -> Result<ShowLine, LineFault>
 
 /// Law: a line that is not refused has exactly one meaning; a line that is refused has none.
 pub fn law_show_line_meaning_is_unique()
-    ensures { (line : List ℕ) → HasOneMeaningOrFault (show_fault line) (ShowLineMeans line) }
+    ensures { (line : List ℕ) → HasOneMeaningOrFault (show_line_fault line) (ShowLineMeans line) }
 {}
 
 /// Law: parsing the line written for octets returns these octets, and parsing the line written for the frame in canonical SDCCH octets
@@ -104,6 +104,6 @@ pub fn law_written_frames_read_back()
         → text ≡ line ++ codes "\n" → IsUnskippedLine line × ShowLineMeans line (ShowLine.Frame octets) }
     ensures again { (written octets : List ℕ) → ShowLineMeans written (ShowLine.Frame octets)
         → (name : ShowLineKind) × (values : List Value) × (f : Frame)
-        × LineMeans show_line_forms no_order_fault written (Some (name, values)) × (frame_from_values name values ≡ Some f)
+        × LineMeans show_line_forms never_misplaced written (Some (name, values)) × (frame_from_values name values ≡ Some f)
         × ((text : List ℕ) → IsTextOfOctets octets text → text ≡ frame_text f) }
 {}

@@ -16,23 +16,23 @@ pub(crate) fn hard_values<const N: usize>(digits: &[u8]) -> [i8; N]
     ensures { result ≡ soft_bits (map (λ octet. octet - 48) digits.now) }
 {
     let mut values = [0; N];
-    write_hard_values(digits, &mut values);
+    write_soft_values_of_bit_digits(digits, &mut values);
     values
 }
 
 /// Writes the soft values of `N` hard bits, given as digits, to `values`: 127 for `0`, -127 for `1`.
-pub(crate) fn write_hard_values<const N: usize>(digits: &[u8], values: &mut [i8; N])
+pub(crate) fn write_soft_values_of_bit_digits<const N: usize>(digits: &[u8], values: &mut [i8; N])
     requires each { IsTrue (list_all is_bit_digit digits.now) }
     requires size { length digits.now ≡ N }
     ensures value { values.new ≡ soft_bits (map (λ octet. octet - 48) digits.now) }
     ensures soft { AllSoftBits values.new }
 {
     for (i, digit) in digits.iter().enumerate() {
-        values[i] = hard_value(*digit);
+        values[i] = soft_value_of_bit_digit(*digit);
     }
 }
 
-fn hard_value(digit: u8) -> i8
+fn soft_value_of_bit_digit(digit: u8) -> i8
     requires { IsTrue (is_bit_digit digit) }
     ensures { result ≡ soft_bit_of (digit - 48) }
 {
@@ -40,7 +40,7 @@ fn hard_value(digit: u8) -> i8
 }
 
 /// Returns the soft values that `2 * N` hexadecimal digits represent, or the fault `Soft` if one of them is -128.
-pub(crate) fn soft_values<const N: usize>(digits: &[u8]) -> Result<[i8; N], LineFault>
+pub(crate) fn soft_values_of_hex_digits<const N: usize>(digits: &[u8]) -> Result<[i8; N], LineFault>
     requires each { IsTrue (list_all is_hex_digit digits.now) }
     requires size { length digits.now ≡ 2 * N }
     ensures { MatchResult result

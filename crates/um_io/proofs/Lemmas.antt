@@ -1,18 +1,21 @@
--- Reading lines from a source: an input divides into lines in only one way, and the reader finds these lines.
+-- Lemmas about reading lines from a source: octets can be divided into lines in only one way, and the reader returns these lines.
 use Rattle.{
   memchr.specs.Find.{IsFirstByte, Nowhere, Passes, is_byte},
   std.{
     proofs.{
       Common.{All, Bool, Bor, List, MatchOption, None, Option, Result, Some, [], ap, append-nil, append_assoc, arith, cond, drop, eq-eqb},
       Common.{false, inl, inr, le_refl, length, length-append, max, refl, slice_index, slice_range, subst, sym, take, true, ℕ, ◌++◌},
-      Common.{eqb, map, not, replicate, w8, ◌%◌, ◌+◌, ◌-◌, ◌<◌, ◌^◌, ◌∙◌, ◌∷◌, ◌≡◌, ◌≢◌, ◌≤◌, ◌⊎◌},
+      Common.{eqb, map, not, replicate, w8, ◌%◌, ◌+◌, ◌-◌, ◌<◌, ◌^◌, ◌∙◌, ◌∷◌, ◌≡◌, ◌≢◌},
+      Common.{◌≤◌, ◌⊎◌},
       Math.Seq.{take-add, take-append-add},
-      lemmas.{Bool.{cases_Bool, cases_eq, cases_lt, eqb-true, false≢true, ne_eqb}, List.{drop-drop, drop-take, drop_all, drop_at}},
-      lemmas.List.{drop_more, get_or-append-add, get_or-take, length-drop, length-take, length-take-le, take-append-drop, take-take},
-      lemmas.List.{take_all},
-      lemmas.List.{take_at, take_rest, Edits.length-between, Elements.{All-append, All-cons, All-drop, All-from_get_or, All-head, All-nil}},
-      lemmas.{List.Elements.{All-push, All-tail, All-take}, Simd.{bitmask_splat, run_in_chunk_fails, run_in_chunk_le}},
-      lemmas.{Simd.{run_in_chunk_stops, trailing_mask_l}, Slice.between_is},
+      lemmas.{
+        Bool.{cases_Bool, cases_eq, cases_lt, eqb-true, false≢true, ne_eqb},
+        List.{drop-drop, drop-take, drop_all, drop_at, drop_more, get_or-append-add, get_or-take, length-drop, length-take, length-take-le},
+        List.{take-append-drop, take-take, take_all, take_at, take_rest, Edits.length-between, Elements.{All-append, All-cons, All-drop}},
+        List.Elements.{All-from_get_or, All-head, All-nil, All-push, All-tail, All-take},
+        Simd.{bitmask_splat, run_in_chunk_fails, run_in_chunk_le, run_in_chunk_stops, trailing_mask_l},
+        Slice.between_is,
+      },
       KnownBytes.Appends-trans,
     },
     specs.{Io.KnownBytes.Appends, List.prefix_len},
@@ -22,17 +25,17 @@ use Rattle.{
     SourceCalls.{CallsReturnOctets, StopsAtEndOrFailure, more as more_calls, none as no_calls},
     Buffer.octets_of,
     SearchResults.{HasReadOctets, IsFoundInBuffer, IsFoundWithoutLineFeed, IsSearchResult},
-    Lines.{IsDivided, IsFirstLineFeed, IsLine, IsNotLineFeed, lines_of_octets, push_onto_first_line, text_of_lines},
+    Lines.{IsDividedIntoLines, IsFirstLineFeed, IsLine, IsNotLineFeed, lines_of_octets, push_onto_first_line, text_of_lines},
     Next.{IsNextLineCall, IsReaderStep, IsNextLineResult, ReturnsLine, ReturnsNoLine},
     Reading.{IsResultReady, IsValidReader, NeedsMoreOctets, ReaderState, buffer_limit, input_limit, line_limit, new_reader, reader_holding},
     declared.{buffer.Buffer.Buffer, lines.{LineSearchResult.{LineSearchResult, TheVariants.Line as WholeLine}, Next.Next}},
     declared.{lines.Next.TheVariants.{End, Failed, Line, Long, TooMany}, streams.Failed.Failed as Error},
   },
 }
-use lib.{Count.{count_trailing_zeros}, Lanes.{mask_l, top, zip2}}
+use lib.{Count.count_trailing_zeros, Lanes.{mask_l, top, zip2}}
 
--- ## LineLists: There is only one way to divide octets into whole lines and a rest without a line feed: of two divisions, one begins with
--- the lines of the other, and what follows cannot contain a line feed.
+-- ## LineLists: Octets can be divided into complete lines and a rest without a line feed in only one way. Of two divisions, one begins with
+-- the lines of the other; the rest of the other contains no line feed, so no further line follows.
 
 All-before : {A : Type 0} (P : A → Type 0) (xs ys : List A) → All P (xs ++ ys) → All P xs
 All-before P xs ys h = rw (take_at xs ys (length xs) refl) at (All-take P (length xs) (xs ++ ys) h)
@@ -72,7 +75,7 @@ one_division (l ∷ ls) (l' ∷ ls') u v h h' hu hv e =
     let (lines, last) = one_division ls ls' u v (All-tail IsLine l ls h) (All-tail IsLine l' ls' h') hu hv rest in
     (cc (first, lines), last)
 
--- the text of lines with one more line at the end is their text, then that line and its line feed
+-- if one more line is added after some lines, the text of all of them is the text of these lines, then the line and a line feed
 pub text-push : (ls : List (List ℕ)) (l u : List ℕ) → text_of_lines (ls ++ l ∷ []) ++ u ≡ text_of_lines ls ++ (l ++ 10 ∷ u)
 text-push ls l u = rw (text-append, append_assoc)
 
@@ -83,19 +86,19 @@ length-text-push ls l = omega (arith, length-append {A = ℕ}, ap length (text-p
 -- ## DivisionLemmas: Each list of octets is divided into lines in exactly one way: `lines_of_octets` gives a division, by induction over
 -- the octets, and it is the only one.
 
--- an octet other than a line feed goes to the front of the first line
+-- adding an octet other than a line feed to the front of octets adds it to the front of their first line
 lines_of_octets-plain : (octet : ℕ) (octets : List ℕ) → IsNotLineFeed octet →
     lines_of_octets (octet ∷ octets) ≡ push_onto_first_line octet (lines_of_octets octets)
 lines_of_octets-plain octet octets plain = rw (ne_eqb octet 10 plain)
 
--- a line and its line feed give one line before the lines of the rest
+-- if octets begin with a line and its line feed, their lines are this line and then the lines of the rest
 lines_of_octets-line : (line rest : List ℕ) → IsLine line → lines_of_octets (line ++ 10 ∷ rest) ≡ line ∷ lines_of_octets rest
 lines_of_octets-line [] rest plain = refl
 lines_of_octets-line (octet ∷ line) rest plain =
     lines_of_octets-plain octet (line ++ 10 ∷ rest) (All-head IsNotLineFeed octet line plain)
     ∙ ap (push_onto_first_line octet) (lines_of_octets-line line rest (All-tail IsNotLineFeed octet line plain))
 
--- the lines of octets that begin with some lines and their line feeds are these lines, then the lines of the rest
+-- if octets begin with some lines, each with its line feed, their lines are these lines and then the lines of the rest
 lines_of_octets-text : (lines : List (List ℕ)) (rest : List ℕ) → All IsLine lines →
     lines_of_octets (text_of_lines lines ++ rest) ≡ lines ++ lines_of_octets rest
 lines_of_octets-text [] rest plain = refl
@@ -104,7 +107,7 @@ lines_of_octets-text (line ∷ lines) rest plain =
     (All-head IsLine line lines plain)
     ∙ ap (λ l. line ∷ l) (lines_of_octets-text lines rest (All-tail IsLine line lines plain))
 
--- octets without a line feed are one line, unless there are none
+-- octets without a line feed are one line, unless there are no octets
 lines_of_octets-last : (line : List ℕ) → IsLine line → 0 < length line → lines_of_octets line ≡ line ∷ []
 lines_of_octets-last [] plain some = absurd (omega arith)
 lines_of_octets-last (octet ∷ []) plain some = lines_of_octets-plain octet [] (All-head IsNotLineFeed octet [] plain)
@@ -120,8 +123,9 @@ All-front lines front last plain are =
     let all = rw are at plain in
     (All-before IsLine front (last ∷ []) all, All-head IsLine last [] (All-behind IsLine front (last ∷ []) all))
 
--- a division has the lines that `lines_of_octets` gives, and no others
-pub lines_of_octets-only : (octets : List ℕ) (lines : List (List ℕ)) → IsDivided octets lines → lines ≡ lines_of_octets octets
+-- if octets are divided into lines, these are the lines that `lines_of_octets` gives
+pub lines_of_octets-only : (octets : List ℕ) (lines : List (List ℕ)) → IsDividedIntoLines octets lines →
+    lines ≡ lines_of_octets octets
 lines_of_octets-only octets lines divided =
     elim divided.octets_split [
       | inl whole ↦
@@ -133,10 +137,10 @@ lines_of_octets-only octets lines divided =
           ∙ ap (λ l. cut.front ++ l) (lines_of_octets-last cut.last plain.1 cut.nonempty) ∙ sym cut.lines_split)
     ]
 
--- a line and its line feed, put before octets, add one line before the lines of these octets
-IsDivided-line : (line octets : List ℕ) (lines : List (List ℕ)) → IsLine line → IsDivided octets lines
-    → IsDivided (line ++ 10 ∷ octets) (line ∷ lines)
-IsDivided-line line octets lines plain divided =
+-- adding a line and its line feed to the front of octets adds this line to the front of their lines
+IsDividedIntoLines-line : (line octets : List ℕ) (lines : List (List ℕ)) → IsLine line → IsDividedIntoLines octets lines
+    → IsDividedIntoLines (line ++ 10 ∷ octets) (line ∷ lines)
+IsDividedIntoLines-line line octets lines plain divided =
     record {
       no_line_feed = All-cons IsLine line lines plain divided.no_line_feed;
       octets_split = elim divided.octets_split [
@@ -151,11 +155,12 @@ IsDivided-line line octets lines plain divided =
       ];
     }
 
--- a division of octets into lines with line feeds and a rest without one
+-- a way to divide octets into complete lines and a rest without a line feed
 abbrev pub Division : List ℕ → Type 0
-Division octets = (lines : List (List ℕ)) × (last : List ℕ) × All IsLine lines × IsLine last × (octets ≡ text_of_lines lines ++ last)
+Division octets = (lines : List (List ℕ)) × (last : List ℕ) × All IsLine lines × IsLine last
+    × (octets ≡ text_of_lines lines ++ last)
 
--- an octet other than a line feed, put before octets, becomes the first of their first line
+-- if octets can be divided into lines, they still can after an octet other than a line feed is added to their front
 Division-plain : (octet : ℕ) (octets : List ℕ) → IsNotLineFeed octet → Division octets → Division (octet ∷ octets)
 Division-plain octet octets plain ([], last, h, p, e) = ([], octet ∷ last, h, All-cons IsNotLineFeed octet last plain p, cc e)
 Division-plain octet octets plain (l ∷ ls, last, h, p, e) = (
@@ -175,10 +180,10 @@ divide (octet ∷ octets) = elim (cases_eq octet 10) [
   | inr plain ↦ Division-plain octet octets plain (divide octets)
 ]
 
-IsDivided-from : (octets : List ℕ) → Division octets → (lines : List (List ℕ)) × IsDivided octets lines
-IsDivided-from octets (lines, [], h, p, e) =
+IsDividedIntoLines-from : (octets : List ℕ) → Division octets → (lines : List (List ℕ)) × IsDividedIntoLines octets lines
+IsDividedIntoLines-from octets (lines, [], h, p, e) =
     (lines, record { no_line_feed = h; octets_split = inl (e ∙ append-nil (text_of_lines lines)) })
-IsDivided-from octets (lines, o ∷ last, h, p, e) = (
+IsDividedIntoLines-from octets (lines, o ∷ last, h, p, e) = (
   lines ++ (o ∷ last) ∷ [],
   record {
     no_line_feed = All-push IsLine lines (o ∷ last) h p;
@@ -187,16 +192,16 @@ IsDivided-from octets (lines, o ∷ last, h, p, e) = (
 )
 
 -- `lines_of_octets` gives a division of the octets into lines
-pub IsDivided-lines_of_octets : (octets : List ℕ) → IsDivided octets (lines_of_octets octets)
-IsDivided-lines_of_octets octets =
-    let (lines, d) = IsDivided-from octets (divide octets) in
+pub IsDividedIntoLines-lines_of_octets : (octets : List ℕ) → IsDividedIntoLines octets (lines_of_octets octets)
+IsDividedIntoLines-lines_of_octets octets =
+    let (lines, d) = IsDividedIntoLines-from octets (divide octets) in
     rw (lines_of_octets-only octets lines d) at d
 
--- an example: the line `a`, an empty line, and `b` without a line feed
+-- an example: the octets `a`, line feed, line feed, `b` are the line `a`, an empty line, and the line `b` without a line feed
 lines_of_octets-example : lines_of_octets (97 ∷ 10 ∷ 10 ∷ 98 ∷ []) ≡ (97 ∷ []) ∷ [] ∷ (98 ∷ []) ∷ []
 lines_of_octets-example = refl
 
--- ## KnownOctets: What is known about the octets left in a source and taken by a sink after several calls.
+-- ## KnownOctets: The octets that remain in a source, or that a sink has taken, after several calls.
 
 -- a sink that takes the first w octets of a piece and then n octets of the rest has taken the first w + n octets
 pub Appends-front : (a b c : Option (List ℕ)) (w n : ℕ) (piece : List ℕ) → Appends a b (take w piece) →
@@ -204,13 +209,13 @@ pub Appends-front : (a b c : Option (List ℕ)) (w n : ℕ) (piece : List ℕ) �
 Appends-front a b c w n piece first then =
     rw take-add (Appends-trans a b c (take w piece) (take n (drop w piece)) first (rw (take_rest piece w) at then))
 
--- ## AskingLemmas: The sequence of calls that a line reader makes to its source.
+-- ## AskingLemmas: Lemmas about the sequence of calls that a line reader makes to its source.
 
 module _ {S : Type 0} (IsCall : S → Option ℕ → S → Type 0) (first : S) where
   pub asked-none : StopsAtEndOrFailure IsCall first first
-  asked-none = record { before_last = first; earlier_calls = no_calls; last_call = inl refl }
+  asked-none = record { state_before_last_call = first; earlier_calls = no_calls; last_call = inl refl }
 
-  -- each call so far gave octets, or the last call reached the end of the source
+  -- each call to the source so far returned octets, or the last call reached the end of the source
   abbrev pub AskedSoFar : S → Bool → Type 0
   AskedSoFar s ended = CallsReturnOctets IsCall first s ⊎ ((ended ≡ true) × StopsAtEndOrFailure IsCall first s)
 
@@ -220,14 +225,14 @@ module _ {S : Type 0} (IsCall : S → Option ℕ → S → Type 0) (first : S) w
   pub asked-once : (s t : S) (ended ended' : Bool) (n : ℕ) → AskedSoFar s ended → ended ≡ false → IsCall s (Some n) t →
       (ended' ≡ false → 0 < n) → AskedSoFar t ended'
   asked-once s t ended ended' n (inl gave) goes_on is_call some = elim (cases_Bool ended') [
-    | inl ends ↦ inr (ends, record { before_last = s; earlier_calls = gave; last_call = inr (Some n, is_call) })
+    | inl ends ↦ inr (ends, record { state_before_last_call = s; earlier_calls = gave; last_call = inr (Some n, is_call) })
     | inr goes ↦ inl (more_calls s t n gave is_call (some goes))
   ]
   asked-once s t ended ended' n (inr asked) goes_on is_call some = cc (asked.0, goes_on)
 
--- ## ReadingLemmas: What a line reader holds, and how reads from the source change it.
+-- ## ReadingLemmas: Lemmas about the octets that a line reader buffers, and how a read from the source changes them.
 
--- the first m octets and the octets after them are together as many as all the octets
+-- the number of the first m octets and the number of the octets after them add up to the number of all octets
 pub length-cut : (octets : List ℕ) (m : ℕ) → length (take m octets) + length (drop m octets) ≡ length octets
 length-cut octets m = omega (arith, length-append (take m octets) (drop m octets), ap length (take-append-drop m octets))
 
@@ -250,16 +255,16 @@ IsValidReader-from b answered number ended is_over limit numbered =
       line_count = numbered;
     }
 
--- the octets `came` were read, and only if they were needed
+-- a search for a line reads the octets `came` from the source, and reads only if the buffered octets are not enough
 pub record IsFinding (r s : ReaderState) (left left' : Option (List ℕ)) (came : List ℕ) : Type 0 where
   pub has_read : HasReadOctets r s left left' came
   pub needed : NeedsMoreOctets r ⊎ ((s ≡ r) × (came ≡ []))
 
--- a bound for the number of reads that can still follow: the free capacity, plus one while the source has not ended
+-- an upper bound on the number of reads that can still follow: the free capacity, plus one while the source has not ended
 abbrev pub reads_left : ReaderState → ℕ
 reads_left r = (line_limit + 1 - (length r.held + length r.excess)) + cond r.ended 0 1
 
--- after a successful read, fewer reads can follow
+-- a successful read of octets that the reader needs lowers `reads_left`, the bound on the number of further reads
 pub reads_left-read : (r s : ReaderState) (left left' : Option (List ℕ)) (came : List ℕ) → NeedsMoreOctets r →
     HasReadOctets r s left left' came
     → (s.ended ≡ false → 0 < length came) → IsValidReader s → reads_left s < reads_left r
@@ -272,9 +277,9 @@ reads_left-read r s left left' came more has some valid =
       | inr goes ↦ let grew = some goes in rw (more.ended, goes) (omega arith)
     ]
 
--- ## FeedLemmas: Line feeds in parts of a list.
+-- ## FeedLemmas: Lemmas about line feeds in parts of a list.
 
--- if none of the first n octets is a line feed, they are a line
+-- if a search finds no line feed at any index below n, the first n octets contain no line feed
 IsLine-front : (octets : List ℕ) (n : ℕ) → n ≤ length octets → Nowhere (Passes (is_byte 10) octets) 0 n →
     IsLine (take n octets)
 IsLine-front octets n fits none =
@@ -325,7 +330,7 @@ pub feed-bits : (octets : List ℕ) → 64 ≤ length octets →
     ≡ mask_l (map (λ x. eqb x 10) (take 64 octets))
 feed-bits octets long = bitmask_splat w8 eqb (take 64 octets) 64 10 (length-take-le 64 octets long) (omega arith)
 
--- the number of trailing zeros of this mask is the number of octets before the first line feed
+-- the number of trailing zeros of the mask from a vector comparison is the number of octets before the first line feed
 pub count-before-bits : (octets : List ℕ) (bits : ℕ) → 64 ≤ length octets →
     bits ≡ mask_l (map (λ x. eqb x 10) (take 64 octets)) → bits ≢ 0 → (n : ℕ) → n ≡ count_trailing_zeros 64 bits →
     (n ≤ 64) × IsLine (take n octets) × (n < 64 → slice_index octets n ≡ 10)
@@ -347,7 +352,7 @@ MatchOption-behind octets from (Some n) fits plain first =
     (IsFirstLineFeed-behind (take from octets) (drop from octets) n plain
     (subst (λ rest. IsFirstLineFeed rest n) (slice_range-end octets from) first))
 
--- two adjacent slices of a list form one slice
+-- two adjacent slices of a list, joined together, are one slice of this list
 slice_range-joined : (octets : List ℕ) (i j k : ℕ) → i ≤ j → j ≤ k
     → slice_range octets i j ++ slice_range octets j k ≡ slice_range octets i k
 slice_range-joined octets i j k first second =
@@ -376,7 +381,8 @@ IsLine-join octets i j k first second before behind =
     subst IsLine (slice_range-joined octets i j k first second) (All-append IsNotLineFeed (slice_range octets i j) (slice_range octets j k)
     before behind)
 
--- if the octets from i to j contain no line feed and the first one after them has index j + n, the octets before it contain none
+-- if the octets from i to j contain no line feed, and the first line feed from j on has index j + n, the octets from i to j + n contain
+-- none
 pub IsLine-join_feed : (octets : List ℕ) (i j k n : ℕ) → i ≤ j → j ≤ k → k ≤ length octets →
     IsLine (slice_range octets i j)
     → IsFirstLineFeed (slice_range octets j k) n → IsLine (slice_range octets i (j + n))
@@ -385,7 +391,7 @@ IsLine-join_feed octets i j k n first second fits before found =
     IsLine-join octets i j (j + n) first (omega arith) before
     (subst IsLine (slice_range-front octets j k n (omega arith)) found.no_line_feed)
 
--- if there is no line feed from i to j, the first one after j is also the first one after i
+-- if the octets from i to j contain no line feed, the first line feed from j on is also the first line feed from i on
 pub IsFirstLineFeed-upto : (octets : List ℕ) (i j k n : ℕ) → i ≤ j → j ≤ k → k ≤ length octets →
     IsLine (slice_range octets i j)
     → IsFirstLineFeed (slice_range octets j k) n → IsFirstLineFeed (slice_range octets i k) (j + n - i)
@@ -395,7 +401,7 @@ IsFirstLineFeed-upto octets i j k n first second fits before found =
     let at : length (slice_range octets i j) + n ≡ j + n - i = omega arith in
     rw (slice_range-joined octets i j k first second, at) at joined
 
--- after n octets are dropped, what remains of the scanned octets still has no line feed
+-- if the scanned octets contain no line feed, those that remain after the first n octets are dropped contain none either
 pub IsLine-skipped : (octets : List ℕ) (i j n : ℕ) → IsLine (slice_range octets i j) →
     IsLine (slice_range octets (i + n) (max j (i + n)))
 IsLine-skipped octets i j n plain =
@@ -408,30 +414,31 @@ IsLine-skipped octets i j n plain =
           rw (same, ← slice_range-rest octets i j n more) (All-drop IsNotLineFeed n (slice_range octets i j) plain)
     ]
 
--- a slice of an unchanged prefix is unchanged
+-- if the first n octets of a list do not change, a slice of them does not change
 pub slice_range-kept : (old new : List ℕ) (i j n : ℕ) → j ≤ n → take n new ≡ take n old →
     slice_range new i j ≡ slice_range old i j
 slice_range-kept old new i j n within same =
     let front = sym (take-take j n new within) ∙ ap (take j) same ∙ take-take j n old within in
     between_is new i j ∙ ap (drop i) front ∙ sym (between_is old i j)
 
--- the octets held after a read: the unchanged octets held before, then the new octets
+-- the octets buffered after a read are the octets buffered before, unchanged, followed by the new octets
 pub slice_range-came : (old new : List ℕ) (i j n : ℕ) → i ≤ j → take j new ≡ take j old
     → slice_range new i (j + n) ≡ slice_range old i j ++ slice_range new j (j + n)
 slice_range-came old new i j n ordered same =
     sym (slice_range-joined new i j (j + n) ordered (omega arith)) ∙ ap (λ l. l ++ slice_range new j (j + n))
     (slice_range-kept old new i j j (le_refl j) same)
 
--- if the first line feed lies after a prefix, the prefix has none
+-- if the index of the first line feed is at least m, the first m octets contain no line feed
 pub IsLine-before_feed : (octets : List ℕ) (m n : ℕ) → IsFirstLineFeed octets n → m ≤ n → IsLine (take m octets)
 IsLine-before_feed octets m n found low =
     subst IsLine (take-take m n octets low) (All-take IsNotLineFeed m (take n octets) found.no_line_feed)
 
--- ## NextLemmas: Lemmas for the contract of `Lines::next`: what was read and what was found determine the result.
+-- ## NextLemmas: Lemmas for the contract of `Lines::next`: the octets read and the result of the search determine the result of the call.
 
--- the result of a reader that has not stopped is determined by the octets held and read
+-- if a reader has not stopped, and `next` is the right result for the octets buffered and read, the call satisfies `IsNextLineCall`
 IsNextLineCall-from : {r s t : ReaderState} {left left' : Option (List ℕ)} {next : Next} {came : List ℕ} → r.is_over ≡ false →
-    HasReadOctets r s left left' came → NeedsMoreOctets r ⊎ (came ≡ []) → IsValidReader s → t.ended ≡ s.ended → IsValidReader t →
+    HasReadOctets r s left left' came → NeedsMoreOctets r ⊎ (came ≡ []) → IsValidReader s → t.ended ≡ s.ended →
+    IsValidReader t →
     IsNextLineResult r t (r.held ++ r.excess ++ came) next → IsNextLineCall r left left' next t
 IsNextLineCall-from {s = s} {came = came} going has needed held same valid gives =
     record {
@@ -450,11 +457,11 @@ IsNextLineCall-from {s = s} {came = came} going has needed held same valid gives
       );
     }
 
--- the reader once it has stopped
+-- the state of a line reader after it has stopped
 abbrev pub stopped : ReaderState → ReaderState
 stopped s = record s { is_over = true }
 
--- a reader that finds no line stops, and its result says why
+-- a reader that finds no line stops, and its result gives the reason
 pub IsNextLineCall-stopped : {r s : ReaderState} {left left' : Option (List ℕ)} {next : Next} {result : Result LineSearchResult Error} →
     r.is_over ≡ false → IsValidReader s → (found : IsSearchResult r s left left' result) → IsLine s.held →
     (ReturnsNoLine r (stopped s) (r.held ++ r.excess ++ found.octets_read) true →
@@ -471,14 +478,14 @@ IsNextLineCall-stopped {s = s} going valid found plain gives =
       stops = refl;
     }))
 
--- a source that is called only when needed is not called when the octets held already determine the result
+-- if a reader calls its source only when it needs more octets, a call whose result the buffered octets determine does not change the source
 pub source_unchanged : {X : Type 0} (r : ReaderState) (old new : X) → r.is_over ≡ false → NeedsMoreOctets r ⊎ (new ≡ old) →
     IsResultReady r → new ≡ old
 source_unchanged r old new going (inl more) (inl is_over) = cc (going, is_over)
 source_unchanged r old new going (inl more) (inr none) = absurd (none more)
 source_unchanged r old new going (inr same) ready = same
 
--- after a line is returned, the counts of octets and lines are still within their limits
+-- after the reader returns a line, the counts of octets and lines are still within their limits
 pub counts-after : (octets : List ℕ) (answered number n whole : ℕ) (ended is_over : Bool) → answered ≤ input_limit →
     number ≤ answered
     → IsFoundInBuffer (reader_holding octets answered number ended is_over) (WholeLine n whole)
@@ -487,20 +494,20 @@ counts-after octets answered number n whole ended is_over limit numbered looks =
     let front = length-take (input_limit - answered) octets in
     elim looks [ inl first ↦ (omega arith, omega arith) | inr last ↦ (omega arith, omega arith) ]
 
--- octets with a line feed at index n are a line of n octets, its line feed, and the rest
+-- octets with a line feed at index n are the first n octets, the line feed, and the rest
 line_and_rest : (octets : List ℕ) (n : ℕ) → n < length octets → slice_index octets n ≡ 10
     → octets ≡ take n octets ++ (10 ∷ []) ++ drop (n + 1) octets
 line_and_rest octets n within feed =
     let rest : drop n octets ≡ 10 ∷ drop (n + 1) octets = drop_more octets n 0 within ∙ ap (λ x. x ∷ drop (n + 1) octets) feed in
     rw (append_assoc, ← rest) (sym (take-append-drop n octets))
 
--- the line returned is the front of the octets that the buffer drops
+-- the line that the reader returns is the beginning of the octets that it removes from the buffer
 lent_line : (octets held : List ℕ) (from n whole : ℕ) → n ≤ whole → slice_range octets from (from + whole) ≡ take whole held
     → slice_range octets from (from + n) ≡ take n held
 lent_line octets held from n whole fits skipped =
     sym (slice_range-front octets from (from + whole) n (omega arith)) ∙ ap (take n) skipped ∙ take-take n whole held fits
 
--- a reader that held the octets of `b` returned a line of the first `whole` octets, and now holds the octets of `after`
+-- the lemmas of this module assume that a reader removes a line, the first `whole` octets, from the buffer `b`, which leaves `after`
 module _ (r : ReaderState) (b after : Buffer) (answered number whole : ℕ) (ended is_over : Bool) (left left' : Option (List ℕ))
     (came : List ℕ) (going : r.is_over ≡ false) (has : HasReadOctets r (reader_holding (octets_of b) answered number ended is_over) left
     left' came) (needed : NeedsMoreOctets r ⊎ (came ≡ [])) (limit : answered ≤ input_limit) (numbered : number ≤ answered)
@@ -537,7 +544,7 @@ module _ (r : ReaderState) (b after : Buffer) (answered number whole : ℕ) (end
         let front = length-take (input_limit - answered) (octets_of b) in
         IsValidReader-from after (answered + whole) (number + 1) ended is_over (omega arith) (omega arith)
 
-    -- the case where the reader returns a line with a line feed
+    -- if the returned line ends with a line feed, the call satisfies `IsNextLineCall`
     IsNextLineCall-line : (n : ℕ) (line : Bor (List ℕ)) → line.now ≡ take n (octets_of b) → IsFirstLineFeed held_before.held n →
         whole ≡ n + 1 → IsNextLineCall r left left' (Line line) held_after
     IsNextLineCall-line n line shown first size =
@@ -557,7 +564,7 @@ module _ (r : ReaderState) (b after : Buffer) (answered number whole : ℕ) (end
         (IsValidReader-after (omega arith) (omega arith))
         (inl (rw shown answers))
 
-    -- the case where the reader returns the last line, which has no line feed
+    -- if the returned line is the last one, which has no line feed, the call satisfies `IsNextLineCall`
     IsNextLineCall-last : (n : ℕ) (line : Bor (List ℕ)) → line.now ≡ take n (octets_of b) → IsLine held_before.held
         → IsFoundWithoutLineFeed (length held_before.held) (length held_before.excess) ended (WholeLine n whole)
         → IsNextLineCall r left left' (Line line) held_after
@@ -571,17 +578,17 @@ module _ (r : ReaderState) (b after : Buffer) (answered number whole : ℕ) (end
         let none : drop whole octets ≡ [] = drop_all whole octets (omega (arith, shows.1, shows.4)) in
         let split : octets ≡ take n octets ++ [] ++ drop whole octets =
         sym (rw (none, append-nil, append-nil) all) in
-        let no_feed_in_line : IsLine (take n octets) = subst IsLine (inside ∙ sym all) plain in
+        let line_has_no_feed : IsLine (take n octets) = subst IsLine (inside ∙ sym all) plain in
         let size : length (take n octets) ≡ length octets = ap length all in
         let counted : length (take n octets ++ []) ≡ whole = omega (arith, ap length (append-nil (take n octets)), shows.1, shows.4) in
-        let answers = ReturnsLine-from (take n octets) [] split no_feed_in_line (omega (arith, shows.3, shows.4)) counted
+        let answers = ReturnsLine-from (take n octets) [] split line_has_no_feed (omega (arith, shows.3, shows.4)) counted
         (omega (arith, shows.1, shows.2)) in
         let nothing = take-append-drop (input_limit - (answered + whole)) (octets_of after) ∙ rest ∙ none in
         IsNextLineCall-from going has needed (IsValidReader-from b answered number ended is_over limit numbered) refl
         (IsValidReader-after (omega (arith, shows.1, shows.2)) (omega (arith, shows.1)))
         (inr (rw shown answers, nothing, shows.5))
 
-    -- the reader returns the line that was found: a borrowed slice at the front of the octets that the buffer drops
+    -- a call that returns the line found by the search satisfies `IsNextLineCall`; the line is a borrowed slice of the buffer
     pub IsNextLineCall-found : (from n : ℕ) (line : Bor (List ℕ)) →
         slice_range after.octets.items from (from + whole) ≡ take whole (octets_of b)
         → line.now ≡ slice_range after.octets.items from (from + n)
@@ -595,18 +602,18 @@ module _ (r : ReaderState) (b after : Buffer) (answered number whole : ℕ) (end
           IsNextLineCall-last n line shown last.0 last.1
     ]
 
--- ## AnswersLemmas: The lines that a line reader returns before it ends are the lines of its source: by induction over the calls, each of
--- which takes one line off the front of the octets.
+-- ## AnswersLemmas: The lines that a line reader returns before it ends are the lines of its source. The proof is by induction over the
+-- calls; each call takes one line off the front of the octets.
 
 -- a nonempty line without a line feed is the only line of its octets
-IsDivided-last : (line : List ℕ) → IsLine line → 0 < length line → IsDivided line (line ∷ [])
-IsDivided-last line plain some =
+IsDividedIntoLines-last : (line : List ℕ) → IsLine line → 0 < length line → IsDividedIntoLines line (line ∷ [])
+IsDividedIntoLines-last line plain some =
     record {
       no_line_feed = All-cons IsLine line [] plain (All-nil IsLine);
       octets_split = inr record { front = []; last = line; lines_split = refl; octets_split = refl; nonempty = some };
     }
 
--- once the source has ended and nothing is held, no further line is returned
+-- once the source has ended and the buffer is empty, the reader returns no further line
 no_more : (r r' : ReaderState) (left left' : Option (List ℕ)) (lines : List (List ℕ)) (came : List ℕ) → r.held ++ r.excess
     ≡ [] →
     r.ended ≡ true
@@ -619,12 +626,13 @@ no_more r r' left left' (line ∷ lines) came none ended (first, rest, mid, betw
       | inr last ↦ absurd (omega (arith, ap length last.0.octets, last.0.nonempty, length-append {A = ℕ}))
     ]
 
--- if nothing is held at the end, the lines returned are a division of the octets held at the start and those read
-IsDivided-answers : (lines : List (List ℕ)) (r r' : ReaderState) (left left' : Option (List ℕ)) (came : List ℕ)
-    → CallsReturnLines r left lines came r' left' → r'.held ++ r'.excess ≡ [] → IsDivided (r.held ++ r.excess ++ came) lines
-IsDivided-answers [] r r' left left' came (nothing, same, _) none =
+-- if the buffer is empty at the end, the returned lines are a division of the octets buffered at the start and those read
+IsDividedIntoLines-answers : (lines : List (List ℕ)) (r r' : ReaderState) (left left' : Option (List ℕ)) (came : List ℕ)
+    → CallsReturnLines r left lines came r' left' → r'.held ++ r'.excess ≡ [] →
+    IsDividedIntoLines (r.held ++ r.excess ++ came) lines
+IsDividedIntoLines-answers [] r r' left left' came (nothing, same, _) none =
     rw (nothing, append-nil, ← same, none) (record { no_line_feed = All-nil IsLine; octets_split = inl refl })
-IsDivided-answers (line ∷ lines) r r' left left' came (first, rest, mid, between, slice, shown_is, came_is, step, later) none =
+IsDividedIntoLines-answers (line ∷ lines) r r' left left' came (first, rest, mid, between, slice, shown_is, came_is, step, later) none =
     let shown = slice.now in
     let joined : r.held ++ r.excess ++ came ≡ (r.held ++ r.excess ++ first) ++ rest = rw came_is (simp append_assoc) in
     rw (← shown_is)
@@ -633,22 +641,22 @@ IsDivided-answers (line ∷ lines) r r' left left' came (first, rest, mid, betwe
           let behind = mid.held ++ mid.excess in
           let octets : _ ≡ shown ++ 10 ∷ (behind ++ rest) = joined ∙ rw whole.octets (simp append_assoc) in
           rw octets
-          (IsDivided-line shown (behind ++ rest) lines whole.no_line_feed
-          (IsDivided-answers lines mid r' between left' rest later none))
+          (IsDividedIntoLines-line shown (behind ++ rest) lines whole.no_line_feed
+          (IsDividedIntoLines-answers lines mid r' between left' rest later none))
       | inr last ↦
           let ends = no_more mid _ _ _ _ _ last.1 last.2 later in
           let octets : r.held ++ r.excess ++ came ≡ shown =
           joined ∙ rw (ends.1, append-nil, last.0.octets, last.1) (simp append-nil) in
           let some : 0 < length shown = omega (arith, ap length (append-nil shown), last.0.nonempty) in
-          rw (octets, ends.0) (IsDivided-last shown last.0.no_line_feed some)
+          rw (octets, ends.0) (IsDividedIntoLines-last shown last.0.no_line_feed some)
     ])
 
--- if the octets held, followed by those read, are an empty list, both lists are empty
+-- if the buffered octets, followed by the octets read, are an empty list, both lists are empty
 nothing_came : (held came : List ℕ) → held ++ came ≡ [] → (held ≡ []) × (came ≡ [])
 nothing_came [] came none = (refl, none)
 nothing_came (o ∷ held) came none = cc none
 
--- a source has `rest` left after `came` is read from its octets; once the source has ended, `rest` is empty
+-- `rest` are the octets that remain in a source after `came` is read from `octets`; once the source has ended, `rest` is empty
 pub record IsLeft (octets came : List ℕ) (left' : Option (List ℕ)) (ended : Bool) : Type 0 where
   pub rest : List ℕ
   pub left_is : left' ≡ Some rest
@@ -670,7 +678,7 @@ IsLeft-step r r' octets (Some rest) next came known step =
       ];
     }
 
--- `IsLeft` holds after calls that read `came`
+-- after calls that read the octets `came`, the source satisfies `IsLeft`
 IsLeft-answers : (lines : List (List ℕ)) (r r' : ReaderState) (octets came : List ℕ) (left' : Option (List ℕ))
     → (r.ended ≡ true → octets ≡ []) → CallsReturnLines r (Some octets) lines came r' left' → IsLeft octets came left' r'.ended
 IsLeft-answers [] r r' octets came left' known (none, same, left_is) =
@@ -685,13 +693,13 @@ IsLeft-answers (line ∷ lines) r r' octets came left' known (first, others, mid
       at_end = rest.at_end;
     }
 
--- the octets held at the start and those read are the lines returned, each with its line feed, and what is held at the end
+-- the octets buffered at the start and those read are the returned lines, each with its line feed, then the octets buffered at the end
 record AreWhole (r r' : ReaderState) (lines : List (List ℕ)) (came : List ℕ) : Type 0 where
   octets : r.held ++ r.excess ++ came ≡ text_of_lines lines ++ (r'.held ++ r'.excess)
   answered : r'.octet_count ≡ r.octet_count + length (text_of_lines lines)
   no_line_feed : All IsLine lines
 
--- after some lines are returned, either `AreWhole` holds or the source has ended and nothing is held
+-- after a reader returns some lines, either `AreWhole` holds, or the source has ended and the buffer is empty
 AreWhole-answers : (lines : List (List ℕ)) (r r' : ReaderState) (left left' : Option (List ℕ)) (came : List ℕ)
     → CallsReturnLines r left lines came r' left'
     → AreWhole r r' lines came ⊎ ((r'.held ++ r'.excess ≡ []) × (r'.ended ≡ true))
@@ -727,7 +735,7 @@ AreWhole-answers (line ∷ lines) r r' left left' came (first, rest, mid, betwee
     after_end (line ∷ lines) mid r' between left' rest none ended same later = absurd (cc same)
 
 module _ (octets : List ℕ) (lines : List (List ℕ)) (came last : List ℕ) (r r' : ReaderState) (left left' : Option (List ℕ)) where
-  -- the lines returned up to the end are the lines of all the octets of the source
+  -- the lines that a reader returns until it reaches the end are the lines of all octets of the source
   lines_of_octets-answers : CallsReturnLines new_reader (Some octets) lines came r left → IsReaderStep r r' left left' End last →
       lines ≡ lines_of_octets octets
   lines_of_octets-answers answers step =
@@ -736,10 +744,10 @@ module _ (octets : List ℕ) (lines : List (List ℕ)) (came last : List ℕ) (r
       let ends = IsLeft-step _ _ _ _ _ _ had.at_end (rw had.left_is at step) in
       let nothing : had.rest ≡ [] = ends.octets_split ∙ ap (λ l. l ++ ends.rest) none ∙ ends.at_end step.outcome.2 in
       let all : octets ≡ came = had.octets_split ∙ rw (nothing, append-nil) in
-      lines_of_octets-only octets lines (rw all (IsDivided-answers _ _ _ _ _ _ answers held))
+      lines_of_octets-only octets lines (rw all (IsDividedIntoLines-answers _ _ _ _ _ _ answers held))
 
-  -- if a reader stops while it still holds octets, or before the end of its source, the octets read so far are the complete lines
-  -- followed by the octets that it holds
+  -- if a reader stops while it still buffers octets, or before the end of its source, the octets read so far are the complete lines
+  -- followed by the buffered octets
   DividesReadOctets-answers : {next : Next} → CallsReturnLines new_reader (Some octets) lines came r left →
       IsReaderStep r r' left left' next last → IsValidReader r' → ReturnsNoLine r r' (r.held ++ r.excess ++ last) true →
       (r.held ++ r.excess ++ last ≡ [] → r'.ended ≡ true → ⊥) → DividesReadOctets octets (came ++ last) lines r'.held r'.excess
@@ -754,16 +762,17 @@ module _ (octets : List ℕ) (lines : List (List ℕ)) (came last : List ℕ) (r
               read_split = ap (λ l. l ++ last) whole.octets ∙ append_assoc (text_of_lines lines) (r.held ++ r.excess) last
                   ∙ ap (λ l. text_of_lines lines ++ l) held.octets;
               no_line_feed = whole.no_line_feed;
-              no_feed_in_line = held.no_line_feed;
+              line_has_no_feed = held.no_line_feed;
               limit = omega (arith, valid.limit, held.octet_count, whole.answered, length-append {A = ℕ});
-              past_only_at_limit = λ some. omega (arith, valid.excess some, held.octet_count, whole.answered, length-append {A = ℕ});
+              octets_past_only_at_input_limit =
+                  λ some. omega (arith, valid.excess some, held.octet_count, whole.answered, length-append {A = ℕ});
             }
         | inr (none, ended) ↦
             let (nil, ended') = step.no_read_after_end ended in
             absurd (open_ (rw (nil, append-nil) none) ended')
       ]
 
-  -- `ReaderStopsWith` holds for each way in which a reader ends
+  -- `ReaderStopsWith` holds for every result with which a reader can stop
   pub ends_with : (next : Next) → CallsReturnLines new_reader (Some octets) lines came r left →
       IsReaderStep r r' left left' next last → IsValidReader r' → ReaderStopsWith next octets (came ++ last) lines
   ends_with (Line line) answers step valid = tt

@@ -23,21 +23,21 @@ pub record DividesReadOctets (octets octets_read : List ℕ) (lines : List (List
   pub octets_split : octets ≡ octets_read ++ unread
   pub read_split : octets_read ≡ text_of_lines lines ++ (line ++ octets_past_limit)
   pub no_line_feed : All IsLine lines
-  pub no_feed_in_line : IsLine line
+  pub line_has_no_feed : IsLine line
   pub limit : length (text_of_lines lines ++ line) ≤ input_limit
-  pub past_only_at_limit : 0 < length octets_past_limit → length (text_of_lines lines ++ line) ≡ input_limit
+  pub octets_past_only_at_input_limit : 0 < length octets_past_limit → length (text_of_lines lines ++ line) ≡ input_limit
 
 -- the reader stops with this result after it has read the octets `came`, the first part of `octets`, and returned these lines
 abbrev pub ReaderStopsWith : Next → (octets came : List ℕ) → List (List ℕ) → Type 0
--- a line does not stop the reader
+-- `Line` does not stop the reader, so nothing is claimed
 ReaderStopsWith (Line line) octets came lines = Unit {0}
 -- at the end of the input, the lines returned are all lines of the input
 ReaderStopsWith End octets came lines = lines ≡ lines_of_octets octets
--- the next line exceeds the line limit
+-- the reader stops because the next line exceeds the line limit
 ReaderStopsWith Long octets came lines = (line past : List ℕ) × DividesReadOctets octets came lines line past
     × (line_limit < length line)
--- the next line does not exceed the line limit, but does not end within the input limit
+-- the reader stops because the next line, which does not exceed the line limit, does not end within the input limit
 ReaderStopsWith TooMany octets came lines =
     (line past : List ℕ) × DividesReadOctets octets came lines line past × (length line ≤ line_limit) × (0 < length past)
--- a read failed before the next line ended
+-- the reader stops because a read failed before the next line ended
 ReaderStopsWith Failed octets came lines = (line : List ℕ) × DividesReadOctets octets came lines line [] × (length line ≤ line_limit)

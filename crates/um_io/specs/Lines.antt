@@ -3,7 +3,7 @@
 use Rattle.std.specs.Prelude.{ℕ, ◌≡◌, ◌<◌, List, [], ◌∷◌, ◌++◌, length, take, slice_index, All, nat_eq}
 use Rattle.std.specs.Prelude.{if◌then◌else◌, ◌⊎◌}
 
--- the octet is not a line feed
+-- the octet is not a line feed, 10
 abbrev pub IsNotLineFeed : ℕ → Type 0
 IsNotLineFeed octet = ¬ (octet ≡ 10)
 
@@ -31,7 +31,7 @@ pub record EndsWithoutLineFeed (octets : List ℕ) (lines : List (List ℕ)) : T
   pub nonempty : 0 < length last
 
 -- `octets` consists of `lines`; only the last may lack its line feed
-pub record IsDivided (octets : List ℕ) (lines : List (List ℕ)) : Type 0 where
+pub record IsDividedIntoLines (octets : List ℕ) (lines : List (List ℕ)) : Type 0 where
   pub no_line_feed : All IsLine lines
   pub octets_split : (octets ≡ text_of_lines lines) ⊎ EndsWithoutLineFeed octets lines
 
@@ -40,7 +40,7 @@ abbrev pub push_onto_first_line : (octet : ℕ) (lines : List (List ℕ)) → Li
 push_onto_first_line octet [] = (octet ∷ []) ∷ []
 push_onto_first_line octet (line ∷ lines) = (octet ∷ line) ∷ lines
 
--- the lines of a list of octets
+-- the lines that a list of octets consists of; only the last may lack its line feed
 abbrev pub lines_of_octets : (octets : List ℕ) → List (List ℕ)
 lines_of_octets [] = []
 lines_of_octets (octet ∷ octets) = if nat_eq octet 10 then [] ∷ lines_of_octets octets else push_onto_first_line octet

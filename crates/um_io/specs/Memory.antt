@@ -4,7 +4,7 @@ use Rattle.std.specs.Prelude.{min, List, [], length, take, drop, Contains, Optio
 use Rattle.um_io.specs.Streams.{next_failure_count}
 
 -- a source that never fails: the unread octets, and the maximum number of octets that one call returns
-pub record PlainSourceState : Type 0 where
+pub record NeverFailingSourceState : Type 0 where
   pub unread : List ℕ
   pub max_per_call : ℕ
 
@@ -50,11 +50,11 @@ new_sink_state room max_per_call failing_calls = record {
   faults = 0;
 }
 
--- the number of octets that a successful read returns
+-- the number of octets that a successful read returns: as many as are unread, fit into the buffer and are allowed per call
 abbrev pub read_octet_count : (max_per_call : ℕ) (unread into : List ℕ) → ℕ
 read_octet_count max_per_call left into = min max_per_call (min (length into) (length left))
 
--- the number of octets that a successful write takes
+-- the number of octets that a successful write takes: all of `piece`, but at most `max_per_call`
 abbrev pub written_octet_count : (max_per_call : ℕ) (piece : List ℕ) → ℕ
 written_octet_count max_per_call piece = min max_per_call (length piece)
 
@@ -72,11 +72,11 @@ abbrev pub SinkRefuses : (state : MemorySinkState) (piece : List ℕ) → Type 0
 SinkRefuses s piece = NextCallFails s.failing_calls s.call_count ⊎
     (s.capacity < length s.written + written_octet_count s.max_per_call piece)
 
--- a source after a call that returned the given number of octets
+-- the state of a source in memory after a call that returned the given number of octets
 abbrev pub source_after_read : (state : MemorySourceState) (read_octets : ℕ) → MemorySourceState
 source_after_read s n = record s { unread = drop n s.unread; call_count = next_failure_count s.call_count }
 
--- a source after a failed call
+-- the state of a source in memory after a failed call
 abbrev pub source_after_failure : MemorySourceState → MemorySourceState
 source_after_failure s = record s { call_count = next_failure_count s.call_count; faults = next_failure_count s.faults }
 
@@ -86,10 +86,10 @@ abbrev pub IsMemorySourceCall : (state : MemorySourceState) (read_octets : Optio
 IsMemorySourceCall s (Some n) t = t ≡ source_after_read s n
 IsMemorySourceCall s None t = t ≡ source_after_failure s
 
--- a sink after a call that took the given number of octets from the front of this list
+-- the state of a sink in memory after a call that took the given number of octets from the front of `piece`
 abbrev pub sink_after_write : (state : MemorySinkState) (piece : List ℕ) (written_octets : ℕ) → MemorySinkState
 sink_after_write s piece n = record s { written = s.written ++ take n piece; call_count = next_failure_count s.call_count }
 
--- a sink after a failed call
+-- the state of a sink in memory after a failed call
 abbrev pub sink_after_failure : MemorySinkState → MemorySinkState
 sink_after_failure s = record s { call_count = next_failure_count s.call_count; faults = next_failure_count s.faults }

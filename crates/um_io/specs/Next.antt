@@ -33,17 +33,17 @@ pub record ReturnsNoLine (reader reader' : ReaderState) (buffered_octets : List 
 
 -- the result of one call, given all available octets: those that were buffered before the call and those that the call reads
 abbrev pub IsNextLineResult : ReaderState → ReaderState → List ℕ → Next → Type 0
--- a line that ended with a line feed, or the last octets of the input without one
+-- the result is a line that ends with a line feed, or the last octets of the input without a line feed
 IsNextLineResult r r' all (Line line) = ReturnsLine r r' all line.now (10 ∷ []) ⊎ (ReturnsLine r r' all line.now [] ×
     (r'.held ++ r'.excess ≡ [])
     × (r'.ended ≡ true))
--- the source has ended, and no octets remain
+-- the result is `End`: the source has ended, and no octets remain
 IsNextLineResult r r' all End = ReturnsNoLine r r' all false × (all ≡ []) × (r'.ended ≡ true)
--- the next line exceeds the line limit
+-- the result is `Long`: the next line exceeds the line limit
 IsNextLineResult r r' all Long = ReturnsNoLine r r' all true × (line_limit < length r'.held)
--- the input exceeds the input limit before the next line ends
+-- the result is `TooMany`: the input exceeds the input limit before the next line ends
 IsNextLineResult r r' all TooMany = ReturnsNoLine r r' all true × (length r'.held ≤ line_limit) × (0 < length r'.excess)
--- a read failed before the buffered octets contained a complete line
+-- the result is `Failed`: a read failed before the buffered octets contained a complete line
 IsNextLineResult r r' all Failed = ReturnsNoLine r r' all true × NeedsMoreOctets r'
 
 -- one call reads the octets `octets_read` from the source, only if needed and never after the source has ended, and returns `next`
@@ -56,7 +56,7 @@ pub record IsReaderStep (reader reader' : ReaderState) (unread_before unread_aft
   pub ended : reader'.ended ≡ true → reader.ended ≡ false → IsAtEnd unread_after
   pub outcome : IsNextLineResult reader reader' (reader.held ++ reader.excess ++ octets_read) next
 
--- the result is `End`
+-- the result of the call is `End`: the input has ended
 abbrev pub IsInputEnd : Next → Type 0
 IsInputEnd End = Unit {0}
 IsInputEnd _ = ⊥

@@ -26,11 +26,12 @@ pub record ReaderState : Type 0 where
   pub ended : Bool
   pub is_over : Bool
 
--- a reader that has read nothing
+-- the state of a line reader that has read nothing yet
 abbrev pub new_reader : ReaderState
 new_reader = record { held = []; excess = []; octet_count = 0; line_count = 0; ended = false; is_over = false }
 
--- the invariant of a line reader
+-- a line reader is in a valid state: the counts and the buffered octets are within their limits, and `excess` holds octets only if the
+-- octets returned and those in `held` reach the input limit
 pub record IsValidReader (reader : ReaderState) : Type 0 where
   pub limit : reader.octet_count + length reader.held ≤ input_limit
   pub excess : 0 < length reader.excess → reader.octet_count + length reader.held ≡ input_limit
@@ -49,11 +50,11 @@ abbrev pub IsResultReady : ReaderState → Type 0
 IsResultReady r = (r.is_over ≡ true) ⊎ (¬ NeedsMoreOctets r)
 
 -- the reader has not stopped, and its next result needs a read from the source
-abbrev pub NeedsReading : ReaderState → Type 0
-NeedsReading r = (r.is_over ≡ false) × NeedsMoreOctets r
+abbrev pub NextResultNeedsRead : ReaderState → Type 0
+NextResultNeedsRead r = (r.is_over ≡ false) × NeedsMoreOctets r
 
--- a reader that buffers these octets, divided into those within the input limit and those past it; the reader has already returned
--- `answered` octets in `number` lines
+-- the state of a reader that buffers these octets, divided into those within the input limit and those past it; the reader has already
+-- returned `answered` octets in `number` lines
 abbrev pub reader_holding : (octets : List ℕ) (answered number : ℕ) (ended is_over : Bool) → ReaderState
 reader_holding octets answered number ended is_over =
     let within = input_limit - answered in

@@ -11,7 +11,8 @@ use Rattle.um_io.specs.declared.streams.Failed.{Failed}
 -- what a reader finds in buffered octets without a line feed, given the numbers of octets within and past the input limit, and whether the
 -- source has ended
 abbrev pub IsFoundWithoutLineFeed : (octets_within_limit octets_past_limit : ℕ) (ended : Bool) (found : LineSearchResult) → Type 0
-IsFoundWithoutLineFeed within past ended (Line n with_feed) = (n ≡ within) × (with_feed ≡ within) × (0 < within) × (within ≤ line_limit) ×
+IsFoundWithoutLineFeed within past ended (Line n with_feed) = (n ≡ within) × (with_feed ≡ within) × (0 < within)
+    × (within ≤ line_limit) ×
     (past ≡ 0)
     × (ended ≡ true)
 IsFoundWithoutLineFeed within past ended NoOctets = (within ≡ 0) × (past ≡ 0) × (ended ≡ true)

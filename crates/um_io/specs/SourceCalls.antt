@@ -9,9 +9,9 @@ pub data CallsReturnOctets {S : Type 0} (IsCall : S → Option ℕ → S → Typ
 
 -- every call to the source but the last returns at least one octet; the last may have any result
 pub record StopsAtEndOrFailure {S : Type 0} (IsCall : S → Option ℕ → S → Type 0) (first last : S) : Type 0 where
-  pub before_last : S
-  pub earlier_calls : CallsReturnOctets IsCall first before_last
-  pub last_call : (before_last ≡ last) ⊎ ((answer : Option ℕ) × IsCall before_last answer last)
+  pub state_before_last_call : S
+  pub earlier_calls : CallsReturnOctets IsCall first state_before_last_call
+  pub last_call : (state_before_last_call ≡ last) ⊎ ((answer : Option ℕ) × IsCall state_before_last_call answer last)
 
 -- the source is called exactly once; a successful call that returns no octets marks the end of the input
 abbrev pub IsOneSourceCall : {S T E : Type 0} (IsCall : (S → Option ℕ → S → Type 0)) (first last : S) (ended : Bool)

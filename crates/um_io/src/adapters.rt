@@ -9,7 +9,7 @@ use std::io::{Read, Write};
 
 /// A source that reads from a `Read` and counts each error of the reader as a failure.
 ///
-/// The source knows which octets remain if the reader does.
+/// If the contract of the reader says which octets remain, so does the contract of the source.
 #[derive(Debug, Drop)]
 pub struct ReadSource<R> {
     reader: R,
@@ -52,7 +52,7 @@ impl<R: Read> Source for ReadSource<R> {
 /// A sink that writes to a `Write`. It counts as a failure each error of the writer, and each call in which the writer takes none of the
 /// octets offered.
 ///
-/// The sink knows which octets were taken if the writer does.
+/// If the contract of the writer says which octets were taken, so does the contract of the sink.
 #[derive(Debug, Drop)]
 pub struct WriteSink<W> {
     writer: W,

@@ -34,7 +34,7 @@ pub enum Next<'a> {
 enum LineSearchResult {
     /// A line of `length` octets, or of `with_feed` octets together with its line feed, if it has one.
     Line { length: usize, with_feed: usize },
-    /// The end of the input, with no octets left.
+    /// The end of the input: no octets remain.
     NoOctets,
     /// A line that exceeds the line limit.
     LineTooLong,
@@ -70,7 +70,7 @@ impl Model for Lines {
 
 impl Lines {
     ghost use Rattle.um_io.specs.Lines.{IsLine, IsFirstLineFeed};
-    ghost use Rattle.um_io.specs.Reading.{new_reader, IsValidReader, NeedsMoreOctets, IsResultReady, NeedsReading, buffer_limit};
+    ghost use Rattle.um_io.specs.Reading.{new_reader, IsValidReader, NeedsMoreOctets, IsResultReady, NextResultNeedsRead, buffer_limit};
     ghost use Rattle.um_io.specs.SearchResults.{IsFoundInBuffer, IsReadResult, IsSearchResult};
     ghost use Rattle.um_io.specs.Next.{LineBorrowEnds, CountsReadFailure};
 
@@ -98,7 +98,7 @@ impl Lines {
     /// Whether `next` can return its result without a read from the source.
     pub fn is_ready(&mut self) -> bool
         ensures unchanged { self.new ≡ self.old }
-        ensures ready { MatchBool result (IsResultReady self.old) (NeedsReading self.old) }
+        ensures ready { MatchBool result (IsResultReady self.old) (NextResultNeedsRead self.old) }
     {
         self.is_over || self.find_in_held_octets().is_some()
     }
@@ -337,7 +337,7 @@ mod tests {
         Ok(())
     }
 
-    /// A source that consists of this number of line feeds.
+    /// A source of line feeds; the field holds how many of them remain.
     #[derive(Drop)]
     struct LineFeedSource(usize);
 

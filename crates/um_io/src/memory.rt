@@ -4,7 +4,7 @@ ghost use Rattle.std.specs.Prelude.{vec_len, vec_capacity, IfOk, OnOk, OnErr, Is
 ghost use Rattle.std.specs.Io.{ReadsAtMost, WritesAtMost};
 ghost use Rattle.std.specs.Io.KnownBytes.{ReadConsumes, WriteAppends};
 ghost use Rattle.um_io.specs.Streams.{next_failure_count, FailureCountRose, TakesAtLeastOneOctet};
-ghost use Rattle.um_io.specs.Memory.{PlainSourceState, MemorySourceState, MemorySinkState, new_source_state, new_sink_state};
+ghost use Rattle.um_io.specs.Memory.{NeverFailingSourceState, MemorySourceState, MemorySinkState, new_source_state, new_sink_state};
 ghost use Rattle.um_io.specs.Memory.{read_octet_count};
 ghost use Rattle.um_io.specs.Memory.{written_octet_count, buffer_after_read, NextCallFails, SinkRefuses};
 ghost use Rattle.um_io.specs.Memory.{source_after_read, source_after_failure, sink_after_write, sink_after_failure, IsMemorySourceCall};
@@ -36,9 +36,9 @@ pub struct PlainSource<'a> {
 
 impl<'a> Model for PlainSource<'a> {
     ghost use Rattle.std.specs.Prelude.{◌≤◌};
-    ghost use Rattle.um_io.specs.Memory.{PlainSourceState};
+    ghost use Rattle.um_io.specs.Memory.{NeverFailingSourceState};
 
-    ghost Value = { PlainSourceState };
+    ghost Value = { NeverFailingSourceState };
 
     ghost view = { λ s. record { unread = s.octets.now; max_per_call = s.max_per_call } };
 
@@ -211,7 +211,7 @@ impl<'a> MemorySink<'a> {
         })
     }
 
-    /// The octets taken, in order.
+    /// The octets that the sink has taken so far, in order.
     pub fn octets(&self) -> &[u8]
         ensures { result.now ≡ self.now.written }
     {
@@ -253,7 +253,7 @@ mod tests {
     use std::test::Fail;
 
     #[test]
-    fn a_source_gives_octet_after_octet_and_fails_where_told(rt: HostRuntime) {
+    fn a_source_fails_at_given_calls(rt: HostRuntime) {
         let mut source = MemorySource::new(b"ab", 1, &[2]);
         let mut room = [0u8; 3];
         assert_eq!(rt; source.take(&mut room), Ok(1));
@@ -265,9 +265,7 @@ mod tests {
     }
 
     #[test]
-    fn a_sink_takes_octet_after_octet_and_fails_where_told_or_full(
-        rt: HostRuntime,
-    ) -> Result<(), Fail> {
+    fn a_sink_fails_as_given_or_when_full(rt: HostRuntime) -> Result<(), Fail> {
         let mut sink = MemorySink::new(rt.alloc(), 2, 1, &[2])?;
         assert_eq!(rt; sink.put(b"abc"), Ok(1));
         assert_eq!(rt; sink.put(b"bc"), Err(Failed));

@@ -1,33 +1,34 @@
--- Words and digits: a text split into words, and hexadecimal digits read and written several at a time.
+-- Lemmas about words and digits: how a text is split into words, and how several hexadecimal digits at a time are read and written.
 use Rattle.{
   hex.specs.Hex.{encode_lower, encode_with, is_hex_digit, lower_digits},
   memchr.specs.Find.{IsFirstByte, is_byte},
   std.{
     proofs.{
       Common.{Bool, Fits, List, None, Some, [], add-one, ap, ap₂, arith, bit_and, cond, drop, eqb, eqb-true, false, get_or, inl, inr},
-      Common.{length, ltb, map, not, refl, replicate, set, suc, sym, take, true, w8, zero, ℕ, ◌%◌, ◌&&◌, ◌*◌},
-      Common.{◌++◌, ◌+◌, ◌-◌, ◌/◌, ◌<◌, ◌^◌, ◌∙◌, ◌∷◌, ◌≡◌, ◌≢◌, ◌≤◌},
+      Common.{length, ltb, map, not, refl, replicate, set, suc, sym, take, true, w8, zero, ℕ, ◌%◌, ◌&&◌, ◌*◌, ◌++◌},
+      Common.{◌+◌, ◌-◌, ◌/◌, ◌<◌, ◌^◌, ◌∙◌, ◌∷◌, ◌≡◌, ◌≢◌, ◌≤◌},
       Math.Seq.{split_at, take-add, take-length},
-      lemmas.{Bool.{cases_eq, eq-eqb, false_from_ne_true, ltb-false, ne_eqb}, Grind.common_steps, List.{drop-drop, get_or-drop}},
-      lemmas.List.{get_or-map, get_or-take, length-append, length-drop, length-map, length-take, length-take-le, map-append},
-      lemmas.List.{take-append-drop, take-map, take-take, take_all, Elements.{All-cons, All-from_get_or, All-nil, All-tail}},
-      lemmas.List.{Folds.list_all-append, FromFn.get_or-range_with_len, Quantifiers.position-Some},
-      lemmas.{List.{Splits.{slice_split_at, slice_split_none}, Sums.{AllPass-from_list_all, fails_before_first}}, Slice.take-put_mid},
+      lemmas.{
+        Bool.{cases_eq, eq-eqb, false_from_ne_true, ltb-false, ne_eqb},
+        Grind.common_steps,
+        List.{drop-drop, get_or-drop, get_or-map, get_or-take, length-append, length-drop, length-map, length-take, length-take-le},
+        List.{map-append, take-append-drop, take-map, take-take, take_all, Elements.{All-cons, All-from_get_or, All-nil, All-tail}},
+        List.{Folds.list_all-append, FromFn.get_or-range_with_len, Quantifiers.position-Some, Splits.{slice_split_at, slice_split_none}},
+        List.Sums.{AllPass-from_list_all, fails_before_first},
+        Slice.take-put_mid,
+      },
     },
     specs.List.{All, join_with_byte, list_all, onto_first, position, range_with_len},
   },
-  um_lines.specs.{
-    Fields.{bit_digits, digit_value, octets_from_hex},
-    HexPlaces.{HasDigitsOfOctet, are_hex_values, hex_octet_at},
-    Words.{IsNotSpace, words},
-  },
+  um_lines.specs.{Fields.{bit_digits, digit_value, octets_from_hex}, HexPlaces.{HasDigitsOfOctet, are_hex_values, hex_octet_at}},
+  um_lines.specs.Words.{IsNotSpace, words},
 }
 use borrow.Rule.Slice.PartMut.{put_mid}
 use lib.Lanes.{Each1, mask_l, sel_l, top, zip2}
 
--- ## WordLists: Where the first space of a text is, and into which words the text is split.
+-- ## WordLists: Lemmas about the first space in a text, and about the words that the text is split into.
 
--- no octet before index `end` is a space
+-- if no octet with an index below `end` is a space, the first `end` octets contain no space
 no_space : (text : List ℕ) (end : ℕ) → end ≤ length text → ((k : ℕ) → k < end → eqb (get_or text k 0) 32 ≡ false)
     → All (λ octet. eqb octet 32 ≡ false) (take end text)
 no_space text end within passed =
@@ -39,7 +40,7 @@ only_word : (text : List ℕ) → ((k : ℕ) → k < length text → eqb (get_or
 only_word text passed =
     slice_split_none (λ octet. eqb octet 32) text (rw take-length at (no_space text (length text) (omega arith) passed))
 
--- the first space ends the first word
+-- if the octet at index `end` is the first space, the words are the octets before it, followed by the words of the text after it
 front_word : (text : List ℕ) (end : ℕ) → end < length text → eqb (get_or text end 0) 32 ≡ true
     → ((k : ℕ) → k < end → eqb (get_or text k 0) 32 ≡ false) → words text ≡ take end text ∷ words (drop (end + 1) text)
 front_word text end within space passed =
@@ -48,7 +49,7 @@ front_word text end within space passed =
     ∙ slice_split_at _ (take end text) (get_or text end 0) (drop (suc end) text)
     (no_space text end (omega arith) passed) space)
 
--- the two cases that `position` distinguishes: no space is found, and (below) a space is found
+-- if a search finds no space in a text, the text is one word
 pub words_uncut : (text : List ℕ) → IsFirstByte (is_byte 32) text None → words text ≡ text ∷ []
 words_uncut text passed = only_word text (λ k below. false_from_ne_true _ (passed k (omega arith) below))
 
@@ -72,7 +73,7 @@ words_found text end e =
     rw (take_all (length text - (end + 1)) (drop (end + 1) text) (omega (arith, length-drop (end + 1) text)))
     (front_word text end at.0 at.1 at.2)
 
--- adding one octet to the front of the first word adds no space
+-- adding an octet other than a space to the front of the first word puts no space into any word
 spaceless_first : (octet : ℕ) (parts : List (List ℕ)) → octet ≢ 32 → All (All IsNotSpace) parts
     → All (All IsNotSpace) (onto_first octet parts)
 spaceless_first octet [] plain each = grind arith
@@ -80,7 +81,7 @@ spaceless_first octet (part ∷ parts) plain each =
     let first = each 0 part (omega arith) in
     let rest = All-tail (All IsNotSpace) part parts each in grind arith
 
--- no word contains a space
+-- no word of a line contains a space
 pub words-no_spaces : (line : List ℕ) → All (All IsNotSpace) (words line)
 words-no_spaces [] = grind arith
 words-no_spaces (octet ∷ line) =
@@ -90,17 +91,18 @@ words-no_spaces (octet ∷ line) =
       | inr plain ↦ rw (ne_eqb octet 32 plain) (spaceless_first octet (words line) plain (words-no_spaces line))
     ]
 
--- if words without spaces are joined, splitting the joined line gives them back
+-- if words without spaces are joined with single spaces, splitting the joined line gives the same words
 pub words-join : (parts : List (List ℕ)) → parts ≢ [] → All (All IsNotSpace) parts → words (join_with_byte 32 parts) ≡ parts
 words-join [] some each = absurd (some refl)
 words-join (part ∷ []) some each = slice_split_none (λ x. eqb x 32) part (λ k d h. ne_eqb _ 32 (each 0 part (omega arith) k d h))
 words-join (part ∷ other ∷ parts) some each =
-    slice_split_at (λ x. eqb x 32) part 32 (join_with_byte 32 (other ∷ parts)) (λ k d h. ne_eqb _ 32 (each 0 part (omega arith) k d h)) refl
+    slice_split_at (λ x. eqb x 32) part 32 (join_with_byte 32 (other ∷ parts))
+    (λ k d h. ne_eqb _ 32 (each 0 part (omega arith) k d h)) refl
     ∙ ap (λ rest. part ∷ rest) (words-join (other ∷ parts) (λ e. cc) (All-tail (All IsNotSpace) part (other ∷ parts) each))
 
--- ## Sixteens: Lists handled sixteen elements at a time, where the last sixteen may overlap those before them.
+-- ## Sixteens: Lists that are processed in groups of sixteen elements; the last group may overlap the group before it.
 
--- ---- whether all elements pass a test
+-- ---- all elements of a list pass a test if and only if all elements of its two parts do; the parts may overlap
 
 in_two : (p : ℕ → Bool) (xs : List ℕ) (n : ℕ) → list_all p xs ≡ (list_all p (take n xs) && list_all p (drop n xs))
 in_two p xs n = rw (← list_all-append p (take n xs) (drop n xs), take-append-drop)
@@ -121,9 +123,9 @@ all_overlapping p xs last at past =
     let back : at ≡ last + (at - last) = omega arith in
     rw (back, ← all_more p xs last (at - last), in_two p xs last, in_two p (drop last xs) (at - last)) (grind arith)
 
--- ---- digits written from bits, sixteen at a time
+-- ---- writing the digits of sixteen bits at a time writes the digits of all bits
 
--- the digits of the first `at` bits are written
+-- there is room for one digit for each bit, and the digits of the first `at` bits are written
 abbrev pub AreWritten : (bits : List ℕ) (at : ℕ) (digits : List ℕ) → Type 0
 AreWritten bits at digits = (length digits ≡ length bits) × (take at digits ≡ bit_digits (take at bits))
 
@@ -136,7 +138,7 @@ written_more bits at n old new width within (long, front) is =
       rw (take-put_mid at n old new (at + 16) (omega arith) (omega arith), front, take-add at 16 bits, map-append, some),
     )
 
--- once the last sixteen digits are written, which may overlap those written before, the digits of all bits are written
+-- after the last group of sixteen digits is written, which may overlap the group before it, the digits of all bits are written
 pub written_all : (bits : List ℕ) (last at n : ℕ) (old new : List ℕ) → n ≡ 16 → last + 16 ≡ length bits → last ≤ at →
     AreWritten bits at old
     → new ≡ bit_digits (take n (drop last bits)) → put_mid last n old new ≡ bit_digits bits
@@ -146,7 +148,7 @@ written_all bits last at n old new width whole past (long, front) is =
     let (many, all) = written_more bits last n old new width (omega arith) (long, before) is in
     sym (take_all (last + 16) _ (omega arith)) ∙ all ∙ ap bit_digits (take_all (last + 16) bits (omega arith))
 
--- The vector operations on hexadecimal digits, and what they compute in each lane.
+-- These definitions say what each vector operation on hexadecimal digits computes in each lane.
 
 abbrev plus : ℕ → ℕ → ℕ
 plus a b = (a + b) % 2 ^ 8
@@ -163,7 +165,7 @@ minima xs ys = sel_l (map (top 7) (zip2 below xs ys)) xs ys
 abbrev pub maxima : List ℕ → List ℕ → List ℕ
 maxima xs ys = sel_l (map (top 7) (zip2 below xs ys)) ys xs
 
--- ---- the code of an octet: its value as a hexadecimal digit, or at least 16 if it is not a hexadecimal digit
+-- ---- the code of an octet is its value as a hexadecimal digit, or at least 16 if the octet is not a hexadecimal digit
 
 abbrev pub codes : ℕ → List ℕ → List ℕ
 codes n xs =
@@ -198,7 +200,7 @@ codes-values (suc n) (x ∷ xs) e h =
     )
 codes-values n xs e h = absurd (omega arith)
 
--- ---- the maximum of two codes in each lane: it is below 16 exactly if both codes are
+-- ---- the maximum of two codes in a lane is below 16 if and only if both codes are
 
 greater : (x y : ℕ) → ltb (cond (top 7 (below x y)) y x) 16 ≡ (ltb x 16 && ltb y 16)
 greater x y = grind arith
@@ -219,7 +221,7 @@ maxima-test (x ∷ xs) (y ∷ ys) e =
     ∙ crossed (ltb x 16) (ltb y 16) _ (are_hex_values ys)
 maxima-test xs ys e = absurd (omega arith)
 
--- ---- the test whether all codes are below 16
+-- ---- a vector comparison with 15 tests whether all codes are below 16
 
 above : (x m : ℕ) → eqb (cond (top 7 (below 15 x)) 1 0 + 2 * m) 0 ≡ (ltb x 16 && eqb m 0)
 above x m = grind arith
@@ -230,7 +232,7 @@ none_above zero [] e = refl
 none_above (suc n) (x ∷ xs) e = above x _ ∙ ap (λ t. ltb x 16 && t) (none_above n xs (omega arith))
 none_above n xs e = absurd (omega arith)
 
--- ## HexLists: Decoding hexadecimal digits, several at a time.
+-- ## HexLists: Lemmas about decoding hexadecimal digits, several at a time.
 
 -- two digits give one octet, so a word has half as many octets as digits
 pub length-octets_from_hex : (word : List ℕ) → length (octets_from_hex word) ≡ length word / 2
@@ -240,14 +242,14 @@ length-octets_from_hex word = refl
 digit_value-small : (digit : ℕ) → digit_value digit < 16
 digit_value-small _ = grind arith
 
--- each decoded number is an octet, below 256
+-- each number that two hexadecimal digits represent is an octet, below 256
 pub octets_from_hex-small : (digits : List ℕ) → All (λ octet. octet < 256) (octets_from_hex digits)
 octets_from_hex-small (high ∷ low ∷ rest) =
     All-cons (λ octet. octet < 256) _ (octets_from_hex rest) (omega (arith, digit_value-small high, digit_value-small low))
     (octets_from_hex-small rest)
 octets_from_hex-small digits = All-nil (λ octet. octet < 256)
 
--- if every octet has the value of the two digits at its place, the list is the decoded list of digits
+-- if each octet has the value of its two digits, the octets are those that the list of digits represents
 pub octets_from_places : (digits octets : List ℕ) → length digits ≡ 2 * length octets
     → ((k : ℕ) → k < length octets → get_or octets k 0 ≡ hex_octet_at digits k) → octets ≡ octets_from_hex digits
 octets_from_places [] [] many each = refl
@@ -258,9 +260,10 @@ octets_from_places (high ∷ low ∷ digits) (octet ∷ octets) many each =
     rw (low, high) at (each (suc k) (omega arith))))
 octets_from_places x y many each = absurd (omega arith)
 
--- ---- sixteen octets and their 32 digits
+-- ---- decoding 32 digits at a time gives sixteen octets
 
--- if all digits are hexadecimal, the codes of 32 digits give the octets at their places
+-- if `front` and `back` hold the values of 32 hexadecimal digits from octet `at` on, the values at `2 * i` and `2 * i + 1` give octet `at +
+-- i`
 pub decoded_at : (digits front back : List ℕ) (at i : ℕ) → 2 * (at + 16) ≤ length digits → i < 16
     → list_all is_hex_digit digits ≡ true
     → (list_all is_hex_digit (take 16 (drop (2 * at) digits)) ≡ true → front ≡ map digit_value (take 16 (drop (2 * at) digits)))
@@ -277,7 +280,8 @@ decoded_at digits front back at i space small all first last =
       drop-drop 16 (2 * at) digits,
       map-append,
     ) in
-    let code : (r j : ℕ) → r < 32 → 2 * at + r ≡ j → get_or (front ++ back) r 0 ≡ digit_value (get_or digits j 0) = λ r j h same.
+    let code : (r j : ℕ) → r < 32 → 2 * at + r ≡ j → get_or (front ++ back) r 0 ≡ digit_value (get_or digits j 0) =
+    λ r j h same.
     rw (is, ← same)
     (get_or-map digit_value (take 32 xs) r 0 0 (omega (arith, length-take-le 32 xs (omega (arith, length-drop (2 * at) digits))))
     ∙ ap digit_value (get_or-take 32 xs r 0 h ∙ get_or-drop (2 * at) digits r 0)) in
@@ -289,9 +293,10 @@ pub two_sixteens : (p : ℕ → Bool) (xs : List ℕ) (from : ℕ)
     → (list_all p (take 16 (drop from xs)) && list_all p (take 16 (drop (from + 16) xs))) ≡ list_all p (take 32 (drop from xs))
 two_sixteens p xs from = rw (← drop-drop 16 from xs) (all_more p (drop from xs) 16 16)
 
--- ## LowerDigits: Writing octets as hexadecimal digits, several octets at a time.
+-- ## LowerDigits: Lemmas about writing octets as hexadecimal digits, several octets at a time.
 
--- if the two digits at each place are those of the octet with that index, the list consists of the digits of all octets
+-- if the digits at the indices `2 * k` and `2 * k + 1` are those of octet `k`, for every octet, the list consists of the digits of all
+-- octets
 pub digits_from_places : (octets digits : List ℕ) → length digits ≡ 2 * length octets
     → ((k : ℕ) → k < length octets → HasDigitsOfOctet octets digits k) → digits ≡ encode_lower octets
 unfolding encode_with
@@ -313,7 +318,7 @@ pub digits_set : (octets digits : List ℕ) (n high low : ℕ) → 2 * n + 1 < l
 digits_set octets digits n high low buffer is-high is-low before k within =
     grind (arith, common_steps)
 
--- ---- the hexadecimal digit of a value below 16
+-- ---- the ASCII code of a hexadecimal digit is 48 plus a value below 10, or 87 plus a value from 10 to 15
 
 pub small_digit : (v : ℕ) → v < 10 → 48 + v ≡ get_or lower_digits v 0
 small_digit v small = grind arith

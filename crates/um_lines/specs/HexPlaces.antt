@@ -14,6 +14,6 @@ HasDigitsOfOctet octets digits k =
     (slice_index digits (2 * k) ≡ slice_index lower_digits (slice_index octets k / 16))
     × (slice_index digits (2 * k + 1) ≡ slice_index lower_digits (slice_index octets k % 16))
 
--- whether all values are those of hexadecimal digits, at most 15
+-- whether every value is at most 15, as the value of a hexadecimal digit is
 abbrev pub are_hex_values : (values : List ℕ) → Bool
 are_hex_values values = list_all (λ value. nat_lt value 16) values

@@ -1,4 +1,4 @@
--- How values are written in lines: as in the input, with lowercase hexadecimal digits (this project's own rule).
+-- How values are written in lines: in the same form as in input lines, with lowercase hexadecimal digits (this project's own rule).
 use Rattle.std.specs.Prelude.{ℕ, ◌+◌, List, [], ◌∷◌, codes}
 use Rattle.std.specs.Fmt.{decimal}
 use Rattle.std.specs.List.{join_with_byte}

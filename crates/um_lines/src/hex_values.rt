@@ -46,7 +46,7 @@ impl HexValues {
         }
     }
 
-    /// Returns, for each index, the greater of the two values at that index.
+    /// Returns, for each index, the greater of the values of `self` and `other` at this index.
     #[inline(always)]
     pub(crate) fn maxima(self, other: HexValues) -> HexValues
         requires count { length self.lanes ≡ 16 }
@@ -59,7 +59,7 @@ impl HexValues {
         }
     }
 
-    /// Returns whether all values are those of hexadecimal digits.
+    /// Returns whether all sixteen values are at most 15, as the values of hexadecimal digits are.
     #[inline(always)]
     pub(crate) fn are_digits(self) -> bool
         requires { length self.lanes ≡ 16 }

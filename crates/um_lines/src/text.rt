@@ -1,4 +1,4 @@
-//! A buffer for output text.
+//! A buffer of fixed size for the text of output lines.
 ghost use Rattle.std.specs.Prelude.{◌≡◌, ◌+◌, ◌*◌, ◌≤◌, [], ◌++◌, length};
 ghost use Rattle.std.specs.Fmt.{decimal};
 ghost use Rattle.hex.specs.Hex.{encode_lower};
@@ -52,7 +52,7 @@ impl Text {
         self.length = 0;
     }
 
-    /// Appends octets unchanged.
+    /// Appends the octets to the text.
     pub fn push(&mut self, octets: &[u8])
         requires { length self.old + length octets.now ≤ 4096 }
         ensures { self.new ≡ self.old ++ octets.now }

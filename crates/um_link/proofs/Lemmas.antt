@@ -1,15 +1,18 @@
--- The calls of a `World` for one event together make one step of the definition.
+-- The functions that a `World` calls for one event together carry out one step of the specification.
 use Rattle.{
   circular_buffer.specs.Buffer.{Buffer, buffer},
   lapdm_end.specs.declared.sides.Side.Side,
-  lapdm_frame.specs.{Content.Frame, Frames.octets_of, Layout.n201, Readings.IsOnlyFrame, declared.Channel.Channel},
+  lapdm_frame.specs.{Content.Frame, Frames.octets_of, Layout.n201, Readings.IsOnlyEncodedFrame, declared.Channel.Channel},
   std.proofs.Common.{Bool, List, None, Option, Some, [], append_assoc, ap, arith, drop, false, get_or, length, map, nat_eq, nat_lt, refl},
   std.proofs.Common.{subst, suc, sym, take, true, ℕ, ◌++◌, ◌+◌, ◌-◌, ◌<◌, ◌∙◌, ◌∷◌, ◌≡◌, ◌≤◌},
   std.{proofs.lemmas.{Bool.Decides.nat_tests, List.{Elements.{All-push, All-drop}, append-nil, length-append, take_more}}, specs.List.All},
   um_air.specs.{
-    Air.{AirState, AreCodedFrames, Block, CarriesOutEvent, EventDelivers, IsAirStep, Octets, ReadsFrame, event_with_frame, refusal},
+    Air.{AirState, AreBlocksOfFrames, Block, CarriesOutEvent, EventDelivers, IsAirStep, Octets, ReadsFrame, event_with_frame, refusal},
     Air.{with_bit_inverted, with_bits_inverted},
-    lapdm_link.{Events.{queues_after_removal, sending_role}, Queues.{Queues, queue_length, queue_of, with_appended, without_first}},
+    lapdm_link.{
+      Events.{queues_after_removal, sending_role},
+      Queues.{Queues, queue_length, queue_of, with_items_appended, without_oldest_item},
+    },
     lapdm_window.{
       Calls.{Call, first_refusal, refusal_of},
       Ends.{Mobile, Network, Role},
@@ -23,7 +26,7 @@ use Rattle.{
     BlockTaking.TakingFrameRefines,
     Coded.{AppendsBlocks, AreCodedBlocks},
     FourEndpoints.{HasEffects, IsOnChannel, Represents as EndsRepresent, channel_of_ends},
-    Moves.{AppendsToQueue, DiffersOnlyInQueue, LosesOldestFrom, ReceivesOldestFrom},
+    Moves.{AppendsToQueue, DiffersOnlyInQueue, LosesOldestBlockFrom, ReceivesOldestBlockFrom},
     Queues.IsValidQueue,
     declared.{ends.BothSides.BothSides, events.Step.Step, links.WorldState.WorldState},
   },
@@ -36,7 +39,7 @@ use Rattle.um_air.specs.lapdm_window.declared.Refused.TheVariants as RQ
 use Rattle.um_air.specs.Air as A
 use Rattle.um_link.specs.BlockTaking as H
 
--- ## Flipping: The loop of `invert_bits`: each round inverts one more bit.
+-- ## Flipping: Each round of the loop in `invert_bits` inverts one more bit.
 
 inverted-last : (places : List ℕ) (place : ℕ) (block : Block) →
     with_bits_inverted (places ++ place ∷ []) block ≡ with_bit_inverted place (with_bits_inverted places block)
@@ -54,7 +57,7 @@ AreFlipped-next places i before mid now h within e bits = record {
   bits = bits;
 }
 
--- ## Asking: A call to one side is carried out as a step of both sides in which the other side does not change.
+-- ## Asking: A call to one side is a step of both sides in which the other side stays unchanged.
 
 abbrev pub RepresentsStep : BothSides → Effects → Channel → E.SideStep → Type 0
 RepresentsStep p effects channel d = EndsRepresent p d.new_state × HasEffects effects channel d
@@ -76,10 +79,10 @@ module _ (old : BothSides) (event_step : D.SideState → D.SideStep) (sapi : Sap
         let h = rw on.network at (follows es.network st.network) in
         rw is (record { mobile = st.mobile; network = h.represents }, record { frames = h.frames; notices = h.notices })
 
--- ## Reading: The side receives the frame that is read from a block; if no frame is read, nothing happens.
+-- ## Reading: A side receives the frame that is read from a block; if no frame is read, nothing changes.
 
 pub TakingFrame-read : (role : Role) (channel : Channel) (octets : Octets) (accepted : Option Octets) (f : Frame) (old new : BothSides)
-    (effects : Effects) (link : Sapi) → accepted ≡ Some octets → IsOnlyFrame channel f octets →
+    (effects : Effects) (link : Sapi) → accepted ≡ Some octets → IsOnlyEncodedFrame channel f octets →
     channel ≡ F.channel_of_ends old → F.StepRefines (F.channel_of_ends old) (E.step_for_read_frame role (Some f)) old effects new →
     ((es : E.BothSides) → F.Represents old es → link ≡ (E.step_for_read_frame role (Some f) es).sapi) →
     TakingFrameRefines role channel accepted old link effects new
@@ -95,7 +98,7 @@ TakingFrame-none Mobile channel accepted old effects reads frames notices es st 
 TakingFrame-none Network channel accepted old effects reads frames notices es st =
     record { read = None; reads_frame = reads; represents = st; has_effects = record { frames = frames; notices = notices }; sapi = refl }
 
--- ## SendingLoop: The loop of `send_frames`: each round appends one more block.
+-- ## SendingLoop: Each round of the loop in `send_frames` appends one more block.
 
 AreCoded-push : (tsc : ℕ) (os : List Octets) (bs : List Block) (o : Octets) (b : Block) → AreCodedBlocks tsc os bs →
     IsSentBlock o tsc b → AreCodedBlocks tsc (os ++ o ∷ []) (bs ++ b ∷ [])
@@ -118,9 +121,9 @@ Appends-more tsc os old mid o b h s = record {
 drop_excess-none : (n : ℕ) (bs : List Block) → length bs ≤ n → drop (length bs - n) bs ≡ bs
 drop_excess-none n bs h = let e : length bs - n ≡ 0 = omega arith in rw e refl
 
--- ## Sending: How sending one frame, and removing one block, changes a queue.
+-- ## Sending: Sending a frame appends one block to a queue; an arrival or a loss removes the oldest block.
 
--- the loop has coded, appended and sent the first i frames
+-- after i rounds, the loop has appended the blocks of the first i frames to the queue, and the radio has counted these blocks as sent
 pub record AreSentSoFar (tsc : ℕ) (octets : List Octets) (i : ℕ) (old new : Buffer Block) (sent sent' heard heard' : ℕ) : Type 0 where
   pub appends : AppendsBlocks tsc (take i octets) old.items new.items
   pub capacity : new.capacity ≡ old.capacity
@@ -129,7 +132,8 @@ pub record AreSentSoFar (tsc : ℕ) (octets : List Octets) (i : ℕ) (old new : 
   pub sent_count : sent' ≡ counter_plus i sent
   pub heard_same : heard' ≡ heard
 
-pub AreSentSoFar-next : (tsc : ℕ) (octets : List Octets) (i : ℕ) (old mid new : Buffer Block) (sent sent' sent'' heard heard' heard'' : ℕ)
+pub AreSentSoFar-next : (tsc : ℕ) (octets : List Octets) (i : ℕ) (old mid new : Buffer Block)
+    (sent sent' sent'' heard heard' heard'' : ℕ)
     (b : Block) → AreSentSoFar tsc octets i old mid sent sent' heard heard' → i < length octets →
     IsSentBlock (get_or octets i []) tsc b → All AllBits b → length old.items + length octets ≤ old.capacity →
     new.items ≡ drop (length (mid.items ++ b ∷ []) - mid.capacity) (mid.items ++ b ∷ []) → new.capacity ≡ mid.capacity →
@@ -149,7 +153,8 @@ AreSentSoFar-next tsc octets i old mid new sent sent' sent'' heard heard' heard'
       heard_same = other ∙ h.heard_same;
     }
 
-pub IsValidQueue-rest : (old new : Buffer Block) → IsValidQueue old → new ≡ buffer (drop 1 old.items) old.capacity → IsValidQueue new
+pub IsValidQueue-rest : (old new : Buffer Block) → IsValidQueue old → new ≡ buffer (drop 1 old.items) old.capacity →
+    IsValidQueue new
 IsValidQueue-rest old new h e = rw e (record { capacity = h.capacity; bits = All-drop (All AllBits) 1 old.items h.bits })
 
 pub oldest-split : (old new : List Block) → 0 < length old → new ≡ drop 1 old → (block : Block) × (old ≡ block ∷ new)
@@ -160,15 +165,15 @@ pub only-split : (old new : List Block) → length old ≡ 1 → new ≡ [] → 
 only-split (b ∷ []) new one e = (b, rw e refl)
 only-split old new one e = absurd (omega (arith, one))
 
--- ## Stepping: The contracts of the calls of a world, taken together, give one step of the definition, for each kind of event.
+-- ## Stepping: For each kind of event, the contracts of the functions that a world calls together imply one step of the specification.
 
 coded-sent : (channel : Channel) (tsc : ℕ) (fs : List Frame) (bs : List Block) → AreCodedBlocks tsc (map (octets_of channel) fs) bs →
-    AreCodedFrames channel tsc fs bs
+    AreBlocksOfFrames channel tsc fs bs
 coded-sent channel tsc [] [] h = tt
 coded-sent channel tsc (f ∷ fs) (b ∷ bs) h = (h.0, coded-sent channel tsc fs bs h.1)
 coded-sent channel tsc fs bs h = absurd h
 
--- after the step d, but before its frames are sent: the world represents the new endpoints, and its queues are still `queues`
+-- the world has carried out the step `d` but not yet sent its frames: it represents the new endpoints, and its queues are still `queues`
 pub record IsReady (a : AirState) (queues : Queues Block) (m : WorldState) (effects : Effects) (d : E.SideStep) : Type 0 where
   pub tsc : m.tsc ≡ a.tsc
   pub channel : m.channel ≡ a.channel
@@ -179,11 +184,11 @@ pub record IsReady (a : AirState) (queues : Queues Block) (m : WorldState) (effe
 
 record IsSent (role : Role) (a : AirState) (queues : Queues Block) (w : WorldState) (d : E.SideStep) : Type 0 where
   blocks : List Block
-  sent : AreCodedFrames a.channel a.tsc d.frames blocks
-  represents : Represents w (record a { ends = d.new_state; queues = with_appended role blocks queues })
+  sent : AreBlocksOfFrames a.channel a.tsc d.frames blocks
+  represents : Represents w (record a { ends = d.new_state; queues = with_items_appended role blocks queues })
 
 sent-frames : (a : AirState) (queues : Queues Block) (m : WorldState) (effects : Effects) (d : E.SideStep) (blocks : List Block) →
-    IsReady a queues m effects d → AreCodedBlocks m.tsc effects.frames blocks → AreCodedFrames a.channel a.tsc d.frames blocks
+    IsReady a queues m effects d → AreCodedBlocks m.tsc effects.frames blocks → AreBlocksOfFrames a.channel a.tsc d.frames blocks
 sent-frames a queues m effects d blocks r h = coded-sent _ _ d.frames blocks (rw (r.tsc, r.has_effects.frames) at h)
 
 sent-state : (role : Role) (a : AirState) (queues : Queues Block) (m w : WorldState) (effects : Effects) (d : E.SideStep) →
@@ -211,7 +216,7 @@ sent-state Network a queues m w effects d r h = record {
   };
 }
 
--- the step of an endpoint that has these effects
+-- the result of a step: who acted, the SAPI, the report on the received block, and the frames and notices in `effects`
 abbrev pub step_by : E.Who → Sapi → Option Received → Effects → A.Step
 step_by who sapi received effects =
     record { who = who; sapi = sapi; received = received; frames = effects.frames; notices = effects.notices }
@@ -227,7 +232,7 @@ pub carries_out_event : (event : A.Event) (a : AirState) (m w : WorldState) (rea
 carries_out_event event a m w read effects who sapi received role r h arrives sender same_who same_sapi =
     let d = E.event_step (event_with_frame read event) a.ends in
     let s = sent-state (sending_role d.who) a _ m w effects d r (rw (sym sender ∙ ap sending_role same_who) at h) in (
-      record a { ends = d.new_state; queues = with_appended (sending_role d.who) s.blocks (queues_after_removal event a.queues) },
+      record a { ends = d.new_state; queues = with_items_appended (sending_role d.who) s.blocks (queues_after_removal event a.queues) },
       s.represents,
       record {
         read = read;
@@ -245,7 +250,7 @@ carries_out_event event a m w read effects who sapi received role r h arrives se
       },
     )
 
--- an event that is a call to an endpoint and is not refused is carried out as the definition says
+-- if an event is a call to an endpoint and is not refused, the world carries it out as the specification (`IsAirStep`) defines
 pub carries_out_call : (event : A.Event) (role : Role) (w w' : WorldState) (ends' : BothSides) (effects : Effects) (who : E.Who)
     (sapi : Sapi)
     (step : A.Step) → step ≡ step_by who sapi None effects →
@@ -273,7 +278,7 @@ carries_out_call event role w w' ends' effects who sapi step is follows unrefuse
     (same_sapi a.ends) in
     (f.0, f.1, (unrefused a st, rw is f.2))
 
--- ---- refusals
+-- ---- the reasons for which a world refuses an event
 same-queue : (role : Role) (w : WorldState) (a : AirState) → Represents w a → queued_blocks role w ≡ queue_of role a.queues
 same-queue Mobile w a st = st.up
 same-queue Network w a st = st.down
@@ -324,9 +329,10 @@ pub on-channel : (w : WorldState) (ends' : BothSides) (effects : Effects) (event
     F.StepRefines (F.channel_of_ends w.ends) event_step w.ends effects ends' → F.StepRefines w.channel event_step w.ends effects ends'
 on-channel w ends' effects event_step s h = rw s.channel h
 
--- between the removal of the oldest block and the step, the world represents the state without this block
-Represents-rest : (sender : Role) (w m : WorldState) (a : AirState) (b : Block) → queued_blocks sender w ≡ b ∷ queued_blocks sender m →
-    DiffersOnlyInQueue sender w m → Represents w a → Represents m (record a { queues = without_first sender a.queues })
+-- after the oldest block is removed from a queue, the world represents the session state without this block
+Represents-rest : (sender : Role) (w m : WorldState) (a : AirState) (b : Block) →
+    queued_blocks sender w ≡ b ∷ queued_blocks sender m →
+    DiffersOnlyInQueue sender w m → Represents w a → Represents m (record a { queues = without_oldest_item sender a.queues })
 Represents-rest Mobile w m a b first s st = record {
   tsc = s.tsc ∙ st.tsc;
   channel = s.channel ∙ st.channel;
@@ -348,7 +354,7 @@ appends-no_frames w effects none = record {
   rest_same = record { other_queue_same = refl; tsc = refl; channel = refl; ends = refl };
 }
 
-pub lose-oldest : (sender : Role) (w m : WorldState) (effects : Effects) → LosesOldestFrom sender w m →
+pub lose-oldest : (sender : Role) (w m : WorldState) (effects : Effects) → LosesOldestBlockFrom sender w m →
     E.is_empty (length (queued_blocks sender w)) ≡ false → effects.frames ≡ [] → effects.notices ≡ [] → (a : AirState) →
     Represents w a → (b : AirState) × Represents m b × IsAirStep a (E.Lose sender) b (A.Accepts (step_by E.Nobody Zero None effects))
 lose-oldest sender w m effects h some no_frames no_notices a st =
@@ -365,7 +371,7 @@ lose-oldest sender w m effects h some no_frames no_notices a st =
 
 pub receive-oldest : (sender end : Role) (places : List ℕ) (w m w' : WorldState) (ends' : BothSides) (received : Option Received)
     (sapi : Sapi)
-    (effects : Effects) (step : A.Step) → end ≡ E.other sender → ReceivesOldestFrom sender places w received m →
+    (effects : Effects) (step : A.Step) → end ≡ E.other sender → ReceivesOldestBlockFrom sender places w received m →
     TakingFrameRefines end m.channel (H.accepted_octets received) m.ends sapi effects ends' →
     E.is_empty (length (queued_blocks sender w)) ≡ false → E.is_queue_full (length (queued_blocks end w)) ≡ false →
     AppendsToQueue end effects.frames (record m { ends = ends' }) w' → step ≡ step_by (E.BySide end) sapi received effects →
@@ -374,10 +380,10 @@ receive-oldest sender end places w m w' ends' received sapi effects step e h hea
     let i = Represents-rest sender w m a h.received.block h.received.queue_front h.rest_same st in
     let heard : TakingFrameRefines (E.other sender) m.channel h.report.accepted m.ends sapi effects ends' =
     subst (λ r. TakingFrameRefines r m.channel h.report.accepted m.ends sapi effects ends') e
-    (subst (λ o. TakingFrameRefines end m.channel (H.accepted_octets o) m.ends sapi effects ends') h.is_report hears) in
+    (subst (λ o. TakingFrameRefines end m.channel (H.accepted_octets o) m.ends sapi effects ends') h.arrived_is_report hears) in
     let stepped : step ≡ step_by (E.BySide (E.other sender)) sapi (Some h.report) effects =
     subst (λ r. step ≡ step_by (E.BySide r) sapi (Some h.report) effects) e
-    (subst (λ o. step ≡ step_by (E.BySide end) sapi o effects) h.is_report is) in
+    (subst (λ o. step ≡ step_by (E.BySide end) sapi o effects) h.arrived_is_report is) in
     let t = heard a.ends i.ends in
     let f = carries_out_event (E.Deliver sender places) a (record m { ends = ends' }) w' t.read effects (E.BySide (E.other sender)) sapi
     (Some h.report) (E.other sender) (record {

@@ -1,4 +1,4 @@
--- How a world represents the state of a session, and when its answers follow the specification.
+-- How a Rust `World` represents the state of a session, and when its answers follow the specification.
 use Rattle.std.specs.Prelude.{◌≡◌, ◌≤◌, ℕ, List, length, Option, Some, None, Result, Ok, Err, []}
 use Rattle.um_air.specs.lapdm_window.Ends.{Role, Mobile, Network}
 use Rattle.um_block.specs.declared.received.Received.{Received}
@@ -42,7 +42,7 @@ abbrev pub StepRefines : (event : A.Event) (old : WorldState) (result : Result S
 StepRefines event old result new = (a : AirState) → Represents old a →
     (b : AirState) × Represents new b × IsAirStep a event b (spec_answer_of result)
 
--- the event is this call to the endpoint with this role and SAPI
+-- the event is the layer 3 call `call` to the endpoint with this role and SAPI
 abbrev pub IsLayer3CallTo : (event : A.Event) (role : Role) (sapi : Sapi) (call : Call) → Type 0
 IsLayer3CallTo (Open info) role sapi call = (role ≡ Mobile) × (sapi ≡ Zero) × (call ≡ Opens info)
 IsLayer3CallTo (OpenBare asked) role sapi call = (role ≡ asked) × (sapi ≡ Three) × (call ≡ OpensWithoutInfo)

@@ -22,15 +22,16 @@ pub record AppendsToQueue (sender : Role) (octets : List Octets) (old new : Worl
   pub rest_same : DiffersOnlyInQueue sender old new
 
 -- the oldest block that side `sender` sent leaves its queue and is received with the bits at `places` inverted; nothing else changes
-pub record ReceivesOldestFrom (sender : Role) (places : List ℕ) (old : WorldState) (arrived : Option Received) (new : WorldState) : Type 0
+pub record ReceivesOldestBlockFrom (sender : Role) (places : List ℕ) (old : WorldState) (arrived : Option Received)
+    (new : WorldState) : Type 0
   where
     pub report : Received
-    pub is_report : arrived ≡ Some report
+    pub arrived_is_report : arrived ≡ Some report
     pub received : ReceivesOldestBlock places (queued_blocks sender old) report (queued_blocks sender new)
     pub rest_same : DiffersOnlyInQueue sender old new
 
 -- the oldest block that side `sender` sent leaves its queue without being received; nothing else changes
-pub record LosesOldestFrom (sender : Role) (old new : WorldState) : Type 0 where
+pub record LosesOldestBlockFrom (sender : Role) (old new : WorldState) : Type 0 where
   pub block : Block
   pub queue_front : queued_blocks sender old ≡ block ∷ queued_blocks sender new
   pub rest_same : DiffersOnlyInQueue sender old new

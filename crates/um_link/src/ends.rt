@@ -2,9 +2,9 @@
 
 ghost use Rattle.std.specs.Prelude.{◌≡◌, OnOk, OnErr, Some};
 ghost use Rattle.std.specs.Result.{result_err};
-ghost use Rattle.lapdm_frame.specs.Content.{frame_of};
+ghost use Rattle.lapdm_frame.specs.Content.{frame_of_view};
 ghost use Rattle.lapdm_frame.specs.Frames.{FrameFits};
-ghost use Rattle.um_air.specs.lapdm_window.Calls.{endpoint_call_of, IsCallOfSapi, refusal_of};
+ghost use Rattle.um_air.specs.lapdm_window.Calls.{endpoint_call_of, IsCallAllowedForSapi, refusal_of};
 ghost use Rattle.um_air.specs.lapdm_link.Events as E;
 ghost use Rattle.um_link.specs.Naming.{spec_role_of};
 
@@ -42,7 +42,7 @@ impl BothSides {
         effects: &mut Effects,
     ) -> Result<(), Refused>
         requires on { IsOnChannel (channel_of_ends self.old) self.old }
-        requires call { IsCallOfSapi sapi (endpoint_call_of call.now) }
+        requires call { IsCallAllowedForSapi sapi (endpoint_call_of call.now) }
         ensures refusal { (es : E.BothSides) → Represents self.old es
             → result_err result ≡ refusal_of (endpoint_call_of call.now) (E.endpoint_at (spec_role_of end) sapi es) }
         ensures refines { OnOk result
@@ -61,12 +61,12 @@ impl BothSides {
     /// Passes a frame to a side, whose endpoint with the frame's SAPI receives it. Returns that SAPI, or 0 if no endpoint has it.
     pub(crate) fn take(&mut self, end: End, frame: &FrameView<'_>, effects: &mut Effects) -> Sapi
         requires on { IsOnChannel (channel_of_ends self.old) self.old }
-        requires fits { FrameFits (channel_of_ends self.old) (frame_of frame.now) }
+        requires fits { FrameFits (channel_of_ends self.old) (frame_of_view frame.now) }
         ensures refines { StepRefines (channel_of_ends self.old) (E.step_for_read_frame (spec_role_of end) (Some
-            (frame_of frame.now))) self.old effects.new
+            (frame_of_view frame.now))) self.old effects.new
             self.new }
         ensures sapi { (es : E.BothSides) → Represents self.old es →
-            result ≡ (E.step_for_read_frame (spec_role_of end) (Some (frame_of frame.now)) es).sapi }
+            result ≡ (E.step_for_read_frame (spec_role_of end) (Some (frame_of_view frame.now)) es).sapi }
         ensures on { IsOnChannel (channel_of_ends self.old) self.new }
     {
         match end {

@@ -7,8 +7,8 @@ ghost use Rattle.lapdm_frame.specs.Frames.{octets_of};
 ghost use Rattle.um_air.specs.lapdm_link.Events as E;
 ghost use Rattle.um_air.specs.Air as A;
 ghost use Rattle.um_air.specs.Air.{initial_session};
-ghost use Rattle.um_link.specs.Naming.{spec_role_of, air_event, spec_event_of, spec_step_of, step_result};
-ghost use Rattle.um_air.specs.lapdm_window.Calls.{endpoint_call_of, IsCallOfSapi};
+ghost use Rattle.um_link.specs.Naming.{spec_role_of, spec_radio_path_event, spec_event_of, spec_step_of, result_with_step};
+ghost use Rattle.um_air.specs.lapdm_window.Calls.{endpoint_call_of, IsCallAllowedForSapi};
 ghost use Rattle.um_link.specs.Possible.{IsPossibleEvent, IsPossibleAirEvent};
 ghost use Rattle.um_block.specs.Tallies.{counter_plus_one, counter_plus};
 ghost use Rattle.um_link.specs.Queues.{AreBitIndices};
@@ -39,7 +39,7 @@ pub(crate) struct WorldState {
 impl WorldState {
     ghost use Rattle.um_link.specs.Abstraction.{IsLayer3CallTo, Represents, IsValidWorld, StepRefines, StepFitsItsActor, sent_frame_count};
     ghost use Rattle.um_link.specs.Abstraction.{blocks_received_in_step, queued_blocks};
-    ghost use Rattle.um_link.specs.Moves.{AppendsToQueue, ReceivesOldestFrom, LosesOldestFrom};
+    ghost use Rattle.um_link.specs.Moves.{AppendsToQueue, ReceivesOldestBlockFrom, LosesOldestBlockFrom};
 
     /// Creates idle endpoints on this channel, and empty queues. Allocates all memory that the session needs.
     pub(crate) fn new_on(alloc: Global, tsc: u8, channel: Channel) -> Result<WorldState, NoMemory>
@@ -105,7 +105,7 @@ impl WorldState {
         requires valid { IsValidWorld self.old }
         requires some { 0 < length (queued_blocks (spec_role_of sender) self.old) }
         requires places { AreBitIndices inverted_bits.now }
-        ensures receives { ReceivesOldestFrom (spec_role_of sender) inverted_bits.now self.old received.new self.new }
+        ensures receives { ReceivesOldestBlockFrom (spec_role_of sender) inverted_bits.now self.old received.new self.new }
         ensures valid { IsValidWorld self.new }
         ensures heard { R.heard radio.new ≡ counter_plus_one (R.heard radio.old) }
         ensures sent { R.sent radio.new ≡ R.sent radio.old }
@@ -164,15 +164,16 @@ impl WorldState {
         step: &mut Step,
     ) -> Result<(), No>
         requires valid { IsValidWorld self.old }
-        requires call { IsCallOfSapi sapi (endpoint_call_of call.now) }
+        requires call { IsCallAllowedForSapi sapi (endpoint_call_of call.now) }
         ensures refines { (event : A.Event) → IsLayer3CallTo event (spec_role_of end) sapi (endpoint_call_of call.now)
-            → StepRefines event self.old (step_result result step.new) self.new }
+            → StepRefines event self.old (result_with_step result step.new) self.new }
         ensures valid { IsValidWorld self.new }
         ensures refused { OnErr result (self.new ≡ self.old) }
         ensures out_unchanged { OnErr result (step.new ≡ step.old) }
         ensures radio_unchanged { OnErr result (radio.new ≡ radio.old) }
-        ensures sent { R.sent radio.new ≡ counter_plus (sent_frame_count (step_result result step.new)) (R.sent radio.old) }
-        ensures heard { R.heard radio.new ≡ counter_plus (blocks_received_in_step (step_result result step.new)) (R.heard radio.old) }
+        ensures sent { R.sent radio.new ≡ counter_plus (sent_frame_count (result_with_step result step.new)) (R.sent radio.old) }
+        ensures heard { R.heard radio.new ≡ counter_plus (blocks_received_in_step (result_with_step result step.new))
+            (R.heard radio.old) }
         ensures who { OnOk result (StepFitsItsActor (spec_step_of step.new)) }
     {
         if self.is_queue_full(end) {
@@ -199,13 +200,15 @@ impl WorldState {
     ) -> Result<(), No>
         requires valid { IsValidWorld self.old }
         requires places { AreBitIndices inverted_bits.now }
-        ensures refines { StepRefines (E.Deliver (spec_role_of sender) inverted_bits.now) self.old (step_result result step.new) self.new }
+        ensures refines { StepRefines (E.Deliver (spec_role_of sender) inverted_bits.now) self.old
+            (result_with_step result step.new) self.new }
         ensures valid { IsValidWorld self.new }
         ensures refused { OnErr result (self.new ≡ self.old) }
         ensures out_unchanged { OnErr result (step.new ≡ step.old) }
         ensures radio_unchanged { OnErr result (radio.new ≡ radio.old) }
-        ensures sent { R.sent radio.new ≡ counter_plus (sent_frame_count (step_result result step.new)) (R.sent radio.old) }
-        ensures heard { R.heard radio.new ≡ counter_plus (blocks_received_in_step (step_result result step.new)) (R.heard radio.old) }
+        ensures sent { R.sent radio.new ≡ counter_plus (sent_frame_count (result_with_step result step.new)) (R.sent radio.old) }
+        ensures heard { R.heard radio.new ≡ counter_plus (blocks_received_in_step (result_with_step result step.new))
+            (R.heard radio.old) }
         ensures who { OnOk result (StepFitsItsActor (spec_step_of step.new)) }
     {
         let end = other_end(sender);
@@ -231,7 +234,7 @@ impl WorldState {
     fn drop_oldest_block(&mut self, sender: End)
         requires valid { IsValidWorld self.old }
         requires some { 0 < length (queued_blocks (spec_role_of sender) self.old) }
-        ensures loses { LosesOldestFrom (spec_role_of sender) self.old self.new }
+        ensures loses { LosesOldestBlockFrom (spec_role_of sender) self.old self.new }
         ensures valid { IsValidWorld self.new }
     {
         match sender {
@@ -244,12 +247,12 @@ impl WorldState {
     /// transit.
     fn lose(&mut self, sender: End, step: &mut Step) -> Result<(), No>
         requires valid { IsValidWorld self.old }
-        ensures refines { StepRefines (E.Lose (spec_role_of sender)) self.old (step_result result step.new) self.new }
+        ensures refines { StepRefines (E.Lose (spec_role_of sender)) self.old (result_with_step result step.new) self.new }
         ensures valid { IsValidWorld self.new }
         ensures refused { OnErr result (self.new ≡ self.old) }
         ensures out_unchanged { OnErr result (step.new ≡ step.old) }
-        ensures no_radio_use { (sent_frame_count (step_result result step.new) ≡ 0)
-            × (blocks_received_in_step (step_result result step.new) ≡ 0) }
+        ensures no_radio_use { (sent_frame_count (result_with_step result step.new) ≡ 0)
+            × (blocks_received_in_step (result_with_step result step.new) ≡ 0) }
         ensures who { OnOk result (StepFitsItsActor (spec_step_of step.new)) }
     {
         if self.has_no_queued_block(sender) {
@@ -266,13 +269,14 @@ impl WorldState {
     /// Puts a SABM for SAPI 0 from another mobile into the queue to the network.
     fn rival<R: Radio>(&mut self, radio: &mut R, info: &[u8], step: &mut Step) -> Result<(), No>
         requires valid { IsValidWorld self.old }
-        ensures refines { StepRefines (E.Rival info.now) self.old (step_result result step.new) self.new }
+        ensures refines { StepRefines (E.Rival info.now) self.old (result_with_step result step.new) self.new }
         ensures valid { IsValidWorld self.new }
         ensures refused { OnErr result (self.new ≡ self.old) }
         ensures out_unchanged { OnErr result (step.new ≡ step.old) }
         ensures radio_unchanged { OnErr result (radio.new ≡ radio.old) }
-        ensures sent { R.sent radio.new ≡ counter_plus (sent_frame_count (step_result result step.new)) (R.sent radio.old) }
-        ensures heard { R.heard radio.new ≡ counter_plus (blocks_received_in_step (step_result result step.new)) (R.heard radio.old) }
+        ensures sent { R.sent radio.new ≡ counter_plus (sent_frame_count (result_with_step result step.new)) (R.sent radio.old) }
+        ensures heard { R.heard radio.new ≡ counter_plus (blocks_received_in_step (result_with_step result step.new))
+            (R.heard radio.old) }
         ensures who { OnOk result (StepFitsItsActor (spec_step_of step.new)) }
     {
         if self.is_queue_full(End::Mobile) {
@@ -302,13 +306,15 @@ impl WorldState {
     ) -> Result<(), No>
         requires valid { IsValidWorld self.old }
         requires possible { IsPossibleAirEvent air.now }
-        ensures refines { StepRefines (air_event (spec_role_of sender) air.now) self.old (step_result result step.new) self.new }
+        ensures refines { StepRefines (spec_radio_path_event (spec_role_of sender) air.now) self.old
+            (result_with_step result step.new) self.new }
         ensures valid { IsValidWorld self.new }
         ensures refused { OnErr result (self.new ≡ self.old) }
         ensures out_unchanged { OnErr result (step.new ≡ step.old) }
         ensures radio_unchanged { OnErr result (radio.new ≡ radio.old) }
-        ensures sent { R.sent radio.new ≡ counter_plus (sent_frame_count (step_result result step.new)) (R.sent radio.old) }
-        ensures heard { R.heard radio.new ≡ counter_plus (blocks_received_in_step (step_result result step.new)) (R.heard radio.old) }
+        ensures sent { R.sent radio.new ≡ counter_plus (sent_frame_count (result_with_step result step.new)) (R.sent radio.old) }
+        ensures heard { R.heard radio.new ≡ counter_plus (blocks_received_in_step (result_with_step result step.new))
+            (R.heard radio.old) }
         ensures who { OnOk result (StepFitsItsActor (spec_step_of step.new)) }
     {
         match air {
@@ -326,13 +332,14 @@ impl WorldState {
     ) -> Result<(), No>
         requires valid { IsValidWorld self.old }
         requires possible { IsPossibleEvent event.now }
-        ensures refines { StepRefines (spec_event_of event.now) self.old (step_result result step.new) self.new }
+        ensures refines { StepRefines (spec_event_of event.now) self.old (result_with_step result step.new) self.new }
         ensures valid { IsValidWorld self.new }
         ensures refused { OnErr result (self.new ≡ self.old) }
         ensures out_unchanged { OnErr result (step.new ≡ step.old) }
         ensures radio_unchanged { OnErr result (radio.new ≡ radio.old) }
-        ensures sent { R.sent radio.new ≡ counter_plus (sent_frame_count (step_result result step.new)) (R.sent radio.old) }
-        ensures heard { R.heard radio.new ≡ counter_plus (blocks_received_in_step (step_result result step.new)) (R.heard radio.old) }
+        ensures sent { R.sent radio.new ≡ counter_plus (sent_frame_count (result_with_step result step.new)) (R.sent radio.old) }
+        ensures heard { R.heard radio.new ≡ counter_plus (blocks_received_in_step (result_with_step result step.new))
+            (R.heard radio.old) }
         ensures who { OnOk result (StepFitsItsActor (spec_step_of step.new)) }
     {
         match event {
@@ -392,7 +399,7 @@ impl From<Refused> for No {
     ghost use Rattle.um_link.specs.Naming.{spec_event_refusal_of};
 
     fn from(refused: Refused) -> No
-        ensures { spec_event_refusal_of result ≡ E.ByEndpoint refused }
+        ensures { spec_event_refusal_of result ≡ E.RefusedByEndpoint refused }
     {
         match refused {
             Refused::NotIdle => No::NotIdle,

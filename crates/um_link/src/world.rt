@@ -3,7 +3,7 @@ ghost use Rattle.std.specs.Prelude.{◌≡◌, ◌≤◌, IfOk, OnOk, OnErr};
 ghost use Rattle.lapdm_frame.specs.declared.Channel.TheVariants as C;
 ghost use Rattle.um_air.specs.Air.{initial_session};
 ghost use Rattle.um_block.specs.Tallies.{counter_plus};
-ghost use Rattle.um_link.specs.Naming.{spec_event_of, spec_step_of, step_result};
+ghost use Rattle.um_link.specs.Naming.{spec_event_of, spec_step_of, result_with_step};
 ghost use Rattle.um_link.specs.Abstraction.{Represents, StepRefines, IsOnlyPossibleAnswer, StepFitsItsActor, sent_frame_count};
 ghost use Rattle.um_link.specs.Abstraction.{blocks_received_in_step};
 ghost use Rattle.um_link.specs.Sessions.{ExtendsSession, KeepsNoticesInOrder, KeepsReliableDelivery, FewInvertedBitsKeepSessionBenign};
@@ -99,18 +99,19 @@ impl World {
         step: &mut Step,
     ) -> Result<(), No>
         requires { IsPossibleEvent event.now }
-        ensures refines { StepRefines (spec_event_of event.now) self.old (step_result result step.new) self.new }
-        ensures only { IsOnlyPossibleAnswer (spec_event_of event.now) self.old (step_result result step.new) }
-        ensures session { ExtendsSession (spec_event_of event.now) self.old (step_result result step.new) self.new }
+        ensures refines { StepRefines (spec_event_of event.now) self.old (result_with_step result step.new) self.new }
+        ensures only { IsOnlyPossibleAnswer (spec_event_of event.now) self.old (result_with_step result step.new) }
+        ensures session { ExtendsSession (spec_event_of event.now) self.old (result_with_step result step.new) self.new }
         ensures refused { OnErr result (self.new ≡ self.old) }
         ensures out_unchanged { OnErr result (step.new ≡ step.old) }
         ensures radio_unchanged { OnErr result (radio.new ≡ radio.old) }
-        ensures sent { R.sent radio.new ≡ counter_plus (sent_frame_count (step_result result step.new)) (R.sent radio.old) }
-        ensures heard { R.heard radio.new ≡ counter_plus (blocks_received_in_step (step_result result step.new)) (R.heard radio.old) }
+        ensures sent { R.sent radio.new ≡ counter_plus (sent_frame_count (result_with_step result step.new)) (R.sent radio.old) }
+        ensures heard { R.heard radio.new ≡ counter_plus (blocks_received_in_step (result_with_step result step.new))
+            (R.heard radio.old) }
         ensures who { OnOk result (StepFitsItsActor (spec_step_of step.new)) }
-        ensures order { KeepsNoticesInOrder (spec_event_of event.now) self.old (step_result result step.new) }
-        ensures delivery { KeepsReliableDelivery (spec_event_of event.now) self.old (step_result result step.new) }
-        ensures benign { FewInvertedBitsKeepSessionBenign (spec_event_of event.now) self.old (step_result result step.new) }
+        ensures order { KeepsNoticesInOrder (spec_event_of event.now) self.old (result_with_step result step.new) }
+        ensures delivery { KeepsReliableDelivery (spec_event_of event.now) self.old (result_with_step result step.new) }
+        ensures benign { FewInvertedBitsKeepSessionBenign (spec_event_of event.now) self.old (result_with_step result step.new) }
         ensures octets { EventMessageIsOctets (spec_event_of event.now) }
     {
         law_event_answer_is_unique();

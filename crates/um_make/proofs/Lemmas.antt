@@ -31,7 +31,8 @@ use Rattle.{
     Generated.{events_after_transmission, generated_events, is_lost_transmission, last_transmission_number, last_transmission_of_segment},
     Generated.{message_length, messages, message, message_segment_count, segment_transmissions, segment_transmission, sender},
     Runs.{AckedAtMostReceived, HasOneSummary, IsSummaryOfEvents},
-    Summaries.{IsEndpointSummary, IsSummary, crc_fails, crc_passes, is_loss_event, reports_bad_crc, reports_good_crc, sent_block_count},
+    Summaries.{IsEndpointSummary, IsSessionSummary, crc_fails, crc_passes, is_loss_event, reports_bad_crc, reports_good_crc},
+    Summaries.sent_block_count,
     RunProgress.IsRunInProgress,
     declared.{course.SessionStage.{TheVariants.SendNext, SessionStage}, end_summary.EndpointSummary.EndpointSummary},
     declared.summary.Summary.Summary,
@@ -39,14 +40,15 @@ use Rattle.{
 }
 
 -- ## Sizes: The generated events invert at most three bits of each block, and their messages consist of octets. A message has at most 13
--- segments, a segment at most two turns, and a turn two events.
+-- segments, a segment takes at most two transmissions, and a transmission has two events.
 
--- there are at most `most` events, and they invert few bits (`AllEventsInvertFewBits`)
+-- the list has at most `most` events, and the events invert few bits (`AllEventsInvertFewBits`)
 record AreBounded (most : ℕ) (es : List Event) : Type 0 where
   few : AllEventsInvertFewBits es
   size : length es ≤ most
 
-bounded-append : {a b : ℕ} {es fs : List Event} (n : ℕ) → AreBounded a es → AreBounded b fs → a + b ≤ n → AreBounded n (es ++ fs)
+bounded-append : {a b : ℕ} {es fs : List Event} (n : ℕ) → AreBounded a es → AreBounded b fs → a + b ≤ n →
+    AreBounded n (es ++ fs)
 bounded-append {a} {b} {es} {fs} n h k within = record {
   few = few-append es h.few;
   size = omega (arith, length-append es fs, h.size, k.size);
@@ -93,7 +95,7 @@ few_inverted-generated n = (
   (omega arith, tt, (omega arith, tt, (bounded-messages n 1 0).few)),
 )
 
--- ## Courses: Which events of a generated session are still to come in each of its stages.
+-- ## Courses: The events that remain at each stage of a generated session.
 
 pub sent : (stage : SessionStage) (messages_left number segments c : ℕ) (r : Role) (m : Message) (p : ℕ) → stage ≡ SendNext →
     segments ≡ 0 → 0 < messages_left → r ≡ sender (number + 1) → m ≡ message (number + 1) →
@@ -107,7 +109,7 @@ sent stage zero number segments c r m p at none some role octets count = absurd 
 sent stage (suc k) number segments c r m p at none some role octets count =
     let back : suc k - 1 ≡ k = omega arith in rw (at, none, role, octets, count, back) refl
 
--- ## Counting: Counting two lists of notices one after another gives the same as counting both lists together.
+-- ## Counting: Counting two lists of notices one after the other gives the same counters as counting the concatenated list.
 
 got_notices-sum : (f : List ℕ → ℕ) (xs ys : List Notice) →
     sum_by f (filter_map message_in_got_notice (xs ++ ys)) ≡ sum_by f (filter_map message_in_got_notice xs) + sum_by f
@@ -136,7 +138,7 @@ counts-append xs ys a b c h k = record {
   );
 }
 
--- ## Tallying: The radio's counters rise with each block sent and received.
+-- ## Tallying: The radio's counters rise by one for each block that it sends or receives.
 
 pub raised_by-more : (a b n m : ℕ) → m ≡ b + a → counter_plus a (counter_plus b n) ≡ counter_plus m n
 raised_by-more zero b n m e = ap (λ k. counter_plus k n) (let f : b ≡ m = omega arith in f)
@@ -157,7 +159,7 @@ same_block_count (Ok s) = by s.received
     by (Some r) = elim (cases_Bool (is_some r.accepted)) [ inl good ↦ rw good refl | inr bad ↦ rw bad refl ]
 same_block_count (Err reason) = refl
 
--- ## Totals: How counting one more event changes the counters of a session.
+-- ## Totals: The counters of a session with one more event are the earlier counters plus the counts of this event.
 
 -- the log of a session with one more event is the earlier log with the lines of this event appended
 session_log-push : (es : List Event) (answers : List Answer) (e : Event) (a : Answer) → length answers ≡ length es →
@@ -183,7 +185,8 @@ line_notices r (BySide role) s ns = Notified-notices r role s (is_same_role r ro
 line_notices r OtherMobile s ns = refl
 line_notices r Nobody s ns = refl
 
-event_notices : (r : Role) (e : Event) (a : Answer) → notices_in_log r Zero (session_log (e ∷ []) (a ∷ [])) ≡ sapi0_notices_in_answer r a
+event_notices : (r : Role) (e : Event) (a : Answer) →
+    notices_in_log r Zero (session_log (e ∷ []) (a ∷ [])) ≡ sapi0_notices_in_answer r a
 event_notices r e (Refuses why) = refl
 event_notices r (Open info) (Accepts step) = line_notices r step.who step.sapi step.notices
 event_notices r e (Accepts step) = line_notices r step.who step.sapi step.notices
@@ -213,10 +216,10 @@ end_summary-push r es answers e a old new same h t =
       acked_messages = rw both (omega (arith, all.acked_messages));
     }
 
-IsSummary-push : (es : List Event) (answers : List Answer) (e : Event) (a : Answer) (old new : Summary) →
-    length answers ≡ length es → IsSummary es answers old → CountsStep e a old new →
-    IsSummary (es ++ e ∷ []) (answers ++ a ∷ []) new
-IsSummary-push es answers e a old new same h k = record {
+IsSessionSummary-push : (es : List Event) (answers : List Answer) (e : Event) (a : Answer) (old new : Summary) →
+    length answers ≡ length es → IsSessionSummary es answers old → CountsStep e a old new →
+    IsSessionSummary (es ++ e ∷ []) (answers ++ a ∷ []) new
+IsSessionSummary-push es answers e a old new same h k = record {
   steps = omega (arith, h.steps, k.steps, length-append es (e ∷ []));
   sent_blocks = omega (arith, h.sent_blocks, k.sent_blocks, sum_by_push sent_block_count answers a);
   good_blocks = omega (arith, h.good_blocks, k.good_blocks, sum_by_push (λ x. one_if_true (reports_good_crc x)) answers a);
@@ -251,7 +254,7 @@ end_summary_of-Is : (r : Role) (ls : List LogLine) → IsEndpointSummary r ls (e
 unfolding end_summary_of
 end_summary_of-Is r ls = search rules
 
-summary_of-Is : (events : List Event) (answers : List Answer) → IsSummary events answers (summary_of events answers)
+summary_of-Is : (events : List Event) (answers : List Answer) → IsSessionSummary events answers (summary_of events answers)
 unfolding summary_of
 summary_of-Is events answers = search (rules, end_summary_of-Is)
 
@@ -259,10 +262,10 @@ end_summary-unique : (r : Role) (ls : List LogLine) (e : EndpointSummary) → Is
 unfolding end_summary_of
 end_summary-unique r ls e h = rw (← h.messages, ← h.octets, ← h.octet_sum, ← h.acked_messages) refl
 
-IsSummary-unique : (events : List Event) (answers : List Answer) (s : Summary) → IsSummary events answers s →
+IsSessionSummary-unique : (events : List Event) (answers : List Answer) (s : Summary) → IsSessionSummary events answers s →
     s ≡ summary_of events answers
 unfolding summary_of
-IsSummary-unique events answers s h =
+IsSessionSummary-unique events answers s h =
     rw (
       ← h.steps,
       ← h.sent_blocks,
@@ -282,7 +285,7 @@ octets_of_few_inverted (event ∷ events) few_inverted = All-cons EventMessageIs
 
 -- a summary of the events and answers of a run is a summary of the events, since the events determine the answers
 summary_of_run : (tsc : ℕ) (events : List Event) (answers : List Answer) (last : AirState) (s : Summary) →
-    IsAirRun (initial_session tsc Sdcch) events answers last → IsSummary events answers s → IsSummaryOfEvents tsc events s
+    IsAirRun (initial_session tsc Sdcch) events answers last → IsSessionSummary events answers s → IsSummaryOfEvents tsc events s
 summary_of_run tsc events answers last s run summary = record {
   answers = answers;
   last_state = last;
@@ -292,7 +295,7 @@ summary_of_run tsc events answers last s run summary = record {
       rw (← (one_run (initial_session tsc Sdcch) events last b answers others run other).1) summary;
 }
 
--- the generated events have exactly one summary
+-- the events of a generated session have exactly one summary
 pub one_generated_summary : (n tsc : ℕ) → tsc ≤ 7 → HasOneSummary tsc (generated_events n)
 one_generated_summary n tsc within =
     let events : List Event = generated_events n in
@@ -300,11 +303,11 @@ one_generated_summary n tsc within =
     record {
       summary = summary_of events some.0;
       is_summary_of_events = summary_of_run tsc events some.0 some.1 (summary_of events some.0) some.2 (summary_of-Is events some.0);
-      only_one = λ other sums. IsSummary-unique events some.0 other (sums.same_for_other_answers some.0 some.1 some.2);
+      only_one = λ other sums. IsSessionSummary-unique events some.0 other (sums.same_for_other_answers some.0 some.1 some.2);
     }
 
--- ## CountedEvents: A generated session, event by event: each answer is counted, and no counter overflows, because an event raises a
--- counter by at most 192,015.
+-- ## CountedEvents: After each event of a generated session, its answer is counted. No counter overflows, because an event raises a counter
+-- by at most 192,015.
 
 counters-grow : (n k m : ℕ) (old new : Summary) → n + k ≤ m → CountersAreAtMost n old → CountersGrowAtMost k old new →
     CountersAreAtMost m new
@@ -313,7 +316,8 @@ counters-grow n k m old new within h g = search rules
 zero_growth : (s : Summary) → CountersGrowAtMost 0 s s
 zero_growth s = search rules
 
-pub progress-step : (tsc : ℕ) (all script others : List Event) (world next : WorldState) (s t : Summary) (e : Event) (r : Result Step No) →
+pub progress-step : (tsc : ℕ) (all script others : List Event) (world next : WorldState) (s t : Summary) (e : Event)
+    (r : Result Step No) →
     IsRunInProgress tsc all script world s → script ≡ e ∷ others → ExtendsSession e world r next →
     CountsStep e (spec_answer_of r) s t →
     CountersGrowAtMost 192015 s t →
@@ -324,7 +328,8 @@ progress-step tsc all script others world next s t e r h first goes counts rises
       events = h.events ++ e ∷ [];
       answers = h.answers ++ spec_answer_of r ∷ [];
       state = to.0;
-      all_events = h.all_events ∙ ap (λ (es : List Event). h.events ++ es) first ∙ sym (append_assoc h.events (e ∷ []) others);
+      script_events_split = h.script_events_split ∙ ap (λ (es : List Event). h.events ++ es) first
+          ∙ sym (append_assoc h.events (e ∷ []) others);
       one_answer_per_event = omega (
         arith,
         h.one_answer_per_event,
@@ -332,7 +337,7 @@ progress-step tsc all script others world next s t e r h first goes counts rises
         length-append h.events (e ∷ []),
       );
       world_after_events = to.1;
-      summary = IsSummary-push h.events h.answers e (spec_answer_of r) s t h.one_answer_per_event h.summary counts;
+      summary = IsSessionSummary-push h.events h.answers e (spec_answer_of r) s t h.one_answer_per_event h.summary counts;
       counters_bounded = counters-grow (192015 * length h.events) 192015 (192015 * length (h.events ++ e ∷ [])) s t
           (omega (arith, length-append h.events (e ∷ []))) h.counters_bounded rises;
     }
@@ -343,7 +348,7 @@ counters_bound tsc n script world s most h =
     counters-grow (192015 * length h.events) 0 (2 ^ 58) s s (omega (
       arith,
       (bounded-messages n 1 0).size,
-      ap length h.all_events,
+      ap length h.script_events_split,
       length-append h.events script,
     ))
     h.counters_bounded (zero_growth s)
@@ -351,7 +356,8 @@ counters_bound tsc n script world s most h =
 pub is_summary_of_events : (tsc : ℕ) (all script : List Event) (world : WorldState) (s : Summary) → script ≡ [] →
     IsRunInProgress tsc all script world s → IsSummaryOfEvents tsc all s
 is_summary_of_events tsc all script world s none h =
-    let done : h.events ≡ all = sym (append-nil h.events) ∙ ap (λ (es : List Event). h.events ++ es) (sym none) ∙ sym h.all_events in
+    let done : h.events ≡ all = sym (append-nil h.events) ∙ ap (λ (es : List Event). h.events ++ es) (sym none)
+    ∙ sym h.script_events_split in
     summary_of_run tsc all h.answers h.state s (rw done at h.world_after_events.run) (rw done at h.summary)
 
 pub acked_at_most_received : (tsc n : ℕ) (s : Summary) → IsSummaryOfEvents tsc (generated_events n) s → AckedAtMostReceived s
@@ -368,7 +374,7 @@ acked_at_most_received tsc n s h =
 
 -- ## Worked: The first generated events, computed by hand.
 
--- the session with one message: the message has 38 octets and two segments
+-- the events of the generated session with one message, which has 38 octets and two segments
 only_one : generated_events 1
     ≡ Open (1 ∷ []) ∷ Deliver Mobile [] ∷ Deliver Network []
     ∷ Ask Mobile Zero
@@ -378,13 +384,13 @@ only_one : generated_events 1
     ∷ Deliver Mobile [] ∷ Deliver Network [] ∷ Deliver Mobile [] ∷ Deliver Network [] ∷ []
 only_one = refl
 
--- the second message has 75 octets and four segments; three bits are inverted in turn 4
+-- the second message has 75 octets and four segments; three bits are inverted in transmission 4
 second_message_turns : segment_transmissions Network (message_segment_count 2) 2
     ≡ Deliver Network [] ∷ Deliver Mobile [] ∷ Deliver Network (28 ∷ 29 ∷ 78 ∷ []) ∷ Deliver Mobile []
     ∷ Deliver Network [] ∷ Deliver Mobile [] ∷ Deliver Network [] ∷ Deliver Mobile [] ∷ []
 second_message_turns = refl
 
--- the third message has 112 octets and six segments; the second segment is lost in turn 8 and sent again
+-- the third message has 112 octets and six segments; its second segment is lost in transmission 8 and sent again
 third_message_turns : segment_transmissions Mobile (message_segment_count 3) 6
     ≡ Deliver Mobile [] ∷ Deliver Network [] ∷ Lose Mobile ∷ Ask Mobile Zero T200Expiry ∷ Deliver Mobile [] ∷ Deliver Network []
     ∷ Deliver Mobile [] ∷ Deliver Network [] ∷ Deliver Mobile [] ∷ Deliver Network [] ∷ Deliver Mobile (84 ∷ 85 ∷ 134 ∷ [])
@@ -396,7 +402,7 @@ third_message_turns = refl
 seventh_message : message 7 ≡ 7 ∷ 8 ∷ 9 ∷ 10 ∷ 11 ∷ 12 ∷ 13 ∷ 14 ∷ 15 ∷ []
 seventh_message = refl
 
--- the first three messages take 13 turns and 32 events
+-- the segments of the first three messages take 13 transmissions; the session with three messages has 32 events
 turns_of_three : last_transmission_number (message_segment_count 3)
     (last_transmission_number (message_segment_count 2) (last_transmission_number (message_segment_count 1) 0)) ≡
     13

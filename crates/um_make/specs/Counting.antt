@@ -19,14 +19,14 @@ pub record CountsNotices (notices : List Notice) (old new : EndpointSummary) : T
   pub octet_sum : new.octet_sum ≡ old.octet_sum + sum_by (λ m. sum m) (filter_map message_in_got_notice notices)
   pub acked_messages : new.acked_messages ≡ old.acked_messages + length (filter_map acked_number_in_notice notices)
 
--- no counter of one side has grown by more than `limit`
+-- no counter of this side has grown by more than `limit` from `old` to `new`
 pub record EndpointCountersGrowAtMost (limit : ℕ) (old new : EndpointSummary) : Type 0 where
   pub messages_got : new.messages_got ≤ old.messages_got + limit
   pub octets : new.octets ≤ old.octets + limit
   pub octet_sum : new.octet_sum ≤ old.octet_sum + limit
   pub acked_messages : new.acked_messages ≤ old.acked_messages + limit
 
--- no counter of one side exceeds `limit`
+-- no counter of this side exceeds `limit`
 pub record EndpointCountersAreAtMost (limit : ℕ) (e : EndpointSummary) : Type 0 where
   pub messages_got : e.messages_got ≤ limit
   pub octets : e.octets ≤ limit
@@ -66,7 +66,7 @@ pub record CountsStep (event : Event) (answer : Answer) (old new : Summary) : Ty
   pub mobile : CountsNotices (sapi0_notices_in_answer Mobile answer) old.mobile new.mobile
   pub network : CountsNotices (sapi0_notices_in_answer Network answer) old.network new.network
 
--- no counter of a session has grown by more than `limit`
+-- no counter of the session has grown by more than `limit` from `old` to `new`
 pub record CountersGrowAtMost (limit : ℕ) (old new : Summary) : Type 0 where
   pub steps : new.steps ≤ old.steps + limit
   pub sent_blocks : new.sent_blocks ≤ old.sent_blocks + limit
@@ -76,7 +76,7 @@ pub record CountersGrowAtMost (limit : ℕ) (old new : Summary) : Type 0 where
   pub mobile : EndpointCountersGrowAtMost limit old.mobile new.mobile
   pub network : EndpointCountersGrowAtMost limit old.network new.network
 
--- no counter of a session exceeds `limit`
+-- no counter of the session exceeds `limit`
 pub record CountersAreAtMost (limit : ℕ) (summary : Summary) : Type 0 where
   pub steps : summary.steps ≤ limit
   pub sent_blocks : summary.sent_blocks ≤ limit

@@ -25,9 +25,10 @@ remaining_events s = pending_events s.stage (sender s.message_number) ++ events_
     s.segments_left
     s.segment_transmissions
 
--- bounds on a session: it has at most 1000 messages, a message has at most 13 segments, and a segment takes at most two transmissions
+-- the progress respects the bounds of a session: at most 1000 messages, at most 13 segments per message, and at most two transmissions per
+-- segment
 pub record HasBoundedTransmissions (progress : SessionProgress) : Type 0 where
   pub messages : progress.message_number + progress.messages_left ≤ 1000
   pub segment_transmissions : progress.segment_transmissions + 2 * progress.segments_left + 26 * progress.messages_left ≤ 26001
-  pub bound_if_not_lost : progress.segment_transmissions % 8 ≢ 0 →
+  pub bound_if_segment_not_lost : progress.segment_transmissions % 8 ≢ 0 →
       progress.segment_transmissions + 2 * progress.segments_left + 26 * progress.messages_left ≤ 26000

@@ -60,8 +60,8 @@ last_transmission_number (suc segments) c = last_transmission_number segments (l
 abbrev pub message_segment_count : (message_number : ℕ) → ℕ
 message_segment_count i = number_of_segments (n201 Sdcch) (message i)
 
--- the events of this number of messages, given the numbers of the first message and of the last transmission before it: the sender's layer
--- 3 asks to send each message, and then its segments are transmitted
+-- the events that send `message_count` messages, from message `message_number` on, after transmission number `transmission`: for each
+-- message, the sender's layer 3 asks to send it, and then its segments are transmitted
 abbrev pub messages : (message_count message_number transmission : ℕ) → List Event
 messages zero i c = []
 messages (suc more) i c = Ask (sender i) Zero (Send (message i)) ∷ segment_transmissions (sender i) (message_segment_count i) c

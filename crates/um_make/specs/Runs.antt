@@ -3,7 +3,7 @@ use Rattle.std.specs.Prelude.{◌≡◌, ◌≤◌, ℕ, List}
 use Rattle.um_link.specs.lapdm_frame.declared.Channel.TheVariants.{Sdcch}
 use Rattle.um_link.specs.um_air.Air.{Event, Answer, AirState, initial_session, IsAirRun}
 use Rattle.um_make.specs.declared.summary.Summary.{Summary}
-use Rattle.um_make.specs.Summaries.{IsSummary}
+use Rattle.um_make.specs.Summaries.{IsSessionSummary}
 
 -- `s` counts these events and their answers in a session that starts with idle endpoints on SDCCH; every possible list of answers has the
 -- summary `s`
@@ -11,9 +11,9 @@ pub record IsSummaryOfEvents (tsc : ℕ) (events : List Event) (s : Summary) : T
   pub answers : List Answer
   pub last_state : AirState
   pub run : IsAirRun (initial_session tsc Sdcch) events answers last_state
-  pub summary : IsSummary events answers s
+  pub summary : IsSessionSummary events answers s
   pub same_for_other_answers : (others : List Answer) (b : AirState) → IsAirRun (initial_session tsc Sdcch) events others b →
-      IsSummary events others s
+      IsSessionSummary events others s
 
 -- these events have exactly one summary
 pub record HasOneSummary (tsc : ℕ) (events : List Event) : Type 0 where

@@ -50,7 +50,7 @@ pub record IsEndpointSummary (side : Role) (log_lines : List LogLine) (summary :
   pub acked_messages : summary.acked_messages ≡ length (acked_message_numbers side Zero log_lines)
 
 -- `summary` holds the counters of a session with these events and answers
-pub record IsSummary (events : List Event) (answers : List Answer) (summary : Summary) : Type 0 where
+pub record IsSessionSummary (events : List Event) (answers : List Answer) (summary : Summary) : Type 0 where
   pub steps : summary.steps ≡ length events
   pub sent_blocks : summary.sent_blocks ≡ sum_by sent_block_count answers
   pub good_blocks : summary.good_blocks ≡ count_by reports_good_crc answers

@@ -17,7 +17,7 @@ pub use end_summary::EndpointSummary;
 pub use run::make;
 pub use script::Script;
 pub use summary::Summary;
-pub use text::summary_lines;
+pub use text::write_summary_lines;
 
 /// A generated session inverts at most three bits of each block, and its messages consist of octets.
 pub fn law_generated_session_inverts_few_bits()

@@ -29,7 +29,7 @@ impl Model for Script {
 }
 
 impl Script {
-    /// All events of the generated session with `n` messages.
+    /// Creates the script of all events of the generated session with `n` messages (1 to 1000).
     pub fn new(n: u32) -> Script
         requires some { 1 ≤ n }
         requires most { n ≤ 1000 }

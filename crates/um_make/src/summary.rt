@@ -4,7 +4,7 @@ ghost use Rattle.um_link.specs.lapdm_window.declared.Sapi.TheVariants as S;
 ghost use Rattle.um_link.specs.lapdm_window.Ends as R;
 ghost use Rattle.um_link.specs.lapdm_link.Claims.{is_same_sapi};
 ghost use Rattle.um_link.specs.um_air.Air as A;
-ghost use Rattle.um_link.specs.Naming.{spec_event_of, spec_answer_of, spec_step_of, step_result};
+ghost use Rattle.um_link.specs.Naming.{spec_event_of, spec_answer_of, spec_step_of, result_with_step};
 ghost use Rattle.um_make.specs.Summaries.{is_loss_event};
 
 use crate::end_summary::EndpointSummary;
@@ -28,14 +28,14 @@ pub struct Summary {
 }
 
 impl Summary {
-    ghost use Rattle.um_make.specs.Summaries.{IsSummary, crc_passes, crc_fails};
+    ghost use Rattle.um_make.specs.Summaries.{IsSessionSummary, crc_passes, crc_fails};
     ghost use Rattle.um_make.specs.Counting.{CountsAnswer, CountsStep, CountersGrowAtMost, CountersAreAtMost, EndpointCountersAreAtMost};
     ghost use Rattle.um_make.specs.Counting.{CountsNotices, EndpointCountersGrowAtMost};
     ghost use Rattle.um_make.specs.Counting.{sapi0_notices_in_answer, one_if_true};
 
     /// Creates a summary with all counters 0.
     pub(crate) fn new() -> Summary
-        ensures counts { IsSummary [] [] result }
+        ensures counts { IsSessionSummary [] [] result }
         ensures counters_bounded { CountersAreAtMost 0 result }
     {
         Summary {
@@ -52,7 +52,7 @@ impl Summary {
     /// Adds an event and its answer to the counters. If the event was not refused, `step` holds its result.
     pub(crate) fn count_step(&mut self, event: &Event<'_>, outcome: &Result<(), No>, step: &Step)
         requires { CountersAreAtMost (2 ^ 58) self.old }
-        ensures counts { CountsStep (spec_event_of event.now) (spec_answer_of (step_result outcome.now step.now)) self.old self.new }
+        ensures counts { CountsStep (spec_event_of event.now) (spec_answer_of (result_with_step outcome.now step.now)) self.old self.new }
         ensures rises { CountersGrowAtMost 192015 self.old self.new }
     {
         self.steps += 1;

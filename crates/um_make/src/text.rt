@@ -8,7 +8,7 @@ use crate::summary::Summary;
 use um_script::Text;
 
 /// Writes the four lines that report on a session of `message_count` messages with training sequence code `tsc`.
-pub fn summary_lines(out: &mut Text, message_count: u32, tsc: u8, summary: &Summary)
+pub fn write_summary_lines(out: &mut Text, message_count: u32, tsc: u8, summary: &Summary)
     requires { out.old ≡ [] }
     ensures text { out.new ≡ summary_text message_count tsc summary.now }
     ensures size { length out.new < 2000 }

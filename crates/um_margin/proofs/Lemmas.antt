@@ -1,7 +1,10 @@
--- The comparison of the two most likely words, and the command `margin`.
+-- Lemmas about the comparison of the two most likely words, and about the `margin` command.
 use Rattle.{
   list_decode.{
-    proofs.{Lemmas.{IsMargin-second, both_unique, one_margin, some_second}, weight_bound.Lemmas.{Between, all_places, at_least_seven}},
+    proofs.{
+      Lemmas.{IsLikelihoodMargin-second, both_unique, one_margin, some_second},
+      weight_bound.Lemmas.{Between, all_places, at_least_seven},
+    },
     specs.{Ranking.{HasTiedWord, IsCandidate}, weight_bound.Distance.distance},
   },
   std.proofs.Common.{List, [], ap, ap₂, arith, inl, inr, length, pos, refl, sym, ℕ, ℤ, ◌*◌, ◌+ℤ◌, ◌-ℤ◌, ◌-◌},
@@ -19,7 +22,7 @@ use Rattle.{
   um_bursts.proofs.Lemmas.{HaveOneAnswer, HaveSomeAnswer, bursts_are_determined, bursts_have_one_output},
   um_bursts.specs.um_driver.{Laws.HasOneOutput, Rules.IsDeterministic},
   um_margin.specs.{
-    Compared.{AreComparedBlockWords, AreComparedWords, ComparedWords},
+    Compared.{AreTwoMostLikelyBlockWords, AreTwoMostLikelyWords, TwoMostLikelyWords},
     Margins.{margin_burst_answers, margin_command_rules},
     Texts.{access_margin_text, block_margin_text, sync_margin_text},
   },
@@ -27,39 +30,39 @@ use Rattle.{
 
 -- ## Comparing: For any soft bits, there is exactly one comparison of the two most likely words.
 
--- ---- there is at most one comparison
+-- ---- soft bits have at most one comparison of their two most likely words
 
-one_compared : (soft : List ℤ) (c d : ComparedWords) → AreComparedWords soft c → AreComparedWords soft d → c ≡ d
+one_compared : (soft : List ℤ) (c d : TwoMostLikelyWords) → AreTwoMostLikelyWords soft c → AreTwoMostLikelyWords soft d → c ≡ d
 one_compared soft c d h g =
     let same = both_unique soft d.best d.next c.best c.next g.best g.next h.best h.next in
-    let make : List ℕ → List ℕ → ℤ → ℤ → ComparedWords =
+    let make : List ℕ → List ℕ → ℤ → ℤ → TwoMostLikelyWords =
     λ a b m n. record { best = a; next = b; margin = m; metric = n } in
     ap₂ (λ a b. make a b c.margin c.metric) same.0 same.1
     ∙ ap₂ (make d.best d.next) (one_margin soft d.best c.margin d.margin (rw same.0 at h.margin) g.margin)
     (h.metric ∙ ap (λ u. likelihood soft (encoding u)) same.0 ∙ sym g.metric)
 
-one_compared_block : (bursts : List (List ℤ)) (c d : ComparedWords) → AreComparedBlockWords bursts c →
-    AreComparedBlockWords bursts d → c ≡ d
+one_compared_block : (bursts : List (List ℤ)) (c d : TwoMostLikelyWords) → AreTwoMostLikelyBlockWords bursts c →
+    AreTwoMostLikelyBlockWords bursts d → c ≡ d
 one_compared_block bursts c d h g =
     one_compared g.soft c d (rw (same_coded h.soft g.soft _ h.deinterleaved g.deinterleaved) at h.compared) g.compared
 
 -- ---- `margin` finds the same most likely word as `replay`
 
-pub same_word : (soft : List ℤ) (u : List ℕ) (metric : ℤ) (c : ComparedWords) → IsMostLikely soft u →
-    metric ≡ likelihood soft (encoding u) → AreComparedWords soft c → (c.best ≡ u) × (c.metric ≡ metric)
+pub same_word : (soft : List ℤ) (u : List ℕ) (metric : ℤ) (c : TwoMostLikelyWords) → IsMostLikely soft u →
+    metric ≡ likelihood soft (encoding u) → AreTwoMostLikelyWords soft c → (c.best ≡ u) × (c.metric ≡ metric)
 same_word soft u metric c best is h =
     let same = IsMostLikely-only soft u c.best best h.best in
     (same, h.metric ∙ ap (λ v. likelihood soft (encoding v)) same ∙ sym is)
 
-pub same_block_word : (bursts : List (List ℤ)) (r : Received) (c : ComparedWords) → IsReceivedBlock bursts r →
-    AreComparedBlockWords bursts c → (c.best ≡ r.u) × (c.metric ≡ r.metric)
+pub same_block_word : (bursts : List (List ℤ)) (r : Received) (c : TwoMostLikelyWords) → IsReceivedBlock bursts r →
+    AreTwoMostLikelyBlockWords bursts c → (c.best ≡ r.u) × (c.metric ≡ r.metric)
 same_block_word bursts r c received h =
     same_word received.soft r.u r.metric c received.best received.metric
     (rw (same_coded h.soft received.soft _ h.deinterleaved received.deinterleaved) at h.compared)
 
--- ---- there is a comparison
+-- ---- soft bits have at least one comparison of their two most likely words
 
-some_compared : (soft : List ℤ) (u : List ℕ) → IsMostLikely soft u → (c : ComparedWords) × AreComparedWords soft c
+some_compared : (soft : List ℤ) (u : List ℕ) → IsMostLikely soft u → (c : TwoMostLikelyWords) × AreTwoMostLikelyWords soft c
 some_compared soft u best =
     let next = some_second soft u (record { information = best.information; count = best.count }) in (
       record {
@@ -71,16 +74,16 @@ some_compared soft u best =
       record {
         best = best;
         next = next.1;
-        margin = IsMargin-second soft u next.0 (likelihood soft (encoding u) -ℤ likelihood soft (encoding next.0)) next.1 refl;
+        margin = IsLikelihoodMargin-second soft u next.0 (likelihood soft (encoding u) -ℤ likelihood soft (encoding next.0)) next.1 refl;
         margin_is_difference = refl;
         metric = refl;
       },
     )
 
--- ## Ahead: The margin of the most likely word: it is 0 if and only if there is a tie. It is large if hard bits have few errors, since two
--- codewords differ in at least seven bits, and each wrong bit cancels a right one.
+-- ## Ahead: The margin of the most likely word is 0 if and only if another word has the same path metric. For hard bits with few errors,
+-- the margin is large: two codewords differ in at least seven bits, and each wrong bit cancels a correct one.
 
--- no other word is more likely than the most likely one
+-- no other encoder input is more likely than the most likely one
 bounds : (s : List ℤ) (u v : List ℕ) → IsMostLikely s u → IsCandidate s v → v ≢ u →
     likelihood s (encoding v) ≤ℤ likelihood s (encoding u)
 bounds s u v best is ne =
@@ -89,7 +92,7 @@ bounds s u v best is ne =
       | inr tie ↦ omega (arith, ints, tie.0)
     ]
 
-pub zero_margin_is_tie : (soft : List ℤ) (c : ComparedWords) → AreComparedWords soft c →
+pub zero_margin_is_tie : (soft : List ℤ) (c : TwoMostLikelyWords) → AreTwoMostLikelyWords soft c →
     (c.margin ≡ pos 0) ↔ HasTiedWord soft c.best
 zero_margin_is_tie soft c h =
     let m = h.margin in (
@@ -109,9 +112,9 @@ zero_margin_is_tie soft c h =
       ),
     )
 
--- if e hard bits, at most three, are wrong for the best word, the margin is at least 254 (7 - 2 e): two codewords differ in at least seven
--- bits
-pub hard_margin_law : (soft : List ℤ) (c : ComparedWords) (e : ℕ) → AreComparedWords soft c →
+-- if e of the hard bits, at most three, differ from the encoding of the most likely word, the margin is at least 254 * (7 - 2 * e), because
+-- two codewords differ in at least seven bits
+pub hard_margin_law : (soft : List ℤ) (c : TwoMostLikelyWords) (e : ℕ) → AreTwoMostLikelyWords soft c →
     All (λ value. unsigned_abs value ≡ 127) soft → count_wrong_bits soft (encoding c.best) ≡ e → e ≤ 3 →
     pos (254 * (7 - 2 * e)) ≤ℤ c.margin
 hard_margin_law soft c e h hard wrong few =

@@ -1,7 +1,7 @@
 //! Compares the two most likely encoder inputs for soft bits.
 ghost use Rattle.std.specs.Prelude.{◌≡◌, ◌*◌, ◌≤◌, length};
 ghost use Rattle.um_block.specs.bit_blocks.SoftValues.{AllSoftBits};
-ghost use Rattle.um_margin.specs.Compared.{AreComparedWords};
+ghost use Rattle.um_margin.specs.Compared.{AreTwoMostLikelyWords};
 
 use list_decode::{decode, margin};
 use std::marker::Model;
@@ -16,11 +16,11 @@ pub(crate) struct WordComparison<const N: usize> {
     pub(crate) metric: i32,
 }
 
-// In contracts, a `WordComparison` is a `ComparedWords` record, for every `N`.
+// In contracts, a `WordComparison` is a `TwoMostLikelyWords` record, for every `N`.
 impl<const N: usize> Model for WordComparison<N> {
-    ghost use Rattle.um_margin.specs.Compared.{ComparedWords};
+    ghost use Rattle.um_margin.specs.Compared.{TwoMostLikelyWords};
 
-    ghost Value = { ComparedWords };
+    ghost Value = { TwoMostLikelyWords };
 
     ghost view = { λ c. record { best = c.best; next = c.next; margin = c.margin; metric = c.metric } };
 }
@@ -31,7 +31,7 @@ pub(crate) fn compare_words<const N: usize>(soft: &[i8]) -> WordComparison<N>
     requires at_least { 5 ≤ N }
     requires at_most { N ≤ ENCODER_INPUT_BITS }
     requires soft { AllSoftBits soft.now }
-    ensures { AreComparedWords soft.now result }
+    ensures { AreTwoMostLikelyWords soft.now result }
 {
     let mut best = [0; N];
     let mut next = [0; N];

@@ -10,7 +10,7 @@ ghost use Rattle.um_block.specs.declared.received.Received.{Received};
 ghost use Rattle.um_block.specs.declared.received.ReceivedAccess.{ReceivedAccess};
 ghost use Rattle.um_block.specs.declared.received.ReceivedSync.{ReceivedSync};
 ghost use Rattle.um_bursts.specs.um_driver.Laws.{HasOneOutput};
-ghost use Rattle.um_margin.specs.Compared.{ComparedWords, AreComparedWords, AreComparedBlockWords};
+ghost use Rattle.um_margin.specs.Compared.{TwoMostLikelyWords, AreTwoMostLikelyWords, AreTwoMostLikelyBlockWords};
 ghost use Rattle.um_margin.specs.Margins.{margin_command_rules};
 
 /// Law: every input has exactly one output and one exit status.
@@ -20,19 +20,21 @@ pub fn law_margin_command_output_is_unique()
 
 /// Law: `replay` reports the same most likely word and path metric for the same bursts.
 pub fn law_replay_reports_most_likely_word()
-    ensures block { (bursts : List (List ℤ)) (r : Received) (c : ComparedWords) → IsReceivedBlock bursts r →
-        AreComparedBlockWords bursts c → (c.best ≡ r.u) × (c.metric ≡ r.metric) }
-    ensures access { (burst : List ℤ) (bsic : List ℕ) (r : ReceivedAccess) (c : ComparedWords) → IsReceivedAccess burst bsic r →
-        AreComparedWords (access_soft_bits burst) c → (c.best ≡ r.u) × (c.metric ≡ r.metric) }
-    ensures sync { (burst : List ℤ) (r : ReceivedSync) (c : ComparedWords) → IsReceivedSync burst r →
-        AreComparedWords (sync_soft_bits burst) c → (c.best ≡ r.u) × (c.metric ≡ r.metric) }
+    ensures block { (bursts : List (List ℤ)) (r : Received) (c : TwoMostLikelyWords) → IsReceivedBlock bursts r →
+        AreTwoMostLikelyBlockWords bursts c → (c.best ≡ r.u) × (c.metric ≡ r.metric) }
+    ensures access { (burst : List ℤ) (bsic : List ℕ) (r : ReceivedAccess) (c : TwoMostLikelyWords) →
+        IsReceivedAccess burst bsic r →
+        AreTwoMostLikelyWords (access_soft_bits burst) c → (c.best ≡ r.u) × (c.metric ≡ r.metric) }
+    ensures sync { (burst : List ℤ) (r : ReceivedSync) (c : TwoMostLikelyWords) → IsReceivedSync burst r →
+        AreTwoMostLikelyWords (sync_soft_bits burst) c → (c.best ≡ r.u) × (c.metric ≡ r.metric) }
 {}
 
 /// Law: the margin is 0 if and only if another word has the same path metric as the most likely word. For hard bits of which `e` are wrong
 /// (at most three), the margin is at least 254 * (7 - 2 * e), which is 1,778 if none is wrong.
 pub fn law_margin_zero_on_tie_and_lower_bound()
-    ensures tie { (soft : List ℤ) (c : ComparedWords) → AreComparedWords soft c → (c.margin ≡ pos 0) ↔ HasTiedWord soft c.best }
-    ensures hard { (soft : List ℤ) (c : ComparedWords) (e : ℕ) → AreComparedWords soft c →
+    ensures tie { (soft : List ℤ) (c : TwoMostLikelyWords) → AreTwoMostLikelyWords soft c →
+        (c.margin ≡ pos 0) ↔ HasTiedWord soft c.best }
+    ensures hard { (soft : List ℤ) (c : TwoMostLikelyWords) (e : ℕ) → AreTwoMostLikelyWords soft c →
         All (λ value. unsigned_abs value ≡ 127) soft → count_wrong_bits soft (encoding c.best) ≡ e → e ≤ 3 →
         pos (254 * (7 - 2 * e)) ≤ℤ c.margin }
 {}

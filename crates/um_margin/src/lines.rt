@@ -8,7 +8,10 @@ use um_block::{BLOCK_BITS, BLOCK_OCTETS, Bits, ENCODER_INPUT_BITS};
 use um_bursts::{Text, octets_from_bits_at};
 
 /// Writes the line `block margin G metric M data HEX46 check HEX10 next HEX46 HEX10`.
-pub(crate) fn write_block_line(out: &mut Text, comparison: &WordComparison<ENCODER_INPUT_BITS>)
+pub(crate) fn write_block_margin_line(
+    out: &mut Text,
+    comparison: &WordComparison<ENCODER_INPUT_BITS>,
+)
     requires { out.old ≡ [] }
     ensures line { out.new ≡ block_margin_text comparison.now }
     ensures size { length out.new < 2000 }
@@ -23,7 +26,11 @@ pub(crate) fn write_block_line(out: &mut Text, comparison: &WordComparison<ENCOD
 }
 
 /// Writes the line `access BSIC6 margin G metric M data DIGITS8 check DIGITS6 next DIGITS8 DIGITS6`.
-pub(crate) fn write_access_line(out: &mut Text, bsic: &Bits<6>, comparison: &WordComparison<18>)
+pub(crate) fn write_access_margin_line(
+    out: &mut Text,
+    bsic: &Bits<6>,
+    comparison: &WordComparison<18>,
+)
     requires { out.old ≡ [] }
     ensures line { out.new ≡ access_margin_text bsic.now comparison.now }
     ensures size { length out.new < 2000 }
@@ -32,14 +39,14 @@ pub(crate) fn write_access_line(out: &mut Text, bsic: &Bits<6>, comparison: &Wor
     out.push_digits(bsic.as_slice());
     push_margin_and_metric(out, comparison.margin, comparison.metric);
     out.push(b" data ");
-    push_digit_word(out, &comparison.best, 8, 14, b" check ");
+    push_data_and_crc_digits(out, &comparison.best, 8, 14, b" check ");
     out.push(b" next ");
-    push_digit_word(out, &comparison.next, 8, 14, b" ");
+    push_data_and_crc_digits(out, &comparison.next, 8, 14, b" ");
     out.push(b"\n");
 }
 
 /// Writes the line `sync margin G metric M data DIGITS25 check DIGITS10 next DIGITS25 DIGITS10`.
-pub(crate) fn write_sync_line(out: &mut Text, comparison: &WordComparison<39>)
+pub(crate) fn write_sync_margin_line(out: &mut Text, comparison: &WordComparison<39>)
     requires { out.old ≡ [] }
     ensures line { out.new ≡ sync_margin_text comparison.now }
     ensures size { length out.new < 2000 }
@@ -47,9 +54,9 @@ pub(crate) fn write_sync_line(out: &mut Text, comparison: &WordComparison<39>)
     out.push(b"sync");
     push_margin_and_metric(out, comparison.margin, comparison.metric);
     out.push(b" data ");
-    push_digit_word(out, &comparison.best, 25, 35, b" check ");
+    push_data_and_crc_digits(out, &comparison.best, 25, 35, b" check ");
     out.push(b" next ");
-    push_digit_word(out, &comparison.next, 25, 35, b" ");
+    push_data_and_crc_digits(out, &comparison.next, 25, 35, b" ");
     out.push(b"\n");
 }
 
@@ -77,7 +84,7 @@ fn push_hex_word(out: &mut Text, word: &Bits<ENCODER_INPUT_BITS>, separator: &[u
 }
 
 // Writes the bits of `word` as digits: the data up to index `first_bit`, the separator, and the CRC from `first_bit` up to `end_bit`.
-fn push_digit_word<const N: usize>(
+fn push_data_and_crc_digits<const N: usize>(
     out: &mut Text,
     word: &Bits<N>,
     first_bit: usize,

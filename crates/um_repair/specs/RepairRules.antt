@@ -13,7 +13,7 @@ abbrev pub IsRepairCommandAnswer : (line : RepairLine) (answer : List ℕ) → T
 IsRepairCommandAnswer Skip answer = answer ≡ []
 IsRepairCommandAnswer (Word w) answer = (a : RepairAnswer) × IsRepairResult w a × (answer ≡ answer_text a)
 
--- the `repair` command may answer the line with `answer`
+-- the `repair` command may give this answer to the line
 abbrev pub IsAnswerToRepairLine : (line answer : List ℕ) → Type 0
 IsAnswerToRepairLine line answer = (meaning : RepairLine) × RepairLineMeans line meaning × IsRepairCommandAnswer meaning answer
 

@@ -4,7 +4,7 @@ ghost use Rattle.um_repair.specs.RepairLines.{repair_line_fault};
 ghost use Rattle.um_repair.specs.RepairRules.{IsAnswerToRepairLine};
 
 use crate::lines::write_answer_line;
-use crate::parsing::{RepairLine, parse_repair};
+use crate::parsing::{RepairLine, parse_repair_line};
 use fire_repair::repair;
 use um_driver::Answer;
 use um_lines::{LineFault, Text};
@@ -25,7 +25,7 @@ impl Answer for Repair {
             (λ reason. (repair_line_fault line.now ≡ Some reason) × (out.new ≡ [])) }
         ensures size { length out.new < 2000 }
     {
-        match parse_repair(line)? {
+        match parse_repair_line(line)? {
             RepairLine::Skip => {}
             RepairLine::Word(word) => write_answer_line(out, &repair(&word)),
         }

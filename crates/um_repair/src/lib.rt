@@ -8,4 +8,4 @@ mod parsing;
 
 pub use command::Repair;
 pub use laws::law_repair_command_output_is_unique;
-pub use parsing::{RepairLine, parse_repair};
+pub use parsing::{RepairLine, parse_repair_line};

@@ -23,7 +23,7 @@ pub enum RepairLine {
 /// Parses a line of `repair`, without its line feed: `word HEX46 HEX10`, the data and the CRC of a block as `replay` writes them.
 ///
 /// Refuses a line for the first of these reasons that applies: `Long`, `Word`, `Digits` or `Length`.
-pub fn parse_repair(line: &[u8]) -> Result<RepairLine, LineFault>
+pub fn parse_repair_line(line: &[u8]) -> Result<RepairLine, LineFault>
     ensures means { IfOk result (RepairLineMeans line.now) }
     ensures refused { result_err result ≡ repair_line_fault line.now }
 {
@@ -43,12 +43,12 @@ fn parse_words(line: &[u8]) -> Result<RepairLine, LineFault>
         return Err(LineFault::Word);
     };
     match command {
-        b"word" => parse_crc_word_line(rest),
+        b"word" => parse_word_with_crc(rest),
         _ => Err(LineFault::Word),
     }
 }
 
-fn parse_crc_word_line(operands: &[u8]) -> Result<RepairLine, LineFault>
+fn parse_word_with_crc(operands: &[u8]) -> Result<RepairLine, LineFault>
     ensures { result ≡ repair_parse_result (codes "word" ∷ words operands.now) }
 {
     let (octets, check) = parse_two_words(operands)?;
@@ -58,11 +58,11 @@ fn parse_crc_word_line(operands: &[u8]) -> Result<RepairLine, LineFault>
     if octets.len() != 46 || check.len() != 10 {
         return Err(LineFault::Length);
     }
-    Ok(RepairLine::Word(word_of_octets(&octets_of(octets), &octets_of(check))))
+    Ok(RepairLine::Word(word_of_data_and_crc(&octets_of(octets), &octets_of(check))))
 }
 
 /// The bits of the data octets, followed by the bits of the CRC octets.
-fn word_of_octets(octets: &[u8; BLOCK_OCTETS], check: &[u8; 5]) -> Bits<224>
+fn word_of_data_and_crc(octets: &[u8; BLOCK_OCTETS], check: &[u8; 5]) -> Bits<224>
     ensures { result ≡ bits_of_data_and_crc octets.now check.now }
 {
     let mut bits = [0; 224];

@@ -1,4 +1,4 @@
--- The lines of an answer: their texts, and the octets in them.
+-- Lemmas about the lines of an answer: their text, and the octets in them.
 use Rattle.{
   std.{
     proofs.Common.{Bool, Fits, List, [], append-nil, append_assoc, ap, arith, codes, false, get_or, if◌then◌else◌, length-append},
@@ -22,7 +22,7 @@ use Rattle.{
   },
   um_script.specs.{
     AnswerLines.{FinalOk, AnswerLine, Drops, LineIsInRange, LinesAreInRange, NoticeIsInRange, No, ReceptionIsInRange, ReceptionQuality},
-    AnswerLines.{Reports, Sends, Takes, answer_line_text, answer_words, lines_text, notice_words, reception_words, spaced_words},
+    AnswerLines.{Reports, Sends, Takes, answer_line_text, answer_words, answer_lines_text, notice_words, reception_words, spaced_words},
     AnswerWords.{actor_word, call_refusal_word, closing_reason_word, sapi_suffix},
   },
 }
@@ -34,14 +34,14 @@ use Rattle.um_link.specs.lapdm_link.Events as E
 -- ## AnswerLaws: Different answer lines have different texts. No word contains a line feed or a space, so a text can be split into its
 -- lines and words, and each line can be read back from its words.
 
--- ---- how lines are written
+-- ---- the text of an answer consists of the texts of its lines, and each line consists of words
 
-pub lines_text_append : (ls ms : List AnswerLine) → lines_text (ls ++ ms) ≡ lines_text ls ++ lines_text ms
+pub lines_text_append : (ls ms : List AnswerLine) → answer_lines_text (ls ++ ms) ≡ answer_lines_text ls ++ answer_lines_text ms
 lines_text_append [] ms = refl
 lines_text_append (l ∷ ls) ms = ap (λ t. answer_line_text l ++ t) (lines_text_append ls ms)
-    ∙ sym (append_assoc (answer_line_text l) (lines_text ls) (lines_text ms))
+    ∙ sym (append_assoc (answer_line_text l) (answer_lines_text ls) (answer_lines_text ms))
 
--- joining words with spaces gives the first word, followed by a space and a word for each further word
+-- joining words with spaces gives the first word, and then a space and the word for each further word
 pub join-spaced : (w : List ℕ) (ws : List (List ℕ)) → join_with_byte 32 (w ∷ ws) ≡ w ++ spaced_words ws
 join-spaced w [] = sym (append-nil w)
 join-spaced w (v ∷ ws) = ap (λ t. w ++ 32 ∷ t) (join-spaced v ws)
@@ -63,7 +63,7 @@ pub report_line : (out : List ℕ) (who : E.Who) (sapi : Sapi) (notice : Notice)
 report_line out who sapi notice rest =
     rw (join-spaced (actor_word who ++ sapi_suffix sapi) (notice_words notice)) (simp append_assoc)
 
--- ---- no word has a space or a line feed
+-- ---- no word of an answer line contains a space or a line feed
 
 abbrev is_plain : List ℕ → Bool
 is_plain word = list_all (λ octet. nat_le 33 octet) word
@@ -112,7 +112,7 @@ name_plain Three (E.BySide Mobile) = refl
 name_plain sapi who = refl
 
 why_plain : (why : E.EventRefusal) → is_plain (call_refusal_word why) ≡ true
-why_plain (E.ByEndpoint Q.NotIdle) = refl
+why_plain (E.RefusedByEndpoint Q.NotIdle) = refl
 why_plain why = refl
 
 closing_plain : (reason : Reason) → is_plain (closing_reason_word reason) ≡ true
@@ -149,7 +149,7 @@ line_plain (Reports who sapi notice) fits = rw (name_plain sapi who, notice_plai
 line_plain (Sends who octets) fits = rw (who_plain who, octets_plain octets fits) refl
 line_plain FinalOk fits = refl
 
--- ---- a text determines its lines
+-- ---- splitting a text at its line feeds gives the lines of the text
 
 is_plain-All : (word : List ℕ) (other : ℕ) → other < 33 → is_plain word ≡ true → L.All (λ octet. octet ≢ other) word
 is_plain-All [] other below plain = All-nil (λ octet. octet ≢ other)
@@ -182,13 +182,14 @@ NoLineFeed-join (w ∷ v ∷ ws) plain =
     All-append (λ octet. (octet == 10) ≡ false) w (32 ∷ join_with_byte 32 (v ∷ ws)) (NoLineFeed-word w parts.0)
     (All-cons (λ octet. (octet == 10) ≡ false) 32 (join_with_byte 32 (v ∷ ws)) refl (NoLineFeed-join (v ∷ ws) parts.1))
 
--- splitting a text at its line feeds gives its first line and then the lines of the rest
+-- splitting a text at its line feeds gives its first line, followed by the lines of the rest
 split-first : (text rest : List ℕ) → NoLineFeed text → slice_split (λ o. o == 10) ((text ++ 10 ∷ []) ++ rest) ≡ text
     ∷ slice_split (λ o. o == 10) rest
 split-first text rest no_line_feed =
     ap (slice_split (λ o. o == 10)) (append_assoc text (10 ∷ []) rest) ∙ slice_split_at (λ o. o == 10) text 10 rest no_line_feed refl
 
-first_line : (t u r s : List ℕ) → NoLineFeed t → NoLineFeed u → (t ++ 10 ∷ []) ++ r ≡ (u ++ 10 ∷ []) ++ s → (t ≡ u) × (r ≡ s)
+first_line : (t u r s : List ℕ) → NoLineFeed t → NoLineFeed u → (t ++ 10 ∷ []) ++ r ≡ (u ++ 10 ∷ []) ++ s → (t ≡ u)
+    × (r ≡ s)
 first_line t u r s h k e =
     let both : t ∷ slice_split (λ o. o == 10) r ≡ u ∷ slice_split (λ o. o == 10) s =
     sym (split-first t r h) ∙ ap (slice_split (λ o. o == 10)) e ∙ split-first u s k in
@@ -206,7 +207,7 @@ words-unique l m h k e =
     sym (words-join (answer_words l) (words-not_empty l) (no_spaces (answer_words l) (line_plain l h))) ∙ ap words e
     ∙ words-join (answer_words m) (words-not_empty m) (no_spaces (answer_words m) (line_plain m k))
 
--- ---- each line can be read back from its words
+-- ---- the words of an answer line determine the line
 
 who_of_word : List ℕ → E.Who
 who_of_word word =
@@ -234,12 +235,12 @@ refusal_of_word : List ℕ → E.EventRefusal
 refusal_of_word word =
     if bytes_eq word (codes "nothing") then E.Nothing
     else if bytes_eq word (codes "airfull") then E.AirFull
-    else if bytes_eq word (codes "notidle") then E.ByEndpoint Q.NotIdle
-    else if bytes_eq word (codes "notopen") then E.ByEndpoint Q.NotOpen
-    else if bytes_eq word (codes "notrunning") then E.ByEndpoint Q.NotRunning
-    else if bytes_eq word (codes "empty") then E.ByEndpoint Q.Empty
-    else if bytes_eq word (codes "toolong") then E.ByEndpoint Q.TooLong
-    else E.ByEndpoint Q.Full
+    else if bytes_eq word (codes "notidle") then E.RefusedByEndpoint Q.NotIdle
+    else if bytes_eq word (codes "notopen") then E.RefusedByEndpoint Q.NotOpen
+    else if bytes_eq word (codes "notrunning") then E.RefusedByEndpoint Q.NotRunning
+    else if bytes_eq word (codes "empty") then E.RefusedByEndpoint Q.Empty
+    else if bytes_eq word (codes "toolong") then E.RefusedByEndpoint Q.TooLong
+    else E.RefusedByEndpoint Q.Full
 
 reason_of_word : List ℕ → Reason
 reason_of_word word =
@@ -268,7 +269,8 @@ line_of_three name verb word =
 abbrev line_of_words : List (List ℕ) → AnswerLine
 line_of_words (a ∷ b ∷ []) = line_of_two a b
 line_of_words (a ∷ b ∷ c ∷ []) = line_of_three a b c
-line_of_words (a ∷ b ∷ c ∷ d ∷ e ∷ f ∷ g ∷ h ∷ i ∷ []) = Takes (who_of_word a) (octets_from_hex c) (reception_of_words e g i)
+line_of_words (a ∷ b ∷ c ∷ d ∷ e ∷ f ∷ g ∷ h ∷ i ∷ []) =
+    Takes (who_of_word a) (octets_from_hex c) (reception_of_words e g i)
 line_of_words (a ∷ b ∷ c ∷ d ∷ e ∷ f ∷ g ∷ h ∷ i ∷ j ∷ k ∷ l ∷ []) =
     Drops (who_of_word a) (reception_of_words d f h) (octets_from_hex j)
     (octets_from_hex l)
@@ -295,7 +297,7 @@ oversize_back sapi who = refl
 
 why_back : (why : E.EventRefusal) → line_of_two (codes "no") (call_refusal_word why) ≡ No why
 unfolding line_of_two refusal_of_word
-why_back (E.ByEndpoint Q.NotIdle) = refl
+why_back (E.RefusedByEndpoint Q.NotIdle) = refl
 why_back why = refl
 
 reason_back : (reason : Reason) → reason_of_word (closing_reason_word reason) ≡ reason
@@ -323,7 +325,8 @@ unfolding signed_of_word
 signed_back (pos n) fits =
     unsigned_back (decimal n) (digits_decimal decimals n (omega arith)) ∙ ap pos (digits_value-decimal decimals n (omega arith))
 signed_back (negsuc n) fits =
-    let one : suc n - 1 ≡ n = omega arith in ap (λ k. negsuc (k - 1)) (digits_value-decimal decimals (suc n) (omega arith)) ∙ ap negsuc one
+    let one : suc n - 1 ≡ n = omega arith in ap (λ k. negsuc (k - 1)) (digits_value-decimal decimals (suc n) (omega arith))
+    ∙ ap negsuc one
 
 reception_back : (h : ReceptionQuality) → ReceptionIsInRange h →
     reception_of_words (decimal h.tsc) (decimal h.wrong_training) (signed_decimal h.metric) ≡ h
@@ -356,30 +359,32 @@ line_back (Reports who sapi notice) fits = notice_back who sapi notice fits
 line_back (Sends who octets) fits = rw (who_back who, octets_back octets fits) refl
 line_back FinalOk fits = refl
 
--- ---- whole answers
+-- ---- the text of a whole answer determines its lines
 
-text-not_empty : (l : AnswerLine) (ls : List AnswerLine) → lines_text (l ∷ ls) ≢ []
+text-not_empty : (l : AnswerLine) (ls : List AnswerLine) → answer_lines_text (l ∷ ls) ≢ []
 text-not_empty l ls e =
     let none = ap length e in
     omega (
       arith,
       none,
-      length-append (join_with_byte 32 (answer_words l) ++ 10 ∷ []) (lines_text ls),
+      length-append (join_with_byte 32 (answer_words l) ++ 10 ∷ []) (answer_lines_text ls),
       length-append (join_with_byte 32 (answer_words l)) (10 ∷ []),
     )
 
-pub lines-unique : (ls ms : List AnswerLine) → LinesAreInRange ls → LinesAreInRange ms → lines_text ls ≡ lines_text ms → ls ≡ ms
+pub lines-unique : (ls ms : List AnswerLine) → LinesAreInRange ls → LinesAreInRange ms →
+    answer_lines_text ls ≡ answer_lines_text ms → ls ≡ ms
 lines-unique [] [] h k e = refl
 lines-unique [] (m ∷ ms) h k e = absurd (text-not_empty m ms (sym e))
 lines-unique (l ∷ ls) [] h k e = absurd (text-not_empty l ls e)
 lines-unique (l ∷ ls) (m ∷ ms) h k e =
-    let parts = first_line (join_with_byte 32 (answer_words l)) (join_with_byte 32 (answer_words m)) (lines_text ls) (lines_text ms)
+    let parts = first_line (join_with_byte 32 (answer_words l)) (join_with_byte 32 (answer_words m)) (answer_lines_text ls)
+    (answer_lines_text ms)
     (NoLineFeed-join (answer_words l) (line_plain l h.0)) (NoLineFeed-join (answer_words m) (line_plain m k.0)) e in
     let first : l ≡ m = sym (line_back l h.0) ∙ ap line_of_words (words-unique l m h.0 k.0 parts.0) ∙ line_back m k.0 in
     let rest : ls ≡ ms = lines-unique ls ms h.1 k.1 parts.1 in
     cc
 
--- ## FittingLines: If the values in the parts of an answer are in range, so are those in its lines.
+-- ## FittingLines: If the values in an answer are in range, so are the values in its lines.
 
 pub fit_append : (ls ms : List AnswerLine) → LinesAreInRange ls → LinesAreInRange ms → LinesAreInRange (ls ++ ms)
 fit_append [] ms h k = k

@@ -1,4 +1,4 @@
--- The lines of a script: words, bit indices and messages, and how the parser agrees with the line forms.
+-- Lemmas about the lines of a script: their words, bit indices and messages, and why the parser agrees with the line forms.
 use Rattle.{
   std.{
     proofs.{
@@ -19,7 +19,7 @@ use Rattle.{
     specs.Fields.{BitDigits, BlockBitIndex, DigitUpTo, LineField, FixedWord, HexOctets, OctetsBetween, SoftOctets, Value, fits_field},
     specs.Fields.{has_forbidden_soft_value, has_octet_count, has_wrong_bit_index, has_wrong_digits, has_wrong_length, is_dash_or_hex},
     specs.{Fields.{is_decimal, octets_from_hex}, Forms.{LineForms, fault_or_value, fields_for_word_count, first_field_fault}},
-    specs.Forms.{has_faulty_word, has_repeated_number, line_fault, no_order_fault, bit_indices_of_values, values_of_words},
+    specs.Forms.{has_faulty_word, has_repeated_number, line_fault, never_misplaced, bit_indices_of_values, values_of_words},
     specs.{LinkForms.{any_octets, direction_word, endpoint_word, link_line_forms}, Words.{is_skipped_line, words}},
     specs.declared.fault.LineFault.{TheVariants.{Digits, Place, Twice}, LineFault},
   },
@@ -42,8 +42,8 @@ use Rattle.um_link.specs.lapdm_link.Events as E
 use Rattle.um_link.specs.um_air.Air as A
 use Rattle.um_lines.specs.LinkForms as L
 
--- ## ReadingLaws: The parser, which splits a line word by word, agrees with the line forms. The proof is by cases on who acts, what
--- happens, and the number of words.
+-- ## ReadingLaws: The parser, which splits a line word by word, agrees with the line forms. The proof considers each actor, each action,
+-- and each number of words.
 
 abbrev IsOther : List ℕ → List ℕ → Type 0
 IsOther known w = bytes_eq w known ≡ false
@@ -55,7 +55,7 @@ cases_word P known w here other =
       | inr unlike ↦ other unlike
     ]
 
--- ---- octets
+-- ---- parsing a word of octets gives the octets that the line form defines
 
 octets_given : (w : List ℕ) (make : List ℕ → A.Event)
     → fault_or_value (first_field_fault (any_octets ∷ []) (w ∷ [])) (Some (make (octets_from_hex w)))
@@ -69,7 +69,7 @@ octets_given w make =
       | inr other ↦ rw other refl
     ]
 
--- ---- calls of an endpoint
+-- ---- parsing a call to an endpoint gives the event that the line form defines
 
 cases_verb : (P : List ℕ → Type 0) (verb : List ℕ) → P (codes "open") → P (codes "send") → P (codes "unit") →
     P (codes "close") → P (codes "tick") → P (codes "idle") →
@@ -84,23 +84,32 @@ abbrev IsCallRead : L.LinkEndpoint → List (List ℕ) → List ℕ → Type 0
 IsCallRead end ws verb = script_parse_result (endpoint_word end ∷ verb ∷ ws) ≡ parsed_layer3_call end (verb ∷ ws)
 
 calls : (end : L.LinkEndpoint) (ws : List (List ℕ)) → script_parse_result (endpoint_word end ∷ ws) ≡ parsed_layer3_call end ws
-calls L.Mob [] = refl
-calls L.Mob (verb ∷ w ∷ []) =
-    cases_verb (IsCallRead L.Mob (w ∷ [])) verb (octets_given w E.Open) (octets_given w (λ m. call_event L.Mob (E.Send m)))
-    (octets_given w (λ m. call_event L.Mob (E.SendUi m))) refl refl refl (λ a b c d e f. rw (a, b, c, d, e, f) refl)
+calls L.MobileSapi0 [] = refl
+calls L.MobileSapi0 (verb ∷ w ∷ []) =
+    cases_verb (IsCallRead L.MobileSapi0 (w ∷ [])) verb (octets_given w E.Open)
+    (octets_given w (λ m. call_event L.MobileSapi0 (E.Send m)))
+    (octets_given w (λ m. call_event L.MobileSapi0 (E.SendUi m))) refl refl refl (λ a b c d e f. rw (a, b, c, d, e, f) refl)
 calls end [] = refl
-calls L.Mob (verb ∷ []) = cases_verb (IsCallRead L.Mob []) verb refl refl refl refl refl refl (λ a b c d e f. rw (a, b, c, d, e, f) refl)
+calls L.MobileSapi0 (verb ∷ []) =
+    cases_verb (IsCallRead L.MobileSapi0 []) verb refl refl refl refl refl refl (λ a b c d e f. rw (a, b, c, d, e, f) refl)
 calls end (verb ∷ []) = cases_verb (IsCallRead end []) verb refl refl refl refl refl refl (λ a b c d e f. rw (a, b, c, d, e, f) refl)
 calls end (verb ∷ w ∷ []) =
     cases_verb (IsCallRead end (w ∷ [])) verb refl (octets_given w (λ m. call_event end (E.Send m)))
     (octets_given w (λ m. call_event end (E.SendUi m))) refl refl refl (λ a b c d e f. rw (a, b, c, d, e, f) refl)
--- a call that is followed by two or more words has no form
-calls L.Mob (verb ∷ w ∷ other ∷ ws) =
-    cases_verb (IsCallRead L.Mob (w ∷ other ∷ ws)) verb refl refl refl refl refl refl (λ a b c d e f. rw (a, b, c, d, e, f) refl)
+-- if two or more words follow the name of a call, the line matches no form
+calls L.MobileSapi0 (verb ∷ w ∷ other ∷ ws) =
+    cases_verb (IsCallRead L.MobileSapi0 (w ∷ other ∷ ws)) verb refl refl refl refl refl refl (λ a b c d e f. rw (
+      a,
+      b,
+      c,
+      d,
+      e,
+      f,
+    ) refl)
 calls end (verb ∷ w ∷ other ∷ ws) =
     cases_verb (IsCallRead end (w ∷ other ∷ ws)) verb refl refl refl refl refl refl (λ a b c d e f. rw (a, b, c, d, e, f) refl)
 
--- ---- bit indices
+-- ---- parsing bit indices gives the indices that the line form defines
 
 no_less : (n : ℕ) → suc (suc (suc n)) - 3 ≡ n
 no_less n = omega arith
@@ -142,7 +151,7 @@ places-parsed ws make =
     (cases_reasons (list_any (has_wrong_digits BlockBitIndex) ws) (list_any is_index_above_591 ws)
     (has_repeated_number (map (digits_value 10) ws)) _ make)
 
--- ---- the channel
+-- ---- parsing an event on the radio path gives the event that the line form defines
 
 cases_action : (P : List ℕ → Type 0) (verb : List ℕ) → P (codes "deliver") → P (codes "lose") → P (codes "flip") →
     (IsOther (codes "deliver") verb → IsOther (codes "lose") verb → IsOther (codes "flip") verb → P verb) → P verb
@@ -168,27 +177,27 @@ radio L.Down (verb ∷ w ∷ ws) =
     (rw (no_less (length ws), all_fit ws, no_less (length ws)) (places-parsed (w ∷ ws) (E.Deliver (sender_of L.Down))))
     (λ a b c. rw (a, b, c) refl)
 
--- ---- whole lines
+-- ---- parsing a whole line gives the event that the line forms define
 
 rivals : (ws : List (List ℕ)) → script_parse_result (codes "rival" ∷ ws) ≡ event_from_parsed_list E.Rival (parsed_octets_word ws)
 rivals [] = refl
 rivals (w ∷ []) = octets_given w E.Rival
 rivals (w ∷ other ∷ ws) = refl
 
--- reading the words part by part gives the meaning that the line forms define
+-- parsing a line word by word gives the result that the line forms define
 read_by_parts : (ws : List (List ℕ)) → script_parse_result ws ≡ parsed_script_words ws
 read_by_parts [] = refl
 read_by_parts (name ∷ ws) =
     let P : List ℕ → Type 0 = λ n. script_parse_result (n ∷ ws) ≡ parsed_actor_line (actor_of_name n) ws in
-    cases_word P (codes "mob") name (calls L.Mob ws) (λ a.
-    cases_word P (codes "mob3") name (calls L.Mob3 ws) (λ b.
-    cases_word P (codes "net") name (calls L.Net ws) (λ c.
-    cases_word P (codes "net3") name (calls L.Net3 ws) (λ d.
+    cases_word P (codes "mob") name (calls L.MobileSapi0 ws) (λ a.
+    cases_word P (codes "mob3") name (calls L.MobileSapi3 ws) (λ b.
+    cases_word P (codes "net") name (calls L.NetworkSapi0 ws) (λ c.
+    cases_word P (codes "net3") name (calls L.NetworkSapi3 ws) (λ d.
     cases_word P (codes "up") name (radio L.Up ws) (λ e.
     cases_word P (codes "down") name (radio L.Down ws) (λ f.
     cases_word P (codes "rival") name (rivals ws) (λ g. rw (a, b, c, d, e, f, g) refl)))))))
 
--- ---- the text after a word
+-- ---- any text after the action word of a line has at least one word
 
 -- splitting a text into words gives at least one word
 cases_words : (P : List (List ℕ) → Type 0) (text : List ℕ) → ((w : List ℕ) (ws : List (List ℕ)) → P (w ∷ ws)) →
@@ -211,7 +220,7 @@ radio_event-verb way verb text =
 
 -- ## OctetLaws: The messages in script lines consist of octets, 0 to 255.
 
--- if values fit their fields, the octets among them are below 256
+-- if values fit their fields, all octets in these values are below 256
 fitting_octets : (fields : List LineField) (values : List Value) → Fitting fields values → AreOctets (octets_of_values values)
 fitting_octets [] values f = rw f (All-nil (λ octet. octet < 256))
 fitting_octets (FixedWord text ∷ fields) values f = fitting_octets fields values f
@@ -228,7 +237,7 @@ fitting_octets (OctetsBetween least most ∷ fields) values (octets, rest, same,
 fitting_octets (BlockBitIndex ∷ fields) values (n, rest, same, known, fits) =
     rw same (fitting_octets fields rest fits)
 
--- the message in an event consists of octets if the values do
+-- if the lists in the values of a line consist of octets, so does the message in the event
 named_octets : (name : L.LinkLineKind) (values : List Value) → AreOctets (octets_of_values values) →
     EventMessageIsOctets (event_of_values name values)
 named_octets L.Open values small = small
@@ -241,7 +250,7 @@ abbrev HasOctets : Option Event → Type 0
 HasOctets None = Unit {0}
 HasOctets (Some event) = EventMessageIsOctets event
 
-each_has : (table : LineForms L.LinkLineKind) → Each no_order_fault (λ name values. HasOctets (event_of_script_line_meaning (Some
+each_has : (table : LineForms L.LinkLineKind) → Each never_misplaced (λ name values. HasOctets (event_of_script_line_meaning (Some
     (name, values)))) table
 each_has [] = tt
 each_has (entry ∷ table) = (
@@ -252,15 +261,15 @@ each_has (entry ∷ table) = (
 
 pub octet_event : (line : List ℕ) (event : Event) → ScriptLineMeans line (Some event) → EventMessageIsOctets event
 octet_event line event means =
-    line_by_forms link_line_forms no_order_fault event_of_script_line_meaning HasOctets tt (each_has link_line_forms) line (Some event)
+    line_by_forms link_line_forms never_misplaced event_of_script_line_meaning HasOctets tt (each_has link_line_forms) line (Some event)
     means
 
--- ## PlaceLaws: The words that give bit indices of a block: their values, capped at 592, and how repeated indices are found by marking each
--- index that has occurred.
+-- ## PlaceLaws: Lemmas about words that are bit indices of a block: their values are capped at 592, and a mark for each index that has
+-- occurred finds repeated indices.
 
--- ---- the value of digits
+-- ---- the value of a word of digits, capped at 592, can be computed digit by digit
 
--- the value of a number with digits appended is never below the number
+-- appending digits to a number never makes its value smaller
 appending_digits_never_lowers : (n : ℕ) (ds : List ℕ) → n ≤ digits_value_after 10 n ds
 appending_digits_never_lowers n [] = omega arith
 appending_digits_never_lowers n (d ∷ ds) = omega (arith, appending_digits_never_lowers (n * 10 + digit_value d) ds)
@@ -290,7 +299,7 @@ next_digit-place word i place new in_range digits is =
       rw (is, value, cut) (cap_before_appending (place * 10 + digit_value (get_or word i 0)) (drop (i + 1) word)),
     )
 
--- ---- repeated indices
+-- ---- marking each index that has occurred finds every repeated index
 
 -- whether n occurs in a list
 abbrev is_among : List ℕ → ℕ → Bool
@@ -307,7 +316,7 @@ or_apart (m ∷ ns) before n =
     swapped false true true d = refl
     swapped false b c d = refl
 
--- exactly the indices that have occurred are marked
+-- `marks` marks exactly the indices that occur in `before`
 record Marks (marks : List Bool) (before : List ℕ) : Type 0 where
   pub right_length : length marks ≡ 592
   pub each : (k : ℕ) → k < 592 → get_or marks k false ≡ is_among before k
@@ -331,7 +340,8 @@ first_small w ws in_range =
     let parts = or_parts (is_index_above_591 w) (list_any is_index_above_591 ws) in_range in
     (omega (arith, ltb-false 591 (digits_value 10 w) parts.0), parts.1)
 
--- the numbers of these words include a marked or repeated one if and only if one of them occurs in `before` or is repeated
+-- if `marks` marks the indices in `before`, the words contain a marked or repeated index if and only if one of their indices occurs in
+-- `before` or is repeated
 again : (ws : List (List ℕ)) (marks : List Bool) (before : List ℕ) → list_any is_index_above_591 ws ≡ false → Marks marks before
     →
     has_marked_or_repeated_index marks (decimal_word_values ws) ≡
@@ -341,7 +351,11 @@ again (w ∷ ws) marks before in_range m =
     let n = digits_value 10 w in
     let ns = decimal_word_values ws in
     let small = first_small w ws in_range in
-    rw (m.each n small.0, again ws (slice_set marks n true) (n ∷ before) small.1 (Marks-set marks before n small.0 m), or_apart ns before n)
+    rw (
+      m.each n small.0,
+      again ws (slice_set marks n true) (n ∷ before) small.1 (Marks-set marks before n small.0 m),
+      or_apart ns before n,
+    )
     (or_regrouped (is_among before n) (list_any (λ m. m == n) ns) (list_any (is_among before) ns) (has_repeated_number ns))
   where
     or_regrouped : (a b c d : Bool) → (a || ((b || c) || d)) ≡ ((a || c) || (b || d))
@@ -352,14 +366,14 @@ again (w ∷ ws) marks before in_range m =
 Marks-none : Marks (replicate 592 false) []
 Marks-none = record { right_length = refl; each = λ k in_range. get_or-replicate 592 k false false in_range }
 
--- if no index is marked at first, a marked or repeated index is found if and only if an index is repeated
+-- if no index is marked, the words contain a marked or repeated index if and only if they contain a repeated index
 pub repeated-no_marks : (ws : List (List ℕ)) → list_any is_index_above_591 ws ≡ false
     → has_marked_or_repeated_index (replicate 592 false) (decimal_word_values ws) ≡ has_repeated_number (decimal_word_values ws)
 repeated-no_marks ws in_range =
     again ws (replicate 592 false) [] in_range Marks-none
     ∙ rw (list_any_none (is_among []) (decimal_word_values ws) (λ k d lt. refl)) refl
 
--- if the index that the first word gives is marked, the words have a marked or repeated index
+-- if the index that the first word gives is marked, the words contain a marked or repeated index
 pub repeated-next : (marks : List Bool) (ws others : List (List ℕ)) (w : List ℕ) (n : ℕ) → ws ≡ w ∷ others →
     n ≡ min (digits_value 10 w) 592
     → list_any is_index_above_591 ws ≡ false → get_or marks n false ≡ true →
@@ -369,13 +383,13 @@ repeated-next marks ws others w n is value in_range marked =
     let same : n ≡ digits_value 10 w = omega (arith, small.0) in
     rw (is, rw same at marked) refl
 
--- words that are decimal numbers up to 591 without repetition are read as the list of their values
+-- parsing words that are decimal numbers up to 591 without repetition gives the list of their values
 pub places_held : (ws : List (List ℕ)) (ns : List ℕ) → list_any (λ w. not (is_decimal w)) ws ≡ false →
     list_any is_index_above_591 ws ≡ false
     → has_repeated_number (decimal_word_values ws) ≡ false → ns ≡ decimal_word_values ws → Ok ns ≡ parsed_bit_indices ws
 places_held ws ns decimal in_range once same = rw (decimal, in_range, once, same) refl
 
--- ---- at most 592 distinct indices
+-- ---- a block has 592 bits, so it has at most 592 distinct bit indices
 
 unlike : (n : ℕ) (ns : List ℕ) → list_any (λ m. m == n) ns ≡ false → AllByRecursion (λ m. eqb n m ≡ false) ns
 unlike n [] none = tt
@@ -420,12 +434,12 @@ places-below_592 (w ∷ ws) in_range =
 pub read_line : (line : List ℕ) (result read : Result EventValue LineFault) → result ≡ read → length line ≤ 4096 →
     is_skipped_line line ≡ false → event_or_fault result ≡ parsed_script_words (words line)
     → IfOk read (λ event. ScriptLineMeans line (Some (spec_event_of event)))
-    × (result_err read ≡ line_fault link_line_forms no_order_fault line)
+    × (result_err read ≡ line_fault link_line_forms never_misplaced line)
 read_line line result (Ok event) same short stays is =
-    read_of_words link_line_forms no_order_fault event_of_script_line_meaning line (Ok (Some (spec_event_of event))) short stays
+    read_of_words link_line_forms never_misplaced event_of_script_line_meaning line (Ok (Some (spec_event_of event))) short stays
     (ap event_or_fault (sym same) ∙ is ∙ sym (read_by_parts (words line)))
 read_line line result (Err fault) same short stays is =
-    read_of_words link_line_forms no_order_fault event_of_script_line_meaning line (Err fault) short stays
+    read_of_words link_line_forms never_misplaced event_of_script_line_meaning line (Err fault) short stays
     (ap event_or_fault (sym same) ∙ is ∙ sym (read_by_parts (words line)))
 
 -- ## WordSizes: If a text has only one word, the word is the text.

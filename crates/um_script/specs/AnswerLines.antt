@@ -48,9 +48,9 @@ answer_lines (A.Refuses why) = No why ∷ []
 answer_lines (A.Accepts s) =
     received_block_lines s.who s.received ++ map (Reports s.who s.sapi) s.notices ++ map (Sends s.who) s.frames ++ FinalOk ∷ []
 
--- ---- the text of lines
+-- ---- how the lines of an answer are written as text
 
--- the words, each with a space before it (used inside this crate)
+-- the text of the words, each with a space before it (used inside this crate)
 abbrev pub spaced_words : (words : List (List ℕ)) → List ℕ
 spaced_words [] = []
 spaced_words (word ∷ words) = 32 ∷ word ++ spaced_words words
@@ -69,7 +69,7 @@ notice_words (N.Acked n) = codes "acked" ∷ decimal n ∷ []
 notice_words N.Oversize = codes "oversize" ∷ []
 notice_words (N.Closed reason) = codes "closed" ∷ closing_reason_word reason ∷ []
 
--- the words of a line of an answer
+-- the words that an answer line consists of
 abbrev pub answer_words : AnswerLine → List (List ℕ)
 answer_words (No why) = codes "no" ∷ call_refusal_word why ∷ []
 answer_words (Takes who octets h) = actor_word who ∷ codes "takes" ∷ encode_lower octets ∷ reception_words h
@@ -85,15 +85,15 @@ abbrev pub answer_line_text : AnswerLine → List ℕ
 answer_line_text line = join_with_byte 32 (answer_words line) ++ codes "\n"
 
 -- the text of the lines, in order
-abbrev pub lines_text : (lines : List AnswerLine) → List ℕ
-lines_text [] = []
-lines_text (line ∷ lines) = answer_line_text line ++ lines_text lines
+abbrev pub answer_lines_text : (lines : List AnswerLine) → List ℕ
+answer_lines_text [] = []
+answer_lines_text (line ∷ lines) = answer_line_text line ++ answer_lines_text lines
 
 -- the text of an answer: either `no REASON`, or lines for the received block, the notices and the frames sent, and then `ok`
 abbrev pub answer_text : A.Answer → List ℕ
-answer_text answer = lines_text (answer_lines answer)
+answer_text answer = answer_lines_text (answer_lines answer)
 
--- ---- ranges of octets and numbers
+-- ---- which octets and numbers are in range
 
 -- the training sequence code and the number of wrong training bits are below 2^64, and the metric is between -2^63 and 2^63
 pub record ReceptionIsInRange (quality : ReceptionQuality) : Type 0 where

@@ -24,12 +24,12 @@ sapi_suffix Three = codes "3"
 abbrev pub call_refusal_word : E.EventRefusal → List ℕ
 call_refusal_word E.Nothing = codes "nothing"
 call_refusal_word E.AirFull = codes "airfull"
-call_refusal_word (E.ByEndpoint Q.NotIdle) = codes "notidle"
-call_refusal_word (E.ByEndpoint Q.NotOpen) = codes "notopen"
-call_refusal_word (E.ByEndpoint Q.NotRunning) = codes "notrunning"
-call_refusal_word (E.ByEndpoint Q.Empty) = codes "empty"
-call_refusal_word (E.ByEndpoint Q.TooLong) = codes "toolong"
-call_refusal_word (E.ByEndpoint Q.Full) = codes "full"
+call_refusal_word (E.RefusedByEndpoint Q.NotIdle) = codes "notidle"
+call_refusal_word (E.RefusedByEndpoint Q.NotOpen) = codes "notopen"
+call_refusal_word (E.RefusedByEndpoint Q.NotRunning) = codes "notrunning"
+call_refusal_word (E.RefusedByEndpoint Q.Empty) = codes "empty"
+call_refusal_word (E.RefusedByEndpoint Q.TooLong) = codes "toolong"
+call_refusal_word (E.RefusedByEndpoint Q.Full) = codes "full"
 
 -- the word for the reason why a link was closed
 abbrev pub closing_reason_word : Reason → List ℕ

@@ -16,10 +16,10 @@ use Rattle.um_script.specs.declared.names.RadioAction.{RadioAction}
 use Rattle.um_script.specs.declared.names.RadioAction.TheVariants as A
 
 abbrev pub link_endpoint_of : End → Sapi → L.LinkEndpoint
-link_endpoint_of Mobile Zero = L.Mob
-link_endpoint_of Mobile Three = L.Mob3
-link_endpoint_of Network Zero = L.Net
-link_endpoint_of Network Three = L.Net3
+link_endpoint_of Mobile Zero = L.MobileSapi0
+link_endpoint_of Mobile Three = L.MobileSapi3
+link_endpoint_of Network Zero = L.NetworkSapi0
+link_endpoint_of Network Three = L.NetworkSapi3
 
 abbrev pub link_direction_of : Way → L.Way
 link_direction_of Up = L.Up

@@ -6,24 +6,24 @@ use Rattle.um_link.specs.lapdm_window.Ends.{Role, Mobile, Network}
 use Rattle.um_link.specs.lapdm_link.Events as E
 use Rattle.um_link.specs.um_air.Air as A
 use Rattle.um_lines.specs.Fields.{Value, Number, NumberList, BitIndex}
-use Rattle.um_lines.specs.Forms.{LineMeans, no_order_fault, bit_indices_of_values}
+use Rattle.um_lines.specs.Forms.{LineMeans, never_misplaced, bit_indices_of_values}
 use Rattle.um_lines.specs.LinkForms as L
 use Rattle.um_lines.specs.LinkForms.{link_line_forms}
 use Rattle.um_lines.specs.Meanings.{IsValueOfMeaning}
 
 -- the side of an endpoint, mobile or network
 abbrev pub role_of : L.LinkEndpoint → Role
-role_of L.Mob = Mobile
-role_of L.Net = Network
-role_of L.Mob3 = Mobile
-role_of L.Net3 = Network
+role_of L.MobileSapi0 = Mobile
+role_of L.NetworkSapi0 = Network
+role_of L.MobileSapi3 = Mobile
+role_of L.NetworkSapi3 = Network
 
 -- the SAPI of an endpoint
 abbrev pub sapi_of : L.LinkEndpoint → Sapi
-sapi_of L.Mob = Zero
-sapi_of L.Net = Zero
-sapi_of L.Mob3 = Three
-sapi_of L.Net3 = Three
+sapi_of L.MobileSapi0 = Zero
+sapi_of L.NetworkSapi0 = Zero
+sapi_of L.MobileSapi3 = Three
+sapi_of L.NetworkSapi3 = Three
 
 -- the side whose blocks travel in this direction: the mobile sends up, the network sends down
 abbrev pub sender_of : L.Way → Role
@@ -41,7 +41,7 @@ octets_of_values (BitIndex n ∷ values) = octets_of_values values
 abbrev pub call_event : L.LinkEndpoint → E.Request → A.Event
 call_event end request = E.Ask (role_of end) (sapi_of end) request
 
--- the event for a line of this kind with these values
+-- the event that a script line of this kind with these values describes
 abbrev pub event_of_values : (kind : L.LinkLineKind) (values : List Value) → A.Event
 event_of_values L.Open values = E.Open (octets_of_values values)
 event_of_values (L.OpenBare end) values = E.OpenBare (role_of end)
@@ -59,6 +59,6 @@ event_of_values L.Rival values = E.Rival (octets_of_values values)
 abbrev pub event_of_script_line_meaning : Option (L.LinkLineKind × List Value) → Option A.Event
 event_of_script_line_meaning said = option_map (λ meaning. event_of_values meaning.0 meaning.1) said
 
--- the script line means this event, or is skipped (`None`)
+-- a script line describes the given event, or is skipped if there is no event (`None`)
 abbrev pub ScriptLineMeans : (line : List ℕ) (event : Option A.Event) → Type 0
-ScriptLineMeans line = IsValueOfMeaning event_of_script_line_meaning (LineMeans link_line_forms no_order_fault line)
+ScriptLineMeans line = IsValueOfMeaning event_of_script_line_meaning (LineMeans link_line_forms never_misplaced line)

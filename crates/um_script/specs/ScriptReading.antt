@@ -10,7 +10,7 @@ use Rattle.um_link.specs.um_air.Air as A
 use Rattle.um_lines.specs.declared.fault.LineFault.{LineFault}
 use Rattle.um_lines.specs.declared.fault.LineFault.TheVariants.{Word, Digits, Length, Place, Twice}
 use Rattle.um_lines.specs.Fields.{is_dash_or_hex, has_octet_count, octets_from_hex, is_decimal}
-use Rattle.um_lines.specs.Forms.{no_order_fault, form_of_words, first_word_fault, meaning_of_words, fault_or_value, has_repeated_number}
+use Rattle.um_lines.specs.Forms.{never_misplaced, form_of_words, first_word_fault, meaning_of_words, fault_or_value, has_repeated_number}
 use Rattle.um_lines.specs.LinkForms as L
 use Rattle.um_lines.specs.LinkForms.{link_line_forms}
 use Rattle.um_script.specs.declared.names.Actor.{Actor}
@@ -28,7 +28,7 @@ EventOrFault = Result (Option A.Event) LineFault
 
 -- the event that the words describe, or their first fault
 abbrev pub script_parse_result : (words : List (List ℕ)) → EventOrFault
-script_parse_result ws = fault_or_value (first_word_fault no_order_fault (form_of_words link_line_forms ws) ws)
+script_parse_result ws = fault_or_value (first_word_fault never_misplaced (form_of_words link_line_forms ws) ws)
     (event_of_script_line_meaning (meaning_of_words
     (form_of_words link_line_forms ws) ws))
 
@@ -57,7 +57,7 @@ event_from_parsed_list make (Err fault) = Err fault
 abbrev pub accepted_event : A.Event → EventOrFault
 accepted_event event = Ok (Some event)
 
--- ---- calls to an endpoint
+-- ---- the events for calls to an endpoint
 
 abbrev pub is_sapi_3 : Sapi → Bool
 is_sapi_3 Zero = false
@@ -72,7 +72,7 @@ parsed_one_word_call end (Some Q.Idle) = if is_sapi_3 (sapi_of end) then Err Wor
 parsed_one_word_call end request = Err Word
 
 abbrev pub is_mobile_sapi_0 : L.LinkEndpoint → Bool
-is_mobile_sapi_0 L.Mob = true
+is_mobile_sapi_0 L.MobileSapi0 = true
 is_mobile_sapi_0 end = false
 
 -- the event for a call with octets, such as `send`, or the fault
@@ -87,7 +87,7 @@ parsed_layer3_call end [] = Err Word
 parsed_layer3_call end (verb ∷ []) = parsed_one_word_call end (request_of_name verb)
 parsed_layer3_call end (verb ∷ w ∷ ws) = parsed_octets_call end (request_of_name verb) (w ∷ ws)
 
--- ---- events of a block on the radio path
+-- ---- the events for blocks on the radio path
 
 abbrev pub parsed_deliver_or_lose : (way : L.Way) (action : Option RadioAction) → EventOrFault
 parsed_deliver_or_lose way (Some T.Deliver) = accepted_event (E.Deliver (sender_of way) [])
@@ -103,7 +103,7 @@ parsed_radio_event way [] = Err Word
 parsed_radio_event way (verb ∷ []) = parsed_deliver_or_lose way (action_of_name verb)
 parsed_radio_event way (verb ∷ w ∷ ws) = parsed_bit_inversion way (action_of_name verb) (w ∷ ws)
 
--- ---- whole lines
+-- ---- the events for whole lines
 
 abbrev pub parsed_actor_line : (actor : Option Actor) (words : List (List ℕ)) → EventOrFault
 parsed_actor_line None ws = Err Word

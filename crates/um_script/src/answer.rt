@@ -9,9 +9,9 @@ ghost use Rattle.um_lines.specs.LineTexts.{octets_word};
 ghost use Rattle.um_script.specs.AnswerLines.{No as Refusal, Reports, Sends, reception_quality, reception_words, notice_words};
 ghost use Rattle.um_script.specs.AnswerLines.{received_block_line};
 ghost use Rattle.um_script.specs.AnswerLines.{received_block_lines};
-ghost use Rattle.um_script.specs.AnswerLines.{spaced_words, answer_line_text, lines_text, answer_lines, answer_text};
+ghost use Rattle.um_script.specs.AnswerLines.{spaced_words, answer_line_text, answer_lines_text, answer_lines, answer_text};
 ghost use Rattle.um_script.specs.AnswerLines.{ReceptionIsInRange, NoticeIsInRange, LineIsInRange, LinesAreInRange};
-ghost use Rattle.um_link.specs.Naming.{spec_answer_of, spec_step_of, spec_who_of, spec_event_refusal_of, step_result};
+ghost use Rattle.um_link.specs.Naming.{spec_answer_of, spec_step_of, spec_who_of, spec_event_refusal_of, result_with_step};
 ghost use Rattle.um_link.specs.Abstraction.{StepFitsItsActor};
 ghost use Rattle.um_script.specs.AnswerWords.{actor_word, sapi_suffix, call_refusal_word, closing_reason_word};
 
@@ -38,9 +38,9 @@ pub fn step_lines(out: &mut Text, answer: &Result<Step, No>)
 pub fn write_step_lines(out: &mut Text, outcome: &Result<(), No>, step: &Step)
     requires empty { out.old ≡ [] }
     requires fits { OnOk outcome.now (StepFitsItsActor (spec_step_of step.now)) }
-    ensures text { out.new ≡ answer_text (spec_answer_of (step_result outcome.now step.now)) }
+    ensures text { out.new ≡ answer_text (spec_answer_of (result_with_step outcome.now step.now)) }
     ensures size { length out.new < 2000 }
-    ensures fit { LinesAreInRange (answer_lines (spec_answer_of (step_result outcome.now step.now))) }
+    ensures fit { LinesAreInRange (answer_lines (spec_answer_of (result_with_step outcome.now step.now))) }
 {
     match outcome {
         Ok(()) => push_step(out, step),
@@ -81,15 +81,15 @@ fn push_step(out: &mut Text, step: &Step)
     ensures size { length out.new < 2000 }
     ensures fit { LinesAreInRange (answer_lines (spec_answer_of (Ok step.now))) }
 {
-    push_received(out, step.who, &step.received);
+    push_received_block_if_any(out, step.who, &step.received);
     push_notices(out, step.who, step.sapi, step.effects.notices.as_slice());
     push_frames(out, step.who, step.effects.frames.as_slice());
     out.push(b"ok\n");
 }
 
-fn push_received(out: &mut Text, who: Who, received: &Option<Received>)
+fn push_received_block_if_any(out: &mut Text, who: Who, received: &Option<Received>)
     requires { out.old ≡ [] }
-    ensures text { out.new ≡ lines_text (received_block_lines (spec_who_of who) received.now) }
+    ensures text { out.new ≡ answer_lines_text (received_block_lines (spec_who_of who) received.now) }
     ensures size { length out.new ≤ 300 }
     ensures fit { LinesAreInRange (received_block_lines (spec_who_of who) received.now) }
 {
@@ -195,7 +195,7 @@ fn push_data_and_check_words(out: &mut Text, octets: &[u8], check: &[u8])
 fn push_notices(out: &mut Text, who: Who, sapi: Sapi, notices: &[Notice])
     requires space { length out.old ≤ 300 }
     requires size { length notices.now ≤ 3 }
-    ensures text { out.new ≡ out.old ++ lines_text (map (Reports (spec_who_of who) sapi) notices.now) }
+    ensures text { out.new ≡ out.old ++ answer_lines_text (map (Reports (spec_who_of who) sapi) notices.now) }
     ensures size { length out.new ≤ length out.old + 520 * length notices.now }
     ensures fit { LinesAreInRange (map (Reports (spec_who_of who) sapi) notices.now) }
 {
@@ -270,7 +270,7 @@ fn closing_reason_word(reason: Reason) -> &'static [u8]
 fn push_frames(out: &mut Text, who: Who, frames: &[[u8; BLOCK_OCTETS]])
     requires space { length out.old ≤ 1870 }
     requires size { length frames.now ≤ 2 }
-    ensures text { out.new ≡ out.old ++ lines_text (map (Sends (spec_who_of who)) frames.now) }
+    ensures text { out.new ≡ out.old ++ answer_lines_text (map (Sends (spec_who_of who)) frames.now) }
     ensures size { length out.new ≤ length out.old + 60 * length frames.now }
     ensures fit { LinesAreInRange (map (Sends (spec_who_of who)) frames.now) }
 {

@@ -6,8 +6,6 @@ mod names;
 mod places;
 mod room;
 mod script;
-#[cfg(test)]
-mod tests;
 
 pub use answer::{law_answer_text_determines_lines, step_lines, write_step_lines};
 pub use room::Room;

@@ -1,10 +1,10 @@
-//! Parses script lines.
+//! Parses the script lines of `link`.
 ghost use Rattle.std.specs.Prelude.{◌≡◌, ◌≤◌, ℕ, List, length, Some, IfOk};
 ghost use Rattle.std.specs.Result.{result_err};
 ghost use Rattle.um_link.specs.um_air.Air as A;
 ghost use Rattle.um_link.specs.um_air.Sessions.{EventMessageIsOctets};
 ghost use Rattle.um_lines.specs.Words.{words};
-ghost use Rattle.um_lines.specs.Forms.{line_fault, no_order_fault};
+ghost use Rattle.um_lines.specs.Forms.{line_fault, never_misplaced};
 ghost use Rattle.um_lines.specs.LinkForms.{link_line_forms};
 ghost use Rattle.um_lines.specs.Meanings.{HasOneMeaningOrFault};
 ghost use Rattle.um_script.specs.ScriptLines.{ScriptLineMeans};
@@ -33,7 +33,7 @@ pub enum ScriptLine<'a> {
 /// stored in `room`.
 pub fn parse_script<'a>(line: &[u8], room: &'a mut Room) -> Result<ScriptLine<'a>, LineFault>
     ensures means { IfOk result (λ read. ScriptLineMeans line.now (event_of_script_line read)) }
-    ensures refused { result_err result ≡ line_fault link_line_forms no_order_fault line.now }
+    ensures refused { result_err result ≡ line_fault link_line_forms never_misplaced line.now }
 
     // Every bit that the event inverts is a bit of a block: its index is 0 to 591.
     ensures possible { IfOk result (λ read. HasValidBitIndices read) }
@@ -134,7 +134,7 @@ fn parse_radio_path_line<'a>(
 {
     match first_word(action_words) {
         None => parse_deliver_or_lose(way, action_of_word(action_words)),
-        Some((verb, places)) => parse_flip(way, action_of_word(verb), places, room),
+        Some((verb, places)) => parse_bit_inversion(way, action_of_word(verb), places, room),
     }
 }
 
@@ -149,7 +149,7 @@ fn parse_deliver_or_lose<'a>(way: Way, action: Option<RadioAction>) -> Result<Ev
     }
 }
 
-fn parse_flip<'a>(
+fn parse_bit_inversion<'a>(
     way: Way,
     action: Option<RadioAction>,
     indices: &[u8],
@@ -166,7 +166,7 @@ fn parse_flip<'a>(
 
 /// Law: a script line that is not refused has exactly one meaning; a script line that is refused has none.
 pub fn law_script_line_meaning_is_unique()
-    ensures { (line : List ℕ) → HasOneMeaningOrFault (line_fault link_line_forms no_order_fault line) (ScriptLineMeans line) }
+    ensures { (line : List ℕ) → HasOneMeaningOrFault (line_fault link_line_forms never_misplaced line) (ScriptLineMeans line) }
 {}
 
 /// Law: the message in a script line, if it has one, consists of octets.

@@ -3,7 +3,7 @@ use Rattle.std.specs.Prelude.{ℕ, ◌≡◌, ◌+◌, List, [], ◌∷◌, leng
 use Rattle.um_link.specs.um_block.declared.received.Received.{Received}
 use Rattle.um_link.specs.um_air.Air.{Answer, Refuses, Accepts}
 use Rattle.um_driver.specs.Rules.{Rules}
-use Rattle.um_session.specs.Sessions.{Session, IsScriptLineStep, link_command_rules}
+use Rattle.um_session.specs.Sessions.{LinkSession, IsScriptLineStep, link_command_rules}
 
 -- the number of frames that an answer reports as sent
 abbrev pub sent_frame_count : Answer → ℕ
@@ -36,13 +36,13 @@ pub record RadioCounters : Type 0 where
   pub received_blocks : ℕ
 
 -- a session, and the radio's counters before the first line of the script
-pub record SessionWithRadio : Type 0 where
-  pub session : Session
+pub record SessionWithRadioCounters : Type 0 where
+  pub session : LinkSession
   pub initial_counters : RadioCounters
 
 -- the rules of the `link` command, with states that also contain the radio's counters before the first line
-abbrev pub link_command_rules_with_radio : Rules SessionWithRadio
-link_command_rules_with_radio = record {
+abbrev pub link_rules_with_radio_counters : Rules SessionWithRadioCounters
+link_rules_with_radio_counters = record {
   fault = λ c line. link_command_rules.fault c.session line;
   end_fault = λ c. None;
   Step = λ c line text after. IsScriptLineStep c.session line text after.session × (after.initial_counters ≡ c.initial_counters);

@@ -7,7 +7,7 @@ use Rattle.um_link.specs.um_air.Air.{Event, Answer}
 use Rattle.um_link.specs.um_air.Sessions.{session_log, IsBenign, EventInvertsFewBits}
 use Rattle.um_driver.specs.Table.{IsRun}
 use Rattle.um_driver.specs.declared.status.Status.{Status}
-use Rattle.um_session.specs.Sessions.{Session, new_session, link_command_rules}
+use Rattle.um_session.specs.Sessions.{LinkSession, new_session, link_command_rules}
 use Rattle.um_session.specs.Courses.{total_frames_sent, total_blocks_received, RadioCounters}
 
 -- each event inverts at most three bits of a block
@@ -16,7 +16,7 @@ EventsInvertFewBits events = All EventInvertsFewBits events
 
 -- the session's log is ordered (`HasNoticesInOrder`); if the session is benign, the claims about delivery hold (`Claims`); and the session
 -- is benign if at most three bits of each block are inverted
-pub record DeliveryLawsHold (session : Session) : Type 0 where
+pub record DeliveryLawsHold (session : LinkSession) : Type 0 where
   pub order : HasNoticesInOrder (session_log session.events session.answers)
   pub delivery : IsBenign session.events session.answers → Claims (session_log session.events session.answers)
   pub benign : EventsInvertFewBits session.events → IsBenign session.events session.answers
@@ -26,14 +26,14 @@ pub record DeliveryLawsHold (session : Session) : Type 0 where
 pub record RadioCountersRose (answers : List Answer) (before after : RadioCounters) : Type 0 where
   pub sent_block_increase : ℕ
   pub received_block_increase : ℕ
-  pub enough_sent : total_frames_sent answers ≤ sent_block_increase
-  pub enough_received : total_blocks_received answers ≤ received_block_increase
+  pub increase_covers_sent_frames : total_frames_sent answers ≤ sent_block_increase
+  pub increase_covers_received_blocks : total_blocks_received answers ≤ received_block_increase
   pub sent_rose : after.sent_blocks ≡ counter_plus sent_block_increase before.sent_blocks
   pub received_rose : after.received_blocks ≡ counter_plus received_block_increase before.received_blocks
 
 -- a run of the `link` command by its rules: the radio counted the blocks of all lines whose answers were written at least in part, and the
 -- claims about order and delivery hold for these lines
-pub record IsLinkRun (tsc : ℕ) (channel : Channel) (status : Status)
+pub record IsLinkCommandRun (tsc : ℕ) (channel : Channel) (status : Status)
     (input_before input_after output_before output_after : Option (List ℕ))
     (before after : RadioCounters) : Type 0 where
   pub run : IsRun link_command_rules (new_session tsc channel) (λ last. Unit {0}) status input_before input_after output_before

@@ -4,7 +4,8 @@ ghost use Rattle.std.specs.Prelude.{◌≡◌, None};
 ghost use Rattle.um_link.specs.um_block.Tallies.{counter_plus};
 ghost use Rattle.um_link.specs.Abstraction.{Represents};
 ghost use Rattle.um_session.specs.Sessions.{new_session};
-ghost use Rattle.um_session.specs.Courses.{SessionWithRadio, link_command_rules_with_radio, total_frames_sent, total_blocks_received};
+ghost use Rattle.um_session.specs.Courses.{SessionWithRadioCounters, link_rules_with_radio_counters, total_frames_sent};
+ghost use Rattle.um_session.specs.Courses.{total_blocks_received};
 
 use um_driver::Command;
 use um_link::{Radio, Step, World};
@@ -37,9 +38,9 @@ impl<'a, R: Radio> LinkCommand<'a, R> {
 }
 
 impl<'a, R: Radio> Command for LinkCommand<'a, R> {
-    ghost State = { SessionWithRadio };
+    ghost State = { SessionWithRadioCounters };
 
-    ghost rules = { link_command_rules_with_radio };
+    ghost rules = { link_rules_with_radio_counters };
 
     ghost start = { λ link. record {
       session = new_session link.world.now.tsc link.world.now.channel;

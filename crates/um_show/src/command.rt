@@ -1,6 +1,6 @@
 //! The `show` command: converts LAPDm frames between octets and text.
 ghost use Rattle.std.specs.Prelude.{◌≡◌, Some, None, [], MatchResult};
-ghost use Rattle.um_formats.specs.ShowLines.{show_fault};
+ghost use Rattle.um_formats.specs.ShowLines.{show_line_fault};
 ghost use Rattle.um_show.specs.Show.{IsAnswerToShowLine};
 
 use um_driver::Answer;
@@ -11,7 +11,7 @@ use um_formats::{LineFault, ShowLine, Text, frame_line, octets_line, parse_show}
 pub struct Show;
 
 impl Answer for Show {
-    ghost fault = { show_fault };
+    ghost fault = { show_line_fault };
 
     ghost answers = { IsAnswerToShowLine };
 

@@ -95,7 +95,7 @@ fn four_lost_bursts_are_received_as_a_dropped_block(rt: HostRuntime) {
     );
 }
 
-/// The side, an input that is refused, and the output.
+/// Inputs that are refused, each with the side that receives them and the output.
 const REFUSED_LINES: [(&str, &[u8], &[u8]); 9] = [
     ("mob", b"net idle", b"refused 1 word\n"),
     ("net", b"lost\nnet idle", b"refused 2 order\n"),

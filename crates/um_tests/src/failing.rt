@@ -10,7 +10,7 @@ const TWO_LINES: &[u8] = b"rach 00000000 000000\nrach 00000000 000000\n";
 
 const THREE_LINES: &[u8] = b"rach 00000000 000000\nrach 00000000 000000\nrach 00000000 000000\n";
 
-/// The first `count` octets of the answers to three lines.
+/// Returns the answers to the three lines, 294 octets, or `None` if they have fewer than `count` octets.
 fn rach_answers(count: usize) -> Option<[u8; 294]> {
     if count > 294 || ACCESS_BURST.len() != 98 {
         return None;

@@ -6,7 +6,7 @@ use um_cli::Status;
 
 const LINK_SDCCH_WORDS: [&str; 2] = ["link", "0"];
 
-/// A script. Inverting these seven bits of a block yields another codeword; inverting three training bits does not change the data.
+/// A script that inverts seven bits of a block, which yields another codeword, and three training bits, which does not change the data.
 const INVERTED_BITS_SCRIPT: &[u8] = b"net idle
 down flip 3 131 263 277 318 450 541
 net idle
@@ -46,7 +46,7 @@ const INVERTED_BIT_RANGES: [(u32, u32); 8] = [
     (0, 592),
 ];
 
-/// The lines of bursts, with the bits from index `from` up to but excluding `until` inverted.
+/// Returns the lines of bursts with the bits from index `from` up to but excluding `until` inverted.
 fn inverted_bursts(bursts: &[u8], from: u32, until: u32, alloc: Global) -> Result<Vec<u8>, Fail> {
     let mut digits = bursts.to_vec(alloc)?;
     let mut place: u32 = 0;

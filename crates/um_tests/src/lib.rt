@@ -1,24 +1,44 @@
-//! Tests that involve several crates: whole runs with sources and sinks in memory.
+//! The tests of most crates, and whole runs with sources and sinks in memory.
 #![tactic(auto)]
 
 #[cfg(test)]
 mod bits;
 #[cfg(test)]
+mod blocks;
+#[cfg(test)]
+mod bursts;
+#[cfg(test)]
 mod code;
+#[cfg(test)]
+mod driver;
 #[cfg(test)]
 mod end;
 #[cfg(test)]
+mod error_bursts;
+#[cfg(test)]
 mod failing;
+#[cfg(test)]
+mod formats;
 #[cfg(test)]
 mod hostile;
 #[cfg(test)]
+mod lapdm_frames;
+#[cfg(test)]
 mod link;
+#[cfg(test)]
+mod list_decoding;
 #[cfg(test)]
 mod make;
 #[cfg(test)]
 mod margin;
 #[cfg(test)]
+mod mobile;
+#[cfg(test)]
+mod network;
+#[cfg(test)]
 mod outside;
+#[cfg(test)]
+mod ranked_words;
 #[cfg(test)]
 mod repair;
 #[cfg(test)]
@@ -28,4 +48,14 @@ mod reports;
 #[cfg(test)]
 mod script;
 #[cfg(test)]
+mod script_lines;
+#[cfg(test)]
+mod segments;
+#[cfg(test)]
 mod show;
+#[cfg(test)]
+mod trellis;
+#[cfg(test)]
+mod window;
+#[cfg(test)]
+mod world;

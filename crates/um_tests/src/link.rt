@@ -223,7 +223,7 @@ const TWO_SEGMENTS_ON_SACCH: [(&str, &str); 9] = [
     ("down deliver", "mob takes 0000014101, mob acked 1, ok"),
 ];
 
-/// T200 expires once more after the last repetition.
+/// The sender gives up when T200 expires after the last retransmission. T200 then no longer runs.
 const FAILURE_AFTER_LAST_REPETITION: [(&str, &str); 2] = [
     ("mob tick", "mob closed failed, ok"),
     ("mob tick", "no notrunning"),
@@ -262,7 +262,7 @@ d6e6f707172737475767778797a7b7c7d7e7f808182838485868788898a8b8c8d8e8f90919293949
 5a6a7a8a9aaabacadaeafb0b1b2b3b4b5b6b7b8b9babbbcbdbebfc0c1c2c3c4c5c6c7c8c9cacbcccdcecfd0d1d2d3d4d5d6d7d8d9dadbdcd\
 ddedfe0e1e2e3e4e5e6e7e8e9eaebecedeeeff0f1f2f3f4f5f6f7f8f9fa";
 
-/// The frames for each segment of the message: its I frame, the repetition with P = 1, the RR, and the REJ with F = 1.
+/// The frames for each segment of the message: its I frame, the retransmission with P = 1, the RR, and the REJ with F = 1.
 const SEGMENT_FRAMES: [(&str, &str, &str, &str); 13] = [
     (
         "010053000102030405060708090a0b0c0d0e0f10111213",
@@ -402,7 +402,7 @@ fn a_long_message_is_delivered_once(rt: HostRuntime) -> Result<(), Fail> {
     Ok(())
 }
 
-/// The sender's block and all its repetitions are lost, until the sender gives up.
+/// Checks that the sender gives up if its block and all retransmissions of the block are lost.
 fn check_failure_after(
     rt: &(impl Abort + AllocGlobal),
     script: &mut Script,

@@ -17,7 +17,7 @@ mob got 500 octets 63073 sum 8091295 acked 500
 net got 500 octets 62896 sum 8070023 acked 500
 ";
 
-/// Command-line words that do not name a generated session.
+/// Invalid command lines: `make` takes exactly a number of messages, 1 to 1000, and a training sequence code, 0 to 7.
 const INVALID_WORDS: [&[&str]; 11] = [
     &["make"],
     &["make", "3"],

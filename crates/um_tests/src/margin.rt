@@ -5,7 +5,7 @@ use crate::replay::BURSTS_WITH_THREE_WRONG_BITS;
 use std::test::Fail;
 use um_cli::Status;
 
-/// The report on four lost bursts: all words are equally likely, and the first two are written.
+/// The report on four lost bursts: all words are equally likely, and `margin` reports the first two in lexicographic order.
 const TIE_REPORT: &[u8] =
     b"block margin 0 metric 0 data 0000000000000000000000000000000000000000000000 check 0000000000 \
 next 0000000000000000000000000000000000000000000000 0000000080\n";
@@ -21,7 +21,8 @@ fn all_words_tie_for_four_lost_bursts(rt: HostRuntime) {
     );
 }
 
-// The word that begins with 111 also has seven ones among its coded bits, the first of them at index 0.
+// The words that begin with 100 and with 111 both have seven ones among their coded bits, the first of them at index 0, so they are equally
+// likely in this test.
 #[test]
 fn the_lexicographically_later_of_two_tied_words_is_the_second(rt: HostRuntime) {
     check_run(
@@ -55,7 +56,7 @@ fn undamaged_words_lead_by_seven_bits(rt: HostRuntime) {
     );
 }
 
-// Here the second most likely word comes before the most likely one in lexicographic order.
+// In this test, the second most likely word comes before the most likely one in lexicographic order.
 #[test]
 fn each_wrong_bit_towards_the_second_word_lowers_the_margin_by_508(rt: HostRuntime) {
     check_run(

@@ -143,7 +143,7 @@ pub fn check_refusal(
     Ok(())
 }
 
-/// A line of 4096 octets is read, and one of 4097 is refused.
+/// Checks that the command reads a line of 4096 octets and refuses a line of 4097 octets.
 pub fn check_longest_lines(rt: &(impl Abort + AllocGlobal), words: &[&str]) -> Result<(), Fail> {
     let mut line = vec![in rt.alloc(); b'#'; 4096]?;
     check_run_in_pieces(rt, words, line.as_slice(), Status::Done, b"");
@@ -151,7 +151,7 @@ pub fn check_longest_lines(rt: &(impl Abort + AllocGlobal), words: &[&str]) -> R
     check_refusal(rt, words, line.as_slice(), 1, "long")
 }
 
-/// Line feeds up to the limit of an input are read, and one more is too many.
+/// Checks that the command reads an input of 67,108,864 line feeds, and that one more line feed exceeds the limit.
 pub fn check_line_feeds(rt: &(impl Abort + AllocGlobal), words: &[&str]) -> Result<(), Fail> {
     let most = StreamLimits::moving_at_most(5000);
     let mut feeds = vec![in rt.alloc(); b'\n'; 67_108_864]?;

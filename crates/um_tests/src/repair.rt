@@ -15,7 +15,7 @@ fn a_word_whose_crc_holds_is_reported_as_holding(rt: HostRuntime) {
     );
 }
 
-// The indices of the wrong bits, line by line: 184; 184 and 195; 0; 0 and 11; 212 and 223; 223.
+// The wrong bits of the six words, line by line, have the indices 184; 184 and 195; 0; 0 and 11; 212 and 223; 223.
 #[test]
 fn error_bursts_of_twelve_bits_are_repaired_anywhere_in_the_word(rt: HostRuntime) {
     check_run(
@@ -40,7 +40,8 @@ repaired first 223 span 1 data 0000000000000000000000000000000000000000000000 ch
     );
 }
 
-// The indices of the wrong bits, line by line: 184, 192 and 200; 0 and 12; 211 and 223; 0 and 223; 0 to 3 and 219 to 223.
+// The wrong bits of the five words, line by line, have the indices 184, 192 and 200; 0 and 12; 211 and 223; 0 and 223; 0 to 3 and 219 to
+// 223.
 #[test]
 fn wider_or_wrapped_error_bursts_are_not_repaired(rt: HostRuntime) {
     check_run(

@@ -21,12 +21,12 @@ n 000000000011111010101010000100000010001010111010101000010100111101111000100101
 n 00000010000101010101011110111010101000000001010111011111101011110111100010010111011110011000100000010101010110\
 11101010001000010001011101111010101000\n";
 
-/// What `replay` writes for these bursts.
+/// What `replay` writes for the bursts in `FILL_FRAME`.
 const FILL_FRAME_REPORT: &[u8] =
     b"block tsc 7 train 0 metric 57912 parity ok data 0303012b2b2b2b2b2b2b2b2b2b2b2b2b2b2b2b2b2b2b2b check 2c4e540233\n\
 frame sapi 0 cr 1 ui p 0 info -\n";
 
-/// The same bursts, with bits 10, 20 and 30 of the second burst inverted.
+/// The bursts in `FILL_FRAME`, with bits 10, 20 and 30 of the second burst inverted.
 pub const BURSTS_WITH_THREE_WRONG_BITS: &[u8] =
     b"n 00010000001000111010101000000001010000000011111110101000000111110111100010010111011110010100001000101110\
 10100000000101000010000010101010100000010000\n\
@@ -37,8 +37,8 @@ n 000000000011111010101010000100000010001010111010101000010100111101111000100101
 n 00000010000101010101011110111010101000000001010111011111101011110111100010010111011110011000100000010101010110\
 11101010001000010001011101111010101000\n";
 
-/// The same bursts plus, modulo 2, the seven coded bits of a single 1 followed by zeros. The sum is a codeword again, but its CRC does not
-/// hold.
+/// The bursts in `FILL_FRAME` with seven coded bits inverted: those that are 1 in the code sequence of a single 1 followed by zeros. The
+/// result is a codeword of the convolutional code, but its CRC does not hold.
 const BURSTS_WITH_SEVEN_WRONG_BITS: &[u8] =
     b"n 00000000001000111010101000000001010000000011111110101000000111110111100010010111011110010100001000101110\
 10100000000101000010000010111010100000010000\n\
@@ -264,8 +264,8 @@ fn refusal_of_cut_input(lines: usize, octets: usize) -> (usize, &'static str)
     }
 }
 
-/// Runs `replay` over the fill frame's bursts, cut off at this point. Only an empty input, and one that lacks just the last line feed,
-/// are not refused.
+/// Runs `replay` over the fill frame's bursts, cut off after `lines` lines and `octets` octets of the next line. Only an empty input, and
+/// one that lacks just the last line feed, are not refused.
 fn check_cut_replay(
     rt: &(impl Abort + AllocGlobal),
     lines: usize,

@@ -5,7 +5,7 @@ use um_text::{
     Text, access_report, block_report, frame_line, octets_line, parse_show, sync_report,
 };
 
-// The first octets of a block, the octet that fills the rest, and the text.
+// Blocks, each given by its first octets and the octet that fills the rest, and the line that `frame_line` writes for it.
 const FRAME_CASES: [([u8; 5], u8, &str); 24] = [
     (
         [0x01, 0x03, 0x01, 0x2b, 0x2b],
@@ -115,7 +115,7 @@ fn octets_are_written_as_their_frame_or_as_unread(rt: HostRuntime) {
     );
 }
 
-// Lines of frames, each with the first octets of its block; the rest is filled with 2b.
+// Lines that describe frames, each with the first octets of its block; the rest is filled with 2b.
 const LINE_CASES: [(&str, [u8; 5]); 7] = [
     (
         "frame sapi 0 cr 0 i ns 5 nr 2 p 1 m 0 info 0601",

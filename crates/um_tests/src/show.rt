@@ -6,7 +6,7 @@ use crate::outside::{
 use std::test::Fail;
 use um_cli::Status;
 
-/// The first octets of a block, the octet that fills the rest, and the line that `show` writes.
+/// Blocks, each given by its first octets and the octet that fills the rest, and the line that `show` writes for it.
 const OCTETS_AND_LINES: [(&str, &str, &str); 12] = [
     ("010301", "2b", "frame sapi 0 cr 0 ui p 0 info -"),
     ("030301", "2b", "frame sapi 0 cr 1 ui p 0 info -"),

@@ -79,7 +79,7 @@ tail_bits = 0 ∷ 0 ∷ 0 ∷ 0 ∷ []
 abbrev pub potential : ℕ → ℕ
 potential state = get_or (0 ∷ 5 ∷ 4 ∷ 4 ∷ 4 ∷ 5 ∷ 4 ∷ 3 ∷ 2 ∷ 5 ∷ 5 ∷ 4 ∷ 2 ∷ 5 ∷ 2 ∷ 3 ∷ []) state 0
 
--- a step lowers the potential by no more than the weight of its coded bits
+-- whether a step of the encoder lowers the potential by no more than the weight of its two coded bits
 abbrev is_paid : ℕ → ℕ → Bool
 is_paid state bit = nat_le (potential state)
     (first_coded_bit state bit + second_coded_bit state bit + potential (next_trellis_state state bit))
@@ -198,8 +198,8 @@ distance-cons : (x y : ℕ) (a b : List ℕ) → distance (x ∷ a) (y ∷ b) �
 distance-cons x y a b = count_by-first _ (differ_at a b) (length a) (λ k. refl)
 
 -- ## Distances: The free distance is seven. The code is linear, so the distance between two codewords is the weight of the codeword of the
--- XOR of their lists. The first one in this XOR gives two coded ones and leads to state 1, whose potential is five. The codeword of a list
--- with a single one has weight seven.
+-- XOR of their encoder inputs. The first bit 1 in this XOR gives two coded bits 1 and leads to state 1, whose potential is five. The
+-- codeword of an encoder input with a single bit 1 has weight seven.
 
 -- the distance between two bit lists is the number of ones in their XOR
 distance-xor_bits : (a b : List ℕ) → length a ≡ length b → AllBits a → AllBits b → distance a b ≡ ones (xor_bits a b)
@@ -217,7 +217,7 @@ distance-xor_bits (x ∷ a) (y ∷ b) e bits_a bits_b =
     one_place (suc zero) (suc zero) hx hy = refl
     one_place x y hx hy = absurd (omega arith)
 
--- the first difference gives two coded ones and leads to state 1, from which at least five more ones follow
+-- at the first position where u and v differ, their XOR gives two coded bits 1 and leads to state 1, from which at least five more follow
 seven_ones : (u v : List ℕ) → AllBits u → AllBits v → length u ≡ length v → u ≢ v →
     7 ≤ ones (encoding_from_state 0 (xor_bits u v ++ tail_bits))
 seven_ones [] [] bits_u bits_v e ne = absurd (ne refl)
@@ -260,7 +260,7 @@ front-tail_bits u information =
     ap (λ tail. front u ++ tail) (sym (tail_bits-from_zeros (drop (length u - 4) u) four information.tail))
     ∙ take-append-drop (length u - 4) u
 
--- the distance between two codewords is the weight of the codeword of the XOR of their lists
+-- the distance between two codewords is the weight of the codeword of the XOR of their encoder inputs
 distance-coded : (u v : List ℕ) → length u ≡ length v → AllBits u → AllBits v →
     distance (encoding u) (encoding v) ≡ ones (encoding_from_state 0 (xor_bits u v))
 distance-coded u v same bits_u bits_v =
@@ -320,7 +320,7 @@ distance-one_first m =
     ∙ ap (λ w. ones (encoding_from_state 0 (1 ∷ 0 ∷ 0 ∷ 0 ∷ 0 ∷ w))) (xor_bits-zeros m)
     ∙ omega (arith, ones-zeros m)
 
--- the codeword of a list whose only one is the first bit and the codeword of the list of zeros have distance seven
+-- the codeword of an encoder input whose only bit 1 is the first bit and the codeword of all zeros have distance seven
 pub reaches_seven : (n : ℕ) → 5 ≤ n → SomeDistanceIsSeven n
 reaches_seven (suc (suc (suc (suc (suc m))))) h =
     let n = suc (suc (suc (suc m))) in record {
@@ -335,8 +335,8 @@ reaches_seven (suc (suc (suc (suc (suc m))))) h =
 reaches_seven n h = absurd (omega arith)
 
 -- ## Restoring: Three wrong soft bits cannot outweigh a distance of seven if all soft bits have a similar strength, `min_abs` to `max_abs`.
--- Compared with any other list, the sent list gains at least 2 `min_abs` at each of at least four differences and loses at most 2 `max_abs`
--- at each of three.
+-- Compared with any other encoder input, the sent one gains at least 2 `min_abs` at each of at least four differences and loses at most 2
+-- `max_abs` at each of three.
 
 bit_metric-zero : (p : ℤ) → bit_metric p 0 ≡ p
 bit_metric-zero p = grind arith
@@ -352,18 +352,18 @@ right_or_wrong x = grind arith
 abbrev Opposite : ℤ → ℤ → ℤ → Type 0
 Opposite p a b = ((a ≡ p) × (b ≡ pos 0 -ℤ p)) ⊎ ((b ≡ p) × (a ≡ pos 0 -ℤ p))
 
--- where the lists differ and the soft bit is right, the sent list gains at least 2 `min_abs`
+-- where the coded bits differ and the soft bit is right, the sent encoder input gains at least 2 `min_abs`
 right_place : (p a b : ℤ) (min_abs max_abs : ℕ) → Between min_abs max_abs p → Opposite p a b → pos 0 <ℤ a →
     (b +ℤ pos (2 * min_abs)) ≤ℤ a
 right_place x a b _ _ between y right = grind arith
 
--- where the lists differ and the soft bit is wrong, the sent list loses at most 2 `max_abs`
+-- where the coded bits differ and the soft bit is wrong, the sent encoder input loses at most 2 `max_abs`
 wrong_place : (p a b : ℤ) (min_abs max_abs : ℕ) → Between min_abs max_abs p → Opposite p a b → a ≤ℤ pos 0 →
     b ≤ℤ (a +ℤ pos (2 * max_abs))
 wrong_place x a b _ _ between y _ = grind arith
 
--- the path metric b of the other list is smaller than a by 2 `min_abs` for each difference, minus 2 (`min_abs` + `max_abs`) for each wrong
--- soft bit
+-- the path metric b of the other encoder input is smaller than a by 2 `min_abs` for each difference, minus 2 (`min_abs` + `max_abs`) for
+-- each wrong soft bit
 abbrev IsOutweighed : ℤ → ℤ → ℕ → ℕ → ℕ → ℕ → Type 0
 IsOutweighed a b min_abs max_abs differ wrong = (b +ℤ pos (2 * (min_abs * differ))) ≤ℤ
     (a +ℤ pos (2 * ((min_abs + max_abs) * wrong)))
@@ -393,7 +393,7 @@ all_places (p ∷ s) (x ∷ c) (y ∷ d) min_abs max_abs ec ed bits_c bits_d bet
     rw (distance-cons x y c d) (omega (arith, ints, here, later))
 all_places x y z min_abs max_abs ec ed bits_c bits_d between = absurd (omega arith)
 
--- seven differences of strength at least `min_abs` outweigh three wrong soft bits
+-- if the soft bits are correctable, every other encoder input has a smaller path metric: seven differences outweigh three wrong soft bits
 less_likely : (s : List ℤ) (u v : List ℕ) → IsEncoderInput u → IsEncoderInput v → length s ≡ 2 * length u →
     length v ≡ length u → v ≢ u → IsCorrectable s (encoding u) → likelihood s (encoding v) <ℤ likelihood s (encoding u)
 less_likely s u v information_u information_v pairs same ne damage =
@@ -408,7 +408,7 @@ less_likely s u v information_u information_v pairs same ne damage =
     let lost = mul-le-mul_left (min_abs + max_abs) damage.at_most_3_wrong_bits in
     omega (arith, ints, sums, gained, lost, damage.similar_strengths)
 
--- if the soft bits are correctable, the sent list is the most likely one, and no other list ties with it
+-- if the soft bits are correctable, the sent encoder input is the most likely one, and no other ties with it
 pub restores : (soft : List ℤ) (u : List ℕ) → CorrectableIsRestored soft u
 restores soft u information pairs damage = (
   record {
@@ -419,7 +419,7 @@ restores soft u information pairs damage = (
   (λ v other same ne. less_likely soft u v information other pairs same ne damage),
 )
 
--- if the soft bits are correctable (`IsCorrectable`), the most likely list is the sent list
+-- if the soft bits are correctable (`IsCorrectable`), the most likely encoder input is the sent one
 pub restored : (soft : List ℤ) (u v : List ℕ) → IsEncoderInput u → length soft ≡ 2 * length u →
     IsCorrectable soft (encoding u) → IsMostLikely soft v → v ≡ u
 restored soft u v information pairs damage most = IsMostLikely-only soft u v (restores soft u information pairs damage).0 most

@@ -21,7 +21,7 @@ pub record IsCorrectable (soft : List ℤ) (coded : List ℕ) : Type 0 where
   pub strengths : AreLeastAndGreatestStrength soft min_abs max_abs
   pub similar_strengths : 3 * max_abs < 4 * min_abs
 
--- for given soft bits, this encoder input has a greater path metric than every other encoder input of its length
+-- for the soft bits `soft`, `word` has a greater path metric than every other encoder input of its length
 abbrev pub OthersAreLessLikely : (soft : List ℤ) (word : List ℕ) → Type 0
 OthersAreLessLikely s u =
     (v : List ℕ) → IsEncoderInput v → length v ≡ length u → v ≢ u → likelihood s (encoding v) <ℤ likelihood s (encoding u)

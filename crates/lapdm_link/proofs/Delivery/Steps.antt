@@ -1,10 +1,10 @@
--- Steps of one endpoint: what it sends and reports, in which order, and the invariant that it preserves.
+-- A step of one endpoint: what the endpoint sends and reports, in which order, and the invariant that the step preserves.
 pub use Events.*
 pub mod Events
 use Rattle.{
   lapdm_window.specs.{
-    Tables.{AcceptsDisc, AcceptsSabm, ClosesLink, ConfirmsEstablishment, Nothing, Reply, SendsDm, SendsUa, TakesI, TakesRej, TakesRr},
-    Tables.{TakesUi, outcome_of_reply, reply_to_frame},
+    Tables.{AcceptsDisc, AcceptsSabm, ClosesLink, ConfirmsEstablishment, Nothing, Reply, SendsDm, SendsUa, TakesIFrame, TakesRej, TakesRr},
+    Tables.{ReportsUiInformation, outcome_of_reply, reply_to_frame},
     declared.State.TheVariants.Open,
   },
 }
@@ -14,39 +14,39 @@ use Rattle.lapdm_window.specs.segmenting.declared.joiner.Joined.TheVariants as J
 use Rattle.lapdm_window.specs.declared.Reason.TheVariants as R
 use Rattle.lapdm_window.specs.declared.Refused.TheVariants as No
 
--- ## Keeping: The invariant of both directions between two endpoints, and how sending and receiving frames preserves it.
+-- ## Keeping: Sending and receiving frames preserves the invariant of both directions between two endpoints.
 
--- both directions between the endpoints x and y satisfy the invariant: `out` are the contents in transit from x; of those in transit from
--- y, `comes` may still bring segments and `hears` may still bring acknowledgements
+-- both directions between the endpoints x and y satisfy the invariant; the frame contents `out` are in transit from x; of those in transit
+-- from y, `comes` may still bring segments to x, and `hears` may still bring acknowledgements to x
 pub record BothHold (x y : EndpointState) (out comes hears : List Content) : Type 0 where
-  pub forward : IsDirection (all_segments x) x.acked_segments x.sent_segments y.peer_segments out hears
-  pub backward : IsDirection (all_segments y) y.acked_segments y.sent_segments x.peer_segments comes out
+  pub forward : IsDirection (segments_of_all_messages x) x.acked_segments x.sent_segments y.accepted_segments out hears
+  pub backward : IsDirection (segments_of_all_messages y) y.acked_segments y.sent_segments x.accepted_segments comes out
 
--- a relation between an endpoint, the other endpoint, and the contents in transit from each
+-- a relation between an endpoint, its peer, and the frame contents in transit from each of them
 abbrev pub Way : Type 1
 Way = EndpointState → EndpointState → List Content → List Content → Type 0
 
 abbrev pub Both : Way
 Both x y out comes = BothHold x y out comes comes
 
--- the content c has reached an endpoint with V(R) = n, which has not evaluated the N(R) of c: c may still bring a segment and an
+-- a frame with content c has reached an endpoint with V(R) = n, which has not evaluated its N(R) yet, so c may still bring a segment and an
 -- acknowledgement
 abbrev pub Arriving : Content → ℕ → Way
 Arriving c n x y out comes = (vr x ≡ n) × BothHold x y out (c ∷ comes) (c ∷ comes)
 
--- the endpoint has evaluated the N(R) of c: c may still bring a segment
+-- an endpoint with V(R) = n has evaluated the N(R) of a received frame with content c, which may still bring a segment
 abbrev pub Counted : Content → ℕ → Way
 Counted c n x y out comes = (vr x ≡ n) × BothHold x y out (c ∷ comes) comes
 
 -- the endpoint x may send this content in its present state
 abbrev pub MaySend : EndpointState → Content → Type 0
-MaySend x c = CarriesIn (all_segments x) x.sent_segments c × CountsIn (length x.peer_segments) c
+MaySend x c = CarriesIn (segments_of_all_messages x) x.sent_segments c × CountsIn (length x.accepted_segments) c
 
 may-plain : (x : EndpointState) (c : Content) → IsPlain c → MaySend x c
 may-plain x c h = grind arith
 
 pub waiting : (x : EndpointState) → HasWindowOfOne x → x.sent_segments ≡ x.acked_segments + 1 →
-    IsSegment (all_segments x) x.sent_segments (x.acked_segments % 8) (next_segment x)
+    IsSegment (segments_of_all_messages x) x.sent_segments (x.acked_segments % 8) (first_unacked_segment x)
 waiting x e one = grind arith
 
 module _ {x y : EndpointState} {out comes hears : List Content} where
@@ -59,12 +59,12 @@ module _ {x y : EndpointState} {out comes hears : List Content} where
   pub sends_plain : (cs : List Content) → AllOf IsPlain cs → BothHold x y out comes hears → BothHold x y (out ++ cs) comes hears
   sends_plain cs plain h = sends cs (of-as IsPlain _ (may-plain x) cs plain) h
 
-  -- the invariant does not depend on these fields
+  -- the invariant of both directions does not depend on the link state, SABM information, reject condition or retry count
   pub moved : (s : State) (k : Message) (b : Bool) (r : ℕ) → BothHold x y out comes hears →
       BothHold (record x { state = s; sabm_info = k; rejecting = b; retries = r }) y out comes hears
   moved s k b r h = grind arith
 
--- the invariant holds after the oldest frame is lost or ignored
+-- the invariant of both directions still holds after the oldest frame is lost or ignored
 pub gone : (o : Option Content) {x y : EndpointState} {out comes : List Content} →
     BothHold x y out (cons_option o comes) (cons_option o comes) → BothHold x y out comes comes
 gone None h = h
@@ -80,8 +80,8 @@ stage_of S.Closing = 2
 stage_of S.Closed = 3
 stage_of other = 0
 
--- what is known about an endpoint: the stage of its link, the messages sent, what its accepted segments complete, and how many of its
--- messages are acknowledged
+-- what is known about an endpoint: the stage of its link, the messages that it was asked to send, the messages that its accepted segments
+-- complete, and how many of its messages are acknowledged
 pub record Known : Type 0 where
   pub stage : ℕ
   pub messages : List Message
@@ -92,20 +92,20 @@ abbrev pub known : EndpointState → Known
 known x = record {
   stage = stage_of x.state;
   messages = x.messages;
-  ended = ended_messages [] x.peer_segments;
+  ended = messages_ending_in_segments [] x.accepted_segments;
   acked = acked_message_count x;
 }
 
 abbrev pub nothing : Known
 nothing = record { stage = 0; messages = []; ended = []; acked = 0 }
 
--- what is known after one more call, if there is one
+-- what is known about an endpoint after it gets this call, if there is a call
 abbrev pub asked : Option Call → Known → Known
 asked (Some (Sends t)) m = record m { messages = m.messages ++ t ∷ [] }
 asked (Some Closes) m = record m { stage = max 2 m.stage }
 asked call m = m
 
--- an endpoint of which m is known can report this notice next
+-- an endpoint about which m is known can report this notice next
 abbrev pub MayNotify : Option Notice → Known → Type 0
 MayNotify None m = Unit {0}
 MayNotify (Some (N.Unit t)) m = Unit {0}
@@ -122,21 +122,22 @@ notified (Some (N.Got t)) m = record m { ended = m.ended ++ Some t ∷ [] }
 notified (Some N.Oversize) m = record m { ended = m.ended ++ None ∷ [] }
 notified other m = m
 
--- the message end that a notice reports: the complete message, or `None` for an oversize one; any other notice reports no message end
+-- what a notice reports about the end of a message: the complete message, or `None` if the message is oversize; any other notice reports no
+-- end
 abbrev pub ending_in : Notice → Option (Option Message)
 ending_in (N.Got m) = Some (Some m)
 ending_in N.Oversize = Some None
 ending_in other = None
 
--- between the stages p and q of a link, o establishments and c closings can be reported
+-- while a link goes from stage p to stage q, its endpoint can report o establishments and c closings
 abbrev pub StagesAllow : ℕ → ℕ → ℕ → ℕ → Type 0
 StagesAllow p o c q = (o + min 1 p ≤ 1) × (c + min 1 (p - 2) ≤ 1) × (q ≡ 1 → p + o ≡ 1)
 
--- the calls cs and notices ns lead from the knowledge m to the knowledge k
+-- if m is known about an endpoint, then k is known about it after the calls cs and the notices ns
 abbrev LeadsTo : Known → List Call → List Notice → Known → Type 0
 LeadsTo m cs ns k = (m.messages ++ filter_map message_sent_by_call cs ≡ k.messages) × (m.ended ++ filter_map ending_in ns ≡ k.ended)
     × (length (filter_map acked_number_in_notice ns) + m.acked ≡ k.acked)
-    × StagesAllow m.stage (length (filter_map opened_info_in_notice ns)) (length (filter_map as_close_notice ns)) k.stage
+    × StagesAllow m.stage (length (filter_map establishment_info_in_notice ns)) (length (filter_map close_notice_or_none ns)) k.stage
 
 leads-asked : (c : Option Call) (m k : Known) (cs : List Call) (ns : List Notice) → LeadsTo (asked c m) cs ns k →
     LeadsTo m (cons_option c cs) ns k
@@ -153,7 +154,8 @@ leads-notified (Some (N.Got t)) m k cs ns may h = rw append_assoc at h
 leads-notified (Some N.Oversize) m k cs ns may h = rw append_assoc at h
 leads-notified other m k cs ns may h = h
 
--- below, each element of a list stands for a call, a notice or neither, and the list leads from m to k
+-- in this module, each element of a list stands for a call, a notice or neither, and `RunsTo m xs k` says that k is known after the list xs
+-- if m is known before it
 module _ {A : Type 0} (call : A → Option Call) (notice : A → Option Notice) where
   abbrev pub RunsTo : Known → List A → Known → Type 0
   RunsTo m [] k = k ≡ m
@@ -172,18 +174,19 @@ module _ {A : Type 0} (call : A → Option Call) (notice : A → Option Notice) 
   leads (x ∷ xs) m k h = leads-asked (call x) m k (filter_map call xs) (filter_map notice (x ∷ xs))
       (leads-notified _ _ k (filter_map call xs) _ h.0 (leads xs _ k h.1))
 
-  -- if the link is open at the end, it was neither closing nor closed at any earlier point
+  -- if the link is open after a list of calls and notices, it is neither closing nor closed after any of them
   before_open : (xs : List A) (m k : Known) → RunsTo m xs k → k.stage ≡ 1 → (y : A) → Contains xs y →
       (j : Known) × ((notified (notice y) (asked (call y) j)).stage ≤ 1)
   before_open [] m k h now y c = absurd (omega (arith, c.1))
   before_open (x ∷ xs) m k h now y (zero, low, is) = (m, rw (← is) (omega (arith, (leads xs _ k h.1).3.2 now)))
   before_open (x ∷ xs) m k h now y (suc i, low, is) = before_open xs _ k h.1 now y (i, omega (arith, low), is)
 
--- `RunsTo` over notices, and (below) over the lines of a log
+-- k is known after a list of notices if m is known before it, and each of these notices can be reported at its place
 abbrev pub Notifies : Known → List Notice → Known → Type 0
 Notifies = RunsTo (λ n. None) (λ n. Some n)
 
 module _ (r : Role) (s : Sapi) where
+  -- k is known after a list of log lines if m is known before it, and each notice among them can be reported at its place
   abbrev pub Runs : Known → List LogLine → Known → Type 0
   Runs = RunsTo (call_in_line r s) (notice_in_line r s)
 
@@ -209,7 +212,7 @@ module _ (r : Role) (s : Sapi) where
     is_notified = let g = leads _ _ ls _ m run in
         record { messages = g.0; got = g.1; acked = omega (arith, g.2); staged = g.3 }
 
-    -- each notice in the log can be reported at the point where it stands
+    -- if a notice is in the log, the endpoint can report it after the log lines before it
     pub at_place : (before : List LogLine) (n : Notice) → OccursAfter before (Notified r s n) ls →
         (j : Known) × Runs nothing before j × MayNotify (Some n) j
     at_place before n place =
@@ -220,8 +223,8 @@ module _ (r : Role) (s : Sapi) where
         (j : Known) × ((notified (notice_in_line r s l) (asked (call_in_line r s l) j)).stage ≤ 1)
     none_beyond = before_open _ _ ls _ m run
 
--- ## Notifying: For each rule of state Open and every frame that arrives: the notices that the endpoint can report, the frames that it can
--- send, and that the rule preserves the invariant of both directions.
+-- ## Notifying: Whatever frame arrives, each rule of state Open reports only notices that are possible, sends only frames that the endpoint
+-- may send, and preserves the invariant of both directions.
 
 -- if the content is an I frame, it carries one of the segments ps
 abbrev pub CarriesSegmentOf : List Segment → Content → Type 0
@@ -232,17 +235,17 @@ CarriesSegmentOf ps other = ⊥
 
 -- the notice reports neither a UI frame nor an establishment
 abbrev pub IsNoUnitOrOpening : Notice → Type 0
-IsNoUnitOrOpening n = (ui_message_in_notice n ≡ None) × (opened_info_in_notice n ≡ None)
+IsNoUnitOrOpening n = (ui_message_in_notice n ≡ None) × (establishment_info_in_notice n ≡ None)
 
 -- the endpoint with its window set to the initial state
 abbrev pub without_window : EndpointState → EndpointState
-without_window x = record x { acked_segments = 0; sent_segments = 0; peer_segments = []; rejecting = false; retries = 0 }
+without_window x = record x { acked_segments = 0; sent_segments = 0; accepted_segments = []; rejecting = false; retries = 0 }
 
--- all that holds of a step by the window rules of state Open: the rest of the endpoint does not change, and the relation `From` before the
--- step implies `To` after it
+-- what holds for a step by the window rules of state Open: only the window of endpoint x changes, the frames and notices are possible, and
+-- the relation `From` before the step implies the relation `To` after it
 pub record InOpen (From To : Way) (x : EndpointState) (o : Outcome) : Type 0 where
   pub others_same : without_window o.new_state ≡ without_window x
-  pub frames : AllFrames (CarriesSegmentOf (all_segments x)) x.sapi o.frames
+  pub frames : AllFrames (CarriesSegmentOf (segments_of_all_messages x)) x.sapi o.frames
   pub notifies : Notifies (known x) o.notices (known o.new_state)
   pub of_open : AllOf IsNoUnitOrOpening o.notices
   pub window_of_one : HasWindowOfOne o.new_state
@@ -261,7 +264,7 @@ in-then {From} {Mid} {To} {first} {rule} stays_first no_effect x is_now e =
     record {
       others_same = g.others_same ∙ h.others_same;
       frames = frames-append _ _ _ _ h.frames
-          (subst (λ z. AllFrames (CarriesSegmentOf (all_segments z)) z.sapi p.frames) h.others_same g.frames);
+          (subst (λ z. AllFrames (CarriesSegmentOf (segments_of_all_messages z)) z.sapi p.frames) h.others_same g.frames);
       notifies = goes-append (λ n. None) (λ n. Some n) o.notices p.notices (known x) (known o.new_state) (known p.new_state) h.notifies
           g.notifies;
       of_open = of-append IsNoUnitOrOpening o.notices p.notices h.of_open g.of_open;
@@ -274,22 +277,23 @@ in-if : {From To : Way} {x : EndpointState} {o p : Outcome} (b : Bool) → (b �
 in-if true h k = h refl
 in-if false h k = k
 
--- a content with sequence numbers that the endpoint may send in its present state
+-- the endpoint may send this content in its present state, and the content has sequence numbers
 abbrev Numbered : EndpointState → Content → Type 0
 Numbered x c = MaySend x c × (¬ IsPlain c)
 
-Numbered-carries_segment : (x : EndpointState) (c : Content) → Numbered x c → CarriesSegmentOf (all_segments x) c
+Numbered-carries_segment : (x : EndpointState) (c : Content) → Numbered x c → CarriesSegmentOf (segments_of_all_messages x) c
 Numbered-carries_segment x c h = grind arith
 
 -- a step that changes only the counts, the accepted segments, the reject condition and the retry count satisfies `InOpen`
 step_of_rule : {From To : Way} (x : EndpointState) (a s : ℕ) (ps : List Segment) (b : Bool) (r : ℕ) (fs : List Frame)
-    (ns : List Notice) → (let z = record x { acked_segments = a; sent_segments = s; peer_segments = ps; rejecting = b; retries = r } in
+    (ns : List Notice) → (let z =
+    record x { acked_segments = a; sent_segments = s; accepted_segments = ps; rejecting = b; retries = r } in
     HasWindowOfOne z →
     AllFrames (Numbered z) x.sapi fs → Notifies (known x) ns (known z) × AllOf IsNoUnitOrOpening ns →
     ((y : EndpointState) (out comes : List Content) → AllOf (MaySend z) (contents fs) → From x y out comes →
     To z y (out ++ contents fs) comes) → InOpen From To x (record { new_state = z; frames = fs; notices = ns }))
 step_of_rule x a s ps b r fs ns end frames notified keeps =
-    let z = record x { acked_segments = a; sent_segments = s; peer_segments = ps; rejecting = b; retries = r } in
+    let z = record x { acked_segments = a; sent_segments = s; accepted_segments = ps; rejecting = b; retries = r } in
     record {
       others_same = refl;
       frames = frames-as (Numbered z) _ (Numbered-carries_segment z) _ fs frames;
@@ -319,7 +323,7 @@ in-rejects_segment p x is_now e = in-if (reject_is_due p x)
 in-sends_segment : (x : EndpointState) → HasWindowOfOne x → may_send_next_segment x ≡ true → InOpen Both Both x (sends_segment x)
 in-sends_segment x e has =
     let none : x.sent_segments ≡ x.acked_segments = grind (arith, nat_tests) in
-    let left : x.sent_segments < length (all_segments x) = grind (arith, nat_tests) in
+    let left : x.sent_segments < length (segments_of_all_messages x) = grind (arith, nat_tests) in
     let window : HasWindowOfOne (with_segment_sent x) =
     record { messages = e.messages; sent_segments = omega arith; acked_at_most_sent = omega arith; window = omega arith } in
     step_of_rule x _ _ _ _ 0 _ [] window (inl refl, ((waiting (with_segment_sent x) window (omega arith), refl), λ p. p), tt) (refl, tt)
@@ -346,9 +350,10 @@ in-answers_segment true = in-then (in-sends_rr _) in-sends_next_segment
 in-answers_segment false = λ x is_now e. in-if (may_send_next_segment x) (in-sends_segment x e) (in-sends_rr _ x is_now e)
 
 one_more : (ps : List Segment) (p : Segment) →
-    ended_messages [] (ps ++ p ∷ []) ≡ ended_messages [] ps ++ (if p.1 then [] else message_if_fits (partial_message ps ++ p.0) ∷ [])
-one_more ps (octets, true) = ended_messages-more [] ps _ ∙ sym (append-nil _)
-one_more ps (octets, false) = ended_messages-last [] ps _
+    messages_ending_in_segments [] (ps ++ p ∷ []) ≡ messages_ending_in_segments [] ps ++
+    (if p.1 then [] else message_if_fits (partial_message ps ++ p.0) ∷ [])
+one_more ps (octets, true) = messages_ending_in_segments-more [] ps _ ∙ sym (append-nil _)
+one_more ps (octets, false) = messages_ending_in_segments-last [] ps _
 
 notifies-got : (k : Known) (over more : Bool) (m : Message) (es : List (Option Message)) → k.stage ≡ 1 →
     es ≡ k.ended ++ (if more then [] else (if over then None else Some m) ∷ []) →
@@ -356,9 +361,9 @@ notifies-got : (k : Known) (over more : Bool) (m : Message) (es : List (Option M
     Notifies k ns (record k { ended = es }) × AllOf IsNoUnitOrOpening ns)
 notifies-got k over more m es now e = grind (arith, append-nil)
 
--- below, the content c with N(R) = nr arrives at an endpoint with V(R) = n
+-- in this module, a frame with content c and N(R) = nr arrives at an endpoint with V(R) = n
 module _ (c : Content) (nr n : ℕ) (counts_in : (k : ℕ) → CountsIn k c → nr ≡ k % 8) where
-  -- the endpoint evaluates the N(R) of c; the next rule takes the segment of c or ignores it
+  -- in this module, the relation `Counted`, which holds when the endpoint has evaluated the N(R) of c, implies the relation `To`
   module _ {To : Way} (pass : (x y : EndpointState) (out comes : List Content) → Counted c n x y out comes → To x y out comes) where
     module _ (x : EndpointState) (is_now : x.state ≡ Open) (e : HasWindowOfOne x) (one : x.sent_segments ≡ x.acked_segments + 1)
         (same : nr ≡ x.sent_segments % 8)
@@ -368,12 +373,13 @@ module _ (c : Content) (nr n : ℕ) (counts_in : (k : ℕ) → CountsIn k c → 
         after_ack y out comes h = pass (with_segment_acked x) y (out ++ []) comes
             (h.0, sends [] tt (record { forward = number_in c nr counts_in (omega arith) same h.1.forward; backward = h.1.backward }))
 
-        reports-acked : (more : Bool) → (next_segment x).1 ≡ more → InOpen (Arriving c n) To x (acks_outstanding_segment more x)
+        reports-acked : (more : Bool) → (first_unacked_segment x).1 ≡ more → InOpen (Arriving c n) To x (marks_segment_acked more x)
         reports-acked true is = step_of_rule x _ _ _ _ 0 [] [] (HasWindowOfOne-acked x e) tt
             (cc (acked_message_count-more x one (omega (arith, e.sent_segments)) is), tt) (λ y out comes may. after_ack y out comes)
         reports-acked false is =
             let last = acked_message_count-last x one (omega (arith, e.sent_segments)) is in
-            step_of_rule x x.sent_segments x.sent_segments x.peer_segments x.rejecting 0 [] (Acked (acked_message_number x) ∷ [])
+            step_of_rule x x.sent_segments x.sent_segments x.accepted_segments x.rejecting 0 []
+            (Acked (acked_message_number x) ∷ [])
             (HasWindowOfOne-acked x e) tt (
               (
                 (ap stage_of is_now, ap capped_at_64_bits last, omega (arith, last, acked_message_count-most (with_segment_acked x))),
@@ -383,7 +389,7 @@ module _ (c : Content) (nr n : ℕ) (counts_in : (k : ℕ) → CountsIn k c → 
             ) (λ y out comes may. after_ack y out comes)
 
     in-evaluates_nr : Stays (Arriving c n) To (evaluates_nr nr)
-    in-evaluates_nr x is_now e = in-if (nr_acknowledges nr x)
+    in-evaluates_nr x is_now e = in-if (nr_acknowledges_segment nr x)
         (λ acks. reports-acked x is_now e (awaits_ack-one_sent x e (grind (arith, nat_tests))) (grind (arith, nat_tests)) _ refl)
         (step_of_rule x _ _ _ _ _ [] [] e tt (refl, tt) (λ y out comes may h.
         pass x y _ _ (h.0, sends [] tt (record { forward = number_gone h.1.forward; backward = h.1.backward }))))
@@ -391,11 +397,12 @@ module _ (c : Content) (nr n : ℕ) (counts_in : (k : ℕ) → CountsIn k c → 
   evaluates_arriving_nr : Stays (Arriving c n) Both (evaluates_nr nr)
   evaluates_arriving_nr = in-evaluates_nr (λ x y out comes h. record { forward = h.1.forward; backward = segment_gone h.1.backward })
 
-  in-accepts_segment : (p : Segment) → ((y : EndpointState) (k : ℕ) → CarriesIn (all_segments y) k c →
-      IsSegment (all_segments y) k n p) → Stays (Counted c n) Both (accepts_segment p)
+  in-accepts_segment : (p : Segment) → ((y : EndpointState) (k : ℕ) → CarriesIn (segments_of_all_messages y) k c →
+      IsSegment (segments_of_all_messages y) k n p) → Stays (Counted c n) Both (accepts_segment p)
   in-accepts_segment p carries x is_now e =
-      let m = partial_message x.peer_segments ++ p.0 in
-      step_of_rule x _ _ _ _ _ [] _ (grind arith) tt (notifies-got _ _ p.1 m _ (ap stage_of is_now) (one_more x.peer_segments p))
+      let m = partial_message x.accepted_segments ++ p.0 in
+      step_of_rule x _ _ _ _ _ [] _ (grind arith) tt
+      (notifies-got _ _ p.1 m _ (ap stage_of is_now) (one_more x.accepted_segments p))
       (λ y out comes may h. sends [] tt (record { forward = h.1.forward; backward = segment_in c n p (carries y) (sym h.0) h.1.backward }))
 
   in-takes_rr : (poll : Bool) → Stays (Arriving c n) Both (takes_rr nr poll)
@@ -405,7 +412,8 @@ module _ (c : Content) (nr n : ℕ) (counts_in : (k : ℕ) → CountsIn k c → 
   in-takes_rej poll = in-then (in-then evaluates_arriving_nr (in-answers_poll _)) in-resends_outstanding_segment
 
 in-takes_i_frame : (c : Content) (nr ns : ℕ) (p : Bool) (segment : Segment) → ((k : ℕ) → CountsIn k c → nr ≡ k % 8) →
-    ((y : EndpointState) (k : ℕ) → CarriesIn (all_segments y) k c → IsSegment (all_segments y) k ns segment) →
+    ((y : EndpointState) (k : ℕ) → CarriesIn (segments_of_all_messages y) k c →
+    IsSegment (segments_of_all_messages y) k ns segment) →
     (x : EndpointState) → x.state ≡ Open → HasWindowOfOne x → InOpen (Arriving c (vr x)) Both x (takes_i_frame ns nr p segment x)
 in-takes_i_frame c nr ns p segment counts_in carries x is_now e = in-if (nat_eq ns (vr x))
     (λ next. (let same : ns ≡ vr x = grind (arith, nat_tests) in
@@ -413,22 +421,22 @@ in-takes_i_frame c nr ns p segment counts_in carries x is_now e = in-if (nat_eq 
     (in-accepts_segment c nr _ counts_in _ (rw same at carries))) (in-answers_segment p) x is_now e))
     (in-then (in-then (evaluates_arriving_nr c nr _ counts_in) (in-rejects_segment p)) in-sends_next_segment x is_now e)
 
--- ## Acting: What one step of an endpoint does, on a call or on any received frame: which frames it sends, which notices it reports, how
--- its state changes, and that the invariant `BothHold` of both directions is preserved.
+-- ## Acting: What one step of an endpoint does after a call or a received frame: which frames it sends, which notices it reports, and how
+-- its state changes. Each step preserves the invariant `BothHold` of both directions.
 
--- what an endpoint may send in a step from x to z: an I frame with one of its segments, a SABM with the kept information, a UI frame for a
--- call, or a UA that is empty or has the information of the open link
+-- what an endpoint may send in a step from state x to state z: an I frame with one of its segments, a SABM with the SABM information that
+-- it keeps, a UI frame for a call, or a UA that is empty or has the information of the open link
 abbrev pub Says : Option Call → EndpointState → EndpointState → Content → Type 0
-Says call x z (I ns nr p more info) = CarriesSegmentOf (all_segments z) (I ns nr p more info)
+Says call x z (I ns nr p more info) = CarriesSegmentOf (segments_of_all_messages z) (I ns nr p more info)
 Says call x z (Sabm p info) = (z.state ≡ Opening) × (z.sabm_info ≡ info)
-Says call x z (Ui p info) = (call ≡ Some (SendsUi info)) ⊎ ((call ≡ Some SendsFill) × (info ≡ []))
+Says call x z (Ui p info) = (call ≡ Some (SendsUi info)) ⊎ ((call ≡ Some SendsFillFrame) × (info ≡ []))
 Says call x z (Ua f info) = ((z.state ≡ Open) × (z.sabm_info ≡ info)) ⊎ ((info ≡ []) × HasBegun x)
 Says call x z other = information other ≡ []
 
 abbrev pub SaysPlain : Option Call → EndpointState → EndpointState → Content → Type 0
 SaysPlain call x z c = IsPlain c × Says call x z c
 
--- the call establishes the link with this information
+-- the call asks the endpoint to establish the link with a SABM that has this information
 abbrev pub IsOpening : Option Call → Message → Type 0
 IsOpening (Some (Opens info)) k = (k ≡ info) × (1 ≤ length k)
 IsOpening (Some OpensWithoutInfo) k = k ≡ []
@@ -442,13 +450,15 @@ OpensBy other x info = ⊥
 -- the five ways in which a step may change the state of the link: it stays as it is, becomes Closed, becomes Closing, becomes Opening, or
 -- becomes Open
 pub data Goes (call : Option Call) (c : Content) (x : EndpointState) (o : Outcome) : Type 0 where
-  remains : o.new_state.state ≡ x.state → o.new_state.sabm_info ≡ x.sabm_info → filter_map opened_info_in_notice o.notices
+  remains : o.new_state.state ≡ x.state → o.new_state.sabm_info ≡ x.sabm_info → filter_map establishment_info_in_notice o.notices
       ≡ [] → Goes call c x o
-  ends : o.new_state.state ≡ Closed → o.new_state.sabm_info ≡ x.sabm_info → filter_map opened_info_in_notice o.notices ≡ [] →
+  ends : o.new_state.state ≡ Closed → o.new_state.sabm_info ≡ x.sabm_info →
+      filter_map establishment_info_in_notice o.notices ≡ [] →
       Goes call c x o
   closes : x.state ≡ Open → o.new_state.state ≡ Closing → o.new_state.sabm_info ≡ x.sabm_info →
-      filter_map opened_info_in_notice o.notices ≡ [] → Goes call c x o
-  begins : o.new_state.state ≡ Opening → IsOpening call o.new_state.sabm_info → filter_map opened_info_in_notice o.notices ≡ [] →
+      filter_map establishment_info_in_notice o.notices ≡ [] → Goes call c x o
+  begins : o.new_state.state ≡ Opening → IsOpening call o.new_state.sabm_info →
+      filter_map establishment_info_in_notice o.notices ≡ [] →
       Goes call c x o
   opens : {info : Message} → o.notices ≡ N.Opened info ∷ [] → o.new_state.state ≡ Open → o.new_state.sabm_info ≡ info →
       OpensBy c x info → Goes call c x o
@@ -458,12 +468,13 @@ abbrev pub unit_in : Content → Option Message
 unit_in (Ui p m) = Some m
 unit_in other = None
 
--- the notices report either no message of a UI frame, or exactly the message of this frame
+-- the notices deliver either no message from a UI frame, or exactly the message of the UI frame received
 abbrev pub ReportsUnit : Content → List Notice → Type 0
 ReportsUnit c ns = (filter_map ui_message_in_notice ns ≡ [])
-    ⊎ (filter_map ui_message_in_notice ns ≡ filter_map unit_in (cons_option (content_of c) []))
+    ⊎ (filter_map ui_message_in_notice ns ≡ filter_map unit_in (cons_option (content_of_body c) []))
 
--- all that holds of one step of an endpoint, caused by a call (then c is a fill frame) or by the received frame c
+-- the facts about a step of endpoint x with outcome o, caused by a call (then c is the content of a fill frame) or by a received frame with
+-- content c
 pub record StepFacts (call : Option Call) (c : Content) (x : EndpointState) (o : Outcome) : Type 0 where
   pub link : IsSameEndpoint x o.new_state
   pub window_of_one : HasWindowOfOne o.new_state
@@ -473,8 +484,8 @@ pub record StepFacts (call : Option Call) (c : Content) (x : EndpointState) (o :
   pub ui_in_order : filter_map unit_in (contents o.frames) ≡ filter_map ui_message_of_call (cons_option call [])
   pub reports : ReportsUnit c o.notices
   pub goes : Goes call c x o
-  pub arrives : (y : EndpointState) (out comes : List Content) → BothHold x y out (cons_option (content_of c) comes)
-      (cons_option (content_of c) comes) → Both o.new_state y (out ++ contents o.frames) comes
+  pub arrives : (y : EndpointState) (out comes : List Content) → BothHold x y out (cons_option (content_of_body c) comes)
+      (cons_option (content_of_body c) comes) → Both o.new_state y (out ++ contents o.frames) comes
 
 abbrev pub IsTaken : Content → EndpointState → Outcome → Type 0
 IsTaken = StepFacts None
@@ -482,7 +493,7 @@ IsTaken = StepFacts None
 abbrev pub IsCalled : EndpointState → Call → Outcome → Type 0
 IsCalled x call o = StepFacts (Some call) (Ui false []) x o
 
-well-said : (call : Option Call) (x z : EndpointState) (ps : List Segment) → all_segments z ≡ ps → (c : Content) →
+well-said : (call : Option Call) (x z : EndpointState) (ps : List Segment) → segments_of_all_messages z ≡ ps → (c : Content) →
     CarriesSegmentOf ps c → Says call x z c
 well-said call x z ps c h g = grind arith
 
@@ -493,15 +504,15 @@ none-of : {A B : Type 0} (f : A → Option B) (xs : List A) → AllOf (λ x. f x
 none-of f [] h = refl
 none-of f (x ∷ xs) h = rw (h.0, none-of f xs h.1) refl
 
--- a step that follows the window rules of state Open, with `ts` as the messages taken so far, satisfies `StepFacts`
+-- a step by the window rules of state Open satisfies `StepFacts`; `ts` are all messages that layer 3 has passed to the endpoint
 step_in_open : {From : Way} (call : Option Call) (c : Content) (x : EndpointState) (ts : List Message) (o : Outcome) →
     (let mid = record x { messages = ts } in InOpen From Both mid o →
-    ((y : EndpointState) (out comes : List Content) → BothHold x y out (cons_option (content_of c) comes)
-    (cons_option (content_of c) comes) →
+    ((y : EndpointState) (out comes : List Content) → BothHold x y out (cons_option (content_of_body c) comes)
+    (cons_option (content_of_body c) comes) →
     From mid y out comes) → ts ≡ x.messages ++ filter_map message_sent_by_call (cons_option call []) →
     known mid ≡ asked call (known x) → filter_map ui_message_of_call (cons_option call []) ≡ [] → StepFacts call c x o)
 step_in_open call c x ts o h from takes notified none =
-    let ps = all_segments (record x { messages = ts }) in
+    let ps = segments_of_all_messages (record x { messages = ts }) in
     record {
       link = record {
         role = ap (λ z. z.role) h.others_same;
@@ -511,12 +522,12 @@ step_in_open call c x ts o h from takes notified none =
       window_of_one = h.window_of_one;
       messages = ap (λ z. z.messages) h.others_same ∙ takes;
       notifies = rw notified at h.notifies;
-      frames = frames-as (CarriesSegmentOf ps) _ (well-said call x o.new_state ps (ap all_segments h.others_same)) _ _ h.frames;
+      frames = frames-as (CarriesSegmentOf ps) _ (well-said call x o.new_state ps (ap segments_of_all_messages h.others_same)) _ _ h.frames;
       ui_in_order = none-of unit_in _ (frames-say (CarriesSegmentOf ps) (λ c. unit_in c ≡ None) (well-no_unit ps) x.sapi o.frames
           h.frames) ∙ sym none;
       reports = inl (none-of ui_message_in_notice _ (of-as IsNoUnitOrOpening _ (λ n m. m.0) o.notices h.of_open));
       goes = remains (ap (λ z. z.state) h.others_same) (ap (λ z. z.sabm_info) h.others_same)
-          (none-of opened_info_in_notice _ (of-as IsNoUnitOrOpening _ (λ n m. m.1) o.notices h.of_open));
+          (none-of establishment_info_in_notice _ (of-as IsNoUnitOrOpening _ (λ n m. m.1) o.notices h.of_open));
       arrives = λ y out comes k. h.keeps y out _ (from y out _ k);
     }
 
@@ -540,17 +551,17 @@ plain_step call c x w s k r fs ns says notifies goes reports none ui_in_order =
       reports = reports;
       goes = goes;
       arrives = λ y out comes h. sends_plain _ (frames-say (SaysPlain call x z) IsPlain (λ d m. m.0) x.sapi fs says)
-          (moved s k x.rejecting r (gone (content_of c) h));
+          (moved s k x.rejecting r (gone (content_of_body c) h));
     }
 
--- ## Taking: Every received frame, of whatever kind, satisfies `StepFacts`.
+-- ## Taking: The step of an endpoint that receives a frame, of whatever kind, satisfies `StepFacts`.
 
--- an endpoint sends no UI frame in answer to a frame
+-- an endpoint that receives a frame sends no UI frame in response
 no_unit : (x z : EndpointState) (c : Content) → SaysPlain None x z c → unit_in c ≡ None
 no_unit x z c h = grind arith
 
 module _ (x : EndpointState) (w : HasWindowOfOne x) where
-  rule : {o : Outcome} (c : Content) → content_of c ≡ Some c → InOpen (Arriving c (vr x)) Both x o → IsTaken c x o
+  rule : {o : Outcome} (c : Content) → content_of_body c ≡ Some c → InOpen (Arriving c (vr x)) Both x o → IsTaken c x o
   rule {o} c is h = step_in_open _ c x _ o h (λ y out comes k. (refl, rw is at k)) (sym (append-nil _)) refl refl
 
   IsTaken-state : {c : Content} (s : State) (k : Message) (fs : List Frame) (ns : List Notice) →
@@ -587,9 +598,10 @@ module _ (x : EndpointState) (w : HasWindowOfOne x) where
       (rw cause.0 (refl, cause.1, cause.2))
   taken-reply (ClosesLink reason) c cause = over [] (HasBegun-stage cause) tt
   taken-reply AcceptsDisc c cause = over _ (rw cause (omega arith)) (inl refl, (tt, inr (refl, inr (inl cause))), tt)
-  taken-reply (TakesUi []) c cause = absurd (omega (arith, cause.2))
-  taken-reply (TakesUi (i ∷ is)) c cause = rw cause.1 (IsTaken-state _ _ [] _ tt (tt, refl) (remains refl refl refl) (inr refl))
-  taken-reply (TakesI ns nr p segment) c cause =
+  taken-reply (ReportsUiInformation []) c cause = absurd (omega (arith, cause.2))
+  taken-reply (ReportsUiInformation (i ∷ is)) c cause =
+      rw cause.1 (IsTaken-state _ _ [] _ tt (tt, refl) (remains refl refl refl) (inr refl))
+  taken-reply (TakesIFrame ns nr p segment) c cause =
       rw cause.0 (rule _ refl (in-takes_i_frame _ nr ns p _ (λ k e. e) (λ y k e. e) x cause.1 w))
   taken-reply (TakesRr nr poll) c cause = rw cause.1 (rule _ refl (in-takes_rr _ nr _ (λ k e. e) _ x cause.2 w))
   taken-reply (TakesRej nr poll) c cause = rw cause.1 (rule _ refl (in-takes_rej _ nr _ (λ k e. e) _ x cause.2 w))
@@ -597,17 +609,17 @@ module _ (x : EndpointState) (w : HasWindowOfOne x) where
   pub taken-frame : (f : Frame) → IsTaken f.content x (frame_outcome f x)
   taken-frame f = taken-reply (reply_to_frame f x) _ (cause_of x f)
 
--- ## Asked: Every call that is not refused satisfies `StepFacts`.
+-- ## Asked: The step of an endpoint that accepts a call satisfies `StepFacts`.
 
 taken-both : (m : Message) {x y : EndpointState} {out comes hears : List Content} → BothHold x y out comes hears →
     BothHold (with_queued_message m x) y out comes hears
-taken-both m {x} h = record { forward = rw (all_segments-push x m) (more_segments _ h.forward); backward = h.backward }
+taken-both m {x} h = record { forward = rw (segments_of_all_messages-push x m) (more_segments _ h.forward); backward = h.backward }
 
 module _ (x : EndpointState) (w : HasWindowOfOne x) where
   unopened : x.state ≡ S.Idle → record (known x) { stage = 0 } ≡ known x
   unopened is_now = grind arith
 
-  -- T200 expiry satisfies `StepFacts`
+  -- the step in which an endpoint repeats a frame at T200 expiry satisfies `StepFacts`
   IsCalled-retransmits : (s : State) → x.state ≡ s → awaits_answer_in_state s (awaits_ack x) ≡ true →
       IsCalled x T200Expires (sends_frame (frame_to_retransmit s x) (record x { retries = x.retries + 1 }))
   IsCalled-retransmits S.Opening e due =
@@ -628,7 +640,7 @@ module _ (x : EndpointState) (w : HasWindowOfOne x) where
 
   pub is_called : (call : Call) → refusal_of call x ≡ None → IsCalled x call (call_outcome call x)
   is_called (Opens info) ok =
-      let idle = passes (not (is_idle x.state)) No.NotIdle (frame_refusals info x) ok in
+      let idle = passes (not (is_idle x.state)) No.NotIdle (single_frame_refusal_checks info x) ok in
       let full : nat_eq (length info) 0 ≡ false = (passes _ _ _ idle.others_allow).not_refused in
       let is_now = is_idle-is x.state (not_false _ idle.not_refused) in
       plain_step _ _ x w _ _ 0 _ [] (inl refl, (tt, (refl, refl)), tt) (unopened is_now)
@@ -637,7 +649,7 @@ module _ (x : EndpointState) (w : HasWindowOfOne x) where
       let is_now = is_idle-is x.state (not_false _ (passes _ _ [] ok).not_refused) in
       plain_step _ _ x w _ [] 0 _ [] (inl refl, (tt, (refl, refl)), tt) (unopened is_now) (begins refl refl refl) (inl refl) refl refl
   is_called (Sends m) ok =
-      let now = passes (not (is_open x.state)) No.NotOpen (message_refusals m x) ok in
+      let now = passes (not (is_open x.state)) No.NotOpen (message_refusal_checks m x) ok in
       let is_now = is_open-is x.state (not_false _ now.not_refused) in
       step_in_open _ _ x _ _
       (in-sends_next_segment _ is_now (HasWindowOfOne-push x m w (is_valid_message m x now.others_allow)))
@@ -650,14 +662,14 @@ module _ (x : EndpointState) (w : HasWindowOfOne x) where
       let is_now = is_open-is _ (not_false _ (passes _ _ [] ok).not_refused) in
       plain_step _ _ x w _ _ 0 _ [] (inl refl, (tt, refl), tt) (rw is_now refl) (closes is_now refl refl refl) (inl refl) refl refl
   is_called T200Expires ok = t200_expiry (nat_lt x.retries (n200 x.channel x.state)) (not_false _ (passes _ _ [] ok).not_refused)
-  is_called SendsFill ok = plain_step _ _ x w _ _ _ _ [] (inr refl, (tt, inr (refl, refl)), tt) refl
+  is_called SendsFillFrame ok = plain_step _ _ x w _ _ _ _ [] (inr refl, (tt, inr (refl, refl)), tt) refl
       (remains refl refl refl) (inl refl) refl refl
 
--- ## Order: The claims about order, whatever frames arrive: every notice is possible after the log lines before it.
+-- ## Order: The claims about order hold whatever frames arrive, because every notice is possible after the log lines before it.
 
--- ---- properties of each line given the lines before it
+-- ---- properties of a log line that depend on the lines before it
 
--- each of the lines, together with the lines before it, satisfies `May`
+-- each of the log lines, together with the lines before it, satisfies `May`
 abbrev pub AllOccur : (List LogLine → LogLine → Type 0) → List LogLine → List LogLine → Type 0
 AllOccur May before [] = Unit {0}
 AllOccur May before (l ∷ ls) = May before l × AllOccur May (before ++ l ∷ []) ls
@@ -703,7 +715,7 @@ module _ {r : Role} {s : Sapi} {e : EndpointState} {ls : List LogLine} (h : IsRe
   IsReported-unseen : (new : List LogLine) → Runs r s (known e) new (known e) → IsReported r s e (ls ++ new)
   IsReported-unseen new run = goes_on e new (record { role = refl; sapi = refl; channel = refl }) h.window_of_one run
 
-  -- the claims of `HasNoticesInOrder` for one endpoint: each notice is possible at its place in the log
+  -- each acknowledgement in the log has the next number in order, and its message was sent before
   acknowledged : (n : ℕ) (before : List LogLine) → OccursAfter before (Notified r s (N.Acked n)) ls →
       (n ≡ capped_at_64_bits (length (acked_message_numbers r s before) + 1))
       × (length (acked_message_numbers r s before) + 1 ≤ length (sent_messages r s before))
@@ -746,7 +758,7 @@ in_order-step w ls event h = by_kind w (λ z new. AllReported z (ls ++ new)) (λ
     AllReported-acts w ls h r s (call ∷ []) (call_outcome call (end_of r s w)) c.link c.window_of_one
     (rw (is_end-self r s) (tt, runs-notified r s _ _ _ c.notifies)))) (λ r s f on known.
     (let t = taken-frame (end_of r s w) (h r s).window_of_one f in
-    AllReported-acts (without_first (other r) w) ls h r s [] (frame_outcome f (end_of r s w)) t.link t.window_of_one
+    AllReported-acts (without_oldest_item (other r) w) ls h r s [] (frame_outcome f (end_of r s w)) t.link t.window_of_one
     (runs-notified r s _ _ _ t.notifies)))
     (λ sender. rw append-nil h) (λ info ok r s. IsReported-unseen (h r s) _ (tt, refl)) event (KnowsBy-any_frame (refusal event w) event)
 

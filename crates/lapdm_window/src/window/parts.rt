@@ -4,7 +4,7 @@ ghost use Rattle.std.specs.Prelude.{◌≡◌, ◌↔◌, ◌⊎◌, ◌+◌, �
 ghost use Rattle.std.specs.Prelude.{slice_index_or, [], All, IsTrue};
 ghost use Rattle.segmenting.specs.lapdm_frame.Layout.{n201};
 ghost use Rattle.segmenting.specs.Segments.{IsValidMessage, number_of_segments, max_message_octets, max_segments_per_message};
-ghost use Rattle.segmenting.specs.Buffers.{octets_in};
+ghost use Rattle.segmenting.specs.Buffers.{octets_in_buffer};
 ghost use Rattle.lapdm_window.specs.Ends.{EndpointState};
 ghost use Rattle.lapdm_window.specs.Parts.{values_of, values_of_parts, ValuesRepresent, SomeWindowHasValues, AreValidHeldMessages};
 ghost use Rattle.lapdm_window.specs.Parts.{AreConsistent};
@@ -19,7 +19,7 @@ pub struct LapdmWindowView<'a> {
     pub channel: Channel,
     /// The messages that are not fully acknowledged, in the order in which layer 3 sent them.
     pub held: &'a [MessageBuffer],
-    /// The index, within the first held message, of the outstanding segment or, if none is outstanding, of the next segment.
+    /// The index of the outstanding segment in the first held message or, if none is outstanding, the index of the next segment to send.
     pub segment_index: usize,
     pub vs: u8,
     pub va: u8,
@@ -30,19 +30,19 @@ pub struct LapdmWindowView<'a> {
     pub rejecting: bool,
     /// How many times the outstanding segment has been repeated.
     pub retries: u8,
-    /// The octets that the reassembly holds.
+    /// The octets held for reassembly; `part` says which part of a message they form.
     pub reassembly: &'a [u8],
-    /// The part of a message that the reassembly holds.
+    /// The part of a message that the octets in `reassembly` form.
     pub part: ReassemblyState,
 }
 
 impl LapdmWindowView<'_> {
-    // Returns whether some window that represents an endpoint has this state.
+    // Returns whether a window that represents an endpoint can have this state.
     fn are_consistent(&self) -> bool
         ensures consistent { IsTrue result ↔ AreConsistent (values_of_parts self.now) }
         ensures counted { self.now.acked_messages < 2 ^ 64 }
     {
-        // The prover needs this binding to know the range of `done`.
+        // The prover needs this binding to know that `done` is less than 2^64.
         let done = self.acked_messages;
         if !are_valid_held_messages(self.held)
             || self.segment_index >= first_message_segment_count(self.held, self.channel)
@@ -63,13 +63,13 @@ impl LapdmWindowView<'_> {
 
 fn is_window_of_one(vs: u8, va: u8, held_messages: &[MessageBuffer]) -> bool
     ensures { IsTrue result ↔ ((vs ≡ va)
-        ⊎ ((vs ≡ (va + 1) % 8) × (1 ≤ length (map octets_in held_messages.now)))) }
+        ⊎ ((vs ≡ (va + 1) % 8) × (1 ≤ length (map octets_in_buffer held_messages.now)))) }
 {
     vs == va || (vs == (va % 8 + 1) % 8 && !held_messages.is_empty())
 }
 
 fn are_valid_held_messages(messages: &[MessageBuffer]) -> bool
-    ensures { IsTrue result ↔ AreValidHeldMessages (map octets_in messages.now) }
+    ensures { IsTrue result ↔ AreValidHeldMessages (map octets_in_buffer messages.now) }
 {
     if messages.len() > 8 {
         return false;
@@ -78,13 +78,13 @@ fn are_valid_held_messages(messages: &[MessageBuffer]) -> bool
 }
 
 fn are_valid_messages(messages: &[MessageBuffer]) -> bool
-    ensures { IsTrue result ↔ All (λ message. IsValidMessage (octets_in message)) messages.now }
+    ensures { IsTrue result ↔ All (λ message. IsValidMessage (octets_in_buffer message)) messages.now }
 {
     messages.iter().all(|message| is_valid_message(message))
 }
 
 fn is_valid_message(message: &MessageBuffer) -> bool
-    ensures { IsTrue result ↔ IsValidMessage (octets_in message.now) }
+    ensures { IsTrue result ↔ IsValidMessage (octets_in_buffer message.now) }
 {
     let octets = message.octets();
     !octets.is_empty() && octets.len() <= LONGEST_MESSAGE
@@ -92,7 +92,7 @@ fn is_valid_message(message: &MessageBuffer) -> bool
 
 // Returns the number of segments of the first message, or 1 if there is no message.
 fn first_message_segment_count(held_messages: &[MessageBuffer], channel: Channel) -> usize
-    ensures { result ≡ number_of_segments (n201 channel) (slice_index_or (map octets_in held_messages.now) 0 []) }
+    ensures { result ≡ number_of_segments (n201 channel) (slice_index_or (map octets_in_buffer held_messages.now) 0 []) }
 {
     match held_messages.first() {
         Some(message) => segment_count(message.octets(), channel),

@@ -9,7 +9,7 @@ use super::{Joiner, ReassemblyState};
 use crate::LONGEST_MESSAGE;
 
 impl Joiner {
-    /// Returns the octets that the joiner holds.
+    /// Returns the octets that the `Joiner` holds for reassembly.
     pub fn octets(&self) -> &[u8]
         ensures value { result.now ≡ (values_of self.now).octets }
         ensures most { length result.now ≤ max_message_octets }
@@ -17,7 +17,7 @@ impl Joiner {
         &self.octets[..self.len]
     }
 
-    /// Returns the part of a message that the joiner holds.
+    /// Returns which part of a message the `Joiner` holds.
     pub fn part(&self) -> ReassemblyState
         ensures { result ≡ (values_of self.now).part }
     {
@@ -35,7 +35,7 @@ impl Joiner {
         // At least one list of segments leads a joiner to this state.
         ensures taken { IsTrue result → (taken : List Segment) × HasTakenSegments self.new taken }
     {
-        if octets.len() > LONGEST_MESSAGE || !is_empty_if_oversize(octets, part) {
+        if octets.len() > LONGEST_MESSAGE || !is_empty_if_discarding(octets, part) {
             return false;
         }
         let len = octets.len();
@@ -48,7 +48,7 @@ impl Joiner {
 }
 
 // Returns whether a joiner in this state may hold these octets: while it discards an oversize message, it holds none.
-fn is_empty_if_oversize(octets: &[u8], reassembly: ReassemblyState) -> bool
+fn is_empty_if_discarding(octets: &[u8], reassembly: ReassemblyState) -> bool
     ensures { IsTrue result ↔ (reassembly ≡ ReassemblyState.Discarding → octets.now ≡ []) }
 {
     match reassembly {

@@ -5,7 +5,7 @@ pub use Rattle.{
   conv_code.{proofs.Lemmas.{AllBits-coded, length-coded}, specs.Code.{IsEncoderInput, encoding}},
   fire_code.{
     proofs.Lemmas.{one_rach_crc, one_sch_crc, one_xcch_crc, some_rach_crc, some_sch_crc, some_xcch_crc},
-    specs.Words.{IsRachWord, IsSchWord, IsXcchWord},
+    specs.Words.{IsRachCodeword, IsSchCodeword, IsXcchCodeword},
   },
   std.{
     proofs.{
@@ -51,42 +51,46 @@ module _ (IsWord : List ℕ → Type 0) (n k : ℕ) (some : 0 < k) (long : (w : 
       let word = d ++ h.crc in
       let tail = replicate 4 0 in
       let count = long word h.word in
-      let front : take n u ≡ word = ap (take n) h.is_with_tail ∙ take_at _ tail n count in
+      let front : take n u ≡ word = ap (take n) h.has_tail_bits_appended ∙ take_at _ tail n count in
       record {
-        information = rw h.is_with_tail (IsEncoderInput-tail word (omega (arith, length-append d h.crc)) (bits word h.word));
-        count = ap length h.is_with_tail ∙ length-append word tail ∙ ap (λ m. m + 4) count;
+        information = rw h.has_tail_bits_appended (IsEncoderInput-tail word (omega (arith, length-append d h.crc)) (bits word h.word));
+        count = ap length h.has_tail_bits_appended ∙ length-append word tail ∙ ap (λ m. m + 4) count;
         word = rw front h.word;
-        front = ap (take k) (h.is_with_tail ∙ append_assoc d h.crc tail) ∙ take_at d (h.crc ++ tail) k e;
+        front = ap (take k) (h.has_tail_bits_appended ∙ append_assoc d h.crc tail) ∙ take_at d (h.crc ++ tail) k e;
       }
 
-pub rach_carried : (b u d : List ℕ) → length d ≡ 8 → CarriesDataAndCrc (λ w. IsRachWord w b) u d → Carried (λ w. IsRachWord w b) 14 8 u d
+pub rach_carried : (b u d : List ℕ) → length d ≡ 8 → CarriesDataAndCrc (λ w. IsRachCodeword w b) u d →
+    Carried (λ w. IsRachCodeword w b) 14 8 u d
 rach_carried b = carried _ 14 8 (lit< tt) (λ w h. h.count) (λ w h. h.bits)
 
-pub sch_carried : (u d : List ℕ) → length d ≡ 25 → CarriesDataAndCrc IsSchWord u d → Carried IsSchWord 35 25 u d
+pub sch_carried : (u d : List ℕ) → length d ≡ 25 → CarriesDataAndCrc IsSchCodeword u d → Carried IsSchCodeword 35 25 u d
 sch_carried = carried _ 35 25 (lit< tt) (λ w h. h.count) (λ w h. h.bits)
 
 -- the encoder input of given information bits is unique
 one_list : (IsWord : List ℕ → Type 0) (u u' d : List ℕ) →
-    ((p p' : List ℕ) → IsWord (d ++ p) → IsWord (d ++ p') → p ≡ p') → CarriesDataAndCrc IsWord u d → CarriesDataAndCrc IsWord u' d → u ≡ u'
+    ((p p' : List ℕ) → IsWord (d ++ p) → IsWord (d ++ p') → p ≡ p') → CarriesDataAndCrc IsWord u d →
+    CarriesDataAndCrc IsWord u' d → u ≡ u'
 one_list IsWord u u' d one h g = cc (one h.crc g.crc h.word g.word)
 
 -- information bits with their CRC and tail are an encoder input that carries them
 pub carries : (IsWord : List ℕ → Type 0) (d p : List ℕ) → IsWord (d ++ p) → CarriesDataAndCrc IsWord (with_tail (d ++ p)) d
-carries IsWord d p word = record { crc = p; word = word; is_with_tail = refl }
+carries IsWord d p word = record { crc = p; word = word; has_tail_bits_appended = refl }
 
 length-block : (octets : List ℕ) → length octets ≡ 23 → length (bits_of octets) ≡ 184
 length-block octets count = omega (arith, length-bits_of octets)
 
 -- the encoder input of a coded block is a codeword of 224 bits with the tail, and its first 184 bits are the bits of the octets
-pub block_carried : (octets c : List ℕ) (code : IsCodedBlock octets c) → Carried IsXcchWord 224 184 code.u (bits_of octets)
-block_carried octets c code = carried _ 224 184 (lit< tt) (λ w h. h.count) (λ w h. h.bits) _ _ (length-block _ code.count) code.information
+pub block_carried : (octets c : List ℕ) (code : IsCodedBlock octets c) → Carried IsXcchCodeword 224 184 code.u (bits_of octets)
+block_carried octets c code =
+    carried _ 224 184 (lit< tt) (λ w h. h.count) (λ w h. h.bits) _ _ (length-block _ code.count) code.information
 
 -- information bits, CRC and tail form an encoder input
-pub IsEncoderInput-joined : (word d p : List ℕ) → word ≡ with_tail (d ++ p) → 0 < length d → AllBits d → AllBits p → IsEncoderInput word
+pub IsEncoderInput-joined : (word d p : List ℕ) → word ≡ with_tail (d ++ p) → 0 < length d → AllBits d → AllBits p →
+    IsEncoderInput word
 IsEncoderInput-joined word d p joined some d_bits p_bits =
     rw joined (IsEncoderInput-tail _ (omega (arith, length-append d p)) (AllBits-append d p d_bits p_bits))
 
--- ---- the coded bits of an encoder input
+-- ---- lemmas about the coded bits of an encoder input
 
 pub record AreBits (count : ℕ) (bits : List ℕ) : Type 0 where
   pub right_length : length bits ≡ count
@@ -116,10 +120,11 @@ module _ (octets crc word : List ℕ) (is : word ≡ octets ++ crc ++ replicate 
   -- the bits of the 32 octets are the encoder input, followed by 28 more zeros
   bits_of_word : bits_of word ≡ with_tail (bits_of octets ++ bits_of crc) ++ replicate 28 0
   bits_of_word =
-      ap bits_of is ∙ flat_map-append octet_bits (octets ++ crc) _ ∙ ap (λ bits. bits ++ replicate 32 0) (flat_map-append octet_bits _ crc)
+      ap bits_of is ∙ flat_map-append octet_bits (octets ++ crc) _
+      ∙ ap (λ bits. bits ++ replicate 32 0) (flat_map-append octet_bits _ crc)
       ∙ sym (append_assoc (bits_of octets ++ bits_of crc) (replicate 4 0) (replicate 28 0))
 
-  pub AreCodedBitsPacked-block : (packed : List ℕ) → IsXcchWord (bits_of octets ++ bits_of crc) →
+  pub AreCodedBitsPacked-block : (packed : List ℕ) → IsXcchCodeword (bits_of octets ++ bits_of crc) →
       AreCodedBitsPacked 64 (encoding (bits_of word)) packed →
       AreCodedBitsPacked 57 (encoding (with_tail (bits_of octets ++ bits_of crc))) packed
   AreCodedBitsPacked-block packed holds are =
@@ -141,7 +146,7 @@ tail = fixed tail_bits refl
 flag : AreBits 1 (1 ∷ [])
 flag = fixed (1 ∷ []) refl
 
--- ---- the layouts of the three kinds of bursts
+-- ---- lemmas about the layouts of the three kinds of bursts
 
 normal_bits : (first second : List ℕ) (tsc : ℕ) → tsc ≤ 7 → AreBits 57 first → AreBits 57 second →
     AreBits 148 (normal_burst first second tsc)
@@ -157,7 +162,7 @@ access_bits body b =
 sync_bits : (first second : List ℕ) → AreBits 39 first → AreBits 39 second → AreBits 148 (sync_burst first second)
 sync_bits first second f s = joined (joined (joined (joined tail f) (fixed sync_sequence refl)) s) tail
 
--- ---- sent bursts
+-- ---- lemmas about sent bursts
 
 taken : (m n : ℕ) {bits : List ℕ} → AreBits (m + n) bits → AreBits m (take m bits)
 taken m n b = record { right_length = length-take-le m _ (omega arith); each = All-take IsBit m _ b.each }
@@ -196,7 +201,7 @@ some_sent_block octets tsc count small known =
       u = with_tail (d ++ p.0);
       count = count;
       all_octets = small;
-      information = carries IsXcchWord d p.0 p.1;
+      information = carries IsXcchCodeword d p.0 p.1;
       code = refl;
     } in
     let parts = some_spread _ (coded_block_bits octets _ code).right_length in (
@@ -204,24 +209,26 @@ some_sent_block octets tsc count small known =
       record { coded_bits = _; interleaved_bits = parts.0; valid_tsc = known; code = code; interleaved = parts.1; layout = refl },
     )
 
-pub some_access_burst : (d b : List ℕ) → length d ≡ 8 → AllBits d → length b ≡ 6 → AllBits b → (x : List ℕ) × IsSentAccess d b x
+pub some_access_burst : (d b : List ℕ) → length d ≡ 8 → AllBits d → length b ≡ 6 → AllBits b → (x : List ℕ)
+    × IsSentAccess d b x
 some_access_burst d b ed bd eb bb =
     let p = some_rach_crc d b ed bd eb bb in
     let code : IsCodedAccess d b _ =
-    record { u = with_tail (d ++ p.0); count = ed; information = carries (λ w. IsRachWord w b) d p.0 p.1; code = refl } in
+    record { u = with_tail (d ++ p.0); count = ed; information = carries (λ w. IsRachCodeword w b) d p.0 p.1; code = refl } in
     (_, record { coded_bits = _; code = code; burst = refl })
 
 pub some_sync_burst : (d : List ℕ) → length d ≡ 25 → AllBits d → (x : List ℕ) × IsSentSync d x
 some_sync_burst d ed bd =
     let p = some_sch_crc d ed bd in
-    let code : IsCodedSync d _ = record { u = with_tail (d ++ p.0); count = ed; information = carries IsSchWord d p.0 p.1; code = refl } in
+    let code : IsCodedSync d _ =
+    record { u = with_tail (d ++ p.0); count = ed; information = carries IsSchCodeword d p.0 p.1; code = refl } in
     (_, record { coded_bits = _; code = code; burst = refl })
 
 -- ## SentOnce: The bursts of given information bits are unique, since the CRC of these bits is unique.
 
 pub one_coded_block : (octets c c' : List ℕ) → IsCodedBlock octets c → IsCodedBlock octets c' → c ≡ c'
 one_coded_block octets c c' h g =
-    cc (one_list IsXcchWord h.u g.u _ (λ p p'. one_xcch_crc _ p p' (length-block _ h.count)) h.information g.information)
+    cc (one_list IsXcchCodeword h.u g.u _ (λ p p'. one_xcch_crc _ p p' (length-block _ h.count)) h.information g.information)
 
 pub one_access_burst : (d b x x' : List ℕ) → IsSentAccess d b x → IsSentAccess d b x' → x ≡ x'
 one_access_burst d b x x' h g =
@@ -235,7 +242,8 @@ one_sync_burst d x x' h g =
     let q = g.code in
     cc (one_list _ p.u q.u d (λ r s. one_sch_crc d r s p.count) p.information q.information)
 
-pub one_sent_block : (octets : List ℕ) (tsc : ℕ) (x x' : List (List ℕ)) → IsSentBlock octets tsc x → IsSentBlock octets tsc x' → x ≡ x'
+pub one_sent_block : (octets : List ℕ) (tsc : ℕ) (x x' : List (List ℕ)) → IsSentBlock octets tsc x → IsSentBlock octets tsc x' →
+    x ≡ x'
 one_sent_block octets tsc x x' h g =
     let same = one_coded_block octets h.coded_bits g.coded_bits h.code g.code in
     cc (same_bursts g.coded_bits h.interleaved_bits g.interleaved_bits (rw same at h.interleaved) g.interleaved)

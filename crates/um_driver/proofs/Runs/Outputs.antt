@@ -3,7 +3,8 @@ pub use Rattle.{
   std.{
     proofs.{
       Common.{Bool, List, None, Option, Some, [], append-nil, append_assoc, ap, arith, drop, false, inl, inr, length-append, length-drop},
-      Common.{leb, length, refl, sym, take-append-drop, take, true, ℕ, ◌++◌, ◌+◌, ◌-◌, ◌<◌, ◌∙◌, ◌∷◌, ◌≡◌, ◌≤◌, ◌⊎◌},
+      Common.{leb, length, refl, sym, take-append-drop, take, true, ℕ, ◌++◌, ◌+◌, ◌-◌, ◌<◌, ◌∙◌, ◌∷◌},
+      Common.{◌≡◌, ◌≤◌, ◌⊎◌},
       lemmas.{Bool.{cases_lt, le-leb, lt-leb}, List.{Elements.{All-append, All-cons, All-head, All-nil, All-push, All-tail}, length-take}},
       lemmas.List.{take_all, take_at},
     },
@@ -14,13 +15,13 @@ pub use Rattle.{
     Laws.{HasOneOutput, OutputExists, OutputIsUnique},
     Outputs.{AreOctetsWithinLimit, AreProcessedLines, ExceedsInputLimit, IsOutputOfLines, IsOutput, LastLineIsNotProcessed},
     Outputs.LastLineIsProcessed,
-    Rules.{IsDeterministic, IsLineAccepted, IsLineRefused, IsTotal, Rules, Runs, concatenated_text, stateless},
-    Table.{AllAnswersHaveStarted, AreFirstLines, InputHasStatus, IsNextLineProcessed, IsPrefixOf, IsRun, IsWholeInputRead},
+    Rules.{IsDeterministic, IsLineAccepted, IsLineRefused, AnswersEveryAcceptedLine, Rules, Runs, concatenated_text, stateless},
+    Table.{AllAnswersAtLeastPartlyWritten, AreFirstLines, InputJustifiesStatus, IsNextLineProcessed, IsPrefixOf, IsRun, IsWholeInputRead},
     Table.{RunEndsWithStatus},
     declared.status.Status.{TheVariants.{BadInput, BadWords, Done, NoMemory, ReadFault, TooLong, WriteFault}, Status},
   },
   um_io.proofs.Lemmas.{All-front, divide, length-text-push, one_division, text-append, text-cons, text-push},
-  um_io.specs.{Lines.{IsDivided, IsLine, IsNotLineFeed, text_of_lines}, Reading.{input_limit, line_limit}},
+  um_io.specs.{Lines.{IsDividedIntoLines, IsLine, IsNotLineFeed, text_of_lines}, Reading.{input_limit, line_limit}},
   um_lines.{
     proofs.FormLaws.{good_meaning, same_meaning},
     specs.{Meanings.HasOneMeaningOrFault, Refusals.refused_text, declared.fault.LineFault.{TheVariants.Long, LineFault}},
@@ -34,18 +35,18 @@ pub begins_with : {x rest : List ℕ} {lines : List (List ℕ)} → All IsLine l
     BeginsWithLines x lines rest
 begins_with plain split = record { no_line_feed = plain; octets_split = split }
 
--- octets that begin with lines still do so when more octets follow
+-- octets that begin with complete lines still begin with these lines when more octets follow
 pub begins_with_more : {x rest : List ℕ} {lines : List (List ℕ)} (more : List ℕ) → BeginsWithLines x lines rest →
     BeginsWithLines (x ++ more) lines (rest ++ more)
 begins_with_more more b = begins_with b.no_line_feed (rw (b.octets_split, append_assoc))
 
--- the lines `judged` are `lines` and, if it is processed, `last`
+-- the processed lines `judged` are `lines`, followed by `last` if the run processes `last` as a line
 abbrev AreJudged : (judged lines : List (List ℕ)) (last : List ℕ) (ended : Bool) → Type 0
 AreJudged judged lines last ended =
     ((judged ≡ lines) × LastLineIsNotProcessed last ended) ⊎ ((judged ≡ lines ++ last ∷ []) × LastLineIsProcessed last ended)
 
--- the lines of an input are those with a line feed and then the rest, if it is not empty
-division_of : {x : List ℕ} {lines : List (List ℕ)} → IsDivided x lines →
+-- the lines of an input are its complete lines and then the rest, if the rest is not empty
+division_of : {x : List ℕ} {lines : List (List ℕ)} → IsDividedIntoLines x lines →
     (front : List (List ℕ)) × (last : List ℕ) × BeginsWithLines x front last × IsLine last × AreJudged lines front last true
 division_of {lines = lines} h = elim h.octets_split [
   | inl x_is ↦ (
@@ -65,7 +66,7 @@ division_of {lines = lines} h = elim h.octets_split [
       )
 ]
 
--- ---- the list of processed lines
+-- ---- every input has a list of processed lines
 
 processed_or_not : (lines : List (List ℕ)) (last : List ℕ) (ended : Bool) →
     (judged : List (List ℕ)) × AreJudged (lines ++ judged) lines last ended
@@ -76,14 +77,26 @@ processed_or_not lines last false = elim (cases_lt line_limit (length last)) [
   | inr short ↦ ([], inl (append-nil lines, short))
 ]
 
--- the octets within the limit determine the processed lines: those with line feeds, and perhaps the rest
-lines_counted : {x counted : List ℕ} {ended : Bool} {lines : List (List ℕ)} {last : List ℕ} → AreOctetsWithinLimit x counted ended →
+-- the octets within the input limit determine the processed lines: the complete lines, and the rest if it is processed as a line
+lines_counted : {x counted : List ℕ} {ended : Bool} {lines : List (List ℕ)} {last : List ℕ} →
+    AreOctetsWithinLimit x counted ended →
     BeginsWithLines counted lines last → IsLine last → (judged : List (List ℕ)) × AreProcessedLines x (lines ++ judged) ended
 lines_counted {ended = ended} {lines = lines} {last = last} counts b p =
-    let (judged, split) = processed_or_not lines last ended in
-    (judged, record { octets = _; lines = _; last = _; in_limit = counts; begins = b; no_line_feed = p; processed_split = split })
+    let (judged, split) = processed_or_not lines last ended in (
+      judged,
+      record {
+        octets = _;
+        lines = _;
+        last = _;
+        in_limit = counts;
+        begins = b;
+        no_line_feed = p;
+        last_line_processed_or_not =
+            split;
+      },
+    )
 
--- if a prefix of the input is no longer than the limit, it is a prefix of the octets within the limit
+-- if a prefix of the input does not exceed the input limit, it is a prefix of the octets within this limit
 counted_front : (x u v : List ℕ) → x ≡ u ++ v → length u ≤ input_limit →
     (part : List ℕ) × (ended : Bool) × AreOctetsWithinLimit x (u ++ part) ended
 counted_front x u v e h = elim (cases_lt input_limit (length x)) [
@@ -104,7 +117,7 @@ counted_front x u v e h = elim (cases_lt input_limit (length x)) [
   | inr short ↦ (v, true, (e, short))
 ]
 
--- if the input begins with lines that end within the limit, these lines are processed first
+-- if the input begins with lines that end within the input limit, the run processes these lines first
 lines_after : {x : List ℕ} {lines : List (List ℕ)} (more : List ℕ) → BeginsWithLines x lines more →
     length (text_of_lines lines) ≤ input_limit →
     (judged : List (List ℕ)) × (ended : Bool) × AreProcessedLines x (lines ++ judged) ended
@@ -117,7 +130,8 @@ lines_after {x} {lines} more b h =
 
 -- after `lines`, the next line processed is `line` or, if `line` is too long, a line that is also too long
 abbrev IsJudgedNext : (x : List ℕ) (lines : List (List ℕ)) (line : List ℕ) → Type 0
-IsJudgedNext x lines line = (next : List ℕ) × (judged : List (List ℕ)) × (ended : Bool) × AreProcessedLines x (lines ++ next ∷ judged) ended
+IsJudgedNext x lines line = (next : List ℕ) × (judged : List (List ℕ)) × (ended : Bool)
+    × AreProcessedLines x (lines ++ next ∷ judged) ended
     × ((next ≡ line) ⊎ ((line_limit < length line) × (line_limit < length next)))
 
 -- if a line that is too long follows these lines within the limit, the next line processed is this line or one that is also too long
@@ -129,7 +143,8 @@ lines_long {x} {lines} line more b p h long =
     next part ended counts ls last plain q part_is
   where
     next : (part : List ℕ) (ended : Bool) → AreOctetsWithinLimit x ((text_of_lines lines ++ line) ++ part) ended →
-        (ls : List (List ℕ)) (last : List ℕ) → All IsLine ls → IsLine last → part ≡ text_of_lines ls ++ last → IsJudgedNext x lines line
+        (ls : List (List ℕ)) (last : List ℕ) → All IsLine ls → IsLine last → part ≡ text_of_lines ls ++ last →
+        IsJudgedNext x lines line
     next part ended counts [] last plain q e = (
       line ++ last,
       [],
@@ -141,7 +156,7 @@ lines_long {x} {lines} line more b p h long =
         in_limit = counts;
         begins = begins_with b.no_line_feed (rw (e, append_assoc));
         no_line_feed = All-append IsNotLineFeed line last p q;
-        processed_split = inr (refl, grind (arith, length-append line last));
+        last_line_processed_or_not = inr (refl, grind (arith, length-append line last));
       },
       inr (long, omega (arith, length-append line last)),
     )
@@ -153,17 +168,18 @@ lines_long {x} {lines} line more b p h long =
         (line ++ l, ls ++ judged, ended, rw append_assoc at j, inr (long, omega (arith, length-append line l)))
 
 -- if an input is within the limit, all its lines are processed
-lines_whole : {x : List ℕ} {lines : List (List ℕ)} → IsDivided x lines → length x ≤ input_limit → AreProcessedLines x lines true
+lines_whole : {x : List ℕ} {lines : List (List ℕ)} → IsDividedIntoLines x lines → length x ≤ input_limit →
+    AreProcessedLines x lines true
 lines_whole d h =
     let (_, _, begins, p, split) = division_of d in
-    record { octets = _; lines = _; last = _; in_limit = (refl, h); begins = begins; no_line_feed = p; processed_split = split }
+    record { octets = _; lines = _; last = _; in_limit = (refl, h); begins = begins; no_line_feed = p; last_line_processed_or_not = split }
 
--- if an input has been read as a whole, all its lines are processed
+-- if a run has read the whole input, it processes all lines of the input
 lines_read : {q rest : List ℕ} {lines : List (List ℕ)} → IsWholeInputRead q rest lines →
     AreProcessedLines (q ++ rest) (lines ++ []) true
 lines_read w = rw (w.nothing_left, append-nil, append-nil) (lines_whole w.divided w.limit)
 
--- the lines for which `AreFirstLines` holds are the first ones that are processed
+-- lines that satisfy `AreFirstLines` are the first lines that the run processes
 pub lines_first : {q rest : List ℕ} {lines : List (List ℕ)} → AreFirstLines q rest lines →
     (judged : List (List ℕ)) × (ended : Bool) × AreProcessedLines (q ++ rest) (lines ++ judged) ended
 lines_first {rest = rest} (inl (more, b, h)) = lines_after (more ++ rest) (begins_with_more rest b) h
@@ -179,7 +195,7 @@ lines_next {q} {rest} {lines} {line} n = elim n.is_complete [
       (rw (n.begins.octets_split, feed, append_assoc, append_assoc, text-push))) (omega (arith, length-text-push lines line)) in
       (line, judged, ended, rw append_assoc at j, inl refl)
   | inr (inl long) ↦
-      lines_long line (n.after_line ++ rest) (rw append_assoc at (begins_with_more rest n.begins)) n.no_line_feed n.limit long
+      lines_long line (n.octets_after_line ++ rest) (rw append_assoc at (begins_with_more rest n.begins)) n.no_line_feed n.limit long
   | inr (inr (some, none, no_rest)) ↦
       let b = rw (none, append-nil) at n.begins in (
         line,
@@ -192,20 +208,20 @@ lines_next {q} {rest} {lines} {line} n = elim n.is_complete [
           in_limit = (refl, omega (arith, n.limit, ap length b.octets_split));
           begins = b;
           no_line_feed = n.no_line_feed;
-          processed_split = inr (refl, some);
+          last_line_processed_or_not = inr (refl, some);
         }),
         inl refl,
       )
 ]
 
--- processed lines contain no line feed
+-- no processed line contains a line feed
 processed_are_lines : (x : List ℕ) (judged : List (List ℕ)) (ended : Bool) → AreProcessedLines x judged ended → All IsLine judged
-processed_are_lines x judged ended j = elim j.processed_split [
+processed_are_lines x judged ended j = elim j.last_line_processed_or_not [
   | inl (e, _) ↦ rw e j.begins.no_line_feed
   | inr (e, _) ↦ rw e (All-push IsLine j.lines j.last j.begins.no_line_feed j.no_line_feed)
 ]
 
--- ---- the list of processed lines is unique
+-- ---- an input has only one list of processed lines
 
 same_processed : (judged judged' lines : List (List ℕ)) (last : List ℕ) (ended : Bool) → AreJudged judged lines last ended →
     AreJudged judged' lines last ended → judged ≡ judged'
@@ -229,17 +245,17 @@ AreProcessedLines-unique x judged judged' ended ended' j k =
     let end_is = over ∙ sym over' in
     let (lines, last) = one_division j.lines k.lines j.last k.last j.begins.no_line_feed k.begins.no_line_feed j.no_line_feed k.no_line_feed
     (sym j.begins.octets_split ∙ first ∙ sym first' ∙ k.begins.octets_split) in
-    (end_is, same_processed _ _ _ _ _ (rw (lines, last, end_is) at j.processed_split) k.processed_split)
+    (end_is, same_processed _ _ _ _ _ (rw (lines, last, end_is) at j.last_line_processed_or_not) k.last_line_processed_or_not)
 
--- ## RunLemmas: Joining and splitting runs over lines that are not refused.
+-- ## RunLemmas: Lemmas about joining and splitting runs over lines that are not refused.
 
--- the text of two joined lists is the text of the first followed by the text of the second
+-- the concatenated text of two joined lists is that of the first list, followed by that of the second
 pub joined-append : (ys ys' : List (List ℕ)) → concatenated_text (ys ++ ys') ≡ concatenated_text ys ++ concatenated_text ys'
 joined-append [] ys' = refl
 joined-append (y ∷ ys) ys' = rw (joined-append ys ys', append_assoc)
 
 module _ {State : Type 0} (r : Rules State) where
-  -- a run followed by another run is a run
+  -- a run over some lines, followed by a run over further lines, is a run over all of them
   pub Runs-append : (a b c : State) (ls ls' ys ys' : List (List ℕ)) → Runs r a ls ys b → Runs r b ls' ys' c →
       Runs r a (ls ++ ls') (ys ++ ys') c
   Runs-append a b c [] ls' [] ys' same then = rw same at then
@@ -247,7 +263,7 @@ module _ {State : Type 0} (r : Rules State) where
       (mid, good, step, Runs-append mid b c ls ls' ys ys' runs then)
   Runs-append a b c _ ls' _ ys' none then = absurd none
 
-  -- a run has as many answers as lines
+  -- a run gives as many answers as it reads lines
   pub Runs-length : (a b : State) (ls ys : List (List ℕ)) → Runs r a ls ys b → length ls ≡ length ys
   Runs-length a b [] [] runs = refl
   Runs-length a b (line ∷ ls) (y ∷ ys) (mid, _, _, runs) = cc (Runs-length mid b ls ys runs)
@@ -262,7 +278,7 @@ module _ {State : Type 0} (r : Rules State) where
       let (front, back, mid, first, second, e) = Runs-split next c ls ys ys' runs in
       (line ∷ front, back, mid, (next, good, step, first), second, cc e)
 
-  -- a run preserves every property that each step preserves
+  -- if each step preserves a property of the state, so does the whole run
   pub Runs-keep : (P : State → Type 0) → ((a b : State) (line answer : List ℕ) → P a → r.Step a line answer b → P b) →
       (a b : State) (ls ys : List (List ℕ)) → P a → Runs r a ls ys b → P b
   Runs-keep P keeps a b [] [] h same = rw same h
@@ -281,8 +297,8 @@ module _ {State : Type 0} (r : Rules State) where
     IsOutputOfLines-unique a n [] false s s' z z' h k = grind arith
     IsOutputOfLines-unique a n (line ∷ judged) ended s s' z z' (inl g) (inl g') =
         let same = det _ _ _ _ _ _ g.step g'.step in
-        let then = IsOutputOfLines-unique g'.mid_state (n + 1) judged _ _ _ _ _
-        (rw same.1 at g.rest_follows) g'.rest_follows in
+        let then = IsOutputOfLines-unique g'.state_after_line (n + 1) judged _ _ _ _ _
+        (rw same.1 at g.rest_satisfies_condition) g'.rest_satisfies_condition in
         (then.0, g.output ∙ (cc) ∙ sym g'.output)
     IsOutputOfLines-unique a n (line ∷ judged) ended s s' z z' (inl g) (inr stop) =
         absurd (good_or_bad _ _ _ g.line_accepted stop.refused)
@@ -290,13 +306,13 @@ module _ {State : Type 0} (r : Rules State) where
         absurd (good_or_bad _ _ _ g.line_accepted stop.refused)
     IsOutputOfLines-unique a n (line ∷ judged) ended s s' z z' (inr stop) (inr stop') = grind arith
 
-    -- the output begins with the answers to the first lines
+    -- the prescribed output begins with the answers to the first lines
     pub IsOutputOfLines-front : (a b : State) (n : ℕ) (ls ys judged : List (List ℕ)) (ended : Bool) (s : Status) (z : List ℕ) →
         Runs r a ls ys b → IsOutputOfLines r a n (ls ++ judged) ended s z → IsPrefixOf (concatenated_text ys) z
     IsOutputOfLines-front a b n [] [] judged ended s z same g = (z, refl)
     IsOutputOfLines-front a b n (line ∷ ls) (y ∷ ys) judged ended s z (mid, good, step, runs) (inl g) =
         let same = det _ _ _ _ _ _ g.step step in
-        let (more, split) = IsOutputOfLines-front mid b (n + 1) ls _ judged _ _ _ runs (rw same.1 at g.rest_follows) in
+        let (more, split) = IsOutputOfLines-front mid b (n + 1) ls _ judged _ _ _ runs (rw same.1 at g.rest_satisfies_condition) in
         (more, rw append_assoc (cc (g.output, same.0, split)))
     IsOutputOfLines-front a b n (line ∷ ls) (y ∷ ys) judged ended s z (mid, good, step, runs) (inr stop) =
         absurd (good_or_bad _ _ _ good stop.refused)
@@ -310,10 +326,10 @@ module _ {State : Type 0} (r : Rules State) where
   IsOutputOfLines-after a b n m (line ∷ ls) (y ∷ ys) judged ended s z e (mid, good, step, runs) h = inl (record {
     answer = y;
     later_output = concatenated_text ys ++ z;
-    mid_state = mid;
+    state_after_line = mid;
     line_accepted = good;
     step = step;
-    rest_follows = IsOutputOfLines-after mid b (n + 1) m ls ys judged ended s z (omega arith) runs h;
+    rest_satisfies_condition = IsOutputOfLines-after mid b (n + 1) m ls ys judged ended s z (omega arith) runs h;
     output = append_assoc y (concatenated_text ys) z;
   })
   IsOutputOfLines-after a b n m _ _ judged ended s z e none h = absurd none
@@ -326,7 +342,7 @@ module _ {State : Type 0} (r : Rules State) where
       let (end_is, same) = AreProcessedLines-unique _ _ _ _ _ j j' in
       IsOutputOfLines-unique det a 1 judged' ended' s s' z z' (rw (end_is, same) at g) g'
 
-  -- if a line that is too long is refused, so is every other line that is too long
+  -- if one line that is too long is refused, every other line that is too long is refused
   IsLineRefused-next : (b : State) (line next : List ℕ) (fault : LineFault) →
       (next ≡ line) ⊎ ((line_limit < length line) × (line_limit < length next)) → IsLineRefused r b line fault →
       IsLineRefused r b next fault
@@ -340,8 +356,9 @@ module _ {State : Type 0} (r : Rules State) where
     output_of judged ended s text j g =
         (lines ++ judged, ended, j, IsOutputOfLines-after _ _ 1 (length lines + 1) _ _ _ _ _ _ refl runs g)
 
-    -- if the table says how the input ends, the answers and the text that follows them are the output for the input
-    pub ends_output : (q rest : List ℕ) (s : Status) (text : List ℕ) → (s ≡ ReadFault → ⊥) → InputHasStatus r s q rest lines b text →
+    -- if `InputJustifiesStatus` holds for a status and a text, the answers and this text are the prescribed output for the input
+    pub ends_output : (q rest : List ℕ) (s : Status) (text : List ℕ) → (s ≡ ReadFault → ⊥) →
+        InputJustifiesStatus r s q rest lines b text →
         IsOutput r a (q ++ rest) s (concatenated_text answers ++ text)
     ends_output q rest Done text _ (whole, good, none) = output_of [] true Done text (lines_read whole) (inl (good, refl, none))
     ends_output q rest BadInput text _ (fault, inl (line, n, bad), text_is) =
@@ -364,7 +381,7 @@ module _ {State : Type 0} (r : Rules State) where
       );
       begins = part.begins;
       no_line_feed = part.no_line_feed;
-      processed_split = inl (append-nil lines, part.in_limit);
+      last_line_processed_or_not = inl (append-nil lines, part.in_limit);
     }) (refl, none)
     ends_output q rest ReadFault text unlike _ = absurd (unlike refl)
     ends_output q rest s text _ none = absurd none
@@ -377,7 +394,8 @@ module _ {State : Type 0} (r : Rules State) where
   option_cases (Some v) = inr (v, refl)
 
   -- every list of processed lines has an output
-  gives_some : (a : State) → IsTotal r a → (n : ℕ) (judged : List (List ℕ)) (ended : Bool) → All IsLine judged →
+  gives_some : (a : State) → AnswersEveryAcceptedLine r a → (n : ℕ) (judged : List (List ℕ)) (ended : Bool) →
+      All IsLine judged →
       (s : Status) × (z : List ℕ) × IsOutputOfLines r a n judged ended s z
   gives_some a total n [] true plain = elim (option_cases (r.end_fault a)) [
     | inl none ↦ (Done, [], inl (none, refl, refl))
@@ -397,10 +415,10 @@ module _ {State : Type 0} (r : Rules State) where
             inl (record {
               answer = answer;
               later_output = z;
-              mid_state = mid;
+              state_after_line = mid;
               line_accepted = good;
               step = step;
-              rest_follows = g;
+              rest_satisfies_condition = g;
               output = refl;
             }),
           )
@@ -419,7 +437,7 @@ module _ {State : Type 0} (r : Rules State) where
       (status, z, (judged, ended, j, g))
 
   -- if a command has exactly one answer to every line that it does not refuse, every input has exactly one output
-  pub has_one_output : (a : State) → IsTotal r a → IsDeterministic r → HasOneOutput r a
+  pub has_one_output : (a : State) → AnswersEveryAcceptedLine r a → IsDeterministic r → HasOneOutput r a
   has_one_output a total det = record {
     output_exists = λ x. law_command_output_exists a x total;
     output_is_unique = output_unique det a;
@@ -432,16 +450,16 @@ pub record IsGoodInput {State : Type 0} (r : Rules State) (a : State) (x y : Lis
   pub lines : List (List ℕ)
   pub answers : List (List ℕ)
   pub state : State
-  pub all : IsDivided x lines
+  pub all : IsDividedIntoLines x lines
   pub limit : length x ≤ input_limit
   pub runs : Runs r a lines answers state
   pub end_good : r.end_fault state ≡ None
   pub output : y ≡ concatenated_text answers
 
-divided_processed : (x : List ℕ) (judged : List (List ℕ)) → AreProcessedLines x judged true → IsDivided x judged
+divided_processed : (x : List ℕ) (judged : List (List ℕ)) → AreProcessedLines x judged true → IsDividedIntoLines x judged
 divided_processed x judged j = record {
   no_line_feed = processed_are_lines _ _ _ j;
-  octets_split = elim j.processed_split [
+  octets_split = elim j.last_line_processed_or_not [
     | inl (e, none) ↦ inl (j.in_limit.0 ∙ j.begins.octets_split ∙ rw (none, append-nil, e))
     | inr (e, some) ↦ inr (record {
       front = j.lines;
@@ -462,8 +480,8 @@ module _ {State : Type 0} (r : Rules State) where
   all_run a n [] true z (inr stop) = cc
   all_run a n [] false z (e, _) = cc e
   all_run a n (line ∷ judged) ended z (inl g) =
-      let (answers, b, runs, good, e, z_is) = all_run g.mid_state (n + 1) judged _ _ g.rest_follows in
-      (g.answer ∷ answers, b, (g.mid_state, g.line_accepted, g.step, runs), good, e, cc (g.output, z_is))
+      let (answers, b, runs, good, e, z_is) = all_run g.state_after_line (n + 1) judged _ _ g.rest_satisfies_condition in
+      (g.answer ∷ answers, b, (g.state_after_line, g.line_accepted, g.step, runs), good, e, cc (g.output, z_is))
   all_run a n (line ∷ judged) ended z (inr stop) = cc
 
   pub good_from_output : (a : State) (x z : List ℕ) → IsOutput r a x Done z → IsGoodInput r a x z
@@ -508,7 +526,7 @@ module _ {Meaning : Type 0} (fault : List ℕ → Option LineFault) (Means : Lis
         let (answer, answer_is) = some_answer line m means in
         (answer, tt, (m, means, answer_is))) stateless_is_determined
 
--- ## Weaker: A run that follows a set of rules also follows every weaker set of rules.
+-- ## Weaker: A run that follows one set of rules also follows every weaker set of rules.
 
 -- the rules r' are weaker than r: `f` maps states of r to states of r', the same lines are refused, and each step of r is a step of r'
 pub record IsWeakerBy {S T : Type 0} (f : S → T) (r : Rules S) (r' : Rules T) : Type 0 where
@@ -519,12 +537,17 @@ pub record IsWeakerBy {S T : Type 0} (f : S → T) (r : Rules S) (r' : Rules T) 
 module _ {S T : Type 0} (f : S → T) (r : Rules S) (r' : Rules T) (w : IsWeakerBy f r r') where
   pub runs_by : (a b : S) (lines answers : List (List ℕ)) → Runs r a lines answers b → Runs r' (f a) lines answers (f b)
   runs_by a b [] [] h = ap f h
-  runs_by a b (line ∷ lines) (y ∷ ys) (mid, g, step, h) =
-      (f mid, record { in_limit = g.in_limit; no_fault = w.fault a line ∙ g.no_fault }, w.step a mid line y step, runs_by mid b lines ys h)
+  runs_by a b (line ∷ lines) (y ∷ ys) (mid, g, step, h) = (
+    f mid,
+    record { in_limit = g.in_limit; no_fault = w.fault a line ∙ g.no_fault },
+    w.step a mid line y step,
+    runs_by mid b lines ys h,
+  )
   runs_by a b _ _ none = absurd none
 
   module _ (q rest : List ℕ) (lines : List (List ℕ)) (b : S) where
-    ends : (status : Status) (text : List ℕ) → InputHasStatus r status q rest lines b text → InputHasStatus r' status q rest lines (f b)
+    ends : (status : Status) (text : List ℕ) → InputJustifiesStatus r status q rest lines b text →
+        InputJustifiesStatus r' status q rest lines (f b)
         text
     ends Done text h = rw w.end_fault h
     ends BadInput text h = simp (w.fault, w.end_fault) h
@@ -539,9 +562,10 @@ module _ {S T : Type 0} (f : S → T) (r : Rules S) (r' : Rules T) (w : IsWeaker
     table_row BadWords y answers further none = none
     table_row s y answers further h = (h.0, ends s h.0 h.1, h.2, h.3)
 
-  module _ (a : S) (Represents : S → Type 0) (Stands' : T → Type 0) (then : (b : S) → Represents b → Stands' (f b)) (status : Status)
+  module _ (a : S) (Represents : S → Type 0) (Stands' : T → Type 0) (then : (b : S) → Represents b →
+      Stands' (f b)) (status : Status)
       (left left' taken taken' : Option (List ℕ)) (h : IsRun r a Represents status left left' taken taken') where
-    -- a run by r is a run by the weaker rules r', if `f` maps the states that the command may represent
+    -- a run that follows the rules r also follows the weaker rules r'; `f` maps its states to states of r'
     pub weaker_run_by : IsRun r' (f a) Stands' status left left' taken taken'
     weaker_run_by = record {
       input_read = h.input_read;
@@ -558,15 +582,15 @@ module _ {S T : Type 0} (f : S → T) (r : Rules S) (r' : Rules T) (w : IsWeaker
       read_bound = h.read_bound;
       first_lines = h.first_lines;
       runs = runs_by _ _ _ _ h.runs;
-      unwritten_run = runs_by _ _ _ _ h.unwritten_run;
+      unwritten_lines_answered = runs_by _ _ _ _ h.unwritten_lines_answered;
       represents = then h.last h.represents;
-      answers_started = h.answers_started;
+      answers_at_least_partly_written = h.answers_at_least_partly_written;
       reads_little_ahead = h.reads_little_ahead;
       ends_with_status =
           table_row _ _ _ _ status _ _ _ h.ends_with_status;
     }
 
-    -- the run by the weaker rules has the same lines and answers, and the state after them is mapped by `f`
+    -- as a run by the weaker rules, the run reaches the state that `f` gives for its original state
     pub weaker_run_state : weaker_run_by.state ≡ f h.state
     unfolding weaker_run_by
     weaker_run_state = refl
@@ -583,7 +607,7 @@ pub weaker_run : {State : Type 0} (r r' : Rules State) → IsWeaker r r' → (a 
     IsRun r a Represents status left left' taken taken' → IsRun r' a Stands' status left left' taken taken'
 weaker_run {State} = weaker_run_by (λ (a : State). a)
 
--- ## Reaching: Which answers were written at least in part.
+-- ## Reaching: Lemmas about which answers a run has written at least in part.
 
 -- a prefix of two joined lists is a prefix of the first, or the first followed by a prefix of the second
 pub prefix_of_joined : (u more c p : List ℕ) → u ++ more ≡ c ++ p →
@@ -596,8 +620,8 @@ prefix_of_joined (o ∷ u) more (i ∷ c) p e = elim (prefix_of_joined u more c 
 ]
 
 started_after : (answer y part : List ℕ) → y ≡ answer ++ part → (first_part : List (List ℕ)) →
-    AllAnswersHaveStarted part first_part → IsPrefixOf part (concatenated_text first_part) →
-    AllAnswersHaveStarted y (answer ∷ first_part) × IsPrefixOf y (answer ++ concatenated_text first_part)
+    AllAnswersAtLeastPartlyWritten part first_part → IsPrefixOf part (concatenated_text first_part) →
+    AllAnswersAtLeastPartlyWritten y (answer ∷ first_part) × IsPrefixOf y (answer ++ concatenated_text first_part)
 started_after answer y part e first_part (inl (w, f)) (more, front) =
     (inl (w, rw (e, f, append_assoc)), (more, rw (front, e, append_assoc)))
 started_after answer y part e first_part (inr last) (more, front) = (
@@ -615,7 +639,7 @@ started_after answer y part e first_part (inr last) (more, front) = (
 
 -- the answers of which y contains at least one octet are a prefix of all answers; y ends within the last of them or directly after it
 pub reach : (answers : List (List ℕ)) (y more : List ℕ) → concatenated_text answers ≡ y ++ more →
-    (first_part second_part : List (List ℕ)) × (answers ≡ first_part ++ second_part) × AllAnswersHaveStarted y first_part
+    (first_part second_part : List (List ℕ)) × (answers ≡ first_part ++ second_part) × AllAnswersAtLeastPartlyWritten y first_part
     × IsPrefixOf y (concatenated_text first_part)
 reach answers [] more e = ([], answers, refl, inl ([], refl), ([], refl))
 reach [] (o ∷ y) more e = absurd (cc e)

@@ -1,9 +1,8 @@
 -- For each value of the bit, the comparison is computed for all 256 values of a soft bit.
 use Rattle.{
   bit_blocks.{proofs.Lemmas.{at_passes_below, passes_below}, specs.SoftValues.is_wrong_bit},
-  std.specs.Int.Bits.bit_xor,
-  std.proofs.Common.{Bool, ap, arith, false, of_z, pos, refl, suc, to_z, true, w8, zero, ℕ, ◌-ℤ◌, ◌<◌, ◌∙◌, ◌≡◌, ◌≤◌},
-  std.proofs.{Math.Facts.Fits-of_z, lemmas.Int.to_z-of_z},
+  std.{specs.Int.Bits.bit_xor, proofs.Common.{Bool, ap, arith, false, of_z, pos, refl, suc, to_z, true, w8, zero, ℕ, ◌-ℤ◌}},
+  std.proofs.{Common.{◌<◌, ◌∙◌, ◌≡◌, ◌≤◌}, Math.Facts.Fits-of_z, lemmas.Int.to_z-of_z},
 }
 use lib.Signed.{lt_z}
 use Rattle.bit_blocks.proofs.soft.is_wrong_bit.Goals as goal

@@ -13,7 +13,7 @@ returns-clause-with_bsic c b count bits =
 pub returns-clause-only_with_bsic : goal.returns-clause-only_with_bsic
 returns-clause-only_with_bsic c p b word =
     one_rach_crc c.args.d.now p _ b (rw c.as_slice.ensures.value at c.as_slice.ensures.count) word
-    (returns-clause-with_bsic c b word.bsic_count word.bsic_bits)
+    (returns-clause-with_bsic c b word.bsic_bit_count word.bsic_bits)
 
 pub returns-clause-word : goal.returns-clause-word
 returns-clause-word c =

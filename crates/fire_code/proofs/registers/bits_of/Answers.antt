@@ -1,5 +1,6 @@
 use Rattle.{
-  std.proofs.Common.{◌≡◌, ◌+◌, ◌*◌, ◌/◌, ◌^◌, ◌∙◌, ◌++◌, append_assoc, arith, drop, length-append, length-drop, refl, take_all, take_at},
+  std.proofs.Common.{◌≡◌, ◌+◌, ◌*◌, ◌/◌, ◌^◌, ◌∙◌, ◌++◌, append_assoc, arith, drop, length-append},
+  std.proofs.Common.{length-drop, refl, take_all, take_at},
   fire_code.{specs.Registers.low_bits, proofs.Lemmas.{AllBits-low_bits, length-low_bits, lowest_octet, register_bits_split}},
 }
 use Rattle.fire_code.proofs.registers.bits_of.Goals as goal

@@ -10,8 +10,8 @@ returns-then-syndrome-eq0 c =
     let holds = c.xcch_syndrome-syndrome.ensures.zero.0 c.if-syndrome-eq0.true in
     record { answer = holds; only = λ other due. one_answer c.args.w.now other Holds due holds }
 
-pub first_and_last_bit-first-requires-clause-nonzero : goal.first_and_last_bit-first-requires-clause-nonzero
-first_and_last_bit-first-requires-clause-nonzero c =
+pub first_and_last_wrong_bit-first-requires-clause-nonzero : goal.first_and_last_wrong_bit-first-requires-clause-nonzero
+first_and_last_wrong_bit-first-requires-clause-nonzero c =
     let s = c.xcch_syndrome-syndrome in
     let has : HasSyndrome c.args.w.now s.result = search (c.if-syndrome-eq0.false, s.ensures.zero.1) in
     let says = c.in-Some.ensures in
@@ -32,9 +32,9 @@ returns-in-Some c =
     let has : HasSyndrome w s.result = search (c.if-syndrome-eq0.false, s.ensures.zero.1) in
     let found = c.in-Some.found in
     let says = c.in-Some.ensures in
-    let first = c.first_and_last_bit-first.result.0 in
-    let last = c.first_and_last_bit-first.result.1 in
-    let edges : AreFirstAndLastBit found.shape first last = assumption c.first_and_last_bit-first.ensures in
+    let first = c.first_and_last_wrong_bit-first.result.0 in
+    let last = c.first_and_last_wrong_bit-first.result.1 in
+    let edges : AreFirstAndLastBit found.shape first last = assumption c.first_and_last_wrong_bit-first.ensures in
     let due : IsRepairResult w (Repaired c.flip_error_burst.result (found.start + first) (last - first + 1)) =
     rw c.flip_error_burst.ensures
     (repaired w s.ensures.count s.ensures.bits s.result has (burst_at found says.start says.shape) first last says.leaves edges) in

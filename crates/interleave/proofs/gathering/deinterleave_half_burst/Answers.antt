@@ -2,8 +2,8 @@ use Rattle.{
   std.proofs.Common.{◌≡◌, ◌<◌, get_or, pos, ap, sym, ◌∙◌, arith, length, w8, to_z, of_z, ◌+◌, ◌*◌},
   std.proofs.lemmas.{Int.ints, List.length-set},
   interleave.{
-    specs.Positions.{burst_of_bit, burst_position},
-    proofs.Lemmas.{half-position, updated_bits-more, unchanged_bits-more, coded_index_at-unique},
+    specs.Positions.{burst_of_bit, position_in_burst},
+    proofs.Lemmas.{half-position, updated_bits-more, unchanged_bits-more, coded_bit_number_in_burst-unique},
   },
 }
 use Rattle.interleave.proofs.gathering.deinterleave_half_burst.Goals as goal
@@ -26,7 +26,7 @@ loop-i-preserved c =
 
 pub returns-clause-updated_bits : goal.returns-clause-updated_bits
 returns-clause-updated_bits c k i hk burst hi place =
-    rw (← (coded_index_at-unique k c.args.b (57 * c.args.half + i) hk burst place)) (c.loop-i.invariant.1 i (omega arith))
+    rw (← (coded_bit_number_in_burst-unique k c.args.b (57 * c.args.half + i) hk burst place)) (c.loop-i.invariant.1 i (omega arith))
 
 pub returns-clause-unchanged_bits : goal.returns-clause-unchanged_bits
 returns-clause-unchanged_bits c k hk none =
@@ -34,4 +34,4 @@ returns-clause-unchanged_bits c k hk none =
     (λ j hj same.
     let here : j < 57 = omega arith in
     let stands = half-position c.args.b c.args.half c.requires.burst c.requires.half j here in
-    none (sym (ap burst_of_bit same) ∙ stands.burst) j here (sym (ap burst_position same) ∙ stands.place))
+    none (sym (ap burst_of_bit same) ∙ stands.burst) j here (sym (ap position_in_burst same) ∙ stands.place))

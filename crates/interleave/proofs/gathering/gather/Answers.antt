@@ -6,11 +6,9 @@ use Rattle.{
     specs.Int.cast_signed,
   },
   interleave.{
-    specs.{ColumnPositions.{coded_bit_of_column, column_bit_position}, Positions.{burst_of_bit, burst_position}},
-    proofs.{
-      Lemmas.{each_below, same_coded, in_column, burst_of_bit-below, burst_position-below},
-      gathering.gather.Goals.After-write_column,
-    },
+    specs.{ColumnPositions.{coded_bit_number_in_column, burst_position_of_column_bit}, Positions.{burst_of_bit, position_in_burst}},
+    proofs.Lemmas.{each_below, same_coded, in_column, burst_of_bit-below, position_in_burst-below},
+    proofs.gathering.gather.Goals.After-write_column,
   },
 }
 use Rattle.interleave.proofs.gathering.gather.Goals as goal
@@ -29,10 +27,10 @@ loop-group-preserved c =
                 let s : ℕ = q - 8 * group in
                 let same : 8 * group + s ≡ q = omega arith in
                 let small : s < 8 = omega arith in
-                ap (λ q. get_or c.write_columns.new.soft (coded_bit_of_column q r) (pos 0)) (sym same)
+                ap (λ q. get_or c.write_columns.new.soft (coded_bit_number_in_column q r) (pos 0)) (sym same)
                 ∙ c.write_columns.ensures.updated_bits s r small hr
                 ∙ ap (cast_signed w8) (c.eight_columns.ensures s r small hr)
-                ∙ ap (λ q. cast_signed w8 (get_or (get_or octets (r % 4) []) (column_bit_position q r) 0)) same
+                ∙ ap (λ q. cast_signed w8 (get_or (get_or octets (r % 4) []) (burst_position_of_column_bit q r) 0)) same
           ],
     )
 
@@ -53,8 +51,8 @@ signed c =
     )
 
 written : (c : After-write_column) (q r : ℕ) → q < 57 → r < 8 →
-    get_or c.write_column.new.soft (coded_bit_of_column q r) (pos 0) ≡ get_or (get_or c.args.parts.now (r % 4) [])
-    (column_bit_position q r) (pos 0)
+    get_or c.write_column.new.soft (coded_bit_number_in_column q r) (pos 0) ≡ get_or (get_or c.args.parts.now (r % 4) [])
+    (burst_position_of_column_bit q r) (pos 0)
 unfolding octets
 written c q r hq hr =
     let octet = get_or (octets c) (r % 4) [] in
@@ -63,13 +61,13 @@ written c q r hq hr =
           c.write_column.ensures.unchanged_bits q r hq (omega arith) hr ∙ c.loop-group.invariant.1 q r (omega arith) hr
       | inr after ↦
           let last : 56 ≡ q = omega arith in
-          ap (λ q. get_or (c.write_column.new.soft) (coded_bit_of_column q r) (pos 0)) (sym last)
+          ap (λ q. get_or (c.write_column.new.soft) (coded_bit_number_in_column q r) (pos 0)) (sym last)
           ∙ c.write_column.ensures.updated_bits r hr
           ∙ ap (cast_signed w8) (c.last_column.ensures r hr)
-          ∙ ap (λ q. cast_signed w8 (get_or octet (column_bit_position q r) 0)) last
+          ∙ ap (λ q. cast_signed w8 (get_or octet (burst_position_of_column_bit q r) 0)) last
     ]
-    ∙ sym (get_or-map (cast_signed w8) octet (column_bit_position q r) 0)
-    ∙ ap (λ values. get_or values (column_bit_position q r) (pos 0)) (signed c (r % 4) (omega arith))
+    ∙ sym (get_or-map (cast_signed w8) octet (burst_position_of_column_bit q r) 0)
+    ∙ ap (λ values. get_or values (burst_position_of_column_bit q r) (pos 0)) (signed c (r % 4) (omega arith))
 
 pub returns-clause-interleaved : goal.returns-clause-interleaved
 returns-clause-interleaved c =
@@ -81,10 +79,10 @@ returns-clause-interleaved c =
       burst_lengths = λ b d lt. ap length (get_or_default parts b d [] lt) ∙ long c b (omega arith);
       positions = λ k d hk.
           let burst = burst_of_bit-below k in
-          let place = burst_position-below k in
+          let place = position_in_burst-below k in
           let count = long c (burst_of_bit k) burst in
           let at = in_column k hk in
-          get_or_default (get_or parts (burst_of_bit k) []) (burst_position k) d (pos 0) (omega arith)
+          get_or_default (get_or parts (burst_of_bit k) []) (position_in_burst k) d (pos 0) (omega arith)
           ∙ ap₂ (λ b j. get_or (get_or parts b []) j (pos 0)) at.burst at.place
           ∙ sym (written c (50 * (k / 8) % 57) (k % 8) at.column at.bit)
           ∙ ap (λ k. get_or soft k (pos 0)) at.coded_bit

@@ -1,6 +1,6 @@
-use Rattle.{std.proofs.Common.refl, interleave.{specs.ColumnPositions.column_bit_position, proofs.Lemmas.each_below}}
+use Rattle.{std.proofs.Common.refl, interleave.{specs.ColumnPositions.burst_position_of_column_bit, proofs.Lemmas.each_below}}
 use Rattle.interleave.proofs.gathering.last_column.Goals as goal
 
 pub returns : goal.returns
-unfolding column_bit_position
+unfolding burst_position_of_column_bit
 returns c = each_below _ 8 (refl, (refl, (refl, (refl, (refl, (refl, (refl, (refl, tt))))))))

@@ -3,13 +3,13 @@ use Rattle.{
   std.proofs.Common.{◌≡◌, ℕ, ◌+◌, ◌*◌, ◌/◌, ◌%◌, ◌^◌, ◌<◌, List, [], ◌∷◌, get_or, ap, ap₂},
   std.proofs.Common.{◌∙◌, arith},
   interleave.{
-    specs.ColumnPositions.column_bit_position,
+    specs.ColumnPositions.burst_position_of_column_bit,
     proofs.{Lemmas.{each_below_8, below_at, octet_of_joined}, joining.eight_columns.Goals.After-join_octet_fours-2},
   },
 }
 use Rattle.interleave.proofs.joining.eight_columns.Goals as goal
 
--- the octets of column s, bit 0 first
+-- the eight octets of column s, that of row 0 first
 octets : After-join_octet_fours-2 → ℕ → List ℕ
 octets c s =
     get_or c.octet_pairs.result s 0 % 256 ∷ get_or c.octet_pairs-2.result s 0 % 256 ∷ get_or c.octet_pairs-3.result s 0 % 256
@@ -23,7 +23,7 @@ unfolding octets
 octets-below c s r = below_at 256 (omega arith) (octets c s)
     (omega arith) r
 
--- the octets of column s as one number
+-- the eight octets of column s, joined into one number
 joined : After-join_octet_fours-2 → ℕ → ℕ
 joined c s =
     let e : ℕ → ℕ = λ r. get_or (octets c s) r 0 in
@@ -68,20 +68,21 @@ column c = each_below_8 _ (first c 0 (omega arith)) (first c 1 (omega arith)) (f
 moved : (part : List ℕ) {x i j : ℕ} → x ≡ get_or part i 0 → i ≡ j → x ≡ get_or part j 0
 moved _ is e = cc
 
--- each octet is the value of its burst at its position
+-- octet r of column s comes from burst r mod 4, from the position that this column has in row r
 stands : (c : After-join_octet_fours-2) (s : ℕ) → s < 8 → (r : ℕ) → r < 8 →
-    get_or (octets c s) r 0 ≡ get_or (get_or c.args.bursts.now (r % 4) []) (column_bit_position (8 * c.args.column_group + s) r) 0
-unfolding octets column_bit_position
+    get_or (octets c s) r 0 ≡ get_or (get_or c.args.bursts.now (r % 4) [])
+    (burst_position_of_column_bit (8 * c.args.column_group + s) r) 0
+unfolding octets burst_position_of_column_bit
 stands c s hs =
     let part : ℕ → List ℕ = λ b. get_or c.args.bursts.now b [] in each_below_8 _
-    (moved (part 0) (c.octet_pairs.ensures.even s hs) (omega (arith, c.column_in_row.ensures)))
-    (moved (part 1) (c.octet_pairs-2.ensures.even s hs) (omega (arith, c.column_in_row-2.ensures)))
-    (moved (part 2) (c.octet_pairs-3.ensures.even s hs) (omega (arith, c.column_in_row-3.ensures)))
-    (moved (part 3) (c.octet_pairs-4.ensures.even s hs) (omega (arith, c.column_in_row-4.ensures)))
-    (moved (part 0) (c.octet_pairs-5.ensures.odd s hs) (omega (arith, c.column_in_row-5.ensures)))
-    (moved (part 1) (c.octet_pairs-6.ensures.odd s hs) (omega (arith, c.column_in_row-6.ensures)))
-    (moved (part 2) (c.octet_pairs-7.ensures.odd s hs) (omega (arith, c.column_in_row-7.ensures)))
-    (moved (part 3) (c.octet_pairs-8.ensures.odd s hs) (omega (arith, c.column_in_row-8.ensures)))
+    (moved (part 0) (c.octet_pairs.ensures.even s hs) (omega (arith, c.column_index_in_row.ensures)))
+    (moved (part 1) (c.octet_pairs-2.ensures.even s hs) (omega (arith, c.column_index_in_row-2.ensures)))
+    (moved (part 2) (c.octet_pairs-3.ensures.even s hs) (omega (arith, c.column_index_in_row-3.ensures)))
+    (moved (part 3) (c.octet_pairs-4.ensures.even s hs) (omega (arith, c.column_index_in_row-4.ensures)))
+    (moved (part 0) (c.octet_pairs-5.ensures.odd s hs) (omega (arith, c.column_index_in_row-5.ensures)))
+    (moved (part 1) (c.octet_pairs-6.ensures.odd s hs) (omega (arith, c.column_index_in_row-6.ensures)))
+    (moved (part 2) (c.octet_pairs-7.ensures.odd s hs) (omega (arith, c.column_index_in_row-7.ensures)))
+    (moved (part 3) (c.octet_pairs-8.ensures.odd s hs) (omega (arith, c.column_index_in_row-8.ensures)))
 
 pub returns : goal.returns
 unfolding columns joined

@@ -1,4 +1,7 @@
-use Rattle.{std.proofs.Common.{◌≡◌, suc, ◌+◌, ◌*◌, ◌<◌, get_or, ap, ◌∙◌, arith}, interleave.proofs.Lemmas.octet_pairs-lane}
+use Rattle.{
+  std.proofs.Common.{◌≡◌, suc, ◌+◌, ◌*◌, ◌<◌, get_or, ap, ◌∙◌, arith},
+  interleave.proofs.Lemmas.octet_pairs-lane,
+}
 use Rattle.interleave.proofs.joining.octet_pairs.Goals as goal
 
 pub returns-clause-even : goal.returns-clause-even

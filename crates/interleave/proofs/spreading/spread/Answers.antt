@@ -1,8 +1,8 @@
 use Rattle.{
   std.proofs.{Common.{[], get_or, ◌∙◌, arith}, lemmas.List.get_or_default},
   interleave.{
-    specs.Positions.{burst_of_bit, burst_position},
-    proofs.Lemmas.{same_bursts, AllBits-bursts, burst_of_bit-below, burst_position-below},
+    specs.Positions.{burst_of_bit, position_in_burst},
+    proofs.Lemmas.{same_bursts, AllBits-bursts, burst_of_bit-below, position_in_burst-below},
   },
 }
 use Rattle.interleave.proofs.spreading.spread.Goals as goal
@@ -15,8 +15,8 @@ returns-clause-interleaved c =
       burst_lengths = c.loop-b.invariant.1;
       positions = λ k d hk.
           let burst = burst_of_bit-below k in
-          let place = burst_position-below k in
-          get_or_default (get_or (c.loop-b.bursts) (burst_of_bit k) []) (burst_position k) d 0 (omega arith)
+          let place = position_in_burst-below k in
+          get_or_default (get_or (c.loop-b.bursts) (burst_of_bit k) []) (position_in_burst k) d 0 (omega arith)
           ∙ c.loop-b.invariant.2 k hk (omega arith)
           ∙ get_or_default (c.args.coded.now) k 0 d (omega arith);
     }

@@ -1,24 +1,24 @@
--- Cases of events, the parts of a session that they change, and the invariants of its queues.
+-- How each event changes the endpoints and queues of a session, and invariants of the frames in transit.
 pub use Words.*
 pub mod Words
-use Rattle.lapdm_window.specs.Sides.{SideState, endpoint_on, with_endpoint_on}
+use Rattle.lapdm_window.specs.Sides.{SideState, endpoint_with_sapi, with_sapi_endpoint_replaced}
 use Rattle.lapdm_link.specs.Queues as W
 use Rattle.lapdm_window.specs.Sides as S
 
--- ## Queues: What the frames in transit mean for the endpoint of one SAPI. A fill frame means nothing to any endpoint.
+-- ## Queues: Of the frames in transit, an endpoint takes those with its own SAPI. It ignores fill frames.
 
 abbrev pub is_on : Sapi → Frame → Bool
 is_on sapi f = nat_eq f.sapi (sapi_number sapi)
 
-abbrev pub content_of : Content → Option Content
-content_of (Ui p []) = None
-content_of c = Some c
+abbrev pub content_of_body : Content → Option Content
+content_of_body (Ui p []) = None
+content_of_body c = Some c
 
 abbrev pub contents : List Frame → List Content
-contents fs = filter_map (λ f. content_of f.content) fs
+contents fs = filter_map (λ f. content_of_body f.content) fs
 
 abbrev pub content_on : Sapi → Frame → Option Content
-content_on s f = if is_on s f then content_of f.content else None
+content_on s f = if is_on s f then content_of_body f.content else None
 
 abbrev pub contents_on : Sapi → List Frame → List Content
 contents_on s fs = filter_map (content_on s) fs
@@ -36,7 +36,7 @@ module _ {T : Type 0} (P : T → Type 0) where
   of-as Q says [] h = tt
   of-as Q says (x ∷ xs) h = (says x h.0, of-as Q says xs h.1)
 
--- the content has no sequence numbers
+-- the content is not that of an I, RR or REJ frame, so an endpoint evaluates no sequence number in it
 abbrev pub IsPlain : Content → Type 0
 IsPlain (I ns nr p more info) = ⊥
 IsPlain (Rr nr pf) = ⊥
@@ -61,7 +61,7 @@ module _ (Says P : Content → Type 0) (says : (c : Content) → Says c → P c)
   frames-as [] h = tt
   frames-as (f ∷ fs) h = (h.0, says _ h.1, frames-as fs h.2)
 
-  say-one : (c : Content) (cs : List Content) → P c → AllOf P cs → AllOf P (cons_option (content_of c) cs)
+  say-one : (c : Content) (cs : List Content) → P c → AllOf P cs → AllOf P (cons_option (content_of_body c) cs)
   say-one (Ui p []) cs g h = h
   say-one c cs g h = (g, h)
 
@@ -73,9 +73,9 @@ pub frames-of_sapi : (Says : Content → Type 0) (s : Sapi) (fs : List Frame) �
 frames-of_sapi Says s [] h = tt
 frames-of_sapi Says s (f ∷ fs) h = (h.0, frames-of_sapi _ s fs h.2)
 
--- a frame means its content to the endpoint of its own SAPI, and nothing to the endpoint of the other SAPI
+-- the endpoint with the SAPI of a frame gets the content of the frame, and the endpoint with the other SAPI gets nothing
 said-at : (t s : Sapi) (own : Bool) → is_same_sapi t s ≡ own → (f : Frame) → IsForSapi s f →
-    content_on t f ≡ (if own then content_of f.content else None)
+    content_on t f ≡ (if own then content_of_body f.content else None)
 said-at t s own e f h = grind arith
 
 pub own_sapi : (s : Sapi) → is_same_sapi s s ≡ true
@@ -85,13 +85,15 @@ pub contents-of_sapi : (s : Sapi) (fs : List Frame) → AllOf (IsForSapi s) fs �
 contents-of_sapi s [] h = refl
 contents-of_sapi s (f ∷ fs) h = rw (said-at s s true (own_sapi s) f h.0, contents-of_sapi s fs h.1) refl
 
-pub contents-other : (t s : Sapi) → is_same_sapi t s ≡ false → (fs : List Frame) → AllOf (IsForSapi s) fs → contents_on t fs ≡ []
+pub contents-other : (t s : Sapi) → is_same_sapi t s ≡ false → (fs : List Frame) → AllOf (IsForSapi s) fs →
+    contents_on t fs ≡ []
 contents-other t s e [] h = refl
 contents-other t s e (f ∷ fs) h = rw (said-at t s _ e f h.0) (contents-other t s e fs h.1)
 
--- ## Views: How the parts of a session's state change when one endpoint, one queue or the log changes.
+-- ## Views: How the endpoints, the queues and the log of a session change when one endpoint, one queue or the log changes.
 
 -- ---- names for the parts of a session's state
+-- a list without its first element
 abbrev pub rest : {T : Type 0} → List T → List T
 rest xs = drop 1 xs
 
@@ -101,15 +103,15 @@ end_of r s w = endpoint_at r s w.ends
 abbrev pub way : Role → World → List Frame
 way r w = W.queue_of r w.queues
 
-abbrev pub without_first : Role → World → World
-without_first r w = record w { queues = W.without_first r w.queues }
+abbrev pub without_oldest_item : Role → World → World
+without_oldest_item r w = record w { queues = W.without_oldest_item r w.queues }
 
 abbrev pub with_frames : Role → List Frame → World → World
-with_frames r fs w = record w { queues = W.with_appended r fs w.queues }
+with_frames r fs w = record w { queues = W.with_items_appended r fs w.queues }
 
 -- the state of the session after this endpoint has this outcome
 abbrev pub acted : Role → Sapi → Outcome → World → World
-acted r s o w = with_frames r o.frames (record w { ends = with_endpoint_at r s o.new_state w.ends })
+acted r s o w = with_frames r o.frames (record w { ends = with_endpoint_replaced r s o.new_state w.ends })
 
 abbrev pub is_end : Role → Sapi → Role → Sapi → Bool
 is_end r s r' s' = is_same_role r r' && is_same_sapi s s'
@@ -129,13 +131,14 @@ pub each_start : (P : Role → Sapi → EndpointState → Type 0) (capacity : Qu
     → P r s (end_of r s (initial_world capacity channel))
 each_start P capacity channel h r s = grind arith
 
--- a property of the endpoint that acted and of the other endpoint of its side holds of both endpoints of the side
+-- if a property holds for the endpoint that acted and for the other endpoint of its side, it holds for both endpoints of the side after the
+-- step
 side_does : (P : Sapi → EndpointState → Type 0) (s : Sapi) (e : EndpointState) (side : SideState) → P s e →
-    ((s' : Sapi) → is_same_sapi s' s ≡ false → P s' (endpoint_on s' side)) → (s' : Sapi) →
-    P s' (endpoint_on s' (with_endpoint_on s e side))
+    ((s' : Sapi) → is_same_sapi s' s ≡ false → P s' (endpoint_with_sapi s' side)) → (s' : Sapi) →
+    P s' (endpoint_with_sapi s' (with_sapi_endpoint_replaced s e side))
 side_does P s e side s' h g = grind arith
 
--- a property of the endpoint that acted and of all others holds of all four endpoints
+-- if a property holds for the endpoint that acted and for the three others, it holds for all four endpoints after the step
 pub ends_do : (P : Role → Sapi → EndpointState → Type 0) (r : Role) (s : Sapi) (o : Outcome) (w : World) → P r s o.new_state →
     ((r' : Role) (s' : Sapi) → is_end r' s' r s ≡ false → P r' s' (end_of r' s' w)) → (r' : Role) (s' : Sapi) →
     P r' s' (end_of r' s' (acted r s o w))
@@ -150,12 +153,13 @@ way-acted r s o w = grind arith
 pub way-acted_other : (r : Role) (s : Sapi) (o : Outcome) (w : World) → way (other r) (acted r s o w) ≡ way (other r) w
 way-acted_other r s o w = grind arith
 
--- a property of each queue remains true after the oldest frame of one queue is removed
+-- if removing the oldest frame of a queue preserves a property, each queue still has the property after one queue loses its oldest frame
 each_lost : (P : Role → List Frame → Type 0) → ((r : Role) (fs : List Frame) → P r fs → P r (rest fs)) →
-    (sender : Role) (w : World) → ((r : Role) → P r (way r w)) → (r : Role) → P r (way r (without_first sender w))
+    (sender : Role) (w : World) → ((r : Role) → P r (way r w)) → (r : Role) → P r (way r (without_oldest_item sender w))
 each_lost P gone sender w h r = grind arith
 
 -- ---- log lines of one endpoint, and of the others
+-- `is_end` is true if both roles and both SAPIs are the same
 pub is_end-self : (r : Role) (s : Sapi) → is_end r s r s ≡ true
 is_end-self r s = grind arith
 
@@ -172,11 +176,11 @@ end_of-acted_else r s o w = grind arith
 pub link_else : (r' r : Role) (s' s : Sapi) → is_same_sapi s' s ≡ false → is_end r' s' r s ≡ false
 link_else r' r s' s h = grind arith
 
--- the log lines `said`, after the lines of the SABM frames that other mobiles sent
+-- the log lines of a step: first the SABM frames that other mobiles sent, then the calls and notices of one endpoint
 abbrev pub lines_of_step : Role → Sapi → List Message → List Call → List Notice → List LogLine
 lines_of_step r s is cs ns = map RivalSabm is ++ said r s cs ns
 
--- the calls and the notices of a step are those of the endpoint that acts; any other endpoint has none
+-- in the log lines of a step, all calls and notices belong to the endpoint that acts
 module _ (r' : Role) (s' : Sapi) (r : Role) (s : Sapi) where
   calls_in_step : (is : List Message) (cs : List Call) (ns : List Notice) →
       calls_in_log r' s' (lines_of_step r s is cs ns) ≡ (if is_end r' s' r s then cs else [])
@@ -213,7 +217,8 @@ notices_in_log-at r s before n more = rw (filter_map-append, is_end-self r s) re
 -- ## ByKind: Case analysis of events: an event is refused, or it is a call, a received frame, an arrival of which nothing is read, a loss,
 -- or a SABM of another mobile.
 
--- the endpoint of this role and SAPI has this call: only the mobile establishes SAPI 0, with information
+-- the call exists for the endpoint with this role and SAPI: `Opens` only for the mobile on SAPI 0, `OpensWithoutInfo` only on SAPI 3, every
+-- other call for all endpoints
 abbrev pub IsPlaced : Role → Sapi → Call → Type 0
 IsPlaced r s (Opens info) = (r ≡ Mobile) × (s ≡ Zero)
 IsPlaced r s OpensWithoutInfo = s ≡ Three
@@ -222,7 +227,7 @@ IsPlaced r s call = Unit {0}
 placed-request : (r : Role) (s : Sapi) (request : Request) → IsPlaced r s (endpoint_call_of request)
 placed-request r s request = grind arith
 
--- if the event is an arrival, `Known` holds of the frame that is read
+-- if the event is an arrival, `Known` holds for the frame that the receiver reads
 abbrev pub Knows : (Role → Frame → Type 0) → Event → Type 0
 Knows Known (Deliver sender (Some f)) = Known sender f
 Knows Known event = Unit {0}
@@ -242,25 +247,25 @@ module _ (w : World) (P : World → List LogLine → Type 0) (Known : Role → F
     (called : (r : Role) (s : Sapi) (call : Call) → IsPlaced r s call → refusal_of call (end_of r s w) ≡ None →
     P (acted r s (call_outcome call (end_of r s w)) w) (Asked r s call ∷ map (Notified r s) (call_outcome call (end_of r s w)).notices))
     (taken : (r : Role) (s : Sapi) (f : Frame) → nat_eq f.sapi (sapi_number s) ≡ true → Known (other r) f →
-    P (acted r s (frame_outcome f (end_of r s (without_first (other r) w))) (without_first (other r) w))
-    (map (Notified r s) (frame_outcome f (end_of r s (without_first (other r) w))).notices))
-    (lost : (sender : Role) → P (without_first sender w) []) (rival : (info : Message) → rival_refusal w.channel info ≡ None →
+    P (acted r s (frame_outcome f (end_of r s (without_oldest_item (other r) w))) (without_oldest_item (other r) w))
+    (map (Notified r s) (frame_outcome f (end_of r s (without_oldest_item (other r) w))).notices))
+    (lost : (sender : Role) → P (without_oldest_item sender w) []) (rival : (info : Message) → rival_refusal w.channel info ≡ None →
     P (with_frames Mobile (rival_sabm info ∷ []) w) (RivalSabm info ∷ []))
   where
     abbrev Then : Option EventRefusal → Event → Type 0
-    Then o event = P (world_unless_refused o event w) (answer_log_lines event (answer_unless_refused o (event_step event w.ends)))
+    Then o event = P (world_after_possible_refusal o event w) (answer_log_lines event (answer_unless_refused o (event_step event w.ends)))
 
     either : (o : Option EventRefusal) (event : Event) → KnowsBy o Known event →
         (o ≡ None → Knows Known event → Then None event) → Then o event
     either o event known h = grind arith
 
-    -- the case of an event that sends no frame
-    quietly : (sender r : Role) → P (with_frames r [] (without_first sender w)) []
+    -- `P` holds after an event that removes a frame from a queue and sends none
+    quietly : (sender r : Role) → P (with_frames r [] (without_oldest_item sender w)) []
     quietly sender r = subst (λ z. P z []) (sym (none_sent r _)) (lost sender)
 
-    -- the case of an arrival, at which side r takes the step d
+    -- `P` holds after the oldest frame arrives at side r, which then takes step d
     abbrev Arrives : Role → S.SideStep → Type 0
-    Arrives r d = P (world_after_step (step_with_peer_unchanged r d w.ends) (without_first (other r) w))
+    Arrives r d = P (world_after_step (step_with_peer_unchanged r d w.ends) (without_oldest_item (other r) w))
         (notice_log_lines (BySide r) d.sapi d.notices)
 
     none_taken : (r : Role) → Arrives r (S.no_op_step (side_with_role r w.ends))
@@ -298,7 +303,7 @@ module _ (w : World) (P : World → List LogLine → Type 0) (Known : Role → F
 
 -- ---- non-decreasing counts
 
--- a non-decreasing sequence of counts between `low` and `high`, one for each content in the list, to which it is related by `Notifies`
+-- each content in a list has a count to which `Notifies` relates it; these counts lie between `low` and `high` and never decrease
 pub data Ascending (Notifies : ℕ → Content → Type 0) : ℕ → List Content → ℕ → Type 0 where
   last : {low high : ℕ} → low ≤ high → Ascending Notifies low [] high
   first : {low k high : ℕ} {c : Content} {cs : List Content} → low ≤ k → Notifies k c → Ascending Notifies k cs high →
@@ -313,7 +318,7 @@ module _ {Notifies : ℕ → Content → Type 0} where
   climbs-le (last h) = h
   climbs-le (first l t h) = omega (arith, climbs-le h)
 
-  -- a sequence remains valid under a weaker `Notifies` and in a wider range
+  -- a non-decreasing sequence of counts remains valid under a weaker relation `Notifies` and in a wider range
   climbs-as : (Notifies' : ℕ → Content → Type 0) → ((k : ℕ) (c : Content) → Notifies k c → Notifies' k c) →
       {low low' high high' : ℕ}
       {cs : List Content} → low' ≤ low → high ≤ high' → Ascending Notifies low cs high → Ascending Notifies' low' cs high'
@@ -328,7 +333,7 @@ module _ {Notifies : ℕ → Content → Type 0} where
       Ascending Notifies low cs high
   climbs-rest (first l t h) = climbs-within l (omega arith) h
 
-  -- contents whose count is the highest may be appended to a sequence
+  -- contents that have the highest count can be appended to a non-decreasing sequence
   climbs-append : {low high : ℕ} {cs : List Content} (ds : List Content) → AllOf (Notifies high) ds →
       Ascending Notifies low cs high → Ascending Notifies low (cs ++ ds) high
   climbs-append [] a (last h) = last h
@@ -359,8 +364,8 @@ abbrev pub CarriesIn : List Segment → ℕ → Content → Type 0
 CarriesIn ps n (I ns nr p more info) = IsSegment ps n ns (info, more)
 CarriesIn ps n other = Unit {0}
 
--- the invariant of one direction: of the segments ps, the first `sent` are sent and the first `acked` acknowledged; `accepted` is a prefix
--- of ps; `there` are the contents in transit that may carry segments, `back` those in transit that may carry acknowledgements
+-- the invariant of one direction: of the segments ps, the first `sent` are sent and the first `acked` acknowledged; the segments `accepted`
+-- are a prefix of ps; of the frame contents in transit, those in `there` may carry segments, those in `back` acknowledgements
 pub record IsDirection (ps : List Segment) (acked sent : ℕ) (accepted : List Segment) (there back : List Content) : Type 0 where
   pub acknowledged : Ascending CountsIn acked back (length accepted)
   pub carried : Ascending (CarriesIn ps) (length accepted) there sent
@@ -368,15 +373,15 @@ pub record IsDirection (ps : List Segment) (acked sent : ℕ) (accepted : List S
   pub in_range : sent ≤ length ps
   pub in_order : accepted ≡ take (length accepted) ps
 
--- N(S) modulo 8 determines which segment an I frame carries
+-- an N(S), although it counts modulo 8, determines which segment an I frame carries
 right_segment : (a r s at : ℕ) → a ≤ r → r ≤ at + 1 → at + 1 ≤ s → s ≤ a + 1 → at % 8 ≡ r % 8 → at ≡ r
 right_segment a r s at h1 h2 h3 h4 h5 = grind arith
 
--- N(R) modulo 8 determines how many segments it acknowledges
+-- an N(R), although it counts modulo 8, determines how many segments are acknowledged
 right_number : (a r s k : ℕ) → a ≤ k → k ≤ r → r ≤ s → s ≤ a + 1 → s ≢ a → k % 8 ≡ s % 8 → k ≡ s
 right_number a r s k h1 h2 h3 h4 h5 h6 = grind arith
 
--- a content that carries a segment still does when more segments are appended
+-- a content that carries a segment of a list still carries it after segments are appended to the list
 carries-more : (ps more : List Segment) (n : ℕ) (c : Content) → CarriesIn ps n c → CarriesIn (ps ++ more) n c
 carries-more ps more n c h = grind (arith, length-append, get_or-append)
 
@@ -386,22 +391,22 @@ direction : {ps : List Segment} {a s : ℕ} {qs : List Segment} {there back : Li
 direction a c w l o = grind arith
 
 module _ {ps : List Segment} {a s : ℕ} {qs : List Segment} {there back : List Content} where
-  -- the invariant holds after the next segment becomes outstanding
+  -- the invariant of one direction still holds after the next segment becomes outstanding
   pub next_waits : s ≡ a → s < length ps → IsDirection ps a s qs there back → IsDirection ps a (s + 1) qs there back
   next_waits none left h =
       direction h.acknowledged (climbs-within (omega arith) (omega arith) h.carried) (omega arith) (omega arith) h.in_order
 
-  -- the invariant holds after frames with the outstanding segment are sent, for the first time or again
+  -- the invariant of one direction still holds after the outstanding segment is sent, for the first time or again
   pub segments_out : (cs : List Content) → AllOf (CarriesIn ps s) cs → IsDirection ps a s qs there back →
       IsDirection ps a s qs (there ++ cs) back
   segments_out cs notify h = direction h.acknowledged (climbs-append cs notify h.carried) h.window h.in_range h.in_order
 
-  -- the invariant holds after frames that acknowledge the accepted segments are sent back
+  -- the invariant of one direction still holds after the receiver sends frames that acknowledge the accepted segments
   pub numbers_out : (cs : List Content) → AllOf (CountsIn (length qs)) cs → IsDirection ps a s qs there back →
       IsDirection ps a s qs there (back ++ cs)
   numbers_out cs notify h = direction (climbs-append cs notify h.acknowledged) h.carried h.window h.in_range h.in_order
 
-  -- the invariant holds after the receiver accepts a segment
+  -- the invariant of one direction still holds after the receiver accepts a segment
   pub segment_in : (c : Content) (ns : ℕ) (p : Segment) → ((k : ℕ) → CarriesIn ps k c → IsSegment ps k ns p) →
       ns ≡ length qs % 8 → IsDirection ps a s qs (c ∷ there) back → IsDirection ps a s (qs ++ p ∷ []) there back
   segment_in c ns p carries number h =
@@ -416,14 +421,14 @@ module _ {ps : List Segment} {a s : ℕ} {qs : List Segment} {there back : List 
       direction (climbs-within (omega arith) (omega arith) h.acknowledged) (climbs-within (omega (arith, i.count)) (omega arith) rest)
       h.window h.in_range (cc (i.piece, at_is))
 
-  -- the invariant holds after a frame is lost or ignored
+  -- the invariant of one direction still holds after a frame is lost or ignored
   pub segment_gone : {c : Content} → IsDirection ps a s qs (c ∷ there) back → IsDirection ps a s qs there back
   segment_gone h = direction h.acknowledged (climbs-rest h.carried) h.window h.in_range h.in_order
 
   pub number_gone : {c : Content} → IsDirection ps a s qs there (c ∷ back) → IsDirection ps a s qs there back
   number_gone h = direction (climbs-rest h.acknowledged) h.carried h.window h.in_range h.in_order
 
-  -- the invariant holds after a REJ is replaced by an RR with the same N(R)
+  -- the invariant of one direction still holds after an RR with the same N(R) replaces a REJ in transit
   pub number_as_rr : {nr : ℕ} {pf : Bool} → IsDirection ps a s qs there (Rej nr pf ∷ back) →
       IsDirection ps a s qs there (Rr nr pf ∷ back)
   number_as_rr h = direction (climbs-rr (λ k t. t) h.acknowledged) h.carried h.window h.in_range h.in_order
@@ -432,7 +437,7 @@ module _ {ps : List Segment} {a s : ℕ} {qs : List Segment} {there back : List 
       IsDirection ps a s qs (Rr nr pf ∷ there) back
   segment_as_rr h = direction h.acknowledged (climbs-rr (λ k t. t) h.carried) h.window h.in_range h.in_order
 
-  -- the invariant holds after an N(R) acknowledges the outstanding segment
+  -- the invariant of one direction still holds after an N(R) acknowledges the outstanding segment
   pub number_in : (c : Content) (nr : ℕ) → ((k : ℕ) → CountsIn k c → nr ≡ k % 8) → s ≢ a → nr ≡ s % 8 →
       IsDirection ps a s qs there (c ∷ back) → IsDirection ps s s qs there back
   number_in c nr acked_at_most_delivered awaits_ack number h =
@@ -451,9 +456,9 @@ module _ {ps : List Segment} {a s : ℕ} {qs : List Segment} {there back : List 
 pub initial-direction : IsDirection [] 0 0 [] [] []
 initial-direction = direction (last (omega arith)) (last (omega arith)) (omega arith) (omega arith) refl
 
--- ## Fitting: The invariant that each frame in transit fits in a block of its channel. The proof is by cases on the event.
+-- ## Fitting: If every arriving frame fits in a block of the channel, so does every frame in transit. The proof is by cases on the event.
 
--- ---- an invariant given by a property E of each endpoint and a property F of each frame in transit
+-- ---- the invariant that a property E holds for each endpoint and a property F holds for each frame in transit
 
 module _ (E : Sapi → EndpointState → Type 0) (F : Frame → Type 0) where
   pub record Holds (channel : Channel) (w : World) : Type 0 where
@@ -461,7 +466,8 @@ module _ (E : Sapi → EndpointState → Type 0) (F : Frame → Type 0) where
     pub ends : (r : Role) (s : Sapi) → E s (end_of r s w)
     pub queues : (r : Role) → All F (way r w)
 
-  Holds-acts : (channel : Channel) (r : Role) (s : Sapi) (o : Outcome) (w : World) → Holds channel w → E s o.new_state × All F o.frames →
+  Holds-acts : (channel : Channel) (r : Role) (s : Sapi) (o : Outcome) (w : World) → Holds channel w → E s o.new_state
+      × All F o.frames →
       Holds channel (acted r s o w)
   Holds-acts channel r s o w h g = record {
     on_channel = h.on_channel;
@@ -470,14 +476,14 @@ module _ (E : Sapi → EndpointState → Type 0) (F : Frame → Type 0) where
         (rw (way-acted_other r s o w) (h.queues _));
   }
 
-  lost : (channel : Channel) (w : World) → Holds channel w → (sender : Role) → Holds channel (without_first sender w)
+  lost : (channel : Channel) (w : World) → Holds channel w → (sender : Role) → Holds channel (without_oldest_item sender w)
   lost channel w h sender = record {
     on_channel = h.on_channel;
     ends = h.ends;
     queues = each_lost (λ r fs. All F fs) (λ r fs g. All-drop F 1 fs g) _ w h.queues;
   }
 
-  -- an event preserves the invariant if every call, every received frame and every SABM of another mobile does
+  -- an event preserves the invariant `Holds` if every call, every received frame and every SABM of another mobile does
   pub holds-step : (Says : List LogLine → Type 0) (Known : Role → Frame → Type 0) (channel : Channel) (w : World) →
       Holds channel w → ((r : Role) (s : Sapi) (call : Call) → IsPlaced r s call → refusal_of call (end_of r s w) ≡ None →
       (let o = call_outcome call (end_of r s w) in Says (said r s (call ∷ []) o.notices) → E s o.new_state × All F o.frames)) →
@@ -509,8 +515,9 @@ AllFit channel fs = All (FrameFits channel) fs
 abbrev pub IsFitting : Channel → World → Type 0
 IsFitting channel w = Holds (FitsEnd channel) (FrameFits channel) channel w
 
--- every call in an event is one that the endpoint has
-has_call : (r : Role) (s : Sapi) (call : Call) (x : EndpointState) → IsPlaced r s call → x.sapi ≡ s → IsCallOfEndpoint x call
+-- every call that an event makes to an endpoint exists for the SAPI of this endpoint
+has_call : (r : Role) (s : Sapi) (call : Call) (x : EndpointState) → IsPlaced r s call → x.sapi ≡ s →
+    IsCallAllowedForEndpoint x call
 has_call r s call x placed at = grind arith
 
 fits-kept : (channel : Channel) (s : Sapi) (e : EndpointState) (o : Outcome) → FitsEnd channel s e → Keeps e o →
@@ -521,7 +528,7 @@ rival_fits : (channel : Channel) (w : World) (info : Message) → w.channel ≡ 
     FrameFits channel (rival_sabm info)
 rival_fits channel w info same ok = grind arith
 
--- if every frame that is read fits in a block, so does every frame in transit after the event
+-- if the frame that is read in an event, if any, fits in a block, so does every frame in transit after the event
 pub fits-step : (channel : Channel) (w : World) (event : Event) → KnowsBy (refusal event w) (λ sender f. FrameFits channel f) event →
     IsFitting channel w → IsFitting channel (world_after event w)
 fits-step channel w event known h = holds-step _ _ (λ ls. Unit {0}) (λ sender f. FrameFits channel f) _ w h
@@ -533,19 +540,19 @@ fits-step channel w event known h = holds-step _ _ (λ ls. Unit {0}) (λ sender 
 pub initial-fits : (capacity : QueueCapacity) (channel : Channel) → IsFitting channel (initial_world capacity channel)
 initial-fits capacity channel = grind arith
 
--- a property of all frames in transit holds of the frames just sent
-with_appended-all : (F : Frame → Type 0) (r : Role) (fs : List Frame) (ws : Queues Frame) →
-    ((r' : Role) → All F (W.queue_of r' (with_appended r fs ws))) → All F fs
-with_appended-all F Mobile fs ws h = rw drop-append_seam at (All-drop F (length ws.up) _ (h Mobile))
-with_appended-all F Network fs ws h = rw drop-append_seam at (All-drop F (length ws.down) _ (h Network))
+-- a property of all frames in transit after a step holds for the frames that the step sends
+with_items_appended-all : (F : Frame → Type 0) (r : Role) (fs : List Frame) (ws : Queues Frame) →
+    ((r' : Role) → All F (W.queue_of r' (with_items_appended r fs ws))) → All F fs
+with_items_appended-all F Mobile fs ws h = rw drop-append_seam at (All-drop F (length ws.up) _ (h Mobile))
+with_items_appended-all F Network fs ws h = rw drop-append_seam at (All-drop F (length ws.down) _ (h Network))
 
 pub event_step-holds : (E : Sapi → EndpointState → Type 0) (F : Frame →
     Type 0) (channel : Channel) (w : World) (event : Event) (o : Option EventRefusal) →
-    o ≡ None → Holds E F channel (world_unless_refused o event w) → All F (event_step event w.ends).frames
+    o ≡ None → Holds E F channel (world_after_possible_refusal o event w) → All F (event_step event w.ends).frames
 event_step-holds E F channel w event o none h =
-    with_appended-all F (sending_role (event_step event w.ends).who) _ (queues_after_removal event w.queues) (rw none at h).queues
+    with_items_appended-all F (sending_role (event_step event w.ends).who) _ (queues_after_removal event w.queues) (rw none at h).queues
 
--- if every frame that is read fits in a block, so does every frame that the step sends
+-- if the frame that is read in an event, if any, fits in a block, so does every frame that the step sends
 pub event_step-fits : (channel : Channel) (w : World) (event : Event) →
     KnowsBy (refusal event w) (λ sender f. FrameFits channel f) event → IsFitting channel w → refusal event w ≡ None →
     AllFit channel (event_step event w.ends).frames
@@ -567,7 +574,7 @@ bound-event_step (Deliver sender (Some f)) es = bound-step_for_frame _ f es
 bound-event_step event es = grind (arith, bound-call)
 
 SentFramesFit-answer : (channel : Channel) (w : World) (event : Event) (o : Option EventRefusal) →
-    IsFitting channel (world_unless_refused o event w) → SentFramesFit channel (answer_unless_refused o (event_step event w.ends))
+    IsFitting channel (world_after_possible_refusal o event w) → SentFramesFit channel (answer_unless_refused o (event_step event w.ends))
 SentFramesFit-answer channel w event (Some why) h = tt
 SentFramesFit-answer channel w event None h =
     let few = bound-event_step event w.ends in

@@ -7,7 +7,7 @@ use Rattle.{
 }
 use Rattle.list_decode.proofs.branch.find_least_loss.Goals as goal
 
--- the best deviation from the place where the words merge
+-- from the position where the two words merge on, the deviation that `survivor_deviation` returns has the least loss
 tail : (c : After-survivor_deviation-later) → IsLeastLossDeviationOrNone c.args.u.now (losses_of_pass c.args.pass.now)
     (is_in_range c.find_merging_place-merging.result c.args.span.now.to) c.args.span.now.to (Some c.survivor_deviation-later.result)
 tail c =
@@ -49,6 +49,6 @@ returns-in-Some c =
     let span = c.args.span.now in
     let losses = losses_of_pass c.args.pass.now in
     let m = c.find_merging_place-merging.result in
-    c.or_better_later.ensures u losses span.from m span.to
+    c.or_later_deviation_if_better.ensures u losses span.from m span.to
     (subst (IsLeastLossDeviationOrNone u losses (is_in_range span.from m) m) c.in-Some.is c.find_least_loss_in_span-early.ensures)
     (tail (goal.at.returns-in-Some c).After-survivor_deviation-later)

@@ -49,7 +49,7 @@ loop-k-preserved c =
     record {
       small = omega arith;
       state = ap₂ next_trellis_state old.state c.from-in-loop-k.ensures ∙ sym (state_after-more u k 0 (omega arith));
-      best = c.or_better_position-best.ensures u losses span.from old.best old.state lost refl c.requires.bits;
+      best = c.or_later_position_if_better-best.ensures u losses span.from old.best old.state lost refl c.requires.bits;
     }
 
 state-below_16 : (u : List ℕ) (place state : ℕ) → state ≡ state_after_bits 0 (take place u) → state < 16

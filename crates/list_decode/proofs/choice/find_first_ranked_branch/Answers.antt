@@ -11,7 +11,8 @@ use Rattle.{
 }
 use Rattle.list_decode.proofs.choice.find_first_ranked_branch.Goals as goal
 
--- what the loop knows of the first branch so far
+-- `choice` is the first-ranked of the branches so far, or `None`; its path metric is at least `limit`, which is the least `i32` if `choice`
+-- is `None`
 record IsKnown (pass : ViterbiPass) (us : List (List ℕ)) (branches : List WordBranch) (choice : Option BranchChoice) (limit : ℤ) : Type
     0
   where

@@ -5,20 +5,20 @@ use Rattle.{
   list_decode.proofs.{
     DeviatingWords.{AllBits-traceback, traceback-drop_next, state_after-below},
     Deviations.{AreFirstTwo, first_two},
-    Rankings.{IsMargin-second, HasTiedWord-margin, margin-hard_bits, both_unique},
-    second.margin.Goals.After-write_deviation,
+    Rankings.{IsLikelihoodMargin-second, HasTiedWord-margin, margin-hard_bits, both_unique},
+    second.margin.Goals.After-write_deviating_word,
   },
 }
 use Rattle.list_decode.proofs.second.margin.Goals as goal
 
-pub write_deviation-requires-clause-bits : goal.write_deviation-requires-clause-bits
-write_deviation-requires-clause-bits c =
+pub write_deviating_word-requires-clause-bits : goal.write_deviating_word-requires-clause-bits
+write_deviating_word-requires-clause-bits c =
     let pairs = c.fill_decisions.ensures.count in
     rw c.find_least_loss-departure.ensures.list
     (AllBits-traceback _ c.fill_decisions.new.losses c.args.soft.now c.fill_decisions.ensures.decisions (omega arith))
 
-pub write_deviation-requires-clause-chosen : goal.write_deviation-requires-clause-chosen
-write_deviation-requires-clause-chosen c =
+pub write_deviating_word-requires-clause-chosen : goal.write_deviating_word-requires-clause-chosen
+write_deviating_word-requires-clause-chosen c =
     let departure = c.find_least_loss-departure in
     let is = c.new-deviation.ensures in
     let at = is.place in
@@ -34,37 +34,37 @@ new-deviation-requires-clause-state c =
     let is = c.find_least_loss-departure.ensures.state in
     omega arith
 
-both : (c : After-write_deviation) →
-    AreFirstTwo c.args.soft.now c.find_least_loss-departure.new.u c.write_deviation.new.v c.find_least_loss-departure.result.loss
+both : (c : After-write_deviating_word) →
+    AreFirstTwo c.args.soft.now c.find_least_loss-departure.new.u c.write_deviating_word.new.v c.find_least_loss-departure.result.loss
 both c =
     let departure = c.find_least_loss-departure in
-    first_two c.args.soft.now c.fill_decisions.new.rows c.fill_decisions.new.losses departure.new.u c.write_deviation.new.v
+    first_two c.args.soft.now c.fill_decisions.new.rows c.fill_decisions.new.losses departure.new.u c.write_deviating_word.new.v
     departure.result.place departure.result.state _ c.fill_decisions.ensures.decisions c.fill_decisions.ensures.count (omega arith)
     departure.ensures.list departure.ensures.least departure.ensures.within departure.ensures.state
-    (c.write_deviation.ensures
+    (c.write_deviating_word.ensures
     ∙ ap₂ (λ place state. take place departure.new.u
     ++ (1 - get_or departure.new.u place 0) ∷ traceback (drop (place + 1) c.fill_decisions.new.rows)
     (next_trellis_state state (1 - get_or departure.new.u place 0))) c.new-deviation.ensures.place c.new-deviation.ensures.state)
 
 pub returns-clause-best : goal.returns-clause-best
-returns-clause-best c = (both (goal.at.returns-clause-best c).After-write_deviation).best
+returns-clause-best c = (both (goal.at.returns-clause-best c).After-write_deviating_word).best
 
 pub returns-clause-second : goal.returns-clause-second
-returns-clause-second c = (both (goal.at.returns-clause-second c).After-write_deviation).second
+returns-clause-second c = (both (goal.at.returns-clause-second c).After-write_deviating_word).second
 
 pub returns-clause-value : goal.returns-clause-value
 returns-clause-value c =
     to_z-of_z w32 c.find_least_loss-departure.result.loss (search rules)
-    ∙ (both (goal.at.returns-clause-value c).After-write_deviation).value
+    ∙ (both (goal.at.returns-clause-value c).After-write_deviating_word).value
 
 pub returns-clause-only : goal.returns-clause-only
 returns-clause-only c a b best next_best =
-    both_unique c.args.soft.now c.find_least_loss-departure.new.u c.write_deviation.new.v a b (returns-clause-best c)
+    both_unique c.args.soft.now c.find_least_loss-departure.new.u c.write_deviating_word.new.v a b (returns-clause-best c)
     (returns-clause-second c) best next_best
 
 pub returns-clause-margin : goal.returns-clause-margin
 returns-clause-margin c =
-    IsMargin-second c.args.soft.now c.find_least_loss-departure.new.u c.write_deviation.new.v _ (returns-clause-second c)
+    IsLikelihoodMargin-second c.args.soft.now c.find_least_loss-departure.new.u c.write_deviating_word.new.v _ (returns-clause-second c)
     (returns-clause-value c)
 
 pub returns-clause-tie : goal.returns-clause-tie
@@ -73,7 +73,7 @@ returns-clause-tie c = HasTiedWord-margin c.args.soft.now c.find_least_loss-depa
 
 pub returns-clause-hard : goal.returns-clause-hard
 returns-clause-hard c e hard wrong few =
-    let bound = margin-hard_bits c.args.soft.now c.find_least_loss-departure.new.u c.write_deviation.new.v e
+    let bound = margin-hard_bits c.args.soft.now c.find_least_loss-departure.new.u c.write_deviating_word.new.v e
     (returns-clause-best c).information
     (returns-clause-second c).candidate (returns-clause-best c).count (returns-clause-second c).differs hard wrong few in
     rw (returns-clause-value c) bound

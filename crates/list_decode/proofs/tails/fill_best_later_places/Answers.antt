@@ -57,11 +57,11 @@ loop-k-preserved c =
     let some = c.loop-k-test.true in
     let k = c.loop-k.k - 1 in
     let n = length rows - 4 in
-    let best = c.or_better_later-best.ensures u losses k c.loop-k.k n
+    let best = c.or_later_deviation_if_better-best.ensures u losses k c.loop-k.k n
     (least_loss-one u losses k c.loop-k.k c.survivor_deviation.result (omega arith) here.place here.possible) old.best in
     record {
       best = best;
-      each = (λ j low high. one_more u losses c.loop-k.places k n c.or_better_later-best.result.place j (search rules) best.1
+      each = (λ j low high. one_more u losses c.loop-k.places k n c.or_later_deviation_if_better-best.result.place j (search rules) best.1
           (λ more. old.each j (omega arith) high) low);
     }
 
@@ -71,7 +71,7 @@ overflow_cast-places-in-loop-k c =
     let here = c.survivor_deviation.ensures in
     let some = c.loop-k-test.true in
     let k = c.loop-k.k - 1 in
-    let best = c.or_better_later-best.ensures (traceback rows 0) c.args.losses.now k c.loop-k.k (length rows - 4)
+    let best = c.or_later_deviation_if_better-best.ensures (traceback rows 0) c.args.losses.now k c.loop-k.k (length rows - 4)
     (least_loss-one (traceback rows 0) c.args.losses.now k c.loop-k.k c.survivor_deviation.result (omega arith) here.place here.possible)
     c.loop-k.invariant.best in
     let within = best.1.in_range in

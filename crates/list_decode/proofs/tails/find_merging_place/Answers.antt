@@ -13,5 +13,6 @@ loop-k-preserved c =
     let within = c.loop-k-test.true in
     record {
       small = omega arith;
-      state = ap₂ next_trellis_state old.state c.from-in-loop-k.ensures ∙ sym (state_after-more c.args.list.now c.loop-k.k 0 (omega arith));
+      state = ap₂ next_trellis_state old.state c.from-in-loop-k.ensures
+          ∙ sym (state_after-more c.args.list.now c.loop-k.k 0 (omega arith));
     }

@@ -5,7 +5,7 @@ use Rattle.{
 }
 use Rattle.training_seq.proofs.choice.count_wrong_training_bits.Given as goal
 
--- the number of wrong soft bits so far plus the number in the rest is the number in all
+-- the number of wrong soft bits counted so far, plus their number in the rest of the midambles, is their number in the whole midambles
 abbrev pub invariant-loop-i : goal.invariant-loop-i
 invariant-loop-i l =
     let bits = drop l.i (midamble l.tsc) in

@@ -1,7 +1,7 @@
 use Rattle.{
   std.proofs.Common.{ap, ap₂, ◌∙◌},
   trellis_decode.{
-    specs.{Lanes.lane, AcsLanes.{bit_reversed, lane_metric, metrics_of_lanes}},
+    specs.{Lanes.lane, AcsLanes.{three_bits_reversed, path_metric_of_lane, metrics_of_lanes}},
     proofs.AcsSteps.{candidate_at-lanes, each_state, low_metric, high_metric},
   },
 }
@@ -13,6 +13,6 @@ returns-clause-each c pair has =
     let low = c.add_branch_metrics-low.result.lanes in
     let high = c.subtract_branch_metrics-high.result.lanes in
     let is = ap₂ metrics_of_lanes c.interleave_first_lanes.ensures.each c.interleave_last_lanes.ensures.each in each_state _
-    (λ k lt. ap (λ l. lane l (bit_reversed k)) is ∙ low_metric low high k lt ∙ ap lane_metric
+    (λ k lt. ap (λ l. lane l (three_bits_reversed k)) is ∙ low_metric low high k lt ∙ ap path_metric_of_lane
     (c.add_branch_metrics-low.ensures.each k lt) ∙ (at k lt).0)
     (λ k lt. cc (is, high_metric low high k lt, c.subtract_branch_metrics-high.ensures.each k lt, (at k lt).2))

@@ -4,7 +4,7 @@ use Rattle.{
 }
 use Rattle.trellis_decode.proofs.backward.extend_survivors.Given as goal
 
--- the walk holds the survivors over the positions from k on
+-- `walk` holds the survivors over the positions from k on
 abbrev pub invariant-loop-k : goal.invariant-loop-k
 invariant-loop-k l = record {
   walk : AreSurvivors (path_metric l.fn.after) (path_metric l.walk.values) l.walk.survivor_map

@@ -1,13 +1,13 @@
--- Induction from the tail to the front: each map extends the best lists by four positions, and the path metrics stay in bounds.
+-- Induction from the tail to the front: each map extends the survivors by four positions, and the path metrics stay in bounds.
 use Rattle.{
   std.proofs.{
     Common.{◌≡◌, ℕ, ◌*◌, ◌+◌, ◌-◌, ◌<◌, drop, length, ◌∙◌, subst, arith},
     lemmas.List.{length-set, take-take},
   },
   trellis_decode.{
-    specs.{AcsLanes.path_metric, SurvivorPaths.HoldLanesFrom},
-    proofs.SurvivorLists.{last_map, more_survivors, HoldLanesFrom-last, AreSurvivors-map_lanes, HoldLanesFrom-more, AreMetricsWithin-best},
-    proofs.{SurvivorLists.AreMetricsWithin-most, Viterbi.IsSurvivor-to_end},
+    specs.{AcsLanes.path_metric, SurvivorPaths.HoldLaneNumbersFromIndex},
+    proofs.SurvivorLists.{last_map, more_survivors, HoldLaneNumbersFromIndex-last, AreSurvivors-map_lanes, HoldLaneNumbersFromIndex-more},
+    proofs.{SurvivorLists.{AreMetricsWithin-best, AreMetricsWithin-most}, Viterbi.IsSurvivor-to_end},
   },
 }
 use Rattle.trellis_decode.proofs.backward.fill_survivors.Goals as goal
@@ -16,15 +16,16 @@ pub loop-group-init : goal.loop-group-init
 loop-group-init c =
     let soft = c.args.soft.now in
     let last = length c.args.survivors.now - 1 in
-    let values = path_metric c.tail_metrics-values.result in
-    let closing = λ (s : ℕ) (lt : s < 16). IsSurvivor-to_end s (8 * last) _ soft _ (c.tail_metrics-values.ensures.best s lt) in
+    let values = path_metric c.path_metrics_before_tail-values.result in
+    let closing = λ (s : ℕ) (lt : s < 16). IsSurvivor-to_end s (8 * last) _ soft _
+    (c.path_metrics_before_tail-values.ensures.best s lt) in
     record {
       best = last_map c.args.survivors.now (drop (8 * last) soft) values last (omega (arith, c.requires.at_least)) closing;
       low = (AreMetricsWithin-best (8 * last) values soft _ c.requires.octets
           (omega (arith, c.requires.count, c.requires.at_least)) closing).lower_bound;
-      even = c.tail_metrics-values.ensures.even;
-      odd = c.tail_metrics-values.ensures.odd;
-      maps = HoldLanesFrom-last c.args.survivors.now (length c.args.survivors.now - 1) (omega (arith, c.requires.at_least));
+      even = c.path_metrics_before_tail-values.ensures.even;
+      odd = c.path_metrics_before_tail-values.ensures.odd;
+      maps = HoldLaneNumbersFromIndex-last c.args.survivors.now (length c.args.survivors.now - 1) (omega (arith, c.requires.at_least));
     }
 
 pub extend_survivors-walk-requires-clause-within : goal.extend_survivors-walk-requires-clause-within
@@ -53,7 +54,7 @@ loop-group-preserved c =
       low = c.extend_survivors-walk.ensures.within.lower_bound;
       even = c.extend_survivors-walk.ensures.even;
       odd = c.extend_survivors-walk.ensures.odd;
-      maps = HoldLanesFrom-more survivors map before group (omega arith)
+      maps = HoldLaneNumbersFromIndex-more survivors map before group (omega arith)
           (omega (arith, same, within, c.requires.at_least)) (AreSurvivors-map_lanes _ _ map _ walk) c.loop-group.invariant.maps;
     }
 
@@ -71,4 +72,4 @@ returns-clause-within c =
 pub returns-clause-maps : goal.returns-clause-maps
 returns-clause-maps c =
     let none : c.loop-group.group ≡ 0 = omega arith in
-    subst (λ k. HoldLanesFrom k c.loop-group.survivors) none c.loop-group.invariant.maps
+    subst (λ k. HoldLaneNumbersFromIndex k c.loop-group.survivors) none c.loop-group.invariant.maps

@@ -4,12 +4,12 @@ use Rattle.{
     Lanes.lane,
     Trellis.IsSurvivor,
     AcsLanes.{AreInt16, lane_of_state, path_metric},
-    SurvivorPaths.{HoldLanesFrom, survivor_traceback},
+    SurvivorPaths.{HoldLaneNumbersFromIndex, survivor_traceback},
   },
 }
 use Rattle.trellis_decode.proofs.backward.fill_survivors.Given as goal
 
--- traceback through the survivor maps filled so far gives the best lists from the first position of these maps on
+-- traceback through the survivor maps filled so far gives the survivors from the first position of these maps on
 abbrev pub invariant-loop-group : goal.invariant-loop-group
 invariant-loop-group l = record {
   best : (s : ℕ) → s < 16 →
@@ -18,5 +18,5 @@ invariant-loop-group l = record {
   low : (s : ℕ) → s < 16 → negsuc 1023 ≤ℤ lane (path_metric l.values) s;
   even : AreInt16 l.values.even_states.lanes;
   odd : AreInt16 l.values.odd_states.lanes;
-  maps : HoldLanesFrom l.group l.survivors;
+  maps : HoldLaneNumbersFromIndex l.group l.survivors;
 }

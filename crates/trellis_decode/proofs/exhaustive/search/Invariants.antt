@@ -5,7 +5,7 @@ use Rattle.{
 }
 use Rattle.trellis_decode.proofs.exhaustive.search.Given as goal
 
--- the chosen list is the most likely list so far, and the first of equally likely ones
+-- `chosen` is the number of the most likely encoder input so far, or of the first one if several are equally likely
 abbrev pub invariant-loop-number : goal.invariant-loop-number
 invariant-loop-number l = record {
   before : l.chosen < l.number;

@@ -4,7 +4,7 @@ use Rattle.{
 }
 use Rattle.trellis_decode.proofs.hard.extend_hard_survivors.Given as goal
 
--- the walk holds the survivors over the positions from k on
+-- `walk` holds the survivors over the positions from k on
 abbrev pub invariant-loop-k : goal.invariant-loop-k
 invariant-loop-k l = record {
   walk : AreSurvivors (hard_lane_metrics l.fn.after.lanes) (hard_lane_metrics l.walk.values.lanes) l.walk.survivor_map

@@ -1,19 +1,19 @@
--- The same induction as for `fill_survivors`, in 8-bit lanes.
+-- Induction from the tail to the front, as for `fill_survivors`, but in 8-bit lanes.
 use Rattle.{
   std.proofs.{
     Common.{◌≡◌, ℕ, ◌*◌, ◌+◌, ◌-◌, ◌<◌, drop, length, ◌∙◌, subst, arith},
     lemmas.List.{length-set, Elements.{All-drop, All-take}},
   },
   trellis_decode.{
-    specs.{Hard.{IsHardBit, hard_lane_metrics}, AcsLanes.lane_of_state, SurvivorPaths.{survivor_traceback, HoldLanesFrom}},
-    proofs.{AcsSteps.hard_octets, SurvivorLists.{HoldLanesFrom-last, AreSurvivors-map_lanes, HoldLanesFrom-more, last_map, more_survivors}},
-    proofs.{SurvivorLists.{AreMetricsWithin-best, AreMetricsWithin-most}, Viterbi.IsSurvivor-to_end},
+    specs.{Hard.{IsHardBit, hard_lane_metrics}, AcsLanes.lane_of_state, SurvivorPaths.{survivor_traceback, HoldLaneNumbersFromIndex}},
+    proofs.{AcsSteps.hard_octets, SurvivorLists.{HoldLaneNumbersFromIndex-last, AreSurvivors-map_lanes, HoldLaneNumbersFromIndex-more}},
+    proofs.{SurvivorLists.{last_map, more_survivors, AreMetricsWithin-best, AreMetricsWithin-most}, Viterbi.IsSurvivor-to_end},
   },
 }
 use Rattle.trellis_decode.proofs.hard.fill_hard_survivors.Goals as goal
 
-pub hard_tail_metrics-values-requires-clause-hard : goal.hard_tail_metrics-values-requires-clause-hard
-hard_tail_metrics-values-requires-clause-hard c =
+pub hard_path_metrics_before_tail-values-requires-clause-hard : goal.hard_path_metrics_before_tail-values-requires-clause-hard
+hard_path_metrics_before_tail-values-requires-clause-hard c =
     All-take IsHardBit _ _ (All-drop IsHardBit _ _ c.requires.hard)
 
 pub loop-group-init : goal.loop-group-init
@@ -21,16 +21,16 @@ loop-group-init c =
     let soft = c.args.soft.now in
     let survivors = c.args.survivors.now in
     let last = length c.args.survivors.now - 1 in
-    let values = hard_lane_metrics c.hard_tail_metrics-values.result.lanes in
+    let values = hard_lane_metrics c.hard_path_metrics_before_tail-values.result.lanes in
     let closing = λ (s : ℕ) (lt : s < 16).
-    IsSurvivor-to_end s (8 * last) _ soft _ (c.hard_tail_metrics-values.ensures.best s lt) in
+    IsSurvivor-to_end s (8 * last) _ soft _ (c.hard_path_metrics_before_tail-values.ensures.best s lt) in
     record {
       best = last_map survivors (drop (8 * last) soft) values last
           (omega (arith, c.requires.at_least)) closing;
       low = (AreMetricsWithin-best (8 * last) values soft _
           (hard_octets soft c.requires.hard) (omega (arith, c.requires.count, c.requires.at_least)) closing).lower_bound;
-      lanes = c.hard_tail_metrics-values.ensures.lanes;
-      maps = HoldLanesFrom-last c.args.survivors.now (length c.args.survivors.now - 1) (omega (arith, c.requires.at_least));
+      lanes = c.hard_path_metrics_before_tail-values.ensures.lanes;
+      maps = HoldLaneNumbersFromIndex-last c.args.survivors.now (length c.args.survivors.now - 1) (omega (arith, c.requires.at_least));
     }
 
 pub extend_hard_survivors-walk-requires-clause-hard : goal.extend_hard_survivors-walk-requires-clause-hard
@@ -68,7 +68,7 @@ loop-group-preserved c =
           (omega (arith, same, within, c.requires.at_least, c.requires.count)) walk c.loop-group.invariant.best;
       low = c.extend_hard_survivors-walk.ensures.within.lower_bound;
       lanes = c.extend_hard_survivors-walk.ensures.lanes;
-      maps = HoldLanesFrom-more survivors c.extend_hard_survivors-walk.result.survivor_map before group (omega arith)
+      maps = HoldLaneNumbersFromIndex-more survivors c.extend_hard_survivors-walk.result.survivor_map before group (omega arith)
           (omega (arith, same, within, c.requires.at_least))
           (AreSurvivors-map_lanes _ _ c.extend_hard_survivors-walk.result.survivor_map _ walk) c.loop-group.invariant.maps;
     }
@@ -81,4 +81,4 @@ returns-clause-best c =
 pub returns-clause-maps : goal.returns-clause-maps
 returns-clause-maps c =
     let none : c.loop-group.group ≡ 0 = omega arith in
-    subst (λ k. HoldLanesFrom k c.loop-group.survivors) none c.loop-group.invariant.maps
+    subst (λ k. HoldLaneNumbersFromIndex k c.loop-group.survivors) none c.loop-group.invariant.maps

@@ -5,13 +5,13 @@ use Rattle.{
 }
 use Rattle.trellis_decode.proofs.hard.hard_branch_metrics.Goals as goal
 
-pub signs_of-signs-requires-clause-octets : goal.signs_of-signs-requires-clause-octets
-signs_of-signs-requires-clause-octets c = grind arith
+pub sign_bits_of_soft_bits-signs-requires-clause-octets : goal.sign_bits_of_soft_bits-signs-requires-clause-octets
+sign_bits_of_soft_bits-signs-requires-clause-octets c = grind arith
 
 pub returns-clause-has : goal.returns-clause-has
 returns-clause-has c k d =
     let soft = c.args.soft.now in
-    let bit = c.signs_of-signs.ensures in
+    let bit = c.sign_bits_of_soft_bits-signs.ensures in
     let hard : (i : ℕ) → i < 8 → IsHardBit (lane soft i) = λ i lt. c.requires.hard i (pos 0) (omega (arith, c.requires.count)) in
     let pair : (lanes : List ℤ) (n i : ℕ) → i + 2 ≤ 8 → ((p q : ℤ) → IsHardBit p → IsHardBit q →
     n ≡ sign_bit_of p + 2 * sign_bit_of q → HasHardBranchMetrics lanes (p ∷ q ∷ [])) →
@@ -19,17 +19,17 @@ returns-clause-has c k d =
     λ lanes n i headroom has is. rw (pair_lanes soft i (omega (arith, c.requires.count)))
     (has _ _ (hard i (omega arith)) (hard (i + 1) (omega arith)) is) in
     each (λ k. HasHardBranchMetrics
-    (get_or (c.first_branch_metrics.result ∷ c.second_branch_metrics.result ∷ c.first_branch_metrics-2.result
-    ∷ c.second_branch_metrics-2.result ∷ []) k d).lanes (take 2 (drop (2 * k) soft))) 4 (
+    (get_or (c.first_bit_branch_metrics.result ∷ c.second_bit_branch_metrics.result ∷ c.first_bit_branch_metrics-2.result
+    ∷ c.second_bit_branch_metrics-2.result ∷ []) k d).lanes (take 2 (drop (2 * k) soft))) 4 (
       (
         (
           (
             tt,
-            pair _ _ 0 (lit≤ tt) c.first_branch_metrics.ensures.has (omega (arith, bit 0 (lit≤ tt), bit 1 (lit≤ tt))),
+            pair _ _ 0 (lit≤ tt) c.first_bit_branch_metrics.ensures.has (omega (arith, bit 0 (lit≤ tt), bit 1 (lit≤ tt))),
           ),
-          pair _ _ 2 (lit≤ tt) c.second_branch_metrics.ensures.has (omega (arith, bit 2 (lit≤ tt), bit 3 (lit≤ tt))),
+          pair _ _ 2 (lit≤ tt) c.second_bit_branch_metrics.ensures.has (omega (arith, bit 2 (lit≤ tt), bit 3 (lit≤ tt))),
         ),
-        pair _ _ 4 (lit≤ tt) c.first_branch_metrics-2.ensures.has (omega (arith, bit 4 (lit≤ tt), bit 5 (lit≤ tt))),
+        pair _ _ 4 (lit≤ tt) c.first_bit_branch_metrics-2.ensures.has (omega (arith, bit 4 (lit≤ tt), bit 5 (lit≤ tt))),
       ),
-      pair _ _ 6 (lit≤ tt) c.second_branch_metrics-2.ensures.has (omega (arith, bit 6 (lit≤ tt), bit 7 (lit≤ tt))),
+      pair _ _ 6 (lit≤ tt) c.second_bit_branch_metrics-2.ensures.has (omega (arith, bit 6 (lit≤ tt), bit 7 (lit≤ tt))),
     ) k

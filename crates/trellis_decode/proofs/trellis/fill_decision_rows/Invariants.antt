@@ -4,7 +4,7 @@ use Rattle.{
 }
 use Rattle.trellis_decode.proofs.trellis.fill_decision_rows.Given as goal
 
--- from position k on, the decision rows and losses are those of the best lists
+-- from position k on, the decision rows and losses are those of the survivors
 abbrev pub invariant-loop-k : goal.invariant-loop-k
 invariant-loop-k l = record {
   decided : HasDecisionsAndMetrics (drop (l.first + l.k) l.rows) (drop (l.first + l.k) l.losses) (drop (2 * (l.first + l.k)) l.soft)

@@ -10,8 +10,8 @@ use Rattle.{
 }
 use Rattle.trellis_decode.proofs.trellis.fill_decisions.Goals as goal
 
-pub tail_metrics-values-requires-clause-octets : goal.tail_metrics-values-requires-clause-octets
-tail_metrics-values-requires-clause-octets c =
+pub path_metrics_before_tail-values-requires-clause-octets : goal.path_metrics_before_tail-values-requires-clause-octets
+path_metrics_before_tail-values-requires-clause-octets c =
     All-take IsSignedOctet _ _ (All-drop IsSignedOctet _ _ c.prove_octet_range.ensures)
 
 pub loop-group-init : goal.loop-group-init
@@ -23,11 +23,11 @@ loop-group-init c =
     let at : last ≡ length rows % 4 + 4 * (length rows / 4 - 1) = omega (arith, c.requires.at_least) in
     record {
       decided = rw (← at) (HasDecisionsAndMetrics-tail (drop last rows) (drop last losses) (drop (2 * last) soft)
-          (path_metric c.tail_metrics-values.result) (omega (arith, length-drop last rows, c.requires.at_least))
+          (path_metric c.path_metrics_before_tail-values.result) (omega (arith, length-drop last rows, c.requires.at_least))
           (omega (arith, length-drop last losses, c.requires.same, c.requires.at_least))
           (omega (arith, length-drop (2 * last) soft, c.requires.count, c.requires.at_least))
           (All-drop IsSignedOctet (2 * last) soft c.prove_octet_range.ensures) (All-drop (λ row. row ≡ 0) last rows c.requires.blank)
-          (λ s lt. IsSurvivor-to_end s (2 * last) _ soft _ (c.tail_metrics-values.ensures.best s lt)));
-      even = c.tail_metrics-values.ensures.even;
-      odd = c.tail_metrics-values.ensures.odd;
+          (λ s lt. IsSurvivor-to_end s (2 * last) _ soft _ (c.path_metrics_before_tail-values.ensures.best s lt)));
+      even = c.path_metrics_before_tail-values.ensures.even;
+      odd = c.path_metrics_before_tail-values.ensures.odd;
     }

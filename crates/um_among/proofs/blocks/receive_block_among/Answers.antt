@@ -17,7 +17,7 @@ returns c =
       none = block_none c.args.bursts.now c.args.max_rank _ is;
       information = block_information c.args.bursts.now c.args.max_rank _ is;
       first = block_first c.args.bursts.now c.args.max_rank _ c.requires.at_least is;
-      -- at rank 1, the report is the one that decoding only the most likely word gives
+      -- if the word taken has rank 1, the report is the one that decoding only the most likely word gives
       alone = λ first.
           let taken = taken_first BlockCrcHolds is.soft c.args.max_rank octets_if_crc_holds r.rank r.report.u r.report.accepted
           c.requires.at_least first is.choice in

@@ -48,7 +48,7 @@ returns-then-holds c =
         earlier_words = c.loop-tried.ranked.returned;
         ranked = subst (IsRanked c.args.soft.now) next.0
             (subst (λ s. IsRanked s c.next.new.self.returned) soft c.in_ok-metric.ensures.ranked);
-        rank_is = ap (λ n. n + 1) (sym c.loop-tried.invariant.1);
+        rank_follows_earlier_words = ap (λ n. n + 1) (sym c.loop-tried.invariant.1);
         rank_limit = omega arith;
         crcs_fail = c.loop-tried.invariant.3;
         crc_holds = c.if-holds.ensures.0 refl;

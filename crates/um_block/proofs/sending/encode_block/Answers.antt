@@ -2,7 +2,7 @@ use Rattle.{
   std.proofs.{Common.{refl, arith}, lemmas.List.Elements.All-from_get_or},
   bit_blocks.specs.Octets.{IsOctet, bits_of},
   conv_code.specs.Code.encoding,
-  fire_code.specs.Words.IsXcchWord,
+  fire_code.specs.Words.IsXcchCodeword,
   um_block.{specs.Sent.with_tail, proofs.ReceivedBursts.{AreCodedBitsPacked-block, carries}},
 }
 use Rattle.um_block.proofs.sending.encode_block.Goals as goal
@@ -17,7 +17,7 @@ returns c =
         u = u;
         count = c.told-octets;
         all_octets = All-from_get_or IsOctet octets 0 (λ k h. omega (arith, c.fits-octets k));
-        information = carries IsXcchWord (bits_of octets) (bits_of crc) c.octets_with_crc.ensures.1;
+        information = carries IsXcchCodeword (bits_of octets) (bits_of crc) c.octets_with_crc.ensures.1;
         code = refl;
       },
       c.new.ensures (encoding u)

@@ -24,7 +24,7 @@ returns-clause-sent c =
         information = record {
           crc = c.xor-crc.result;
           word = rw c.xor-crc.ensures.value under;
-          is_with_tail = cc (c.write_crc_and_tail.ensures, c.as_slice.ensures.value, c.as_slice-2.ensures.value);
+          has_tail_bits_appended = cc (c.write_crc_and_tail.ensures, c.as_slice.ensures.value, c.as_slice-2.ensures.value);
         };
         code = c.encode.ensures;
       };

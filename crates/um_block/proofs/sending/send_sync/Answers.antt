@@ -29,7 +29,7 @@ returns-clause-sent c = record {
     information = record {
       crc = c.sch_parity.result;
       word = c.sch_parity.ensures.word;
-      is_with_tail = cc (c.write_crc_and_tail.ensures, c.as_slice.ensures.value, c.as_slice-2.ensures.value);
+      has_tail_bits_appended = cc (c.write_crc_and_tail.ensures, c.as_slice.ensures.value, c.as_slice-2.ensures.value);
     };
     code = c.encode.ensures;
   };

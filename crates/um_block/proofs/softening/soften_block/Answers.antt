@@ -9,7 +9,8 @@ pub returns-clause-value : goal.returns-clause-value
 returns-clause-value c =
     let block = c.args.block.now in
     let long = length-map block soft_bits in
-    ext_get_or [] _ _ (omega arith) (λ k h. c.loop-b.invariant.1 k (omega arith) ∙ sym (get_or-map soft_bits block k [] [] (omega arith)))
+    ext_get_or [] _ _ (omega arith) (λ k h. c.loop-b.invariant.1 k (omega arith)
+    ∙ sym (get_or-map soft_bits block k [] [] (omega arith)))
 
 pub returns-clause-soft : goal.returns-clause-soft
 returns-clause-soft c = subst (All AllSoftBits) (sym (returns-clause-value c)) (AllSoftBits-all c.args.block.now)

@@ -1,6 +1,6 @@
 use Rattle.{
   std.proofs.{Common.{ap, arith, length, nat_eq, sym, true, ℕ, ◌≡◌, ◌∙◌}, lemmas.Bool.{Decides.nat_tests, false≢true}},
-  um_air.specs.segmenting.Buffers.octets_in,
+  um_air.specs.segmenting.Buffers.octets_in_buffer,
   um_c.proofs.Sessions.{opening-IsProgramRun, was-asked, asked-one, was-answered, answered-one, was-opened, allowed-exchange, both-open},
 }
 use Rattle.um_c.proofs.opening.open_link.Goals as goal
@@ -8,7 +8,7 @@ use Rattle.um_c.proofs.opening.open_link.Goals as goal
 is_zero : (n : ℕ) → nat_eq n 0 ≡ true → n ≡ 0
 is_zero n h = grind (arith, nat_tests)
 
--- where the function returns early, a call was refused or did not send exactly one block
+-- `open_link` returns early only if a call does not return 0 or does not send exactly one block
 pub returns-then-um_end_open-ne0-clause-succeeds_from_idle : goal.returns-then-um_end_open-ne0-clause-succeeds_from_idle
 returns-then-um_end_open-ne0-clause-succeeds_from_idle c = λ e f mobile network allowed.
     absurd (c.if-um_end_open-ne0.true (was-asked mobile network allowed c.um_end_open.ensures.answers_call).answer_is_0)
@@ -60,7 +60,7 @@ returns-clause-run c =
     let asked = c.first_block.ensures in
     let answered = c.first_block-2.ensures in
     λ ok channel.
-    opening-IsProgramRun channel (octets_in c.args.info.now)
+    opening-IsProgramRun channel (octets_in_buffer c.args.info.now)
     (record {
       answer_is_0 = c.if-um_end_open-ne0.false;
       count = c.if-asked-ne1.false;

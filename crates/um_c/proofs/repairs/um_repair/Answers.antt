@@ -1,13 +1,13 @@
 use Rattle.{
   std.proofs.Common.{ℕ, List, inl, inr, refl, subst, rules},
-  fire_repair.specs.{fire_code.Words.IsXcchWord, Repairs.IsRepair},
+  fire_repair.specs.{fire_code.Words.IsXcchCodeword, Repairs.IsRepair},
   um_c.proofs.Calls.repair-unique,
 }
 use Rattle.um_c.proofs.repairs.um_repair.Goals as goal
 
 -- the CRC of the word is wrong, and the word has no repair
 abbrev Lost : List ℕ → Type 0
-Lost w = (IsXcchWord w → ⊥) × ((v : List ℕ) → IsRepair w v → ⊥)
+Lost w = (IsXcchCodeword w → ⊥) × ((v : List ℕ) → IsRepair w v → ⊥)
 
 pub returns-in_default-clause-answer : goal.returns-in_default-clause-answer
 returns-in_default-clause-answer c = search rules

@@ -8,36 +8,36 @@ pub returns-then-is_frame_on_sapi_3-clause-answers_block : goal.returns-then-is_
 returns-then-is_frame_on_sapi_3-clause-answers_block c =
     let is = c.is_frame_on_sapi_3.ensures.0 c.if-is_frame_on_sapi_3.true in
     record {
-      on_sapi3 = λ _ _. record {
+      sapi3_frame_to_sapi3_endpoint = λ _ _. record {
         answers_block = c.um_end_take-answer.ensures.answers_block;
         other_unchanged = refl;
         reports_sapi =
-            c.write_sapi.ensures.written;
+            c.write_sapi_if_successful.ensures.written;
       };
-      on_sapi0 = λ _ never. absurd (never is);
+      other_block_to_sapi0_endpoint = λ _ never. absurd (never is);
       not_a_side = λ never. absurd (never (c.is_valid_side.ensures.0 c.if-not-is_valid_side.false));
       unchanged = λ other.
           let u = c.um_end_take-answer.ensures.answers_block.unchanged other in (
             ap (λ (e : CEndpoint). let s : CSide = record c.args.side.now { link3 = e } in s) u.0,
-            c.write_sapi.ensures.unchanged other,
+            c.write_sapi_if_successful.ensures.unchanged other,
             u.1,
           );
     }
 
 pub returns-clause-answers_block : goal.returns-clause-answers_block
 returns-clause-answers_block c = record {
-  on_sapi3 = λ _ is. absurd (false≢true (sym c.if-is_frame_on_sapi_3.false ∙ c.is_frame_on_sapi_3.ensures.1 is));
-  on_sapi0 = λ _ _. record {
+  sapi3_frame_to_sapi3_endpoint = λ _ is. absurd (false≢true (sym c.if-is_frame_on_sapi_3.false ∙ c.is_frame_on_sapi_3.ensures.1 is));
+  other_block_to_sapi0_endpoint = λ _ _. record {
     answers_block = c.um_end_take-answer-2.ensures.answers_block;
     other_unchanged = refl;
     reports_sapi =
-        c.write_sapi-2.ensures.written;
+        c.write_sapi_if_successful-2.ensures.written;
   };
   not_a_side = λ never. absurd (never (c.is_valid_side.ensures.0 c.if-not-is_valid_side.false));
   unchanged = λ other.
       let u = c.um_end_take-answer-2.ensures.answers_block.unchanged other in (
         ap (λ (e : CEndpoint). let s : CSide = record c.args.side.now { link0 = e } in s) u.0,
-        c.write_sapi-2.ensures.unchanged other,
+        c.write_sapi_if_successful-2.ensures.unchanged other,
         u.1,
       );
 }

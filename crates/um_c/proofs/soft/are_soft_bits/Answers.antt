@@ -1,4 +1,4 @@
--- The least of 0 and the values is a soft value if and only if all values are.
+-- The minimum of 0 and all values is a soft bit if and only if every value is a soft bit.
 use Rattle.{
   std.proofs.Common.{◌≡◌, ◌≤ℤ◌, ℤ, pos, List, All, fold, get_or, sym, ap, subst, ⊎_elim, ◌∙◌, w8, FitsSigned},
   std.proofs.{Common.{rules, arith}, lemmas.{Int.{ints, to_z-of_z, fold-int_min_bounds, fold-int_min_reached}, List.take_all}},

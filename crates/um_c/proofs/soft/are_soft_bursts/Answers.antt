@@ -1,4 +1,4 @@
--- All values of the joined bursts are soft values if and only if those of each burst are.
+-- All values of the concatenated bursts are soft bits if and only if all values of each burst are soft bits.
 use Rattle.{
   std.{
     proofs.{

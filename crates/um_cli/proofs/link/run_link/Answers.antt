@@ -1,6 +1,6 @@
 use Rattle.{
   std.proofs.Common.{◌≡◌, ap, sym, ◌∙◌},
-  um_session.{specs.Courses.RadioCounters, proofs.Lemmas.{IsLinkRun-no_memory, IsLinkRun-equal}},
+  um_session.{specs.Courses.RadioCounters, proofs.Lemmas.{IsLinkCommandRun-no_memory, IsLinkCommandRun-equal}},
   um_cli.proofs.Lemmas.link-most_likely,
 }
 use Rattle.um_cli.proofs.link.run_link.Goals as goal
@@ -11,7 +11,8 @@ returns-in-Ok-clause-session g c =
     let represents = c.in-Ok.ensures in
     let left : c.radio-1.given.0 ≡ c.run_link_session.new.link.radio.now =
     c.radio-1.given.1 (sym (c.run_link_session.ensures.same_radio ∙ c.new-link.ensures.same_radio)) in
-    IsLinkRun-equal _ c.args.tsc _ c.args.channel _ _ _ _ c.run_link_session.result _ _ _ _ (ap (λ w. w.tsc) world_is ∙ represents.tsc)
+    IsLinkCommandRun-equal _ c.args.tsc _ c.args.channel _ _ _ _ c.run_link_session.result _ _ _ _ (ap (λ w. w.tsc) world_is
+    ∙ represents.tsc)
     (ap (λ w. w.channel) world_is ∙ represents.channel)
     (ap (λ r. let t : RadioCounters = record { sent_blocks = g.R.Radio.sent r; received_blocks = g.R.Radio.heard r } in t)
     c.new-link.ensures.radio)
@@ -19,7 +20,7 @@ returns-in-Ok-clause-session g c =
     c.run_link_session.ensures.session
 
 pub returns-in-Err-clause-session : goal.returns-in-Err-clause-session
-returns-in-Err-clause-session g c = IsLinkRun-no_memory c.args.tsc c.args.channel _ _ _
+returns-in-Err-clause-session g c = IsLinkCommandRun-no_memory c.args.tsc c.args.channel _ _ _
 
 pub returns-in-Ok-clause-link_most_likely : goal.returns-in-Ok-clause-link_most_likely
 returns-in-Ok-clause-link_most_likely g c = link-most_likely _ _ _ _ _ _ _ _ _ (returns-in-Ok-clause-session g c)

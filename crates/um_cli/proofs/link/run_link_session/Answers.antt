@@ -1,8 +1,9 @@
-use Rattle.um_session.proofs.Lemmas.{IsLinkRun-run, link-prescribed}
+use Rattle.um_session.proofs.Lemmas.{IsLinkCommandRun-run, link-prescribed}
 use Rattle.um_cli.proofs.link.run_link_session.Goals as goal
 
 pub returns-clause-session : goal.returns-clause-session
-returns-clause-session g c = IsLinkRun-run _ _ _ _ _ (λ course represents. (represents.1, represents.2)) _ _ _ _ _ c.drive.ensures.table
+returns-clause-session g c =
+    IsLinkCommandRun-run _ _ _ _ _ (λ course represents. (represents.1, represents.2)) _ _ _ _ _ c.drive.ensures.table
 
 pub returns-clause-due : goal.returns-clause-due
 returns-clause-due g c = link-prescribed _ _ _ _ _ _ c.drive.ensures.due

@@ -14,13 +14,13 @@ use Rattle.{
   um_show.proofs.ShowRules.show_is_determined,
   um_margin.proofs.Lemmas.margin_is_determined,
   um_repair.proofs.Lemmas.repair_is_determined,
-  um_end.{specs.{um_link.Naming.spec_role_of, EndRuns.initial_run}, proofs.EndSteps.end_is_determined},
+  um_end.{specs.{um_link.Naming.spec_role_of, EndRuns.initial_end_command_state}, proofs.EndSteps.end_is_determined},
 }
 use Rattle.um_cli.proofs.top.run.Goals as goal
 
 abbrev EndIsMostLikely : Invocation → Status → (left left' taken taken' : Option (List ℕ)) → Type 0
 EndIsMostLikely (End side tsc) status left left' taken taken' =
-    IsRun end_rules_with_ml_decoding (initial_run (spec_role_of side) tsc) (λ last. Unit {0}) status left left' taken taken'
+    IsRun end_rules_with_ml_decoding (initial_end_command_state (spec_role_of side) tsc) (λ last. Unit {0}) status left left' taken taken'
 EndIsMostLikely command status left left' taken taken' = Unit {0}
 
 pub returns-in-Some-Code-clause-due : goal.returns-in-Some-Code-clause-due
@@ -88,7 +88,7 @@ returns-in-Some-End-clause-due g c =
 pub returns-in-Some-End-clause-end_most_likely : goal.returns-in-Some-End-clause-end_most_likely
 returns-in-Some-End-clause-end_most_likely g c = λ side tsc is.
     let run = c.drive-in-Some-End in
-    let begun = initial_run (spec_role_of c.in-Some-End.side) c.in-Some-End.tsc in
+    let begun = initial_end_command_state (spec_role_of c.in-Some-End.side) c.in-Some-End.tsc in
     at_shape _ _ (End c.in-Some-End.side c.in-Some-End.tsc) (λ P p. p) _ _ c.in-Some-End.ensures.command
     c.in-Some-End.field-0-is _ c.new-in-Some-End.ensures.start run.result
     (λ command. EndIsMostLikely command run.result (g.S.Source.left c.args.input.now) (g.S.Source.left run.new.input)

@@ -1,5 +1,4 @@
--- The length of an answer: a step reports at most one message and at most one acknowledgement before it, so the lines of an answer fit in
--- the output buffer.
+-- A step reports at most one acknowledgement, followed by at most one other notice, so the lines of an answer fit in the output buffer.
 use Rattle.{
   std.proofs.{Common.{◌*◌, ◌^◌, nat_eq, nat_lt, nat_abs, append-nil}, lemmas.{Bool.Decides.nat_tests, Fmt.length-decimal-le}},
   std.{proofs.lemmas.{Fmt.length_signed_le, List.length-map}, specs.{Int.Signed.mag, Fmt.{decimal, signed_decimal}, List.join_with_byte}},
@@ -14,15 +13,15 @@ use Rattle.{
         Rules.{sends_next_segment, evaluates_nr, accepts_segment, answers_segment, rejects_segment, takes_i_frame, answers_poll, takes_rr},
         Rules.{resends_outstanding_segment, takes_rej},
         Calls.{Sends, T200Expires, call_outcome, with_queued_message},
-        Tables.{Reply, AcceptsSabm, ConfirmsEstablishment, TakesUi, TakesI, TakesRr, TakesRej, closes_and_reports, outcome_of_reply},
-        Tables.reply_to_frame,
+        Tables.{Reply, AcceptsSabm, ConfirmsEstablishment, ReportsUiInformation, TakesIFrame, TakesRr, TakesRej, closes_and_reports},
+        Tables.{outcome_of_reply, reply_to_frame},
       },
     },
     proofs.lapdm_window.Lemmas.{IsReplyTo, cause_of, bound-frame, bound-call},
   },
   um_script.{
     specs.{AnswerWords.{actor_word, sapi_suffix}, AnswerLines.{AnswerLine, reception_quality, reception_words, notice_words}},
-    specs.AnswerLines.{received_block_line, received_block_lines, spaced_words, lines_text, ReceptionIsInRange},
+    specs.AnswerLines.{received_block_line, received_block_lines, spaced_words, answer_lines_text, ReceptionIsInRange},
     proofs.AnswerLaws.{lines_text_append, join-spaced, report_line},
   },
   um_end.specs.Terminals.step_for_frame,
@@ -36,7 +35,7 @@ pub mod AsFrameSessions
 
 -- ---- the notices that a step reports
 
--- the notice has at most 251 octets, or a number of at most 20 digits
+-- the message in the notice has at most 251 octets, and the number in it is below 2 ^ 64
 abbrev pub HasSmallContents : Notice → Type 0
 HasSmallContents (N.Opened m) = length m ≤ 251
 HasSmallContents (N.Got m) = length m ≤ 251
@@ -45,19 +44,19 @@ HasSmallContents (N.Acked n) = n < 2 ^ 64
 HasSmallContents N.Oversize = Unit {0}
 HasSmallContents (N.Closed reason) = Unit {0}
 
--- either no notice, or a single acknowledgement
+-- the list is empty or contains only an acknowledgement
 abbrev pub IsAcked : List Notice → Type 0
 IsAcked [] = Unit {0}
 IsAcked (N.Acked n ∷ []) = n < 2 ^ 64
 IsAcked other = ⊥
 
--- at most one notice
+-- the list contains at most one notice, and this notice satisfies `HasSmallContents`
 abbrev pub IsOne : List Notice → Type 0
 IsOne [] = Unit {0}
 IsOne (notice ∷ []) = HasSmallContents notice
 IsOne other = ⊥
 
--- at most one notice, perhaps after an acknowledgement
+-- the list contains at most one notice, perhaps after an acknowledgement, and its notices satisfy `HasSmallContents`
 abbrev pub IsAtMostAckAndOne : List Notice → Type 0
 IsAtMostAckAndOne [] = Unit {0}
 IsAtMostAckAndOne (notice ∷ []) = HasSmallContents notice
@@ -83,7 +82,7 @@ by_test : (P : List Notice → Type 0) (b : Bool) (o p : Outcome) → P o.notice
 by_test P true o p h g = h
 by_test P false o p h g = g
 
--- ---- the rules of the window
+-- ---- the notices that the rules of the window report
 
 next : (e : EndpointState) → (sends_next_segment e).notices ≡ []
 next e = grind arith
@@ -107,7 +106,7 @@ notices_of_poll b e = grind arith
 again : (e : EndpointState) → (resends_outstanding_segment e).notices ≡ []
 again e = grind arith
 
--- the notices after an N(R) is evaluated and two further rules are applied
+-- if the first of two rules reports at most one notice and the second none, evaluating N(R) before them adds at most an acknowledgement
 counted : (nr : ℕ) (first second : EndpointState → Outcome) (e : EndpointState) →
     ((x : EndpointState) → IsOne (first x).notices) →
     ((x : EndpointState) → (second x).notices ≡ []) → IsAtMostAckAndOne (evaluates_nr nr e then first then second).notices
@@ -126,19 +125,19 @@ notices-rr nr b e = counted nr (answers_poll b) sends_next_segment e (notices_of
 notices-rej : (nr : ℕ) (b : Bool) (e : EndpointState) → IsAtMostAckAndOne (takes_rej nr b e).notices
 notices-rej nr b e = counted nr (answers_poll b) resends_outstanding_segment e (notices_of_poll b) again
 
--- ---- the tables of replies
+-- ---- the notices that the replies to frames and calls report
 
 notices-reply : (r : Reply) (c : Content) (e : EndpointState) → IsReplyTo c e r → length (information c) ≤ 251 →
     IsAtMostAckAndOne (outcome_of_reply r e).notices
 notices-reply (AcceptsSabm info) c e cause h = rw cause.1 at h
 notices-reply (ConfirmsEstablishment info) c e cause h = rw cause.0 at h
-notices-reply (TakesUi info) c e cause h = rw cause.1 at h
-notices-reply (TakesI ns nr p segment) c e cause h = notices-i ns nr p segment e
+notices-reply (ReportsUiInformation info) c e cause h = rw cause.1 at h
+notices-reply (TakesIFrame ns nr p segment) c e cause h = notices-i ns nr p segment e
 notices-reply (TakesRr nr poll) c e cause h = notices-rr nr poll e
 notices-reply (TakesRej nr poll) c e cause h = notices-rej nr poll e
 notices-reply r c e cause h = tt
 
--- a frame, or (below) a call, leads to at most one notice, perhaps after an acknowledgement
+-- a frame with at most 251 octets of information leads to at most one notice, perhaps after an acknowledgement
 notices-frame : (f : Frame) (e : EndpointState) → length (information f.content) ≤ 251 → IsAtMostAckAndOne (frame_outcome f e).notices
 notices-frame f e h = notices-reply (reply_to_frame f e) f.content e (cause_of e f) h
 
@@ -147,7 +146,7 @@ notices-call (Sends m) e = rw (next (with_queued_message m e)) tt
 notices-call T200Expires e = by_test IsAtMostAckAndOne (nat_lt e.retries (n200 e.channel e.state)) _ (closes_and_reports _ e) tt tt
 notices-call call e = tt
 
--- ---- texts
+-- ---- the length of the text of a notice
 
 append_four : (a b c d : List ℕ) → length (a ++ b ++ c ++ d) ≡ length a + length b + length c + length d
 append_four a b c d = omega (arith, length-append (a ++ b ++ c) d, length-append (a ++ b) c, length-append a b)
@@ -176,9 +175,9 @@ notice_short (N.Acked n) h = omega (arith, acked_short n h)
 notice_short (N.Closed R.Contention) h = omega arith
 notice_short notice h = omega arith
 
--- the text of the lines for these notices
+-- the text of the lines that report these notices
 abbrev notified : Role → Sapi → List Notice → List ℕ
-notified role sapi notices = lines_text (map (L.Reports (BySide role) sapi) notices)
+notified role sapi notices = answer_lines_text (map (L.Reports (BySide role) sapi) notices)
 
 line_short : (role : Role) (sapi : Sapi) (notice : Notice) (notices : List Notice) →
     length (notified role sapi (notice ∷ notices)) ≤ 5 + length (spaced_words (notice_words notice)) + length
@@ -196,7 +195,7 @@ notices_short role sapi (N.Acked k ∷ n ∷ []) h =
 notices_short role sapi ns h = absurd h
 
 frames_short : (role : Role) (tsc : ℕ) (frames : List Octets) (blocks : List Block) → AreCodedBlocks tsc frames blocks →
-    length (lines_text (map (L.Sends (BySide role)) frames)) ≡ 57 * length frames
+    length (answer_lines_text (map (L.Sends (BySide role)) frames)) ≡ 57 * length frames
 frames_short role tsc [] [] h = refl
 frames_short role tsc (f ∷ fs) (b ∷ bs) h =
     omega (arith, length-append {A = ℕ}, who_three role, length-encode_lower f, h.0.code.count, frames_short role tsc fs bs h.1)
@@ -224,14 +223,14 @@ reception_short r tsc h =
     )
 
 arrival_short : (role : Role) (r : Received) (octets : Octets) → r.accepted ≡ Some octets → length octets ≡ 23 → r.tsc ≤ 7 →
-    ReceptionIsInRange (reception_quality r) → length (lines_text (received_block_lines (BySide role) (Some r))) ≤ 118
+    ReceptionIsInRange (reception_quality r) → length (answer_lines_text (received_block_lines (BySide role) (Some r))) ≤ 118
 arrival_short role r octets is count tsc fits =
     let name = actor_word (BySide role) in
     let words = codes "takes" ∷ encode_lower octets ∷ reception_words (reception_quality r) in
     let line = join_with_byte 32 (name ∷ words) in
     omega (
       arith,
-      ap (λ accepted. length (lines_text (received_block_line (BySide role) accepted r ∷ []))) is,
+      ap (λ accepted. length (answer_lines_text (received_block_line (BySide role) accepted r ∷ []))) is,
       length-append (line ++ codes "\n") [],
       length-append line (codes "\n"),
       ap length (join-spaced name words),
@@ -243,18 +242,19 @@ arrival_short role r octets is count tsc fits =
       reception_short r tsc fits,
     )
 
--- ---- answers
+-- ---- the length of an answer
 
--- an answer, with the lines of the bursts of each frame sent, has fewer than 2000 octets
+-- the text of the answer and the burst lines of each frame sent (604 octets per frame) together have fewer than 2000 octets
 abbrev pub IsShort : Answer → Type 0
 IsShort answer = length (answer_text answer) + 604 * length (frames_in_answer answer) < 2000
 
-lines_four : (a b c d : List AnswerLine) → length (lines_text (a ++ b ++ c ++ d))
-    ≡ length (lines_text a) + length (lines_text b) + length (lines_text c) + length (lines_text d)
+lines_four : (a b c d : List AnswerLine) → length (answer_lines_text (a ++ b ++ c ++ d))
+    ≡ length (answer_lines_text a) + length (answer_lines_text b) + length (answer_lines_text c) + length (answer_lines_text d)
 lines_four a b c d = rw (lines_text_append (a ++ b ++ c) d, lines_text_append (a ++ b) c, lines_text_append a b) (append_four _ _ _ _)
 
 outcome_short : (role : Role) (received : Option Received) (sapi : Sapi) (o : Outcome) (a : SideState) (tsc : ℕ) (blocks : List Block) →
-    length o.frames ≤ 2 → IsAtMostAckAndOne o.notices → length (lines_text (received_block_lines (BySide role) received)) ≤ 118 →
+    length o.frames ≤ 2 → IsAtMostAckAndOne o.notices →
+    length (answer_lines_text (received_block_lines (BySide role) received)) ≤ 118 →
     AreCodedBlocks tsc (map (octets_of Sdcch) o.frames) blocks
     → IsShort (Accepts (terminal_step_of role received (endpoint_step sapi o a)))
 outcome_short role received sapi o a tsc blocks few brief arrived coded =
@@ -276,10 +276,10 @@ asked_short : (role : Role) (a : SideState) (sapi : Sapi) (call : Call) (b : Sid
     length (answer_text answer) < 2000 → IsShort answer
 asked_short role a sapi call b (Refuses why) tsc blocks h coded lines = omega (arith, lines)
 asked_short role a sapi call b (Accepts step) tsc blocks h coded lines =
-    let o = call_outcome call (endpoint_on sapi a) in
+    let o = call_outcome call (endpoint_with_sapi sapi a) in
     rw h.2 (outcome_short role None sapi o a tsc blocks (bound-call call _).frames (notices-call call _) (omega arith) (rw h.2 at coded))
 
--- the answer to a call has fewer than 2000 octets
+-- the answer to a call has fewer than 2000 octets with its burst lines (`IsShort`), if it has fewer without them
 pub call_short : (role : Role) (a : SideState) (event : Event) (b : SideState) (answer : Answer) (tsc : ℕ) (text : List ℕ) →
     SideAnswersCall role a event b answer → IsAnswerText tsc answer text → length (answer_text answer) < 2000 → IsShort answer
 call_short role a (Open info) b answer tsc text h t lines = asked_short role a Zero (Opens info) b answer tsc _ h t.coded lines
@@ -312,11 +312,11 @@ taken_short role a r f octets tsc blocks is frame known fits =
     (λ q coded lines. outcome_short role (Some r) Three (frame_outcome f a.link3) a tsc blocks (bound-frame f _).frames
     (notices-frame f _ room) arrived coded) (λ p q coded lines. IsShort-unsent (terminal_step_of role (Some r) (no_op_step a)) refl lines)
 
--- the answer to a block has fewer than 2000 octets
+-- the answer to a block, with its burst lines, has fewer than 2000 octets (`IsShort`)
 pub block_short : (role : Role) (a : SideState) (bursts : List (List ℤ)) (b : SideState) (step : Step) (tsc : ℕ) (text : List ℕ) →
     ReceivesBursts role a bursts b step → ((r : Received) → step.received ≡ Some r → ReceptionIsInRange (reception_quality r)) →
     IsAnswerText tsc (Accepts step) text → length (answer_text (Accepts step)) < 2000 → IsShort (Accepts step)
-block_short role a bursts b step tsc text h fits t lines = by_read h.frame h.report.accepted h.reads refl h.step_is
+block_short role a bursts b step tsc text h fits t lines = by_read h.frame h.report.accepted h.reads refl h.step_is_terminal_step
   where
     by_read : (read : Option Frame) (accepted : Option Octets) → ReadsFrame Sdcch accepted read → h.report.accepted ≡ accepted →
         step ≡ terminal_step_of role (Some h.report) (step_for_read_frame read a) → IsShort (Accepts step)

@@ -3,13 +3,14 @@ use Rattle.{
     proofs.Common.{List, codes, false, length, sym, true, ◌++◌, ◌==◌, ◌∙◌, ◌≡◌, ℕ},
     specs.List.{list_all, list_any},
   },
-  um_formats.{proofs.Lemmas.{soft_line, soft_within}, specs.{Held.IsSoftNormalLine, SoftOctets.signed_octets}},
+  um_formats.{proofs.Lemmas.{soft_line, soft_within}, specs.{Held.IsSoftNormalBurstLine, SoftOctets.signed_octets}},
   um_lines.specs.{Fields.octets_from_hex, Hex.is_hex_digit},
 }
 use Rattle.um_formats.proofs.held.hold_soft_burst.Goals as goal
 
-is_soft : (line digits octets : List ℕ) → (line ≡ codes "N " ++ digits) × (length digits ≡ 296) → list_all is_hex_digit digits ≡ true
-    → octets ≡ octets_from_hex digits → list_any (λ octet. octet == 128) octets ≡ false → IsSoftNormalLine line digits
+is_soft : (line digits octets : List ℕ) → (line ≡ codes "N " ++ digits) × (length digits ≡ 296) →
+    list_all is_hex_digit digits ≡ true
+    → octets ≡ octets_from_hex digits → list_any (λ octet. octet == 128) octets ≡ false → IsSoftNormalBurstLine line digits
 is_soft line digits octets form hex is none = record {
   octets = record { line_form = form.0; all_hex_digits = hex; right_length = form.1 };
   in_range = rw is at none;

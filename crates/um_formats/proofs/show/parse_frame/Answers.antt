@@ -10,11 +10,11 @@ returns-then-not-have_valid_digits c =
     refused_for_digits _ c.in_ok-found.found c.in_ok-found.ensures (not-false _ (sym c.have_valid_digits.ensures
     ∙ c.if-not-have_valid_digits.true))
 
-pub returns-then-not-have_valid_length : goal.returns-then-not-have_valid_length
-returns-then-not-have_valid_length c =
+pub returns-then-not-has_valid_info_length : goal.returns-then-not-has_valid_info_length
+returns-then-not-has_valid_info_length c =
     refused_for_length _ c.in_ok-found.found c.in_ok-found.ensures
     (not-true _ (sym c.have_valid_digits.ensures ∙ c.if-not-have_valid_digits.false))
-    (not-false _ (sym c.have_valid_length.ensures ∙ c.if-not-have_valid_length.true))
+    (not-false _ (sym c.has_valid_info_length.ensures ∙ c.if-not-has_valid_info_length.true))
 
 pub octets-requires-clause-digits : goal.octets-requires-clause-digits
 octets-requires-clause-digits c = not-true _ (sym c.have_valid_digits.ensures ∙ c.if-not-have_valid_digits.false)
@@ -24,5 +24,5 @@ returns c =
     let f = c.octets.ensures.0 in
     ap (λ octets. Ok (S.Frame octets)) c.octets.ensures.2 ∙ read_frame _ c.in_ok-found.found c.in_ok-found.ensures f
     (not-true _ (sym c.have_valid_digits.ensures ∙ c.if-not-have_valid_digits.false))
-    (not-true _ (sym c.have_valid_length.ensures ∙ c.if-not-have_valid_length.false))
+    (not-true _ (sym c.has_valid_info_length.ensures ∙ c.if-not-has_valid_info_length.false))
     c.octets.ensures.1

@@ -1,5 +1,9 @@
 use Rattle.{
-  std.proofs.{Common.{Some, None, arith, drop, sym, subst, take, ◌≡◌}, Math.Seq.take-add, lemmas.List.{length-drop, Elements.All-append}},
+  std.proofs.{
+    Common.{Some, None, arith, drop, sym, subst, take, ◌≡◌},
+    Math.Seq.take-add,
+    lemmas.List.{length-drop, Elements.All-append},
+  },
   um_io.{specs.Lines.{IsLine, IsNotLineFeed}, proofs.Lemmas.{MatchOption-behind, MatchOption-feed, slice_range-end}},
 }
 use Rattle.um_io.proofs.buffer.search_line_feed.Goals as goal

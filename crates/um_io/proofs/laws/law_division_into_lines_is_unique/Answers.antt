@@ -1,5 +1,5 @@
-use Rattle.um_io.proofs.Lemmas.{IsDivided-lines_of_octets, lines_of_octets-only}
+use Rattle.um_io.proofs.Lemmas.{IsDividedIntoLines-lines_of_octets, lines_of_octets-only}
 use Rattle.um_io.proofs.laws.law_division_into_lines_is_unique.Goals as goal
 
 pub returns : goal.returns
-returns c = record { divided = IsDivided-lines_of_octets; only = lines_of_octets-only }
+returns c = record { divided = IsDividedIntoLines-lines_of_octets; only = lines_of_octets-only }

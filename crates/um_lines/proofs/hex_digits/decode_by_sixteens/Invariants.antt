@@ -5,7 +5,7 @@ use Rattle.{
 }
 use Rattle.um_lines.proofs.hex_digits.decode_by_sixteens.Given as goal
 
--- the octets written so far are decoded from their digits, and the codes tell whether these are hexadecimal digits
+-- each octet written so far has the value of its two digits, and `codes` tells whether all these digits are hexadecimal
 abbrev pub invariant-loop-at : goal.invariant-loop-at
 invariant-loop-at l =
     (length l.octets ≡ length l.initial.octets)

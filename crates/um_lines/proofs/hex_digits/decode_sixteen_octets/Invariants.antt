@@ -5,7 +5,7 @@ use Rattle.{
 }
 use Rattle.um_lines.proofs.hex_digits.decode_sixteen_octets.Given as goal
 
--- the octets written so far are decoded from their digits
+-- each octet written so far has the value of its two hexadecimal digits
 abbrev pub invariant-loop-i : goal.invariant-loop-i
 invariant-loop-i l =
     (length l.octets ≡ length l.initial.octets)

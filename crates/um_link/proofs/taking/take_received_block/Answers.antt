@@ -1,6 +1,6 @@
 use Rattle.{
   std.proofs.Common.{rules, ap, ◌∙◌, None},
-  lapdm_frame.specs.Content.frame_of,
+  lapdm_frame.specs.Content.frame_of_view,
   um_link.{specs.{Naming.spec_role_of, BlockTaking.accepted_octets}, proofs.Lemmas.{TakingFrame-read, TakingFrame-none}},
   um_air.specs.Air.ReadsFrame,
 }
@@ -8,7 +8,7 @@ use Rattle.um_link.proofs.taking.take_received_block.Goals as goal
 
 pub returns-in-Ok-clause-takes : goal.returns-in-Ok-clause-takes
 returns-in-Ok-clause-takes c =
-    TakingFrame-read (spec_role_of c.args.end) c.args.channel _ _ (frame_of c.in-Ok.frame) _ _ c.take.new.effects c.take.result
+    TakingFrame-read (spec_role_of c.args.end) c.args.channel _ _ (frame_of_view c.in-Ok.frame) _ _ c.take.new.effects c.take.result
     (ap accepted_octets c.in-Some.is ∙ c.in-Some-accepted.is)
     c.in-Ok.ensures.frame c.requires.channel c.take.ensures.refines c.take.ensures.sapi
 

@@ -1,19 +1,9 @@
 -- Each round of the loop counts one more event and its answer, and the radio counts the same blocks.
 use Rattle.{
   std.proofs.Common.{◌≡◌, ◌∙◌, ap, ℕ, ◌+◌, arith},
-  um_link.specs.{um_block.Tallies.counter_plus, Naming.step_result, Abstraction.{sent_frame_count, blocks_received_in_step}},
-  um_make.{
-    specs.Generated.generated_events,
-    proofs.Lemmas.{
-      progress-step,
-      counters_bound,
-      is_summary_of_events,
-      acked_at_most_received,
-      raised_by-more,
-      same_frame_count,
-      same_block_count,
-    },
-  },
+  um_link.specs.{um_block.Tallies.counter_plus, Naming.result_with_step, Abstraction.{sent_frame_count, blocks_received_in_step}},
+  um_make.{specs.Generated.generated_events, proofs.Lemmas.{progress-step, counters_bound, is_summary_of_events, acked_at_most_received}},
+  um_make.proofs.Lemmas.{raised_by-more, same_frame_count, same_block_count},
 }
 use Rattle.um_make.proofs.run.make.Goals as goal
 
@@ -24,7 +14,7 @@ count_step-requires g c =
 
 pub loop-event-preserved : goal.loop-event-preserved
 loop-event-preserved g c =
-    let answer = step_result c.step_into-done.result c.step_into-done.new.step in
+    let answer = result_with_step c.step_into-done.result c.step_into-done.new.step in
     let old = c.loop-event.summary in
     let new = c.count_step.new.self in
     let counts = c.count_step.ensures.counts in

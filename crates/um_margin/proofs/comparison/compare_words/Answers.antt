@@ -1,4 +1,4 @@
--- The comparison is put together from the results of `decode` and of `margin`, which find the same most likely word.
+-- The proof combines the results of `decode` and `margin`, which find the same most likely word.
 use Rattle.{
   std.proofs.{Common.{ap, rules, w32, FitsSigned, ◌∙◌}, lemmas.Int.to_z-of_z},
   um_block.{proofs.conv_code.Lemmas.IsMostLikely-only, specs.{bit_blocks.SoftValues.likelihood, conv_code.Code.encoding}},

@@ -5,7 +5,7 @@ use Rattle.{
 }
 use Rattle.um_script.proofs.places.are_decimals.Given as goal
 
--- the given words include one that is not a decimal number if and only if the remaining words do
+-- the text contains a word that is not a decimal number if and only if the words that remain to be tested contain one
 abbrev pub invariant-loop-rest : goal.invariant-loop-rest
 invariant-loop-rest l =
     list_any (λ w. not (is_decimal w)) (words l.fn.text) ≡ list_any (λ w. not (is_decimal w)) (remaining_words l.rest)

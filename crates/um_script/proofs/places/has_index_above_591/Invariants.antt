@@ -5,7 +5,7 @@ use Rattle.{
 }
 use Rattle.um_script.proofs.places.has_index_above_591.Given as goal
 
--- the given words include an index above 591 if and only if the remaining words do
+-- the text contains an index above 591 if and only if the words that remain to be tested contain one
 abbrev pub invariant-loop-rest : goal.invariant-loop-rest
 invariant-loop-rest l =
     record {

@@ -5,7 +5,7 @@ use Rattle.{
 }
 use Rattle.um_script.proofs.places.has_repeated_index.Given as goal
 
--- an index is repeated if and only if an index among the remaining words is marked already or occurs there twice
+-- the text repeats an index if and only if the words that remain to be tested contain an index that is already marked or that they repeat
 abbrev pub invariant-loop-rest : goal.invariant-loop-rest
 invariant-loop-rest l =
     record {

@@ -11,7 +11,7 @@ pub returns-clause-refines : goal.returns-clause-refines
 returns-clause-refines c e h =
     let m = c.args.self.now in
     let info = c.args.info.now in
-    let window : W.Represents m.window e = rw c.requires.may.idle at h.in_state in
+    let window : W.Represents m.window e = rw c.requires.may.idle at h.represents_in_state in
     Adds-by (λ s. c.answer.ensures.frames (moved Open info e.retries e) s) (c.answer.ensures.notices ∙ c.push.ensures ∙ ap
     (λ o. c.args.effects.now.notices ++ N.Opened o ∷ []) c.new.ensures)
     (Represents-moved h.valid h.address h.variables refl c.new-self.ensures (rw (← h.address.channel) c.requires.may.fits)

@@ -13,6 +13,6 @@ returns-clause-refines c e h =
     both (Represents-moved h.valid h.address h.variables refl c.new-self.ensures (rw (← h.address.channel) c.requires.fits)
     (λ three. c.requires.empty_on_sapi3 (h.address.sapi ∙ three)) (λ u. idle) (record {
       window = unopened-moved (h.valid.no_message_before_open idle)
-          (rw c.requires.idle at h.in_state);
+          (rw c.requires.idle at h.represents_in_state);
       retry_count = refl;
     })) (λ s. record { frames = c.send_sabm.ensures.frames (moved Opening info 0 e) s; notices = c.send_sabm.ensures.notices })

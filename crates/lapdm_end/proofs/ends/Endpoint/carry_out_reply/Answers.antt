@@ -5,7 +5,7 @@ pub returns-in-I-clause-refines : goal.returns-in-I-clause-refines
 returns-in-I-clause-refines c e h =
     let ready = rw c.in-I.is at c.requires.ready in
     rw c.in-I.is
-    (Adds-open _ ready.0 h.sabm_info (sabm_info-sapi3 h) (c.take_i.ensures.refines e (Runs-open ready.0 h)))
+    (Adds-open _ ready.0 h.sabm_info (sabm_info-sapi3 h) (c.take_i_frame.ensures.refines e (Runs-open ready.0 h)))
 
 pub returns-in-Rr-clause-refines : goal.returns-in-Rr-clause-refines
 returns-in-Rr-clause-refines c e h =

@@ -10,7 +10,7 @@ returns-clause-refines c e h =
     record {
       represents = Represents-moved h.valid h.address h.variables refl h.sabm_info h.valid.sabm_info_fits h.valid.empty_on_sapi3
           (λ u. absurd u)
-          (Holds-other (window_holds_unacked m.window m.retries e m.state h.in_state));
+          (Holds-other (window_holds_unacked m.window m.retries e m.state h.represents_in_state));
       frames = sym (append-nil c.args.effects.now.frames);
       notices = c.push.ensures;
     }

@@ -10,5 +10,5 @@ returns-clause-represents c =
       state = refl;
       sabm_info = c.new.ensures;
       variables = window.variables;
-      in_state = window;
+      represents_in_state = window;
     }

@@ -29,7 +29,8 @@ returns-then-not-are_consistent-clause-valid c = (
         absurd (false≢true (sym w.if-not-are_consistent.true
         ∙ c.are_consistent.ensures.1 (SomeEndpointHasValues-consistent (values_of_parts c.args.parts.now) h)))
     | then-not-are_consistent-via-else-not-are_consistent+then-not-restore w ↦
-        absurd (false≢true (sym w.if-not-restore.true ∙ w.restore.ensures.valid.1 (has_values-window (values_of_parts c.args.parts.now) h)))
+        absurd (false≢true (sym w.if-not-restore.true
+        ∙ w.restore.ensures.valid.1 (has_values-window (values_of_parts c.args.parts.now) h)))
   ],
 )
 

@@ -2,7 +2,7 @@ use Rattle.{
   std.proofs.Common.{◌≡◌, sym, ◌∙◌, ap, arith, ◌+◌},
   lapdm_window.specs.{declared.State.TheVariants.Closing, Ends.{EndpointState, n200}},
   lapdm_end.{
-    specs.Abstraction.RepresentsClosing,
+    specs.Abstraction.RepresentsInClosing,
     proofs.Lemmas.{as_outcome, both, moved, t200_expiry-closes, t200_expiry-again, Represents-moved, Holds-other},
   },
 }
@@ -13,7 +13,7 @@ returns-then-self-n200-clause-refines c e h =
     let m = c.args.self.now in
     let is : e.state ≡ Closing = sym h.state ∙ c.requires.closing in
     let most : c.n200.result ≡ n200 e.channel Closing = rw (← h.address.channel) c.n200.ensures.value in
-    let closing : RepresentsClosing m.window m.retries e = rw c.requires.closing at h.in_state in
+    let closing : RepresentsInClosing m.window m.retries e = rw c.requires.closing at h.represents_in_state in
     let count : m.retries ≡ e.retries = closing.retry_count in
     as_outcome e (t200_expiry-closes c.n200.result e (ap (n200 e.channel) is ∙ sym most)
     (omega (arith, c.if-self-n200.true, count)))
@@ -24,7 +24,7 @@ returns-clause-refines c e h =
     let m = c.args.self.now in
     let is : e.state ≡ Closing = sym h.state ∙ c.requires.closing in
     let most : c.n200.result ≡ n200 e.channel Closing = rw (← h.address.channel) c.n200.ensures.value in
-    let closing : RepresentsClosing m.window m.retries e = rw c.requires.closing at h.in_state in
+    let closing : RepresentsInClosing m.window m.retries e = rw c.requires.closing at h.represents_in_state in
     let count : m.retries ≡ e.retries = closing.retry_count in
     let f : EndpointState = moved e.state e.sabm_info (e.retries + 1) e in
     as_outcome e (t200_expiry-again _ e _ is most (omega (arith, c.if-self-n200.false, count))) (both

@@ -22,7 +22,7 @@ returns-in-Spent-clause-refines c e h =
       state = h.state;
       sabm_info = h.sabm_info;
       variables = window.variables;
-      in_state = rw c.requires.open window;
+      represents_in_state = rw c.requires.open window;
     }))
 
 pub returns-in-Again-clause-refines : goal.returns-in-Again-clause-refines
@@ -34,6 +34,6 @@ returns-in-Again-clause-refines c e h =
     let window : W.Represents c.on_timer.new.self f = subst (λ (r : Timer). W.Represents c.on_timer.new.self (state_after_t200 r e))
     c.in-Again.is
     (c.on_timer.ensures.counted e still_open.window) in
-    let g = c.send_outstanding.ensures.refines f (same_rules_in_open still_open refl refl refl refl window) in
+    let g = c.send_outstanding_segment.ensures.refines f (same_rules_in_open still_open refl refl refl refl window) in
     as_outcome e (t200_expiry-open e still_open.state again.0 again.1) (refines-open _ c.requires.open h.sabm_info
     (sabm_info-sapi3 h) c.clear.ensures.frames c.clear.ensures.notices h.address.channel g)

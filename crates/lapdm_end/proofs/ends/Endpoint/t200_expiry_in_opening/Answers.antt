@@ -2,7 +2,7 @@ use Rattle.{
   std.proofs.Common.{◌≡◌, sym, ◌∙◌, ap, arith, ◌+◌},
   lapdm_window.specs.{declared.State.TheVariants.Opening, Ends.{EndpointState, n200}},
   lapdm_end.{
-    specs.Abstraction.RepresentsOpening,
+    specs.Abstraction.RepresentsInOpening,
     proofs.Lemmas.{as_outcome, both, moved, unopened-moved, t200_expiry-again, Represents-moved},
   },
 }
@@ -12,7 +12,7 @@ pub returns-clause-refines : goal.returns-clause-refines
 returns-clause-refines c e h =
     let m = c.args.self.now in
     let is : e.state ≡ Opening = sym h.state ∙ c.requires.opening in
-    let opening : RepresentsOpening m.window m.retries e = rw c.requires.opening at h.in_state in
+    let opening : RepresentsInOpening m.window m.retries e = rw c.requires.opening at h.represents_in_state in
     let most : c.n200.result ≡ n200 e.channel Opening = rw (← h.address.channel) c.n200.ensures.value in
     let count : m.retries ≡ e.retries = opening.retry_count in
     let f : EndpointState = moved e.state e.sabm_info (e.retries + 1) e in

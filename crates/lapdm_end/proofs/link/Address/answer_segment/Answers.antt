@@ -14,4 +14,4 @@ pub returns-then-send_next-clause-refines : goal.returns-then-send_next-clause-r
 returns-then-send_next-clause-refines c e h =
     let yes : has_segment_to_send e ≡ true = sym (c.if-send_next.ensures.answer e h.window) in
     Gives-as (ap (λ p. answers_segment p e) c.if-p.false ∙ answers-next e h.state yes)
-    (Gives-next e h yes (c.if-send_next.ensures.sent e h.window) c.send_outstanding.ensures.refines)
+    (Gives-next e h yes (c.if-send_next.ensures.sent e h.window) c.send_outstanding_segment.ensures.refines)

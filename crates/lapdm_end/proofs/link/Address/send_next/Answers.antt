@@ -9,4 +9,4 @@ pub returns-clause-refines : goal.returns-clause-refines
 returns-clause-refines c e h =
     let yes : has_segment_to_send e ≡ true = sym (c.if-not-send_next.ensures.answer e h.window) in
     Gives-as (sends_next_segment-yes e h.state yes) (Gives-next e h yes
-    (c.if-not-send_next.ensures.sent e h.window) c.send_outstanding.ensures.refines)
+    (c.if-not-send_next.ensures.sent e h.window) c.send_outstanding_segment.ensures.refines)

@@ -5,4 +5,4 @@ pub returns-clause-refines : goal.returns-clause-refines
 returns-clause-refines c e h =
     Gives-then resends_outstanding_segment
     (Gives-then (answers_poll c.args.poll) (c.evaluate_nr.ensures.refines e h) c.answer_poll.ensures.refines)
-    c.resend_outstanding.ensures.refines
+    c.resend_outstanding_segment.ensures.refines

@@ -13,7 +13,8 @@ use Rattle.lapdm_end.proofs.link.Address.take_segment.Goals as goal
 pub returns-in-Accepted-clause-refines : goal.returns-in-Accepted-clause-refines
 returns-in-Accepted-clause-refines c e h =
     let segment : Segment = (c.args.segment.octets.now, c.args.segment.more) in
-    let is : (nat_eq c.args.ns (vr e) ≡ true) × (c.in-Accepted.joined ≡ reassembly_result e.peer_segments segment) = Accepted-if _ _ _ _
+    let is : (nat_eq c.args.ns (vr e) ≡ true) × (c.in-Accepted.joined ≡ reassembly_result e.accepted_segments segment) =
+    Accepted-if _ _ _ _
     (c.in-Accepted.ensures.answer e h.window) in
     let represents = c.in-Accepted.ensures.taken e h.window in
     let accepted : AppendsOutcomeInOpen c.args.self c.on_info.new.self c.args.effects.now c.report_message.new.effects e
@@ -22,7 +23,8 @@ returns-in-Accepted-clause-refines c e h =
       sabm_info = refl;
       frames = c.report_message.ensures.frames ∙ sym (append-nil c.args.effects.now.frames);
       notices = c.report_message.ensures.notices (with_accepted_segment segment e) represents ∙ ap
-          (λ ns. c.args.effects.now.notices ++ ns) (notices-completed_message e.peer_segments segment.0 segment.1 c.in-Accepted.joined
+          (λ ns. c.args.effects.now.notices ++ ns)
+          (notices-completed_message e.accepted_segments segment.0 segment.1 c.in-Accepted.joined
           is.1);
     } in
     Gives-as (takes_segment-same c.args.ns c.args.poll segment e is.0)
@@ -36,4 +38,4 @@ returns-in-OutOfSequence-clause-refines c e h =
     let still_open : RepresentsOpenEndpoint c.args.self c.on_info.new.self (with_reject_condition e) =
     same_rules_in_open h refl refl refl refl (c.in-OutOfSequence.ensures.taken e h.window) in
     Gives-as (takes_segment-other c.args.ns c.in-OutOfSequence.reject c.args.poll segment e is.0 is.1)
-    (Gives-from e refl (c.refuse_segment.ensures.refines (with_reject_condition e) still_open))
+    (Gives-from e refl (c.answer_out_of_sequence_segment.ensures.refines (with_reject_condition e) still_open))

@@ -1,4 +1,4 @@
--- The names from the library and from specs that the proofs of this crate and of higher crates use.
+-- The names from the library and from specs that the proofs of this crate and of the crates that depend on it use.
 pub use Rattle.std.{specs.{Prelude.{◌⊎◌, Contains}, List.{filter_map, cons_option, flat_map}}, proofs.Common.{◌≡◌, refl, Bool}}
 pub use Rattle.std.proofs.Common.{true, false, nat_eq, if◌then◌else◌, List, ◌∷◌, ◌++◌, Option, Some, None, inl, inr, arith}
 pub use Rattle.std.proofs.Common.{ℕ, [], ◌≤◌, ◌≢◌, sym, ◌∙◌, ap, ◌+◌, ◌%◌, ◌<◌, length, take, get_or}
@@ -11,9 +11,10 @@ pub use Rattle.lapdm_window.specs.lapdm_frame.{Content.{Content, I, Rr, Rej, Ui,
 pub use Rattle.lapdm_window.specs.{lapdm_frame.{declared.Channel.TheVariants.Sdcch, Layout.n201, Frames.FrameFits}, declared.Sapi.Sapi}
 pub use Rattle.lapdm_window.specs.declared.{Sapi.TheVariants.{Zero, Three}, State.{State, TheVariants.{Idle, Opening, Closing, Closed}}}
 pub use Rattle.lapdm_window.specs.{declared.{Notice.{Notice, TheVariants.Acked}, Refused.Refused, Reason.Reason}, Ends.sapi_number}
-pub use Rattle.lapdm_window.specs.Ends.{EndpointState, Outcome, no_effect, sends_frame, ◌then◌, response_frame, all_segments}
+pub use Rattle.lapdm_window.specs.Ends.{EndpointState, Outcome, no_effect, sends_frame, ◌then◌, response_frame}
+pub use Rattle.lapdm_window.specs.Ends.{segments_of_all_messages}
 pub use Rattle.lapdm_window.specs.Ends.{
-  next_segment,
+  first_unacked_segment,
   awaits_ack,
   vr,
   Role,
@@ -24,7 +25,8 @@ pub use Rattle.lapdm_window.specs.Ends.{
   awaits_answer_in_state,
 }
 pub use Rattle.lapdm_window.specs.{Ends.{n200, acked_message_count, capped_at_64_bits, IsValidEndpoint}, segmenting.Segments.Segment}
-pub use Rattle.lapdm_window.specs.segmenting.{Segments.{Message, IsValidMessage, segments, cut_segments}, Joining.ended_messages}
+pub use Rattle.lapdm_window.specs.segmenting.Segments.{Message, IsValidMessage, segments, cut_segments}
+pub use Rattle.lapdm_window.specs.segmenting.Joining.{messages_ending_in_segments}
 pub use Rattle.lapdm_window.specs.segmenting.Joining.{messages, message_count, partial_message_after, message_if_fits, partial_message}
 pub use Rattle.lapdm_window.specs.Rules.{
   outstanding_frame,
@@ -32,11 +34,11 @@ pub use Rattle.lapdm_window.specs.Rules.{
   with_segment_sent,
   sends_segment,
   sends_next_segment,
-  nr_acknowledges,
+  nr_acknowledges_segment,
 }
 pub use Rattle.lapdm_window.specs.Rules.{
   with_segment_acked,
-  acks_outstanding_segment,
+  marks_segment_acked,
   evaluates_nr,
   accepts_segment,
   sends_rr,
@@ -53,12 +55,16 @@ pub use Rattle.lapdm_window.specs.Rules.{
   is_open,
 }
 pub use Rattle.lapdm_window.specs.{Rules.{acked_message_number, segment_notices}, Calls.{Call, Opens, OpensWithoutInfo, refusal_of}}
-pub use Rattle.lapdm_window.specs.Calls.{call_outcome, Sends, SendsUi, Closes, T200Expires, SendsFill, is_idle, message_refusals}
-pub use Rattle.lapdm_window.specs.{Calls.{frame_refusals, with_queued_message, frame_to_retransmit, IsCallOfEndpoint}, Tables.frame_outcome}
-pub use Rattle.lapdm_window.{specs.{Tables.closes_and_reports, Steps.IsSameEndpoint}, proofs.segmenting.Lemmas.ended_messages-all}
-pub use Rattle.lapdm_window.proofs.segmenting.Lemmas.{ended_messages-append, count-take, message_count-ended_messages, filter_map-some}
-pub use Rattle.lapdm_window.proofs.{segmenting.Lemmas.{ended_messages-more, ended_messages-last}, Lemmas.{HasBegun, MayOpen, IsReplyTo}}
-pub use Rattle.lapdm_window.proofs.Lemmas.{cause_of, by_sapi, acked_message_count-push, all_segments-push, HasWindowOfOne-push}
+pub use Rattle.lapdm_window.specs.Calls.{call_outcome, Sends, SendsUi, Closes, T200Expires, SendsFillFrame, is_idle, message_refusal_checks}
+pub use Rattle.lapdm_window.specs.Calls.{single_frame_refusal_checks, with_queued_message, frame_to_retransmit, IsCallAllowedForEndpoint}
+pub use Rattle.lapdm_window.specs.Tables.{frame_outcome}
+pub use Rattle.lapdm_window.specs.{Tables.closes_and_reports, Steps.IsSameEndpoint}
+pub use Rattle.lapdm_window.proofs.segmenting.Lemmas.{messages_ending_in_segments-all}
+pub use Rattle.lapdm_window.proofs.segmenting.Lemmas.{messages_ending_in_segments-append, count-take}
+pub use Rattle.lapdm_window.proofs.segmenting.Lemmas.{message_count-messages_ending_in_segments, filter_map-some}
+pub use Rattle.lapdm_window.proofs.segmenting.Lemmas.{messages_ending_in_segments-more, messages_ending_in_segments-last}
+pub use Rattle.lapdm_window.proofs.Lemmas.{HasBegun, MayOpen, IsReplyTo}
+pub use Rattle.lapdm_window.proofs.Lemmas.{cause_of, by_sapi, acked_message_count-push, segments_of_all_messages-push, HasWindowOfOne-push}
 pub use Rattle.lapdm_window.proofs.Lemmas.{is_valid_message, not_false, passes, is_idle-is, is_open-is, acked_message_count-more}
 pub use Rattle.lapdm_window.proofs.Lemmas.{acked_message_count-last, acked_message_count-most, HasWindowOfOne-acked, Keeps, keeps-frame}
 pub use Rattle.lapdm_window.proofs.Lemmas.{keeps-call, bound-frame, bound-call}
@@ -73,13 +79,15 @@ pub use Rattle.lapdm_link.specs.Claims.{
   message_in_got_notice,
 }
 pub use Rattle.lapdm_link.specs.Claims.{delivered_messages, acked_message_numbers, sent_messages, IsSubsequence, ui_message_of_call}
-pub use Rattle.lapdm_link.specs.Claims.{ui_message_in_notice, HasEstablishmentTrigger, opened_info_in_notice, HasNoticesInOrder}
-pub use Rattle.lapdm_link.specs.Claims.{AckedAtMostDelivered, Claims, message_sent_by_call, acked_number_in_notice, as_close_notice}
+pub use Rattle.lapdm_link.specs.Claims.{ui_message_in_notice, HasEstablishmentTrigger, establishment_info_in_notice, HasNoticesInOrder}
+pub use Rattle.lapdm_link.specs.Claims.{AckedAtMostDelivered, Claims, message_sent_by_call, acked_number_in_notice, close_notice_or_none}
 pub use Rattle.lapdm_link.specs.{Claims.{establishment_infos, close_notices, session_log, NeedsOpenLink, IsOpenEndpoint}, Events.other}
-pub use Rattle.lapdm_link.specs.Events.{side_with_role, step_with_peer_unchanged, endpoint_at, with_endpoint_at, Request, Send, Event, Open}
+pub use Rattle.lapdm_link.specs.Events.{side_with_role, step_with_peer_unchanged, endpoint_at, with_endpoint_replaced, Request, Send, Event}
+pub use Rattle.lapdm_link.specs.Events.{Open}
 pub use Rattle.lapdm_link.specs.Events.{OpenBare, Ask, Deliver, Lose, Rival, rival_sabm, SideStep, no_op_step, event_step, BySide}
 pub use Rattle.lapdm_link.specs.Events.{EventRefusal, AirFull, as_event_refusal, refusal_if, rival_refusal, endpoint_call_of, BothSides}
 pub use Rattle.lapdm_link.specs.{Events.{sending_role, queues_after_removal, Close, T200Expiry, QueueCapacity}, Worlds.World}
-pub use Rattle.lapdm_link.specs.Worlds.{initial_session, world_after_step, refusal, world_unless_refused, answer_unless_refused, answer}
+pub use Rattle.lapdm_link.specs.Worlds.{initial_session, world_after_step, refusal, world_after_possible_refusal, answer_unless_refused}
+pub use Rattle.lapdm_link.specs.Worlds.{answer}
 pub use Rattle.lapdm_link.specs.Worlds.{world_after, answers, IsBenignEvent, IsBenign, ArrivingFrameFits, SentFramesFit, initial_world}
-pub use Rattle.lapdm_link.specs.Queues.{IsOldestSentOrNone, Queues, with_appended, queue_of}
+pub use Rattle.lapdm_link.specs.Queues.{IsOldestSentOrNone, Queues, with_items_appended, queue_of}

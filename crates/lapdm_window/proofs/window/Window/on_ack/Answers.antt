@@ -1,23 +1,15 @@
--- Four cases: no segment is outstanding; the N(R) differs from V(S); the segment has M = 1; the segment is the last of its message, which
--- the window then removes.
+-- The proof has four cases: no segment is outstanding; the N(R) differs from V(S); the outstanding segment has M = 1; the outstanding
+-- segment is the last of its message, which the window then removes.
 use Rattle.{
   std.proofs.Common.{◌≡◌, refl, sym, ◌∙◌, ap, subst, arith, ◌+◌, [], true, false, length, drop, slice_index_or, Some},
   std.proofs.lemmas.List.{length-drop, Elements.{All-same, All-drop}},
   segmenting.specs.{lapdm_frame.Layout.n201, Segments.{IsValidMessage, segments}},
   lapdm_window.{
-    specs.{Ends.{next_segment, acked_message_count, capped_at_64_bits}, Rules.acked_message_number, Abstraction.Represents},
+    specs.{Ends.{first_unacked_segment, acked_message_count, capped_at_64_bits}, Rules.acked_message_number, Abstraction.Represents},
     proofs.{
-      Windows.{capped-more, goes_on, ends, acked_message_count-more, acked_message_count-last, next_segment-is, is_left, one_outstanding},
-      Windows.{
-        acked-represents,
-        nr_acknowledges-vs,
-        Holds-more,
-        Holds-last,
-        nr_acknowledges-not_waiting,
-        nr_acknowledges-other,
-        evaluates_nr-nothing,
-      },
-      Windows.{acked_by_nr-segment, acked_by_nr-message},
+      Windows.{capped-more, goes_on, ends, acked_message_count-more, acked_message_count-last, first_unacked_segment-is, is_left},
+      Windows.{one_outstanding, acked-represents, nr_acknowledges_segment-vs, Holds-more, Holds-last, nr_acknowledges_segment-not_waiting},
+      Windows.{nr_acknowledges_segment-other, evaluates_nr-nothing, acknowledgement_by_nr-segment, acknowledgement_by_nr-message},
       window.Window.on_ack.Goals.{then-self-via-then-self, then-self-via-else-self+then-nr-self},
     },
   },
@@ -43,10 +35,10 @@ invariant_of-self c =
 pub invariant_of-self-2 : goal.invariant_of-self-2
 invariant_of-self-2 c =
     let w = c.args.self.now in
-    let items : c.remove_first.new.self.items ≡ drop 1 w.held.items = c.remove_first.ensures.items in
+    let items : c.remove_first_message.new.self.items ≡ drop 1 w.held.items = c.remove_first_message.ensures.items in
     record {
       at_most_8 = omega (arith, ap length items, length-drop 1 w.held.items, w.at_most_8);
-      messages = All-same IsValidMessage c.remove_first.new.self.items (drop 1 w.held.items) items
+      messages = All-same IsValidMessage c.remove_first_message.new.self.items (drop 1 w.held.items) items
           (All-drop IsValidMessage 1 w.held.items w.messages);
       in_range = omega arith;
       waiting = λ other. absurd (other refl);
@@ -59,22 +51,23 @@ pub returns-then-self-clause-counted : goal.returns-then-self-clause-counted
 returns-then-self-clause-counted c e h =
     elim c.then-self.branch [
       | then-self-via-then-self w ↦ subst (Represents _) (sym (evaluates_nr-nothing e c.args.nr
-          (nr_acknowledges-not_waiting e c.args.nr h.window_of_one (sym h.variables.vs ∙ w.if-self.true ∙ h.variables.va)))) h
+          (nr_acknowledges_segment-not_waiting e c.args.nr h.window_of_one (sym h.variables.vs ∙ w.if-self.true ∙ h.variables.va)))) h
       | then-self-via-else-self+then-nr-self w ↦ subst (Represents _) (sym (evaluates_nr-nothing e c.args.nr
-          (nr_acknowledges-other e c.args.nr (λ same. w.if-nr-self.true (same ∙ sym h.variables.vs))))) h
+          (nr_acknowledges_segment-other e c.args.nr (λ same. w.if-nr-self.true (same ∙ sym h.variables.vs))))) h
     ]
 
 pub returns-then-more-clause-answer : goal.returns-then-more-clause-answer
 returns-then-more-clause-answer c e h =
-    sym (acked_by_nr-segment e c.args.nr (nr_acknowledges-vs h c.if-self.false c.args.nr c.if-nr-self.false)
-    (ap (λ p. p.1) (next_segment-is h (c.args.self.now.waiting c.if-self.false) c.next-more.ensures) ∙ c.if-more.true))
+    sym (acknowledgement_by_nr-segment e c.args.nr (nr_acknowledges_segment-vs h c.if-self.false c.args.nr c.if-nr-self.false)
+    (ap (λ p. p.1) (first_unacked_segment-is h (c.args.self.now.waiting c.if-self.false) c.next-more.ensures) ∙ c.if-more.true))
 
 pub returns-then-more-clause-counted : goal.returns-then-more-clause-counted
 returns-then-more-clause-counted c e h =
     let w = c.args.self.now in
     let some = w.waiting c.if-self.false in
     let one = one_outstanding h c.if-self.false in
-    let more : (next_segment e).1 ≡ true = ap (λ p. p.1) (next_segment-is h some c.next-more.ensures) ∙ c.if-more.true in
+    let more : (first_unacked_segment e).1 ≡ true = ap (λ p. p.1) (first_unacked_segment-is h some c.next-more.ensures)
+    ∙ c.if-more.true in
     acked-represents h c.if-self.false c.args.nr c.if-nr-self.false refl
     (h.variables.acked_messages ∙ ap capped_at_64_bits (sym (acked_message_count-more e one (is_left h some) more)))
     (Holds-more e w.held.items w.segment_index one h.unacked_messages (is_left h some) more)
@@ -83,12 +76,13 @@ pub returns-clause-answer : goal.returns-clause-answer
 returns-clause-answer c e h =
     let w = c.args.self.now in
     let some = w.waiting c.if-self.false in
-    let last : (next_segment e).1 ≡ false = ap (λ p. p.1) (next_segment-is h some c.next-more.ensures) ∙ c.if-more.false in
+    let last : (first_unacked_segment e).1 ≡ false = ap (λ p. p.1) (first_unacked_segment-is h some c.next-more.ensures)
+    ∙ c.if-more.false in
     let number : c.saturating_add-self.result ≡ acked_message_number e = c.saturating_add-self.ensures
     ∙ capped-more (acked_message_count e) w.acked_messages h.variables.acked_messages ∙ ap capped_at_64_bits
     (sym (acked_message_count-last e (one_outstanding h c.if-self.false) (is_left h some) last)) in
     ap (λ n. V.Message n) number
-    ∙ sym (acked_by_nr-message e c.args.nr (nr_acknowledges-vs h c.if-self.false c.args.nr c.if-nr-self.false) last)
+    ∙ sym (acknowledgement_by_nr-message e c.args.nr (nr_acknowledges_segment-vs h c.if-self.false c.args.nr c.if-nr-self.false) last)
 
 pub returns-clause-counted : goal.returns-clause-counted
 returns-clause-counted c e h =
@@ -96,7 +90,8 @@ returns-clause-counted c e h =
     let m = slice_index_or w.held.items 0 [] in
     let some = w.waiting c.if-self.false in
     let one = one_outstanding h c.if-self.false in
-    let last : (next_segment e).1 ≡ false = ap (λ p. p.1) (next_segment-is h some c.next-more.ensures) ∙ c.if-more.false in
+    let last : (first_unacked_segment e).1 ≡ false = ap (λ p. p.1) (first_unacked_segment-is h some c.next-more.ensures)
+    ∙ c.if-more.false in
     let at_the_end : w.segment_index + 1 ≡ length (segments (n201 e.channel) m) =
     ends (n201 w.channel) w.segment_index m c.next-more.result.octets.now
     (c.next-more.ensures ∙ ap (λ b. Some (c.next-more.result.octets.now, b)) c.if-more.false) ∙ ap
@@ -104,5 +99,5 @@ returns-clause-counted c e h =
     acked-represents h c.if-self.false c.args.nr c.if-nr-self.false refl
     (c.saturating_add-self.ensures ∙ capped-more (acked_message_count e) w.acked_messages h.variables.acked_messages
     ∙ ap capped_at_64_bits (sym (acked_message_count-last e one (is_left h some) last)))
-    (rw c.remove_first.ensures.items
+    (rw c.remove_first_message.ensures.items
     (Holds-last e w.held.items w.segment_index one h.unacked_messages (is_left h some) last some at_the_end))

@@ -14,11 +14,11 @@ returns-clause-taken c e h =
         channel = h.variables.channel;
         vs = h.variables.vs;
         va = h.variables.va;
-        vr = next_number (length e.peer_segments) c.args.self.now.vr h.variables.vr
-            ∙ ap (λ n. n % 8) (sym (length-append e.peer_segments (p ∷ [])));
+        vr = next_number (length e.accepted_segments) c.args.self.now.vr h.variables.vr
+            ∙ ap (λ n. n % 8) (sym (length-append e.accepted_segments (p ∷ [])));
         acked_messages = h.variables.acked_messages;
         rejecting = refl;
-        reassembly = c.take.ensures.after e.peer_segments h.variables.reassembly;
+        reassembly = c.take.ensures.after e.accepted_segments h.variables.reassembly;
       };
       unacked_messages = grind arith;
       retries = h.retries;

@@ -2,7 +2,7 @@
 use Rattle.{
   std.proofs.Common.{◌≡◌, ◌≢◌, refl, sym, ◌∙◌, ap, subst, arith, ℕ, ◌+◌, ◌%◌, ◌≤◌, ◌⊎◌, inl, inr},
   std.proofs.{Common.{length, map}, lemmas.Bool.false≢true},
-  segmenting.specs.{Parts.JoinerValues, Buffers.octets_in},
+  segmenting.specs.{Parts.JoinerValues, Buffers.octets_in_buffer},
   lapdm_window.{
     specs.{declared.window.Window.Window, Parts.{WindowValues, values_of, values_of_parts, SomeWindowHasValues, AreConsistent}},
     proofs.{Windows.{is_consistent, represents_one}, window.Window.restore.Goals.then-not-are_consistent-via-then-not-are_consistent},
@@ -41,7 +41,7 @@ returns-clause-valid c =
     let h : AreConsistent x = c.are_consistent.ensures.consistent.0 c.if-not-are_consistent.false in
     let w : Window = record {
       channel = p.channel;
-      held = record { items = map octets_in p.held.now };
+      held = record { items = map octets_in_buffer p.held.now };
       segment_index = p.segment_index;
       vs = p.vs;
       va = p.va;
@@ -53,8 +53,8 @@ returns-clause-valid c =
       at_most_8 = h.held.at_most_8;
       messages = h.held.messages;
       in_range = h.segment_index_in_range;
-      waiting = some_held p.vs p.va (1 ≤ length (map octets_in p.held.now)) h.at_most_one_outstanding;
-      vs_fits = fits p.vs p.va (1 ≤ length (map octets_in p.held.now)) h.va h.at_most_one_outstanding;
+      waiting = some_held p.vs p.va (1 ≤ length (map octets_in_buffer p.held.now)) h.at_most_one_outstanding;
+      vs_fits = fits p.vs p.va (1 ≤ length (map octets_in_buffer p.held.now)) h.va h.at_most_one_outstanding;
       va_fits = h.va;
       vr_fits = h.vr;
     } in

@@ -1,14 +1,15 @@
 use Rattle.{
   std.proofs.Common.{arith, [], slice_index_or},
   segmenting.{specs.lapdm_frame.Layout.n201, proofs.Lemmas.{length-segments, IsN201-n201}},
-  lapdm_window.proofs.Windows.{awaits_ack-one, HasSize, HasSize-segment, one_outstanding, next_segment-is, outstanding_segment-next},
+  lapdm_window.proofs.Windows.{awaits_ack-one, HasSize, HasSize-segment, one_outstanding, first_unacked_segment-is},
+  lapdm_window.proofs.Windows.outstanding_segment-next,
 }
 use Rattle.lapdm_window.proofs.window.Window.waiting.Goals as goal
 
 pub returns-clause-piece : goal.returns-clause-piece
 returns-clause-piece c e h =
     outstanding_segment-next e _ (awaits_ack-one e (one_outstanding h c.if-self.false))
-    (next_segment-is h (c.args.self.now.waiting c.if-self.false) c.next.ensures)
+    (first_unacked_segment-is h (c.args.self.now.waiting c.if-self.false) c.next.ensures)
 
 pub returns-clause-size : goal.returns-clause-size
 returns-clause-size c =

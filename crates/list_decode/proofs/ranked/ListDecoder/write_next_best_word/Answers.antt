@@ -3,15 +3,10 @@ use Rattle.{
   std.proofs.{Common.{of_z, w32, FitsSigned}, lemmas.{Int.to_z-of_z, List.length-take}},
   weight_bound.specs.conv_code.{Code.encoding, Likelihood.likelihood},
   list_decode.{
-    specs.{Ranking.IsRankingDone, declared.ranked.ListDecoder.TheInside.Inside, DecoderInvariant.IsSoundRanking},
-    proofs.{
-      Choices.{likelihood-stored, HasMetrics-take},
-      Chosen.{every_word_returned, view-count, view-returned, HasMetrics-partition, stored_words-next, ranking-same},
-    },
-    proofs.{
-      Chosen.{soft_bits-same, view-soft, sound_next, sound_prepared},
-      ranked.ListDecoder.write_next_best_word.Goals.After-prepare_branches,
-    },
+    specs.{Ranking.IsRankingDone, declared.ranked.ListDecoder.TheInside.Inside, DecoderInvariant.IsSoundListDecoder},
+    proofs.{Choices.{likelihood-stored, AreMetricsOfBranches-take}, Chosen.{every_word_returned, view-count, view-returned}},
+    proofs.Chosen.{AreMetricsOfBranches-partition, stored_words-next, ranking-same, soft_bits-same, view-soft, sound_next, sound_prepared},
+    proofs.ranked.ListDecoder.write_next_best_word.Goals.After-prepare_branches,
   },
 }
 use Rattle.list_decode.proofs.ranked.ListDecoder.write_next_best_word.Goals as goal
@@ -32,7 +27,7 @@ prepared c = record {
   first_metric = c.self.inside.first_metric;
 }
 
-is_prepared : (c : After-prepare_branches) → IsSoundRanking (prepared c)
+is_prepared : (c : After-prepare_branches) → IsSoundListDecoder (prepared c)
 is_prepared c =
     let is = c.prepare_branches.ensures in
     sound_prepared c.self.inside c.prepare_branches.new.pass c.prepare_branches.new.branches c.prepare_branches.new.metrics
@@ -48,7 +43,7 @@ prepare_branches-requires-clause-metric c =
 
 pub find_next_word-requires-clause-metrics : goal.find_next_word-requires-clause-metrics
 find_next_word-requires-clause-metrics c =
-    HasMetrics-take c.prepare_branches.new.branches c.prepare_branches.new.metrics _ c.prepare_branches.ensures.branches.values
+    AreMetricsOfBranches-take c.prepare_branches.new.branches c.prepare_branches.new.metrics _ c.prepare_branches.ensures.branches.values
 
 pub find_next_word-requires-clause-pass : goal.find_next_word-requires-clause-pass
 find_next_word-requires-clause-pass c = c.prepare_branches.ensures.branches.complete
@@ -70,7 +65,7 @@ invariant_of-self-2 c =
     let parts = c.in_ok-next.next.parts in
     sound_next r (is_prepared at) has (omega arith) (omega arith) many room c.find_next_word.new.u
     c.in_ok-next.next c.in_ok-next.ensures.next _
-    (HasMetrics-partition r.branches r.best_metrics c.in_ok-next.next.branch n parts.branch_before parts.branch_of_new_word
+    (AreMetricsOfBranches-partition r.branches r.best_metrics c.in_ok-next.next.branch n parts.branch_before parts.branch_of_new_word
     parts.branch_after
     (to_z w32 (of_z w32 c.metric.result)) (to_z w32 (of_z w32 c.metric-2.result)) (to_z w32 (of_z w32 c.metric-3.result))
     within (omega arith) (omega arith) has.values

@@ -3,7 +3,7 @@ use Rattle.{
   um_formats.specs.{declared.burst_lines.BurstLine.TheVariants.Normal, Held.{BurstBuffer, normal_burst_result}},
   um_driver.specs.Rules.IsLineAnswerOrFault,
   um_bursts.{
-    specs.BurstRules.{burst_rules, AnswersBursts},
+    specs.BurstRules.{burst_rules, IsAnswerToBurstsToDecode},
     proofs.{Lemmas.line_answered, command.BurstCommandCommand.answer.Goals.{then-complete, else-complete}},
   },
 }
@@ -14,7 +14,7 @@ returns-after-complete-clause-answered g c = λ held same.
     let a = g.R.Reports.answers in
     let new = c.hold_normal_burst.new.held in
     let h = c.in-Some.ensures in
-    let wrote : AnswersBursts a (normal_burst_result c.in-Some.complete) new c.if-complete.out =
+    let wrote : IsAnswerToBurstsToDecode a (normal_burst_result c.in-Some.complete) new c.if-complete.out =
     elim c.if-complete.branch [
       | then-complete w ↦ rw (w.if-complete.true, w.out-is)
           (subst (λ (bs : List (List ℤ)). a.block bs w.block-then-complete.new.out) w.block.ensures.bursts
@@ -31,6 +31,6 @@ returns-after-complete-clause-answered g c = λ held same.
 pub returns-in-None-clause-answered : goal.returns-in-None-clause-answered
 returns-in-None-clause-answered g c = λ held same.
     subst (λ (hs : List (List ℤ)). IsLineAnswerOrFault (burst_rules g.R.Reports.answers) hs c.args.line.now
-    c.answer_line_other_than_normal.result
-    c.answer_line_other_than_normal.new.out (λ after. c.answer_line_other_than_normal.new.self ≡ after))
-    (ap (λ (s : BurstBuffer). s.held) c.in-None.ensures.0 ∙ c.self.view_is ∙ same) c.answer_line_other_than_normal.ensures.answered
+    c.answer_other_than_normal_burst.result
+    c.answer_other_than_normal_burst.new.out (λ after. c.answer_other_than_normal_burst.new.self ≡ after))
+    (ap (λ (s : BurstBuffer). s.held) c.in-None.ensures.0 ∙ c.self.view_is ∙ same) c.answer_other_than_normal_burst.ensures.answered

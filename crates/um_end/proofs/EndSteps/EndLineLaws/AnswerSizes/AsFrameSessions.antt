@@ -1,13 +1,13 @@
--- The steps of the two processes correspond to a session of frames, so the laws about sessions hold for them. The proof is by induction
--- over the steps.
+-- The steps of two `um end` processes correspond to a session of frames, so the laws about sessions hold for them. The proof is by
+-- induction over the steps.
 use Rattle.{
   std.proofs.lemmas.List.append-nil,
   um_link.{
     specs.{
       lapdm_link.{
-        Queues.{Queues, empty_queues, queue_of, with_appended, without_first, IsOldestSentOrNone},
-        Events.{BothSides, other, side_with_role, with_side, unbounded_capacity, event_step},
-        Worlds.{World, refusal, answer_unless_refused, answer, world_unless_refused, world_after, answers, IsBenignEvent, IsBenign},
+        Queues.{Queues, empty_queues, queue_of, with_items_appended, without_oldest_item, IsOldestSentOrNone},
+        Events.{BothSides, other, side_with_role, with_side_replaced, unbounded_capacity, event_step},
+        Worlds.{World, refusal, answer_unless_refused, answer, world_after_possible_refusal, world_after, answers, IsBenignEvent, IsBenign},
         Claims.{event_log_lines, answer_log_lines, notice_log_lines, Claims, HasNoticesInOrder, AckedAtMostDelivered},
       },
       um_block.Received.IsReceivedBlock,
@@ -24,7 +24,7 @@ use Rattle.um_link.specs.lapdm_link.Claims as C
 pub use Words.*
 pub mod Words
 
--- the corresponding state of a session of frames, with these frames in transit
+-- the state of a session of frames that has the endpoints of `a` and these frames in transit
 abbrev world_of : TwoTerminals → Queues Frame → World
 world_of a fs = record { capacity = unbounded_capacity; channel = Sdcch; ends = a.sides; queues = fs }
 
@@ -35,7 +35,7 @@ record IsSeen (a : TwoTerminals) (fs : Queues Frame) : Type 0 where
   written : Written fs a.queues
   fit : IsFitting Sdcch (world_of a fs)
 
--- a step either has no effect on the session, or corresponds to this event
+-- the step either has no effect on the session of frames or corresponds to an event of the session
 data IsPlayed (a b : TwoTerminals) (turn : TerminalStep) (fs : Queues Frame) : Type 0 where
   idle : b ≡ a → step_log_lines turn ≡ [] → IsPlayed a b turn fs
   endpoint_step : (event : E.Event) (fs' : Queues Frame) → world_after event (world_of a fs) ≡ world_of b fs' → IsSeen b fs' →
@@ -43,18 +43,18 @@ data IsPlayed (a b : TwoTerminals) (turn : TerminalStep) (fs : Queues Frame) : T
       step_log_lines turn ≡ answer_log_lines event (answer event (world_of a fs)) → IsPlayed a b turn fs
 
 Written-rest : (sender : Role) (fs : Queues Frame) (os : Queues Octets) → Written fs os →
-    Written (without_first sender fs) (without_first sender os)
+    Written (without_oldest_item sender fs) (without_oldest_item sender os)
 Written-rest Mobile fs os h Mobile = zip-rest (λ f o. o ≡ octets_of Sdcch f) fs.up os.up (h Mobile)
 Written-rest Network fs os h Network = zip-rest (λ f o. o ≡ octets_of Sdcch f) fs.down os.down (h Network)
 Written-rest sender fs os h r = h r
 
-with_side-same : (side : Role) (es : BothSides) → with_side side (side_with_role side es) es ≡ es
-with_side-same Mobile es = refl
-with_side-same Network es = refl
+with_side_replaced-same : (side : Role) (es : BothSides) → with_side_replaced side (side_with_role side es) es ≡ es
+with_side_replaced-same Mobile es = refl
+with_side_replaced-same Network es = refl
 
-with_appended-none : (side : Role) (ws : Queues Octets) → with_appended side [] ws ≡ ws
-with_appended-none Mobile ws = rw append-nil refl
-with_appended-none Network ws = rw append-nil refl
+with_items_appended-none : (side : Role) (ws : Queues Octets) → with_items_appended side [] ws ≡ ws
+with_items_appended-none Mobile ws = rw append-nil refl
+with_items_appended-none Network ws = rw append-nil refl
 
 -- a frame that is read from accepted octets fits in a block
 known_read : (sender : Role) (accepted : Option Octets) (read : Option Frame) → IfSome accepted AreOctets →
@@ -72,24 +72,24 @@ module _ {a : TwoTerminals} {fs : Queues Frame} (seen : IsSeen a fs) where
   abbrev w : World
   w = world_of a fs
 
-  -- if a side does not change and sends nothing, the state is the same
+  -- if a side does not change and sends nothing, the state of the two terminals stays the same
   quiet : (side : Role) → state_after_step side (side_with_role side a.sides) [] a.queues a ≡ a
-  quiet side = rw (with_side-same side a.sides, with_appended-none side a.queues) refl
+  quiet side = rw (with_side_replaced-same side a.sides, with_items_appended-none side a.queues) refl
 
-  -- below, the event is not refused, and d is the step of side `side` in it
+  -- in this module, the event is not refused, and `d` is the step that side `side` makes in the event
   module _ (event : E.Event) (side : Role) (d : S.SideStep) (left : Queues Frame) (from : Queues Octets) (none : refusal event w ≡ None)
-      (later : world_unless_refused None event w ≡ record w {
-        ends = with_side side d.new_state a.sides;
-        queues = with_appended side d.frames left;
+      (later : world_after_possible_refusal None event w ≡ record w {
+        ends = with_side_replaced side d.new_state a.sides;
+        queues = with_items_appended side d.frames left;
       }) (known : KnowsBy None (λ r f. FrameFits Sdcch f) event) (appended : Written left from) where
     abbrev frames_then : Queues Frame
-    frames_then = with_appended side d.frames left
+    frames_then = with_items_appended side d.frames left
 
     abbrev then_is : TwoTerminals
     then_is = state_after_step side d.new_state (map (octets_of Sdcch) d.frames) from a
 
     now : world_after event w ≡ world_of then_is frames_then
-    now = ap (λ o. world_unless_refused o event w) none ∙ later
+    now = ap (λ o. world_after_possible_refusal o event w) none ∙ later
 
     seen_then : IsSeen then_is frames_then
     seen_then = record {
@@ -103,11 +103,15 @@ module _ {a : TwoTerminals} {fs : Queues Frame} (seen : IsSeen a fs) where
     played turn b same benign says = subst (λ z. IsPlayed a z turn fs) same
         (endpoint_step event frames_then now seen_then (λ q. rw none (benign q)) (rw none says))
 
-  -- a call of a side corresponds to an event of the session
+  -- a call to a side corresponds to an event of the session
   asked_call : (side : Role) (sapi : Sapi) (call : Call) (event : Event) (e : E.Event) (links : SideState) (answer : Answer) →
-      refusal e w ≡ as_event_refusal (refusal_of call (endpoint_on sapi (side_with_role side a.sides))) →
+      refusal e w ≡ as_event_refusal (refusal_of call (endpoint_with_sapi sapi (side_with_role side a.sides))) →
       (let d : S.SideStep = S.layer3_call_step sapi call (side_with_role side a.sides) in
-      (world_unless_refused None e w ≡ record w { ends = with_side side d.new_state a.sides; queues = with_appended side d.frames fs })
+      (world_after_possible_refusal None e w ≡ record w {
+        ends = with_side_replaced side d.new_state a.sides;
+        queues =
+            with_items_appended side d.frames fs;
+      })
       × (answer_log_lines e (answer_unless_refused None (event_step e a.sides)) ≡ event_log_lines event ++ notice_log_lines
       (BySide side) d.sapi d.notices)) → KnowsBy None (λ r f. FrameFits Sdcch f) e → IsBenignEvent None e w →
       EndpointAnswersCall side (side_with_role side a.sides) sapi call links answer →
@@ -134,7 +138,7 @@ module _ {a : TwoTerminals} {fs : Queues Frame} (seen : IsSeen a fs) where
       tt t)
   calls side event answer links of t = absurd of
 
-  -- below, bursts arrive at a side
+  -- in this module, a side receives four bursts
   module _ (side : Role) (bursts : List (List ℤ)) (step : Step) (links : SideState)
       (h : ReceivesBursts side (side_with_role side a.sides) bursts links step) where
     abbrev event : E.Event
@@ -148,27 +152,31 @@ module _ {a : TwoTerminals} {fs : Queues Frame} (seen : IsSeen a fs) where
         read_back Sdcch h.report.accepted h.frame (queue_of (other side) fs) (queue_of (other side) a.queues) (seen.written (other side))
         (seen.fit.queues (other side)) h.reads (IsOldestSent-received bursts (queue_of (other side) a.queues) h.report h.received q)
 
-    brings : world_unless_refused None event w ≡ record w {
-      ends = with_side side side_step_is.new_state a.sides;
-      queues = with_appended side side_step_is.frames (without_first (other side) fs);
+    brings : world_after_possible_refusal None event w ≡ record w {
+      ends = with_side_replaced side side_step_is.new_state a.sides;
+      queues = with_items_appended side side_step_is.frames (without_oldest_item (other side) fs);
     } → answer_log_lines event (answer_unless_refused None (event_step event a.sides)) ≡ notice_log_lines
         (BySide side) side_step_is.sapi side_step_is.notices →
-        IsPlayed a (state_after_step side links step.frames (without_first (other side) a.queues) a) (TakesBurst side bursts step) fs
-    brings later says = played event side side_step_is (without_first (other side) fs) (without_first (other side) a.queues) refl later
+        IsPlayed a (state_after_step side links step.frames (without_oldest_item (other side) a.queues) a) (TakesBurst side bursts step) fs
+    brings later says = played event side side_step_is (without_oldest_item (other side) fs)
+        (without_oldest_item (other side) a.queues) refl later
         (known_read (other side) h.report.accepted h.frame (accepted_octets bursts h.report h.received) h.reads)
-        (Written-rest (other side) fs a.queues seen.written) (TakesBurst side bursts step) _ (rw (h.new_state_is, h.step_is) refl)
-        carried (rw (h.step_is, says) refl)
+        (Written-rest (other side) fs a.queues seen.written) (TakesBurst side bursts step) _ (rw (
+          h.new_state_is,
+          h.step_is_terminal_step,
+        ) refl)
+        carried (rw (h.step_is_terminal_step, says) refl)
 
   brought : (side : Role) (bursts : List (List ℤ)) (step : Step) (links : SideState) →
       ReceivesBursts side (side_with_role side a.sides) bursts links step →
-      IsPlayed a (state_after_step side links step.frames (without_first (other side) a.queues) a) (TakesBurst side bursts step) fs
+      IsPlayed a (state_after_step side links step.frames (without_oldest_item (other side) a.queues) a) (TakesBurst side bursts step) fs
   brought Mobile bursts step links h = brings Mobile bursts step links h refl refl
   brought Network bursts step links h = brings Network bursts step links h refl refl
 
-  lost : (sender : Role) → IsPlayed a (record a { queues = without_first sender a.queues }) (Loses sender) fs
+  lost : (sender : Role) → IsPlayed a (record a { queues = without_oldest_item sender a.queues }) (Loses sender) fs
   lost sender =
-      let later : Queues Frame = without_first sender fs in
-      let z : World = world_of (record a { queues = without_first sender a.queues }) later in
+      let later : Queues Frame = without_oldest_item sender fs in
+      let z : World = world_of (record a { queues = without_oldest_item sender a.queues }) later in
       let now : world_after (Lose sender) w ≡ z = rw append-nil refl in
       endpoint_step (Lose sender) later now (record {
         written = Written-rest sender fs a.queues seen.written;
@@ -180,7 +188,7 @@ module _ {a : TwoTerminals} {fs : Queues Frame} (seen : IsSeen a fs) where
   turn-step (TakesBurst side bursts step) b t = rw t.2 (brought side bursts step t.0 t.1)
   turn-step (Loses sender) b t = rw t (lost sender)
 
--- ---- several steps
+-- ---- several steps of the two terminals
 
 record IsSession (turns : List TerminalStep) (w : World) (Sound : Type 0) : Type 0 where
   events : List E.Event
@@ -214,7 +222,8 @@ IsSeen-start = record { written = alike; fit = initial-fits unbounded_capacity S
     alike Mobile = tt
     alike Network = tt
 
-pub two_terminals-claims : (turns : List TerminalStep) → AreStepsFrom DeliversOldestBlock idle_terminals turns → Claims (session_log turns)
+pub two_terminals-claims : (turns : List TerminalStep) → AreStepsFrom DeliversOldestBlock idle_terminals turns →
+    Claims (session_log turns)
 two_terminals-claims turns run =
     let x = session DeliversOldestBlock turns idle_terminals empty_queues IsSeen-start run in
     rw x.same_lines (claims unbounded_capacity Sdcch x.events (x.benign (λ a turn may. may)))

@@ -17,7 +17,7 @@ returns-clause-refines c a st =
         received = c.receive_block-report.ensures.received;
         reads = h.reads;
         new_state_is = refl;
-        step_is = terminal_step-is _ _ _ d _ _ _ _ c.set_side_and_sapi.ensures.step
+        step_is_terminal_step = terminal_step-is _ _ _ d _ _ _ _ c.set_side_and_sapi.ensures.step
             (ap spec_role_of c.take_received_block-sapi.ensures.same.side) h.carried_out;
       },
     )

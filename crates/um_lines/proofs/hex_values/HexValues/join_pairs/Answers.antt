@@ -1,9 +1,7 @@
 use Rattle.{
-  std.{
-    proofs.Common.{List, ap₂, arith, get_or, map, refl, replicate, ℕ, ◌%◌, ◌*◌, ◌++◌, ◌+◌, ◌^◌, ◌∙◌, ◌≡◌},
-    proofs.lemmas.{List.FromFn.get_or-map-range_with_len, Simd.{get_or-replicate, get_or-zip2}},
-    specs.List.range_with_len,
-  },
+  std.proofs.Common.{List, ap₂, arith, get_or, map, refl, replicate, ℕ, ◌%◌, ◌*◌, ◌++◌, ◌+◌, ◌^◌, ◌∙◌},
+  std.proofs.{Common.◌≡◌, lemmas.{List.FromFn.get_or-map-range_with_len, Simd.{get_or-replicate, get_or-zip2}}},
+  std.specs.List.range_with_len,
 }
 use lib.Lanes.{zip2}
 use Rattle.um_lines.proofs.hex_values.HexValues.join_pairs.Goals as goal

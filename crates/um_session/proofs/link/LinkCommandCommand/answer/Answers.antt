@@ -1,6 +1,6 @@
 use Rattle.{
   std.proofs.Common.{Some, ap, refl, sym, ◌∙◌},
-  um_link.specs.{Naming.{spec_answer_of, spec_event_of, step_result}, um_block.Tallies.counter_plus},
+  um_link.specs.{Naming.{spec_answer_of, spec_event_of, result_with_step}, um_block.Tallies.counter_plus},
   um_script.specs.ScriptLines.ScriptLineMeans,
   um_session.{
     specs.{Courses.{sent_frame_count, blocks_received_in_step}, Sessions.session_with_step},
@@ -13,7 +13,7 @@ pub returns-in-Step-clause-answered : goal.returns-in-Step-clause-answered
 returns-in-Step-clause-answered g c = λ a (represents, sent_is, reception_is).
     let done = c.step_into-done.ensures in
     let event = spec_event_of c.in-Step.event in
-    let result = step_result c.step_into-done.result c.step_into-done.new.step in
+    let result = result_with_step c.step_into-done.result c.step_into-done.new.step in
     let answer = spec_answer_of result in
     let next = done.refines a.session.air represents in
     let same : ScriptLineMeans c.args.line.now (Some event) = rw c.in-Step.is at c.in_ok-parse_script.ensures.means in (

@@ -2,8 +2,9 @@
 pub use Rattle.std.proofs.Common.{List, None, Option, Some, [], ap, arith, inl, inr, length-append, length, map, refl, sym, ℕ, ℤ}
 pub use Rattle.std.proofs.Common.{◌++◌, ◌+◌, ◌<◌, ◌∙◌, ◌∷◌, ◌≡◌, ◌≤◌, Bool, true, false, codes}
 pub use Rattle.std.{proofs.Common.{if◌then◌else◌, subst}, specs.Prelude.IfSome}
-pub use Rattle.um_end.specs.{EndLines.{EndLineMeaning, EndLineMeans}, EndRuns.{IsAnswerText, frames_in_answer}, Terminals.SideAnswersCall}
-pub use Rattle.um_end.specs.Terminals.{EndpointAnswersCall, IsCallOfRole, ReceivesBursts, SideState, endpoint_on, no_op_step}
+pub use Rattle.um_end.specs.{EndLines.{EndCommandLineMeaning, EndCommandLineMeans}, EndRuns.{IsAnswerText, frames_in_answer}}
+pub use Rattle.um_end.specs.Terminals.{SideAnswersCall}
+pub use Rattle.um_end.specs.Terminals.{EndpointAnswersCall, IsCallOfRole, ReceivesBursts, SideState, endpoint_with_sapi, no_op_step}
 pub use Rattle.um_end.specs.Terminals.{step_for_read_frame, terminal_step_of}
 pub use Rattle.um_lines.proofs.FormLaws.{same_meaning}
 pub use Rattle.um_link.proofs.{lapdm_link.Lemmas.AreOctets, lapdm_window.Lemmas.by_sapi, um_air.Lemmas.reads-well}

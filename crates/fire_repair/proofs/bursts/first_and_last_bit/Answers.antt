@@ -1,5 +1,0 @@
-use Rattle.fire_repair.proofs.Lemmas.{edges_of}
-use Rattle.fire_repair.proofs.bursts.first_and_last_bit.Goals as goal
-
-pub returns : goal.returns
-returns c = assumption (edges_of c.args.shape c.requires.nonzero c.requires.twelve)

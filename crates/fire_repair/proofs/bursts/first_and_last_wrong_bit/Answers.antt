@@ -1,0 +1,5 @@
+use Rattle.fire_repair.proofs.Lemmas.{edges_of}
+use Rattle.fire_repair.proofs.bursts.first_and_last_wrong_bit.Goals as goal
+
+pub returns : goal.returns
+returns c = assumption (edges_of c.args.shape c.requires.nonzero c.requires.twelve)

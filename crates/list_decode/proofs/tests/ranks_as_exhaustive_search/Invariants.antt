@@ -1,5 +1,0 @@
-use Rattle.std.proofs.Common.{◌≡◌}
-use Rattle.list_decode.proofs.tests.ranks_as_exhaustive_search.Given as goal
-
-abbrev pub invariant-loop : goal.invariant-loop
-invariant-loop l = l.ranked.soft ≡ l.soft

@@ -1,0 +1,102 @@
+//! Blocks and bursts decoded with a list of words, tested on values computed by hand.
+use crate::blocks::{are_soft, soften_burst};
+use std::process::Abort;
+use um_among::{
+    ListDecodedAccess, ListDecodedBlock, ListDecodedSync, receive_access_among,
+    receive_block_among, receive_sync_among,
+};
+use um_block::{BLOCK_OCTETS, BURST_BITS, Bits, send_block};
+
+fn decode_block(rt: &impl Abort, bursts: &[[i8; BURST_BITS]; 4], most: u32) -> ListDecodedBlock {
+    let all_soft = bursts.iter().all(|burst| are_soft(burst));
+    assert!(rt; all_soft);
+    assert!(rt; most >= 1);
+    assert!(rt; most <= 64);
+    receive_block_among(bursts, most)
+}
+
+fn decode_access(rt: &impl Abort, burst: &[i8; 88], bsic: [u8; 6], most: u32) -> ListDecodedAccess {
+    assert!(rt; are_soft(burst));
+    let are_bits = bsic.iter().all(|bit| *bit <= 1);
+    assert!(rt; are_bits);
+    assert!(rt; most >= 1);
+    assert!(rt; most <= 64);
+    receive_access_among(burst, &Bits::from_array(bsic), most)
+}
+
+fn decode_sync(rt: &impl Abort, burst: &[i8; BURST_BITS], most: u32) -> ListDecodedSync {
+    assert!(rt; are_soft(burst));
+    assert!(rt; most >= 1);
+    assert!(rt; most <= 64);
+    receive_sync_among(burst, most)
+}
+
+// The coded bits of the sent word and of a neighbouring word differ in seven positions. Four of these bits are flipped, so the neighbour
+// agrees with one more of the received bits than the sent word does, and the sent word has rank 2.
+#[test]
+fn the_second_most_likely_word_is_the_sent_one(rt: HostRuntime) {
+    let mut octets = [0x2b; BLOCK_OCTETS];
+    octets[0] = 3;
+    octets[1] = 3;
+    octets[2] = 1;
+    let mut sent = send_block(&octets, 7);
+    for (burst, place) in [(0, 3), (0, 131), (1, 115), (1, 129)] {
+        sent[burst][place] ^= 1;
+    }
+    let bursts = sent.map(|burst| soften_burst(&rt, &burst));
+    let alone = decode_block(&rt, &bursts, 1);
+    assert_eq!(rt; alone.report.accepted, None);
+    assert_eq!(rt; alone.report.metric, 450 * 127);
+    assert_eq!(rt; alone.rank, 1);
+    for most in [2, 16, 64] {
+        let among = decode_block(&rt, &bursts, most);
+        assert_eq!(rt; among.report.accepted, Some(octets));
+        assert_eq!(rt; among.report.metric, 448 * 127);
+        assert_eq!(rt; among.report.tsc, 7);
+        assert_eq!(rt; among.report.wrong_training, 0);
+        assert_eq!(rt; among.rank, 2);
+    }
+}
+
+// All words are equally likely, so they come in lexicographic order: the first 64 are zeros except for the last six of the forty CRC bits,
+// which take every value. None of these CRCs holds, because the CRC of zeros is forty ones.
+#[test]
+fn a_lost_block_stays_lost(rt: HostRuntime) {
+    let lost = decode_block(&rt, &[[0; BURST_BITS]; 4], 64);
+    assert_eq!(rt; lost.report.accepted, None);
+    assert_eq!(rt; lost.report.u, Bits::zero());
+    assert_eq!(rt; lost.report.wrong_training, 104);
+    assert_eq!(rt; lost.rank, 1);
+}
+
+// All words are equally likely, so the first 64 have the information bits 0 and all values of the six CRC bits in ascending order. The CRC
+// of zeros is the inverted BSIC, so the BSIC determines the rank.
+#[test]
+fn a_lost_access_burst_matches_each_bsic(rt: HostRuntime) {
+    for (bsic, rank) in [
+        ([1, 1, 1, 1, 1, 1], 1),
+        ([1, 1, 1, 1, 1, 0], 2),
+        ([1, 1, 1, 1, 0, 0], 4),
+        ([0, 1, 1, 1, 1, 1], 33),
+        ([0, 0, 0, 0, 0, 0], 64),
+    ] {
+        let found = decode_access(&rt, &[0; 88], bsic, 64);
+        assert_eq!(rt; found.rank, rank);
+        assert_eq!(rt; found.report.accepted, Some(Bits::zero()));
+        for (k, bit) in bsic.iter().enumerate() {
+            assert_eq!(rt; found.report.u.get(8 + k), 1 - *bit);
+        }
+    }
+    let missed = decode_access(&rt, &[0; 88], [0; 6], 63);
+    assert_eq!(rt; missed.report.accepted, None);
+    assert_eq!(rt; missed.report.u, Bits::zero());
+    assert_eq!(rt; missed.rank, 1);
+}
+
+#[test]
+fn a_lost_synchronisation_burst_stays_lost(rt: HostRuntime) {
+    let lost = decode_sync(&rt, &[0; BURST_BITS], 64);
+    assert_eq!(rt; lost.report.accepted, None);
+    assert_eq!(rt; lost.report.u, Bits::zero());
+    assert_eq!(rt; lost.rank, 1);
+}
