@@ -6,8 +6,8 @@ use Rattle.{
     specs.{Int.{from_le_bytes, to_le_bytes, w64}, List.list_all, Str.bytes_eq},
     proofs.{
       Common.{Bool, List, [], ap, append_assoc, arith, bit_and, bit_xor, drop, eqb, get_or, get_or-set_other, get_or-set_same, leb, length},
-      Common.{refl, replicate, rules, suc, sym, take, tests, true, zero, ℕ, ℤ, ◌%◌, ◌&&◌, ◌*◌, ◌++◌, ◌+◌, ◌-◌},
-      Common.{◌/◌, ◌<◌, ◌^◌, ◌∙◌, ◌∷◌, ◌≡◌, ◌≤◌},
+      Common.{map, refl, replicate, rules, suc, sym, take, tests, true, zero, ℕ, ℤ, ◌%◌, ◌&&◌, ◌*◌, ◌++◌, ◌+◌},
+      Common.{◌-◌, ◌/◌, ◌<◌, ◌^◌, ◌∙◌, ◌∷◌, ◌≡◌, ◌≤◌},
       Math.{ListN.set, Nat.zero-div, Seq.{get_or-append_seam, take-add}},
       lemmas.{Bool.Decides.Decides-eqb, Grind.same_number_lists, Nat.mul-mod_first, Slice.Eq.bytes_eq-Decides, List.append-nil},
       lemmas.List.{get_or-append-add, get_or-replicate, get_or_append_left, get_or_past, length-append, length-replicate, length-take},
@@ -269,7 +269,13 @@ divided_more front out rest next start tail g bits es et sum before multiple =
 
 pub AllBits-bits_of : (octets : List ℕ) → AllBits (bits_of octets)
 AllBits-bits_of [] = All-nil IsBit
-AllBits-bits_of (n ∷ octets) = search (arith, All-cons IsBit, AllBits-bits_of octets) depth 10
+AllBits-bits_of (n ∷ octets) =
+    All-append IsBit (octet_bits n) (bits_of octets)
+    (halves (n ∷ n / 2 ∷ n / 4 ∷ n / 8 ∷ n / 16 ∷ n / 32 ∷ n / 64 ∷ n / 128 ∷ [])) (AllBits-bits_of octets)
+  where
+    halves : (ns : List ℕ) → AllBits (map (λ n. n % 2) ns)
+    halves [] = All-nil IsBit
+    halves (n ∷ ns) = All-cons IsBit (n % 2) (map (λ n. n % 2) ns) (omega arith) (halves ns)
 
 pub length-bits_of : (octets : List ℕ) → length (bits_of octets) ≡ 8 * length octets
 length-bits_of [] = refl

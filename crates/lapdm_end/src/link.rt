@@ -10,7 +10,7 @@ use lapdm_frame::{Body, Channel, FrameView, fill_on, write_on};
 use lapdm_window::{Effects, Sapi};
 
 /// The side, SAPI and channel of an endpoint.
-#[derive(Clone, Copy, PartialEq, Eq, Debug)]
+#[derive(Clone, Copy, Debug)]
 pub(crate) struct Address {
     pub(crate) role: Role,
     pub(crate) sapi: Sapi,

@@ -15,7 +15,7 @@ use lapdm_frame::Body;
 use lapdm_window::{Reason, Sapi, State};
 
 /// The reaction of an endpoint to a received frame.
-#[derive(Clone, Copy, PartialEq, Eq, Debug)]
+#[derive(Clone, Copy)]
 pub(crate) enum Reply<'a> {
     Nothing,
     Dm,

@@ -158,7 +158,7 @@ IsSurvivor-tail_bit after pair soft state u e closing best = record {
       rw (ends.1 (omega arith)) (IsNoBetterPath-same _ 0 v u _ _ e (best.no_other_path_is_better v ends.2 (omega arith)))
   closing_wins v ends count = absurd (omega arith)
 
--- at the end of the trellis each path metric is 0
+-- with no soft bits left, the empty path is the survivor of each state, and its metric is 0
 pub IsSurvivor-none : (state : ℕ) → IsSurvivor state [] [] (pos 0)
 unfolding metric_from_state
 IsSurvivor-none state = record { has_metric = refl; tail_bits = tt; no_other_path_is_better = none } where

@@ -13,7 +13,7 @@ use um_link::{Air, Call, End, Event, Sapi, Way};
 use um_script::Room;
 
 /// The stage of a generated session: what happens next.
-#[derive(Clone, Copy, Debug, PartialEq, Eq)]
+#[derive(Clone, Copy)]
 pub(crate) enum SessionStage {
     /// Layer 3 of the mobile asks to establish the link.
     Opening,

@@ -8,7 +8,7 @@ use std::marker::Model;
 use um_block::{Bits, ENCODER_INPUT_BITS};
 
 /// The two most likely words, the difference between their path metrics, and the path metric of the most likely word.
-#[derive(Drop, Debug)]
+#[derive(Drop)]
 pub(crate) struct WordComparison<const N: usize> {
     pub(crate) best: Bits<N>,
     pub(crate) next: Bits<N>,

@@ -6,7 +6,7 @@ ghost use Rattle.um_script.specs.Names.{actor_of_name, request_of_name, action_o
 use um_link::{End, Sapi, Way};
 
 /// The subject of a script line: an endpoint, a direction, or another mobile.
-#[derive(Clone, Copy, PartialEq, Eq, Debug)]
+#[derive(Clone, Copy)]
 pub(crate) enum Actor {
     End(End, Sapi),
     Way(Way),
@@ -14,7 +14,7 @@ pub(crate) enum Actor {
 }
 
 /// A call to an endpoint: an operation of layer 3, or T200 expiry (`Tick`).
-#[derive(Clone, Copy, PartialEq, Eq, Debug)]
+#[derive(Clone, Copy)]
 pub(crate) enum Request {
     Open,
     Send,
@@ -25,7 +25,7 @@ pub(crate) enum Request {
 }
 
 /// What happens to a block on the radio path.
-#[derive(Clone, Copy, PartialEq, Eq, Debug)]
+#[derive(Clone, Copy)]
 pub(crate) enum RadioAction {
     Deliver,
     Lose,
